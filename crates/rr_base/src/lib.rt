@@ -1,0 +1,12 @@
+//! What every crate speaks of: names by number, limits, faults and events.
+#![tactic(auto)]
+
+mod event;
+mod fault;
+mod limits;
+mod name;
+
+pub use event::{InboxEvent, Kept, PortEvent, PortShape, StoreEvent, Ticket};
+pub use fault::{Fault, SyntaxKind};
+pub use limits::{LimitKind, Limits};
+pub use name::{Channel, ClassId, Place, RactorNo, Sym};
