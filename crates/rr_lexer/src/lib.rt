@@ -1,0 +1,6 @@
+//! The tokens of a source.
+#![tactic(auto)]
+
+mod kind;
+
+pub use kind::{Keyword, Kind, Op, Token};
