@@ -1,6 +1,7 @@
 //! What every crate speaks of: names by number, limits, faults and events.
 #![tactic(auto)]
 
+mod class;
 mod event;
 mod fault;
 mod limits;
