@@ -1,6 +1,88 @@
 //! The built-in classes.
 
+ghost use Rattle.std.specs.Prelude.{◌≡◌};
+ghost use Rattle.rr_base.specs.Classes.{class_name};
+
 use crate::name::ClassId;
+
+/// A built-in class.
+#[derive(Clone, Copy, Debug, PartialEq, Eq, Drop)]
+pub enum BuiltInClass {
+    BasicObject,
+    MovedObject,
+    Object,
+    Integer,
+    String,
+    Symbol,
+    Array,
+    Hash,
+    NilClass,
+    TrueClass,
+    FalseClass,
+    Class,
+    Ractor,
+    Exception,
+    SystemStackError,
+    StandardError,
+    ArgumentError,
+    IndexError,
+    StopIteration,
+    ClosedError,
+    LocalJumpError,
+    NameError,
+    NoMethodError,
+    RangeError,
+    RuntimeError,
+    FrozenError,
+    TypeError,
+    ZeroDivisionError,
+    RactorError,
+    RemoteError,
+    MovedError,
+    IsolationError,
+}
+
+impl BuiltInClass {
+    /// The name of the class, as a script prints it.
+    pub fn name(self) -> &'static str
+        ensures { result.now ≡ class_name self }
+    {
+        match self {
+            BuiltInClass::BasicObject => "BasicObject",
+            BuiltInClass::MovedObject => "Ractor::MovedObject",
+            BuiltInClass::Object => "Object",
+            BuiltInClass::Integer => "Integer",
+            BuiltInClass::String => "String",
+            BuiltInClass::Symbol => "Symbol",
+            BuiltInClass::Array => "Array",
+            BuiltInClass::Hash => "Hash",
+            BuiltInClass::NilClass => "NilClass",
+            BuiltInClass::TrueClass => "TrueClass",
+            BuiltInClass::FalseClass => "FalseClass",
+            BuiltInClass::Class => "Class",
+            BuiltInClass::Ractor => "Ractor",
+            BuiltInClass::Exception => "Exception",
+            BuiltInClass::SystemStackError => "SystemStackError",
+            BuiltInClass::StandardError => "StandardError",
+            BuiltInClass::ArgumentError => "ArgumentError",
+            BuiltInClass::IndexError => "IndexError",
+            BuiltInClass::StopIteration => "StopIteration",
+            BuiltInClass::ClosedError => "Ractor::ClosedError",
+            BuiltInClass::LocalJumpError => "LocalJumpError",
+            BuiltInClass::NameError => "NameError",
+            BuiltInClass::NoMethodError => "NoMethodError",
+            BuiltInClass::RangeError => "RangeError",
+            BuiltInClass::RuntimeError => "RuntimeError",
+            BuiltInClass::FrozenError => "FrozenError",
+            BuiltInClass::TypeError => "TypeError",
+            BuiltInClass::ZeroDivisionError => "ZeroDivisionError",
+            BuiltInClass::RactorError => "Ractor::Error",
+            BuiltInClass::RemoteError => "Ractor::RemoteError",
+            BuiltInClass::MovedError => "Ractor::MovedError",
+            BuiltInClass::IsolationError => "Ractor::IsolationError",
+        }
+    }
+}
 
 impl ClassId {
     pub const BASIC_OBJECT: ClassId = ClassId(0);
@@ -66,46 +148,7 @@ impl ClassId {
     pub const MOVED_ERROR: ClassId = ClassId(30);
 
     pub const ISOLATION_ERROR: ClassId = ClassId(31);
+
     /// How many built-in classes there are; the classes of a program have the numbers from here on.
     pub const BUILT_IN: u32 = 32;
-
-    /// The name of a built-in class; none for a class of a program.
-    pub fn built_in_name(self) -> Option<&'static str> {
-        BUILT_IN_NAMES.get(self.0 as usize).copied()
-    }
 }
-
-static BUILT_IN_NAMES: [&str; 32] = [
-    "BasicObject",
-    "Ractor::MovedObject",
-    "Object",
-    "Integer",
-    "String",
-    "Symbol",
-    "Array",
-    "Hash",
-    "NilClass",
-    "TrueClass",
-    "FalseClass",
-    "Class",
-    "Ractor",
-    "Exception",
-    "SystemStackError",
-    "StandardError",
-    "ArgumentError",
-    "IndexError",
-    "StopIteration",
-    "Ractor::ClosedError",
-    "LocalJumpError",
-    "NameError",
-    "NoMethodError",
-    "RangeError",
-    "RuntimeError",
-    "FrozenError",
-    "TypeError",
-    "ZeroDivisionError",
-    "Ractor::Error",
-    "Ractor::RemoteError",
-    "Ractor::MovedError",
-    "Ractor::IsolationError",
-];

@@ -1,5 +1,8 @@
 //! Why a call did not do what it was asked for.
 
+ghost use Rattle.std.specs.Prelude.{◌≡◌};
+ghost use Rattle.rr_base.specs.Names.{syntax_name};
+
 use crate::limits::LimitKind;
 use crate::name::Sym;
 use std::alloc::{AllocError, AllocFailed};
@@ -27,7 +30,9 @@ pub enum SyntaxKind {
 
 impl SyntaxKind {
     /// The words that an error line has for it, as in `line 1, column 6: unterminated string`.
-    pub fn name(self) -> &'static str {
+    pub fn name(self) -> &'static str
+        ensures { result.now ≡ syntax_name self }
+    {
         match self {
             SyntaxKind::Encoding => "encoding",
             SyntaxKind::Character => "character",

@@ -4,10 +4,13 @@
 mod class;
 mod event;
 mod fault;
+mod laws;
 mod limits;
 mod name;
 
+pub use class::BuiltInClass;
 pub use event::{InboxEvent, Kept, PortEvent, PortShape, StoreEvent, Ticket};
 pub use fault::{Fault, SyntaxKind};
+pub use laws::{inbox_conserves, port_conserves};
 pub use limits::{LimitKind, Limits};
 pub use name::{Channel, ClassId, Place, RactorNo, Sym};

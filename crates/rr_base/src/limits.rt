@@ -1,5 +1,8 @@
 //! The limits of a run.
 
+ghost use Rattle.std.specs.Prelude.{◌≡◌};
+ghost use Rattle.rr_base.specs.Names.{limit_name};
+
 /// Which limit was passed.
 #[derive(Clone, Copy, Debug, PartialEq, Eq, Drop)]
 pub enum LimitKind {
@@ -19,7 +22,9 @@ pub enum LimitKind {
 
 impl LimitKind {
     /// The name that an error line gives the limit, as in `ractor: limit nesting`.
-    pub fn name(self) -> &'static str {
+    pub fn name(self) -> &'static str
+        ensures { result.now ≡ limit_name self }
+    {
         match self {
             LimitKind::Source => "source",
             LimitKind::Nesting => "nesting",

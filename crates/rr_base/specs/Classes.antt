@@ -1,0 +1,38 @@
+-- The names of the built-in classes.
+use Rattle.std.specs.Prelude.{ℕ, List, codes}
+use Rattle.rr_base.specs.declared.class.BuiltInClass.{BuiltInClass}
+use Rattle.rr_base.specs.declared.class.BuiltInClass.TheVariants as built_in
+
+abbrev pub class_name : BuiltInClass → List ℕ
+class_name built_in.BasicObject = codes "BasicObject"
+class_name built_in.MovedObject = codes "Ractor::MovedObject"
+class_name built_in.Object = codes "Object"
+class_name built_in.Integer = codes "Integer"
+class_name built_in.String = codes "String"
+class_name built_in.Symbol = codes "Symbol"
+class_name built_in.Array = codes "Array"
+class_name built_in.Hash = codes "Hash"
+class_name built_in.NilClass = codes "NilClass"
+class_name built_in.TrueClass = codes "TrueClass"
+class_name built_in.FalseClass = codes "FalseClass"
+class_name built_in.Class = codes "Class"
+class_name built_in.Ractor = codes "Ractor"
+class_name built_in.Exception = codes "Exception"
+class_name built_in.SystemStackError = codes "SystemStackError"
+class_name built_in.StandardError = codes "StandardError"
+class_name built_in.ArgumentError = codes "ArgumentError"
+class_name built_in.IndexError = codes "IndexError"
+class_name built_in.StopIteration = codes "StopIteration"
+class_name built_in.ClosedError = codes "Ractor::ClosedError"
+class_name built_in.LocalJumpError = codes "LocalJumpError"
+class_name built_in.NameError = codes "NameError"
+class_name built_in.NoMethodError = codes "NoMethodError"
+class_name built_in.RangeError = codes "RangeError"
+class_name built_in.RuntimeError = codes "RuntimeError"
+class_name built_in.FrozenError = codes "FrozenError"
+class_name built_in.TypeError = codes "TypeError"
+class_name built_in.ZeroDivisionError = codes "ZeroDivisionError"
+class_name built_in.RactorError = codes "Ractor::Error"
+class_name built_in.RemoteError = codes "Ractor::RemoteError"
+class_name built_in.MovedError = codes "Ractor::MovedError"
+class_name built_in.IsolationError = codes "Ractor::IsolationError"
