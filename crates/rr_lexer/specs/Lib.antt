@@ -1,0 +1,12 @@
+pub mod Bytes
+pub mod Encoding
+pub mod Places
+pub mod Words
+pub mod Numbers
+pub mod Texts
+pub mod Lines
+pub mod Tokens
+pub mod Contexts
+pub mod Scans
+pub mod Contents
+pub mod Laws

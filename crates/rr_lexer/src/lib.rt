@@ -1,6 +1,27 @@
 //! The tokens of a source.
 #![tactic(auto)]
 
+mod class;
+mod contents;
+mod context;
+mod element;
+mod encoding;
 mod kind;
+mod laws;
+mod lexing;
+mod lines;
+mod numbers;
+mod ops;
+mod place;
+mod refusal;
+mod texts;
+mod words;
 
+pub use contents::{int_value, text_contents, word};
 pub use kind::{Keyword, Kind, Op, Token};
+pub use laws::tokens_are_one;
+pub use lexing::lex;
+pub use place::line_and_column;
+
+#[cfg(test)]
+mod tests;

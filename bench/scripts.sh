@@ -1,0 +1,15 @@
+#!/bin/sh
+# Writes the measured scripts into a folder.
+set -e
+python3 - "$1" <<'PY'
+import pathlib, sys
+folder = pathlib.Path(sys.argv[1])
+def script(name, text):
+    (folder / f"{name}.rb").write_text(text)
+script("empty", "")
+script("chain", "puts 1" + " + 1" * 100_000 + "\n")
+script("lines", "a = 0\n" + "a = a + 1\n" * 200_000 + "puts a\n")
+script("texts", 'a = ""\n' + 'a = "line" + " of text"\n' * 100_000 + "puts a\n")
+script("prints", "puts 1\n" * 20_000)
+script("blanks", "# " + "x" * 78 + "\n" + ("#" + " a comment of eighty bytes" * 3 + "\n") * 200_000)
+PY

@@ -1,0 +1,13 @@
+pub mod Facts
+pub mod Heads
+pub mod Classes
+pub mod Prefixes
+pub mod Digits
+pub mod Pieces
+pub mod Singles
+pub mod Names
+pub mod Operators
+pub mod Ints
+pub mod Begins
+pub mod Tiling
+pub mod Refused

@@ -1,0 +1,3 @@
+# The first script.
+name = "world"
+puts "Hello, " + name + "!"
