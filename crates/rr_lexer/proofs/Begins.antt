@@ -4,21 +4,24 @@ use Rattle.std.proofs.Math.Nat.{eq-or-lt_of_le}
 use Rattle.std.proofs.lemmas.Bool.{eqb-true}
 use Rattle.std.specs.List.{prefix_len}
 use Rattle.rr_lexer.specs.Bytes.{class_of}
-use Rattle.rr_lexer.specs.Words.{op_text}
+use Rattle.rr_lexer.specs.Words.{keyword_text, is_left_out, op_text}
 use Rattle.rr_lexer.specs.Texts.{IsPieceAfter, IsSingle}
 use Rattle.rr_lexer.specs.Numbers.{IsInt}
-use Rattle.rr_lexer.specs.Tokens.{State, Spells, IsComment, Begins, NoneBegins, is_inside}
-use Rattle.rr_lexer.specs.Scans.{element_at, element_of, word_at, op_of, op_at, op_sized, number_at, int_sized, piece, at_quote, at_brace, quote_sized, brace_sized, single_len, single_sized, return_at, backslash_at}
+use Rattle.rr_lexer.specs.Tokens.{State, Spells, IsWord, IsPlain, IsMarked, IsLabel, IsPrefixed, IsFree, IsComment, Begins, NoneBegins, is_inside}
+use Rattle.rr_lexer.specs.Scans.{element_at, element_of, variable_of, colon_of, op_of, op_at, op_sized, number_at, int_sized, piece, at_quote, at_brace, quote_sized, brace_sized, single_len, single_sized, return_at, backslash_at}
 use Rattle.rr_lexer.specs.declared.class.Class.{Class}
 use Rattle.rr_lexer.specs.declared.class.Class.TheVariants as classes
 use Rattle.rr_lexer.specs.declared.texts.Mode.TheVariants.{Plain}
+use Rattle.rr_lexer.specs.declared.kind.Keyword.{Keyword}
 use Rattle.rr_lexer.specs.declared.kind.Op.{Op}
+use Rattle.rr_lexer.specs.declared.kind.Op.TheVariants as ops
 use Rattle.rr_lexer.specs.declared.kind.Kind.{Kind}
 use Rattle.rr_lexer.specs.declared.kind.Kind.TheVariants as kinds
-use Rattle.rr_lexer.proofs.Heads.{head_is, second_is, third_is, size_is, same_head, front_one, front_two, front_three, chosen, some_same, and_true}
+use Rattle.rr_lexer.proofs.Heads.{at_drop, head_is, second_is, third_is, size_is, same_head, front_one, front_two, front_three, chosen, some_same, and_true}
 use Rattle.rr_lexer.proofs.Prefixes.{prefix_longest, prefix_passes, prefix_within}
 use Rattle.rr_lexer.proofs.Classes.{byte_of, digit_class}
 use Rattle.rr_lexer.proofs.Names as names
+use Rattle.rr_lexer.proofs.Names.{Beats}
 use Rattle.rr_lexer.proofs.Operators as operators
 use Rattle.rr_lexer.proofs.Ints.{number_sound, number_complete, first_digit}
 use Rattle.rr_lexer.proofs.Pieces.{same_piece, piece_after, piece_within}
@@ -32,10 +35,6 @@ unfolding element_at
 at_class st s c e = rw e refl
 
 -- completeness: what is spelled here is what the scan finds, or shorter
-
-abbrev pub Beats : Option (Kind × ℕ) → Kind → ℕ → Type 0
-Beats None j m = ⊥
-Beats (Some p) j m = (m < p.1) ⊎ ((m ≡ p.1) × (j ≡ p.0))
 
 exact : (x : Option (Kind × ℕ)) (j : Kind) (m : ℕ) → x ≡ Some (j, m) → Beats x j m
 exact x j m e = rw e (inr (refl, refl))
@@ -67,14 +66,33 @@ op_bound (Some f) o m e (inr q) = inr (e ∙ ap (λ x. length (op_text x)) q, ap
 op_head : (s : List ℕ) (o : Op) (m : ℕ) → m ≤ length s → take m s ≡ op_text o → get_or (op_text o) 0 0 ≡ get_or s 0 0
 op_head s o m h w = ap (λ x. get_or x 0 0) (sym w) ∙ same_head s m (omega (arith, ap length w, length-take m s, operators.op_some o))
 
+-- behind a colon alone no word follows
+colon_one : (s : List ℕ) (x : Class) → class_of (get_or s 1 0) ≡ x → Beats (op_at s) (kinds.Op ops.Colon) 1 → Beats (colon_of x s) (kinds.Op ops.Colon) 1
+colon_one s classes.Lower e r = let z = names.first_word_byte (drop 1 s) classes.Lower (rw (at_drop s 1 0) e) refl in inl (omega (arith, z))
+colon_one s classes.Upper e r = let z = names.first_word_byte (drop 1 s) classes.Upper (rw (at_drop s 1 0) e) refl in inl (omega (arith, z))
+colon_one s _ e r = r
+
+mark_beaten : (st : State) (s : List ℕ) (o : Op) (m : ℕ) → m ≤ length s → take m s ≡ op_text o → Beats (op_at s) (kinds.Op o) m
+    → (class_of (get_or (op_text o) 0 0) ≡ classes.Mark) ⊎ ((o ≡ ops.Colon) ⊎ (o ≡ ops.Path)) → Beats (scan st s) (kinds.Op o) m
+unfolding class_of
+mark_beaten st s o m h w r (inl c) =
+    let d : class_of (get_or s 0 0) ≡ classes.Mark = rw (← op_head s o m h w) c in rw (at_class st s classes.Mark d) r
+mark_beaten st s o m h w r (inr (inl e)) =
+    let w' : take m s ≡ 58 ∷ [] = w ∙ ap op_text e in
+    let d : class_of (get_or s 0 0) ≡ classes.Colon = rw (head_is s m 58 [] w') refl in
+    let one : m ≡ 1 = omega (arith, size_is s m 58 [] h w') in
+    let r' : Beats (op_at s) (kinds.Op ops.Colon) 1 = rw (one, e) at r in
+    rw (at_class st s classes.Colon d, one, e) (colon_one s (class_of (get_or s 1 0)) refl r')
+mark_beaten st s o m h w r (inr (inr e)) =
+    let w' : take m s ≡ 58 ∷ 58 ∷ [] = w ∙ ap op_text e in
+    let d : class_of (get_or s 0 0) ≡ classes.Colon = rw (head_is s m 58 (58 ∷ []) w') refl in
+    rw (at_class st s classes.Colon d, second_is s m 58 58 [] w') r
+
 op_beaten : (st : State) (s : List ℕ) (o : Op) (m : ℕ) → m ≤ length s → take m s ≡ op_text o → Beats (scan st s) (kinds.Op o) m
 op_beaten st s o m h w =
     let b = operators.op_beaten s o m h w in
     let r = op_bound (op_of (get_or s 0 0) (get_or s 1 0) (get_or s 2 0)) o m b.0 b.1 in
-    elim (operators.op_class o) [
-      | inl c ↦ let d : class_of (get_or s 0 0) ≡ classes.Mark = rw (← op_head s o m h w) c in rw (at_class st s classes.Mark d) r
-      | inr c ↦ let d : class_of (get_or s 0 0) ≡ classes.Colon = rw (← op_head s o m h w) c in rw (at_class st s classes.Colon d) r
-    ]
+    mark_beaten st s o m h w r (operators.op_class o)
 
 int_head : (s : List ℕ) (m v : ℕ) → number_at s ≡ Some (v, m) → class_of (get_or s 0 0) ≡ classes.Digit
 int_head s m v e = digit_class (get_or s 0 0) (first_digit s (v, m) e)
@@ -151,16 +169,69 @@ brace_close_beaten st s m h i w =
     let c : class_of (get_or s 0 0) ≡ classes.CloseBrace = rw (head_is s m 125 [] w) refl in
     rw (one_byte s m 125 h w, at_class st s classes.CloseBrace c, i) (inr (refl, refl))
 
+name_beaten : (st : State) (s : List ℕ) (m : ℕ) → m ≤ length s
+    → (IsPlain (take m s) (drop m s) × ((st.after_dot ≡ true) ⊎ IsFree (take m s))) ⊎ (IsMarked (take m s) (drop m s) × ((st.after_dot ≡ true) ⊎ (is_left_out (take m s) ≡ false)))
+    → Beats (scan st s) kinds.Name m
+name_beaten st s m h (inl w) =
+    rw (at_class st s classes.Lower (names.word_starts s m classes.Lower _ refl w.0.is_word)) (names.name_beaten st.after_dot s m h w.0 w.1)
+name_beaten st s m h (inr w) =
+    let f = names.marked_beaten st.after_dot s m h w.0 w.1 in
+    rw (at_class st s classes.Lower f.0) f.1
+
+keyword_beaten : (st : State) (s : List ℕ) (k : Keyword) (m : ℕ) → m ≤ length s → st.after_dot ≡ false → IsPlain (take m s) (drop m s) → take m s ≡ keyword_text k
+    → Beats (scan st s) (kinds.Keyword k) m
+keyword_beaten st s k m h d w e =
+    rw (at_class st s classes.Lower (names.word_starts s m classes.Lower _ refl w.is_word))
+    (names.plain_beaten st.after_dot s m (kinds.Keyword k) h w (names.keyword_kind st.after_dot (take m s) k d e))
+
+constant_beaten : (st : State) (s : List ℕ) (m : ℕ) → m ≤ length s → IsWord classes.Upper (take m s) (drop m s) → (st.after_dot ≡ true) ⊎ (is_left_out (take m s) ≡ false)
+    → Beats (scan st s) kinds.Constant m
+constant_beaten st s m h w k =
+    rw (at_class st s classes.Upper (names.word_starts s m classes.Upper _ refl w)) (names.constant_beaten st.after_dot s m h w k)
+
+label_beaten : (st : State) (s : List ℕ) (m : ℕ) → m ≤ length s → IsLabel (take m s) (drop m s) → Beats (scan st s) kinds.Label m
+label_beaten st s m h w = elim w.is_word [
+  | inl u ↦ let d = names.label_ended s m classes.Lower w.front refl h w.word_is u in
+      rw (at_class st s classes.Lower (names.ended_head s m 58 classes.Lower d)) (names.label_lower st.after_dot s m d w.free)
+  | inr u ↦ let d = names.label_ended s m classes.Upper w.front refl h w.word_is u in
+      rw (at_class st s classes.Upper (names.ended_head s m 58 classes.Upper d)) (names.label_upper st.after_dot s m d w.free)
+]
+
+instance_variable_beaten : (st : State) (s : List ℕ) (m : ℕ) → m ≤ length s → IsPrefixed 64 classes.Lower (take m s) (drop m s) → Beats (scan st s) kinds.InstanceVariable m
+unfolding class_of
+instance_variable_beaten st s m h w =
+    let d = names.prefixed_is s m 64 classes.Lower refl h w in
+    let c : class_of (get_or s 0 0) ≡ classes.At = rw d.byte refl in
+    rw (at_class st s classes.At c, d.class_is) (inr (d.size, refl))
+
+global_variable_beaten : (st : State) (s : List ℕ) (m : ℕ) → m ≤ length s → IsPrefixed 36 classes.Lower (take m s) (drop m s) → Beats (scan st s) kinds.GlobalVariable m
+unfolding class_of
+global_variable_beaten st s m h w =
+    let d = names.prefixed_is s m 36 classes.Lower refl h w in
+    let c : class_of (get_or s 0 0) ≡ classes.Dollar = rw d.byte refl in
+    rw (at_class st s classes.Dollar c, d.class_is) (inr (d.size, refl))
+
+symbol_beaten : (st : State) (s : List ℕ) (m : ℕ) → m ≤ length s → IsPrefixed 58 classes.Lower (take m s) (drop m s) ⊎ IsPrefixed 58 classes.Upper (take m s) (drop m s)
+    → Beats (scan st s) kinds.Symbol m
+unfolding class_of
+symbol_beaten st s m h (inl w) =
+    let d = names.prefixed_is s m 58 classes.Lower refl h w in
+    let c : class_of (get_or s 0 0) ≡ classes.Colon = rw d.byte refl in
+    rw (at_class st s classes.Colon c, d.class_is) (inr (d.size, refl))
+symbol_beaten st s m h (inr w) =
+    let d = names.prefixed_is s m 58 classes.Upper refl h w in
+    let c : class_of (get_or s 0 0) ≡ classes.Colon = rw d.byte refl in
+    rw (at_class st s classes.Colon c, d.class_is) (inr (d.size, refl))
+
 pub dominates : (st : State) (s : List ℕ) (j : Kind) (m : ℕ) → m ≤ length s → Spells st j (take m s) (drop m s) → Beats (scan st s) j m
-dominates st s kinds.Name m h w = exact _ _ m (at_class st s classes.Lower (names.word_starts s m w.0) ∙ names.name_complete st.after_dot s m h w.0 w.1)
-dominates st s kinds.Constant m h w = absurd w
-dominates st s kinds.InstanceVariable m h w = absurd w
-dominates st s kinds.GlobalVariable m h w = absurd w
-dominates st s kinds.Symbol m h w = absurd w
-dominates st s kinds.Label m h w = absurd w
+dominates st s kinds.Name m h w = name_beaten st s m h w
+dominates st s kinds.Constant m h w = constant_beaten st s m h w.0 w.1
+dominates st s kinds.InstanceVariable m h w = instance_variable_beaten st s m h w
+dominates st s kinds.GlobalVariable m h w = global_variable_beaten st s m h w
+dominates st s kinds.Symbol m h w = symbol_beaten st s m h w
+dominates st s kinds.Label m h w = label_beaten st s m h w
 dominates st s kinds.Int m h w = int_beaten st s m w.0 h w.1
-dominates st s (kinds.Keyword k) m h w = exact _ _ m (at_class st s classes.Lower (names.word_starts s m w.1)
-    ∙ names.word_complete st.after_dot s m (kinds.Keyword k) h w.1 (names.keyword_kind st.after_dot (take m s) k w.0 w.2))
+dominates st s (kinds.Keyword k) m h w = keyword_beaten st s k m h w.0 w.1 w.2
 dominates st s (kinds.Op o) m h w = op_beaten st s o m h w
 dominates st s kinds.Single m h w = single_beaten st s m h w
 dominates st s kinds.Text m h w = text_beaten st s false m h w
@@ -220,8 +291,24 @@ by_int st s (Some r) p e h =
 by_op : (st : State) (s : List ℕ) (p : Kind × ℕ) → 0 < length s → op_at s ≡ Some p → Found st s p
 by_op st s p l h = let f = operators.op_sound s p l h in record { some = f.some; within = f.within; spelled = rw f.kind_is f.spelled }
 
-by_word : (st : State) (s : List ℕ) (p : Kind × ℕ) → class_of (get_or s 0 0) ≡ classes.Lower → word_at st.after_dot s ≡ Some p → Found st s p
-by_word st s p c h = let f = names.word_sound st s p c h in record { some = f.some; within = f.within; spelled = f.spelled }
+by_names : (st : State) (s : List ℕ) (p : Kind × ℕ) → names.WordFound st s p → Found st s p
+by_names st s p f = record { some = f.some; within = f.within; spelled = f.spelled }
+
+variable_found : (st : State) (s : List ℕ) (kind : Kind) (b : ℕ) (x : Class) (p : Kind × ℕ) → get_or s 0 0 ≡ b → class_of (get_or s 1 0) ≡ x
+    → ((word after : List ℕ) → IsPrefixed b classes.Lower word after → Spells st kind word after) → variable_of kind x s ≡ Some p → Found st s p
+variable_found st s kind b classes.Lower p f e g h =
+    let w = names.the_prefixed s b classes.Lower f e refl in
+    found_at st s _ p h (record { some = omega arith; within = omega (arith, w.0); spelled = g _ _ w.1 })
+variable_found st s kind b _ p f e g h = absurd cc
+
+colon_found : (st : State) (s : List ℕ) (x : Class) (p : Kind × ℕ) → 0 < length s → get_or s 0 0 ≡ 58 → class_of (get_or s 1 0) ≡ x → colon_of x s ≡ Some p → Found st s p
+colon_found st s classes.Lower p l f e h =
+    let w = names.the_prefixed s 58 classes.Lower f e refl in
+    found_at st s _ p h (record { some = omega arith; within = omega (arith, w.0); spelled = inl w.1 })
+colon_found st s classes.Upper p l f e h =
+    let w = names.the_prefixed s 58 classes.Upper f e refl in
+    found_at st s _ p h (record { some = omega arith; within = omega (arith, w.0); spelled = inr w.1 })
+colon_found st s _ p l f e h = by_op st s p l h
 
 first_of_comment : (s : List ℕ) → 0 < length s → get_or s 0 0 ≡ 35 → 0 < prefix_len (λ b. not (b == 10)) s
 first_of_comment [] l e = absurd (omega arith)
@@ -277,8 +364,8 @@ by_close st s true p l e i h = by_brace st s _ p l i e refl h
 by_close st s false p l e i h = found_at st s _ p h (record { some = omega arith; within = omega arith; spelled = (i, front_one s 125 l e) })
 
 by_class : (st : State) (s : List ℕ) (c : Class) (p : Kind × ℕ) → 0 < length s → class_of (get_or s 0 0) ≡ c → element_of c (is_inside st.frames) st.after_dot s ≡ Some p → Found st s p
-by_class st s classes.Lower p l c h = by_word st s p c h
-by_class st s classes.Upper p l c h = absurd cc
+by_class st s classes.Lower p l c h = by_names st s p (names.lower_sound st s p c h)
+by_class st s classes.Upper p l c h = by_names st s p (names.upper_sound st s p c h)
 by_class st s classes.Digit p l c h = by_int st s _ p refl h
 by_class st s classes.Double p l c h = by_quote st s _ p l (byte_of _ classes.Double c) refl h
 by_class st s classes.Single p l c h = by_single st s _ p l (byte_of _ classes.Single c) refl h
@@ -287,9 +374,9 @@ by_class st s classes.LineFeed p l c h = found_at st s _ p h (record { some = om
 by_class st s classes.Return p l c h = by_return st s p l (byte_of _ classes.Return c) h
 by_class st s classes.Blank p l c h = found_at st s _ p h (record { some = omega arith; within = omega arith; spelled = blank_spelled s l (byte_of _ classes.Blank c) })
 by_class st s classes.Backslash p l c h = by_backslash st s p l (byte_of _ classes.Backslash c) h
-by_class st s classes.At p l c h = absurd cc
-by_class st s classes.Dollar p l c h = absurd cc
-by_class st s classes.Colon p l c h = by_op st s p l h
+by_class st s classes.At p l c h = variable_found st s kinds.InstanceVariable 64 _ p (byte_of _ classes.At c) refl (λ word after w. w) h
+by_class st s classes.Dollar p l c h = variable_found st s kinds.GlobalVariable 36 _ p (byte_of _ classes.Dollar c) refl (λ word after w. w) h
+by_class st s classes.Colon p l c h = colon_found st s _ p l (byte_of _ classes.Colon c) refl h
 by_class st s classes.OpenBrace p l c h = found_at st s _ p h (record { some = omega arith; within = omega arith; spelled = front_one s 123 l (byte_of _ classes.OpenBrace c) })
 by_class st s classes.CloseBrace p l c h = by_close st s (is_inside st.frames) p l (byte_of _ classes.CloseBrace c) refl h
 by_class st s classes.Mark p l c h = by_op st s p l h

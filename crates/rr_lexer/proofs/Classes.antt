@@ -18,6 +18,9 @@ IsOfClass b LineFeed = b ≡ 10
 IsOfClass b Return = b ≡ 13
 IsOfClass b Blank = (b ≡ 32) ⊎ (b ≡ 9)
 IsOfClass b Backslash = b ≡ 92
+IsOfClass b At = b ≡ 64
+IsOfClass b Dollar = b ≡ 36
+IsOfClass b Colon = b ≡ 58
 IsOfClass b OpenBrace = b ≡ 123
 IsOfClass b CloseBrace = b ≡ 125
 IsOfClass b _ = Unit {0}
@@ -38,9 +41,9 @@ of_class b =
     pick (IsOfClass b) (b == 13) Return _ (λ e. eqb-true b 13 e) (λ e.
     pick (IsOfClass b) (b == 32 || b == 9) Blank _ (λ e. blank_byte b e) (λ e.
     pick (IsOfClass b) (b == 92) Backslash _ (λ e. eqb-true b 92 e) (λ e.
-    pick (IsOfClass b) (b == 64) At _ (λ e. tt) (λ e.
-    pick (IsOfClass b) (b == 36) Dollar _ (λ e. tt) (λ e.
-    pick (IsOfClass b) (b == 58) Colon _ (λ e. tt) (λ e.
+    pick (IsOfClass b) (b == 64) At _ (λ e. eqb-true b 64 e) (λ e.
+    pick (IsOfClass b) (b == 36) Dollar _ (λ e. eqb-true b 36 e) (λ e.
+    pick (IsOfClass b) (b == 58) Colon _ (λ e. eqb-true b 58 e) (λ e.
     pick (IsOfClass b) (b == 123) OpenBrace _ (λ e. eqb-true b 123 e) (λ e.
     pick (IsOfClass b) (b == 125) CloseBrace _ (λ e. eqb-true b 125 e) (λ e.
     pick (IsOfClass b) (is_mark b) Mark Other (λ e. tt) (λ e. tt))))))))))))))))

@@ -1,7 +1,8 @@
 -- The first byte of a token, what follows it, and choices.
-use Rattle.std.proofs.Common.{ℕ, zero, suc, ◌+◌, ◌<◌, ◌≤◌, ◌≡◌, ◌⊎◌, inl, inr, ◌||◌, ◌&&◌, Bool, true, false, cond, List, [], ◌∷◌, ◌++◌, length, take, drop, get_or, refl, ap, sym, arith, Option, Some, length-take}
+use Rattle.std.proofs.Common.{ℕ, zero, suc, ◌+◌, ◌<◌, ◌≤◌, ◌≡◌, ◌≢◌, ◌⊎◌, inl, inr, ◌||◌, ◌&&◌, Bool, true, false, cond, List, [], ◌∷◌, ◌++◌, length, take, drop, get_or, refl, ap, sym, ◌∙◌, arith, append_assoc, Option, Some, length-take}
 use Rattle.std.proofs.Math.Numerals.{add-one}
-use Rattle.std.proofs.lemmas.List.{take-append-drop}
+use Rattle.std.proofs.lemmas.List.{take-append-drop, take_at, drop_at, get_or-drop}
+use Rattle.std.proofs.Math.Seq.{take-suc}
 
 pub head_is : (s : List ℕ) (m b : ℕ) (rest : List ℕ) → take m s ≡ b ∷ rest → get_or s 0 0 ≡ b
 head_is [] zero b rest h = absurd cc
@@ -83,3 +84,32 @@ or_true false y h = inr h
 pub and_true : (x y : Bool) → (x && y) ≡ true → (x ≡ true) × (y ≡ true)
 and_true true y h = (refl, h)
 and_true false y h = absurd cc
+
+-- a byte that is not 0 stands within the list
+pub byte_within : (s : List ℕ) (i : ℕ) → get_or s i 0 ≢ 0 → i < length s
+byte_within [] i h = absurd (h refl)
+byte_within (x ∷ xs) zero h = omega arith
+byte_within (x ∷ xs) (suc i) h = let l = byte_within xs i h in omega arith
+
+-- what is behind a front
+pub split : (s front behind : List ℕ) → front ++ behind ≡ s → (take (length front) s ≡ front) × (drop (length front) s ≡ behind)
+split s front behind e = rw (← e) (take_at front behind (length front) refl, drop_at front behind (length front) refl)
+
+-- one byte more
+pub one_longer : (s : List ℕ) (n : ℕ) → n < length s → take (n + 1) s ≡ take n s ++ get_or s n 0 ∷ []
+one_longer s n l = rw add-one (take-suc s n 0 l)
+
+pub ended : (s : List ℕ) (m : ℕ) (front : List ℕ) (b : ℕ) → take m s ≡ front ++ b ∷ [] → front ++ b ∷ drop m s ≡ s
+ended s m front b e =
+    let f : (front ++ b ∷ []) ++ drop m s ≡ s = rw (← e) (take-append-drop m s) in
+    sym (append_assoc front (b ∷ []) (drop m s)) ∙ f
+
+-- the bytes behind a place
+pub at_drop : (s : List ℕ) (m i : ℕ) → get_or (drop m s) i 0 ≡ get_or s (m + i) 0
+at_drop s m i = get_or-drop m s i 0
+
+pub here : (s : List ℕ) (m : ℕ) → get_or (drop m s) 0 0 ≡ get_or s m 0
+here s m = at_drop s m 0 ∙ ap (λ k. get_or s k 0) (omega arith)
+
+pub at_drops : (s : List ℕ) (k q i : ℕ) → get_or (drop q (drop k s)) i 0 ≡ get_or s (k + (q + i)) 0
+at_drops s k q i = get_or-drop q (drop k s) i 0 ∙ get_or-drop k s (q + i) 0

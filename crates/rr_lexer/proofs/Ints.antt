@@ -1,19 +1,12 @@
 -- The number at a place is the one that the scan finds.
 use Rattle.std.proofs.Common.{ℕ, zero, suc, ◌+◌, ◌-◌, ◌<◌, ◌≤◌, ◌≡◌, ◌==◌, ◌≢◌, ◌⊎◌, inl, inr, ◌||◌, ◌&&◌, not, Bool, true, false, cond, List, [], ◌∷◌, ◌++◌, length, take, drop, get_or, refl, ap, sym, ◌∙◌, arith, Option, Some, None, length-drop, nat_lt}
-use Rattle.std.proofs.lemmas.List.{get_or-drop, take-append-drop}
+use Rattle.std.proofs.lemmas.List.{take-append-drop}
 use Rattle.std.proofs.lemmas.Bool.{eqb-true, ne_eqb, ltb-false, le-ltb}
 use Rattle.std.proofs.lemmas.Bool.Decides.{eqb_tells}
 use Rattle.rr_lexer.specs.Numbers.{digit_value, is_digit_of, goes_on_in, base_of, has_base, largest_int, IsRest, IsDecimal, IsBased, IsInt}
 use Rattle.rr_lexer.specs.Scans.{digits_from, checked_number, number_at}
-use Rattle.rr_lexer.proofs.Heads.{head_is, second_is, third_is, cut, size_is, whole, front_one, chosen, pick, some_same, or_false, and_true}
+use Rattle.rr_lexer.proofs.Heads.{at_drop, at_drops, head_is, second_is, third_is, cut, size_is, whole, front_one, chosen, pick, some_same, or_false, and_true}
 use Rattle.rr_lexer.proofs.Digits.{digits_complete, digits_sound, ends, digit_within}
-
--- the bytes behind a place
-at_drop : (s : List ℕ) (m i : ℕ) → get_or (drop m s) i 0 ≡ get_or s (m + i) 0
-at_drop s m i = get_or-drop m s i 0
-
-at_drops : (s : List ℕ) (k q i : ℕ) → get_or (drop q (drop k s)) i 0 ≡ get_or s (k + (q + i)) 0
-at_drops s k q i = get_or-drop q (drop k s) i 0 ∙ get_or-drop k s (q + i) 0
 
 abbrev GoesOnAt : ℕ → List ℕ → ℕ → Bool
 GoesOnAt base s m = goes_on_in base (get_or s m 0) (get_or s (m + 1) 0)

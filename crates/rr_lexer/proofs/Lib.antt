@@ -11,3 +11,4 @@ pub mod Ints
 pub mod Begins
 pub mod Tiling
 pub mod Refused
+pub mod Order

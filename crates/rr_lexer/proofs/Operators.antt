@@ -119,8 +119,8 @@ op_some ops.Close = omega arith
 op_some ops.OpenSquare = omega arith
 op_some ops.CloseSquare = omega arith
 
--- an operator begins with a byte of one of two classes
-pub op_class : (o : Op) → (class_of (get_or (op_text o) 0 0) ≡ classes.Mark) ⊎ (class_of (get_or (op_text o) 0 0) ≡ classes.Colon)
+-- all operators but two begin with a byte of one class
+pub op_class : (o : Op) → (class_of (get_or (op_text o) 0 0) ≡ classes.Mark) ⊎ ((o ≡ ops.Colon) ⊎ (o ≡ ops.Path))
 unfolding class_of
 op_class ops.Plus = inl refl
 op_class ops.Minus = inl refl
@@ -150,8 +150,8 @@ op_class ops.Bar = inl refl
 op_class ops.Or = inl refl
 op_class ops.OrAssign = inl refl
 op_class ops.Question = inl refl
-op_class ops.Colon = inr refl
-op_class ops.Path = inr refl
+op_class ops.Colon = inr (inl refl)
+op_class ops.Path = inr (inr refl)
 op_class ops.Dot = inl refl
 op_class ops.Comma = inl refl
 op_class ops.Semicolon = inl refl

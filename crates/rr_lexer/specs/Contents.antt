@@ -1,6 +1,8 @@
 -- What a token stands for.
 use Rattle.std.specs.Prelude.{ℕ, ◌-◌, ◌==◌, ◌||◌, ◌&&◌, Bool, true, false, List, [], ◌∷◌, Option, Some, None, length, take, drop, slice_index, nat_le, if◌then◌else◌}
 use Rattle.rr_lexer.specs.Scans.{number_at}
+use Rattle.rr_lexer.specs.declared.kind.Kind.{Kind}
+use Rattle.rr_lexer.specs.declared.kind.Kind.TheVariants as kinds
 use Rattle.rr_lexer.specs.declared.kind.Token.{Token}
 
 -- the bytes that a token spans; none where it does not lie in the source
@@ -47,3 +49,9 @@ single_body (b ∷ bs) false = if b == 39 then []
 abbrev pub contents_of : List ℕ → List ℕ
 contents_of [] = []
 contents_of (q ∷ bs) = if q == 39 then single_body bs false else (if q == 34 || q == 125 then text_body bs false else [])
+
+-- The name that a symbol or a label has, without its colon. Other tokens have their own bytes.
+abbrev pub name_of : Kind → List ℕ → List ℕ
+name_of kinds.Symbol word = drop 1 word
+name_of kinds.Label word = take (length word - 1) word
+name_of _ word = word

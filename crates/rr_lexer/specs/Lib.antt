@@ -9,4 +9,5 @@ pub mod Tokens
 pub mod Contexts
 pub mod Scans
 pub mod Contents
+pub mod Freezes
 pub mod Laws

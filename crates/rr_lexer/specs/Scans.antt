@@ -3,7 +3,7 @@ use Rattle.std.specs.Prelude.{ℕ, ◌+◌, ◌-◌, ◌*◌, ◌≡◌, ◌==�
 use Rattle.std.specs.Str.{bytes_eq}
 use Rattle.std.specs.List.{prefix_len}
 use Rattle.rr_lexer.specs.Bytes.{class_of, is_word_byte}
-use Rattle.rr_lexer.specs.Words.{keyword_text, is_left_out, op_text}
+use Rattle.rr_lexer.specs.Words.{keyword_text, is_left_out, takes_mark, takes_colon, op_text}
 use Rattle.rr_lexer.specs.Texts.{is_escape}
 use Rattle.rr_lexer.specs.Numbers.{digit_value, is_digit_of, base_of, has_base, goes_on_in, largest_int}
 use Rattle.rr_lexer.specs.declared.class.Class.{Class}
@@ -50,8 +50,37 @@ abbrev pub sized : ℕ → Option Kind → Option (Kind × ℕ)
 sized n None = None
 sized n (Some kind) = Some (kind, n)
 
-unfoldable pub word_at : Bool → List ℕ → Option (Kind × ℕ)
-word_at after_dot s = let n = prefix_len is_word_byte s in sized n (word_kind after_dot (take n s))
+-- what a word with `?` or `!`, or one that begins with a capital letter, is
+abbrev pub unless_left_out : Kind → Bool → List ℕ → Option Kind
+unless_left_out kind true word = Some kind
+unless_left_out kind false word = if is_left_out word then None else Some kind
+
+-- behind n bytes of a word
+abbrev pub lower_from : Bool → List ℕ → ℕ → Option (Kind × ℕ)
+lower_from after_dot s n = if takes_colon (slice_index s n) (slice_index s (n + 1)) then Some (kinds.Label, n + 1)
+    else (if takes_mark (slice_index s n) (slice_index s (n + 1)) then sized (n + 1) (unless_left_out kinds.Name after_dot (take (n + 1) s))
+    else sized n (word_kind after_dot (take n s)))
+
+abbrev pub upper_from : Bool → List ℕ → ℕ → Option (Kind × ℕ)
+upper_from after_dot s n = if takes_colon (slice_index s n) (slice_index s (n + 1)) then Some (kinds.Label, n + 1)
+    else sized n (unless_left_out kinds.Constant after_dot (take n s))
+
+unfoldable pub lower_at : Bool → List ℕ → Option (Kind × ℕ)
+lower_at after_dot s = lower_from after_dot s (prefix_len is_word_byte s)
+
+unfoldable pub upper_at : Bool → List ℕ → Option (Kind × ℕ)
+upper_at after_dot s = upper_from after_dot s (prefix_len is_word_byte s)
+
+-- a byte and a word behind it
+abbrev pub prefixed : Kind → List ℕ → Option (Kind × ℕ)
+prefixed kind s = Some (kind, prefix_len is_word_byte (drop 1 s) + 1)
+
+abbrev pub variable_of : Kind → Class → List ℕ → Option (Kind × ℕ)
+variable_of kind classes.Lower s = prefixed kind s
+variable_of kind _ s = None
+
+abbrev pub variable_at : Kind → List ℕ → Option (Kind × ℕ)
+variable_at kind s = variable_of kind (class_of (slice_index s 1)) s
 
 -- operators
 
@@ -71,6 +100,14 @@ op_sized (Some o) = Some (kinds.Op o, length (op_text o))
 
 abbrev pub op_at : List ℕ → Option (Kind × ℕ)
 op_at s = op_sized (op_of (slice_index s 0) (slice_index s 1) (slice_index s 2))
+
+abbrev pub colon_of : Class → List ℕ → Option (Kind × ℕ)
+colon_of classes.Lower s = prefixed kinds.Symbol s
+colon_of classes.Upper s = prefixed kinds.Symbol s
+colon_of _ s = op_at s
+
+abbrev pub colon_at : List ℕ → Option (Kind × ℕ)
+colon_at s = colon_of (class_of (slice_index s 1)) s
 
 -- numbers: the value, and how many bytes it takes
 
@@ -153,8 +190,8 @@ backslash_at s = if slice_index s 1 == 10 then Some (kinds.Joined, 2)
 
 -- by the class of the first byte, inside an interpolation or not, behind `.` or not
 abbrev pub element_of : Class → Bool → Bool → List ℕ → Option (Kind × ℕ)
-element_of classes.Lower inside after_dot s = word_at after_dot s
-element_of classes.Upper inside after_dot s = None
+element_of classes.Lower inside after_dot s = lower_at after_dot s
+element_of classes.Upper inside after_dot s = upper_at after_dot s
 element_of classes.Digit inside after_dot s = int_sized (number_at s)
 element_of classes.Double inside after_dot s = quote_sized (piece (drop 1 s) Plain)
 element_of classes.Single inside after_dot s = single_sized (single_len (drop 1 s) false)
@@ -163,9 +200,9 @@ element_of classes.LineFeed inside after_dot s = Some (kinds.LineEnd, 1)
 element_of classes.Return inside after_dot s = return_at s
 element_of classes.Blank inside after_dot s = Some (kinds.Blank, 1)
 element_of classes.Backslash inside after_dot s = backslash_at s
-element_of classes.At inside after_dot s = None
-element_of classes.Dollar inside after_dot s = None
-element_of classes.Colon inside after_dot s = op_at s
+element_of classes.At inside after_dot s = variable_at kinds.InstanceVariable s
+element_of classes.Dollar inside after_dot s = variable_at kinds.GlobalVariable s
+element_of classes.Colon inside after_dot s = colon_at s
 element_of classes.OpenBrace inside after_dot s = Some (kinds.OpenBrace, 1)
 element_of classes.CloseBrace true after_dot s = brace_sized (piece (drop 1 s) Plain)
 element_of classes.CloseBrace false after_dot s = Some (kinds.CloseBrace, 1)

@@ -1,9 +1,9 @@
 -- Which bytes spell which token, and which tokens a source has.
-use Rattle.std.specs.Prelude.{ℕ, ◌+◌, ◌<◌, ◌≤◌, ◌≡◌, ◌==◌, ◌≢◌, ◌⊎◌, not, Bool, true, false, List, [], ◌∷◌, length, take, drop, slice_index, if◌then◌else◌}
+use Rattle.std.specs.Prelude.{ℕ, ◌+◌, ◌<◌, ◌≤◌, ◌≡◌, ◌==◌, ◌≢◌, ◌⊎◌, not, Bool, true, false, List, [], ◌∷◌, ◌++◌, length, take, drop, slice_index, if◌then◌else◌}
 use Rattle.std.specs.Str.{bytes_eq}
 use Rattle.std.specs.List.{list_all}
 use Rattle.rr_lexer.specs.Bytes.{class_of, is_word_byte}
-use Rattle.rr_lexer.specs.Words.{keyword_text, is_left_out, op_text}
+use Rattle.rr_lexer.specs.Words.{keyword_text, is_left_out, takes_mark, op_text}
 use Rattle.rr_lexer.specs.Texts.{IsPieceAfter, IsSingle}
 use Rattle.rr_lexer.specs.Numbers.{IsInt}
 use Rattle.rr_lexer.specs.Places.{IsAt}
@@ -46,6 +46,32 @@ pub record IsWord (first : Class) (word after : List ℕ) : Type 0 where
   pub goes : list_all is_word_byte word ≡ true
   pub whole : is_word_byte (slice_index after 0) ≡ false
 
+-- such a word that begins with a letter below or `_`, and to which no `?` or `!` behind it belongs
+pub record IsPlain (word after : List ℕ) : Type 0 where
+  pub is_word : IsWord classes.Lower word after
+  pub unmarked : takes_mark (slice_index after 0) (slice_index after 1) ≡ false
+
+-- such a word with the `?` or `!` that belongs to it
+pub record IsMarked (word after : List ℕ) : Type 0 where
+  pub front : List ℕ
+  pub mark : ℕ
+  pub word_is : word ≡ front ++ mark ∷ []
+  pub is_word : IsWord classes.Lower front (mark ∷ after)
+  pub marked : takes_mark mark (slice_index after 0) ≡ true
+
+-- a word, and a colon that no other follows
+pub record IsLabel (word after : List ℕ) : Type 0 where
+  pub front : List ℕ
+  pub word_is : word ≡ front ++ 58 ∷ []
+  pub is_word : IsWord classes.Lower front (58 ∷ after) ⊎ IsWord classes.Upper front (58 ∷ after)
+  pub free : slice_index after 0 ≢ 58
+
+-- a byte and a word behind it
+pub record IsPrefixed (byte : ℕ) (first : Class) (word after : List ℕ) : Type 0 where
+  pub name : List ℕ
+  pub word_is : word ≡ byte ∷ name
+  pub is_word : IsWord first name after
+
 -- a word that is not reserved
 pub record IsFree (word : List ℕ) : Type 0 where
   pub no_keyword : (k : Keyword) → word ≢ keyword_text k
@@ -59,14 +85,15 @@ pub record IsComment (word : List ℕ) : Type 0 where
 -- In this state these bytes, with those after them, spell a token of this kind. Blanks, comments and joined lines are
 -- kinds too. Behind `.` a reserved word is a name.
 abbrev pub Spells : State → Kind → List ℕ → List ℕ → Type 0
-Spells s kinds.Name word after = IsWord classes.Lower word after × ((s.after_dot ≡ true) ⊎ IsFree word)
-Spells s kinds.Constant word after = ⊥
-Spells s kinds.InstanceVariable word after = ⊥
-Spells s kinds.GlobalVariable word after = ⊥
-Spells s kinds.Symbol word after = ⊥
-Spells s kinds.Label word after = ⊥
+Spells s kinds.Name word after = (IsPlain word after × ((s.after_dot ≡ true) ⊎ IsFree word))
+    ⊎ (IsMarked word after × ((s.after_dot ≡ true) ⊎ (is_left_out word ≡ false)))
+Spells s kinds.Constant word after = IsWord classes.Upper word after × ((s.after_dot ≡ true) ⊎ (is_left_out word ≡ false))
+Spells s kinds.InstanceVariable word after = IsPrefixed 64 classes.Lower word after
+Spells s kinds.GlobalVariable word after = IsPrefixed 36 classes.Lower word after
+Spells s kinds.Symbol word after = IsPrefixed 58 classes.Lower word after ⊎ IsPrefixed 58 classes.Upper word after
+Spells s kinds.Label word after = IsLabel word after
 Spells s kinds.Int word after = (v : ℕ) × IsInt word after v
-Spells s (kinds.Keyword k) word after = (s.after_dot ≡ false) × IsWord classes.Lower word after × (word ≡ keyword_text k)
+Spells s (kinds.Keyword k) word after = (s.after_dot ≡ false) × IsPlain word after × (word ≡ keyword_text k)
 Spells s (kinds.Op o) word after = word ≡ op_text o
 Spells s kinds.Single word after = IsSingle word
 Spells s kinds.Text word after = IsPieceAfter 34 false word

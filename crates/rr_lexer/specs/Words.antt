@@ -1,5 +1,5 @@
 -- Reserved words and operators.
-use Rattle.std.specs.Prelude.{ℕ, Bool, List, [], ◌∷◌, codes}
+use Rattle.std.specs.Prelude.{ℕ, ◌==◌, ◌||◌, ◌&&◌, not, Bool, List, [], ◌∷◌, codes}
 use Rattle.std.specs.Str.{bytes_eq}
 use Rattle.std.specs.List.{list_any}
 use Rattle.rr_lexer.specs.declared.kind.Keyword.{Keyword}
@@ -43,6 +43,14 @@ left_out_words = codes "__END__" ∷ codes "__FILE__" ∷ codes "__LINE__" ∷ c
 
 abbrev pub is_left_out : List ℕ → Bool
 is_left_out word = list_any (bytes_eq word) left_out_words
+
+-- These two bytes behind a word are a `?` or `!` that belongs to it: no `=` follows.
+abbrev pub takes_mark : ℕ → ℕ → Bool
+takes_mark b c = (b == 63 || b == 33) && not (c == 61)
+
+-- These two bytes behind a word are the colon of a label: no other follows.
+abbrev pub takes_colon : ℕ → ℕ → Bool
+takes_colon b c = b == 58 && not (c == 58)
 
 abbrev pub op_text : Op → List ℕ
 op_text ops.Plus = codes "+"

@@ -1,10 +1,10 @@
 //! What a token stands for.
 
 ghost use Rattle.std.specs.Prelude.{◌≡◌, ◌<◌, ◌≤◌, false, length, IfOk};
-ghost use Rattle.rr_lexer.specs.Contents.{word_of, int_value_of, whole_number, escaped_byte, is_folded, text_body, single_body, contents_of};
+ghost use Rattle.rr_lexer.specs.Contents.{word_of, int_value_of, whole_number, escaped_byte, is_folded, text_body, single_body, contents_of, name_of};
 
 use crate::class::byte_at;
-use crate::kind::Token;
+use crate::kind::{Kind, Token};
 use crate::numbers::number_at;
 use std::alloc::{AllocError, Global};
 
@@ -110,5 +110,18 @@ pub fn text_contents(alloc: Global, source: &[u8], token: Token) -> Result<Vec<u
         [b'\'', body @ ..] => single_body(alloc, body),
         [b'"' | b'}', body @ ..] => text_body(alloc, body),
         _ => Ok(Vec::new(alloc)),
+    }
+}
+
+/// The name that a symbol or a label has, without its colon: `a` for `:a` and for `a:`. Other tokens have the bytes that
+/// they span.
+pub fn name<'s>(source: &'s [u8], token: Token) -> &'s [u8]
+    ensures { result.now ≡ name_of token.kind (word_of source.now token) }
+{
+    let bytes = word(source, token);
+    match token.kind {
+        Kind::Symbol => &bytes[bytes.len().min(1)..],
+        Kind::Label => &bytes[..bytes.len().saturating_sub(1)],
+        _ => bytes,
     }
 }

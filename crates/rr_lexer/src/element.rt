@@ -9,7 +9,7 @@ use crate::kind::Kind;
 use crate::numbers::number_at;
 use crate::ops::op_at;
 use crate::texts::{brace_at, quote_at, single_at};
-use crate::words::word_at;
+use crate::words::{colon_at, lower_at, upper_at, variable_at};
 
 /// How many bytes stand before the end of the line.
 fn comment_len(rest: &[u8]) -> usize
@@ -65,7 +65,8 @@ pub fn element_at(inside: bool, after_dot: bool, rest: &[u8]) -> Option<(Kind, u
     ensures { result ≡ element_at inside after_dot rest.now }
 {
     match class_of(rest[0]) {
-        Class::Lower => word_at(after_dot, rest),
+        Class::Lower => lower_at(after_dot, rest),
+        Class::Upper => upper_at(after_dot, rest),
         Class::Digit => int_at(rest),
         Class::Double => quote_at(rest),
         Class::Single => single_at(rest),
@@ -82,7 +83,10 @@ pub fn element_at(inside: bool, after_dot: bool, rest: &[u8]) -> Option<(Kind, u
                 Some((Kind::CloseBrace, 1))
             }
         }
-        Class::Colon | Class::Mark => op_at(rest),
-        Class::Upper | Class::At | Class::Dollar | Class::Other => None,
+        Class::At => variable_at(Kind::InstanceVariable, rest),
+        Class::Dollar => variable_at(Kind::GlobalVariable, rest),
+        Class::Colon => colon_at(rest),
+        Class::Mark => op_at(rest),
+        Class::Other => None,
     }
 }

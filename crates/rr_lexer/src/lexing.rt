@@ -21,7 +21,7 @@ const SOURCE_LIMIT: usize = 16_777_216;
 
 /// How many bytes a leading byte order mark takes.
 #[tactic(auto, unfolding(crate::specs::Tokens::start_of))]
-fn start_of(source: &[u8]) -> usize
+pub fn start_of(source: &[u8]) -> usize
     ensures is { result ≡ start_of source.now }
     ensures within { result ≤ length source.now }
 {

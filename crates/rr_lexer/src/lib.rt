@@ -6,6 +6,7 @@ mod contents;
 mod context;
 mod element;
 mod encoding;
+mod freezes;
 mod kind;
 mod laws;
 mod lexing;
@@ -14,14 +15,18 @@ mod numbers;
 mod ops;
 mod place;
 mod refusal;
+mod reserved;
 mod texts;
 mod words;
 
-pub use contents::{int_value, text_contents, word};
+pub use contents::{int_value, name, text_contents, word};
+pub use freezes::freezes_literals;
 pub use kind::{Keyword, Kind, Op, Token};
-pub use laws::tokens_are_one;
+pub use laws::{tokens_are_in_order, tokens_are_one};
 pub use lexing::lex;
 pub use place::line_and_column;
 
+#[cfg(test)]
+mod rows;
 #[cfg(test)]
 mod tests;

@@ -1,11 +1,14 @@
 //! Worked examples: the tokens of a source, or the place and the kind of its refusal.
 
-use crate::contents::{int_value, text_contents, word};
-use crate::kind::Token;
+use crate::contents::{int_value, name, text_contents, word};
+use crate::freezes::freezes_literals;
+use crate::kind::{Kind, Token};
 use crate::lexing::lex;
 use crate::place::line_and_column;
+use crate::rows::{LINES, MARKS, NAMED, REFUSED, TEXTS, WORDS};
 use rr_base::{Fault, LimitKind};
 use std::alloc::{AllocError, Global};
+use std::process::Abort;
 use std::test::Fail;
 
 /// A token as `Name 0..4`, with `_` before it where a blank stands directly before.
@@ -43,106 +46,58 @@ fn shown(alloc: Global, source: &[u8]) -> Result<String, AllocError> {
     }
 }
 
-const SPELLED: [(&[u8], &str); 30] = [
-    (b"", ""),
-    (b"\xEF\xBB\xBFa", "Name 3..4"),
-    (b"puts \"abc\"", "Name 0..4, _Text 5..10"),
-    (
-        b"a = 3; b",
-        "Name 0..1, _Op(Assign) 2..3, _Int 4..5, Op(Semicolon) 5..6, _Name 7..8",
-    ),
-    (
-        b"a\r\nb\rc",
-        "Name 0..1, LineEnd 1..3, Name 3..4, _Name 5..6",
-    ),
-    (b"a # b\nc", "Name 0..1, _LineEnd 5..6, Name 6..7"),
-    (b"a\\\nb", "Name 0..1, _Name 3..4"),
-    (b"a\\\r\nb", "Name 0..1, _Name 4..5"),
-    (b"if iff", "Keyword(If) 0..2, _Name 3..6"),
-    (
-        b"a.if.b",
-        "Name 0..1, Op(Dot) 1..2, Name 2..4, Op(Dot) 4..5, Name 5..6",
-    ),
-    (
-        b"1_000 0x1F 0b1_0 0o17",
-        "Int 0..5, _Int 6..10, _Int 11..16, _Int 17..21",
-    ),
-    (b"1_ 12ab", "Int 0..1, Name 1..2, _Int 3..5, Name 5..7"),
-    (b"9223372036854775808", "Int 0..19"),
-    (b"0 0x", "Int 0..1, _Int 2..3, Name 3..4"),
-    (b"a<=>b", "Name 0..1, Op(Compare) 1..4, Name 4..5"),
-    (b"a<<=b", "Name 0..1, Op(ShiftAssign) 1..4, Name 4..5"),
-    (
-        b"=> == = >=",
-        "Op(Arrow) 0..2, _Op(Equal) 3..5, _Op(Assign) 6..7, _Op(GreaterOrEqual) 8..10",
-    ),
-    (
-        b"::a : :",
-        "Op(Path) 0..2, Name 2..3, _Op(Colon) 4..5, _Op(Colon) 6..7",
-    ),
-    (b"'a\\'b\\'", "1:1 unterminated string"),
-    (b"'a\\'b\\\\'", "Single 0..8"),
-    (b"\"a\\\"b\\_\\-\\#{\"", "Text 0..13"),
-    (b"a +\n\n b", "Name 0..1, _Op(Plus) 2..3, _Name 6..7"),
-    (b"(\na\n)", "Op(Open) 0..1, Name 2..3, Op(Close) 4..5"),
-    (
-        b"a\n.b\n\n.c",
-        "Name 0..1, Op(Dot) 2..3, Name 3..4, Op(Dot) 6..7, Name 7..8",
-    ),
-    (b"a\n\n\nb", "Name 0..1, LineEnd 3..4, Name 4..5"),
-    (
-        b"def +\na",
-        "Keyword(Def) 0..3, _Op(Plus) 4..5, LineEnd 5..6, Name 6..7",
-    ),
-    (
-        b"a |\nb",
-        "Name 0..1, _Op(Bar) 2..3, LineEnd 3..4, Name 4..5",
-    ),
-    (b"a and\nb", "Name 0..1, _Keyword(And) 2..5, Name 6..7"),
-    (b"\"a#{b}c\"", "Head 0..4, Name 4..5, Tail 5..8"),
-    (
-        b"\"#{{}}#{\"}\"}\"",
-        "Head 0..3, OpenBrace 3..4, CloseBrace 4..5, Middle 5..8, Text 8..11, Tail 11..13",
-    ),
-];
+/// What `^` and a letter stand for in a row.
+fn escape(letter: u8) -> &'static [u8] {
+    match letter {
+        b'n' => b"\n".as_slice(),
+        b'r' => b"\r".as_slice(),
+        b't' => b"\t".as_slice(),
+        b'm' => b"\xEF\xBB\xBF".as_slice(),
+        b'e' => b"\xC3\xA9".as_slice(),
+        b'c' => b"\xC3".as_slice(),
+        b'z' => b"\x00".as_slice(),
+        b'u' => b"\x1F".as_slice(),
+        b'd' => b"\x7F".as_slice(),
+        b'f' => b"\xFF".as_slice(),
+        _ => b"^".as_slice(),
+    }
+}
 
-const REFUSED: [(&[u8], &str); 22] = [
-    (b"puts \"abc", "1:6 unterminated string"),
-    (b"a = \"b\"\n  c\xff \"", "2:4 encoding"),
-    (b"\"\n\x00", "2:1 encoding"),
-    (b"a\x7f", "1:2 encoding"),
-    (b"a\x1f", "1:2 encoding"),
-    (b"\xc3", "1:1 encoding"),
-    (b"\xc3\xa9", "1:1 character"),
-    (b"a `", "1:3 character"),
-    (b"a & b", "1:3 character"),
-    (b"a \\ b", "1:3 character"),
-    (b"007", "1:1 number"),
-    (b"0_7", "1:1 number"),
-    (b"9223372036854775809", "1:1 number"),
-    (b"a\n 0x8000000000000001", "2:2 number"),
-    (b"0b12", "1:1 number"),
-    (b"0o18", "1:1 number"),
-    (b"\"\\d\"", "1:1 left out"),
-    (b"\"#@a\"", "1:1 left out"),
-    (b"\"\\\n\"", "1:1 left out"),
-    (b"\"\\\r\n\"", "1:1 left out"),
-    (b"\"a#{b}", "1:6 unterminated string"),
-    (b"for", "1:1 left out"),
-];
+/// The bytes of a source as a row has it.
+fn source_of(alloc: Global, row: &[u8]) -> Result<Vec<u8>, AllocError> {
+    let mut source = Vec::new(alloc);
+    let mut rest = row;
+    while let [b, more @ ..] = rest {
+        rest = more;
+        if *b != b'^' {
+            source.push(*b)?;
+        } else if let [letter, tail @ ..] = more {
+            source.extend_from_slice(escape(*letter))?;
+            rest = tail;
+        }
+    }
+    Ok(source)
+}
 
-#[test]
-fn sources_have_their_tokens(rt: HostRuntime) -> Result<(), Fail> {
-    for (source, want) in SPELLED {
-        assert_eq!(rt; shown(rt.alloc(), source)?.as_str(), want);
+fn check_rows(rt: &impl Abort, alloc: Global, rows: &str) -> Result<(), AllocError> {
+    for row in rows.lines() {
+        let (source, want) = row
+            .split_once(" -> ")
+            .unwrap_or((row, "a row without an arrow"));
+        let bytes = source_of(alloc, source.as_bytes())?;
+        assert_eq!(rt;
+            shown(alloc, bytes.as_slice())?.as_str(),
+            want,
+            "at {source}"
+        );
     }
     Ok(())
 }
 
 #[test]
-fn refusals_have_their_place_and_kind(rt: HostRuntime) -> Result<(), Fail> {
-    for (source, want) in REFUSED {
-        assert_eq!(rt; shown(rt.alloc(), source)?.as_str(), want);
+fn sources_have_their_tokens(rt: HostRuntime) -> Result<(), Fail> {
+    for rows in [WORDS, NAMED, MARKS, TEXTS, LINES, REFUSED] {
+        check_rows(&rt, rt.alloc(), rows)?;
     }
     Ok(())
 }
@@ -160,15 +115,19 @@ const VALUES: [(&[u8], Option<u64>); 10] = [
     (b"1a", None),
 ];
 
-/// A token of kind `Int` that spans a whole source.
-fn whole(source: &[u8]) -> Token {
+/// A token that spans a whole source.
+fn spanning(source: &[u8], kind: Kind) -> Token {
     let end = u32::try_from(source.len()).unwrap_or(0);
     Token {
         start: 0,
         end,
-        kind: crate::kind::Kind::Int,
+        kind,
         blank: false,
     }
+}
+
+fn whole(source: &[u8]) -> Token {
+    spanning(source, Kind::Int)
 }
 
 #[test]
@@ -212,5 +171,42 @@ fn places_and_words_are_those_of_the_source(rt: HostRuntime) -> Result<(), Fail>
     assert_eq!(rt; line_and_column(b"ab\nc", 9), (2, 2));
     assert_eq!(rt; word(b"ab", whole(b"a")), b"a".as_slice());
     assert_eq!(rt; word(b"ab", whole(b"abc")), b"".as_slice());
+    Ok(())
+}
+
+#[test]
+fn symbols_and_labels_have_their_names(rt: HostRuntime) -> Result<(), Fail> {
+    for (source, kind, want) in [
+        (b":ab".as_slice(), Kind::Symbol, b"ab".as_slice()),
+        (b"ab:".as_slice(), Kind::Label, b"ab".as_slice()),
+        (b"@ab".as_slice(), Kind::InstanceVariable, b"@ab".as_slice()),
+        (b"ab?".as_slice(), Kind::Name, b"ab?".as_slice()),
+    ] {
+        assert_eq!(rt; name(source, spanning(source, kind)), want);
+    }
+    Ok(())
+}
+
+const FREEZES: [(&[u8], bool); 10] = [
+    (b"# frozen_string_literal: true", true),
+    (b"# frozen_string_literal: true\na", true),
+    (b"\xEF\xBB\xBF# frozen_string_literal: true\r\na", true),
+    (b"#!ruby\n\n  # frozen_string_literal: true\na", true),
+    (b"a\n# frozen_string_literal: true\n", false),
+    (b"a # frozen_string_literal: true\n", false),
+    (b"# frozen_string_literal: false\n", false),
+    (b"# frozen_string_literal: true.\n", false),
+    (b"## frozen_string_literal: true\n", false),
+    (b"", false),
+];
+
+#[test]
+fn a_comment_freezes_literals(rt: HostRuntime) -> Result<(), Fail> {
+    for (source, want) in FREEZES {
+        match lex(rt.alloc(), source) {
+            Ok(tokens) => assert_eq!(rt; freezes_literals(source, &tokens), want),
+            Err(_) => assert!(rt; false),
+        }
+    }
     Ok(())
 }

@@ -1,13 +1,15 @@
-//! Names and reserved words.
+//! Names, labels, symbols and variables.
 
-ghost use Rattle.std.specs.Prelude.{◌≡◌, ◌≤◌, ◌+◌, ◌<◌, length, take, IfSome};
+ghost use Rattle.std.specs.Prelude.{◌≡◌, ◌≤◌, ◌+◌, ◌<◌, length, take, drop, slice_index, IfSome};
 ghost use Rattle.std.specs.List.{prefix_len};
-ghost use Rattle.rr_lexer.specs.Bytes.{is_word_byte};
-ghost use Rattle.rr_lexer.specs.Words.{is_left_out};
-ghost use Rattle.rr_lexer.specs.Scans.{keyword_among, keyword_from, keywords_of_size, word_kind, word_at};
+ghost use Rattle.rr_lexer.specs.Bytes.{class_of, is_word_byte};
+ghost use Rattle.rr_lexer.specs.Words.{takes_mark, takes_colon};
+ghost use Rattle.rr_lexer.specs.Scans.{unless_left_out, word_kind, sized, lower_at, upper_at, prefixed, variable_at, colon_at};
 
-use crate::class::{class_of, goes_on};
-use crate::kind::{Keyword, Kind};
+use crate::class::{Class, byte_at, class_of, goes_on};
+use crate::kind::Kind;
+use crate::ops::op_at;
+use crate::reserved::{is_left_out, keyword_from};
 
 /// How many bytes at the front go on in a name.
 #[tactic(auto, using(crate::proofs::Prefixes::prefix_passes))]
@@ -23,135 +25,21 @@ fn word_len(rest: &[u8]) -> usize
     rest.len()
 }
 
-fn keyword_of_two(word: &[u8]) -> Option<Keyword>
-    ensures { result ≡ keyword_among word.now (keywords_of_size 2) }
+/// Whether these two bytes behind a word are a `?` or `!` that belongs to it.
+fn takes_mark(b: u8, c: u8) -> bool
+    ensures { result ≡ takes_mark b c }
 {
-    if word == b"do".as_slice() {
-        Some(Keyword::Do)
-    } else if word == b"if".as_slice() {
-        Some(Keyword::If)
-    } else if word == b"or".as_slice() {
-        Some(Keyword::Or)
-    } else {
-        None
-    }
+    (b == b'?' || b == b'!') && c != b'='
 }
 
-fn keyword_of_three(word: &[u8]) -> Option<Keyword>
-    ensures { result ≡ keyword_among word.now (keywords_of_size 3) }
+/// Whether these two bytes behind a word are the colon of a label.
+fn takes_colon(b: u8, c: u8) -> bool
+    ensures { result ≡ takes_colon b c }
 {
-    if word == b"and".as_slice() {
-        Some(Keyword::And)
-    } else if word == b"def".as_slice() {
-        Some(Keyword::Def)
-    } else if word == b"end".as_slice() {
-        Some(Keyword::End)
-    } else if word == b"nil".as_slice() {
-        Some(Keyword::Nil)
-    } else if word == b"not".as_slice() {
-        Some(Keyword::Not)
-    } else {
-        None
-    }
+    b == b':' && c != b':'
 }
 
-fn keyword_of_four(word: &[u8]) -> Option<Keyword>
-    ensures { result ≡ keyword_among word.now (keywords_of_size 4) }
-{
-    if word == b"else".as_slice() {
-        Some(Keyword::Else)
-    } else if word == b"next".as_slice() {
-        Some(Keyword::Next)
-    } else if word == b"self".as_slice() {
-        Some(Keyword::SelfWord)
-    } else if word == b"then".as_slice() {
-        Some(Keyword::Then)
-    } else if word == b"true".as_slice() {
-        Some(Keyword::True)
-    } else {
-        None
-    }
-}
-
-fn keyword_of_five(word: &[u8]) -> Option<Keyword>
-    ensures { result ≡ keyword_among word.now (keywords_of_size 5) }
-{
-    if word == b"begin".as_slice() {
-        Some(Keyword::Begin)
-    } else if word == b"break".as_slice() {
-        Some(Keyword::Break)
-    } else if word == b"class".as_slice() {
-        Some(Keyword::Class)
-    } else if word == b"elsif".as_slice() {
-        Some(Keyword::Elsif)
-    } else if word == b"false".as_slice() {
-        Some(Keyword::False)
-    } else if word == b"super".as_slice() {
-        Some(Keyword::SuperWord)
-    } else if word == b"until".as_slice() {
-        Some(Keyword::Until)
-    } else if word == b"while".as_slice() {
-        Some(Keyword::While)
-    } else if word == b"yield".as_slice() {
-        Some(Keyword::Yield)
-    } else {
-        None
-    }
-}
-
-fn keyword_of_six(word: &[u8]) -> Option<Keyword>
-    ensures { result ≡ keyword_among word.now (keywords_of_size 6) }
-{
-    if word == b"ensure".as_slice() {
-        Some(Keyword::Ensure)
-    } else if word == b"rescue".as_slice() {
-        Some(Keyword::Rescue)
-    } else if word == b"return".as_slice() {
-        Some(Keyword::Return)
-    } else if word == b"unless".as_slice() {
-        Some(Keyword::Unless)
-    } else {
-        None
-    }
-}
-
-/// The keyword that a word is.
-#[tactic(auto, unfolding(crate::specs::Scans::keyword_from))]
-fn keyword_from(word: &[u8]) -> Option<Keyword>
-    ensures { result ≡ keyword_from word.now }
-{
-    match word.len() {
-        2 => keyword_of_two(word),
-        3 => keyword_of_three(word),
-        4 => keyword_of_four(word),
-        5 => keyword_of_five(word),
-        6 => keyword_of_six(word),
-        _ => None,
-    }
-}
-
-/// Whether a word is reserved in Ruby, and left out here.
-pub fn is_left_out(word: &[u8]) -> bool
-    ensures { result ≡ is_left_out word.now }
-{
-    word == b"__END__".as_slice()
-        || word == b"__FILE__".as_slice()
-        || word == b"__LINE__".as_slice()
-        || word == b"__ENCODING__".as_slice()
-        || word == b"BEGIN".as_slice()
-        || word == b"END".as_slice()
-        || word == b"alias".as_slice()
-        || word == b"case".as_slice()
-        || word == b"defined?".as_slice()
-        || word == b"for".as_slice()
-        || word == b"in".as_slice()
-        || word == b"module".as_slice()
-        || word == b"redo".as_slice()
-        || word == b"retry".as_slice()
-        || word == b"undef".as_slice()
-        || word == b"when".as_slice()
-}
-
+/// What a word without `?` or `!` that begins with a letter below or `_` is.
 fn word_kind(after_dot: bool, word: &[u8]) -> Option<Kind>
     ensures { result ≡ word_kind after_dot word.now }
 {
@@ -170,15 +58,85 @@ fn word_kind(after_dot: bool, word: &[u8]) -> Option<Kind>
     }
 }
 
-/// The name or the keyword at the front, and how many bytes it takes.
-#[tactic(auto, unfolding(crate::specs::Scans::word_at))]
-pub fn word_at(after_dot: bool, rest: &[u8]) -> Option<(Kind, usize)>
-    ensures is { result ≡ word_at after_dot rest.now }
-    ensures within { IfSome result (λ p. p.1 ≤ length rest.now) }
+/// What another word is, if it is not left out.
+fn unless_left_out(kind: Kind, after_dot: bool, word: &[u8]) -> Option<Kind>
+    ensures { result ≡ unless_left_out kind after_dot word.now }
 {
-    let n = word_len(rest);
-    match word_kind(after_dot, &rest[..n]) {
+    if after_dot || !is_left_out(word) {
+        Some(kind)
+    } else {
+        None
+    }
+}
+
+fn sized(n: usize, kind: Option<Kind>) -> Option<(Kind, usize)>
+    ensures { result ≡ sized n kind }
+{
+    match kind {
         Some(kind) => Some((kind, n)),
         None => None,
+    }
+}
+
+/// The label, name or keyword at the front, which begins with a letter below or `_`, and how many bytes it takes.
+#[tactic(auto, unfolding(crate::specs::Scans::lower_at), using(crate::proofs::Heads::byte_within))]
+pub fn lower_at(after_dot: bool, rest: &[u8]) -> Option<(Kind, usize)>
+    ensures { result ≡ lower_at after_dot rest.now }
+{
+    let n = word_len(rest);
+    let (b, c) = (byte_at(rest, n), byte_at(rest, n + 1));
+    if takes_colon(b, c) {
+        Some((Kind::Label, n + 1))
+    } else if takes_mark(b, c) {
+        sized(
+            n + 1,
+            unless_left_out(Kind::Name, after_dot, &rest[..n + 1]),
+        )
+    } else {
+        sized(n, word_kind(after_dot, &rest[..n]))
+    }
+}
+
+/// The label or constant at the front, which begins with a capital letter, and how many bytes it takes.
+#[tactic(auto, unfolding(crate::specs::Scans::upper_at))]
+pub fn upper_at(after_dot: bool, rest: &[u8]) -> Option<(Kind, usize)>
+    ensures { result ≡ upper_at after_dot rest.now }
+{
+    let n = word_len(rest);
+    let (b, c) = (byte_at(rest, n), byte_at(rest, n + 1));
+    if takes_colon(b, c) {
+        Some((Kind::Label, n + 1))
+    } else {
+        sized(n, unless_left_out(Kind::Constant, after_dot, &rest[..n]))
+    }
+}
+
+/// A token of a kind that a word ends, which begins behind the first byte.
+fn prefixed(kind: Kind, rest: &[u8]) -> Option<(Kind, usize)>
+    requires { 0 < length rest.now }
+    ensures { result ≡ prefixed kind rest.now }
+{
+    Some((kind, word_len(&rest[1..]) + 1))
+}
+
+/// The variable of a kind at the front, whose first byte says the kind.
+pub fn variable_at(kind: Kind, rest: &[u8]) -> Option<(Kind, usize)>
+    requires { 0 < length rest.now }
+    ensures { result ≡ variable_at kind rest.now }
+{
+    match class_of(byte_at(rest, 1)) {
+        Class::Lower => prefixed(kind, rest),
+        _ => None,
+    }
+}
+
+/// The symbol or operator that begins with a colon at the front.
+pub fn colon_at(rest: &[u8]) -> Option<(Kind, usize)>
+    requires { 0 < length rest.now }
+    ensures { result ≡ colon_at rest.now }
+{
+    match class_of(byte_at(rest, 1)) {
+        Class::Lower | Class::Upper => prefixed(Kind::Symbol, rest),
+        _ => op_at(rest),
     }
 }

@@ -1,0 +1,12 @@
+pub mod Division
+pub mod Trees
+pub mod Lists
+pub mod Pieces
+pub mod Depth
+pub mod Unwind
+pub mod Entered
+pub mod Swaps
+pub mod Bytes
+pub mod Printed
+pub mod Running
+pub mod Reading

@@ -1,0 +1,51 @@
+-- What is still to be done stays the same over one act of the machine.
+use Rattle.std.proofs.Common.{subst, ◌≡◌, ℕ, ◌≤◌, sym, ap, arith, refl, ◌∙◌, List, [], ◌∷◌, ◌++◌, length, take, reverse}
+use Rattle.std.proofs.lemmas.List.{reverse-append, take_all, drop_all}
+use Rattle.rr_space.specs.declared.refer.Ref.{Ref}
+use Rattle.rr_tree.specs.Tree.{tree_at}
+use Rattle.rr_eval.specs.declared.problem.Answer.{Answer}
+use Rattle.rr_eval.specs.declared.frame.Frame.{Frame}
+use Rattle.rr_eval.specs.declared.frame.Frame.TheVariants.{Left, Argument}
+use Rattle.rr_eval.specs.declared.frame.Control.TheVariants.{Give}
+use Rattle.rr_eval.specs.Script.{State, Ret, Go, Outcome, Ended, Spent, run, after}
+use Rattle.rr_eval.specs.Rules.{meaning}
+use Rattle.rr_eval.specs.Frames.{Code, resumed, stand_of, below_of, unwind, Nested, base_of, rest}
+use Rattle.rr_eval.specs.Plans.{IsNew}
+
+-- an evaluation whose answer is the answer
+pub after_ended : (o : Outcome) → after o Ended ≡ o
+after_ended (Ended a s n) = refl
+after_ended (Spent s) = refl
+
+-- a part whose answer is the answer
+pub part_only : (c : Code) (part : ℕ) (s : State) (n : ℕ) → run (meaning c.context) (Go (tree_at c.nodes part) Ret) s n ≡ meaning c.context (tree_at c.nodes part) s n
+part_only c part s n = after_ended (meaning c.context (tree_at c.nodes part) s n)
+
+-- a frame on top
+pub rest_push : (c : Code) (fs : List Frame) (f : Frame) (held : List Ref) (o : Outcome) → unwind c (reverse (fs ++ f ∷ [])) held o ≡ unwind c (reverse fs) (below_of f held) (after o (λ a. run (meaning c.context) (resumed c.nodes f (stand_of f held) a)))
+rest_push c fs f held o = ap (λ l. unwind c l held o) (reverse-append fs (f ∷ []))
+
+-- a new frame has nothing of what stands
+pub new_frame : (c : Code) (fs : List Frame) (f : Frame) (held : List Ref) (part : ℕ) (s : State) (n : ℕ) → IsNew f (length held) → unwind c (reverse fs) held (run (meaning c.context) (Go (tree_at c.nodes part) (resumed c.nodes f [])) s n) ≡ unwind c (reverse (fs ++ f ∷ [])) held (meaning c.context (tree_at c.nodes part) s n)
+new_frame c fs (Argument e k b) held part s n new =
+    ap (λ h. unwind c (reverse fs) h (run (meaning c.context) (Go (tree_at c.nodes part) (resumed c.nodes (Argument e k b) [])) s n)) (sym (take_all b held (omega arith)))
+    ∙ ap (λ h. unwind c (reverse fs) (take b held) (run (meaning c.context) (Go (tree_at c.nodes part) (resumed c.nodes (Argument e k b) h)) s n)) (sym (drop_all b held (omega arith)))
+    ∙ sym (rest_push c fs (Argument e k b) held (meaning c.context (tree_at c.nodes part) s n))
+new_frame c fs (Left op b) held part s n new = sym (rest_push c fs (Left op b) held (meaning c.context (tree_at c.nodes part) s n))
+new_frame c fs f held part s n new = sym (rest_push c fs f held (meaning c.context (tree_at c.nodes part) s n))
+
+-- a frame gets its answer
+pub given : (c : Code) (fs : List Frame) (f : Frame) (held : List Ref) (a : Answer) (s : State) (n : ℕ) → rest c (fs ++ f ∷ []) held (Give a) s n ≡ unwind c (reverse fs) (below_of f held) (run (meaning c.context) (resumed c.nodes f (stand_of f held) a) s n)
+given c fs f held a s n = rest_push c fs f held (Ended a s n)
+
+-- a frame on top begins within what stands
+pub nested_push : (fs : List Frame) (f : Frame) (held : List Ref) → base_of f ≤ length held → Nested (reverse fs) (below_of f held) → Nested (reverse (fs ++ f ∷ [])) held
+nested_push fs f held le nested = subst (λ l. Nested l held) (sym (reverse-append fs (f ∷ []))) (le, nested)
+
+pub nested_pop : (fs : List Frame) (f : Frame) (held : List Ref) → Nested (reverse (fs ++ f ∷ [])) held → (base_of f ≤ length held) × Nested (reverse fs) (below_of f held)
+nested_pop fs f held nested = subst (λ l. Nested l held) (reverse-append fs (f ∷ [])) nested
+
+pub nested_new : (fs : List Frame) (f : Frame) (held : List Ref) → IsNew f (length held) → Nested (reverse fs) held → Nested (reverse (fs ++ f ∷ [])) held
+nested_new fs (Argument e k b) held new nested = nested_push fs (Argument e k b) held (omega arith) (subst (λ h. Nested (reverse fs) h) (sym (take_all b held (omega arith))) nested)
+nested_new fs (Left op b) held new nested = nested_push fs (Left op b) held (omega arith) nested
+nested_new fs f held new nested = nested_push fs f held (omega arith) nested

@@ -1,0 +1,17 @@
+pub mod Floor
+pub mod Script
+pub mod Seen
+pub mod Values
+pub mod Operators
+pub mod Acts
+pub mod Rules
+pub mod Nodes
+pub mod Frames
+pub mod Plans
+pub mod Whole
+pub mod View
+pub mod Views
+pub mod Turns
+pub mod Counted
+pub mod Messages
+pub mod Runs

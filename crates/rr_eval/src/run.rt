@@ -1,0 +1,112 @@
+//! A script from its bytes to its printed bytes.
+
+ghost use Rattle.std.specs.Prelude.{◌≡◌, ◌+◌, ◌<◌, ◌^◌};
+ghost use Rattle.rr_tree.specs.Tree.{tree_at};
+ghost use Rattle.rr_eval.specs.Counted.{failures, holds};
+ghost use Rattle.rr_eval.specs.Whole.{context_of};
+ghost use Rattle.rr_eval.specs.Runs.{Reads, Runs, Meets, script_meaning};
+
+use crate::counted::Counted;
+use crate::engine::Turn;
+use crate::machine::Machine;
+use crate::report::report;
+use rr_base::{Fault, Limits, RactorNo};
+use rr_lexer::{lex, tokens_are_one};
+use rr_parser::parse;
+use rr_space::Space;
+use rr_tree::Program;
+use std::alloc::Global;
+use std::io::Write;
+
+/// How a run ended.
+#[derive(Drop)]
+pub enum Outcome {
+    /// With the last statement.
+    Done,
+    /// With an exception that nothing rescues: `MESSAGE (CLASS)`.
+    Raised(Vec<u8>),
+    /// With all its steps spent.
+    StepLimit,
+    /// With a write that failed.
+    OutputFailed,
+}
+
+/// The steps of one turn.
+const BUDGET: u32 = 1_000_000;
+
+/// The program that a source spells.
+fn read_program(alloc: Global, source: &[u8]) -> Result<Program, Fault>
+    ensures { Reads source.now result }
+{
+    tokens_are_one();
+    match lex(alloc, source) {
+        Ok(tokens) => parse(alloc, source, tokens.as_slice()),
+        Err(fault) => Err(fault),
+    }
+}
+
+/// Runs a program on the main ractor.
+fn run_program<W: Write>(
+    alloc: Global,
+    program: &Program,
+    limits: Limits,
+    output: &mut Counted<W>,
+) -> Result<Outcome, Fault>
+    requires { failures output.old + 1 < 2 ^ 64 }
+    ensures { Runs (holds W.contents output.old) (holds W.contents output.new) (failures output.old) (failures output.new) (context_of program.now) (script_meaning (context_of program.now) (tree_at program.now.nodes.items program.now.root) limits.steps limits.slots) result }
+{
+    let mut space = Space::new(alloc, RactorNo(1), limits.slots);
+    let mut machine = match Machine::new(alloc, program, limits.steps) {
+        Ok(machine) => machine,
+        Err(fault) => return Err(fault),
+    };
+    loop {
+        match machine.turn(program, &mut space, BUDGET) {
+            Ok(Turn::More) => {}
+            Ok(Turn::Print(piece)) => {
+                if !output.put(piece.as_slice()) {
+                    return Ok(Outcome::OutputFailed);
+                }
+            }
+            Ok(Turn::Done(_)) => return Ok(Outcome::Done),
+            Ok(Turn::Raised(problem)) => {
+                return match report(alloc, program, problem) {
+                    Ok(told) => Ok(Outcome::Raised(told)),
+                    Err(_) => Err(Fault::Memory),
+                };
+            }
+            Ok(Turn::StepLimit) => return Ok(Outcome::StepLimit),
+            Err(fault) => return Err(fault),
+        }
+    }
+}
+
+/// Runs a script within limits, of which it takes the steps and the slots.
+///
+/// The faults are `Memory`, `Syntax` and, by the limit that was passed, `Limit`: of `Source`, `Nesting` or `Slots`.
+pub fn run_source_within<W: Write>(
+    alloc: Global,
+    limits: Limits,
+    source: &[u8],
+    output: &mut Counted<W>,
+) -> Result<Outcome, Fault>
+    requires { failures output.old + 1 < 2 ^ 64 }
+    ensures { Meets (holds W.contents output.old) (holds W.contents output.new) (failures output.old) (failures output.new) source.now limits.steps limits.slots result }
+{
+    match read_program(alloc, source) {
+        Ok(program) => run_program(alloc, &program, limits, output),
+        Err(fault) => Err(fault),
+    }
+}
+
+/// Runs a script within the limits that hold where nothing else is asked for.
+pub fn run_source<W: Write>(
+    alloc: Global,
+    source: &[u8],
+    output: &mut Counted<W>,
+) -> Result<Outcome, Fault>
+    requires { failures output.old + 1 < 2 ^ 64 }
+    ensures { Meets (holds W.contents output.old) (holds W.contents output.new) (failures output.old) (failures output.new) source.now 100000000 4294967295 result }
+{
+    run_source_within(alloc, Limits::DEFAULT, source, output)
+}

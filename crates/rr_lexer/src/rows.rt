@@ -1,0 +1,333 @@
+//! Sources with their tokens, or with the place and the kind of their refusal, one to a line: `SOURCE -> TOKENS`.
+//!
+//! A token stands as `Name 0..4`, with `_` before one that a blank stands directly before. In a source `^n`, `^r` and `^t`
+//! stand for LF, CR and a tab, `^m` for a byte order mark, `^e` for the letter e with an acute accent and `^c` for its
+//! first byte, `^z`, `^u`, `^d` and `^f` for the bytes 0x00, 0x1F, 0x7F and 0xFF, and `^^` for `^`.
+
+/// Names and keywords.
+pub const WORDS: &str = "\
+a -> Name 0..1
+_ -> Name 0..1
+_A9z -> Name 0..4
+a? -> Name 0..2
+a! -> Name 0..2
+a?= -> Name 0..1, Op(Question) 1..2, Op(Assign) 2..3
+a!=b -> Name 0..1, Op(NotEqual) 1..3, Name 3..4
+a?==b -> Name 0..1, Op(Question) 1..2, Op(Equal) 2..4, Name 4..5
+a? ?b -> Name 0..2, _Op(Question) 3..4, Name 4..5
+a?? -> Name 0..2, Op(Question) 2..3
+nil? -> Name 0..4
+nil?= -> Keyword(Nil) 0..3, Op(Question) 3..4, Op(Assign) 4..5
+if!a -> Name 0..3, Name 3..4
+in? -> Name 0..3
+when! -> Name 0..5
+aB!b -> Name 0..3, Name 3..4
+a?:b -> Name 0..2, Symbol 2..4
+a?b -> Name 0..2, Name 2..3
+defined -> Name 0..7
+ifx -> Name 0..3
+selfish -> Name 0..7
+end_ -> Name 0..4
+and -> Keyword(And) 0..3
+begin -> Keyword(Begin) 0..5
+break -> Keyword(Break) 0..5
+class -> Keyword(Class) 0..5
+def -> Keyword(Def) 0..3
+do -> Keyword(Do) 0..2
+else -> Keyword(Else) 0..4
+elsif -> Keyword(Elsif) 0..5
+end -> Keyword(End) 0..3
+ensure -> Keyword(Ensure) 0..6
+false -> Keyword(False) 0..5
+if -> Keyword(If) 0..2
+next -> Keyword(Next) 0..4
+nil -> Keyword(Nil) 0..3
+not -> Keyword(Not) 0..3
+or -> Keyword(Or) 0..2
+rescue -> Keyword(Rescue) 0..6
+return -> Keyword(Return) 0..6
+self -> Keyword(SelfWord) 0..4
+super -> Keyword(SuperWord) 0..5
+then -> Keyword(Then) 0..4
+true -> Keyword(True) 0..4
+unless -> Keyword(Unless) 0..6
+until -> Keyword(Until) 0..5
+while -> Keyword(While) 0..5
+yield -> Keyword(Yield) 0..5
+";
+
+/// What comes behind `.`, constants, variables, symbols and labels.
+pub const NAMED: &str = "\
+a.class -> Name 0..1, Op(Dot) 1..2, Name 2..7
+a. if -> Name 0..1, Op(Dot) 1..2, _Name 3..5
+a.^nend -> Name 0..1, Op(Dot) 1..2, Name 3..6
+a.#b^n end -> Name 0..1, Op(Dot) 1..2, _Name 6..9
+a.b end -> Name 0..1, Op(Dot) 1..2, Name 2..3, _Keyword(End) 4..7
+a.for -> Name 0..1, Op(Dot) 1..2, Name 2..5
+a.defined? -> Name 0..1, Op(Dot) 1..2, Name 2..10
+a.BEGIN -> Name 0..1, Op(Dot) 1..2, Constant 2..7
+a.nil?.if -> Name 0..1, Op(Dot) 1..2, Name 2..6, Op(Dot) 6..7, Name 7..9
+a..end -> Name 0..1, Op(Dot) 1..2, Op(Dot) 2..3, Name 3..6
+A -> Constant 0..1
+Ab_9 -> Constant 0..4
+A? -> Constant 0..1, Op(Question) 1..2
+A! -> Constant 0..1, Op(Bang) 1..2
+Ractor::Error -> Constant 0..6, Op(Path) 6..8, Constant 8..13
+BEGINS -> Constant 0..6
+END_ -> Constant 0..4
+@a -> InstanceVariable 0..2
+@_a9  -> InstanceVariable 0..4
+@if -> InstanceVariable 0..3
+@a? -> InstanceVariable 0..2, Op(Question) 2..3
+@a=1 -> InstanceVariable 0..2, Op(Assign) 2..3, Int 3..4
+$a -> GlobalVariable 0..2
+$stdout! -> GlobalVariable 0..7, Op(Bang) 7..8
+:a -> Symbol 0..2
+:A1_ -> Symbol 0..4
+:if -> Symbol 0..3
+:_ -> Symbol 0..2
+:a? -> Symbol 0..2, Op(Question) 2..3
+a :b -> Name 0..1, _Symbol 2..4
+:1 -> Op(Colon) 0..1, Int 1..2
+: a -> Op(Colon) 0..1, _Name 2..3
+:::a -> Op(Path) 0..2, Symbol 2..4
+::a -> Op(Path) 0..2, Name 2..3
+:for -> Symbol 0..4
+:\"a\" -> Op(Colon) 0..1, Text 1..4
+a: -> Label 0..2
+a:b -> Label 0..2, Name 2..3
+a: 1 -> Label 0..2, _Int 3..4
+if: 1 -> Label 0..3, _Int 4..5
+for: -> Label 0..4
+BEGIN: -> Label 0..6
+Ab: -> Label 0..3
+a::b -> Name 0..1, Op(Path) 1..3, Name 3..4
+A::B -> Constant 0..1, Op(Path) 1..3, Constant 3..4
+a:::b -> Name 0..1, Op(Path) 1..3, Symbol 3..5
+a : -> Name 0..1, _Op(Colon) 2..3
+a.b: 1 -> Name 0..1, Op(Dot) 1..2, Label 2..4, _Int 5..6
+{a: 1} -> OpenBrace 0..1, Label 1..3, _Int 4..5, CloseBrace 5..6
+";
+
+/// Numbers and operators.
+pub const MARKS: &str = "\
+0 -> Int 0..1
+10 -> Int 0..2
+1_2_3 -> Int 0..5
+1__0 -> Int 0..1, Name 1..4
+0x1f -> Int 0..4
+0xF_f -> Int 0..5
+0b101 -> Int 0..5
+0o7_7 -> Int 0..5
+0X1 -> Int 0..1, Constant 1..3
+0b2 -> Int 0..1, Name 1..3
+0o8 -> Int 0..1, Name 1..3
+0x_1 -> Int 0..1, Name 1..4
+0xg -> Int 0..1, Name 1..3
+0x1g -> Int 0..3, Name 3..4
+1a -> Int 0..1, Name 1..2
+1.abs -> Int 0..1, Op(Dot) 1..2, Name 2..5
+1.5 -> Int 0..1, Op(Dot) 1..2, Int 2..3
+-7 -> Op(Minus) 0..1, Int 1..2
+0x8000000000000000 -> Int 0..18
+9223372036854775808 -> Int 0..19
+0_ -> Int 0..1, Name 1..2
++ -> Op(Plus) 0..1
+- -> Op(Minus) 0..1
+* -> Op(Star) 0..1
+/ -> Op(Slash) 0..1
+% -> Op(Percent) 0..1
+= -> Op(Assign) 0..1
+== -> Op(Equal) 0..2
+=> -> Op(Arrow) 0..2
+! -> Op(Bang) 0..1
+!= -> Op(NotEqual) 0..2
+< -> Op(Less) 0..1
+<= -> Op(LessOrEqual) 0..2
+<< -> Op(Shift) 0..2
+<<= -> Op(ShiftAssign) 0..3
+<=> -> Op(Compare) 0..3
+> -> Op(Greater) 0..1
+>= -> Op(GreaterOrEqual) 0..2
++= -> Op(PlusAssign) 0..2
+-= -> Op(MinusAssign) 0..2
+*= -> Op(StarAssign) 0..2
+/= -> Op(SlashAssign) 0..2
+%= -> Op(PercentAssign) 0..2
+&& -> Op(And) 0..2
+&&= -> Op(AndAssign) 0..3
+| -> Op(Bar) 0..1
+|| -> Op(Or) 0..2
+||= -> Op(OrAssign) 0..3
+? -> Op(Question) 0..1
+: -> Op(Colon) 0..1
+:: -> Op(Path) 0..2
+. -> Op(Dot) 0..1
+, -> Op(Comma) 0..1
+; -> Op(Semicolon) 0..1
+( -> Op(Open) 0..1
+) -> Op(Close) 0..1
+[ -> Op(OpenSquare) 0..1
+] -> Op(CloseSquare) 0..1
+=== -> Op(Equal) 0..2, Op(Assign) 2..3
+<=>> -> Op(Compare) 0..3, Op(Greater) 3..4
+** -> Op(Star) 0..1, Op(Star) 1..2
+||| -> Op(Or) 0..2, Op(Bar) 2..3
+>> -> Op(Greater) 0..1, Op(Greater) 1..2
+";
+
+/// Texts and interpolation.
+pub const TEXTS: &str = "\
+'' -> Single 0..2
+'a^nb' -> Single 0..5
+'\\\\' -> Single 0..4
+'\\'' -> Single 0..4
+'\\n#{a}' -> Single 0..8
+\"\" -> Text 0..2
+\"a^nb\" -> Text 0..5
+\"\\\"\" -> Text 0..4
+\"\\\\\" -> Text 0..4
+\"\\n\\t\\r\\e\\s\" -> Text 0..12
+\"\\#{a}\" -> Text 0..7
+\"\\#@a\" -> Text 0..6
+\"# #\" -> Text 0..5
+\"##\" -> Text 0..4
+\"\\_\\-\\ \" -> Text 0..8
+\"\\^e\" -> Text 0..5
+\"\\^r\" -> Text 0..4
+\"^e\" -> Text 0..4
+\"a\"b -> Text 0..3, Name 3..4
+\"a\"\"b\" -> Text 0..3, Text 3..6
+\"#{}\" -> Head 0..3, Tail 3..5
+\"a#{b}c\" -> Head 0..4, Name 4..5, Tail 5..8
+\"#{a}#{b}\" -> Head 0..3, Name 3..4, Middle 4..7, Name 7..8, Tail 8..10
+\"#{{}}\" -> Head 0..3, OpenBrace 3..4, CloseBrace 4..5, Tail 5..7
+\"#{\"#{a}\"}\" -> Head 0..3, Head 3..6, Name 6..7, Tail 7..9, Tail 9..11
+\"#{\"}\"}\" -> Head 0..3, Text 3..6, Tail 6..8
+\"#{'}'}\" -> Head 0..3, Single 3..6, Tail 6..8
+\"##{a}\" -> Head 0..4, Name 4..5, Tail 5..7
+\"#{a -> Head 0..3, Name 3..4
+{\"#{a}\"} -> OpenBrace 0..1, Head 1..4, Name 4..5, Tail 5..7, CloseBrace 7..8
+\"#{ {a: 1} }\" -> Head 0..3, _OpenBrace 4..5, Label 5..7, _Int 8..9, CloseBrace 9..10, _Tail 11..13
+} -> CloseBrace 0..1
+{} -> OpenBrace 0..1, CloseBrace 1..2
+}}{ -> CloseBrace 0..1, CloseBrace 1..2, OpenBrace 2..3
+";
+
+/// Blanks, comments and lines.
+pub const LINES: &str = "\
+\x20-> 
+\x20^t^r -> 
+# -> 
+# a -> 
+^n -> LineEnd 0..1
+^r^n -> LineEnd 0..2
+a^r^rb -> Name 0..1, _Name 3..4
+#a^r^nb -> _LineEnd 3..4, Name 4..5
+a^n^n^nb -> Name 0..1, LineEnd 3..4, Name 4..5
+a # b^nc -> Name 0..1, _LineEnd 5..6, Name 6..7
+a^r^nb -> Name 0..1, LineEnd 1..3, Name 3..4
+a\\^nb -> Name 0..1, _Name 3..4
+a\\^r^nb -> Name 0..1, _Name 4..5
+a \\^n^n b -> Name 0..1, _LineEnd 4..5, _Name 6..7
+^ma -> Name 3..4
+a;^nb -> Name 0..1, Op(Semicolon) 1..2, LineEnd 2..3, Name 3..4
+a =^nb -> Name 0..1, _Op(Assign) 2..3, Name 4..5
+a +=^nb -> Name 0..1, _Op(PlusAssign) 2..4, Name 5..6
+a ||=^nb -> Name 0..1, _Op(OrAssign) 2..5, Name 6..7
+a <<^nb -> Name 0..1, _Op(Shift) 2..4, Name 5..6
+a <=>^nb -> Name 0..1, _Op(Compare) 2..5, Name 6..7
+a &&^nb -> Name 0..1, _Op(And) 2..4, Name 5..6
+a !^nb -> Name 0..1, _Op(Bang) 2..3, Name 4..5
+a ?^nb -> Name 0..1, _Op(Question) 2..3, Name 4..5
+a .^nb -> Name 0..1, _Op(Dot) 2..3, Name 4..5
+a =>^nb -> Name 0..1, _Op(Arrow) 2..4, Name 5..6
+a ,^nb -> Name 0..1, _Op(Comma) 2..3, Name 4..5
+a (^nb -> Name 0..1, _Op(Open) 2..3, Name 4..5
+a [^nb -> Name 0..1, _Op(OpenSquare) 2..3, Name 4..5
+{^na -> OpenBrace 0..1, Name 2..3
+a or^nb -> Name 0..1, _Keyword(Or) 2..4, Name 5..6
+not^na -> Keyword(Not) 0..3, Name 4..5
+a |^nb -> Name 0..1, _Op(Bar) 2..3, LineEnd 3..4, Name 4..5
+A::^nB -> Constant 0..1, Op(Path) 1..3, LineEnd 3..4, Constant 4..5
+def +^na -> Keyword(Def) 0..3, _Op(Plus) 4..5, LineEnd 5..6, Name 6..7
+def a^nb -> Keyword(Def) 0..3, _Name 4..5, LineEnd 5..6, Name 6..7
+a^n) -> Name 0..1, Op(Close) 2..3
+a^n] -> Name 0..1, Op(CloseSquare) 2..3
+a^n} -> Name 0..1, CloseBrace 2..3
+a^n.b -> Name 0..1, Op(Dot) 2..3, Name 3..4
+a^n # c^n .if -> Name 0..1, _Op(Dot) 8..9, Name 9..11
+a^n.B -> Name 0..1, LineEnd 1..2, Op(Dot) 2..3, Constant 3..4
+a if b^n+ c -> Name 0..1, _Keyword(If) 2..4, _Name 5..6, LineEnd 6..7, Op(Plus) 7..8, _Name 9..10
+puts \"abc\" -> Name 0..4, _Text 5..10
+a.each { |x|^n puts x } -> Name 0..1, Op(Dot) 1..2, Name 2..6, _OpenBrace 7..8, _Op(Bar) 9..10, Name 10..11, Op(Bar) 11..12, LineEnd 12..13, _Name 14..18, _Name 19..20, _CloseBrace 21..22
+";
+
+/// Where and why sources are refused.
+pub const REFUSED: &str = "\
+puts \"abc -> 1:6 unterminated string
+a = \"b\"^n  c^f \" -> 2:4 encoding
+\"^n^z -> 2:1 encoding
+a^d -> 1:2 encoding
+a^u -> 1:2 encoding
+^c -> 1:1 encoding
+` ^f -> 1:3 encoding
+^e -> 1:1 character
+a ` -> 1:3 character
+a & b -> 1:3 character
+a \\ b -> 1:3 character
+a ^^ b -> 1:3 character
+~ -> 1:1 character
+@ -> 1:1 character
+@1 -> 1:1 character
+@A -> 1:1 character
+@@a -> 1:1 character
+$1 -> 1:1 character
+$! -> 1:1 character
+a^e -> 1:2 character
+\\^r -> 1:1 character
+007 -> 1:1 number
+00 -> 1:1 number
+0_7 -> 1:1 number
+9223372036854775809 -> 1:1 number
+a^n 0x8000000000000001 -> 2:2 number
+0b12 -> 1:1 number
+0o18 -> 1:1 number
+0b1_2 -> 1:1 number
+0b1111111111111111111111111111111111111111111111111111111111111111 -> 1:1 number
+1 99999999999999999999 -> 1:3 number
+\"\\d\" -> 1:1 left out
+\"\\1\" -> 1:1 left out
+\"\\A\" -> 1:1 left out
+\"#@a\" -> 1:1 left out
+\"#$a\" -> 1:1 left out
+\"\\^n\" -> 1:1 left out
+\"\\^r^n\" -> 1:1 left out
+'a -> 1:1 unterminated string
+'a\\' -> 1:1 unterminated string
+\"a\\\" -> 1:1 unterminated string
+\"a#{b} -> 1:6 unterminated string
+\"#{a}b#@c\" -> 1:5 left out
+\"#{`}\" -> 1:4 character
+^n\"#{a}^nb -> 2:5 unterminated string
+__END__ -> 1:1 left out
+__FILE__ -> 1:1 left out
+__LINE__ -> 1:1 left out
+__ENCODING__ -> 1:1 left out
+BEGIN -> 1:1 left out
+END -> 1:1 left out
+alias -> 1:1 left out
+case -> 1:1 left out
+defined? -> 1:1 left out
+for -> 1:1 left out
+in -> 1:1 left out
+module -> 1:1 left out
+redo -> 1:1 left out
+retry -> 1:1 left out
+undef -> 1:1 left out
+when -> 1:1 left out
+x.y for -> 1:5 left out
+^m` -> 1:4 character
+a^r^n` -> 2:1 character
+a^r` -> 1:3 character
+";

@@ -1,0 +1,53 @@
+-- From what is read to what is spelled.
+use Rattle.std.proofs.Common.{◌≡◌, ℕ, List, [], Bool, false, Result, Err, sym, subst, ◌∙◌, arith}
+use Rattle.rr_base.specs.declared.fault.Fault.{Fault}
+use Rattle.rr_base.specs.declared.fault.Fault.TheVariants as fault
+use Rattle.rr_base.specs.declared.fault.SyntaxKind.{SyntaxKind}
+use Rattle.rr_base.specs.declared.limits.LimitKind.TheVariants as limit
+use Rattle.rr_tree.specs.Tree.{Tree}
+use Rattle.rr_parser.specs.declared.word.Word.{Word}
+use Rattle.rr_parser.specs.declared.refusal.Refusal.{Refusal}
+use Rattle.rr_parser.specs.declared.refusal.Refusal.TheVariants as refusal
+use Rattle.rr_parser.specs.declared.refusal.Storage.TheVariants as storage
+use Rattle.rr_parser.specs.Grammar.{WordsSpell, start}
+use Rattle.rr_parser.specs.Reading.{program_of, statements_of, readers, whole_of}
+use Rattle.rr_parser.specs.Meets.{Fails, locals_of}
+use Rattle.rr_parser.specs.Faults.{IsParseFault, IsFaultOf}
+use Rattle.rr_parser.proofs.Full.{program_wrong, program_deep}
+use Rattle.rr_parser.proofs.Making.{fails_bind}
+
+-- what refuses by a place spells nothing
+pub refused_spells : (d : ℕ) (ws : List Word) (e : Refusal) (f : Fault) (line column : ℕ) (kind : SyntaxKind) → Fails e (program_of d ws) → IsFaultOf e f → f ≡ fault.Syntax line column kind → (k : ℕ) (t : Tree) → WordsSpell k ws t → ⊥
+refused_spells d ws (refusal.Storage storage.Memory) f line column kind h g is = let e = sym g ∙ is in absurd cc
+refused_spells d ws (refusal.Storage storage.Slots) f line column kind h g is = let e = sym g ∙ is in absurd cc
+refused_spells d ws refusal.Nesting f line column kind h g is = let e = sym g ∙ is in absurd cc
+refused_spells d ws (refusal.Unexpected n) f line column kind h g is = program_wrong d ws h
+refused_spells d ws (refusal.Number n) f line column kind h g is = program_wrong d ws h
+
+-- what refuses by its nesting spells nothing within the limit
+pub deep_spells : (d : ℕ) (ws : List Word) (e : Refusal) (f : Fault) → Fails e (program_of d ws) → IsFaultOf e f → f ≡ fault.Limit limit.Nesting → (t : Tree) → WordsSpell d ws t → ⊥
+deep_spells d ws (refusal.Storage storage.Memory) f h g is = let e = sym g ∙ is in absurd cc
+deep_spells d ws (refusal.Storage storage.Slots) f h g is = let e = sym g ∙ is in absurd cc
+deep_spells d ws refusal.Nesting f h g is = λ t s. let lt = program_deep d d ws h t s in let never : ⊥ = omega arith in never
+deep_spells d ws (refusal.Unexpected n) f h g is = let e = sym g.3 ∙ is in absurd cc
+deep_spells d ws (refusal.Number n) f h g is = let e = sym g.3 ∙ is in absurd cc
+
+no_fault : (f : Fault) (g : Fault) → f ≡ g → IsParseFault g → IsParseFault f
+no_fault f g e h = subst (λ (x : Fault). IsParseFault x) (sym e) h
+
+pub parse_fault : (e : Refusal) (f : Fault) → IsFaultOf e f → IsParseFault f
+parse_fault (refusal.Storage storage.Memory) f g = no_fault f fault.Memory g tt
+parse_fault (refusal.Storage storage.Slots) f g = no_fault f (fault.Limit limit.Slots) g tt
+parse_fault refusal.Nesting f g = no_fault f (fault.Limit limit.Nesting) g tt
+parse_fault (refusal.Unexpected n) f g = no_fault f (fault.Syntax g.0 g.1 g.2) g.3 tt
+parse_fault (refusal.Number n) f g = no_fault f (fault.Syntax g.0 g.1 g.2) g.3 tt
+
+-- what the statements of a program fail by
+pub fails_program : (d : ℕ) (ws : List Word) (known : List Bool) (e : Refusal) → known ≡ [] → Fails e (statements_of (readers false d) (record { locals = locals_of known; rest = ws })) → Fails e (program_of d ws)
+unfolding program_of
+fails_program d ws known e is h =
+    fails_bind e (statements_of (readers false d) (start ws)) (λ r. whole_of r.0 r.1.rest)
+    (subst (λ (k : List Bool). Fails e (statements_of (readers false d) (record { locals = locals_of k; rest = ws }))) is h)
+
+pub same_fault : {A : Type 0} (f g : Fault) → ◌≡◌ {A = Result A Fault} (Err f) (Err g) → f ≡ g
+same_fault f g e = cc

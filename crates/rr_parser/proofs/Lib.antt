@@ -1,0 +1,7 @@
+pub mod Shrinks
+pub mod Sound
+pub mod Full
+pub mod Making
+pub mod Lists
+pub mod Numbers
+pub mod Exact

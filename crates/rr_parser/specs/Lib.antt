@@ -1,0 +1,6 @@
+pub mod Words
+pub mod Numbering
+pub mod Grammar
+pub mod Reading
+pub mod Meets
+pub mod Faults

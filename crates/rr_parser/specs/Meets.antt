@@ -1,0 +1,94 @@
+-- What the code owes to reading.
+use Rattle.std.specs.Prelude.{◌≡◌, ℕ, ◌<◌, ◌||◌, ◌==◌, Bool, false, List, [], ◌∷◌, ◌++◌, length, map, get_or, All, Vec, Option, Some, None, Result, Ok, Err}
+use Rattle.std.specs.declared.alloc.Global.{Global}
+use Rattle.std.specs.Borrow.{Bor}
+use Rattle.rr_base.specs.declared.name.Sym.{Sym}
+use Rattle.rr_tree.specs.declared.node.Node.{Node}
+use Rattle.rr_tree.specs.Tree.{Tree, tree_at}
+use Rattle.rr_tree.specs.Nodes.{Extends}
+use Rattle.rr_parser.specs.declared.word.Word.{Word}
+use Rattle.rr_parser.specs.declared.refusal.Refusal.{Refusal}
+use Rattle.rr_parser.specs.declared.refusal.Refusal.TheVariants as refusal
+use Rattle.rr_parser.specs.declared.parser.Parser.{Parser}
+use Rattle.rr_parser.specs.Grammar.{Place}
+use Rattle.rr_parser.specs.Reading.{Answer, Refused, wrong, deep}
+
+-- the names that are known as local variables
+abbrev pub locals_of : List Bool → ℕ → Bool
+locals_of known x = get_or known x false
+
+abbrev pub place : Parser → List Word → Place
+place p ws = record { locals = locals_of p.known.items; rest = ws }
+
+-- What the code holds for what is read: the trees by their nodes, which lie below a number.
+pub record View (E A : Type 0) : Type 1 where
+  pub tree : List Node → E → A
+  pub within : ℕ → E → Type 0
+
+-- a tree by the number of its node
+abbrev pub nodes : View ℕ Tree
+nodes = record { tree = tree_at; within = λ n i. i < n }
+
+abbrev pub pairs : View (ℕ × ℕ) (Tree × Tree)
+pairs = record { tree = λ ns p. (tree_at ns p.0, tree_at ns p.1); within = λ n p. (p.0 < n) × (p.1 < n) }
+
+abbrev pub lists : {E A : Type 0} → View E A → View (List E) (List A)
+lists v = record { tree = λ ns es. map (v.tree ns) es; within = λ n es. All (v.within n) es }
+
+-- What was made stands for what is read, and the nodes before it are as they were.
+pub record Made {E A : Type 0} (v : View E A) (old new : Parser) (e : E) (rest : List Word) (read : Answer A) : Type 0 where
+  pub there : v.within (length new.nodes.items) e
+  pub tree : read ≡ Ok (v.tree new.nodes.items e, place new rest)
+  pub kept : Extends old.nodes.items new.nodes.items
+
+-- why reading refuses; a want of storage says nothing
+abbrev pub Fails : {A : Type 0} → Refusal → Result A Refused → Type 0
+Fails (refusal.Storage s) read = Unit {0}
+Fails refusal.Nesting read = read ≡ Err deep
+Fails (refusal.Unexpected n) read = read ≡ Err wrong
+Fails (refusal.Number n) read = read ≡ Err wrong
+
+-- What a function of the parser returned is what reading gives, unless storage ran out.
+abbrev pub Gives : Parser → Parser → Result (ℕ × Bor (List Word)) Refusal → Answer Tree → Type 0
+Gives old new (Ok x) read = Made nodes old new x.0 x.1.now read
+Gives old new (Err e) read = Fails e read
+
+abbrev pub GivesList : Parser → Parser → Result (Vec ℕ Global × Bor (List Word)) Refusal → Answer (List Tree) → Type 0
+GivesList old new (Ok x) read = Made (lists nodes) old new x.0.items x.1.now read
+GivesList old new (Err e) read = Fails e read
+
+abbrev pub GivesPair : Parser → Parser → Result ((ℕ × ℕ) × Bor (List Word)) Refusal → Answer (Tree × Tree) → Type 0
+GivesPair old new (Ok x) read = Made pairs old new x.0 x.1.now read
+GivesPair old new (Err e) read = Fails e read
+
+abbrev pub GivesPairs : Parser → Parser → Result (Vec (ℕ × ℕ) Global × Bor (List Word)) Refusal → Answer (List (Tree × Tree)) → Type 0
+GivesPairs old new (Ok x) read = Made (lists pairs) old new x.0.items x.1.now read
+GivesPairs old new (Err e) read = Fails e read
+
+-- A node was put behind the others.
+pub record Appends (old new : Parser) (n : Node) (id : ℕ) : Type 0 where
+  pub at : id ≡ length old.nodes.items
+  pub nodes : new.nodes.items ≡ old.nodes.items ++ n ∷ []
+  pub known : new.known.items ≡ old.known.items
+
+-- A node that stands for this tree was put behind the others.
+pub record Puts (old new : Parser) (t : Tree) (id : ℕ) : Type 0 where
+  pub there : id < length new.nodes.items
+  pub tree : tree_at new.nodes.items id ≡ t
+  pub kept : Extends old.nodes.items new.nodes.items
+  pub known : new.known.items ≡ old.known.items
+
+-- A name became a local variable.
+pub record Marks (old new : Parser) (x : Sym) : Type 0 where
+  pub nodes : new.nodes.items ≡ old.nodes.items
+  pub known : (y : ℕ) → locals_of new.known.items y ≡ (y == x.0 || locals_of old.known.items y)
+
+-- what was seen first, and the words behind it
+abbrev pub Sees : {A : Type 0} → (ℕ → Bool) → Option (A × Bor (List Word)) → Option (A × Place) → Type 0
+Sees locals None read = read ≡ None
+Sees locals (Some x) read = read ≡ Some (x.0, record { locals = locals; rest = x.1.now })
+
+-- the same, where only the words behind matter
+abbrev pub SeesRest : (ℕ → Bool) → Option (Bor (List Word)) → Option (Unit {0} × Place) → Type 0
+SeesRest locals None read = read ≡ None
+SeesRest locals (Some rest) read = read ≡ Some (tt, record { locals = locals; rest = rest.now })

@@ -1,0 +1,99 @@
+-- Words from tokens, with names and texts by number.
+use Rattle.std.specs.Prelude.{ℕ, List, [], ◌∷◌, ◌++◌, true, false, Option, Some, None, length, fold, codes, bytes_eq, if◌then◌else◌}
+use Rattle.std.specs.List.{list_any, position_or_len}
+use Rattle.rr_base.specs.declared.name.Sym.{Sym}
+use Rattle.rr_lexer.specs.declared.kind.Kind.{Kind}
+use Rattle.rr_lexer.specs.declared.kind.Kind.TheVariants as kinds
+use Rattle.rr_lexer.specs.declared.kind.Keyword.{Keyword}
+use Rattle.rr_lexer.specs.declared.kind.Keyword.TheVariants as keywords
+use Rattle.rr_lexer.specs.declared.kind.Op.{Op}
+use Rattle.rr_lexer.specs.declared.kind.Op.TheVariants as ops
+use Rattle.rr_lexer.specs.declared.kind.Token.{Token}
+use Rattle.rr_lexer.specs.Contents.{word_of, int_value_of, contents_of}
+use Rattle.rr_tree.specs.declared.node.BinaryOperator.TheVariants as op
+use Rattle.rr_parser.specs.declared.word.WordKind.{WordKind}
+use Rattle.rr_parser.specs.declared.word.WordKind.TheVariants as kind
+use Rattle.rr_parser.specs.declared.word.Word.{Word}
+
+abbrev pub keyword_kind : Keyword → WordKind
+keyword_kind keywords.Nil = kind.Nil
+keyword_kind keywords.True = kind.Truth true
+keyword_kind keywords.False = kind.Truth false
+keyword_kind keywords.If = kind.If
+keyword_kind keywords.Then = kind.Then
+keyword_kind keywords.Elsif = kind.Elsif
+keyword_kind keywords.Else = kind.Else
+keyword_kind keywords.End = kind.End
+keyword_kind _ = kind.Other
+
+abbrev pub op_kind : Op → WordKind
+op_kind ops.Open = kind.Open
+op_kind ops.Close = kind.Close
+op_kind ops.Comma = kind.Comma
+op_kind ops.Semicolon = kind.Separator
+op_kind ops.Assign = kind.Assign
+op_kind ops.Minus = kind.Minus
+op_kind ops.Plus = kind.Operator op.Add
+op_kind ops.Star = kind.Operator op.Multiply
+op_kind ops.Slash = kind.Operator op.Divide
+op_kind ops.Percent = kind.Operator op.Remainder
+op_kind ops.Less = kind.Operator op.Less
+op_kind ops.LessOrEqual = kind.Operator op.LessOrEqual
+op_kind ops.Greater = kind.Operator op.Greater
+op_kind ops.GreaterOrEqual = kind.Operator op.GreaterOrEqual
+op_kind ops.Compare = kind.Operator op.Compare
+op_kind ops.Equal = kind.Operator op.Equal
+op_kind ops.NotEqual = kind.Operator op.NotEqual
+op_kind _ = kind.Other
+
+-- the names, where one more comes: a name that is there already is not added
+abbrev pub with_name : List (List ℕ) → List ℕ → List (List ℕ)
+with_name names name = if list_any (bytes_eq name) names then names else names ++ name ∷ []
+
+abbrev pub with_symbol : List ℕ → List (List ℕ) → Token → Kind → List (List ℕ)
+with_symbol source names token kinds.Name = with_name names (word_of source token)
+with_symbol source names token _ = names
+
+-- `puts`, and the texts of the names among the tokens, each once, in the order of their first places
+abbrev pub symbols_of : List ℕ → List Token → List (List ℕ)
+symbols_of source tokens = fold (λ names token. with_symbol source names token token.kind) (codes "puts" ∷ []) tokens
+
+abbrev pub with_text : List ℕ → List (List ℕ) → Token → Kind → List (List ℕ)
+with_text source texts token kinds.Text = texts ++ contents_of (word_of source token) ∷ []
+with_text source texts token kinds.Single = texts ++ contents_of (word_of source token) ∷ []
+with_text source texts token _ = texts
+
+-- what the text literals among the tokens stand for, in their order
+abbrev pub texts_of : List ℕ → List Token → List (List ℕ)
+texts_of source tokens = fold (λ texts token. with_text source texts token token.kind) [] tokens
+
+-- an integer that is no number is no word of the grammar
+abbrev pub int_kind : Option ℕ → WordKind
+int_kind (Some n) = kind.Int n
+int_kind None = kind.Other
+
+-- the number of a name: its place among these names, or the next one where it is new
+abbrev pub number_of : List (List ℕ) → List ℕ → Sym
+number_of names name = record { 0 = position_or_len (bytes_eq name) names }
+
+-- what a token is as a word, behind these names and so many texts
+abbrev pub word_kind : List ℕ → List (List ℕ) → ℕ → Token → Kind → WordKind
+word_kind source names texts token kinds.Name = kind.Name (number_of names (word_of source token))
+word_kind source names texts token kinds.Int = int_kind (int_value_of (word_of source token))
+word_kind source names texts token kinds.Text = kind.Text texts
+word_kind source names texts token kinds.Single = kind.Text texts
+word_kind source names texts token (kinds.Keyword k) = keyword_kind k
+word_kind source names texts token (kinds.Op o) = op_kind o
+word_kind source names texts token kinds.LineEnd = kind.Separator
+word_kind source names texts token _ = kind.Other
+
+abbrev pub word_with : List ℕ → List (List ℕ) → ℕ → Token → Word
+word_with source names texts token = record { kind = word_kind source names texts token token.kind; blank = token.blank }
+
+abbrev pub words_behind : List ℕ → List Token → List Token → List Word
+words_behind source before [] = []
+words_behind source before (t ∷ ts) = word_with source (symbols_of source before) (length (texts_of source before)) t ∷ words_behind source (before ++ t ∷ []) ts
+
+-- a word for each token, whose numbers come from the tokens before it
+abbrev pub words_of : List ℕ → List Token → List Word
+words_of source tokens = words_behind source [] tokens

@@ -1,0 +1,13 @@
+//! The trees of programs, read from their tokens.
+#![tactic(auto)]
+
+mod look;
+mod names;
+mod parser;
+mod program;
+mod refusal;
+#[cfg(test)]
+mod tests;
+mod word;
+
+pub use program::parse;

@@ -1,0 +1,161 @@
+//! Words from tokens: each name and each text gets its number.
+
+ghost use Rattle.std.specs.Prelude.{◌≡◌, ◌∷◌, [], ◌++◌, length, map, IfOk, OnOk};
+ghost use Rattle.rr_parser.specs.Words.{keyword_kind, op_kind, with_name, number_of, with_symbol, with_text, word_with, words_of, symbols_of, texts_of};
+
+use crate::refusal::Storage;
+use crate::word::{Word, WordKind};
+use indexmap::IndexSet;
+use rr_base::Sym;
+use rr_lexer::{Keyword, Kind, Op, Token, int_value, text_contents, word};
+use rr_tree::BinaryOperator;
+use std::alloc::Global;
+
+/// The words of a source, and what their numbers stand for.
+#[derive(Drop)]
+pub(crate) struct Words {
+    pub words: Vec<Word>,
+    pub symbols: Vec<Vec<u8>>,
+    pub texts: Vec<Vec<u8>>,
+}
+
+fn keyword_kind(keyword: Keyword) -> WordKind
+    ensures { result ≡ keyword_kind keyword }
+{
+    match keyword {
+        Keyword::Nil => WordKind::Nil,
+        Keyword::True => WordKind::Truth(true),
+        Keyword::False => WordKind::Truth(false),
+        Keyword::If => WordKind::If,
+        Keyword::Then => WordKind::Then,
+        Keyword::Elsif => WordKind::Elsif,
+        Keyword::Else => WordKind::Else,
+        Keyword::End => WordKind::End,
+        _ => WordKind::Other,
+    }
+}
+
+fn op_kind(op: Op) -> WordKind
+    ensures { result ≡ op_kind op }
+{
+    match op {
+        Op::Open => WordKind::Open,
+        Op::Close => WordKind::Close,
+        Op::Comma => WordKind::Comma,
+        Op::Semicolon => WordKind::Separator,
+        Op::Assign => WordKind::Assign,
+        Op::Minus => WordKind::Minus,
+        Op::Plus => WordKind::Operator(BinaryOperator::Add),
+        Op::Star => WordKind::Operator(BinaryOperator::Multiply),
+        Op::Slash => WordKind::Operator(BinaryOperator::Divide),
+        Op::Percent => WordKind::Operator(BinaryOperator::Remainder),
+        Op::Less => WordKind::Operator(BinaryOperator::Less),
+        Op::LessOrEqual => WordKind::Operator(BinaryOperator::LessOrEqual),
+        Op::Greater => WordKind::Operator(BinaryOperator::Greater),
+        Op::GreaterOrEqual => WordKind::Operator(BinaryOperator::GreaterOrEqual),
+        Op::Compare => WordKind::Operator(BinaryOperator::Compare),
+        Op::Equal => WordKind::Operator(BinaryOperator::Equal),
+        Op::NotEqual => WordKind::Operator(BinaryOperator::NotEqual),
+        _ => WordKind::Other,
+    }
+}
+
+/// The names and the texts that have come, each with its number.
+#[derive(Drop)]
+pub(crate) struct Numbering<'s> {
+    pub names: IndexSet<&'s [u8]>,
+    pub texts: Vec<Vec<u8>>,
+}
+
+fn number(count: usize) -> Result<u32, Storage>
+    ensures { IfOk result (λ n. n ≡ count) }
+{
+    match u32::try_from(count) {
+        Ok(number) => Ok(number),
+        Err(_) => Err(Storage::Slots),
+    }
+}
+
+impl<'s> Numbering<'s> {
+    ghost use Rattle.rr_parser.specs.Numbering.{names_of, texts_held};
+
+    fn name(&mut self, name: &'s [u8]) -> Result<Sym, Storage>
+        ensures names { OnOk result (names_of self.new ≡ with_name (names_of self.old) name.now) }
+        ensures number { IfOk result (λ x. x ≡ number_of (names_of self.old) name.now) }
+        ensures texts { self.new.texts.items ≡ self.old.texts.items }
+    {
+        let (place, _) = self.names.insert_full(name)?;
+        Ok(Sym(number(place)?))
+    }
+
+    fn text(&mut self, text: Vec<u8>) -> Result<u32, Storage>
+        ensures texts { OnOk result (texts_held self.new ≡ texts_held self.old ++ text.items ∷ []) }
+        ensures number { IfOk result (λ n. n ≡ length (texts_held self.old)) }
+        ensures names { self.new.names.keys ≡ self.old.names.keys }
+    {
+        let place = number(self.texts.len())?;
+        self.texts.push(text)?;
+        Ok(place)
+    }
+
+    /// The word that stands for a token.
+    fn word(&mut self, alloc: Global, source: &'s [u8], token: Token) -> Result<Word, Storage>
+        ensures word { IfOk result (λ w. w ≡ word_with source.now (names_of self.old) (length (texts_held self.old)) token) }
+        ensures names { OnOk result (names_of self.new ≡ with_symbol source.now (names_of self.old) token token.kind) }
+        ensures texts { OnOk result (texts_held self.new ≡ with_text source.now (texts_held self.old) token token.kind) }
+    {
+        let kind = match token.kind {
+            Kind::Name => WordKind::Name(self.name(word(source, token))?),
+            Kind::Int => match int_value(source, token) {
+                Some(value) => WordKind::Int(value),
+                None => WordKind::Other,
+            },
+            Kind::Text | Kind::Single => WordKind::Text(self.text(text_contents(
+                alloc, source, token,
+            )?)?),
+            Kind::Keyword(keyword) => keyword_kind(keyword),
+            Kind::Op(op) => op_kind(op),
+            Kind::LineEnd => WordKind::Separator,
+            _ => WordKind::Other,
+        };
+        Ok(Word {
+            kind,
+            blank: token.blank,
+        })
+    }
+}
+
+fn symbols(alloc: Global, names: &IndexSet<&[u8]>) -> Result<Vec<Vec<u8>>, Storage>
+    ensures { IfOk result (λ v. map (λ s. s.items) v.items ≡ map (λ k. k.now) names.now.keys) }
+{
+    let mut symbols = Vec::new(alloc);
+    for i in 0..names.len() {
+        let name = names[i];
+        symbols.push(Vec::from_slice(alloc, name)?)?;
+    }
+    Ok(symbols)
+}
+
+/// The words of the tokens.
+pub(crate) fn read_words(alloc: Global, source: &[u8], tokens: &[Token]) -> Result<Words, Storage>
+    ensures words { IfOk result (λ w. w.words.items ≡ words_of source.now tokens.now) }
+    ensures symbols { IfOk result (λ w. map (λ s. s.items) w.symbols.items ≡ symbols_of source.now tokens.now) }
+    ensures texts { IfOk result (λ w. map (λ s. s.items) w.texts.items ≡ texts_of source.now tokens.now) }
+{
+    let mut numbering = Numbering {
+        names: IndexSet::new(alloc),
+        texts: Vec::new(alloc),
+    };
+    numbering.name(b"puts")?;
+    let mut words = Vec::with_capacity(alloc, tokens.len())?;
+    for token in tokens {
+        words.push(numbering.word(alloc, source, *token)?)?;
+    }
+    let symbols = symbols(alloc, &numbering.names)?;
+    let Numbering { names: _, texts } = numbering;
+    Ok(Words {
+        words,
+        symbols,
+        texts,
+    })
+}

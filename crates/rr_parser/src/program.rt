@@ -1,0 +1,115 @@
+//! Programs, read from tokens.
+
+ghost use Rattle.std.specs.Prelude.{◌≡◌, ℕ, List, map, MatchResult, IfOk, IfErr, Ok, Err};
+ghost use Rattle.rr_base.specs.declared.fault.SyntaxKind.{SyntaxKind};
+ghost use Rattle.rr_tree.specs.Tree.{Tree, tree_at, IsOrdered};
+ghost use Rattle.rr_parser.specs.Words.{words_of, symbols_of, texts_of};
+ghost use Rattle.rr_parser.specs.Grammar.{Spells, SpellsWithin};
+ghost use Rattle.rr_parser.specs.Reading.{program_of};
+ghost use Rattle.rr_parser.specs.Meets.{Fails};
+ghost use Rattle.rr_parser.specs.Faults.{IsParseFault, IsFaultOf, IsSyntax};
+
+use crate::names::read_words;
+use crate::parser::Parser;
+use crate::refusal::{Refusal, Storage};
+use crate::word::Word;
+use rr_base::{Fault, LimitKind, SyntaxKind};
+use rr_lexer::{Token, line_and_column};
+use rr_tree::{Node, NodeId, Program};
+use std::alloc::Global;
+
+/// How many constructs may be open at one place.
+const NESTING: u32 = 200;
+
+#[tactic(auto, unfolding(crate::specs::Reading::program_of))]
+fn read_nodes(alloc: Global, words: &[Word], depth: u32) -> Result<(Vec<Node>, NodeId), Refusal>
+    ensures tree { MatchResult result (λ p. program_of depth words.now ≡ Ok (tree_at p.0.items p.1)) (λ e. Fails e (program_of depth words.now)) }
+    ensures ordered { IfOk result (λ p. IsOrdered p.0.items) }
+{
+    let mut parser = Parser {
+        alloc,
+        nodes: Vec::new(alloc),
+        known: Vec::new(alloc),
+    };
+    let (root, rest) = parser.statements(false, depth, words)?;
+    if !rest.is_empty() {
+        return Err(Refusal::Unexpected(rest.len()));
+    }
+    let Parser {
+        alloc: _,
+        nodes,
+        known: _,
+    } = parser;
+    Ok((nodes, root))
+}
+
+/// The fault at the first of the tokens that are left, or behind the source.
+fn fault_at(source: &[u8], tokens: &[Token], left: usize, kind: SyntaxKind) -> Fault
+    ensures { IsSyntax result }
+{
+    let place = if left == 0 || left > tokens.len() {
+        source.len()
+    } else {
+        tokens[tokens.len() - left].start as usize
+    };
+    let (line, column) = line_and_column(source, place);
+    Fault::Syntax { line, column, kind }
+}
+
+fn fault_of(source: &[u8], tokens: &[Token], refusal: Refusal) -> Fault
+    ensures { IsFaultOf refusal result }
+{
+    match refusal {
+        Refusal::Storage(Storage::Memory) => Fault::Memory,
+        Refusal::Storage(Storage::Slots) => Fault::Limit(LimitKind::Slots),
+        Refusal::Nesting => Fault::Limit(LimitKind::Nesting),
+        Refusal::Unexpected(0) => fault_at(source, tokens, 0, SyntaxKind::UnexpectedEnd),
+        Refusal::Unexpected(left) => fault_at(source, tokens, left, SyntaxKind::UnexpectedToken),
+        Refusal::Number(left) => fault_at(source, tokens, left, SyntaxKind::Number),
+    }
+}
+
+/// The program that the tokens of a source spell, with constructs nested no deeper than a number.
+pub(crate) fn read(
+    alloc: Global,
+    source: &[u8],
+    tokens: &[Token],
+    depth: u32,
+) -> Result<Program, Refusal>
+    ensures tree { MatchResult result (λ p. program_of depth (words_of source.now tokens.now) ≡ Ok (tree_at p.nodes.items p.root)) (λ e. Fails e (program_of depth (words_of source.now tokens.now))) }
+    ensures symbols { IfOk result (λ p. map (λ s. s.items) p.symbols.items ≡ symbols_of source.now tokens.now) }
+    ensures texts { IfOk result (λ p. map (λ s. s.items) p.texts.items ≡ texts_of source.now tokens.now) }
+{
+    let words = read_words(alloc, source, tokens)?;
+    let (nodes, root) = read_nodes(alloc, &words.words, depth)?;
+    Ok(Program {
+        nodes,
+        root,
+        symbols: words.symbols,
+        texts: words.texts,
+    })
+}
+
+/// The program that the tokens of a source spell.
+///
+/// The tokens are those that `lex` gives for the source. A `Syntax` fault stands at the first token that no construct
+/// goes on with, or at the end of the source. At most 200 constructs may be open at one place: brackets, an `if`, a
+/// minus before an operand, and the right side of an assignment inside the right side of another one; past that the
+/// fault is `Limit(Nesting)`. A program that needs more than 4,294,967,295 nodes, names or texts is `Limit(Slots)`, and
+/// where the allocator refuses a growth the fault is `Memory`.
+pub fn parse(alloc: Global, source: &[u8], tokens: &[Token]) -> Result<Program, Fault>
+    // What is read is spelled so.
+    ensures found { IfOk result (λ p. SpellsWithin 200 source.now tokens.now (tree_at p.nodes.items p.root)) }
+    ensures symbols { IfOk result (λ p. map (λ s. s.items) p.symbols.items ≡ symbols_of source.now tokens.now) }
+    ensures texts { IfOk result (λ p. map (λ s. s.items) p.texts.items ≡ texts_of source.now tokens.now) }
+    // Where the tokens are refused, they spell no tree.
+    ensures refused { (line column : ℕ) (kind : SyntaxKind) → result ≡ Err (Fault.Syntax line column kind) → (t : Tree) → Spells source.now tokens.now t → ⊥ }
+    // Where they nest too deep, they spell none within the limit.
+    ensures deep { result ≡ Err (Fault.Limit LimitKind.Nesting) → (t : Tree) → SpellsWithin 200 source.now tokens.now t → ⊥ }
+    ensures faults { IfErr result IsParseFault }
+{
+    match read(alloc, source, tokens, NESTING) {
+        Ok(program) => Ok(program),
+        Err(refusal) => Err(fault_of(source, tokens, refusal)),
+    }
+}

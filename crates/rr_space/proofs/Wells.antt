@@ -1,0 +1,81 @@
+-- Spaces are sound: what their fields keep says that no reference leads nowhere.
+use Rattle.std.proofs.Common.{◌≡◌, ℕ, zero, suc, ◌≤◌, List, [], ◌∷◌, ◌++◌, length, map, Contains, sym, ap, ◌∙◌, subst, refl, arith}
+use Rattle.std.proofs.lemmas.List.{length-map}
+use Rattle.std.proofs.lemmas.List.Elements.{Contains-append_left, Contains-append_right}
+use Rattle.std.proofs.lemmas.Option.{same_Some}
+use Rattle.rr_space.specs.Graph.{Label, Value}
+use Rattle.rr_space.specs.Tables.{Whole, Table, below_hold, outer_objects, numbered_object}
+use Rattle.rr_space.specs.Parts.{Parts, value_of, value_triple, below_ref, below_parts}
+use Rattle.rr_space.specs.Sound.{HasPlaceIn, IsStanding, IsBelowSound, IsSlotSound, IsTableSound, IsWell, IsHold}
+use Rattle.rr_space.specs.Views.{IsWithin, AllWithin, IsHeldWithin, AllHeldWithin, slot_of, below_held, node_parts}
+use Rattle.rr_space.specs.declared.refer.Ref.{Ref}
+use Rattle.rr_space.specs.declared.refer.Ref.TheVariants.{Nil, Truth, Int, Symbol, Class, Ractor, Local, Shared}
+use Rattle.rr_space.specs.declared.node.Held.{Held}
+use Rattle.rr_space.specs.declared.node.Held.TheVariants.{Whole as WholeHeld, Shell, Forward}
+use Rattle.rr_space.proofs.Placing.{table_of, within_at}
+use Rattle.rr_space.proofs.Renaming.{mapped_at}
+use Rattle.rr_space.proofs.Sounds.{standing_later, append_sound, none_sound, hold_sound}
+
+held_place : (p : ℕ) (w : Whole) → IsHold p w → HasPlaceIn (below_hold w) w.number p
+held_place p w h = (outer_objects w, (0, omega arith, refl), let e = length-map w.own (numbered_object w.number) in omega (arith, e, h.within))
+
+ref_standing : (k : ℕ) (r : Ref) → IsWithin k r → IsStanding k (below_ref r) (value_of r)
+ref_standing k Nil h = tt
+ref_standing k (Truth b) h = tt
+ref_standing k (Int z) h = tt
+ref_standing k (Symbol s) h = tt
+ref_standing k (Class c) h = tt
+ref_standing k (Ractor r) h = tt
+ref_standing k (Local n) h = h
+ref_standing k (Shared p c) h = held_place p c.now h
+
+ref_below : (k : ℕ) (r : Ref) → IsWithin k r → IsBelowSound (below_ref r)
+ref_below k Nil h = none_sound
+ref_below k (Truth b) h = none_sound
+ref_below k (Int z) h = none_sound
+ref_below k (Symbol s) h = none_sound
+ref_below k (Class c) h = none_sound
+ref_below k (Ractor r) h = none_sound
+ref_below k (Local n) h = none_sound
+ref_below k (Shared p c) h = hold_sound c.now h.sound
+
+parts_standing : (k : ℕ) (ts : Parts) → AllWithin k ts → (l : Label) (x : Value) → Contains (map value_triple ts) (l, x) → IsStanding k (below_parts ts) x
+parts_standing k [] all l x (i, lt, e) = absurd (let w : ⊥ = omega (arith, lt) in w)
+parts_standing k (t ∷ ts) all l x (zero, lt, e) =
+    standing_later k k (below_ref t.1) (below_ref t.1 ++ below_parts ts) (omega arith) (Contains-append_left (below_ref t.1) (below_parts ts)) x
+    (subst (IsStanding k (below_ref t.1)) (ap (λ (y : Label × Value). y.1) e) (ref_standing k t.1 all.0))
+parts_standing k (t ∷ ts) all l x (suc i, lt, e) =
+    standing_later k k (below_parts ts) (below_ref t.1 ++ below_parts ts) (omega arith) (Contains-append_right (below_ref t.1) (below_parts ts)) x
+    (parts_standing k ts all.1 l x (i, omega (arith, lt), e))
+
+parts_below : (k : ℕ) (ts : Parts) → AllWithin k ts → IsBelowSound (below_parts ts)
+parts_below k [] all = none_sound
+parts_below k (t ∷ ts) all = append_sound (below_ref t.1) (below_parts ts) (ref_below k t.1 all.0) (parts_below k ts all.1)
+
+held_slot : (k : ℕ) (h : Held) → IsHeldWithin k h → IsSlotSound k (slot_of h) (below_held h)
+held_slot k (WholeHeld node f) w = λ l x has. parts_standing k (node_parts node) w l x has
+held_slot k Shell w = λ l x (i, lt, e). absurd (let z : ⊥ = omega (arith, lt) in z)
+held_slot k (Forward p c) w = held_place p c.now w
+
+held_below : (k : ℕ) (h : Held) → IsHeldWithin k h → IsBelowSound (below_held h)
+held_below k (WholeHeld node f) w = parts_below k (node_parts node) w
+held_below k Shell w = none_sound
+held_below k (Forward p c) w = hold_sound c.now w.sound
+
+all_sound : (hs : List Held) → AllHeldWithin (length hs) hs → IsTableSound (map slot_of hs) (map below_held hs)
+all_sound hs all = record {
+  count = length-map hs below_held ∙ sym (length-map hs slot_of);
+  slots = λ n s b at bt.
+      let h = mapped_at slot_of hs n s at in
+      let g = mapped_at below_held hs n b bt in
+      let one : g.0 ≡ h.0 = same_Some g.0 h.0 (sym g.1 ∙ h.1) in
+      let below : below_held h.0 ≡ b = ap below_held (sym one) ∙ g.2 in
+      subst (λ k. IsSlotSound k s b) (sym (length-map hs slot_of))
+      (subst (λ x. IsSlotSound (length hs) x b) h.2 (subst (IsSlotSound (length hs) (slot_of h.0)) below (held_slot (length hs) h.0 (within_at (length hs) hs n h.0 all h.1))));
+  below = λ n b bt.
+      let g = mapped_at below_held hs n b bt in
+      subst IsBelowSound g.2 (held_below (length hs) g.0 (within_at (length hs) hs n g.0 all g.1));
+}
+
+pub well_is : (hs : List Held) (limit owner : ℕ) (t : Table) → table_of hs limit owner ≡ t → (length hs ≤ limit) × AllHeldWithin (length hs) hs → IsWell t
+well_is hs limit owner t e all = subst IsWell e (record { room = let z = length-map hs slot_of in omega (arith, z, all.0); sound = all_sound hs all.1 })

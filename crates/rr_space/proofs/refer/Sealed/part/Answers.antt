@@ -1,0 +1,15 @@
+use Rattle.std.proofs.Common.{sym, ap, ◌∙◌, List, slice_get, ◌/◌}
+use Rattle.rr_space.specs.Parts.{raised_parts}
+use Rattle.rr_space.specs.Labels.{pair_half}
+use Rattle.rr_space.specs.declared.refer.Ref.{Ref}
+use Rattle.rr_space.specs.declared.refer.Raised.{Raised}
+use Rattle.rr_space.proofs.Listing.{pair_first}
+use Rattle.rr_space.proofs.refer.Sealed.part.Goals as goal
+
+pub returns-in-Hash : goal.returns-in-Hash
+returns-in-Hash c =
+    rw c.in-Hash.is (c.half_of_pair.ensures ∙ ap (pair_half c.args.k) (c.nth_pair.ensures ∙ ap (λ (ps : List (Ref × Ref)). slice_get ps (c.args.k / 2)) c.deref-in-Hash.ensures.value)
+    ∙ sym (pair_first c.in-Hash.pairs.items c.args.k))
+
+pub returns-in-Exception : goal.returns-in-Exception
+returns-in-Exception c = rw c.in-Exception.is (c.nth_of_raised.ensures ∙ ap (λ (x : Raised). slice_get (raised_parts x) c.args.k) c.deref-in-Exception.ensures)

@@ -1,0 +1,82 @@
+//! What follows from the definitions of the graph. Each function has a law as its clause, and does nothing.
+
+ghost use Rattle.rr_space.specs.Copying.{LeavesSuffice, CopiesAreAlike};
+ghost use Rattle.rr_space.specs.Insides.{AlikeInside};
+ghost use Rattle.rr_space.specs.Cases.{CopiesAreAlikeInTheWhole, EmptyIsRead};
+ghost use Rattle.rr_space.specs.Inner.{SpacesAreInside};
+ghost use Rattle.rr_space.specs.Owners.{ReadingsAreApart, RootsAreLocal};
+ghost use Rattle.rr_space.specs.Marks.{MarksDecide};
+ghost use Rattle.rr_space.specs.Moves.{ForwardedIsExact, KeepingAddsUp, ForwardsKeep, MoreKeeps};
+ghost use Rattle.rr_space.specs.Sound.{SoundIsSealed, SoundIsShut};
+ghost use Rattle.rr_space.specs.Steps.{HandsOn, PublishingIsTurning, RemakingIsAStep, DroppingIsAStep};
+
+/// A search that stops at published objects decides who is shareable.
+pub fn shown_by_leaves()
+    ensures { LeavesSuffice }
+{}
+
+/// A copy that matches place by place is alike to what it was copied from.
+pub fn shown_by_copying()
+    ensures { CopiesAreAlike }
+{}
+
+/// What is alike in two graphs is alike in the graphs that they are inside of.
+pub fn shown_by_embedding()
+    ensures { AlikeInside }
+{}
+
+/// A table that goes to another owner is read as the turning of an owner.
+pub fn shown_by_handing_on()
+    ensures { HandsOn }
+{}
+
+/// A published cluster has the names of its slots, and only the owner turns.
+pub fn shown_by_publishing()
+    ensures { PublishingIsTurning }
+{}
+
+/// What two holders both reach is shared.
+pub fn shown_by_reading()
+    ensures apart { ReadingsAreApart }
+    ensures roots { RootsAreLocal }
+{}
+
+/// The graph of a space is inside the whole graph.
+pub fn shown_by_spaces()
+    ensures { SpacesAreInside }
+{}
+
+/// A table that is made anew keeps its names, and new slots get fresh ones.
+pub fn shown_by_remaking()
+    ensures { RemakingIsAStep }
+{}
+
+/// What a pack gives is alike in the whole graph, and a world without objects has a reading.
+pub fn shown_by_cases()
+    ensures copies { CopiesAreAlikeInTheWhole }
+    ensures empty { EmptyIsRead }
+{}
+
+/// A table that is gone takes its objects with it.
+pub fn shown_by_dropping()
+    ensures { DroppingIsAStep }
+{}
+
+/// Marks that spread backwards from what is not frozen, or is a shell, tell who is shareable.
+pub fn shown_by_marks()
+    ensures { MarksDecide }
+{}
+
+/// Published objects of a sound table are frozen and lead to published ones alone, and no object leads nowhere.
+pub fn shown_by_soundness()
+    ensures sealed { SoundIsSealed }
+    ensures shut { SoundIsShut }
+{}
+
+/// The forwards of a plan are a function of its places; they, and objects that come behind, keep what was there.
+pub fn shown_by_forwards()
+    ensures exact { ForwardedIsExact }
+    ensures forwards { ForwardsKeep }
+    ensures more { MoreKeeps }
+    ensures adds_up { KeepingAddsUp }
+{}

@@ -1,0 +1,136 @@
+//! What objects lead to, one reference at a time, and when two values are the same.
+
+ghost use Rattle.std.specs.Prelude.{◌≡◌, ◌↔◌, length, slice_get, Contains, IsTrue, IfSome, IfNone};
+ghost use Rattle.std.specs.Option.{option_map};
+ghost use Rattle.rr_space.specs.Graph.{Value};
+ghost use Rattle.rr_space.specs.Tables.{resolve, outer_objects};
+ghost use Rattle.rr_space.specs.Parts.{value_of};
+ghost use Rattle.rr_space.specs.Views.{can_freeze_at, can_write_at, frozen_at};
+ghost use Rattle.rr_space.specs.Labels.{label_of, labelled_value, triples_at, triples_of};
+
+use crate::label::Label;
+use crate::node::Held;
+use crate::refer::{Cluster, Ref};
+use crate::space::Space;
+
+impl Space {
+    /// The number of references in the object that `value` leads to; 0 for an immediate.
+    pub fn arity(&self, value: Ref) -> usize
+        ensures { result ≡ length (triples_at self.now value) }
+    {
+        match value {
+            Ref::Local(slot) => match self.slots.get(slot as usize) {
+                Some(Held::Whole(node, _)) => node.arity(),
+                Some(Held::Forward(place, cluster)) => cluster.arity(*place),
+                _ => 0,
+            },
+            Ref::Shared(place, cluster) => cluster.arity(place),
+            _ => 0,
+        }
+    }
+
+    /// The `k`-th reference in the object that `value` leads to, with its label; none past the last, or for an immediate.
+    pub fn part(&self, value: Ref, k: usize) -> Option<(Label, Ref)>
+        ensures { option_map labelled_value result ≡ slice_get (triples_at self.now value) k }
+    {
+        match value {
+            Ref::Local(slot) => {
+                if slot as usize >= self.slots.len() {
+                    return None;
+                }
+                match &self.slots[slot as usize] {
+                    Held::Whole(node, _) => node.part(k),
+                    Held::Shell => None,
+                    Held::Forward(place, cluster) => part_outside(cluster, *place, k),
+                }
+            }
+            Ref::Shared(place, cluster) => part_outside(cluster, place, k),
+            _ => None,
+        }
+    }
+
+    /// What stands under `label` in the object that `value` leads to, if anything does. Elements of arrays and pairs of
+    /// hashes are reached faster by `part`.
+    pub fn read(&self, value: Ref, label: Label) -> Option<Ref>
+        ensures some { IfSome result (λ r. Contains (triples_at self.now value) (label_of label, value_of r)) }
+        ensures none { IfNone result ((x : Value) → Contains (triples_at self.now value) (label_of label, x) → ⊥) }
+    {
+        for k in 0..self.arity(value) {
+            if let Some((at, found)) = self.part(value, k) {
+                if at == label {
+                    return Some(found);
+                }
+            }
+        }
+        None
+    }
+
+    /// The value itself, or where `value` is a slot that was published since, the published object.
+    pub fn resolve(&self, value: Ref) -> Ref
+        ensures { value_of result ≡ resolve self.now.slots (value_of value) }
+    {
+        match value {
+            Ref::Local(slot) => match self.slots.get(slot as usize) {
+                Some(Held::Forward(place, cluster)) => Ref::Shared(*place, cluster),
+                _ => value,
+            },
+            _ => value,
+        }
+    }
+
+    /// Whether the two are one immediate or one object. Objects of equal contents are not the same.
+    pub fn same(&self, left: Ref, right: Ref) -> bool
+        ensures { IsTrue result ↔ (resolve self.now.slots (value_of left) ≡ resolve self.now.slots (value_of right)) }
+    {
+        self.resolve(left).name() == self.resolve(right).name()
+    }
+
+    /// Whether `value` is an immediate or leads to a frozen object. A shell is not frozen.
+    pub fn is_frozen(&self, value: Ref) -> bool
+        ensures { result ≡ frozen_at self.now value }
+    {
+        match value {
+            Ref::Local(slot) => match self.slots.get(slot as usize) {
+                Some(Held::Whole(_, frozen)) => *frozen,
+                Some(Held::Shell) => false,
+                Some(Held::Forward(place, cluster)) => cluster.has(*place),
+                None => false,
+            },
+            Ref::Shared(place, cluster) => cluster.has(place),
+            _ => true,
+        }
+    }
+
+    /// Whether `value` is an object of this space that may be frozen: no shell, and not published.
+    pub fn can_freeze(&self, value: Ref) -> bool
+        ensures { result ≡ can_freeze_at self.now value }
+    {
+        match value {
+            Ref::Local(slot) => matches!(self.slots.get(slot as usize), Some(Held::Whole(_, _))),
+            _ => false,
+        }
+    }
+
+    /// Whether `value` is an object of this space that may be written: no shell, not frozen, and not published.
+    pub fn can_write(&self, value: Ref) -> bool
+        ensures { result ≡ can_write_at self.now value }
+    {
+        match value {
+            Ref::Local(slot) => matches!(
+                self.slots.get(slot as usize),
+                Some(Held::Whole(_, false))
+            ),
+            _ => false,
+        }
+    }
+}
+
+/// The `k`-th reference in the object under `place`, as it is seen from outside of the cluster.
+fn part_outside(cluster: &'static Cluster, place: u32, k: usize) -> Option<(Label, Ref)>
+    ensures { option_map labelled_value result ≡ slice_get (triples_of (slice_get (outer_objects cluster.now) place)) k }
+{
+    match cluster.part(place, k) {
+        Some((label, Ref::Local(inner))) => Some((label, Ref::Shared(inner, cluster))),
+        other => other,
+    }
+}

@@ -1,0 +1,166 @@
+//! What changes one object: its flag, its bytes, and what stands under its labels.
+
+ghost use Rattle.std.specs.Prelude.{◌≡◌, ◌<◌, ℕ, true, [], ◌∷◌, ◌++◌, length, Some, slice_get, slice_set, IsTrue, IfOk, IfErr};
+ghost use Rattle.rr_space.specs.Graph.{Object, Place};
+ghost use Rattle.rr_space.specs.Tables.{Here, Led, below_hold};
+ghost use Rattle.rr_space.specs.Sound.{IsHold};
+ghost use Rattle.rr_space.specs.Parts.{value_of};
+ghost use Rattle.rr_space.specs.Labels.{triples_at};
+ghost use Rattle.rr_space.specs.Views.{can_freeze_at, can_write_at, with_held, StandsAt, IsWithin, IsHeldWithin, IsLedBy, emptied, node_object, below_node, node_keys, IsNodeWithin};
+ghost use Rattle.rr_space.specs.Kinds.{kind_at};
+
+use crate::kind::Kind;
+use crate::node::{Held, Node};
+use crate::refer::{Cluster, Ref};
+use crate::replace::replace_at;
+use crate::space::Space;
+use rr_base::Fault;
+
+impl Space {
+    /// What stands in the slot, with a shell in its place.
+    fn take(&mut self, slot: u32) -> Held
+        requires { slot < length self.old.slots }
+        ensures stood { StandsAt self.old slot result }
+        ensures within { IsHeldWithin (length self.old.slots) result }
+        ensures rest { self.new ≡ with_held self.old slot Held.Shell }
+    {
+        replace_at(&mut self.slots, slot as usize, Held::Shell)
+    }
+
+    /// Puts something into the slot.
+    fn put(&mut self, slot: u32, held: Held)
+        requires slot { slot < length self.old.slots }
+        requires within { IsHeldWithin (length self.old.slots) held }
+        ensures { self.new ≡ with_held self.old slot held }
+    {
+        replace_at(&mut self.slots, slot as usize, held);
+    }
+
+    /// Turns the object of a slot into a forward to its place in a published cluster.
+    pub fn forward(&mut self, slot: u32, place: u32, cluster: &'static Cluster)
+        requires slot { slot < length self.old.slots }
+        requires hold { IsHold place cluster.now }
+        ensures slots { self.new.slots ≡ slice_set self.old.slots slot (Led cluster.now.number place) }
+        ensures below { self.new.below ≡ slice_set self.old.below slot (below_hold cluster.now) }
+        ensures keys { self.new.keys ≡ slice_set self.old.keys slot [] }
+        ensures limit { self.new.limit ≡ self.old.limit }
+        ensures owner { self.new.owner ≡ self.old.owner }
+    {
+        self.put(slot, Held::Forward(place, cluster));
+    }
+
+    /// Turns what stands in a slot into a shell.
+    pub fn empty(&mut self, slot: u32)
+        requires { slot < length self.old.slots }
+        ensures slots { self.new.slots ≡ slice_set self.old.slots slot (Here emptied) }
+        ensures below { self.new.below ≡ slice_set self.old.below slot [] }
+        ensures keys { self.new.keys ≡ slice_set self.old.keys slot [] }
+        ensures limit { self.new.limit ≡ self.old.limit }
+        ensures owner { self.new.owner ≡ self.old.owner }
+    {
+        self.put(slot, Held::Shell);
+    }
+
+    /// Puts an object into a slot, in the place of what stood there.
+    pub fn restore(&mut self, slot: u32, node: Node, frozen: bool)
+        requires slot { slot < length self.old.slots }
+        requires within { IsNodeWithin (length self.old.slots) node }
+        ensures slots { self.new.slots ≡ slice_set self.old.slots slot (Here (node_object node frozen)) }
+        ensures below { self.new.below ≡ slice_set self.old.below slot (below_node node) }
+        ensures keys { self.new.keys ≡ slice_set self.old.keys slot (node_keys node) }
+        ensures limit { self.new.limit ≡ self.old.limit }
+        ensures owner { self.new.owner ≡ self.old.owner }
+    {
+        self.put(slot, Held::Whole(node, frozen));
+    }
+
+    /// Freezes one object, and nothing that it leads to. `can_freeze` tells whether it may be.
+    pub fn freeze(&mut self, value: Ref)
+        requires { IsTrue (can_freeze_at self.old value) }
+        ensures slots { (n : ℕ) (o : Object) → value ≡ Ref.Local n → slice_get self.old.slots n ≡ Some (Here o)
+            → self.new.slots ≡ slice_set self.old.slots n (Here (record o { frozen = true })) }
+        ensures below { self.new.below ≡ self.old.below }
+        ensures keys { self.new.keys ≡ self.old.keys }
+        ensures limit { self.new.limit ≡ self.old.limit }
+        ensures owner { self.new.owner ≡ self.old.owner }
+    {
+        if let Ref::Local(slot) = value {
+            match self.take(slot) {
+                Held::Whole(node, _) => self.put(slot, Held::Whole(node, true)),
+                other => self.put(slot, other),
+            }
+        }
+    }
+
+    /// Gives a text other bytes. `can_write` tells whether `text` may be written.
+    pub fn write_text(&mut self, text: Ref, bytes: Vec<u8>)
+        requires can { IsTrue (can_write_at self.old text) }
+        requires kind { kind_at self.old text ≡ Kind.Text }
+        ensures slots { (n : ℕ) (o : Object) → text ≡ Ref.Local n → slice_get self.old.slots n ≡ Some (Here o)
+            → self.new.slots ≡ slice_set self.old.slots n (Here (record o { bytes = bytes.items })) }
+        ensures below { self.new.below ≡ self.old.below }
+        ensures keys { self.new.keys ≡ self.old.keys }
+        ensures limit { self.new.limit ≡ self.old.limit }
+        ensures owner { self.new.owner ≡ self.old.owner }
+    {
+        if let Ref::Local(slot) = text {
+            match self.take(slot) {
+                Held::Whole(_, frozen) => self.put(slot, Held::Whole(Node::Text(bytes), frozen)),
+                other => self.put(slot, other),
+            }
+        }
+    }
+
+    /// Puts `value` in the place of an element of an array. `can_write` tells whether `array` may be written.
+    pub fn write_element(&mut self, array: Ref, place: usize, value: Ref)
+        requires can { IsTrue (can_write_at self.old array) }
+        requires kind { kind_at self.old array ≡ Kind.Array }
+        requires place { place < length (triples_at self.old array) }
+        requires within { IsWithin (length self.old.slots) value }
+        ensures slots { (n : ℕ) (o : Object) → array ≡ Ref.Local n → slice_get self.old.slots n ≡ Some (Here o)
+            → self.new.slots ≡ slice_set self.old.slots n (Here (record o { triples = slice_set o.triples place (Place place, value_of value) })) }
+        ensures below { (n : ℕ) → array ≡ Ref.Local n → IsLedBy value n self.old.below self.new.below }
+        ensures keys { self.new.keys ≡ self.old.keys }
+        ensures limit { self.new.limit ≡ self.old.limit }
+        ensures owner { self.new.owner ≡ self.old.owner }
+    {
+        if let Ref::Local(slot) = array {
+            match self.take(slot) {
+                Held::Whole(node, frozen) => {
+                    let changed = node.with_element(place, value);
+                    self.put(slot, Held::Whole(changed, frozen))
+                }
+                other => self.put(slot, other),
+            }
+        }
+    }
+
+    /// Puts `value` behind the elements of an array. `can_write` tells whether `array` may be written.
+    ///
+    /// Answers `Fault::Memory` where a growth was refused.
+    pub fn push_element(&mut self, array: Ref, value: Ref) -> Result<(), Fault>
+        requires can { IsTrue (can_write_at self.old array) }
+        requires kind { kind_at self.old array ≡ Kind.Array }
+        requires within { IsWithin (length self.old.slots) value }
+        ensures slots { (n : ℕ) (o : Object) → array ≡ Ref.Local n → slice_get self.old.slots n ≡ Some (Here o)
+            → IfOk result (λ _. self.new.slots ≡ slice_set self.old.slots n (Here (record o { triples = o.triples ++ (Place (length o.triples), value_of value) ∷ [] }))) }
+        ensures below { (n : ℕ) → array ≡ Ref.Local n → IfOk result (λ _. IsLedBy value n self.old.below self.new.below) }
+        ensures keys { self.new.keys ≡ self.old.keys }
+        ensures limit { self.new.limit ≡ self.old.limit }
+        ensures owner { self.new.owner ≡ self.old.owner }
+        ensures refused { IfErr result (λ _. self.new ≡ self.old) }
+        ensures fault { IfErr result (λ e. e ≡ Fault.Memory) }
+    {
+        if let Ref::Local(slot) = array {
+            match self.take(slot) {
+                Held::Whole(node, frozen) => {
+                    let (changed, pushed) = node.with_more(value);
+                    self.put(slot, Held::Whole(changed, frozen));
+                    return pushed;
+                }
+                other => self.put(slot, other),
+            }
+        }
+        Ok(())
+    }
+}
