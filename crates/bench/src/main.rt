@@ -1,0 +1,28 @@
+//! Measurements of single layers, in nanoseconds of wall clock. The scripts under bench/ measure the whole program.
+#![tactic(auto)]
+
+mod channels;
+mod objects;
+mod scripts;
+
+use std::{env, io};
+
+fn main(rt: HostRuntime) -> io::Result<()> {
+    let words: Vec<String> = env::args(&rt)?.collect(rt.alloc())?;
+    let name = words.get(1).map_or("", |word| word.as_str());
+    let file = words.get(2).map_or("", |word| word.as_str());
+    match name {
+        "script" => scripts::measure(&rt, file),
+        "objects" => objects::measure(&rt),
+        "inbox" => channels::measure_inbox(&rt),
+        "text" => channels::measure_text(&rt),
+        _ => {
+            println!(rt; "script FILE: its tokens, its tree, its steps")?;
+            println!(rt; "objects: ten million arrays of two integers, made and read")?;
+            println!(rt; "inbox: a million integers offered and accepted")?;
+            println!(rt;
+                "text: a text of a mebibyte, packed and opened, beside one copy of its bytes"
+            )
+        }
+    }
+}
