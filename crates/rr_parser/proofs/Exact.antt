@@ -9,10 +9,12 @@ use Rattle.rr_parser.specs.declared.word.Word.{Word}
 use Rattle.rr_parser.specs.declared.refusal.Refusal.{Refusal}
 use Rattle.rr_parser.specs.declared.refusal.Refusal.TheVariants as refusal
 use Rattle.rr_parser.specs.declared.refusal.Storage.TheVariants as storage
-use Rattle.rr_parser.specs.Grammar.{WordsSpell, start}
+use Rattle.rr_parser.specs.Grammar.{Place, WordsSpell, start, outside}
+use Rattle.rr_parser.specs.Fronts.{StatementsFront, fronts_outside}
 use Rattle.rr_parser.specs.Reading.{program_of, statements_of, readers, whole_of}
 use Rattle.rr_parser.specs.Meets.{Fails, locals_of}
 use Rattle.rr_parser.specs.Faults.{IsParseFault, IsFaultOf}
+use Rattle.rr_parser.proofs.Deep.{program_nests}
 use Rattle.rr_parser.proofs.Full.{program_wrong, program_deep}
 use Rattle.rr_parser.proofs.Making.{fails_bind}
 
@@ -31,6 +33,14 @@ deep_spells d ws (refusal.Storage storage.Slots) f h g is = let e = sym g ∙ is
 deep_spells d ws refusal.Nesting f h g is = λ t s. let lt = program_deep d d ws h t s in let never : ⊥ = omega arith in never
 deep_spells d ws (refusal.Unexpected n) f h g is = let e = sym g.3 ∙ is in absurd cc
 deep_spells d ws (refusal.Number n) f h g is = let e = sym g.3 ∙ is in absurd cc
+
+-- and more constructs than the limit are begun at some place
+pub deep_nests : (d : ℕ) (ws : List Word) (e : Refusal) (f : Fault) → Fails e (program_of d ws) → IsFaultOf e f → f ≡ fault.Limit limit.Nesting → (z : Place) × StatementsFront (outside d) (fronts_outside d) (start ws) z
+deep_nests d ws (refusal.Storage storage.Memory) f h g is = let e = sym g ∙ is in absurd cc
+deep_nests d ws (refusal.Storage storage.Slots) f h g is = let e = sym g ∙ is in absurd cc
+deep_nests d ws refusal.Nesting f h g is = program_nests d ws h
+deep_nests d ws (refusal.Unexpected n) f h g is = let e = sym g.3 ∙ is in absurd cc
+deep_nests d ws (refusal.Number n) f h g is = let e = sym g.3 ∙ is in absurd cc
 
 no_fault : (f : Fault) (g : Fault) → f ≡ g → IsParseFault g → IsParseFault f
 no_fault f g e h = subst (λ (x : Fault). IsParseFault x) (sym e) h

@@ -5,3 +5,4 @@ pub mod Making
 pub mod Lists
 pub mod Numbers
 pub mod Exact
+pub mod Deep

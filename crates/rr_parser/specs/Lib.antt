@@ -4,3 +4,4 @@ pub mod Grammar
 pub mod Reading
 pub mod Meets
 pub mod Faults
+pub mod Fronts

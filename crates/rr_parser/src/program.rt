@@ -4,6 +4,7 @@ ghost use Rattle.std.specs.Prelude.{◌≡◌, ℕ, List, map, MatchResult, IfOk
 ghost use Rattle.rr_base.specs.declared.fault.SyntaxKind.{SyntaxKind};
 ghost use Rattle.rr_tree.specs.Tree.{Tree, tree_at, IsOrdered};
 ghost use Rattle.rr_parser.specs.Words.{words_of, symbols_of, texts_of};
+ghost use Rattle.rr_parser.specs.Fronts.{NestsBeyond};
 ghost use Rattle.rr_parser.specs.Grammar.{Spells, SpellsWithin};
 ghost use Rattle.rr_parser.specs.Reading.{program_of};
 ghost use Rattle.rr_parser.specs.Meets.{Fails};
@@ -106,6 +107,8 @@ pub fn parse(alloc: Global, source: &[u8], tokens: &[Token]) -> Result<Program, 
     ensures refused { (line column : ℕ) (kind : SyntaxKind) → result ≡ Err (Fault.Syntax line column kind) → (t : Tree) → Spells source.now tokens.now t → ⊥ }
     // Where they nest too deep, they spell none within the limit.
     ensures deep { result ≡ Err (Fault.Limit LimitKind.Nesting) → (t : Tree) → SpellsWithin 200 source.now tokens.now t → ⊥ }
+    // And more constructs are begun at some place than may be open there.
+    ensures beyond { result ≡ Err (Fault.Limit LimitKind.Nesting) → NestsBeyond 200 source.now tokens.now }
     ensures faults { IfErr result IsParseFault }
 {
     match read(alloc, source, tokens, NESTING) {

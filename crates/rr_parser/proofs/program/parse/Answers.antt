@@ -1,5 +1,5 @@
 use Rattle.rr_parser.proofs.Sound.{program_sound}
-use Rattle.rr_parser.proofs.Exact.{refused_spells, deep_spells, same_fault}
+use Rattle.rr_parser.proofs.Exact.{refused_spells, deep_spells, deep_nests, same_fault}
 use Rattle.rr_parser.proofs.program.parse.Goals as goal
 
 pub returns-in-Ok-clause-found : goal.returns-in-Ok-clause-found
@@ -11,3 +11,6 @@ returns-in-Err-clause-refused c = λ line column kind is t s.
 
 pub returns-in-Err-clause-deep : goal.returns-in-Err-clause-deep
 returns-in-Err-clause-deep c = λ is. deep_spells 200 _ c.in-Err.refusal c.fault_of.result c.in-Err.ensures.tree c.fault_of.ensures (same_fault _ _ is)
+
+pub returns-in-Err-clause-beyond : goal.returns-in-Err-clause-beyond
+returns-in-Err-clause-beyond c = λ is. deep_nests 200 _ c.in-Err.refusal c.fault_of.result c.in-Err.ensures.tree c.fault_of.ensures (same_fault _ _ is)
