@@ -1,14 +1,13 @@
 -- Immediates and texts are alike to their copies.
-use Rattle.std.proofs.Common.{◌≡◌, ℕ, ◌+◌, ◌<◌, Bool, true, false, List, [], ◌∷◌, ◌++◌, length, Option, Some, None, Contains, slice_get, refl, ap, sym, ◌∙◌, subst, arith, suc, zero, add-zero}
-use Rattle.std.specs.List.{AllZip}
-use Rattle.rr_space.specs.Graph.{Graph, Name, Own, Published, Immediate, Value, Plain, At, Label, Object, text, Leads, Reaches, IsShareable, IsPart, HasUnder}
-use Rattle.rr_space.specs.Alike.{Alike, Matches, SameTriple, IsAt}
+use Rattle.std.proofs.Common.{◌≡◌, ℕ, ◌<◌, true, false, List, [], ◌∷◌, ◌++◌, length, Option, Some, None, slice_get, refl, ap, sym, ◌∙◌, subst, arith, suc, zero}
+use Rattle.rr_space.specs.Graph.{Graph, Name, Own, Immediate, Value, Plain, At, Label, Object, Leads, IsPart}
+use Rattle.rr_space.specs.Alike.{Alike, Matches, IsAt}
 use Rattle.rr_space.specs.Leaves.{text_object}
 use Rattle.std.specs.Option.{option_and_then}
-use Rattle.std.specs.Prelude.{IsTrue, map, slice_set}
+use Rattle.std.specs.Prelude.{IsTrue, slice_set}
 use Rattle.rr_space.specs.Moves.{IsCopy}
 use Rattle.rr_space.specs.Parts.{value_of}
-use Rattle.rr_space.specs.Tables.{Slot, Here, Below, Table, Packed, graph_of, space_graph, message_graph, resolve, resolve_slot, object_in}
+use Rattle.rr_space.specs.Tables.{Slot, Here, Table, Packed, space_graph, message_graph, resolve, resolve_slot, object_in}
 use Rattle.rr_space.specs.Leaves.{IsTextIn}
 use Rattle.rr_space.specs.declared.refer.Ref.{Ref}
 use Rattle.rr_space.specs.declared.refer.Ref.TheVariants as refs

@@ -1,7 +1,7 @@
 -- What a message has as a graph.
-use Rattle.std.specs.Prelude.{ℕ, Bool, true, List, [], ◌∷◌}
-use Rattle.rr_space.specs.Graph.{At, Own, Value, Object}
-use Rattle.rr_space.specs.Tables.{Packed, Below}
+use Rattle.std.specs.Prelude.{ℕ, Bool, true, [], ◌∷◌}
+use Rattle.rr_space.specs.Graph.{At, Own}
+use Rattle.rr_space.specs.Tables.{Packed}
 use Rattle.rr_space.specs.Parts.{value_of}
 use Rattle.rr_space.specs.Leaves.{text_object}
 use Rattle.rr_copy.specs.Messages.{is_immediate}

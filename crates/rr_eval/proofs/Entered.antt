@@ -1,5 +1,5 @@
 -- A node is evaluated by its rule.
-use Rattle.std.proofs.Common.{◌≡◌, ℕ, suc, sym, ap, ◌∙◌, refl, Option, Some, None, List, [], ◌∷◌, reverse, ℤ}
+use Rattle.std.proofs.Common.{◌≡◌, ℕ, suc, sym, ap, ◌∙◌, refl, Some, List, [], ◌∷◌, reverse, ℤ}
 use Rattle.rr_space.specs.Tables.{Table}
 use Rattle.rr_space.specs.declared.refer.Ref.{Ref}
 use Rattle.rr_space.specs.declared.refer.Ref.TheVariants.{Int}

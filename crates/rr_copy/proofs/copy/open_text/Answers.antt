@@ -1,4 +1,4 @@
-use Rattle.std.proofs.Common.{◌≡◌, ◌∙◌, ◌++◌, ◌∷◌, [], List, length, Some, slice_get, slice_set, ap, sym, subst, rules}
+use Rattle.std.proofs.Common.{◌≡◌, ◌∙◌, ◌++◌, ◌∷◌, [], List, length, Some, slice_get, slice_set, ap}
 use Rattle.rr_space.specs.Tables.{Here, Slot}
 use Rattle.rr_space.specs.Leaves.{text_object}
 use Rattle.rr_copy.proofs.Texts.{get_end, set_end}

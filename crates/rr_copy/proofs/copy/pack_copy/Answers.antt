@@ -1,4 +1,4 @@
-use Rattle.std.proofs.Common.{◌≡◌, rules, true, IsTrue}
+use Rattle.std.proofs.Common.{rules, IsTrue}
 use Rattle.rr_copy.specs.Messages.{is_immediate}
 use Rattle.rr_copy.proofs.Texts.{text_packed, immediate_packed}
 use Rattle.rr_copy.proofs.copy.pack_copy.Goals as goal

@@ -1,6 +1,5 @@
 -- Both operands take one step each.
-use Rattle.std.proofs.Common.{◌≡◌, suc, ◌-◌, sym, ap, ◌∙◌, arith, rules, FitsSigned, w64, to_z, of_z}
-use Rattle.std.proofs.lemmas.Int.{to_z-of_z}
+use Rattle.std.proofs.Common.{◌≡◌, suc, ◌-◌, sym, ap, ◌∙◌, arith, rules, w64, to_z, of_z}
 use Rattle.rr_eval.specs.declared.frame.Control.TheVariants.{Give}
 use Rattle.rr_eval.specs.Operators.{on_integers}
 use Rattle.rr_eval.specs.Frames.{rest}
