@@ -2,7 +2,7 @@
 
 use crate::command_line::line;
 use crate::execute::execute;
-use crate::rows::{REFUSED, RUN, Row};
+use crate::rows::{REFUSED, RUN};
 use crate::words::{Line, LineFault};
 use std::alloc::{AllocError, Global};
 use std::io;
@@ -34,34 +34,97 @@ fn text_of(bytes: &[u8]) -> &str {
     std::str::from_utf8(bytes).unwrap_or("(no text)")
 }
 
-fn check_row(rt: &impl Abort, alloc: Global, row: Row) {
-    let name = row.name;
-    let left = run_script(alloc, row.script);
-    assert_eq!(rt;
-        text_of(left.output.as_slice()),
-        row.output,
-        "output of {name}"
-    );
-    assert_eq!(rt;
-        text_of(left.errors.as_slice()),
-        row.errors,
-        "error line of {name}"
-    );
-    assert_eq!(rt; left.status, row.status, "status of {name}");
-}
-
-#[test]
-fn scripts_print_what_is_wanted(rt: HostRuntime) {
-    for row in RUN {
-        check_row(&rt, rt.alloc(), row);
+/// What `^` and a letter stand for in a row.
+fn meant_by(letter: u8) -> &'static [u8] {
+    match letter {
+        b'n' => b"\n".as_slice(),
+        b'r' => b"\r".as_slice(),
+        b't' => b"\t".as_slice(),
+        b'm' => b"\xEF\xBB\xBF".as_slice(),
+        b'e' => b"\x1B".as_slice(),
+        b'p' => b"|".as_slice(),
+        b'z' => b"\x01".as_slice(),
+        b'd' => b"\x7F".as_slice(),
+        _ => b"^".as_slice(),
     }
 }
 
-#[test]
-fn refusals_name_their_place(rt: HostRuntime) {
-    for row in REFUSED {
-        check_row(&rt, rt.alloc(), row);
+/// The bytes that a row has for a field.
+fn field(alloc: Global, text: &str) -> Result<Vec<u8>, AllocError> {
+    let mut bytes = Vec::new(alloc);
+    let mut rest = text.as_bytes();
+    while let [byte, more @ ..] = rest {
+        rest = more;
+        if *byte != b'^' {
+            bytes.push(*byte)?;
+        } else if let [letter, tail @ ..] = more {
+            bytes.extend_from_slice(meant_by(*letter))?;
+            rest = tail;
+        }
     }
+    Ok(bytes)
+}
+
+/// A script and what is wanted of it.
+#[derive(Drop)]
+struct Row<'a> {
+    name: &'a str,
+    script: Vec<u8>,
+    output: Vec<u8>,
+    errors: Vec<u8>,
+    status: &'a str,
+}
+
+fn row_of(alloc: Global, line: &str) -> Result<Row<'_>, Fail> {
+    let (name, rest) = line.split_once("|").ok_or("a row without a script")?;
+    let (script, rest) = rest.split_once("|").ok_or("a row without an output")?;
+    let (output, rest) = rest.split_once("|").ok_or("a row without an error line")?;
+    let (errors, status) = rest.split_once("|").ok_or("a row without a status")?;
+    Ok(Row {
+        name,
+        script: field(alloc, script)?,
+        output: field(alloc, output)?,
+        errors: field(alloc, errors)?,
+        status,
+    })
+}
+
+fn status_of(text: &str) -> u8 {
+    match text {
+        "0" => 0,
+        "1" => 1,
+        _ => 3,
+    }
+}
+
+fn check_rows(rt: &impl Abort, alloc: Global, rows: &str) -> Result<(), Fail> {
+    for line in rows.lines() {
+        let row = row_of(alloc, line)?;
+        let name = row.name;
+        let left = run_script(alloc, row.script.as_slice());
+        assert_eq!(rt;
+            text_of(left.output.as_slice()),
+            text_of(row.output.as_slice()),
+            "output of {name}"
+        );
+        assert_eq!(rt;
+            text_of(left.errors.as_slice()),
+            text_of(row.errors.as_slice()),
+            "error line of {name}"
+        );
+        assert_eq!(rt; left.status, status_of(row.status), "status of {name}");
+    }
+    Ok(())
+}
+
+#[test]
+fn scripts_print_what_is_wanted(rt: HostRuntime) -> Result<(), Fail> {
+    check_rows(&rt, rt.alloc(), RUN)
+}
+
+#[test]
+fn refusals_name_their_place(rt: HostRuntime) -> Result<(), Fail> {
+    check_rows(&rt, rt.alloc(), REFUSED)
 }
 
 fn repeated(
@@ -119,10 +182,11 @@ fn a_long_chain_and_a_long_source(rt: HostRuntime) -> Result<(), Fail> {
 }
 
 #[test]
-fn every_beginning_is_answered(rt: HostRuntime) {
-    for row in RUN {
+fn every_beginning_is_answered(rt: HostRuntime) -> Result<(), Fail> {
+    for line in RUN.lines() {
+        let row = row_of(rt.alloc(), line)?;
+        let name = row.name;
         for end in 0..row.script.len() {
-            let name = row.name;
             let status = run_script(rt.alloc(), &row.script[..end]).status;
             assert!(rt;
                 status == 0 || status == 1 || status == 3,
@@ -130,23 +194,30 @@ fn every_beginning_is_answered(rt: HostRuntime) {
             );
         }
     }
+    Ok(())
+}
+
+fn check_broken(rt: &impl Abort, alloc: Global, row: &Row<'_>, place: usize) -> Result<(), Fail> {
+    let mut script = row.script.as_slice().to_vec(alloc)?;
+    if let Some(byte) = script.get_mut(place) {
+        *byte = 0xFF;
+    }
+    let refused = run_script(alloc, script.as_slice());
+    let name = row.name;
+    assert_eq!(rt; refused.status, 3, "{name} broken at {place}");
+    assert!(rt;
+        text_of(refused.errors.as_slice()).ends_with(": encoding\n"),
+        "{name} broken at {place}"
+    );
+    Ok(())
 }
 
 #[test]
 fn a_broken_byte_is_refused_at_its_place(rt: HostRuntime) -> Result<(), Fail> {
-    for row in RUN {
+    for line in RUN.lines() {
+        let row = row_of(rt.alloc(), line)?;
         for place in 0..row.script.len() {
-            let mut script = row.script.to_vec(rt.alloc())?;
-            if let Some(byte) = script.get_mut(place) {
-                *byte = 0xFF;
-            }
-            let refused = run_script(rt.alloc(), script.as_slice());
-            let name = row.name;
-            assert_eq!(rt; refused.status, 3, "{name} broken at {place}");
-            assert!(rt;
-                text_of(refused.errors.as_slice()).ends_with(": encoding\n"),
-                "{name} broken at {place}"
-            );
+            check_broken(&rt, rt.alloc(), &row, place)?;
         }
     }
     Ok(())
