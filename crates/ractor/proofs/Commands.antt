@@ -1,19 +1,20 @@
 -- Lemmas on commands that are built up step by step.
-use Rattle.std.proofs.Common.{◌≡◌, ◌||◌, ap, ap₂, ◌∙◌, false, Bool}
+use Rattle.std.proofs.Common.{◌≡◌, ◌||◌, ap, ap₂, ◌∙◌, false, Bool, subst}
 use Rattle.clap.specs.Words.{AddsArg, AddsSubcommand, App, Rule, rule_of, with_rule, with_subcommand}
 use Rattle.clap.specs.declared.builder.arg.Arg.{Arg}
 use Rattle.clap.specs.declared.builder.command.Command.{Command}
-use Rattle.ractor.specs.Grammar.{IsCommandOf, ReadsBy, Reads, grammar}
-use Rattle.std.proofs.Common.{sym, List, true, Some, None, option_map, refl, Result, IfOk}
-use Rattle.std.proofs.lemmas.Result.{IfOk-weaker}
+use Rattle.ractor.specs.Grammar.{IsCommandOf, IsRefused, LacksBy, ReadsBy, Reads, grammar}
+use Rattle.std.proofs.Common.{sym, List, true, Some, None, option_map, refl, Result, IfOk, IfErr}
+use Rattle.std.proofs.lemmas.Result.{IfOk-weaker, IfErr-weaker}
 use Rattle.clap.proofs.WalkLemmas.{first_value-rows}
 use Rattle.clap.proofs.OnLiterals.{clap_on_literals}
-use Rattle.clap.specs.Words.{Row, first_value, rows_of, found_of, is_simple, subcommand_of, subcommand_name_of, subcommand_rows_of}
+use Rattle.clap.specs.Words.{Row, first_of, first_value, rows_of, found_of, is_simple, subcommand_of, subcommand_name_of, subcommand_rows_of}
 use Rattle.std.specs.Box.{box_value}
 use Rattle.clap.specs.declared.parser.matches.ArgMatches.{ArgMatches}
 use Rattle.clap.specs.declared.parser.matches.ArgMatches.TheViews.{out-ArgMatches, out-SubCommand}
 use Rattle.clap.specs.declared.parser.matches.Found.{Found}
 use Rattle.ractor.specs.declared.words.LineFault.{LineFault}
+use Rattle.ractor.specs.declared.words.LineFault.TheVariants.{Words, Memory, NoCommand, Missing}
 use Rattle.std.proofs.Common.{codes, Option}
 use Rattle.clap.specs.Words.{Text}
 use Rattle.ractor.specs.declared.words.Line.{Line}
@@ -59,3 +60,16 @@ simple_grammar = refl
 pub words_read : (a b : App) (words : List Text) (o : Option (Text × List Row)) (x : Option (Text × List Row)) → o ≡ subcommand_of a words → a ≡ b → o ≡ x
     → subcommand_of b words ≡ x
 words_read a b words o x p e q = sym (p ∙ ap (λ (k : App). subcommand_of k words) e) ∙ q
+
+-- a value that lacks in what was found lacks in the words
+lacks : (words : List Text) (found : Found) (e : LineFault) → subcommand_of grammar words ≡ Some (codes "run", rows_of found) → LacksBy (first_value found) e
+    → IsRefused words e
+lacks words found (Missing name) is h = (rows_of found, is, sym (first_value-rows found (codes "file")) ∙ h)
+lacks words found (Words error) is h = absurd h
+lacks words found (Memory error) is h = absurd h
+lacks words found NoCommand is h = absurd h
+
+-- the refusal of a command whose name is known
+pub line_lacks : (words : List Text) (name : Text) (found : Found) (r : Result Line LineFault) → subcommand_of grammar words ≡ Some (name, rows_of found)
+    → name ≡ codes "run" → IfErr r (λ e. LacksBy (first_value found) e) → IfErr r (λ e. IsRefused words e)
+line_lacks words name found r is same h = IfErr-weaker r _ _ (λ e given. lacks words found e (subst (λ (n : Text). subcommand_of grammar words ≡ Some (n, rows_of found)) same is) given) h

@@ -1,8 +1,8 @@
 //! Reading the command line.
 
-ghost use Rattle.std.specs.Prelude.{IfOk, codes, map};
-ghost use Rattle.clap.specs.Words.{first_value, found_of, subcommand_of};
-ghost use Rattle.ractor.specs.Grammar.{grammar, run_grammar, IsCommandOf, Reads, ReadsBy};
+ghost use Rattle.std.specs.Prelude.{IfErr, IfOk, List, codes, map};
+ghost use Rattle.clap.specs.Words.{Text, fault_of, first_value, found_of, subcommand_of, HasKind};
+ghost use Rattle.ractor.specs.Grammar.{grammar, run_grammar, IsCommandOf, IsRefused, LacksBy, Reads, ReadsBy};
 
 use crate::words::{Line, LineFault};
 use clap::error::ErrorKind;
@@ -27,7 +27,8 @@ fn command<'a>(alloc: Global) -> Result<Command<'a>, AllocError>
 }
 
 fn run_line<'a>(matches: &ArgMatches<'a>) -> Result<Line<'a>, LineFault>
-    ensures { IfOk result (λ l. ReadsBy (codes "run") (first_value (found_of matches.now)) l) }
+    ensures read { IfOk result (λ l. ReadsBy (codes "run") (first_value (found_of matches.now)) l) }
+    ensures lacks { IfErr result (λ e. LacksBy (first_value (found_of matches.now)) e) }
 {
     let Some(file) = matches.get_str("file") else {
         return Err(LineFault::Missing("file"));
@@ -36,7 +37,9 @@ fn run_line<'a>(matches: &ArgMatches<'a>) -> Result<Line<'a>, LineFault>
 }
 
 // `clap` answers want of memory as an error of its own.
-fn refused(error: clap::Error) -> LineFault {
+fn refused(error: clap::Error) -> LineFault
+    ensures { (words : List Text) → HasKind (fault_of grammar words) error → IsRefused words result }
+{
     match error.kind() {
         ErrorKind::OutOfMemory => LineFault::Memory(AllocError),
         _ => LineFault::Words(error),
@@ -44,11 +47,16 @@ fn refused(error: clap::Error) -> LineFault {
 }
 
 /// Reads the words after the program's name. `Ok` has the values that the words give the command, all of the required
-/// ones among them. `Memory` is want of memory, `Words` any other refusal of `clap`, and a wish for help.
+/// ones among them. `Memory` is want of memory, `Words` any other refusal of `clap`, and a wish for help; `NoCommand` comes
+/// where the words name no command, and `Missing` where a required value lacks.
 pub fn line<'a>(alloc: Global, words: &'a [&'a str]) -> Result<Line<'a>, LineFault>
-    ensures { IfOk result (λ l. Reads (subcommand_of grammar (map (λ w. w.now) words.entry.now)) l) }
+    ensures read { IfOk result (λ l. Reads (subcommand_of grammar (map (λ w. w.now) words.entry.now)) l) }
+    ensures refused { IfErr result (λ e. IsRefused (map (λ w. w.now) words.entry.now) e) }
 {
-    let matches = match command(alloc)?.try_get_matches_from(words) {
+    let Ok(command) = command(alloc) else {
+        return Err(LineFault::Memory(AllocError));
+    };
+    let matches = match command.try_get_matches_from(words) {
         Ok(matches) => matches,
         Err(error) => return Err(refused(error)),
     };

@@ -1,10 +1,13 @@
 //! What a command line does, with the file's bytes in memory.
 
+ghost use Rattle.std.specs.Prelude.{◌≡◌};
+ghost use Rattle.ractor.specs.Statuses.{status_of, status_of_limit, Ends};
+
 use crate::words::Line;
 use rr_base::{Fault, LimitKind};
-use rr_eval::{Counted, Outcome, run_source};
+use rr_eval::{Outcome, run_source_to};
 use std::alloc::Global;
-use std::io::Write;
+use std::io::{self, Write};
 
 /// Does what `line` asks for on the `bytes` of its file. What the script prints goes to `output`, one line about what went
 /// wrong to `errors`, and the exit status is answered:
@@ -24,7 +27,10 @@ pub fn execute<O: Write + Send, E: Write>(
     output: &mut O,
     errors: &mut E,
     _trace: &mut Vec<u8>,
-) -> u8 {
+) -> u8
+    ensures ends { Ends (O.contents output.old) (O.contents output.new) bytes.now result }
+    ensures trace { _trace.new.items ≡ _trace.old.items }
+{
     match line {
         Line::Run { .. } => run_file(alloc, bytes, output, errors),
     }
@@ -35,46 +41,68 @@ fn run_file<O: Write + Send, E: Write>(
     bytes: &[u8],
     output: &mut O,
     errors: &mut E,
-) -> u8 {
-    let mut counted = Counted::new(output);
-    let ended = run_source(alloc, bytes, &mut counted);
-    let _ = counted.into_inner();
+) -> u8
+    ensures { Ends (O.contents output.old) (O.contents output.new) bytes.now result }
+{
+    let ended = run_source_to(alloc, bytes, output);
+    tell(errors, &ended);
+    status(&ended)
+}
+
+/// The exit status for each way in which a run ends.
+fn status(ended: &Result<Outcome, Fault>) -> u8
+    ensures { result ≡ status_of ended.now }
+{
     match ended {
         Ok(Outcome::Done) => 0,
-        Ok(Outcome::Raised(text)) => {
-            let _ = errors.write_all(text.as_slice());
-            report(errors, 1, "")
-        }
-        Ok(Outcome::StepLimit) => report(errors, 6, "ractor: step limit"),
-        Ok(Outcome::OutputFailed) => report(errors, 4, "ractor: file"),
-        Err(fault) => report_fault(errors, &fault),
+        Ok(Outcome::Raised(_)) => 1,
+        Ok(Outcome::OutputFailed) => 4,
+        Ok(Outcome::StepLimit) => 6,
+        Err(Fault::Syntax { .. }) => 3,
+        Err(Fault::Limit(kind)) => status_for_limit(*kind),
+        Err(_) => 5,
     }
 }
 
-// The line and the status of a fault. The faults that a script meets as exceptions do not come here.
-fn report_fault<E: Write>(errors: &mut E, fault: &Fault) -> u8 {
+fn status_for_limit(kind: LimitKind) -> u8
+    ensures { result ≡ status_of_limit kind }
+{
+    match kind {
+        LimitKind::Source | LimitKind::Nesting => 3,
+        _ => 5,
+    }
+}
+
+// The line about what went wrong; none where nothing did.
+fn tell<E: Write>(errors: &mut E, ended: &Result<Outcome, Fault>) {
+    let _ = match ended {
+        Ok(Outcome::Done) => Ok(()),
+        Ok(Outcome::Raised(told)) => tell_raised(errors, told.as_slice()),
+        Ok(Outcome::StepLimit) => writeln!(errors, "ractor: step limit"),
+        Ok(Outcome::OutputFailed) => writeln!(errors, "ractor: file"),
+        Err(fault) => tell_fault(errors, fault),
+    };
+}
+
+fn tell_raised<E: Write>(errors: &mut E, told: &[u8]) -> io::Result<()> {
+    errors.write_all(told)?;
+    writeln!(errors)
+}
+
+// The faults that a script meets as exceptions do not come here.
+fn tell_fault<E: Write>(errors: &mut E, fault: &Fault) -> io::Result<()> {
     match fault {
         Fault::Syntax { line, column, kind } => {
             let name = kind.name();
-            let _ = writeln!(
+            writeln!(
                 errors,
                 "ractor: syntax error, line {line}, column {column}: {name}"
-            );
-            3
+            )
         }
         Fault::Limit(kind) => {
             let name = kind.name();
-            let _ = writeln!(errors, "ractor: limit {name}");
-            match kind {
-                LimitKind::Source | LimitKind::Nesting => 3,
-                _ => 5,
-            }
+            writeln!(errors, "ractor: limit {name}")
         }
-        _ => report(errors, 5, "ractor: memory"),
+        _ => writeln!(errors, "ractor: memory"),
     }
-}
-
-fn report<E: Write>(errors: &mut E, status: u8, text: &str) -> u8 {
-    let _ = writeln!(errors, "{text}");
-    status
 }

@@ -20,4 +20,4 @@ pub use engine::Turn;
 pub use integer::{division_rounds_down, floor_div, floor_mod};
 pub use machine::{Machine, rules_hold};
 pub use problem::{Answer, Problem, ValueClass};
-pub use run::{Outcome, run_source, run_source_within};
+pub use run::{Outcome, run_source, run_source_to, run_source_within};

@@ -1,12 +1,12 @@
 //! A script from its bytes to its printed bytes.
 
-ghost use Rattle.std.specs.Prelude.{◌≡◌, ◌+◌, ◌<◌, ◌^◌};
+ghost use Rattle.std.specs.Prelude.{ℕ, ◌≡◌, ◌+◌, ◌<◌, ◌^◌};
 ghost use Rattle.rr_tree.specs.Tree.{tree_at};
 ghost use Rattle.rr_eval.specs.Counted.{failures, holds};
 ghost use Rattle.rr_eval.specs.Whole.{context_of};
 ghost use Rattle.rr_eval.specs.Runs.{Reads, Runs, Meets, script_meaning};
 
-use crate::counted::Counted;
+use crate::counted::{Counted, put};
 use crate::engine::Turn;
 use crate::machine::Machine;
 use crate::report::report;
@@ -50,10 +50,11 @@ fn run_program<W: Write>(
     alloc: Global,
     program: &Program,
     limits: Limits,
-    output: &mut Counted<W>,
+    output: &mut W,
+    failed: &mut u64,
 ) -> Result<Outcome, Fault>
-    requires { failures output.old + 1 < 2 ^ 64 }
-    ensures { Runs (holds W.contents output.old) (holds W.contents output.new) (failures output.old) (failures output.new) (context_of program.now) (script_meaning (context_of program.now) (tree_at program.now.nodes.items program.now.root) limits.steps limits.slots) result }
+    requires { failed.old + 1 < 2 ^ 64 }
+    ensures { Runs (W.contents output.old) (W.contents output.new) failed.old failed.new (context_of program.now) (script_meaning (context_of program.now) (tree_at program.now.nodes.items program.now.root) limits.steps limits.slots) result }
 {
     let mut space = Space::new(alloc, RactorNo(1), limits.slots);
     let mut machine = match Machine::new(alloc, program, limits.steps) {
@@ -64,7 +65,7 @@ fn run_program<W: Write>(
         match machine.turn(program, &mut space, BUDGET) {
             Ok(Turn::More) => {}
             Ok(Turn::Print(piece)) => {
-                if !output.put(piece.as_slice()) {
+                if !put(output, failed, piece.as_slice()) {
                     return Ok(Outcome::OutputFailed);
                 }
             }
@@ -81,6 +82,23 @@ fn run_program<W: Write>(
     }
 }
 
+/// Runs a script, and adds to `failed` the writes that failed.
+fn run_within<W: Write>(
+    alloc: Global,
+    limits: Limits,
+    source: &[u8],
+    output: &mut W,
+    failed: &mut u64,
+) -> Result<Outcome, Fault>
+    requires { failed.old + 1 < 2 ^ 64 }
+    ensures { Meets (W.contents output.old) (W.contents output.new) failed.old failed.new source.now limits.steps limits.slots result }
+{
+    match read_program(alloc, source) {
+        Ok(program) => run_program(alloc, &program, limits, output, failed),
+        Err(fault) => Err(fault),
+    }
+}
+
 /// Runs a script within limits, of which it takes the steps and the slots.
 ///
 /// The faults are `Memory`, `Syntax` and, by the limit that was passed, `Limit`: of `Source`, `Nesting` or `Slots`.
@@ -93,10 +111,13 @@ pub fn run_source_within<W: Write>(
     requires { failures output.old + 1 < 2 ^ 64 }
     ensures { Meets (holds W.contents output.old) (holds W.contents output.new) (failures output.old) (failures output.new) source.now limits.steps limits.slots result }
 {
-    match read_program(alloc, source) {
-        Ok(program) => run_program(alloc, &program, limits, output),
-        Err(fault) => Err(fault),
-    }
+    run_within(
+        alloc,
+        limits,
+        source,
+        &mut output.writer,
+        &mut output.failed,
+    )
 }
 
 /// Runs a script within the limits that hold where nothing else is asked for.
@@ -109,4 +130,16 @@ pub fn run_source<W: Write>(
     ensures { Meets (holds W.contents output.old) (holds W.contents output.new) (failures output.old) (failures output.new) source.now 100000000 4294967295 result }
 {
     run_source_within(alloc, Limits::DEFAULT, source, output)
+}
+
+/// `run_source` on a writer that is lent, where nobody asks how many writes failed.
+pub fn run_source_to<W: Write>(
+    alloc: Global,
+    source: &[u8],
+    output: &mut W,
+) -> Result<Outcome, Fault>
+    ensures { (failed : ℕ) × Meets (W.contents output.old) (W.contents output.new) 0 failed source.now 100000000 4294967295 result }
+{
+    let mut failed = 0;
+    run_within(alloc, Limits::DEFAULT, source, output, &mut failed)
 }

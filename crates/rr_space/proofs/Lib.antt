@@ -1,6 +1,8 @@
 pub mod Within
 pub mod Leaves
 pub mod Copies
+pub mod Examples
+pub mod Changes
 pub mod Renaming
 pub mod Inside
 pub mod Frames

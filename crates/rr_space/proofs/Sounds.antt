@@ -107,7 +107,7 @@ finds (x ∷ xs) c os has = by (nat_eq c x.0) refl (finds xs c os)
         (λ e. let z : true ≡ false = sym (eq-eqb c x.0 (sym (ap (λ (y : ℕ × List Object). y.0) e))) ∙ q in absurd (let v : ⊥ = cc in v))
         (λ r. let f = rest r in (f.0, ap (λ b. cond b (Some x.1) (cluster_at xs c)) q ∙ f.1)) (first_or x xs (c, os) has)
 
-gets : {A : Type 0} (xs : List A) (p : ℕ) → p < length xs → (x : A) × (slice_get xs p ≡ Some x)
+pub gets : {A : Type 0} (xs : List A) (p : ℕ) → p < length xs → (x : A) × (slice_get xs p ≡ Some x)
 gets [] p lt = absurd (let w : ⊥ = omega (arith, lt) in w)
 gets (x ∷ xs) zero lt = (x, refl)
 gets (x ∷ xs) (suc p) lt = gets xs p (omega (arith, lt))
@@ -121,7 +121,7 @@ raw_in slots below i o e = by (slice_get slots i) refl
     by (Some (Here raw)) q = (raw, q, same_Some _ o (sym (ap (option_and_then (object_in slots)) q) ∙ e))
     by (Some (Led c p)) q = absurd (none-some o (sym (ap (option_and_then (object_in slots)) q) ∙ e))
 
-resolved_back : (slots : List Slot) (ts : List (Label × Value)) (l : Label) (x : Value) → Contains (map (resolve_triple slots) ts) (l, x) → (y : Value) × Contains ts (l, y) × (resolve slots y ≡ x)
+pub resolved_back : (slots : List Slot) (ts : List (Label × Value)) (l : Label) (x : Value) → Contains (map (resolve_triple slots) ts) (l, x) → (y : Value) × Contains ts (l, y) × (resolve slots y ≡ x)
 resolved_back slots ts l x has =
     let m = contains_map_back (resolve_triple slots) ts (l, x) has in
     (m.0.1, subst (λ k. Contains ts (k, m.0.1)) (ap (λ (t : Label × Value). t.0) m.2) m.1, ap (λ (t : Label × Value). t.1) m.2)

@@ -16,6 +16,8 @@ pub mod Owners
 pub mod Inner
 pub mod Steps
 pub mod Cases
+pub mod Examples
+pub mod Changes
 pub mod Sound
 pub mod Marks
 pub mod Leaves

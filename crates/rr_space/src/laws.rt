@@ -4,6 +4,8 @@ ghost use Rattle.rr_space.specs.Copying.{LeavesSuffice, CopiesAreAlike};
 ghost use Rattle.rr_space.specs.Insides.{AlikeInside};
 ghost use Rattle.rr_space.specs.Cases.{CopiesAreAlikeInTheWhole, EmptyIsRead};
 ghost use Rattle.rr_space.specs.Inner.{SpacesAreInside};
+ghost use Rattle.rr_space.specs.Changes.{ClosedStaysInside, FrozenIsShareable, PromotedIsPart, EmptiedIsNotShareable};
+ghost use Rattle.rr_space.specs.Examples.{Examples};
 ghost use Rattle.rr_space.specs.Owners.{ReadingsAreApart, RootsAreLocal};
 ghost use Rattle.rr_space.specs.Marks.{MarksDecide};
 ghost use Rattle.rr_space.specs.Moves.{ForwardedIsExact, KeepingAddsUp, ForwardsKeep, MoreKeeps};
@@ -79,4 +81,18 @@ pub fn shown_by_forwards()
     ensures forwards { ForwardsKeep }
     ensures more { MoreKeeps }
     ensures adds_up { KeepingAddsUp }
+{}
+
+/// What the definitions say of small graphs: cycles, shells, sharing.
+pub fn shown_by_examples()
+    ensures { Examples }
+{}
+
+/// A closed message leads to itself and to published objects; what was frozen throughout is shareable; where what is
+/// shareable is published, the rest is the part; and what was emptied is not shareable.
+pub fn shown_by_changes()
+    ensures closed { ClosedStaysInside }
+    ensures frozen { FrozenIsShareable }
+    ensures promoted { PromotedIsPart }
+    ensures emptied { EmptiedIsNotShareable }
 {}
