@@ -28,11 +28,13 @@ an array that leads to itself|f0|0|yes
 a long way round|f3 t f0 f2 f1|0 2 3|yes
 a way that ends at an open text|f3 t f1 f2|0 1 2 3|no";
 
-fn new_node(alloc: Global, word: &str) -> Result<Node, AllocError> {
+/// A text, or an array that leads to nothing yet.
+fn begin(alloc: Global, space: &mut Space, word: &str) -> Result<(), Fail> {
     match word.as_bytes() {
-        [b't' | b'T', ..] => Ok(Node::Text(b"a".to_vec(alloc)?)),
-        _ => Ok(Node::Array(Vec::new(alloc))),
-    }
+        [b't' | b'T', ..] => space.alloc(Node::Text(b"a".to_vec(alloc)?))?,
+        _ => space.alloc(Node::Array(Vec::new(alloc)))?,
+    };
+    Ok(())
 }
 
 /// Adds what the array of a slot leads to.
@@ -60,17 +62,31 @@ fn finish(space: &mut Space, slot: u32, word: &str) {
     }
 }
 
+fn begin_all(alloc: Global, space: &mut Space, slots: &str) -> Result<(), Fail> {
+    for word in slots.split(" ") {
+        begin(alloc, space, word)?;
+    }
+    Ok(())
+}
+
+fn link_all(space: &mut Space, slots: &str) -> Result<(), Fail> {
+    for (slot, word) in (0u32..10).zip(slots.split(" ")) {
+        link(space, slot, word)?;
+    }
+    Ok(())
+}
+
+fn finish_all(space: &mut Space, slots: &str) {
+    for (slot, word) in (0u32..10).zip(slots.split(" ")) {
+        finish(space, slot, word);
+    }
+}
+
 fn space_of(alloc: Global, slots: &str) -> Result<Space, Fail> {
     let mut space = Space::new(alloc, RactorNo(1), 10);
-    for word in slots.split(" ") {
-        space.alloc(new_node(alloc, word)?)?;
-    }
-    for (slot, word) in (0u32..10).zip(slots.split(" ")) {
-        link(&mut space, slot, word)?;
-    }
-    for (slot, word) in (0u32..10).zip(slots.split(" ")) {
-        finish(&mut space, slot, word);
-    }
+    begin_all(alloc, &mut space, slots)?;
+    link_all(&mut space, slots)?;
+    finish_all(&mut space, slots);
     Ok(space)
 }
 
@@ -122,7 +138,7 @@ fn is_shareable(space: &Space, found: &[bool]) -> bool {
 /// Whether the marks are those of the slots in the list.
 fn are_listed(found: &[bool], list: &str) -> bool {
     (0..10u8).zip(found.iter()).all(|(slot, mark)| {
-        let is_listed = list.bytes().any(|byte| byte == b'0' + slot);
+        let is_listed = list.bytes().any(|byte| byte == slot.wrapping_add(b'0'));
         *mark == is_listed
     })
 }
