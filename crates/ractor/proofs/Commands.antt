@@ -8,7 +8,7 @@ use Rattle.std.proofs.Common.{sym, List, true, Some, None, option_map, refl, Res
 use Rattle.std.proofs.lemmas.Result.{IfOk-weaker, IfErr-weaker}
 use Rattle.clap.proofs.WalkLemmas.{first_value-rows}
 use Rattle.clap.proofs.OnLiterals.{clap_on_literals}
-use Rattle.clap.specs.Words.{Row, first_of, first_value, rows_of, found_of, is_simple, subcommand_of, subcommand_name_of, subcommand_rows_of}
+use Rattle.clap.specs.Words.{Row, first_value, rows_of, found_of, is_simple, subcommand_of, subcommand_name_of, subcommand_rows_of}
 use Rattle.std.specs.Box.{box_value}
 use Rattle.clap.specs.declared.parser.matches.ArgMatches.{ArgMatches}
 use Rattle.clap.specs.declared.parser.matches.ArgMatches.TheViews.{out-ArgMatches, out-SubCommand}
@@ -64,7 +64,7 @@ words_read a b words o x p e q = sym (p ∙ ap (λ (k : App). subcommand_of k wo
 -- a value that lacks in what was found lacks in the words
 lacks : (words : List Text) (found : Found) (e : LineFault) → subcommand_of grammar words ≡ Some (codes "run", rows_of found) → LacksBy (first_value found) e
     → IsRefused words e
-lacks words found (Missing name) is h = (rows_of found, is, sym (first_value-rows found (codes "file")) ∙ h)
+lacks words found (Missing name) is h = (rows_of found, is, (h.0, sym (first_value-rows found (codes "file")) ∙ h.1))
 lacks words found (Words error) is h = absurd h
 lacks words found (Memory error) is h = absurd h
 lacks words found NoCommand is h = absurd h

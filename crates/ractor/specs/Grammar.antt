@@ -35,9 +35,9 @@ abbrev pub Reads : Option (Text × List Row) → Line → Type 0
 Reads None l = ⊥
 Reads (Some (name, rows)) l = ReadsBy name (λ id. first_of id rows) l
 
--- a value that the command needs was not given
+-- the file that the command needs was not given
 abbrev pub LacksBy : (Text → Option Text) → LineFault → Type 0
-LacksBy given (Missing name) = given (codes "file") ≡ None
+LacksBy given (Missing name) = (name.now ≡ codes "file") × (given (codes "file") ≡ None)
 LacksBy given _ = ⊥
 
 -- Why words give no line: the commands refuse them, with a kind of error that is among those of their rules; they name no command
@@ -46,4 +46,4 @@ abbrev pub IsRefused : List Text → LineFault → Type 0
 IsRefused words (Words error) = IsAmong (kind_of error) (fault_of grammar words)
 IsRefused words (Memory error) = Unit {0}
 IsRefused words NoCommand = (rows : List Row) → subcommand_of grammar words ≡ Some (codes "run", rows) → ⊥
-IsRefused words (Missing name) = (rows : List Row) × (subcommand_of grammar words ≡ Some (codes "run", rows)) × (first_of (codes "file") rows ≡ None)
+IsRefused words (Missing name) = (rows : List Row) × (subcommand_of grammar words ≡ Some (codes "run", rows)) × LacksBy (λ id. first_of id rows) (Missing name)
