@@ -1,61 +1,68 @@
 -- The rounds of a select.
-use Rattle.std.specs.Prelude.{ℕ, ◌+◌, nat_lt, Bool, if◌then◌else◌, List, [], ◌∷◌}
+use Rattle.std.specs.Prelude.{ℕ, ◌≡◌, ◌+◌, ◌%◌, Bool, if◌then◌else◌, List, [], ◌∷◌, ◌++◌, length, map, get_or, Option, Some, None}
+use Rattle.std.specs.List.{range_with_len}
+use Rattle.std.specs.Option.{option_or}
 use Rattle.rr_select.specs.declared.round.Act.{Act}
 use Rattle.rr_select.specs.declared.round.Act.TheVariants.{Try, Offer, Sleep, Withdraw, End}
 use Rattle.rr_select.specs.declared.round.Answer.{Answer}
 use Rattle.rr_select.specs.declared.round.Answer.TheVariants as answer
+use Rattle.rr_select.specs.declared.round.Ending.{Ending}
 use Rattle.rr_select.specs.declared.round.Ending.TheVariants as ending
 
--- how many entries there are, whether there is an own value, and the next act
+-- One round: the entries are tried in order; then the own value, where there is one, is shown, and taken back after a sleep.
+unfoldable pub round : ℕ → Bool → List Act
+round count own = map Try (range_with_len 0 count) ++ (if own then Offer ∷ Sleep ∷ Withdraw ∷ [] else Sleep ∷ [])
+
+-- Round after round, as long as nothing ends the select: the act after so many others.
+unfoldable pub asked : ℕ → Bool → ℕ → Act
+asked count own i = get_or (round count own) (i % length (round count own)) Sleep
+
+-- What an answer ends the select with: an entry gives a value, is closed or holds a fault, or the own value cannot be shown
+-- or was taken. Any other answer ends nothing.
+abbrev pub ends : Act → Answer → Option Ending
+ends (Try place) answer.Gave = Some (ending.Got place)
+ends (Try place) answer.Closed = Some (ending.Closed place)
+ends (Try place) answer.Failed = Some (ending.Failed place)
+ends Offer answer.Refused = Some ending.Refused
+ends Withdraw answer.Taken = Some ending.Yielded
+ends _ _ = None
+
+-- the first of the answers that ends the select, the first of them answering the i-th act
+unfoldable pub first_end : ℕ → Bool → ℕ → List Answer → Option Ending
+first_end count own i [] = None
+first_end count own i (a ∷ rest) = option_or (ends (asked count own i) a) (first_end count own (i + 1) rest)
+
+-- the end, where there is one, and else the act
+abbrev pub end_or : Option Ending → Act → Act
+end_or None act = act
+end_or (Some e) act = End e
+
+-- What is to be done after these answers, from the first on.
+unfoldable pub act_after : ℕ → Bool → List Answer → Act
+act_after count own answers = end_or (first_end count own 0 answers) (asked count own (length answers))
+
+-- a select: how many entries there are, whether there is an own value, and the next act
 pub record Rounds : Type 0 where
   pub count : ℕ
   pub own : Bool
   pub act : Act
 
--- the entries are tried in order; when all were, the own value is offered, where there is one, and else it sleeps
-abbrev pub entry_or_own : ℕ → ℕ → Bool → Act
-entry_or_own tried count own = if nat_lt tried count then Try tried else (if own then Offer else Sleep)
+-- the select is where these answers lead
+abbrev pub IsAfter : Rounds → List Answer → Type 0
+IsAfter r answers = r.act ≡ act_after r.count r.own answers
 
--- the act after an act and what came of it
-abbrev pub decided : ℕ → Bool → Act → Answer → Act
-decided count own (Try place) answer.Gave = End (ending.Got place)
-decided count own (Try place) answer.Closed = End (ending.Closed place)
-decided count own (Try place) answer.Failed = End (ending.Failed place)
-decided count own (Try place) _ = if nat_lt place count then entry_or_own (place + 1) count own else entry_or_own count count own
-decided count own Offer answer.Refused = End ending.Refused
-decided count own Offer _ = Sleep
-decided count own Sleep _ = if own then Withdraw else entry_or_own 0 count own
-decided count own Withdraw answer.Taken = End ending.Yielded
-decided count own Withdraw _ = entry_or_own 0 count own
-decided count own (End e) _ = End e
-
-abbrev pub begun : ℕ → Bool → Rounds
-begun count own = record { count = count; own = own; act = entry_or_own 0 count own }
-
-abbrev pub told : Rounds → Answer → Rounds
-told r a = record { count = r.count; own = r.own; act = decided r.count r.own r.act a }
-
-abbrev pub told_all : Rounds → List Answer → Rounds
-told_all r [] = r
-told_all r (a ∷ rest) = told_all (told r a) rest
-
--- how many values an entry gave by an act and what came of it
+-- how many values an entry gave by an act and its answer
 abbrev pub takes : Act → Answer → ℕ
 takes (Try place) answer.Gave = 1
 takes _ _ = 0
 
--- how many values entries gave in all
-abbrev pub taken : Rounds → List Answer → ℕ
-taken r [] = 0
-taken r (a ∷ rest) = takes r.act a + taken (told r a) rest
-
--- how many values an act moved: an entry gave one, or the own value was taken
+-- how many values an act and its answer moved: an entry gave one, or the own value was taken
 abbrev pub moves : Act → Answer → ℕ
 moves (Try place) answer.Gave = 1
 moves Withdraw answer.Taken = 1
 moves _ _ = 0
 
--- how many values were moved in all
-abbrev pub moved : Rounds → List Answer → ℕ
-moved r [] = 0
-moved r (a ∷ rest) = moves r.act a + moved (told r a) rest
+-- a count summed over more answers, behind those that came before
+abbrev pub over_more : (Act → Answer → ℕ) → ℕ → Bool → List Answer → List Answer → ℕ
+over_more counts count own before [] = 0
+over_more counts count own before (a ∷ rest) = counts (act_after count own before) a + over_more counts count own (before ++ a ∷ []) rest

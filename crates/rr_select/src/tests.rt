@@ -4,6 +4,25 @@ use crate::choice::Choice;
 use crate::round::{Act, Answer, Ending};
 use std::test::Fail;
 
+// A round among three ports and an inbox, with a value of its own and without.
+const WITH_OWN: [Act; 7] = [
+    Act::Try(0),
+    Act::Try(1),
+    Act::Try(2),
+    Act::Try(3),
+    Act::Offer,
+    Act::Sleep,
+    Act::Withdraw,
+];
+
+const WITHOUT: [Act; 5] = [
+    Act::Try(0),
+    Act::Try(1),
+    Act::Try(2),
+    Act::Try(3),
+    Act::Sleep,
+];
+
 const TRIED: [Answer; 4] = [
     Answer::Nothing,
     Answer::Gave,
@@ -23,57 +42,57 @@ fn answer_to(act: Act, number: u32) -> Answer {
     }
 }
 
-/// Where a plain program of the rounds stands: before an entry, or before one of the acts behind the entries.
-#[derive(Clone, Copy)]
-enum Stage {
-    Entry(u32),
-    Own,
-    Asleep,
-    TakingBack,
-    Over(Ending),
-}
-
-fn plain_act(stage: Stage, count: u32, own: bool) -> Act {
-    match stage {
-        Stage::Entry(place) if place < count => Act::Try(place),
-        Stage::Entry(_) | Stage::Own if own => Act::Offer,
-        Stage::Entry(_) | Stage::Own | Stage::Asleep => Act::Sleep,
-        Stage::TakingBack => Act::Withdraw,
-        Stage::Over(ending) => Act::End(ending),
-    }
-}
-
-fn plain_next(stage: Stage, act: Act, answer: Answer, own: bool) -> Stage {
+fn plain_ending(act: Act, answer: Answer) -> Option<Ending> {
     match (act, answer) {
-        (Act::Try(place), Answer::Gave) => Stage::Over(Ending::Got(place)),
-        (Act::Try(place), Answer::Closed) => Stage::Over(Ending::Closed(place)),
-        (Act::Try(place), Answer::Failed) => Stage::Over(Ending::Failed(place)),
-        (Act::Try(place), _) if place < 1000 => Stage::Entry(place + 1),
-        (Act::Offer, Answer::Refused) => Stage::Over(Ending::Refused),
-        (Act::Offer, _) => Stage::Asleep,
-        (Act::Sleep, _) if own => Stage::TakingBack,
-        (Act::Sleep, _) => Stage::Entry(0),
-        (Act::Withdraw, Answer::Taken) => Stage::Over(Ending::Yielded),
-        (Act::Withdraw, _) => Stage::Entry(0),
-        (_, _) => stage,
+        (Act::Try(place), Answer::Gave) => Some(Ending::Got(place)),
+        (Act::Try(place), Answer::Closed) => Some(Ending::Closed(place)),
+        (Act::Try(place), Answer::Failed) => Some(Ending::Failed(place)),
+        (Act::Offer, Answer::Refused) => Some(Ending::Refused),
+        (Act::Withdraw, Answer::Taken) => Some(Ending::Yielded),
+        (_, _) => None,
     }
+}
+
+// The acts of a round, one after another and round after round, until an answer ends the select.
+fn plain_act(round: &[Act], answers: &[Answer]) -> Option<Act> {
+    let mut at = 0;
+    for answer in answers {
+        if let Some(ending) = plain_ending(*round.get(at)?, *answer) {
+            return Some(Act::End(ending));
+        }
+        at = if at + 1 < round.len() { at + 1 } else { 0 };
+    }
+    round.get(at).copied()
 }
 
 #[test]
 fn every_order_of_eight_answers_over_three_ports_and_an_inbox(rt: HostRuntime) -> Result<(), Fail> {
     for own in [false, true] {
+        let round = if own {
+            WITH_OWN.as_slice()
+        } else {
+            WITHOUT.as_slice()
+        };
         for order in 0..65_536u32 {
             let mut choice = Choice::new(4, own);
-            let mut stage = Stage::Entry(0);
+            let mut answers = Vec::new(rt.alloc());
             let mut rest = order;
             for _ in 0..8 {
                 let act = choice.act();
-                assert_eq!(rt; act, plain_act(stage, 4, own), "in order {order}");
+                assert_eq!(rt;
+                    Some(act),
+                    plain_act(round, answers.as_slice()),
+                    "in order {order}"
+                );
                 let answer = answer_to(act, rest);
                 rest /= 4;
-                stage = plain_next(stage, act, answer, own);
+                answers.push(answer)?;
                 let next = choice.next(answer);
-                assert_eq!(rt; next, plain_act(stage, 4, own), "after order {order}");
+                assert_eq!(rt;
+                    Some(next),
+                    plain_act(round, answers.as_slice()),
+                    "after order {order}"
+                );
             }
         }
     }

@@ -1,5 +1,6 @@
-use Rattle.rr_select.proofs.Once.{at_most_one}
+use Rattle.std.proofs.Common.{[]}
+use Rattle.rr_select.proofs.Once.{once}
 use Rattle.rr_select.proofs.choice.moves_at_most_one.Goals as goal
 
 pub returns : goal.returns
-returns c = at_most_one
+returns c = λ count own answers. once count own [] answers
