@@ -88,6 +88,13 @@ impl PortState {
         self.shown.is_none()
     }
 
+    /// Whether a last value or fault came, in time or late.
+    pub fn was_given(&self) -> bool
+        ensures { result ≡ self.now.given }
+    {
+        self.given
+    }
+
     /// Shows a message and answers its ticket. A refusal hands back the very message.
     ///
     /// The faults are found in this order. `HistoryFull`: what was written, what is owed and 2 more pass the limit.
@@ -191,12 +198,10 @@ impl PortState {
     pub fn settle(&self, ticket: Ticket) -> Settled
         ensures { Settles result self.now ticket }
     {
-        if !is_shown_under(&self.shown, ticket) {
-            Settled::Taken
-        } else if self.closed {
-            Settled::Closed
-        } else {
-            Settled::Shown
+        match (is_shown_under(&self.shown, ticket), self.closed) {
+            (false, _) => Settled::Taken,
+            (true, false) => Settled::Shown,
+            (true, true) => Settled::Closed,
         }
     }
 
