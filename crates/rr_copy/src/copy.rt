@@ -1,6 +1,6 @@
 //! Packing a copy of a value into a message, and opening a message in a space.
 
-ghost use Rattle.std.specs.Prelude.{◌≡◌, ◌⊎◌, ◌++◌, ◌∷◌, [], ℕ, List, length, IsTrue, IfOk, IfErr};
+ghost use Rattle.std.specs.Prelude.{◌≡◌, ◌⊎◌, ◌++◌, ◌∷◌, [], ℕ, List, false, length, IsTrue, IfOk, IfErr};
 ghost use Rattle.rr_space.specs.Alike.{Alike};
 ghost use Rattle.rr_space.specs.Moves.{IsCopy, IsOpened};
 ghost use Rattle.rr_space.specs.Parts.{value_of};
@@ -27,13 +27,14 @@ pub fn can_pack(space: &Space, value: Ref) -> bool
 }
 
 /// A copy of what `value` leads to, as a message of the space's ractor. `can_pack` tells whether it may be packed. The space
-/// stays as it is, and `Memory` is the only fault.
+/// stays as it is, and `Memory` is the only fault; an immediate takes none.
 pub fn pack_copy(alloc: Global, space: &Space, value: Ref) -> Result<Message, Fault>
     requires { IsTrue (can_pack_at space.now value) }
     ensures copy { IfOk result (λ message. (names : List ℕ) × IsCopy space.now (value_of value) names message) }
     ensures sender { IfOk result (λ message. message.sender ≡ space.now.owner) }
     ensures sequence { IfOk result (λ message. message.sequence ≡ 0) }
     ensures fault { IfErr result (λ fault. fault ≡ Fault.Memory) }
+    ensures grows { IfErr result (λ fault. is_immediate value ≡ false) }
 {
     let sender = space.owner();
     match space.open_text(value) {
@@ -74,12 +75,13 @@ fn open_text(alloc: Global, space: &mut Space, bytes: Vec<u8>) -> Result<Ref, (F
 /// Brings a message's objects into a space, behind those that are there, and answers its root.
 ///
 /// A refusal hands back the very message and leaves the space as it was: `Limit(Slots)` where there is no slot for the
-/// message's object, and `Memory` where a growth was refused.
+/// message's object, and `Memory` where a growth was refused. A message without objects is always opened.
 pub fn open(alloc: Global, space: &mut Space, message: Message) -> Result<Ref, (Fault, Message)>
     ensures opened { IfOk result (λ root. IsOpened message space.old space.new (value_of root)) }
     ensures alike { IfOk result (λ root. Alike (message_graph message) message.root (space_graph space.new) (resolve space.new.slots (value_of root)) (Behind message (length space.old.slots))) }
     ensures back { IfErr result (λ refusal. (refusal.1 ≡ message) × (space.new ≡ space.old)) }
     ensures fault { IfErr result (λ refusal. (refusal.0 ≡ Fault.Memory) ⊎ ((refusal.0 ≡ Fault.Limit LimitKind.Slots) × (size_of message ≡ 1) × (length space.old.slots ≡ space.old.limit))) }
+    ensures grows { IfErr result (λ refusal. size_of message ≡ 1) }
 {
     let Message {
         content,

@@ -67,3 +67,52 @@ fn a_full_space_hands_back_the_message(rt: HostRuntime) -> Result<(), Fail> {
     assert_eq!(rt; full.len(), 0);
     Ok(())
 }
+
+// The message of a text, packed again where a growth was refused. What the space has stays as it was.
+fn pack_again(rt: &impl Abort, alloc: Global, space: &Space, text: Ref) -> Result<Message, Fault> {
+    assert!(rt; crate::can_pack(space, text));
+    match pack_copy(alloc, space, text) {
+        Ok(message) => Ok(message),
+        Err(fault) => {
+            assert_eq!(rt; fault, Fault::Memory);
+            assert_eq!(rt; space.len(), 1);
+            assert!(rt; space.text_bytes(text) == b"abc".as_slice());
+            pack_copy(alloc, space, text)
+        }
+    }
+}
+
+// The root of a message, opened again where a growth was refused: the message is the same and the space has nothing of it.
+fn open_again(rt: &impl Abort, alloc: Global, space: &mut Space, message: Message) -> Option<Ref> {
+    match open(alloc, space, message) {
+        Ok(root) => Some(root),
+        Err((fault, back)) => {
+            assert_eq!(rt; fault, Fault::Memory);
+            assert_eq!(rt; back.size(), 1);
+            assert_eq!(rt; back.sender(), RactorNo(1));
+            assert_eq!(rt; space.len(), 0);
+            open(alloc, space, back).ok()
+        }
+    }
+}
+
+// A refusal leaves both spaces and the message. The gate refuses nothing: `rt try --test --fail-alloc N -- a_refused_growth`
+// does, for N from 1 to the 4 allocations of this test.
+#[test]
+fn a_refused_growth_leaves_the_spaces_and_the_message(rt: HostRuntime) -> Result<(), Fail> {
+    let mut space = Space::new(rt.alloc(), RactorNo(1), 10);
+    let Ok(bytes) = b"abc".to_vec(rt.alloc()) else {
+        return Ok(());
+    };
+    let Ok(text) = space.alloc(Node::Text(bytes)) else {
+        assert_eq!(rt; space.len(), 0);
+        return Ok(());
+    };
+    let message = pack_again(&rt, rt.alloc(), &space, text)?;
+    let mut other = Space::new(rt.alloc(), RactorNo(2), 10);
+    let Some(root) = open_again(&rt, rt.alloc(), &mut other, message) else {
+        return Err(Fail::from("the message was not opened"));
+    };
+    assert!(rt; other.text_bytes(root) == b"abc".as_slice());
+    Ok(())
+}

@@ -5,24 +5,56 @@ use rr_base::{Fault, InboxEvent, RactorNo};
 use rr_copy::{Message, pack_copy};
 use rr_space::{Node, Ref, Space};
 use std::alloc::Global;
+use std::process::Abort;
 use std::test::Fail;
 
 const MAIN: RactorNo = RactorNo(1);
 
 const OTHER: RactorNo = RactorNo(2);
 
-fn text(alloc: Global) -> Result<Message, Fail> {
+fn text(alloc: Global) -> Result<Message, Fault> {
     let mut space = Space::new(alloc, MAIN, 10);
     let text = space.alloc(Node::Text(b"abc".to_vec(alloc)?))?;
-    if !rr_copy::can_pack(&space, text) {
-        return Err(Fail::from("a text cannot be packed"));
-    }
-    Ok(pack_copy(alloc, &space, text)?)
+    let value = if rr_copy::can_pack(&space, text) {
+        text
+    } else {
+        Ref::Nil
+    };
+    pack_copy(alloc, &space, value)
 }
 
-fn number(alloc: Global) -> Result<Message, Fail> {
+fn number(alloc: Global) -> Result<Message, Fault> {
     let space = Space::new(alloc, MAIN, 10);
-    Ok(pack_copy(alloc, &space, Ref::Int(7))?)
+    pack_copy(alloc, &space, Ref::Int(7))
+}
+
+// An event as a trace has it: what happened, ticket, size, who.
+fn line(alloc: Global, event: InboxEvent) -> Result<String, Fail> {
+    let line = match event {
+        InboxEvent::Offered { ticket, size, who } => {
+            format!(in alloc; "offered {ticket} {size} {}\n", who.0)
+        }
+        InboxEvent::Accepted { ticket, size, who } => {
+            format!(in alloc; "accepted {ticket} {size} {}\n", who.0)
+        }
+        InboxEvent::Refused { size, who } => format!(in alloc; "refused {size} {}\n", who.0),
+        InboxEvent::Closed { who } => format!(in alloc; "closed {}\n", who.0),
+    };
+    Ok(line?)
+}
+
+fn check_history(
+    rt: &impl Abort,
+    alloc: Global,
+    inbox: &InboxState,
+    wanted: &str,
+) -> Result<(), Fail> {
+    let mut told = String::new(alloc);
+    for event in inbox.history() {
+        told.push_str(line(alloc, *event)?.as_str())?;
+    }
+    assert_eq!(rt; told.as_str(), wanted);
+    Ok(())
 }
 
 #[test]
@@ -42,27 +74,8 @@ fn two_messages_one_taken_and_one_refused(rt: HostRuntime) -> Result<(), Fail> {
         }
         Ok(_) => return Err(Fail::from("a closed inbox took a message")),
     }
-    let wanted = [
-        InboxEvent::Offered {
-            ticket: 0,
-            size: 0,
-            who: MAIN,
-        },
-        InboxEvent::Offered {
-            ticket: 1,
-            size: 1,
-            who: MAIN,
-        },
-        InboxEvent::Accepted {
-            ticket: 0,
-            size: 0,
-            who: OTHER,
-        },
-        InboxEvent::Closed { who: OTHER },
-        InboxEvent::Refused { size: 1, who: MAIN },
-    ];
-    assert_eq!(rt; inbox.history(), wanted.as_slice());
-    Ok(())
+    let wanted = "offered 0 0 1\noffered 1 1 1\naccepted 0 0 2\nclosed 2\nrefused 1 1\n";
+    check_history(&rt, rt.alloc(), &inbox, wanted)
 }
 
 #[test]
@@ -78,9 +91,57 @@ fn a_history_of_four_events(rt: HostRuntime) -> Result<(), Fail> {
     }
     assert!(rt; !inbox.close(OTHER));
     assert!(rt; inbox.close(OTHER));
-    assert_eq!(rt; inbox.history().len(), 3);
-    match inbox.accept(OTHER) {
-        Front::EmptyAndClosed => Ok(()),
-        _ => Err(Fail::from("the inbox is empty and closed")),
+    assert!(rt; matches!(inbox.accept(OTHER), Front::EmptyAndClosed));
+    check_history(
+        &rt,
+        rt.alloc(),
+        &inbox,
+        "offered 0 0 1\naccepted 0 0 2\nclosed 2\n",
+    )
+}
+
+// An offer, and where a growth was refused the same offer once more, with the message that came back.
+fn offer_again(rt: &impl Abort, inbox: &mut InboxState, message: Message, ticket: u32) {
+    let size = message.size();
+    let events = inbox.history().len();
+    if let Err((fault, back)) = inbox.offer(MAIN, message) {
+        assert_eq!(rt; fault, Fault::Memory);
+        assert_eq!(rt; back.size(), size);
+        assert_eq!(rt; inbox.history().len(), events);
+        assert_eq!(rt; inbox.offer(MAIN, back).ok(), Some(ticket));
     }
+}
+
+// A refusal leaves the inbox and the message. The gate refuses nothing: `rt try --test --fail-alloc N -- a_refused_growth`
+// does, for N from 1 to the 8 allocations of this test.
+#[test]
+fn a_refused_growth_leaves_the_inbox_and_the_message(rt: HostRuntime) -> Result<(), Fail> {
+    let mut inbox = match InboxState::new(rt.alloc(), 100) {
+        Ok(inbox) => inbox,
+        Err(fault) => {
+            assert_eq!(rt; fault, Fault::Memory);
+            InboxState::new(rt.alloc(), 100)?
+        }
+    };
+    for ticket in 0..6 {
+        let Ok(message) = (if ticket == 0 {
+            text(rt.alloc())
+        } else {
+            number(rt.alloc())
+        }) else {
+            return Ok(());
+        };
+        offer_again(&rt, &mut inbox, message, ticket);
+    }
+    for ticket in 0..6 {
+        match inbox.accept(OTHER) {
+            Front::Message(message) => {
+                assert_eq!(rt; message.size(), if ticket == 0 { 1 } else { 0 })
+            }
+            _ => return Err(Fail::from("a message is lost")),
+        }
+    }
+    assert!(rt; !inbox.close(OTHER));
+    assert_eq!(rt; inbox.history().len(), 13);
+    Ok(())
 }
