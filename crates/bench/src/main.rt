@@ -4,6 +4,7 @@
 mod channels;
 mod objects;
 mod scripts;
+mod tokens;
 
 use std::{env, io};
 
@@ -13,11 +14,13 @@ fn main(rt: HostRuntime) -> io::Result<()> {
     let file = words.get(2).map_or("", |word| word.as_str());
     match name {
         "script" => scripts::measure(&rt, file),
+        "tokens" => tokens::measure(&rt, file),
         "objects" => objects::measure(&rt),
         "inbox" => channels::measure_inbox(&rt),
         "text" => channels::measure_text(&rt),
         _ => {
             println!(rt; "script FILE: its tokens, its tree, its steps")?;
+            println!(rt; "tokens FILE: its tokens alone")?;
             println!(rt; "objects: ten million arrays of two integers, made and read")?;
             println!(rt; "inbox: a million integers offered and accepted")?;
             println!(rt;

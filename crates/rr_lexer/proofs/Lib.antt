@@ -4,6 +4,7 @@ pub mod Classes
 pub mod Prefixes
 pub mod Digits
 pub mod Pieces
+pub mod Breaks
 pub mod Singles
 pub mod Names
 pub mod Operators
@@ -12,3 +13,4 @@ pub mod Begins
 pub mod Tiling
 pub mod Refused
 pub mod Order
+pub mod Joining

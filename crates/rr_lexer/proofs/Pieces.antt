@@ -93,7 +93,7 @@ after_hash b bs p q r = rw (ne_eqb b 123 p, ne_eqb b 64 q, ne_eqb b 36 r) refl
 after_return : (b : ℕ) (bs : List ℕ) → b ≢ 10 → piece (b ∷ bs) Returned ≡ piece (b ∷ bs) Plain
 after_return b bs p = rw (ne_eqb b 10 p) refl
 
-return_refused : is_escape 13 ≡ false
+pub return_refused : is_escape 13 ≡ false
 unfolding is_escape class_of
 return_refused = refl
 

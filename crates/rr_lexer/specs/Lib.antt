@@ -4,6 +4,7 @@ pub mod Places
 pub mod Words
 pub mod Numbers
 pub mod Texts
+pub mod Reasons
 pub mod Lines
 pub mod Tokens
 pub mod Contexts

@@ -69,3 +69,14 @@ joined_after continued named (t ∷ ts) = if is_dropped t.kind continued ts
 
 abbrev pub joined : List Token → List Token
 joined tokens = joined_after false false tokens
+
+-- The same told from the tokens that are kept, the last one first: whether a line end behind them is left out.
+abbrev pub is_continued : List Token → Bool
+is_continued [] = false
+is_continued (t ∷ []) = continues t.kind
+is_continued (t ∷ d ∷ ts) = continues t.kind && not (is_def d.kind)
+
+-- and whether the last one is `def`
+abbrev pub ends_with_def : List Token → Bool
+ends_with_def [] = false
+ends_with_def (t ∷ ts) = is_def t.kind

@@ -149,6 +149,16 @@ piece (b ∷ bs) Hash = if b == 123 then Some (true, 1) else (if b == 64 || b ==
 piece (b ∷ bs) Returned = if b == 10 then None
     else (if b == 34 then Some (false, 1) else (if b == 92 then further 1 (piece bs Escaped) else (if b == 35 then further 1 (piece bs Hash) else further 1 (piece bs Plain))))
 
+-- whether a piece has something that is left out before anything that ends it, from a mode on
+abbrev pub breaks_off : List ℕ → Mode → Bool
+breaks_off [] mode = false
+breaks_off (b ∷ bs) Plain = if b == 34 then false else (if b == 92 then breaks_off bs Escaped else (if b == 35 then breaks_off bs Hash else breaks_off bs Plain))
+breaks_off (b ∷ bs) Escaped = if is_escape b then breaks_off bs Plain else (if b == 13 then breaks_off bs Returned else true)
+breaks_off (b ∷ bs) Hash = if b == 123 then false else (if b == 64 || b == 36 then true
+    else (if b == 34 then false else (if b == 92 then breaks_off bs Escaped else (if b == 35 then breaks_off bs Hash else breaks_off bs Plain))))
+breaks_off (b ∷ bs) Returned = if b == 10 then true
+    else (if b == 34 then false else (if b == 92 then breaks_off bs Escaped else (if b == 35 then breaks_off bs Hash else breaks_off bs Plain)))
+
 -- the kind of a piece behind a quote, and behind a closing brace
 abbrev pub at_quote : Bool → Kind
 at_quote true = kinds.Head

@@ -7,6 +7,7 @@ use Rattle.rr_lexer.specs.Words.{keyword_text, is_left_out, takes_mark, op_text}
 use Rattle.rr_lexer.specs.Texts.{IsPieceAfter, IsSingle}
 use Rattle.rr_lexer.specs.Numbers.{IsInt}
 use Rattle.rr_lexer.specs.Places.{IsAt}
+use Rattle.rr_lexer.specs.Reasons.{IsReason}
 use Rattle.rr_lexer.specs.Encoding.{refused_from}
 use Rattle.rr_lexer.specs.Lines.{joined}
 use Rattle.rr_lexer.specs.declared.class.Class.{Class}
@@ -21,6 +22,7 @@ use Rattle.rr_lexer.specs.declared.context.Frame.{Frame}
 use Rattle.rr_lexer.specs.declared.context.Frame.TheVariants as frames
 use Rattle.rr_base.specs.declared.fault.Fault.{Fault}
 use Rattle.rr_base.specs.declared.fault.Fault.TheVariants as faults
+use Rattle.rr_base.specs.declared.fault.SyntaxKind.{SyntaxKind}
 use Rattle.rr_base.specs.declared.fault.SyntaxKind.TheVariants as syntax
 use Rattle.rr_base.specs.declared.limits.LimitKind.TheVariants as limits
 
@@ -188,12 +190,13 @@ pub record StuckAt (source : List ℕ) (place : ℕ) : Type 0 where
   pub within : place < length source
   pub stuck : NoneBegins state (drop place source)
 
--- Each byte is allowed, and at this line and column is the first place at which no token begins.
-pub record IsStuck (source : List ℕ) (line column : ℕ) : Type 0 where
+-- Each byte is allowed, and at this line and column is the first place at which no token begins, for this reason.
+pub record IsStuck (source : List ℕ) (kind : SyntaxKind) (line column : ℕ) : Type 0 where
   pub allowed : refused_from source ≡ length source
   pub place : ℕ
   pub stuck : StuckAt source place
   pub at : IsAt source place line column
+  pub reason : IsReason kind (drop place source)
 
 -- Why a source has no tokens: its first refused byte, else the first place at which no token begins, else its length.
 abbrev pub Faults : List ℕ → Fault → Type 0
@@ -202,5 +205,5 @@ Faults source (faults.Limit limit) = (limit ≡ limits.Source) × (source_limit 
     × (refused_from source ≡ length source) × ((tokens : List Token) × Spelled source tokens)
 Faults source (faults.Syntax line column kind) =
     ((kind ≡ syntax.Encoding) × (refused_from source < length source) × IsAt source (refused_from source) line column)
-    ⊎ ((kind ≢ syntax.Encoding) × IsStuck source line column)
+    ⊎ ((kind ≢ syntax.Encoding) × IsStuck source kind line column)
 Faults source _ = ⊥

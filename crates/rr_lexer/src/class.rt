@@ -1,7 +1,7 @@
 //! What a byte can begin.
 
 ghost use Rattle.std.specs.Prelude.{◌≡◌, slice_index};
-ghost use Rattle.rr_lexer.specs.Bytes.{class_of, goes_on};
+ghost use Rattle.rr_lexer.specs.Bytes.{class_of, is_word_byte};
 
 /// What a byte can begin.
 #[derive(Clone, Copy, Debug, PartialEq, Eq, Drop)]
@@ -28,6 +28,7 @@ pub enum Class {
 }
 
 #[tactic(auto, unfolding(crate::specs::Bytes::class_of))]
+#[inline(always)]
 pub fn class_of(b: u8) -> Class
     ensures { result ≡ class_of b }
 {
@@ -52,11 +53,12 @@ pub fn class_of(b: u8) -> Class
     }
 }
 
-/// Whether a name goes on with a byte of this class.
-pub fn goes_on(class: Class) -> bool
-    ensures { result ≡ goes_on class }
+/// Whether a name goes on with a byte.
+#[tactic(auto, unfolding(crate::specs::Bytes::class_of))]
+pub fn is_word_byte(b: u8) -> bool
+    ensures { result ≡ is_word_byte b }
 {
-    matches!(class, Class::Lower | Class::Upper | Class::Digit)
+    matches!(b, b'a'..=b'z' | b'_' | b'A'..=b'Z' | b'0'..=b'9')
 }
 
 /// The byte at a place, or 0 past the end.

@@ -95,6 +95,7 @@ pub fn lex(alloc: Global, source: &[u8]) -> Result<Vec<Token>, Fault>
     if let Some(place) = first_refused(source) {
         return Err(syntax(source, place, SyntaxKind::Encoding));
     }
-    let tokens = all_tokens(alloc, source)?;
-    Ok(join(alloc, &tokens)?)
+    let mut tokens = all_tokens(alloc, source)?;
+    join(&mut tokens);
+    Ok(tokens)
 }

@@ -1,10 +1,9 @@
 //! Line ends that separate no statements.
 
-ghost use Rattle.std.specs.Prelude.{◌≡◌, ◌&&◌, not, IfOk};
-ghost use Rattle.rr_lexer.specs.Lines.{op_continues, keyword_continues, continues, is_closer, is_call, is_def, goes_on, is_dropped, joined};
+ghost use Rattle.std.specs.Prelude.{◌≡◌, reverse};
+ghost use Rattle.rr_lexer.specs.Lines.{op_continues, keyword_continues, continues, is_closer, is_call, is_def, goes_on, is_dropped, is_continued, joined};
 
 use crate::kind::{Keyword, Kind, Op, Token};
-use std::alloc::{AllocFailed, Global};
 
 fn op_continues(op: Op) -> bool
     ensures { result ≡ op_continues op }
@@ -59,35 +58,35 @@ fn goes_on(rest: &[Token]) -> bool
     }
 }
 
-/// Whether a line end behind such a token is left out, where `def` stands directly before it or not.
-fn is_continued(kind: Kind, named: bool) -> bool
-    ensures { result ≡ (continues kind && not named) }
+/// Whether a line end behind these tokens is left out. Behind `def` an operator is a name.
+fn is_continued(front: &[Token]) -> bool
+    ensures { result ≡ is_continued (reverse front.now) }
 {
-    continues(kind) && !named
-}
-
-fn is_dropped(kind: Kind, continued: bool, rest: &[Token]) -> bool
-    ensures { result ≡ is_dropped kind continued rest.now }
-{
-    kind == Kind::LineEnd && (continued || goes_on(rest))
-}
-
-/// The tokens without the line ends that separate no statements.
-pub fn join(alloc: Global, tokens: &[Token]) -> Result<Vec<Token>, AllocFailed<Token>>
-    ensures { IfOk result (λ kept. kept.items ≡ joined tokens.now) }
-{
-    let mut kept = Vec::new(alloc);
-    let mut continued = false;
-    let mut named = false;
-    let mut rest = tokens;
-    while let [t, more @ ..] = rest {
-        rest = more;
-        if is_dropped(t.kind, continued, more) {
-            continue;
-        }
-        kept.push(*t)?;
-        continued = is_continued(t.kind, named);
-        named = is_def(t.kind);
+    match front {
+        [] => false,
+        [t] => continues(t.kind),
+        [.., d, t] => continues(t.kind) && !is_def(d.kind),
     }
-    Ok(kept)
+}
+
+/// Whether a token between others is a line end that separates no statements.
+fn is_dropped(front: &[Token], kind: Kind, rest: &[Token]) -> bool
+    ensures { result ≡ is_dropped kind (is_continued (reverse front.now)) rest.now }
+{
+    kind == Kind::LineEnd && (is_continued(front) || goes_on(rest))
+}
+
+/// Leaves out the line ends that separate no statements.
+pub fn join(tokens: &mut Vec<Token>)
+    ensures { tokens.new.items ≡ joined tokens.old.items }
+{
+    let mut kept: usize = 0;
+    for i in 0..tokens.len() {
+        let t = tokens[i];
+        if !is_dropped(&tokens[..kept], t.kind, &tokens[i + 1..]) {
+            tokens[kept] = t;
+            kept += 1;
+        }
+    }
+    tokens.truncate(kept);
 }

@@ -1,8 +1,7 @@
 //! Sources with their tokens, or with the place and the kind of their refusal, one to a line: `SOURCE -> TOKENS`.
 //!
 //! A token stands as `Name 0..4`, with `_` before one that a blank stands directly before. In a source `^n`, `^r` and `^t`
-//! stand for LF, CR and a tab, `^m` for a byte order mark, `^e` for the letter e with an acute accent and `^c` for its
-//! first byte, `^z`, `^u`, `^d` and `^f` for the bytes 0x00, 0x1F, 0x7F and 0xFF, and `^^` for `^`.
+//! stand for LF, CR and a tab, and `^` with two hexadecimal digits for the byte of that number.
 
 /// Names and keywords.
 pub const WORDS: &str = "\
@@ -54,6 +53,20 @@ unless -> Keyword(Unless) 0..6
 until -> Keyword(Until) 0..5
 while -> Keyword(While) 0..5
 yield -> Keyword(Yield) 0..5
+a?=1 -> Name 0..1, Op(Question) 1..2, Op(Assign) 2..3, Int 3..4
+a? b -> Name 0..2, _Name 3..4
+a?.b -> Name 0..2, Op(Dot) 2..3, Name 3..4
+a?b:c -> Name 0..2, Label 2..4, Name 4..5
+a ?b :c -> Name 0..1, _Op(Question) 2..3, Name 3..4, _Symbol 5..7
+a ? b : c -> Name 0..1, _Op(Question) 2..3, _Name 4..5, _Op(Colon) 6..7, _Name 8..9
+a ? b: c -> Name 0..1, _Op(Question) 2..3, _Label 4..6, _Name 7..8
+?a -> Op(Question) 0..1, Name 1..2
+x!=y -> Name 0..1, Op(NotEqual) 1..3, Name 3..4
+x ! = y -> Name 0..1, _Op(Bang) 2..3, _Op(Assign) 4..5, _Name 6..7
+a!!b -> Name 0..2, Op(Bang) 2..3, Name 3..4
+yield? -> Name 0..6
+while1 -> Name 0..6
+self.a -> Keyword(SelfWord) 0..4, Op(Dot) 4..5, Name 5..6
 ";
 
 /// What comes behind `.`, constants, variables, symbols and labels.
@@ -106,7 +119,23 @@ A::B -> Constant 0..1, Op(Path) 1..3, Constant 3..4
 a:::b -> Name 0..1, Op(Path) 1..3, Symbol 3..5
 a : -> Name 0..1, _Op(Colon) 2..3
 a.b: 1 -> Name 0..1, Op(Dot) 1..2, Label 2..4, _Int 5..6
+{:a=>1} -> OpenBrace 0..1, Symbol 1..3, Op(Arrow) 3..5, Int 5..6, CloseBrace 6..7
 {a: 1} -> OpenBrace 0..1, Label 1..3, _Int 4..5, CloseBrace 5..6
+a.class.if -> Name 0..1, Op(Dot) 1..2, Name 2..7, Op(Dot) 7..8, Name 8..10
+a.self? -> Name 0..1, Op(Dot) 1..2, Name 2..7
+a.if=1 -> Name 0..1, Op(Dot) 1..2, Name 2..4, Op(Assign) 4..5, Int 5..6
+a.(b) -> Name 0..1, Op(Dot) 1..2, Op(Open) 2..3, Name 3..4, Op(Close) 4..5
+a::B -> Name 0..1, Op(Path) 1..3, Constant 3..4
+::A -> Op(Path) 0..2, Constant 2..3
+@_ -> InstanceVariable 0..2
+$_ -> GlobalVariable 0..2
+:+ -> Op(Colon) 0..1, Op(Plus) 1..2
+:[] -> Op(Colon) 0..1, Op(OpenSquare) 1..2, Op(CloseSquare) 2..3
+:@a -> Op(Colon) 0..1, InstanceVariable 1..3
+:a=b -> Symbol 0..2, Op(Assign) 2..3, Name 3..4
+:a! -> Symbol 0..2, Op(Bang) 2..3
+a?: 1 -> Name 0..2, Op(Colon) 2..3, _Int 4..5
+\"a\": 1 -> Text 0..3, Op(Colon) 3..4, _Int 5..6
 ";
 
 /// Numbers and operators.
@@ -174,6 +203,34 @@ pub const MARKS: &str = "\
 ** -> Op(Star) 0..1, Op(Star) 1..2
 ||| -> Op(Or) 0..2, Op(Bar) 2..3
 >> -> Op(Greater) 0..1, Op(Greater) 1..2
+1_000 -> Int 0..5
+0xFF_FF -> Int 0..7
+0b1 -> Int 0..3
+0o7 -> Int 0..3
+1_ -> Int 0..1, Name 1..2
+0B1 -> Int 0..1, Constant 1..3
+0O7 -> Int 0..1, Constant 1..3
+0d10 -> Int 0..1, Name 1..4
+1e5 -> Int 0..1, Name 1..3
+1r -> Int 0..1, Name 1..2
+1..2 -> Int 0..1, Op(Dot) 1..2, Op(Dot) 2..3, Int 3..4
+9223372036854775807 -> Int 0..19
+0x7fff_ffff_ffff_ffff -> Int 0..21
+0o1000000000000000000000 -> Int 0..24
+a-1 -> Name 0..1, Op(Minus) 1..2, Int 2..3
+a -1 -> Name 0..1, _Op(Minus) 2..3, Int 3..4
+a - 1 -> Name 0..1, _Op(Minus) 2..3, _Int 4..5
+->a -> Op(Minus) 0..1, Op(Greater) 1..2, Name 2..3
+a===b -> Name 0..1, Op(Equal) 1..3, Op(Assign) 3..4, Name 4..5
+a<=b -> Name 0..1, Op(LessOrEqual) 1..3, Name 3..4
+a=>b -> Name 0..1, Op(Arrow) 1..3, Name 3..4
+a= >b -> Name 0..1, Op(Assign) 1..2, _Op(Greater) 3..4, Name 4..5
+a<<A -> Name 0..1, Op(Shift) 1..3, Constant 3..4
+<<A -> Op(Shift) 0..2, Constant 2..3
+/a/ -> Op(Slash) 0..1, Name 1..2, Op(Slash) 2..3
+%w[a] -> Op(Percent) 0..1, Name 1..2, Op(OpenSquare) 2..3, Name 3..4, Op(CloseSquare) 4..5
+a[1] -> Name 0..1, Op(OpenSquare) 1..2, Int 2..3, Op(CloseSquare) 3..4
+f(a, b) -> Name 0..1, Op(Open) 1..2, Name 2..3, Op(Comma) 3..4, _Name 5..6, Op(Close) 6..7
 ";
 
 /// Texts and interpolation.
@@ -193,9 +250,9 @@ pub const TEXTS: &str = "\
 \"# #\" -> Text 0..5
 \"##\" -> Text 0..4
 \"\\_\\-\\ \" -> Text 0..8
-\"\\^e\" -> Text 0..5
+\"\\^C3^A9\" -> Text 0..5
 \"\\^r\" -> Text 0..4
-\"^e\" -> Text 0..4
+\"^C3^A9\" -> Text 0..4
 \"a\"b -> Text 0..3, Name 3..4
 \"a\"\"b\" -> Text 0..3, Text 3..6
 \"#{}\" -> Head 0..3, Tail 3..5
@@ -212,6 +269,35 @@ pub const TEXTS: &str = "\
 } -> CloseBrace 0..1
 {} -> OpenBrace 0..1, CloseBrace 1..2
 }}{ -> CloseBrace 0..1, CloseBrace 1..2, OpenBrace 2..3
+'it\\'s' -> Single 0..7
+'a\\\\' -> Single 0..5
+'#{' -> Single 0..4
+'\"' -> Single 0..3
+'\\u0041' -> Single 0..8
+\"'\" -> Text 0..3
+\"#\" -> Text 0..3
+\"#a\" -> Text 0..4
+\"a#\" -> Text 0..4
+\"{}\" -> Text 0..4
+\"$a@b\" -> Text 0..6
+\"\\$\\@\" -> Text 0..6
+\"#\\#{\" -> Text 0..6
+\"\\#{x}\" -> Text 0..7
+\"a^r^nb\" -> Text 0..6
+\"^E2^82^AC\" -> Text 0..5
+\"^F0^9F^98^80\" -> Text 0..6
+\"\\^F0^9F^98^80\" -> Text 0..7
+\"a\" \"b\" -> Text 0..3, _Text 4..7
+\"\\\\#{a}\" -> Head 0..5, Name 5..6, Tail 6..8
+\"#{a}\\#{b}\" -> Head 0..3, Name 3..4, Tail 4..11
+\"#{a;b}\" -> Head 0..3, Name 3..4, Op(Semicolon) 4..5, Name 5..6, Tail 6..8
+\"#{^n}\" -> Head 0..3, LineEnd 3..4, Tail 4..6
+\"#{#}^n}\" -> Head 0..3, _LineEnd 5..6, Tail 6..8
+\"a#{\"b#{c}d\"}e\" -> Head 0..4, Head 4..8, Name 8..9, Tail 9..12, Tail 12..15
+\"#{\"#{\"#{a}\"}\"}\" -> Head 0..3, Head 3..6, Head 6..9, Name 9..10, Tail 10..12, Tail 12..14, Tail 14..16
+\"#{a}\" \"#{b}\" -> Head 0..3, Name 3..4, Tail 4..6, _Head 7..10, Name 10..11, Tail 11..13
+\"#{{a: {}}}\" -> Head 0..3, OpenBrace 3..4, Label 4..6, _OpenBrace 7..8, CloseBrace 8..9, CloseBrace 9..10, Tail 10..12
+\"#{\"a}\" -> Head 0..3, Text 3..7
 ";
 
 /// Blanks, comments and lines.
@@ -230,7 +316,7 @@ a^r^nb -> Name 0..1, LineEnd 1..3, Name 3..4
 a\\^nb -> Name 0..1, _Name 3..4
 a\\^r^nb -> Name 0..1, _Name 4..5
 a \\^n^n b -> Name 0..1, _LineEnd 4..5, _Name 6..7
-^ma -> Name 3..4
+^EF^BB^BFa -> Name 3..4
 a;^nb -> Name 0..1, Op(Semicolon) 1..2, LineEnd 2..3, Name 3..4
 a =^nb -> Name 0..1, _Op(Assign) 2..3, Name 4..5
 a +=^nb -> Name 0..1, _Op(PlusAssign) 2..4, Name 5..6
@@ -261,22 +347,49 @@ a^n.B -> Name 0..1, LineEnd 1..2, Op(Dot) 2..3, Constant 3..4
 a if b^n+ c -> Name 0..1, _Keyword(If) 2..4, _Name 5..6, LineEnd 6..7, Op(Plus) 7..8, _Name 9..10
 puts \"abc\" -> Name 0..4, _Text 5..10
 a.each { |x|^n puts x } -> Name 0..1, Op(Dot) 1..2, Name 2..6, _OpenBrace 7..8, _Op(Bar) 9..10, Name 10..11, Op(Bar) 11..12, LineEnd 12..13, _Name 14..18, _Name 19..20, _CloseBrace 21..22
+^EF^BB^BF -> 
+^EF^BB^BF^n -> LineEnd 3..4
+x +^ny -> Name 0..1, _Op(Plus) 2..3, Name 4..5
+f^n .g -> Name 0..1, _Op(Dot) 3..4, Name 4..5
+a -^nb -> Name 0..1, _Op(Minus) 2..3, Name 4..5
+a *^r^nb -> Name 0..1, _Op(Star) 2..3, Name 5..6
+a / # c^nb -> Name 0..1, _Op(Slash) 2..3, Name 8..9
+a %^n^nb -> Name 0..1, _Op(Percent) 2..3, Name 5..6
+a ==^nb -> Name 0..1, _Op(Equal) 2..4, Name 5..6
+a !=^nb -> Name 0..1, _Op(NotEqual) 2..4, Name 5..6
+a >=^nb -> Name 0..1, _Op(GreaterOrEqual) 2..4, Name 5..6
+a <<=^nb -> Name 0..1, _Op(ShiftAssign) 2..5, Name 6..7
+a &&=^nb -> Name 0..1, _Op(AndAssign) 2..5, Name 6..7
+a ||^nb -> Name 0..1, _Op(Or) 2..4, Name 5..6
+a :^nb -> Name 0..1, _Op(Colon) 2..3, Name 4..5
+a and^nb -> Name 0..1, _Keyword(And) 2..5, Name 6..7
+return^na -> Keyword(Return) 0..6, LineEnd 6..7, Name 7..8
+if^na -> Keyword(If) 0..2, LineEnd 2..3, Name 3..4
+a:^nb -> Label 0..2, LineEnd 2..3, Name 3..4
+def -^n-a -> Keyword(Def) 0..3, _Op(Minus) 4..5, LineEnd 5..6, Op(Minus) 6..7, Name 7..8
+a - -^nb -> Name 0..1, _Op(Minus) 2..3, _Op(Minus) 4..5, Name 6..7
+def ==^na -> Keyword(Def) 0..3, _Op(Equal) 4..6, LineEnd 6..7, Name 7..8
+[^n1,^n2^n] -> Op(OpenSquare) 0..1, Int 2..3, Op(Comma) 3..4, Int 5..6, Op(CloseSquare) 7..8
+a^n..b -> Name 0..1, LineEnd 1..2, Op(Dot) 2..3, Op(Dot) 3..4, Name 4..5
+a^n\\^n.b -> Name 0..1, _Op(Dot) 4..5, Name 5..6
+a # b\\^nc -> Name 0..1, _LineEnd 6..7, Name 7..8
+a\\^n\\^nb -> Name 0..1, _Name 5..6
 ";
 
 /// Where and why sources are refused.
 pub const REFUSED: &str = "\
 puts \"abc -> 1:6 unterminated string
-a = \"b\"^n  c^f \" -> 2:4 encoding
-\"^n^z -> 2:1 encoding
-a^d -> 1:2 encoding
-a^u -> 1:2 encoding
-^c -> 1:1 encoding
-` ^f -> 1:3 encoding
-^e -> 1:1 character
+a = \"b\"^n  c^FF \" -> 2:4 encoding
+\"^n^00 -> 2:1 encoding
+a^7F -> 1:2 encoding
+a^1F -> 1:2 encoding
+^C3 -> 1:1 encoding
+` ^FF -> 1:3 encoding
+^C3^A9 -> 1:1 character
 a ` -> 1:3 character
 a & b -> 1:3 character
 a \\ b -> 1:3 character
-a ^^ b -> 1:3 character
+a ^5E b -> 1:3 character
 ~ -> 1:1 character
 @ -> 1:1 character
 @1 -> 1:1 character
@@ -284,7 +397,7 @@ a ^^ b -> 1:3 character
 @@a -> 1:1 character
 $1 -> 1:1 character
 $! -> 1:1 character
-a^e -> 1:2 character
+a^C3^A9 -> 1:2 character
 \\^r -> 1:1 character
 007 -> 1:1 number
 00 -> 1:1 number
@@ -327,7 +440,40 @@ retry -> 1:1 left out
 undef -> 1:1 left out
 when -> 1:1 left out
 x.y for -> 1:5 left out
-^m` -> 1:4 character
+^EF^BB^BF` -> 1:4 character
 a^r^n` -> 2:1 character
 a^r` -> 1:3 character
+\"\\u0041\" -> 1:1 left out
+\"a\\x41\" -> 1:1 left out
+a \"\\C-a\" -> 1:3 left out
+\"#{\"\\0\"}\" -> 1:4 left out
+a = \"#@a\" -> 1:5 left out
+'#@a'^n`a` -> 2:1 character
+\"#{\"a -> 1:4 unterminated string
+\"#{'a}\" -> 1:4 unterminated string
+\"a^n#{b}c^n -> 2:4 unterminated string
+a!~b -> 1:3 character
+a =~ b -> 1:4 character
+a&b -> 1:2 character
+f(&b) -> 1:3 character
+a&.b -> 1:2 character
+a^5Eb -> 1:2 character
+$? -> 1:1 character
+@@ -> 1:1 character
+a^EF^BB^BF -> 1:2 character
+^EF^BB -> 1:1 encoding
+^80 -> 1:1 encoding
+a^BF -> 1:2 encoding
+^C0^80 -> 1:1 encoding
+^C1^BF -> 1:1 encoding
+'^C3' -> 1:2 encoding
+^E0^80^80 -> 1:1 encoding
+\"^E2^82\" -> 1:2 encoding
+^ED^A0^80 -> 1:1 encoding
+^F0^80^80^80 -> 1:1 encoding
+'^F0^9F^98' -> 1:2 encoding
+^F4^90^80^80 -> 1:1 encoding
+^F5^80^80^80 -> 1:1 encoding
+^FE -> 1:1 encoding
+#^n# ^C3^A9^E9 -> 2:5 encoding
 ";

@@ -6,7 +6,7 @@ use crate::kind::{Kind, Token};
 use crate::lexing::lex;
 use crate::place::line_and_column;
 use crate::rows::{LINES, MARKS, NAMED, REFUSED, TEXTS, WORDS};
-use rr_base::{Fault, LimitKind};
+use rr_base::{Fault, LimitKind, SyntaxKind};
 use std::alloc::{AllocError, Global};
 use std::process::Abort;
 use std::test::Fail;
@@ -46,45 +46,45 @@ fn shown(alloc: Global, source: &[u8]) -> Result<String, AllocError> {
     }
 }
 
-/// What `^` and a letter stand for in a row.
-fn escape(letter: u8) -> &'static [u8] {
-    match letter {
-        b'n' => b"\n".as_slice(),
-        b'r' => b"\r".as_slice(),
-        b't' => b"\t".as_slice(),
-        b'm' => b"\xEF\xBB\xBF".as_slice(),
-        b'e' => b"\xC3\xA9".as_slice(),
-        b'c' => b"\xC3".as_slice(),
-        b'z' => b"\x00".as_slice(),
-        b'u' => b"\x1F".as_slice(),
-        b'd' => b"\x7F".as_slice(),
-        b'f' => b"\xFF".as_slice(),
-        _ => b"^".as_slice(),
+/// What `^` stands for in a row together with what follows it, and the rest of the row.
+fn escape(rest: &[u8]) -> (u8, &[u8]) {
+    match rest {
+        [b'n', tail @ ..] => (b'\n', tail),
+        [b'r', tail @ ..] => (b'\r', tail),
+        [b't', tail @ ..] => (b'\t', tail),
+        [high, low, tail @ ..] => {
+            let digits = [*high, *low];
+            let text = str::from_utf8(&digits).unwrap_or("");
+            (u8::from_str_radix(text, 16).unwrap_or(0), tail)
+        }
+        _ => (b'^', rest),
     }
 }
 
 /// The bytes of a source as a row has it.
-fn source_of(alloc: Global, row: &[u8]) -> Result<Vec<u8>, AllocError> {
-    let mut source = Vec::new(alloc);
-    let mut rest = row;
-    while let [b, more @ ..] = rest {
-        rest = more;
-        if *b != b'^' {
-            source.push(*b)?;
-        } else if let [letter, tail @ ..] = more {
-            source.extend_from_slice(escape(*letter))?;
-            rest = tail;
-        }
+fn source_of(alloc: Global, row: &str) -> Result<Vec<u8>, AllocError> {
+    let mut pieces = row.split('^');
+    let mut source = pieces.next().unwrap_or("").as_bytes().to_vec(alloc)?;
+    for piece in pieces {
+        let (byte, tail) = escape(piece.as_bytes());
+        source.push(byte)?;
+        source.extend_from_slice(tail)?;
     }
     Ok(source)
 }
 
+const ROWS: [&str; 6] = [WORDS, NAMED, MARKS, TEXTS, LINES, REFUSED];
+
+/// The source of a row and what is wanted of it.
+fn split_row(row: &str) -> (&str, &str) {
+    row.split_once(" -> ")
+        .unwrap_or((row, "a row without an arrow"))
+}
+
 fn check_rows(rt: &impl Abort, alloc: Global, rows: &str) -> Result<(), AllocError> {
     for row in rows.lines() {
-        let (source, want) = row
-            .split_once(" -> ")
-            .unwrap_or((row, "a row without an arrow"));
-        let bytes = source_of(alloc, source.as_bytes())?;
+        let (source, want) = split_row(row);
+        let bytes = source_of(alloc, source)?;
         assert_eq!(rt;
             shown(alloc, bytes.as_slice())?.as_str(),
             want,
@@ -96,9 +96,82 @@ fn check_rows(rt: &impl Abort, alloc: Global, rows: &str) -> Result<(), AllocErr
 
 #[test]
 fn sources_have_their_tokens(rt: HostRuntime) -> Result<(), Fail> {
-    for rows in [WORDS, NAMED, MARKS, TEXTS, LINES, REFUSED] {
+    for rows in ROWS {
         check_rows(&rt, rt.alloc(), rows)?;
     }
+    Ok(())
+}
+
+/// Whether a source has tokens or a refusal that names a place in it or its end.
+fn is_answered(alloc: Global, source: &[u8]) -> bool {
+    match lex(alloc, source) {
+        Ok(_) => true,
+        Err(Fault::Syntax { line, column, .. }) => {
+            (line, column) <= line_and_column(source, source.len())
+        }
+        Err(_) => false,
+    }
+}
+
+/// Whether a source is refused for its encoding, at a place or before it.
+fn is_no_text(alloc: Global, source: &[u8], place: usize) -> bool {
+    match lex(alloc, source) {
+        Err(Fault::Syntax { line, column, kind }) => {
+            kind == SyntaxKind::Encoding && (line, column) <= line_and_column(source, place)
+        }
+        _ => false,
+    }
+}
+
+/// Each beginning of a source is answered, and each of its bytes is tested for its encoding.
+fn check_beginnings(rt: &impl Abort, alloc: Global, source: &[u8]) -> Result<(), AllocError> {
+    for place in 0..source.len() {
+        let (front, back) = source.split_at(place);
+        assert!(rt; is_answered(alloc, front));
+        let mut broken = front.to_vec(alloc)?;
+        broken.push(0xFF)?;
+        broken.extend_from_slice(&back[1..])?;
+        assert!(rt; is_no_text(alloc, broken.as_slice(), place));
+    }
+    Ok(())
+}
+
+#[test]
+fn each_beginning_and_each_broken_byte_is_answered(rt: HostRuntime) -> Result<(), Fail> {
+    for rows in ROWS {
+        for row in rows.lines() {
+            let source = source_of(rt.alloc(), split_row(row).0)?;
+            check_beginnings(&rt, rt.alloc(), source.as_slice())?;
+        }
+    }
+    Ok(())
+}
+
+/// The letters and digits that stand for nothing behind a backslash.
+const NO_ESCAPES: &str = "abcdfghijklmopquvwxyzABCDEFGHIJKLMNOPQRSTUVWXYZ0123456789";
+
+#[test]
+fn other_escapes_are_left_out(rt: HostRuntime) -> Result<(), Fail> {
+    for letter in NO_ESCAPES.bytes() {
+        let source = [b'"', b'\\', letter, b'"'];
+        assert_eq!(rt; shown(rt.alloc(), &source)?.as_str(), "1:1 left out");
+    }
+    Ok(())
+}
+
+#[test]
+fn control_bytes_are_refused(rt: HostRuntime) -> Result<(), Fail> {
+    for byte in 0..32 {
+        let is_blank = byte == b'\t' || byte == b'\n' || byte == b'\r';
+        let want = if is_blank {
+            "Single 0..3"
+        } else {
+            "1:2 encoding"
+        };
+        let source = [b'\'', byte, b'\''];
+        assert_eq!(rt; shown(rt.alloc(), &source)?.as_str(), want);
+    }
+    assert_eq!(rt; shown(rt.alloc(), b"'\x7F'")?.as_str(), "1:2 encoding");
     Ok(())
 }
 

@@ -2,7 +2,7 @@
 
 ghost use Rattle.std.specs.Prelude.{◌≡◌, ◌<◌, ◌≤◌, false, length, drop, IfSome};
 ghost use Rattle.rr_lexer.specs.Texts.{is_sign, is_escape};
-ghost use Rattle.rr_lexer.specs.Scans.{piece, single_len, at_quote, at_brace, quote_sized, brace_sized, single_sized};
+ghost use Rattle.rr_lexer.specs.Scans.{piece, breaks_off, single_len, at_quote, at_brace, quote_sized, brace_sized, single_sized};
 
 use crate::class::{Class, class_of};
 use crate::kind::Kind;
@@ -71,23 +71,34 @@ fn piece(rest: &[u8]) -> Option<(bool, usize)>
 }
 
 /// Whether a piece has an escape, or a `#` before `@` or `$`, that is left out, before anything that ends it.
-pub fn breaks_off(rest: &[u8]) -> bool {
+pub fn breaks_off(rest: &[u8]) -> bool
+    ensures { result ≡ breaks_off rest.now Mode.Plain }
+{
     let mut mode = Mode::Plain;
     for b in rest {
-        mode = match (mode, *b) {
-            (Mode::Escaped, b'\r') => Mode::Returned,
-            (Mode::Escaped, _) => {
-                if !is_escape(*b) {
-                    return true;
-                }
-                Mode::Plain
+        if mode == Mode::Escaped {
+            if is_escape(*b) {
+                mode = Mode::Plain;
+            } else if *b == b'\r' {
+                mode = Mode::Returned;
+            } else {
+                return true;
             }
-            (Mode::Hash, b'@' | b'$') | (Mode::Returned, b'\n') => return true,
-            (Mode::Hash, b'{') | (_, b'"') => return false,
-            (_, b'\\') => Mode::Escaped,
-            (_, b'#') => Mode::Hash,
-            _ => Mode::Plain,
-        };
+        } else if mode == Mode::Hash && *b == b'{' {
+            return false;
+        } else if mode == Mode::Hash && (*b == b'@' || *b == b'$') {
+            return true;
+        } else if mode == Mode::Returned && *b == b'\n' {
+            return true;
+        } else if *b == b'"' {
+            return false;
+        } else if *b == b'\\' {
+            mode = Mode::Escaped;
+        } else if *b == b'#' {
+            mode = Mode::Hash;
+        } else {
+            mode = Mode::Plain;
+        }
     }
     false
 }

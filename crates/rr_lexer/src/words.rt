@@ -6,7 +6,7 @@ ghost use Rattle.rr_lexer.specs.Bytes.{class_of, is_word_byte};
 ghost use Rattle.rr_lexer.specs.Words.{takes_mark, takes_colon};
 ghost use Rattle.rr_lexer.specs.Scans.{unless_left_out, word_kind, sized, lower_at, upper_at, prefixed, variable_at, colon_at};
 
-use crate::class::{Class, byte_at, class_of, goes_on};
+use crate::class::{Class, byte_at, class_of, is_word_byte};
 use crate::kind::Kind;
 use crate::ops::op_at;
 use crate::reserved::{is_left_out, keyword_from};
@@ -18,7 +18,7 @@ fn word_len(rest: &[u8]) -> usize
     ensures within { result ≤ length rest.now }
 {
     for (i, b) in rest.iter().enumerate() {
-        if !goes_on(class_of(*b)) {
+        if !is_word_byte(*b) {
             return i;
         }
     }

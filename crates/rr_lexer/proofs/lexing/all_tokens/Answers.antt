@@ -11,12 +11,13 @@ returns-in_default-clause-fault c =
     let e = c.syntax.ensures in
     let free : NoneBegins (state_of c.loop-place.context) (drop c.loop-place.place s) = rw (← rest_is s c.loop-place.place) c.in_default.ensures in
     rw e.2 (inr (
-      c.refusal_at.ensures,
+      c.refusal_at.ensures.tokens,
       record {
         allowed = c.requires;
         place = c.loop-place.place;
         stuck = reached_stuck s c.loop-place.tokens.items (state_of c.loop-place.context) c.loop-place.place c.loop-place-test.true free c.loop-place.invariant.reached;
         at = e.3;
+        reason = rw (← rest_is s c.loop-place.place) c.refusal_at.ensures.is;
       },
     ))
 

@@ -3,8 +3,8 @@ use Rattle.std.proofs.lemmas.List.Sums.{prefix_len_is}
 use Rattle.rr_lexer.specs.Bytes.{is_word_byte}
 use Rattle.rr_lexer.proofs.words.word_len.Goals as goal
 
-pub returns-then-not-goes_on-clause-is : goal.returns-then-not-goes_on-clause-is
-returns-then-not-goes_on-clause-is c =
+pub returns-then-not-is_word_byte-clause-is : goal.returns-then-not-is_word_byte-clause-is
+returns-then-not-is_word_byte-clause-is c =
     sym (prefix_len_is is_word_byte c.args.rest.now c.loop-i.i 0 (omega arith) c.loop-i.invariant (λ _. cc))
 
 pub returns-clause-is : goal.returns-clause-is
