@@ -21,3 +21,12 @@ pub mod Naming
 pub mod Placing
 pub mod Writing
 pub mod Wells
+pub mod Pairing
+pub mod Keys
+pub mod Entering
+pub mod Removing
+pub mod Fielding
+pub mod Standing
+pub mod Parting
+pub mod Effects
+pub mod PublishedKeys

@@ -49,7 +49,7 @@ first_or : (x : ℕ × List Object) (xs : Below) (e : ℕ × List Object) → Co
 first_or x xs e (zero, lt, q) = inl q
 first_or x xs e (suc i, lt, q) = inr (i, omega (arith, lt), q)
 
-in_later : (x : ℕ × List Object) (xs : Below) (e : ℕ × List Object) → Contains xs e → Contains (x ∷ xs) e
+pub in_later : (x : ℕ × List Object) (xs : Below) (e : ℕ × List Object) → Contains xs e → Contains (x ∷ xs) e
 in_later x xs e (i, lt, q) = (suc i, omega (arith, lt), q)
 
 module _ (w : Whole) (h : IsWholeSound w) where
@@ -97,7 +97,7 @@ sound_is_sealed slots below t = record {
 }
 
 -- a number that has an entry is found
-finds : (below : Below) (c : ℕ) (os : List Object) → Contains below (c, os) → (ps : List Object) × (cluster_at below c ≡ Some ps)
+pub finds : (below : Below) (c : ℕ) (os : List Object) → Contains below (c, os) → (ps : List Object) × (cluster_at below c ≡ Some ps)
 finds [] c os has = absurd (no_entry (c, os) has)
 finds (x ∷ xs) c os has = by (nat_eq c x.0) refl (finds xs c os)
   where

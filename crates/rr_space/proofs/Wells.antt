@@ -1,12 +1,16 @@
 -- Spaces are sound: what their fields keep says that no reference leads nowhere.
-use Rattle.std.proofs.Common.{◌≡◌, ℕ, zero, suc, ◌≤◌, List, [], ◌∷◌, ◌++◌, length, map, Contains, sym, ap, ◌∙◌, subst, refl, arith}
+use Rattle.std.proofs.Common.{◌≡◌, ℕ, zero, suc, ◌≤◌, List, [], ◌∷◌, ◌++◌, length, map, slice_get, Some, Contains, sym, ap, ◌∙◌, subst, refl, arith}
 use Rattle.std.proofs.lemmas.List.{length-map}
 use Rattle.std.proofs.lemmas.List.Elements.{Contains-append_left, Contains-append_right}
-use Rattle.std.proofs.lemmas.Option.{same_Some}
-use Rattle.rr_space.specs.Graph.{Label, Value}
+use Rattle.std.proofs.lemmas.Option.{same_Some, none-some}
+use Rattle.rr_space.specs.Graph.{Label, Value, Object, IsSolid, shell}
 use Rattle.rr_space.specs.Tables.{Whole, Table, below_hold, outer_objects, numbered_object}
-use Rattle.rr_space.specs.Parts.{Parts, value_of, value_triple, below_ref, below_parts}
-use Rattle.rr_space.specs.Sound.{HasPlaceIn, IsStanding, IsBelowSound, IsSlotSound, IsTableSound, IsWell, IsHold}
+use Rattle.rr_space.specs.Parts.{Parts, value_of, value_triple, below_ref, below_parts, below_all, sealed_parts, sealed_object, sealed_kind}
+use Rattle.rr_space.specs.Within.{AllSealedWithin}
+use Rattle.rr_space.specs.declared.refer.Sealed.{Sealed}
+use Rattle.rr_space.specs.declared.refer.Sealed.TheVariants.{Text, Array, Hash, Object as PlainObject, Exception}
+use Rattle.rr_space.proofs.Within.{sealed_within}
+use Rattle.rr_space.specs.Sound.{HasPlaceIn, IsStanding, IsBelowSound, IsSlotSound, IsTableSound, IsWell, IsHold, IsWholeSound}
 use Rattle.rr_space.specs.Views.{IsWithin, AllWithin, IsHeldWithin, AllHeldWithin, slot_of, below_held, node_parts}
 use Rattle.rr_space.specs.declared.refer.Ref.{Ref}
 use Rattle.rr_space.specs.declared.refer.Ref.TheVariants.{Nil, Truth, Int, Symbol, Class, Ractor, Local, Shared}
@@ -79,3 +83,41 @@ all_sound hs all = record {
 
 pub well_is : (hs : List Held) (limit owner : ℕ) (t : Table) → table_of hs limit owner ≡ t → (length hs ≤ limit) × AllHeldWithin (length hs) hs → IsWell t
 well_is hs limit owner t e all = subst IsWell e (record { room = let z = length-map hs slot_of in omega (arith, z, all.0); sound = all_sound hs all.1 })
+
+-- clusters
+sealed_solid : (s : Sealed) → IsSolid (sealed_object s)
+sealed_solid s = record { frozen = refl; no_shell = whole s }
+  where
+    whole : (s : Sealed) → sealed_kind s ≡ shell → ⊥
+    whole (Text b) e = cc
+    whole (Array rs) e = cc
+    whole (Hash ps) e = cc
+    whole (PlainObject c fs) e = cc
+    whole (Exception c r) e = cc
+
+sealed_below : (k : ℕ) (ss : List Sealed) → AllSealedWithin k ss → IsBelowSound (below_all ss)
+sealed_below k [] all = none_sound
+sealed_below k (s ∷ ss) all = append_sound (below_parts (sealed_parts s)) (below_all ss) (parts_below k (sealed_parts s) all.0) (sealed_below k ss all.1)
+
+pub sealed_in : (ss : List Sealed) (p : ℕ) (s : Sealed) (e : ℕ × List Object) → slice_get ss p ≡ Some s → Contains (below_parts (sealed_parts s)) e → Contains (below_all ss) e
+sealed_in [] p s e at has = absurd (none-some s at)
+sealed_in (x ∷ ss) zero s e at has = Contains-append_left (below_parts (sealed_parts x)) (below_all ss) e (subst (λ y. Contains (below_parts (sealed_parts y)) e) (sym (same_Some x s at)) has)
+sealed_in (x ∷ ss) (suc p) s e at has = Contains-append_right (below_parts (sealed_parts x)) (below_all ss) e (sealed_in ss p s e at has)
+
+abbrev pub cluster_of : ℕ → List Sealed → Whole
+cluster_of c ss = record { number = c; own = map sealed_object ss; below = below_all ss }
+
+pub cluster_sound : (c : ℕ) (ss : List Sealed) → AllSealedWithin (length ss) ss → IsWholeSound (cluster_of c ss)
+cluster_sound c ss all = record {
+  solid = λ p o at. let m = mapped_at sealed_object ss p o at in subst IsSolid m.2 (sealed_solid m.0);
+  within = λ p o at l x has.
+      let m = mapped_at sealed_object ss p o at in
+      let parts = sealed_parts m.0 in
+      subst (λ k. IsStanding k (below_all ss) x) (sym (length-map ss sealed_object))
+      (standing_later (length ss) (length ss) (below_parts parts) (below_all ss) (omega arith) (λ e h. sealed_in ss p m.0 e m.1 h) x
+      (parts_standing (length ss) parts (sealed_within (length ss) ss p m.0 all m.1) l x (subst (λ (y : Object). Contains y.triples (l, x)) (sym m.2) has)));
+  below = sealed_below (length ss) ss all;
+}
+
+pub is_sound : (c : ℕ) (ss : List Sealed) (w : Whole) → cluster_of c ss ≡ w → AllSealedWithin (length ss) ss → IsWholeSound w
+is_sound c ss w e all = subst IsWholeSound e (cluster_sound c ss all)

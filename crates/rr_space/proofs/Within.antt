@@ -1,6 +1,13 @@
 -- References that are within a table are within a longer one.
-use Rattle.std.proofs.Common.{ℕ, Bool, ◌≤◌, List, [], ◌∷◌, ◌++◌, length, arith, length-append}
-use Rattle.rr_space.specs.Parts.{Parts}
+use Rattle.std.proofs.Common.{◌≡◌, ℕ, zero, suc, Bool, ◌≤◌, List, [], ◌∷◌, ◌++◌, length, slice_get, Option, Some, None, IfSome, sym, subst, arith, length-append}
+use Rattle.std.specs.Option.{option_map}
+use Rattle.std.proofs.lemmas.Option.{same_Some, none-some}
+use Rattle.rr_space.specs.Graph.{Label}
+use Rattle.rr_space.specs.Labels.{labelled}
+use Rattle.rr_space.specs.Within.{AllSealedWithin}
+use Rattle.rr_space.specs.declared.label.Label.{Label as CodeLabel}
+use Rattle.rr_space.specs.declared.refer.Sealed.{Sealed}
+use Rattle.rr_space.specs.Parts.{Parts, sealed_parts}
 use Rattle.rr_space.specs.Views.{IsWithin, AllWithin, IsNodeWithin, IsHeldWithin, AllHeldWithin, node_parts}
 use Rattle.rr_space.specs.declared.refer.Ref.{Ref}
 use Rattle.rr_space.specs.declared.refer.Ref.TheVariants.{Nil, Truth, Int, Symbol, Class, Ractor, Local, Shared}
@@ -46,3 +53,18 @@ pushed_within hs node frozen all new =
     let k = length (hs ++ Whole node frozen ∷ []) in
     let more : length hs ≤ k = omega (arith, length-append hs (Whole node frozen ∷ [])) in
     all_push k hs (Whole node frozen) (all_later (length hs) k more hs all) (node_within_later (length hs) k more node new)
+
+-- a part of an object whose references are within
+pub part_within : (m : ℕ) (ts : Parts) (k : ℕ) (r : Option (CodeLabel × Ref)) → AllWithin m ts → option_map labelled r ≡ slice_get ts k → IfSome r (λ p. IsWithin m p.1)
+part_within m ts k None all e = tt
+part_within m ts k (Some p) all e = there ts k (labelled p) all (sym e)
+  where
+    there : (ts : Parts) (k : ℕ) (t : Label × Ref) → AllWithin m ts → slice_get ts k ≡ Some t → IsWithin m t.1
+    there [] k t all e = absurd (none-some t e)
+    there (x ∷ ts) zero t all e = subst (λ (y : Label × Ref). IsWithin m y.1) (same_Some x t e) all.0
+    there (x ∷ ts) (suc k) t all e = there ts k t all.1 e
+
+pub sealed_within : (m : ℕ) (ss : List Sealed) (p : ℕ) (s : Sealed) → AllSealedWithin m ss → slice_get ss p ≡ Some s → AllWithin m (sealed_parts s)
+sealed_within m [] p s all at = absurd (none-some s at)
+sealed_within m (x ∷ ss) zero s all at = subst (λ y. AllWithin m (sealed_parts y)) (same_Some x s at) all.0
+sealed_within m (x ∷ ss) (suc p) s all at = sealed_within m ss p s all.1 at

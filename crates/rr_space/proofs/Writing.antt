@@ -28,9 +28,13 @@ pub places_push : (rs : List Ref) (j : ℕ) (r : Ref) → places_from j (rs ++ r
 places_push [] j r = ap (λ n. (Place n, r) ∷ []) (let z : j ≡ j + 0 = omega arith in z)
 places_push (x ∷ rs) j r = ap (λ ts. (Place j, x) ∷ ts) (places_push rs (j + 1) r ∙ ap (λ n. places_from (j + 1) rs ++ (Place n, r) ∷ []) (let z : (j + 1) + length rs ≡ j + suc (length rs) = omega arith in z))
 
-map_push : {A B : Type 0} (f : A → B) (xs : List A) (x : A) → map f (xs ++ x ∷ []) ≡ map f xs ++ f x ∷ []
+pub map_push : {A B : Type 0} (f : A → B) (xs : List A) (x : A) → map f (xs ++ x ∷ []) ≡ map f xs ++ f x ∷ []
 map_push f [] x = refl
 map_push f (y ∷ xs) x = ap (λ ys. f y ∷ ys) (map_push f xs x)
+
+pub map_push_two : {A B : Type 0} (f : A → B) (xs : List A) (x y : A) → map f (xs ++ x ∷ y ∷ []) ≡ map f xs ++ f x ∷ f y ∷ []
+map_push_two f [] x y = refl
+map_push_two f (z ∷ xs) x y = ap (λ ys. f z ∷ ys) (map_push_two f xs x y)
 
 pub parts_set : (k : ℕ) (ts : Parts) (p : ℕ) (t : Label × Ref) → AllWithin k ts → IsWithin k t.1 → AllWithin k (slice_set ts p t)
 parts_set k [] p t all w = tt
@@ -41,13 +45,13 @@ pub parts_push : (k : ℕ) (ts : Parts) (t : Label × Ref) → AllWithin k ts �
 parts_push k [] t all w = (w, tt)
 parts_push k (x ∷ ts) t all w = (all.0, parts_push k ts t all.1 w)
 
-below_set : (ts : Parts) (p : ℕ) (t : Label × Ref) (e : ℕ × List Object) → Contains (below_parts (slice_set ts p t)) e → Contains (below_parts ts) e ⊎ Contains (below_ref t.1) e
+pub below_set : (ts : Parts) (p : ℕ) (t : Label × Ref) (e : ℕ × List Object) → Contains (below_parts (slice_set ts p t)) e → Contains (below_parts ts) e ⊎ Contains (below_ref t.1) e
 below_set [] p t e has = inl has
 below_set (x ∷ ts) zero t e has = ⊎_elim (λ q. inr q) (λ q. inl (Contains-append_right (below_ref x.1) (below_parts ts) e q)) (Contains-append_cases (below_ref t.1) (below_parts ts) e has)
 below_set (x ∷ ts) (suc p) t e has = ⊎_elim (λ q. inl (Contains-append_left (below_ref x.1) (below_parts ts) e q))
     (λ q. ⊎_elim (λ r. inl (Contains-append_right (below_ref x.1) (below_parts ts) e r)) (λ r. inr r) (below_set ts p t e q)) (Contains-append_cases (below_ref x.1) (below_parts (slice_set ts p t)) e has)
 
-below_push : (ts : Parts) (t : Label × Ref) (e : ℕ × List Object) → Contains (below_parts (ts ++ t ∷ [])) e → Contains (below_parts ts) e ⊎ Contains (below_ref t.1) e
+pub below_push : (ts : Parts) (t : Label × Ref) (e : ℕ × List Object) → Contains (below_parts (ts ++ t ∷ [])) e → Contains (below_parts ts) e ⊎ Contains (below_ref t.1) e
 below_push [] t e has = ⊎_elim (λ q. inr q) (λ q. inl q) (Contains-append_cases (below_ref t.1) [] e has)
 below_push (x ∷ ts) t e has = ⊎_elim (λ q. inl (Contains-append_left (below_ref x.1) (below_parts ts) e q))
     (λ q. ⊎_elim (λ r. inl (Contains-append_right (below_ref x.1) (below_parts ts) e r)) (λ r. inr r) (below_push ts t e q)) (Contains-append_cases (below_ref x.1) (below_parts (ts ++ t ∷ [])) e has)

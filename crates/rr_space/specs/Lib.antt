@@ -1,6 +1,8 @@
 pub mod Graph
 pub mod Tables
 pub mod Parts
+pub mod Within
+pub mod Elements
 pub mod Views
 pub mod Falls
 pub mod Kinds
@@ -21,3 +23,6 @@ pub mod Changes
 pub mod Sound
 pub mod Marks
 pub mod Leaves
+pub mod Writes
+pub mod Effects
+pub mod Lookups

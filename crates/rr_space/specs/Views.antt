@@ -1,11 +1,12 @@
 -- How what stands in a slot of a space gives its object, its keys and the clusters that it leads to.
-use Rattle.std.specs.Prelude.{not, ◌&&◌, ℕ, ◌<◌, Bool, true, false, List, [], ◌∷◌, map, slice_get, Option, Some, None, slice_set, ◌≡◌, length, Contains, ◌⊎◌}
+use Rattle.std.specs.Prelude.{not, ◌&&◌, ℕ, Bool, true, false, List, [], ◌∷◌, map, slice_get, Option, Some, None, slice_set, ◌≡◌, length, Contains, ◌⊎◌}
 use Rattle.rr_base.specs.declared.name.TheConstants.ClassId.{ARRAY, HASH, MOVED_OBJECT, STRING}
 use Rattle.rr_space.specs.Graph.{Nil, Truth, Integer, SymbolNo, ClassNo, RactorNo, Kind, Object, text, array, hash, plain, exception, shell}
 use Rattle.rr_space.specs.Tables.{Below, Slot, Here, Led, Table, HashKey, PlainKey, TextKey, below_hold, outer_objects, published_at}
 pub use Rattle.rr_space.specs.Parts.{value_of}
 use Rattle.rr_space.specs.Parts.{Parts, places_from, pairs_from, field_part, raised_parts, below_ref, below_parts, value_triple, bytes_of, is_frozen_object}
 use Rattle.rr_space.specs.Sound.{IsHold}
+pub use Rattle.rr_space.specs.Within.{IsWithin, AllWithin}
 use Rattle.rr_space.specs.declared.refer.Ref.{Ref}
 use Rattle.rr_space.specs.declared.refer.Ref.TheVariants.{Local, Shared}
 use Rattle.rr_space.specs.declared.node.Key.{Key}
@@ -33,10 +34,20 @@ entry_pair e = e.1
 
 abbrev pub node_parts : Node → Parts
 node_parts (Text bytes) = []
-node_parts (Array items) = places_from 0 items.items
+node_parts (Array items) = places_from 0 items
 node_parts (Hash entries) = pairs_from 0 (map entry_pair entries.value.entries)
 node_parts (PlainObject class fields) = map field_part fields.items
 node_parts (Exception class raised) = raised_parts raised.value
+
+-- the elements of an array; none of anything else
+abbrev pub node_items : Node → List Ref
+node_items (Array items) = items
+node_items _ = []
+
+-- the pairs of a hash, in order of insertion; none of anything else
+abbrev pub node_pairs : Node → List (Ref × Ref)
+node_pairs (Hash entries) = map entry_pair entries.value.entries
+node_pairs _ = []
 
 -- the keys of a hash, in order of insertion; none of anything else
 abbrev pub node_keys : Node → List HashKey
@@ -89,16 +100,6 @@ abbrev pub held_keys : Held → List HashKey
 held_keys (Whole node frozen) = node_keys node
 held_keys Shell = []
 held_keys (Forward p c) = []
-
--- the reference is an immediate, a slot below k, or a place that its cluster has
-abbrev pub IsWithin : ℕ → Ref → Type 0
-IsWithin k (Local n) = n < k
-IsWithin k (Shared p c) = IsHold p c.now
-IsWithin k _ = Unit {0}
-
-abbrev pub AllWithin : ℕ → Parts → Type 0
-AllWithin k [] = Unit {0}
-AllWithin k (t ∷ ts) = IsWithin k t.1 × AllWithin k ts
 
 -- each reference of the node is within
 abbrev pub IsNodeWithin : ℕ → Node → Type 0
@@ -166,11 +167,15 @@ pub record StandsAt (t : Table) (n : ℕ) (h : Held) : Type 0 where
   pub below : slice_get t.below n ≡ Some (below_held h)
   pub keys : slice_get t.keys n ≡ Some (held_keys h)
 
--- what the slot n leads to now it led to before, or the value leads to it; all other slots lead where they led
-pub record IsLedBy (value : Ref) (n : ℕ) (old new : List Below) : Type 0 where
+-- what the slot n leads to now it led to before, or came in; all other slots lead where they led
+pub record IsLedAlso (more : Below) (n : ℕ) (old new : List Below) : Type 0 where
   pub size : length new ≡ length old
   pub others : (m : ℕ) → (m ≡ n → ⊥) → slice_get new m ≡ slice_get old m
-  pub same : (a b : Below) (e : ℕ × List Object) → slice_get old n ≡ Some a → slice_get new n ≡ Some b → Contains b e → Contains a e ⊎ Contains (below_ref value) e
+  pub same : (a b : Below) (e : ℕ × List Object) → slice_get old n ≡ Some a → slice_get new n ≡ Some b → Contains b e → Contains a e ⊎ Contains more e
+
+-- the same, where the value came in
+abbrev pub IsLedBy : Ref → ℕ → List Below → List Below → Type 0
+IsLedBy value n old new = IsLedAlso (below_ref value) n old new
 
 -- kind, class, bytes and keys are the same, whatever the references are
 pub record IsHeadKept (old new : Node) : Type 0 where
@@ -178,6 +183,12 @@ pub record IsHeadKept (old new : Node) : Type 0 where
   pub class : node_class new ≡ node_class old
   pub bytes : node_bytes new ≡ node_bytes old
   pub keys : node_keys new ≡ node_keys old
+
+-- kind, class and bytes are the same, whatever the references and keys are
+pub record IsBareHeadKept (old new : Node) : Type 0 where
+  pub kind : node_kind new ≡ node_kind old
+  pub class : node_class new ≡ node_class old
+  pub bytes : node_bytes new ≡ node_bytes old
 
 -- the reference is an immediate, or leads to a frozen object
 abbrev pub frozen_at : Table → Ref → Bool

@@ -10,6 +10,7 @@ ghost use Rattle.rr_space.specs.Owners.{ReadingsAreApart, RootsAreLocal};
 ghost use Rattle.rr_space.specs.Marks.{MarksDecide};
 ghost use Rattle.rr_space.specs.Moves.{ForwardedIsExact, KeepingAddsUp, ForwardsKeep, MoreKeeps};
 ghost use Rattle.rr_space.specs.Sound.{SoundIsSealed, SoundIsShut};
+ghost use Rattle.rr_space.specs.Effects.{DeepFreezingKeeps, EmptyingNothing, PromotedIsPublished, ClosedStandsBehind};
 ghost use Rattle.rr_space.specs.Steps.{HandsOn, PublishingIsTurning, RemakingIsAStep, DroppingIsAStep};
 
 /// A search that stops at published objects decides who is shareable.
@@ -81,6 +82,15 @@ pub fn shown_by_forwards()
     ensures forwards { ForwardsKeep }
     ensures more { MoreKeeps }
     ensures adds_up { KeepingAddsUp }
+{}
+
+/// Freezing keeps what objects lead to; to empty no slot changes none; what is shareable and promoted leads to no object
+/// of the space; a closed message stands behind whatever objects it comes to.
+pub fn shown_by_effects()
+    ensures freezing { DeepFreezingKeeps }
+    ensures emptying { EmptyingNothing }
+    ensures promoted { PromotedIsPublished }
+    ensures closed { ClosedStandsBehind }
 {}
 
 /// What the definitions say of small graphs: cycles, shells, sharing.

@@ -1,11 +1,16 @@
 //! The objects of one ractor, and the definitions of the graph that they are.
 #![tactic(auto)]
 
+mod entries;
+mod fields;
+mod items;
 mod kind;
 mod label;
 mod laws;
 mod leaf;
+mod lookups;
 mod node;
+mod pairs;
 mod part;
 mod refer;
 mod replace;
@@ -13,14 +18,16 @@ mod space;
 mod walk;
 mod write;
 
+pub use items::Items;
 pub use kind::Kind;
 pub use label::Label;
 pub use laws::{
-    shown_by_cases, shown_by_changes, shown_by_copying, shown_by_dropping, shown_by_embedding,
-    shown_by_examples, shown_by_forwards, shown_by_handing_on, shown_by_leaves, shown_by_marks,
-    shown_by_publishing, shown_by_reading, shown_by_remaking, shown_by_soundness, shown_by_spaces,
+    shown_by_cases, shown_by_changes, shown_by_copying, shown_by_dropping, shown_by_effects,
+    shown_by_embedding, shown_by_examples, shown_by_forwards, shown_by_handing_on, shown_by_leaves,
+    shown_by_marks, shown_by_publishing, shown_by_reading, shown_by_remaking, shown_by_soundness,
+    shown_by_spaces,
 };
-pub use node::{Entries, Items, Key, Node};
+pub use node::{Entries, Key, Node};
 pub use refer::{Cluster, Name, Raised, Ref, Sealed};
 pub use space::Space;
 

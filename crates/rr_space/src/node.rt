@@ -1,17 +1,17 @@
 //! What an object is made of, and what stands in a slot.
 
-ghost use Rattle.std.specs.Prelude.{◌≡◌, ◌<◌, [], ◌∷◌, ◌++◌, length, map, slice_get, slice_set, IfOk, IfErr};
+ghost use Rattle.std.specs.Prelude.{◌≡◌, ℕ, ◌<◌, List, [], ◌∷◌, ◌++◌, length, map, remove, slice_get, slice_set, Contains, IfOk, IfErr, IfSome, IfNone};
 ghost use Rattle.std.specs.Option.{option_map};
-ghost use Rattle.rr_space.specs.Views.{object_of, node_kind, node_parts, entry_pair, IsHeadKept};
-ghost use Rattle.rr_space.specs.Graph.{array, Place as PlaceLabel};
+ghost use Rattle.rr_space.specs.Views.{object_of, node_kind, node_items, node_parts, below_node, entry_pair, IsHeadKept, IsWithin, IsNodeWithin};
+ghost use Rattle.rr_space.specs.Graph.{array, Place as PlaceLabel, Object as ObjectView};
 ghost use Rattle.rr_space.specs.Kinds.{kind_named, class_named};
 ghost use Rattle.rr_space.specs.Labels.{labelled};
 
+use crate::items::Items;
 use crate::kind::Kind;
 use crate::label::Label;
-use crate::part::{half_of_pair, nth_element, nth_field, nth_of_raised};
+use crate::part::{half_of_pair, nth_field, nth_of_raised};
 use crate::refer::{Cluster, Raised, Ref};
-use crate::replace::replace_at;
 use indexmap::IndexMap;
 use rr_base::{ClassId, Fault, Sym};
 
@@ -29,9 +29,6 @@ pub enum Key {
     Ractor(u16),
     Text(Vec<u8>),
 }
-
-/// The elements of an array.
-pub type Items = Vec<Ref>;
 
 /// The pairs of a hash, in order of insertion.
 pub type Entries = IndexMap<Key, (Ref, Ref)>;
@@ -103,7 +100,7 @@ impl Node {
     {
         match self {
             Node::Text(_) => None,
-            Node::Array(items) => nth_element(items, k),
+            Node::Array(items) => place_of_item(k, items.get(k)),
             Node::Hash(entries) => half_of_pair(pair_at(entries, k / 2), k),
             Node::Object(_, fields) => nth_field(fields, k),
             Node::Exception(_, raised) => nth_of_raised(raised, k),
@@ -131,12 +128,11 @@ impl Node {
         ensures head { IsHeadKept self result }
     {
         match self {
-            Node::Array(mut items) => {
+            Node::Array(items) => {
                 if place >= items.len() {
                     return Node::Array(items);
                 }
-                replace_at(&mut items, place, value);
-                Node::Array(items)
+                Node::Array(items.with_set(place, value))
             }
             other => other,
         }
@@ -151,12 +147,40 @@ impl Node {
         ensures head { IsHeadKept self result.0 }
     {
         match self {
-            Node::Array(mut items) => match items.push(value) {
-                Ok(()) => (Node::Array(items), Ok(())),
-                Err(_) => (Node::Array(items), Err(Fault::Memory)),
-            },
+            Node::Array(items) => {
+                let (changed, pushed) = items.with(value);
+                (Node::Array(changed), pushed)
+            }
             other => (other, Ok(())),
         }
+    }
+
+    /// The node without an element of an array, and that element; as it is where it is no array or has no such element.
+    pub(crate) fn without_element(self, place: usize) -> (Node, Option<Ref>)
+        ensures taken { node_kind self ≡ array → result.1 ≡ slice_get (node_items self) place }
+        ensures items { node_kind self ≡ array → node_items result.0 ≡ remove (node_items self) place }
+        ensures none { IfNone result.1 (node_parts result.0 ≡ node_parts self) }
+        ensures head { IsHeadKept self result.0 }
+        ensures within { (k : ℕ) → IsNodeWithin k self → IsNodeWithin k result.0 × IfSome result.1 (λ r. IsWithin k r) }
+        ensures below { (e : ℕ × List ObjectView) → Contains (below_node result.0) e → Contains (below_node self) e }
+    {
+        match self {
+            Node::Array(items) => match items.get(place) {
+                Some(taken) => (Node::Array(items.without(place)), Some(taken)),
+                None => (Node::Array(items), None),
+            },
+            other => (other, None),
+        }
+    }
+}
+
+/// The `k`-th element with its place.
+fn place_of_item(k: usize, item: Option<Ref>) -> Option<(Label, Ref)>
+    ensures { option_map labelled result ≡ option_map (λ r. (PlaceLabel k, r)) item }
+{
+    match item {
+        Some(item) => Some((Label::Place(k), item)),
+        None => None,
     }
 }
 

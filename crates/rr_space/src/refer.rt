@@ -1,9 +1,12 @@
 //! References, and the clusters that shared ones lead into.
 
-ghost use Rattle.std.specs.Prelude.{◌≡◌, length, slice_get, map, IfOk, IfErr};
+ghost use Rattle.std.specs.Prelude.{◌≡◌, ℕ, length, slice_get, map, IfSome, IfOk, IfErr};
 ghost use Rattle.std.specs.Option.{option_map};
 ghost use Rattle.rr_space.specs.Parts.{bytes_of, sealed_parts, value_of, sealed_object, below_all};
 ghost use Rattle.rr_space.specs.Parts.{is_frozen_object};
+ghost use Rattle.rr_space.specs.Within.{IsWithin, AllSealedWithin};
+ghost use Rattle.rr_space.specs.Sound.{IsWholeSound};
+ghost use Rattle.rr_space.specs.Tables.{numbered};
 ghost use Rattle.rr_space.specs.Names.{value_named};
 ghost use Rattle.rr_space.specs.Labels.{labelled, labelled_value, triples_of};
 ghost use Rattle.rr_space.specs.Kinds.{object_kind, object_class};
@@ -97,7 +100,7 @@ pub enum Sealed {
 #[derive(Drop)]
 pub struct Cluster {
     number: u32,
-    nodes: Vec<Sealed>,
+    pub(crate) nodes: Vec<Sealed>,
 }
 
 impl Model for Cluster {
@@ -109,6 +112,10 @@ impl Model for Cluster {
     ghost use Rattle.rr_space.specs.Parts.{sealed_object, below_all};
 
     ghost view = { λ a. record { number = a.number; own = map sealed_object a.nodes.items; below = below_all a.nodes.items } };
+
+    ghost use Rattle.rr_space.specs.Within.{AllSealedWithin};
+
+    ghost invariant = { λ a. AllSealedWithin (length a.nodes.items) a.nodes.items };
 
     ghost size = { λ v. 2 * length v.below };
 
@@ -159,6 +166,7 @@ impl Cluster {
 
     /// A cluster of these objects, whose `Ref::Local`s are places among them. It has the number 0 until it is published.
     pub fn new(nodes: Vec<Sealed>) -> Cluster
+        requires { AllSealedWithin (length nodes.items) nodes.items }
         ensures own { result.own ≡ map sealed_object nodes.items }
         ensures below { result.below ≡ below_all nodes.items }
         ensures number { result.number ≡ 0 }
@@ -206,9 +214,10 @@ impl Cluster {
         }
     }
 
-    /// The number of objects.
+    /// The number of objects. They are frozen throughout, and no reference in them leads nowhere.
     pub fn len(&self) -> usize
-        ensures { result ≡ length self.now.own }
+        ensures count { result ≡ length self.now.own }
+        ensures sound { IsWholeSound self.now }
     {
         self.nodes.len()
     }
@@ -225,12 +234,27 @@ impl Cluster {
 
     /// The `k`-th reference in the object under `place`, with its label. A `Ref::Local` is a place of this cluster.
     pub(crate) fn part(&self, place: u32, k: usize) -> Option<(Label, Ref)>
-        ensures { option_map labelled_value result ≡ slice_get (triples_of (slice_get self.now.own place)) k }
+        ensures part { option_map labelled_value result ≡ slice_get (triples_of (slice_get self.now.own place)) k }
+        ensures within { IfSome result (λ p. IsWithin (length self.now.own) p.1) }
     {
         if (place as usize) < self.nodes.len() {
             self.nodes[place as usize].part(k)
         } else {
             None
+        }
+    }
+}
+
+impl Cluster {
+    /// A value of an object of the cluster, as it is seen from outside.
+    pub(crate) fn outward(&'static self, value: Ref) -> Ref
+        ensures is { value_of result ≡ numbered self.now.number (value_of value) }
+        ensures within { IsWithin (length self.now.own) value → (n : ℕ) → IsWithin n result }
+    {
+        let _ = &self.nodes;
+        match value {
+            Ref::Local(inner) => Ref::Shared(inner, self),
+            other => other,
         }
     }
 }

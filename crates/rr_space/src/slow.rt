@@ -1,7 +1,7 @@
 //! A slow program for what a value leads to and whether it is shareable, and the small graphs of `specs/Examples` run
 //! through it.
 
-use crate::{Kind, Node, Ref, Space};
+use crate::{Items, Kind, Node, Ref, Space};
 use rr_base::RactorNo;
 use std::alloc::{AllocError, Global};
 use std::test::Fail;
@@ -32,7 +32,7 @@ a way that ends at an open text|f3 t f1 f2|0 1 2 3|no";
 fn begin(alloc: Global, space: &mut Space, word: &str) -> Result<(), Fail> {
     match word.as_bytes() {
         [b't' | b'T', ..] => space.alloc(Node::Text(b"a".to_vec(alloc)?))?,
-        _ => space.alloc(Node::Array(Vec::new(alloc)))?,
+        _ => space.alloc(Node::Array(Items::new(alloc)))?,
     };
     Ok(())
 }

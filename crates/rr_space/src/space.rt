@@ -79,7 +79,8 @@ impl Space {
     pub fn is_full(&self) -> bool
         ensures { IsTrue result ↔ length self.now.slots ≡ self.now.limit }
     {
-        self.slots.len() == self.limit as usize
+        let count = self.slots.len();
+        count == self.limit as usize
     }
 
     /// A new object, not frozen, under the next slot. The references in `node` lead to objects that are there.

@@ -1,8 +1,9 @@
 //! What objects lead to, one reference at a time, and when two values are the same.
 
-ghost use Rattle.std.specs.Prelude.{◌≡◌, ◌↔◌, length, slice_get, Contains, IsTrue, IfSome, IfNone};
+ghost use Rattle.std.specs.Prelude.{◌≡◌, ◌↔◌, ℕ, length, slice_get, Contains, IsTrue, IfSome, IfNone};
 ghost use Rattle.std.specs.Option.{option_map};
 ghost use Rattle.rr_space.specs.Graph.{Value};
+ghost use Rattle.rr_space.specs.Within.{IsWithin};
 ghost use Rattle.rr_space.specs.Tables.{resolve, outer_objects};
 ghost use Rattle.rr_space.specs.Parts.{value_of};
 ghost use Rattle.rr_space.specs.Views.{can_freeze_at, can_write_at, frozen_at};
@@ -31,7 +32,8 @@ impl Space {
 
     /// The `k`-th reference in the object that `value` leads to, with its label; none past the last, or for an immediate.
     pub fn part(&self, value: Ref, k: usize) -> Option<(Label, Ref)>
-        ensures { option_map labelled_value result ≡ slice_get (triples_at self.now value) k }
+        ensures part { option_map labelled_value result ≡ slice_get (triples_at self.now value) k }
+        ensures within { IfSome result (λ p. IsWithin (length self.now.slots) p.1) }
     {
         match value {
             Ref::Local(slot) => {
@@ -53,6 +55,7 @@ impl Space {
     /// hashes are reached faster by `part`.
     pub fn read(&self, value: Ref, label: Label) -> Option<Ref>
         ensures some { IfSome result (λ r. Contains (triples_at self.now value) (label_of label, value_of r)) }
+        ensures within { IfSome result (λ r. IsWithin (length self.now.slots) r) }
         ensures none { IfNone result ((x : Value) → Contains (triples_at self.now value) (label_of label, x) → ⊥) }
     {
         for k in 0..self.arity(value) {
@@ -127,10 +130,9 @@ impl Space {
 
 /// The `k`-th reference in the object under `place`, as it is seen from outside of the cluster.
 fn part_outside(cluster: &'static Cluster, place: u32, k: usize) -> Option<(Label, Ref)>
-    ensures { option_map labelled_value result ≡ slice_get (triples_of (slice_get (outer_objects cluster.now) place)) k }
+    ensures part { option_map labelled_value result ≡ slice_get (triples_of (slice_get (outer_objects cluster.now) place)) k }
+    ensures within { (n : ℕ) → IfSome result (λ p. IsWithin n p.1) }
 {
-    match cluster.part(place, k) {
-        Some((label, Ref::Local(inner))) => Some((label, Ref::Shared(inner, cluster))),
-        other => other,
-    }
+    let (label, value) = cluster.part(place, k)?;
+    Some((label, cluster.outward(value)))
 }

@@ -1,12 +1,13 @@
 //! What changes one object: its flag, its bytes, and what stands under its labels.
 
-ghost use Rattle.std.specs.Prelude.{◌≡◌, ◌<◌, ℕ, true, [], ◌∷◌, ◌++◌, length, Some, slice_get, slice_set, IsTrue, IfOk, IfErr};
-ghost use Rattle.rr_space.specs.Graph.{Object, Place};
+ghost use Rattle.std.specs.Prelude.{◌≡◌, ◌<◌, ℕ, true, [], ◌∷◌, ◌++◌, ◌↔◌, List, length, remove, Some, slice_get, slice_set, IsTrue, IsSome, IfOk, IfErr, IfSome, IfNone};
+ghost use Rattle.rr_space.specs.Graph.{Object, Place, Value};
 ghost use Rattle.rr_space.specs.Tables.{Here, Led, below_hold};
 ghost use Rattle.rr_space.specs.Sound.{IsHold};
 ghost use Rattle.rr_space.specs.Parts.{value_of};
 ghost use Rattle.rr_space.specs.Labels.{triples_at};
-ghost use Rattle.rr_space.specs.Views.{can_freeze_at, can_write_at, with_held, StandsAt, IsWithin, IsHeldWithin, IsLedBy, emptied, node_object, below_node, node_keys, IsNodeWithin};
+ghost use Rattle.rr_space.specs.Writes.{placed_from};
+ghost use Rattle.rr_space.specs.Views.{can_freeze_at, can_write_at, with_held, StandsAt, IsWithin, IsHeldWithin, IsLedBy, IsLedAlso, emptied, node_object, below_node, node_keys, IsNodeWithin};
 ghost use Rattle.rr_space.specs.Kinds.{kind_at};
 
 use crate::kind::Kind;
@@ -18,7 +19,7 @@ use rr_base::Fault;
 
 impl Space {
     /// What stands in the slot, with a shell in its place.
-    fn take(&mut self, slot: u32) -> Held
+    pub(crate) fn take(&mut self, slot: u32) -> Held
         requires { slot < length self.old.slots }
         ensures stood { StandsAt self.old slot result }
         ensures within { IsHeldWithin (length self.old.slots) result }
@@ -28,7 +29,7 @@ impl Space {
     }
 
     /// Puts something into the slot.
-    fn put(&mut self, slot: u32, held: Held)
+    pub(crate) fn put(&mut self, slot: u32, held: Held)
         requires slot { slot < length self.old.slots }
         requires within { IsHeldWithin (length self.old.slots) held }
         ensures { self.new ≡ with_held self.old slot held }
@@ -162,5 +163,34 @@ impl Space {
             }
         }
         Ok(())
+    }
+
+    /// Takes an element out of an array, and gives it; later ones close up. None where there is no such element.
+    /// `can_write` tells whether `array` may be written.
+    pub fn take_element(&mut self, array: Ref, place: usize) -> Option<Ref>
+        requires can { IsTrue (can_write_at self.old array) }
+        requires kind { kind_at self.old array ≡ Kind.Array }
+        ensures slots { (n : ℕ) (o : Object) → array ≡ Ref.Local n → slice_get self.old.slots n ≡ Some (Here o)
+            → IfSome result (λ r. (vs : List Value) × (o.triples ≡ placed_from 0 vs) × (slice_get vs place ≡ Some (value_of r))
+            × (self.new.slots ≡ slice_set self.old.slots n (Here (record o { triples = placed_from 0 (remove vs place) })))) }
+        ensures some { IsSome result ↔ (place < length (triples_at self.old array)) }
+        ensures below { (n : ℕ) → array ≡ Ref.Local n → IsLedAlso [] n self.old.below self.new.below }
+        ensures within { IfSome result (λ r. IsWithin (length self.old.slots) r) }
+        ensures keys { self.new.keys ≡ self.old.keys }
+        ensures limit { self.new.limit ≡ self.old.limit }
+        ensures owner { self.new.owner ≡ self.old.owner }
+        ensures none { IfNone result (self.new ≡ self.old) }
+    {
+        if let Ref::Local(slot) = array {
+            match self.take(slot) {
+                Held::Whole(node, frozen) => {
+                    let (changed, taken) = node.without_element(place);
+                    self.put(slot, Held::Whole(changed, frozen));
+                    return taken;
+                }
+                other => self.put(slot, other),
+            }
+        }
+        None
     }
 }

@@ -5,7 +5,7 @@ use Rattle.rr_space.proofs.Listing.{length-places_from, length-pairs_from}
 use Rattle.rr_space.proofs.node.Node.arity.Goals as goal
 
 pub returns-in-Array : goal.returns-in-Array
-returns-in-Array c = rw c.in-Array.is (omega (arith, length-places_from c.in-Array.items.items 0, c.in-Array.items.ok))
+returns-in-Array c = rw c.in-Array.is (omega (arith, length-places_from c.in-Array.items 0, c.len.ensures))
 
 pub returns-in-Hash : goal.returns-in-Hash
 returns-in-Hash c =

@@ -1,0 +1,98 @@
+//! The pairs of the hash that a node may be.
+
+ghost use Rattle.std.specs.Prelude.{◌≡◌, ℕ, ◌+◌, ◌*◌, ◌⊎◌, List, [], ◌∷◌, ◌++◌, length, remove, slice_get, slice_set, Contains, IsOk, IfOk, IfErr, IfSome, IfNone, MatchOption, OnOk, OnErr};
+ghost use Rattle.rr_space.specs.Graph.{Object, hash, KeyAt, ValueAt};
+ghost use Rattle.rr_space.specs.Parts.{below_ref};
+ghost use Rattle.rr_space.specs.Views.{key_of, entry_pair, node_keys, node_kind, node_pairs, node_parts, below_node, IsWithin, IsNodeWithin, IsBareHeadKept};
+ghost use Rattle.rr_space.specs.Writes.{IsFirstAt, put_entry};
+ghost use Rattle.std.specs.Map.{lookup};
+ghost use Rattle.std.specs.Option.{option_map};
+
+use crate::node::{Key, Node};
+use crate::refer::Ref;
+use indexmap::IndexMap;
+use rr_base::Fault;
+use std::hash::Hash;
+
+impl Node {
+    /// The place of the pair of a hash that has this key.
+    pub(crate) fn place_of(&self, key: &Key) -> Option<usize>
+        ensures { MatchOption result (Contains (node_keys self.now) (key_of key.now) → ⊥) (IsFirstAt (node_keys self.now) (key_of key.now)) }
+    {
+        match self {
+            Node::Hash(entries) => entries.get_index_of(key),
+            _ => None,
+        }
+    }
+
+    /// The node with `value` under a key of a hash, and whether there was memory for it; as it is where it is no hash.
+    pub(crate) fn with_pair(self, key: Key, name: Ref, value: Ref) -> (Node, Result<(), Fault>)
+        ensures present { (i : ℕ) → node_kind self ≡ hash → IsFirstAt (node_keys self) (key_of key) i
+            → IsOk result.1 × (node_parts result.0 ≡ slice_set (node_parts self) (2 * i + 1) (ValueAt i, value)) × (node_keys result.0 ≡ node_keys self) }
+        ensures absent { node_kind self ≡ hash → (Contains (node_keys self) (key_of key) → ⊥)
+            → IfOk result.1 (λ _. (node_parts result.0 ≡ node_parts self ++ (KeyAt (length (node_keys self)), name) ∷ (ValueAt (length (node_keys self)), value) ∷ []) × (node_keys result.0 ≡ node_keys self ++ key_of key ∷ [])) }
+        ensures refused { IfErr result.1 (λ _. (node_parts result.0 ≡ node_parts self) × (node_keys result.0 ≡ node_keys self)) }
+        ensures fault { IfErr result.1 (λ e. e ≡ Fault.Memory) }
+        ensures head { IsBareHeadKept self result.0 }
+        ensures within { (k : ℕ) → IsNodeWithin k self → IsWithin k name → IsWithin k value → IsNodeWithin k result.0 }
+        ensures below { (e : ℕ × List Object) → Contains (below_node result.0) e → Contains (below_node self) e ⊎ Contains (below_ref name ++ below_ref value) e }
+    {
+        match self {
+            Node::Hash(mut entries) => {
+                let written = put_pair(&mut entries, key, name, value);
+                (Node::Hash(entries), written)
+            }
+            other => (other, Ok(())),
+        }
+    }
+
+    /// The node without a pair of a hash, and that pair; as it is where it is no hash or has no such pair.
+    pub(crate) fn without_pair(self, place: usize) -> (Node, Option<(Ref, Ref)>)
+        ensures taken { node_kind self ≡ hash → result.1 ≡ slice_get (node_pairs self) place }
+        ensures pairs { node_kind self ≡ hash → node_pairs result.0 ≡ remove (node_pairs self) place }
+        ensures keys { node_kind self ≡ hash → node_keys result.0 ≡ remove (node_keys self) place }
+        ensures none { IfNone result.1 ((node_parts result.0 ≡ node_parts self) × (node_keys result.0 ≡ node_keys self)) }
+        ensures head { IsBareHeadKept self result.0 }
+        ensures within { (k : ℕ) → IsNodeWithin k self → IsNodeWithin k result.0 × IfSome result.1 (λ p. IsWithin k p.0 × IsWithin k p.1) }
+        ensures below { (e : ℕ × List Object) → Contains (below_node result.0) e → Contains (below_node self) e }
+    {
+        match self {
+            Node::Hash(mut entries) => {
+                let taken = without_key(entries.shift_remove_index(place));
+                (Node::Hash(entries), taken)
+            }
+            other => (other, None),
+        }
+    }
+}
+
+/// Sets the value of a key: in its entry, which keeps its place and its name, or in a new entry under `name` behind the
+/// others.
+fn put_pair<K: Hash + Eq + Drop, R: Copy>(
+    entries: &mut IndexMap<K, (R, R)>,
+    key: K,
+    name: R,
+    value: R,
+) -> Result<(), Fault>
+    ensures entries { OnOk result (entries.new.entries ≡ put_entry K.eq entries.old.entries key name value) }
+    ensures refused { OnErr result (entries.new.entries ≡ entries.old.entries) }
+    ensures absent { OnErr result (lookup (K.eq key) entries.old.entries ≡ None) }
+    ensures fault { IfErr result (λ e. e ≡ Fault.Memory) }
+{
+    let kept = match entries.get(&key) {
+        Some(pair) => pair.0,
+        None => name,
+    };
+    entries.insert(key, (kept, value))?;
+    Ok(())
+}
+
+/// The pair of an entry.
+fn without_key(entry: Option<(Key, (Ref, Ref))>) -> Option<(Ref, Ref)>
+    ensures { result ≡ option_map entry_pair entry }
+{
+    match entry {
+        Some((_, pair)) => Some(pair),
+        None => None,
+    }
+}

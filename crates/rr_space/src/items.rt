@@ -1,0 +1,176 @@
+//! The elements of an array.
+
+ghost use Rattle.std.specs.Prelude.{◌≡◌, ◌<◌, [], ◌∷◌, ◌++◌, length, remove, slice_get, slice_set, Some, IfOk, IfErr};
+
+use crate::refer::Ref;
+use crate::replace::replace_at;
+use rr_base::Fault;
+use std::alloc::Global;
+use std::marker::Model;
+
+/// The elements of an array. Up to two of them lie in place, without memory of their own.
+#[derive(Drop)]
+pub struct Items {
+    kept: Kept,
+}
+
+#[derive(Drop)]
+enum Kept {
+    Empty(Global),
+    One(Global, Ref),
+    Two(Global, Ref, Ref),
+    Many(Vec<Ref>),
+}
+
+impl Model for Items {
+    ghost use Rattle.std.specs.Prelude.{List};
+    ghost use Rattle.rr_space.specs.declared.refer.Ref.{Ref};
+
+    ghost Value = { List Ref };
+
+    ghost use Rattle.rr_space.specs.Elements.{kept_items};
+
+    ghost view = { λ a. kept_items a.kept };
+}
+
+impl Items {
+    /// No elements.
+    pub fn new(alloc: Global) -> Items
+        ensures { result ≡ [] }
+    {
+        Items {
+            kept: Kept::Empty(alloc),
+        }
+    }
+
+    /// One element.
+    pub fn one(alloc: Global, item: Ref) -> Items
+        ensures { result ≡ item ∷ [] }
+    {
+        Items {
+            kept: Kept::One(alloc, item),
+        }
+    }
+
+    /// Two elements.
+    pub fn two(alloc: Global, first: Ref, second: Ref) -> Items
+        ensures { result ≡ first ∷ second ∷ [] }
+    {
+        Items {
+            kept: Kept::Two(alloc, first, second),
+        }
+    }
+
+    /// The elements of a vector.
+    pub fn from_vec(items: Vec<Ref>) -> Items
+        ensures { result ≡ items.items }
+    {
+        Items {
+            kept: Kept::Many(items),
+        }
+    }
+
+    /// The number of elements.
+    pub fn len(&self) -> usize
+        ensures { result ≡ length self.now }
+    {
+        match &self.kept {
+            Kept::Empty(_) => 0,
+            Kept::One(_, _) => 1,
+            Kept::Two(_, _, _) => 2,
+            Kept::Many(items) => items.len(),
+        }
+    }
+
+    /// The `k`-th element.
+    pub fn get(&self, k: usize) -> Option<Ref>
+        ensures { result ≡ slice_get self.now k }
+    {
+        match &self.kept {
+            Kept::One(_, item) if k == 0 => Some(*item),
+            Kept::Two(_, first, _) if k == 0 => Some(*first),
+            Kept::Two(_, _, second) if k == 1 => Some(*second),
+            Kept::Many(items) if k < items.len() => Some(items[k]),
+            _ => None,
+        }
+    }
+
+    /// The elements with `item` behind them, and whether there was memory for it; else as they are.
+    pub fn with(self, item: Ref) -> (Items, Result<(), Fault>)
+        ensures pushed { IfOk result.1 (λ _. result.0 ≡ self ++ item ∷ []) }
+        ensures refused { IfErr result.1 (λ _. result.0 ≡ self) }
+        ensures fault { IfErr result.1 (λ e. e ≡ Fault.Memory) }
+    {
+        let Items { kept } = self;
+        match kept {
+            Kept::Empty(alloc) => (Items::one(alloc, item), Ok(())),
+            Kept::One(alloc, first) => (Items::two(alloc, first, item), Ok(())),
+            Kept::Two(alloc, first, second) => match three(alloc, first, second, item) {
+                Ok(items) => (Items::from_vec(items), Ok(())),
+                Err(fault) => (Items::two(alloc, first, second), Err(fault)),
+            },
+            Kept::Many(mut items) => match items.push(item) {
+                Ok(()) => (Items::from_vec(items), Ok(())),
+                Err(_) => (Items::from_vec(items), Err(Fault::Memory)),
+            },
+        }
+    }
+
+    /// The elements with `item` in the place of the `k`-th.
+    pub(crate) fn with_set(self, k: usize, item: Ref) -> Items
+        requires { k < length self }
+        ensures { result ≡ slice_set self k item }
+    {
+        let Items { kept } = self;
+        match kept {
+            Kept::Empty(alloc) => Items::new(alloc),
+            Kept::One(alloc, _) => Items::one(alloc, item),
+            Kept::Two(alloc, first, second) => {
+                if k == 0 {
+                    Items::two(alloc, item, second)
+                } else {
+                    Items::two(alloc, first, item)
+                }
+            }
+            Kept::Many(mut items) => {
+                replace_at(&mut items, k, item);
+                Items::from_vec(items)
+            }
+        }
+    }
+
+    /// The elements without the `k`-th.
+    pub(crate) fn without(self, k: usize) -> Items
+        requires { k < length self }
+        ensures { result ≡ remove self k }
+    {
+        let Items { kept } = self;
+        match kept {
+            Kept::Empty(alloc) => Items::new(alloc),
+            Kept::One(alloc, _) => Items::new(alloc),
+            Kept::Two(alloc, first, second) => {
+                if k == 0 {
+                    Items::one(alloc, second)
+                } else {
+                    Items::one(alloc, first)
+                }
+            }
+            Kept::Many(mut items) => {
+                items.remove(k);
+                Items::from_vec(items)
+            }
+        }
+    }
+}
+
+/// Three elements in memory of their own, with room for as many again.
+fn three(alloc: Global, first: Ref, second: Ref, third: Ref) -> Result<Vec<Ref>, Fault>
+    ensures made { IfOk result (λ v. v.items ≡ first ∷ second ∷ third ∷ []) }
+    ensures fault { IfErr result (λ e. e ≡ Fault.Memory) }
+{
+    let mut items = Vec::with_capacity(alloc, 4)?;
+    items.push(first)?;
+    items.push(second)?;
+    items.push(third)?;
+    Ok(items)
+}
