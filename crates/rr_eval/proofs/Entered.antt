@@ -11,12 +11,13 @@ use Rattle.rr_eval.specs.Operators.{on_integers, operate}
 use Rattle.rr_tree.specs.declared.node.Node.{Node}
 use Rattle.rr_tree.specs.declared.program.Program.{Program}
 use Rattle.rr_eval.specs.declared.frame.Frame.{Frame}
+use Rattle.rr_eval.specs.declared.frame.Frame.TheVariants.{Left}
 use Rattle.rr_eval.specs.declared.frame.Control.TheVariants.{Enter, Give}
 use Rattle.rr_eval.specs.declared.engine.Engine.{Engine}
 use Rattle.rr_eval.specs.Script.{State, Script, Ret, Do, Spent, Ended, run, after}
 use Rattle.rr_eval.specs.Rules.{Context, rule, meaning, on_value, with_value, on_table}
 use Rattle.rr_eval.specs.Nodes.{node_tree}
-use Rattle.rr_eval.specs.Frames.{Code, unwind, rest, below_of}
+use Rattle.rr_eval.specs.Frames.{Code, resumed, unwind, rest, below_of}
 use Rattle.rr_eval.specs.Whole.{context_of, code_of, state_of, whole, runs, leaf_value}
 use Rattle.rr_eval.proofs.Depth.{meaning_rule}
 
@@ -58,3 +59,11 @@ leaves p m t here n a b op x y at left there first second out =
     ∙ ap (unwind (code_of p) (reverse m.frames.items) m.held.items)
     (ap (λ o. after o (λ r. run (meaning c) (on_value (λ v. with_value (tree_at ns b) (λ w. Do (on_table (operate op v w)) Ret)) r))) (leaf c (tree_at ns a) s (suc n) (Int x) first)
     ∙ ap (λ o. after o (λ r. run (meaning c) (on_value (λ w. Do (on_table (operate op (Int x) w)) Ret) r))) (leaf c (tree_at ns b) s n (Int y) second))
+
+-- an operator on an integer and a right operand that is a leaf
+pub leaf_right : (p : Program) (m : Engine) (t : Table) (n b : ℕ) (op : BinaryOperator) (x y : ℤ) → m.left ≡ suc n → leaf_value (tree_at p.nodes.items b) m.vars.items ≡ Some (Int y) → (out : List (List ℕ)) → runs p m t (resumed p.nodes.items (Left op b) [] (Gave (Int x))) out m.left ≡ rest (code_of p) m.frames.items m.held.items (Give (on_integers op x y)) (state_of m t out) n
+leaf_right p m t n b op x y left there out =
+    let c = context_of p in
+    let ns = p.nodes.items in
+    ap (runs p m t (resumed ns (Left op b) [] (Gave (Int x))) out) left
+    ∙ ap (λ o. unwind (code_of p) (reverse m.frames.items) m.held.items (after o (λ r. run (meaning c) (on_value (λ w. Do (on_table (operate op (Int x) w)) Ret) r)))) (leaf c (tree_at ns b) (state_of m t out) n (Int y) there)

@@ -5,8 +5,8 @@ pub mod Pieces
 pub mod Depth
 pub mod Unwind
 pub mod Entered
-pub mod Swaps
 pub mod Bytes
 pub mod Printed
+pub mod Objects
 pub mod Running
 pub mod Reading

@@ -1,16 +1,16 @@
 -- What is still to be done stays the same over one act of the machine.
-use Rattle.std.proofs.Common.{subst, ◌≡◌, ℕ, ◌≤◌, sym, ap, arith, refl, ◌∙◌, List, [], ◌∷◌, ◌++◌, length, take, reverse}
-use Rattle.std.proofs.lemmas.List.{reverse-append, take_all, drop_all}
+use Rattle.std.proofs.Common.{subst, ◌≡◌, ℕ, zero, suc, ◌-◌, ◌<◌, ◌≤◌, sym, ap, arith, refl, ◌∙◌, List, [], ◌∷◌, ◌++◌, length, take, drop, reverse}
+use Rattle.std.proofs.lemmas.List.{reverse-append, take_all, drop_all, take-append-le, drop-append-le}
 use Rattle.rr_space.specs.declared.refer.Ref.{Ref}
 use Rattle.rr_tree.specs.Tree.{tree_at}
 use Rattle.rr_eval.specs.declared.problem.Answer.{Answer}
 use Rattle.rr_eval.specs.declared.frame.Frame.{Frame}
 use Rattle.rr_eval.specs.declared.frame.Frame.TheVariants.{Left, Argument}
-use Rattle.rr_eval.specs.declared.frame.Control.TheVariants.{Give}
+use Rattle.rr_eval.specs.declared.frame.Control.TheVariants.{Enter, Give}
 use Rattle.rr_eval.specs.Script.{State, Ret, Go, Outcome, Ended, Spent, run, after}
-use Rattle.rr_eval.specs.Rules.{meaning}
-use Rattle.rr_eval.specs.Frames.{Code, resumed, stand_of, below_of, unwind, Nested, base_of, rest}
-use Rattle.rr_eval.specs.Plans.{IsNew}
+use Rattle.rr_eval.specs.Rules.{meaning, values, put}
+use Rattle.rr_eval.specs.Nodes.{trees_before}
+use Rattle.rr_eval.specs.Frames.{Code, IsNew, resumed, stand_of, below_of, unwind, Nested, base_of, rest}
 
 -- an evaluation whose answer is the answer
 pub after_ended : (o : Outcome) → after o Ended ≡ o
@@ -49,3 +49,18 @@ pub nested_new : (fs : List Frame) (f : Frame) (held : List Ref) → IsNew f (le
 nested_new fs (Argument e k b) held new nested = nested_push fs (Argument e k b) held (omega arith) (subst (λ h. Nested (reverse fs) h) (sym (take_all b held (omega arith))) nested)
 nested_new fs (Left op b) held new nested = nested_push fs (Left op b) held (omega arith) nested
 nested_new fs f held new nested = nested_push fs f held (omega arith) nested
+
+-- the value of an argument is kept, and the next one is evaluated
+pub kept : (c : Code) (fs : List Frame) (end count place base : ℕ) (held : List Ref) (v : Ref) (s : State) (n : ℕ) → 0 < count → place ≡ end - count → base ≤ length held → unwind c (reverse fs) (take base held) (run (meaning c.context) (values (trees_before c.nodes end count) (drop base held ++ v ∷ []) put) s n) ≡ rest c (fs ++ Argument end (count - 1) base ∷ []) (held ++ v ∷ []) (Enter place) s n
+kept c fs end zero place base held v s n h at le = absurd (omega arith)
+kept c fs end (suc more) place base held v s n h at le =
+    let f = Argument end more base in
+    let k : suc more - 1 ≡ more = omega arith in
+    let below = take-append-le base held (v ∷ []) le in
+    let stand = drop-append-le base held (v ∷ []) le in
+    let o = meaning c.context (tree_at c.nodes place) s n in
+    ap (λ p. unwind c (reverse fs) (take base held) (run (meaning c.context) (Go (tree_at c.nodes p) (resumed c.nodes f (drop base held ++ v ∷ []))) s n)) (sym at)
+    ∙ ap (λ h. unwind c (reverse fs) h (after o (λ a. run (meaning c.context) (resumed c.nodes f (drop base held ++ v ∷ []) a)))) (sym below)
+    ∙ ap (λ h. unwind c (reverse fs) (take base (held ++ v ∷ [])) (after o (λ a. run (meaning c.context) (resumed c.nodes f h a)))) (sym stand)
+    ∙ sym (rest_push c fs f (held ++ v ∷ []) o)
+    ∙ ap (λ m. unwind c (reverse (fs ++ Argument end m base ∷ [])) (held ++ v ∷ []) o) (sym k)

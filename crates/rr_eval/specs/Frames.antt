@@ -1,5 +1,5 @@
 -- What the frames of the machine stand for.
-use Rattle.std.specs.Prelude.{ℕ, ◌≤◌, List, [], ◌∷◌, ◌++◌, if◌then◌else◌, length, take, drop, reverse}
+use Rattle.std.specs.Prelude.{◌≡◌, ℕ, ◌≤◌, List, [], ◌∷◌, ◌++◌, if◌then◌else◌, length, take, drop, reverse}
 use Rattle.rr_space.specs.declared.refer.Ref.{Ref}
 use Rattle.rr_tree.specs.Tree.{tree_at}
 use Rattle.rr_tree.specs.declared.node.Node.{Node}
@@ -38,6 +38,11 @@ abbrev pub below_of : Frame → List Ref → List Ref
 below_of (Argument end count base) held = take base held
 below_of _ held = held
 
+-- a new frame has no values yet
+abbrev pub IsNew : Frame → ℕ → Type 0
+IsNew (Argument end count base) n = base ≡ n
+IsNew _ n = Unit {0}
+
 -- what the frames, the topmost first, do with an outcome
 abbrev pub unwind : Code → List Frame → List Ref → Outcome → Outcome
 unwind c [] held o = o
@@ -52,6 +57,13 @@ base_of _ = 0
 abbrev pub Nested : List Frame → List Ref → Type 0
 Nested [] held = Unit {0}
 Nested (f ∷ fs) held = (base_of f ≤ length held) × Nested fs (below_of f held)
+
+-- a frame that may need the objects or memory for its value
+abbrev pub IsRareFrame : Frame → Type 0
+IsRareFrame Negation = Unit {0}
+IsRareFrame (Right op w) = Unit {0}
+IsRareFrame (Argument end count base) = Unit {0}
+IsRareFrame _ = ⊥
 
 -- what comes first
 abbrev pub start : Code → Control → State → ℕ → Outcome

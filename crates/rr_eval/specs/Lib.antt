@@ -7,7 +7,6 @@ pub mod Acts
 pub mod Rules
 pub mod Nodes
 pub mod Frames
-pub mod Plans
 pub mod Whole
 pub mod View
 pub mod Views

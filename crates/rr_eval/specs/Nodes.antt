@@ -30,3 +30,9 @@ IsEvaluated (node.Item a) = ⊥
 IsEvaluated (node.Sequence first count) = first + count < 2 ^ 32
 IsEvaluated (node.Puts first count) = first + count < 2 ^ 32
 IsEvaluated _ = Unit {0}
+
+-- a node whose evaluation needs the objects or memory
+abbrev pub IsRareNode : Node → Type 0
+IsRareNode (node.Text i) = Unit {0}
+IsRareNode (node.Puts first count) = Unit {0}
+IsRareNode _ = ⊥

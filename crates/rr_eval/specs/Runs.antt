@@ -1,5 +1,5 @@
 -- What a run of a source leaves.
-use Rattle.std.specs.Prelude.{◌≡◌, ◌+◌, ◌<◌, ◌⊎◌, ℕ, true, false, List, [], length, Option, Result, Ok, Err}
+use Rattle.std.specs.Prelude.{◌≡◌, ◌+◌, ◌<◌, ◌≤◌, ◌⊎◌, ℕ, true, false, List, [], length, Option, Result, Ok, Err}
 use Rattle.std.specs.List.{concat}
 use Rattle.std.specs.Io.KnownBytes.{Keeps}
 use Rattle.rr_base.specs.declared.fault.Fault.{Fault}
@@ -8,6 +8,7 @@ use Rattle.rr_base.specs.declared.limits.LimitKind.TheVariants as limits
 use Rattle.rr_lexer.specs.declared.kind.Token.{Token}
 use Rattle.rr_lexer.specs.Tokens.{AreTokensOf, source_limit}
 use Rattle.rr_parser.specs.Grammar.{Spells, SpellsWithin}
+use Rattle.rr_parser.specs.Fronts.{NestsBeyond}
 use Rattle.rr_parser.specs.Words.{symbols_of, texts_of}
 use Rattle.rr_space.specs.Tables.{Table}
 use Rattle.rr_tree.specs.Tree.{Tree, tree_at}
@@ -15,12 +16,12 @@ use Rattle.rr_tree.specs.declared.program.Program.{Program}
 use Rattle.rr_eval.specs.declared.problem.Answer.TheVariants.{Gave, Raised}
 use Rattle.rr_eval.specs.declared.run.Outcome.{Outcome as RunOutcome}
 use Rattle.rr_eval.specs.declared.run.Outcome.TheVariants as outcomes
-use Rattle.rr_eval.specs.Script.{Outcome, Ended, Spent}
+use Rattle.rr_eval.specs.Script.{Outcome, Ended, Spent, objects_of}
 use Rattle.rr_eval.specs.Rules.{Context, meaning, start_state}
 use Rattle.rr_eval.specs.Messages.{report}
 use Rattle.rr_eval.specs.Counted.{GrowsBy}
 use Rattle.rr_eval.specs.Whole.{context_of}
-use Rattle.rr_eval.specs.Acts.{IsRefusal}
+use Rattle.rr_eval.specs.Acts.{IsRefusal, Passes}
 
 -- what an evaluation printed
 abbrev pub text_of : Outcome → List ℕ
@@ -49,6 +50,15 @@ Runs old new f f' c o (Ok outcomes.StepLimit) = IsSpent o × GrowsBy old new (te
 Runs old new f f' c o (Ok outcomes.OutputFailed) = GrowsBy old new (text_of o) false × (f' ≡ f + 1)
 Runs old new f f' c o (Err fault) = IsRefusal fault × GrowsBy old new (text_of o) false × (f' ≡ f)
 
+-- A run that comes to its end makes no more objects than there may be, and the limit of slots is answered only where
+-- more are made.
+abbrev pub WithinSlots : ℕ → Outcome → Result RunOutcome Fault → Type 0
+WithinSlots slots o (Ok outcomes.Done) = objects_of o ≤ slots
+WithinSlots slots o (Ok (outcomes.Raised told)) = objects_of o ≤ slots
+WithinSlots slots o (Ok outcomes.StepLimit) = objects_of o ≤ slots
+WithinSlots slots o (Ok outcomes.OutputFailed) = Unit {0}
+WithinSlots slots o (Err fault) = Passes fault slots (objects_of o)
+
 -- The grammar gives this tree to the bytes, with these names and texts.
 pub record IsScript (source : List ℕ) (c : Context) (tree : Tree) : Type 0 where
   pub tokens : List Token
@@ -64,13 +74,21 @@ HasNoTree source = (tokens : List Token) (tree : Tree) → AreTokensOf source to
 abbrev pub HasNoTreeWithin : List ℕ → Type 0
 HasNoTreeWithin source = (tokens : List Token) (tree : Tree) → AreTokensOf source tokens → SpellsWithin 200 source tokens tree → ⊥
 
+-- at some place of the bytes more constructs are open than may be
+abbrev pub NestsTooDeep : List ℕ → Type 0
+NestsTooDeep source = (tokens : List Token) × AreTokensOf source tokens × NestsBeyond 200 source tokens
+
+-- the fault of a source that could not be read, after that of the parser: parts without room are want of memory
+abbrev pub reading_fault : Fault → Fault
+reading_fault (faults.Limit limits.Slots) = faults.Memory
+reading_fault fault = fault
+
 -- why a source could not be read
 abbrev pub Refuses : List ℕ → Fault → Type 0
 Refuses source faults.Memory = Unit {0}
 Refuses source (faults.Syntax line column kind) = HasNoTree source
-Refuses source (faults.Limit limits.Nesting) = HasNoTreeWithin source
+Refuses source (faults.Limit limits.Nesting) = HasNoTreeWithin source × NestsTooDeep source
 Refuses source (faults.Limit limits.Source) = source_limit < length source
-Refuses source (faults.Limit limits.Slots) = Unit {0}
 Refuses source _ = ⊥
 
 -- what was read
@@ -88,7 +106,7 @@ script_meaning c tree steps slots = meaning c tree (start_state c (no_objects sl
 
 -- The script that the bytes spell was run.
 abbrev pub RunsScript : Option (List ℕ) → Option (List ℕ) → ℕ → ℕ → List ℕ → ℕ → ℕ → Result RunOutcome Fault → Type 0
-RunsScript old new f f' source steps slots r = (c : Context) × (tree : Tree) × IsScript source c tree × Runs old new f f' c (script_meaning c tree steps slots) r
+RunsScript old new f f' source steps slots r = (c : Context) × (tree : Tree) × IsScript source c tree × Runs old new f f' c (script_meaning c tree steps slots) r × WithinSlots slots (script_meaning c tree steps slots) r
 
 -- What a run of a source leaves. A fault comes from reading it, and nothing was written, or from running the script.
 abbrev pub Meets : Option (List ℕ) → Option (List ℕ) → ℕ → ℕ → List ℕ → ℕ → ℕ → Result RunOutcome Fault → Type 0

@@ -1,5 +1,5 @@
 -- What a rule says: evaluate a part, change the state, print, answer.
-use Rattle.std.specs.Prelude.{ℕ, List, [], ◌∷◌, ◌++◌}
+use Rattle.std.specs.Prelude.{ℕ, List, [], ◌∷◌, ◌++◌, length}
 use Rattle.rr_space.specs.Tables.{Table}
 use Rattle.rr_space.specs.declared.refer.Ref.{Ref}
 use Rattle.rr_tree.specs.Tree.{Tree}
@@ -27,6 +27,11 @@ pub data Script : Type 0 where
 pub data Outcome : Type 0 where
   Ended : Answer → State → ℕ → Outcome
   Spent : State → Outcome
+
+-- how many objects there are then
+abbrev pub objects_of : Outcome → ℕ
+objects_of (Ended a s n) = length s.memory.table.slots
+objects_of (Spent s) = length s.memory.table.slots
 
 -- goes on from where an evaluation ended
 abbrev pub after : Outcome → (Answer → State → ℕ → Outcome) → Outcome

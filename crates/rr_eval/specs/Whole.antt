@@ -6,19 +6,18 @@ use Rattle.rr_space.specs.declared.refer.Ref.{Ref}
 use Rattle.rr_space.specs.declared.refer.Ref.TheVariants.{Nil, Int}
 use Rattle.rr_tree.specs.Tree.{Tree, int, local}
 use Rattle.rr_tree.specs.declared.program.Program.{Program}
+use Rattle.rr_eval.specs.declared.problem.Answer.{Answer}
 use Rattle.rr_eval.specs.declared.problem.Answer.TheVariants.{Gave, Raised}
 use Rattle.rr_eval.specs.declared.frame.Frame.{Frame}
 use Rattle.rr_eval.specs.declared.frame.Control.{Control}
 use Rattle.rr_eval.specs.declared.frame.Control.TheVariants.{Enter, Give}
-use Rattle.rr_eval.specs.declared.plan.Next.{Next}
 use Rattle.rr_eval.specs.declared.engine.Engine.{Engine}
 use Rattle.rr_eval.specs.declared.engine.Turn.{Turn}
 use Rattle.rr_eval.specs.declared.engine.Turn.TheVariants as turns
 use Rattle.rr_eval.specs.Acts.{IsRefusal}
 use Rattle.rr_eval.specs.Script.{State, Script, Outcome, Ended, Spent, run}
 use Rattle.rr_eval.specs.Rules.{Context, meaning}
-use Rattle.rr_eval.specs.Frames.{Code, rest, unwind, Nested, below_of, stand_of}
-use Rattle.rr_eval.specs.Plans.{next_script}
+use Rattle.rr_eval.specs.Frames.{Code, rest, resumed, unwind, Nested, below_of, stand_of}
 
 abbrev pub contents : {A B : Type 0} → List (Vec B A) → List (List B)
 contents vs = map (λ v. v.items) vs
@@ -64,10 +63,10 @@ pub record Stands (old new : Engine) (before after : Table) (f : Fault) : Type 0
   pub objects : after ≡ before
   pub refusal : IsRefusal f
 
--- what the machine does where a frame that was taken off has this plan
-abbrev pub follows_on : Program → Engine → Table → Frame → Next → List (List ℕ) → ℕ → Outcome
-follows_on p m t f plan out n =
-    unwind (code_of p) (reverse m.frames.items) (below_of f m.held.items) (run (meaning (context_of p)) (next_script p.nodes.items (stand_of f m.held.items) plan) (state_of m t out) n)
+-- what the machine does where a frame that was taken off gets an answer
+abbrev pub follows_on : Program → Engine → Table → Frame → Answer → List (List ℕ) → ℕ → Outcome
+follows_on p m t f a out n =
+    unwind (code_of p) (reverse m.frames.items) (below_of f m.held.items) (run (meaning (context_of p)) (resumed p.nodes.items f (stand_of f m.held.items) a) (state_of m t out) n)
 
 -- the value of a tree that takes one step and leaves all as it is
 abbrev pub leaf_value : Tree → List Ref → Option Ref

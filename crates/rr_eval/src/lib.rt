@@ -7,12 +7,15 @@ mod frame;
 mod integer;
 mod machine;
 mod nodes;
+mod open;
 mod operator;
-mod plan;
 mod print;
 mod problem;
 mod report;
+mod resume;
 mod run;
+#[cfg(test)]
+mod tests;
 mod value;
 
 pub use counted::Counted;

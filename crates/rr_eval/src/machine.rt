@@ -6,7 +6,8 @@ ghost use Rattle.rr_space.specs.declared.refer.Ref.{Ref};
 ghost use Rattle.rr_space.specs.Tables.{Table};
 ghost use Rattle.rr_tree.specs.declared.program.Program.{Program};
 ghost use Rattle.rr_tree.specs.Tree.{Tree, tree_at, listed};
-ghost use Rattle.rr_eval.specs.Script.{State, run, Spent};
+ghost use Rattle.rr_eval.specs.Acts.{Passes};
+ghost use Rattle.rr_eval.specs.Script.{State, run, Spent, objects_of};
 ghost use Rattle.rr_eval.specs.Rules.{Context, rule, meaning, items};
 ghost use Rattle.rr_eval.specs.Whole.{context_of};
 ghost use Rattle.rr_eval.specs.Turns.{remaining, Turned, FallsSeen};
@@ -72,11 +73,14 @@ impl Machine {
 
     /// Takes at most `budget` steps, and fewer where it comes to a piece of output, to the end, or to the step limit.
     ///
-    /// The faults are `Memory` and `Limit(Slots)`. A refused growth leaves what is still to be done as it is, and the
+    /// The faults are `Memory` and `Limit(Slots)`, the second only where what is still to be done makes more objects than
+    /// the space may have. A refused growth leaves what is still to be done as it is, and the
     /// next turn goes on there.
     pub fn turn(&mut self, program: &Program, space: &mut Space, budget: u32) -> Result<Turn, Fault>
         ensures turned { Turned program.now self.old space.old budget result self.new space.new }
         ensures falls { 0 < budget → FallsSeen self.old result self.new }
+        ensures limit { space.new.limit ≡ space.old.limit }
+        ensures full { IfErr result (λ f. (out : List (List ℕ)) → Passes f space.old.limit (objects_of (remaining program.now self.old space.old out))) }
     {
         self.engine.turn(program, space, budget)
     }

@@ -1,7 +1,7 @@
 //! The operators.
 
-ghost use Rattle.std.specs.Prelude.{◌≡◌, ◌+ℤ◌, ◌-ℤ◌, ◌*ℤ◌, neg_ℤ, pos, ◌++◌, IfOk};
-ghost use Rattle.rr_eval.specs.Acts.{Acts};
+ghost use Rattle.std.specs.Prelude.{◌≡◌, ◌+ℤ◌, ◌-ℤ◌, ◌*ℤ◌, neg_ℤ, pos, ◌++◌, length, IfOk, IfErr};
+ghost use Rattle.rr_eval.specs.Acts.{Acts, Passes};
 ghost use Rattle.rr_eval.specs.Values.{text_of};
 ghost use Rattle.rr_eval.specs.Operators.{number, order_of, on_integers, on_other, on_integer, make, on_object, operate, negated};
 
@@ -13,6 +13,7 @@ use rr_space::{Node, Ref, Space};
 use rr_tree::BinaryOperator;
 use std::alloc::{AllocError, Global};
 
+#[inline(always)]
 fn sum(x: i64, y: i64) -> Answer
     ensures { result ≡ number (x +ℤ y) }
 {
@@ -22,6 +23,7 @@ fn sum(x: i64, y: i64) -> Answer
     }
 }
 
+#[inline(always)]
 fn difference(x: i64, y: i64) -> Answer
     ensures { result ≡ number (x -ℤ y) }
 {
@@ -31,6 +33,7 @@ fn difference(x: i64, y: i64) -> Answer
     }
 }
 
+#[inline(always)]
 fn product(x: i64, y: i64) -> Answer
     ensures { result ≡ number (x *ℤ y) }
 {
@@ -49,6 +52,7 @@ fn opposite(x: i64) -> Answer
     }
 }
 
+#[inline(always)]
 fn quotient(x: i64, y: i64) -> Answer
     ensures { result ≡ on_integers BinaryOperator.Divide x y }
 {
@@ -61,6 +65,7 @@ fn quotient(x: i64, y: i64) -> Answer
     }
 }
 
+#[inline(always)]
 fn remainder(x: i64, y: i64) -> Answer
     ensures { result ≡ on_integers BinaryOperator.Remainder x y }
 {
@@ -70,6 +75,7 @@ fn remainder(x: i64, y: i64) -> Answer
     Answer::Gave(Ref::Int(floor_mod(x, y)))
 }
 
+#[inline(always)]
 fn order_of(x: i64, y: i64) -> i64
     ensures { result ≡ order_of x y }
 {
@@ -82,6 +88,7 @@ fn order_of(x: i64, y: i64) -> i64
     }
 }
 
+#[inline(always)]
 fn truth(holds: bool) -> Answer
     ensures { result ≡ Answer.Gave (Ref.Truth holds) }
 {
@@ -89,6 +96,7 @@ fn truth(holds: bool) -> Answer
 }
 
 /// An operator on two integers.
+#[inline(always)]
 pub fn on_integers(op: BinaryOperator, x: i64, y: i64) -> Answer
     ensures { result ≡ on_integers op x y }
 {
@@ -136,7 +144,9 @@ fn on_integer(space: &Space, op: BinaryOperator, x: i64, right: Ref) -> Answer
 
 /// Makes a new text.
 pub fn make(space: &mut Space, bytes: Vec<u8>) -> Result<Answer, Fault>
-    ensures { Acts (make bytes.items) space.old space.new result }
+    ensures acts { Acts (make bytes.items) space.old space.new result }
+    ensures limit { space.new.limit ≡ space.old.limit }
+    ensures full { IfErr result (λ f. Passes f space.old.limit (length (make bytes.items space.old).1.slots)) }
 {
     match space.alloc(Node::Text(bytes)) {
         Ok(text) => Ok(Answer::Gave(text)),
@@ -161,7 +171,9 @@ fn on_object(
     left: Ref,
     right: Ref,
 ) -> Result<Answer, Fault>
-    ensures { Acts (λ t. on_object op (text_of t left) left right t) space.old space.new result }
+    ensures acts { Acts (λ t. on_object op (text_of t left) left right t) space.old space.new result }
+    ensures limit { space.new.limit ≡ space.old.limit }
+    ensures full { IfErr result (λ f. Passes f space.old.limit (length (on_object op (text_of space.old left) left right space.old).1.slots)) }
 {
     match (op, text_of(space, left)) {
         (BinaryOperator::Equal, _) => Ok(truth(is_same(space, left, right))),
@@ -185,7 +197,9 @@ pub fn operate(
     left: Ref,
     right: Ref,
 ) -> Result<Answer, Fault>
-    ensures { Acts (operate op left right) space.old space.new result }
+    ensures acts { Acts (operate op left right) space.old space.new result }
+    ensures limit { space.new.limit ≡ space.old.limit }
+    ensures full { IfErr result (λ f. Passes f space.old.limit (length (operate op left right space.old).1.slots)) }
 {
     match left {
         Ref::Int(x) => Ok(on_integer(space, op, x, right)),

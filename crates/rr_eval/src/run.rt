@@ -1,17 +1,18 @@
 //! A script from its bytes to its printed bytes.
 
-ghost use Rattle.std.specs.Prelude.{ℕ, ◌≡◌, ◌+◌, ◌<◌, ◌^◌};
+ghost use Rattle.std.specs.Prelude.{ℕ, ◌≡◌, ◌+◌, ◌<◌, ◌≤◌, ◌^◌, length};
+ghost use Rattle.rr_lexer.specs.Tokens.{AreTokensOf};
 ghost use Rattle.rr_tree.specs.Tree.{tree_at};
 ghost use Rattle.rr_eval.specs.Counted.{failures, holds};
 ghost use Rattle.rr_eval.specs.Whole.{context_of};
-ghost use Rattle.rr_eval.specs.Runs.{Reads, Runs, Meets, script_meaning};
+ghost use Rattle.rr_eval.specs.Runs.{reading_fault, Reads, Runs, WithinSlots, Meets, script_meaning};
 
 use crate::counted::{Counted, put};
 use crate::engine::Turn;
 use crate::machine::Machine;
 use crate::report::report;
-use rr_base::{Fault, Limits, RactorNo};
-use rr_lexer::{lex, tokens_are_one};
+use rr_base::{Fault, LimitKind, Limits, RactorNo};
+use rr_lexer::{Token, lex, tokens_are_one};
 use rr_parser::parse;
 use rr_space::Space;
 use rr_tree::Program;
@@ -34,15 +35,43 @@ pub enum Outcome {
 /// The steps of one turn.
 const BUDGET: u32 = 1_000_000;
 
+/// The fault of a source that could not be read. That its parts are too many for a table is want of memory too.
+fn reading_fault(fault: Fault) -> Fault
+    ensures { result ≡ reading_fault fault }
+{
+    match fault {
+        Fault::Limit(LimitKind::Slots) => Fault::Memory,
+        other => other,
+    }
+}
+
+/// The program that the tokens of a source spell.
+fn parse_program(alloc: Global, source: &[u8], tokens: &[Token]) -> Result<Program, Fault>
+    requires { AreTokensOf source.now tokens.now }
+    ensures { Reads source.now result }
+{
+    tokens_are_one();
+    match parse(alloc, source, tokens) {
+        Ok(program) => Ok(program),
+        Err(fault) => Err(reading_fault(fault)),
+    }
+}
+
 /// The program that a source spells.
 fn read_program(alloc: Global, source: &[u8]) -> Result<Program, Fault>
     ensures { Reads source.now result }
 {
-    tokens_are_one();
     match lex(alloc, source) {
-        Ok(tokens) => parse(alloc, source, tokens.as_slice()),
+        Ok(tokens) => parse_program(alloc, source, tokens.as_slice()),
         Err(fault) => Err(fault),
     }
+}
+
+/// There are no more objects than there may be.
+fn objects_fit(space: &Space)
+    ensures { length space.now.slots ≤ space.now.limit }
+{
+    let _count = space.len();
 }
 
 /// Runs a program on the main ractor.
@@ -54,7 +83,8 @@ fn run_program<W: Write>(
     failed: &mut u64,
 ) -> Result<Outcome, Fault>
     requires { failed.old + 1 < 2 ^ 64 }
-    ensures { Runs (W.contents output.old) (W.contents output.new) failed.old failed.new (context_of program.now) (script_meaning (context_of program.now) (tree_at program.now.nodes.items program.now.root) limits.steps limits.slots) result }
+    ensures runs { Runs (W.contents output.old) (W.contents output.new) failed.old failed.new (context_of program.now) (script_meaning (context_of program.now) (tree_at program.now.nodes.items program.now.root) limits.steps limits.slots) result }
+    ensures slots { WithinSlots limits.slots (script_meaning (context_of program.now) (tree_at program.now.nodes.items program.now.root) limits.steps limits.slots) result }
 {
     let mut space = Space::new(alloc, RactorNo(1), limits.slots);
     let mut machine = match Machine::new(alloc, program, limits.steps) {
@@ -69,14 +99,21 @@ fn run_program<W: Write>(
                     return Ok(Outcome::OutputFailed);
                 }
             }
-            Ok(Turn::Done(_)) => return Ok(Outcome::Done),
+            Ok(Turn::Done(_)) => {
+                objects_fit(&space);
+                return Ok(Outcome::Done);
+            }
             Ok(Turn::Raised(problem)) => {
+                objects_fit(&space);
                 return match report(alloc, program, problem) {
                     Ok(told) => Ok(Outcome::Raised(told)),
                     Err(_) => Err(Fault::Memory),
                 };
             }
-            Ok(Turn::StepLimit) => return Ok(Outcome::StepLimit),
+            Ok(Turn::StepLimit) => {
+                objects_fit(&space);
+                return Ok(Outcome::StepLimit);
+            }
             Err(fault) => return Err(fault),
         }
     }
@@ -101,7 +138,8 @@ fn run_within<W: Write>(
 
 /// Runs a script within limits, of which it takes the steps and the slots.
 ///
-/// The faults are `Memory`, `Syntax` and, by the limit that was passed, `Limit`: of `Source`, `Nesting` or `Slots`.
+/// The faults are `Memory`, `Syntax` and, by the limit that was passed, `Limit`: of `Source`, of `Nesting`, or of `Slots`
+/// where the script makes more objects than that.
 pub fn run_source_within<W: Write>(
     alloc: Global,
     limits: Limits,

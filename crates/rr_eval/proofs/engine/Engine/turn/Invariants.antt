@@ -9,6 +9,7 @@ invariant-loop-self l = record {
   within : l.stop ≤ l.self.left;
   falls : l.self.left ≤ l.fn.self.left;
   fell : power l.self + l.fn.self.left ≤ power l.fn.self + l.self.left;
+  limit : l.space.limit ≡ l.fn.space.limit;
   same : (out : List (List ℕ)) → whole l.program l.fn.self l.fn.space out ≡ whole l.program l.self l.space out;
 }
 

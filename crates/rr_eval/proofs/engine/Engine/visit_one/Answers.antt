@@ -1,13 +1,16 @@
 -- A step is the only use of a rule.
-use Rattle.std.proofs.Common.{◌≡◌, suc, ◌-◌, sym, ap, ◌∙◌, arith}
-use Rattle.rr_eval.specs.Whole.{going, printed, context_of}
+use Rattle.std.proofs.Common.{◌≡◌, suc, ◌-◌, sym, refl, ap, ◌∙◌, arith}
+use Rattle.rr_eval.specs.Rules.{rule}
+use Rattle.rr_eval.specs.Nodes.{node_tree}
+use Rattle.rr_eval.specs.Whole.{going, context_of}
 use Rattle.rr_eval.proofs.Entered.{entered}
 use Rattle.rr_eval.proofs.engine.Engine.visit_one.Goals as goal
 
-pub returns-clause-goes : goal.returns-clause-goes
-returns-clause-goes c out =
+pub returns-then-open-clause-goes : goal.returns-then-open-clause-goes
+returns-then-open-clause-goes c = λ _ t out.
     let p = c.args.program.now in
-    let some : c.args.self.now.left ≡ suc (c.args.self.now.left - 1) = omega arith in
-    entered p c.args.self.now c.args.space.now c.args.here (c.args.self.now.left - 1) c.args.node _ c.requires.control some c.requires.tree (c.plan_opening-plan.ensures.script p.nodes.items (context_of p)) out
-    ∙ c.in_ok-piece.ensures.goes out (c.args.self.now.left - 1)
-    ∙ ap (λ n. going p c.open.new.self c.open.new.space (printed out c.in_ok-piece.piece) (n - 1)) (sym c.in_ok-piece.ensures.left)
+    let m = c.args.self.now in
+    let some : m.left ≡ suc (m.left - 1) = omega arith in
+    entered p m t c.args.here (m.left - 1) c.args.node (rule (context_of p) (node_tree p.nodes.items c.args.node)) c.requires.control some c.requires.tree refl out
+    ∙ c.if-open.ensures.goes refl p t out (m.left - 1)
+    ∙ ap (λ n. going p c.open.new.self t out (n - 1)) (sym c.if-open.ensures.left)
