@@ -5,11 +5,15 @@ use Rattle.std.specs.Io.KnownBytes.{Appends}
 use Rattle.std.proofs.KnownBytes.{Appends-nil}
 use Rattle.rr_space.specs.Tables.{Table}
 use Rattle.rr_tree.specs.declared.program.Program.{Program}
-use Rattle.rr_eval.specs.Script.{Outcome}
+use Rattle.rr_eval.specs.Script.{Outcome, Ended}
 use Rattle.rr_eval.specs.View.{View}
-use Rattle.rr_eval.specs.Turns.{remaining}
+use Rattle.rr_eval.specs.Turns.{remaining, state_seen}
 use Rattle.rr_eval.specs.Counted.{IsBeginning, GrowsBy}
-use Rattle.rr_eval.specs.Runs.{text_of}
+use Rattle.rr_eval.specs.Runs.{text_of, IsRaised}
+use Rattle.rr_eval.specs.Messages.{report}
+use Rattle.rr_eval.specs.Whole.{context_of}
+use Rattle.rr_eval.specs.declared.problem.Answer.TheVariants.{Raised}
+use Rattle.rr_eval.specs.declared.problem.Problem.{Problem}
 use Rattle.rr_eval.proofs.Bytes.{GrowsBy-after}
 use Rattle.rr_eval.proofs.Printed.{concat-push, beginning-trans, remaining_grows}
 
@@ -56,3 +60,10 @@ running_failed p m n t u all old now new f f' f'' piece r e w k =
 pub running_stopped : (p : Program) (m : View) (t : Table) (all : Outcome) (old now : Option (List ℕ)) (f f' : ℕ) → IsRunning p m t all old now f f' → GrowsBy old now (text_of all) false
 running_stopped p m t all old now f f' r =
     (concat r.out, subst (IsBeginning (concat r.out)) (sym (ap text_of r.same)) (remaining_grows p m t r.out), r.wrote)
+
+-- all ended with an exception, of which this is told
+pub running_raised : (p : Program) (m n : View) (t u : Table) (all : Outcome) (old now : Option (List ℕ)) (f f' : ℕ) (e : Problem) (told : List ℕ) → IsRunning p m t all old now f f' → ((out : List (List ℕ)) → remaining p m t out ≡ Ended (Raised e) (state_seen n u out) n.left) → told ≡ report (context_of p) e
+    → IsRaised (context_of p) all told × GrowsBy old now (text_of all) true × (f' ≡ f)
+running_raised p m n t u all old now f f' e told r ends is =
+    let whole = r.same ∙ ends r.out in
+    subst (λ (o : Outcome). IsRaised (context_of p) o told × GrowsBy old now (text_of o) true × (f' ≡ f)) (sym whole) (is, r.wrote, r.failed)

@@ -33,3 +33,5 @@ pub use space::Space;
 
 #[cfg(test)]
 mod slow;
+#[cfg(test)]
+mod tests;
