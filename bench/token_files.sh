@@ -10,6 +10,7 @@ def lines(name, text):
     body = text * (SIZE // len(text))
     (folder / f"{name}.rb").write_text(body + "#" * (SIZE - len(body)))
 lines("lines", 'total = total + item * 2 - 1\nputs "the total is", total\nif total > 100 then total = 0 end # enough\n')
+lines("marks", "+ - * / % = == => ! != < <= << <<= <=> > >= += -= *= /= %= && &&= | || ||= ? : :: . , ; ( ) [ ]\n")
 lines("operators", "a=b+c*d-e/f%g<h&&i||!j\n")
 lines("nested", '"a#{' * 50 + "x" + '}b"' * 50 + "\n")
 words = "words of one long text "
