@@ -7,6 +7,7 @@ use std::io;
 use std::time::Instant;
 
 const COUNT: u32 = 10_000_000;
+
 const PAIRS: u32 = 1_000_000;
 
 fn make(alloc: Global, space: &mut Space) -> Result<(), Fault> {
