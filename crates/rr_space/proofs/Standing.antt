@@ -25,7 +25,7 @@ kinds_differ shell shell e = refl
 kinds_differ k l e = absurd (let w : ⊥ = cc in w)
 
 -- the kind of the node in the slot
-pub kind_of_node : (t : Table) (n : ℕ) (v : Ref) (a : Node) (f : Bool) (k : Kind) → v ≡ Local n → StandsAt t n (Whole a f) → kind_at t v ≡ kind_named k → node_kind a ≡ k
+pub kind_of_node : (t : Table) (n : ℕ) (v : Ref) (a : Node) (f : Bool) (k : Kind) → v ≡ Local n → StandsAt t n (Whole f a) → kind_at t v ≡ kind_named k → node_kind a ≡ k
 kind_of_node t n v a f k is s e = kinds_differ (node_kind a) k (sym (kind_is t n a f s) ∙ ap (kind_at t) (sym is) ∙ e)
 
 local_one : (n m : ℕ) (v : Ref) → v ≡ Local n → v ≡ Local m → n ≡ m
@@ -74,9 +74,9 @@ some_within xs i = (λ e. there xs i e, λ lt. has xs i lt)
     has (x ∷ xs) zero lt = refl
     has (x ∷ xs) (suc i) lt = has xs i (omega (arith, lt))
 
-module _ (t mid new : Table) (n : ℕ) (v : Ref) (a b : Node) (f : Bool) (is : v ≡ Local n) (s : StandsAt t n (Whole a f)) (out : mid ≡ with_held t n Shell) (into : new ≡ with_held mid n (Whole b f)) where
-  pub made : new ≡ with_held t n (Whole b f)
-  made = put_after t mid new n Shell (Whole b f) out into
+module _ (t mid new : Table) (n : ℕ) (v : Ref) (a b : Node) (f : Bool) (is : v ≡ Local n) (s : StandsAt t n (Whole f a)) (out : mid ≡ with_held t n Shell) (into : new ≡ with_held mid n (Whole f b)) where
+  pub made : new ≡ with_held t n (Whole f b)
+  made = put_after t mid new n Shell (Whole f b) out into
 
   -- what holds of the slot, its object and its keys holds of whatever is found under that reference
   pub of_slot : (P : ℕ → Object → List HashKey → Type 0) → P n (node_object a f) (node_keys a) → (m : ℕ) (o : Object) (ks : List HashKey) → v ≡ Local m
@@ -125,7 +125,7 @@ module _ (t mid new : Table) (n : ℕ) (v : Ref) (a b : Node) (f : Bool) (is : v
 
   -- a node that is as it was is put back
   pub put_same : IsBareHeadKept a b → node_parts b ≡ node_parts a → node_keys b ≡ node_keys a → new ≡ t
-  put_same h e k = made ∙ put_back t n (Whole b f) (record {
+  put_same h e k = made ∙ put_back t n (Whole f b) (record {
     slot = s.slot ∙ ap Some (sym (object_with a b f (map value_triple (node_parts a)) h (ap (map value_triple) e)));
     below = s.below ∙ ap (λ (ts : Parts). Some (below_parts ts)) (sym e);
     keys = s.keys ∙ ap Some (sym k);

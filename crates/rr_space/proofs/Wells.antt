@@ -57,12 +57,12 @@ parts_below k [] all = none_sound
 parts_below k (t ∷ ts) all = append_sound (below_ref t.1) (below_parts ts) (ref_below k t.1 all.0) (parts_below k ts all.1)
 
 held_slot : (k : ℕ) (h : Held) → IsHeldWithin k h → IsSlotSound k (slot_of h) (below_held h)
-held_slot k (WholeHeld node f) w = λ l x has. parts_standing k (node_parts node) w l x has
+held_slot k (WholeHeld f node) w = λ l x has. parts_standing k (node_parts node) w l x has
 held_slot k Shell w = λ l x (i, lt, e). absurd (let z : ⊥ = omega (arith, lt) in z)
 held_slot k (Forward p c) w = held_place p c.now w
 
 held_below : (k : ℕ) (h : Held) → IsHeldWithin k h → IsBelowSound (below_held h)
-held_below k (WholeHeld node f) w = parts_below k (node_parts node) w
+held_below k (WholeHeld f node) w = parts_below k (node_parts node) w
 held_below k Shell w = none_sound
 held_below k (Forward p c) w = hold_sound c.now w.sound
 

@@ -31,7 +31,7 @@ module _ (k m : ℕ) (more : k ≤ m) where
   parts_later (t ∷ ts) h = (ref_later t.1 h.0, parts_later ts h.1)
 
   held_later : (h : Held) → IsHeldWithin k h → IsHeldWithin m h
-  held_later (Whole node frozen) h = parts_later (node_parts node) h
+  held_later (Whole frozen node) h = parts_later (node_parts node) h
   held_later Shell h = tt
   held_later (Forward p c) h = h
 
@@ -48,11 +48,11 @@ all_push k (y ∷ hs) x h w = (h.0, all_push k hs x h.1 w)
 
 -- a table with one object more
 pub pushed_within : (hs : List Held) (node : Node) (frozen : Bool) → AllHeldWithin (length hs) hs → IsNodeWithin (length hs) node
-    → AllHeldWithin (length (hs ++ Whole node frozen ∷ [])) (hs ++ Whole node frozen ∷ [])
+    → AllHeldWithin (length (hs ++ Whole frozen node ∷ [])) (hs ++ Whole frozen node ∷ [])
 pushed_within hs node frozen all new =
-    let k = length (hs ++ Whole node frozen ∷ []) in
-    let more : length hs ≤ k = omega (arith, length-append hs (Whole node frozen ∷ [])) in
-    all_push k hs (Whole node frozen) (all_later (length hs) k more hs all) (node_within_later (length hs) k more node new)
+    let k = length (hs ++ Whole frozen node ∷ []) in
+    let more : length hs ≤ k = omega (arith, length-append hs (Whole frozen node ∷ [])) in
+    all_push k hs (Whole frozen node) (all_later (length hs) k more hs all) (node_within_later (length hs) k more node new)
 
 -- a part of an object whose references are within
 pub part_within : (m : ℕ) (ts : Parts) (k : ℕ) (r : Option (CodeLabel × Ref)) → AllWithin m ts → option_map labelled r ≡ slice_get ts k → IfSome r (λ p. IsWithin m p.1)

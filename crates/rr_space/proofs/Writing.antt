@@ -56,7 +56,7 @@ below_push [] t e has = ⊎_elim (λ q. inr q) (λ q. inl q) (Contains-append_ca
 below_push (x ∷ ts) t e has = ⊎_elim (λ q. inl (Contains-append_left (below_ref x.1) (below_parts ts) e q))
     (λ q. ⊎_elim (λ r. inl (Contains-append_right (below_ref x.1) (below_parts ts) e r)) (λ r. inr r) (below_push ts t e q)) (Contains-append_cases (below_ref x.1) (below_parts (ts ++ t ∷ [])) e has)
 
-pub kind_is : (t : Table) (n : ℕ) (node : Node) (f : Bool) → StandsAt t n (Whole node f) → kind_at t (Local n) ≡ kind_named (node_kind node)
+pub kind_is : (t : Table) (n : ℕ) (node : Node) (f : Bool) → StandsAt t n (Whole f node) → kind_at t (Local n) ≡ kind_named (node_kind node)
 kind_is t n node f s = ap (λ x. object_kind (slot_object x (slice_get t.below n))) s.slot
 
 array_only : (k : Kind) → kind_named k ≡ ArrayKind → k ≡ array
@@ -67,10 +67,10 @@ array_only plain e = absurd (let w : ⊥ = cc in w)
 array_only exception e = absurd (let w : ⊥ = cc in w)
 array_only shell e = absurd (let w : ⊥ = cc in w)
 
-pub array_at : (t : Table) (n : ℕ) (v : Ref) (node : Node) (f : Bool) → v ≡ Local n → StandsAt t n (Whole node f) → kind_at t v ≡ ArrayKind → node_kind node ≡ array
+pub array_at : (t : Table) (n : ℕ) (v : Ref) (node : Node) (f : Bool) → v ≡ Local n → StandsAt t n (Whole f node) → kind_at t v ≡ ArrayKind → node_kind node ≡ array
 array_at t n v node f is s e = array_only (node_kind node) (sym (kind_is t n node f s) ∙ ap (kind_at t) (sym is) ∙ e)
 
-pub triples_is : (t : Table) (n : ℕ) (v : Ref) (node : Node) (f : Bool) → v ≡ Local n → StandsAt t n (Whole node f) → triples_at t v ≡ map value_triple (node_parts node)
+pub triples_is : (t : Table) (n : ℕ) (v : Ref) (node : Node) (f : Bool) → v ≡ Local n → StandsAt t n (Whole f node) → triples_at t v ≡ map value_triple (node_parts node)
 triples_is t n v node f is s = ap (triples_at t) is ∙ ap (λ x. triples_of (slot_object x (slice_get t.below n))) s.slot
 
 -- a node whose references were changed, seen as an object
@@ -93,7 +93,7 @@ push_values a b v e =
 local_one : (n m : ℕ) (v : Ref) → v ≡ Local n → v ≡ Local m → n ≡ m
 local_one n m v p q = let e : Local n ≡ Local m = sym p ∙ q in cc
 
-led_by : (t new : Table) (n : ℕ) (v : Ref) (a b : Node) (f : Bool) → StandsAt t n (Whole a f) → new ≡ with_held t n (Whole b f)
+led_by : (t new : Table) (n : ℕ) (v : Ref) (a b : Node) (f : Bool) → StandsAt t n (Whole f a) → new ≡ with_held t n (Whole f b)
     → ((e : ℕ × List Object) → Contains (below_node b) e → Contains (below_node a) e ⊎ Contains (below_ref v) e) → n < length t.below → IsLedBy v n t.below new.below
 led_by t new n v a b f s is more lt =
     let e : new.below ≡ slice_set t.below n (below_node b) = ap (λ (u : Table). u.below) is in
@@ -106,21 +106,21 @@ led_by t new n v a b f s is more lt =
           subst (λ (z : Below). Contains z d ⊎ Contains (below_ref v) d) was (more d (subst (λ (z : Below). Contains z d) (sym now) has));
     }
 
-pub set_led : (t new : Table) (n m p : ℕ) (v w : Ref) (a b : Node) (f : Bool) → w ≡ Local n → w ≡ Local m → StandsAt t n (Whole a f) → new ≡ with_held t n (Whole b f)
+pub set_led : (t new : Table) (n m p : ℕ) (v w : Ref) (a b : Node) (f : Bool) → w ≡ Local n → w ≡ Local m → StandsAt t n (Whole f a) → new ≡ with_held t n (Whole f b)
     → node_parts b ≡ slice_set (node_parts a) p (Place p, v) → IsLedBy v m t.below new.below
 set_led t new n m p v w a b f is_n is_m s is e =
     subst (λ k. IsLedBy v k t.below new.below) (local_one n m w is_n is_m)
     (led_by t new n v a b f s is (λ d has. below_set (node_parts a) p (Place p, v) d (subst (λ (ts : Parts). Contains (below_parts ts) d) e has)) (slice_get_within t.below n (below_node a) s.below))
 
-pub push_led : (t new : Table) (n m : ℕ) (v w : Ref) (a b : Node) (f : Bool) → w ≡ Local n → w ≡ Local m → StandsAt t n (Whole a f) → new ≡ with_held t n (Whole b f)
+pub push_led : (t new : Table) (n m : ℕ) (v w : Ref) (a b : Node) (f : Bool) → w ≡ Local n → w ≡ Local m → StandsAt t n (Whole f a) → new ≡ with_held t n (Whole f b)
     → node_parts b ≡ node_parts a ++ (Place (length (node_parts a)), v) ∷ [] → IsLedBy v m t.below new.below
 push_led t new n m v w a b f is_n is_m s is e =
     subst (λ k. IsLedBy v k t.below new.below) (local_one n m w is_n is_m)
     (led_by t new n v a b f s is (λ d has. below_push (node_parts a) (Place (length (node_parts a)), v) d (subst (λ (ts : Parts). Contains (below_parts ts) d) e has)) (slice_get_within t.below n (below_node a) s.below))
 
 -- a node that is as it was is put back
-pub same_back : (t new : Table) (n : ℕ) (a b : Node) (f : Bool) → StandsAt t n (Whole a f) → new ≡ with_held t n (Whole b f) → IsHeadKept a b → node_parts b ≡ node_parts a → new ≡ t
-same_back t new n a b f s is h e = is ∙ put_back t n (Whole b f) (record {
+pub same_back : (t new : Table) (n : ℕ) (a b : Node) (f : Bool) → StandsAt t n (Whole f a) → new ≡ with_held t n (Whole f b) → IsHeadKept a b → node_parts b ≡ node_parts a → new ≡ t
+same_back t new n a b f s is h e = is ∙ put_back t n (Whole f b) (record {
   slot = s.slot ∙ ap Some (sym (object_by_parts a b f (map value_triple (node_parts a)) h (ap (map value_triple) e)));
   below = s.below ∙ ap (λ (ts : Parts). Some (below_parts ts)) (sym e);
   keys = s.keys ∙ ap Some (sym h.keys);
@@ -163,6 +163,6 @@ text_by (Hash entries) f bytes e = absurd (let w : ⊥ = cc in w)
 text_by (PlainObject class fields) f bytes e = absurd (let w : ⊥ = cc in w)
 text_by (Exception class raised) f bytes e = absurd (let w : ⊥ = cc in w)
 
-pub text_at_slot : (t : Table) (n : ℕ) (v : Ref) (a : Node) (f : Bool) (bytes : Vec ℕ Global) → v ≡ Local n → StandsAt t n (Whole a f) → kind_at t v ≡ TextKind
+pub text_at_slot : (t : Table) (n : ℕ) (v : Ref) (a : Node) (f : Bool) (bytes : Vec ℕ Global) → v ≡ Local n → StandsAt t n (Whole f a) → kind_at t v ≡ TextKind
     → (Here (node_object (Text bytes) f) ≡ Here (record (node_object a f) { bytes = bytes.items })) × (below_node (Text bytes) ≡ below_node a) × (node_keys (Text bytes) ≡ node_keys a)
 text_at_slot t n v a f bytes is s e = text_by a f bytes (text_only (node_kind a) (sym (kind_is t n a f s) ∙ ap (kind_at t) (sym is) ∙ e))

@@ -87,17 +87,17 @@ abbrev pub emptied : Object
 emptied = record { kind = shell; class = MOVED_OBJECT.0; bytes = []; frozen = false; triples = [] }
 
 abbrev pub slot_of : Held → Slot
-slot_of (Whole node frozen) = Here (node_object node frozen)
+slot_of (Whole frozen node) = Here (node_object node frozen)
 slot_of Shell = Here emptied
 slot_of (Forward p c) = Led c.now.number p
 
 abbrev pub below_held : Held → Below
-below_held (Whole node frozen) = below_node node
+below_held (Whole frozen node) = below_node node
 below_held Shell = []
 below_held (Forward p c) = below_hold c.now
 
 abbrev pub held_keys : Held → List HashKey
-held_keys (Whole node frozen) = node_keys node
+held_keys (Whole frozen node) = node_keys node
 held_keys Shell = []
 held_keys (Forward p c) = []
 
@@ -106,7 +106,7 @@ abbrev pub IsNodeWithin : ℕ → Node → Type 0
 IsNodeWithin k node = AllWithin k (node_parts node)
 
 abbrev pub IsHeldWithin : ℕ → Held → Type 0
-IsHeldWithin k (Whole node frozen) = IsNodeWithin k node
+IsHeldWithin k (Whole frozen node) = IsNodeWithin k node
 IsHeldWithin k Shell = Unit {0}
 IsHeldWithin k (Forward p c) = IsHold p c.now
 

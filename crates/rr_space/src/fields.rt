@@ -37,9 +37,9 @@ impl Space {
     {
         if let Ref::Local(slot) = object {
             match self.take(slot) {
-                Held::Whole(node, frozen) => {
+                Held::Whole(frozen, node) => {
                     let (changed, written) = node.with_field(name, value);
-                    self.put(slot, Held::Whole(changed, frozen));
+                    self.put(slot, Held::Whole(frozen, changed));
                     return written;
                 }
                 other => self.put(slot, other),

@@ -16,7 +16,7 @@ impl Space {
     {
         match value {
             Ref::Local(slot) => match self.slots.get(slot as usize) {
-                Some(Held::Whole(Node::Text(bytes), false)) => Some(bytes.as_slice()),
+                Some(Held::Whole(false, Node::Text(bytes))) => Some(bytes.as_slice()),
                 _ => None,
             },
             _ => None,

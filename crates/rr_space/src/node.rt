@@ -51,8 +51,8 @@ pub enum Node {
 /// What stands in a slot of a space.
 #[derive(Drop)]
 pub(crate) enum Held {
-    /// An object, and whether it is frozen.
-    Whole(Node, bool),
+    /// Whether the object is frozen, and the object. The flag lies before it, where a slot has room for it.
+    Whole(bool, Node),
     /// What is left of an object that was moved away.
     Shell,
     /// An object that was published since, by its place in its cluster.

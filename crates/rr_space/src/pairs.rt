@@ -29,7 +29,7 @@ impl Space {
                     return None;
                 }
                 match &self.slots[slot as usize] {
-                    Held::Whole(node, _) => node.place_of(key),
+                    Held::Whole(_, node) => node.place_of(key),
                     Held::Shell => None,
                     Held::Forward(place, cluster) => cluster.find(*place, key),
                 }
@@ -60,9 +60,9 @@ impl Space {
     {
         if let Ref::Local(slot) = hash {
             match self.take(slot) {
-                Held::Whole(node, frozen) => {
+                Held::Whole(frozen, node) => {
                     let (changed, written) = node.with_pair(key, name, value);
-                    self.put(slot, Held::Whole(changed, frozen));
+                    self.put(slot, Held::Whole(frozen, changed));
                     return written;
                 }
                 other => self.put(slot, other),
@@ -89,9 +89,9 @@ impl Space {
     {
         if let Ref::Local(slot) = hash {
             match self.take(slot) {
-                Held::Whole(node, frozen) => {
+                Held::Whole(frozen, node) => {
                     let (changed, taken) = node.without_pair(place);
-                    self.put(slot, Held::Whole(changed, frozen));
+                    self.put(slot, Held::Whole(frozen, changed));
                     return taken;
                 }
                 other => self.put(slot, other),

@@ -102,7 +102,7 @@ impl Space {
             return Err(Fault::Limit(LimitKind::Slots));
         }
         let slot = self.slots.len() as u32;
-        self.slots.push(Held::Whole(node, false))?;
+        self.slots.push(Held::Whole(false, node))?;
         Ok(Ref::Local(slot))
     }
 
@@ -112,7 +112,7 @@ impl Space {
     {
         match value {
             Ref::Local(slot) => match self.slots.get(slot as usize) {
-                Some(Held::Whole(node, _)) => node.text_bytes(),
+                Some(Held::Whole(_, node)) => node.text_bytes(),
                 Some(Held::Forward(place, cluster)) => cluster.text_bytes(*place),
                 _ => &[],
             },
@@ -133,7 +133,7 @@ impl Space {
             Ref::Class(_) => Kind::Class,
             Ref::Ractor(_) => Kind::Ractor,
             Ref::Local(slot) => match self.slots.get(slot as usize) {
-                Some(Held::Whole(node, _)) => node.kind(),
+                Some(Held::Whole(_, node)) => node.kind(),
                 Some(Held::Shell) => Kind::Shell,
                 Some(Held::Forward(place, cluster)) => cluster.kind(*place),
                 None => Kind::Nil,
@@ -155,7 +155,7 @@ impl Space {
             Ref::Class(_) => ClassId::CLASS,
             Ref::Ractor(_) => ClassId::RACTOR,
             Ref::Local(slot) => match self.slots.get(slot as usize) {
-                Some(Held::Whole(node, _)) => node.class(),
+                Some(Held::Whole(_, node)) => node.class(),
                 Some(Held::Shell) => ClassId::MOVED_OBJECT,
                 Some(Held::Forward(place, cluster)) => cluster.class(*place),
                 None => ClassId::NIL_CLASS,

@@ -21,7 +21,7 @@ impl Space {
     {
         match value {
             Ref::Local(slot) => match self.slots.get(slot as usize) {
-                Some(Held::Whole(node, _)) => node.arity(),
+                Some(Held::Whole(_, node)) => node.arity(),
                 Some(Held::Forward(place, cluster)) => cluster.arity(*place),
                 _ => 0,
             },
@@ -41,7 +41,7 @@ impl Space {
                     return None;
                 }
                 match &self.slots[slot as usize] {
-                    Held::Whole(node, _) => node.part(k),
+                    Held::Whole(_, node) => node.part(k),
                     Held::Shell => None,
                     Held::Forward(place, cluster) => part_outside(cluster, *place, k),
                 }
@@ -94,7 +94,7 @@ impl Space {
     {
         match value {
             Ref::Local(slot) => match self.slots.get(slot as usize) {
-                Some(Held::Whole(_, frozen)) => *frozen,
+                Some(Held::Whole(frozen, _)) => *frozen,
                 Some(Held::Shell) => false,
                 Some(Held::Forward(place, cluster)) => cluster.has(*place),
                 None => false,
@@ -121,7 +121,7 @@ impl Space {
         match value {
             Ref::Local(slot) => matches!(
                 self.slots.get(slot as usize),
-                Some(Held::Whole(_, false))
+                Some(Held::Whole(false, _))
             ),
             _ => false,
         }

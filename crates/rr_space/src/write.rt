@@ -72,7 +72,7 @@ impl Space {
         ensures limit { self.new.limit ≡ self.old.limit }
         ensures owner { self.new.owner ≡ self.old.owner }
     {
-        self.put(slot, Held::Whole(node, frozen));
+        self.put(slot, Held::Whole(frozen, node));
     }
 
     /// Freezes one object, and nothing that it leads to. `can_freeze` tells whether it may be.
@@ -87,7 +87,7 @@ impl Space {
     {
         if let Ref::Local(slot) = value {
             match self.take(slot) {
-                Held::Whole(node, _) => self.put(slot, Held::Whole(node, true)),
+                Held::Whole(_, node) => self.put(slot, Held::Whole(true, node)),
                 other => self.put(slot, other),
             }
         }
@@ -106,7 +106,7 @@ impl Space {
     {
         if let Ref::Local(slot) = text {
             match self.take(slot) {
-                Held::Whole(_, frozen) => self.put(slot, Held::Whole(Node::Text(bytes), frozen)),
+                Held::Whole(frozen, _) => self.put(slot, Held::Whole(frozen, Node::Text(bytes))),
                 other => self.put(slot, other),
             }
         }
@@ -127,9 +127,9 @@ impl Space {
     {
         if let Ref::Local(slot) = array {
             match self.take(slot) {
-                Held::Whole(node, frozen) => {
+                Held::Whole(frozen, node) => {
                     let changed = node.with_element(place, value);
-                    self.put(slot, Held::Whole(changed, frozen))
+                    self.put(slot, Held::Whole(frozen, changed))
                 }
                 other => self.put(slot, other),
             }
@@ -154,9 +154,9 @@ impl Space {
     {
         if let Ref::Local(slot) = array {
             match self.take(slot) {
-                Held::Whole(node, frozen) => {
+                Held::Whole(frozen, node) => {
                     let (changed, pushed) = node.with_more(value);
-                    self.put(slot, Held::Whole(changed, frozen));
+                    self.put(slot, Held::Whole(frozen, changed));
                     return pushed;
                 }
                 other => self.put(slot, other),
@@ -183,9 +183,9 @@ impl Space {
     {
         if let Ref::Local(slot) = array {
             match self.take(slot) {
-                Held::Whole(node, frozen) => {
+                Held::Whole(frozen, node) => {
                     let (changed, taken) = node.without_element(place);
-                    self.put(slot, Held::Whole(changed, frozen));
+                    self.put(slot, Held::Whole(frozen, changed));
                     return taken;
                 }
                 other => self.put(slot, other),

@@ -17,13 +17,13 @@ returns-in-Whole-clause-within c =
     let lt : c.in-Local.slot < length hs = omega (arith, c.if-slot-len.false, c.len.ensures, c.self.inside.slots.ok) in
     let at = slice_get_read hs (length hs) c.in-Local.slot c.index.result.now refl lt c.index.ensures ∙ ap Some c.in-Whole.is in
     part_within (length c.args.self.now.slots) (node_parts c.in-Whole.node) c.args.k c.part.result
-    (held_within hs c.self.inside.limit c.self.inside.owner.0 c.args.self.now c.in-Local.slot (Whole c.in-Whole.node c.in-Whole.field-1) c.self.view_is c.self.invariant.1 at) c.part.ensures
+    (held_within hs c.self.inside.limit c.self.inside.owner.0 c.args.self.now c.in-Local.slot (Whole c.in-Whole.field-0 c.in-Whole.node) c.self.view_is c.self.invariant.1 at) c.part.ensures
 
 pub returns-in-Whole-clause-part : goal.returns-in-Whole-clause-part
 returns-in-Whole-clause-part c =
     let hs = c.self.inside.slots.items in
     let t = c.args.self.now in
-    let h = Whole c.in-Whole.node c.in-Whole.field-1 in
+    let h = Whole c.in-Whole.field-0 c.in-Whole.node in
     let lt : c.in-Local.slot < length hs = omega (arith, c.if-slot-len.false, c.len.ensures, c.self.inside.slots.ok) in
     let at = slice_get_read hs (length hs) c.in-Local.slot c.index.result.now refl lt c.index.ensures ∙ ap Some c.in-Whole.is in
     valued_part (node_parts c.in-Whole.node) c.args.k c.part.result c.part.ensures

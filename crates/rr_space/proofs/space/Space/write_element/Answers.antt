@@ -32,10 +32,10 @@ returns-in-Whole-clause-slots c = λ m o is at.
     let is_array = array_at t c.in-Local.slot c.args.array node f c.in-Local.is c.in-Whole.ensures.stood c.requires.kind in
     let lens : length (triples_at t c.args.array) ≡ length (node_parts node) = ap length (triples_is t c.in-Local.slot c.args.array node f c.in-Local.is c.in-Whole.ensures.stood) ∙ length-map (node_parts node) value_triple in
     let parts = c.with_element-changed.ensures.parts is_array (omega (arith, lens, c.requires.place)) in
-    changed_slots (λ x. record x { triples = slice_set x.triples c.args.place (Place c.args.place, value_of c.args.value) }) t c.put.new.self c.in-Local.slot m c.args.array (Whole node f) (Whole new f) o (node_object node f)
+    changed_slots (λ x. record x { triples = slice_set x.triples c.args.place (Place c.args.place, value_of c.args.value) }) t c.put.new.self c.in-Local.slot m c.args.array (Whole f node) (Whole f new) o (node_object node f)
     c.in-Local.is is c.in-Whole.ensures.stood refl
     (object_by_parts node new f (slice_set (map value_triple (node_parts node)) c.args.place (Place c.args.place, value_of c.args.value)) c.with_element-changed.ensures.head (set_values node new c.args.place c.args.value parts))
-    (put_after t c.take.new.self c.put.new.self c.in-Local.slot Shell (Whole new f) c.in-Whole.ensures.rest c.put.ensures) at
+    (put_after t c.take.new.self c.put.new.self c.in-Local.slot Shell (Whole f new) c.in-Whole.ensures.rest c.put.ensures) at
 
 pub returns-in-Whole-clause-below : goal.returns-in-Whole-clause-below
 returns-in-Whole-clause-below c = λ m is.
@@ -47,9 +47,9 @@ returns-in-Whole-clause-below c = λ m is.
     let lens : length (triples_at t c.args.array) ≡ length (node_parts node) = ap length (triples_is t c.in-Local.slot c.args.array node f c.in-Local.is c.in-Whole.ensures.stood) ∙ length-map (node_parts node) value_triple in
     let parts = c.with_element-changed.ensures.parts is_array (omega (arith, lens, c.requires.place)) in
     set_led t c.put.new.self c.in-Local.slot m c.args.place c.args.value c.args.array node new f c.in-Local.is is c.in-Whole.ensures.stood
-    (put_after t c.take.new.self c.put.new.self c.in-Local.slot Shell (Whole new f) c.in-Whole.ensures.rest c.put.ensures) parts
+    (put_after t c.take.new.self c.put.new.self c.in-Local.slot Shell (Whole f new) c.in-Whole.ensures.rest c.put.ensures) parts
 
 pub returns-in-Whole-clause-keys : goal.returns-in-Whole-clause-keys
 returns-in-Whole-clause-keys c =
-    keys_back c.args.self.now c.put.new.self c.in-Local.slot (Whole c.in-Whole.node c.in-Whole.frozen) (Whole c.with_element-changed.result c.in-Whole.frozen) c.in-Whole.ensures.stood
-    (put_after c.args.self.now c.take.new.self c.put.new.self c.in-Local.slot Shell (Whole c.with_element-changed.result c.in-Whole.frozen) c.in-Whole.ensures.rest c.put.ensures) c.with_element-changed.ensures.head.keys
+    keys_back c.args.self.now c.put.new.self c.in-Local.slot (Whole c.in-Whole.frozen c.in-Whole.node) (Whole c.in-Whole.frozen c.with_element-changed.result) c.in-Whole.ensures.stood
+    (put_after c.args.self.now c.take.new.self c.put.new.self c.in-Local.slot Shell (Whole c.in-Whole.frozen c.with_element-changed.result) c.in-Whole.ensures.rest c.put.ensures) c.with_element-changed.ensures.head.keys
