@@ -1,5 +1,6 @@
 pub mod Shrinks
 pub mod Sound
+pub mod Stopping
 pub mod Full
 pub mod Making
 pub mod Lists
