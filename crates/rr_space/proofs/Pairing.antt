@@ -1,5 +1,5 @@
 -- The pairs of hashes, with one set or added.
-use Rattle.std.proofs.Common.{◌≡◌, ℕ, zero, suc, ◌+◌, ◌*◌, ◌⊎◌, ⊎_elim, inl, inr, Bool, true, false, List, [], ◌∷◌, ◌++◌, length, map, slice_set, Option, Some, None, Contains, refl, ap, ◌∙◌, sym, arith, if◌then◌else◌}
+use Rattle.std.proofs.Common.{◌≡◌, ℕ, zero, suc, ◌+◌, ◌*◌, ◌⊎◌, ⊎_elim, inl, inr, Bool, true, false, List, [], ◌∷◌, ◌++◌, length, map, slice_set, Option, Some, Contains, refl, ap, ◌∙◌, sym, arith, if◌then◌else◌}
 use Rattle.std.specs.Bool.{Decides}
 use Rattle.std.specs.Map.{lookup}
 use Rattle.std.proofs.lemmas.Bool.{false≢true}
@@ -9,23 +9,23 @@ use Rattle.indexmap.specs.IndexMap.{insert_entry}
 use Rattle.rr_space.specs.Graph.{KeyAt, ValueAt, Object}
 use Rattle.rr_space.specs.Parts.{Parts, pairs_from, below_ref, below_parts}
 use Rattle.rr_space.specs.Views.{IsWithin, AllWithin}
-use Rattle.rr_space.specs.Writes.{IsFirstAt, put_entry}
+use Rattle.rr_space.specs.Writes.{IsFirstAt, kept_name}
 use Rattle.rr_space.specs.declared.refer.Ref.{Ref}
 
--- the name of the key's entry, if it has one
-abbrev pub name_in : {R : Type 0} → Option (R × R) → R → R
-name_in (Some p) n = p.0
-name_in None n = n
+-- the entries once a key has a value: an absent key comes last, under this name; a present one keeps its place and its name
+abbrev pub put_entry : {K R : Type 0} → (K → K → Bool) → List (K × (R × R)) → K → R → R → List (K × (R × R))
+put_entry eq [] k name v = (k, (name, v)) ∷ []
+put_entry eq (e ∷ es) k name v = if eq k e.0 then (e.0, (e.1.0, v)) ∷ es else e ∷ put_entry eq es k name v
 
 module _ {K R : Type 0} (eq : K → K → Bool) where
   step : (x : K × (R × R)) (es found made : List (K × (R × R))) (n kept v : R) (b : Bool) (later : Option (R × R))
-      → kept ≡ name_in (if b then Some x.1 else later) n → (kept ≡ name_in later n → found ≡ made)
+      → kept ≡ kept_name (if b then Some x.1 else later) n → (kept ≡ kept_name later n → found ≡ made)
       → ◌≡◌ {A = List (K × (R × R))} (if b then (x.0, (kept, v)) ∷ es else x ∷ found) (if b then (x.0, (x.1.0, v)) ∷ es else x ∷ made)
   step x es found made n kept v true later e rest = ap (λ m. (x.0, (m, v)) ∷ es) e
   step x es found made n kept v false later e rest = ap (λ t. x ∷ t) (rest e)
 
   -- an insert under the name that is kept
-  pub put_is : (es : List (K × (R × R))) (k : K) (n kept v : R) → kept ≡ name_in (lookup (eq k) es) n → insert_entry eq es k (kept, v) ≡ put_entry eq es k n v
+  pub put_is : (es : List (K × (R × R))) (k : K) (n kept v : R) → kept ≡ kept_name (lookup (eq k) es) n → insert_entry eq es k (kept, v) ≡ put_entry eq es k n v
   put_is [] k n kept v e = ap (λ m. (k, (m, v)) ∷ []) e
   put_is (x ∷ es) k n kept v e = step x es (insert_entry eq es k (kept, v)) (put_entry eq es k n v) n kept v (eq k x.0) (lookup (eq k) es) e (put_is es k n kept v)
 

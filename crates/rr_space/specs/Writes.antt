@@ -1,5 +1,5 @@
 -- What a write does to what an object leads to.
-use Rattle.std.specs.Prelude.{◌≡◌, ℕ, ◌+◌, ◌<◌, Bool, List, [], ◌∷◌, Option, Some, None, slice_get, map, if◌then◌else◌}
+use Rattle.std.specs.Prelude.{◌≡◌, ℕ, ◌+◌, ◌<◌, List, [], ◌∷◌, Option, Some, None, slice_get, map}
 use Rattle.rr_base.specs.declared.name.Sym.{Sym}
 use Rattle.rr_space.specs.Graph.{Value, Label, Place, KeyAt, ValueAt}
 use Rattle.rr_space.specs.Tables.{Slot, Here, Led, HashKey, Table}
@@ -45,7 +45,7 @@ abbrev pub keys_at : Table → Ref → Option (List HashKey)
 keys_at t (Local n) = keys_here (slice_get t.slots n) (slice_get t.keys n)
 keys_at t _ = None
 
--- the entries once a key has a value: an absent key comes last, under this name; a present one keeps its place and its name
-abbrev pub put_entry : {K R : Type 0} → (K → K → Bool) → List (K × (R × R)) → K → R → R → List (K × (R × R))
-put_entry eq [] k name v = (k, (name, v)) ∷ []
-put_entry eq (e ∷ es) k name v = if eq k e.0 then (e.0, (e.1.0, v)) ∷ es else e ∷ put_entry eq es k name v
+-- the name that a key has where it stands in a hash; where it stands nowhere, the given one
+abbrev pub kept_name : {R : Type 0} → Option (R × R) → R → R
+kept_name None name = name
+kept_name (Some pair) name = pair.0

@@ -4,7 +4,8 @@ ghost use Rattle.std.specs.Prelude.{◌≡◌, ℕ, ◌+◌, ◌*◌, ◌⊎◌,
 ghost use Rattle.rr_space.specs.Graph.{Object, hash, KeyAt, ValueAt};
 ghost use Rattle.rr_space.specs.Parts.{below_ref};
 ghost use Rattle.rr_space.specs.Views.{key_of, entry_pair, node_keys, node_kind, node_pairs, node_parts, below_node, IsWithin, IsNodeWithin, IsBareHeadKept};
-ghost use Rattle.rr_space.specs.Writes.{IsFirstAt, put_entry};
+ghost use Rattle.rr_space.specs.Writes.{IsFirstAt, kept_name};
+ghost use Rattle.indexmap.specs.IndexMap.{insert_entry};
 ghost use Rattle.std.specs.Map.{lookup};
 ghost use Rattle.std.specs.Option.{option_map};
 
@@ -74,7 +75,7 @@ fn put_pair<K: Hash + Eq + Drop, R: Copy>(
     name: R,
     value: R,
 ) -> Result<(), Fault>
-    ensures entries { OnOk result (entries.new.entries ≡ put_entry K.eq entries.old.entries key name value) }
+    ensures entries { OnOk result (entries.new.entries ≡ insert_entry K.eq entries.old.entries key (kept_name (lookup (K.eq key) entries.old.entries) name, value)) }
     ensures refused { OnErr result (entries.new.entries ≡ entries.old.entries) }
     ensures absent { OnErr result (lookup (K.eq key) entries.old.entries ≡ None) }
     ensures fault { IfErr result (λ e. e ≡ Fault.Memory) }
