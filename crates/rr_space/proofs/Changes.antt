@@ -10,6 +10,9 @@ use Rattle.rr_space.specs.Changes.{ClosedStaysInside, FrozenIsShareable, Promote
 use Rattle.rr_space.proofs.Renaming.{mapped_at, contains_map}
 use Rattle.rr_space.proofs.Sounds.{raw_in, resolved_back, gets}
 
+same_here : (a b : Object) → Here a ≡ Here b → a ≡ b
+same_here a b e = cc
+
 module _ (m : Packed) (closed : IsClosed m) (sealed : IsSealed (message_graph m)) where
   -- no slot of a message is a forward
   whole_slot : (n : ℕ) (s : Option Slot) → slice_get (map Here m.objects) n ≡ s → resolve_slot s n ≡ Own n
@@ -32,11 +35,8 @@ module _ (m : Packed) (closed : IsClosed m) (sealed : IsSealed (message_graph m)
       let r = raw_in (map Here m.objects) (m.root_below ++ joined m.below) i o here in
       let y = resolved_back (map Here m.objects) r.0.triples l x (subst (λ (z : Object). Contains z.triples (l, x)) (sym r.2) has) in
       let raw = mapped_at Here m.objects i (Here r.0) r.1 in
-      let same : raw.0 ≡ r.0 = here_same raw.0 r.0 raw.2 in
+      let same : raw.0 ≡ r.0 = same_here raw.0 r.0 raw.2 in
       subst (IsBelow (length m.objects)) y.2 (below_still y.0 (closed.objects i raw.0 l y.0 raw.1 (subst (λ (z : Object). Contains z.triples (l, y.0)) (sym same) y.1)))
-    where
-      here_same : (a b : Object) → Here a ≡ Here b → a ≡ b
-      here_same a b e = cc
   step_inside (Published c p) o l x here has = published_below x (sealed.shut c p o l x here has)
 
   inside : (path : List Label) (v : Value) (n : ℕ) → IsBelow (length m.objects) v → Leads (message_graph m) v path (At (Own n)) → n < length m.objects
@@ -53,9 +53,6 @@ pub emptied_open : EmptiedIsNotShareable
 emptied_open names old new e n has v reach all = (all (Own n) emptied reach (ap (option_and_then (object_in new.slots)) (e.named n has))).no_shell refl
 
 -- ---- freezing
-
-same_here : (a b : Object) → Here a ≡ Here b → a ≡ b
-same_here a b e = cc
 
 -- what was resolved names no forward
 resolved_out : (slots : List Slot) (y : Value) (n c p : ℕ) → resolve slots y ≡ At (Own n) → slice_get slots n ≡ Some (Led c p) → ⊥

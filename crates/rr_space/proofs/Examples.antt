@@ -8,13 +8,7 @@ use Rattle.rr_space.specs.Copying.{Copied}
 use Rattle.rr_space.specs.Examples.{array_object, slots_graph, cycle, over_text, over_shell, beside_text, knot, turned_knot, one_text_twice, two_texts, loop, FirstIsShareable, FirstReaches, HasPairing, Examples}
 use Rattle.rr_space.proofs.Leaves.{found_all}
 use Rattle.rr_space.proofs.Copies.{copies_are_alike}
-
-none_in : {X : Type 0} (x : X) → Contains [] x → ⊥
-none_in x (i, lt, e) = omega (arith, lt)
-
-in_first : {X : Type 0} (a : X) (xs : List X) (x : X) → Contains (a ∷ xs) x → (a ≡ x) ⊎ Contains xs x
-in_first a xs x (zero, lt, e) = inl e
-in_first a xs x (suc i, lt, e) = inr (i, omega (arith, lt), e)
+use Rattle.rr_space.proofs.Sounds.{none_in, in_first}
 
 -- the slot of a value that names one
 abbrev slot_in : Value → ℕ

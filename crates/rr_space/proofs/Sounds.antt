@@ -38,16 +38,16 @@ append_sound a b ha hb = record {
       (λ h. standing_later 0 0 b (a ++ b) (omega arith) (Contains-append_right a b) x (hb.within c os p o h at l x in_o)) (Contains-append_cases a b (c, os) has);
 }
 
-no_entry : (e : ℕ × List Object) → Contains [] e → ⊥
-no_entry e (i, lt, q) = omega (arith, lt)
+pub none_in : {X : Type 0} (x : X) → Contains [] x → ⊥
+none_in x (i, lt, e) = omega (arith, lt)
 
 pub none_sound : IsBelowSound []
-none_sound = record { solid = λ c os p o has at. absurd (no_entry (c, os) has); within = λ c os p o has at. absurd (no_entry (c, os) has) }
+none_sound = record { solid = λ c os p o has at. absurd (none_in (c, os) has); within = λ c os p o has at. absurd (none_in (c, os) has) }
 
 -- a list's first entry is what it is, or the entry is later
-first_or : (x : ℕ × List Object) (xs : Below) (e : ℕ × List Object) → Contains (x ∷ xs) e → (x ≡ e) ⊎ Contains xs e
-first_or x xs e (zero, lt, q) = inl q
-first_or x xs e (suc i, lt, q) = inr (i, omega (arith, lt), q)
+pub in_first : {X : Type 0} (a : X) (xs : List X) (x : X) → Contains (a ∷ xs) x → (a ≡ x) ⊎ Contains xs x
+in_first a xs x (zero, lt, e) = inl e
+in_first a xs x (suc i, lt, e) = inr (i, omega (arith, lt), e)
 
 pub in_later : (x : ℕ × List Object) (xs : Below) (e : ℕ × List Object) → Contains xs e → Contains (x ∷ xs) e
 in_later x xs e (i, lt, q) = (suc i, omega (arith, lt), q)
@@ -69,10 +69,10 @@ module _ (w : Whole) (h : IsWholeSound w) where
   pub hold_sound : IsBelowSound (below_hold w)
   hold_sound = record {
     solid = λ c os p o has at. ⊎_elim (λ e. (outer_at p o (subst (λ (y : ℕ × List Object). slice_get y.1 p ≡ Some o) (sym e) at)).0) (λ q. h.below.solid c os p o q at)
-        (first_or (w.number, outer_objects w) w.below (c, os) has);
+        (in_first (w.number, outer_objects w) w.below (c, os) has);
     within = λ c os p o has at. ⊎_elim (λ e. (outer_at p o (subst (λ (y : ℕ × List Object). slice_get y.1 p ≡ Some o) (sym e) at)).1)
         (λ q l x in_o. standing_later 0 0 w.below (below_hold w) (omega arith) (in_later (w.number, outer_objects w) w.below) x (h.below.within c os p o q at l x in_o))
-        (first_or (w.number, outer_objects w) w.below (c, os) has);
+        (in_first (w.number, outer_objects w) w.below (c, os) has);
   }
 
 -- what a look-up of a place finds is an object of an entry
@@ -98,14 +98,14 @@ sound_is_sealed slots below t = record {
 
 -- a number that has an entry is found
 pub finds : (below : Below) (c : ℕ) (os : List Object) → Contains below (c, os) → (ps : List Object) × (cluster_at below c ≡ Some ps)
-finds [] c os has = absurd (no_entry (c, os) has)
+finds [] c os has = absurd (none_in (c, os) has)
 finds (x ∷ xs) c os has = by (nat_eq c x.0) refl (finds xs c os)
   where
     by : (b : Bool) → nat_eq c x.0 ≡ b → (Contains xs (c, os) → (ps : List Object) × (cluster_at xs c ≡ Some ps)) → (ps : List Object) × (cluster_at (x ∷ xs) c ≡ Some ps)
     by true q rest = (x.1, ap (λ b. cond b (Some x.1) (cluster_at xs c)) q)
     by false q rest = ⊎_elim
         (λ e. let z : true ≡ false = sym (eq-eqb c x.0 (sym (ap (λ (y : ℕ × List Object). y.0) e))) ∙ q in absurd (let v : ⊥ = cc in v))
-        (λ r. let f = rest r in (f.0, ap (λ b. cond b (Some x.1) (cluster_at xs c)) q ∙ f.1)) (first_or x xs (c, os) has)
+        (λ r. let f = rest r in (f.0, ap (λ b. cond b (Some x.1) (cluster_at xs c)) q ∙ f.1)) (in_first x xs (c, os) has)
 
 pub gets : {A : Type 0} (xs : List A) (p : ℕ) → p < length xs → (x : A) × (slice_get xs p ≡ Some x)
 gets [] p lt = absurd (let w : ⊥ = omega (arith, lt) in w)
