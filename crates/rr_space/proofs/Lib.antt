@@ -30,3 +30,7 @@ pub mod Standing
 pub mod Parting
 pub mod Effects
 pub mod PublishedKeys
+pub mod Resolving
+pub mod Shifting
+pub mod Appending
+pub mod Carrying

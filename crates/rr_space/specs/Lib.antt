@@ -26,3 +26,5 @@ pub mod Leaves
 pub mod Writes
 pub mod Effects
 pub mod Lookups
+pub mod Carrying
+pub mod Behind

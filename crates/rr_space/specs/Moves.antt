@@ -21,6 +21,7 @@ IsPromoted t v = (n : ℕ) → Reaches (space_graph t) (resolve t.slots v) (Own 
 pub record IsCopy (t : Table) (v : Value) (names : List ℕ) (m : Packed) : Type 0 where
   pub alike : Alike (space_graph t) (resolve t.slots v) (message_graph m) m.root (IsAt names)
   pub size : length m.objects ≡ length names
+  pub keys : (n i : ℕ) → IsAt names n i → slice_get m.keys i ≡ slice_get t.keys n
 
 -- each named slot is a shell, and nothing else changes
 pub record IsEmptied (names : List ℕ) (old new : Table) : Type 0 where
@@ -53,6 +54,7 @@ ForwardedIsExact = (c : ℕ) (places : List ℕ) (old : List Slot) → ((n i j :
 pub record IsOpened (m : Packed) (old new : Table) (v : Value) : Type 0 where
   pub slots : new.slots ≡ old.slots ++ map (here_behind (length old.slots)) m.objects
   pub below : new.below ≡ old.below ++ m.below
+  pub keys : new.keys ≡ old.keys ++ m.keys
   pub limit : new.limit ≡ old.limit
   pub owner : new.owner ≡ old.owner
   pub root : v ≡ renamed (behind (length old.slots)) m.root

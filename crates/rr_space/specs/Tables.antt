@@ -100,11 +100,12 @@ graph_of slots below (Published c p) = published_at below c p
 abbrev pub space_graph : Table → Graph
 space_graph t = graph_of t.slots (joined t.below)
 
--- a message: its objects, for each of them the clusters that it leads to, its root and the clusters of the root, its
--- sender and its sequence number
+-- a message: its objects, for each of them the clusters that it leads to and the keys of a hash, its root and the
+-- clusters of the root, its sender and its sequence number
 pub record Packed : Type 0 where
   pub objects : List Object
   pub below : List Below
+  pub keys : List (List HashKey)
   pub root : Value
   pub root_below : Below
   pub sender : ℕ

@@ -1,7 +1,11 @@
 //! The elements of an array.
 
-ghost use Rattle.std.specs.Prelude.{◌≡◌, ◌<◌, [], ◌∷◌, ◌++◌, length, remove, slice_get, slice_set, Some, IfOk, IfErr};
+ghost use Rattle.std.specs.Prelude.{◌≡◌, ◌-◌, ◌<◌, ◌^◌, [], ◌∷◌, ◌++◌, length, map, remove, slice_get, slice_set, Some, IfOk, IfErr};
+ghost use Rattle.rr_space.specs.Behind.{ref_behind};
+ghost use Rattle.rr_space.specs.Parts.{places_from};
+ghost use Rattle.rr_space.specs.Within.{AllWithin};
 
+use crate::behind::refs_behind;
 use crate::refer::Ref;
 use crate::replace::replace_at;
 use rr_base::Fault;
@@ -134,6 +138,25 @@ impl Items {
             }
             Kept::Many(mut items) => {
                 replace_at(&mut items, k, item);
+                Items::from_vec(items)
+            }
+        }
+    }
+
+    /// The elements, once the slots that they lead to stand behind `count` others. Takes no memory.
+    pub(crate) fn behind(self, count: u32) -> Items
+        requires { AllWithin (2 ^ 32 - count) (places_from 0 self) }
+        ensures { result ≡ map (ref_behind count) self }
+    {
+        let Items { kept } = self;
+        match kept {
+            Kept::Empty(alloc) => Items::new(alloc),
+            Kept::One(alloc, item) => Items::one(alloc, item.behind(count)),
+            Kept::Two(alloc, first, second) => {
+                Items::two(alloc, first.behind(count), second.behind(count))
+            }
+            Kept::Many(mut items) => {
+                refs_behind(&mut items, count);
                 Items::from_vec(items)
             }
         }

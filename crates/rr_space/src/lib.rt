@@ -1,6 +1,9 @@
 //! The objects of one ractor, and the definitions of the graph that they are.
 #![tactic(auto)]
 
+mod append;
+mod behind;
+mod carried;
 mod entries;
 mod fields;
 mod items;
@@ -14,10 +17,12 @@ mod pairs;
 mod part;
 mod refer;
 mod replace;
+mod slot_set;
 mod space;
 mod walk;
 mod write;
 
+pub use carried::Carried;
 pub use items::Items;
 pub use kind::Kind;
 pub use label::Label;
@@ -29,9 +34,14 @@ pub use laws::{
 };
 pub use node::{Entries, Key, Node};
 pub use refer::{Cluster, Name, Raised, Ref, Sealed};
+pub use slot_set::SlotSet;
 pub use space::Space;
 
 #[cfg(test)]
 mod slow;
 #[cfg(test)]
 mod tests;
+#[cfg(test)]
+mod tests_append;
+#[cfg(test)]
+mod tests_copy;

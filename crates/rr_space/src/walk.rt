@@ -1,11 +1,11 @@
 //! What objects lead to, one reference at a time, and when two values are the same.
 
-ghost use Rattle.std.specs.Prelude.{◌≡◌, ◌↔◌, ℕ, length, slice_get, Contains, IsTrue, IfSome, IfNone};
+ghost use Rattle.std.specs.Prelude.{◌≡◌, ◌↔◌, ◌⊎◌, ℕ, List, length, slice_get, Contains, IsTrue, IfSome, IfNone};
 ghost use Rattle.std.specs.Option.{option_map};
-ghost use Rattle.rr_space.specs.Graph.{Value};
+ghost use Rattle.rr_space.specs.Graph.{Object, Value};
 ghost use Rattle.rr_space.specs.Within.{IsWithin};
-ghost use Rattle.rr_space.specs.Tables.{resolve, outer_objects};
-ghost use Rattle.rr_space.specs.Parts.{value_of};
+ghost use Rattle.rr_space.specs.Tables.{joined, resolve, outer_objects};
+ghost use Rattle.rr_space.specs.Parts.{below_ref, value_of};
 ghost use Rattle.rr_space.specs.Views.{can_freeze_at, can_write_at, frozen_at};
 ghost use Rattle.rr_space.specs.Labels.{label_of, labelled_value, triples_at, triples_of};
 
@@ -70,13 +70,21 @@ impl Space {
 
     /// The value itself, or where `value` is a slot that was published since, the published object.
     pub fn resolve(&self, value: Ref) -> Ref
-        ensures { value_of result ≡ resolve self.now.slots (value_of value) }
+        ensures value { value_of result ≡ resolve self.now.slots (value_of value) }
+        ensures within { IsWithin (length self.now.slots) value → IsWithin (length self.now.slots) result }
+        ensures below { (e : ℕ × List Object) → Contains (below_ref result) e → Contains (joined self.now.below) e ⊎ Contains (below_ref value) e }
     {
         match value {
-            Ref::Local(slot) => match self.slots.get(slot as usize) {
-                Some(Held::Forward(place, cluster)) => Ref::Shared(*place, cluster),
-                _ => value,
-            },
+            Ref::Local(slot) => {
+                if slot as usize >= self.slots.len() {
+                    return value;
+                }
+                match &self.slots[slot as usize] {
+                    Held::Forward(place, cluster) => Ref::Shared(*place, cluster),
+                    Held::Whole(_, _) => value,
+                    Held::Shell => value,
+                }
+            }
             _ => value,
         }
     }
