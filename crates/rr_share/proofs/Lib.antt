@@ -1,0 +1,7 @@
+pub mod Ends
+pub mod Searching
+pub mod Places
+pub mod Froze
+pub mod Solids
+pub mod Noting
+pub mod Marking
