@@ -1,5 +1,8 @@
 //! Messages on their way.
 
+ghost use Rattle.std.specs.Prelude.{length};
+ghost use Rattle.rr_space.specs.Within.{IsWithin};
+
 use rr_base::{Fault, RactorNo};
 use rr_copy::{can_pack, open, pack_copy};
 use rr_inbox::{Front, InboxState};
@@ -12,12 +15,14 @@ const COUNT: u32 = 1_000_000;
 
 const MEBIBYTE: usize = 1_048_576;
 
-fn pass(alloc: Global) -> Result<u32, Fault> {
-    let space = Space::new(alloc, RactorNo(1), 10);
+fn pass(alloc: Global, space: &Space) -> Result<u32, Fault> {
+    if !can_pack(alloc, space, Ref::Int(7))? {
+        return Ok(0);
+    }
     let mut inbox = InboxState::new(alloc, u32::MAX)?;
     let mut passed = 0u32;
     for _ in 0..COUNT {
-        let message = pack_copy(alloc, &space, Ref::Int(7))?;
+        let message = pack_copy(alloc, space, Ref::Int(7))?;
         let _ = inbox.offer(RactorNo(1), message);
         if let Front::Message(_) = inbox.accept(RactorNo(2)) {
             passed = passed.wrapping_add(1);
@@ -27,8 +32,9 @@ fn pass(alloc: Global) -> Result<u32, Fault> {
 }
 
 pub fn measure_inbox(rt: &HostRuntime) -> io::Result<()> {
+    let space = Space::new(rt.alloc(), RactorNo(1), 10);
     let begun = Instant::now(rt)?;
-    let passed = pass(rt.alloc()).unwrap_or(0);
+    let passed = pass(rt.alloc(), &space).unwrap_or(0);
     let each = begun.elapsed(rt)?.as_nanos() / u128::from(COUNT);
     println!(rt; "{passed} messages, {each} ns each")
 }
@@ -41,12 +47,14 @@ fn bytes(alloc: Global) -> Result<Vec<u8>, Fault> {
     Ok(bytes)
 }
 
-fn carry(alloc: Global, from: &Space, text: Ref, to: &mut Space) -> Result<bool, Fault> {
-    if !can_pack(from, text) {
+fn carry(alloc: Global, from: &Space, text: Ref, to: &mut Space) -> Result<bool, Fault>
+    requires { IsWithin (length from.now.slots) text }
+{
+    if !can_pack(alloc, from, text)? {
         return Ok(false);
     }
     let message = pack_copy(alloc, from, text)?;
-    Ok(open(alloc, to, message).is_ok())
+    Ok(open(to, message).is_ok())
 }
 
 pub fn measure_text(rt: &HostRuntime) -> io::Result<()> {

@@ -1,7 +1,7 @@
--- What a message can carry, and how much it has.
-use Rattle.std.specs.Prelude.{◌≡◌, ◌+◌, ◌<◌, ℕ, Bool, true, false, length, Option, Some, None, ◌||◌}
-use Rattle.rr_space.specs.Tables.{Table, Packed}
-use Rattle.rr_space.specs.Leaves.{open_text_at}
+-- How much a message has, and what is so of each of its objects.
+use Rattle.std.specs.Prelude.{◌≡◌, ◌+◌, ◌<◌, ℕ, Bool, true, false, length}
+use Rattle.rr_space.specs.Graph.{Own, IsPart}
+use Rattle.rr_space.specs.Tables.{Packed, message_graph}
 use Rattle.rr_space.specs.declared.refer.Ref.{Ref}
 use Rattle.rr_space.specs.declared.refer.Ref.TheVariants.{Local, Shared}
 
@@ -14,14 +14,10 @@ is_immediate (Local n) = false
 is_immediate (Shared p c) = false
 is_immediate _ = true
 
-abbrev pub is_some : {A : Type 0} → Option A → Bool
-is_some None = false
-is_some (Some x) = true
-
--- an immediate, or a text that is not frozen
-abbrev pub can_pack_at : Table → Ref → Bool
-can_pack_at t r = is_immediate r || is_some (open_text_at t r)
-
 -- an object of the message goes with the slot as far behind the first k
 abbrev pub Behind : Packed → ℕ → ℕ → ℕ → Type 0
 Behind m k i n = (i < length m.objects) × (n ≡ k + i)
+
+-- the root leads to each object of the message, and none of them is shareable
+abbrev pub IsEachPart : Packed → Type 0
+IsEachPart m = (n : ℕ) → n < length m.objects → IsPart (message_graph m) m.root (Own n)

@@ -1,108 +1,75 @@
-//! Packing a copy of a value into a message, and opening a message in a space.
+//! Packing a copy of a value into a message.
 
-ghost use Rattle.std.specs.Prelude.{◌≡◌, ◌⊎◌, ◌++◌, ◌∷◌, [], ℕ, List, false, length, IsTrue, IfOk, IfErr};
-ghost use Rattle.rr_space.specs.Alike.{Alike};
-ghost use Rattle.rr_space.specs.Moves.{IsCopy, IsOpened};
-ghost use Rattle.rr_space.specs.Parts.{value_of};
-ghost use Rattle.rr_space.specs.Leaves.{text_object};
-ghost use Rattle.rr_space.specs.Tables.{Here, message_graph, space_graph, resolve};
-ghost use Rattle.rr_copy.specs.Messages.{is_immediate, can_pack_at, size_of, Behind};
+ghost use Rattle.std.specs.Prelude.{◌≡◌, ◌≤◌, ◌<◌, ◌^◌, ◌⊎◌, ◌++◌, ◌↔◌, ℕ, List, false, length, slice_get, Some, Contains, IsTrue, IfOk, IfErr};
+ghost use Rattle.std.specs.List.{AllZip};
+ghost use Rattle.rr_space.specs.Graph.{Object, At, Own, Label, shell, IsFreeOfShells};
+ghost use Rattle.rr_space.specs.Moves.{IsCopy, IsPromoted};
+ghost use Rattle.rr_space.specs.Parts.{value_of, below_ref};
+ghost use Rattle.rr_space.specs.Tables.{Here, joined, space_graph, resolve, resolve_object};
+ghost use Rattle.rr_space.specs.Within.{IsWithin};
+ghost use Rattle.rr_copy.specs.Messages.{is_immediate};
+ghost use Rattle.rr_copy.specs.Contents.{IsCarriedFrom};
 
-use crate::message::{Content, Message};
-use rr_base::{Fault, LimitKind};
-use rr_space::{Node, Ref, Space};
+use crate::message::Message;
+use rr_base::Fault;
+use rr_share::{reached_objects, shareable_objects};
+use rr_space::{Carried, Ref, SlotSet, Space};
 use std::alloc::Global;
 
-fn is_immediate(value: Ref) -> bool
-    ensures { result ≡ is_immediate value }
+/// Whether the value may be packed: each shareable object of this space that it leads to is published. `Memory` is the
+/// only fault.
+pub fn can_pack(alloc: Global, space: &Space, value: Ref) -> Result<bool, Fault>
+    ensures promoted { IfOk result (λ yes. IsTrue yes ↔ IsPromoted space.now (value_of value)) }
+    ensures fault { IfErr result (λ fault. fault ≡ Fault.Memory) }
 {
-    !matches!(value, Ref::Local(_) | Ref::Shared(_, _))
+    let shareable = shareable_objects(alloc, space, value)?;
+    Ok(shareable.is_empty())
 }
 
-/// Whether a message can carry the value: an immediate, or a text of this space that is not frozen.
-pub fn can_pack(space: &Space, value: Ref) -> bool
-    ensures { result ≡ can_pack_at space.now value }
+// Copies of the objects in these slots, in their order.
+fn copies_of(alloc: Global, space: &Space, names: &SlotSet) -> Result<Vec<Carried>, Fault>
+    requires whole { (n : ℕ) → Contains names.now n → (o : Object) × (slice_get space.now.slots n ≡ Some (Here o)) × (o.kind ≡ shell → ⊥) }
+    requires closed { (n m : ℕ) (o : Object) (l : Label) → Contains names.now n → slice_get space.now.slots n ≡ Some (Here o) → Contains (resolve_object space.now.slots o).triples (l, At (Own m)) → Contains names.now m }
+    requires few { length names.now ≤ 2 ^ 32 }
+    ensures copies { IfOk result (λ copies. AllZip (IsCarriedFrom space.now names.now) names.now copies.items) }
+    ensures fault { IfErr result (λ fault. fault ≡ Fault.Memory) }
+    ensures grows { IfErr result (λ fault. 1 ≤ length names.now) }
 {
-    is_immediate(value) || space.open_text(value).is_some()
+    let mut copies = Vec::new(alloc);
+    copies.reserve_exact(names.len())?;
+    for place in 0..names.len() {
+        let copy = space.copy_object(alloc, names.at(place), names)?;
+        copies.push(copy)?;
+    }
+    Ok(copies)
 }
 
 /// A copy of what `value` leads to, as a message of the space's ractor. `can_pack` tells whether it may be packed. The space
-/// stays as it is, and `Memory` is the only fault; an immediate takes none.
+/// stays as it is.
+///
+/// Published objects are not copied: the message refers to them. One object that is led to twice is copied once. The
+/// faults are `HoldsShell`, where the value leads to an object that was moved away, and `Memory`; an immediate takes none.
 pub fn pack_copy(alloc: Global, space: &Space, value: Ref) -> Result<Message, Fault>
-    requires { IsTrue (can_pack_at space.now value) }
+    requires promoted { IsPromoted space.now (value_of value) }
+    requires within { IsWithin (length space.now.slots) value }
     ensures copy { IfOk result (λ message. (names : List ℕ) × IsCopy space.now (value_of value) names message) }
     ensures sender { IfOk result (λ message. message.sender ≡ space.now.owner) }
     ensures sequence { IfOk result (λ message. message.sequence ≡ 0) }
-    ensures fault { IfErr result (λ fault. fault ≡ Fault.Memory) }
+    ensures below { IfOk result (λ message. (e : ℕ × List Object) → Contains (message.root_below ++ joined message.below) e → Contains (joined space.now.below ++ below_ref value) e) }
+    ensures free { IfOk result (λ _. IsFreeOfShells (space_graph space.now) (resolve space.now.slots (value_of value))) }
+    ensures fault { IfErr result (λ fault. (fault ≡ Fault.Memory) ⊎ ((fault ≡ Fault.HoldsShell) × (IsFreeOfShells (space_graph space.now) (resolve space.now.slots (value_of value)) → ⊥))) }
     ensures grows { IfErr result (λ fault. is_immediate value ≡ false) }
 {
-    let sender = space.owner();
-    match space.open_text(value) {
-        Some(bytes) => {
-            let content = Content::Text(Vec::from_slice(alloc, bytes)?);
-            Ok(Message {
-                content,
-                sender,
-                sequence: 0,
-            })
-        }
-        None => Ok(Message {
-            content: Content::Immediate(value),
-            sender,
-            sequence: 0,
-        }),
-    }
-}
-
-// A text of these bytes, behind the objects that are there; a refusal hands the bytes back.
-fn open_text(alloc: Global, space: &mut Space, bytes: Vec<u8>) -> Result<Ref, (Fault, Vec<u8>)>
-    ensures root { IfOk result (λ root. root ≡ Ref.Local (length space.old.slots)) }
-    ensures slots { IfOk result (λ root. space.new.slots ≡ space.old.slots ++ Here (text_object bytes.items) ∷ []) }
-    ensures below { IfOk result (λ root. space.new.below ≡ space.old.below ++ [] ∷ []) }
-    ensures limit { space.new.limit ≡ space.old.limit }
-    ensures owner { space.new.owner ≡ space.old.owner }
-    ensures back { IfErr result (λ refusal. (refusal.1 ≡ bytes) × (space.new ≡ space.old)) }
-    ensures fault { IfErr result (λ refusal. (refusal.0 ≡ Fault.Memory) ⊎ ((refusal.0 ≡ Fault.Limit LimitKind.Slots) × (length space.old.slots ≡ space.old.limit))) }
-{
-    let root = match space.alloc(Node::Text(Vec::new(alloc))) {
-        Ok(root) => root,
-        Err(fault) => return Err((fault, bytes)),
-    };
-    space.write_text(root, bytes);
-    Ok(root)
-}
-
-/// Brings a message's objects into a space, behind those that are there, and answers its root.
-///
-/// A refusal hands back the very message and leaves the space as it was: `Limit(Slots)` where there is no slot for the
-/// message's object, and `Memory` where a growth was refused. A message without objects is always opened.
-pub fn open(alloc: Global, space: &mut Space, message: Message) -> Result<Ref, (Fault, Message)>
-    ensures opened { IfOk result (λ root. IsOpened message space.old space.new (value_of root)) }
-    ensures alike { IfOk result (λ root. Alike (message_graph message) message.root (space_graph space.new) (resolve space.new.slots (value_of root)) (Behind message (length space.old.slots))) }
-    ensures back { IfErr result (λ refusal. (refusal.1 ≡ message) × (space.new ≡ space.old)) }
-    ensures fault { IfErr result (λ refusal. (refusal.0 ≡ Fault.Memory) ⊎ ((refusal.0 ≡ Fault.Limit LimitKind.Slots) × (size_of message ≡ 1) × (length space.old.slots ≡ space.old.limit))) }
-    ensures grows { IfErr result (λ refusal. size_of message ≡ 1) }
-{
-    let Message {
-        content,
-        sender,
-        sequence,
-    } = message;
-    match content {
-        Content::Immediate(value) => Ok(value),
-        Content::Text(bytes) => match open_text(alloc, space, bytes) {
-            Ok(root) => Ok(root),
-            Err((fault, bytes)) => {
-                let content = Content::Text(bytes);
-                Err((
-                    fault,
-                    Message {
-                        content,
-                        sender,
-                        sequence,
-                    },
-                ))
-            }
-        },
-    }
+    // No slot has two names, so there are no more names than slots, and no more slots than 32 bits count.
+    let _slots = space.len();
+    let _limit = space.limit();
+    let names = reached_objects(alloc, space, value)?;
+    let _places = names.len();
+    let objects = copies_of(alloc, space, &names)?;
+    Ok(Message {
+        objects,
+        root: space.carried(value, &names),
+        sender: space.owner(),
+        sequence: 0,
+    })
 }

@@ -1,11 +1,13 @@
-//! Messages, which carry a closed graph from one space to another. So far they carry immediates and texts.
+//! Messages, which carry a copy of a closed graph from one space to another.
 #![tactic(auto)]
 
 mod copy;
 mod message;
+mod opening;
 
-pub use copy::{can_pack, open, pack_copy};
+pub use copy::{can_pack, pack_copy};
 pub use message::Message;
+pub use opening::open;
 
 #[cfg(test)]
 mod tests;

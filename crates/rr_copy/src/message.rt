@@ -1,50 +1,45 @@
 //! A message.
 
 ghost use Rattle.std.specs.Prelude.{◌≡◌, length};
-ghost use Rattle.rr_copy.specs.Messages.{size_of};
+ghost use Rattle.rr_space.specs.Tables.{message_graph, IsClosed, IsSealed};
+ghost use Rattle.rr_copy.specs.Messages.{size_of, IsEachPart};
 
 use rr_base::RactorNo;
-use rr_space::Ref;
+use rr_space::{Carried, Ref};
 use std::marker::Model;
 
-/// What a message carries.
-#[derive(Drop)]
-pub(crate) enum Content {
-    /// A value that is no object.
-    Immediate(Ref),
-    /// A text of the message's own, not frozen.
-    Text(Vec<u8>),
-}
-
 /// A closed graph with its root, the ractor that sent it, and its sequence number there, which is 0 for a copy.
+///
+/// A `Ref::Local` in it is a place among its objects. The root leads to each of them, and none of them is shareable: what
+/// is shareable was published before, and the message refers to it.
 #[derive(Drop)]
 pub struct Message {
-    pub(crate) content: Content,
+    pub(crate) objects: Vec<Carried>,
+    pub(crate) root: Ref,
     pub(crate) sender: RactorNo,
     pub(crate) sequence: u64,
 }
 
 impl Model for Message {
-    ghost use Rattle.std.specs.Prelude.{IsTrue};
     ghost use Rattle.rr_space.specs.Tables.{Packed};
-    ghost use Rattle.rr_copy.specs.Contents.{packed_of, is_packable};
+    ghost use Rattle.rr_copy.specs.Contents.{packed_of, IsMessage};
 
     ghost Value = { Packed };
 
-    ghost view = { λ m. packed_of m.content m.sender.0 m.sequence };
+    ghost view = { λ m. packed_of m.objects.items m.root m.sender.0 m.sequence };
 
-    ghost invariant = { λ m. IsTrue (is_packable m.content) };
+    ghost invariant = { λ m. IsMessage m.objects.items m.root };
 }
 
 impl Message {
     /// The number of the message's own objects: those that come into being where it is opened.
     pub fn size(&self) -> u32
-        ensures { result ≡ size_of self.now }
+        ensures size { result ≡ size_of self.now }
+        ensures closed { IsClosed self.now }
+        ensures sealed { IsSealed (message_graph self.now) }
+        ensures parts { IsEachPart self.now }
     {
-        match self.content {
-            Content::Immediate(_) => 0,
-            Content::Text(_) => 1,
-        }
+        self.objects.len() as u32
     }
 
     /// The ractor that sent it.

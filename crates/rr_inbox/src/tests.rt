@@ -1,9 +1,9 @@
-//! Worked examples. A text has size 1, an integer size 0.
+//! Worked examples.
 
 use crate::{Front, InboxState};
 use rr_base::{Fault, InboxEvent, RactorNo};
-use rr_copy::{Message, pack_copy};
-use rr_space::{Node, Ref, Space};
+use rr_copy::{Message, can_pack, pack_copy};
+use rr_space::{Items, Node, Ref, Space};
 use std::alloc::Global;
 use std::process::Abort;
 use std::test::Fail;
@@ -12,20 +12,15 @@ const MAIN: RactorNo = RactorNo(1);
 
 const OTHER: RactorNo = RactorNo(2);
 
-fn text(alloc: Global) -> Result<Message, Fault> {
+// A message of that many objects: arrays in one another, and a number in the innermost.
+fn message(rt: &impl Abort, alloc: Global, size: u32) -> Result<Message, Fault> {
     let mut space = Space::new(alloc, MAIN, 10);
-    let text = space.alloc(Node::Text(b"abc".to_vec(alloc)?))?;
-    let value = if rr_copy::can_pack(&space, text) {
-        text
-    } else {
-        Ref::Nil
-    };
+    let mut value = Ref::Int(7);
+    for _ in 0..size {
+        value = space.alloc(Node::Array(Items::one(alloc, value)))?;
+    }
+    assert!(rt; can_pack(alloc, &space, value)?);
     pack_copy(alloc, &space, value)
-}
-
-fn number(alloc: Global) -> Result<Message, Fault> {
-    let space = Space::new(alloc, MAIN, 10);
-    pack_copy(alloc, &space, Ref::Int(7))
 }
 
 // An event as a trace has it: what happened, ticket, size, who.
@@ -60,30 +55,36 @@ fn check_history(
 #[test]
 fn two_messages_one_taken_and_one_refused(rt: HostRuntime) -> Result<(), Fail> {
     let mut inbox = InboxState::new(rt.alloc(), 100)?;
-    assert_eq!(rt; inbox.offer(MAIN, number(rt.alloc())?).ok(), Some(0));
-    assert_eq!(rt; inbox.offer(MAIN, text(rt.alloc())?).ok(), Some(1));
+    assert_eq!(rt;
+        inbox.offer(MAIN, message(&rt, rt.alloc(), 2)?).ok(),
+        Some(0)
+    );
+    assert_eq!(rt;
+        inbox.offer(MAIN, message(&rt, rt.alloc(), 3)?).ok(),
+        Some(1)
+    );
     match inbox.accept(OTHER) {
-        Front::Message(message) => assert_eq!(rt; message.size(), 0),
+        Front::Message(message) => assert_eq!(rt; message.size(), 2),
         _ => return Err(Fail::from("no message came")),
     }
     assert!(rt; !inbox.close(OTHER));
-    match inbox.offer(MAIN, text(rt.alloc())?) {
+    match inbox.offer(MAIN, message(&rt, rt.alloc(), 1)?) {
         Err((fault, message)) => {
             assert_eq!(rt; fault, Fault::Closed);
             assert_eq!(rt; message.size(), 1);
         }
         Ok(_) => return Err(Fail::from("a closed inbox took a message")),
     }
-    let wanted = "offered 0 0 1\noffered 1 1 1\naccepted 0 0 2\nclosed 2\nrefused 1 1\n";
+    let wanted = "offered 0 2 1\noffered 1 3 1\naccepted 0 2 2\nclosed 2\nrefused 1 1\n";
     check_history(&rt, rt.alloc(), &inbox, wanted)
 }
 
 #[test]
 fn a_history_of_four_events(rt: HostRuntime) -> Result<(), Fail> {
     let mut inbox = InboxState::new(rt.alloc(), 4)?;
-    assert!(rt; inbox.offer(MAIN, number(rt.alloc())?).is_ok());
+    assert!(rt; inbox.offer(MAIN, message(&rt, rt.alloc(), 0)?).is_ok());
     for _ in 0..2 {
-        match inbox.offer(MAIN, number(rt.alloc())?) {
+        match inbox.offer(MAIN, message(&rt, rt.alloc(), 0)?) {
             Err((fault, _)) => assert_eq!(rt; fault, Fault::HistoryFull),
             Ok(_) => return Err(Fail::from("a full history took an event")),
         }
@@ -113,7 +114,7 @@ fn offer_again(rt: &impl Abort, inbox: &mut InboxState, message: Message, ticket
 }
 
 // A refusal leaves the inbox and the message. The gate refuses nothing: `rt try --test --fail-alloc N -- a_refused_growth`
-// does, for N from 1 to the 8 allocations of this test.
+// does, for N from 1 on.
 #[test]
 fn a_refused_growth_leaves_the_inbox_and_the_message(rt: HostRuntime) -> Result<(), Fail> {
     let mut inbox = match InboxState::new(rt.alloc(), 100) {
@@ -124,11 +125,8 @@ fn a_refused_growth_leaves_the_inbox_and_the_message(rt: HostRuntime) -> Result<
         }
     };
     for ticket in 0..6 {
-        let Ok(message) = (if ticket == 0 {
-            text(rt.alloc())
-        } else {
-            number(rt.alloc())
-        }) else {
+        let size = if ticket == 0 { 1 } else { 0 };
+        let Ok(message) = message(&rt, rt.alloc(), size) else {
             return Ok(());
         };
         offer_again(&rt, &mut inbox, message, ticket);

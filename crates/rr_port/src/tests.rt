@@ -1,9 +1,9 @@
-//! Worked examples. A text has size 1, an integer size 0.
+//! Worked examples.
 
 use crate::{Grab, Last, PortState, Settled};
 use rr_base::{Fault, PortEvent, RactorNo};
-use rr_copy::{Message, pack_copy};
-use rr_space::{Node, Ref, Space};
+use rr_copy::{Message, can_pack, pack_copy};
+use rr_space::{Items, Node, Ref, Space};
 use std::alloc::Global;
 use std::process::Abort;
 use std::test::Fail;
@@ -12,20 +12,15 @@ const TAKER: RactorNo = RactorNo(1);
 
 const OWNER: RactorNo = RactorNo(2);
 
-fn text(alloc: Global) -> Result<Message, Fault> {
+// A message of that many objects: arrays in one another, and a number in the innermost.
+fn message(rt: &impl Abort, alloc: Global, size: u32) -> Result<Message, Fault> {
     let mut space = Space::new(alloc, OWNER, 10);
-    let text = space.alloc(Node::Text(b"abc".to_vec(alloc)?))?;
-    let value = if rr_copy::can_pack(&space, text) {
-        text
-    } else {
-        Ref::Nil
-    };
+    let mut value = Ref::Int(7);
+    for _ in 0..size {
+        value = space.alloc(Node::Array(Items::one(alloc, value)))?;
+    }
+    assert!(rt; can_pack(alloc, &space, value)?);
     pack_copy(alloc, &space, value)
-}
-
-fn number(alloc: Global) -> Result<Message, Fault> {
-    let space = Space::new(alloc, OWNER, 10);
-    pack_copy(alloc, &space, Ref::Int(7))
 }
 
 // An event as a trace has it: what happened, ticket, size, who.
@@ -70,13 +65,13 @@ fn check_history(
 #[test]
 fn shown_grabbed_withdrawn_and_late(rt: HostRuntime) -> Result<(), Fail> {
     let mut port = PortState::new(rt.alloc(), 8)?;
-    let first = text(rt.alloc())?;
+    let first = message(&rt, rt.alloc(), 2)?;
     assert_eq!(rt; port.show(OWNER, first).ok(), Some(0));
     assert_eq!(rt; port.settle(0), Settled::Shown);
     assert!(rt; matches!(port.grab(TAKER), Grab::Value(_)));
     assert_eq!(rt; port.settle(0), Settled::Taken);
     assert_eq!(rt; port.withdraw(OWNER, 0).err(), Some(Fault::NotShown));
-    let second = number(rt.alloc())?;
+    let second = message(&rt, rt.alloc(), 1)?;
     assert!(rt; port.is_free());
     assert_eq!(rt; port.show(OWNER, second).ok(), Some(1));
     assert!(rt; !port.close(OWNER));
@@ -84,7 +79,7 @@ fn shown_grabbed_withdrawn_and_late(rt: HostRuntime) -> Result<(), Fail> {
     assert_eq!(rt; port.settle(1), Settled::Closed);
     assert!(rt; port.withdraw(OWNER, 1).is_ok());
     assert!(rt; !port.was_given());
-    let last = Last::Value(text(rt.alloc())?);
+    let last = Last::Value(message(&rt, rt.alloc(), 3)?);
     match port.show_last(OWNER, last) {
         Err((fault, back)) => {
             assert_eq!(rt; fault, Fault::Closed);
@@ -93,14 +88,14 @@ fn shown_grabbed_withdrawn_and_late(rt: HostRuntime) -> Result<(), Fail> {
         Ok(_) => return Err(Fail::from("a closed port took a last value")),
     }
     assert!(rt; port.was_given());
-    let wanted = "shown 0 1 2\ngrabbed 0 1 1\nshown 1 0 2\nclosed 2\nwithdrawn 1 0 2\nlate 1 2\n";
+    let wanted = "shown 0 2 2\ngrabbed 0 2 1\nshown 1 1 2\nclosed 2\nwithdrawn 1 1 2\nlate 3 2\n";
     check_history(&rt, rt.alloc(), &port, wanted)
 }
 
 #[test]
 fn a_last_value_is_handed_out_once(rt: HostRuntime) -> Result<(), Fail> {
     let mut port = PortState::new(rt.alloc(), 8)?;
-    let last = Last::Value(text(rt.alloc())?);
+    let last = Last::Value(message(&rt, rt.alloc(), 1)?);
     assert!(rt; matches!(port.show_last(OWNER, last), Ok(0)));
     match port.grab(TAKER) {
         Grab::LastValue(message) => assert_eq!(rt; message.size(), 1),
@@ -114,9 +109,9 @@ fn a_last_value_is_handed_out_once(rt: HostRuntime) -> Result<(), Fail> {
 #[test]
 fn a_last_fault_comes_before_the_shown_message(rt: HostRuntime) -> Result<(), Fail> {
     let mut port = PortState::new(rt.alloc(), 8)?;
-    let shown = number(rt.alloc())?;
+    let shown = message(&rt, rt.alloc(), 0)?;
     assert_eq!(rt; port.show(OWNER, shown).ok(), Some(0));
-    let last = Last::Fault(text(rt.alloc())?);
+    let last = Last::Fault(message(&rt, rt.alloc(), 1)?);
     assert!(rt; matches!(port.show_last(OWNER, last), Ok(1)));
     assert!(rt; matches!(port.grab(TAKER), Grab::LastFault(_)));
     assert!(rt; matches!(port.grab(TAKER), Grab::Closed));
@@ -134,7 +129,7 @@ fn a_last_fault_comes_before_the_shown_message(rt: HostRuntime) -> Result<(), Fa
 fn a_last_value_comes_late_to_a_port_closed_by_hand(rt: HostRuntime) -> Result<(), Fail> {
     let mut port = PortState::new(rt.alloc(), 3)?;
     assert!(rt; !port.close(TAKER));
-    let last = Last::Value(text(rt.alloc())?);
+    let last = Last::Value(message(&rt, rt.alloc(), 1)?);
     assert!(rt; !port.was_given());
     assert!(rt;
         matches!(
@@ -147,7 +142,7 @@ fn a_last_value_comes_late_to_a_port_closed_by_hand(rt: HostRuntime) -> Result<(
 }
 
 // A refusal leaves the port and the message. The gate refuses nothing: `rt try --test --fail-alloc N -- a_refused_growth`
-// does, for N from 1 to the 5 allocations of this test.
+// does, for N from 1 on.
 #[test]
 fn a_refused_growth_leaves_the_port_and_the_message(rt: HostRuntime) -> Result<(), Fail> {
     let mut port = match PortState::new(rt.alloc(), 8) {
@@ -157,7 +152,7 @@ fn a_refused_growth_leaves_the_port_and_the_message(rt: HostRuntime) -> Result<(
             PortState::new(rt.alloc(), 8)?
         }
     };
-    let Ok(message) = text(rt.alloc()) else {
+    let Ok(message) = message(&rt, rt.alloc(), 1) else {
         return Ok(());
     };
     if let Err((fault, back)) = port.show(OWNER, message) {

@@ -12,7 +12,7 @@ invariant_of-self-then-self c =
     let fits : length s.history + owed s + 2 ≤ s.limit = omega (arith, v, d, c.len.ensures, c.len-2.ensures, c.still_owed-owed.ensures, c.if-len-owed.false) in
     let grown : vec_len c.reserve.new.self + (c.still_owed-owed.result + 2) ≤ vec_capacity c.reserve.new.self = search rules in
     let room : length s.history + owed s + 2 ≤ vec_capacity c.reserve.new.self = omega (arith, v, d, c.len.ensures, c.still_owed-owed.ensures, c.reserve.ensures.len, grown) in
-    rw (c.push_reserved.ensures.items, c.push_reserved.ensures.capacity, c.reserve.ensures.items, c.size-size.ensures) (kept_refused s _ (vec_capacity c.reserve.new.self) c.args.who c.args.message c.self.invariant c.if-self.true fits room)
+    rw (c.push_reserved.ensures.items, c.push_reserved.ensures.capacity, c.reserve.ensures.items, c.size-size.ensures.size) (kept_refused s _ (vec_capacity c.reserve.new.self) c.args.who c.args.message c.self.invariant c.if-self.true fits room)
 
 pub returns-then-self-clause-replays : goal.returns-then-self-clause-replays
 returns-then-self-clause-replays c = (invariant_of-self-then-self c).replays
@@ -25,7 +25,7 @@ invariant_of-self-2 c =
     let fits : length s.history + owed s + 2 ≤ s.limit = omega (arith, v, d, c.len.ensures, c.len-2.ensures, c.still_owed-owed.ensures, c.if-len-owed.false) in
     let grown : vec_len c.reserve.new.self + (c.still_owed-owed.result + 2) ≤ vec_capacity c.reserve.new.self = search rules in
     let room : length s.history + owed s + 2 ≤ vec_capacity c.reserve.new.self = omega (arith, v, d, c.len.ensures, c.still_owed-owed.ensures, c.reserve.ensures.len, grown) in
-    rw (c.push_reserved-2.ensures.items, c.push_reserved-2.ensures.capacity, c.reserve.ensures.items, c.size-size.ensures, c.in_default.ensures.items) (kept_offered s _ (vec_capacity c.reserve.new.self) c.args.who c.args.message c.self.invariant c.if-self.false fits room)
+    rw (c.push_reserved-2.ensures.items, c.push_reserved-2.ensures.capacity, c.reserve.ensures.items, c.size-size.ensures.size, c.in_default.ensures.items) (kept_offered s _ (vec_capacity c.reserve.new.self) c.args.who c.args.message c.self.invariant c.if-self.false fits room)
 
 pub returns-clause-replays : goal.returns-clause-replays
 returns-clause-replays c = (invariant_of-self-2 c).replays

@@ -14,7 +14,7 @@ pub invariant_of-self-in-Some-take : goal.invariant_of-self-in-Some-take
 invariant_of-self-in-Some-take c =
     let none : c.self.inside.last ≡ None = search rules in
     let is : c.self.inside.shown ≡ Some c.in-Some-take.shown = search rules in
-    rw (c.push_reserved-in-Some-take.ensures.items, c.push_reserved-in-Some-take.ensures.capacity, c.size-size-in-Some-take.ensures, c.take.ensures.after, c.take-2.ensures.after, ← none) (kept_grabbed _ _ c.args.who c.in-Some-take.shown c.self.invariant none c.if-self.false is)
+    rw (c.push_reserved-in-Some-take.ensures.items, c.push_reserved-in-Some-take.ensures.capacity, c.size-size-in-Some-take.ensures.size, c.take.ensures.after, c.take-2.ensures.after, ← none) (kept_grabbed _ _ c.args.who c.in-Some-take.shown c.self.invariant none c.if-self.false is)
 
 pub returns-in-Some-take-clause-replays : goal.returns-in-Some-take-clause-replays
 returns-in-Some-take-clause-replays c = (invariant_of-self-in-Some-take c).replays

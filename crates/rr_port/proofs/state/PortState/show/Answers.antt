@@ -10,7 +10,7 @@ invariant_of-self-then-self c =
     let fits : length p.history + owed p + 2 ≤ p.limit = omega (arith, v, c.len.ensures, c.still_owed-owed.ensures, c.if-len-owed.false) in
     let grown : vec_len c.reserve.new.self + (c.still_owed-owed.result + 2) ≤ vec_capacity c.reserve.new.self = search rules in
     let room : length p.history + owed p + 2 ≤ vec_capacity c.reserve.new.self = omega (arith, v, c.len.ensures, c.still_owed-owed.ensures, c.reserve.ensures.len, grown) in
-    rw (c.push_reserved.ensures.items, c.push_reserved.ensures.capacity, c.reserve.ensures.items, c.size-size.ensures) (kept_refused p _ (vec_capacity c.reserve.new.self) c.args.who c.args.message c.self.invariant c.if-self.true fits room)
+    rw (c.push_reserved.ensures.items, c.push_reserved.ensures.capacity, c.reserve.ensures.items, c.size-size.ensures.size) (kept_refused p _ (vec_capacity c.reserve.new.self) c.args.who c.args.message c.self.invariant c.if-self.true fits room)
 
 pub returns-then-self-clause-replays : goal.returns-then-self-clause-replays
 returns-then-self-clause-replays c = (invariant_of-self-then-self c).replays
@@ -23,7 +23,7 @@ invariant_of-self-2 c =
     let grown : vec_len c.reserve.new.self + (c.still_owed-owed.result + 2) ≤ vec_capacity c.reserve.new.self = search rules in
     let room : length p.history + owed p + 2 ≤ vec_capacity c.reserve.new.self = omega (arith, v, c.len.ensures, c.still_owed-owed.ensures, c.reserve.ensures.len, grown) in
     let free : p.shown ≡ None = search rules in
-    rw (c.push_reserved-2.ensures.items, c.push_reserved-2.ensures.capacity, c.reserve.ensures.items, c.size-size.ensures) (kept_shown p _ (vec_capacity c.reserve.new.self) c.args.who c.args.message c.self.invariant free c.if-self.false fits room)
+    rw (c.push_reserved-2.ensures.items, c.push_reserved-2.ensures.capacity, c.reserve.ensures.items, c.size-size.ensures.size) (kept_shown p _ (vec_capacity c.reserve.new.self) c.args.who c.args.message c.self.invariant free c.if-self.false fits room)
 
 pub returns-clause-replays : goal.returns-clause-replays
 returns-clause-replays c = (invariant_of-self-2 c).replays

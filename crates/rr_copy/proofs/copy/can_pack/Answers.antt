@@ -1,0 +1,12 @@
+use Rattle.std.proofs.Common.{ℕ, ◌<◌, List, Contains, subst, arith}
+use Rattle.rr_copy.proofs.Packing.{none_contained}
+use Rattle.rr_copy.proofs.copy.can_pack.Goals as goal
+
+pub returns-clause-promoted : goal.returns-clause-promoted
+returns-clause-promoted c =
+    let found = c.in_ok-shareable.shareable in (
+      λ yes n reach share.
+          let has = subst (λ (xs : List ℕ). Contains xs n) (c.is_empty.ensures.0 yes) ((c.in_ok-shareable.ensures.exact n).1 (reach, share)) in
+          omega (arith, has.1),
+      λ promoted. c.is_empty.ensures.1 (none_contained found (λ n has. let r = (c.in_ok-shareable.ensures.exact n).0 has in promoted n r.0 r.1)),
+    )
