@@ -1,6 +1,7 @@
 pub mod Ends
 pub mod Searching
 pub mod Places
+pub mod Chains
 pub mod Froze
 pub mod Solids
 pub mod Noting

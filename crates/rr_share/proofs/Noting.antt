@@ -1,33 +1,19 @@
 -- What leads to each object, noted place by place.
-use Rattle.std.proofs.Common.{◌≡◌, ℕ, ◌+◌, ◌<◌, ◌≤◌, ◌≢◌, ◌↔◌, nat_eq, List, [], ◌∷◌, ◌++◌, length, map, replicate, slice_get, slice_set, Some, Vec, Global, Contains, ◌⊎◌, ⊎_elim, inl, inr, sym, ap, ◌∙◌, subst, arith, length-set}
-use Rattle.std.proofs.lemmas.Option.{slice_get_within, slice_get-map, same_Some}
-use Rattle.std.proofs.lemmas.List.Elements.{Contains-append_left, Contains-push, Contains-push_cases}
-use Rattle.std.proofs.lemmas.List.{length-map, length-replicate}
+use Rattle.std.proofs.Common.{◌≡◌, ℕ, ◌+◌, ◌≤◌, ◌≢◌, ◌↔◌, nat_eq, List, [], ◌∷◌, length, replicate, slice_get, slice_set, Some, Contains, ◌⊎◌, ⊎_elim, inl, inr, sym, ap, ◌∙◌, subst, refl, arith, length-set}
+use Rattle.std.proofs.lemmas.Option.{slice_get_within, same_Some}
+use Rattle.std.proofs.lemmas.List.Elements.{Contains-append_right, Contains-append_cases}
+use Rattle.std.proofs.lemmas.List.{length-replicate}
 use Rattle.std.specs.List.{IsDistinct}
-use Rattle.std.specs.Option.{option_map}
 use Rattle.rr_space.specs.Graph.{Graph}
 use Rattle.rr_space.specs.Tables.{Table, space_graph}
 use Rattle.rr_space.specs.Labels.{triples_at}
 use Rattle.rr_space.specs.declared.refer.Ref.TheVariants.{Local}
 use Rattle.rr_space.proofs.Keeping.{set_same, set_other}
-use Rattle.rr_space.proofs.Placing.{map_set}
 use Rattle.rr_share.specs.Search.{IsSettled, LeadsAt, LeadsBelow, LeadsOn}
 use Rattle.rr_share.specs.Marks.{Sourced, LeadsBefore}
-use Rattle.rr_share.proofs.Searching.{none_in, contains_at, at_contains, below_cases}
+use Rattle.rr_share.proofs.Searching.{none_in, one_in, contains_at, at_contains, below_cases}
 use Rattle.rr_share.proofs.Places.{one_place, same_or_not, replicate_at}
 use Rattle.rr_share.proofs.Ends.{below_on, below_more, below_last, below_skip, below_all}
-
-pub inside : (ls : List (Vec ℕ Global)) (now : List (List ℕ)) (p : ℕ) → map (λ (x : Vec ℕ Global). x.items) ls ≡ now → p < length now → p < length ls
-inside ls now p is lt = subst (λ k. p < k) (ap length (sym is) ∙ length-map ls (λ (x : Vec ℕ Global). x.items)) lt
-
--- one list of many grows
-pub grown : (ls : List (Vec ℕ Global)) (now : List (List ℕ)) (p n : ℕ) (v w : Vec ℕ Global) → map (λ (x : Vec ℕ Global). x.items) ls ≡ now → slice_get ls p ≡ Some v → w.items ≡ v.items ++ n ∷ []
-    → (x : List ℕ) × (slice_get now p ≡ Some x) × (map (λ (x : Vec ℕ Global). x.items) (slice_set ls p w) ≡ slice_set now p (x ++ n ∷ []))
-grown ls now p n v w is at grows = (
-  v.items,
-  ap (λ xs. slice_get xs p) (sym is) ∙ slice_get-map (λ (x : Vec ℕ Global). x.items) ls p ∙ ap (option_map (λ (x : Vec ℕ Global). x.items)) at,
-  map_set (λ (x : Vec ℕ Global). x.items) ls p w ∙ ap (λ xs. slice_set xs p w.items) is ∙ ap (slice_set now p) grows,
-)
 
 -- nothing is noted yet
 pub sourced_none : (found : List ℕ) (D : ℕ → ℕ → Type 0) (count : ℕ) (lists : List (List ℕ)) → count ≡ length found → lists ≡ replicate count [] → ((n m : ℕ) → D n m → ⊥) → Sourced found D lists
@@ -48,27 +34,27 @@ sourced_as found D F lists h on back = record {
 
 -- one more note, of n at the place of m
 module _ (found : List ℕ) (D F : ℕ → ℕ → Type 0) (lists new : List (List ℕ)) (p n m : ℕ) (list : List ℕ)
-    (distinct : IsDistinct nat_eq found) (h : Sourced found D lists) (at : slice_get found p ≡ Some m) (here : slice_get lists p ≡ Some list) (is : new ≡ slice_set lists p (list ++ n ∷ []))
+    (distinct : IsDistinct nat_eq found) (h : Sourced found D lists) (at : slice_get found p ≡ Some m) (here : slice_get lists p ≡ Some list) (is : new ≡ slice_set lists p (n ∷ list))
     (on : (a b : ℕ) → D a b → F a b) (noted : F n m) (cases : (a b : ℕ) → F a b → D a b ⊎ ((n ≡ a) × (m ≡ b))) where
   this : (i b : ℕ) (l : List ℕ) → i ≡ p → slice_get found i ≡ Some b → slice_get new i ≡ Some l → (a : ℕ) → Contains l a ↔ F a b
   this i b l e found_at new_at a =
       let same : m ≡ b = same_Some m b (sym at ∙ ap (slice_get found) (sym e) ∙ found_at) in
-      let grown : list ++ n ∷ [] ≡ l = same_Some (list ++ n ∷ []) l (sym (set_same lists p (list ++ n ∷ []) (slice_get_within lists p list here)) ∙ ap (λ xs. slice_get xs p) (sym is) ∙ ap (slice_get new) (sym e) ∙ new_at) in
+      let grown : n ∷ list ≡ l = same_Some (n ∷ list) l (sym (set_same lists p (n ∷ list) (slice_get_within lists p list here)) ∙ ap (λ xs. slice_get xs p) (sym is) ∙ ap (slice_get new) (sym e) ∙ new_at) in
       let old = h.exact p b list (at ∙ ap Some same) here a in (
-        λ w. ⊎_elim (λ u. on a b (old.0 u)) (λ u. subst (λ y. F y b) u (subst (F n) same noted)) (Contains-push_cases list n a (subst (λ xs. Contains xs a) (sym grown) w)),
-        λ f. subst (λ xs. Contains xs a) grown (⊎_elim (λ d. Contains-append_left list (n ∷ []) a (old.1 d)) (λ u. subst (Contains (list ++ n ∷ [])) u.0 (Contains-push list n)) (cases a b f)),
+        λ w. ⊎_elim (λ u. on a b (old.0 u)) (λ u. subst (λ y. F y b) u (subst (F n) same noted)) (⊎_elim (λ x. inr (one_in n a x)) (λ x. inl x) (Contains-append_cases (n ∷ []) list a (subst (λ xs. Contains xs a) (sym grown) w))),
+        λ f. subst (λ xs. Contains xs a) grown (⊎_elim (λ d. Contains-append_right (n ∷ []) list a (old.1 d)) (λ u. subst (Contains (n ∷ list)) u.0 (0, omega arith, refl)) (cases a b f)),
       )
 
   other : (i b : ℕ) (l : List ℕ) → i ≢ p → slice_get found i ≡ Some b → slice_get new i ≡ Some l → (a : ℕ) → Contains l a ↔ F a b
   other i b l ne found_at new_at a =
-      let old = h.exact i b l found_at (sym (set_other lists p i (list ++ n ∷ []) (λ e. ne (sym e))) ∙ ap (λ xs. slice_get xs i) (sym is) ∙ new_at) a in (
+      let old = h.exact i b l found_at (sym (set_other lists p i (n ∷ list) (λ e. ne (sym e))) ∙ ap (λ xs. slice_get xs i) (sym is) ∙ new_at) a in (
         λ w. on a b (old.0 w),
         λ f. ⊎_elim (λ d. old.1 d) (λ u. absurd (ne (one_place found m i p distinct (found_at ∙ ap Some (sym u.1)) at))) (cases a b f),
       )
 
   pub sourced_more : Sourced found F new
   sourced_more = record {
-    size = ap length is ∙ length-set lists p (list ++ n ∷ []) ∙ h.size;
+    size = ap length is ∙ length-set lists p (n ∷ list) ∙ h.size;
     exact = λ i b l found_at new_at a. ⊎_elim (λ e. this i b l e found_at new_at a) (λ ne. other i b l ne found_at new_at a) (same_or_not i p);
   }
 

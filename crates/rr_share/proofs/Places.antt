@@ -1,5 +1,5 @@
 -- Lists of numbers by their places.
-use Rattle.std.proofs.Common.{◌≡◌, ℕ, zero, suc, ◌+◌, ◌<◌, ◌≤◌, ◌≢◌, ◌↔◌, false, nat_eq, List, [], ◌∷◌, ◌++◌, length, replicate, get_or, slice_get, Some, Contains, ◌⊎◌, ⊎_elim, inl, inr, sym, ap, ◌∙◌, subst, refl, arith, add-one}
+use Rattle.std.proofs.Common.{◌≡◌, ℕ, zero, suc, ◌+◌, ◌<◌, ◌≤◌, ◌≢◌, ◌↔◌, false, nat_eq, List, [], length, replicate, get_or, slice_get, Some, Contains, ◌⊎◌, ⊎_elim, inl, inr, sym, ap, ◌∙◌, subst, arith}
 use Rattle.std.proofs.lemmas.Bool.{eqb-true}
 use Rattle.std.proofs.lemmas.Cmp.{nat_eq_equiv}
 use Rattle.std.proofs.lemmas.Option.{slice_get_within, get_or_from_slice_get, same_Some, none-some}
@@ -82,14 +82,7 @@ behind old more all count is h distinct n = (
     later : (i : ℕ) → slice_get all i ≡ Some n → (Contains old n → ⊥) → count ≤ i
     later i at never = ⊎_elim (λ lt. let inside : i < length old = omega (arith, lt, is) in absurd (never (contains_at old i n (sym (left i inside) ∙ at)))) (λ le. le) (below_or_not i count)
 
--- one more of the same
-pub replicate_more : {A : Type 0} (k : ℕ) (x : A) → replicate (k + 1) x ≡ replicate k x ++ x ∷ []
-replicate_more k x = rw add-one (by k)
-  where
-    by : (k : ℕ) → x ∷ replicate k x ≡ replicate k x ++ x ∷ []
-    by zero = refl
-    by (suc k) = ap (λ xs. x ∷ xs) (by k)
-
+-- each of the same is that
 pub replicate_at : {A : Type 0} (k : ℕ) (x y : A) (i : ℕ) → slice_get (replicate k x) i ≡ Some y → x ≡ y
 replicate_at zero x y i at = absurd (none-some y at)
 replicate_at (suc k) x y zero at = same_Some x y at

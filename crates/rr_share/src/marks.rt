@@ -32,7 +32,7 @@ pub(crate) fn marked(
     let mut cursor = 0;
     while cursor < marked.len() {
         let place = found.place_of(marked.at(cursor));
-        add_slots(sources.at(place), &mut marked)?;
+        sources.add_to(place, &mut marked)?;
         cursor += 1;
     }
     Ok(marked)
@@ -52,17 +52,6 @@ fn unsolid(alloc: Global, space: &Space, found: &SlotSet) -> Result<SlotSet, Fau
         }
     }
     Ok(unsolid)
-}
-
-/// Adds slots to a set.
-fn add_slots(slots: &[u32], set: &mut SlotSet) -> Result<(), Fault>
-    ensures added { OnOk result (Adds (Contains slots.now) set.old set.new) }
-    ensures fault { IfErr result (λ e. e ≡ Fault.Memory) }
-{
-    for slot in slots {
-        set.add(*slot)?;
-    }
-    Ok(())
 }
 
 /// The slots that are found and not marked.

@@ -1,9 +1,10 @@
 //! What leads to each of some objects.
 
-ghost use Rattle.std.specs.Prelude.{◌≡◌, ◌+◌, ◌<◌, ℕ, List, [], ◌∷◌, ◌++◌, nat_eq, length, replicate, slice_get, slice_set, Some, Contains, IfOk, IfErr, OnOk};
+ghost use Rattle.std.specs.Prelude.{◌≡◌, ◌+◌, ◌<◌, ℕ, List, [], ◌∷◌, nat_eq, length, replicate, slice_get, slice_set, Some, Contains, IfOk, IfErr, OnOk};
 ghost use Rattle.std.specs.List.{IsDistinct};
 ghost use Rattle.rr_space.specs.Tables.{space_graph};
-ghost use Rattle.rr_share.specs.Search.{LeadsOn};
+ghost use Rattle.rr_share.specs.Search.{Adds, LeadsOn};
+ghost use Rattle.rr_share.specs.Chains.{chain, AreLinked, Falls};
 ghost use Rattle.rr_share.specs.Marks.{Closed, Sourced, LeadsBefore};
 
 use crate::search::end_at;
@@ -12,18 +13,29 @@ use rr_space::{Ref, SlotSet, Space};
 use std::alloc::Global;
 use std::marker::Model;
 
+/// One of the slots at a place, and the one that came there before it.
+#[derive(Clone, Copy, Drop)]
+pub(crate) struct Source {
+    slot: u32,
+    before: Option<usize>,
+}
+
 /// For each place of a list of objects the slots of those that lead to the object there.
 #[derive(Drop)]
 pub(crate) struct Sources {
-    lists: Vec<Vec<u32>>,
+    last: Vec<Option<usize>>,
+    all: Vec<Source>,
 }
 
 impl Model for Sources {
-    ghost use Rattle.std.specs.Prelude.{List, ℕ, map};
+    ghost use Rattle.std.specs.Prelude.{List, ℕ, map, length};
+    ghost use Rattle.rr_share.specs.Chains.{chain, IsLinked};
 
     ghost Value = { List (List ℕ) };
 
-    ghost view = { λ s. map (λ v. v.items) s.lists.items };
+    ghost view = { λ s. map (chain s.all.items (length s.all.items)) s.last.items };
+
+    ghost invariant = { λ s. IsLinked s.last.items s.all.items };
 }
 
 impl Sources {
@@ -32,30 +44,53 @@ impl Sources {
         ensures none { IfOk result (λ s. s ≡ replicate count []) }
         ensures fault { IfErr result (λ e. e ≡ Fault.Memory) }
     {
-        let mut lists = Vec::with_capacity(alloc, count)?;
+        let mut last = Vec::with_capacity(alloc, count)?;
         for _ in 0..count {
-            lists.push(Vec::new(alloc))?;
+            last.push(None)?;
         }
-        Ok(Sources { lists })
+        Ok(Sources {
+            last,
+            all: Vec::new(alloc),
+        })
     }
 
-    /// The slots at a place.
-    pub(crate) fn at(&self, place: usize) -> &[u32]
+    /// Adds the slots at a place to a set.
+    pub(crate) fn add_to(&self, place: usize, set: &mut SlotSet) -> Result<(), Fault>
         requires { place < length self.now }
-        ensures { slice_get self.now place ≡ Some result.now }
+        ensures added { OnOk result ((list : List ℕ) × (slice_get self.now place ≡ Some list) × Adds (Contains list) set.old set.new) }
+        ensures fault { IfErr result (λ e. e ≡ Fault.Memory) }
     {
-        self.lists[place].as_slice()
+        add_chain(&self.all, self.last[place], set)
     }
 
     /// Adds a slot at a place.
     fn add(&mut self, place: usize, slot: u32) -> Result<(), Fault>
         requires { place < length self.old }
-        ensures added { OnOk result ((list : List ℕ) × (slice_get self.old place ≡ Some list) × (self.new ≡ slice_set self.old place (list ++ slot ∷ []))) }
+        ensures added { OnOk result ((list : List ℕ) × (slice_get self.old place ≡ Some list) × (self.new ≡ slice_set self.old place (slot ∷ list))) }
         ensures fault { IfErr result (λ e. e ≡ Fault.Memory) }
     {
-        self.lists[place].push(slot)?;
+        let before = self.last[place];
+        let index = self.all.len();
+        self.all.push(Source { slot, before })?;
+        self.last[place] = Some(index);
         Ok(())
     }
+}
+
+/// Adds the slots from the last one on to a set.
+fn add_chain(all: &[Source], last: Option<usize>, set: &mut SlotSet) -> Result<(), Fault>
+    requires linked { AreLinked all.now }
+    requires falls { Falls (length all.now) last }
+    ensures added { OnOk result (Adds (Contains (chain all.now (length all.now) last)) set.old set.new) }
+    ensures fault { IfErr result (λ e. e ≡ Fault.Memory) }
+{
+    let mut at = last;
+    while let Some(index) = at {
+        let source = all[index];
+        set.add(source.slot)?;
+        at = source.before;
+    }
+    Ok(())
 }
 
 /// What leads to each of the objects found, among them.

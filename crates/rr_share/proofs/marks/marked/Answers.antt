@@ -18,8 +18,8 @@ loop-cursor-init c =
 pub place_of-place-requires : goal.place_of-place-requires
 place_of-place-requires c = (c.loop-cursor.invariant.sound c.at.result (contains_at c.loop-cursor.marked c.loop-cursor.cursor c.at.result c.at.ensures)).found
 
-pub at-requires-in-loop-cursor : goal.at-requires-in-loop-cursor
-at-requires-in-loop-cursor c =
+pub add_to-requires : goal.add_to-requires
+add_to-requires c =
     subst (λ k. c.place_of-place.result < k) (sym c.requires.sourced.size) (slice_get_within c.args.found.now c.place_of-place.result c.at.result c.place_of-place.ensures)
 
 pub loop-cursor-smaller : goal.loop-cursor-smaller
@@ -32,12 +32,13 @@ loop-cursor-preserved c =
     let t = c.args.space.now in
     let found = c.args.found.now in
     let n = c.at.result in
-    let list = c.at-in-loop-cursor.result.now in
-    searched_on (λ m. Contains found m × (IsSolidAt t.slots m → ⊥)) (λ n m. Contains found m × LeadsOn (space_graph t) m n) (IsMarkable t found) c.loop-cursor.cursor n c.loop-cursor.marked c.add_slots.new.set
+    let a = c.in_ok-add_to.ensures.added in
+    let list = a.0 in
+    searched_on (λ m. Contains found m × (IsSolidAt t.slots m → ⊥)) (λ n m. Contains found m × LeadsOn (space_graph t) m n) (IsMarkable t found) c.loop-cursor.cursor n c.loop-cursor.marked c.add_to.new.set
     c.loop-cursor.invariant c.at.ensures
-    (adds_as (Contains list) (λ m. Contains found m × LeadsOn (space_graph t) m n) c.loop-cursor.marked c.add_slots.new.set c.in_ok-add_slots.ensures.added
-    (λ m s. (c.requires.sourced.exact c.place_of-place.result n list c.place_of-place.ensures c.at-in-loop-cursor.ensures m).1 s)
-    (λ m w. (c.requires.sourced.exact c.place_of-place.result n list c.place_of-place.ensures c.at-in-loop-cursor.ensures m).0 w))
+    (adds_as (Contains list) (λ m. Contains found m × LeadsOn (space_graph t) m n) c.loop-cursor.marked c.add_to.new.set a.2
+    (λ m s. (c.requires.sourced.exact c.place_of-place.result n list c.place_of-place.ensures a.1 m).1 s)
+    (λ m w. (c.requires.sourced.exact c.place_of-place.result n list c.place_of-place.ensures a.1 m).0 w))
     (λ m h s. markable_back t found n m h s.0 s.1)
 
 pub returns-clause-exact : goal.returns-clause-exact
