@@ -1,12 +1,11 @@
 -- A message is closed, and what is published in it is frozen and leads to published objects alone.
-use Rattle.std.proofs.Common.{◌≡◌, ℕ, zero, suc, ◌≤◌, List, [], ◌∷◌, ◌++◌, length, map, slice_get, Option, Some, None, Contains, sym, ap, ◌∙◌, subst, refl, arith}
+use Rattle.std.proofs.Common.{◌≡◌, ℕ, zero, suc, List, [], ◌∷◌, length, map, slice_get, Option, Some, None, Contains, sym, ap, ◌∙◌, subst, refl, arith}
 use Rattle.std.proofs.lemmas.List.{length-map}
-use Rattle.std.proofs.lemmas.List.Elements.{Contains-append_left, Contains-append_right}
 use Rattle.std.proofs.lemmas.Option.{same_Some, none-some}
 use Rattle.std.specs.Option.{option_and_then}
 use Rattle.rr_space.specs.Graph.{Own, Published, Value, Plain, At, Label, Object}
 use Rattle.rr_space.specs.Tables.{Below, Slot, Here, Packed, joined, object_in, resolve, resolve_slot, resolve_triple, resolve_object, graph_of, message_graph, IsBelow, IsClosed, IsSealed}
-use Rattle.rr_space.specs.Sound.{IsBelowSound, IsSlotSound, IsTableSound}
+use Rattle.rr_space.specs.Sound.{IsBelowSound, IsSlotSound}
 use Rattle.rr_space.specs.Parts.{Parts, value_of, value_triple, below_ref, below_parts}
 use Rattle.rr_space.specs.Views.{IsWithin, AllWithin, IsNodeWithin, node_parts, emptied}
 use Rattle.rr_space.specs.Carrying.{AllCarriedWithin, carried_object, carried_below}

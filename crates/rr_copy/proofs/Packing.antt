@@ -1,5 +1,5 @@
 -- What the copies of a space's objects make as a message.
-use Rattle.std.proofs.Common.{◌≡◌, ◌↔◌, ◌⊎◌, ◌<◌, ◌≤◌, ◌^◌, ⊎_elim, inl, inr, ℕ, zero, suc, ◌+◌, Bool, true, false, nat_eq, not, List, [], ◌∷◌, ◌++◌, length, take, map, slice_get, get_or, Option, Some, None, Contains, IsTrue, sym, ap, ◌∙◌, subst, refl, arith}
+use Rattle.std.proofs.Common.{◌≡◌, ◌↔◌, ◌⊎◌, ◌<◌, ◌≤◌, ◌^◌, ⊎_elim, ℕ, ◌+◌, false, nat_eq, not, List, [], ◌∷◌, ◌++◌, length, take, map, slice_get, get_or, Some, Contains, IsTrue, sym, ap, ◌∙◌, subst, refl, arith}
 use Rattle.std.proofs.lemmas.Option.{same_Some, slice_get_within, get_or_from_slice_get}
 use Rattle.std.proofs.lemmas.Bool.{eqb-true}
 use Rattle.std.proofs.lemmas.Map.Keys.{apart_from_distinct}
@@ -12,7 +12,7 @@ use Rattle.std.specs.Option.{option_and_then}
 use Rattle.rr_space.specs.Graph.{Graph, Name, Own, Immediate, Value, Plain, At, Label, Object, Kind, text, array, hash, plain, exception, shell, Leads, Reaches}
 use Rattle.rr_space.specs.Alike.{SameValue, Alike, IsAt}
 use Rattle.rr_space.specs.Moves.{IsCopy, IsPromoted}
-use Rattle.rr_space.specs.Tables.{Below, Slot, Here, Table, Packed, joined, object_in, resolve, resolve_object, space_graph, message_graph, IsBelow, IsSealed}
+use Rattle.rr_space.specs.Tables.{Below, Slot, Here, Table, joined, object_in, resolve, resolve_object, space_graph, message_graph, IsBelow, IsSealed}
 use Rattle.rr_space.specs.Sound.{IsWell}
 use Rattle.rr_space.specs.Parts.{value_of, below_ref}
 use Rattle.rr_space.specs.Views.{is_shell, is_whole, IsWithin}
@@ -22,7 +22,7 @@ use Rattle.rr_space.specs.declared.refer.Ref.{Ref}
 use Rattle.rr_space.specs.declared.refer.Ref.TheVariants.{Nil, Truth, Int, Symbol, Class, Ractor, Local, Shared}
 use Rattle.rr_space.proofs.Renaming.{contains_at, mapped_at, map_at}
 use Rattle.rr_space.proofs.Sounds.{gets, joined_back, sound_is_sealed}
-use Rattle.rr_copy.specs.Messages.{is_immediate, IsEachPart}
+use Rattle.rr_copy.specs.Messages.{is_immediate}
 use Rattle.rr_copy.specs.Contents.{packed_of, IsMessage, IsCarriedFrom}
 use Rattle.rr_copy.proofs.Contained.{ref_inside, message_at, message_sealed}
 use Rattle.rr_copy.proofs.Pairings.{zip_at, zip_back, paired_alike}

@@ -1,16 +1,16 @@
 -- A message whose objects stand behind those of a space is alike to what stands there.
-use Rattle.std.proofs.Common.{◌≡◌, ℕ, zero, suc, ◌+◌, ◌<◌, List, [], ◌∷◌, ◌++◌, length, map, slice_get, Option, Some, None, Contains, sym, ap, ◌∙◌, subst, refl, arith}
+use Rattle.std.proofs.Common.{◌≡◌, ℕ, suc, ◌+◌, List, [], ◌∷◌, ◌++◌, length, map, slice_get, Option, Some, Contains, sym, ap, ◌∙◌, subst, refl, arith}
 use Rattle.std.specs.List.{AllZip}
 use Rattle.std.specs.Option.{option_and_then}
 use Rattle.rr_space.specs.Graph.{Own, Published, Value, Plain, At, Label, Object}
-use Rattle.rr_space.specs.Alike.{SameValue, SameTriple, Matches, Alike}
-use Rattle.rr_space.specs.Tables.{Slot, Here, Table, Packed, object_in, resolve, resolve_slot, resolve_triple, space_graph, message_graph, IsBelow, IsClosed, IsSealed}
+use Rattle.rr_space.specs.Alike.{SameValue, SameTriple, Alike}
+use Rattle.rr_space.specs.Tables.{Slot, Table, Packed, object_in, resolve, resolve_slot, resolve_triple, space_graph, message_graph, IsBelow, IsClosed, IsSealed}
 use Rattle.rr_space.specs.Embeds.{behind, renamed, renamed_triple, renamed_object, here_behind}
 use Rattle.rr_space.proofs.Renaming.{map_at, contains_at}
 use Rattle.rr_space.proofs.Sounds.{gets}
 use Rattle.rr_copy.specs.Messages.{Behind, IsEachPart}
 use Rattle.rr_copy.proofs.Contained.{message_at}
-use Rattle.rr_copy.proofs.Pairings.{IsPairing, paired_alike}
+use Rattle.rr_copy.proofs.Pairings.{paired_alike}
 
 -- what a list has behind another
 get_behind : {A : Type 0} (xs ys : List A) (i : ℕ) → slice_get (xs ++ ys) (length xs + i) ≡ slice_get ys i

@@ -1,12 +1,13 @@
 //! Graphs on their way from one space to another.
 
 ghost use Rattle.std.specs.Prelude.{◌≡◌, length, IfOk, IsTrue};
+ghost use Rattle.rr_space.specs.Sound.{IsHold};
 ghost use Rattle.rr_space.specs.Views.{can_freeze_at};
 ghost use Rattle.rr_space.specs.Within.{IsWithin};
 
 use crate::{Message, can_pack, open, pack_copy};
 use rr_base::{ClassId, Fault, LimitKind, RactorNo, Sym};
-use rr_space::{Entries, Items, Key, Kind, Label, Node, Raised, Ref, Space};
+use rr_space::{Cluster, Entries, Items, Key, Kind, Label, Node, Raised, Ref, Sealed, Space};
 use std::alloc::Global;
 use std::process::Abort;
 use std::test::Fail;
@@ -225,6 +226,33 @@ fn a_frozen_array_of_an_open_text_arrives_as_such(rt: HostRuntime) -> Result<(),
     assert!(rt; space.is_frozen(root));
     let text = under(&space, root, Label::Place(0))?;
     assert!(rt; !space.is_frozen(text));
+    Ok(())
+}
+
+// A published cluster of one text.
+fn published(alloc: Global) -> Result<&'static Cluster, Fail>
+    ensures { IfOk result (λ cluster. IsHold 0 cluster.now) }
+{
+    let text = Sealed::Text(b"abc".to_vec(alloc)?);
+    match Cluster::new(vec![in alloc; text]?).publish(alloc, 8) {
+        Ok(cluster) if cluster.len() > 0 => Ok(cluster),
+        _ => Err(Fail::from("nothing was published")),
+    }
+}
+
+#[test]
+fn a_published_text_is_referred_to(rt: HostRuntime) -> Result<(), Fail> {
+    let cluster = published(rt.alloc())?;
+    let mut space = Space::new(rt.alloc(), RactorNo(1), 10);
+    let text = Ref::Shared(0, cluster);
+    assert_eq!(rt; packed(&rt, rt.alloc(), &space, text)?.size(), 0);
+    let array = space.alloc(Node::Array(Items::one(rt.alloc(), text)))?;
+    let message = packed(&rt, rt.alloc(), &space, array)?;
+    assert_eq!(rt; message.size(), 1);
+    let mut space = other(rt.alloc(), 10)?;
+    let root = opened(&mut space, message)?;
+    let found = under(&space, root, Label::Place(0))?;
+    assert!(rt; space.same(found, text));
     Ok(())
 }
 

@@ -1,4 +1,4 @@
-use Rattle.std.proofs.Common.{ℕ, ◌<◌, List, Contains, subst, arith}
+use Rattle.std.proofs.Common.{ℕ, List, Contains, subst, arith}
 use Rattle.rr_copy.proofs.Packing.{none_contained}
 use Rattle.rr_copy.proofs.copy.can_pack.Goals as goal
 

@@ -4,11 +4,11 @@ use Rattle.rr_space.specs.Alike.{Alike}
 use Rattle.rr_space.specs.Embeds.{behind, renamed, here_behind}
 use Rattle.rr_space.specs.Graph.{Value}
 use Rattle.rr_space.specs.Parts.{value_of}
-use Rattle.rr_space.specs.Tables.{Slot, Packed, message_graph, space_graph, resolve, IsClosed, IsSealed}
+use Rattle.rr_space.specs.Tables.{Slot, Packed, message_graph, space_graph, resolve}
 use Rattle.rr_space.specs.Within.{IsWithin}
 use Rattle.rr_space.specs.Carrying.{carried_object}
 use Rattle.rr_space.proofs.Sounds.{sound_is_sealed}
-use Rattle.rr_copy.specs.Messages.{Behind, IsEachPart}
+use Rattle.rr_copy.specs.Messages.{Behind}
 use Rattle.rr_copy.specs.Contents.{packed_of}
 use Rattle.rr_copy.proofs.Contained.{message_closed, message_sealed}
 use Rattle.rr_copy.proofs.Standing.{stands_alike}
