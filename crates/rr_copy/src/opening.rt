@@ -34,7 +34,7 @@ pub fn open(space: &mut Space, message: Message) -> Result<Ref, (Fault, Message)
     ensures alike { IfOk result (λ root. Alike (message_graph message) message.root (space_graph space.new) (resolve space.new.slots (value_of root)) (Behind message (length space.old.slots))) }
     ensures within { IfOk result (λ root. IsWithin (length space.new.slots) root) }
     ensures back { IfErr result (λ refusal. (refusal.1 ≡ message) × (space.new ≡ space.old)) }
-    ensures fault { IfErr result (λ refusal. (refusal.0 ≡ Fault.Memory) ⊎ ((refusal.0 ≡ Fault.Limit LimitKind.Slots) × (space.old.limit < length space.old.slots + size_of message))) }
+    ensures fault { IfErr result (λ refusal. ((refusal.0 ≡ Fault.Memory) × (length space.old.slots + size_of message ≤ space.old.limit)) ⊎ ((refusal.0 ≡ Fault.Limit LimitKind.Slots) × (space.old.limit < length space.old.slots + size_of message))) }
     ensures grows { IfErr result (λ refusal. 1 ≤ size_of message) }
 {
     let Message {
