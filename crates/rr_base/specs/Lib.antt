@@ -5,3 +5,4 @@ pub mod Inbox
 pub mod Port
 pub mod Store
 pub mod Flow
+pub mod Tickets

@@ -1,7 +1,7 @@
 //! The built-in classes.
 
-ghost use Rattle.std.specs.Prelude.{◌≡◌};
-ghost use Rattle.rr_base.specs.Classes.{class_name};
+ghost use Rattle.std.specs.Prelude.{◌≡◌, ◌≤◌, MatchOption};
+ghost use Rattle.rr_base.specs.Classes.{class_id, class_name};
 
 use crate::name::ClassId;
 
@@ -82,6 +82,46 @@ impl BuiltInClass {
             BuiltInClass::IsolationError => "Ractor::IsolationError",
         }
     }
+
+    /// The number of the class.
+    pub fn id(self) -> ClassId
+        ensures { result ≡ class_id self }
+    {
+        match self {
+            BuiltInClass::BasicObject => ClassId::BASIC_OBJECT,
+            BuiltInClass::MovedObject => ClassId::MOVED_OBJECT,
+            BuiltInClass::Object => ClassId::OBJECT,
+            BuiltInClass::Integer => ClassId::INTEGER,
+            BuiltInClass::String => ClassId::STRING,
+            BuiltInClass::Symbol => ClassId::SYMBOL,
+            BuiltInClass::Array => ClassId::ARRAY,
+            BuiltInClass::Hash => ClassId::HASH,
+            BuiltInClass::NilClass => ClassId::NIL_CLASS,
+            BuiltInClass::TrueClass => ClassId::TRUE_CLASS,
+            BuiltInClass::FalseClass => ClassId::FALSE_CLASS,
+            BuiltInClass::Class => ClassId::CLASS,
+            BuiltInClass::Ractor => ClassId::RACTOR,
+            BuiltInClass::Exception => ClassId::EXCEPTION,
+            BuiltInClass::SystemStackError => ClassId::SYSTEM_STACK_ERROR,
+            BuiltInClass::StandardError => ClassId::STANDARD_ERROR,
+            BuiltInClass::ArgumentError => ClassId::ARGUMENT_ERROR,
+            BuiltInClass::IndexError => ClassId::INDEX_ERROR,
+            BuiltInClass::StopIteration => ClassId::STOP_ITERATION,
+            BuiltInClass::ClosedError => ClassId::CLOSED_ERROR,
+            BuiltInClass::LocalJumpError => ClassId::LOCAL_JUMP_ERROR,
+            BuiltInClass::NameError => ClassId::NAME_ERROR,
+            BuiltInClass::NoMethodError => ClassId::NO_METHOD_ERROR,
+            BuiltInClass::RangeError => ClassId::RANGE_ERROR,
+            BuiltInClass::RuntimeError => ClassId::RUNTIME_ERROR,
+            BuiltInClass::FrozenError => ClassId::FROZEN_ERROR,
+            BuiltInClass::TypeError => ClassId::TYPE_ERROR,
+            BuiltInClass::ZeroDivisionError => ClassId::ZERO_DIVISION_ERROR,
+            BuiltInClass::RactorError => ClassId::RACTOR_ERROR,
+            BuiltInClass::RemoteError => ClassId::REMOTE_ERROR,
+            BuiltInClass::MovedError => ClassId::MOVED_ERROR,
+            BuiltInClass::IsolationError => ClassId::ISOLATION_ERROR,
+        }
+    }
 }
 
 impl ClassId {
@@ -151,4 +191,45 @@ impl ClassId {
 
     /// How many built-in classes there are; the classes of a program have the numbers from here on.
     pub const BUILT_IN: u32 = 32;
+
+    /// The built-in class of this number, if it is not the number of a program's class.
+    pub fn built_in(self) -> Option<BuiltInClass>
+        ensures { MatchOption result (Self.BUILT_IN ≤ self.0) (λ class. class_id class ≡ self) }
+    {
+        match self {
+            ClassId::BASIC_OBJECT => Some(BuiltInClass::BasicObject),
+            ClassId::MOVED_OBJECT => Some(BuiltInClass::MovedObject),
+            ClassId::OBJECT => Some(BuiltInClass::Object),
+            ClassId::INTEGER => Some(BuiltInClass::Integer),
+            ClassId::STRING => Some(BuiltInClass::String),
+            ClassId::SYMBOL => Some(BuiltInClass::Symbol),
+            ClassId::ARRAY => Some(BuiltInClass::Array),
+            ClassId::HASH => Some(BuiltInClass::Hash),
+            ClassId::NIL_CLASS => Some(BuiltInClass::NilClass),
+            ClassId::TRUE_CLASS => Some(BuiltInClass::TrueClass),
+            ClassId::FALSE_CLASS => Some(BuiltInClass::FalseClass),
+            ClassId::CLASS => Some(BuiltInClass::Class),
+            ClassId::RACTOR => Some(BuiltInClass::Ractor),
+            ClassId::EXCEPTION => Some(BuiltInClass::Exception),
+            ClassId::SYSTEM_STACK_ERROR => Some(BuiltInClass::SystemStackError),
+            ClassId::STANDARD_ERROR => Some(BuiltInClass::StandardError),
+            ClassId::ARGUMENT_ERROR => Some(BuiltInClass::ArgumentError),
+            ClassId::INDEX_ERROR => Some(BuiltInClass::IndexError),
+            ClassId::STOP_ITERATION => Some(BuiltInClass::StopIteration),
+            ClassId::CLOSED_ERROR => Some(BuiltInClass::ClosedError),
+            ClassId::LOCAL_JUMP_ERROR => Some(BuiltInClass::LocalJumpError),
+            ClassId::NAME_ERROR => Some(BuiltInClass::NameError),
+            ClassId::NO_METHOD_ERROR => Some(BuiltInClass::NoMethodError),
+            ClassId::RANGE_ERROR => Some(BuiltInClass::RangeError),
+            ClassId::RUNTIME_ERROR => Some(BuiltInClass::RuntimeError),
+            ClassId::FROZEN_ERROR => Some(BuiltInClass::FrozenError),
+            ClassId::TYPE_ERROR => Some(BuiltInClass::TypeError),
+            ClassId::ZERO_DIVISION_ERROR => Some(BuiltInClass::ZeroDivisionError),
+            ClassId::RACTOR_ERROR => Some(BuiltInClass::RactorError),
+            ClassId::REMOTE_ERROR => Some(BuiltInClass::RemoteError),
+            ClassId::MOVED_ERROR => Some(BuiltInClass::MovedError),
+            ClassId::ISOLATION_ERROR => Some(BuiltInClass::IsolationError),
+            _ => None,
+        }
+    }
 }

@@ -11,6 +11,9 @@ mod name;
 pub use class::BuiltInClass;
 pub use event::{InboxEvent, Kept, PortEvent, PortShape, StoreEvent, Ticket};
 pub use fault::{Fault, SyntaxKind};
-pub use laws::{inbox_conserves, port_conserves};
+pub use laws::{
+    class_numbers_differ, default_limits, inbox_conserves, inbox_tickets_rise, port_conserves,
+    port_tickets_differ,
+};
 pub use limits::{LimitKind, Limits};
 pub use name::{Channel, ClassId, Place, RactorNo, Sym};
