@@ -1,12 +1,13 @@
 -- The number at a place is the one that the scan finds.
-use Rattle.std.proofs.Common.{ℕ, zero, suc, ◌+◌, ◌-◌, ◌<◌, ◌≤◌, ◌≡◌, ◌==◌, ◌≢◌, ◌⊎◌, inl, inr, ◌||◌, ◌&&◌, not, Bool, true, false, cond, List, [], ◌∷◌, ◌++◌, length, take, drop, get_or, refl, ap, sym, ◌∙◌, arith, Option, Some, None, length-drop, nat_lt}
-use Rattle.std.proofs.lemmas.List.{take-append-drop}
-use Rattle.std.proofs.lemmas.Bool.{eqb-true, ne_eqb, ltb-false, le-ltb}
+use Rattle.std.proofs.Common.{ℕ, zero, suc, ◌+◌, ◌-◌, ◌<◌, ◌≤◌, ◌≡◌, ◌==◌, ◌≢◌, ◌⊎◌, ◌↔◌, inl, inr, ◌||◌, ◌&&◌, not, Bool, true, false, cond, List, [], ◌∷◌, ◌++◌, length, take, drop, get_or, refl, ap, sym, ◌∙◌, arith, Option, Some, None, length-drop, nat_lt}
+use Rattle.std.proofs.lemmas.List.{take-append-drop, take_all, drop_all}
+use Rattle.std.proofs.lemmas.Bool.{eqb-true, eq-eqb, ne_eqb, ltb-false, le-ltb}
 use Rattle.std.proofs.lemmas.Bool.Decides.{eqb_tells}
-use Rattle.rr_lexer.specs.Numbers.{digit_value, is_digit_of, goes_on_in, base_of, has_base, largest_int, IsRest, IsDecimal, IsBased, IsInt}
+use Rattle.rr_lexer.specs.Numbers.{digit_value, is_digit_of, goes_on_in, base_of, has_base, largest_int, place_value, IsRest, IsDecimal, IsBased, IsInt}
+use Rattle.rr_lexer.specs.Contents.{whole_number, int_value_of}
 use Rattle.rr_lexer.specs.Scans.{digits_from, checked_number, number_at}
 use Rattle.rr_lexer.proofs.Heads.{at_drop, at_drops, head_is, second_is, third_is, cut, size_is, whole, front_one, chosen, pick, some_same, or_false, and_true}
-use Rattle.rr_lexer.proofs.Digits.{digits_complete, digits_sound, ends, digit_within}
+use Rattle.rr_lexer.proofs.Digits.{digits_complete, digits_sound, grown, grown-place_value, ends, digit_within}
 
 abbrev GoesOnAt : ℕ → List ℕ → ℕ → Bool
 GoesOnAt base s m = goes_on_in base (get_or s m 0) (get_or s (m + 1) 0)
@@ -47,11 +48,13 @@ unfolding number_at
 at_based s a b = rw (a, zero_is_digit, b) refl
 
 -- completeness
-checked_complete : (size base : ℕ) (s : List ℕ) (m v : ℕ) (rest : List ℕ) → base ≤ 16 → drop size s ≡ rest ++ drop m s → size + length rest ≡ m
-    → IsRest base (digit_value (get_or s (size - 1) 0)) rest v → goes_on_in base (get_or (drop m s) 0 0) (get_or (drop m s) 1 0) ≡ false
+checked_complete : (size base : ℕ) (s : List ℕ) (m v : ℕ) (rest values : List ℕ) → base ≤ 16 → drop size s ≡ rest ++ drop m s → size + length rest ≡ m
+    → IsRest base rest values → v ≡ place_value base (digit_value (get_or s (size - 1) 0) ∷ values) → goes_on_in base (get_or (drop m s) 0 0) (get_or (drop m s) 1 0) ≡ false
     → goes_on_in 10 (get_or (drop m s) 0 0) (get_or (drop m s) 1 0) ≡ false → v ≤ largest_int → checked_number size base s ≡ Some (v, m)
-checked_complete size base s m v rest l c e r w g f =
-    let d : digits_from base (drop size s) (digit_value (get_or s (size - 1) 0)) ≡ (v, length rest) = rw c (digits_complete l r (drop m s) w) in
+checked_complete size base s m v rest values l c e r p w g f =
+    let first = digit_value (get_or s (size - 1) 0) in
+    let value : grown base first values ≡ v = grown-place_value base first values ∙ sym p in
+    let d : digits_from base (drop size s) first ≡ (v, length rest) = rw (c, ← value) (digits_complete first l r (drop m s) w) in
     let t : GoesOnAt 10 s m ≡ false = sym (goes_on_behind 10 s m) ∙ g in
     rw (d, e, t, le-ltb largest_int v f) refl
 
@@ -87,7 +90,7 @@ decimal_complete s m v h w f =
     let t = decimal_tests s m v h w (ap (λ x. get_or x 0 0) d.word_is ∙ sym e) in
     let i : is_digit_of 10 (get_or s 0 0) ≡ true = rw e d.is_first in
     at_decimal s i t.0 t.1
-    ∙ checked_complete 1 10 s m v d.rest (omega arith) (cut s m d.first d.rest d.word_is) (omega (arith, size_is s m d.first d.rest h d.word_is)) (rw e d.is_rest) d.whole d.whole f
+    ∙ checked_complete 1 10 s m v d.rest d.values (omega arith) (cut s m d.first d.rest d.word_is) (omega (arith, size_is s m d.first d.rest h d.word_is)) d.is_rest (rw e d.value_is) d.whole d.whole f
 
 based_complete : (s : List ℕ) (m v : ℕ) → m ≤ length s → IsBased (take m s) (drop m s) v → v ≤ largest_int → number_at s ≡ Some (v, m)
 based_complete s m v h w f =
@@ -99,7 +102,7 @@ based_complete s m v h w f =
     let l = size_is s m 48 _ h u in
     let i : has_base (get_or s 1 0) (get_or s 2 0) ≡ true = rw (b, c) d.is_first in
     at_based s a i
-    ∙ rw b (checked_complete 3 (base_of w.mark) s m v d.rest (base_small w.mark) (cut_three s m 48 w.mark d.first d.rest u) (omega (arith, l)) (rw c d.is_rest) d.whole w.ends f)
+    ∙ rw b (checked_complete 3 (base_of w.mark) s m v d.rest d.values (base_small w.mark) (cut_three s m 48 w.mark d.first d.rest u) (omega (arith, l)) d.is_rest (rw c d.value_is) d.whole w.ends f)
 
 pub number_complete : (s : List ℕ) (m v : ℕ) → m ≤ length s → IsInt (take m s) (drop m s) v → number_at s ≡ Some (v, m)
 number_complete s m v h w = elim w.spelled [ inl d ↦ decimal_complete s m v h d w.fits | inr b ↦ based_complete s m v h b w.fits ]
@@ -156,7 +159,7 @@ decimal_sound s p i b g h =
     let r = digits_sound 10 (omega arith) (drop 1 s) (digit_value (get_or s 0 0)) in
     let l : 0 < length s = some_byte 10 s 0 (omega arith) i in
     let n : p.1 ≡ q.1 + 1 = omega (arith, c.size_is) in
-    let w : q.1 < length s = omega (arith, r.2, length-drop 1 s, l) in
+    let w : q.1 < length s = omega (arith, r.within, length-drop 1 s, l) in
     let word : take p.1 s ≡ get_or s 0 0 ∷ take q.1 (drop 1 s) = rw n (whole s q.1 (get_or s 0 0) refl w) in
     record {
       some = omega (arith, n);
@@ -166,9 +169,11 @@ decimal_sound s p i b g h =
           digits = record {
             first = get_or s 0 0;
             rest = take q.1 (drop 1 s);
+            values = r.values;
             word_is = word;
             is_first = i;
-            is_rest = rw c.value_is r.0;
+            is_rest = r.rest;
+            value_is = c.value_is ∙ r.value ∙ grown-place_value _ _ r.values;
             whole = goes_on_behind 10 s p.1 ∙ c.ends;
           };
           plain = decimal_plain s p (get_or s 0 0 == 48) (eqb_tells (get_or s 0 0) 48) l (ap (λ x. get_or x 0 0) word) c.size_is b g;
@@ -192,9 +197,9 @@ based_sound s p z i h =
     let r = digits_sound base (base_small (get_or s 1 0)) (drop 3 s) (digit_value (get_or s 2 0)) in
     let l : 2 < length s = some_byte base s 2 (base_small (get_or s 1 0)) i in
     let n : p.1 ≡ suc (suc (suc q.1)) = omega (arith, c.size_is) in
-    let w : p.1 ≤ length s = omega (arith, r.2, length-drop 3 s, l, n) in
+    let w : p.1 ≤ length s = omega (arith, r.within, length-drop 3 s, l, n) in
     let word : take p.1 s ≡ 48 ∷ get_or s 1 0 ∷ get_or s 2 0 ∷ take q.1 (drop 3 s) = rw (n, ← z) (three_at s q.1 l) in
-    let far : GoesOnAt base s (3 + q.1) ≡ false = sym (goes_on_far base s 3 q.1) ∙ r.1 in
+    let far : GoesOnAt base s (3 + q.1) ≡ false = sym (goes_on_far base s 3 q.1) ∙ r.whole in
     let near : GoesOnAt base s p.1 ≡ false = rw c.size_is far in
     record {
       some = omega (arith, n);
@@ -207,9 +212,11 @@ based_sound s p z i h =
           digits = record {
             first = get_or s 2 0;
             rest = take q.1 (drop 3 s);
+            values = r.values;
             word_is = refl;
             is_first = i;
-            is_rest = rw c.value_is r.0;
+            is_rest = r.rest;
+            value_is = c.value_is ∙ r.value ∙ grown-place_value _ _ r.values;
             whole = goes_on_behind base s p.1 ∙ near;
           };
           ends = goes_on_behind 10 s p.1 ∙ c.ends;
@@ -243,3 +250,18 @@ digit_or_none false o p h = absurd cc
 pub first_digit : (s : List ℕ) (p : ℕ × ℕ) → number_at s ≡ Some p → is_digit_of 10 (get_or s 0 0) ≡ true
 unfolding number_at
 first_digit s p h = digit_or_none (is_digit_of 10 (get_or s 0 0)) _ p h
+
+-- the value of a whole word
+found_whole : (word : List ℕ) (v : ℕ) (o : Option (ℕ × ℕ)) → whole_number (length word) o ≡ Some v → o ≡ Some (v, length word)
+found_whole word v None h = absurd cc
+found_whole word v (Some p) h = by_size (p.1 == length word) refl h where
+  by_size : (x : Bool) → (p.1 == length word) ≡ x → cond x (Some p.0) None ≡ Some v → Some p ≡ Some (v, length word)
+  by_size true e g = let size = eqb-true p.1 (length word) e in let value : p.0 ≡ v = cc in rw (← value, ← size) refl
+  by_size false e g = absurd cc
+
+pub value_is_spelled : (word : List ℕ) (v : ℕ) → (int_value_of word ≡ Some v) ↔ IsInt word [] v
+unfolding int_value_of
+value_is_spelled word v = (
+  λ h. rw (← take_all (length word) word (omega arith), ← drop_all (length word) word (omega arith)) (number_sound word (v, length word) (found_whole word v (number_at word) h)).spelled,
+  λ i. rw (number_complete word (length word) v (omega arith) (rw (take_all (length word) word (omega arith), drop_all (length word) word (omega arith)) i), eq-eqb (length word) (length word) refl) refl,
+)

@@ -171,9 +171,34 @@ abbrev pub IsFrontOf : ℕ → ℕ → ℕ → Option Op → Type 0
 IsFrontOf a b c None = Unit {0}
 IsFrontOf a b c (Some o) = AreFront (op_text o) a b c
 
-pub op_front : (a b c : ℕ) → IsFrontOf a b c (op_of a b c)
-unfolding op_of
-op_front a b c = pick (IsFrontOf a b c) (a == 43) _ _ (λ h1. pick (IsFrontOf a b c) (b == 61) _ _ (λ h2. (eqb-true a 43 h1, eqb-true b 61 h2)) (λ _. eqb-true a 43 h1)) (λ _. pick (IsFrontOf a b c) (a == 45) _ _ (λ h3. pick (IsFrontOf a b c) (b == 61) _ _ (λ h4. (eqb-true a 45 h3, eqb-true b 61 h4)) (λ _. eqb-true a 45 h3)) (λ _. pick (IsFrontOf a b c) (a == 42) _ _ (λ h5. pick (IsFrontOf a b c) (b == 61) _ _ (λ h6. (eqb-true a 42 h5, eqb-true b 61 h6)) (λ _. eqb-true a 42 h5)) (λ _. pick (IsFrontOf a b c) (a == 47) _ _ (λ h7. pick (IsFrontOf a b c) (b == 61) _ _ (λ h8. (eqb-true a 47 h7, eqb-true b 61 h8)) (λ _. eqb-true a 47 h7)) (λ _. pick (IsFrontOf a b c) (a == 37) _ _ (λ h9. pick (IsFrontOf a b c) (b == 61) _ _ (λ h10. (eqb-true a 37 h9, eqb-true b 61 h10)) (λ _. eqb-true a 37 h9)) (λ _. pick (IsFrontOf a b c) (a == 61) _ _ (λ h11. pick (IsFrontOf a b c) (b == 61) _ _ (λ h12. (eqb-true a 61 h11, eqb-true b 61 h12)) (λ _. pick (IsFrontOf a b c) (b == 62) _ _ (λ h13. (eqb-true a 61 h11, eqb-true b 62 h13)) (λ _. eqb-true a 61 h11))) (λ _. pick (IsFrontOf a b c) (a == 33) _ _ (λ h14. pick (IsFrontOf a b c) (b == 61) _ _ (λ h15. (eqb-true a 33 h14, eqb-true b 61 h15)) (λ _. eqb-true a 33 h14)) (λ _. pick (IsFrontOf a b c) (a == 60) _ _ (λ h16. pick (IsFrontOf a b c) (b == 61) _ _ (λ h17. pick (IsFrontOf a b c) (c == 62) _ _ (λ h18. (eqb-true a 60 h16, eqb-true b 61 h17, eqb-true c 62 h18)) (λ _. (eqb-true a 60 h16, eqb-true b 61 h17))) (λ _. pick (IsFrontOf a b c) (b == 60) _ _ (λ h19. pick (IsFrontOf a b c) (c == 61) _ _ (λ h20. (eqb-true a 60 h16, eqb-true b 60 h19, eqb-true c 61 h20)) (λ _. (eqb-true a 60 h16, eqb-true b 60 h19))) (λ _. eqb-true a 60 h16))) (λ _. pick (IsFrontOf a b c) (a == 62) _ _ (λ h21. pick (IsFrontOf a b c) (b == 61) _ _ (λ h22. (eqb-true a 62 h21, eqb-true b 61 h22)) (λ _. eqb-true a 62 h21)) (λ _. pick (IsFrontOf a b c) (a == 38) _ _ (λ h23. pick (IsFrontOf a b c) (b == 38) _ _ (λ h24. pick (IsFrontOf a b c) (c == 61) _ _ (λ h25. (eqb-true a 38 h23, eqb-true b 38 h24, eqb-true c 61 h25)) (λ _. (eqb-true a 38 h23, eqb-true b 38 h24))) (λ _. tt)) (λ _. pick (IsFrontOf a b c) (a == 124) _ _ (λ h26. pick (IsFrontOf a b c) (b == 124) _ _ (λ h27. pick (IsFrontOf a b c) (c == 61) _ _ (λ h28. (eqb-true a 124 h26, eqb-true b 124 h27, eqb-true c 61 h28)) (λ _. (eqb-true a 124 h26, eqb-true b 124 h27))) (λ _. eqb-true a 124 h26)) (λ _. pick (IsFrontOf a b c) (a == 63) _ _ (λ h29. eqb-true a 63 h29) (λ _. pick (IsFrontOf a b c) (a == 58) _ _ (λ h30. pick (IsFrontOf a b c) (b == 58) _ _ (λ h31. (eqb-true a 58 h30, eqb-true b 58 h31)) (λ _. eqb-true a 58 h30)) (λ _. pick (IsFrontOf a b c) (a == 46) _ _ (λ h32. eqb-true a 46 h32) (λ _. pick (IsFrontOf a b c) (a == 44) _ _ (λ h33. eqb-true a 44 h33) (λ _. pick (IsFrontOf a b c) (a == 59) _ _ (λ h34. eqb-true a 59 h34) (λ _. pick (IsFrontOf a b c) (a == 40) _ _ (λ h35. eqb-true a 40 h35) (λ _. pick (IsFrontOf a b c) (a == 41) _ _ (λ h36. eqb-true a 41 h36) (λ _. pick (IsFrontOf a b c) (a == 91) _ _ (λ h37. eqb-true a 91 h37) (λ _. pick (IsFrontOf a b c) (a == 93) _ _ (λ h38. eqb-true a 93 h38) (λ _. tt))))))))))))))))))))
+module _ (a b c : ℕ) where
+  on : (x n : ℕ) (this other : Option Op) → (x ≡ n → IsFrontOf a b c this) → IsFrontOf a b c other → IsFrontOf a b c (cond (x == n) this other)
+  on x n this other y f = pick (IsFrontOf a b c) (x == n) this other (λ h. y (eqb-true x n h)) (λ _. f)
+
+  pub op_front : IsFrontOf a b c (op_of a b c)
+  unfolding op_of
+  op_front =
+      on a 43 _ _ (λ p. on b 61 _ _ (λ q. (p, q)) p)
+      (on a 45 _ _ (λ p. on b 61 _ _ (λ q. (p, q)) p)
+      (on a 42 _ _ (λ p. on b 61 _ _ (λ q. (p, q)) p)
+      (on a 47 _ _ (λ p. on b 61 _ _ (λ q. (p, q)) p)
+      (on a 37 _ _ (λ p. on b 61 _ _ (λ q. (p, q)) p)
+      (on a 61 _ _ (λ p. on b 61 _ _ (λ q. (p, q)) (on b 62 _ _ (λ q. (p, q)) p))
+      (on a 33 _ _ (λ p. on b 61 _ _ (λ q. (p, q)) p)
+      (on a 60 _ _ (λ p. on b 61 _ _ (λ q. on c 62 _ _ (λ r. (p, q, r)) (p, q)) (on b 60 _ _ (λ q. on c 61 _ _ (λ r. (p, q, r)) (p, q)) p))
+      (on a 62 _ _ (λ p. on b 61 _ _ (λ q. (p, q)) p)
+      (on a 38 _ _ (λ p. on b 38 _ _ (λ q. on c 61 _ _ (λ r. (p, q, r)) (p, q)) tt)
+      (on a 124 _ _ (λ p. on b 124 _ _ (λ q. on c 61 _ _ (λ r. (p, q, r)) (p, q)) p)
+      (on a 63 _ _ (λ p. p)
+      (on a 58 _ _ (λ p. on b 58 _ _ (λ q. (p, q)) p)
+      (on a 46 _ _ (λ p. p)
+      (on a 44 _ _ (λ p. p)
+      (on a 59 _ _ (λ p. p)
+      (on a 40 _ _ (λ p. p)
+      (on a 41 _ _ (λ p. p)
+      (on a 91 _ _ (λ p. p)
+      (on a 93 _ _ (λ p. p)
+      tt)))))))))))))))))))
 
 pub front_of : (s : List ℕ) (o : Op) → 0 < length s → AreFront (op_text o) (get_or s 0 0) (get_or s 1 0) (get_or s 2 0) → take (length (op_text o)) s ≡ op_text o
 front_of s ops.Plus l h = front_one s _ l h

@@ -1,8 +1,13 @@
 -- What a byte can begin.
 use Rattle.std.specs.Prelude.{ℕ, ◌==◌, ◌||◌, Bool, true, false, if◌then◌else◌}
 use Rattle.std.specs.Int.{is_in_range}
+use Prim.Native.Char.{Char, code}
 use Rattle.rr_lexer.specs.declared.class.Class.{Class}
 use Rattle.rr_lexer.specs.declared.class.Class.TheVariants.{Lower, Upper, Digit, Double, Single, Hash, LineFeed, Return, Blank, Backslash, At, Dollar, Colon, OpenBrace, CloseBrace, Mark, Other}
+
+-- the byte of a character of ASCII
+abbrev pub byte : Char → ℕ
+byte c = code c
 
 -- the first bytes of the operators and brackets, without `:`, `{` and `}`
 abbrev pub is_mark : ℕ → Bool

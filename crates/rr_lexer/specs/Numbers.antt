@@ -1,5 +1,5 @@
 -- Numbers without a sign.
-use Rattle.std.specs.Prelude.{ℕ, ◌+◌, ◌-◌, ◌*◌, ◌≤◌, ◌≡◌, ◌≢◌, ◌⊎◌, ◌==◌, ◌&&◌, ◌||◌, Bool, true, false, List, [], ◌∷◌, slice_index, nat_lt, if◌then◌else◌}
+use Rattle.std.specs.Prelude.{ℕ, ◌+◌, ◌-◌, ◌*◌, ◌^◌, ◌≤◌, ◌≡◌, ◌≢◌, ◌⊎◌, ◌==◌, ◌&&◌, ◌||◌, Bool, true, false, List, [], ◌∷◌, length, slice_index, nat_lt, if◌then◌else◌}
 use Rattle.std.specs.Int.{is_in_range}
 
 -- the value of a digit, letters from ten on; 255 for what is no digit
@@ -12,11 +12,16 @@ digit_value b = if is_in_range 48 57 b then b - 48
 abbrev pub is_digit_of : ℕ → ℕ → Bool
 is_digit_of base b = nat_lt (digit_value b) base
 
--- What stands behind the digits that spell a, and the number that all of it spells. `_` stands between digits.
-pub data IsRest (base : ℕ) : ℕ → List ℕ → ℕ → Type 0 where
-  stop : {a : ℕ} → IsRest base a [] a
-  digit : {a d v : ℕ} {rest : List ℕ} → is_digit_of base d ≡ true → IsRest base (a * base + digit_value d) rest v → IsRest base a (d ∷ rest) v
-  gap : {a d v : ℕ} {rest : List ℕ} → is_digit_of base d ≡ true → IsRest base (a * base + digit_value d) rest v → IsRest base a (95 ∷ d ∷ rest) v
+-- What stands behind a digit, and the values of the digits there. `_` stands between digits.
+pub data IsRest (base : ℕ) : List ℕ → List ℕ → Type 0 where
+  stop : IsRest base [] []
+  digit : {d : ℕ} {rest values : List ℕ} → is_digit_of base d ≡ true → IsRest base rest values → IsRest base (d ∷ rest) (digit_value d ∷ values)
+  gap : {d : ℕ} {rest values : List ℕ} → is_digit_of base d ≡ true → IsRest base rest values → IsRest base (95 ∷ d ∷ rest) (digit_value d ∷ values)
+
+-- the number that digits of these values stand for, each at its place: the last one counts ones
+abbrev pub place_value : ℕ → List ℕ → ℕ
+place_value base [] = 0
+place_value base (d ∷ ds) = d * base ^ length ds + place_value base ds
 
 -- a number in this base goes on with these two bytes
 abbrev pub goes_on_in : ℕ → ℕ → ℕ → Bool
@@ -26,9 +31,11 @@ goes_on_in base b c = is_digit_of base b || (b == 95 && is_digit_of base c)
 pub record AreDigits (base : ℕ) (word after : List ℕ) (v : ℕ) : Type 0 where
   pub first : ℕ
   pub rest : List ℕ
+  pub values : List ℕ
   pub word_is : word ≡ first ∷ rest
   pub is_first : is_digit_of base first ≡ true
-  pub is_rest : IsRest base (digit_value first) rest v
+  pub is_rest : IsRest base rest values
+  pub value_is : v ≡ place_value base (digit_value first ∷ values)
   pub whole : goes_on_in base (slice_index after 0) (slice_index after 1) ≡ false
 
 -- `x`, `b` and `o` behind a 0, by the base that they give, else 0

@@ -2,7 +2,7 @@
 use Rattle.std.specs.Prelude.{ℕ, ◌+◌, ◌-◌, ◌*◌, ◌≡◌, ◌==◌, ◌||◌, ◌&&◌, not, Bool, true, false, List, [], ◌∷◌, Option, Some, None, length, take, drop, slice_index, nat_lt, if◌then◌else◌}
 use Rattle.std.specs.Str.{bytes_eq}
 use Rattle.std.specs.List.{prefix_len}
-use Rattle.rr_lexer.specs.Bytes.{class_of, is_word_byte}
+use Rattle.rr_lexer.specs.Bytes.{byte, class_of, is_word_byte}
 use Rattle.rr_lexer.specs.Words.{keyword_text, is_left_out, takes_mark, takes_colon, op_text}
 use Rattle.rr_lexer.specs.Texts.{is_escape}
 use Rattle.rr_lexer.specs.Numbers.{digit_value, is_digit_of, base_of, has_base, goes_on_in, largest_int}
@@ -85,7 +85,28 @@ variable_at kind s = variable_of kind (class_of (slice_index s 1)) s
 -- operators
 
 unfoldable pub op_of : ℕ → ℕ → ℕ → Option Op
-op_of a b c = if a == 43 then (if b == 61 then Some ops.PlusAssign else Some ops.Plus) else (if a == 45 then (if b == 61 then Some ops.MinusAssign else Some ops.Minus) else (if a == 42 then (if b == 61 then Some ops.StarAssign else Some ops.Star) else (if a == 47 then (if b == 61 then Some ops.SlashAssign else Some ops.Slash) else (if a == 37 then (if b == 61 then Some ops.PercentAssign else Some ops.Percent) else (if a == 61 then (if b == 61 then Some ops.Equal else (if b == 62 then Some ops.Arrow else Some ops.Assign)) else (if a == 33 then (if b == 61 then Some ops.NotEqual else Some ops.Bang) else (if a == 60 then (if b == 61 then (if c == 62 then Some ops.Compare else Some ops.LessOrEqual) else (if b == 60 then (if c == 61 then Some ops.ShiftAssign else Some ops.Shift) else Some ops.Less)) else (if a == 62 then (if b == 61 then Some ops.GreaterOrEqual else Some ops.Greater) else (if a == 38 then (if b == 38 then (if c == 61 then Some ops.AndAssign else Some ops.And) else None) else (if a == 124 then (if b == 124 then (if c == 61 then Some ops.OrAssign else Some ops.Or) else Some ops.Bar) else (if a == 63 then Some ops.Question else (if a == 58 then (if b == 58 then Some ops.Path else Some ops.Colon) else (if a == 46 then Some ops.Dot else (if a == 44 then Some ops.Comma else (if a == 59 then Some ops.Semicolon else (if a == 40 then Some ops.Open else (if a == 41 then Some ops.Close else (if a == 91 then Some ops.OpenSquare else (if a == 93 then Some ops.CloseSquare else None)))))))))))))))))))
+op_of a b c =
+    if a == byte "+" then (if b == byte "=" then Some ops.PlusAssign else Some ops.Plus)
+    else (if a == byte "-" then (if b == byte "=" then Some ops.MinusAssign else Some ops.Minus)
+    else (if a == byte "*" then (if b == byte "=" then Some ops.StarAssign else Some ops.Star)
+    else (if a == byte "/" then (if b == byte "=" then Some ops.SlashAssign else Some ops.Slash)
+    else (if a == byte "%" then (if b == byte "=" then Some ops.PercentAssign else Some ops.Percent)
+    else (if a == byte "=" then (if b == byte "=" then Some ops.Equal else (if b == byte ">" then Some ops.Arrow else Some ops.Assign))
+    else (if a == byte "!" then (if b == byte "=" then Some ops.NotEqual else Some ops.Bang)
+    else (if a == byte "<" then (if b == byte "=" then (if c == byte ">" then Some ops.Compare else Some ops.LessOrEqual) else (if b == byte "<" then (if c == byte "=" then Some ops.ShiftAssign else Some ops.Shift) else Some ops.Less))
+    else (if a == byte ">" then (if b == byte "=" then Some ops.GreaterOrEqual else Some ops.Greater)
+    else (if a == byte "&" then (if b == byte "&" then (if c == byte "=" then Some ops.AndAssign else Some ops.And) else None)
+    else (if a == byte "|" then (if b == byte "|" then (if c == byte "=" then Some ops.OrAssign else Some ops.Or) else Some ops.Bar)
+    else (if a == byte "?" then Some ops.Question
+    else (if a == byte ":" then (if b == byte ":" then Some ops.Path else Some ops.Colon)
+    else (if a == byte "." then Some ops.Dot
+    else (if a == byte "," then Some ops.Comma
+    else (if a == byte ";" then Some ops.Semicolon
+    else (if a == byte "(" then Some ops.Open
+    else (if a == byte ")" then Some ops.Close
+    else (if a == byte "[" then Some ops.OpenSquare
+    else (if a == byte "]" then Some ops.CloseSquare
+    else None)))))))))))))))))))
 
 -- these bytes, the first of at least one and at most three, are this text, or begin with it
 abbrev pub AreFront : List ℕ → ℕ → ℕ → ℕ → Type 0

@@ -199,8 +199,9 @@ pub record IsStuck (source : List ℕ) (kind : SyntaxKind) (line column : ℕ) :
   pub reason : IsReason kind (drop place source)
 
 -- Why a source has no tokens: its first refused byte, else the first place at which no token begins, else its length.
+-- Memory may be wanted only behind the first of these tests.
 abbrev pub Faults : List ℕ → Fault → Type 0
-Faults source faults.Memory = Unit {0}
+Faults source faults.Memory = refused_from source ≡ length source
 Faults source (faults.Limit limit) = (limit ≡ limits.Source) × (source_limit < length source)
     × (refused_from source ≡ length source) × ((tokens : List Token) × Spelled source tokens)
 Faults source (faults.Syntax line column kind) =

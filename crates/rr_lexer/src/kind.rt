@@ -117,6 +117,7 @@ pub struct Token {
     pub start: u32,
     pub end: u32,
     pub kind: Kind,
-    /// Whether a blank, a comment or a joined line stands directly before it.
+    /// Whether anything stands between it and the token before: blanks, a comment, or a line end that separates no
+    /// statements.
     pub blank: bool,
 }

@@ -22,11 +22,6 @@ mod words;
 pub use contents::{int_value, name, text_contents, word};
 pub use freezes::freezes_literals;
 pub use kind::{Keyword, Kind, Op, Token};
-pub use laws::{tokens_are_in_order, tokens_are_one};
+pub use laws::{ints_have_their_values, tokens_are_in_order, tokens_are_one};
 pub use lexing::lex;
 pub use place::line_and_column;
-
-#[cfg(test)]
-mod rows;
-#[cfg(test)]
-mod tests;

@@ -1,7 +1,8 @@
 //! Line ends that separate no statements.
 
 ghost use Rattle.std.specs.Prelude.{◌≡◌, reverse};
-ghost use Rattle.rr_lexer.specs.Lines.{op_continues, keyword_continues, continues, is_closer, is_call, is_def, goes_on, is_dropped, is_continued, joined};
+ghost use Rattle.rr_lexer.specs.Lines.{op_continues, continues, is_closer, is_call, goes_on, is_dropped, is_continued, spaced, joined};
+ghost use Rattle.rr_lexer.specs.Lines.{ends_with_def, ends_with_name, ends_with_open_square, ends_with_squares, ends_setter, ends_method_name};
 
 use crate::kind::{Keyword, Kind, Op, Token};
 
@@ -35,12 +36,6 @@ fn is_closer(kind: Kind) -> bool
     )
 }
 
-fn is_def(kind: Kind) -> bool
-    ensures { result ≡ is_def kind }
-{
-    matches!(kind, Kind::Keyword(Keyword::Def))
-}
-
 fn is_call(first: Kind, second: Kind) -> bool
     ensures { result ≡ is_call first second }
 {
@@ -58,32 +53,99 @@ fn goes_on(rest: &[Token]) -> bool
     }
 }
 
-/// Whether a line end behind these tokens is left out. Behind `def` an operator is a name.
+fn ends_with_def(front: &[Token]) -> bool
+    ensures { result ≡ ends_with_def (reverse front.now) }
+{
+    match front {
+        [.., t] => t.kind == Kind::Keyword(Keyword::Def),
+        [] => false,
+    }
+}
+
+/// Whether `def` and a name stand last.
+fn ends_with_name(front: &[Token]) -> bool
+    ensures { result ≡ ends_with_name (reverse front.now) }
+{
+    match front {
+        [before @ .., t] => t.kind == Kind::Name && ends_with_def(before),
+        [] => false,
+    }
+}
+
+fn ends_with_open_square(front: &[Token]) -> bool
+    ensures { result ≡ ends_with_open_square (reverse front.now) }
+{
+    match front {
+        [before @ .., t] => t.kind == Kind::Op(Op::OpenSquare) && ends_with_def(before),
+        [] => false,
+    }
+}
+
+/// Whether `def` and `[]` stand last.
+fn ends_with_squares(front: &[Token]) -> bool
+    ensures { result ≡ ends_with_squares (reverse front.now) }
+{
+    match front {
+        [before @ .., t] => {
+            t.kind == Kind::Op(Op::CloseSquare) && !t.blank && ends_with_open_square(before)
+        }
+        [] => false,
+    }
+}
+
+/// Whether a token ends the name of a setter: it is `=`, directly behind `def` and a name, or `def` and `[]`.
+fn ends_setter(token: Token, front: &[Token]) -> bool
+    ensures { result ≡ ends_setter token (reverse front.now) }
+{
+    token.kind == Kind::Op(Op::Assign)
+        && !token.blank
+        && (ends_with_name(front) || ends_with_squares(front))
+}
+
+/// Whether a token behind others ends the name of a method: an operator behind `def`, or a setter's.
+fn ends_method_name(token: Token, front: &[Token]) -> bool
+    ensures { result ≡ ends_method_name token (reverse front.now) }
+{
+    ends_with_def(front) || ends_setter(token, front)
+}
+
+/// Whether a line end behind these tokens is left out. The name of a method goes on to no other line.
 fn is_continued(front: &[Token]) -> bool
     ensures { result ≡ is_continued (reverse front.now) }
 {
     match front {
+        [before @ .., t] => continues(t.kind) && !ends_method_name(*t, before),
         [] => false,
-        [t] => continues(t.kind),
-        [.., d, t] => continues(t.kind) && !is_def(d.kind),
     }
 }
 
 /// Whether a token between others is a line end that separates no statements.
 fn is_dropped(front: &[Token], kind: Kind, rest: &[Token]) -> bool
-    ensures { result ≡ is_dropped kind (is_continued (reverse front.now)) rest.now }
+    ensures { result ≡ is_dropped (reverse front.now) kind rest.now }
 {
     kind == Kind::LineEnd && (is_continued(front) || goes_on(rest))
 }
 
-/// Leaves out the line ends that separate no statements.
+/// A token that something stands before, also where that is a line end that is left out.
+fn spaced(gap: bool, token: Token) -> Token
+    ensures { result ≡ spaced gap token }
+{
+    Token {
+        blank: gap || token.blank,
+        ..token
+    }
+}
+
+/// Leaves out the line ends that separate no statements. What stands behind one has a blank before it.
 pub fn join(tokens: &mut Vec<Token>)
     ensures { tokens.new.items ≡ joined tokens.old.items }
 {
     let mut kept: usize = 0;
+    let mut gap = false;
     for i in 0..tokens.len() {
-        let t = tokens[i];
-        if !is_dropped(&tokens[..kept], t.kind, &tokens[i + 1..]) {
+        let t = spaced(gap, tokens[i]);
+        gap = is_dropped(&tokens[..kept], t.kind, &tokens[i + 1..]);
+        if !gap {
             tokens[kept] = t;
             kept += 1;
         }

@@ -4,7 +4,7 @@ use Rattle.rr_base.specs.declared.name.Sym.{Sym}
 use Rattle.rr_tree.specs.Tree.{Tree, int, local, call, negate, binary, assign, sequence, puts, listed}
 use Rattle.rr_parser.specs.declared.word.WordKind.TheVariants as kind
 use Rattle.rr_parser.specs.declared.word.Word.{Word}
-use Rattle.rr_parser.specs.Grammar.{Place, next, skip, separators, is_puts, is_local, with_local, bracket, begins_operands, fits, fits_below, negated, joined, operator, comma, elsif, elsif_in, thens, same, one_of, and_one, chosen, start, Nested, Primary, an_int, a_negative, a_text, a_nil, a_truth, a_local, a_call, a_bare_puts, a_puts, a_group, an_if, Minus, a_minus, a_primary, Binary, Equality, a_comparison, a_pair, Argument, an_assignment, an_equality, Arguments, Bracketed, no_arguments, some_arguments, Statement, a_command, an_argument, Rows, Statements, no_statements, some_statements, Branch, a_branch, Branches, Otherwise, no_else, an_else, Choice, a_choice, inside, outside, WordsSpell}
+use Rattle.rr_parser.specs.Grammar.{Place, next, skip, separators, is_puts, is_local, with_local, bracket, begins_operands, fits, fits_below, negated, joined, operator, comma, elsif, elsif_in, thens, same, one_of, and_one, chosen, start, Nested, Primary, an_int, a_negative, a_text, a_nil, a_truth, a_local, a_call, a_marked_call, a_bare_puts, a_puts, a_group, an_if, Minus, a_minus, a_primary, Binary, Equality, a_comparison, a_pair, Argument, an_assignment, an_equality, Arguments, Bracketed, no_arguments, some_arguments, Statement, a_command, an_argument, Rows, Statements, no_statements, some_statements, Branch, a_branch, Branches, Otherwise, no_else, an_else, Choice, a_choice, inside, outside, WordsSpell}
 use Rattle.rr_parser.specs.Reading.{◌>>=◌, wrong, deep, Answer, Parse, built, Readers, close_in, close, closed_in, closed, puts_of, bare_puts, plain_name, name_or, name_of, int_at, negative_in, negative_of, group_of, primary_in, primary_of, no_integer, minus_in, minus_or, minus_of, binary_of, pair_or, equality_of, assign_in, target_in, target, argument_or, argument_of, arguments_of, bracketed_or, bracketed_of, command_in, command, statement_or, statement_of, ends, row, rows_of, sequence_of, statements_at, statements_of, branch_on, branch_of, branches_of, else_in, otherwise_or, otherwise_of, ended_in, choice_of, readers_inside, readers_outside, whole_of, program_of}
 use Rattle.rr_parser.proofs.Shrinks.{Steps-operator, Steps-comma, Steps-row, Steps-elsif, Shrinks-binary, Shrinks-argument, Shrinks-statement, Shrinks-branch, NestedShrinks, shrinks_nested}
 use Rattle.rr_parser.proofs.Stopping.{Leads, leads_bind, leads_trans, leads_eq, leads_map, IsFull, chain_full, Stops, stops_below, Outer, outer_stops, EndsStatement, comma_outer, separators_end, separators_row, ends_behind, next_ends_true, chain_first, argument_starts, statement_starts, other_bracket, argument_no_command, no_command_in, no_target, Closes, close_ends, no_close, AtEnd, thens_end, elsif_ends}
@@ -67,6 +67,7 @@ module _ (N : Readers) (R : Nested) (D : Type 0) (shrinks : NestedShrinks N) (ne
   primary_full s z t (a_truth e) u = inl (ap (primary_in N) e)
   primary_full s z t (a_local {x = x} e o f) u = inl (ap (primary_in N) e ∙ plain_full x z o ∙ local_full x z f)
   primary_full s z t (a_call {x = x} e f g) u = inl (ap (primary_in N) e ∙ plain_full x z (other_bracket x z.locals z.rest f) ∙ other_full x z false g f)
+  primary_full s z t (a_marked_call e) u = inl (ap (primary_in N) e)
   primary_full s z t (a_bare_puts {x = x} e o f g h) u = inl (ap (primary_in N) e ∙ plain_full x z o ∙ other_full x z true g f ∙ bare_full z h)
   primary_full s z t (a_puts {m = m} {n = n} {o = o} {x = x} {u = v} {l = l} e f h g) u =
       leads_eq (primary_in N (next s)) (name_of N x m) (Ok (t, z)) (ap (primary_in N) e) (puts_full x m n o z v l f h g)
@@ -83,6 +84,7 @@ module _ (N : Readers) (R : Nested) (D : Type 0) (shrinks : NestedShrinks N) (ne
   primary_no_minus s z t (a_truth e) = ap minus_in e
   primary_no_minus s z t (a_local e o f) = ap minus_in e
   primary_no_minus s z t (a_call e f g) = ap minus_in e
+  primary_no_minus s z t (a_marked_call e) = ap minus_in e
   primary_no_minus s z t (a_bare_puts e o f g h) = ap minus_in e
   primary_no_minus s z t (a_puts e f h g) = ap minus_in e
   primary_no_minus s z t (a_group e h g) = ap minus_in e

@@ -329,6 +329,7 @@ module _ (N : Readers) (nests : NestedShrinks N) where
   primary_at-left (kind.Int n) m z t e = int_at-left n m z t e
   primary_at-left (kind.Text i) m z t e = omega (arith, same_left (text i) t m z e)
   primary_at-left (kind.Name x) m z t e = name_of-left x m z t e
+  primary_at-left (kind.Marked x) m z t e = omega (arith, same_left (call x.0) t m z e)
   primary_at-left kind.Nil m z t e = omega (arith, same_left nil t m z e)
   primary_at-left (kind.Truth b) m z t e = omega (arith, same_left (truth b) t m z e)
   primary_at-left kind.Minus m z t e = negative_of-left m z t e

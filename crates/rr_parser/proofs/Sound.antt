@@ -6,7 +6,7 @@ use Rattle.rr_tree.specs.Tree.{Tree, nil, truth, int, text, local, call, negate,
 use Rattle.rr_parser.specs.declared.word.WordKind.{WordKind}
 use Rattle.rr_parser.specs.declared.word.WordKind.TheVariants as kind
 use Rattle.rr_parser.specs.declared.word.Word.{Word}
-use Rattle.rr_parser.specs.Grammar.{Place, next, skip, is_separator, separators, separators_in, is_puts, is_local, with_local, bracket, begins_operands, begins_command, fits, fits_below, negated, joined, operator, comma, elsif, thens, same, one_of, and_one, chosen, start, Chain, one, more, Nested, Primary, an_int, a_negative, a_text, a_nil, a_truth, a_local, a_call, a_bare_puts, a_puts, a_group, an_if, Minus, a_minus, a_primary, Binary, Equality, a_comparison, a_pair, Argument, an_assignment, an_equality, Arguments, Bracketed, no_arguments, some_arguments, Statement, a_command, an_argument, Rows, Statements, no_statements, some_statements, Branch, a_branch, Branches, Otherwise, no_else, an_else, Choice, a_choice, inside, outside, WordsSpell}
+use Rattle.rr_parser.specs.Grammar.{Place, next, skip, is_separator, separators, separators_in, is_puts, is_local, with_local, bracket, begins_operands, begins_command, fits, fits_below, negated, joined, operator, comma, elsif, thens, same, one_of, and_one, chosen, start, Chain, one, more, Nested, Primary, an_int, a_negative, a_text, a_nil, a_truth, a_local, a_call, a_marked_call, a_bare_puts, a_puts, a_group, an_if, Minus, a_minus, a_primary, Binary, Equality, a_comparison, a_pair, Argument, an_assignment, an_equality, Arguments, Bracketed, no_arguments, some_arguments, Statement, a_command, an_argument, Rows, Statements, no_statements, some_statements, Branch, a_branch, Branches, Otherwise, no_else, an_else, Choice, a_choice, inside, outside, WordsSpell}
 use Rattle.rr_parser.specs.Reading.{◌>>=◌, wrong, Answer, Parse, turn, chain_from, chain_on, chain, Readers, close, closed_at, closed_in, closed, puts_of, bare_puts, name_or, name_of, int_at, negative_in, negative_of, group_of, primary_at, primary_in, primary_of, no_integer, minus_at, minus_in, minus_or, minus_of, binary_of, pair_or, equality_of, assign_at, assign_in, target_at, target_in, target, argument_or, argument_of, arguments_of, bracketed_or, bracketed_of, command_at, command_in, command, statement_or, statement_of, ends, row_in, row, rows_of, sequence_of, statements_of, branch_on, branch_of, branches_of, else_at, else_in, otherwise_or, otherwise_of, ended_at, ended_in, choice_of, readers_inside, readers_outside, readers, whole_of, program_of}
 use Rattle.rr_parser.proofs.Shrinks.{bind_ok, built_ok, done, seen, ok_place, ok_what, some_place, some_what}
 
@@ -186,6 +186,7 @@ module _ (N : Readers) (R : Nested) (nests : NestedSound N R) where
   primary_at-sound s (kind.Int n) m z t f e = int_sound s m n z t f e
   primary_at-sound s (kind.Text i) m z t f e = at_answer (Primary R s) (text i) t m z e (a_text f)
   primary_at-sound s (kind.Name x) m z t f e = name_sound s m x z t f e
+  primary_at-sound s (kind.Marked x) m z t f e = at_answer (Primary R s) (call x.0) t m z e (a_marked_call f)
   primary_at-sound s kind.Nil m z t f e = at_answer (Primary R s) nil t m z e (a_nil f)
   primary_at-sound s (kind.Truth b) m z t f e = at_answer (Primary R s) (truth b) t m z e (a_truth f)
   primary_at-sound s kind.Minus m z t f e = negative_sound s m z t f e

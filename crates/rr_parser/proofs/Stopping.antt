@@ -8,7 +8,7 @@ use Rattle.rr_tree.specs.Tree.{Tree, binary}
 use Rattle.rr_parser.specs.declared.word.WordKind.{WordKind}
 use Rattle.rr_parser.specs.declared.word.WordKind.TheVariants as kind
 use Rattle.rr_parser.specs.declared.word.Word.{Word}
-use Rattle.rr_parser.specs.Grammar.{Place, next, next_of, skip, without_separators, is_separator, separators_in, is_puts, is_local, is_open, bracket_of, is_tight, begins_operand, begins_operands, begins_command, level_of, at_level, operator, operator_in, operator_of, with_operator, is_comma, comma, comma_in, is_elsif, elsif_in, is_then, behind_then, thens_in, same, Chain, one, more, Nested, Primary, an_int, a_negative, a_text, a_nil, a_truth, a_local, a_call, a_bare_puts, a_puts, a_group, an_if, Minus, a_minus, a_primary, Binary, Equality, a_comparison, a_pair, Argument, an_assignment, an_equality, Statement, a_command, an_argument}
+use Rattle.rr_parser.specs.Grammar.{Place, next, next_of, skip, without_separators, is_separator, separators_in, is_puts, is_local, is_open, bracket_of, is_tight, begins_operand, begins_operands, begins_command, level_of, at_level, operator, operator_in, operator_of, with_operator, is_comma, comma, comma_in, is_elsif, elsif_in, is_then, behind_then, thens_in, same, Chain, one, more, Nested, Primary, an_int, a_negative, a_text, a_nil, a_truth, a_local, a_call, a_marked_call, a_bare_puts, a_puts, a_group, an_if, Minus, a_minus, a_primary, Binary, Equality, a_comparison, a_pair, Argument, an_assignment, an_equality, Statement, a_command, an_argument}
 use Rattle.rr_parser.specs.Reading.{◌>>=◌, Refused, deep, Parse, chain_on, chain, close_at, close_in, assign_at, assign_in, target_at, target_in, target, command_at, command_in, ends_at, ends, row_behind, row_in, row}
 use Rattle.rr_parser.proofs.Shrinks.{Shrinks, Steps, chain_on-ends, chain_on-turn, seen, some_what, some_place}
 
@@ -211,6 +211,7 @@ primary_starts R s z t (a_nil e) = next_ends s.locals s.rest kind.Nil z e refl
 primary_starts R s z t (a_truth {b = b} e) = next_ends s.locals s.rest (kind.Truth b) z e refl
 primary_starts R s z t (a_local {x = x} e o f) = next_ends s.locals s.rest (kind.Name x) z e refl
 primary_starts R s z t (a_call {x = x} e f g) = next_ends s.locals s.rest (kind.Name x) z e refl
+primary_starts R s z t (a_marked_call {x = x} e) = next_ends s.locals s.rest (kind.Marked x) z e refl
 primary_starts R s z t (a_bare_puts {x = x} e o f g h) = next_ends s.locals s.rest (kind.Name x) z e refl
 primary_starts R s z t (a_puts {m = m} {x = x} e f h g) = next_ends s.locals s.rest (kind.Name x) m e refl
 primary_starts R s z t (a_group {m = m} e h g) = next_ends s.locals s.rest kind.Open m e refl
@@ -287,6 +288,7 @@ primary_no_command R s z t x m (a_nil e) f = let h = one_kind s z m kind.Nil (ki
 primary_no_command R s z t x m (a_truth {b = b} e) f = let h = one_kind s z m (kind.Truth b) (kind.Name x) e f in absurd cc
 primary_no_command R s z t x m (a_local {x = y} e o g) f = at_name y x z m (one_kind s z m (kind.Name y) (kind.Name x) e f) (one_place s z m (kind.Name y) (kind.Name x) e f) (local_no_command y z g)
 primary_no_command R s z t x m (a_call {x = y} e g h) f = at_name y x z m (one_kind s z m (kind.Name y) (kind.Name x) e f) (one_place s z m (kind.Name y) (kind.Name x) e f) (other_no_command y z g)
+primary_no_command R s z t x m (a_marked_call {x = y} e) f = let h = one_kind s z m (kind.Marked y) (kind.Name x) e f in absurd cc
 primary_no_command R s z t x m (a_bare_puts {x = y} e o g h i) f = at_name y x z m (one_kind s z m (kind.Name y) (kind.Name x) e f) (one_place s z m (kind.Name y) (kind.Name x) e f) (bare_no_command y z i)
 primary_no_command R s z t x m (a_puts {m = n} {n = o} {x = y} {u = u} e g h i) f =
     at_name y x n m (one_kind s n m (kind.Name y) (kind.Name x) e f) (one_place s n m (kind.Name y) (kind.Name x) e f) (bare_no_command y n (bracket_no_operands y n.locals n.rest o u g))
@@ -331,6 +333,7 @@ module _ (R : Nested) (s m n : Place) (x : Sym) (named : next s ≡ Some (kind.N
   primary_stuck z t (a_truth {b = b} e) = let h = one_kind s z m (kind.Truth b) (kind.Name x) e named in absurd cc
   primary_stuck z t (a_local {x = y} e o g) = subst (λ q. Assigns q n) (sym (one_place s z m (kind.Name y) (kind.Name x) e named)) assigns
   primary_stuck z t (a_call {x = y} e g h) = subst (λ q. Assigns q n) (sym (one_place s z m (kind.Name y) (kind.Name x) e named)) assigns
+  primary_stuck z t (a_marked_call {x = y} e) = let h = one_kind s z m (kind.Marked y) (kind.Name x) e named in absurd cc
   primary_stuck z t (a_bare_puts {x = y} e o g h i) = subst (λ q. Assigns q n) (sym (one_place s z m (kind.Name y) (kind.Name x) e named)) assigns
   primary_stuck z t (a_puts {m = o} {n = q} {x = y} {u = u} e g h i) =
       let p = one_place s o m (kind.Name y) (kind.Name x) e named in

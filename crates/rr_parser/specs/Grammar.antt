@@ -96,6 +96,7 @@ abbrev pub begins_operand : WordKind → Bool → Bool
 begins_operand (kind.Int n) tight = true
 begins_operand (kind.Text i) tight = true
 begins_operand (kind.Name x) tight = true
+begins_operand (kind.Marked x) tight = true
 begins_operand kind.Nil tight = true
 begins_operand (kind.Truth b) tight = true
 begins_operand kind.Open tight = true
@@ -236,6 +237,7 @@ pub data Primary (N : Nested) : Place → Tree → Place → Type 0 where
   a_truth : {s z : Place} {b : Bool} → next s ≡ Some (kind.Truth b, z) → Primary N s (truth b) z
   a_local : {s z : Place} {x : Sym} → next s ≡ Some (kind.Name x, z) → bracket x z ≡ None → is_local x z ≡ true → Primary N s (local x.0) z
   a_call : {s z : Place} {x : Sym} → next s ≡ Some (kind.Name x, z) → is_puts x ≡ false → is_local x z ≡ false → Primary N s (call x.0) z
+  a_marked_call : {s z : Place} {x : Sym} → next s ≡ Some (kind.Marked x, z) → Primary N s (call x.0) z
   -- `puts` with no arguments
   a_bare_puts : {s z : Place} {x : Sym} → next s ≡ Some (kind.Name x, z) → bracket x z ≡ None → is_puts x ≡ true → is_local x z ≡ false → begins_operands z.rest ≡ false → Primary N s (puts (listed [])) z
   -- `puts` with arguments in brackets

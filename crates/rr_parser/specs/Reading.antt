@@ -114,6 +114,7 @@ abbrev pub primary_at : Readers → WordKind → Place → Answer Tree
 primary_at N (kind.Int n) m = int_at n m
 primary_at N (kind.Text i) m = Ok (text i, m)
 primary_at N (kind.Name x) m = name_of N x m
+primary_at N (kind.Marked x) m = Ok (call x.0, m)
 primary_at N kind.Nil m = Ok (nil, m)
 primary_at N (kind.Truth b) m = Ok (truth b, m)
 primary_at N kind.Minus m = negative_of m

@@ -1,5 +1,5 @@
 -- Words from tokens, with names and texts by number.
-use Rattle.std.specs.Prelude.{ℕ, List, [], ◌∷◌, ◌++◌, true, false, Option, Some, None, length, fold, codes, bytes_eq, if◌then◌else◌}
+use Rattle.std.specs.Prelude.{ℕ, ◌-◌, ◌==◌, ◌||◌, Bool, List, [], ◌∷◌, ◌++◌, true, false, Option, Some, None, length, fold, codes, bytes_eq, slice_index, if◌then◌else◌}
 use Rattle.std.specs.List.{list_any, position_or_len}
 use Rattle.rr_base.specs.declared.name.Sym.{Sym}
 use Rattle.rr_lexer.specs.declared.kind.Kind.{Kind}
@@ -76,9 +76,17 @@ int_kind None = kind.Other
 abbrev pub number_of : List (List ℕ) → List ℕ → Sym
 number_of names name = record { 0 = position_or_len (bytes_eq name) names }
 
+-- a name that ends with `?` or `!`
+abbrev pub is_marked : List ℕ → Bool
+is_marked name = let last = slice_index name (length name - 1) in last == 63 || last == 33
+
+abbrev pub name_kind : Bool → Sym → WordKind
+name_kind true x = kind.Marked x
+name_kind false x = kind.Name x
+
 -- what a token is as a word, behind these names and so many texts
 abbrev pub word_kind : List ℕ → List (List ℕ) → ℕ → Token → Kind → WordKind
-word_kind source names texts token kinds.Name = kind.Name (number_of names (word_of source token))
+word_kind source names texts token kinds.Name = name_kind (is_marked (word_of source token)) (number_of names (word_of source token))
 word_kind source names texts token kinds.Int = int_kind (int_value_of (word_of source token))
 word_kind source names texts token kinds.Text = kind.Text texts
 word_kind source names texts token kinds.Single = kind.Text texts

@@ -6,8 +6,6 @@ mod names;
 mod parser;
 mod program;
 mod refusal;
-#[cfg(test)]
-mod tests;
 mod word;
 
 pub use program::parse;

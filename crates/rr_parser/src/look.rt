@@ -318,6 +318,7 @@ fn begins_operand(kind: WordKind, tight: bool) -> bool
         WordKind::Int(_)
         | WordKind::Text(_)
         | WordKind::Name(_)
+        | WordKind::Marked(_)
         | WordKind::Nil
         | WordKind::Truth(_)
         | WordKind::Open => true,

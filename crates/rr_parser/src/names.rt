@@ -1,7 +1,7 @@
 //! Words from tokens: each name and each text gets its number.
 
 ghost use Rattle.std.specs.Prelude.{◌≡◌, ◌∷◌, [], ◌++◌, length, map, IfOk, OnOk};
-ghost use Rattle.rr_parser.specs.Words.{keyword_kind, op_kind, with_name, number_of, with_symbol, with_text, word_with, words_of, symbols_of, texts_of};
+ghost use Rattle.rr_parser.specs.Words.{keyword_kind, op_kind, is_marked, name_kind, with_name, number_of, with_symbol, with_text, word_with, words_of, symbols_of, texts_of};
 
 use crate::refusal::Storage;
 use crate::word::{Word, WordKind};
@@ -60,6 +60,23 @@ fn op_kind(op: Op) -> WordKind
     }
 }
 
+/// Whether a name ends with `?` or `!`.
+fn is_marked(name: &[u8]) -> bool
+    ensures { result ≡ is_marked name.now }
+{
+    matches!(name.last(), Some(b'?' | b'!'))
+}
+
+fn name_kind(is_marked: bool, name: Sym) -> WordKind
+    ensures { result ≡ name_kind is_marked name }
+{
+    if is_marked {
+        WordKind::Marked(name)
+    } else {
+        WordKind::Name(name)
+    }
+}
+
 /// The names and the texts that have come, each with its number.
 #[derive(Drop)]
 pub(crate) struct Numbering<'s> {
@@ -105,7 +122,10 @@ impl<'s> Numbering<'s> {
         ensures texts { OnOk result (texts_held self.new ≡ with_text source.now (texts_held self.old) token token.kind) }
     {
         let kind = match token.kind {
-            Kind::Name => WordKind::Name(self.name(word(source, token))?),
+            Kind::Name => {
+                let name = word(source, token);
+                name_kind(is_marked(name), self.name(name)?)
+            }
             Kind::Int => match int_value(source, token) {
                 Some(value) => WordKind::Int(value),
                 None => WordKind::Other,

@@ -312,6 +312,7 @@ impl Parser {
         match word.kind {
             WordKind::Int(n) => self.int(n, rest),
             WordKind::Text(text) => Ok((self.put(Node::Text(text))?, rest)),
+            WordKind::Marked(name) => Ok((self.put(Node::Call(name))?, rest)),
             WordKind::Nil => Ok((self.put(Node::Nil)?, rest)),
             WordKind::Truth(truth) => Ok((self.put(Node::Truth(truth))?, rest)),
             WordKind::Minus => self.negative(rest),

@@ -10,7 +10,10 @@ pub(crate) enum WordKind {
     Int(u64),
     /// A literal, by its number among the program's texts.
     Text(u32),
+    /// A name without `?` and `!`.
     Name(Sym),
+    /// A name with `?` or `!`, which is never a variable.
+    Marked(Sym),
     Nil,
     Truth(bool),
     Open,
@@ -36,6 +39,6 @@ pub(crate) enum WordKind {
 #[derive(Clone, Copy, Debug, PartialEq, Eq, Drop)]
 pub(crate) struct Word {
     pub kind: WordKind,
-    /// Whether a blank, a comment or a joined line stands directly before it.
+    /// Whether anything stands between it and the word before.
     pub blank: bool,
 }

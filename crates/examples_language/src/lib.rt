@@ -1,0 +1,15 @@
+//! Worked examples of the language: tokens, and the programs that they spell.
+#![tactic(auto)]
+
+#[cfg(test)]
+mod contents;
+#[cfg(test)]
+mod line_rows;
+#[cfg(test)]
+mod programs;
+#[cfg(test)]
+mod table;
+#[cfg(test)]
+mod token_rows;
+#[cfg(test)]
+mod tokens;
