@@ -1,6 +1,7 @@
 -- What an inbox is.
 use Rattle.std.specs.Prelude.{ℕ, ◌+◌, ◌≤◌, ◌<◌, ◌^◌, Bool, false, cond, List, [], ◌∷◌, length, map, Result, Ok, Err}
 use Rattle.std.specs.List.{All}
+use Rattle.std.specs.List.Sorted.{IsStrictlyIncreasing}
 use Rattle.rr_base.specs.declared.name.RactorNo.{RactorNo}
 use Rattle.rr_base.specs.declared.fault.Fault.{Fault}
 use Rattle.rr_base.specs.declared.fault.Fault.TheVariants as fault
@@ -41,9 +42,10 @@ owed s = length s.inside + cond s.closed 0 1
 abbrev pub HasEvents : Inbox → Type 0
 HasEvents s = length s.history + owed s + 2 ≤ s.limit
 
--- each ticket inside is below the next one
-abbrev pub IsTicketed : Inbox → Type 0
-IsTicketed s = All (λ e. e.ticket < s.next) s.inside
+-- the tickets rise from the first message to the last, and the next one is above them
+pub record IsTicketed (s : Inbox) : Type 0 where
+  pub rising : IsStrictlyIncreasing (map (λ (e : Entry). e.ticket) s.inside)
+  pub below_next : All (λ e. e.ticket < s.next) s.inside
 
 -- the events that an offer leaves
 abbrev pub told_of_offer : Result ℕ (Fault × Packed) → RactorNo → Packed → List InboxEvent

@@ -6,6 +6,3 @@ mod state;
 
 pub use entry::{Entry, Front};
 pub use state::InboxState;
-
-#[cfg(test)]
-mod tests;

@@ -132,6 +132,7 @@ impl InboxState {
         ensures answer { result ≡ self.old.closed }
         ensures after { self.new ≡ record self.old { closed = true; history = self.old.history ++ cond self.old.closed [] (Closed who ∷ []) } }
         ensures replays { Replays InboxStep empty_inbox self.new.history (shape_of self.new) }
+        ensures tickets { IsTicketed self.new }
     {
         if self.closed {
             return true;

@@ -3,8 +3,6 @@
 
 mod book;
 mod numbers;
-#[cfg(test)]
-mod tests;
 
 pub use book::{Book, Share};
 pub use numbers::{Amount, Numbers, Row};

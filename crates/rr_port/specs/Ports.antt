@@ -1,5 +1,5 @@
 -- What a port is.
-use Rattle.std.specs.Prelude.{ℕ, ◌+◌, ◌≤◌, ◌<◌, ◌^◌, ◌≡◌, Bool, false, cond, List, [], ◌∷◌, length, Option, None, Result, Ok, Err}
+use Rattle.std.specs.Prelude.{ℕ, ◌+◌, ◌≤◌, ◌<◌, ◌^◌, ◌≡◌, ◌≢◌, Bool, false, cond, List, [], ◌∷◌, length, Option, Some, None, Result, Ok, Err}
 use Rattle.std.specs.Option.{option_map}
 use Rattle.rr_base.specs.declared.name.RactorNo.{RactorNo}
 use Rattle.rr_base.specs.declared.fault.Fault.{Fault}
@@ -51,6 +51,12 @@ owed p = count_of p.shown + count_of p.last + cond p.closed 0 1 + cond p.given 0
 abbrev pub HasEvents : Port → Type 0
 HasEvents p = length p.history + owed p + 2 ≤ p.limit
 
+-- the tickets inside are below the next one, and the last value's is another than the shown message's
+pub record IsTicketed (p : Port) : Type 0 where
+  pub shown_below_next : (e : Shown) → p.shown ≡ Some e → e.ticket < p.next
+  pub last_below_next : (l : LastGiven) → p.last ≡ Some l → l.ticket < p.next
+  pub apart : (e : Shown) (l : LastGiven) → p.shown ≡ Some e → p.last ≡ Some l → l.ticket ≢ e.ticket
+
 -- the events that a showing leaves
 abbrev pub told_of_show : Result ℕ (Fault × Packed) → RactorNo → Packed → List PortEvent
 told_of_show (Ok t) who m = event.Shown t (size_of m) who ∷ []
@@ -69,3 +75,4 @@ pub record Kept (p : Port) (capacity : ℕ) : Type 0 where
   pub next : p.next ≤ length p.history
   pub limit : p.limit < 2 ^ 32
   pub none_before : p.given ≡ false → p.last ≡ None
+  pub tickets : IsTicketed p

@@ -7,6 +7,3 @@ mod state;
 
 pub use last::{Grab, Last, LastGiven, Settled, Shown};
 pub use state::PortState;
-
-#[cfg(test)]
-mod tests;

@@ -5,7 +5,7 @@ ghost use Rattle.rr_base.specs.Replay.{Replays};
 ghost use Rattle.rr_base.specs.Port.{PortStep, empty_port};
 ghost use Rattle.rr_base.specs.Flow.{count_of};
 ghost use Rattle.rr_base.specs.declared.event.PortEvent.TheVariants.{Closed};
-ghost use Rattle.rr_port.specs.Ports.{HasEvents, new_port, shape_of, told_of_show, told_of_last};
+ghost use Rattle.rr_port.specs.Ports.{HasEvents, IsTicketed, new_port, shape_of, told_of_show, told_of_last};
 ghost use Rattle.rr_port.specs.Answers.{Refusal, Grabs, IsShownUnder, Settles, Withdraws};
 
 use super::last::{Grab, Last, LastGiven, Settled, Shown};
@@ -113,6 +113,7 @@ impl PortState {
         ensures back { IfErr result (λ refusal. refusal.1 ≡ message) }
         ensures fault { IfErr result (λ refusal. Refusal refusal.0 self.old) }
         ensures replays { Replays PortStep empty_port self.new.history (shape_of self.new) }
+        ensures tickets { IsTicketed self.new }
     {
         let owed = still_owed(&self.shown, &self.last, self.closed, self.given);
         if self.history.len() + owed + 2 > self.limit as usize {
@@ -148,6 +149,7 @@ impl PortState {
         ensures ticket { IfOk result (λ ticket. (ticket ≡ self.old.next) × (self.old.closed ≡ false)) }
         ensures refused { IfErr result (λ refusal. (refusal ≡ (Fault.Closed, last)) × (self.old.closed ≡ true)) }
         ensures replays { Replays PortStep empty_port self.new.history (shape_of self.new) }
+        ensures tickets { IsTicketed self.new }
     {
         let size = last.size();
         self.given = true;
@@ -168,6 +170,7 @@ impl PortState {
     pub fn grab(&mut self, who: RactorNo) -> Grab
         ensures grabs { Grabs result self.old self.new who }
         ensures replays { Replays PortStep empty_port self.new.history (shape_of self.new) }
+        ensures tickets { IsTicketed self.new }
     {
         if let Some(given) = self.last.take() {
             let ticket = given.ticket;
@@ -210,6 +213,7 @@ impl PortState {
     pub fn withdraw(&mut self, who: RactorNo, ticket: Ticket) -> Result<Message, Fault>
         ensures withdraws { Withdraws result self.old self.new who ticket }
         ensures replays { Replays PortStep empty_port self.new.history (shape_of self.new) }
+        ensures tickets { IsTicketed self.new }
     {
         if !is_shown_under(&self.shown, ticket) {
             return Err(Fault::NotShown);
@@ -230,6 +234,7 @@ impl PortState {
         ensures answer { result ≡ self.old.closed }
         ensures after { self.new ≡ record self.old { closed = true; history = self.old.history ++ cond self.old.closed [] (Closed who ∷ []) } }
         ensures replays { Replays PortStep empty_port self.new.history (shape_of self.new) }
+        ensures tickets { IsTicketed self.new }
     {
         if self.closed {
             return true;
@@ -243,6 +248,7 @@ impl PortState {
     pub fn history(&self) -> &[PortEvent]
         ensures events { result.now ≡ self.now.history }
         ensures replays { Replays PortStep empty_port self.now.history (shape_of self.now) }
+        ensures tickets { IsTicketed self.now }
     {
         self.history.as_slice()
     }

@@ -1,5 +1,5 @@
 -- The rounds of a select.
-use Rattle.std.specs.Prelude.{ℕ, ◌≡◌, ◌+◌, ◌%◌, Bool, if◌then◌else◌, List, [], ◌∷◌, ◌++◌, length, map, get_or, Option, Some, None}
+use Rattle.std.specs.Prelude.{ℕ, ◌≡◌, ◌+◌, ◌%◌, Bool, nat_lt, if◌then◌else◌, List, [], ◌∷◌, ◌++◌, length, map, get_or, Option, Some, None}
 use Rattle.std.specs.List.{range_with_len}
 use Rattle.std.specs.Option.{option_or}
 use Rattle.rr_select.specs.declared.round.Act.{Act}
@@ -46,6 +46,22 @@ pub record Rounds : Type 0 where
   pub count : ℕ
   pub own : Bool
   pub act : Act
+
+-- behind so many entries that were tried: the next entry, where there is one; else the own value is shown, or the sleep begins
+abbrev pub act_behind_entries : ℕ → Bool → ℕ → Act
+act_behind_entries count own tried = if nat_lt tried count then Try tried else (if own then Offer else Sleep)
+
+-- what comes in a round behind an act, and behind its last act the first one
+abbrev pub act_behind : ℕ → Bool → Act → Act
+act_behind count own (Try place) = act_behind_entries count own (place + 1)
+act_behind count own Offer = Sleep
+act_behind count own Sleep = if own then Withdraw else act_behind_entries count own 0
+act_behind count own Withdraw = act_behind_entries count own 0
+act_behind count own (End e) = End e
+
+-- the select after an answer: at the end that the answer makes, or else at the act behind
+abbrev pub next_of : Rounds → Answer → Rounds
+next_of r a = record r { act = end_or (ends r.act a) (act_behind r.count r.own r.act) }
 
 -- the select is where these answers lead
 abbrev pub IsAfter : Rounds → List Answer → Type 0

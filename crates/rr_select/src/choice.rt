@@ -1,7 +1,7 @@
 //! A select in progress.
 
 ghost use Rattle.std.specs.Prelude.{◌≡◌, ◌+◌, ◌≤◌, ◌<◌, ◌++◌, ◌∷◌, [], ℕ, Bool, List, get_or};
-ghost use Rattle.rr_select.specs.Rounds.{Rounds, IsAfter, round, asked, ends, act_after, over_more, takes, moves};
+ghost use Rattle.rr_select.specs.Rounds.{Rounds, IsAfter, round, asked, ends, act_after, act_behind_entries, act_behind, next_of, over_more, takes, moves};
 ghost use Rattle.rr_select.specs.declared.round.Answer.{Answer};
 ghost use Rattle.rr_select.specs.declared.round.Answer.TheVariants.{Taken};
 ghost use Rattle.rr_select.specs.declared.round.Ending.{Ending};
@@ -35,7 +35,8 @@ impl Model for Choice {
 // The act of a round behind so many entries that were tried.
 fn entry(tried: u32, count: u32, own: bool) -> Act
     requires { tried ≤ count }
-    ensures { result ≡ get_or (round count own) tried Sleep }
+    ensures round { result ≡ get_or (round count own) tried Sleep }
+    ensures behind { result ≡ act_behind_entries count own tried }
 {
     if tried < count {
         Act::Try(tried)
@@ -51,6 +52,7 @@ fn following(count: u32, own: bool, act: Act) -> Act
     requires { (place : ℕ) → act ≡ Try place → place < count }
     ensures goes_on { (i : ℕ) → act ≡ asked count own i → result ≡ asked count own (i + 1) }
     ensures stays { (e : Ending) → act ≡ End e → result ≡ End e }
+    ensures behind { result ≡ act_behind count own act }
 {
     match act {
         Act::Try(place) => entry(place + 1, count, own),
@@ -84,7 +86,8 @@ fn ending(act: Act, answer: Answer) -> Option<Ending>
 // The act behind an act and its answer.
 fn after(count: u32, own: bool, act: Act, answer: Answer) -> Act
     requires { (place : ℕ) → act ≡ Try place → place < count }
-    ensures { (answers : List Answer) → act ≡ act_after count own answers → result ≡ act_after count own (answers ++ answer ∷ []) }
+    ensures after { (answers : List Answer) → act ≡ act_after count own answers → result ≡ act_after count own (answers ++ answer ∷ []) }
+    ensures next { result ≡ (next_of (record { count = count; own = own; act = act }) answer).act }
 {
     match ending(act, answer) {
         Some(ending) => Act::End(ending),
@@ -114,8 +117,9 @@ impl Choice {
 
     /// What is to be done after this answer, by all answers so far. Takes no memory.
     pub fn next(&mut self, answer: Answer) -> Act
+        ensures act { result ≡ self.new.act }
+        ensures next { self.new ≡ next_of self.old answer }
         ensures rounds { (answers : List Answer) → IsAfter self.old answers → IsAfter self.new (answers ++ answer ∷ []) }
-        ensures act { self.new ≡ record self.old { act = result } }
     {
         self.act = after(self.count, self.own, self.act, answer);
         self.act()

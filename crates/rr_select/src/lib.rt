@@ -7,8 +7,6 @@
 
 mod choice;
 mod round;
-#[cfg(test)]
-mod tests;
 
 pub use choice::{Choice, moves_at_most_one, takes_nothing_after_its_own};
 pub use round::{Act, Answer, Ending};

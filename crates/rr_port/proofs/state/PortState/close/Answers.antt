@@ -7,3 +7,6 @@ invariant_of-self c =
 
 pub returns-clause-replays : goal.returns-clause-replays
 returns-clause-replays c = (invariant_of-self c).replays
+
+pub returns-clause-tickets : goal.returns-clause-tickets
+returns-clause-tickets c = (invariant_of-self c).tickets

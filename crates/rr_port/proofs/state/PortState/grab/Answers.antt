@@ -18,3 +18,9 @@ invariant_of-self-in-Some-take c =
 
 pub returns-in-Some-take-clause-replays : goal.returns-in-Some-take-clause-replays
 returns-in-Some-take-clause-replays c = (invariant_of-self-in-Some-take c).replays
+
+pub returns-in-Some-clause-tickets : goal.returns-in-Some-clause-tickets
+returns-in-Some-clause-tickets c = (invariant_of-self c).tickets
+
+pub returns-in-Some-take-clause-tickets : goal.returns-in-Some-take-clause-tickets
+returns-in-Some-take-clause-tickets c = (invariant_of-self-in-Some-take c).tickets

@@ -17,3 +17,9 @@ invariant_of-self-2 c =
 
 pub returns-clause-replays : goal.returns-clause-replays
 returns-clause-replays c = (invariant_of-self-2 c).replays
+
+pub returns-then-self-clause-tickets : goal.returns-then-self-clause-tickets
+returns-then-self-clause-tickets c = (invariant_of-self c).tickets
+
+pub returns-clause-tickets : goal.returns-clause-tickets
+returns-clause-tickets c = (invariant_of-self-2 c).tickets

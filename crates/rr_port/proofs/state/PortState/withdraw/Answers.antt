@@ -9,3 +9,6 @@ invariant_of-self-2 c =
 
 pub returns-clause-replays : goal.returns-clause-replays
 returns-clause-replays c = (invariant_of-self-2 c).replays
+
+pub returns-clause-tickets : goal.returns-clause-tickets
+returns-clause-tickets c = (invariant_of-self-2 c).tickets

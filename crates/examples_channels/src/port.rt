@@ -1,9 +1,8 @@
-//! Worked examples.
+//! Ports and their histories.
 
-use crate::{Grab, Last, PortState, Settled};
+use crate::message::message;
 use rr_base::{Fault, PortEvent, RactorNo};
-use rr_copy::{Message, can_pack, pack_copy};
-use rr_space::{Items, Node, Ref, Space};
+use rr_port::{Grab, Last, PortState, Settled};
 use std::alloc::Global;
 use std::process::Abort;
 use std::test::Fail;
@@ -11,17 +10,6 @@ use std::test::Fail;
 const TAKER: RactorNo = RactorNo(1);
 
 const OWNER: RactorNo = RactorNo(2);
-
-// A message of that many objects: arrays in one another, and a number in the innermost.
-fn message(rt: &impl Abort, alloc: Global, size: u32) -> Result<Message, Fault> {
-    let mut space = Space::new(alloc, OWNER, 10);
-    let mut value = Ref::Int(7);
-    for _ in 0..size {
-        value = space.alloc(Node::Array(Items::one(alloc, value)))?;
-    }
-    assert!(rt; can_pack(alloc, &space, value)?);
-    pack_copy(alloc, &space, value)
-}
 
 // An event as a trace has it: what happened, ticket, size, who.
 fn line(alloc: Global, event: PortEvent) -> Result<String, Fail> {
@@ -65,13 +53,13 @@ fn check_history(
 #[test]
 fn shown_grabbed_withdrawn_and_late(rt: HostRuntime) -> Result<(), Fail> {
     let mut port = PortState::new(rt.alloc(), 8)?;
-    let first = message(&rt, rt.alloc(), 2)?;
+    let first = message(&rt, rt.alloc(), OWNER, 2)?;
     assert_eq!(rt; port.show(OWNER, first).ok(), Some(0));
     assert_eq!(rt; port.settle(0), Settled::Shown);
     assert!(rt; matches!(port.grab(TAKER), Grab::Value(_)));
     assert_eq!(rt; port.settle(0), Settled::Taken);
     assert_eq!(rt; port.withdraw(OWNER, 0).err(), Some(Fault::NotShown));
-    let second = message(&rt, rt.alloc(), 1)?;
+    let second = message(&rt, rt.alloc(), OWNER, 1)?;
     assert!(rt; port.is_free());
     assert_eq!(rt; port.show(OWNER, second).ok(), Some(1));
     assert!(rt; !port.close(OWNER));
@@ -79,7 +67,7 @@ fn shown_grabbed_withdrawn_and_late(rt: HostRuntime) -> Result<(), Fail> {
     assert_eq!(rt; port.settle(1), Settled::Closed);
     assert!(rt; port.withdraw(OWNER, 1).is_ok());
     assert!(rt; !port.was_given());
-    let last = Last::Value(message(&rt, rt.alloc(), 3)?);
+    let last = Last::Value(message(&rt, rt.alloc(), OWNER, 3)?);
     match port.show_last(OWNER, last) {
         Err((fault, back)) => {
             assert_eq!(rt; fault, Fault::Closed);
@@ -95,7 +83,7 @@ fn shown_grabbed_withdrawn_and_late(rt: HostRuntime) -> Result<(), Fail> {
 #[test]
 fn a_last_value_is_handed_out_once(rt: HostRuntime) -> Result<(), Fail> {
     let mut port = PortState::new(rt.alloc(), 8)?;
-    let last = Last::Value(message(&rt, rt.alloc(), 1)?);
+    let last = Last::Value(message(&rt, rt.alloc(), OWNER, 1)?);
     assert!(rt; matches!(port.show_last(OWNER, last), Ok(0)));
     match port.grab(TAKER) {
         Grab::LastValue(message) => assert_eq!(rt; message.size(), 1),
@@ -109,9 +97,9 @@ fn a_last_value_is_handed_out_once(rt: HostRuntime) -> Result<(), Fail> {
 #[test]
 fn a_last_fault_comes_before_the_shown_message(rt: HostRuntime) -> Result<(), Fail> {
     let mut port = PortState::new(rt.alloc(), 8)?;
-    let shown = message(&rt, rt.alloc(), 0)?;
+    let shown = message(&rt, rt.alloc(), OWNER, 0)?;
     assert_eq!(rt; port.show(OWNER, shown).ok(), Some(0));
-    let last = Last::Fault(message(&rt, rt.alloc(), 1)?);
+    let last = Last::Fault(message(&rt, rt.alloc(), OWNER, 1)?);
     assert!(rt; matches!(port.show_last(OWNER, last), Ok(1)));
     assert!(rt; matches!(port.grab(TAKER), Grab::LastFault(_)));
     assert!(rt; matches!(port.grab(TAKER), Grab::Closed));
@@ -129,7 +117,7 @@ fn a_last_fault_comes_before_the_shown_message(rt: HostRuntime) -> Result<(), Fa
 fn a_last_value_comes_late_to_a_port_closed_by_hand(rt: HostRuntime) -> Result<(), Fail> {
     let mut port = PortState::new(rt.alloc(), 3)?;
     assert!(rt; !port.close(TAKER));
-    let last = Last::Value(message(&rt, rt.alloc(), 1)?);
+    let last = Last::Value(message(&rt, rt.alloc(), OWNER, 1)?);
     assert!(rt; !port.was_given());
     assert!(rt;
         matches!(
@@ -139,6 +127,30 @@ fn a_last_value_comes_late_to_a_port_closed_by_hand(rt: HostRuntime) -> Result<(
     );
     assert!(rt; matches!(port.grab(TAKER), Grab::Closed));
     check_history(&rt, rt.alloc(), &port, "closed 1\nlate 1 2\n")
+}
+
+#[test]
+fn nothing_is_shown_after_a_last_value(rt: HostRuntime) -> Result<(), Fail> {
+    let mut port = PortState::new(rt.alloc(), 8)?;
+    let last = Last::Value(message(&rt, rt.alloc(), OWNER, 1)?);
+    assert!(rt; matches!(port.show_last(OWNER, last), Ok(0)));
+    assert!(rt; port.is_free());
+    let second = message(&rt, rt.alloc(), OWNER, 2)?;
+    match port.show(OWNER, second) {
+        Err((fault, back)) => {
+            assert_eq!(rt; fault, Fault::Closed);
+            assert_eq!(rt; back.size(), 2);
+        }
+        Ok(_) => return Err(Fail::from("a message was shown behind the last value")),
+    }
+    assert!(rt; port.is_free());
+    assert!(rt; matches!(port.grab(TAKER), Grab::LastValue(_)));
+    check_history(
+        &rt,
+        rt.alloc(),
+        &port,
+        "last 0 1 2\nrefused 2 2\ngrabbed 0 1 1\n",
+    )
 }
 
 // A refusal leaves the port and the message. The gate refuses nothing: `rt try --test --fail-alloc N -- a_refused_growth`
@@ -152,7 +164,7 @@ fn a_refused_growth_leaves_the_port_and_the_message(rt: HostRuntime) -> Result<(
             PortState::new(rt.alloc(), 8)?
         }
     };
-    let Ok(message) = message(&rt, rt.alloc(), 1) else {
+    let Ok(message) = message(&rt, rt.alloc(), OWNER, 1) else {
         return Ok(());
     };
     if let Err((fault, back)) = port.show(OWNER, message) {

@@ -1,7 +1,7 @@
 //! Two books, and their shares.
 
-use crate::{Book, Share};
 use rr_base::{Channel, Fault, RactorNo};
+use rr_ledger::{Book, Share};
 use std::test::Fail;
 
 const LIMIT: u128 = 1 << 100;

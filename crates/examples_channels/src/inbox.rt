@@ -1,9 +1,9 @@
-//! Worked examples.
+//! Inboxes and their histories.
 
-use crate::{Front, InboxState};
+use crate::message::message;
 use rr_base::{Fault, InboxEvent, RactorNo};
-use rr_copy::{Message, can_pack, pack_copy};
-use rr_space::{Items, Node, Ref, Space};
+use rr_copy::Message;
+use rr_inbox::{Front, InboxState};
 use std::alloc::Global;
 use std::process::Abort;
 use std::test::Fail;
@@ -11,17 +11,6 @@ use std::test::Fail;
 const MAIN: RactorNo = RactorNo(1);
 
 const OTHER: RactorNo = RactorNo(2);
-
-// A message of that many objects: arrays in one another, and a number in the innermost.
-fn message(rt: &impl Abort, alloc: Global, size: u32) -> Result<Message, Fault> {
-    let mut space = Space::new(alloc, MAIN, 10);
-    let mut value = Ref::Int(7);
-    for _ in 0..size {
-        value = space.alloc(Node::Array(Items::one(alloc, value)))?;
-    }
-    assert!(rt; can_pack(alloc, &space, value)?);
-    pack_copy(alloc, &space, value)
-}
 
 // An event as a trace has it: what happened, ticket, size, who.
 fn line(alloc: Global, event: InboxEvent) -> Result<String, Fail> {
@@ -56,11 +45,11 @@ fn check_history(
 fn two_messages_one_taken_and_one_refused(rt: HostRuntime) -> Result<(), Fail> {
     let mut inbox = InboxState::new(rt.alloc(), 100)?;
     assert_eq!(rt;
-        inbox.offer(MAIN, message(&rt, rt.alloc(), 2)?).ok(),
+        inbox.offer(MAIN, message(&rt, rt.alloc(), MAIN, 2)?).ok(),
         Some(0)
     );
     assert_eq!(rt;
-        inbox.offer(MAIN, message(&rt, rt.alloc(), 3)?).ok(),
+        inbox.offer(MAIN, message(&rt, rt.alloc(), MAIN, 3)?).ok(),
         Some(1)
     );
     match inbox.accept(OTHER) {
@@ -68,7 +57,7 @@ fn two_messages_one_taken_and_one_refused(rt: HostRuntime) -> Result<(), Fail> {
         _ => return Err(Fail::from("no message came")),
     }
     assert!(rt; !inbox.close(OTHER));
-    match inbox.offer(MAIN, message(&rt, rt.alloc(), 1)?) {
+    match inbox.offer(MAIN, message(&rt, rt.alloc(), MAIN, 1)?) {
         Err((fault, message)) => {
             assert_eq!(rt; fault, Fault::Closed);
             assert_eq!(rt; message.size(), 1);
@@ -82,9 +71,13 @@ fn two_messages_one_taken_and_one_refused(rt: HostRuntime) -> Result<(), Fail> {
 #[test]
 fn a_history_of_four_events(rt: HostRuntime) -> Result<(), Fail> {
     let mut inbox = InboxState::new(rt.alloc(), 4)?;
-    assert!(rt; inbox.offer(MAIN, message(&rt, rt.alloc(), 0)?).is_ok());
+    assert!(rt;
+        inbox
+            .offer(MAIN, message(&rt, rt.alloc(), MAIN, 0)?)
+            .is_ok()
+    );
     for _ in 0..2 {
-        match inbox.offer(MAIN, message(&rt, rt.alloc(), 0)?) {
+        match inbox.offer(MAIN, message(&rt, rt.alloc(), MAIN, 0)?) {
             Err((fault, _)) => assert_eq!(rt; fault, Fault::HistoryFull),
             Ok(_) => return Err(Fail::from("a full history took an event")),
         }
@@ -126,7 +119,7 @@ fn a_refused_growth_leaves_the_inbox_and_the_message(rt: HostRuntime) -> Result<
     };
     for ticket in 0..6 {
         let size = if ticket == 0 { 1 } else { 0 };
-        let Ok(message) = message(&rt, rt.alloc(), size) else {
+        let Ok(message) = message(&rt, rt.alloc(), MAIN, size) else {
             return Ok(());
         };
         offer_again(&rt, &mut inbox, message, ticket);

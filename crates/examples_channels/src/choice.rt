@@ -1,7 +1,6 @@
 //! The rounds against a plain program of them.
 
-use crate::choice::Choice;
-use crate::round::{Act, Answer, Ending};
+use rr_select::{Act, Answer, Choice, Ending};
 use std::test::Fail;
 
 // A round among three ports and an inbox, with a value of its own and without.
