@@ -1,7 +1,7 @@
 //! Messages on their way.
 
 ghost use Rattle.std.specs.Prelude.{length};
-ghost use Rattle.rr_space.specs.Within.{IsWithin};
+ghost use Rattle.rr_space.specs.Parts.{IsWithin};
 
 use rr_base::{Fault, RactorNo};
 use rr_copy::{can_pack, open, pack_copy};

@@ -42,9 +42,10 @@ fn new_hash(alloc: Global, space: &mut Space) -> Result<Ref, Fault> {
 
 fn insert(space: &mut Space, hash: Ref) -> Result<(), Fault> {
     for k in 0..PAIRS {
-        let key = scattered(k);
-        if space.can_write(hash) && space.kind_of(hash) == Kind::Hash {
-            space.write_pair(hash, Key::Int(key), Ref::Int(key), Ref::Int(1))?;
+        let name = Ref::Int(scattered(k));
+        let key = Key::Int(scattered(k));
+        if space.can_write(hash) && space.kind_of(hash) == Kind::Hash && space.is_key(name, &key) {
+            space.write_pair(hash, key, name, Ref::Int(1))?;
         }
     }
     Ok(())

@@ -1,20 +1,22 @@
 -- A message is closed, and what is published in it is frozen and leads to published objects alone.
 use Rattle.std.proofs.Common.{◌≡◌, ℕ, zero, suc, List, [], ◌∷◌, length, map, slice_get, Option, Some, None, Contains, sym, ap, ◌∙◌, subst, refl, arith}
 use Rattle.std.proofs.lemmas.List.{length-map}
+use Rattle.std.proofs.lemmas.List.Elements.{Contains-append_left, Contains-append_right}
 use Rattle.std.proofs.lemmas.Option.{same_Some, none-some}
 use Rattle.std.specs.Option.{option_and_then}
 use Rattle.rr_space.specs.Graph.{Own, Published, Value, Plain, At, Label, Object}
-use Rattle.rr_space.specs.Tables.{Below, Slot, Here, Packed, joined, object_in, resolve, resolve_slot, resolve_triple, resolve_object, graph_of, message_graph, IsBelow, IsClosed, IsSealed}
-use Rattle.rr_space.specs.Sound.{IsBelowSound, IsSlotSound}
+use Rattle.rr_space.specs.Tables.{Below, Slot, Here, Packed, joined, numbered_object, outer_objects, object_in, resolve, resolve_slot, resolve_triple, resolve_object, graph_of, message_graph, IsBelow, IsClosed, IsSealed}
+use Rattle.rr_space.specs.Sound.{IsStanding, IsBelowSound, IsSlotSound}
 use Rattle.rr_space.specs.Parts.{Parts, value_of, value_triple, below_ref, below_parts}
 use Rattle.rr_space.specs.Views.{IsWithin, AllWithin, IsNodeWithin, node_parts, emptied}
-use Rattle.rr_space.specs.Carrying.{AllCarriedWithin, carried_object, carried_below}
+use Rattle.rr_space.specs.Views.{AllCarriedWithin, carried_object, carried_below}
 use Rattle.rr_space.specs.declared.carried.Carried.{Carried}
 use Rattle.rr_space.specs.declared.refer.Ref.{Ref}
 use Rattle.rr_space.specs.declared.refer.Ref.TheVariants.{Nil, Truth, Int, Symbol, Class, Ractor, Local, Shared}
 use Rattle.rr_space.proofs.Renaming.{mapped_at, map_at}
-use Rattle.rr_space.proofs.Sounds.{append_sound, none_sound, hold_sound, sound_is_sealed}
+use Rattle.rr_space.proofs.Sounds.{append_sound, none_sound, hold_sound, sound_is_sealed, standing_later}
 use Rattle.rr_copy.specs.Contents.{packed_of}
+use Rattle.rr_copy.specs.Messages.{IsMessageSound}
 
 -- ---- closed
 
@@ -83,9 +85,50 @@ message_sealed cs root sender sequence all within = all_sealed (map Here (map ca
         let c = mapped_at carried_below cs n b at in
         subst IsBelowSound c.2 (parts_sound (length cs) (node_parts c.0.node) (carried_at (length cs) cs n c.0 all c.1))
 
+-- ---- sound
+
+ref_standing : (k : ℕ) (r : Ref) → IsWithin k r → IsStanding k (below_ref r) (value_of r)
+ref_standing k Nil h = tt
+ref_standing k (Truth b) h = tt
+ref_standing k (Int z) h = tt
+ref_standing k (Symbol s) h = tt
+ref_standing k (Class c) h = tt
+ref_standing k (Ractor r) h = tt
+ref_standing k (Local n) h = h
+ref_standing k (Shared p c) h = (outer_objects c.now, (0, omega arith, refl), let e = length-map c.now.own (numbered_object c.now.number) in omega (arith, e, h.within))
+
+parts_standing : (k : ℕ) (ts : Parts) → AllWithin k ts → (l : Label) (x : Value) → Contains (map value_triple ts) (l, x) → IsStanding k (below_parts ts) x
+parts_standing k [] all l x (i, lt, e) = absurd (let w : ⊥ = omega (arith, lt) in w)
+parts_standing k (t ∷ ts) all l x (zero, lt, e) =
+    subst (IsStanding k (below_parts (t ∷ ts))) (ap (λ (y : Label × Value). y.1) e)
+    (standing_later k k (below_ref t.1) (below_parts (t ∷ ts)) (omega arith) (Contains-append_left (below_ref t.1) (below_parts ts)) (value_of t.1) (ref_standing k t.1 all.0))
+parts_standing k (t ∷ ts) all l x (suc i, lt, e) =
+    standing_later k k (below_parts ts) (below_parts (t ∷ ts)) (omega arith) (Contains-append_right (below_ref t.1) (below_parts ts)) x (parts_standing k ts all.1 l x (i, omega (arith, lt), e))
+
+pub message_sound : (cs : List Carried) (root : Ref) (sender sequence : ℕ) → AllCarriedWithin (length cs) cs → IsWithin (length cs) root → IsMessageSound (packed_of cs root sender sequence)
+message_sound cs root sender sequence all within =
+    let many : length (map Here (map carried_object cs)) ≡ length cs = length-map (map carried_object cs) Here ∙ length-map cs carried_object in
+    record {
+      objects = record {
+        count = length-map cs carried_below ∙ sym many;
+        slots = λ n s b at bt.
+            let o = mapped_at Here (map carried_object cs) n s at in
+            let c = mapped_at carried_object cs n o.0 o.1 in
+            let d : carried_below c.0 ≡ b = same_Some (carried_below c.0) b (sym (map_at carried_below cs n c.0 c.1) ∙ bt) in
+            subst (λ y. IsSlotSound (length (map Here (map carried_object cs))) y b) o.2
+            (λ l x has. subst (λ k. IsStanding k b x) (sym many) (subst (λ y. IsStanding (length cs) y x) d
+            (parts_standing (length cs) (node_parts c.0.node) (carried_at (length cs) cs n c.0 all c.1) l x (subst (λ (y : Object). Contains y.triples (l, x)) (sym c.2) has))));
+        below = λ n b at.
+            let c = mapped_at carried_below cs n b at in
+            subst IsBelowSound c.2 (parts_sound (length cs) (node_parts c.0.node) (carried_at (length cs) cs n c.0 all c.1));
+      };
+      root = subst (λ k. IsStanding k (below_ref root) (value_of root)) (sym (length-map cs carried_object)) (ref_standing (length cs) root within);
+      root_below = ref_sound (length cs) root within;
+    }
+
 -- ---- no slot of a message is a forward
 
-still : (os : List Object) (x : Value) → resolve (map Here os) x ≡ x
+pub still : (os : List Object) (x : Value) → resolve (map Here os) x ≡ x
 still os (Plain i) = refl
 still os (At (Published c p)) = refl
 still os (At (Own n)) = by (slice_get (map Here os) n) refl

@@ -1,64 +1,33 @@
 -- What the copies of a space's objects make as a message.
-use Rattle.std.proofs.Common.{◌≡◌, ◌↔◌, ◌⊎◌, ◌<◌, ◌≤◌, ◌^◌, ⊎_elim, ℕ, ◌+◌, false, nat_eq, not, List, [], ◌∷◌, ◌++◌, length, take, map, slice_get, get_or, Some, Contains, IsTrue, sym, ap, ◌∙◌, subst, refl, arith}
-use Rattle.std.proofs.lemmas.Option.{same_Some, slice_get_within, get_or_from_slice_get}
+use Rattle.std.proofs.Common.{◌≡◌, ◌↔◌, ◌⊎◌, ◌<◌, ◌≤◌, ◌^◌, ⊎_elim, inr, ℕ, nat_eq, List, [], ◌∷◌, ◌++◌, length, map, slice_get, Some, Contains, sym, ap, ◌∙◌, subst, refl, arith}
+use Rattle.std.proofs.lemmas.Option.{same_Some, slice_get_within}
 use Rattle.std.proofs.lemmas.Bool.{eqb-true}
-use Rattle.std.proofs.lemmas.Map.Keys.{apart_from_distinct}
 use Rattle.std.proofs.lemmas.Map.Steps.{length-le_from_distinct_below}
 use Rattle.std.proofs.lemmas.Map.Views.{Contains-from_any}
-use Rattle.std.proofs.lemmas.List.{length-map, take_more}
+use Rattle.std.proofs.lemmas.List.{length-map}
 use Rattle.std.proofs.lemmas.List.Elements.{Contains-append_left, Contains-append_right, Contains-append_cases}
 use Rattle.std.specs.List.{AllZip, IsDistinct}
 use Rattle.std.specs.Option.{option_and_then}
-use Rattle.rr_space.specs.Graph.{Graph, Name, Own, Immediate, Value, Plain, At, Label, Object, Kind, text, array, hash, plain, exception, shell, Leads, Reaches}
-use Rattle.rr_space.specs.Alike.{SameValue, Alike, IsAt}
+use Rattle.rr_space.specs.Graph.{Graph, Name, Own, Value, At, Label, Object, shell, Leads, Reaches}
+use Rattle.rr_space.specs.Graph.{SameValue, Alike, IsAt}
 use Rattle.rr_space.specs.Moves.{IsCopy, IsPromoted}
 use Rattle.rr_space.specs.Tables.{Below, Slot, Here, Table, joined, object_in, resolve, resolve_object, space_graph, message_graph, IsBelow, IsSealed}
 use Rattle.rr_space.specs.Sound.{IsWell}
 use Rattle.rr_space.specs.Parts.{value_of, below_ref}
-use Rattle.rr_space.specs.Views.{is_shell, is_whole, IsWithin}
-use Rattle.rr_space.specs.Carrying.{AllCarriedWithin, carried_object, carried_below, carried_keys}
+use Rattle.rr_space.specs.Views.{IsWithin}
+use Rattle.rr_space.specs.Views.{AllCarriedWithin, carried_object, carried_below, carried_keys}
 use Rattle.rr_space.specs.declared.carried.Carried.{Carried}
 use Rattle.rr_space.specs.declared.refer.Ref.{Ref}
 use Rattle.rr_space.specs.declared.refer.Ref.TheVariants.{Nil, Truth, Int, Symbol, Class, Ractor, Local, Shared}
 use Rattle.rr_space.proofs.Renaming.{contains_at, mapped_at, map_at}
 use Rattle.rr_space.proofs.Sounds.{gets, joined_back, sound_is_sealed}
-use Rattle.rr_copy.specs.Messages.{is_immediate}
+use Rattle.rr_share.proofs.Ends.{none_reached}
+use Rattle.rr_share.proofs.Searching.{none_in}
 use Rattle.rr_copy.specs.Contents.{packed_of, IsMessage, IsCarriedFrom}
 use Rattle.rr_copy.proofs.Contained.{ref_inside, message_at, message_sealed}
-use Rattle.rr_copy.proofs.Pairings.{zip_at, zip_back, paired_alike}
-
--- ---- lists that agree place by place
-
-zip_length : {A B : Type 0} (R : A → B → Type 0) (xs : List A) (ys : List B) → AllZip R xs ys → length xs ≡ length ys
-zip_length R [] [] z = refl
-zip_length R [] (y ∷ ys) z = absurd z
-zip_length R (x ∷ xs) [] z = absurd z
-zip_length R (x ∷ xs) (y ∷ ys) z = omega (arith, zip_length R xs ys z.1)
-
-zip_push : {A B : Type 0} (R : A → B → Type 0) (xs : List A) (ys : List B) (x : A) (y : B) → AllZip R xs ys → R x y → AllZip R (xs ++ x ∷ []) (ys ++ y ∷ [])
-zip_push R [] [] x y z r = (r, z)
-zip_push R [] (b ∷ ys) x y z r = absurd z
-zip_push R (a ∷ xs) [] x y z r = absurd z
-zip_push R (a ∷ xs) (b ∷ ys) x y z r = (z.0, zip_push R xs ys x y z.1 r)
-
-pub zip_more : {A B : Type 0} (R : A → B → Type 0) (xs : List A) (ys : List B) (i : ℕ) (x : A) (y : B) → slice_get xs i ≡ Some x → AllZip R (take i xs) ys → R x y → AllZip R (take (i + 1) xs) (ys ++ y ∷ [])
-zip_more R xs ys i x y at z r =
-    subst (λ l. AllZip R l (ys ++ y ∷ [])) (sym (take_more xs i x (slice_get_within xs i x at) ∙ ap (λ a. take i xs ++ a ∷ []) (get_or_from_slice_get xs i x x at))) (zip_push R (take i xs) ys x y z r)
-
--- two places of a list without repeats that hold one number are one place
-one_place : (names : List ℕ) (n i j : ℕ) → IsDistinct nat_eq names → IsAt names n i → IsAt names n j → i ≡ j
-one_place names n i j distinct p q = ⊎_elim (λ e. e) (λ w. ⊎_elim (λ lt. absurd (clash i j lt p q)) (λ lt. absurd (clash j i lt q p)) w) (three i j)
-  where
-    three : (i j : ℕ) → (i ≡ j) ⊎ ((i < j) ⊎ (j < i))
-    three i j = grind arith
-
-    clash : (i j : ℕ) → i < j → IsAt names n i → IsAt names n j → ⊥
-    clash i j lt p q =
-        let a = apart_from_distinct nat_eq names i j n distinct lt (slice_get_within names j n q) in
-        let b = get_or_from_slice_get names i n n p in
-        let d = get_or_from_slice_get names j n n q in
-        let e : nat_eq n n ≡ false = subst (λ t. nat_eq n t ≡ false) d (subst (λ t. nat_eq t (get_or names j n) ≡ false) b a) in
-        grind (arith, e)
+use Rattle.rr_share.proofs.Places.{none_distinct, one_place}
+use Rattle.rr_share.proofs.Zips.{zip_at, zip_back, zip_length}
+use Rattle.rr_copy.proofs.Pairings.{paired_alike}
 
 -- slots without repeats, each of which is there, are at most as many as there are
 pub few_names : (names : List ℕ) (slots : List Slot) → IsDistinct nat_eq names → ((n : ℕ) → Contains names n → (o : Object) × (slice_get slots n ≡ Some (Here o)) × (o.kind ≡ shell → ⊥)) → length names ≤ length slots
@@ -67,19 +36,6 @@ few_names names slots distinct there = length-le_from_distinct_below names (leng
 pub none_contained : (xs : List ℕ) → ((n : ℕ) → Contains xs n → ⊥) → xs ≡ []
 none_contained [] none = refl
 none_contained (x ∷ xs) none = absurd (none x (0, omega arith, refl))
-
--- ---- one object
-
-not_shell : (k : Kind) → (k ≡ shell → ⊥) → IsTrue (not (is_shell k))
-not_shell text whole = refl
-not_shell array whole = refl
-not_shell hash whole = refl
-not_shell plain whole = refl
-not_shell exception whole = refl
-not_shell shell whole = absurd (whole refl)
-
-pub whole_there : (slots : List Slot) (n : ℕ) (o : Object) → slice_get slots n ≡ Some (Here o) → (o.kind ≡ shell → ⊥) → IsTrue (is_whole (slice_get slots n))
-whole_there slots n o at whole = subst (λ s. IsTrue (is_whole s)) (sym at) (not_shell o.kind whole)
 
 -- ---- paths
 
@@ -91,21 +47,6 @@ one_more g (k ∷ path) v n m o l (x, under, rest) is has = (x, under, one_more 
 pub reaches_more : (t : Table) (v : Value) (n m : ℕ) (o : Object) (l : Label) → Reaches (space_graph t) v (Own n) → slice_get t.slots n ≡ Some (Here o)
     → Contains (resolve_object t.slots o).triples (l, At (Own m)) → Reaches (space_graph t) v (Own m)
 reaches_more t v n m o l reach at has = (reach.0 ++ l ∷ [], one_more (space_graph t) reach.0 v (Own n) (Own m) (resolve_object t.slots o) l reach.1 (ap (option_and_then (object_in t.slots)) at) has)
-
--- an immediate leads to no object
-plain_leads : (g : Graph) (p : Immediate) (path : List Label) (n : Name) → Leads g (Plain p) path (At n) → ⊥
-plain_leads g p [] n r = absurd (cc)
-plain_leads g p (l ∷ path) n r = let e : Plain p ≡ At r.1.0 = r.1.2 in absurd (cc)
-
-pub not_immediate : (t : Table) (r : Ref) (n : ℕ) → Reaches (space_graph t) (resolve t.slots (value_of r)) (Own n) → is_immediate r ≡ false
-not_immediate t Nil n reach = absurd (plain_leads _ _ _ _ reach.1)
-not_immediate t (Truth b) n reach = absurd (plain_leads _ _ _ _ reach.1)
-not_immediate t (Int z) n reach = absurd (plain_leads _ _ _ _ reach.1)
-not_immediate t (Symbol s) n reach = absurd (plain_leads _ _ _ _ reach.1)
-not_immediate t (Class c) n reach = absurd (plain_leads _ _ _ _ reach.1)
-not_immediate t (Ractor r) n reach = absurd (plain_leads _ _ _ _ reach.1)
-not_immediate t (Local m) n reach = refl
-not_immediate t (Shared p c) n reach = refl
 
 -- ---- a message
 
@@ -146,10 +87,37 @@ pack_of t v names cs root well promoted there exact whole distinct copies roots 
   below = below;
 }
 
--- a list that is not empty has a first element
-pub first_contained : (xs : List ℕ) → 1 ≤ length xs → (n : ℕ) × Contains xs n
-first_contained [] lt = absurd (let w : ⊥ = omega (arith, lt) in w)
-first_contained (x ∷ xs) lt = (x, (0, omega arith, refl))
+-- what is no slot of the space goes as it is
+same_outside : (slots : List Slot) (v : Ref) → ((s : ℕ) → v ≡ Local s → ⊥) → SameValue (IsAt []) (resolve slots (value_of v)) (value_of v)
+same_outside slots Nil outside = refl
+same_outside slots (Truth b) outside = refl
+same_outside slots (Int z) outside = refl
+same_outside slots (Symbol s) outside = refl
+same_outside slots (Class c) outside = refl
+same_outside slots (Ractor r) outside = refl
+same_outside slots (Local n) outside = absurd (outside n refl)
+same_outside slots (Shared p c) outside = (refl, refl)
+
+within_outside : (k m : ℕ) (v : Ref) → ((s : ℕ) → v ≡ Local s → ⊥) → IsWithin k v → IsWithin m v
+within_outside k m Nil outside h = tt
+within_outside k m (Truth b) outside h = tt
+within_outside k m (Int z) outside h = tt
+within_outside k m (Symbol s) outside h = tt
+within_outside k m (Class c) outside h = tt
+within_outside k m (Ractor r) outside h = tt
+within_outside k m (Local n) outside h = absurd (outside n refl)
+within_outside k m (Shared p c) outside h = h
+
+pub pack_none : (t : Table) (v : Ref) (cs : List Carried) → IsWell t → IsPromoted t (value_of v) → IsWithin (length t.slots) v → ((s : ℕ) → v ≡ Local s → ⊥) → cs ≡ [] → IsPack t v [] cs v
+pack_none t v cs well promoted there outside none =
+    pack_of t v [] cs v well promoted there
+    (λ n. (λ has. absurd (none_in n has), λ r. absurd (none_reached t v well.sound outside n r)))
+    (λ below n has. absurd (none_in n has))
+    none_distinct
+    (subst (AllZip (IsCarriedFrom t []) []) (sym none) tt)
+    (same_outside t.slots v outside)
+    (within_outside (length t.slots) 0 v outside)
+    (λ e has. inr has)
 
 module _ (t : Table) (v : Ref) (names : List ℕ) (cs : List Carried) (root : Ref) (p : IsPack t v names cs root) where
   count : length names ≡ length cs

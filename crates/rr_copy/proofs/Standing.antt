@@ -3,9 +3,9 @@ use Rattle.std.proofs.Common.{◌≡◌, ℕ, suc, ◌+◌, List, [], ◌∷◌,
 use Rattle.std.specs.List.{AllZip}
 use Rattle.std.specs.Option.{option_and_then}
 use Rattle.rr_space.specs.Graph.{Own, Published, Value, Plain, At, Label, Object}
-use Rattle.rr_space.specs.Alike.{SameValue, SameTriple, Alike}
+use Rattle.rr_space.specs.Graph.{SameValue, SameTriple, Alike}
 use Rattle.rr_space.specs.Tables.{Slot, Table, Packed, object_in, resolve, resolve_slot, resolve_triple, space_graph, message_graph, IsBelow, IsClosed, IsSealed}
-use Rattle.rr_space.specs.Embeds.{behind, renamed, renamed_triple, renamed_object, here_behind}
+use Rattle.rr_space.specs.Tables.{behind, renamed, renamed_triple, renamed_object, here_behind}
 use Rattle.rr_space.proofs.Renaming.{map_at, contains_at}
 use Rattle.rr_space.proofs.Sounds.{gets}
 use Rattle.rr_copy.specs.Messages.{Behind, IsEachPart}

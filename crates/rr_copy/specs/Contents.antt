@@ -1,12 +1,12 @@
 -- What a message has as a graph, and what its type keeps.
 use Rattle.std.specs.Prelude.{◌≡◌, ◌<◌, ◌^◌, ℕ, List, length, map, Some, slice_get, Contains}
 use Rattle.rr_space.specs.Graph.{Object}
-use Rattle.rr_space.specs.Alike.{Matches, IsAt}
+use Rattle.rr_space.specs.Graph.{Matches, IsAt}
 use Rattle.rr_space.specs.Tables.{Here, Packed, Table, joined, resolve_object}
 use Rattle.rr_space.specs.Parts.{value_of, below_ref}
-use Rattle.rr_space.specs.Within.{IsWithin}
+use Rattle.rr_space.specs.Parts.{IsWithin}
 use Rattle.rr_space.specs.Views.{below_node, node_keys, IsNodeWithin}
-use Rattle.rr_space.specs.Carrying.{AllCarriedWithin, carried_object, carried_below, carried_keys}
+use Rattle.rr_space.specs.Views.{AllCarriedWithin, carried_object, carried_below, carried_keys}
 use Rattle.rr_space.specs.declared.carried.Carried.{Carried}
 use Rattle.rr_space.specs.declared.refer.Ref.{Ref}
 use Rattle.rr_copy.specs.Messages.{IsEachPart}

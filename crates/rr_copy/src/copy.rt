@@ -1,13 +1,13 @@
 //! Packing a copy of a value into a message.
 
-ghost use Rattle.std.specs.Prelude.{◌≡◌, ◌≤◌, ◌<◌, ◌^◌, ◌⊎◌, ◌++◌, ◌↔◌, ℕ, List, false, length, slice_get, Some, Contains, IsTrue, IfOk, IfErr};
+ghost use Rattle.std.specs.Prelude.{◌≡◌, ◌≤◌, ◌<◌, ◌^◌, ◌⊎◌, ◌++◌, ◌↔◌, ℕ, List, length, slice_get, Some, Contains, IsTrue, IfOk, IfErr};
 ghost use Rattle.std.specs.List.{AllZip};
 ghost use Rattle.rr_space.specs.Graph.{Object, At, Own, Label, shell, IsFreeOfShells};
 ghost use Rattle.rr_space.specs.Moves.{IsCopy, IsPromoted};
 ghost use Rattle.rr_space.specs.Parts.{value_of, below_ref};
 ghost use Rattle.rr_space.specs.Tables.{Here, joined, space_graph, resolve, resolve_object};
-ghost use Rattle.rr_space.specs.Within.{IsWithin};
-ghost use Rattle.rr_copy.specs.Messages.{is_immediate};
+ghost use Rattle.rr_space.specs.Parts.{IsWithin};
+ghost use Rattle.rr_share.specs.Search.{LeadsToShell};
 ghost use Rattle.rr_copy.specs.Contents.{IsCarriedFrom};
 
 use crate::message::Message;
@@ -16,12 +16,21 @@ use rr_share::{reached_objects, shareable_objects};
 use rr_space::{Carried, Ref, SlotSet, Space};
 use std::alloc::Global;
 
+// The sequence number of a message that is a copy.
+const OF_A_COPY: u64 = 0;
+
 /// Whether the value may be packed: each shareable object of this space that it leads to is published. `Memory` is the
-/// only fault.
+/// only fault. A value that is no object of the space takes no memory.
 pub fn can_pack(alloc: Global, space: &Space, value: Ref) -> Result<bool, Fault>
     ensures promoted { IfOk result (λ yes. IsTrue yes ↔ IsPromoted space.now (value_of value)) }
     ensures fault { IfErr result (λ fault. fault ≡ Fault.Memory) }
+    ensures grows { IfErr result (λ fault. (s : ℕ) × (value ≡ Ref.Local s)) }
 {
+    // With the number of slots comes that no reference in them leads nowhere.
+    let _slots = space.len();
+    let Ref::Local(_) = value else {
+        return Ok(true);
+    };
     let shareable = shareable_objects(alloc, space, value)?;
     Ok(shareable.is_empty())
 }
@@ -33,7 +42,6 @@ fn copies_of(alloc: Global, space: &Space, names: &SlotSet) -> Result<Vec<Carrie
     requires few { length names.now ≤ 2 ^ 32 }
     ensures copies { IfOk result (λ copies. AllZip (IsCarriedFrom space.now names.now) names.now copies.items) }
     ensures fault { IfErr result (λ fault. fault ≡ Fault.Memory) }
-    ensures grows { IfErr result (λ fault. 1 ≤ length names.now) }
 {
     let mut copies = Vec::new(alloc);
     copies.reserve_exact(names.len())?;
@@ -48,7 +56,8 @@ fn copies_of(alloc: Global, space: &Space, names: &SlotSet) -> Result<Vec<Carrie
 /// stays as it is.
 ///
 /// Published objects are not copied: the message refers to them. One object that is led to twice is copied once. The
-/// faults are `HoldsShell`, where the value leads to an object that was moved away, and `Memory`; an immediate takes none.
+/// faults are `HoldsShell`, where the value leads to an object that was moved away, and `Memory`. A value that is no object
+/// of the space is not searched, and takes no memory.
 pub fn pack_copy(alloc: Global, space: &Space, value: Ref) -> Result<Message, Fault>
     requires promoted { IsPromoted space.now (value_of value) }
     requires within { IsWithin (length space.now.slots) value }
@@ -57,19 +66,28 @@ pub fn pack_copy(alloc: Global, space: &Space, value: Ref) -> Result<Message, Fa
     ensures sequence { IfOk result (λ message. message.sequence ≡ 0) }
     ensures below { IfOk result (λ message. (e : ℕ × List Object) → Contains (message.root_below ++ joined message.below) e → Contains (joined space.now.below ++ below_ref value) e) }
     ensures free { IfOk result (λ _. IsFreeOfShells (space_graph space.now) (resolve space.now.slots (value_of value))) }
-    ensures fault { IfErr result (λ fault. (fault ≡ Fault.Memory) ⊎ ((fault ≡ Fault.HoldsShell) × (IsFreeOfShells (space_graph space.now) (resolve space.now.slots (value_of value)) → ⊥))) }
-    ensures grows { IfErr result (λ fault. is_immediate value ≡ false) }
+    ensures fault { IfErr result (λ fault. (fault ≡ Fault.Memory) ⊎ ((fault ≡ Fault.HoldsShell) × LeadsToShell (space_graph space.now) (resolve space.now.slots (value_of value)))) }
+    ensures grows { IfErr result (λ fault. (s : ℕ) × (value ≡ Ref.Local s)) }
 {
     // No slot has two names, so there are no more names than slots, and no more slots than 32 bits count.
     let _slots = space.len();
     let _limit = space.limit();
+    let sender = space.owner();
+    let Ref::Local(_) = value else {
+        return Ok(Message {
+            objects: Vec::new(alloc),
+            root: value,
+            sender,
+            sequence: OF_A_COPY,
+        });
+    };
     let names = reached_objects(alloc, space, value)?;
     let _places = names.len();
     let objects = copies_of(alloc, space, &names)?;
     Ok(Message {
         objects,
         root: space.carried(value, &names),
-        sender: space.owner(),
-        sequence: 0,
+        sender,
+        sequence: OF_A_COPY,
     })
 }

@@ -2,12 +2,11 @@
 #![tactic(auto)]
 
 mod copy;
+mod laws;
 mod message;
 mod opening;
 
 pub use copy::{can_pack, pack_copy};
-pub use message::Message;
+pub use laws::shown_by_messages;
+pub use message::{Message, MessageParts};
 pub use opening::open;
-
-#[cfg(test)]
-mod tests;

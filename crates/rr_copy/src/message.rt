@@ -2,7 +2,8 @@
 
 ghost use Rattle.std.specs.Prelude.{◌≡◌, length};
 ghost use Rattle.rr_space.specs.Tables.{message_graph, IsClosed, IsSealed};
-ghost use Rattle.rr_copy.specs.Messages.{size_of, IsEachPart};
+ghost use Rattle.rr_copy.specs.Contents.{packed_of, IsMessage};
+ghost use Rattle.rr_copy.specs.Messages.{size_of, IsEachPart, IsMessageSound};
 
 use rr_base::RactorNo;
 use rr_space::{Carried, Ref};
@@ -31,13 +32,49 @@ impl Model for Message {
     ghost invariant = { λ m. IsMessage m.objects.items m.root };
 }
 
+/// What a message is made of. A `Ref::Local` in it is a place among the objects.
+#[derive(Drop)]
+pub struct MessageParts {
+    pub objects: Vec<Carried>,
+    pub root: Ref,
+    pub sender: RactorNo,
+    pub sequence: u64,
+}
+
 impl Message {
+    /// A message of these parts, whose root leads to each object, none of which is shareable.
+    pub fn from_parts(parts: MessageParts) -> Message
+        requires { IsMessage parts.objects.items parts.root }
+        ensures { result ≡ packed_of parts.objects.items parts.root parts.sender.0 parts.sequence }
+    {
+        Message {
+            objects: parts.objects,
+            root: parts.root,
+            sender: parts.sender,
+            sequence: parts.sequence,
+        }
+    }
+
+    /// What the message is made of.
+    pub fn into_parts(self) -> MessageParts
+        ensures is { packed_of result.objects.items result.root result.sender.0 result.sequence ≡ self }
+        ensures message { IsMessage result.objects.items result.root }
+    {
+        MessageParts {
+            objects: self.objects,
+            root: self.root,
+            sender: self.sender,
+            sequence: self.sequence,
+        }
+    }
+
     /// The number of the message's own objects: those that come into being where it is opened.
     pub fn size(&self) -> u32
         ensures size { result ≡ size_of self.now }
         ensures closed { IsClosed self.now }
         ensures sealed { IsSealed (message_graph self.now) }
         ensures parts { IsEachPart self.now }
+        ensures sound { IsMessageSound self.now }
     {
         self.objects.len() as u32
     }

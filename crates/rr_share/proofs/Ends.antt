@@ -14,7 +14,7 @@ use Rattle.rr_space.proofs.Renaming.{mapped_at}
 use Rattle.rr_space.proofs.Sounds.{gets, raw_in, resolved_back, sound_is_sealed}
 use Rattle.rr_space.proofs.Leaves.{found_all}
 use Rattle.rr_share.specs.Search.{IsSettled, LeadsAt, LeadsBelow, LeadsOn, IsReached, slots_to}
-use Rattle.rr_share.proofs.Searching.{contains_at, at_contains, below_cases}
+use Rattle.rr_share.proofs.Searching.{contains_at, at_contains, none_in, below_cases}
 
 -- a reference that is the slot m
 pub local_of : (r : Ref) (m : ℕ) → value_of r ≡ At (Own m) → r ≡ Local m
@@ -90,7 +90,7 @@ module _ (t : Table) (well : IsTableSound t.slots t.below) where
       ((unresolved t.slots y.0 m y.2).1, standing b.0 y.0 m (well.slots n (Here r.0) b.0 r.1 b.1 l y.0 y.1) y.2)
 
 -- a path and one more label
-leads_on : (g : Graph) (path : List Label) (v x y : Value) (l : Label) → Leads g v path x → HasUnder g x l y → Leads g v (path ++ l ∷ []) y
+pub leads_on : (g : Graph) (path : List Label) (v x y : Value) (l : Label) → Leads g v path x → HasUnder g x l y → Leads g v (path ++ l ∷ []) y
 leads_on g [] v x y l here under = (y, subst (λ w. HasUnder g w l y) (sym here) under, refl)
 leads_on g (m ∷ path) v x y l (z, step, rest) under = (z, step, leads_on g path z x y l rest under)
 
@@ -123,6 +123,11 @@ pub reaches_in : (t : Table) (found : List ℕ) (v : Value) → IsTableSound t.s
 reaches_in t found v well root closed n r =
     found_all (space_graph t) found (sound_is_sealed t.slots t.below well)
     (λ n m o l w here has. let q = at_contains o.triples (l, At (Own m)) has in closed n m w (q.0, (o, l, here, q.1))) r.0 v n root r.1
+
+-- what is no slot of the space leads to none
+pub none_reached : (t : Table) (root : Ref) → IsTableSound t.slots t.below → ((s : ℕ) → root ≡ Local s → ⊥) → (n : ℕ) → Reaches (space_graph t) (resolve t.slots (value_of root)) (Own n) → ⊥
+none_reached t root well outside n r =
+    none_in n (reaches_in t [] (resolve t.slots (value_of root)) well (λ m e. absurd (outside m (local_of root m (unresolved t.slots (value_of root) m e).0))) (λ k m has leads. absurd (none_in k has)) n r)
 
 -- the next reference is a slot, or none
 module _ (g : Graph) (n k : ℕ) where

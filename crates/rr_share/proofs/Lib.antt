@@ -6,3 +6,7 @@ pub mod Froze
 pub mod Solids
 pub mod Noting
 pub mod Marking
+pub mod Forwards
+pub mod Zips
+pub mod Copies
+pub mod Promoted

@@ -3,7 +3,7 @@ use Rattle.std.proofs.Common.{◌≡◌, ℕ, ◌≤◌, Bool, true, false, List
 use Rattle.rr_space.specs.Graph.{Kind, Own, At, Object, IsSolid, text, array, hash, plain, exception, shell}
 use Rattle.rr_space.specs.Tables.{Slot, Here, Led, Table, resolve_object, space_graph}
 use Rattle.rr_space.specs.Sound.{IsTableSound}
-use Rattle.rr_space.specs.Marks.{Marked}
+use Rattle.rr_space.specs.Laws.{Marked}
 use Rattle.rr_space.proofs.Sounds.{sound_is_sealed}
 use Rattle.rr_share.specs.Search.{IsSolidAt, LeadsOn, Searched}
 use Rattle.rr_share.specs.Marks.{Closed, IsMarkable}

@@ -13,6 +13,10 @@ use Rattle.std.proofs.lemmas.List.Elements.{Contains-append_cases}
 use Rattle.rr_share.specs.Search.{Adds}
 use Rattle.rr_share.proofs.Searching.{contains_at, at_contains, below_cases, adds_as, adds_one, slice_get_left}
 
+pub none_distinct : IsDistinct nat_eq []
+unfolding IsDistinct
+none_distinct = tt
+
 pub same_or_not : (m n : ℕ) → (m ≡ n) ⊎ (m ≢ n)
 same_or_not m n = grind arith
 

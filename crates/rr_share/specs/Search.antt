@@ -1,6 +1,7 @@
 -- How far a search through the graph of a space has come.
-use Rattle.std.specs.Prelude.{◌≡◌, ℕ, ◌+◌, ◌<◌, ◌⊎◌, List, ◌++◌, length, slice_get, Some, Contains}
-use Rattle.rr_space.specs.Graph.{Graph, Own, At, Label, Object, Reaches, IsSolid, shell}
+use Rattle.std.specs.Prelude.{◌≡◌, ℕ, ◌+◌, ◌<◌, ◌⊎◌, ◌↔◌, nat_eq, List, ◌++◌, length, slice_get, Some, Contains}
+use Rattle.std.specs.List.{IsDistinct}
+use Rattle.rr_space.specs.Graph.{Graph, Name, Own, Value, At, Label, Object, Reaches, IsSolid, shell}
 use Rattle.rr_space.specs.Tables.{Slot, Here, Table, space_graph, resolve, resolve_slot}
 use Rattle.rr_space.specs.Parts.{value_of}
 use Rattle.rr_space.specs.declared.refer.Ref.{Ref}
@@ -50,6 +51,15 @@ slots_to _ = 0
 -- a shell stands in the slot
 abbrev pub IsShellAt : List Slot → ℕ → Type 0
 IsShellAt slots n = (o : Object) × (slice_get slots n ≡ Some (Here o)) × (o.kind ≡ shell)
+
+-- some path from v ends at a shell
+abbrev pub LeadsToShell : Graph → Value → Type 0
+LeadsToShell g v = (n : Name) × (o : Object) × Reaches g v n × (g n ≡ Some o) × (o.kind ≡ shell)
+
+-- the slots are those of the objects of the space that v leads to, each once
+pub record AreReached (t : Table) (v : Value) (slots : List ℕ) : Type 0 where
+  pub exact : (n : ℕ) → Contains slots n ↔ Reaches (space_graph t) (resolve t.slots v) (Own n)
+  pub distinct : IsDistinct nat_eq slots
 
 -- what stands in the slot is frozen and no shell, if it is an object
 abbrev pub IsSolidAt : List Slot → ℕ → Type 0

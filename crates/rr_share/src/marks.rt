@@ -2,7 +2,7 @@
 
 ghost use Rattle.std.specs.Prelude.{◌≡◌, ◌↔◌, ◌≤◌, ℕ, nat_eq, slice_get, Some, Contains, IfOk, IfErr, OnOk};
 ghost use Rattle.std.specs.List.{IsDistinct};
-ghost use Rattle.rr_space.specs.Marks.{Marked};
+ghost use Rattle.rr_space.specs.Laws.{Marked};
 ghost use Rattle.rr_space.specs.Tables.{space_graph};
 ghost use Rattle.rr_share.specs.Search.{Adds, IsSolidAt, LeadsOn};
 ghost use Rattle.rr_share.specs.Marks.{Closed, Sourced};

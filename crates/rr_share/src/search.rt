@@ -4,7 +4,7 @@ ghost use Rattle.std.specs.Prelude.{◌≡◌, ◌↔◌, ◌⊎◌, ℕ, length
 ghost use Rattle.rr_space.specs.Graph.{Own, At, Object, Reaches, IsFreeOfShells, shell};
 ghost use Rattle.rr_space.specs.Parts.{value_of};
 ghost use Rattle.rr_space.specs.Tables.{Here, space_graph, resolve, IsBelow};
-ghost use Rattle.rr_share.specs.Search.{Adds, IsSettled, LeadsAt, LeadsOn, IsShellAt};
+ghost use Rattle.rr_share.specs.Search.{Adds, IsSettled, LeadsAt, LeadsOn, LeadsToShell, IsShellAt};
 
 use rr_base::Fault;
 use rr_space::{Kind, Ref, SlotSet, Space};
@@ -41,7 +41,8 @@ pub fn reached_objects(alloc: Global, space: &Space, root: Ref) -> Result<SlotSe
     ensures exact { IfOk result (λ found. (n : ℕ) → Contains found n ↔ Reaches (space_graph space.now) (resolve space.now.slots (value_of root)) (Own n)) }
     ensures within { IfOk result (λ found. IsBelow (length space.now.slots) (value_of root) → (n : ℕ) → Contains found n → (o : Object) × (slice_get space.now.slots n ≡ Some (Here o)) × (o.kind ≡ shell → ⊥)) }
     ensures free { IfOk result (λ _. IsFreeOfShells (space_graph space.now) (resolve space.now.slots (value_of root))) }
-    ensures fault { IfErr result (λ e. (e ≡ Fault.Memory) ⊎ ((e ≡ Fault.HoldsShell) × (IsFreeOfShells (space_graph space.now) (resolve space.now.slots (value_of root)) → ⊥))) }
+    ensures local { IfOk result (λ found. (n : ℕ) → Contains found n → (s : ℕ) × (root ≡ Ref.Local s)) }
+    ensures fault { IfErr result (λ e. (e ≡ Fault.Memory) ⊎ ((e ≡ Fault.HoldsShell) × LeadsToShell (space_graph space.now) (resolve space.now.slots (value_of root)))) }
     ensures grows { IfErr result (λ e. (s : ℕ) × (root ≡ Ref.Local s)) }
 {
     // With the number of slots comes that no reference in them leads nowhere.

@@ -2,10 +2,10 @@
 use Rattle.std.proofs.Common.{◌≡◌, ℕ, ◌⊎◌, ⊎_elim, inl, inr, List, [], ◌∷◌, slice_get, Option, Some, None, Contains, sym, ap, ◌∙◌, subst, refl}
 use Rattle.std.specs.Prelude.{slice_index}
 use Rattle.std.proofs.lemmas.Option.{slice_get-get_or, same_Some, none-some}
-use Rattle.rr_space.specs.Graph.{Name, Own, Published, Value, Plain, At, Label, Object, Leads}
+use Rattle.rr_space.specs.Graph.{Name, Own, Published, Value, Plain, At, Label, Object, Leads, Reaches, IsSolid}
 use Rattle.rr_space.specs.Tables.{Slot, Here, Led}
-use Rattle.rr_space.specs.Embeds.{renamed, renamed_triple}
-use Rattle.rr_space.specs.Owners.{Owner, Shared, Owned, Objects, Naming, Layout, name_in, named, whole, object_part, HasPlace, IsWithin, IsReading, IsShared, IsLocal, IsApart, ReadingsAreApart, RootsAreLocal}
+use Rattle.rr_space.specs.Tables.{renamed, renamed_triple}
+use Rattle.rr_space.specs.Readings.{AreClustersInOrder, IsSharedValue, Owner, Shared, Owned, Objects, Naming, Layout, name_in, named, whole, object_part, HasPlace, IsInLayout, IsReading, IsShared, IsLocal, IsApart, ReadingsAreApart, RootsAreLocal}
 use Rattle.rr_space.proofs.Renaming.{contains_map_back}
 use Rattle.rr_space.proofs.Hands.{some_back}
 
@@ -15,7 +15,7 @@ module _ (tables : Layout) (names : Naming) (bound : ℕ) (g : Objects) (R : IsR
       let name : Own n ≡ m = cc in
       (n, _, sym name, ap g same ∙ (R.reads (Shared c) u e).here p o at, inr (c, refl))
 
-  value_local : (h : Owner) (t : List Slot) (v : Value) → tables h ≡ Some t → IsWithin tables t v → IsLocal h g (renamed (name_in names h) v)
+  value_local : (h : Owner) (t : List Slot) (v : Value) → tables h ≡ Some t → IsInLayout tables t v → IsLocal h g (renamed (name_in names h) v)
   value_local h t (Plain n) e w = λ m is. plain m is
     where
       plain : (m : Name) → Plain n ≡ At m → (k : ℕ) × (x : Owned) × (m ≡ Own k) × (g k ≡ Some x) × ((x.owner ≡ h) ⊎ IsShared x.owner)
@@ -55,15 +55,32 @@ module _ (tables : Layout) (names : Naming) (bound : ℕ) (g : Objects) (R : IsR
       let name : n ≡ q.0 = let z : Own n ≡ Own q.0 = q.2 in cc in
       subst (λ (y : Owned). (y.owner ≡ h) ⊎ IsShared y.owner) (same_Some q.1 x (sym q.3 ∙ ap g (sym name) ∙ e)) q.4
 
-  pub apart : IsApart g
-  apart h k v w n x differ lv lw rv rw e =
+  apart_of : (h k : Owner) (v w : Value) (n : ℕ) (x : Owned) → (h ≡ k → ⊥) → IsLocal h g v → IsLocal k g w
+      → Reaches (whole g) v (Own n) → Reaches (whole g) w (Own n) → g n ≡ Some x → IsShared x.owner
+  apart_of h k v w n x differ lv lw rv rw e =
       ⊎_elim
       (λ a. ⊎_elim (λ b. absurd (differ (sym a ∙ b))) (λ b. b) (owner_of k n x (stays_local k rw.0 w (At (Own n)) lw rw.1) e))
       (λ a. a)
       (owner_of h n x (stays_local h rv.0 v (At (Own n)) lv rv.1) e)
 
+  solid_of : AreClustersInOrder tables → (n : ℕ) (x : Owned) → g n ≡ Some x → IsShared x.owner → IsSolid x.object
+  solid_of order n x e shared =
+      let st = R.only n x e in
+      let same : record { owner = x.owner; object = named names x.owner st.raw } ≡ x = same_Some _ x (sym ((R.reads x.owner st.table st.is_table).here st.place st.raw st.is_raw) ∙ ap g st.is_name ∙ e) in
+      let raw = order.solid shared.0 st.place st.table st.raw (ap tables (sym shared.1) ∙ st.is_table) st.is_raw in
+      subst (λ (y : Owned). IsSolid y.object) same (record { frozen = raw.frozen; no_shell = raw.no_shell })
+
+  shut_of : (n : ℕ) (x : Owned) (l : Label) (v : Value) → g n ≡ Some x → IsShared x.owner → Contains x.object.triples (l, v) → IsSharedValue g v
+  shut_of n x l v e shared has m is =
+      let q = out_of n x l v e has m is in
+      (q.0, q.1, q.2, q.3, ⊎_elim (λ w. (shared.0, w ∙ shared.1)) (λ w. w) q.4)
+
 pub readings_are_apart : ReadingsAreApart
-readings_are_apart = apart
+readings_are_apart tables names bound g R order = record {
+  apart = apart_of tables names bound g R;
+  solid = solid_of tables names bound g R order;
+  shut = shut_of tables names bound g R;
+}
 
 pub roots_are_local : RootsAreLocal
 roots_are_local tables names bound g h t v R e w = value_local tables names bound g R h t v e w

@@ -2,10 +2,10 @@
 use Rattle.std.proofs.Common.{◌≡◌, ℕ, ◌+◌, ◌≤◌, List, [], ◌∷◌, ◌++◌, length, map, refl, ap, ◌∙◌, sym, subst, arith, length-append, append_assoc, append-nil}
 use Rattle.rr_space.specs.Tables.{Table}
 use Rattle.rr_space.specs.Parts.{Parts, value_of, value_triple, below_ref, below_parts}
-use Rattle.rr_space.specs.Embeds.{behind, here_behind, renamed, renamed_triple}
+use Rattle.rr_space.specs.Tables.{behind, here_behind, renamed, renamed_triple}
 use Rattle.rr_space.specs.Views.{IsWithin, AllWithin, IsNodeWithin, AllHeldWithin, IsHeadKept, node_parts, slot_of, below_held, held_keys}
-use Rattle.rr_space.specs.Carrying.{AllCarriedWithin, carried_object, carried_below, carried_keys}
-use Rattle.rr_space.specs.Behind.{ref_behind, part_behind, slot_behind, IsAppended}
+use Rattle.rr_space.specs.Views.{AllCarriedWithin, carried_object, carried_below, carried_keys}
+use Rattle.rr_space.specs.Views.{ref_behind, part_behind, slot_behind, IsAppended}
 use Rattle.rr_space.specs.declared.carried.Carried.{Carried}
 use Rattle.rr_space.specs.declared.refer.Ref.{Ref}
 use Rattle.rr_space.specs.declared.refer.Ref.TheVariants.{Nil, Truth, Int, Symbol, Class, Ractor, Local, Shared}
@@ -102,11 +102,11 @@ none_left [] e = refl
 none_left (x ∷ xs) e = absurd (let w : ⊥ = omega (arith, e) in w)
 
 -- the slots of a table, once objects were put behind them
-pub appended_slots : (hs new : List Held) (limit owner : ℕ) (t : Table) (objects : List Carried) → table_of hs limit owner ≡ t → IsAppended (length hs) hs objects new
+pub appended_slots : (hs new : List Held) (limit owner next : ℕ) (t : Table) (objects : List Carried) → table_of hs limit owner next ≡ t → IsAppended (length hs) hs objects new
     → map slot_of new ≡ t.slots ++ map (here_behind (length t.slots)) (map carried_object objects)
-appended_slots hs new limit owner t objects e s =
+appended_slots hs new limit owner next t objects e s =
     s.slots ∙ ap (λ ys. map slot_of hs ++ ys) (twice objects)
-    ∙ ap (λ n. map slot_of hs ++ map (here_behind n) (map carried_object objects)) (sym (count_is hs limit owner t e))
+    ∙ ap (λ n. map slot_of hs ++ map (here_behind n) (map carried_object objects)) (sym (count_is hs limit owner next t e))
     ∙ ap (λ (u : Table). u.slots ++ map (here_behind (length t.slots)) (map carried_object objects)) e
   where
     twice : (cs : List Carried) → map (slot_behind (length hs)) cs ≡ map (here_behind (length hs)) (map carried_object cs)

@@ -10,12 +10,12 @@ use Rattle.indexmap.specs.IndexMap.{insert_entry}
 use Rattle.indexmap.proofs.MapLemmas.{insert_entry-absent}
 use Rattle.rr_base.specs.declared.name.Sym.{Sym}
 use Rattle.rr_space.specs.Graph.{Own, At, Label, Place, Field, KeyAt, ValueAt, Object}
-use Rattle.rr_space.specs.Alike.{IsAt, SameTriple, Matches}
+use Rattle.rr_space.specs.Graph.{IsAt, SameTriple, Matches}
 use Rattle.rr_space.specs.Tables.{Slot, Here, Table, joined, resolve_triple, resolve_object}
 use Rattle.rr_space.specs.Parts.{Parts, field_part, places_from, pairs_from, raised_parts, value_triple, below_ref, below_parts}
-use Rattle.rr_space.specs.Within.{AllWithin}
+use Rattle.rr_space.specs.Parts.{AllWithin}
 use Rattle.rr_space.specs.Views.{key_of, entry_key, entry_pair, node_object, node_parts, below_node, is_whole, slot_of, IsHeadKept, StandsAt, IsHeldWithin, AllHeldWithin}
-use Rattle.rr_space.specs.Carrying.{IsKnown, IsCarried, IsCarriedPart, IsCarriedField, IsCarriedEntry}
+use Rattle.rr_space.specs.Views.{IsKnown, IsCarried, IsCarriedPart, IsCarriedField, IsCarriedEntry}
 use Rattle.rr_space.specs.declared.refer.Ref.{Ref}
 use Rattle.rr_space.specs.declared.refer.Raised.{Raised}
 use Rattle.rr_space.specs.declared.node.Key.{Key}
@@ -33,7 +33,7 @@ use Rattle.rr_space.proofs.Resolving.{below_joined}
 pub more_at : {X : Type 0} (R : X → X → Type 0) (xs ys : List X) (i : ℕ) (x y : X) → slice_get xs i ≡ Some x → AllZip R (take i xs) ys → R x y → AllZip R (take (i + 1) xs) (ys ++ y ∷ [])
 more_at R xs ys i x y at h r = all_zip_more R xs ys i x y (slice_get_within xs i x at) (sym (get_or_from_slice_get xs i x x at)) h r
 
-apart_at : (P : Key → Type 0) (es : Entries) (i : ℕ) (e : Key × (Ref × Ref)) → AllByRecursion P (keys_of es) → slice_get es i ≡ Some e → P e.0
+pub apart_at : (P : Key → Type 0) (es : Entries) (i : ℕ) (e : Key × (Ref × Ref)) → AllByRecursion P (keys_of es) → slice_get es i ≡ Some e → P e.0
 apart_at P [] i e all at = absurd (none-some e at)
 apart_at P (x ∷ es) zero e all at = subst (λ (y : Key × (Ref × Ref)). P y.0) (same_Some x e at) all.0
 apart_at P (x ∷ es) (suc i) e all at = apart_at P es i e all.1 at
@@ -184,16 +184,16 @@ not_whole (Whole frozen node) whole out = out frozen node refl
 not_whole Shell whole out = false≢true whole
 not_whole (Forward p c) whole out = false≢true whole
 
-module _ (hs : List Held) (limit owner : ℕ) (t : Table) (n : ℕ) (h : Held) (is : table_of hs limit owner ≡ t) (whole : IsTrue (is_whole (slice_get t.slots n))) (here : h ≡ get_or hs n h) where
+module _ (hs : List Held) (limit owner next : ℕ) (t : Table) (n : ℕ) (h : Held) (is : table_of hs limit owner next ≡ t) (whole : IsTrue (is_whole (slice_get t.slots n))) (here : h ≡ get_or hs n h) where
   held_at : slice_get hs n ≡ Some h
   held_at = slice_get_read hs (length hs) n h refl (by (slice_get t.slots n) refl whole) here
     where
       by : (v : Option Slot) → slice_get t.slots n ≡ v → IsTrue (is_whole v) → n < length hs
       by None q w = absurd (false≢true w)
-      by (Some s) q w = omega (arith, slice_get_within t.slots n s q, count_is hs limit owner t is)
+      by (Some s) q w = omega (arith, slice_get_within t.slots n s q, count_is hs limit owner next t is)
 
   pub whole_stands : StandsAt t n h
-  whole_stands = stands hs limit owner t n h is held_at
+  whole_stands = stands hs limit owner next t n h is held_at
 
   pub whole_within : AllHeldWithin (length hs) hs → IsHeldWithin (length t.slots) h
-  whole_within all = held_within hs limit owner t n h is all held_at
+  whole_within all = held_within hs limit owner next t n h is all held_at

@@ -4,8 +4,8 @@ use Rattle.std.specs.Prelude.{slice_index}
 use Rattle.std.proofs.lemmas.Option.{slice_get_within, slice_get-get_or, none-some}
 use Rattle.rr_space.specs.Graph.{Own}
 use Rattle.rr_space.specs.Tables.{Here, space_graph}
-use Rattle.rr_space.specs.Owners.{name_in, whole}
-use Rattle.rr_space.specs.Cases.{CopiesAreAlikeInTheWhole, EmptyIsRead}
+use Rattle.rr_space.specs.Readings.{name_in, whole}
+use Rattle.rr_space.specs.Laws.{CopiesAreAlikeInTheWhole, EmptyIsRead}
 use Rattle.rr_space.proofs.Renaming.{map_at}
 use Rattle.rr_space.proofs.Inside.{alike_inside}
 use Rattle.rr_space.proofs.Spaces.{spaces_are_inside, raw_of}

@@ -6,7 +6,7 @@ use Rattle.rr_space.specs.Graph.{Graph, Name, Own, Published, Value, Plain, At, 
 use Rattle.rr_space.specs.Tables.{Slot, Here, Led, Packed, Table, joined, space_graph, message_graph, object_in, resolve, resolve_slot, resolve_triple, resolve_object, published_at, IsSealed, IsPublished, IsBelow, IsClosed}
 use Rattle.rr_space.specs.Moves.{IsDeepFrozen}
 use Rattle.rr_space.specs.Views.{emptied}
-use Rattle.rr_space.specs.Changes.{ClosedStaysInside, FrozenIsShareable, PromotedIsPart, EmptiedIsNotShareable}
+use Rattle.rr_space.specs.Laws.{ClosedStaysInside, FrozenIsShareable, PromotedIsPart, EmptiedIsNotShareable}
 use Rattle.rr_space.proofs.Renaming.{mapped_at, contains_map}
 use Rattle.rr_space.proofs.Sounds.{raw_in, resolved_back, gets}
 
@@ -50,7 +50,7 @@ pub promoted_part : PromotedIsPart
 promoted_part t v promoted n = (λ r. (r, λ all. promoted n r all), λ part. part.0)
 
 pub emptied_open : EmptiedIsNotShareable
-emptied_open names old new e n has v reach all = (all (Own n) emptied reach (ap (option_and_then (object_in new.slots)) (e.named n has))).no_shell refl
+emptied_open names old new e n has v reach all = (all (Own n) emptied reach (ap (option_and_then (object_in new.slots)) (e.slots.named n has))).no_shell refl
 
 -- ---- freezing
 

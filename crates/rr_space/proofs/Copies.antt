@@ -3,9 +3,9 @@ use Rattle.std.proofs.Common.{◌≡◌, ℕ, zero, suc, List, [], ◌∷◌, sl
 use Rattle.std.proofs.lemmas.Option.{slice_get_within, get_or_from_slice_get, slice_get-get_or, same_Some, none-some}
 use Rattle.std.specs.List.{AllZip}
 use Rattle.rr_space.specs.Graph.{Graph, Name, Own, Published, Value, Plain, At, Label, Object, Leads, Reaches, IsSolid, IsShareable}
-use Rattle.rr_space.specs.Alike.{SameValue, SameTriple, Matches, Alike, IsAt}
+use Rattle.rr_space.specs.Graph.{SameValue, SameTriple, Matches, Alike, IsAt}
 use Rattle.rr_space.specs.Tables.{IsSealed, IsPublished}
-use Rattle.rr_space.specs.Copying.{Copied, CopiesAreAlike}
+use Rattle.rr_space.specs.Laws.{Copied, CopiesAreAlike}
 
 contains_at : {X : Type 0} (xs : List X) (i : ℕ) (x : X) → slice_get xs i ≡ Some x → Contains xs x
 contains_at xs i x e = (i, slice_get_within xs i x e, get_or_from_slice_get xs i x x e)

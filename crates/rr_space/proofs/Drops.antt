@@ -2,7 +2,7 @@
 use Rattle.std.proofs.Common.{◌≡◌, ℕ, ⊎_elim, Bool, true, false, List, Option, Some, None, sym, ap, ◌∙◌, refl, cond}
 use Rattle.std.proofs.lemmas.Option.{same_Some, none-some}
 use Rattle.rr_space.specs.Tables.{Slot}
-use Rattle.rr_space.specs.Owners.{Owner, Shared, owner_eq, Owned, Objects, Naming, Layout, HasPlace, IsReading}
+use Rattle.rr_space.specs.Readings.{Owner, Shared, owner_eq, Owned, Objects, Naming, Layout, HasPlace, IsReading}
 use Rattle.rr_space.specs.Steps.{Goneby, DroppingIsAStep}
 use Rattle.rr_space.proofs.Frames.{owner_same, owner_refl, owner_cases, reads_kept, sound_kept}
 

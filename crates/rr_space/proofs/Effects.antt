@@ -1,10 +1,10 @@
 -- What follows from what freezing, moving and promoting do to the table of a space.
-use Rattle.std.proofs.Common.{◌≡◌, ℕ, suc, ◌+◌, ⊎_elim, true, List, [], ◌∷◌, ◌++◌, slice_get, refl, ap, sym, ◌∙◌, subst, arith}
+use Rattle.std.proofs.Common.{◌≡◌, ℕ, suc, ◌+◌, ⊎_elim, true, List, [], ◌∷◌, ◌++◌, slice_get, Contains, refl, ap, sym, ◌∙◌, subst, arith}
 use Rattle.std.proofs.lemmas.Option.{same_Some, none-some}
 use Rattle.rr_space.specs.Graph.{Graph, Own, Published, Value, Plain, At, Label, Object, Leads}
 use Rattle.rr_space.specs.Tables.{IsBelow}
-use Rattle.rr_space.specs.Embeds.{renamed, behind}
-use Rattle.rr_space.specs.Effects.{DeepFreezingKeeps, EmptyingNothing, PromotedIsPublished, ClosedStandsBehind}
+use Rattle.rr_space.specs.Tables.{renamed, behind}
+use Rattle.rr_space.specs.Laws.{DeepFreezingKeeps, EmptyingNothing, PromotedIsPublished, ClosedStandsBehind}
 
 frozen_same : (o : Object) → o.frozen ≡ true → record o { frozen = true } ≡ o
 frozen_same o f = ap (λ b. record o { frozen = b }) (sym f)
@@ -21,7 +21,14 @@ same_lists (x ∷ xs) [] f = absurd (none-some x (sym (f 0)))
 same_lists (x ∷ xs) (y ∷ ys) f = ap (λ z. z ∷ xs) (same_Some x y (f 0)) ∙ ap (λ zs. y ∷ zs) (same_lists xs ys (λ n. f (suc n)))
 
 pub emptying_nothing : EmptyingNothing
-emptying_nothing old new e = same_lists new.slots old.slots (λ n. e.others n (λ (i, lt, q). let w : ⊥ = omega (arith, lt) in w))
+emptying_nothing old new e = (
+  same_lists new.slots old.slots (λ n. e.slots.others n (none n)),
+  same_lists new.below old.below (λ n. e.below.others n (none n)),
+  same_lists new.keys old.keys (λ n. e.keys.others n (none n)),
+)
+  where
+    none : (n : ℕ) → Contains {X = ℕ} [] n → ⊥
+    none n (i, lt, q) = omega (arith, lt)
 
 leads_append : (g : Graph) (p q : List Label) (v w z : Value) → Leads g v p w → Leads g w q z → Leads g v (p ++ q) z
 leads_append g [] q v w z a b = subst (λ x. Leads g x q z) (sym a) b

@@ -5,7 +5,7 @@ use Rattle.rr_space.specs.Graph.{KeyAt, ValueAt, Object}
 use Rattle.rr_space.specs.Parts.{Parts, pairs_from, below_ref, below_parts}
 use Rattle.rr_space.specs.Views.{key_of, entry_key, entry_pair, IsWithin, AllWithin}
 use Rattle.indexmap.specs.IndexMap.{insert_entry}
-use Rattle.rr_space.specs.Writes.{IsFirstAt, kept_name}
+use Rattle.rr_space.specs.Views.{IsFirstAt, kept_name}
 use Rattle.rr_space.specs.declared.refer.Ref.{Ref}
 use Rattle.rr_space.specs.declared.node.Key.{Key}
 use Rattle.rr_space.proofs.Keys.{key_eq, keys_decide, no_place}

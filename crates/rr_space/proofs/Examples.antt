@@ -2,9 +2,9 @@
 use Rattle.std.proofs.Common.{◌≡◌, ℕ, zero, suc, ◌<◌, ◌⊎◌, ⊎_elim, inl, inr, Bool, true, false, List, [], ◌∷◌, Some, Contains, sym, ap, ◌∙◌, subst, refl, arith}
 use Rattle.std.proofs.lemmas.Option.{same_Some, none-some}
 use Rattle.rr_space.specs.Graph.{Graph, Name, Own, Published, Immediate, Value, Plain, At, Label, Place, Object, Leads, Reaches, IsSolid, IsShareable}
-use Rattle.rr_space.specs.Alike.{IsAt, Matches}
+use Rattle.rr_space.specs.Graph.{IsAt, Matches}
 use Rattle.rr_space.specs.Tables.{Slot, IsSealed}
-use Rattle.rr_space.specs.Copying.{Copied}
+use Rattle.rr_space.specs.Laws.{Copied}
 use Rattle.rr_space.specs.Examples.{array_object, slots_graph, cycle, over_text, over_shell, beside_text, knot, turned_knot, one_text_twice, two_texts, loop, FirstIsShareable, FirstReaches, HasPairing, Examples}
 use Rattle.rr_space.proofs.Leaves.{found_all}
 use Rattle.rr_space.proofs.Copies.{copies_are_alike}

@@ -7,7 +7,7 @@ use Rattle.rr_base.specs.declared.name.Sym.{Sym}
 use Rattle.rr_space.specs.Graph.{Label, Field, Message, Cause, Ractor, Object}
 use Rattle.rr_space.specs.Parts.{Parts, field_part, value_triple, below_ref, below_parts}
 use Rattle.rr_space.specs.Views.{IsWithin, AllWithin}
-use Rattle.rr_space.specs.Writes.{IsFirstAt, label_part, ref_label, field_names}
+use Rattle.rr_space.specs.Views.{IsFirstAt, label_part, ref_label, field_names}
 use Rattle.rr_space.specs.declared.refer.Ref.{Ref}
 use Rattle.rr_space.proofs.Placing.{map_set}
 use Rattle.rr_space.proofs.Writing.{map_push, parts_set, parts_push, below_set, below_push}

@@ -4,8 +4,8 @@ use Rattle.std.specs.Prelude.{slice_index}
 use Rattle.std.proofs.lemmas.Bool.{eqb-true}
 use Rattle.rr_space.specs.Graph.{Name, Own, Published, Value, Plain, At, Label, Object}
 use Rattle.rr_space.specs.Tables.{Slot, Here}
-use Rattle.rr_space.specs.Embeds.{renamed, renamed_triple, renamed_object}
-use Rattle.rr_space.specs.Owners.{Owner, Space, Hand, Mail, Shared, owner_eq, Objects, Naming, Layout, name_in, named, HasPlace, IsWithin, IsSound, Reads, IsReading}
+use Rattle.rr_space.specs.Tables.{renamed, renamed_triple, renamed_object}
+use Rattle.rr_space.specs.Readings.{Owner, Space, Hand, Mail, Shared, owner_eq, Objects, Naming, Layout, name_in, named, HasPlace, IsInLayout, IsSound, Reads, IsReading}
 
 pub owner_same : (a b : Owner) → owner_eq a b ≡ true → a ≡ b
 owner_same (Space r) (Space s) e = ap Space (eqb-true r s e)
@@ -56,7 +56,7 @@ named_same f g o same = ap (λ ts. record o { triples = ts }) (map_same (renamed
 -- a value of a table has the same name where the lists agree up to the table's length, and on clusters
 pub within_same : (tables : Layout) (t : List Slot) (h k : Owner) (names names2 : Naming) (x : Value)
     → ((i : ℕ) → i < length t → slice_index (names2 k) i ≡ slice_index (names h) i) → ((c : ℕ) (u : List Slot) → tables (Shared c) ≡ Some u → names2 (Shared c) ≡ names (Shared c))
-    → IsWithin tables t x → renamed (name_in names2 k) x ≡ renamed (name_in names h) x
+    → IsInLayout tables t x → renamed (name_in names2 k) x ≡ renamed (name_in names h) x
 within_same tables t h k names names2 (Plain n) own shared w = refl
 within_same tables t h k names names2 (At (Own i)) own shared w = ap (λ n. At (Own n)) (own i w)
 within_same tables t h k names names2 (At (Published c p)) own shared w = ap (λ ns. At (Own (slice_index ns p))) (shared c w.0 w.2)
@@ -87,7 +87,7 @@ sound_kept old new t kept s = record {
   led = λ i c p at. kept c p (s.led i c p at);
 }
   where
-    by : (x : Value) → IsWithin old t x → IsWithin new t x
+    by : (x : Value) → IsInLayout old t x → IsInLayout new t x
     by (Plain n) w = w
     by (At (Own i)) w = w
     by (At (Published c p)) w = kept c p w

@@ -1,16 +1,16 @@
 -- A table that goes to another owner takes its names with it.
-use Rattle.std.proofs.Common.{◌≡◌, ℕ, zero, suc, ◌+◌, ◌<◌, ◌⊎◌, ⊎_elim, inl, inr, Bool, true, false, List, [], ◌∷◌, ◌++◌, length, map, slice_get, Option, Some, None, Contains, sym, ap, ◌∙◌, subst, refl, arith, length-append, if◌then◌else◌}
+use Rattle.std.proofs.Common.{◌≡◌, ℕ, zero, suc, ◌+◌, ◌<◌, ◌⊎◌, ⊎_elim, inl, inr, Bool, true, false, List, [], ◌∷◌, ◌++◌, length, map, slice_get, get_or, Option, Some, None, Contains, sym, ap, ◌∙◌, subst, refl, arith, length-append, if◌then◌else◌}
 use Rattle.std.specs.Prelude.{slice_index}
 use Rattle.std.specs.Option.{option_map}
 use Rattle.std.proofs.lemmas.List.{length-map, get_or_append_left, get_or-append-add}
-use Rattle.std.proofs.lemmas.Option.{slice_get_within, same_Some, none-some}
+use Rattle.std.proofs.lemmas.Option.{slice_get-get_or, slice_get_within, same_Some, none-some}
 use Rattle.rr_space.specs.Graph.{Name, Own, Published, Value, Plain, At, Label, Object}
 use Rattle.rr_space.specs.Tables.{Slot, Here, Led}
-use Rattle.rr_space.specs.Embeds.{renamed, renamed_triple, renamed_object, behind, here_behind}
-use Rattle.rr_space.specs.Owners.{Owner, Shared, owner_eq, Owned, Objects, Naming, Layout, name_in, named, HasPlace, IsWithin, IsSound, Reads, Stands, IsReading}
-use Rattle.rr_space.specs.Steps.{IsHandedOn, Goes, IsNamed, HandsOn}
+use Rattle.rr_space.specs.Tables.{renamed, renamed_triple, renamed_object, behind, here_behind}
+use Rattle.rr_space.specs.Readings.{Owner, Shared, owner_eq, Owned, Objects, Naming, Layout, name_in, named, HasPlace, IsInLayout, IsSound, Reads, Stands, IsReading}
+use Rattle.rr_space.specs.Steps.{IsHandedOn, Goes, IsNamed, IsJoined, HandsOn}
 use Rattle.rr_space.proofs.Renaming.{mapped_at, map_at, contains_map_back}
-use Rattle.rr_space.proofs.Frames.{owner_same, owner_refl, owner_cases, object_same, reads_kept, sound_kept}
+use Rattle.rr_space.proofs.Frames.{owner_same, owner_refl, owner_cases, within_same, object_same, reads_kept, sound_kept}
 
 pub append_cases : {A : Type 0} (xs ys : List A) (i : ℕ) (y : A) → slice_get (xs ++ ys) i ≡ Some y → (slice_get xs i ≡ Some y) ⊎ ((j : ℕ) × (i ≡ length xs + j) × (slice_get ys j ≡ Some y))
 append_cases [] ys i y e = inr (i, omega arith, e)
@@ -88,7 +88,7 @@ module _ (a b : Owner) (os : List Object) (s : List Slot) (old new : Layout) (na
   places c p (u, o, e, at) = (u, o, G.rest (Shared c) (λ q. G.unshared_a c (sym q)) (λ q. G.unshared_b c (sym q)) ∙ e, at)
 
   -- a value of a's table has behind b's old slots the name that it had
-  gone_same : (x : Value) → IsWithin old (map Here os) x → renamed (name_in (set_names names b (ns ++ names a)) b) (renamed (behind (length s)) x) ≡ renamed (name_in names a) x
+  gone_same : (x : Value) → IsInLayout old (map Here os) x → renamed (name_in (set_names names b (ns ++ names a)) b) (renamed (behind (length s)) x) ≡ renamed (name_in names a) x
   gone_same (Plain n) w = refl
   gone_same (At (Own i)) w = ap (λ n. At (Own n)) (right_name (length s + i) i refl)
   gone_same (At (Published c p)) w = ap (λ l. At (Own (slice_index l p))) (shared c)
@@ -172,23 +172,23 @@ module _ (a b : Owner) (os : List Object) (s : List Slot) (old new : Layout) (na
     one = λ i j o p at bt e. one_by i j o p (found i o at) (found j p bt) e;
   }
 
-  within_left : (x : Value) → IsWithin old s x → IsWithin new (s ++ map (here_behind (length s)) os) x
+  within_left : (x : Value) → IsInLayout old s x → IsInLayout new (s ++ map (here_behind (length s)) os) x
   within_left (Plain n) w = w
   within_left (At (Own i)) w = omega (arith, length-append s (map (here_behind (length s)) os))
   within_left (At (Published c p)) w = places c p w
 
-  within_right : (x : Value) → IsWithin old (map Here os) x → IsWithin new (s ++ map (here_behind (length s)) os) (renamed (behind (length s)) x)
+  within_right : (x : Value) → IsInLayout old (map Here os) x → IsInLayout new (s ++ map (here_behind (length s)) os) (renamed (behind (length s)) x)
   within_right (Plain n) w = w
   within_right (At (Own i)) w = let l3 = length-map os (here_behind (length s)) in let l5 = length-map os Here in omega (arith, length-append s (map (here_behind (length s)) os), l3, l5)
   within_right (At (Published c p)) w = places c p w
 
-  within_by : (i : ℕ) (o : Object) (l : Label) (x : Value) → Found i o → Contains o.triples (l, x) → IsWithin new (s ++ map (here_behind (length s)) os) x
+  within_by : (i : ℕ) (o : Object) (l : Label) (x : Value) → Found i o → Contains o.triples (l, x) → IsInLayout new (s ++ map (here_behind (length s)) os) x
   within_by i o l x (was at) has = within_left x ((R.sound b s (ns_is i (Here o) at).0).within i o l x at has)
   within_by i o l x (came j p e at is) has =
       let same : o ≡ renamed_object (behind (length s)) p = cc in
       let r = contains_map_back (renamed_triple (behind (length s))) p.triples (l, x) (subst (λ (q : Object). Contains q.triples (l, x)) same has) in
       let w = within_right r.0.1 ((R.sound a (map Here os) G.from).within j p r.0.0 r.0.1 (map_at Here os j p at) r.1) in
-      subst (λ v. IsWithin new (s ++ map (here_behind (length s)) os) v) (ap (λ (t : Label × Value). t.1) r.2) w
+      subst (λ v. IsInLayout new (s ++ map (here_behind (length s)) os) v) (ap (λ (t : Label × Value). t.1) r.2) w
 
   sound_b : IsSound new (s ++ map (here_behind (length s)) os)
   sound_b = record {
@@ -276,13 +276,25 @@ module _ (a b : Owner) (os : List Object) (s : List Slot) (old new : Layout) (na
     bounded = λ n y e. let q = some_back (turned a b) (g n) y e in R.bounded n q.0 q.1;
   }
 
-  pub handed_on : (names2 : Naming) × (g2 : Objects) × IsReading new names2 bound g2 × IsNamed b names names2 × IsHandedOn a b g g2
+  joined : IsJoined old a b os s names (set_names names b (ns ++ names a))
+  joined = record {
+    stand = stand;
+    come = λ i. right_name (length s + i) i refl;
+    roots = λ v w. within_same old s b b names (set_names names b (ns ++ names a)) v stand (λ c u e. shared c) w;
+    root = gone_same;
+  }
+    where
+      stand : (i : ℕ) → i < length s → slice_index (set_names names b (ns ++ names a) b) i ≡ slice_index (names b) i
+      stand i lt = left_name i lt ∙ ap (λ l. slice_index l i) (ns_is i (get_or s i (Led 0 0)) (slice_get-get_or s i (Led 0 0) lt)).1
+
+  pub handed_on : (names2 : Naming) × (g2 : Objects) × IsReading new names2 bound g2 × IsNamed b names names2 × IsHandedOn a b g g2 × IsJoined old a b os s names names2
   handed_on = (
     set_names names b (ns ++ names a),
     (λ n. option_map (turned a b) (g n)),
     reading,
     record { rest = λ h differ. set_other names b (ns ++ names a) h differ },
     record { turned = g2_turned; kept = g2_kept; none = λ n e. ap (option_map (turned a b)) e },
+    joined,
   )
 
 pub hands_on : HandsOn

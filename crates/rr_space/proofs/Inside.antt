@@ -2,12 +2,12 @@
 use Rattle.std.proofs.Common.{◌≡◌, ℕ, suc, inl, inr, List, [], ◌∷◌, map, slice_get, Some, Contains, sym, ap, ◌∙◌, subst, refl, arith}
 use Rattle.std.specs.List.{AllZip}
 use Rattle.rr_space.specs.Graph.{Graph, Name, Own, Published, Value, Plain, At, Label, Object, Leads, IsShareable, IsPart}
-use Rattle.rr_space.specs.Alike.{SameValue, SameTriple, Matches, Alike, IsAt}
+use Rattle.rr_space.specs.Graph.{SameValue, SameTriple, Matches, Alike, IsAt}
 use Rattle.rr_space.specs.Tables.{IsSealed, IsPublished}
 use Rattle.std.proofs.lemmas.Option.{same_Some}
-use Rattle.rr_space.specs.Embeds.{Embeds, There, renamed, renamed_triple, renamed_object}
-use Rattle.rr_space.specs.Pairs.{SameIn, SameTripleIn, MatchesIn, IsAlike, Paired}
-use Rattle.rr_space.specs.Insides.{Inside, AlikeInside}
+use Rattle.rr_space.specs.Tables.{Embeds, There, renamed, renamed_triple, renamed_object}
+use Rattle.rr_space.specs.Graph.{SameIn, SameTripleIn, MatchesIn, IsAlike, Paired}
+use Rattle.rr_space.specs.Laws.{Inside, AlikeInside}
 use Rattle.rr_space.proofs.Renaming.{map_at, mapped_at, shares_on, part_on, part_back}
 
 contains_cons : {X : Type 0} (x : X) (xs : List X) (y : X) → Contains xs y → Contains (x ∷ xs) y

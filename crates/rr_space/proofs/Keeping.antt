@@ -1,11 +1,10 @@
--- Forwards in the place of a plan's slots, and what is kept.
+-- Forwards in the place of a plan's slots.
 use Rattle.std.proofs.Common.{◌≡◌, ℕ, zero, suc, ◌+◌, ◌<◌, ◌⊎◌, ⊎_elim, inl, inr, Bool, true, false, nat_eq, eq-eqb, List, [], ◌∷◌, length, slice_get, slice_set, Some, Contains, sym, ap, ◌∙◌, refl, arith, length-set}
 use Rattle.std.proofs.lemmas.Bool.{eqb-true}
 use Rattle.std.proofs.lemmas.Option.{same_Some, none-some}
-use Rattle.rr_space.specs.Alike.{IsAt}
+use Rattle.rr_space.specs.Graph.{IsAt}
 use Rattle.rr_space.specs.Tables.{Slot, Here, Led}
-use Rattle.rr_space.specs.Moves.{forwarded_from, ForwardedIsExact, IsSlotKept, KeepingAddsUp, ForwardsKeep, MoreKeeps}
-use Rattle.rr_space.proofs.Hands.{append_left}
+use Rattle.rr_space.specs.Moves.{forwarded_from, ForwardedIsExact}
 use Rattle.rr_space.proofs.Renaming.{at_contains}
 
 pub set_same : {A : Type 0} (xs : List A) (n : ℕ) (x : A) → n < length xs → slice_get (slice_set xs n x) n ≡ Some x
@@ -52,25 +51,14 @@ forwarded_is_exact c places old one inside = record {
   others = λ n out. forwarded_others c 0 places old n out;
 }
 
-kept_on : (r s t : Slot) → IsSlotKept r s → IsSlotKept s t → IsSlotKept r t
-kept_on r s t p q = ⊎_elim
-    (λ e. ⊎_elim (λ f. inl (e ∙ f)) (λ f. inr (f.0, f.1, f.2, e ∙ f.3, f.4, f.5)) q)
-    (λ e. ⊎_elim (λ f. inr (e.0, e.1, e.2, e.3, e.4, sym f ∙ e.5)) (λ f. let z : Led e.1 e.2 ≡ Here f.0 = sym e.5 ∙ f.3 in absurd (let w : ⊥ = cc in w)) q) p
-
-pub keeping_adds_up : KeepingAddsUp
-keeping_adds_up old mid new a b n s at =
-    let p = a n s at in
-    let q = b n p.0 p.1 in
-    (q.0, q.1, kept_on s p.0 q.0 p.2 q.2)
-
-nat_cases : (x n : ℕ) → (x ≡ n) ⊎ (x ≡ n → ⊥)
+pub nat_cases : (x n : ℕ) → (x ≡ n) ⊎ (x ≡ n → ⊥)
 nat_cases x n = by (nat_eq x n) refl
   where
     by : (b : Bool) → nat_eq x n ≡ b → (x ≡ n) ⊎ (x ≡ n → ⊥)
     by true q = inl (eqb-true x n q)
     by false q = inr (λ e. let z : true ≡ false = sym (eq-eqb x n e) ∙ q in let w : ⊥ = cc in w)
 
-list_has : (xs : List ℕ) (n : ℕ) → Contains xs n ⊎ (Contains xs n → ⊥)
+pub list_has : (xs : List ℕ) (n : ℕ) → Contains xs n ⊎ (Contains xs n → ⊥)
 list_has [] n = inr (λ (i, lt, e). let w : ⊥ = omega (arith, lt) in w)
 list_has (x ∷ xs) n = ⊎_elim (λ (i, lt, e). inl (suc i, omega (arith, lt), e)) (λ out. by (nat_cases x n) out) (list_has xs n)
   where
@@ -81,12 +69,3 @@ list_has (x ∷ xs) n = ⊎_elim (λ (i, lt, e). inl (suc i, omega (arith, lt), 
         none : (x ≡ n → ⊥) → (Contains xs n → ⊥) → Contains (x ∷ xs) n → ⊥
         none e out (zero, lt, q) = e q
         none e out (suc i, lt, q) = out (i, omega (arith, lt), q)
-
-pub forwards_keep : ForwardsKeep
-forwards_keep c places old new f frozen n s at = ⊎_elim
-    (λ has. let i = at_contains places n has in let o = frozen n has in
-    (Led c i.0, f.named n i.0 i.1, inr (o.0, c, i.0, same_Some s (Here o.0) (sym at ∙ o.1), o.2, refl)))
-    (λ out. (s, f.others n out ∙ at, inl refl)) (list_has places n)
-
-pub more_keeps : MoreKeeps
-more_keeps old more n s at = (s, append_left old more n s at, inl refl)

@@ -12,7 +12,7 @@ use Rattle.std.proofs.lemmas.Option.{slice_get-get_or, get_or_from_slice_get, sa
 use Rattle.rr_space.specs.Graph.{Truth as TruthValue, Integer, SymbolNo, ClassNo, RactorNo}
 use Rattle.rr_space.specs.Tables.{PlainKey, TextKey}
 use Rattle.rr_space.specs.Views.{key_of}
-use Rattle.rr_space.specs.Writes.{IsFirstAt}
+use Rattle.rr_space.specs.Views.{IsFirstAt}
 use Rattle.rr_space.specs.declared.node.Key.{Key}
 use Rattle.rr_space.specs.declared.node.Key.TheVariants.{Nil, Truth, Int, Symbol, Class, Ractor, Text}
 use Rattle.rr_space.specs.contracts.node.KeyPartialEq.TheImpl.{eq-value}

@@ -2,7 +2,7 @@
 use Rattle.std.proofs.Common.{◌≡◌, ℕ, List, [], ◌∷◌, Some, Contains, subst}
 use Rattle.rr_space.specs.Graph.{Graph, Name, Own, Published, Value, At, Label, Object, Leads, Reaches, IsSolid}
 use Rattle.rr_space.specs.Tables.{IsSealed, IsPublished}
-use Rattle.rr_space.specs.Copying.{LeavesSuffice}
+use Rattle.rr_space.specs.Laws.{LeavesSuffice}
 
 module _ (g : Graph) (found : List ℕ) (sealed : IsSealed g)
     (closed : (n m : ℕ) (o : Object) (l : Label) → Contains found n → g (Own n) ≡ Some o → Contains o.triples (l, At (Own m)) → Contains found m) where

@@ -34,3 +34,9 @@ pub mod Resolving
 pub mod Shifting
 pub mod Appending
 pub mod Carrying
+pub mod Knowing
+pub mod Finding
+pub mod Preserving
+pub mod Renumbered
+pub mod Taking
+pub mod Labelling

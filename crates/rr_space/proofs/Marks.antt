@@ -2,7 +2,7 @@
 use Rattle.std.proofs.Common.{◌≡◌, ℕ, List, [], ◌∷◌, Contains, Some, ⊎_elim, subst, sym}
 use Rattle.rr_space.specs.Graph.{Graph, Name, Own, Published, Label, Value, At, Object, Leads, IsShareable}
 use Rattle.rr_space.specs.Tables.{IsPublished}
-use Rattle.rr_space.specs.Marks.{Marked, MarksDecide}
+use Rattle.rr_space.specs.Laws.{Marked, MarksDecide}
 
 module _ (g : Graph) (found marked : List ℕ) (h : Marked g found marked) where
   -- a step from an unmarked object ends at an unmarked one, or leaves the slots

@@ -9,7 +9,7 @@ use Rattle.indexmap.specs.IndexMap.{insert_entry}
 use Rattle.rr_space.specs.Graph.{KeyAt, ValueAt, Object}
 use Rattle.rr_space.specs.Parts.{Parts, pairs_from, below_ref, below_parts}
 use Rattle.rr_space.specs.Views.{IsWithin, AllWithin}
-use Rattle.rr_space.specs.Writes.{IsFirstAt, kept_name}
+use Rattle.rr_space.specs.Views.{IsFirstAt, kept_name}
 use Rattle.rr_space.specs.declared.refer.Ref.{Ref}
 
 -- the entries once a key has a value: an absent key comes last, under this name; a present one keeps its place and its name

@@ -5,7 +5,7 @@ use Rattle.rr_space.specs.Graph.{Object}
 use Rattle.rr_space.specs.Tables.{Whole, Table, below_hold, outer_objects, cluster_at, published_at, numbered}
 use Rattle.rr_space.specs.Parts.{value_of}
 use Rattle.rr_space.specs.Views.{StandsAt, slot_of, below_held, slot_object, IsHeldWithin, AllHeldWithin}
-use Rattle.rr_space.specs.Within.{IsWithin}
+use Rattle.rr_space.specs.Parts.{IsWithin}
 use Rattle.rr_space.specs.Labels.{triples_at, triples_of}
 use Rattle.rr_space.specs.declared.refer.Ref.{Ref}
 use Rattle.rr_space.specs.declared.refer.Ref.TheVariants.{Nil, Truth, Int, Symbol, Class, Ractor, Local, Shared}
@@ -20,8 +20,8 @@ pub hold_first : (w : Whole) (p : ℕ) → published_at (below_hold w) w.number 
 hold_first w p = ap (λ b. option_and_then (λ (os : List Object). slice_get os p) (cond b (Some (outer_objects w)) (cluster_at w.below w.number))) (eq-eqb w.number w.number refl)
 
 -- what stands in a slot is within the table
-pub held_within : (hs : List Held) (limit owner : ℕ) (t : Table) (n : ℕ) (h : Held) → table_of hs limit owner ≡ t → AllHeldWithin (length hs) hs → slice_get hs n ≡ Some h → IsHeldWithin (length t.slots) h
-held_within hs limit owner t n h e all at = subst (λ k. IsHeldWithin k h) (sym (count_is hs limit owner t e)) (within_at (length hs) hs n h all at)
+pub held_within : (hs : List Held) (limit owner next : ℕ) (t : Table) (n : ℕ) (h : Held) → table_of hs limit owner next ≡ t → AllHeldWithin (length hs) hs → slice_get hs n ≡ Some h → IsHeldWithin (length t.slots) h
+held_within hs limit owner next t n h e all at = subst (λ k. IsHeldWithin k h) (sym (count_is hs limit owner next t e)) (within_at (length hs) hs n h all at)
 
 -- a value inside a cluster, seen from outside
 pub outward_same : (n : ℕ) (r : Ref) → ((q : ℕ) → r ≡ Local q → ⊥) → value_of r ≡ numbered n (value_of r)

@@ -25,24 +25,24 @@ set_back [] n x e = refl
 set_back (y ∷ xs) zero x e = ap (λ z. z ∷ xs) (sym (same_Some y x e))
 set_back (y ∷ xs) (suc n) x e = ap (λ ys. y ∷ ys) (set_back xs n x e)
 
-abbrev pub table_of : List Held → ℕ → ℕ → Table
-table_of hs limit owner = record { slots = map slot_of hs; below = map below_held hs; keys = map held_keys hs; limit = limit; owner = owner }
+abbrev pub table_of : List Held → ℕ → ℕ → ℕ → Table
+table_of hs limit owner next = record { slots = map slot_of hs; below = map below_held hs; keys = map held_keys hs; limit = limit; owner = owner; next_message = next }
 
 -- a table whose slot n is something else
-pub put_is : (hs : List Held) (limit owner : ℕ) (t : Table) (n : ℕ) (h : Held) → table_of hs limit owner ≡ t → table_of (slice_set hs n h) limit owner ≡ with_held t n h
-put_is hs limit owner t n h e = subst (λ u. table_of (slice_set hs n h) limit owner ≡ with_held u n h) e
-    (ap (λ a. record { slots = a; below = map below_held (slice_set hs n h); keys = map held_keys (slice_set hs n h); limit = limit; owner = owner }) (map_set slot_of hs n h)
-    ∙ ap (λ a. record { slots = slice_set (map slot_of hs) n (slot_of h); below = a; keys = map held_keys (slice_set hs n h); limit = limit; owner = owner }) (map_set below_held hs n h)
-    ∙ ap (λ a. record { slots = slice_set (map slot_of hs) n (slot_of h); below = slice_set (map below_held hs) n (below_held h); keys = a; limit = limit; owner = owner }) (map_set held_keys hs n h))
+pub put_is : (hs : List Held) (limit owner next : ℕ) (t : Table) (n : ℕ) (h : Held) → table_of hs limit owner next ≡ t → table_of (slice_set hs n h) limit owner next ≡ with_held t n h
+put_is hs limit owner next t n h e = subst (λ u. table_of (slice_set hs n h) limit owner next ≡ with_held u n h) e
+    (ap (λ a. record { slots = a; below = map below_held (slice_set hs n h); keys = map held_keys (slice_set hs n h); limit = limit; owner = owner; next_message = next }) (map_set slot_of hs n h)
+    ∙ ap (λ a. record { slots = slice_set (map slot_of hs) n (slot_of h); below = a; keys = map held_keys (slice_set hs n h); limit = limit; owner = owner; next_message = next }) (map_set below_held hs n h)
+    ∙ ap (λ a. record { slots = slice_set (map slot_of hs) n (slot_of h); below = slice_set (map below_held hs) n (below_held h); keys = a; limit = limit; owner = owner; next_message = next }) (map_set held_keys hs n h))
 
 read_at : {B : Type 0} (f : Held → B) (hs : List Held) (n : ℕ) (h : Held) → slice_get hs n ≡ Some h → slice_get (map f hs) n ≡ Some (f h)
 read_at f hs n h at = slice_get-map f hs n ∙ ap (option_map f) at
 
-pub count_is : (hs : List Held) (limit owner : ℕ) (t : Table) → table_of hs limit owner ≡ t → length t.slots ≡ length hs
-count_is hs limit owner t e = ap (λ (u : Table). length u.slots) (sym e) ∙ length-map hs slot_of
+pub count_is : (hs : List Held) (limit owner next : ℕ) (t : Table) → table_of hs limit owner next ≡ t → length t.slots ≡ length hs
+count_is hs limit owner next t e = ap (λ (u : Table). length u.slots) (sym e) ∙ length-map hs slot_of
 
-pub stands : (hs : List Held) (limit owner : ℕ) (t : Table) (n : ℕ) (h : Held) → table_of hs limit owner ≡ t → slice_get hs n ≡ Some h → StandsAt t n h
-stands hs limit owner t n h e at = subst (λ u. StandsAt u n h) e
+pub stands : (hs : List Held) (limit owner next : ℕ) (t : Table) (n : ℕ) (h : Held) → table_of hs limit owner next ≡ t → slice_get hs n ≡ Some h → StandsAt t n h
+stands hs limit owner next t n h e at = subst (λ u. StandsAt u n h) e
     (record { slot = read_at slot_of hs n h at; below = read_at below_held hs n h at; keys = read_at held_keys hs n h at })
 
 pub within_at : (k : ℕ) (hs : List Held) (n : ℕ) (h : Held) → AllHeldWithin k hs → slice_get hs n ≡ Some h → IsHeldWithin k h

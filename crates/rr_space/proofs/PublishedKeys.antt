@@ -8,7 +8,7 @@ use Rattle.rr_space.specs.Tables.{Below, Whole, Table, HashKey, below_hold, oute
 use Rattle.rr_space.specs.Parts.{value_of, value_triple, pairs_from, below_ref, below_parts}
 use Rattle.rr_space.specs.Lookups.{key_of_object, key_of_value, IsOneEach, HasKeyAt, IsPairOf, IsKeyOfPair, led_object, published_object, below_or_none, below_of}
 use Rattle.rr_space.specs.Views.{StandsAt, slot_of, below_held, held_keys}
-use Rattle.rr_space.specs.Writes.{keys_here, keys_at}
+use Rattle.rr_space.specs.Views.{keys_here, keys_at}
 use Rattle.rr_space.specs.declared.refer.Ref.TheVariants.{Local}
 use Rattle.rr_space.specs.declared.node.Held.{Held}
 use Rattle.rr_space.specs.declared.refer.Ref.{Ref}

@@ -6,8 +6,8 @@ use Rattle.std.proofs.lemmas.List.{get_or_append_left, get_or-append-add}
 use Rattle.std.proofs.lemmas.Option.{slice_get_within, slice_get-get_or, same_Some, none-some}
 use Rattle.rr_space.specs.Graph.{Name, Object}
 use Rattle.rr_space.specs.Tables.{Slot, Here, Led}
-use Rattle.rr_space.specs.Embeds.{renamed_object}
-use Rattle.rr_space.specs.Owners.{Owner, Shared, Owned, Objects, Naming, Layout, name_in, named, HasPlace, IsSound, Reads, Stands, IsReading}
+use Rattle.rr_space.specs.Tables.{renamed_object}
+use Rattle.rr_space.specs.Readings.{Owner, Shared, Owned, Objects, Naming, Layout, name_in, named, HasPlace, IsSound, Reads, Stands, IsReading}
 use Rattle.rr_space.specs.Steps.{Remakes, IsRemade, IsNamed, RemakingIsAStep}
 use Rattle.rr_space.proofs.Frames.{owner_cases, reads_kept, sound_kept}
 use Rattle.rr_space.proofs.Hands.{set_names, set_same, set_other}

@@ -6,7 +6,7 @@ use Rattle.std.proofs.lemmas.List.{length-map}
 use Rattle.rr_space.specs.Graph.{Object, array, hash}
 use Rattle.rr_space.specs.Parts.{places_from, pairs_from, value_of, value_triple, below_ref, below_parts}
 use Rattle.rr_space.specs.Views.{IsWithin, AllWithin, node_kind, node_parts, node_items, node_pairs, node_keys, entry_key, entry_pair}
-use Rattle.rr_space.specs.Writes.{placed_from, paired_from, pair_values}
+use Rattle.rr_space.specs.Views.{placed_from, paired_from, pair_values}
 use Rattle.rr_space.specs.declared.refer.Ref.{Ref}
 use Rattle.rr_space.specs.declared.node.Node.{Node}
 use Rattle.rr_space.specs.declared.node.Node.TheVariants.{Text, Array, Hash, Object as PlainObject, Exception}

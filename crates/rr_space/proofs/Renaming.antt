@@ -3,7 +3,7 @@ use Rattle.std.proofs.Common.{◌≡◌, ℕ, List, [], ◌∷◌, map, slice_ge
 use Rattle.std.specs.Option.{option_map}
 use Rattle.std.proofs.lemmas.Option.{slice_get_within, get_or_from_slice_get, slice_get-get_or, slice_get-map, same_Some, none-some}
 use Rattle.rr_space.specs.Graph.{Graph, Name, Value, Plain, At, Label, Object, Leads, Reaches, IsShareable, IsPart}
-use Rattle.rr_space.specs.Embeds.{Embeds, There, renamed, renamed_triple, renamed_object}
+use Rattle.rr_space.specs.Tables.{Embeds, There, renamed, renamed_triple, renamed_object}
 
 pub contains_at : {X : Type 0} (xs : List X) (i : ℕ) (x : X) → slice_get xs i ≡ Some x → Contains xs x
 contains_at xs i x e = (i, slice_get_within xs i x e, get_or_from_slice_get xs i x x e)

@@ -7,10 +7,10 @@ use Rattle.std.proofs.lemmas.Bool.{eqb-true}
 use Rattle.std.proofs.lemmas.List.{length-map}
 use Rattle.std.proofs.lemmas.Option.{slice_get_within, get_or_from_slice_get, slice_get-get_or, same_Some, none-some}
 use Rattle.rr_space.specs.Graph.{Own, Published, Value, Plain, At, Label, Object, text}
-use Rattle.rr_space.specs.Alike.{SameValue, SameTriple, Matches, IsAt}
+use Rattle.rr_space.specs.Graph.{SameValue, SameTriple, Matches, IsAt}
 use Rattle.rr_space.specs.Tables.{Slot, Here, Led, resolve, resolve_slot, resolve_object}
-use Rattle.rr_space.specs.Embeds.{renamed, renamed_triple}
-use Rattle.rr_space.specs.Owners.{Owner, Space, Shared, Owned, Objects, Naming, Layout, name_in, named, HasPlace, IsWithin, IsSound, Reads, Stands, IsReading}
+use Rattle.rr_space.specs.Tables.{renamed, renamed_triple}
+use Rattle.rr_space.specs.Readings.{Owner, Space, Shared, Owned, Objects, Naming, Layout, name_in, named, HasPlace, IsInLayout, IsSound, Reads, Stands, IsReading}
 use Rattle.rr_space.specs.Steps.{IsPublished, Publishes, IsNamed, PublishingIsTurning}
 use Rattle.rr_space.proofs.Renaming.{mapped_at, map_at, contains_at, at_contains, contains_map, contains_map_back}
 use Rattle.rr_space.proofs.Frames.{owner_cases, object_same, reads_kept, sound_kept}
@@ -99,17 +99,17 @@ module _ (r c : ℕ) (places : List ℕ) (s s2 : List Slot) (os : List Object) (
       by (Some (Here o)) e = ap (λ v. renamed (name_in names (Space r)) (At (resolve_slot v i))) e
       by (Some (Led d q)) e = ap (λ v. renamed (name_in names (Space r)) (At (resolve_slot v i))) e ∙ ap (λ k. At (Own k)) (sym (rs.led i d q e))
 
-  resolved_within : (x : Value) → IsWithin old s x → IsWithin old s (resolve s x)
+  resolved_within : (x : Value) → IsInLayout old s x → IsInLayout old s (resolve s x)
   resolved_within (Plain n) w = w
   resolved_within (At (Published d q)) w = w
   resolved_within (At (Own i)) w = by (slice_get s i) refl
     where
-      by : (v : Option Slot) → slice_get s i ≡ v → IsWithin old s (At (resolve_slot (slice_get s i) i))
-      by None e = subst (λ v. IsWithin old s (At (resolve_slot v i))) (sym e) w
-      by (Some (Here o)) e = subst (λ v. IsWithin old s (At (resolve_slot v i))) (sym e) w
-      by (Some (Led d q)) e = subst (λ v. IsWithin old s (At (resolve_slot v i))) (sym e) ((R.sound (Space r) s P.space).led i d q e)
+      by : (v : Option Slot) → slice_get s i ≡ v → IsInLayout old s (At (resolve_slot (slice_get s i) i))
+      by None e = subst (λ v. IsInLayout old s (At (resolve_slot v i))) (sym e) w
+      by (Some (Here o)) e = subst (λ v. IsInLayout old s (At (resolve_slot v i))) (sym e) w
+      by (Some (Led d q)) e = subst (λ v. IsInLayout old s (At (resolve_slot v i))) (sym e) ((R.sound (Space r) s P.space).led i d q e)
 
-  value_same : (x y : Value) → IsWithin old s x → SameValue (IsAt places) x y
+  value_same : (x y : Value) → IsInLayout old s x → SameValue (IsAt places) x y
       → renamed (name_in (set_names names (Shared c) (map (slice_index (names (Space r))) places)) (Shared c)) y ≡ renamed (name_in names (Space r)) x
   value_same (Plain p) (Plain q) w e = ap Plain (sym e)
   value_same (Plain p) (At m) w e = absurd e
@@ -122,7 +122,7 @@ module _ (r c : ℕ) (places : List ℕ) (s s2 : List Slot) (os : List Object) (
       ap (λ k. At (Own (slice_index (set_names names (Shared c) (map (slice_index (names (Space r))) places) (Shared k)) q))) (sym e.0)
       ∙ ap (λ l. At (Own (slice_index l q))) (kept d w.0 w.2) ∙ ap (λ k. At (Own (slice_index (names (Shared d)) k))) (sym e.1)
 
-  triples_same : (xs ys : List (Label × Value)) → ((l : Label) (x : Value) → Contains xs (l, x) → IsWithin old s x)
+  triples_same : (xs ys : List (Label × Value)) → ((l : Label) (x : Value) → Contains xs (l, x) → IsInLayout old s x)
       → AllZip (SameTriple (IsAt places)) (map (λ t. (t.0, resolve s t.1)) xs) ys
       → map (renamed_triple (name_in (set_names names (Shared c) (map (slice_index (names (Space r))) places)) (Shared c))) ys ≡ map (renamed_triple (name_in names (Space r))) xs
   triples_same [] [] w z = refl
@@ -243,7 +243,7 @@ module _ (r c : ℕ) (places : List ℕ) (s s2 : List Slot) (os : List Object) (
         (has_cases places i);
   }
     where
-      by : (x : Value) → IsWithin old s x → IsWithin new s2 x
+      by : (x : Value) → IsInLayout old s x → IsInLayout new s2 x
       by (Plain n) w = w
       by (At (Own i)) w = let z = P.size in omega arith
       by (At (Published d p)) w = places_kept d p w
@@ -258,7 +258,7 @@ module _ (r c : ℕ) (places : List ℕ) (s s2 : List Slot) (os : List Object) (
     led = λ j d p e. let m = mapped_at Here os j (Led d p) e in let z : Here m.0 ≡ Led d p = m.2 in absurd (let v : ⊥ = cc in v);
   }
     where
-      by : (j : ℕ) (p : Object) (l : Label) (x : Value) → slice_get os j ≡ Some p → Contains p.triples (l, x) → IsWithin new (map Here os) x
+      by : (j : ℕ) (p : Object) (l : Label) (x : Value) → slice_get os j ≡ Some p → Contains p.triples (l, x) → IsInLayout new (map Here os) x
       by j p l (Plain n) at h = tt
       by j p l (At (Own m)) at h = let lt = P.shut j p l m at h in let k = length-map os Here in omega arith
       by j p l (At (Published d q)) at h = P.outward j p l d q at h

@@ -3,7 +3,7 @@ use Rattle.std.proofs.Common.{◌≡◌, ℕ, zero, suc, ◌+◌, ◌<◌, ◌�
 use Rattle.std.proofs.lemmas.Option.{same_Some, none-some, slice_get_read}
 use Rattle.indexmap.specs.IndexMap.{set_value_at}
 use Rattle.rr_base.specs.declared.name.Sym.{Sym}
-use Rattle.rr_space.specs.Behind.{ref_behind, part_behind, field_behind, entry_behind}
+use Rattle.rr_space.specs.Views.{ref_behind, part_behind, field_behind, entry_behind}
 use Rattle.rr_space.specs.Parts.{places_from, pairs_from, field_part}
 use Rattle.rr_space.specs.Views.{entry_pair, entry_key, IsWithin, AllWithin}
 use Rattle.rr_space.specs.declared.node.Key.{Key}

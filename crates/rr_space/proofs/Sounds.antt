@@ -6,9 +6,9 @@ use Rattle.std.proofs.lemmas.List.Elements.{Contains-append_left, Contains-appen
 use Rattle.std.proofs.lemmas.Option.{slice_get_within, same_Some, none-some}
 use Rattle.rr_space.specs.Graph.{Name, Own, Published, Value, Plain, At, Label, Object, IsSolid}
 use Rattle.rr_space.specs.Tables.{Slot, Here, Led, Below, Whole, joined, below_hold, outer_objects, numbered, numbered_triple, numbered_object, cluster_at, published_at, resolve, resolve_slot, resolve_triple, resolve_object, object_in, graph_of, IsPublished}
-use Rattle.rr_space.specs.Embeds.{There}
-use Rattle.rr_space.specs.Inner.{Knows}
-use Rattle.rr_space.specs.Owners.{Layout}
+use Rattle.rr_space.specs.Tables.{There}
+use Rattle.rr_space.specs.Readings.{Knows}
+use Rattle.rr_space.specs.Readings.{Layout}
 use Rattle.rr_space.specs.Sound.{HasPlaceIn, IsStanding, IsObjectSound, IsBelowSound, IsTableSound, IsWholeSound, SoundIsSealed, SoundIsShut}
 use Rattle.rr_space.proofs.Renaming.{mapped_at, contains_map_back, same_at}
 use Rattle.rr_space.proofs.Spaces.{entry_of}

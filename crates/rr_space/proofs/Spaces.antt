@@ -6,9 +6,9 @@ use Rattle.std.proofs.lemmas.Bool.{eqb-true}
 use Rattle.std.proofs.lemmas.Option.{same_Some, none-some}
 use Rattle.rr_space.specs.Graph.{Name, Own, Published, Value, Plain, At, Label, Object}
 use Rattle.rr_space.specs.Tables.{Slot, Here, Led, Table, Below, joined, numbered_name, numbered_object, cluster_at, published_at, resolve, resolve_slot, resolve_object, object_in, space_graph}
-use Rattle.rr_space.specs.Embeds.{renamed, renamed_triple, renamed_object, Embeds}
-use Rattle.rr_space.specs.Owners.{Owner, Shared, Owned, Objects, Naming, Layout, name_in, whole, object_part, Reads, IsReading}
-use Rattle.rr_space.specs.Inner.{Knows, IsShut, SpacesAreInside}
+use Rattle.rr_space.specs.Tables.{renamed, renamed_triple, renamed_object, Embeds}
+use Rattle.rr_space.specs.Readings.{Owner, Shared, Owned, Objects, Naming, Layout, name_in, whole, object_part, Reads, IsReading}
+use Rattle.rr_space.specs.Readings.{Knows, IsShut, SpacesAreInside}
 use Rattle.rr_space.proofs.Hands.{composed}
 use Rattle.rr_space.proofs.Renaming.{map_at, mapped_at}
 

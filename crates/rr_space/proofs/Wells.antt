@@ -1,21 +1,24 @@
 -- Spaces are sound: what their fields keep says that no reference leads nowhere.
-use Rattle.std.proofs.Common.{◌≡◌, ℕ, zero, suc, ◌≤◌, List, [], ◌∷◌, ◌++◌, length, map, slice_get, Some, Contains, sym, ap, ◌∙◌, subst, refl, arith}
+use Rattle.std.proofs.Common.{◌≡◌, ℕ, zero, suc, ◌*◌, ◌≤◌, List, [], ◌∷◌, ◌++◌, length, map, slice_get, Some, Contains, sym, ap, ◌∙◌, subst, refl, arith}
 use Rattle.std.proofs.lemmas.List.{length-map}
 use Rattle.std.proofs.lemmas.List.Elements.{Contains-append_left, Contains-append_right}
 use Rattle.std.proofs.lemmas.Option.{same_Some, none-some}
-use Rattle.rr_space.specs.Graph.{Label, Value, Object, IsSolid, shell}
-use Rattle.rr_space.specs.Tables.{Whole, Table, below_hold, outer_objects, numbered_object}
-use Rattle.rr_space.specs.Parts.{Parts, value_of, value_triple, below_ref, below_parts, below_all, sealed_parts, sealed_object, sealed_kind}
-use Rattle.rr_space.specs.Within.{AllSealedWithin}
+use Rattle.rr_space.specs.Graph.{Label, Value, Object, IsSolid, shell, hash}
+use Rattle.rr_space.specs.Tables.{Here, Whole, Table, below_hold, outer_objects, numbered_object}
+use Rattle.rr_space.specs.Parts.{Parts, value_of, value_triple, below_ref, below_parts, below_all, pairs_from, sealed_parts, sealed_object, sealed_kind}
+use Rattle.rr_space.specs.Parts.{AllSealedWithin}
 use Rattle.rr_space.specs.declared.refer.Sealed.{Sealed}
 use Rattle.rr_space.specs.declared.refer.Sealed.TheVariants.{Text, Array, Hash, Object as PlainObject, Exception}
 use Rattle.rr_space.proofs.Within.{sealed_within}
-use Rattle.rr_space.specs.Sound.{HasPlaceIn, IsStanding, IsBelowSound, IsSlotSound, IsTableSound, IsWell, IsHold, IsWholeSound}
-use Rattle.rr_space.specs.Views.{IsWithin, AllWithin, IsHeldWithin, AllHeldWithin, slot_of, below_held, node_parts}
+use Rattle.rr_space.specs.Sound.{IsKeyed, HasPlaceIn, IsStanding, IsBelowSound, IsSlotSound, IsTableSound, IsWell, IsHold, IsWholeSound}
+use Rattle.rr_space.specs.Views.{IsWithin, AllWithin, IsHeldWithin, AllHeldWithin, slot_of, below_held, held_keys, emptied, node_object, node_kind, node_keys, entry_pair, entry_key, node_parts}
 use Rattle.rr_space.specs.declared.refer.Ref.{Ref}
 use Rattle.rr_space.specs.declared.refer.Ref.TheVariants.{Nil, Truth, Int, Symbol, Class, Ractor, Local, Shared}
+use Rattle.rr_space.specs.declared.node.Node.{Node}
+use Rattle.rr_space.specs.declared.node.Node.TheVariants.{Text as TextNode, Array as ArrayNode, Hash as HashNode, Object as ObjectNode, Exception as ExceptionNode}
 use Rattle.rr_space.specs.declared.node.Held.{Held}
 use Rattle.rr_space.specs.declared.node.Held.TheVariants.{Whole as WholeHeld, Shell, Forward}
+use Rattle.rr_space.proofs.Listing.{length-pairs_from}
 use Rattle.rr_space.proofs.Placing.{table_of, within_at}
 use Rattle.rr_space.proofs.Renaming.{mapped_at}
 use Rattle.rr_space.proofs.Sounds.{standing_later, append_sound, none_sound, hold_sound}
@@ -81,8 +84,41 @@ all_sound hs all = record {
       subst IsBelowSound g.2 (held_below (length hs) g.0 (within_at (length hs) hs n g.0 all g.1));
 }
 
-pub well_is : (hs : List Held) (limit owner : ℕ) (t : Table) → table_of hs limit owner ≡ t → (length hs ≤ limit) × AllHeldWithin (length hs) hs → IsWell t
-well_is hs limit owner t e all = subst IsWell e (record { room = let z = length-map hs slot_of in omega (arith, z, all.0); sound = all_sound hs all.1 })
+-- a hash has as many keys as pairs
+node_keyed : (node : Node) → node_kind node ≡ hash → length (map value_triple (node_parts node)) ≡ 2 * length (node_keys node)
+node_keyed (TextNode b) e = absurd (let w : ⊥ = cc in w)
+node_keyed (ArrayNode b) e = absurd (let w : ⊥ = cc in w)
+node_keyed (ObjectNode c b) e = absurd (let w : ⊥ = cc in w)
+node_keyed (ExceptionNode c b) e = absurd (let w : ⊥ = cc in w)
+node_keyed (HashNode es) e =
+    let ps = map entry_pair es.value.entries in
+    omega (
+      arith,
+      length-map (pairs_from 0 ps) value_triple,
+      length-pairs_from ps 0,
+      length-map es.value.entries entry_pair,
+      length-map es.value.entries entry_key,
+    )
+
+held_keyed : (h : Held) (o : Object) → slot_of h ≡ Here o → o.kind ≡ hash → length o.triples ≡ 2 * length (held_keys h)
+held_keyed (WholeHeld f node) o e kind =
+    let same : node_object node f ≡ o = cc in
+    ap (λ (x : Object). length x.triples) (sym same) ∙ node_keyed node (ap (λ (x : Object). x.kind) same ∙ kind)
+held_keyed Shell o e kind = absurd (let same : emptied ≡ o = cc in let w : shell ≡ hash = ap (λ (x : Object). x.kind) same ∙ kind in cc)
+held_keyed (Forward p c) o e kind = absurd (let w : ⊥ = cc in w)
+
+all_keyed : (hs : List Held) (limit owner next : ℕ) → IsKeyed (table_of hs limit owner next)
+all_keyed hs limit owner next = record {
+  count = length-map hs held_keys ∙ sym (length-map hs slot_of);
+  pairs = λ n o ks at keys_at kind.
+      let h = mapped_at slot_of hs n (Here o) at in
+      let g = mapped_at held_keys hs n ks keys_at in
+      let one : g.0 ≡ h.0 = same_Some g.0 h.0 (sym g.1 ∙ h.1) in
+      held_keyed h.0 o h.2 kind ∙ ap (λ xs. 2 * length xs) (ap held_keys (sym one) ∙ g.2);
+}
+
+pub well_is : (hs : List Held) (limit owner next : ℕ) (t : Table) → table_of hs limit owner next ≡ t → (length hs ≤ limit) × AllHeldWithin (length hs) hs → IsWell t
+well_is hs limit owner next t e all = subst IsWell e (record { room = let z = length-map hs slot_of in omega (arith, z, all.0); sound = all_sound hs all.1; keyed = all_keyed hs limit owner next })
 
 -- clusters
 sealed_solid : (s : Sealed) → IsSolid (sealed_object s)

@@ -4,7 +4,7 @@ use Rattle.std.specs.Option.{option_map}
 use Rattle.std.proofs.lemmas.Option.{same_Some, none-some}
 use Rattle.rr_space.specs.Graph.{Label}
 use Rattle.rr_space.specs.Labels.{labelled}
-use Rattle.rr_space.specs.Within.{AllSealedWithin}
+use Rattle.rr_space.specs.Parts.{AllSealedWithin}
 use Rattle.rr_space.specs.declared.label.Label.{Label as CodeLabel}
 use Rattle.rr_space.specs.declared.refer.Sealed.{Sealed}
 use Rattle.rr_space.specs.Parts.{Parts, sealed_parts}

@@ -2,7 +2,7 @@
 use Rattle.std.specs.Prelude.{◌+◌, ◌↔◌, ℕ, Bool, true, false, List, [], ◌∷◌, Contains}
 use Rattle.rr_base.specs.declared.name.TheConstants.ClassId.{ARRAY, STRING}
 use Rattle.rr_space.specs.Graph.{Graph, Own, Immediate, Value, Plain, At, Label, Place, Object, array, text, Reaches, IsShareable}
-use Rattle.rr_space.specs.Alike.{Alike, IsAt}
+use Rattle.rr_space.specs.Graph.{Alike, IsAt}
 use Rattle.rr_space.specs.Tables.{Slot, Here, graph_of}
 use Rattle.rr_space.specs.Views.{emptied}
 

@@ -1,5 +1,6 @@
--- Object graphs: values, objects, paths, and what it is to be shareable.
-use Rattle.std.specs.Prelude.{◌≡◌, ℕ, ℤ, Bool, true, List, [], ◌∷◌, Option, Some, Contains}
+-- Object graphs: values, objects, paths, what it is to be shareable, the part of a value, and when two values are alike.
+use Rattle.std.specs.Prelude.{◌≡◌, ℕ, ℤ, Bool, true, List, [], ◌∷◌, Option, Some, Contains, slice_get, ◌⊎◌}
+use Rattle.std.specs.List.{AllZip}
 
 -- the name of an object: a slot of a space or a place of a message, or a place of a published cluster
 pub data Name : Type 0 where
@@ -79,3 +80,76 @@ IsFreeOfShells g v = (n : Name) (o : Object) → Reaches g v n → g n ≡ Some 
 -- the part of v: the objects that it leads to and that are not shareable
 abbrev pub IsPart : Graph → Value → Name → Type 0
 IsPart g v n = Reaches g v n × (IsShareable g (At n) → ⊥)
+
+-- ---- When two values lead to objects of one shape.
+
+-- one immediate, one published object, or the two names of a pair
+abbrev pub SameValue : (ℕ → ℕ → Type 0) → Value → Value → Type 0
+SameValue P (Plain p) (Plain q) = p ≡ q
+SameValue P (Plain p) (At m) = ⊥
+SameValue P (At n) (Plain q) = ⊥
+SameValue P (At (Own n)) (At (Own m)) = P n m
+SameValue P (At (Own n)) (At (Published c p)) = ⊥
+SameValue P (At (Published c p)) (At (Own m)) = ⊥
+SameValue P (At (Published c p)) (At (Published d q)) = (c ≡ d) × (p ≡ q)
+
+-- one label, and the same value under it
+abbrev pub SameTriple : (ℕ → ℕ → Type 0) → Label × Value → Label × Value → Type 0
+SameTriple P s t = (s.0 ≡ t.0) × SameValue P s.1 t.1
+
+-- equal kind, class, contents, frozen flag and labels, with the same values under the labels
+pub record Matches (P : ℕ → ℕ → Type 0) (o p : Object) : Type 0 where
+  pub kind : o.kind ≡ p.kind
+  pub class : o.class ≡ p.class
+  pub bytes : o.bytes ≡ p.bytes
+  pub frozen : o.frozen ≡ p.frozen
+  pub triples : AllZip (SameTriple P) o.triples p.triples
+
+-- P pairs the part of v in g with the part of w in h, one to one, and paired objects match
+pub record Alike (g : Graph) (v : Value) (h : Graph) (w : Value) (P : ℕ → ℕ → Type 0) : Type 0 where
+  pub roots : SameValue P v w
+  pub same : (n m : ℕ) (o p : Object) → P n m → g (Own n) ≡ Some o → h (Own m) ≡ Some p → Matches P o p
+  pub has_left : (n : ℕ) → IsPart g v (Own n) → (m : ℕ) × P n m
+  pub has_right : (m : ℕ) → IsPart h w (Own m) → (n : ℕ) × P n m
+  pub left : (n m : ℕ) → P n m → IsPart g v (Own n)
+  pub right : (n m : ℕ) → P n m → IsPart h w (Own m)
+  pub one_left : (n m k : ℕ) → P n m → P n k → m ≡ k
+  pub one_right : (n k m : ℕ) → P n m → P k m → n ≡ k
+
+-- the pairing by a list of names: the i-th of them with i
+abbrev pub IsAt : List ℕ → ℕ → ℕ → Type 0
+IsAt names n i = slice_get names i ≡ Some n
+
+-- ---- When two values of whole graphs lead to objects of one shape.
+
+-- paired objects, or the same shareable value
+abbrev pub SameIn : Graph → (Name → Name → Type 0) → Value → Value → Type 0
+SameIn g P (Plain p) (Plain q) = p ≡ q
+SameIn g P (Plain p) (At m) = ⊥
+SameIn g P (At n) (Plain q) = ⊥
+SameIn g P (At n) (At m) = P n m ⊎ ((n ≡ m) × IsShareable g (At n))
+
+abbrev pub SameTripleIn : Graph → (Name → Name → Type 0) → Label × Value → Label × Value → Type 0
+SameTripleIn g P s t = (s.0 ≡ t.0) × SameIn g P s.1 t.1
+
+pub record MatchesIn (g : Graph) (P : Name → Name → Type 0) (o p : Object) : Type 0 where
+  pub kind : o.kind ≡ p.kind
+  pub class : o.class ≡ p.class
+  pub bytes : o.bytes ≡ p.bytes
+  pub frozen : o.frozen ≡ p.frozen
+  pub triples : AllZip (SameTripleIn g P) o.triples p.triples
+
+-- P pairs the part of v in g with the part of w in h, one to one, and paired objects match
+pub record IsAlike (g : Graph) (v : Value) (h : Graph) (w : Value) (P : Name → Name → Type 0) : Type 0 where
+  pub roots : SameIn g P v w
+  pub same : (n m : Name) (o p : Object) → P n m → g n ≡ Some o → h m ≡ Some p → MatchesIn g P o p
+  pub has_left : (n : Name) → IsPart g v n → (m : Name) × P n m
+  pub has_right : (m : Name) → IsPart h w m → (n : Name) × P n m
+  pub left : (n m : Name) → P n m → IsPart g v n
+  pub right : (n m : Name) → P n m → IsPart h w m
+  pub one_left : (n m k : Name) → P n m → P n k → m ≡ k
+  pub one_right : (n k m : Name) → P n m → P k m → n ≡ k
+
+-- two lists of names, place by place
+abbrev pub Paired : List Name → List Name → Name → Name → Type 0
+Paired left right n m = (i : ℕ) × (slice_get left i ≡ Some n) × (slice_get right i ≡ Some m)

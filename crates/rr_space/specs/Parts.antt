@@ -1,5 +1,5 @@
--- How references and nodes give values and objects.
-use Rattle.std.specs.Prelude.{ℕ, ◌+◌, true, List, [], ◌∷◌, ◌++◌, map, Option, Some, None, Bool, false}
+-- How references and the objects of clusters give values and objects, and which references lead somewhere.
+use Rattle.std.specs.Prelude.{ℕ, ◌+◌, true, List, [], ◌∷◌, ◌++◌, map, Option, Some, None, Bool, false, ◌<◌}
 use Rattle.rr_base.specs.declared.name.Sym.{Sym}
 use Rattle.rr_base.specs.declared.name.TheConstants.ClassId.{ARRAY, HASH, STRING}
 use Rattle.rr_space.specs.Graph.{Nil, Truth, Integer, SymbolNo, ClassNo, RactorNo, Value, Plain, At, Own, Published, Label, Place, Field, KeyAt, ValueAt, Message, Cause, Ractor, Object, Kind, text, array, hash, plain, exception}
@@ -9,6 +9,7 @@ use Rattle.rr_space.specs.declared.refer.Ref.TheVariants.{Nil as NilRef, Truth a
 use Rattle.rr_space.specs.declared.refer.Raised.{Raised}
 use Rattle.rr_space.specs.declared.refer.Sealed.{Sealed}
 use Rattle.rr_space.specs.declared.refer.Sealed.TheVariants.{Text as SealedText, Array as SealedArray, Hash as SealedHash, Object as SealedObject, Exception as SealedException}
+use Rattle.rr_space.specs.Sound.{IsHold}
 
 -- the value that a reference is
 abbrev pub value_of : Ref → Value
@@ -94,3 +95,20 @@ bytes_of None = []
 abbrev pub is_frozen_object : Option Object → Bool
 is_frozen_object (Some o) = o.frozen
 is_frozen_object None = false
+
+-- ---- References that lead somewhere.
+
+-- the reference is an immediate, a slot below k, or a place that its cluster has
+abbrev pub IsWithin : ℕ → Ref → Type 0
+IsWithin k (Local n) = n < k
+IsWithin k (Shared p c) = IsHold p c.now
+IsWithin k _ = Unit {0}
+
+abbrev pub AllWithin : ℕ → Parts → Type 0
+AllWithin k [] = Unit {0}
+AllWithin k (t ∷ ts) = IsWithin k t.1 × AllWithin k ts
+
+-- each reference of the objects of a cluster is within
+abbrev pub AllSealedWithin : ℕ → List Sealed → Type 0
+AllSealedWithin k [] = Unit {0}
+AllSealedWithin k (s ∷ ss) = AllWithin k (sealed_parts s) × AllSealedWithin k ss

@@ -1,9 +1,9 @@
 -- What the types of spaces, messages and clusters keep: no reference leads nowhere, and what is published is frozen.
-use Rattle.std.specs.Prelude.{◌≡◌, ℕ, ◌<◌, ◌≤◌, List, length, Some, slice_get, Contains}
-use Rattle.rr_space.specs.Graph.{Own, Published, Value, Plain, At, Label, Object, IsSolid}
-use Rattle.rr_space.specs.Tables.{Slot, Here, Led, Below, Whole, Table, joined, graph_of, IsSealed}
-use Rattle.rr_space.specs.Inner.{Knows, IsShut}
-use Rattle.rr_space.specs.Owners.{Layout}
+use Rattle.std.specs.Prelude.{◌≡◌, ℕ, ◌*◌, ◌<◌, ◌≤◌, List, length, Some, slice_get, Contains}
+use Rattle.rr_space.specs.Graph.{Own, Published, Value, Plain, At, Label, Object, IsSolid, hash}
+use Rattle.rr_space.specs.Tables.{Slot, Here, Led, Below, Whole, Table, HashKey, joined, graph_of, IsSealed}
+use Rattle.rr_space.specs.Readings.{Knows, IsShut}
+use Rattle.rr_space.specs.Readings.{Layout}
 
 -- a cluster of that number is in the list, and it has the place
 abbrev pub HasPlaceIn : Below → ℕ → ℕ → Type 0
@@ -34,10 +34,16 @@ pub record IsTableSound (ss : List Slot) (bs : List Below) : Type 0 where
   pub slots : (n : ℕ) (s : Slot) (b : Below) → slice_get ss n ≡ Some s → slice_get bs n ≡ Some b → IsSlotSound (length ss) s b
   pub below : (n : ℕ) (b : Below) → slice_get bs n ≡ Some b → IsBelowSound b
 
+-- each slot has its list of keys, and a hash has as many keys as pairs
+pub record IsKeyed (t : Table) : Type 0 where
+  pub count : length t.keys ≡ length t.slots
+  pub pairs : (n : ℕ) (o : Object) (ks : List HashKey) → slice_get t.slots n ≡ Some (Here o) → slice_get t.keys n ≡ Some ks → o.kind ≡ hash → length o.triples ≡ 2 * length ks
+
 -- what each space keeps
 pub record IsWell (t : Table) : Type 0 where
   pub room : length t.slots ≤ t.limit
   pub sound : IsTableSound t.slots t.below
+  pub keyed : IsKeyed t
 
 -- what each cluster keeps: it is frozen throughout, holds no shells, and leads to itself and to the clusters below it
 pub record IsWholeSound (w : Whole) : Type 0 where

@@ -1,5 +1,5 @@
--- What contracts see of a space and of a cluster, and the graph that each is.
-use Rattle.std.specs.Prelude.{◌≡◌, ℕ, ◌<◌, List, [], ◌∷◌, ◌++◌, length, map, Option, None, Some, slice_get, nat_eq, cond, Contains}
+-- What contracts see of a space, of a cluster and of a message, the graph that each is, and graphs inside others.
+use Rattle.std.specs.Prelude.{◌≡◌, ℕ, ◌<◌, List, [], ◌∷◌, ◌++◌, length, map, Option, None, Some, slice_get, nat_eq, cond, Contains, ◌+◌}
 use Rattle.std.specs.Option.{option_and_then}
 use Rattle.rr_space.specs.Graph.{Graph, Immediate, Name, Own, Published, Value, Plain, At, Label, Object, IsSolid}
 
@@ -24,13 +24,20 @@ pub data HashKey : Type 0 where
   TextKey : (bytes : List ℕ) → HashKey
 
 -- a space: its slots, for each slot the clusters that it leads to and the keys of a hash, the most slots that it may
--- have, and its ractor
+-- have, its ractor, and the number that the next message has that is moved out of it
 pub record Table : Type 0 where
   pub slots : List Slot
   pub below : List Below
   pub keys : List (List HashKey)
   pub limit : ℕ
   pub owner : ℕ
+  pub next_message : ℕ
+
+-- what a table has beside its slots stays: the limit, the owner and the number of the next message
+pub record IsRestKept (old new : Table) : Type 0 where
+  pub limit : new.limit ≡ old.limit
+  pub owner : new.owner ≡ old.owner
+  pub next_message : new.next_message ≡ old.next_message
 
 -- a name inside a cluster, seen from outside
 abbrev pub numbered_name : ℕ → Name → Name
@@ -136,3 +143,33 @@ IsBelow k (At (Published c p)) = Unit {0}
 pub record IsClosed (m : Packed) : Type 0 where
   pub objects : (n : ℕ) (o : Object) (l : Label) (x : Value) → slice_get m.objects n ≡ Some o → Contains o.triples (l, x) → IsBelow (length m.objects) x
   pub root : IsBelow (length m.objects) m.root
+
+-- ---- A graph inside another, under other names.
+
+abbrev pub renamed : (Name → Name) → Value → Value
+renamed f (Plain n) = Plain n
+renamed f (At n) = At (f n)
+
+abbrev pub renamed_triple : (Name → Name) → Label × Value → Label × Value
+renamed_triple f t = (t.0, renamed f t.1)
+
+abbrev pub renamed_object : (Name → Name) → Object → Object
+renamed_object f o = record o { triples = map (renamed_triple f) o.triples }
+
+-- what the value names is an object of the graph
+abbrev pub There : Graph → Value → Type 0
+There g v = (m : Name) → v ≡ At m → (p : Object) × (g m ≡ Some p)
+
+-- each object of g is an object of whole, under the name that f gives it, and no triple leads out of g
+pub record Embeds (g : Graph) (f : Name → Name) (whole : Graph) : Type 0 where
+  pub here : (n : Name) (o : Object) → g n ≡ Some o → whole (f n) ≡ Some (renamed_object f o)
+  pub shut : (n : Name) (o : Object) (l : Label) (x : Value) → g n ≡ Some o → Contains o.triples (l, x) → There g x
+  pub one : (n m : Name) (o p : Object) → g n ≡ Some o → g m ≡ Some p → f n ≡ f m → n ≡ m
+
+-- a name of a table that goes behind k slots
+abbrev pub behind : ℕ → Name → Name
+behind k (Own i) = Own (k + i)
+behind k (Published c p) = Published c p
+
+abbrev pub here_behind : ℕ → Object → Slot
+here_behind k o = Here (renamed_object (behind k) o)

@@ -1,9 +1,10 @@
 //! Objects that come into a space behind those that are there.
 
+ghost use Rattle.rr_space.specs.Tables.{IsRestKept};
 ghost use Rattle.std.specs.Prelude.{◌≡◌, ◌+◌, ◌<◌, ◌≤◌, ◌⊎◌, ◌++◌, ◌^◌, length, map, vec_len, vec_capacity, IfOk, IfErr};
-ghost use Rattle.rr_space.specs.Behind.{IsAppended};
-ghost use Rattle.rr_space.specs.Embeds.{here_behind};
-ghost use Rattle.rr_space.specs.Carrying.{AllCarriedWithin, carried_object, carried_below, carried_keys};
+ghost use Rattle.rr_space.specs.Views.{IsAppended};
+ghost use Rattle.rr_space.specs.Tables.{here_behind};
+ghost use Rattle.rr_space.specs.Views.{AllCarriedWithin, carried_object, carried_below, carried_keys};
 
 use crate::carried::Carried;
 use crate::node::Held;
@@ -21,8 +22,7 @@ impl Space {
         ensures slots { IfOk result (λ _. self.new.slots ≡ self.old.slots ++ map (here_behind (length self.old.slots)) (map carried_object objects.items)) }
         ensures below { IfOk result (λ _. self.new.below ≡ self.old.below ++ map carried_below objects.items) }
         ensures keys { IfOk result (λ _. self.new.keys ≡ self.old.keys ++ map carried_keys objects.items) }
-        ensures limit { self.new.limit ≡ self.old.limit }
-        ensures owner { self.new.owner ≡ self.old.owner }
+        ensures rest { IsRestKept self.old self.new }
         ensures back { IfErr result (λ refusal. (refusal.1 ≡ objects) × (self.new ≡ self.old)) }
         ensures grows { IfErr result (λ refusal. 1 ≤ length objects.items) }
         ensures fault { IfErr result (λ refusal. ((refusal.0 ≡ Fault.Memory) × (length self.old.slots + length objects.items ≤ self.old.limit))

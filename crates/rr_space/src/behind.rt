@@ -1,11 +1,11 @@
 //! References, and the nodes that hold them, once the slots that they lead to stand behind others.
 
 ghost use Rattle.std.specs.Prelude.{◌≡◌, ◌-◌, ◌<◌, ◌^◌, length, map};
-ghost use Rattle.rr_space.specs.Behind.{ref_behind, part_behind, field_behind, entry_behind};
+ghost use Rattle.rr_space.specs.Views.{ref_behind, part_behind, field_behind, entry_behind};
 ghost use Rattle.rr_space.specs.Parts.{places_from, pairs_from, field_part, raised_parts};
 ghost use Rattle.rr_space.specs.Views.{node_parts, entry_pair, IsHeadKept, IsNodeWithin};
 ghost use Rattle.indexmap.specs.IndexMap.{set_value_at};
-ghost use Rattle.rr_space.specs.Within.{IsWithin, AllWithin};
+ghost use Rattle.rr_space.specs.Parts.{IsWithin, AllWithin};
 
 use crate::node::{Entries, Node};
 use crate::refer::{Raised, Ref};
@@ -98,7 +98,11 @@ fn entries_behind(entries: &mut Entries, count: u32)
 }
 
 /// Puts `value` in the place of the value of an entry.
-fn replace_value<K: Hash + Eq, V: Copy>(entries: &mut IndexMap<K, V>, index: usize, value: V)
+pub(crate) fn replace_value<K: Hash + Eq, V: Copy>(
+    entries: &mut IndexMap<K, V>,
+    index: usize,
+    value: V,
+)
     requires { index < length entries.old.entries }
     ensures { entries.new.entries ≡ set_value_at entries.old.entries index value }
 {

@@ -4,11 +4,11 @@ ghost use Rattle.std.specs.Prelude.{◌≡◌, ◌≤◌, ◌⊎◌, ◌^◌, �
 ghost use Rattle.std.specs.List.{AllZip};
 ghost use Rattle.rr_base.specs.declared.name.Sym.{Sym as SymView};
 ghost use Rattle.rr_space.specs.Graph.{Object, Own, At, Label};
-ghost use Rattle.rr_space.specs.Alike.{Matches, SameValue, IsAt};
+ghost use Rattle.rr_space.specs.Graph.{Matches, SameValue, IsAt};
 ghost use Rattle.rr_space.specs.Parts.{value_of, below_ref, raised_parts};
 ghost use Rattle.rr_space.specs.Tables.{Here, joined, resolve, resolve_object};
 ghost use Rattle.rr_space.specs.Views.{below_node, key_of, node_keys, node_parts, is_whole, IsWithin, IsNodeWithin, IsHeadKept};
-ghost use Rattle.rr_space.specs.Carrying.{carried_object, IsKnown, IsCarried, IsCarriedPart, IsCarriedField, IsCarriedEntry};
+ghost use Rattle.rr_space.specs.Views.{carried_object, IsKnown, IsCarried, IsCarriedPart, IsCarriedField, IsCarriedEntry};
 ghost use Rattle.rr_space.specs.declared.node.Key.{Key as KeyView};
 ghost use Rattle.rr_space.specs.declared.refer.Ref.{Ref as RefView};
 

@@ -1,14 +1,17 @@
 //! The pairs of the hash that a node may be.
 
-ghost use Rattle.std.specs.Prelude.{◌≡◌, ℕ, ◌+◌, ◌*◌, ◌⊎◌, List, [], ◌∷◌, ◌++◌, length, remove, slice_get, slice_set, Contains, IsOk, IfOk, IfErr, IfSome, IfNone, MatchOption, OnOk, OnErr};
+ghost use Rattle.std.specs.Prelude.{◌≡◌, ℕ, ◌+◌, ◌*◌, ◌⊎◌, List, [], ◌∷◌, ◌++◌, length, map, None, remove, slice_get, slice_set, Contains, IsOk, IfOk, IfErr, IfSome, IfNone, MatchOption, OnOk, OnErr};
 ghost use Rattle.rr_space.specs.Graph.{Object, hash, KeyAt, ValueAt};
-ghost use Rattle.rr_space.specs.Parts.{below_ref};
+ghost use Rattle.rr_space.specs.Parts.{below_ref, value_triple};
 ghost use Rattle.rr_space.specs.Views.{key_of, entry_pair, node_keys, node_kind, node_pairs, node_parts, below_node, IsWithin, IsNodeWithin, IsBareHeadKept};
-ghost use Rattle.rr_space.specs.Writes.{IsFirstAt, kept_name};
+ghost use Rattle.rr_space.specs.Views.{IsFirstAt, kept_name};
 ghost use Rattle.indexmap.specs.IndexMap.{insert_entry};
 ghost use Rattle.std.specs.Map.{lookup};
+ghost use Rattle.rr_space.specs.Labels.{IsPairThere};
+ghost use Rattle.rr_space.specs.Lookups.{AreDistinct};
 ghost use Rattle.std.specs.Option.{option_map};
 
+use crate::behind::replace_value;
 use crate::node::{Key, Node};
 use crate::refer::Ref;
 use indexmap::IndexMap;
@@ -18,10 +21,17 @@ use std::hash::Hash;
 impl Node {
     /// The place of the pair of a hash that has this key.
     pub(crate) fn place_of(&self, key: &Key) -> Option<usize>
-        ensures { MatchOption result (Contains (node_keys self.now) (key_of key.now) → ⊥) (IsFirstAt (node_keys self.now) (key_of key.now)) }
+        ensures first { MatchOption result (Contains (node_keys self.now) (key_of key.now) → ⊥) (IsFirstAt (node_keys self.now) (key_of key.now)) }
+        ensures there { IfSome result (λ i. IsPairThere (map value_triple (node_parts self.now)) i) }
+        ensures none { (node_kind self.now ≡ hash → ⊥) → result ≡ None }
+        ensures distinct { AreDistinct (node_keys self.now) }
     {
         match self {
-            Node::Hash(entries) => entries.get_index_of(key),
+            Node::Hash(entries) => {
+                // No two keys are equal, as the length's clause says.
+                let _ = entries.len();
+                entries.get_index_of(key)
+            }
             _ => None,
         }
     }
@@ -56,6 +66,7 @@ impl Node {
         ensures head { IsBareHeadKept self result.0 }
         ensures within { (k : ℕ) → IsNodeWithin k self → IsNodeWithin k result.0 × IfSome result.1 (λ p. IsWithin k p.0 × IsWithin k p.1) }
         ensures below { (e : ℕ × List Object) → Contains (below_node result.0) e → Contains (below_node self) e }
+        ensures below_taken { IfSome result.1 (λ p. (e : ℕ × List Object) → Contains (below_ref p.0 ++ below_ref p.1) e → Contains (below_node self) e) }
     {
         match self {
             Node::Hash(mut entries) => {
@@ -80,11 +91,11 @@ fn put_pair<K: Hash + Eq + Drop, R: Copy>(
     ensures absent { OnErr result (lookup (K.eq key) entries.old.entries ≡ None) }
     ensures fault { IfErr result (λ e. e ≡ Fault.Memory) }
 {
-    let kept = match entries.get(&key) {
-        Some(pair) => pair.0,
-        None => name,
-    };
-    entries.insert(key, (kept, value))?;
+    let (index, before) = entries.insert_full(key, (name, value))?;
+    match before {
+        Some(pair) => replace_value(entries, index, (pair.0, value)),
+        None => (),
+    }
     Ok(())
 }
 

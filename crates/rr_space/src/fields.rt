@@ -2,10 +2,10 @@
 
 ghost use Rattle.std.specs.Prelude.{◌≡◌, ℕ, ◌+◌, ◌⊎◌, List, [], ◌∷◌, ◌++◌, length, map, Some, slice_get, slice_set, Contains, IsTrue, IsOk, IfOk, IfErr, MatchOption};
 ghost use Rattle.rr_space.specs.Graph.{Object, plain, exception, Field};
-ghost use Rattle.rr_space.specs.Tables.{Here};
+ghost use Rattle.rr_space.specs.Tables.{Here, IsRestKept};
 ghost use Rattle.rr_space.specs.Parts.{value_of, below_ref, field_part};
 ghost use Rattle.rr_space.specs.Views.{can_write_at, node_kind, node_parts, below_node, IsWithin, IsNodeWithin, IsHeadKept, IsLedBy};
-ghost use Rattle.rr_space.specs.Writes.{IsFirstAt, label_part, ref_label, field_names};
+ghost use Rattle.rr_space.specs.Views.{IsFirstAt, label_part, ref_label, field_names};
 ghost use Rattle.rr_space.specs.Kinds.{kind_at};
 
 use crate::kind::Kind;
@@ -30,8 +30,7 @@ impl Space {
             → IfOk result (λ _. self.new.slots ≡ slice_set self.old.slots n (Here (record o { triples = o.triples ++ (Field name.0, value_of value) ∷ [] }))) }
         ensures below { (n : ℕ) → object ≡ Ref.Local n → IfOk result (λ _. IsLedBy value n self.old.below self.new.below) }
         ensures keys { self.new.keys ≡ self.old.keys }
-        ensures limit { self.new.limit ≡ self.old.limit }
-        ensures owner { self.new.owner ≡ self.old.owner }
+        ensures rest { IsRestKept self.old self.new }
         ensures refused { IfErr result (λ _. self.new ≡ self.old) }
         ensures fault { IfErr result (λ e. e ≡ Fault.Memory) }
     {

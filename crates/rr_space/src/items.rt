@@ -1,12 +1,15 @@
 //! The elements of an array.
 
-ghost use Rattle.std.specs.Prelude.{◌≡◌, ◌-◌, ◌<◌, ◌^◌, [], ◌∷◌, ◌++◌, length, map, remove, slice_get, slice_set, Some, IfOk, IfErr};
-ghost use Rattle.rr_space.specs.Behind.{ref_behind};
+ghost use Rattle.std.specs.Prelude.{ℕ, ◌≡◌, ◌-◌, ◌<◌, ◌^◌, [], ◌∷◌, ◌++◌, length, map, remove, slice_get, slice_set, Some, IfOk, IfErr};
+ghost use Rattle.rr_space.specs.Views.{ref_behind};
 ghost use Rattle.rr_space.specs.Parts.{places_from};
-ghost use Rattle.rr_space.specs.Within.{AllWithin};
+ghost use Rattle.rr_space.specs.Parts.{AllWithin};
+ghost use Rattle.std.specs.List.{AllZip};
+ghost use Rattle.rr_space.specs.declared.refer.Ref.{Ref as RefView};
 
 use crate::behind::refs_behind;
 use crate::refer::Ref;
+use crate::renumber::{Renumber, renumber_refs};
 use crate::replace::replace_at;
 use rr_base::Fault;
 use std::alloc::Global;
@@ -87,6 +90,7 @@ impl Items {
     }
 
     /// The `k`-th element.
+    #[inline(always)]
     pub fn get(&self, k: usize) -> Option<Ref>
         ensures { result ≡ slice_get self.now k }
     {
@@ -157,6 +161,25 @@ impl Items {
             }
             Kept::Many(mut items) => {
                 refs_behind(&mut items, count);
+                Items::from_vec(items)
+            }
+        }
+    }
+
+    /// The elements renumbered.
+    pub(crate) fn renumbered<R: Renumber>(self, by: &R) -> Items
+        requires { (k : ℕ) (r : RefView) → slice_get self k ≡ Some r → R.may by.now r }
+        ensures { AllZip (R.gives by.now) self result }
+    {
+        let Items { kept } = self;
+        match kept {
+            Kept::Empty(alloc) => Items::new(alloc),
+            Kept::One(alloc, item) => Items::one(alloc, by.renumbered(item)),
+            Kept::Two(alloc, first, second) => {
+                Items::two(alloc, by.renumbered(first), by.renumbered(second))
+            }
+            Kept::Many(mut items) => {
+                renumber_refs(&mut items, by);
                 Items::from_vec(items)
             }
         }

@@ -1,16 +1,16 @@
 //! What follows from the definitions of the graph. Each function has a law as its clause, and does nothing.
 
-ghost use Rattle.rr_space.specs.Copying.{LeavesSuffice, CopiesAreAlike};
-ghost use Rattle.rr_space.specs.Insides.{AlikeInside};
-ghost use Rattle.rr_space.specs.Cases.{CopiesAreAlikeInTheWhole, EmptyIsRead};
-ghost use Rattle.rr_space.specs.Inner.{SpacesAreInside};
-ghost use Rattle.rr_space.specs.Changes.{ClosedStaysInside, FrozenIsShareable, PromotedIsPart, EmptiedIsNotShareable};
+ghost use Rattle.rr_space.specs.Laws.{LeavesSuffice, CopiesAreAlike};
+ghost use Rattle.rr_space.specs.Laws.{AlikeInside};
+ghost use Rattle.rr_space.specs.Laws.{CopiesAreAlikeInTheWhole, EmptyIsRead};
+ghost use Rattle.rr_space.specs.Readings.{SpacesAreInside};
+ghost use Rattle.rr_space.specs.Laws.{ClosedStaysInside, FrozenIsShareable, PromotedIsPart, EmptiedIsNotShareable};
 ghost use Rattle.rr_space.specs.Examples.{Examples};
-ghost use Rattle.rr_space.specs.Owners.{ReadingsAreApart, RootsAreLocal};
-ghost use Rattle.rr_space.specs.Marks.{MarksDecide};
-ghost use Rattle.rr_space.specs.Moves.{ForwardedIsExact, KeepingAddsUp, ForwardsKeep, MoreKeeps};
+ghost use Rattle.rr_space.specs.Readings.{ReadingsAreApart, RootsAreLocal};
+ghost use Rattle.rr_space.specs.Laws.{MarksDecide};
+ghost use Rattle.rr_space.specs.Moves.{ForwardedIsExact, KeepingAddsUp, PromotingKeeps, OpeningKeeps, PuttingBackKeeps};
 ghost use Rattle.rr_space.specs.Sound.{SoundIsSealed, SoundIsShut};
-ghost use Rattle.rr_space.specs.Effects.{DeepFreezingKeeps, EmptyingNothing, PromotedIsPublished, ClosedStandsBehind};
+ghost use Rattle.rr_space.specs.Laws.{DeepFreezingKeeps, EmptyingNothing, PromotedIsPublished, ClosedStandsBehind};
 ghost use Rattle.rr_space.specs.Steps.{HandsOn, PublishingIsTurning, RemakingIsAStep, DroppingIsAStep};
 
 /// A search that stops at published objects decides who is shareable.
@@ -76,11 +76,13 @@ pub fn shown_by_soundness()
     ensures shut { SoundIsShut }
 {}
 
-/// The forwards of a plan are a function of its places; they, and objects that come behind, keep what was there.
-pub fn shown_by_forwards()
+/// The forwards of a plan are a function of its places. They keep what was there, and so do objects that come behind, and
+/// objects that were moved away and are put back.
+pub fn shown_by_keeping()
     ensures exact { ForwardedIsExact }
-    ensures forwards { ForwardsKeep }
-    ensures more { MoreKeeps }
+    ensures promoting { PromotingKeeps }
+    ensures opening { OpeningKeeps }
+    ensures putting_back { PuttingBackKeeps }
     ensures adds_up { KeepingAddsUp }
 {}
 

@@ -3,12 +3,13 @@
 ghost use Rattle.std.specs.Prelude.{◌≡◌, ◌<◌, ◌+◌, ◌*◌, ◌↔◌, ℕ, List, [], ◌∷◌, ◌++◌, length, remove, Some, slice_get, slice_set, Contains, IsTrue, IsOk, IsSome, IfOk, IfErr, IfSome, IfNone, MatchOption};
 ghost use Rattle.rr_space.specs.Graph.{Object, Value, KeyAt, ValueAt};
 ghost use Rattle.rr_space.specs.Graph.{hash as hash_kind};
-ghost use Rattle.rr_space.specs.Lookups.{IsOneEach, IsPairOf, published_object, below_of};
-ghost use Rattle.rr_space.specs.Tables.{Here, HashKey};
+ghost use Rattle.rr_space.specs.Lookups.{IsOneEach, IsPairOf, AreDistinct, key_at, published_object, below_of};
+ghost use Rattle.rr_space.specs.Tables.{Here, HashKey, IsRestKept};
 ghost use Rattle.rr_space.specs.Parts.{value_of, below_ref};
-ghost use Rattle.rr_space.specs.Views.{key_of, can_write_at, IsWithin, IsLedAlso};
-ghost use Rattle.rr_space.specs.Writes.{IsFirstAt, paired_from, pair_values, keys_at};
+ghost use Rattle.rr_space.specs.Views.{key_of, can_write_at, IsKnownTo, IsWithin, IsLedAlso};
+ghost use Rattle.rr_space.specs.Views.{IsFirstAt, paired_from, pair_values, keys_at};
 ghost use Rattle.rr_space.specs.Kinds.{kind_at};
+ghost use Rattle.rr_space.specs.Labels.{triples_at, IsPairThere};
 
 use crate::kind::Kind;
 use crate::node::{Held, Key, Node};
@@ -21,6 +22,9 @@ impl Space {
     /// published hash the pairs are tried one by one.
     pub fn find(&self, hash: Ref, key: &Key) -> Option<usize>
         ensures own { (ks : List HashKey) → keys_at self.now hash ≡ Some ks → MatchOption result (Contains ks (key_of key.now) → ⊥) (IsFirstAt ks (key_of key.now)) }
+        ensures none { (kind_at self.now hash ≡ Kind.Hash → ⊥) → result ≡ None }
+        ensures there { IfSome result (λ i. IsPairThere (triples_at self.now hash) i) }
+        ensures distinct { (ks : List HashKey) → keys_at self.now hash ≡ Some ks → AreDistinct ks }
         ensures published { (o : Object) → published_object self.now hash ≡ Some o → o.kind ≡ hash_kind → IsOneEach (below_of self.now hash) → IsPairOf (below_of self.now hash) o.triples (key_of key.now) result }
     {
         match hash {
@@ -40,21 +44,21 @@ impl Space {
     }
 
     /// Gives `key` the value `value` in a hash: in its pair where the hash has one, and else in a new pair behind the
-    /// others, whose key is `name`. `can_write` tells whether `hash` may be written.
+    /// others, whose key is `name`. `can_write` tells whether `hash` may be written, and `is_key` whether `name` is the key.
     ///
     /// Answers `Fault::Memory` where a growth was refused; a key that is there needs none.
     pub fn write_pair(&mut self, hash: Ref, key: Key, name: Ref, value: Ref) -> Result<(), Fault>
         requires can { IsTrue (can_write_at self.old hash) }
         requires kind { kind_at self.old hash ≡ Kind.Hash }
         requires name { IsWithin (length self.old.slots) name }
+        requires named { key_at self.old name ≡ Some (key_of key) }
         requires value { IsWithin (length self.old.slots) value }
         ensures present { (n i : ℕ) (o : Object) (ks : List HashKey) → hash ≡ Ref.Local n → slice_get self.old.slots n ≡ Some (Here o) → slice_get self.old.keys n ≡ Some ks → IsFirstAt ks (key_of key) i
             → IsOk result × (self.new.slots ≡ slice_set self.old.slots n (Here (record o { triples = slice_set o.triples (2 * i + 1) (ValueAt i, value_of value) }))) × (self.new.keys ≡ self.old.keys) }
         ensures absent { (n : ℕ) (o : Object) (ks : List HashKey) → hash ≡ Ref.Local n → slice_get self.old.slots n ≡ Some (Here o) → slice_get self.old.keys n ≡ Some ks → (Contains ks (key_of key) → ⊥)
             → IfOk result (λ _. (self.new.slots ≡ slice_set self.old.slots n (Here (record o { triples = o.triples ++ (KeyAt (length ks), value_of name) ∷ (ValueAt (length ks), value_of value) ∷ [] }))) × (self.new.keys ≡ slice_set self.old.keys n (ks ++ key_of key ∷ []))) }
         ensures below { (n : ℕ) → hash ≡ Ref.Local n → IfOk result (λ _. IsLedAlso (below_ref name ++ below_ref value) n self.old.below self.new.below) }
-        ensures limit { self.new.limit ≡ self.old.limit }
-        ensures owner { self.new.owner ≡ self.old.owner }
+        ensures rest { IsRestKept self.old self.new }
         ensures refused { IfErr result (λ _. self.new ≡ self.old) }
         ensures fault { IfErr result (λ e. e ≡ Fault.Memory) }
     {
@@ -83,8 +87,8 @@ impl Space {
             → (IsSome result ↔ (place < length ks)) × (self.new.keys ≡ slice_set self.old.keys n (remove ks place)) }
         ensures below { (n : ℕ) → hash ≡ Ref.Local n → IsLedAlso [] n self.old.below self.new.below }
         ensures within { IfSome result (λ p. IsWithin (length self.old.slots) p.0 × IsWithin (length self.old.slots) p.1) }
-        ensures limit { self.new.limit ≡ self.old.limit }
-        ensures owner { self.new.owner ≡ self.old.owner }
+        ensures known { IfSome result (λ p. IsKnownTo self.old p.0 × IsKnownTo self.old p.1) }
+        ensures rest { IsRestKept self.old self.new }
         ensures none { IfNone result (self.new ≡ self.old) }
     {
         if let Ref::Local(slot) = hash {

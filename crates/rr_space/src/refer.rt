@@ -1,14 +1,15 @@
 //! References, and the clusters that shared ones lead into.
 
-ghost use Rattle.std.specs.Prelude.{◌≡◌, ℕ, length, slice_get, map, IfSome, IfOk, IfErr};
+ghost use Rattle.std.specs.Prelude.{◌≡◌, ℕ, List, length, slice_get, map, Contains, IfSome, IfOk, IfErr};
 ghost use Rattle.std.specs.Option.{option_map};
-ghost use Rattle.rr_space.specs.Parts.{bytes_of, sealed_parts, value_of, sealed_object, below_all};
+ghost use Rattle.rr_space.specs.Parts.{below_ref, bytes_of, sealed_parts, value_of, sealed_object, below_all};
 ghost use Rattle.rr_space.specs.Parts.{is_frozen_object};
-ghost use Rattle.rr_space.specs.Within.{IsWithin, AllSealedWithin};
+ghost use Rattle.rr_space.specs.Parts.{IsWithin, AllSealedWithin};
 ghost use Rattle.rr_space.specs.Sound.{IsWholeSound};
-ghost use Rattle.rr_space.specs.Tables.{numbered};
+ghost use Rattle.rr_space.specs.Tables.{below_hold, numbered};
+ghost use Rattle.rr_space.specs.Graph.{Object as ObjectView};
 ghost use Rattle.rr_space.specs.Names.{value_named};
-ghost use Rattle.rr_space.specs.Labels.{labelled, labelled_value, triples_of};
+ghost use Rattle.rr_space.specs.Labels.{labelled, labelled_value, triples_of, AreLabelsPlaced};
 ghost use Rattle.rr_space.specs.Kinds.{object_kind, object_class};
 
 use crate::kind::Kind;
@@ -113,7 +114,7 @@ impl Model for Cluster {
 
     ghost view = { λ a. record { number = a.number; own = map sealed_object a.nodes.items; below = below_all a.nodes.items } };
 
-    ghost use Rattle.rr_space.specs.Within.{AllSealedWithin};
+    ghost use Rattle.rr_space.specs.Parts.{AllSealedWithin};
 
     ghost invariant = { λ a. AllSealedWithin (length a.nodes.items) a.nodes.items };
 
@@ -224,11 +225,13 @@ impl Cluster {
 
     /// The number of references in the object under `place`; 0 where none is there.
     pub fn arity(&self, place: u32) -> usize
-        ensures { result ≡ length (triples_of (slice_get self.now.own place)) }
+        ensures count { result ≡ length (triples_of (slice_get self.now.own place)) }
+        ensures placed { AreLabelsPlaced (triples_of (slice_get self.now.own place)) }
     {
-        match self.nodes.get(place as usize) {
-            Some(node) => node.arity(),
-            None => 0,
+        if (place as usize) < self.nodes.len() {
+            self.nodes[place as usize].arity()
+        } else {
+            0
         }
     }
 
@@ -236,6 +239,7 @@ impl Cluster {
     pub(crate) fn part(&self, place: u32, k: usize) -> Option<(Label, Ref)>
         ensures part { option_map labelled_value result ≡ slice_get (triples_of (slice_get self.now.own place)) k }
         ensures within { IfSome result (λ p. IsWithin (length self.now.own) p.1) }
+        ensures below { IfSome result (λ p. (e : ℕ × List ObjectView) → Contains (below_ref p.1) e → Contains self.now.below e) }
     {
         if (place as usize) < self.nodes.len() {
             self.nodes[place as usize].part(k)
@@ -250,6 +254,7 @@ impl Cluster {
     pub(crate) fn outward(&'static self, value: Ref) -> Ref
         ensures is { value_of result ≡ numbered self.now.number (value_of value) }
         ensures within { IsWithin (length self.now.own) value → (n : ℕ) → IsWithin n result }
+        ensures below { ((e : ℕ × List ObjectView) → Contains (below_ref value) e → Contains self.now.below e) → (e : ℕ × List ObjectView) → Contains (below_ref result) e → Contains (below_hold self.now) e }
     {
         let _ = &self.nodes;
         match value {

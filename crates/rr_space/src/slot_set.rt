@@ -48,6 +48,13 @@ impl SlotSet {
         self.slots.is_empty()
     }
 
+    /// Whether the slot is there.
+    pub fn contains(&self, slot: u32) -> bool
+        ensures { IsTrue result ↔ Contains self.now slot }
+    {
+        self.slots.contains(&slot)
+    }
+
     /// The slot at the place `place`.
     pub fn at(&self, place: usize) -> u32
         requires { place < length self.now }
@@ -74,6 +81,7 @@ impl SlotSet {
     pub fn add(&mut self, slot: u32) -> Result<(), Fault>
         ensures added { OnOk result (self.new ≡ insert_key nat_eq self.old slot) }
         ensures refused { OnErr result (self.new ≡ self.old) }
+        ensures grows { OnErr result (Contains self.old slot → ⊥) }
         ensures fault { IfErr result (λ e. e ≡ Fault.Memory) }
     {
         self.slots.insert_full(slot)?;

@@ -1,8 +1,8 @@
 //! The objects of one ractor, by their slots.
 
-ghost use Rattle.std.specs.Prelude.{◌≡◌, ◌<◌, ◌≤◌, ◌↔◌, ◌⊎◌, [], ◌∷◌, ◌++◌, length, IfOk, IfErr, IsTrue};
-ghost use Rattle.rr_space.specs.Tables.{Here};
-ghost use Rattle.rr_space.specs.Views.{object_of, below_node, node_keys, IsNodeWithin, text_at};
+ghost use Rattle.std.specs.Prelude.{◌≡◌, ◌+◌, ◌^◌, ◌-◌, ◌<◌, ◌≤◌, ◌↔◌, ◌⊎◌, [], ◌∷◌, ◌++◌, length, IfOk, IfErr, IsTrue};
+ghost use Rattle.rr_space.specs.Tables.{Here, IsRestKept};
+ghost use Rattle.rr_space.specs.Views.{object_of, below_node, node_keys, IsNodeWithin, AreFieldsDistinct, text_at};
 ghost use Rattle.rr_space.specs.Sound.{IsWell};
 ghost use Rattle.rr_space.specs.Kinds.{kind_at, class_at};
 
@@ -21,6 +21,7 @@ pub struct Space {
     pub(crate) slots: Vec<Held>,
     pub(crate) limit: u32,
     pub(crate) owner: RactorNo,
+    pub(crate) next_message: u64,
 }
 
 impl Model for Space {
@@ -31,7 +32,7 @@ impl Model for Space {
 
     ghost use Rattle.rr_space.specs.Views.{slot_of, below_held, held_keys, AllHeldWithin};
 
-    ghost view = { λ s. record { slots = map slot_of s.slots.items; below = map below_held s.slots.items; keys = map held_keys s.slots.items; limit = s.limit; owner = s.owner.0 } };
+    ghost view = { λ s. record { slots = map slot_of s.slots.items; below = map below_held s.slots.items; keys = map held_keys s.slots.items; limit = s.limit; owner = s.owner.0; next_message = s.next_message } };
 
     ghost invariant = { λ s. (length s.slots.items ≤ s.limit) × AllHeldWithin (length s.slots.items) s.slots.items };
 }
@@ -44,20 +45,25 @@ impl Space {
         ensures keys { result.keys ≡ [] }
         ensures limit { result.limit ≡ limit }
         ensures owner { result.owner ≡ owner.0 }
+        ensures next_message { result.next_message ≡ 1 }
     {
         Space {
             slots: Vec::new(alloc),
             limit,
             owner,
+            next_message: 1,
         }
     }
 
-    /// The number of slots. No reference in a slot leads nowhere, and what is published is frozen throughout.
+    /// The number of slots. No reference in a slot leads nowhere, what is published is frozen throughout, and a hash has as
+    /// many keys as pairs.
     pub fn len(&self) -> usize
         ensures count { result ≡ length self.now.slots }
         ensures room { result ≤ self.now.limit }
+        ensures few { self.now.limit < 2 ^ 32 }
         ensures well { IsWell self.now }
     {
+        let _limit = self.limit;
         self.slots.len()
     }
 
@@ -75,25 +81,36 @@ impl Space {
         self.owner
     }
 
-    /// Whether there are as many slots as there may be.
-    pub fn is_full(&self) -> bool
-        ensures { IsTrue result ↔ length self.now.slots ≡ self.now.limit }
+    /// The number that the next message has that is moved out of the space.
+    pub fn next_message(&self) -> u64
+        ensures { result ≡ self.now.next_message }
     {
-        let count = self.slots.len();
-        count == self.limit as usize
+        self.next_message
     }
 
-    /// A new object, not frozen, under the next slot. The references in `node` lead to objects that are there.
+    /// Counts a message that is moved out of the space, and gives its number.
+    pub fn number_message(&mut self) -> u64
+        requires { self.old.next_message < 2 ^ 64 - 1 }
+        ensures number { result ≡ self.old.next_message }
+        ensures counted { self.new ≡ record self.old { next_message = self.old.next_message + 1 } }
+    {
+        let number = self.next_message;
+        self.next_message = number + 1;
+        number
+    }
+
+    /// A new object, not frozen, under the next slot. The references in `node` lead to objects that are there, and no two
+    /// of its fields have one name.
     ///
     /// Answers `Fault::Limit(LimitKind::Slots)` where the space is full, and `Fault::Memory` where a growth was refused.
     pub fn alloc(&mut self, node: Node) -> Result<Ref, Fault>
-        requires { IsNodeWithin (length self.old.slots) node }
+        requires within { IsNodeWithin (length self.old.slots) node }
+        requires fields { AreFieldsDistinct node }
         ensures name { IfOk result (λ r. r ≡ Ref.Local (length self.old.slots)) }
         ensures slots { IfOk result (λ _. self.new.slots ≡ self.old.slots ++ Here (object_of node) ∷ []) }
         ensures below { IfOk result (λ _. self.new.below ≡ self.old.below ++ below_node node ∷ []) }
         ensures keys { IfOk result (λ _. self.new.keys ≡ self.old.keys ++ node_keys node ∷ []) }
-        ensures limit { self.new.limit ≡ self.old.limit }
-        ensures owner { self.new.owner ≡ self.old.owner }
+        ensures rest { IsRestKept self.old self.new }
         ensures refused { IfErr result (λ _. self.new ≡ self.old) }
         ensures full { result ≡ Err (Fault.Limit LimitKind.Slots) ↔ length self.old.slots ≡ self.old.limit }
         ensures fault { IfErr result (λ e. (e ≡ Fault.Limit LimitKind.Slots) ⊎ (e ≡ Fault.Memory)) }

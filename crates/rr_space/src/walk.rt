@@ -3,11 +3,11 @@
 ghost use Rattle.std.specs.Prelude.{◌≡◌, ◌↔◌, ◌⊎◌, ℕ, List, length, slice_get, Contains, IsTrue, IfSome, IfNone};
 ghost use Rattle.std.specs.Option.{option_map};
 ghost use Rattle.rr_space.specs.Graph.{Object, Value};
-ghost use Rattle.rr_space.specs.Within.{IsWithin};
-ghost use Rattle.rr_space.specs.Tables.{joined, resolve, outer_objects};
+ghost use Rattle.rr_space.specs.Parts.{IsWithin};
+ghost use Rattle.rr_space.specs.Tables.{below_hold, resolve, outer_objects};
 ghost use Rattle.rr_space.specs.Parts.{below_ref, value_of};
-ghost use Rattle.rr_space.specs.Views.{can_freeze_at, can_write_at, frozen_at};
-ghost use Rattle.rr_space.specs.Labels.{label_of, labelled_value, triples_at, triples_of};
+ghost use Rattle.rr_space.specs.Views.{can_freeze_at, can_write_at, frozen_at, is_frozen_here, IsKnownFrom};
+ghost use Rattle.rr_space.specs.Labels.{label_of, labelled_value, triples_at, triples_of, IsFirstUnder, IsPlacedAt, AreLabelsPlaced};
 
 use crate::label::Label;
 use crate::node::Held;
@@ -15,25 +15,34 @@ use crate::refer::{Cluster, Ref};
 use crate::space::Space;
 
 impl Space {
-    /// The number of references in the object that `value` leads to; 0 for an immediate.
+    /// The number of references in the object that `value` leads to; 0 for an immediate. Each but a field has the place that
+    /// its label names.
     pub fn arity(&self, value: Ref) -> usize
-        ensures { result ≡ length (triples_at self.now value) }
+        ensures count { result ≡ length (triples_at self.now value) }
+        ensures placed { AreLabelsPlaced (triples_at self.now value) }
     {
         match value {
-            Ref::Local(slot) => match self.slots.get(slot as usize) {
-                Some(Held::Whole(_, node)) => node.arity(),
-                Some(Held::Forward(place, cluster)) => cluster.arity(*place),
-                _ => 0,
-            },
+            Ref::Local(slot) => {
+                if slot as usize >= self.slots.len() {
+                    return 0;
+                }
+                match &self.slots[slot as usize] {
+                    Held::Whole(_, node) => node.arity(),
+                    Held::Shell => 0,
+                    Held::Forward(place, cluster) => cluster.arity(*place),
+                }
+            }
             Ref::Shared(place, cluster) => cluster.arity(place),
             _ => 0,
         }
     }
 
     /// The `k`-th reference in the object that `value` leads to, with its label; none past the last, or for an immediate.
+    #[inline(always)]
     pub fn part(&self, value: Ref, k: usize) -> Option<(Label, Ref)>
         ensures part { option_map labelled_value result ≡ slice_get (triples_at self.now value) k }
         ensures within { IfSome result (λ p. IsWithin (length self.now.slots) p.1) }
+        ensures known { IfSome result (λ p. IsKnownFrom self.now value p.1) }
     {
         match value {
             Ref::Local(slot) => {
@@ -51,11 +60,44 @@ impl Space {
         }
     }
 
-    /// What stands under `label` in the object that `value` leads to, if anything does. Elements of arrays and pairs of
-    /// hashes are reached faster by `part`.
+    /// What stands under `label` in the object that `value` leads to, if anything does. A field is looked for, and all else
+    /// is where its label says.
     pub fn read(&self, value: Ref, label: Label) -> Option<Ref>
         ensures some { IfSome result (λ r. Contains (triples_at self.now value) (label_of label, value_of r)) }
+        ensures first { IfSome result (λ r. IsFirstUnder (triples_at self.now value) (label_of label) (value_of r)) }
         ensures within { IfSome result (λ r. IsWithin (length self.now.slots) r) }
+        ensures known { IfSome result (λ r. IsKnownFrom self.now value r) }
+        ensures none { IfNone result ((x : Value) → Contains (triples_at self.now value) (label_of label, x) → ⊥) }
+    {
+        match place_of(label) {
+            Some(place) => self.read_at(value, label, place),
+            None => self.search(value, label),
+        }
+    }
+
+    /// What stands under `label`, which can stand at `place` alone.
+    fn read_at(&self, value: Ref, label: Label, place: usize) -> Option<Ref>
+        requires { (j : ℕ) → IsPlacedAt (label_of label) j → j ≡ place }
+        ensures some { IfSome result (λ r. Contains (triples_at self.now value) (label_of label, value_of r)) }
+        ensures first { IfSome result (λ r. IsFirstUnder (triples_at self.now value) (label_of label) (value_of r)) }
+        ensures within { IfSome result (λ r. IsWithin (length self.now.slots) r) }
+        ensures known { IfSome result (λ r. IsKnownFrom self.now value r) }
+        ensures none { IfNone result ((x : Value) → Contains (triples_at self.now value) (label_of label, x) → ⊥) }
+    {
+        // No label stands anywhere but at its place, as the clause of the number says.
+        let _count = self.arity(value);
+        match self.part(value, place) {
+            Some((at, found)) => { if at == label { Some(found) } else { None } }
+            None => None,
+        }
+    }
+
+    /// What stands under `label`, tried one by one.
+    fn search(&self, value: Ref, label: Label) -> Option<Ref>
+        ensures some { IfSome result (λ r. Contains (triples_at self.now value) (label_of label, value_of r)) }
+        ensures first { IfSome result (λ r. IsFirstUnder (triples_at self.now value) (label_of label) (value_of r)) }
+        ensures within { IfSome result (λ r. IsWithin (length self.now.slots) r) }
+        ensures known { IfSome result (λ r. IsKnownFrom self.now value r) }
         ensures none { IfNone result ((x : Value) → Contains (triples_at self.now value) (label_of label, x) → ⊥) }
     {
         for k in 0..self.arity(value) {
@@ -72,7 +114,7 @@ impl Space {
     pub fn resolve(&self, value: Ref) -> Ref
         ensures value { value_of result ≡ resolve self.now.slots (value_of value) }
         ensures within { IsWithin (length self.now.slots) value → IsWithin (length self.now.slots) result }
-        ensures below { (e : ℕ × List Object) → Contains (below_ref result) e → Contains (joined self.now.below) e ⊎ Contains (below_ref value) e }
+        ensures below { IsKnownFrom self.now value result }
     {
         match value {
             Ref::Local(slot) => {
@@ -122,6 +164,16 @@ impl Space {
         }
     }
 
+    /// Whether there is a frozen object of this space in the slot, which may become a forward.
+    pub fn can_forward(&self, slot: u32) -> bool
+        ensures { result ≡ is_frozen_here (slice_get self.now.slots slot) }
+    {
+        match self.slots.get(slot as usize) {
+            Some(Held::Whole(frozen, _)) => *frozen,
+            _ => false,
+        }
+    }
+
     /// Whether `value` is an object of this space that may be written: no shell, not frozen, and not published.
     pub fn can_write(&self, value: Ref) -> bool
         ensures { result ≡ can_write_at self.now value }
@@ -136,10 +188,26 @@ impl Space {
     }
 }
 
+/// The one place at which the label can stand; none for a field, and for a place beyond all numbers.
+fn place_of(label: Label) -> Option<usize>
+    ensures { IfSome result (λ place. (j : ℕ) → IsPlacedAt (label_of label) j → j ≡ place) }
+{
+    match label {
+        Label::Place(place) => Some(place),
+        Label::Key(pair) => pair.checked_mul(2),
+        Label::Value(pair) => pair.checked_mul(2)?.checked_add(1),
+        Label::Message => Some(0),
+        Label::Cause => Some(1),
+        Label::Ractor => Some(2),
+        Label::Field(_) => None,
+    }
+}
+
 /// The `k`-th reference in the object under `place`, as it is seen from outside of the cluster.
 fn part_outside(cluster: &'static Cluster, place: u32, k: usize) -> Option<(Label, Ref)>
     ensures part { option_map labelled_value result ≡ slice_get (triples_of (slice_get (outer_objects cluster.now) place)) k }
     ensures within { (n : ℕ) → IfSome result (λ p. IsWithin n p.1) }
+    ensures below { IfSome result (λ p. (e : ℕ × List Object) → Contains (below_ref p.1) e → Contains (below_hold cluster.now) e) }
 {
     let (label, value) = cluster.part(place, k)?;
     Some((label, cluster.outward(value)))

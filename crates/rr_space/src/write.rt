@@ -2,15 +2,16 @@
 
 ghost use Rattle.std.specs.Prelude.{◌≡◌, ◌<◌, ℕ, true, [], ◌∷◌, ◌++◌, ◌↔◌, List, length, remove, Some, slice_get, slice_set, IsTrue, IsSome, IfOk, IfErr, IfSome, IfNone};
 ghost use Rattle.rr_space.specs.Graph.{Object, Place, Value};
-ghost use Rattle.rr_space.specs.Tables.{Here, Led, below_hold};
+ghost use Rattle.rr_space.specs.Tables.{Here, Led, below_hold, IsRestKept};
 ghost use Rattle.rr_space.specs.Sound.{IsHold};
 ghost use Rattle.rr_space.specs.Parts.{value_of};
-ghost use Rattle.rr_space.specs.Labels.{triples_at};
-ghost use Rattle.rr_space.specs.Writes.{placed_from};
-ghost use Rattle.rr_space.specs.Views.{can_freeze_at, can_write_at, with_held, StandsAt, IsWithin, IsHeldWithin, IsLedBy, IsLedAlso, emptied, node_object, below_node, node_keys, IsNodeWithin};
+ghost use Rattle.rr_space.specs.Labels.{label_of, triples_at, is_raised_label, raised_place};
+ghost use Rattle.rr_space.specs.Views.{placed_from};
+ghost use Rattle.rr_space.specs.Views.{is_whole, is_frozen_here, IsKnownTo, can_freeze_at, can_write_at, with_held, StandsAt, IsWithin, IsHeldWithin, IsLedBy, IsLedAlso, emptied, node_object, below_node, node_keys, IsNodeWithin};
 ghost use Rattle.rr_space.specs.Kinds.{kind_at};
 
 use crate::kind::Kind;
+use crate::label::Label;
 use crate::node::{Held, Node};
 use crate::refer::{Cluster, Ref};
 use crate::replace::replace_at;
@@ -37,42 +38,68 @@ impl Space {
         replace_at(&mut self.slots, slot as usize, held);
     }
 
-    /// Turns the object of a slot into a forward to its place in a published cluster.
+    /// Turns the frozen object of a slot into a forward to its place in a published cluster. Takes no memory.
+    /// `can_forward` tells whether the object is frozen.
     pub fn forward(&mut self, slot: u32, place: u32, cluster: &'static Cluster)
         requires slot { slot < length self.old.slots }
+        requires frozen { IsTrue (is_frozen_here (slice_get self.old.slots slot)) }
         requires hold { IsHold place cluster.now }
         ensures slots { self.new.slots ≡ slice_set self.old.slots slot (Led cluster.now.number place) }
         ensures below { self.new.below ≡ slice_set self.old.below slot (below_hold cluster.now) }
         ensures keys { self.new.keys ≡ slice_set self.old.keys slot [] }
-        ensures limit { self.new.limit ≡ self.old.limit }
-        ensures owner { self.new.owner ≡ self.old.owner }
+        ensures rest { IsRestKept self.old self.new }
     {
         self.put(slot, Held::Forward(place, cluster));
     }
 
-    /// Turns what stands in a slot into a shell.
+    /// Turns the object of a slot into a shell. Takes no memory. `can_freeze` tells whether it is an object of this space
+    /// that is none.
     pub fn empty(&mut self, slot: u32)
-        requires { slot < length self.old.slots }
+        requires slot { slot < length self.old.slots }
+        requires whole { IsTrue (is_whole (slice_get self.old.slots slot)) }
         ensures slots { self.new.slots ≡ slice_set self.old.slots slot (Here emptied) }
         ensures below { self.new.below ≡ slice_set self.old.below slot [] }
         ensures keys { self.new.keys ≡ slice_set self.old.keys slot [] }
-        ensures limit { self.new.limit ≡ self.old.limit }
-        ensures owner { self.new.owner ≡ self.old.owner }
+        ensures rest { IsRestKept self.old self.new }
     {
         self.put(slot, Held::Shell);
     }
 
-    /// Puts an object into a slot, in the place of what stood there.
+    /// Puts an object into a slot, in the place of a shell. Takes no memory.
     pub fn restore(&mut self, slot: u32, node: Node, frozen: bool)
         requires slot { slot < length self.old.slots }
+        requires shell { slice_get self.old.slots slot ≡ Some (Here emptied) }
         requires within { IsNodeWithin (length self.old.slots) node }
         ensures slots { self.new.slots ≡ slice_set self.old.slots slot (Here (node_object node frozen)) }
         ensures below { self.new.below ≡ slice_set self.old.below slot (below_node node) }
         ensures keys { self.new.keys ≡ slice_set self.old.keys slot (node_keys node) }
-        ensures limit { self.new.limit ≡ self.old.limit }
-        ensures owner { self.new.owner ≡ self.old.owner }
+        ensures rest { IsRestKept self.old self.new }
     {
         self.put(slot, Held::Whole(frozen, node));
+    }
+
+    /// Puts `value` in the place of the message, the cause or the ractor of an exception. `can_write` tells whether
+    /// `exception` may be written.
+    pub fn write_raised(&mut self, exception: Ref, label: Label, value: Ref)
+        requires can { IsTrue (can_write_at self.old exception) }
+        requires kind { kind_at self.old exception ≡ Kind.Exception }
+        requires label { IsTrue (is_raised_label (label_of label)) }
+        requires within { IsWithin (length self.old.slots) value }
+        ensures slots { (n : ℕ) (o : Object) → exception ≡ Ref.Local n → slice_get self.old.slots n ≡ Some (Here o)
+            → self.new.slots ≡ slice_set self.old.slots n (Here (record o { triples = slice_set o.triples (raised_place (label_of label)) (label_of label, value_of value) })) }
+        ensures below { (n : ℕ) → exception ≡ Ref.Local n → IsLedBy value n self.old.below self.new.below }
+        ensures keys { self.new.keys ≡ self.old.keys }
+        ensures rest { IsRestKept self.old self.new }
+    {
+        if let Ref::Local(slot) = exception {
+            match self.take(slot) {
+                Held::Whole(frozen, node) => {
+                    let changed = node.with_raised(label, value);
+                    self.put(slot, Held::Whole(frozen, changed))
+                }
+                other => self.put(slot, other),
+            }
+        }
     }
 
     /// Freezes one object, and nothing that it leads to. `can_freeze` tells whether it may be.
@@ -82,8 +109,7 @@ impl Space {
             → self.new.slots ≡ slice_set self.old.slots n (Here (record o { frozen = true })) }
         ensures below { self.new.below ≡ self.old.below }
         ensures keys { self.new.keys ≡ self.old.keys }
-        ensures limit { self.new.limit ≡ self.old.limit }
-        ensures owner { self.new.owner ≡ self.old.owner }
+        ensures rest { IsRestKept self.old self.new }
     {
         if let Ref::Local(slot) = value {
             match self.take(slot) {
@@ -101,8 +127,7 @@ impl Space {
             → self.new.slots ≡ slice_set self.old.slots n (Here (record o { bytes = bytes.items })) }
         ensures below { self.new.below ≡ self.old.below }
         ensures keys { self.new.keys ≡ self.old.keys }
-        ensures limit { self.new.limit ≡ self.old.limit }
-        ensures owner { self.new.owner ≡ self.old.owner }
+        ensures rest { IsRestKept self.old self.new }
     {
         if let Ref::Local(slot) = text {
             match self.take(slot) {
@@ -110,6 +135,34 @@ impl Space {
                 other => self.put(slot, other),
             }
         }
+    }
+
+    /// Puts bytes behind those of a text. `can_write` tells whether `text` may be written.
+    ///
+    /// Answers `Fault::Memory` where a growth was refused. The room grows by factors, so that bytes that come one by one are
+    /// copied a few times each.
+    pub fn append_text(&mut self, text: Ref, bytes: &[u8]) -> Result<(), Fault>
+        requires can { IsTrue (can_write_at self.old text) }
+        requires kind { kind_at self.old text ≡ Kind.Text }
+        ensures slots { (n : ℕ) (o : Object) → text ≡ Ref.Local n → slice_get self.old.slots n ≡ Some (Here o)
+            → IfOk result (λ _. self.new.slots ≡ slice_set self.old.slots n (Here (record o { bytes = o.bytes ++ bytes.now }))) }
+        ensures below { self.new.below ≡ self.old.below }
+        ensures keys { self.new.keys ≡ self.old.keys }
+        ensures rest { IsRestKept self.old self.new }
+        ensures refused { IfErr result (λ _. self.new ≡ self.old) }
+        ensures fault { IfErr result (λ e. e ≡ Fault.Memory) }
+    {
+        if let Ref::Local(slot) = text {
+            match self.take(slot) {
+                Held::Whole(frozen, node) => {
+                    let (changed, written) = node.with_bytes(bytes);
+                    self.put(slot, Held::Whole(frozen, changed));
+                    return written;
+                }
+                other => self.put(slot, other),
+            }
+        }
+        Ok(())
     }
 
     /// Puts `value` in the place of an element of an array. `can_write` tells whether `array` may be written.
@@ -122,8 +175,7 @@ impl Space {
             → self.new.slots ≡ slice_set self.old.slots n (Here (record o { triples = slice_set o.triples place (Place place, value_of value) })) }
         ensures below { (n : ℕ) → array ≡ Ref.Local n → IsLedBy value n self.old.below self.new.below }
         ensures keys { self.new.keys ≡ self.old.keys }
-        ensures limit { self.new.limit ≡ self.old.limit }
-        ensures owner { self.new.owner ≡ self.old.owner }
+        ensures rest { IsRestKept self.old self.new }
     {
         if let Ref::Local(slot) = array {
             match self.take(slot) {
@@ -147,8 +199,7 @@ impl Space {
             → IfOk result (λ _. self.new.slots ≡ slice_set self.old.slots n (Here (record o { triples = o.triples ++ (Place (length o.triples), value_of value) ∷ [] }))) }
         ensures below { (n : ℕ) → array ≡ Ref.Local n → IfOk result (λ _. IsLedBy value n self.old.below self.new.below) }
         ensures keys { self.new.keys ≡ self.old.keys }
-        ensures limit { self.new.limit ≡ self.old.limit }
-        ensures owner { self.new.owner ≡ self.old.owner }
+        ensures rest { IsRestKept self.old self.new }
         ensures refused { IfErr result (λ _. self.new ≡ self.old) }
         ensures fault { IfErr result (λ e. e ≡ Fault.Memory) }
     {
@@ -176,9 +227,9 @@ impl Space {
         ensures some { IsSome result ↔ (place < length (triples_at self.old array)) }
         ensures below { (n : ℕ) → array ≡ Ref.Local n → IsLedAlso [] n self.old.below self.new.below }
         ensures within { IfSome result (λ r. IsWithin (length self.old.slots) r) }
+        ensures known { IfSome result (λ r. IsKnownTo self.old r) }
         ensures keys { self.new.keys ≡ self.old.keys }
-        ensures limit { self.new.limit ≡ self.old.limit }
-        ensures owner { self.new.owner ≡ self.old.owner }
+        ensures rest { IsRestKept self.old self.new }
         ensures none { IfNone result (self.new ≡ self.old) }
     {
         if let Ref::Local(slot) = array {

@@ -1,5 +1,5 @@
 use Rattle.std.proofs.Common.{length}
-use Rattle.rr_space.specs.Within.{IsWithin}
+use Rattle.rr_space.specs.Parts.{IsWithin}
 use Rattle.examples_channels.proofs.message.message.Given as goal
 
 abbrev pub invariant-loop : goal.invariant-loop

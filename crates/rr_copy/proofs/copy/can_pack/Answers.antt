@@ -1,6 +1,14 @@
-use Rattle.std.proofs.Common.{ℕ, List, Contains, subst, arith}
+use Rattle.std.proofs.Common.{ℕ, List, Contains, refl, subst, arith}
+use Rattle.rr_share.proofs.Ends.{none_reached}
 use Rattle.rr_copy.proofs.Packing.{none_contained}
 use Rattle.rr_copy.proofs.copy.can_pack.Goals as goal
+
+pub returns-in_default : goal.returns-in_default
+returns-in_default c = record {
+  promoted = (λ yes n reach share. none_reached c.args.space.now c.args.value c.len-slots.ensures.well.sound c.in_default.not-Local n reach, λ promoted. refl);
+  fault = tt;
+  grows = tt;
+}
 
 pub returns-clause-promoted : goal.returns-clause-promoted
 returns-clause-promoted c =

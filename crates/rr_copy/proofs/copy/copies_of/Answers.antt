@@ -2,13 +2,14 @@ use Rattle.std.proofs.Common.{◌+◌, take, subst, sym}
 use Rattle.std.specs.List.{AllZip}
 use Rattle.rr_copy.specs.Contents.{IsCarriedFrom}
 use Rattle.rr_space.proofs.Renaming.{contains_at}
-use Rattle.rr_copy.proofs.Packing.{whole_there, zip_more}
+use Rattle.rr_share.proofs.Froze.{whole_here}
+use Rattle.rr_share.proofs.Zips.{zip_more}
 use Rattle.rr_copy.proofs.copy.copies_of.Goals as goal
 
 pub copy_object-requires-clause-whole : goal.copy_object-requires-clause-whole
 copy_object-requires-clause-whole c =
     let o = c.requires.whole c.at.result (contains_at c.args.names.now c.loop-place.place c.at.result c.at.ensures) in
-    whole_there c.args.space.now.slots c.at.result o.0 o.1 o.2
+    whole_here c.args.space.now.slots c.at.result o.0 o.1 o.2
 
 pub copy_object-requires-clause-known : goal.copy_object-requires-clause-known
 copy_object-requires-clause-known c = λ o l m at has.

@@ -1,12 +1,12 @@
 use Rattle.std.proofs.Common.{◌≡◌, ◌+◌, ◌∙◌, List, length, map, sym, ap, subst, arith, length-append}
 use Rattle.std.proofs.lemmas.List.{length-map}
-use Rattle.rr_space.specs.Alike.{Alike}
-use Rattle.rr_space.specs.Embeds.{behind, renamed, here_behind}
+use Rattle.rr_space.specs.Graph.{Alike}
+use Rattle.rr_space.specs.Tables.{behind, renamed, here_behind}
 use Rattle.rr_space.specs.Graph.{Value}
 use Rattle.rr_space.specs.Parts.{value_of}
 use Rattle.rr_space.specs.Tables.{Slot, Packed, message_graph, space_graph, resolve}
-use Rattle.rr_space.specs.Within.{IsWithin}
-use Rattle.rr_space.specs.Carrying.{carried_object}
+use Rattle.rr_space.specs.Parts.{IsWithin}
+use Rattle.rr_space.specs.Views.{carried_object}
 use Rattle.rr_space.proofs.Sounds.{sound_is_sealed}
 use Rattle.rr_copy.specs.Messages.{Behind}
 use Rattle.rr_copy.specs.Contents.{packed_of}

@@ -23,6 +23,5 @@ loop-place-preserved c =
           (c.freeze.ensures.slots n o.0 refl (untouched i n found c.len-place-end.ensures.distinct old mid h.slots c.at.ensures ∙ o.1));
       below = c.freeze.ensures.below ∙ h.below;
       keys = c.freeze.ensures.keys ∙ h.keys;
-      limit = c.freeze.ensures.limit ∙ h.limit;
-      owner = c.freeze.ensures.owner ∙ h.owner;
+      rest = let r = c.freeze.ensures.rest in let s = h.rest in record { limit = r.limit ∙ s.limit; owner = r.owner ∙ s.owner; next_message = r.next_message ∙ s.next_message };
     }

@@ -9,9 +9,8 @@ returns-then-has_shell-clause-fault c =
     let t = c.args.space.now in
     inr (
       refl,
-      λ free.
-          let s = c.has_shell.ensures.0 c.if-has_shell.true in
-          shell_reached t c.len-slots.ensures.well.sound (resolve t.slots (value_of c.args.root)) s.0 ((c.in_ok-found.ensures.exact s.0).0 s.1) s.2 free,
+      (let s = c.has_shell.ensures.0 c.if-has_shell.true in
+          shell_reached t c.len-slots.ensures.well.sound (resolve t.slots (value_of c.args.root)) s.0 ((c.in_ok-found.ensures.exact s.0).0 s.1) s.2),
     )
 
 pub returns-then-has_shell-clause-grows : goal.returns-then-has_shell-clause-grows

@@ -1,6 +1,6 @@
 use Rattle.std.proofs.Common.{◌≡◌, ◌≤◌, ◌-◌, [], ◌∷◌, length, length-append, refl, ap, ◌∙◌, sym, subst, arith, append_assoc, append-nil}
 use Rattle.std.specs.Vec.Iter.{into_iter_items}
-use Rattle.rr_space.specs.Behind.{IsAppended}
+use Rattle.rr_space.specs.Views.{IsAppended}
 use Rattle.rr_space.proofs.Appending.{next_within, none_left, appended_none, appended_more}
 use Rattle.rr_space.proofs.append.push_behind.Goals as goal
 

@@ -1,6 +1,6 @@
 use Rattle.std.proofs.Common.{◌≡◌, ◌++◌, length, vec_capacity}
 use Rattle.std.specs.Vec.Iter.{into_iter_items, into_iter_len}
-use Rattle.rr_space.specs.Behind.{IsAppended}
+use Rattle.rr_space.specs.Views.{IsAppended}
 use Rattle.rr_space.proofs.append.push_behind.Given as goal
 
 abbrev pub invariant-loop-object : goal.invariant-loop-object

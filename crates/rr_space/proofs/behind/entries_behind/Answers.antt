@@ -1,6 +1,6 @@
 use Rattle.std.proofs.Common.{◌≤◌, ◌-◌, length, map, IfSome, refl, subst, arith, ◌∙◌, ap}
 use Rattle.indexmap.specs.IndexMap.{set_value_at}
-use Rattle.rr_space.specs.Behind.{ref_behind, entry_behind}
+use Rattle.rr_space.specs.Views.{ref_behind, entry_behind}
 use Rattle.rr_space.specs.Views.{entry_pair, IsWithin}
 use Rattle.rr_space.proofs.Removing.{pair_within}
 use Rattle.rr_space.proofs.Shifting.{read_next_value, write_next_value, written_all, length-map_first}

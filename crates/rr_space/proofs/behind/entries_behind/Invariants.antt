@@ -1,5 +1,5 @@
 use Rattle.std.proofs.Common.{◌≡◌}
-use Rattle.rr_space.specs.Behind.{entry_behind}
+use Rattle.rr_space.specs.Views.{entry_behind}
 use Rattle.rr_space.proofs.Shifting.{map_first}
 use Rattle.rr_space.proofs.behind.entries_behind.Given as goal
 

@@ -1,5 +1,5 @@
 use Rattle.std.proofs.Common.{◌<◌, ◌≤◌, ◌-◌, length, arith, ◌∙◌, ap, slice_set}
-use Rattle.rr_space.specs.Behind.{field_behind}
+use Rattle.rr_space.specs.Views.{field_behind}
 use Rattle.rr_space.proofs.Shifting.{read_next, write_next, written_all, field_within, length-map_first}
 use Rattle.rr_space.proofs.behind.fields_behind.Goals as goal
 

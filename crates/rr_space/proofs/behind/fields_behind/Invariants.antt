@@ -1,5 +1,5 @@
 use Rattle.std.proofs.Common.{◌≡◌}
-use Rattle.rr_space.specs.Behind.{field_behind}
+use Rattle.rr_space.specs.Views.{field_behind}
 use Rattle.rr_space.proofs.Shifting.{map_first}
 use Rattle.rr_space.proofs.behind.fields_behind.Given as goal
 

@@ -1,6 +1,6 @@
 use Rattle.std.proofs.Common.{◌∷◌, map, ◌∙◌, ap}
 use Rattle.rr_space.specs.Graph.{Message, Cause, Ractor}
-use Rattle.rr_space.specs.Behind.{ref_behind}
+use Rattle.rr_space.specs.Views.{ref_behind}
 use Rattle.rr_space.specs.Parts.{Parts, field_part}
 use Rattle.rr_space.proofs.Shifting.{fields_behind}
 use Rattle.rr_space.proofs.behind.raised_behind.Goals as goal

@@ -1,5 +1,5 @@
 use Rattle.std.proofs.Common.{◌<◌, ◌≤◌, ◌-◌, length, arith, ◌∙◌, ap, slice_set}
-use Rattle.rr_space.specs.Behind.{ref_behind}
+use Rattle.rr_space.specs.Views.{ref_behind}
 use Rattle.rr_space.proofs.Removing.{place_within}
 use Rattle.rr_space.proofs.Shifting.{read_next, write_next, written_all}
 use Rattle.rr_space.proofs.behind.refs_behind.Goals as goal

@@ -1,5 +1,5 @@
 use Rattle.std.proofs.Common.{◌≡◌}
-use Rattle.rr_space.specs.Behind.{ref_behind}
+use Rattle.rr_space.specs.Views.{ref_behind}
 use Rattle.rr_space.proofs.Shifting.{map_first}
 use Rattle.rr_space.proofs.behind.refs_behind.Given as goal
 

@@ -2,7 +2,7 @@ use Rattle.std.proofs.Common.{◌≡◌, ◌==◌, below_more, sym, ap, ◌∙�
 use Rattle.std.proofs.lemmas.Bool.{false≢true}
 use Rattle.std.proofs.lemmas.Bool.Decides.{Decides-eqb}
 use Rattle.std.proofs.lemmas.Option.{same_Some}
-use Rattle.rr_space.specs.Writes.{field_names}
+use Rattle.rr_space.specs.Views.{field_names}
 use Rattle.rr_space.proofs.Fielding.{name_at, contains_at, length-field_names}
 use Rattle.rr_space.proofs.fields.place_of_field.Goals as goal
 

@@ -1,5 +1,5 @@
 use Rattle.std.proofs.Common.{refl, ap, ◌∙◌, slice_set}
-use Rattle.rr_space.specs.Writes.{IsFirstAt, field_names}
+use Rattle.rr_space.specs.Views.{IsFirstAt, field_names}
 use Rattle.rr_space.proofs.Fielding.{first_same}
 use Rattle.rr_space.proofs.fields.set_field.Goals as goal
 

@@ -10,4 +10,5 @@ returns c = record {
       ap (λ (x : Value). Some (label_of c.in_ok-label.label, x)) c.outward.ensures.is
       ∙ outer_part c.args.cluster.now c.args.place c.args.k (Some (labelled_value (c.in_ok-label.label, c.in_ok-label.value))) c.in_ok-label.ensures.part;
   within = c.outward.ensures.within c.in_ok-label.ensures.within;
+  below = c.outward.ensures.below c.in_ok-label.ensures.below;
 }

@@ -2,6 +2,7 @@ use Rattle.std.proofs.Common.{sym}
 use Rattle.rr_space.specs.Parts.{places_from}
 use Rattle.rr_space.specs.Views.{AllWithin}
 use Rattle.rr_space.proofs.Removing.{places_without_within, place_within, places_without_below, remove_past}
+use Rattle.rr_space.proofs.Knowing.{place_below}
 use Rattle.rr_space.proofs.node.Node.without_element.Goals as goal
 
 pub returns-in-Some-clause-within : goal.returns-in-Some-clause-within
@@ -18,3 +19,7 @@ returns-in-Some-clause-below c = λ e has.
 
 pub returns-in-None-clause-items : goal.returns-in-None-clause-items
 returns-in-None-clause-items c = λ k. rw c.in-Array.is (sym (remove_past c.in-Array.items c.args.place (sym c.in-None.ensures)))
+
+pub returns-in-Some-clause-below_taken : goal.returns-in-Some-clause-below_taken
+returns-in-Some-clause-below_taken c = λ e has.
+    rw c.in-Array.is (place_below c.in-Array.items c.args.place c.in-Some.taken e (sym c.in-Some.ensures) has)

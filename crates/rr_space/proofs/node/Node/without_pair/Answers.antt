@@ -1,9 +1,11 @@
-use Rattle.std.proofs.Common.{ap, ◌∙◌, sym, map, slice_get, remove, subst, IfSome}
+use Rattle.std.proofs.Common.{ℕ, List, ◌++◌, Contains, ap, ◌∙◌, sym, map, slice_get, remove, subst, IfSome}
 use Rattle.std.specs.Option.{option_map}
 use Rattle.std.proofs.lemmas.Option.{slice_get-map}
-use Rattle.rr_space.specs.Parts.{pairs_from}
+use Rattle.rr_space.specs.Graph.{Object}
+use Rattle.rr_space.specs.Parts.{pairs_from, below_ref, below_parts}
 use Rattle.rr_space.specs.Views.{entry_pair, entry_key, node_pairs, node_keys, AllWithin, IsWithin}
 use Rattle.rr_space.proofs.Removing.{map_remove, pairs_without_within, pair_within, pairs_without_below}
+use Rattle.rr_space.proofs.Knowing.{pair_below}
 use Rattle.rr_space.proofs.node.Node.without_pair.Goals as goal
 
 pub returns-in-Hash-clause-taken : goal.returns-in-Hash-clause-taken
@@ -39,3 +41,10 @@ returns-in-Hash-clause-below c = λ e has.
     let ps = map entry_pair es in
     let left = ap (map entry_pair) (rw c.deref_mut.ensures.value at c.shift_remove_index.ensures.entries) ∙ map_remove entry_pair es c.args.place in
     rw c.in-Hash.is (pairs_without_below ps c.args.place 0 0 e (rw left at has))
+
+pub returns-in-Hash-clause-below_taken : goal.returns-in-Hash-clause-below_taken
+returns-in-Hash-clause-below_taken c =
+    let es = c.in-Hash.entries.value.entries in
+    let ps = map entry_pair es in
+    let taken = c.without_key-taken.ensures ∙ ap (option_map entry_pair) (rw c.deref_mut.ensures.value at c.shift_remove_index.ensures.entry) ∙ sym (slice_get-map entry_pair es c.args.place) in
+    rw c.in-Hash.is (subst (λ o. IfSome o (λ p. (e : ℕ × List Object) → Contains (below_ref p.0 ++ below_ref p.1) e → Contains (below_parts (pairs_from 0 ps)) e)) (sym taken) (pair_below ps 0 c.args.place))

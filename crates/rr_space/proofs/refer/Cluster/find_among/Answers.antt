@@ -17,8 +17,8 @@ Says w key holds p =
     IsOneEach (below_hold w) → ((e : ℕ × List Object) → Contains (below_ref p.0) e → Contains (below_hold w) e)
     → (holds ↔ (key_of_value (below_hold w) (numbered w.number (value_of p.0)) ≡ Some (key_of key)))
 
-pub returns-then-is_key : goal.returns-then-is_key
-returns-then-is_key c = λ one more.
+pub returns-then-is_key-clause-found : goal.returns-then-is_key-clause-found
+returns-then-is_key-clause-found c = λ one more.
     let p = c.index-pairs-k.result in
     let at = slice_get_read c.args.pairs.now (length c.args.pairs.now) c.loop-k.k p refl c.loop-k-test.true c.index-pairs-k.is in
     let says : Says c.args.self.now c.args.key.now (IsTrue c.is_key.result) p = subst (Says c.args.self.now c.args.key.now (IsTrue c.is_key.result)) (sym c.index-pairs-k.is) c.is_key.ensures in
@@ -37,7 +37,7 @@ loop-k-preserved c = λ one more.
     let same : p ≡ q = same_Some p q (sym at ∙ q_at) in
     false≢true (sym c.if-is_key.false ∙ h.1 (ap (λ (x : Ref × Ref). key_of_value (below_hold w) (numbered w.number (value_of x.0))) same ∙ e)))
 
-pub returns : goal.returns
-returns c = λ one more i (q, q_at, e).
+pub returns-clause-found : goal.returns-clause-found
+returns-clause-found c = λ one more i (q, q_at, e).
     let lt = slice_get_within c.args.pairs.now i q q_at in
     c.loop-k.invariant one more i (omega (arith, lt, c.loop-k-test.false)) (q, q_at, e)

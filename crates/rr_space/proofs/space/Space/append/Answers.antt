@@ -1,5 +1,5 @@
 use Rattle.std.proofs.Common.{◌+◌, ◌≤◌, length, arith}
-use Rattle.rr_space.specs.Behind.{IsAppended}
+use Rattle.rr_space.specs.Views.{IsAppended}
 use Rattle.rr_space.proofs.Appending.{appended_slots, appended_within}
 use Rattle.rr_space.proofs.space.Space.append.Goals as goal
 
@@ -17,4 +17,4 @@ returns-clause-slots c =
     let hs = c.self.inside.slots.items in
     let new = c.push_behind.new.slots.items in
     let s : IsAppended (length hs) hs c.args.objects.items new = rw c.reserve.ensures.items at c.push_behind.ensures in
-    appended_slots hs new c.self.inside.limit c.self.inside.owner.0 c.args.self.now c.args.objects.items c.self.view_is s
+    appended_slots hs new c.self.inside.limit c.self.inside.owner.0 c.self.inside.next_message c.args.self.now c.args.objects.items c.self.view_is s

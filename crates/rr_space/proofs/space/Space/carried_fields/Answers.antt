@@ -2,7 +2,7 @@ use Rattle.std.proofs.Common.{◌+◌, List, take, subst, sym, refl}
 use Rattle.std.specs.List.{AllZip}
 use Rattle.std.proofs.lemmas.List.Elements.{all_zip_more}
 use Rattle.rr_base.specs.declared.name.Sym.{Sym}
-use Rattle.rr_space.specs.Carrying.{IsCarriedField}
+use Rattle.rr_space.specs.Views.{IsCarriedField}
 use Rattle.rr_space.specs.declared.refer.Ref.{Ref}
 use Rattle.rr_space.proofs.space.Space.carried_fields.Goals as goal
 

@@ -1,5 +1,5 @@
 use Rattle.std.proofs.Common.{◌≤◌, length, sym, ◌∙◌, arith}
-use Rattle.rr_space.specs.Carrying.{IsCarried}
+use Rattle.rr_space.specs.Views.{IsCarried}
 use Rattle.rr_space.proofs.Carrying.{zip_none, zip_one, zip_two}
 use Rattle.rr_space.proofs.space.Space.carried_items.Goals as goal
 

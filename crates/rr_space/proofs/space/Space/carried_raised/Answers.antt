@@ -3,7 +3,7 @@ use Rattle.std.specs.List.{AllZip}
 use Rattle.rr_base.specs.declared.name.Sym.{Sym}
 use Rattle.rr_space.specs.Graph.{Message, Cause, Ractor}
 use Rattle.rr_space.specs.Parts.{raised_parts}
-use Rattle.rr_space.specs.Carrying.{IsCarriedPart, IsCarriedField}
+use Rattle.rr_space.specs.Views.{IsCarriedPart, IsCarriedField}
 use Rattle.rr_space.specs.declared.refer.Ref.{Ref}
 use Rattle.rr_space.specs.declared.refer.Raised.{Raised}
 use Rattle.rr_space.proofs.Carrying.{known_field, zip_raised}

@@ -1,6 +1,6 @@
 use Rattle.std.proofs.Common.{take}
 use Rattle.std.specs.List.{AllZip}
-use Rattle.rr_space.specs.Carrying.{IsCarriedEntry}
+use Rattle.rr_space.specs.Views.{IsCarriedEntry}
 use Rattle.rr_space.proofs.space.Space.carry_pairs.Given as goal
 
 abbrev pub invariant-loop-k : goal.invariant-loop-k

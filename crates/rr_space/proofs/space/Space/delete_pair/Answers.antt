@@ -1,13 +1,17 @@
-use Rattle.std.proofs.Common.{◌≡◌, ◌↔◌, ◌<◌, List, [], length, map, remove, slice_get, slice_set, Some, IsSome, IfSome, inl, ap, sym, ◌∙◌, subst}
+use Rattle.std.proofs.Common.{ℕ, Contains, ◌≡◌, ◌↔◌, ◌<◌, List, [], length, map, remove, slice_get, slice_set, Some, IsSome, IfSome, inl, ap, sym, ◌∙◌, subst}
 use Rattle.std.specs.Option.{option_map}
 use Rattle.std.proofs.lemmas.Option.{slice_get-map}
-use Rattle.rr_space.specs.Graph.{Value, hash}
-use Rattle.rr_space.specs.Tables.{Here}
+use Rattle.rr_space.specs.Graph.{Object, Value, hash}
+use Rattle.rr_space.specs.Tables.{Here, joined}
 use Rattle.rr_space.specs.Parts.{value_triple}
-use Rattle.rr_space.specs.Views.{IsNodeWithin, IsLedAlso, node_kind, node_pairs, node_keys}
-use Rattle.rr_space.specs.Writes.{paired_from, pair_values}
+use Rattle.rr_space.specs.Views.{below_node, IsNodeWithin, IsLedAlso, node_kind, node_pairs, node_keys}
+use Rattle.rr_space.specs.Views.{paired_from, pair_values}
 use Rattle.rr_space.proofs.Removing.{hash_parts, hash_values, hash_count, values_paired}
 use Rattle.rr_space.proofs.Standing.{mid_size, kind_of_node, on_some, on_none, some_within, of_object, of_keys, of_place, slots_are, keys_are, led_also, put_same}
+use Rattle.std.proofs.lemmas.List.Elements.{Contains-append_left, Contains-append_right}
+use Rattle.rr_space.specs.Parts.{below_ref}
+use Rattle.rr_space.proofs.Knowing.{if_some}
+use Rattle.rr_space.proofs.Resolving.{below_joined}
 use Rattle.rr_space.proofs.space.Space.delete_pair.Goals as goal
 
 pub put-requires-clause-within : goal.put-requires-clause-within
@@ -78,3 +82,14 @@ returns-in-Whole-clause-none c =
     (λ same. put_same t c.take.new.self c.put.new.self c.in-Local.slot c.args.hash a b c.in-Whole.frozen c.in-Local.is c.in-Whole.ensures.stood c.in-Whole.ensures.rest c.put.ensures
     c.without_pair-changed.ensures.head same.0 same.1)
     c.without_pair-changed.ensures.none
+
+pub returns-in-Whole-clause-known : goal.returns-in-Whole-clause-known
+returns-in-Whole-clause-known c =
+    let t = c.args.self.now in
+    let known : (e : ℕ × List Object) → Contains (below_node c.in-Whole.node) e → Contains (joined t.below) e = λ e h. below_joined t.below c.in-Local.slot (below_node c.in-Whole.node) e c.in-Whole.ensures.stood.below h in
+    if_some c.without_pair-changed.result.1 _ _
+    (λ p inside. (
+      λ e has. known e (inside e (Contains-append_left (below_ref p.0) (below_ref p.1) e has)),
+      λ e has. known e (inside e (Contains-append_right (below_ref p.0) (below_ref p.1) e has)),
+    ))
+    c.without_pair-changed.ensures.below_taken

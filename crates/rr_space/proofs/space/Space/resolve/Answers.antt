@@ -15,9 +15,9 @@ returns-in-Forward c =
     let h = Forward c.in-Forward.place c.in-Forward.cluster in
     let lt : n < length hs = omega (arith, c.if-slot-len.false, c.len.ensures, c.self.inside.slots.ok) in
     let at = slice_get_read hs (length hs) n c.index.result.now refl lt c.index.ensures ∙ ap Some c.in-Forward.is in
-    let s = stands hs c.self.inside.limit c.self.inside.owner.0 t n h c.self.view_is at in
+    let s = stands hs c.self.inside.limit c.self.inside.owner.0 c.self.inside.next_message t n h c.self.view_is at in
     record {
       value = sym (resolved_here t n c.args.value h c.in-Local.is s);
-      within = λ _. held_within hs c.self.inside.limit c.self.inside.owner.0 t n h c.self.view_is c.self.invariant.1 at;
+      within = λ _. held_within hs c.self.inside.limit c.self.inside.owner.0 c.self.inside.next_message t n h c.self.view_is c.self.invariant.1 at;
       below = λ e has. inl (below_joined t.below n (below_hold c.in-Forward.cluster.now) e s.below has);
     }

@@ -6,12 +6,14 @@ use Rattle.rr_space.specs.Graph.{Value, array}
 use Rattle.rr_space.specs.Tables.{Here}
 use Rattle.rr_space.specs.Labels.{triples_at}
 use Rattle.rr_space.specs.Parts.{value_of, value_triple}
-use Rattle.rr_space.specs.Views.{IsNodeWithin, IsLedAlso, node_kind, node_parts, node_items}
-use Rattle.rr_space.specs.Writes.{placed_from}
+use Rattle.rr_space.specs.Views.{below_node, IsNodeWithin, IsLedAlso, node_kind, node_parts, node_items}
+use Rattle.rr_space.specs.Views.{placed_from}
 use Rattle.rr_space.proofs.Listing.{length-places_from}
 use Rattle.rr_space.proofs.Writing.{triples_is}
 use Rattle.rr_space.proofs.Removing.{array_parts, array_values, values_placed}
 use Rattle.rr_space.proofs.Standing.{bare, mid_size, kind_of_node, on_some, on_none, some_within, of_object, of_place, slots_are, keys_same, led_also, put_same}
+use Rattle.rr_space.proofs.Knowing.{if_some}
+use Rattle.rr_space.proofs.Resolving.{below_joined}
 use Rattle.rr_space.proofs.space.Space.take_element.Goals as goal
 
 pub put-requires-clause-within : goal.put-requires-clause-within
@@ -99,3 +101,9 @@ returns-in-Whole-clause-none c =
     (λ same. put_same t c.take.new.self c.put.new.self slot c.args.array a b f c.in-Local.is s c.in-Whole.ensures.rest c.put.ensures
     (bare c.without_element-changed.ensures.head) same c.without_element-changed.ensures.head.keys)
     c.without_element-changed.ensures.none
+
+pub returns-in-Whole-clause-known : goal.returns-in-Whole-clause-known
+returns-in-Whole-clause-known c =
+    let t = c.args.self.now in
+    if_some c.without_element-changed.result.1 _ _ (λ r inside e has. below_joined t.below c.in-Local.slot (below_node c.in-Whole.node) e c.in-Whole.ensures.stood.below (inside e has))
+    c.without_element-changed.ensures.below_taken

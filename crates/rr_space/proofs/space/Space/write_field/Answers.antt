@@ -3,7 +3,7 @@ use Rattle.rr_space.specs.Graph.{Label, Field, plain, exception}
 use Rattle.rr_space.specs.Tables.{Here}
 use Rattle.rr_space.specs.Parts.{value_of, value_triple, below_ref}
 use Rattle.rr_space.specs.Views.{IsNodeWithin, IsLedBy, node_kind, node_parts}
-use Rattle.rr_space.specs.Writes.{IsFirstAt, label_part}
+use Rattle.rr_space.specs.Views.{IsFirstAt, label_part}
 use Rattle.rr_space.proofs.Fielding.{labels_same}
 use Rattle.rr_space.proofs.Placing.{map_set}
 use Rattle.rr_space.proofs.Writing.{map_push, on_ok, on_err}

@@ -3,7 +3,7 @@ use Rattle.rr_space.specs.Graph.{KeyAt, ValueAt, hash}
 use Rattle.rr_space.specs.Tables.{Here}
 use Rattle.rr_space.specs.Parts.{value_of, value_triple, below_ref}
 use Rattle.rr_space.specs.Views.{key_of, IsNodeWithin, IsLedAlso, node_kind, node_parts, node_keys}
-use Rattle.rr_space.specs.Writes.{IsFirstAt}
+use Rattle.rr_space.specs.Views.{IsFirstAt}
 use Rattle.rr_space.proofs.Placing.{map_set}
 use Rattle.rr_space.proofs.Writing.{map_push_two, on_ok, on_err}
 use Rattle.rr_space.proofs.Standing.{mid_size, kind_of_node, ok_always, of_slot, of_place, slots_are, keys_are, keys_same, led_also, put_same}

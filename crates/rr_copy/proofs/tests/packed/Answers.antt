@@ -1,5 +1,0 @@
-use Rattle.std.proofs.Common.{rules, IsTrue}
-use Rattle.rr_copy.proofs.tests.packed.Goals as goal
-
-pub pack_copy-requires-clause-promoted : goal.pack_copy-requires-clause-promoted
-pack_copy-requires-clause-promoted g c = let yes : IsTrue c.in_ok-can_pack.field-0 = search rules in c.in_ok-can_pack.ensures.promoted.0 yes
