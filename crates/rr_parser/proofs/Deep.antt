@@ -1,16 +1,33 @@
 -- Reading is too deep only where the constructs that are begun pass the limit.
-use Rattle.std.proofs.Common.{◌≡◌, ℕ, zero, suc, pos, ◌⊎◌, inl, inr, Bool, true, false, cond, List, [], ◌∷◌, length, Option, Some, None, Result, Ok, Err, refl, sym, subst}
+use Rattle.std.proofs.Common.{◌≡◌, ℕ, zero, suc, pos, ◌⊎◌, inl, inr, Bool, true, false, cond, List, [], ◌∷◌, length, Option, Some, None, Result, Ok, Err, refl}
+use Rattle.rr_parser.specs.Reading.Answers.{ended_by, turn, chain_from, chain_on}
 use Rattle.rr_base.specs.declared.name.Sym.{Sym}
 use Rattle.rr_tree.specs.declared.node.BinaryOperator.{BinaryOperator}
 use Rattle.rr_tree.specs.Tree.{Tree, int, local, call, negate, binary, assign, sequence, puts, listed}
 use Rattle.rr_parser.specs.declared.word.WordKind.{WordKind}
 use Rattle.rr_parser.specs.declared.word.WordKind.TheVariants as kind
 use Rattle.rr_parser.specs.declared.word.Word.{Word}
-use Rattle.rr_parser.specs.Grammar.{Place, next, skip, separators, is_puts, is_local, with_local, bracket, begins_operands, fits, fits_below, negated, joined, operator, comma, elsif, thens, same, one_of, and_one, chosen, start, Chain, one, more, Nested, Binary, Statement, Branch, Branches, inside, outside}
-use Rattle.rr_parser.specs.Reading.{◌>>=◌, Refused, wrong, deep, Answer, Parse, built, turn, chain_from, chain_on, chain, Readers, close, close_in, ended_by, closed, bare_puts, name_or, name_of, int_at, negative_in, negative_of, group_of, primary_at, primary_in, primary_of, no_integer, minus_at, minus_in, minus_or, minus_of, binary_of, pair_or, equality_of, target, argument_or, argument_of, arguments_of, bracketed_or, bracketed_of, command, statement_or, statement_of, ends, row, rows_of, sequence_of, statements_of, branch_on, branch_of, branches_of, else_in, otherwise_or, otherwise_of, end_in, ended_in, choice_of, readers_inside, readers_outside, readers, whole_of, program_of}
+use Rattle.rr_parser.specs.Places.{Place, Look, word, at, next, skip, separators, start}
+use Rattle.rr_parser.specs.Grammar.Chains.{Chain, one, more, same, one_of, and_one}
+use Rattle.rr_parser.specs.Grammar.Nesting.{Nested}
+use Rattle.rr_parser.specs.Grammar.Names.{is_puts, is_local, with_local, bracket, begins_operands}
+use Rattle.rr_parser.specs.Grammar.Operands.{fits, fits_below, negated, joined}
+use Rattle.rr_parser.specs.Grammar.Operators.{operator, Binary}
+use Rattle.rr_parser.specs.Grammar.Calls.{comma}
+use Rattle.rr_parser.specs.Grammar.Control.{thens, elsif, chosen, Statement, Branch, Branches}
+use Rattle.rr_parser.specs.Grammar.{inside, outside}
+use Rattle.rr_parser.specs.Reading.Answers.{◌>>=◌, Refused, wrong, deep, Answer, Parse, built, closed, chain}
+use Rattle.rr_parser.specs.Reading.Nesting.{Readers}
+use Rattle.rr_parser.specs.Reading.Operands.{bare_puts, name_or, name_of, int_at, negative_in, negative_of, group_of, primary_at, primary_in, primary_of, prefix_minus, minus_or, minus_of}
+use Rattle.rr_parser.specs.Reading.Operators.{binary_of, pair_or, equality_of}
+use Rattle.rr_parser.specs.Reading.Calls.{target, argument_or, argument_of, arguments_of, bracketed_or, bracketed_of}
+use Rattle.rr_parser.specs.Reading.Control.{command, statement_or, statement_of, ends, row, rows_of, sequence_of, statements_of, branch_on, branch_of, branches_of, otherwise_or, otherwise_of, choice_of}
+use Rattle.rr_parser.specs.Reading.{readers_inside, readers_outside, readers, whole_of, program_of}
 use Rattle.rr_parser.specs.Fronts.{Fronts, ChainFront, in_one, in_more, PrimaryFront, in_group, in_puts, in_if, MinusFront, in_minus, in_primary, BinaryFront, EqualityFront, in_left, in_right, ArgumentFront, in_value, in_equality, ArgumentsFront, StatementFront, in_command, in_argument, RowsFront, StatementsFront, BranchFront, in_condition, in_body, BranchesFront, ChoiceFront, in_branches, in_else, fronts_inside, fronts_outside}
-use Rattle.rr_parser.proofs.Shrinks.{some_place, done}
-use Rattle.rr_parser.proofs.Sound.{IsSound, NestedSound, target_in-some, command_in-some, else_in-some, row_in-separators, binary_sound, argument_sound, statement_sound, branch_sound, branches_sound, sound_inside, sound_outside}
+use Rattle.rr_parser.proofs.Told.{told_else}
+use Rattle.rr_parser.proofs.Looks.{word-next, row-separators, prefix-next, target-next, command-next}
+use Rattle.rr_parser.proofs.Chains.{done, IsSound}
+use Rattle.rr_parser.proofs.Sound.{NestedSound, binary_sound, argument_sound, statement_sound, branch_sound, branches_sound, sound_inside, sound_outside}
 
 abbrev pub IsDeep : {A : Type 0} → Parse A → (Place → Place → Type 0) → Type 0
 IsDeep {A} p F = (s : Place) → p s ≡ Err deep → (z : Place) × F s z
@@ -29,16 +46,16 @@ ended_not_deep : {A : Type 0} (t : A) (o : Option (Unit {0} × Place)) → ended
 ended_not_deep t None e = let never : ⊥ = cc in never
 ended_not_deep t (Some x) e = let never : ⊥ = cc in never
 
-closed_deep : {A : Type 0} (r : Answer A) → closed r ≡ Err deep → r ≡ Err deep
-closed_deep (Ok x) e = absurd (ended_not_deep x.0 (close_in (next x.1)) e)
-closed_deep (Err wrong) e = absurd cc
-closed_deep (Err deep) e = refl
+closed_deep : {A : Type 0} (k : WordKind) (r : Answer A) → closed k r ≡ Err deep → r ≡ Err deep
+closed_deep k (Ok x) e = absurd (ended_not_deep x.0 (at (word k) x.1) e)
+closed_deep k (Err wrong) e = absurd cc
+closed_deep k (Err deep) e = refl
 
 -- ---- chains
 
-module _ {X R S : Type 0} (between step : Place → Option (X × Place)) (first : R → S) (join : X → S → R → S) (p : Parse R) (P : Place → R → Place → Type 0) (F : Place → Place → Type 0)
-    (steps : (m n : Place) (x : X) → step m ≡ Some (x, n) → between m ≡ Some (x, n)) (sound : IsSound p P) (is_deep : IsDeep p F) where
-  turn_deep : (go : S → Parse S) (s : Place) (l : S) (m : Place) (o : Option (X × Place)) → step m ≡ o → Chain between first join P s l m
+module _ {X R S : Type 0} (between step : Look X) (first : R → S) (join : X → S → R → S) (p : Parse R) (P : Place → R → Place → Type 0) (F : Place → Place → Type 0)
+    (steps : (m n : Place) (x : X) → at step m ≡ Some (x, n) → at between m ≡ Some (x, n)) (sound : IsSound p P) (is_deep : IsDeep p F) where
+  turn_deep : (go : S → Parse S) (s : Place) (l : S) (m : Place) (o : Option (X × Place)) → at step m ≡ o → Chain between first join P s l m
       → ((u : S) (n : Place) → Chain between first join P s u n → go u n ≡ Err deep → (z : Place) × ChainFront between (Chain between first join P) F s z)
       → turn join p go l m o ≡ Err deep → (z : Place) × ChainFront between (Chain between first join P) F s z
   turn_deep go s l m None f c i e = absurd cc
@@ -51,7 +68,7 @@ module _ {X R S : Type 0} (between step : Place → Option (X × Place)) (first 
   from_deep : (n : ℕ) (s : Place) (l : S) (m : Place) → Chain between first join P s l m → chain_from step join p n l m ≡ Err deep → (z : Place) × ChainFront between (Chain between first join P) F s z
   unfolding chain_from
   from_deep zero s l m c e = absurd cc
-  from_deep (suc n) s l m c e = turn_deep (chain_from step join p n) s l m (step m) refl c (λ u o d f. from_deep n s u o d f) e
+  from_deep (suc n) s l m c e = turn_deep (chain_from step join p n) s l m (at step m) refl c (λ u o d f. from_deep n s u o d f) e
 
   pub chain_deep : IsDeep (chain step first join p) (ChainFront between (Chain between first join P) F)
   unfolding chain chain_on
@@ -92,15 +109,15 @@ pub record NestedDeep (N : Readers) (F : Fronts) : Type 0 where
   pub value : IsDeep N.value F.value
 
 module _ (N : Readers) (R : Nested) (F : Fronts) (sounds : NestedSound N R) (nests : NestedDeep N F) where
-  name_or-deep : (s m : Place) (x : Sym) (o : Option (Unit {0} × Place)) → next s ≡ Some (kind.Name x, m) → bracket x m ≡ o → name_or N x m o ≡ Err deep → (z : Place) × PrimaryFront F s z
+  name_or-deep : (s m : Place) (x : Sym) (o : Option (Unit {0} × Place)) → next s ≡ Some (kind.Name x, m) → at (bracket x) m ≡ o → name_or N x m o ≡ Err deep → (z : Place) × PrimaryFront F s z
   name_or-deep s m x None f g e = absurd (plain_not_deep (is_local x m) (is_puts x) x m e)
   name_or-deep s m x (Some b) f g e =
-      let d = nests.bracketed b.1 (closed_deep (N.bracketed b.1) (built_deep (λ l. puts (listed l)) (closed (N.bracketed b.1)) e)) in
+      let d = nests.bracketed b.1 (closed_deep kind.Close (N.bracketed b.1) (built_deep (λ l. puts (listed l)) (closed kind.Close (N.bracketed b.1)) e)) in
       (d.0, in_puts {u = b.0} f g d.1)
 
   name_deep : (s m : Place) (x : Sym) → next s ≡ Some (kind.Name x, m) → name_of N x m ≡ Err deep → (z : Place) × PrimaryFront F s z
   unfolding name_of
-  name_deep s m x f e = name_or-deep s m x (bracket x m) f refl e
+  name_deep s m x f e = name_or-deep s m x (at (bracket x) m) f refl e
 
   int_deep : (s m : Place) (n : ℕ) → int_at n m ≡ Err deep → (z : Place) × PrimaryFront F s z
   unfolding int_at
@@ -108,11 +125,11 @@ module _ (N : Readers) (R : Nested) (F : Fronts) (sounds : NestedSound N R) (nes
 
   negative_deep : (s m : Place) → negative_of m ≡ Err deep → (z : Place) × PrimaryFront F s z
   unfolding negative_of
-  negative_deep s m e = absurd (negative_not_deep (joined m) e)
+  negative_deep s m e = absurd (negative_not_deep (at joined m) e)
 
   group_deep : (s m : Place) → next s ≡ Some (kind.Open, m) → group_of N m ≡ Err deep → (z : Place) × PrimaryFront F s z
   unfolding group_of
-  group_deep s m f e = let d = nests.statements m (closed_deep (N.statements m) e) in (d.0, in_group f d.1)
+  group_deep s m f e = let d = nests.statements m (closed_deep kind.Close (N.statements m) e) in (d.0, in_group f d.1)
 
   primary_at-deep : (s : Place) (k : WordKind) (m : Place) → next s ≡ Some (k, m) → primary_at N k m ≡ Err deep → (z : Place) × PrimaryFront F s z
   primary_at-deep s (kind.Int n) m f e = int_deep s m n e
@@ -130,53 +147,44 @@ module _ (N : Readers) (R : Nested) (F : Fronts) (sounds : NestedSound N R) (nes
   unfolding primary_of
   primary_deep s e = primary_in-deep s (next s) refl e
 
-  no_integer-front : (s m n : Place) (r : Option (ℕ × Place)) (x : Unit {0}) (z : Place) → next s ≡ Some (kind.Minus, m) → joined m ≡ r → no_integer m r ≡ Some (x, n) → F.minus n z → MinusFront F s z
-  no_integer-front s m n None x z f g e h = in_minus f g (subst (λ (q : Place). F.minus q z) (sym (some_place tt x m n e)) h)
-  no_integer-front s m n (Some i) x z f g e h = absurd cc
-
-  at_minus : (s : Place) (k : WordKind) (m n : Place) (x : Unit {0}) (z : Place) → next s ≡ Some (k, m) → minus_at k m ≡ Some (x, n) → F.minus n z → MinusFront F s z
-  at_minus s kind.Minus m n x z f e h = no_integer-front s m n (joined m) x z f refl e h
-  at_minus s _ m n x z f e h = absurd cc
-
-  minus_in-front : (s : Place) (r : Option (WordKind × Place)) (n : Place) (x : Unit {0}) (z : Place) → next s ≡ r → minus_in r ≡ Some (x, n) → F.minus n z → MinusFront F s z
-  minus_in-front s None n x z f e h = absurd cc
-  minus_in-front s (Some k) n x z f e h = at_minus s k.0 k.1 n x z f e h
-
-  minus_or-deep : (s : Place) (o : Option (Unit {0} × Place)) → minus_in (next s) ≡ o → minus_or N s o ≡ Err deep → (z : Place) × MinusFront F s z
+  minus_or-deep : (s : Place) (o : Option (Unit {0} × Place)) → at prefix_minus s ≡ o → minus_or N s o ≡ Err deep → (z : Place) × MinusFront F s z
   minus_or-deep s None f e = let d = primary_deep s e in (d.0, in_primary d.1)
-  minus_or-deep s (Some m) f e = let d = nests.minus m.1 (built_deep negate (N.minus m.1) e) in (d.0, minus_in-front s (next s) m.1 m.0 d.0 refl f d.1)
+  minus_or-deep s (Some m) f e =
+      let d = nests.minus m.1 (built_deep negate (N.minus m.1) e) in
+      let k = prefix-next s m.1 m.0 f in
+      (d.0, in_minus k.0 k.1 d.1)
 
   pub minus_deep : IsDeep (minus_of N) (MinusFront F)
   unfolding minus_of
-  minus_deep s e = minus_or-deep s (minus_in (next s)) refl e
+  minus_deep s e = minus_or-deep s (at prefix_minus s) refl e
 
   pub binary_deep : (level : ℕ) → IsDeep (binary_of N level) (BinaryFront R F level)
   unfolding binary_of
   binary_deep zero = minus_deep
   binary_deep (suc level) = chain_deep (operator (suc level)) (operator (suc level)) same binary (binary_of N level) (Binary R level) (BinaryFront R F level) (λ m n x e. e) (binary_sound N R sounds level) (binary_deep level)
 
-  pair_or-deep : (s m : Place) (l : Tree) (o : Option (BinaryOperator × Place)) → Binary R 3 s l m → operator 4 m ≡ o → pair_or N l m o ≡ Err deep → (z : Place) × EqualityFront R F s z
+  pair_or-deep : (s m : Place) (l : Tree) (o : Option (BinaryOperator × Place)) → Binary R 3 s l m → at (operator 4) m ≡ o → pair_or N l m o ≡ Err deep → (z : Place) × EqualityFront R F s z
   pair_or-deep s m l None h f e = absurd cc
   pair_or-deep s m l (Some o) h f e = let d = binary_deep 3 o.1 (built_deep (binary o.0 l) (binary_of N 3 o.1) e) in (d.0, in_right h f d.1)
 
   equality_deep : IsDeep (equality_of N) (EqualityFront R F)
   unfolding equality_of
   equality_deep s e =
-      elim (bind_deep (binary_of N 3 s) (λ l. pair_or N l.0 l.1 (operator 4 l.1)) e) [
+      elim (bind_deep (binary_of N 3 s) (λ l. pair_or N l.0 l.1 (at (operator 4) l.1)) e) [
         | inl g ↦ (let d = binary_deep 3 s g in (d.0, in_left d.1))
-        | inr b ↦ pair_or-deep s b.0.1 b.0.0 (operator 4 b.0.1) (binary_sound N R sounds 3 s b.0.1 b.0.0 b.1) refl b.2
+        | inr b ↦ pair_or-deep s b.0.1 b.0.0 (at (operator 4) b.0.1) (binary_sound N R sounds 3 s b.0.1 b.0.0 b.1) refl b.2
       ]
 
-  argument_or-deep : (s : Place) (o : Option (Sym × Place)) → target s ≡ o → argument_or N s o ≡ Err deep → (z : Place) × ArgumentFront R F s z
+  argument_or-deep : (s : Place) (o : Option (Sym × Place)) → at target s ≡ o → argument_or N s o ≡ Err deep → (z : Place) × ArgumentFront R F s z
   argument_or-deep s None f e = let d = equality_deep s e in (d.0, in_equality d.1)
   argument_or-deep s (Some x) f e =
       let d = nests.value (with_local x.0 x.1) (built_deep (assign x.0.0) (N.value (with_local x.0 x.1)) e) in
-      let k = target_in-some (next s) x.1 x.0 f in
+      let k = target-next s x.1 x.0 f in
       (d.0, in_value k.1 k.2 d.1)
 
   pub argument_deep : IsDeep (argument_of N) (ArgumentFront R F)
   unfolding argument_of
-  argument_deep s e = argument_or-deep s (target s) refl e
+  argument_deep s e = argument_or-deep s (at target s) refl e
 
   arguments_deep : IsDeep (arguments_of N) (ArgumentsFront R F)
   unfolding arguments_of
@@ -188,22 +196,22 @@ module _ (N : Readers) (R : Nested) (F : Fronts) (sounds : NestedSound N R) (nes
 
   pub bracketed_deep : IsDeep (bracketed_of N) (ArgumentsFront R F)
   unfolding bracketed_of
-  bracketed_deep s e = bracketed_or-deep s (close s) e
+  bracketed_deep s e = bracketed_or-deep s (at (word kind.Close) s) e
 
-  statement_or-deep : (s : Place) (o : Option (Unit {0} × Place)) → command s ≡ o → statement_or N s o ≡ Err deep → (z : Place) × StatementFront R F s z
+  statement_or-deep : (s : Place) (o : Option (Unit {0} × Place)) → at (command s.known) s ≡ o → statement_or N s o ≡ Err deep → (z : Place) × StatementFront R F s z
   statement_or-deep s None f e = let d = argument_deep s e in (d.0, in_argument d.1)
   statement_or-deep s (Some x) f e =
       let d = arguments_deep x.1 (built_deep (λ l. puts (listed l)) (arguments_of N x.1) e) in
-      let k = command_in-some (next s) x.1 x.0 f in
+      let k = command-next s x.1 x.0 f in
       (d.0, in_command k.1 k.2 d.1)
 
   statement_deep : IsDeep (statement_of N) (StatementFront R F)
   unfolding statement_of
-  statement_deep s e = statement_or-deep s (command s) refl e
+  statement_deep s e = statement_or-deep s (at (command s.known) s) refl e
 
   rows_deep : IsDeep (rows_of N) (RowsFront R F)
   unfolding rows_of
-  rows_deep = chain_deep separators row one_of and_one (statement_of N) (Statement R) (StatementFront R F) (λ m n x f. row_in-separators (next m) n x f) (statement_sound N R sounds) statement_deep
+  rows_deep = chain_deep separators row one_of and_one (statement_of N) (Statement R) (StatementFront R F) (λ m n x f. (row-separators m n x f).0) (statement_sound N R sounds) statement_deep
 
   sequence_deep : (r : Answer (List Tree)) → sequence_of r ≡ Err deep → r ≡ Err deep
   sequence_deep (Ok x) e = absurd cc
@@ -218,43 +226,38 @@ module _ (N : Readers) (R : Nested) (F : Fronts) (sounds : NestedSound N R) (nes
   unfolding statements_of
   statements_deep s e = statements_test (ends (skip s).rest) s e
 
-  branch_on-deep : (s m : Place) (c : Tree) (r : Option (Unit {0} × Place)) → Statement R s c m → thens m ≡ r → branch_on N c r ≡ Err deep → (z : Place) × BranchFront R F s z
+  branch_on-deep : (s m : Place) (c : Tree) (r : Option (Unit {0} × Place)) → Statement R s c m → at thens m ≡ r → branch_on N c r ≡ Err deep → (z : Place) × BranchFront R F s z
   branch_on-deep s m c None h f e = absurd cc
   branch_on-deep s m c (Some x) h f e = let d = statements_deep x.1 (built_deep (λ (u : Tree). (c, u)) (statements_of N x.1) e) in (d.0, in_body {u = x.0} h f d.1)
 
   branch_deep : IsDeep (branch_of N) (BranchFront R F)
   unfolding branch_of
   branch_deep s e =
-      elim (bind_deep (statement_of N s) (λ c. branch_on N c.0 (thens c.1)) e) [
+      elim (bind_deep (statement_of N s) (λ c. branch_on N c.0 (at thens c.1)) e) [
         | inl g ↦ (let d = statement_deep s g in (d.0, in_condition d.1))
-        | inr b ↦ branch_on-deep s b.0.1 b.0.0 (thens b.0.1) (statement_sound N R sounds s b.0.1 b.0.0 b.1) refl b.2
+        | inr b ↦ branch_on-deep s b.0.1 b.0.0 (at thens b.0.1) (statement_sound N R sounds s b.0.1 b.0.0 b.1) refl b.2
       ]
 
   branches_deep : IsDeep (branches_of N) (BranchesFront R F)
   unfolding branches_of
   branches_deep = chain_deep elsif elsif one_of and_one (branch_of N) (Branch R) (BranchFront R F) (λ m n x e. e) (branch_sound N R sounds) branch_deep
 
-  otherwise_or-deep : (s m : Place) (l : List (Tree × Tree)) (o : Option (Unit {0} × Place)) → Branches R s l m → else_in (next m) ≡ o → otherwise_or N m o ≡ Err deep → (z : Place) × ChoiceFront R F s z
+  otherwise_or-deep : (s m : Place) (l : List (Tree × Tree)) (o : Option (Unit {0} × Place)) → Branches R s l m → at (word kind.Else) m ≡ o → otherwise_or N m o ≡ Err deep → (z : Place) × ChoiceFront R F s z
   otherwise_or-deep s m l None h f e = absurd cc
-  otherwise_or-deep s m l (Some x) h f e = let d = statements_deep x.1 e in (d.0, in_else h (else_in-some (next m) x.1 x.0 f) d.1)
+  otherwise_or-deep s m l (Some x) h f e = let d = statements_deep x.1 e in (d.0, in_else h (word-next kind.Else told_else m x.1 x.0 f) d.1)
 
   otherwise_deep : (s m : Place) (l : List (Tree × Tree)) → Branches R s l m → otherwise_of N m ≡ Err deep → (z : Place) × ChoiceFront R F s z
   unfolding otherwise_of
-  otherwise_deep s m l h e = otherwise_or-deep s m l (else_in (next m)) h refl e
+  otherwise_deep s m l h e = otherwise_or-deep s m l (at (word kind.Else) m) h refl e
 
   pub choice_deep : IsDeep (choice_of N) (ChoiceFront R F)
   unfolding choice_of
   choice_deep s e =
-      elim (bind_deep (branches_of N s) (λ l. otherwise_of N l.1 >>= λ e. ended_in (chosen l.0 e.0) (next e.1)) e) [
+      elim (bind_deep (branches_of N s) (λ l. closed kind.End (built (chosen l.0) (otherwise_of N l.1))) e) [
         | inl g ↦ (let d = branches_deep s g in (d.0, in_branches d.1))
-        | inr b ↦ behind s b.0 (branches_sound N R sounds s b.0.1 b.0.0 b.1) (bind_deep (otherwise_of N b.0.1) (λ e. ended_in (chosen b.0.0 e.0) (next e.1)) b.2)
+        | inr b ↦ otherwise_deep s b.0.1 b.0.0 (branches_sound N R sounds s b.0.1 b.0.0 b.1)
+            (built_deep (chosen b.0.0) (otherwise_of N b.0.1) (closed_deep kind.End (built (chosen b.0.0) (otherwise_of N b.0.1)) b.2))
       ]
-    where
-      behind : (s : Place) (l : List (Tree × Tree) × Place) → Branches R s l.0 l.1
-          → (otherwise_of N l.1 ≡ Err deep) ⊎ ((x : Tree × Place) × (otherwise_of N l.1 ≡ Ok x) × (ended_in (chosen l.0 x.0) (next x.1) ≡ Err deep))
-          → (z : Place) × ChoiceFront R F s z
-      behind s l h (inl g) = otherwise_deep s l.1 l.0 h g
-      behind s l h (inr c) = absurd (ended_not_deep (chosen l.0 c.0.0) (end_in (next c.0.1)) c.2)
 
 pub deep_inside : (d : ℕ) → NestedDeep (readers_inside d) (fronts_inside d)
 unfolding readers_inside fronts_inside

@@ -9,9 +9,11 @@ use Rattle.rr_parser.specs.declared.word.Word.{Word}
 use Rattle.rr_parser.specs.declared.refusal.Refusal.{Refusal}
 use Rattle.rr_parser.specs.declared.refusal.Refusal.TheVariants as refusal
 use Rattle.rr_parser.specs.declared.refusal.Storage.TheVariants as storage
-use Rattle.rr_parser.specs.Grammar.{Place, WordsSpell, start, outside}
+use Rattle.rr_parser.specs.Places.{Place, start}
+use Rattle.rr_parser.specs.Grammar.{WordsSpell, outside}
 use Rattle.rr_parser.specs.Fronts.{StatementsFront, fronts_outside}
-use Rattle.rr_parser.specs.Reading.{program_of, statements_of, readers, whole_of}
+use Rattle.rr_parser.specs.Reading.Control.{statements_of}
+use Rattle.rr_parser.specs.Reading.{program_of, readers, whole_of}
 use Rattle.rr_parser.specs.Meets.{Fails, locals_of}
 use Rattle.rr_parser.specs.Faults.{IsParseFault, IsFaultOf}
 use Rattle.rr_parser.proofs.Deep.{program_nests}
@@ -53,11 +55,11 @@ parse_fault (refusal.Unexpected n) f g = no_fault f (fault.Syntax g.0 g.1 g.2) g
 parse_fault (refusal.Number n) f g = no_fault f (fault.Syntax g.0 g.1 g.2) g.3 tt
 
 -- what the statements of a program fail by
-pub fails_program : (d : ℕ) (ws : List Word) (known : List Bool) (e : Refusal) → known ≡ [] → Fails e (statements_of (readers false d) (record { locals = locals_of known; rest = ws })) → Fails e (program_of d ws)
+pub fails_program : (d : ℕ) (ws : List Word) (known : List Bool) (e : Refusal) → known ≡ [] → Fails e (statements_of (readers false d) (record { known = record { locals = locals_of known }; rest = ws })) → Fails e (program_of d ws)
 unfolding program_of
 fails_program d ws known e is h =
     fails_bind e (statements_of (readers false d) (start ws)) (λ r. whole_of r.0 r.1.rest)
-    (subst (λ (k : List Bool). Fails e (statements_of (readers false d) (record { locals = locals_of k; rest = ws }))) is h)
+    (subst (λ (k : List Bool). Fails e (statements_of (readers false d) (record { known = record { locals = locals_of k }; rest = ws }))) is h)
 
 pub same_fault : {A : Type 0} (f g : Fault) → ◌≡◌ {A = Result A Fault} (Err f) (Err g) → f ≡ g
 same_fault f g e = cc

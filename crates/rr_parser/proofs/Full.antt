@@ -1,13 +1,32 @@
 -- What is spelled is read, unless it nests too deep.
 use Rattle.std.proofs.Common.{◌≡◌, ℕ, zero, suc, ◌<◌, inl, inr, pos, Bool, true, false, cond, List, [], Some, None, Ok, Err, refl, sym, ap, ◌∙◌, arith}
+use Rattle.rr_parser.specs.Reading.Answers.{ended_by}
+use Rattle.rr_parser.specs.Places.{is_kind, where_true, seen_before, placed}
 use Rattle.rr_base.specs.declared.name.Sym.{Sym}
 use Rattle.rr_tree.specs.Tree.{Tree, int, local, call, negate, binary, assign, sequence, puts, listed}
+use Rattle.rr_parser.specs.declared.word.WordKind.{WordKind}
 use Rattle.rr_parser.specs.declared.word.WordKind.TheVariants as kind
 use Rattle.rr_parser.specs.declared.word.Word.{Word}
-use Rattle.rr_parser.specs.Grammar.{Place, next, skip, separators, is_puts, is_local, with_local, bracket, begins_operands, fits, fits_below, negated, joined, operator, comma, elsif, elsif_in, thens, same, one_of, and_one, chosen, start, Nested, Primary, an_int, a_negative, a_text, a_nil, a_truth, a_local, a_call, a_marked_call, a_bare_puts, a_puts, a_group, an_if, Minus, a_minus, a_primary, Binary, Equality, a_comparison, a_pair, Argument, an_assignment, an_equality, Arguments, Bracketed, no_arguments, some_arguments, Statement, a_command, an_argument, Rows, Statements, no_statements, some_statements, Branch, a_branch, Branches, Otherwise, no_else, an_else, Choice, a_choice, inside, outside, WordsSpell}
-use Rattle.rr_parser.specs.Reading.{◌>>=◌, wrong, deep, Answer, Parse, built, Readers, close_in, close, closed_in, closed, puts_of, bare_puts, plain_name, name_or, name_of, int_at, negative_in, negative_of, group_of, primary_in, primary_of, no_integer, minus_in, minus_or, minus_of, binary_of, pair_or, equality_of, assign_in, target_in, target, argument_or, argument_of, arguments_of, bracketed_or, bracketed_of, command_in, command, statement_or, statement_of, ends, row, rows_of, sequence_of, statements_at, statements_of, branch_on, branch_of, branches_of, else_in, otherwise_or, otherwise_of, ended_in, choice_of, readers_inside, readers_outside, whole_of, program_of}
-use Rattle.rr_parser.proofs.Shrinks.{Steps-operator, Steps-comma, Steps-row, Steps-elsif, Shrinks-binary, Shrinks-argument, Shrinks-statement, Shrinks-branch, NestedShrinks, shrinks_nested}
-use Rattle.rr_parser.proofs.Stopping.{Leads, leads_bind, leads_trans, leads_eq, leads_map, IsFull, chain_full, Stops, stops_below, Outer, outer_stops, EndsStatement, comma_outer, separators_end, separators_row, ends_behind, next_ends_true, chain_first, argument_starts, statement_starts, other_bracket, argument_no_command, no_command_in, no_target, Closes, close_ends, no_close, AtEnd, thens_end, elsif_ends}
+use Rattle.rr_parser.specs.Places.{Place, word, at, next, skip, separators, start}
+use Rattle.rr_parser.specs.Grammar.Chains.{same, one_of, and_one}
+use Rattle.rr_parser.specs.Grammar.Nesting.{Nested}
+use Rattle.rr_parser.specs.Grammar.Names.{is_puts, is_local, with_local, bracket, begins_operands}
+use Rattle.rr_parser.specs.Grammar.Operands.{fits, fits_below, negated, joined, Primary, an_int, a_negative, a_text, a_nil, a_truth, a_local, a_call, a_marked_call, a_bare_puts, a_puts, a_group, an_if, Minus, a_minus, a_primary}
+use Rattle.rr_parser.specs.Grammar.Operators.{operator, Binary, Equality, a_comparison, a_pair}
+use Rattle.rr_parser.specs.Grammar.Calls.{comma, Argument, an_assignment, an_equality, Arguments, Bracketed, no_arguments, some_arguments}
+use Rattle.rr_parser.specs.Grammar.Control.{thens, elsif, chosen, Statement, a_command, an_argument, Rows, Statements, no_statements, some_statements, Branch, a_branch, Branches, Otherwise, no_else, an_else, Choice, a_choice}
+use Rattle.rr_parser.specs.Grammar.{inside, outside, WordsSpell}
+use Rattle.rr_parser.specs.Reading.Answers.{◌>>=◌, wrong, deep, Answer, Parse, built, closed}
+use Rattle.rr_parser.specs.Reading.Nesting.{Readers}
+use Rattle.rr_parser.specs.Reading.Operands.{puts_of, bare_puts, plain_name, name_or, name_of, int_at, negative_in, negative_of, group_of, primary_in, primary_of, prefix_minus, minus_or, minus_of}
+use Rattle.rr_parser.specs.Reading.Operators.{binary_of, pair_or, equality_of}
+use Rattle.rr_parser.specs.Reading.Calls.{target, argument_or, argument_of, arguments_of, bracketed_or, bracketed_of}
+use Rattle.rr_parser.specs.Reading.Control.{command, statement_or, statement_of, ends, row, rows_of, sequence_of, statements_at, statements_of, branch_on, branch_of, branches_of, otherwise_or, otherwise_of, choice_of}
+use Rattle.rr_parser.specs.Reading.{readers_inside, readers_outside, whole_of, program_of}
+use Rattle.rr_parser.proofs.Looks.{by_next, other-word, next-prefix, no_prefix, next-target, next-command, separators-row, Steps-row}
+use Rattle.rr_parser.proofs.Shrinking.{ReadersShrink, shrinks_nested, Steps-operator, Steps-comma, Steps-elsif}
+use Rattle.rr_parser.proofs.Leading.{Leads, leads_bind, leads_trans, leads_eq, leads_map, IsFull, chain_full}
+use Rattle.rr_parser.proofs.Stopping.{Stops, stops_below, Outer, outer_stops, EndsStatement, ends_statement_by, comma_outer, separators_end, ends_behind, next_ends, chain_first, argument_starts, statement_starts, other_bracket, no_command, no_target, Closes, no_close, AtEnd, thens_end, elsif_ends}
 
 abbrev pub Anywhere : Place → Type 0
 Anywhere z = Unit {0}
@@ -22,20 +41,24 @@ pub record NestedFull (N : Readers) (R : Nested) (D : Type 0) : Type 0 where
   pub minus : IsFull N.minus R.minus Anywhere D
   pub value : IsFull N.value R.value Outer D
 
-closed_full : {A : Type 0} {D : Type 0} (r : Answer A) (t : A) (n z : Place) → Leads r (Ok (t, n)) D → next n ≡ Some (kind.Close, z) → Leads (closed r) (Ok (t, z)) D
-closed_full r t n z h e =
-    leads_trans (closed r) (closed_in t (next n)) (Ok (t, z)) (leads_bind r (t, n) (λ x. closed_in x.0 (next x.1)) h) (inl (ap (closed_in t) e))
+-- a word of this kind is seen
+word_here : (k : WordKind) (s z : Place) → next s ≡ Some (k, z) → is_kind k k ≡ true → at (word k) s ≡ Some (tt, z)
+word_here k s z e f = by_next (λ q. at (word k) q ≡ Some (tt, z)) s z k e (λ b. ap (λ t. placed z.known (seen_before (where_true t) z.rest)) f)
 
-module _ (N : Readers) (R : Nested) (D : Type 0) (shrinks : NestedShrinks N) (nests : NestedFull N R D) where
+closed_full : {A : Type 0} {D : Type 0} (k : WordKind) (r : Answer A) (t : A) (n z : Place) → is_kind k k ≡ true → Leads r (Ok (t, n)) D → next n ≡ Some (k, z) → Leads (closed k r) (Ok (t, z)) D
+closed_full k r t n z same_kind h e =
+    leads_trans (closed k r) (ended_by t (at (word k) n)) (Ok (t, z)) (leads_bind r (t, n) (λ x. ended_by x.0 (at (word k) x.1)) h) (inl (ap (ended_by t) (word_here k n z e same_kind)))
+
+module _ (N : Readers) (R : Nested) (D : Type 0) (shrinks : ReadersShrink N) (nests : NestedFull N R D) where
   int_full : (n : ℕ) (z : Place) → fits n ≡ true → int_at n z ≡ Ok (int (pos n), z)
   unfolding int_at
   int_full n z f = ap (λ b. cond b (Ok (int (pos n), z)) (Err wrong)) f
 
-  negative_full : (m z : Place) (n : ℕ) → joined m ≡ Some (n, z) → fits_below n ≡ true → negative_of m ≡ Ok (int (negated n), z)
+  negative_full : (m z : Place) (n : ℕ) → at joined m ≡ Some (n, z) → fits_below n ≡ true → negative_of m ≡ Ok (int (negated n), z)
   unfolding negative_of
   negative_full m z n e f = ap negative_in e ∙ ap (λ b. cond b (Ok (int (negated n), z)) (Err wrong)) f
 
-  plain_full : (x : Sym) (m : Place) → bracket x m ≡ None → name_of N x m ≡ plain_name x m
+  plain_full : (x : Sym) (m : Place) → at (bracket x) m ≡ None → name_of N x m ≡ plain_name x m
   unfolding name_of
   plain_full x m e = ap (name_or N x m) e
 
@@ -48,15 +71,15 @@ module _ (N : Readers) (R : Nested) (D : Type 0) (shrinks : NestedShrinks N) (ne
   bare_full : (m : Place) → begins_operands m.rest ≡ false → bare_puts m ≡ Ok (puts (listed []), m)
   bare_full m e = ap (λ b. cond b (Err wrong) (Ok (puts (listed []), m))) e
 
-  puts_full : (x : Sym) (m n o z : Place) (u : Unit {0}) (l : List Tree) → bracket x m ≡ Some (u, n) → R.bracketed n l o → next o ≡ Some (kind.Close, z) → Leads (name_of N x m) (Ok (puts (listed l), z)) D
+  puts_full : (x : Sym) (m n o z : Place) (u : Unit {0}) (l : List Tree) → at (bracket x) m ≡ Some (u, n) → R.bracketed n l o → next o ≡ Some (kind.Close, z) → Leads (name_of N x m) (Ok (puts (listed l), z)) D
   unfolding name_of
   puts_full x m n o z u l e h f =
-      leads_eq (name_or N x m (bracket x m)) (puts_of (closed (N.bracketed n))) (Ok (puts (listed l), z)) (ap (name_or N x m) e)
-      (leads_bind (closed (N.bracketed n)) (l, z) (λ q. Ok (puts (listed q.0), q.1)) (closed_full (N.bracketed n) l o z (nests.bracketed n o l h (z, f)) f))
+      leads_eq (name_or N x m (at (bracket x) m)) (puts_of (closed kind.Close (N.bracketed n))) (Ok (puts (listed l), z)) (ap (name_or N x m) e)
+      (leads_bind (closed kind.Close (N.bracketed n)) (l, z) (λ q. Ok (puts (listed q.0), q.1)) (closed_full kind.Close (N.bracketed n) l o z refl (nests.bracketed n o l h (z, f)) f))
 
   group_full : (m n z : Place) (t : Tree) → R.statements m t n → next n ≡ Some (kind.Close, z) → Leads (group_of N m) (Ok (t, z)) D
   unfolding group_of
-  group_full m n z t h g = closed_full (N.statements m) t n z (nests.statements m n t h (next_ends_true n.locals n.rest kind.Close z g refl)) g
+  group_full m n z t h g = closed_full kind.Close (N.statements m) t n z refl (nests.statements m n t h (next_ends n z kind.Close true g refl)) g
 
   pub primary_full : IsFull (primary_of N) (Primary R) Anywhere D
   unfolding primary_of
@@ -66,7 +89,7 @@ module _ (N : Readers) (R : Nested) (D : Type 0) (shrinks : NestedShrinks N) (ne
   primary_full s z t (a_nil e) u = inl (ap (primary_in N) e)
   primary_full s z t (a_truth e) u = inl (ap (primary_in N) e)
   primary_full s z t (a_local {x = x} e o f) u = inl (ap (primary_in N) e ∙ plain_full x z o ∙ local_full x z f)
-  primary_full s z t (a_call {x = x} e f g) u = inl (ap (primary_in N) e ∙ plain_full x z (other_bracket x z.locals z.rest f) ∙ other_full x z false g f)
+  primary_full s z t (a_call {x = x} e f g) u = inl (ap (primary_in N) e ∙ plain_full x z (other_bracket x z f) ∙ other_full x z false g f)
   primary_full s z t (a_marked_call e) u = inl (ap (primary_in N) e)
   primary_full s z t (a_bare_puts {x = x} e o f g h) u = inl (ap (primary_in N) e ∙ plain_full x z o ∙ other_full x z true g f ∙ bare_full z h)
   primary_full s z t (a_puts {m = m} {n = n} {o = o} {x = x} {u = v} {l = l} e f h g) u =
@@ -76,85 +99,85 @@ module _ (N : Readers) (R : Nested) (D : Type 0) (shrinks : NestedShrinks N) (ne
   primary_full s z t (an_if {m = m} e h) u =
       leads_eq (primary_in N (next s)) (N.choice m) (Ok (t, z)) (ap (primary_in N) e) (nests.choice m z t h tt)
 
-  primary_no_minus : (s z : Place) (t : Tree) → Primary R s t z → minus_in (next s) ≡ None
-  primary_no_minus s z t (an_int e f) = ap minus_in e
-  primary_no_minus s z t (a_negative {m = m} e f g) = ap minus_in e ∙ ap (no_integer m) f
-  primary_no_minus s z t (a_text e) = ap minus_in e
-  primary_no_minus s z t (a_nil e) = ap minus_in e
-  primary_no_minus s z t (a_truth e) = ap minus_in e
-  primary_no_minus s z t (a_local e o f) = ap minus_in e
-  primary_no_minus s z t (a_call e f g) = ap minus_in e
-  primary_no_minus s z t (a_marked_call e) = ap minus_in e
-  primary_no_minus s z t (a_bare_puts e o f g h) = ap minus_in e
-  primary_no_minus s z t (a_puts e f h g) = ap minus_in e
-  primary_no_minus s z t (a_group e h g) = ap minus_in e
-  primary_no_minus s z t (an_if e h) = ap minus_in e
+  primary_no_minus : (s z : Place) (t : Tree) → Primary R s t z → at prefix_minus s ≡ None
+  primary_no_minus s z t (an_int {n = n} e f) = by_next (λ q. at prefix_minus q ≡ None) s z (kind.Int n) e (λ b. refl)
+  primary_no_minus s z t (a_negative {m = m} {n = n} e f g) = no_prefix s m e n z f
+  primary_no_minus s z t (a_text {i = i} e) = by_next (λ q. at prefix_minus q ≡ None) s z (kind.Text i) e (λ b. refl)
+  primary_no_minus s z t (a_nil e) = by_next (λ q. at prefix_minus q ≡ None) s z kind.Nil e (λ b. refl)
+  primary_no_minus s z t (a_truth {b = c} e) = by_next (λ q. at prefix_minus q ≡ None) s z (kind.Truth c) e (λ b. refl)
+  primary_no_minus s z t (a_local {x = x} e o f) = by_next (λ q. at prefix_minus q ≡ None) s z (kind.Name x) e (λ b. refl)
+  primary_no_minus s z t (a_call {x = x} e f g) = by_next (λ q. at prefix_minus q ≡ None) s z (kind.Name x) e (λ b. refl)
+  primary_no_minus s z t (a_marked_call {x = x} e) = by_next (λ q. at prefix_minus q ≡ None) s z (kind.Marked x) e (λ b. refl)
+  primary_no_minus s z t (a_bare_puts {x = x} e o f g h) = by_next (λ q. at prefix_minus q ≡ None) s z (kind.Name x) e (λ b. refl)
+  primary_no_minus s z t (a_puts {m = m} {x = x} e f h g) = by_next (λ q. at prefix_minus q ≡ None) s m (kind.Name x) e (λ b. refl)
+  primary_no_minus s z t (a_group {m = m} e h g) = by_next (λ q. at prefix_minus q ≡ None) s m kind.Open e (λ b. refl)
+  primary_no_minus s z t (an_if {m = m} e h) = by_next (λ q. at prefix_minus q ≡ None) s m kind.If e (λ b. refl)
 
   pub minus_full : IsFull (minus_of N) (Minus R) Anywhere D
   unfolding minus_of
   minus_full s z t (a_minus {m = m} {t = v} e f h) u =
-      leads_eq (minus_or N s (minus_in (next s))) (built negate (N.minus m)) (Ok (t, z)) (ap (minus_or N s) (ap minus_in e ∙ ap (no_integer m) f))
+      leads_eq (minus_or N s (at prefix_minus s)) (built negate (N.minus m)) (Ok (t, z)) (ap (minus_or N s) (next-prefix s m e f))
       (leads_bind (N.minus m) (v, z) (λ x. Ok (negate x.0, x.1)) (nests.minus m z v h tt))
   minus_full s z t (a_primary h) u =
-      leads_eq (minus_or N s (minus_in (next s))) (primary_of N s) (Ok (t, z)) (ap (minus_or N s) (primary_no_minus s z t h)) (primary_full s z t h tt)
+      leads_eq (minus_or N s (at prefix_minus s)) (primary_of N s) (Ok (t, z)) (ap (minus_or N s) (primary_no_minus s z t h)) (primary_full s z t h tt)
 
   pub binary_full : (level : ℕ) → IsFull (binary_of N level) (Binary R level) (Stops level) D
   unfolding binary_of
   binary_full zero = minus_full
   binary_full (suc level) = λ s z t c stops.
       chain_full (operator (suc level)) (operator (suc level)) same binary (binary_of N level) (Binary R level) (Stops level) D
-      (Steps-operator (suc level)) (Shrinks-binary N shrinks level)
+      (Steps-operator (suc level)) (shrinks.binary level)
       (λ m n x e. stops_below (suc level) level (omega arith) m n x e) (λ m n z x r e h. e) (binary_full level) s z t c stops.0 stops.1
 
   pub equality_full : IsFull (equality_of N) (Equality R) (Stops 4) D
   unfolding equality_of
   equality_full s z t (a_comparison h) stops =
-      leads_trans (binary_of N 3 s >>= λ l. pair_or N l.0 l.1 (operator 4 l.1)) (pair_or N t z (operator 4 z)) (Ok (t, z))
-      (leads_bind (binary_of N 3 s) (t, z) (λ l. pair_or N l.0 l.1 (operator 4 l.1)) (binary_full 3 s z t h stops.0))
+      leads_trans (binary_of N 3 s >>= λ l. pair_or N l.0 l.1 (at (operator 4) l.1)) (pair_or N t z (at (operator 4) z)) (Ok (t, z))
+      (leads_bind (binary_of N 3 s) (t, z) (λ l. pair_or N l.0 l.1 (at (operator 4) l.1)) (binary_full 3 s z t h stops.0))
       (inl (ap (pair_or N t z) stops.1))
   equality_full s z t (a_pair {m = m} {n = n} {l = l} {r = r} {o = o} h e g) stops =
-      leads_trans (binary_of N 3 s >>= λ l. pair_or N l.0 l.1 (operator 4 l.1)) (pair_or N l m (operator 4 m)) (Ok (t, z))
-      (leads_bind (binary_of N 3 s) (l, m) (λ l. pair_or N l.0 l.1 (operator 4 l.1)) (binary_full 3 s m l h (stops_below 4 3 (omega arith) m n o e)))
-      (leads_eq (pair_or N l m (operator 4 m)) (built (binary o l) (binary_of N 3 n)) (Ok (t, z)) (ap (pair_or N l m) e)
+      leads_trans (binary_of N 3 s >>= λ l. pair_or N l.0 l.1 (at (operator 4) l.1)) (pair_or N l m (at (operator 4) m)) (Ok (t, z))
+      (leads_bind (binary_of N 3 s) (l, m) (λ l. pair_or N l.0 l.1 (at (operator 4) l.1)) (binary_full 3 s m l h (stops_below 4 3 (omega arith) m n o e)))
+      (leads_eq (pair_or N l m (at (operator 4) m)) (built (binary o l) (binary_of N 3 n)) (Ok (t, z)) (ap (pair_or N l m) e)
       (leads_bind (binary_of N 3 n) (r, z) (λ x. Ok (binary o l x.0, x.1)) (binary_full 3 n z r g stops.0)))
 
   pub argument_full : IsFull (argument_of N) (Argument R) Outer D
   unfolding argument_of
   argument_full s z t (an_assignment {m = m} {n = n} {x = x} {t = v} e f h) outer =
-      leads_eq (argument_or N s (target s)) (built (assign x.0) (N.value (with_local x n))) (Ok (t, z)) (ap (argument_or N s) (ap target_in e ∙ ap (assign_in x) f))
+      leads_eq (argument_or N s (at target s)) (built (assign x.0) (N.value (with_local x n))) (Ok (t, z)) (ap (argument_or N s) (next-target s m n x e f))
       (leads_bind (N.value (with_local x n)) (v, z) (λ q. Ok (assign x.0 q.0, q.1)) (nests.value (with_local x n) z v h outer))
   argument_full s z t (an_equality h) outer =
-      leads_eq (argument_or N s (target s)) (equality_of N s) (Ok (t, z)) (ap (argument_or N s) (no_target R s z t h outer)) (equality_full s z t h (outer_stops 4 z outer))
+      leads_eq (argument_or N s (at target s)) (equality_of N s) (Ok (t, z)) (ap (argument_or N s) (no_target R s z t h outer)) (equality_full s z t h (outer_stops 4 z outer))
 
   pub arguments_full : IsFull (arguments_of N) (Arguments R) EndsStatement D
   unfolding arguments_of
   arguments_full s z t c stops =
-      chain_full comma comma one_of and_one (argument_of N) (Argument R) Outer D Steps-comma (Shrinks-argument N shrinks)
-      (λ m n x e. comma_outer (next m) n x e) (λ m n z x r e h. e) argument_full s z t c stops.0 stops.1
+      chain_full comma comma one_of and_one (argument_of N) (Argument R) Outer D Steps-comma shrinks.argument
+      (λ m n x e. comma_outer m n x e) (λ m n z x r e h. e) argument_full s z t c stops.0 stops.1
 
-  arguments_start : (s z : Place) (l : List Tree) → Arguments R s l z → close s ≡ None
-  arguments_start s z l c = let f = chain_first comma one_of and_one (Argument R) s z l c in no_close s.locals s.rest (argument_starts R s f.1 f.0 f.2)
+  arguments_start : (s z : Place) (l : List Tree) → Arguments R s l z → at (word kind.Close) s ≡ None
+  arguments_start s z l c = let f = chain_first comma one_of and_one (Argument R) s z l c in no_close s (argument_starts R s f.1 f.0 f.2)
 
   pub bracketed_full : IsFull (bracketed_of N) (Bracketed R) Closes D
   unfolding bracketed_of
-  bracketed_full s z l no_arguments stops = inl (ap (bracketed_or N s) (ap close_in stops.1))
+  bracketed_full s z l no_arguments stops = inl (ap (bracketed_or N s) (word_here kind.Close s stops.0 stops.1 refl))
   bracketed_full s z l (some_arguments c) stops =
-      leads_eq (bracketed_or N s (close s)) (arguments_of N s) (Ok (l, z)) (ap (bracketed_or N s) (arguments_start s z l c))
-      (arguments_full s z l c (close_ends (next z) stops.0 stops.1))
+      leads_eq (bracketed_or N s (at (word kind.Close) s)) (arguments_of N s) (Ok (l, z)) (ap (bracketed_or N s) (arguments_start s z l c))
+      (arguments_full s z l c (ends_statement_by kind.Close z stops.0 stops.1 refl refl))
 
   pub statement_full : IsFull (statement_of N) (Statement R) EndsStatement D
   unfolding statement_of
   statement_full s z t (a_command {m = m} {x = x} {l = l} e f h) stops =
-      leads_eq (statement_or N s (command s)) (puts_of (arguments_of N m)) (Ok (t, z)) (ap (statement_or N s) (ap command_in e ∙ ap (λ b. cond b (Some (tt, m)) None) f))
+      leads_eq (statement_or N s (at (command s.known) s)) (puts_of (arguments_of N m)) (Ok (t, z)) (ap (statement_or N s) (next-command s m x e f))
       (leads_bind (arguments_of N m) (l, z) (λ q. Ok (puts (listed q.0), q.1)) (arguments_full m z l h stops))
   statement_full s z t (an_argument h) stops =
-      leads_eq (statement_or N s (command s)) (argument_of N s) (Ok (t, z)) (ap (statement_or N s) (no_command_in (next s) (λ x m e. argument_no_command R s z t x m h e))) (argument_full s z t h stops.0)
+      leads_eq (statement_or N s (at (command s.known) s)) (argument_of N s) (Ok (t, z)) (ap (statement_or N s) (no_command R s z t h)) (argument_full s z t h stops.0)
 
-  rows_full : (s z : Place) (l : List Tree) → Rows R s l z → EndsStatement z → row z ≡ None → Leads (rows_of N s) (Ok (l, z)) D
+  rows_full : (s z : Place) (l : List Tree) → Rows R s l z → EndsStatement z → at row z ≡ None → Leads (rows_of N s) (Ok (l, z)) D
   unfolding rows_of
   rows_full s z l c stops e =
-      chain_full separators row one_of and_one (statement_of N) (Statement R) EndsStatement D Steps-row (Shrinks-statement N shrinks)
-      (λ m n x e. separators_end (next m) n x e) (λ m n z x r e h. separators_row (next m) n x e (statement_starts R n z r h)) statement_full s z l c stops e
+      chain_full separators row one_of and_one (statement_of N) (Statement R) EndsStatement D Steps-row shrinks.statement
+      (λ m n x e. separators_end m n x e) (λ m n z x r e h. separators-row m n x e (statement_starts R n z r h)) statement_full s z l c stops e
 
   pub statements_full : IsFull (statements_of N) (Statements R) Ends D
   unfolding statements_of
@@ -162,45 +185,45 @@ module _ (N : Readers) (R : Nested) (D : Type 0) (shrinks : NestedShrinks N) (ne
   statements_full s z t (some_statements {m = m} {l = l} c) stops =
       let f = chain_first separators one_of and_one (Statement R) (skip s) m l c in
       let begins = statement_starts R (skip s) f.1 f.0 f.2 in
-      let at = ends_behind m.locals m.rest stops in
+      let behind = ends_behind m stops in
       leads_eq (statements_at N (skip s)) (sequence_of (rows_of N (skip s))) (Ok (t, skip m))
       (ap (λ b. cond b (Ok (sequence (listed []), skip s)) (sequence_of (rows_of N (skip s)))) begins)
-      (leads_bind (rows_of N (skip s)) (l, m) (λ x. Ok (sequence (listed x.0), skip x.1)) (rows_full (skip s) m l c at.0 at.1))
+      (leads_bind (rows_of N (skip s)) (l, m) (λ x. Ok (sequence (listed x.0), skip x.1)) (rows_full (skip s) m l c behind.0 behind.1))
 
   pub branch_full : IsFull (branch_of N) (Branch R) Ends D
   unfolding branch_of
   branch_full s z b (a_branch {m = m} {n = n} {c = c} {t = t} {u = u} h e i) stops =
-      leads_trans (statement_of N s >>= λ c. branch_on N c.0 (thens c.1)) (branch_on N c (thens m)) (Ok ((c, t), z))
-      (leads_bind (statement_of N s) (c, m) (λ c. branch_on N c.0 (thens c.1)) (statement_full s m c h (thens_end (next m) n u e)))
-      (leads_eq (branch_on N c (thens m)) (built (λ (v : Tree). (c, v)) (statements_of N n)) (Ok ((c, t), z)) (ap (branch_on N c) e)
+      leads_trans (statement_of N s >>= λ c. branch_on N c.0 (at thens c.1)) (branch_on N c (at thens m)) (Ok ((c, t), z))
+      (leads_bind (statement_of N s) (c, m) (λ c. branch_on N c.0 (at thens c.1)) (statement_full s m c h (thens_end m n u e)))
+      (leads_eq (branch_on N c (at thens m)) (built (λ (v : Tree). (c, v)) (statements_of N n)) (Ok ((c, t), z)) (ap (branch_on N c) e)
       (leads_bind (statements_of N n) (t, z) (λ q. Ok ((c, q.0), q.1)) (statements_full n z t i stops)))
 
-  branches_full : (s z : Place) (l : List (Tree × Tree)) → Branches R s l z → Ends z → elsif z ≡ None → Leads (branches_of N s) (Ok (l, z)) D
+  branches_full : (s z : Place) (l : List (Tree × Tree)) → Branches R s l z → Ends z → at elsif z ≡ None → Leads (branches_of N s) (Ok (l, z)) D
   unfolding branches_of
   branches_full s z l c stops e =
-      chain_full elsif elsif one_of and_one (branch_of N) (Branch R) Ends D Steps-elsif (Shrinks-branch N shrinks)
-      (λ m n x e. elsif_ends m.locals m.rest n x e) (λ m n z x r e h. e) branch_full s z l c stops e
+      chain_full elsif elsif one_of and_one (branch_of N) (Branch R) Ends D Steps-elsif shrinks.branch
+      (λ m n x e. elsif_ends m n x e) (λ m n z x r e h. e) branch_full s z l c stops e
 
   pub otherwise_full : IsFull (otherwise_of N) (Otherwise R) AtEnd D
   unfolding otherwise_of
-  otherwise_full s z t no_else stops = inl (ap (otherwise_or N s) (ap else_in stops.1))
+  otherwise_full s z t no_else stops = inl (ap (otherwise_or N s) (other-word kind.Else kind.End s stops.0 stops.1 refl))
   otherwise_full s z t (an_else {m = m} e h) stops =
-      leads_eq (otherwise_or N s (else_in (next s))) (statements_of N m) (Ok (t, z)) (ap (otherwise_or N s) (ap else_in e))
-      (statements_full m z t h (next_ends_true z.locals z.rest kind.End stops.0 stops.1 refl))
+      leads_eq (otherwise_or N s (at (word kind.Else) s)) (statements_of N m) (Ok (t, z)) (ap (otherwise_or N s) (word_here kind.Else s m e refl))
+      (statements_full m z t h (next_ends z stops.0 kind.End true stops.1 refl))
 
-  otherwise_stops : (s z : Place) (t : Tree) → Otherwise R s t z → AtEnd z → Ends s × (elsif s ≡ None)
-  otherwise_stops s z t no_else stops = (next_ends_true s.locals s.rest kind.End stops.0 stops.1 refl, ap elsif_in stops.1)
-  otherwise_stops s z t (an_else {m = m} e h) stops = (next_ends_true s.locals s.rest kind.Else m e refl, ap elsif_in e)
+  -- behind branches an `else` or the `end` comes
+  branches_end : (m n : Place) (e : Tree) → Otherwise R m e n → AtEnd n → Ends m × (at elsif m ≡ None)
+  branches_end m n e no_else stops = (next_ends m stops.0 kind.End true stops.1 refl, other-word kind.Elsif kind.End m stops.0 stops.1 refl)
+  branches_end m n e (an_else {m = o} f h) stops = (next_ends m o kind.Else true f refl, other-word kind.Elsif kind.Else m o f refl)
 
   pub choice_full : IsFull (choice_of N) (Choice R) Anywhere D
   unfolding choice_of
   choice_full s z t (a_choice {m = m} {n = n} {l = l} {e = e} b h f) u =
-      let at = otherwise_stops m n e h (z, f) in
-      leads_trans (branches_of N s >>= λ l. otherwise_of N l.1 >>= λ e. ended_in (chosen l.0 e.0) (next e.1)) (otherwise_of N m >>= λ e. ended_in (chosen l e.0) (next e.1)) (Ok (chosen l e, z))
-      (leads_bind (branches_of N s) (l, m) (λ l. otherwise_of N l.1 >>= λ e. ended_in (chosen l.0 e.0) (next e.1)) (branches_full s m l b at.0 at.1))
-      (leads_trans (otherwise_of N m >>= λ e. ended_in (chosen l e.0) (next e.1)) (ended_in (chosen l e) (next n)) (Ok (chosen l e, z))
-      (leads_bind (otherwise_of N m) (e, n) (λ e. ended_in (chosen l e.0) (next e.1)) (otherwise_full m n e h (z, f)))
-      (inl (ap (ended_in (chosen l e)) f)))
+      let ended = branches_end m n e h (z, f) in
+      leads_trans (branches_of N s >>= λ l. closed kind.End (built (chosen l.0) (otherwise_of N l.1))) (closed kind.End (built (chosen l) (otherwise_of N m))) (Ok (t, z))
+      (leads_bind (branches_of N s) (l, m) (λ l. closed kind.End (built (chosen l.0) (otherwise_of N l.1))) (branches_full s m l b ended.0 ended.1))
+      (closed_full kind.End (built (chosen l) (otherwise_of N m)) t n z refl
+      (leads_bind (otherwise_of N m) (e, n) (λ x. Ok (chosen l x.0, x.1)) (otherwise_full m n e h (z, f))) f)
 
 -- ---- all depths
 

@@ -9,7 +9,7 @@ use Rattle.rr_tree.specs.Nodes.{Extends, item, trees_in}
 use Rattle.rr_tree.proofs.Growth.{trees_in-items, tree_at-kept, Extends-trans, length-kept}
 use Rattle.rr_parser.specs.declared.refusal.Storage.{Storage}
 use Rattle.rr_parser.specs.declared.parser.Parser.{Parser}
-use Rattle.rr_parser.specs.Grammar.{chosen}
+use Rattle.rr_parser.specs.Grammar.Control.{chosen}
 use Rattle.rr_parser.specs.Meets.{pairs, Puts}
 use Rattle.rr_parser.proofs.Making.{chosen-append}
 

@@ -1,5 +1,5 @@
 -- What the code made, step after step.
-use Rattle.std.proofs.Common.{◌≡◌, ℕ, zero, suc, ◌-◌, ◌<◌, ◌≤◌, ◌==◌, ◌||◌, Bool, true, false, cond, List, [], ◌∷◌, ◌++◌, length, get_or, set, map, Option, Some, None, Result, Ok, Err, refl, sym, ap, ◌∙◌, subst, arith, length-append}
+use Rattle.std.proofs.Common.{◌≡◌, ℕ, zero, suc, ◌-◌, ◌<◌, ◌≤◌, ◌==◌, ◌||◌, Bool, true, false, cond, List, [], ◌∷◌, ◌++◌, length, get_or, set, map, Some, None, Result, Ok, Err, refl, sym, ap, ◌∙◌, subst, arith, length-append}
 use Rattle.std.specs.Prelude.{All}
 use Rattle.std.proofs.lemmas.List.{map-append}
 use Rattle.std.proofs.lemmas.List.Elements.{All-append}
@@ -15,10 +15,23 @@ use Rattle.rr_parser.specs.declared.word.Word.{Word}
 use Rattle.rr_parser.specs.declared.refusal.Refusal.{Refusal}
 use Rattle.rr_parser.specs.declared.refusal.Refusal.TheVariants as refusal
 use Rattle.rr_parser.specs.declared.parser.Parser.{Parser}
-use Rattle.rr_parser.specs.Grammar.{Place, next, one_of, same, chosen, with_local, operator, thens, without_separators, skip}
-use Rattle.rr_parser.specs.Reading.{◌>>=◌, Refused, wrong, deep, Answer, Parse, built, chain, chain_on, Readers, readers, readers_inside, readers_outside, closed, close, ended_by, end_word, ended_in, sequence_of, target, argument_or, argument_of, pair_or, equality_of, binary_of, branch_on, branch_of, statement_of, statements_of, branches_of, otherwise_of, choice_of, minus_of, bracketed_of, rows_of, ends}
-use Rattle.rr_parser.specs.Meets.{View, nodes, pairs, lists, Made, Fails, Appends, Puts, Marks, place, locals_of}
-use Rattle.rr_parser.proofs.Shrinks.{Shrinks, Steps, chain_on-turn, chain_on-ends}
+use Rattle.rr_parser.specs.declared.word.WordKind.{WordKind}
+use Rattle.rr_parser.specs.declared.word.WordKind.TheVariants as kind
+use Rattle.rr_parser.specs.Places.{Place, Look, placed, without_separators, word, at, skip}
+use Rattle.rr_parser.specs.Grammar.Chains.{same, one_of}
+use Rattle.rr_parser.specs.Grammar.Names.{with_local}
+use Rattle.rr_parser.specs.Grammar.Operators.{operator}
+use Rattle.rr_parser.specs.Grammar.Control.{thens, chosen}
+use Rattle.rr_parser.specs.Reading.Answers.{◌>>=◌, Refused, wrong, deep, Answer, Parse, built, ended_by, closed, chain, chain_on}
+use Rattle.rr_parser.specs.Reading.Nesting.{Readers}
+use Rattle.rr_parser.specs.Reading.Operands.{minus_of}
+use Rattle.rr_parser.specs.Reading.Operators.{binary_of, pair_or, equality_of}
+use Rattle.rr_parser.specs.Reading.Calls.{target, argument_or, argument_of, bracketed_of}
+use Rattle.rr_parser.specs.Reading.Control.{statement_of, ends, rows_of, sequence_of, statements_of, branch_on, branch_of, branches_of, otherwise_of, choice_of}
+use Rattle.rr_parser.specs.Reading.{readers_inside, readers_outside, readers}
+use Rattle.rr_parser.specs.Meets.{View, nodes, pairs, lists, Made, Fails, Appends, Puts, Marks, known_of, place, locals_of}
+use Rattle.rr_parser.proofs.Looks.{Steps}
+use Rattle.rr_parser.proofs.Chains.{Shrinks, chain_on-turn, chain_on-ends}
 
 -- ---- one node more
 
@@ -59,7 +72,7 @@ module _ {E A : Type 0} (v : View E A) (stable : IsStable v) where
   grown_list m n es le all = λ k d lt. stable.grows m n (get_or es k d) le (all k d lt)
 
 pub same_place : (a b : Parser) (ws : List Word) → b.known.items ≡ a.known.items → place b ws ≡ place a ws
-same_place a b ws e = ap (λ (k : List Bool). record { locals = locals_of k; rest = ws }) e
+same_place a b ws e = ap (λ (k : List Bool). record { known = record { locals = locals_of k }; rest = ws }) e
 
 -- ---- what was made, and why nothing was
 
@@ -87,17 +100,25 @@ made_over {E} {A} {v} {old} {mid} {new} {e} {id} {rest} {read} {t} f m p is = re
   kept = Extends-trans old.nodes.items mid.nodes.items new.nodes.items m.kept p.kept;
 }
 
--- a closing bracket behind what was read
-pub made_closed : {E A : Type 0} {v : View E A} {old mid : Parser} {e : E} {rest after : List Word} {read : Answer A} → Made v old mid e rest read → close (place mid rest) ≡ Some (tt, place mid after) → Made v old mid e after (closed read)
-made_closed {E} {A} {v} {old} {mid} {e} {rest} {after} {read} m c = record {
+-- what was seen among the words is seen at the place
+pub seen_at : {X : Type 0} (p : Parser) (look : Look X) (ws after : List Word) (x : X) → look ws ≡ Some (x, after) → at look (place p ws) ≡ Some (x, place p after)
+seen_at p look ws after x e = ap (placed (known_of p)) e
+
+pub unseen_at : {X : Type 0} (p : Parser) (look : Look X) (ws : List Word) → look ws ≡ None → at look (place p ws) ≡ None
+unseen_at p look ws e = ap (placed (known_of p)) e
+
+-- a word of this kind behind what was read
+pub made_closed : {E A : Type 0} {v : View E A} {old mid : Parser} {e : E} {rest after : List Word} {read : Answer A} (k : WordKind) → Made v old mid e rest read → word k rest ≡ Some (tt, after)
+    → Made v old mid e after (closed k read)
+made_closed {E} {A} {v} {old} {mid} {e} {rest} {after} {read} k m c = record {
   there = m.there;
-  tree = ap closed m.tree ∙ ap (ended_by (v.tree mid.nodes.items e)) c;
+  tree = ap (closed k) m.tree ∙ ap (ended_by (v.tree mid.nodes.items e)) (seen_at mid (word k) rest after tt c);
   kept = m.kept;
 }
 
--- no closing bracket behind what was read
-pub wrong_closed : {E A : Type 0} {v : View E A} {old mid : Parser} {e : E} {rest : List Word} {read : Answer A} → Made v old mid e rest read → close (place mid rest) ≡ None → closed read ≡ Err wrong
-wrong_closed {E} {A} {v} {old} {mid} {e} {rest} {read} m c = ap closed m.tree ∙ ap (ended_by (v.tree mid.nodes.items e)) c
+-- no such word behind what was read
+pub wrong_closed : {E A : Type 0} {v : View E A} {old mid : Parser} {e : E} {rest : List Word} {read : Answer A} (k : WordKind) → Made v old mid e rest read → word k rest ≡ None → closed k read ≡ Err wrong
+wrong_closed {E} {A} {v} {old} {mid} {e} {rest} {read} k m c = ap (closed k) m.tree ∙ ap (ended_by (v.tree mid.nodes.items e)) (unseen_at mid (word k) rest c)
 
 -- the node of a list of statements
 pub made_sequence : {old mid new : Parser} {es : List ℕ} {id : ℕ} {rest : List Word} {read : Answer (List Tree)} → Made (lists nodes) old mid es rest read
@@ -116,24 +137,24 @@ pub record Goes {E A B : Type 0} (v : View E A) (old new : Parser) (e : E) (read
   pub kept : Extends old.nodes.items new.nodes.items
   pub same : read ≡ on
 
-module _ {X R S E D : Type 0} (v : View E S) (w : View D R) (between : Place → Option (X × Place)) (join : X → S → R → S) (p : Parse R) (steps : Steps between) (shrinks : Shrinks p) where
+module _ {X R S E D : Type 0} (v : View E S) (w : View D R) (between : Look X) (join : X → S → R → S) (p : Parse R) (steps : Steps between) (shrinks : Shrinks p) where
   pub goes_ends : (old new : Parser) (l : E) (rest : List Word) (read : Answer S)
-      → Goes v old new l read (chain_on between join p (v.tree new.nodes.items l) (place new rest)) → between (place new rest) ≡ None → Made v old new l rest read
-  goes_ends old new l rest read g e = record { there = g.there; tree = g.same ∙ chain_on-ends between join p steps shrinks (v.tree new.nodes.items l) (place new rest) e; kept = g.kept }
+      → Goes v old new l read (chain_on between join p (v.tree new.nodes.items l) (place new rest)) → between rest ≡ None → Made v old new l rest read
+  goes_ends old new l rest read g e = record { there = g.there; tree = g.same ∙ chain_on-ends between join p steps shrinks (v.tree new.nodes.items l) (place new rest) (unseen_at new between rest e); kept = g.kept }
 
   pub goes_fails : (old s0 : Parser) (l : E) (rest after : List Word) (x : X) (read : Answer S) (d : Refusal)
-      → Goes v old s0 l read (chain_on between join p (v.tree s0.nodes.items l) (place s0 rest)) → between (place s0 rest) ≡ Some (x, place s0 after)
+      → Goes v old s0 l read (chain_on between join p (v.tree s0.nodes.items l) (place s0 rest)) → between rest ≡ Some (x, after)
       → Fails d (p (place s0 after)) → Fails d read
   goes_fails old s0 l rest after x read d g e h =
       fails_eq d read (p (place s0 after) >>= λ r. chain_on between join p (join x (v.tree s0.nodes.items l) r.0) r.1)
-      (g.same ∙ chain_on-turn between join p steps shrinks (v.tree s0.nodes.items l) (place s0 rest) (place s0 after) x e)
+      (g.same ∙ chain_on-turn between join p steps shrinks (v.tree s0.nodes.items l) (place s0 rest) (place s0 after) x (seen_at s0 between rest after x e))
       (fails_bind d (p (place s0 after)) (λ r. chain_on between join p (join x (v.tree s0.nodes.items l) r.0) r.1) h)
 
-  pub goes_smaller : (s0 s1 : Parser) (b : D) (rest after left : List Word) (x : X) → between (place s0 rest) ≡ Some (x, place s0 after) → Made w s0 s1 b left (p (place s0 after)) → length left < length rest
-  goes_smaller s0 s1 b rest after left x e m = omega (arith, steps (place s0 rest) (place s0 after) x e, shrinks (place s0 after) (place s1 left) (w.tree s1.nodes.items b) m.tree)
+  pub goes_smaller : (s0 s1 : Parser) (b : D) (rest after left : List Word) (x : X) → between rest ≡ Some (x, after) → Made w s0 s1 b left (p (place s0 after)) → length left < length rest
+  goes_smaller s0 s1 b rest after left x e m = omega (arith, steps (place s0 rest) (place s0 after) x (seen_at s0 between rest after x e), shrinks (place s0 after) (place s1 left) (w.tree s1.nodes.items b) m.tree)
 
 -- a list, whose members are gathered before its node is put
-module _ {X R E : Type 0} (v : View E R) (stable : IsStable v) (between : Place → Option (X × Place)) (p : Parse R) (steps : Steps between) (shrinks : Shrinks p) where
+module _ {X R E : Type 0} (v : View E R) (stable : IsStable v) (between : Look X) (p : Parse R) (steps : Steps between) (shrinks : Shrinks p) where
   abbrev adds : X → List R → R → List R
   adds x l t = l ++ t ∷ []
 
@@ -153,7 +174,7 @@ module _ {X R E : Type 0} (v : View E R) (stable : IsStable v) (between : Place 
   }
 
   pub list_on : (old s0 s1 : Parser) (es fs : List E) (e : E) (rest after left : List Word) (x : X) (read : Answer (List R))
-      → Goes (lists v) old s0 es read (chain_on between adds p (map (v.tree s0.nodes.items) es) (place s0 rest)) → between (place s0 rest) ≡ Some (x, place s0 after)
+      → Goes (lists v) old s0 es read (chain_on between adds p (map (v.tree s0.nodes.items) es) (place s0 rest)) → between rest ≡ Some (x, after)
       → Made v s0 s1 e left (p (place s0 after)) → fs ≡ es ++ e ∷ []
       → Goes (lists v) old s1 fs read (chain_on between adds p (map (v.tree s1.nodes.items) fs) (place s1 left))
   list_on old s0 s1 es fs e rest after left x read g f m is = record {
@@ -164,7 +185,7 @@ module _ {X R E : Type 0} (v : View E R) (stable : IsStable v) (between : Place 
     kept = Extends-trans old.nodes.items s0.nodes.items s1.nodes.items g.kept m.kept;
     same =
         g.same
-        ∙ chain_on-turn between adds p steps shrinks (map (v.tree s0.nodes.items) es) (place s0 rest) (place s0 after) x f
+        ∙ chain_on-turn between adds p steps shrinks (map (v.tree s0.nodes.items) es) (place s0 rest) (place s0 after) x (seen_at s0 between rest after x f)
         ∙ ap (λ (q : Answer R). q >>= λ r. chain_on between adds p (map (v.tree s0.nodes.items) es ++ r.0 ∷ []) r.1) m.tree
         ∙ ap (λ (l : List R). chain_on between adds p (l ++ v.tree s1.nodes.items e ∷ []) (place s1 left)) (sym (kept_list v stable s0.nodes.items s1.nodes.items es m.kept g.there))
         ∙ ap (λ (l : List R). chain_on between adds p l (place s1 left)) (sym (map-append (v.tree s1.nodes.items) es (e ∷ [])))
@@ -172,14 +193,14 @@ module _ {X R E : Type 0} (v : View E R) (stable : IsStable v) (between : Place 
   }
 
 -- a chain of operators
-module _ (between : Place → Option (BinaryOperator × Place)) (p : Parse Tree) (steps : Steps between) (shrinks : Shrinks p) where
+module _ (between : Look BinaryOperator) (p : Parse Tree) (steps : Steps between) (shrinks : Shrinks p) where
   pub operators_begin : (old new : Parser) (e : ℕ) (words rest : List Word) → Made nodes old new e rest (p (place old words))
       → Goes nodes old new e (chain between same binary p (place old words)) (chain_on between binary p (tree_at new.nodes.items e) (place new rest))
   unfolding chain
   operators_begin old new e words rest m = record { there = m.there; kept = m.kept; same = ap (λ (q : Answer Tree). q >>= λ r. chain_on between binary p (same r.0) r.1) m.tree }
 
   pub operators_on : (old s0 s1 s2 : Parser) (l b id : ℕ) (rest after left : List Word) (o : BinaryOperator) (read : Answer Tree)
-      → Goes nodes old s0 l read (chain_on between binary p (tree_at s0.nodes.items l) (place s0 rest)) → between (place s0 rest) ≡ Some (o, place s0 after)
+      → Goes nodes old s0 l read (chain_on between binary p (tree_at s0.nodes.items l) (place s0 rest)) → between rest ≡ Some (o, after)
       → Made nodes s0 s1 b left (p (place s0 after)) → Puts s1 s2 (binary o (tree_at s1.nodes.items l) (tree_at s1.nodes.items b)) id
       → Goes nodes old s2 id read (chain_on between binary p (tree_at s2.nodes.items id) (place s2 left))
   operators_on old s0 s1 s2 l b id rest after left o read g e m t = record {
@@ -187,7 +208,7 @@ module _ (between : Place → Option (BinaryOperator × Place)) (p : Parse Tree)
     kept = Extends-trans old.nodes.items s0.nodes.items s2.nodes.items g.kept (Extends-trans s0.nodes.items s1.nodes.items s2.nodes.items m.kept t.kept);
     same =
         g.same
-        ∙ chain_on-turn between binary p steps shrinks (tree_at s0.nodes.items l) (place s0 rest) (place s0 after) o e
+        ∙ chain_on-turn between binary p steps shrinks (tree_at s0.nodes.items l) (place s0 rest) (place s0 after) o (seen_at s0 between rest after o e)
         ∙ ap (λ (q : Answer Tree). q >>= λ r. chain_on between binary p (binary o (tree_at s0.nodes.items l) r.0) r.1) m.tree
         ∙ ap (λ (u : Tree). chain_on between binary p (binary o u (tree_at s1.nodes.items b)) (place s1 left)) (sym (tree_at-kept s0.nodes.items s1.nodes.items l m.kept g.there))
         ∙ ap (λ (u : Tree). chain_on between binary p u (place s1 left)) (sym t.tree)
@@ -289,15 +310,15 @@ none_value d s e = ap (λ (k : ℕ). (readers true k).value s) e ∙ none_value-
 
 -- both sides of an equality
 pub made_pair : (N : Readers) (old m1 m2 new : Parser) (a b id : ℕ) (words rest after left : List Word) (o : BinaryOperator)
-    → Made nodes old m1 a rest (binary_of N 3 (place old words)) → operator 4 (place m1 rest) ≡ Some (o, place m1 after)
+    → Made nodes old m1 a rest (binary_of N 3 (place old words)) → operator 4 rest ≡ Some (o, after)
     → Made nodes m1 m2 b left (binary_of N 3 (place m1 after)) → Puts m2 new (binary o (tree_at m2.nodes.items a) (tree_at m2.nodes.items b)) id
     → Made nodes old new id left (equality_of N (place old words))
 unfolding equality_of
 made_pair N old m1 m2 new a b id words rest after left o m e k p = record {
   there = p.there;
   tree =
-      ap (λ (q : Answer Tree). q >>= λ l. pair_or N l.0 l.1 (operator 4 l.1)) m.tree
-      ∙ ap (pair_or N (tree_at m1.nodes.items a) (place m1 rest)) e
+      ap (λ (q : Answer Tree). q >>= λ l. pair_or N l.0 l.1 (at (operator 4) l.1)) m.tree
+      ∙ ap (pair_or N (tree_at m1.nodes.items a) (place m1 rest)) (seen_at m1 (operator 4) rest after o e)
       ∙ ap (built (binary o (tree_at m1.nodes.items a))) k.tree
       ∙ ap (λ (u : Tree). Ok (binary o u (tree_at m2.nodes.items b), place m2 left)) (sym (tree_at-kept m1.nodes.items m2.nodes.items a k.kept m.there))
       ∙ ap (λ (t : Tree). Ok (t, place m2 left)) (sym p.tree)
@@ -307,76 +328,92 @@ made_pair N old m1 m2 new a b id words rest after left o m e k p = record {
 
 -- a condition and what is done where it holds
 pub made_branch : (N : Readers) (old m1 m2 : Parser) (c t : ℕ) (words rest after left : List Word) → Made nodes old m1 c rest (statement_of N (place old words))
-    → thens (place m1 rest) ≡ Some (tt, place m1 after) → Made nodes m1 m2 t left (statements_of N (place m1 after)) → Made pairs old m2 (c, t) left (branch_of N (place old words))
+    → thens rest ≡ Some (tt, after) → Made nodes m1 m2 t left (statements_of N (place m1 after)) → Made pairs old m2 (c, t) left (branch_of N (place old words))
 unfolding branch_of
 made_branch N old m1 m2 c t words rest after left m e k = record {
   there = (omega (arith, m.there, length-kept m1.nodes.items m2.nodes.items k.kept), k.there);
   tree =
-      ap (λ (q : Answer Tree). q >>= λ c. branch_on N c.0 (thens c.1)) m.tree
-      ∙ ap (branch_on N (tree_at m1.nodes.items c)) e
+      ap (λ (q : Answer Tree). q >>= λ c. branch_on N c.0 (at thens c.1)) m.tree
+      ∙ ap (branch_on N (tree_at m1.nodes.items c)) (seen_at m1 thens rest after tt e)
       ∙ ap (built (λ (u : Tree). (tree_at m1.nodes.items c, u))) k.tree
       ∙ ap (λ (u : Tree). Ok ((u, tree_at m2.nodes.items t), place m2 left)) (sym (tree_at-kept m1.nodes.items m2.nodes.items c k.kept m.there));
   kept = Extends-trans old.nodes.items m1.nodes.items m2.nodes.items m.kept k.kept;
 }
 
--- branches, what is done otherwise, and the word `end`
-pub made_choice : (N : Readers) (old m1 m2 new : Parser) (bs : List (ℕ × ℕ)) (e id : ℕ) (words rest left after : List Word) → Made (lists pairs) old m1 bs rest (branches_of N (place old words))
-    → Made nodes m1 m2 e left (otherwise_of N (place m1 rest)) → end_word (place m2 left) ≡ Some (tt, place m2 after)
-    → Puts m2 new (chosen (map (pairs.tree m2.nodes.items) bs) (tree_at m2.nodes.items e)) id → Made nodes old new id after (choice_of N (place old words))
+-- branches, and what is done otherwise
+pub made_branches : (N : Readers) (old m1 m2 : Parser) (bs : List (ℕ × ℕ)) (words rest : List Word) (e : ℕ) (left : List Word) → Made (lists pairs) old m1 bs rest (branches_of N (place old words))
+    → Made nodes m1 m2 e left (otherwise_of N (place m1 rest))
+    → (branches_of N (place old words) >>= λ l. built (chosen l.0) (otherwise_of N l.1)) ≡ Ok (chosen (map (pairs.tree m2.nodes.items) bs) (tree_at m2.nodes.items e), place m2 left)
+made_branches N old m1 m2 bs words rest e left m k =
+    ap (λ (q : Answer (List (Tree × Tree))). q >>= λ l. built (chosen l.0) (otherwise_of N l.1)) m.tree
+    ∙ ap (built (chosen (map (pairs.tree m1.nodes.items) bs))) k.tree
+    ∙ ap (λ (l : List (Tree × Tree)). Ok (chosen l (tree_at m2.nodes.items e), place m2 left)) (sym (kept_list pairs stable_pairs m1.nodes.items m2.nodes.items bs k.kept m.there))
+
+-- a step behind another one, with what ends them
+bind_closed : {A B : Type 0} (k : WordKind) (r : Answer A) (f : A × Place → Answer B) → (r >>= λ x. closed k (f x)) ≡ closed k (r >>= f)
+bind_closed k (Ok x) f = refl
+bind_closed k (Err d) f = refl
+
+choice_closed : (N : Readers) (s : Place) → choice_of N s ≡ closed kind.End (branches_of N s >>= λ l. built (chosen l.0) (otherwise_of N l.1))
 unfolding choice_of
+choice_closed N s = bind_closed kind.End (branches_of N s) (λ l. built (chosen l.0) (otherwise_of N l.1))
+
+-- and the word `end`
+pub made_choice : (N : Readers) (old m1 m2 new : Parser) (bs : List (ℕ × ℕ)) (e id : ℕ) (words rest left after : List Word) → Made (lists pairs) old m1 bs rest (branches_of N (place old words))
+    → Made nodes m1 m2 e left (otherwise_of N (place m1 rest)) → word kind.End left ≡ Some (tt, after)
+    → Puts m2 new (chosen (map (pairs.tree m2.nodes.items) bs) (tree_at m2.nodes.items e)) id → Made nodes old new id after (choice_of N (place old words))
 made_choice N old m1 m2 new bs e id words rest left after m k f p = record {
   there = p.there;
   tree =
-      ap (λ (q : Answer (List (Tree × Tree))). q >>= λ l. otherwise_of N l.1 >>= λ e. ended_in (chosen l.0 e.0) (next e.1)) m.tree
-      ∙ ap (λ (q : Answer Tree). q >>= λ e. ended_in (chosen (map (pairs.tree m1.nodes.items) bs) e.0) (next e.1)) k.tree
-      ∙ ap (ended_by (chosen (map (pairs.tree m1.nodes.items) bs) (tree_at m2.nodes.items e))) f
-      ∙ ap (λ (l : List (Tree × Tree)). Ok (chosen l (tree_at m2.nodes.items e), place m2 after)) (sym (kept_list pairs stable_pairs m1.nodes.items m2.nodes.items bs k.kept m.there))
+      choice_closed N (place old words)
+      ∙ ap (closed kind.End) (made_branches N old m1 m2 bs words rest e left m k)
+      ∙ ap (ended_by (chosen (map (pairs.tree m2.nodes.items) bs) (tree_at m2.nodes.items e))) (seen_at m2 (word kind.End) left after tt f)
       ∙ ap (λ (t : Tree). Ok (t, place m2 after)) (sym p.tree)
       ∙ ap (λ (s : Place). Ok (tree_at new.nodes.items id, s)) (sym (same_place m2 new after p.known));
   kept = Extends-trans old.nodes.items m1.nodes.items new.nodes.items m.kept (Extends-trans m1.nodes.items m2.nodes.items new.nodes.items k.kept p.kept);
 }
 
 pub wrong_choice : (N : Readers) (old m1 m2 : Parser) (bs : List (ℕ × ℕ)) (e : ℕ) (words rest left : List Word) → Made (lists pairs) old m1 bs rest (branches_of N (place old words))
-    → Made nodes m1 m2 e left (otherwise_of N (place m1 rest)) → end_word (place m2 left) ≡ None → choice_of N (place old words) ≡ Err wrong
-unfolding choice_of
+    → Made nodes m1 m2 e left (otherwise_of N (place m1 rest)) → word kind.End left ≡ None → choice_of N (place old words) ≡ Err wrong
 wrong_choice N old m1 m2 bs e words rest left m k f =
-    ap (λ (q : Answer (List (Tree × Tree))). q >>= λ l. otherwise_of N l.1 >>= λ e. ended_in (chosen l.0 e.0) (next e.1)) m.tree
-    ∙ ap (λ (q : Answer Tree). q >>= λ e. ended_in (chosen (map (pairs.tree m1.nodes.items) bs) e.0) (next e.1)) k.tree
-    ∙ ap (ended_by (chosen (map (pairs.tree m1.nodes.items) bs) (tree_at m2.nodes.items e))) f
+    choice_closed N (place old words)
+    ∙ ap (closed kind.End) (made_branches N old m1 m2 bs words rest e left m k)
+    ∙ ap (ended_by (chosen (map (pairs.tree m2.nodes.items) bs) (tree_at m2.nodes.items e))) (unseen_at m2 (word kind.End) left f)
 
 pub fails_otherwise : (N : Readers) (old m1 : Parser) (bs : List (ℕ × ℕ)) (words rest : List Word) (d : Refusal) → Made (lists pairs) old m1 bs rest (branches_of N (place old words))
     → Fails d (otherwise_of N (place m1 rest)) → Fails d (choice_of N (place old words))
 unfolding choice_of
 fails_otherwise N old m1 bs words rest d m h =
-    fails_eq d (choice_of N (place old words)) (otherwise_of N (place m1 rest) >>= λ e. ended_in (chosen (map (pairs.tree m1.nodes.items) bs) e.0) (next e.1))
-    (ap (λ (q : Answer (List (Tree × Tree))). q >>= λ l. otherwise_of N l.1 >>= λ e. ended_in (chosen l.0 e.0) (next e.1)) m.tree)
-    (fails_bind d (otherwise_of N (place m1 rest)) (λ e. ended_in (chosen (map (pairs.tree m1.nodes.items) bs) e.0) (next e.1)) h)
+    let read = built (chosen (map (pairs.tree m1.nodes.items) bs)) (otherwise_of N (place m1 rest)) in
+    fails_eq d (choice_of N (place old words)) (closed kind.End read)
+    (ap (λ (q : Answer (List (Tree × Tree))). q >>= λ l. closed kind.End (built (chosen l.0) (otherwise_of N l.1))) m.tree)
+    (fails_bind d read (λ x. ended_by x.0 (at (word kind.End) x.1)) (fails_bind d (otherwise_of N (place m1 rest)) (λ x. Ok (chosen (map (pairs.tree m1.nodes.items) bs) x.0, x.1)) h))
 
 -- ---- assignments
 
 -- the place where a name has become a local variable
 pub marked_place : (old mid : Parser) (x : Sym) (ws : List Word) → Marks old mid x → place mid ws ≡ with_local x (place old ws)
-marked_place old mid x ws m = ap (λ (l : ℕ → Bool). record { locals = l; rest = ws }) (fun_ext m.known)
+marked_place old mid x ws m = ap (λ (l : ℕ → Bool). record { known = record { locals = l }; rest = ws }) (fun_ext m.known)
 
-reads_assignment : (N : Readers) (s n : Place) (x : Sym) → target s ≡ Some (x, n) → argument_of N s ≡ built (assign x.0) (N.value (with_local x n))
+reads_assignment : (N : Readers) (s n : Place) (x : Sym) → at target s ≡ Some (x, n) → argument_of N s ≡ built (assign x.0) (N.value (with_local x n))
 unfolding argument_of
 reads_assignment N s n x e = ap (argument_or N s) e
 
-pub made_assignment : (N : Readers) (old mid m2 new : Parser) (a id : ℕ) (x : Sym) (words after rest : List Word) → Marks old mid x → target (place old words) ≡ Some (x, place old after)
+pub made_assignment : (N : Readers) (old mid m2 new : Parser) (a id : ℕ) (x : Sym) (words after rest : List Word) → Marks old mid x → target words ≡ Some (x, after)
     → Made nodes mid m2 a rest (N.value (place mid after)) → Puts m2 new (assign x.0 (tree_at m2.nodes.items a)) id → Made nodes old new id rest (argument_of N (place old words))
 made_assignment N old mid m2 new a id x words after rest k e m p =
     let made : Made nodes mid new id rest (built (assign x.0) (N.value (place mid after))) = made_over (assign x.0) m p refl in
     record {
       there = made.there;
-      tree = reads_assignment N (place old words) (place old after) x e ∙ ap (λ (s : Place). built (assign x.0) (N.value s)) (sym (marked_place old mid x after k)) ∙ made.tree;
+      tree = reads_assignment N (place old words) (place old after) x (seen_at old target words after x e) ∙ ap (λ (s : Place). built (assign x.0) (N.value s)) (sym (marked_place old mid x after k)) ∙ made.tree;
       kept = subst (λ (ns : List Node). Extends ns new.nodes.items) k.nodes made.kept;
     }
 
-pub fails_assignment : (N : Readers) (old mid : Parser) (x : Sym) (words after : List Word) (d : Refusal) → Marks old mid x → target (place old words) ≡ Some (x, place old after)
+pub fails_assignment : (N : Readers) (old mid : Parser) (x : Sym) (words after : List Word) (d : Refusal) → Marks old mid x → target words ≡ Some (x, after)
     → Fails d (N.value (place mid after)) → Fails d (argument_of N (place old words))
 fails_assignment N old mid x words after d k e h =
     fails_eq d (argument_of N (place old words)) (built (assign x.0) (N.value (place mid after)))
-    (reads_assignment N (place old words) (place old after) x e ∙ ap (λ (s : Place). built (assign x.0) (N.value s)) (sym (marked_place old mid x after k)))
+    (reads_assignment N (place old words) (place old after) x (seen_at old target words after x e) ∙ ap (λ (s : Place). built (assign x.0) (N.value s)) (sym (marked_place old mid x after k)))
     (fails_bind d (N.value (place mid after)) (λ q. Ok (assign x.0 q.0, q.1)) h)
 
 -- ---- branches over one another

@@ -1,45 +1,30 @@
 -- What is read is spelled.
-use Rattle.std.proofs.Common.{◌≡◌, ℕ, zero, suc, pos, Bool, true, false, cond, List, [], ◌∷◌, length, Option, Some, None, Ok, Err, refl, sym, ap, ◌∙◌, subst}
+use Rattle.std.proofs.Common.{◌≡◌, ℕ, zero, suc, pos, Bool, true, false, cond, List, [], ◌∷◌, Option, Some, None, Ok, Err, refl, sym, subst}
 use Rattle.rr_base.specs.declared.name.Sym.{Sym}
 use Rattle.rr_tree.specs.declared.node.BinaryOperator.{BinaryOperator}
 use Rattle.rr_tree.specs.Tree.{Tree, nil, truth, int, text, local, call, negate, binary, assign, sequence, puts, listed}
 use Rattle.rr_parser.specs.declared.word.WordKind.{WordKind}
 use Rattle.rr_parser.specs.declared.word.WordKind.TheVariants as kind
 use Rattle.rr_parser.specs.declared.word.Word.{Word}
-use Rattle.rr_parser.specs.Grammar.{Place, next, skip, is_separator, separators, separators_in, is_puts, is_local, with_local, bracket, begins_operands, begins_command, fits, fits_below, negated, joined, operator, comma, elsif, thens, same, one_of, and_one, chosen, start, Chain, one, more, Nested, Primary, an_int, a_negative, a_text, a_nil, a_truth, a_local, a_call, a_marked_call, a_bare_puts, a_puts, a_group, an_if, Minus, a_minus, a_primary, Binary, Equality, a_comparison, a_pair, Argument, an_assignment, an_equality, Arguments, Bracketed, no_arguments, some_arguments, Statement, a_command, an_argument, Rows, Statements, no_statements, some_statements, Branch, a_branch, Branches, Otherwise, no_else, an_else, Choice, a_choice, inside, outside, WordsSpell}
-use Rattle.rr_parser.specs.Reading.{◌>>=◌, wrong, Answer, Parse, turn, chain_from, chain_on, chain, Readers, close, closed_at, closed_in, closed, puts_of, bare_puts, name_or, name_of, int_at, negative_in, negative_of, group_of, primary_at, primary_in, primary_of, no_integer, minus_at, minus_in, minus_or, minus_of, binary_of, pair_or, equality_of, assign_at, assign_in, target_at, target_in, target, argument_or, argument_of, arguments_of, bracketed_or, bracketed_of, command_at, command_in, command, statement_or, statement_of, ends, row_in, row, rows_of, sequence_of, statements_of, branch_on, branch_of, branches_of, else_at, else_in, otherwise_or, otherwise_of, ended_at, ended_in, choice_of, readers_inside, readers_outside, readers, whole_of, program_of}
-use Rattle.rr_parser.proofs.Shrinks.{bind_ok, built_ok, done, seen, ok_place, ok_what, some_place, some_what}
-
-abbrev pub IsSound : {A : Type 0} → Parse A → (Place → A → Place → Type 0) → Type 0
-IsSound {A} p P = (s z : Place) (t : A) → p s ≡ Ok (t, z) → P s t z
-
--- a fact at what was answered
-at_answer : {A : Type 0} (P : A → Place → Type 0) (t u : A) (s z : Place) → done t s ≡ done u z → P t s → P u z
-at_answer {A} P t u s z e h = subst (λ (q : Place). P u q) (ok_place t u s z e) (subst (λ (q : A). P q s) (ok_what t u s z e) h)
-
--- ---- chains
-
-module _ {X R S : Type 0} (between step : Place → Option (X × Place)) (first : R → S) (join : X → S → R → S) (p : Parse R) (P : Place → R → Place → Type 0)
-    (steps : (m n : Place) (x : X) → step m ≡ Some (x, n) → between m ≡ Some (x, n)) (sound : IsSound p P) where
-  turn_sound : (go : S → Parse S) (s : Place) (l : S) (m z : Place) (t : S) (o : Option (X × Place)) → step m ≡ o → Chain between first join P s l m
-      → ((u : S) (n : Place) → Chain between first join P s u n → go u n ≡ Ok (t, z) → Chain between first join P s t z) → turn join p go l m o ≡ Ok (t, z) → Chain between first join P s t z
-  turn_sound go s l m z t None f c i e = at_answer (Chain between first join P s) l t m z e c
-  turn_sound go s l m z t (Some x) f c i e =
-      let b = bind_ok (p x.1) (λ r. go (join x.0 l r.0) r.1) (t, z) e in
-      i (join x.0 l b.0.0) b.0.1 (more c (steps m x.1 x.0 f) (sound x.1 b.0.1 b.0.0 b.1)) b.2
-
-  chain_from-sound : (n : ℕ) (s : Place) (l : S) (m z : Place) (t : S) → Chain between first join P s l m → chain_from step join p n l m ≡ Ok (t, z) → Chain between first join P s t z
-  unfolding chain_from
-  chain_from-sound zero s l m z t c e = at_answer (Chain between first join P s) l t m z e c
-  chain_from-sound (suc n) s l m z t c e = turn_sound (chain_from step join p n) s l m z t (step m) refl c (λ u o d f. chain_from-sound n s u o z t d f) e
-
-  pub chain_sound : IsSound (chain step first join p) (Chain between first join P)
-  unfolding chain chain_on
-  chain_sound s z t e =
-      let b = bind_ok (p s) (λ r. chain_from step join p (length r.1.rest) (first r.0) r.1) (t, z) e in
-      chain_from-sound (length b.0.1.rest) s (first b.0.0) b.0.1 z t (one (sound s b.0.1 b.0.0 b.1)) b.2
-
--- ---- each reader
+use Rattle.rr_parser.specs.Places.{Place, word, at, next, skip, separators, start}
+use Rattle.rr_parser.specs.Grammar.Chains.{same, one_of, and_one}
+use Rattle.rr_parser.specs.Grammar.Nesting.{Nested}
+use Rattle.rr_parser.specs.Grammar.Names.{is_puts, is_local, with_local, bracket, begins_operands}
+use Rattle.rr_parser.specs.Grammar.Operands.{fits, fits_below, negated, joined, Primary, an_int, a_negative, a_text, a_nil, a_truth, a_local, a_call, a_marked_call, a_bare_puts, a_puts, a_group, an_if, Minus, a_minus, a_primary}
+use Rattle.rr_parser.specs.Grammar.Operators.{operator, Binary, Equality, a_comparison, a_pair}
+use Rattle.rr_parser.specs.Grammar.Calls.{comma, Argument, an_assignment, an_equality, Arguments, Bracketed, no_arguments, some_arguments}
+use Rattle.rr_parser.specs.Grammar.Control.{thens, elsif, chosen, Statement, a_command, an_argument, Rows, Statements, no_statements, some_statements, Branch, a_branch, Branches, Otherwise, no_else, an_else, Choice, a_choice}
+use Rattle.rr_parser.specs.Grammar.{inside, outside, WordsSpell}
+use Rattle.rr_parser.specs.Reading.Answers.{wrong, Answer, built, closed}
+use Rattle.rr_parser.specs.Reading.Nesting.{Readers}
+use Rattle.rr_parser.specs.Reading.Operands.{puts_of, bare_puts, name_or, name_of, int_at, negative_in, negative_of, group_of, primary_at, primary_in, primary_of, prefix_minus, minus_or, minus_of}
+use Rattle.rr_parser.specs.Reading.Operators.{binary_of, pair_or, equality_of}
+use Rattle.rr_parser.specs.Reading.Calls.{target, argument_or, argument_of, arguments_of, bracketed_or, bracketed_of}
+use Rattle.rr_parser.specs.Reading.Control.{command, statement_or, statement_of, ends, row, rows_of, sequence_of, statements_of, branch_on, branch_of, branches_of, otherwise_or, otherwise_of, choice_of}
+use Rattle.rr_parser.specs.Reading.{readers_inside, readers_outside, readers, whole_of, program_of}
+use Rattle.rr_parser.proofs.Told.{told_close, told_else, told_end}
+use Rattle.rr_parser.proofs.Looks.{word-next, row-separators, prefix-next, target-next, command-next}
+use Rattle.rr_parser.proofs.Chains.{bind_ok, built_ok, done, ok_place, ok_what, closed_ok, at_answer, IsSound, chain_sound}
 
 -- readers of what nests read only what is spelled there
 pub record NestedSound (N : Readers) (R : Nested) : Type 0 where
@@ -48,85 +33,6 @@ pub record NestedSound (N : Readers) (R : Nested) : Type 0 where
   pub choice : IsSound N.choice R.choice
   pub minus : IsSound N.minus R.minus
   pub value : IsSound N.value R.value
-
--- a name, the sign of an assignment and the place behind it
-abbrev pub IsTarget : Option (WordKind × Place) → Sym → Place → Type 0
-IsTarget r x n = (m : Place) × (r ≡ Some (kind.Name x, m)) × (next m ≡ Some (kind.Assign, n))
-
-assign_at-some : (y : Sym) (k : WordKind) (o n : Place) (x : Sym) → assign_at y k o ≡ Some (x, n) → (k ≡ kind.Assign) × (o ≡ n) × (y ≡ x)
-assign_at-some y kind.Assign o n x e = (refl, some_place y x o n e, some_what y x o n e)
-assign_at-some y _ o n x e = absurd cc
-
-assign_in-some : (y : Sym) (r : Option (WordKind × Place)) (n : Place) (x : Sym) → assign_in y r ≡ Some (x, n) → (r ≡ Some (kind.Assign, n)) × (y ≡ x)
-assign_in-some y None n x e = absurd cc
-assign_in-some y (Some k) n x e =
-    let h = assign_at-some y k.0 k.1 n x e in
-    (ap (λ (q : WordKind). Some (q, k.1)) h.0 ∙ ap (λ (q : Place). Some (kind.Assign, q)) h.1, h.2)
-
-target_at-some : (k : WordKind) (m n : Place) (x : Sym) → target_at k m ≡ Some (x, n) → (k ≡ kind.Name x) × (next m ≡ Some (kind.Assign, n))
-target_at-some (kind.Name y) m n x e = let h = assign_in-some y (next m) n x e in (ap (λ (q : Sym). kind.Name q) h.1, h.0)
-target_at-some _ m n x e = absurd cc
-
-pub target_in-some : (r : Option (WordKind × Place)) (n : Place) (x : Sym) → target_in r ≡ Some (x, n) → IsTarget r x n
-target_in-some None n x e = absurd cc
-target_in-some (Some k) n x e = let h = target_at-some k.0 k.1 n x e in (k.1, ap (λ (q : WordKind). Some (q, k.1)) h.0, h.1)
-
-command_test-some : (b : Bool) (o n : Place) (x : Unit {0}) → cond b (seen {X = Unit {0}} tt o) None ≡ seen x n → (b ≡ true) × (o ≡ n)
-command_test-some true o n x e = (refl, some_place tt x o n e)
-command_test-some false o n x e = absurd cc
-
--- a name that begins a command, and the place behind it
-abbrev pub IsCommand : Option (WordKind × Place) → Place → Type 0
-IsCommand r n = (x : Sym) × (r ≡ Some (kind.Name x, n)) × (begins_command x n ≡ true)
-
-command_at-some : (k : WordKind) (m n : Place) (u : Unit {0}) → command_at k m ≡ Some (u, n) → IsCommand (Some (k, m)) n
-command_at-some (kind.Name y) m n u e =
-    let h = command_test-some (begins_command y m) m n u e in
-    (y, ap (λ (q : Place). Some (kind.Name y, q)) h.1, ap (λ (q : Place). begins_command y q) (sym h.1) ∙ h.0)
-command_at-some _ m n u e = absurd cc
-
-pub command_in-some : (r : Option (WordKind × Place)) (n : Place) (u : Unit {0}) → command_in r ≡ Some (u, n) → IsCommand r n
-command_in-some None n u e = absurd cc
-command_in-some (Some k) n u e = command_at-some k.0 k.1 n u e
-
-else_at-some : (k : WordKind) (m n : Place) (u : Unit {0}) → else_at k m ≡ Some (u, n) → seen k m ≡ seen kind.Else n
-else_at-some kind.Else m n u e = ap (λ (q : Place). Some (kind.Else, q)) (some_place tt u m n e)
-else_at-some _ m n u e = absurd cc
-
-pub else_in-some : (r : Option (WordKind × Place)) (n : Place) (u : Unit {0}) → else_in r ≡ Some (u, n) → r ≡ Some (kind.Else, n)
-else_in-some None n u e = absurd cc
-else_in-some (Some k) n u e = else_at-some k.0 k.1 n u e
-
-row_test : (b c : Bool) (o n : Place) (x : Unit {0}) → cond b (cond c None (seen {X = Unit {0}} tt o)) None ≡ seen x n → cond b (seen {X = Unit {0}} tt o) None ≡ seen x n
-row_test true true o n x e = absurd cc
-row_test true false o n x e = e
-row_test false c o n x e = e
-
-pub row_in-separators : (r : Option (WordKind × Place)) (n : Place) (x : Unit {0}) → row_in r ≡ Some (x, n) → separators_in r ≡ Some (x, n)
-row_in-separators None n x e = absurd cc
-row_in-separators (Some k) n x e = row_test (is_separator k.0) (ends (skip k.1).rest) (skip k.1) n x e
-
--- the bracket that closes comes behind what was read
-pub closed_at-close : {A : Type 0} (u : A) (k : WordKind) (n z : Place) (t : A) → closed_at u k n ≡ Ok (t, z) → (u ≡ t) × (seen k n ≡ seen kind.Close z)
-closed_at-close u kind.Close n z t e = (ok_what u t n z e, ap (λ (q : Place). Some (kind.Close, q)) (ok_place u t n z e))
-closed_at-close u _ n z t e = absurd cc
-
-closed_in-close : {A : Type 0} (u : A) (r : Option (WordKind × Place)) (z : Place) (t : A) → closed_in u r ≡ Ok (t, z) → (u ≡ t) × (r ≡ Some (kind.Close, z))
-closed_in-close u None z t e = absurd cc
-closed_in-close u (Some k) z t e = closed_at-close u k.0 k.1 z t e
-
--- what was read, the place behind it, and the bracket that closes
-pub closed_ok : {A : Type 0} (r : Answer A) (z : Place) (t : A) → closed r ≡ Ok (t, z) → (n : Place) × (r ≡ Ok (t, n)) × (next n ≡ Some (kind.Close, z))
-closed_ok {A} (Ok x) z t e = let h = closed_in-close x.0 (next x.1) z t e in (x.1, ap (λ (q : A). done q x.1) h.0, h.1)
-closed_ok (Err d) z t e = absurd cc
-
-ended_at-end : (u : Tree) (k : WordKind) (n z : Place) (t : Tree) → ended_at u k n ≡ Ok (t, z) → (u ≡ t) × (seen k n ≡ seen kind.End z)
-ended_at-end u kind.End n z t e = (ok_what u t n z e, ap (λ (q : Place). Some (kind.End, q)) (ok_place u t n z e))
-ended_at-end u _ n z t e = absurd cc
-
-ended_in-end : (u : Tree) (r : Option (WordKind × Place)) (z : Place) (t : Tree) → ended_in u r ≡ Ok (t, z) → (u ≡ t) × (r ≡ Some (kind.End, z))
-ended_in-end u None z t e = absurd cc
-ended_in-end u (Some k) z t e = ended_at-end u k.0 k.1 z t e
 
 sequence_ok : (r : Answer (List Tree)) (z : Place) (t : Tree) → sequence_of r ≡ Ok (t, z) → (l : List Tree) × (m : Place) × (r ≡ Ok (l, m)) × (sequence (listed l) ≡ t) × (skip m ≡ z)
 sequence_ok (Ok x) z t e = (x.0, x.1, refl, ok_what (sequence (listed x.0)) t (skip x.1) z e, ok_place (sequence (listed x.0)) t (skip x.1) z e)
@@ -141,46 +47,46 @@ module _ (N : Readers) (R : Nested) (nests : NestedSound N R) where
   unfolding int_at
   int_sound s m n z t f e = fits_sound s m n (fits n) z t f refl e
 
-  below_sound : (s m o : Place) (n : ℕ) (b : Bool) (z : Place) (t : Tree) → next s ≡ Some (kind.Minus, m) → joined m ≡ Some (n, o) → fits_below n ≡ b → cond b (done (int (negated n)) o) (Err wrong) ≡ done t z → Primary R s t z
+  below_sound : (s m o : Place) (n : ℕ) (b : Bool) (z : Place) (t : Tree) → next s ≡ Some (kind.Minus, m) → at joined m ≡ Some (n, o) → fits_below n ≡ b → cond b (done (int (negated n)) o) (Err wrong) ≡ done t z → Primary R s t z
   below_sound s m o n true z t f h g e = at_answer (Primary R s) (int (negated n)) t o z e (a_negative f h g)
   below_sound s m o n false z t f h g e = absurd cc
 
-  negative_in-sound : (s m : Place) (r : Option (ℕ × Place)) (z : Place) (t : Tree) → next s ≡ Some (kind.Minus, m) → joined m ≡ r → negative_in r ≡ Ok (t, z) → Primary R s t z
+  negative_in-sound : (s m : Place) (r : Option (ℕ × Place)) (z : Place) (t : Tree) → next s ≡ Some (kind.Minus, m) → at joined m ≡ r → negative_in r ≡ Ok (t, z) → Primary R s t z
   negative_in-sound s m None z t f h e = absurd cc
   negative_in-sound s m (Some n) z t f h e = below_sound s m n.1 n.0 (fits_below n.0) z t f h refl e
 
   negative_sound : (s m z : Place) (t : Tree) → next s ≡ Some (kind.Minus, m) → negative_of m ≡ Ok (t, z) → Primary R s t z
   unfolding negative_of
-  negative_sound s m z t f e = negative_in-sound s m (joined m) z t f refl e
+  negative_sound s m z t f e = negative_in-sound s m (at joined m) z t f refl e
 
-  bare_sound : (s m : Place) (x : Sym) (d : Bool) (z : Place) (t : Tree) → next s ≡ Some (kind.Name x, m) → bracket x m ≡ None → is_puts x ≡ true → is_local x m ≡ false → begins_operands m.rest ≡ d
+  bare_sound : (s m : Place) (x : Sym) (d : Bool) (z : Place) (t : Tree) → next s ≡ Some (kind.Name x, m) → at (bracket x) m ≡ None → is_puts x ≡ true → is_local x m ≡ false → begins_operands m.rest ≡ d
       → cond d (Err wrong) (done (puts (listed [])) m) ≡ done t z → Primary R s t z
   bare_sound s m x true z t f o p l g e = absurd cc
   bare_sound s m x false z t f o p l g e = at_answer (Primary R s) (puts (listed [])) t m z e (a_bare_puts f o p l g)
 
-  plain_sound : (s m : Place) (x : Sym) (b c : Bool) (z : Place) (t : Tree) → next s ≡ Some (kind.Name x, m) → bracket x m ≡ None → is_local x m ≡ b → is_puts x ≡ c
+  plain_sound : (s m : Place) (x : Sym) (b c : Bool) (z : Place) (t : Tree) → next s ≡ Some (kind.Name x, m) → at (bracket x) m ≡ None → is_local x m ≡ b → is_puts x ≡ c
       → cond b (done (local x.0) m) (cond c (bare_puts m) (done (call x.0) m)) ≡ done t z → Primary R s t z
   plain_sound s m x true c z t f o l p e = at_answer (Primary R s) (local x.0) t m z e (a_local f o l)
   plain_sound s m x false true z t f o l p e = bare_sound s m x (begins_operands m.rest) z t f o p l refl e
   plain_sound s m x false false z t f o l p e = at_answer (Primary R s) (call x.0) t m z e (a_call f p l)
 
-  puts_sound : (s m n : Place) (x : Sym) (u : Unit {0}) (z : Place) (t : Tree) → next s ≡ Some (kind.Name x, m) → bracket x m ≡ Some (u, n) → puts_of (closed (N.bracketed n)) ≡ Ok (t, z) → Primary R s t z
+  puts_sound : (s m n : Place) (x : Sym) (u : Unit {0}) (z : Place) (t : Tree) → next s ≡ Some (kind.Name x, m) → at (bracket x) m ≡ Some (u, n) → puts_of (closed kind.Close (N.bracketed n)) ≡ Ok (t, z) → Primary R s t z
   puts_sound s m n x u z t f o e =
-      let b = built_ok (λ l. puts (listed l)) (closed (N.bracketed n)) t z e in
-      let c = closed_ok (N.bracketed n) z b.0 b.1 in
+      let b = built_ok (λ l. puts (listed l)) (closed kind.Close (N.bracketed n)) t z e in
+      let c = closed_ok kind.Close told_close (N.bracketed n) z b.0 b.1 in
       subst (λ (q : Tree). Primary R s q z) (sym b.2) (a_puts f o (nests.bracketed n c.0 b.0 c.1) c.2)
 
-  name_or-sound : (s m : Place) (x : Sym) (o : Option (Unit {0} × Place)) (z : Place) (t : Tree) → next s ≡ Some (kind.Name x, m) → bracket x m ≡ o → name_or N x m o ≡ Ok (t, z) → Primary R s t z
+  name_or-sound : (s m : Place) (x : Sym) (o : Option (Unit {0} × Place)) (z : Place) (t : Tree) → next s ≡ Some (kind.Name x, m) → at (bracket x) m ≡ o → name_or N x m o ≡ Ok (t, z) → Primary R s t z
   name_or-sound s m x None z t f g e = plain_sound s m x (is_local x m) (is_puts x) z t f g refl refl e
   name_or-sound s m x (Some b) z t f g e = puts_sound s m b.1 x b.0 z t f g e
 
   name_sound : (s m : Place) (x : Sym) (z : Place) (t : Tree) → next s ≡ Some (kind.Name x, m) → name_of N x m ≡ Ok (t, z) → Primary R s t z
   unfolding name_of
-  name_sound s m x z t f e = name_or-sound s m x (bracket x m) z t f refl e
+  name_sound s m x z t f e = name_or-sound s m x (at (bracket x) m) z t f refl e
 
   group_sound : (s m z : Place) (t : Tree) → next s ≡ Some (kind.Open, m) → group_of N m ≡ Ok (t, z) → Primary R s t z
   unfolding group_of
-  group_sound s m z t f e = let c = closed_ok (N.statements m) z t e in a_group f (nests.statements m c.0 t c.1) c.2
+  group_sound s m z t f e = let c = closed_ok kind.Close told_close (N.statements m) z t e in a_group f (nests.statements m c.0 t c.1) c.2
 
   primary_at-sound : (s : Place) (k : WordKind) (m z : Place) (t : Tree) → next s ≡ Some (k, m) → primary_at N k m ≡ Ok (t, z) → Primary R s t z
   primary_at-sound s (kind.Int n) m z t f e = int_sound s m n z t f e
@@ -202,34 +108,23 @@ module _ (N : Readers) (R : Nested) (nests : NestedSound N R) where
   unfolding primary_of
   primary_sound s z t e = primary_in-sound s (next s) z t refl e
 
-  no_integer-minus : (s m n : Place) (r : Option (ℕ × Place)) (x : Unit {0}) (z : Place) (t : Tree) → next s ≡ Some (kind.Minus, m) → joined m ≡ r → no_integer m r ≡ Some (x, n) → R.minus n t z → Minus R s (negate t) z
-  no_integer-minus s m n None x z t f g e h = a_minus f g (subst (λ (q : Place). R.minus q t z) (sym (some_place tt x m n e)) h)
-  no_integer-minus s m n (Some i) x z t f g e h = absurd cc
-
-  at_minus : (s : Place) (k : WordKind) (m n : Place) (x : Unit {0}) (z : Place) (t : Tree) → next s ≡ Some (k, m) → minus_at k m ≡ Some (x, n) → R.minus n t z → Minus R s (negate t) z
-  at_minus s kind.Minus m n x z t f e h = no_integer-minus s m n (joined m) x z t f refl e h
-  at_minus s _ m n x z t f e h = absurd cc
-
-  in_minus : (s : Place) (r : Option (WordKind × Place)) (n : Place) (x : Unit {0}) (z : Place) (t : Tree) → next s ≡ r → minus_in r ≡ Some (x, n) → R.minus n t z → Minus R s (negate t) z
-  in_minus s None n x z t f e h = absurd cc
-  in_minus s (Some k) n x z t f e h = at_minus s k.0 k.1 n x z t f e h
-
-  minus_or-sound : (s : Place) (o : Option (Unit {0} × Place)) (z : Place) (t : Tree) → minus_in (next s) ≡ o → minus_or N s o ≡ Ok (t, z) → Minus R s t z
+  minus_or-sound : (s : Place) (o : Option (Unit {0} × Place)) (z : Place) (t : Tree) → at prefix_minus s ≡ o → minus_or N s o ≡ Ok (t, z) → Minus R s t z
   minus_or-sound s None z t f e = a_primary (primary_sound s z t e)
   minus_or-sound s (Some m) z t f e =
       let b = built_ok negate (N.minus m.1) t z e in
-      subst (λ (q : Tree). Minus R s q z) (sym b.2) (in_minus s (next s) m.1 m.0 z b.0 refl f (nests.minus m.1 z b.0 b.1))
+      let k = prefix-next s m.1 m.0 f in
+      subst (λ (q : Tree). Minus R s q z) (sym b.2) (a_minus k.0 k.1 (nests.minus m.1 z b.0 b.1))
 
   pub minus_sound : IsSound (minus_of N) (Minus R)
   unfolding minus_of
-  minus_sound s z t e = minus_or-sound s (minus_in (next s)) z t refl e
+  minus_sound s z t e = minus_or-sound s (at prefix_minus s) z t refl e
 
   pub binary_sound : (level : ℕ) → IsSound (binary_of N level) (Binary R level)
   unfolding binary_of
   binary_sound zero = minus_sound
   binary_sound (suc level) = chain_sound (operator (suc level)) (operator (suc level)) same binary (binary_of N level) (Binary R level) (λ m n x e. e) (binary_sound level)
 
-  pair_or-sound : (s m : Place) (l : Tree) (o : Option (BinaryOperator × Place)) (z : Place) (t : Tree) → Binary R 3 s l m → operator 4 m ≡ o → pair_or N l m o ≡ Ok (t, z) → Equality R s t z
+  pair_or-sound : (s m : Place) (l : Tree) (o : Option (BinaryOperator × Place)) (z : Place) (t : Tree) → Binary R 3 s l m → at (operator 4) m ≡ o → pair_or N l m o ≡ Ok (t, z) → Equality R s t z
   pair_or-sound s m l None z t h f e = at_answer (Equality R s) l t m z e (a_comparison h)
   pair_or-sound s m l (Some o) z t h f e =
       let b = built_ok (binary o.0 l) (binary_of N 3 o.1) t z e in
@@ -238,19 +133,19 @@ module _ (N : Readers) (R : Nested) (nests : NestedSound N R) where
   pub equality_sound : IsSound (equality_of N) (Equality R)
   unfolding equality_of
   equality_sound s z t e =
-      let b = bind_ok (binary_of N 3 s) (λ l. pair_or N l.0 l.1 (operator 4 l.1)) (t, z) e in
-      pair_or-sound s b.0.1 b.0.0 (operator 4 b.0.1) z t (binary_sound 3 s b.0.1 b.0.0 b.1) refl b.2
+      let b = bind_ok (binary_of N 3 s) (λ l. pair_or N l.0 l.1 (at (operator 4) l.1)) (t, z) e in
+      pair_or-sound s b.0.1 b.0.0 (at (operator 4) b.0.1) z t (binary_sound 3 s b.0.1 b.0.0 b.1) refl b.2
 
-  argument_or-sound : (s : Place) (o : Option (Sym × Place)) (z : Place) (t : Tree) → target s ≡ o → argument_or N s o ≡ Ok (t, z) → Argument R s t z
+  argument_or-sound : (s : Place) (o : Option (Sym × Place)) (z : Place) (t : Tree) → at target s ≡ o → argument_or N s o ≡ Ok (t, z) → Argument R s t z
   argument_or-sound s None z t f e = an_equality (equality_sound s z t e)
   argument_or-sound s (Some x) z t f e =
       let b = built_ok (assign x.0.0) (N.value (with_local x.0 x.1)) t z e in
-      let k = target_in-some (next s) x.1 x.0 f in
+      let k = target-next s x.1 x.0 f in
       subst (λ (q : Tree). Argument R s q z) (sym b.2) (an_assignment k.1 k.2 (nests.value (with_local x.0 x.1) z b.0 b.1))
 
   pub argument_sound : IsSound (argument_of N) (Argument R)
   unfolding argument_of
-  argument_sound s z t e = argument_or-sound s (target s) z t refl e
+  argument_sound s z t e = argument_or-sound s (at target s) z t refl e
 
   pub arguments_sound : IsSound (arguments_of N) (Arguments R)
   unfolding arguments_of
@@ -262,22 +157,22 @@ module _ (N : Readers) (R : Nested) (nests : NestedSound N R) where
 
   pub bracketed_sound : IsSound (bracketed_of N) (Bracketed R)
   unfolding bracketed_of
-  bracketed_sound s z l e = bracketed_or-sound s z l (close s) e
+  bracketed_sound s z l e = bracketed_or-sound s z l (at (word kind.Close) s) e
 
-  statement_or-sound : (s : Place) (o : Option (Unit {0} × Place)) (z : Place) (t : Tree) → command s ≡ o → statement_or N s o ≡ Ok (t, z) → Statement R s t z
+  statement_or-sound : (s : Place) (o : Option (Unit {0} × Place)) (z : Place) (t : Tree) → at (command s.known) s ≡ o → statement_or N s o ≡ Ok (t, z) → Statement R s t z
   statement_or-sound s None z t f e = an_argument (argument_sound s z t e)
   statement_or-sound s (Some x) z t f e =
       let b = built_ok (λ l. puts (listed l)) (arguments_of N x.1) t z e in
-      let k = command_in-some (next s) x.1 x.0 f in
+      let k = command-next s x.1 x.0 f in
       subst (λ (q : Tree). Statement R s q z) (sym b.2) (a_command k.1 k.2 (arguments_sound x.1 z b.0 b.1))
 
   pub statement_sound : IsSound (statement_of N) (Statement R)
   unfolding statement_of
-  statement_sound s z t e = statement_or-sound s (command s) z t refl e
+  statement_sound s z t e = statement_or-sound s (at (command s.known) s) z t refl e
 
   pub rows_sound : IsSound (rows_of N) (Rows R)
   unfolding rows_of
-  rows_sound = chain_sound separators row one_of and_one (statement_of N) (Statement R) (λ m n x f. row_in-separators (next m) n x f) statement_sound
+  rows_sound = chain_sound separators row one_of and_one (statement_of N) (Statement R) (λ m n x f. (row-separators m n x f).0) statement_sound
 
   statements_test : (b : Bool) (s z : Place) (t : Tree) → cond b (done (sequence (listed [])) (skip s)) (sequence_of (rows_of N (skip s))) ≡ Ok (t, z) → Statements R s t z
   statements_test true s z t e = at_answer (Statements R s) (sequence (listed [])) t (skip s) z e no_statements
@@ -289,7 +184,7 @@ module _ (N : Readers) (R : Nested) (nests : NestedSound N R) where
   unfolding statements_of
   statements_sound s z t e = statements_test (ends (skip s).rest) s z t e
 
-  branch_on-sound : (s m : Place) (c : Tree) (r : Option (Unit {0} × Place)) (z : Place) (t : Tree × Tree) → Statement R s c m → thens m ≡ r → branch_on N c r ≡ Ok (t, z) → Branch R s t z
+  branch_on-sound : (s m : Place) (c : Tree) (r : Option (Unit {0} × Place)) (z : Place) (t : Tree × Tree) → Statement R s c m → at thens m ≡ r → branch_on N c r ≡ Ok (t, z) → Branch R s t z
   branch_on-sound s m c None z t h f e = absurd cc
   branch_on-sound s m c (Some x) z t h f e =
       let b = built_ok (λ (u : Tree). (c, u)) (statements_of N x.1) t z e in
@@ -298,28 +193,28 @@ module _ (N : Readers) (R : Nested) (nests : NestedSound N R) where
   pub branch_sound : IsSound (branch_of N) (Branch R)
   unfolding branch_of
   branch_sound s z t e =
-      let b = bind_ok (statement_of N s) (λ c. branch_on N c.0 (thens c.1)) (t, z) e in
-      branch_on-sound s b.0.1 b.0.0 (thens b.0.1) z t (statement_sound s b.0.1 b.0.0 b.1) refl b.2
+      let b = bind_ok (statement_of N s) (λ c. branch_on N c.0 (at thens c.1)) (t, z) e in
+      branch_on-sound s b.0.1 b.0.0 (at thens b.0.1) z t (statement_sound s b.0.1 b.0.0 b.1) refl b.2
 
   pub branches_sound : IsSound (branches_of N) (Branches R)
   unfolding branches_of
   branches_sound = chain_sound elsif elsif one_of and_one (branch_of N) (Branch R) (λ m n x e. e) branch_sound
 
-  otherwise_or-sound : (s : Place) (o : Option (Unit {0} × Place)) (z : Place) (t : Tree) → else_in (next s) ≡ o → otherwise_or N s o ≡ Ok (t, z) → Otherwise R s t z
+  otherwise_or-sound : (s : Place) (o : Option (Unit {0} × Place)) (z : Place) (t : Tree) → at (word kind.Else) s ≡ o → otherwise_or N s o ≡ Ok (t, z) → Otherwise R s t z
   otherwise_or-sound s None z t f e = at_answer (Otherwise R s) nil t s z e no_else
-  otherwise_or-sound s (Some x) z t f e = an_else (else_in-some (next s) x.1 x.0 f) (statements_sound x.1 z t e)
+  otherwise_or-sound s (Some x) z t f e = an_else (word-next kind.Else told_else s x.1 x.0 f) (statements_sound x.1 z t e)
 
   pub otherwise_sound : IsSound (otherwise_of N) (Otherwise R)
   unfolding otherwise_of
-  otherwise_sound s z t e = otherwise_or-sound s (else_in (next s)) z t refl e
+  otherwise_sound s z t e = otherwise_or-sound s (at (word kind.Else) s) z t refl e
 
   pub choice_sound : IsSound (choice_of N) (Choice R)
   unfolding choice_of
   choice_sound s z t e =
-      let b = bind_ok (branches_of N s) (λ l. otherwise_of N l.1 >>= λ e. ended_in (chosen l.0 e.0) (next e.1)) (t, z) e in
-      let c = bind_ok (otherwise_of N b.0.1) (λ e. ended_in (chosen b.0.0 e.0) (next e.1)) (t, z) b.2 in
-      let d = ended_in-end (chosen b.0.0 c.0.0) (next c.0.1) z t c.2 in
-      subst (λ (q : Tree). Choice R s q z) d.0 (a_choice (branches_sound s b.0.1 b.0.0 b.1) (otherwise_sound b.0.1 c.0.1 c.0.0 c.1) d.1)
+      let b = bind_ok (branches_of N s) (λ l. closed kind.End (built (chosen l.0) (otherwise_of N l.1))) (t, z) e in
+      let d = closed_ok kind.End told_end (built (chosen b.0.0) (otherwise_of N b.0.1)) z t b.2 in
+      let c = built_ok (chosen b.0.0) (otherwise_of N b.0.1) t d.0 d.1 in
+      subst (λ (q : Tree). Choice R s q z) (sym c.2) (a_choice (branches_sound s b.0.1 b.0.0 b.1) (otherwise_sound b.0.1 d.0 c.0 c.1) d.2)
 
 pub sound_inside : (d : ℕ) → NestedSound (readers_inside d) (inside d)
 unfolding readers_inside inside
@@ -342,6 +237,15 @@ sound_outside (suc d) = record {
   minus = minus_sound (readers_outside d) (outside d) (sound_outside d);
   value = argument_sound (readers_inside (suc d)) (inside (suc d)) (sound_inside (suc d));
 }
+
+-- what is spelled inside the right side of an assignment or not, with constructs nested no deeper than a number
+abbrev pub nested : Bool → ℕ → Nested
+nested true d = inside d
+nested false d = outside d
+
+pub sound_nested : (b : Bool) (d : ℕ) → NestedSound (readers b d) (nested b d)
+sound_nested true d = sound_inside d
+sound_nested false d = sound_outside d
 
 whole_is : (t u : Tree) (ws : List Word) → whole_of t ws ≡ Ok u → (t ≡ u) × (ws ≡ [])
 whole_is t u [] e = (cc, refl)

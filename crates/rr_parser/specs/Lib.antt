@@ -1,5 +1,6 @@
 pub mod Words
 pub mod Numbering
+pub mod Places
 pub mod Grammar
 pub mod Reading
 pub mod Meets

@@ -10,15 +10,18 @@ use Rattle.rr_parser.specs.declared.word.Word.{Word}
 use Rattle.rr_parser.specs.declared.refusal.Refusal.{Refusal}
 use Rattle.rr_parser.specs.declared.refusal.Refusal.TheVariants as refusal
 use Rattle.rr_parser.specs.declared.parser.Parser.{Parser}
-use Rattle.rr_parser.specs.Grammar.{Place}
-use Rattle.rr_parser.specs.Reading.{Answer, Refused, wrong, deep}
+use Rattle.rr_parser.specs.Places.{Known, Place}
+use Rattle.rr_parser.specs.Reading.Answers.{Answer, Refused, wrong, deep}
 
 -- the names that are known as local variables
 abbrev pub locals_of : List Bool → ℕ → Bool
 locals_of known x = get_or known x false
 
+abbrev pub known_of : Parser → Known
+known_of p = record { locals = locals_of p.known.items }
+
 abbrev pub place : Parser → List Word → Place
-place p ws = record { locals = locals_of p.known.items; rest = ws }
+place p ws = record { known = known_of p; rest = ws }
 
 -- What the code holds for what is read: the trees by their nodes, which lie below a number.
 pub record View (E A : Type 0) : Type 1 where
@@ -84,11 +87,11 @@ pub record Marks (old new : Parser) (x : Sym) : Type 0 where
   pub known : (y : ℕ) → locals_of new.known.items y ≡ (y == x.0 || locals_of old.known.items y)
 
 -- what was seen first, and the words behind it
-abbrev pub Sees : {A : Type 0} → (ℕ → Bool) → Option (A × Bor (List Word)) → Option (A × Place) → Type 0
-Sees locals None read = read ≡ None
-Sees locals (Some x) read = read ≡ Some (x.0, record { locals = locals; rest = x.1.now })
+abbrev pub Sees : {A : Type 0} → Option (A × Bor (List Word)) → Option (A × List Word) → Type 0
+Sees None read = read ≡ None
+Sees (Some x) read = read ≡ Some (x.0, x.1.now)
 
 -- the same, where only the words behind matter
-abbrev pub SeesRest : (ℕ → Bool) → Option (Bor (List Word)) → Option (Unit {0} × Place) → Type 0
-SeesRest locals None read = read ≡ None
-SeesRest locals (Some rest) read = read ≡ Some (tt, record { locals = locals; rest = rest.now })
+abbrev pub SeesRest : Option (Bor (List Word)) → Option (Unit {0} × List Word) → Type 0
+SeesRest None read = read ≡ None
+SeesRest (Some rest) read = read ≡ Some (tt, rest.now)

@@ -1,8 +1,14 @@
 //! What stands first among words, and the words behind it.
 
-ghost use Rattle.std.specs.Prelude.{◌≡◌, ◌≤◌, ℕ, Bool};
-ghost use Rattle.rr_parser.specs.Grammar.{negated, level_of, operator_of, at_level, operator, joined, comma, elsif, bracket, thens, behind_then, next, without_separators, begins_operands, begins_operand, is_tight};
-ghost use Rattle.rr_parser.specs.Reading.{close, end_word, else_word, prefix_minus, target, ends, row};
+ghost use Rattle.std.specs.Prelude.{◌≡◌, ◌≤◌};
+ghost use Rattle.rr_parser.specs.Places.{word, without_separators, separators};
+ghost use Rattle.rr_parser.specs.Grammar.Names.{name, bracket, begins_operands, begins_operand, is_tight};
+ghost use Rattle.rr_parser.specs.Grammar.Operands.{negated, joined};
+ghost use Rattle.rr_parser.specs.Grammar.Operators.{level_of, operator_of, at_level, operator};
+ghost use Rattle.rr_parser.specs.Grammar.Control.{thens};
+ghost use Rattle.rr_parser.specs.Reading.Operands.{prefix_minus};
+ghost use Rattle.rr_parser.specs.Reading.Calls.{target};
+ghost use Rattle.rr_parser.specs.Reading.Control.{ends, row};
 ghost use Rattle.rr_parser.specs.Meets.{Sees, SeesRest};
 
 use crate::word::{Word, WordKind};
@@ -62,18 +68,44 @@ fn at_level(level: u8, operator: BinaryOperator) -> Option<BinaryOperator>
     }
 }
 
+/// The words behind a word of this kind.
+pub(crate) fn behind(kind: WordKind, words: &[Word]) -> Option<&[Word]>
+    ensures { SeesRest result (word kind words.now) }
+{
+    match words {
+        [first, rest @ ..] if first.kind == kind => Some(rest),
+        _ => None,
+    }
+}
+
 /// An operator of a level.
 pub(crate) fn operator(level: u8, words: &[Word]) -> Option<(BinaryOperator, &[Word])>
-    ensures { (locals : ℕ → Bool) → Sees locals result (operator level (record { locals = locals; rest = words.now })) }
+    ensures { Sees result (operator level words.now) }
 {
     let (word, rest) = words.split_first()?;
     let operator = operator_of(level, word.kind)?;
     Some((operator, rest))
 }
 
+/// A name without `?` and `!`.
+pub(crate) fn name(words: &[Word]) -> Option<(Sym, &[Word])>
+    ensures { Sees result (name words.now) }
+{
+    match words {
+        [
+            Word {
+                kind: WordKind::Name(name),
+                ..
+            },
+            rest @ ..,
+        ] => Some((*name, rest)),
+        _ => None,
+    }
+}
+
 /// The integer that stands first with no blank before it.
 pub(crate) fn joined(words: &[Word]) -> Option<(u64, &[Word])>
-    ensures { (locals : ℕ → Bool) → Sees locals result (joined (record { locals = locals; rest = words.now })) }
+    ensures { Sees result (joined words.now) }
 {
     match words {
         [
@@ -89,98 +121,18 @@ pub(crate) fn joined(words: &[Word]) -> Option<(u64, &[Word])>
 
 /// A minus that belongs to no integer.
 pub(crate) fn prefix_minus(words: &[Word]) -> Option<&[Word]>
-    ensures { (locals : ℕ → Bool) → SeesRest locals result (prefix_minus (record { locals = locals; rest = words.now })) }
+    ensures { SeesRest result (prefix_minus words.now) }
 {
-    match words {
-        [
-            Word {
-                kind: WordKind::Minus,
-                ..
-            },
-            rest @ ..,
-        ] if joined(rest).is_none() => Some(rest),
-        _ => None,
-    }
-}
-
-pub(crate) fn comma(words: &[Word]) -> Option<&[Word]>
-    ensures { (locals : ℕ → Bool) → SeesRest locals result (comma (record { locals = locals; rest = words.now })) }
-{
-    match words {
-        [
-            Word {
-                kind: WordKind::Comma,
-                ..
-            },
-            rest @ ..,
-        ] => Some(rest),
-        _ => None,
-    }
-}
-
-pub(crate) fn after_close(words: &[Word]) -> Option<&[Word]>
-    ensures { (locals : ℕ → Bool) → SeesRest locals result (close (record { locals = locals; rest = words.now })) }
-{
-    match words {
-        [
-            Word {
-                kind: WordKind::Close,
-                ..
-            },
-            rest @ ..,
-        ] => Some(rest),
-        _ => None,
-    }
-}
-
-pub(crate) fn after_end(words: &[Word]) -> Option<&[Word]>
-    ensures { (locals : ℕ → Bool) → SeesRest locals result (end_word (record { locals = locals; rest = words.now })) }
-{
-    match words {
-        [
-            Word {
-                kind: WordKind::End,
-                ..
-            },
-            rest @ ..,
-        ] => Some(rest),
-        _ => None,
-    }
-}
-
-pub(crate) fn after_else(words: &[Word]) -> Option<&[Word]>
-    ensures { (locals : ℕ → Bool) → SeesRest locals result (else_word (record { locals = locals; rest = words.now })) }
-{
-    match words {
-        [
-            Word {
-                kind: WordKind::Else,
-                ..
-            },
-            rest @ ..,
-        ] => Some(rest),
-        _ => None,
-    }
-}
-
-pub(crate) fn elsif(words: &[Word]) -> Option<&[Word]>
-    ensures { (locals : ℕ → Bool) → SeesRest locals result (elsif (record { locals = locals; rest = words.now })) }
-{
-    match words {
-        [
-            Word {
-                kind: WordKind::Elsif,
-                ..
-            },
-            rest @ ..,
-        ] => Some(rest),
-        _ => None,
+    let rest = behind(WordKind::Minus, words)?;
+    match joined(rest) {
+        Some(_) => None,
+        None => Some(rest),
     }
 }
 
 /// The bracket of the arguments of `puts`, which stands directly behind the name.
 pub(crate) fn bracket(name: Sym, words: &[Word]) -> Option<&[Word]>
-    ensures { (locals : ℕ → Bool) → SeesRest locals result (bracket name (record { locals = locals; rest = words.now })) }
+    ensures { SeesRest result (bracket name words.now) }
 {
     match words {
         [
@@ -196,22 +148,11 @@ pub(crate) fn bracket(name: Sym, words: &[Word]) -> Option<&[Word]>
 
 /// The name and the sign of an assignment.
 pub(crate) fn target(words: &[Word]) -> Option<(Sym, &[Word])>
-    ensures { (locals : ℕ → Bool) → Sees locals result (target (record { locals = locals; rest = words.now })) }
+    ensures { Sees result (target words.now) }
 {
-    match words {
-        [
-            Word {
-                kind: WordKind::Name(name),
-                ..
-            },
-            Word {
-                kind: WordKind::Assign,
-                ..
-            },
-            rest @ ..,
-        ] => { Some((*name, rest)) }
-        _ => None,
-    }
+    let (name, rest) = name(words)?;
+    let rest = behind(WordKind::Assign, rest)?;
+    Some((name, rest))
 }
 
 /// The words from the first on that is no separator.
@@ -232,6 +173,14 @@ pub(crate) fn without_separators(words: &[Word]) -> &[Word]
     rest
 }
 
+/// The words behind one separator or more.
+fn separators(words: &[Word]) -> Option<&[Word]>
+    ensures { SeesRest result (separators words.now) }
+{
+    let rest = behind(WordKind::Separator, words)?;
+    Some(without_separators(rest))
+}
+
 /// Whether what ends a list of statements comes.
 pub(crate) fn ends(words: &[Word]) -> bool
     ensures { result ≡ ends words.now }
@@ -247,57 +196,23 @@ pub(crate) fn ends(words: &[Word]) -> bool
 
 /// Separators that a statement follows.
 pub(crate) fn row(words: &[Word]) -> Option<&[Word]>
-    ensures { (locals : ℕ → Bool) → SeesRest locals result (row (record { locals = locals; rest = words.now })) }
+    ensures { SeesRest result (row words.now) }
 {
-    let [
-        Word {
-            kind: WordKind::Separator,
-            ..
-        },
-        rest @ ..,
-    ] = words
-    else {
-        return None;
-    };
-    let rest = without_separators(rest);
+    let rest = separators(words)?;
     if ends(rest) { None } else { Some(rest) }
 }
 
 /// What stands between a condition and its statements: separators, a `then`, or both.
 pub(crate) fn thens(words: &[Word]) -> Option<&[Word]>
-    ensures { (locals : ℕ → Bool) → SeesRest locals result (thens (record { locals = locals; rest = words.now })) }
+    ensures { SeesRest result (thens words.now) }
 {
-    match words {
-        [
-            Word {
-                kind: WordKind::Then,
-                ..
-            },
-            rest @ ..,
-        ] => Some(rest),
-        [
-            Word {
-                kind: WordKind::Separator,
-                ..
-            },
-            rest @ ..,
-        ] => { Some(behind_then(without_separators(rest))) }
-        _ => None,
+    if let Some(rest) = behind(WordKind::Then, words) {
+        return Some(rest);
     }
-}
-
-fn behind_then(words: &[Word]) -> &[Word]
-    ensures { (locals : ℕ → Bool) → behind_then (record { locals = locals; rest = words.now }) (next (record { locals = locals; rest = words.now })) ≡ record { locals = locals; rest = result.now } }
-{
-    match words {
-        [
-            Word {
-                kind: WordKind::Then,
-                ..
-            },
-            rest @ ..,
-        ] => rest,
-        _ => words,
+    let rest = separators(words)?;
+    match behind(WordKind::Then, rest) {
+        Some(after) => Some(after),
+        None => Some(rest),
     }
 }
 

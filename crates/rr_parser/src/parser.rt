@@ -3,12 +3,16 @@
 ghost use Rattle.std.specs.Prelude.{◌≡◌, ℕ, ◌<◌, ◌≤◌, ◌==◌, ◌++◌, Bool, List, length, map, All, MatchResult, MatchOption, IfOk, OnOk, Some, None, Ok, Err};
 ghost use Rattle.rr_tree.specs.Tree.{Tree, tree_at, sequence, puts, listed, IsOrdered};
 ghost use Rattle.rr_tree.specs.Nodes.{HasPartsBefore, node_tree, item};
-ghost use Rattle.rr_parser.specs.Grammar.{chosen};
-ghost use Rattle.rr_parser.specs.Reading.{readers, statements_of, rows_of, statement_of, arguments_of, argument_of, equality_of, binary_of, minus_of, primary_of, name_of, group_of, int_at, negative_of, choice_of, otherwise_of, branches_of, branch_of, bracketed_of, command};
+ghost use Rattle.rr_parser.specs.Grammar.Control.{chosen};
+ghost use Rattle.rr_parser.specs.Reading.Operands.{primary_of, name_of, group_of, int_at, negative_of, minus_of};
+ghost use Rattle.rr_parser.specs.Reading.Operators.{binary_of, equality_of};
+ghost use Rattle.rr_parser.specs.Reading.Calls.{argument_of, arguments_of, bracketed_of};
+ghost use Rattle.rr_parser.specs.Reading.Control.{command, statement_of, rows_of, statements_of, branch_of, branches_of, otherwise_of, choice_of};
+ghost use Rattle.rr_parser.specs.Reading.{readers};
 
 use crate::look::{
-    INTEGERS, PUTS, after_close, after_else, after_end, begins_operands, bracket, comma, elsif,
-    ends, joined, negated, operator, prefix_minus, row, target, thens, without_separators,
+    INTEGERS, PUTS, begins_operands, behind, bracket, ends, joined, name, negated, operator,
+    prefix_minus, row, target, thens, without_separators,
 };
 use crate::refusal::{Refusal, Storage};
 use crate::word::{Word, WordKind};
@@ -32,7 +36,7 @@ type Parsed<'w, T> = Result<(T, &'w [Word]), Refusal>;
 type ParsedList<'w> = Parsed<'w, Vec<NodeId>>;
 
 impl Parser {
-    ghost use Rattle.rr_parser.specs.Meets.{Gives, GivesList, GivesPair, GivesPairs, Appends, Puts, Marks, SeesRest, nodes, pairs, place, locals_of};
+    ghost use Rattle.rr_parser.specs.Meets.{Gives, GivesList, GivesPair, GivesPairs, Appends, Puts, Marks, SeesRest, nodes, pairs, place, known_of, locals_of};
 
     fn is_local(&self, name: Sym) -> bool
         ensures { result ≡ locals_of self.now.known.items name.0 }
@@ -57,19 +61,10 @@ impl Parser {
 
     /// The words behind a name that begins a command.
     fn command<'w>(&self, words: &'w [Word]) -> Option<&'w [Word]>
-        ensures { SeesRest (locals_of self.now.known.items) result (command (place self.now words.now)) }
+        ensures { SeesRest result (command (known_of self.now) words.now) }
     {
-        let [
-            Word {
-                kind: WordKind::Name(name),
-                ..
-            },
-            rest @ ..,
-        ] = words
-        else {
-            return None;
-        };
-        if name.0 == PUTS.0 && !self.is_local(*name) && begins_operands(rest) {
+        let (name, rest) = name(words)?;
+        if name.0 == PUTS.0 && !self.is_local(name) && begins_operands(rest) {
             Some(rest)
         } else {
             None
@@ -140,7 +135,7 @@ impl Parser {
         Ok(chosen)
     }
 
-    #[tactic(auto, unfolding(crate::specs::Reading::int_at))]
+    #[tactic(auto, unfolding(crate::specs::Reading::Operands::int_at))]
     fn int<'w>(&mut self, n: u64, rest: &'w [Word]) -> Parsed<'w, NodeId>
         ensures { Gives self.old self.new result (int_at n (place self.old rest.now)) }
     {
@@ -150,7 +145,7 @@ impl Parser {
         Ok((self.put(Node::Int(n as i64))?, rest))
     }
 
-    #[tactic(auto, unfolding(crate::specs::Reading::negative_of))]
+    #[tactic(auto, unfolding(crate::specs::Reading::Operands::negative_of))]
     fn negative<'w>(&mut self, words: &'w [Word]) -> Parsed<'w, NodeId>
         ensures { Gives self.old self.new result (negative_of (place self.old words.now)) }
     {
@@ -164,7 +159,7 @@ impl Parser {
     }
 
     #[cycle(parser)]
-    #[tactic(auto, unfolding(crate::specs::Reading::statements_of))]
+    #[tactic(auto, unfolding(crate::specs::Reading::Control::statements_of))]
     pub fn statements<'w>(
         &mut self,
         inside: bool,
@@ -182,7 +177,7 @@ impl Parser {
     }
 
     #[cycle(parser)]
-    #[tactic(auto, unfolding(crate::specs::Reading::rows_of, crate::specs::Reading::chain))]
+    #[tactic(auto, unfolding(crate::specs::Reading::Control::rows_of, crate::specs::Reading::Answers::chain))]
     fn rows<'w>(&mut self, inside: bool, depth: u32, words: &'w [Word]) -> ParsedList<'w>
         ensures { GivesList self.old self.new result (rows_of (readers inside depth) (place self.old words.now)) }
     {
@@ -198,7 +193,7 @@ impl Parser {
     }
 
     #[cycle(parser)]
-    #[tactic(auto, unfolding(crate::specs::Reading::statement_of))]
+    #[tactic(auto, unfolding(crate::specs::Reading::Control::statement_of))]
     fn statement<'w>(&mut self, inside: bool, depth: u32, words: &'w [Word]) -> Parsed<'w, NodeId>
         ensures { Gives self.old self.new result (statement_of (readers inside depth) (place self.old words.now)) }
     {
@@ -210,14 +205,14 @@ impl Parser {
     }
 
     #[cycle(parser)]
-    #[tactic(auto, unfolding(crate::specs::Reading::arguments_of, crate::specs::Reading::chain))]
+    #[tactic(auto, unfolding(crate::specs::Reading::Calls::arguments_of, crate::specs::Reading::Answers::chain))]
     fn arguments<'w>(&mut self, inside: bool, depth: u32, words: &'w [Word]) -> ParsedList<'w>
         ensures { GivesList self.old self.new result (arguments_of (readers inside depth) (place self.old words.now)) }
     {
         let mut items = Vec::new(self.alloc);
         let (first, mut rest) = self.argument(inside, depth, words)?;
         items.push(first)?;
-        while let Some(after) = comma(rest) {
+        while let Some(after) = behind(WordKind::Comma, rest) {
             let (next, after) = self.argument(inside, depth, after)?;
             items.push(next)?;
             rest = after;
@@ -226,7 +221,7 @@ impl Parser {
     }
 
     #[cycle(parser)]
-    #[tactic(auto, unfolding(crate::specs::Reading::argument_of))]
+    #[tactic(auto, unfolding(crate::specs::Reading::Calls::argument_of))]
     fn argument<'w>(&mut self, inside: bool, depth: u32, words: &'w [Word]) -> Parsed<'w, NodeId>
         ensures { Gives self.old self.new result (argument_of (readers inside depth) (place self.old words.now)) }
     {
@@ -253,7 +248,7 @@ impl Parser {
     }
 
     #[cycle(parser)]
-    #[tactic(auto, unfolding(crate::specs::Reading::equality_of))]
+    #[tactic(auto, unfolding(crate::specs::Reading::Operators::equality_of))]
     fn equality<'w>(&mut self, inside: bool, depth: u32, words: &'w [Word]) -> Parsed<'w, NodeId>
         ensures { Gives self.old self.new result (equality_of (readers inside depth) (place self.old words.now)) }
     {
@@ -266,7 +261,7 @@ impl Parser {
     }
 
     #[cycle(parser)]
-    #[tactic(auto, unfolding(crate::specs::Reading::binary_of, crate::specs::Reading::chain))]
+    #[tactic(auto, unfolding(crate::specs::Reading::Operators::binary_of, crate::specs::Reading::Answers::chain))]
     fn binary<'w>(
         &mut self,
         level: u8,
@@ -290,7 +285,7 @@ impl Parser {
     }
 
     #[cycle(parser)]
-    #[tactic(auto, unfolding(crate::specs::Reading::minus_of))]
+    #[tactic(auto, unfolding(crate::specs::Reading::Operands::minus_of))]
     fn minus<'w>(&mut self, inside: bool, depth: u32, words: &'w [Word]) -> Parsed<'w, NodeId>
         ensures { Gives self.old self.new result (minus_of (readers inside depth) (place self.old words.now)) }
     {
@@ -302,7 +297,7 @@ impl Parser {
     }
 
     #[cycle(parser)]
-    #[tactic(auto, unfolding(crate::specs::Reading::primary_of))]
+    #[tactic(auto, unfolding(crate::specs::Reading::Operands::primary_of))]
     fn primary<'w>(&mut self, inside: bool, depth: u32, words: &'w [Word]) -> Parsed<'w, NodeId>
         ensures { Gives self.old self.new result (primary_of (readers inside depth) (place self.old words.now)) }
     {
@@ -324,7 +319,7 @@ impl Parser {
     }
 
     #[cycle(parser)]
-    #[tactic(auto, unfolding(crate::specs::Reading::name_of))]
+    #[tactic(auto, unfolding(crate::specs::Reading::Operands::name_of))]
     fn name<'w>(
         &mut self,
         inside: bool,
@@ -336,7 +331,7 @@ impl Parser {
     {
         if let Some(rest) = bracket(name, words) {
             let (items, rest) = self.inner_arguments(inside, depth, rest)?;
-            let Some(rest) = after_close(rest) else {
+            let Some(rest) = behind(WordKind::Close, rest) else {
                 return Err(Refusal::Unexpected(rest.len()));
             };
             return Ok((self.put_puts(&items)?, rest));
@@ -354,43 +349,43 @@ impl Parser {
     }
 
     #[cycle(parser)]
-    #[tactic(auto, unfolding(crate::specs::Reading::group_of))]
+    #[tactic(auto, unfolding(crate::specs::Reading::Operands::group_of))]
     fn group<'w>(&mut self, inside: bool, depth: u32, words: &'w [Word]) -> Parsed<'w, NodeId>
         ensures { Gives self.old self.new result (group_of (readers inside depth) (place self.old words.now)) }
     {
         let (group, rest) = self.inner_statements(inside, depth, words)?;
-        match after_close(rest) {
+        match behind(WordKind::Close, rest) {
             Some(rest) => Ok((group, rest)),
             None => Err(Refusal::Unexpected(rest.len())),
         }
     }
 
     #[cycle(parser)]
-    #[tactic(auto, unfolding(crate::specs::Reading::choice_of))]
+    #[tactic(auto, unfolding(crate::specs::Reading::Control::choice_of))]
     fn choice<'w>(&mut self, inside: bool, depth: u32, words: &'w [Word]) -> Parsed<'w, NodeId>
         ensures { Gives self.old self.new result (choice_of (readers inside depth) (place self.old words.now)) }
     {
         let (branches, rest) = self.branches(inside, depth, words)?;
         let (otherwise, rest) = self.otherwise(inside, depth, rest)?;
-        match after_end(rest) {
+        match behind(WordKind::End, rest) {
             Some(rest) => Ok((self.put_choices(branches, otherwise)?, rest)),
             None => Err(Refusal::Unexpected(rest.len())),
         }
     }
 
     #[cycle(parser)]
-    #[tactic(auto, unfolding(crate::specs::Reading::otherwise_of))]
+    #[tactic(auto, unfolding(crate::specs::Reading::Control::otherwise_of))]
     fn otherwise<'w>(&mut self, inside: bool, depth: u32, words: &'w [Word]) -> Parsed<'w, NodeId>
         ensures { Gives self.old self.new result (otherwise_of (readers inside depth) (place self.old words.now)) }
     {
-        match after_else(words) {
+        match behind(WordKind::Else, words) {
             Some(rest) => self.statements(inside, depth, rest),
             None => Ok((self.put(Node::Nil)?, words)),
         }
     }
 
     #[cycle(parser)]
-    #[tactic(auto, unfolding(crate::specs::Reading::branches_of, crate::specs::Reading::chain))]
+    #[tactic(auto, unfolding(crate::specs::Reading::Control::branches_of, crate::specs::Reading::Answers::chain))]
     fn branches<'w>(
         &mut self,
         inside: bool,
@@ -402,7 +397,7 @@ impl Parser {
         let mut branches = Vec::new(self.alloc);
         let (first, mut rest) = self.branch(inside, depth, words)?;
         branches.push(first)?;
-        while let Some(after) = elsif(rest) {
+        while let Some(after) = behind(WordKind::Elsif, rest) {
             let (next, after) = self.branch(inside, depth, after)?;
             branches.push(next)?;
             rest = after;
@@ -411,7 +406,7 @@ impl Parser {
     }
 
     #[cycle(parser)]
-    #[tactic(auto, unfolding(crate::specs::Reading::branch_of))]
+    #[tactic(auto, unfolding(crate::specs::Reading::Control::branch_of))]
     fn branch<'w>(
         &mut self,
         inside: bool,
@@ -429,11 +424,11 @@ impl Parser {
     }
 
     #[cycle(parser)]
-    #[tactic(auto, unfolding(crate::specs::Reading::bracketed_of))]
+    #[tactic(auto, unfolding(crate::specs::Reading::Calls::bracketed_of))]
     fn bracketed<'w>(&mut self, inside: bool, depth: u32, words: &'w [Word]) -> ParsedList<'w>
         ensures { GivesList self.old self.new result (bracketed_of (readers inside depth) (place self.old words.now)) }
     {
-        match after_close(words) {
+        match behind(WordKind::Close, words) {
             Some(_) => Ok((Vec::new(self.alloc), words)),
             None => self.arguments(inside, depth, words),
         }

@@ -1,5 +1,5 @@
 use Rattle.std.proofs.Common.{◌≡◌, length}
-use Rattle.rr_parser.specs.Grammar.{without_separators}
+use Rattle.rr_parser.specs.Places.{without_separators}
 use Rattle.rr_parser.proofs.look.without_separators.Given as goal
 
 abbrev pub invariant-loop-rest : goal.invariant-loop-rest

@@ -1,7 +1,14 @@
 use Rattle.std.proofs.Common.{cond, ◌<◌, ◌≤◌, length, ◌+◌, ◌-◌, ◌*◌, map}
 use Rattle.rr_tree.specs.Tree.{tree_at, binary}
-use Rattle.rr_parser.specs.Grammar.{operator, comma, elsif, and_one}
-use Rattle.rr_parser.specs.Reading.{readers, binary_of, argument_of, arguments_of, statement_of, rows_of, branch_of, branches_of, row, chain_on}
+use Rattle.rr_parser.specs.Grammar.Chains.{and_one}
+use Rattle.rr_parser.specs.Grammar.Operators.{operator}
+use Rattle.rr_parser.specs.Grammar.Calls.{comma}
+use Rattle.rr_parser.specs.Grammar.Control.{elsif}
+use Rattle.rr_parser.specs.Reading.Answers.{chain_on}
+use Rattle.rr_parser.specs.Reading.Operators.{binary_of}
+use Rattle.rr_parser.specs.Reading.Calls.{argument_of, arguments_of}
+use Rattle.rr_parser.specs.Reading.Control.{statement_of, rows_of, branch_of, branches_of, row}
+use Rattle.rr_parser.specs.Reading.{readers}
 use Rattle.rr_parser.specs.Meets.{place, nodes, pairs, lists}
 use Rattle.rr_parser.proofs.Making.{Goes}
 use Rattle.rr_parser.proofs.parser.Parser.+parser.Given as goal

@@ -2,7 +2,7 @@ use Rattle.std.proofs.Common.{◌≡◌, ◌<◌, length, map}
 use Rattle.std.specs.Prelude.{All, vec_len}
 use Rattle.rr_tree.specs.Tree.{tree_at}
 use Rattle.rr_tree.specs.Nodes.{Extends}
-use Rattle.rr_parser.specs.Grammar.{chosen}
+use Rattle.rr_parser.specs.Grammar.Control.{chosen}
 use Rattle.rr_parser.specs.Meets.{pairs}
 use Rattle.rr_parser.proofs.parser.Parser.put_choices.Given as goal
 

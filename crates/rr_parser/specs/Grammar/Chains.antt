@@ -1,0 +1,18 @@
+-- Things of one kind behind one another.
+use Rattle.std.specs.Prelude.{◌≡◌, List, [], ◌∷◌, ◌++◌, Some}
+use Rattle.rr_tree.specs.Tree.{Tree}
+use Rattle.rr_parser.specs.Places.{Place, Look, at}
+
+-- One P, or a chain, what stands between and a P: it groups to the left.
+pub data Chain {X R S : Type 0} (between : Look X) (first : R → S) (join : X → S → R → S) (P : Place → R → Place → Type 0) : Place → S → Place → Type 0 where
+  one : {s z : Place} {t : R} → P s t z → Chain between first join P s (first t) z
+  more : {s m n z : Place} {l : S} {r : R} {x : X} → Chain between first join P s l m → at between m ≡ Some (x, n) → P n r z → Chain between first join P s (join x l r) z
+
+abbrev pub same : Tree → Tree
+same t = t
+
+abbrev pub one_of : {A : Type 0} → A → List A
+one_of t = t ∷ []
+
+abbrev pub and_one : {A : Type 0} → Unit {0} → List A → A → List A
+and_one u l t = l ++ t ∷ []

@@ -1,0 +1,48 @@
+-- Operators between two operands.
+use Rattle.std.specs.Prelude.{◌≡◌, ℕ, zero, suc, ◌==◌, Option, Some, None, if◌then◌else◌}
+use Rattle.rr_tree.specs.declared.node.BinaryOperator.{BinaryOperator}
+use Rattle.rr_tree.specs.declared.node.BinaryOperator.TheVariants as op
+use Rattle.rr_tree.specs.Tree.{Tree, binary}
+use Rattle.rr_parser.specs.declared.word.WordKind.{WordKind}
+use Rattle.rr_parser.specs.declared.word.WordKind.TheVariants as kind
+use Rattle.rr_parser.specs.Places.{Place, Look, first_as, at}
+use Rattle.rr_parser.specs.Grammar.Chains.{Chain, same}
+use Rattle.rr_parser.specs.Grammar.Nesting.{Nested}
+use Rattle.rr_parser.specs.Grammar.Operands.{Minus}
+
+-- the levels of operators, the tightest first; the last one does not associate
+abbrev pub level_of : BinaryOperator → ℕ
+level_of op.Multiply = 1
+level_of op.Divide = 1
+level_of op.Remainder = 1
+level_of op.Add = 2
+level_of op.Subtract = 2
+level_of op.Less = 3
+level_of op.LessOrEqual = 3
+level_of op.Greater = 3
+level_of op.GreaterOrEqual = 3
+level_of op.Compare = 4
+level_of op.Equal = 4
+level_of op.NotEqual = 4
+
+abbrev pub at_level : ℕ → BinaryOperator → Option BinaryOperator
+at_level level o = if level_of o == level then Some o else None
+
+-- the operator of a level that a word is
+abbrev pub operator_of : ℕ → WordKind → Option BinaryOperator
+operator_of level (kind.Operator o) = at_level level o
+operator_of level kind.Minus = at_level level op.Subtract
+operator_of level _ = None
+
+-- an operator of a level
+abbrev pub operator : ℕ → Look BinaryOperator
+operator level = first_as (λ w. operator_of level w.kind)
+
+-- products are level 1, sums level 2 and comparisons by order level 3
+abbrev pub Binary : Nested → ℕ → Place → Tree → Place → Type 0
+Binary N zero = Minus N
+Binary N (suc level) = Chain (operator (suc level)) same binary (Binary N level)
+
+pub data Equality (N : Nested) : Place → Tree → Place → Type 0 where
+  a_comparison : {s z : Place} {t : Tree} → Binary N 3 s t z → Equality N s t z
+  a_pair : {s m n z : Place} {l r : Tree} {o : BinaryOperator} → Binary N 3 s l m → at (operator 4) m ≡ Some (o, n) → Binary N 3 n r z → Equality N s (binary o l r) z
