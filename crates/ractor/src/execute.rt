@@ -1,13 +1,15 @@
 //! What a command line does, with the file's bytes in memory.
 
-ghost use Rattle.std.specs.Prelude.{◌≡◌};
-ghost use Rattle.ractor.specs.Statuses.{status_of, status_of_limit, Ends};
+ghost use Rattle.std.specs.Prelude.{◌≡◌, ◌+◌, ◌<◌, ◌^◌, ◌↔◌};
+ghost use Rattle.rr_eval.specs.Counted.{failures, counted};
+ghost use Rattle.ractor.specs.Endings.{Ends};
 
+use crate::statuses::status_of;
+use crate::tell::tell;
 use crate::words::Line;
-use rr_base::{Fault, LimitKind};
-use rr_eval::{Outcome, run_source_to};
+use rr_eval::{Counted, run_source};
 use std::alloc::Global;
-use std::io::{self, Write};
+use std::io::Write;
 
 /// Does what `line` asks for on the `bytes` of its file. What the script prints goes to `output`, one line about what went
 /// wrong to `errors`, and the exit status is answered:
@@ -24,11 +26,14 @@ pub fn execute<O: Write + Send, E: Write>(
     alloc: Global,
     line: &Line<'_>,
     bytes: &[u8],
-    output: &mut O,
-    errors: &mut E,
+    output: &mut Counted<O>,
+    errors: &mut Counted<E>,
     _trace: &mut Vec<u8>,
 ) -> u8
-    ensures ends { Ends (O.contents output.old) (O.contents output.new) bytes.now result }
+    requires output_room { failures output.old + 1 < 2 ^ 64 }
+    requires errors_room { failures errors.old + 1 < 2 ^ 64 }
+    ensures ends { Ends (record { output = counted O.contents output.old; errors = counted E.contents errors.old }) (record { output = counted O.contents output.new; errors = counted E.contents errors.new }) bytes.now result }
+    ensures failed { (result ≡ 4) ↔ (failures output.new ≡ failures output.old + 1) }
     ensures trace { _trace.new.items ≡ _trace.old.items }
 {
     match line {
@@ -39,70 +44,15 @@ pub fn execute<O: Write + Send, E: Write>(
 fn run_file<O: Write + Send, E: Write>(
     alloc: Global,
     bytes: &[u8],
-    output: &mut O,
-    errors: &mut E,
+    output: &mut Counted<O>,
+    errors: &mut Counted<E>,
 ) -> u8
-    ensures { Ends (O.contents output.old) (O.contents output.new) bytes.now result }
+    requires output_room { failures output.old + 1 < 2 ^ 64 }
+    requires errors_room { failures errors.old + 1 < 2 ^ 64 }
+    ensures ends { Ends (record { output = counted O.contents output.old; errors = counted E.contents errors.old }) (record { output = counted O.contents output.new; errors = counted E.contents errors.new }) bytes.now result }
+    ensures failed { (result ≡ 4) ↔ (failures output.new ≡ failures output.old + 1) }
 {
-    let ended = run_source_to(alloc, bytes, output);
-    tell(errors, &ended);
-    status(&ended)
-}
-
-/// The exit status for each way in which a run ends.
-fn status(ended: &Result<Outcome, Fault>) -> u8
-    ensures { result ≡ status_of ended.now }
-{
-    match ended {
-        Ok(Outcome::Done) => 0,
-        Ok(Outcome::Raised(_)) => 1,
-        Ok(Outcome::OutputFailed) => 4,
-        Ok(Outcome::StepLimit) => 6,
-        Err(Fault::Syntax { .. }) => 3,
-        Err(Fault::Limit(kind)) => status_for_limit(*kind),
-        Err(_) => 5,
-    }
-}
-
-fn status_for_limit(kind: LimitKind) -> u8
-    ensures { result ≡ status_of_limit kind }
-{
-    match kind {
-        LimitKind::Source | LimitKind::Nesting => 3,
-        _ => 5,
-    }
-}
-
-// The line about what went wrong; none where nothing did.
-fn tell<E: Write>(errors: &mut E, ended: &Result<Outcome, Fault>) {
-    let _ = match ended {
-        Ok(Outcome::Done) => Ok(()),
-        Ok(Outcome::Raised(told)) => tell_raised(errors, told.as_slice()),
-        Ok(Outcome::StepLimit) => writeln!(errors, "ractor: step limit"),
-        Ok(Outcome::OutputFailed) => writeln!(errors, "ractor: file"),
-        Err(fault) => tell_fault(errors, fault),
-    };
-}
-
-fn tell_raised<E: Write>(errors: &mut E, told: &[u8]) -> io::Result<()> {
-    errors.write_all(told)?;
-    writeln!(errors)
-}
-
-// The faults that a script meets as exceptions do not come here.
-fn tell_fault<E: Write>(errors: &mut E, fault: &Fault) -> io::Result<()> {
-    match fault {
-        Fault::Syntax { line, column, kind } => {
-            let name = kind.name();
-            writeln!(
-                errors,
-                "ractor: syntax error, line {line}, column {column}: {name}"
-            )
-        }
-        Fault::Limit(kind) => {
-            let name = kind.name();
-            writeln!(errors, "ractor: limit {name}")
-        }
-        _ => writeln!(errors, "ractor: memory"),
-    }
+    let ended = run_source(alloc, bytes, output);
+    let _whole = tell(errors, &ended);
+    status_of(&ended)
 }

@@ -1,9 +1,13 @@
-//! Worked examples, failing writers, and sources that are cut off or broken.
+//! What the program leaves of scripts, its error lines, and failing writers.
 
 use crate::command_line::line;
 use crate::execute::execute;
-use crate::rows::{REFUSED, RUN};
+use crate::rows::ROWS;
+use crate::statuses::status_of;
+use crate::tell::tell;
 use crate::words::{Line, LineFault};
+use rr_base::{Fault, LimitKind, SyntaxKind};
+use rr_eval::{Counted, Outcome};
 use std::alloc::{AllocError, Global};
 use std::io;
 use std::process::Abort;
@@ -18,35 +22,20 @@ struct Ran {
 }
 
 fn run_script(alloc: Global, script: &[u8]) -> Ran {
-    let mut output = Vec::new(alloc);
-    let mut errors = Vec::new(alloc);
+    let mut output = Counted::new(Vec::new(alloc));
+    let mut errors = Counted::new(Vec::new(alloc));
     let mut trace = Vec::new(alloc);
     let run = Line::Run { file: "a.rb" };
     let status = execute(alloc, &run, script, &mut output, &mut errors, &mut trace);
     Ran {
         status,
-        output,
-        errors,
+        output: output.into_inner(),
+        errors: errors.into_inner(),
     }
 }
 
 fn text_of(bytes: &[u8]) -> &str {
     std::str::from_utf8(bytes).unwrap_or("(no text)")
-}
-
-/// What `^` and a letter stand for in a row.
-fn meant_by(letter: u8) -> &'static [u8] {
-    match letter {
-        b'n' => b"\n".as_slice(),
-        b'r' => b"\r".as_slice(),
-        b't' => b"\t".as_slice(),
-        b'm' => b"\xEF\xBB\xBF".as_slice(),
-        b'e' => b"\x1B".as_slice(),
-        b'p' => b"|".as_slice(),
-        b'z' => b"\x01".as_slice(),
-        b'd' => b"\x7F".as_slice(),
-        _ => b"^".as_slice(),
-    }
 }
 
 /// The bytes that a row has for a field.
@@ -58,167 +47,97 @@ fn field(alloc: Global, text: &str) -> Result<Vec<u8>, AllocError> {
         if *byte != b'^' {
             bytes.push(*byte)?;
         } else if let [letter, tail @ ..] = more {
-            bytes.extend_from_slice(meant_by(*letter))?;
+            bytes.push(if *letter == b'n' { b'\n' } else { 0x7F })?;
             rest = tail;
         }
     }
     Ok(bytes)
 }
 
-/// A script and what is wanted of it.
-#[derive(Drop)]
-struct Row<'a> {
-    name: &'a str,
-    script: Vec<u8>,
-    output: Vec<u8>,
-    errors: Vec<u8>,
-    status: &'a str,
-}
-
-fn row_of(alloc: Global, line: &str) -> Result<Row<'_>, Fail> {
-    let (name, rest) = line.split_once("|").ok_or("a row without a script")?;
+fn check_row(rt: &impl Abort, alloc: Global, row: &str) -> Result<(), Fail> {
+    let (name, rest) = row.split_once("|").ok_or("a row without a script")?;
     let (script, rest) = rest.split_once("|").ok_or("a row without an output")?;
     let (output, rest) = rest.split_once("|").ok_or("a row without an error line")?;
     let (errors, status) = rest.split_once("|").ok_or("a row without a status")?;
-    Ok(Row {
-        name,
-        script: field(alloc, script)?,
-        output: field(alloc, output)?,
-        errors: field(alloc, errors)?,
-        status,
-    })
-}
-
-fn status_of(text: &str) -> u8 {
-    match text {
-        "0" => 0,
-        "1" => 1,
-        _ => 3,
-    }
-}
-
-fn check_rows(rt: &impl Abort, alloc: Global, rows: &str) -> Result<(), Fail> {
-    for line in rows.lines() {
-        let row = row_of(alloc, line)?;
-        let name = row.name;
-        let left = run_script(alloc, row.script.as_slice());
-        assert_eq!(rt;
-            text_of(left.output.as_slice()),
-            text_of(row.output.as_slice()),
-            "output of {name}"
-        );
-        assert_eq!(rt;
-            text_of(left.errors.as_slice()),
-            text_of(row.errors.as_slice()),
-            "error line of {name}"
-        );
-        assert_eq!(rt; left.status, status_of(row.status), "status of {name}");
-    }
-    Ok(())
-}
-
-#[test]
-fn scripts_print_what_is_wanted(rt: HostRuntime) -> Result<(), Fail> {
-    check_rows(&rt, rt.alloc(), RUN)
-}
-
-#[test]
-fn refusals_name_their_place(rt: HostRuntime) -> Result<(), Fail> {
-    check_rows(&rt, rt.alloc(), REFUSED)
-}
-
-fn repeated(
-    alloc: Global,
-    head: &[u8],
-    part: &[u8],
-    times: u32,
-    tail: &[u8],
-) -> Result<Vec<u8>, AllocError> {
-    let mut script = head.to_vec(alloc)?;
-    for _ in 0..times {
-        script.extend_from_slice(part)?;
-    }
-    script.extend_from_slice(tail)?;
-    Ok(script)
-}
-
-fn brackets(alloc: Global, count: u32) -> Result<Vec<u8>, AllocError> {
-    let open = repeated(alloc, b"puts ", b"(", count, b"1")?;
-    repeated(alloc, open.as_slice(), b")", count, b"\n")
-}
-
-#[test]
-fn nesting_has_a_limit_of_200(rt: HostRuntime) -> Result<(), Fail> {
-    let within = brackets(rt.alloc(), 200)?;
-    let inside = run_script(rt.alloc(), within.as_slice());
-    assert_eq!(rt; text_of(inside.output.as_slice()), "1\n");
-    assert_eq!(rt; inside.status, 0);
-    let past = brackets(rt.alloc(), 201)?;
-    let refused = run_script(rt.alloc(), past.as_slice());
-    assert_eq!(rt;
-        text_of(refused.errors.as_slice()),
-        "ractor: limit nesting\n"
-    );
-    assert_eq!(rt; refused.output.len(), 0);
-    assert_eq!(rt; refused.status, 3);
-    Ok(())
-}
-
-#[test]
-fn a_long_chain_and_a_long_source(rt: HostRuntime) -> Result<(), Fail> {
-    let chain = repeated(rt.alloc(), b"puts 1", b" + 1", 100_000, b"\n")?;
-    let summed = run_script(rt.alloc(), chain.as_slice());
-    assert_eq!(rt; text_of(summed.output.as_slice()), "100001\n");
-    let long = repeated(rt.alloc(), b"", b"               \n", 1_048_576, b"")?;
-    assert_eq!(rt; run_script(rt.alloc(), long.as_slice()).status, 0);
-    let longer = repeated(rt.alloc(), long.as_slice(), b" ", 1, b"")?;
-    let refused = run_script(rt.alloc(), longer.as_slice());
-    assert_eq!(rt;
-        text_of(refused.errors.as_slice()),
-        "ractor: limit source\n"
-    );
-    assert_eq!(rt; refused.status, 3);
-    Ok(())
-}
-
-#[test]
-fn every_beginning_is_answered(rt: HostRuntime) -> Result<(), Fail> {
-    for line in RUN.lines() {
-        let row = row_of(rt.alloc(), line)?;
-        let name = row.name;
-        for end in 0..row.script.len() {
-            let status = run_script(rt.alloc(), &row.script[..end]).status;
-            assert!(rt;
-                status == 0 || status == 1 || status == 3,
-                "{name} up to {end}"
-            );
-        }
-    }
-    Ok(())
-}
-
-fn check_broken(rt: &impl Abort, alloc: Global, row: &Row<'_>, place: usize) -> Result<(), Fail> {
-    let mut script = row.script.as_slice().to_vec(alloc)?;
-    if let Some(byte) = script.get_mut(place) {
-        *byte = 0xFF;
-    }
-    let refused = run_script(alloc, script.as_slice());
-    let name = row.name;
-    assert_eq!(rt; refused.status, 3, "{name} broken at {place}");
+    let left = run_script(alloc, field(alloc, script)?.as_slice());
+    let output = field(alloc, output)?;
+    let errors = field(alloc, errors)?;
     assert!(rt;
-        text_of(refused.errors.as_slice()).ends_with(": encoding\n"),
-        "{name} broken at {place}"
+        left.output.as_slice() == output.as_slice(),
+        "output of {name}"
     );
+    assert!(rt;
+        left.errors.as_slice() == errors.as_slice(),
+        "error line of {name}"
+    );
+    let told = format!(in alloc; "{}", left.status)?;
+    assert_eq!(rt; told.as_str(), status, "status of {name}");
     Ok(())
 }
 
 #[test]
-fn a_broken_byte_is_refused_at_its_place(rt: HostRuntime) -> Result<(), Fail> {
-    for line in RUN.lines() {
-        let row = row_of(rt.alloc(), line)?;
-        for place in 0..row.script.len() {
-            check_broken(&rt, rt.alloc(), &row, place)?;
-        }
+fn scripts_leave_what_is_wanted(rt: HostRuntime) -> Result<(), Fail> {
+    for row in ROWS.lines() {
+        check_row(&rt, rt.alloc(), row)?;
+    }
+    Ok(())
+}
+
+fn check_told(
+    rt: &impl Abort,
+    alloc: Global,
+    ended: &Result<Outcome, Fault>,
+    line: &str,
+    status: u8,
+) {
+    let mut errors = Counted::new(Vec::new(alloc));
+    assert!(rt; tell(&mut errors, ended), "{line}");
+    assert_eq!(rt; text_of(errors.into_inner().as_slice()), line);
+    assert_eq!(rt; status_of(ended), status, "{line}");
+}
+
+#[test]
+fn each_ending_has_its_line_and_status(rt: HostRuntime) -> Result<(), Fail> {
+    let told = b"boom (RuntimeError)".to_vec(rt.alloc())?;
+    let syntax = Fault::Syntax {
+        line: 10,
+        column: 4_294_967_295,
+        kind: SyntaxKind::UnexpectedEnd,
+    };
+    for (ended, line, status) in [
+        (Ok(Outcome::Done), "", 0),
+        (Ok(Outcome::Raised(told)), "boom (RuntimeError)\n", 1),
+        (
+            Err(syntax),
+            "ractor: syntax error, line 10, column 4294967295: unexpected end\n",
+            3,
+        ),
+        (
+            Err(Fault::Limit(LimitKind::Source)),
+            "ractor: limit source\n",
+            3,
+        ),
+        (
+            Err(Fault::Limit(LimitKind::Nesting)),
+            "ractor: limit nesting\n",
+            3,
+        ),
+        (
+            Err(Fault::Limit(LimitKind::Slots)),
+            "ractor: limit slots\n",
+            3,
+        ),
+        (Ok(Outcome::OutputFailed), "ractor: file\n", 4),
+        (Err(Fault::Memory), "ractor: memory\n", 5),
+        (Ok(Outcome::Stopped(Fault::Memory)), "ractor: memory\n", 5),
+        (
+            Ok(Outcome::Stopped(Fault::Limit(LimitKind::Slots))),
+            "ractor: limit slots\n",
+            5,
+        ),
+        (Ok(Outcome::StepLimit), "ractor: step limit\n", 6),
+    ] {
+        check_told(&rt, rt.alloc(), &ended, line, status);
     }
     Ok(())
 }
@@ -249,16 +168,20 @@ impl io::Write for Narrow {
     }
 }
 
+fn failing(alloc: Global, fails_at: usize) -> Narrow {
+    Narrow {
+        held: Vec::new(alloc),
+        calls: 0,
+        fails_at,
+    }
+}
+
 #[test]
 fn a_write_that_fails_ends_the_run(rt: HostRuntime) {
     let whole = b"1\n2\n12\n".as_slice();
     for fails_at in 0..10 {
-        let mut output = Narrow {
-            held: Vec::new(rt.alloc()),
-            calls: 0,
-            fails_at,
-        };
-        let mut errors = Vec::new(rt.alloc());
+        let mut output = Counted::new(failing(rt.alloc(), fails_at));
+        let mut errors = Counted::new(Vec::new(rt.alloc()));
         let mut trace = Vec::new(rt.alloc());
         let run = Line::Run { file: "a.rb" };
         let script = b"puts 1, 2; puts 12".as_slice();
@@ -273,15 +196,39 @@ fn a_write_that_fails_ends_the_run(rt: HostRuntime) {
         let fails = 1 <= fails_at && fails_at <= whole.len();
         assert_eq!(rt; status, if fails { 4 } else { 0 }, "failing at {fails_at}");
         assert_eq!(rt;
-            text_of(errors.as_slice()),
+            text_of(errors.into_inner().as_slice()),
             if fails { "ractor: file\n" } else { "" }
         );
         let wanted = if fails { fails_at - 1 } else { whole.len() };
-        assert_eq!(rt; output.held.len(), wanted, "failing at {fails_at}");
-        assert!(rt;
-            whole.starts_with(output.held.as_slice()),
-            "failing at {fails_at}"
+        let held = output.into_inner().held;
+        assert_eq!(rt; held.len(), wanted, "failing at {fails_at}");
+        assert!(rt; whole.starts_with(held.as_slice()), "failing at {fails_at}");
+    }
+}
+
+#[test]
+fn an_error_line_that_fails_changes_no_status(rt: HostRuntime) {
+    let line = b"divided by 0 (ZeroDivisionError)\n".as_slice();
+    for fails_at in 1..35 {
+        let mut output = Counted::new(Vec::new(rt.alloc()));
+        let mut errors = Counted::new(failing(rt.alloc(), fails_at));
+        let mut trace = Vec::new(rt.alloc());
+        let run = Line::Run { file: "a.rb" };
+        let script = b"puts 1 / 0".as_slice();
+        let status = execute(
+            rt.alloc(),
+            &run,
+            script,
+            &mut output,
+            &mut errors,
+            &mut trace,
         );
+        assert_eq!(rt; status, 1, "failing at {fails_at}");
+        let fails = fails_at <= line.len();
+        let wanted = if fails { fails_at - 1 } else { line.len() };
+        let held = errors.into_inner().held;
+        assert_eq!(rt; held.len(), wanted, "failing at {fails_at}");
+        assert!(rt; line.starts_with(held.as_slice()), "failing at {fails_at}");
     }
 }
 
@@ -301,6 +248,10 @@ fn words_are_read(rt: HostRuntime) -> Result<(), Fail> {
     assert_eq!(rt;
         line(rt.alloc(), &["run", "a.rb"])?,
         Line::Run { file: "a.rb" }
+    );
+    assert_eq!(rt;
+        line(rt.alloc(), &["run", "--", "-a.rb"])?,
+        Line::Run { file: "-a.rb" }
     );
     for words in REFUSED_WORDS {
         match line(rt.alloc(), words) {

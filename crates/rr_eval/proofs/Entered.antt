@@ -13,32 +13,32 @@ use Rattle.rr_tree.specs.declared.program.Program.{Program}
 use Rattle.rr_eval.specs.declared.frame.Frame.{Frame}
 use Rattle.rr_eval.specs.declared.frame.Frame.TheVariants.{Left}
 use Rattle.rr_eval.specs.declared.frame.Control.TheVariants.{Enter, Give}
-use Rattle.rr_eval.specs.declared.engine.Engine.{Engine}
+use Rattle.rr_eval.specs.View.{View}
 use Rattle.rr_eval.specs.Script.{State, Script, Ret, Do, Spent, Ended, run, after}
 use Rattle.rr_eval.specs.Rules.{Context, rule, meaning, on_value, with_value, on_table}
-use Rattle.rr_eval.specs.Nodes.{node_tree}
-use Rattle.rr_eval.specs.Frames.{Code, resumed, unwind, rest, below_of}
-use Rattle.rr_eval.specs.Whole.{context_of, code_of, state_of, whole, runs, leaf_value}
+use Rattle.rr_eval.specs.Nodes.{evaluated_tree}
+use Rattle.rr_eval.specs.Frames.{Code, resumed, unwind, outcome_of, below_of}
+use Rattle.rr_eval.specs.Turns.{context_of, code_of, state_of, remaining, after_script, leaf_value}
 use Rattle.rr_eval.proofs.Depth.{meaning_rule}
 
-pub entered : (p : Program) (m : Engine) (t : Table) (here n : ℕ) (node : Node) (script : Script) → m.control ≡ Enter here → m.left ≡ suc n → tree_at p.nodes.items here ≡ node_tree p.nodes.items node → script ≡ rule (context_of p) (node_tree p.nodes.items node) → (out : List (List ℕ)) → whole p m t out ≡ runs p m t script out n
+pub entered : (p : Program) (m : View) (t : Table) (here n : ℕ) (node : Node) (script : Script) → m.control ≡ Enter here → m.left ≡ suc n → tree_at p.nodes.items here ≡ evaluated_tree p.nodes.items node → script ≡ rule (context_of p) (evaluated_tree p.nodes.items node) → (out : List (List ℕ)) → remaining p m t out ≡ after_script p m t script out n
 entered p m t here n node script at left there is out =
-    ap (λ k. rest (code_of p) m.frames.items m.held.items k (state_of m t out) m.left) at
-    ∙ ap (λ k. rest (code_of p) m.frames.items m.held.items (Enter here) (state_of m t out) k) left
-    ∙ ap (unwind (code_of p) (reverse m.frames.items) m.held.items) (meaning_rule (context_of p) (tree_at p.nodes.items here) (state_of m t out) n)
-    ∙ ap (λ tree. runs p m t (rule (context_of p) tree) out n) there
-    ∙ ap (λ r. runs p m t r out n) (sym is)
+    ap (λ k. outcome_of (code_of p) m.frames m.held k (state_of m t out) m.left) at
+    ∙ ap (λ k. outcome_of (code_of p) m.frames m.held (Enter here) (state_of m t out) k) left
+    ∙ ap (unwind (code_of p) (reverse m.frames) m.held) (meaning_rule (context_of p) (tree_at p.nodes.items here) (state_of m t out) n)
+    ∙ ap (λ tree. after_script p m t (rule (context_of p) tree) out n) there
+    ∙ ap (λ r. after_script p m t r out n) (sym is)
 
 unwind_spent : (c : Code) (fs : List Frame) (held : List Ref) (s : State) → unwind c fs held (Spent s) ≡ Spent s
 unwind_spent c [] held s = refl
 unwind_spent c (f ∷ fs) held s = unwind_spent c fs (below_of f held) s
 
 -- without steps a part is out of steps
-pub limit : (p : Program) (m : Engine) (t : Table) (here : ℕ) → m.control ≡ Enter here → m.left ≡ 0 → (out : List (List ℕ)) → whole p m t out ≡ Spent (state_of m t out)
+pub limit : (p : Program) (m : View) (t : Table) (here : ℕ) → m.control ≡ Enter here → m.left ≡ 0 → (out : List (List ℕ)) → remaining p m t out ≡ Spent (state_of m t out)
 limit p m t here at left out =
-    ap (λ k. rest (code_of p) m.frames.items m.held.items k (state_of m t out) m.left) at
-    ∙ ap (λ k. rest (code_of p) m.frames.items m.held.items (Enter here) (state_of m t out) k) left
-    ∙ unwind_spent (code_of p) (reverse m.frames.items) m.held.items (state_of m t out)
+    ap (λ k. outcome_of (code_of p) m.frames m.held k (state_of m t out) m.left) at
+    ∙ ap (λ k. outcome_of (code_of p) m.frames m.held (Enter here) (state_of m t out) k) left
+    ∙ unwind_spent (code_of p) (reverse m.frames) m.held (state_of m t out)
 
 -- a leaf takes one step and changes nothing
 leaf_of : (c : Context) (tree : Tree) (s : State) (n : ℕ) (v : Ref) → leaf_value tree s.memory.vars ≡ Some v → run (meaning c) (rule c tree) s n ≡ Ended (Gave v) s n
@@ -50,20 +50,20 @@ leaf : (c : Context) (tree : Tree) (s : State) (n : ℕ) (v : Ref) → leaf_valu
 leaf c tree s n v e = meaning_rule c tree s n ∙ leaf_of c tree s n v e
 
 -- an operator on two leaves that are integers
-pub leaves : (p : Program) (m : Engine) (t : Table) (here n a b : ℕ) (op : BinaryOperator) (x y : ℤ) → m.control ≡ Enter here → m.left ≡ suc (suc (suc n)) → tree_at p.nodes.items here ≡ node_tree p.nodes.items (Binary op a b) → leaf_value (tree_at p.nodes.items a) m.vars.items ≡ Some (Int x) → leaf_value (tree_at p.nodes.items b) m.vars.items ≡ Some (Int y) → (out : List (List ℕ)) → whole p m t out ≡ rest (code_of p) m.frames.items m.held.items (Give (on_integers op x y)) (state_of m t out) n
+pub leaves : (p : Program) (m : View) (t : Table) (here n a b : ℕ) (op : BinaryOperator) (x y : ℤ) → m.control ≡ Enter here → m.left ≡ suc (suc (suc n)) → tree_at p.nodes.items here ≡ evaluated_tree p.nodes.items (Binary op a b) → leaf_value (tree_at p.nodes.items a) m.vars ≡ Some (Int x) → leaf_value (tree_at p.nodes.items b) m.vars ≡ Some (Int y) → (out : List (List ℕ)) → remaining p m t out ≡ outcome_of (code_of p) m.frames m.held (Give (on_integers op x y)) (state_of m t out) n
 leaves p m t here n a b op x y at left there first second out =
     let c = context_of p in
     let ns = p.nodes.items in
     let s = state_of m t out in
-    entered p m t here (suc (suc n)) (Binary op a b) (rule c (node_tree ns (Binary op a b))) at left there refl out
-    ∙ ap (unwind (code_of p) (reverse m.frames.items) m.held.items)
+    entered p m t here (suc (suc n)) (Binary op a b) (rule c (evaluated_tree ns (Binary op a b))) at left there refl out
+    ∙ ap (unwind (code_of p) (reverse m.frames) m.held)
     (ap (λ o. after o (λ r. run (meaning c) (on_value (λ v. with_value (tree_at ns b) (λ w. Do (on_table (operate op v w)) Ret)) r))) (leaf c (tree_at ns a) s (suc n) (Int x) first)
     ∙ ap (λ o. after o (λ r. run (meaning c) (on_value (λ w. Do (on_table (operate op (Int x) w)) Ret) r))) (leaf c (tree_at ns b) s n (Int y) second))
 
 -- an operator on an integer and a right operand that is a leaf
-pub leaf_right : (p : Program) (m : Engine) (t : Table) (n b : ℕ) (op : BinaryOperator) (x y : ℤ) → m.left ≡ suc n → leaf_value (tree_at p.nodes.items b) m.vars.items ≡ Some (Int y) → (out : List (List ℕ)) → runs p m t (resumed p.nodes.items (Left op b) [] (Gave (Int x))) out m.left ≡ rest (code_of p) m.frames.items m.held.items (Give (on_integers op x y)) (state_of m t out) n
+pub leaf_right : (p : Program) (m : View) (t : Table) (n b : ℕ) (op : BinaryOperator) (x y : ℤ) → m.left ≡ suc n → leaf_value (tree_at p.nodes.items b) m.vars ≡ Some (Int y) → (out : List (List ℕ)) → after_script p m t (resumed p.nodes.items (Left op b) [] (Gave (Int x))) out m.left ≡ outcome_of (code_of p) m.frames m.held (Give (on_integers op x y)) (state_of m t out) n
 leaf_right p m t n b op x y left there out =
     let c = context_of p in
     let ns = p.nodes.items in
-    ap (runs p m t (resumed ns (Left op b) [] (Gave (Int x))) out) left
-    ∙ ap (λ o. unwind (code_of p) (reverse m.frames.items) m.held.items (after o (λ r. run (meaning c) (on_value (λ w. Do (on_table (operate op (Int x) w)) Ret) r)))) (leaf c (tree_at ns b) (state_of m t out) n (Int y) there)
+    ap (after_script p m t (resumed ns (Left op b) [] (Gave (Int x))) out) left
+    ∙ ap (λ o. unwind (code_of p) (reverse m.frames) m.held (after o (λ r. run (meaning c) (on_value (λ w. Do (on_table (operate op (Int x) w)) Ret) r)))) (leaf c (tree_at ns b) (state_of m t out) n (Int y) there)

@@ -1,7 +1,7 @@
 -- An evaluation takes no object away.
 use Rattle.std.proofs.Common.{◌≤◌, ℕ, zero, suc, arith, List, [], ◌∷◌, ◌++◌, length, length-append, reverse, Option, Some, None}
 use Rattle.rr_space.specs.Tables.{Table, Here}
-use Rattle.rr_space.specs.Leaves.{text_object}
+use Rattle.rr_space.specs.Lookups.{text_object}
 use Rattle.rr_space.specs.declared.refer.Ref.{Ref}
 use Rattle.rr_space.specs.declared.refer.Ref.TheVariants.{Int}
 use Rattle.rr_tree.specs.Tree.{Tree, nil, truth, int, text, local, call, negate, binary, assign, choose, sequence, puts, empty, then_one}
@@ -15,9 +15,9 @@ use Rattle.rr_eval.specs.declared.frame.Frame.{Frame}
 use Rattle.rr_eval.specs.declared.frame.Frame.TheVariants.{Negation, Left, Right, Store, Branch, Rest, Argument}
 use Rattle.rr_eval.specs.Script.{Memory, State, Script, Ret, Go, Do, Put, Outcome, Ended, Spent, Evaluation, run, after, objects_of}
 use Rattle.rr_base.specs.declared.fault.Fault.{Fault}
-use Rattle.rr_eval.specs.declared.engine.Engine.{Engine}
+use Rattle.rr_eval.specs.View.{View}
 use Rattle.rr_eval.specs.Acts.{Passes}
-use Rattle.rr_eval.specs.Whole.{context_of, code_of, state_of, runs}
+use Rattle.rr_eval.specs.Turns.{context_of, code_of, state_of, after_script}
 use Rattle.rr_eval.specs.Operators.{make, joined, on_object, operate, negated}
 use Rattle.rr_eval.specs.Rules.{Context, items, on_value, on_table, statements, values, put, rule, eval, meaning}
 use Rattle.rr_eval.specs.Nodes.{trees_before}
@@ -134,8 +134,8 @@ unwind_keeps k c (f ∷ fs) held o le =
     unwind_keeps k c fs (below_of f held) (after o next) (after_keeps k o next le (λ a s n. run_keeps (meaning c.context) (meaning_keeps c.context) (resumed c.nodes f (stand_of f held) a) (resumed_keeps c.nodes f (stand_of f held) a) s n))
 
 -- an act that would pass the limit of slots, and what comes after it
-pub act_passes : (p : Program) (m : Engine) (t : Table) (act : Table → Answer × Table) (f : Fault) (out : List (List ℕ)) (n : ℕ) → Passes f t.limit (length (act t).1.slots) → Passes f t.limit (objects_of (runs p m t (Do (on_table act) Ret) out n))
+pub act_passes : (p : Program) (m : View) (t : Table) (act : Table → Answer × Table) (f : Fault) (out : List (List ℕ)) (n : ℕ) → Passes f t.limit (length (act t).1.slots) → Passes f t.limit (objects_of (after_script p m t (Do (on_table act) Ret) out n))
 act_passes p m t act f out n passes = λ is.
     let more = passes is in
-    let kept = unwind_keeps (length (act t).1.slots) (code_of p) (reverse m.frames.items) m.held.items (run (meaning (context_of p)) (Do (on_table act) Ret) (state_of m t out) n) (omega arith) in
+    let kept = unwind_keeps (length (act t).1.slots) (code_of p) (reverse m.frames) m.held (run (meaning (context_of p)) (Do (on_table act) Ret) (state_of m t out) n) (omega arith) in
     omega arith

@@ -13,20 +13,16 @@ use Rattle.rr_eval.specs.declared.frame.Control.TheVariants.{Enter, Give}
 use Rattle.rr_eval.specs.Script.{State, Script, Ret, Go, Do, Put, Outcome, Ended, Spent, Evaluation, run, after}
 use Rattle.rr_eval.specs.Rules.{Context, rule, eval, meaning}
 use Rattle.rr_eval.specs.Frames.{Code, resumed, stand_of, below_of, unwind, start}
-use Rattle.rr_eval.specs.Whole.{code_of}
 use Rattle.rr_eval.specs.View.{View}
-use Rattle.rr_eval.specs.Turns.{remaining, state_seen}
-use Rattle.rr_eval.specs.Counted.{IsBeginning}
+use Rattle.rr_eval.specs.Turns.{code_of, remaining, state_of}
+use Rattle.rr_eval.specs.Written.{IsBeginning}
 use Rattle.rr_eval.specs.Runs.{text_of}
+use Rattle.rr_eval.proofs.Bytes.{beginning-trans}
 
 -- one piece more
 pub concat-push : (xs : List (List ℕ)) (x : List ℕ) → concat (xs ++ x ∷ []) ≡ concat xs ++ x
 concat-push [] x = append-nil x
 concat-push (y ∷ xs) x = ap (λ l. y ++ l) (concat-push xs x) ∙ sym (append_assoc y (concat xs) x)
-
--- a beginning of a beginning
-pub beginning-trans : (a b c : List ℕ) → IsBeginning a b → IsBeginning b c → IsBeginning a c
-beginning-trans a b c (r, e) (q, f) = (r ++ q, f ∙ ap (λ l. l ++ q) e ∙ append_assoc a r q)
 
 pub beginning-refl : (a : List ℕ) → IsBeginning a a
 beginning-refl a = ([], sym (append-nil a))
@@ -67,4 +63,4 @@ start_grows c (Give a) s n = beginning-refl (concat s.out)
 
 -- what is still to be done prints behind what was printed
 pub remaining_grows : (p : Program) (m : View) (t : Table) (out : List (List ℕ)) → IsBeginning (concat out) (text_of (remaining p m t out))
-remaining_grows p m t out = unwind_grows (concat out) (code_of p) (reverse m.frames) m.held (start (code_of p) m.control (state_seen m t out) m.left) (start_grows (code_of p) m.control (state_seen m t out) m.left)
+remaining_grows p m t out = unwind_grows (concat out) (code_of p) (reverse m.frames) m.held (start (code_of p) m.control (state_of m t out) m.left) (start_grows (code_of p) m.control (state_of m t out) m.left)

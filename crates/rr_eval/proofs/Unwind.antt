@@ -10,7 +10,7 @@ use Rattle.rr_eval.specs.declared.frame.Control.TheVariants.{Enter, Give}
 use Rattle.rr_eval.specs.Script.{State, Ret, Go, Outcome, Ended, Spent, run, after}
 use Rattle.rr_eval.specs.Rules.{meaning, values, put}
 use Rattle.rr_eval.specs.Nodes.{trees_before}
-use Rattle.rr_eval.specs.Frames.{Code, IsNew, resumed, stand_of, below_of, unwind, Nested, base_of, rest}
+use Rattle.rr_eval.specs.Frames.{Code, IsNew, resumed, stand_of, below_of, unwind, Nested, base_of, outcome_of}
 
 -- an evaluation whose answer is the answer
 pub after_ended : (o : Outcome) → after o Ended ≡ o
@@ -35,7 +35,7 @@ new_frame c fs (Left op b) held part s n new = sym (rest_push c fs (Left op b) h
 new_frame c fs f held part s n new = sym (rest_push c fs f held (meaning c.context (tree_at c.nodes part) s n))
 
 -- a frame gets its answer
-pub given : (c : Code) (fs : List Frame) (f : Frame) (held : List Ref) (a : Answer) (s : State) (n : ℕ) → rest c (fs ++ f ∷ []) held (Give a) s n ≡ unwind c (reverse fs) (below_of f held) (run (meaning c.context) (resumed c.nodes f (stand_of f held) a) s n)
+pub given : (c : Code) (fs : List Frame) (f : Frame) (held : List Ref) (a : Answer) (s : State) (n : ℕ) → outcome_of c (fs ++ f ∷ []) held (Give a) s n ≡ unwind c (reverse fs) (below_of f held) (run (meaning c.context) (resumed c.nodes f (stand_of f held) a) s n)
 given c fs f held a s n = rest_push c fs f held (Ended a s n)
 
 -- a frame on top begins within what stands
@@ -51,7 +51,7 @@ nested_new fs (Left op b) held new nested = nested_push fs (Left op b) held (ome
 nested_new fs f held new nested = nested_push fs f held (omega arith) nested
 
 -- the value of an argument is kept, and the next one is evaluated
-pub kept : (c : Code) (fs : List Frame) (end count place base : ℕ) (held : List Ref) (v : Ref) (s : State) (n : ℕ) → 0 < count → place ≡ end - count → base ≤ length held → unwind c (reverse fs) (take base held) (run (meaning c.context) (values (trees_before c.nodes end count) (drop base held ++ v ∷ []) put) s n) ≡ rest c (fs ++ Argument end (count - 1) base ∷ []) (held ++ v ∷ []) (Enter place) s n
+pub kept : (c : Code) (fs : List Frame) (end count place base : ℕ) (held : List Ref) (v : Ref) (s : State) (n : ℕ) → 0 < count → place ≡ end - count → base ≤ length held → unwind c (reverse fs) (take base held) (run (meaning c.context) (values (trees_before c.nodes end count) (drop base held ++ v ∷ []) put) s n) ≡ outcome_of c (fs ++ Argument end (count - 1) base ∷ []) (held ++ v ∷ []) (Enter place) s n
 kept c fs end zero place base held v s n h at le = absurd (omega arith)
 kept c fs end (suc more) place base held v s n h at le =
     let f = Argument end more base in

@@ -70,6 +70,6 @@ abbrev pub start : Code → Control → State → ℕ → Outcome
 start c (Enter part) s n = meaning c.context (tree_at c.nodes part) s n
 start c (Give a) s n = Ended a s n
 
--- the whole of what is still to be done
-abbrev pub rest : Code → List Frame → List Ref → Control → State → ℕ → Outcome
-rest c frames held control s n = unwind c (reverse frames) held (start c control s n)
+-- how all ends that frames and what comes first have still to do
+abbrev pub outcome_of : Code → List Frame → List Ref → Control → State → ℕ → Outcome
+outcome_of c frames held control s n = unwind c (reverse frames) held (start c control s n)

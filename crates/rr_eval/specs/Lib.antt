@@ -7,10 +7,10 @@ pub mod Acts
 pub mod Rules
 pub mod Nodes
 pub mod Frames
-pub mod Whole
 pub mod View
 pub mod Views
 pub mod Turns
+pub mod Written
 pub mod Counted
 pub mod Messages
 pub mod Runs

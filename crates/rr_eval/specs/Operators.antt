@@ -2,7 +2,7 @@
 use Rattle.std.specs.Prelude.{ℕ, ℤ, pos, negsuc, neg_ℤ, ◌+ℤ◌, ◌-ℤ◌, ◌*ℤ◌, int_lt, int_le, true, false, not, List, [], ◌∷◌, ◌++◌, Option, Some, None, if◌then◌else◌, length}
 use Rattle.std.specs.Ordering.{int_eq}
 use Rattle.rr_space.specs.Tables.{Table, Here}
-use Rattle.rr_space.specs.Leaves.{text_object}
+use Rattle.rr_space.specs.Lookups.{text_object}
 use Rattle.rr_space.specs.declared.refer.Ref.{Ref}
 use Rattle.rr_space.specs.declared.refer.Ref.TheVariants.{Nil, Truth, Int, Local}
 use Rattle.rr_tree.specs.declared.node.BinaryOperator.{BinaryOperator}

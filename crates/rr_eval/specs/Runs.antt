@@ -1,12 +1,16 @@
 -- What a run of a source leaves.
-use Rattle.std.specs.Prelude.{◌≡◌, ◌+◌, ◌<◌, ◌≤◌, ◌⊎◌, ℕ, true, false, List, [], length, Option, Result, Ok, Err}
+use Rattle.std.specs.Prelude.{◌≡◌, ◌≤◌, ◌⊎◌, ℕ, List, [], length, Result, Ok, Err, MatchResult}
 use Rattle.std.specs.List.{concat}
 use Rattle.std.specs.Io.KnownBytes.{Keeps}
 use Rattle.rr_base.specs.declared.fault.Fault.{Fault}
 use Rattle.rr_base.specs.declared.fault.Fault.TheVariants as faults
+use Rattle.rr_base.specs.declared.limits.Limits.{Limits}
 use Rattle.rr_base.specs.declared.limits.LimitKind.TheVariants as limits
+use Rattle.rr_base.specs.declared.limits.TheConstants.Limits.{DEFAULT}
 use Rattle.rr_lexer.specs.declared.kind.Token.{Token}
-use Rattle.rr_lexer.specs.Tokens.{AreTokensOf, source_limit}
+use Rattle.rr_lexer.specs.Encoding.{refused_from}
+use Rattle.rr_lexer.specs.Lines.{joined}
+use Rattle.rr_lexer.specs.Tokens.{AreTokensOf, Faults, Spelled}
 use Rattle.rr_parser.specs.Grammar.{Spells, SpellsWithin}
 use Rattle.rr_parser.specs.Fronts.{NestsBeyond}
 use Rattle.rr_parser.specs.Words.{symbols_of, texts_of}
@@ -19,8 +23,8 @@ use Rattle.rr_eval.specs.declared.run.Outcome.TheVariants as outcomes
 use Rattle.rr_eval.specs.Script.{Outcome, Ended, Spent, objects_of}
 use Rattle.rr_eval.specs.Rules.{Context, meaning, start_state}
 use Rattle.rr_eval.specs.Messages.{report}
-use Rattle.rr_eval.specs.Counted.{GrowsBy}
-use Rattle.rr_eval.specs.Whole.{context_of}
+use Rattle.rr_eval.specs.Written.{Written, WritesAll, WritesBeginning, FallsShort}
+use Rattle.rr_eval.specs.Turns.{context_of}
 use Rattle.rr_eval.specs.Acts.{IsRefusal, Passes}
 
 -- what an evaluation printed
@@ -41,54 +45,60 @@ abbrev pub IsSpent : Outcome → Type 0
 IsSpent (Spent s) = Unit {0}
 IsSpent _ = ⊥
 
--- What a run leaves of what a program means: `old` and `new` are the known bytes of the writer, `f` and `f'` its numbers of failed
--- writes.
-abbrev pub Runs : Option (List ℕ) → Option (List ℕ) → ℕ → ℕ → Context → Outcome → Result RunOutcome Fault → Type 0
-Runs old new f f' c o (Ok outcomes.Done) = IsDone o × GrowsBy old new (text_of o) true × (f' ≡ f)
-Runs old new f f' c o (Ok (outcomes.Raised told)) = IsRaised c o told.items × GrowsBy old new (text_of o) true × (f' ≡ f)
-Runs old new f f' c o (Ok outcomes.StepLimit) = IsSpent o × GrowsBy old new (text_of o) true × (f' ≡ f)
-Runs old new f f' c o (Ok outcomes.OutputFailed) = GrowsBy old new (text_of o) false × (f' ≡ f + 1)
-Runs old new f f' c o (Err fault) = IsRefusal fault × GrowsBy old new (text_of o) false × (f' ≡ f)
+-- What a run leaves of what a program means.
+abbrev pub Leaves : Written → Written → Context → Outcome → RunOutcome → Type 0
+Leaves old new c o outcomes.Done = IsDone o × WritesAll old new (text_of o)
+Leaves old new c o (outcomes.Raised told) = IsRaised c o told.items × WritesAll old new (text_of o)
+Leaves old new c o outcomes.StepLimit = IsSpent o × WritesAll old new (text_of o)
+Leaves old new c o outcomes.OutputFailed = FallsShort old new (text_of o)
+Leaves old new c o (outcomes.Stopped fault) = IsRefusal fault × WritesBeginning old new (text_of o)
 
--- A run that comes to its end makes no more objects than there may be, and the limit of slots is answered only where
+-- A run that comes to its end makes no more objects than there may be, and it stops at the limit of slots only where
 -- more are made.
-abbrev pub WithinSlots : ℕ → Outcome → Result RunOutcome Fault → Type 0
-WithinSlots slots o (Ok outcomes.Done) = objects_of o ≤ slots
-WithinSlots slots o (Ok (outcomes.Raised told)) = objects_of o ≤ slots
-WithinSlots slots o (Ok outcomes.StepLimit) = objects_of o ≤ slots
-WithinSlots slots o (Ok outcomes.OutputFailed) = Unit {0}
-WithinSlots slots o (Err fault) = Passes fault slots (objects_of o)
+abbrev pub WithinSlots : ℕ → Outcome → RunOutcome → Type 0
+WithinSlots slots o outcomes.Done = objects_of o ≤ slots
+WithinSlots slots o (outcomes.Raised told) = objects_of o ≤ slots
+WithinSlots slots o outcomes.StepLimit = objects_of o ≤ slots
+WithinSlots slots o outcomes.OutputFailed = Unit {0}
+WithinSlots slots o (outcomes.Stopped fault) = Passes fault slots (objects_of o)
 
 -- The grammar gives this tree to the bytes, with these names and texts.
 pub record IsScript (source : List ℕ) (c : Context) (tree : Tree) : Type 0 where
   pub tokens : List Token
   pub lexed : AreTokensOf source tokens
-  pub spelled : SpellsWithin 200 source tokens tree
+  pub spelled : SpellsWithin DEFAULT.nesting source tokens tree
   pub symbols : c.symbols ≡ symbols_of source tokens
   pub texts : c.texts ≡ texts_of source tokens
 
--- The grammar gives the bytes no tree; none that nests within the limit.
+-- These tokens spell the bytes, however many bytes there are.
+pub record SpellBytes (source : List ℕ) (tokens : List Token) : Type 0 where
+  pub allowed : refused_from source ≡ length source
+  pub all : List Token
+  pub spelled : Spelled source all
+  pub joined_is : tokens ≡ joined all
+
+-- The grammar gives the bytes no tree, however many they are; none that nests within the limit.
 abbrev pub HasNoTree : List ℕ → Type 0
-HasNoTree source = (tokens : List Token) (tree : Tree) → AreTokensOf source tokens → Spells source tokens tree → ⊥
+HasNoTree source = (tokens : List Token) (tree : Tree) → SpellBytes source tokens → Spells source tokens tree → ⊥
 
 abbrev pub HasNoTreeWithin : List ℕ → Type 0
-HasNoTreeWithin source = (tokens : List Token) (tree : Tree) → AreTokensOf source tokens → SpellsWithin 200 source tokens tree → ⊥
+HasNoTreeWithin source = (tokens : List Token) (tree : Tree) → SpellBytes source tokens → SpellsWithin DEFAULT.nesting source tokens tree → ⊥
+
+-- the lexer gives the bytes tokens, so that what refuses them is the parser
+abbrev pub HasTokens : List ℕ → Type 0
+HasTokens source = (tokens : List Token) × AreTokensOf source tokens
 
 -- at some place of the bytes more constructs are open than may be
 abbrev pub NestsTooDeep : List ℕ → Type 0
-NestsTooDeep source = (tokens : List Token) × AreTokensOf source tokens × NestsBeyond 200 source tokens
+NestsTooDeep source = (tokens : List Token) × (AreTokensOf source tokens × NestsBeyond DEFAULT.nesting source tokens)
 
--- the fault of a source that could not be read, after that of the parser: parts without room are want of memory
-abbrev pub reading_fault : Fault → Fault
-reading_fault (faults.Limit limits.Slots) = faults.Memory
-reading_fault fault = fault
-
--- why a source could not be read
+-- Why a source could not be read. A fault of the lexer is told as the lexer tells it, with its place and kind.
 abbrev pub Refuses : List ℕ → Fault → Type 0
-Refuses source faults.Memory = Unit {0}
-Refuses source (faults.Syntax line column kind) = HasNoTree source
+Refuses source faults.Memory = Faults source faults.Memory ⊎ HasTokens source
+Refuses source (faults.Syntax line column kind) = HasNoTree source × (Faults source (faults.Syntax line column kind) ⊎ HasTokens source)
+Refuses source (faults.Limit limits.Source) = Faults source (faults.Limit limits.Source)
 Refuses source (faults.Limit limits.Nesting) = HasNoTreeWithin source × NestsTooDeep source
-Refuses source (faults.Limit limits.Source) = source_limit < length source
+Refuses source (faults.Limit limits.Slots) = HasTokens source
 Refuses source _ = ⊥
 
 -- what was read
@@ -98,17 +108,38 @@ Reads source (Err fault) = Refuses source fault
 
 -- no object, where there may be so many; the main ractor is 1
 abbrev pub no_objects : ℕ → Table
-no_objects slots = record { slots = []; below = []; keys = []; limit = slots; owner = 1 }
+no_objects slots = record { slots = []; below = []; keys = []; limit = slots; owner = 1; next_message = 1 }
 
--- what a script does with so many steps to spend
-abbrev pub script_meaning : Context → Tree → ℕ → ℕ → Outcome
-script_meaning c tree steps slots = meaning c tree (start_state c (no_objects slots)) steps
+-- what a script does within limits
+abbrev pub script_meaning : Context → Tree → Limits → Outcome
+script_meaning c tree within = meaning c tree (start_state c (no_objects within.slots)) within.steps
 
--- The script that the bytes spell was run.
-abbrev pub RunsScript : Option (List ℕ) → Option (List ℕ) → ℕ → ℕ → List ℕ → ℕ → ℕ → Result RunOutcome Fault → Type 0
-RunsScript old new f f' source steps slots r = (c : Context) × (tree : Tree) × IsScript source c tree × Runs old new f f' c (script_meaning c tree steps slots) r × WithinSlots slots (script_meaning c tree steps slots) r
+-- what a program does
+abbrev pub program_meaning : Program → Limits → Outcome
+program_meaning p within = script_meaning (context_of p) (tree_at p.nodes.items p.root) within
 
--- What a run of a source leaves. A fault comes from reading it, and nothing was written, or from running the script.
-abbrev pub Meets : Option (List ℕ) → Option (List ℕ) → ℕ → ℕ → List ℕ → ℕ → ℕ → Result RunOutcome Fault → Type 0
-Meets old new f f' source steps slots (Ok outcome) = RunsScript old new f f' source steps slots (Ok outcome)
-Meets old new f f' source steps slots (Err fault) = (Refuses source fault × Keeps old new × (f' ≡ f)) ⊎ RunsScript old new f f' source steps slots (Err fault)
+-- A run of a source within limits: what was seen of the output before and after it, and how it ended.
+pub record Run : Type 0 where
+  pub source : List ℕ
+  pub limits : Limits
+  pub before : Written
+  pub after : Written
+  pub ended : Result RunOutcome Fault
+
+-- The source was read, and what it spells was run.
+pub record RunsScript (r : Run) (outcome : RunOutcome) : Type 0 where
+  pub context : Context
+  pub tree : Tree
+  pub script : IsScript r.source context tree
+  pub leaves : Leaves r.before r.after context (script_meaning context tree r.limits) outcome
+  pub within : WithinSlots r.limits.slots (script_meaning context tree r.limits) outcome
+
+-- The source was not read, and nothing was written.
+pub record RefusesSource (r : Run) (fault : Fault) : Type 0 where
+  pub why : Refuses r.source fault
+  pub kept : Keeps r.before.bytes r.after.bytes
+  pub failed : r.after.failures ≡ r.before.failures
+
+-- What a run of a source leaves: a fault means that it was not read.
+abbrev pub Meets : Run → Type 0
+Meets r = MatchResult r.ended (RunsScript r) (RefusesSource r)

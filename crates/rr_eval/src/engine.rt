@@ -10,8 +10,9 @@ ghost use Rattle.rr_tree.specs.Tree.{tree_at};
 ghost use Rattle.rr_eval.specs.Acts.{Passes};
 ghost use Rattle.rr_eval.specs.Script.{Ended, objects_of};
 ghost use Rattle.rr_eval.specs.Frames.{below_of, base_of, Nested};
-ghost use Rattle.rr_eval.specs.Nodes.{node_tree, IsEvaluated, IsRareNode};
-ghost use Rattle.rr_eval.specs.Whole.{state_of, whole, follows_on, IsNested, printed, Stands, leaf_value, Turned, size, power, Falls};
+ghost use Rattle.rr_eval.specs.Nodes.{evaluated_tree, IsEvaluated, IsRareNode};
+ghost use Rattle.rr_eval.specs.Turns.{state_of, remaining, after_answer, IsNested, printed, Stands, leaf_value, Turned, size, power, Falls};
+ghost use Rattle.rr_eval.specs.Views.{view_of};
 
 use crate::frame::{Control, Frame};
 use crate::nodes::evaluated_node;
@@ -101,13 +102,13 @@ impl Engine {
         b: NodeId,
     ) -> bool
         requires control { self.old.control ≡ Control.Enter here }
-        requires node { tree_at program.now.nodes.items here ≡ node_tree program.now.nodes.items (Node.Binary op a b) }
+        requires node { tree_at program.now.nodes.items here ≡ evaluated_tree program.now.nodes.items (Node.Binary op a b) }
         requires some { 2 < self.old.left }
-        requires nested { IsNested self.old }
-        ensures goes { IsTrue result → (t : Table) (out : List (List ℕ)) → whole program.now self.old t out ≡ whole program.now self.new t out }
-        ensures nested { IsNested self.new }
+        requires nested { IsNested (view_of self.old) }
+        ensures goes { IsTrue result → (t : Table) (out : List (List ℕ)) → remaining program.now (view_of self.old) t out ≡ remaining program.now (view_of self.new) t out }
+        ensures nested { IsNested (view_of self.new) }
         ensures left { IsTrue result → self.new.left + 3 ≡ self.old.left }
-        ensures size { IsTrue result → size self.new ≤ size self.old + 1 }
+        ensures size { IsTrue result → size (view_of self.new) ≤ size (view_of self.old) + 1 }
         ensures not { IsFalse result → self.new ≡ self.old }
     {
         match (self.leaf(program, a), self.leaf(program, b)) {
@@ -125,16 +126,16 @@ impl Engine {
     #[inline(always)]
     fn visit_usual(&mut self, program: &Program, here: NodeId, node: Node, stop: u64) -> bool
         requires control { self.old.control ≡ Control.Enter here }
-        requires tree { tree_at program.now.nodes.items here ≡ node_tree program.now.nodes.items node }
+        requires tree { tree_at program.now.nodes.items here ≡ evaluated_tree program.now.nodes.items node }
         requires evaluated { IsEvaluated node }
         requires some { stop < self.old.left }
         requires room { length self.old.frames.items < vec_capacity self.old.frames }
-        requires nested { IsNested self.old }
-        ensures goes { IsTrue result → (t : Table) (out : List (List ℕ)) → whole program.now self.old t out ≡ whole program.now self.new t out }
-        ensures nested { IsNested self.new }
+        requires nested { IsNested (view_of self.old) }
+        ensures goes { IsTrue result → (t : Table) (out : List (List ℕ)) → remaining program.now (view_of self.old) t out ≡ remaining program.now (view_of self.new) t out }
+        ensures nested { IsNested (view_of self.new) }
         ensures left { IsTrue result → stop ≤ self.new.left }
         ensures spends { IsTrue result → self.new.left < self.old.left }
-        ensures falls { IsTrue result → power self.new + self.old.left ≤ power self.old + self.new.left }
+        ensures falls { IsTrue result → power (view_of self.new) + self.old.left ≤ power (view_of self.old) + self.new.left }
         ensures same { IsFalse result → self.new ≡ self.old }
         ensures rare { IsFalse result → IsRareNode node }
     {
@@ -151,15 +152,15 @@ impl Engine {
     #[inline(always)]
     fn visit_one(&mut self, program: &Program, here: NodeId, node: Node) -> bool
         requires control { self.old.control ≡ Control.Enter here }
-        requires tree { tree_at program.now.nodes.items here ≡ node_tree program.now.nodes.items node }
+        requires tree { tree_at program.now.nodes.items here ≡ evaluated_tree program.now.nodes.items node }
         requires evaluated { IsEvaluated node }
         requires some { 0 < self.old.left }
         requires room { length self.old.frames.items < vec_capacity self.old.frames }
-        requires nested { IsNested self.old }
-        ensures goes { IsTrue result → (t : Table) (out : List (List ℕ)) → whole program.now self.old t out ≡ whole program.now self.new t out }
-        ensures nested { IsNested self.new }
+        requires nested { IsNested (view_of self.old) }
+        ensures goes { IsTrue result → (t : Table) (out : List (List ℕ)) → remaining program.now (view_of self.old) t out ≡ remaining program.now (view_of self.new) t out }
+        ensures nested { IsNested (view_of self.new) }
         ensures left { IsTrue result → self.new.left + 1 ≡ self.old.left }
-        ensures size { IsTrue result → size self.new ≤ size self.old + 2 }
+        ensures size { IsTrue result → size (view_of self.new) ≤ size (view_of self.old) + 2 }
         ensures same { IsFalse result → self.new ≡ self.old }
         ensures rare { IsFalse result → IsRareNode node }
     {
@@ -180,18 +181,18 @@ impl Engine {
         node: Node,
     ) -> Result<Option<Vec<u8>>, Fault>
         requires control { self.old.control ≡ Control.Enter here }
-        requires tree { tree_at program.now.nodes.items here ≡ node_tree program.now.nodes.items node }
+        requires tree { tree_at program.now.nodes.items here ≡ evaluated_tree program.now.nodes.items node }
         requires evaluated { IsEvaluated node }
         requires rare { IsRareNode node }
         requires some { 0 < self.old.left }
-        requires nested { IsNested self.old }
-        ensures goes { IfOk result (λ piece. (out : List (List ℕ)) → whole program.now self.old space.old out ≡ whole program.now self.new space.new (printed out piece)) }
-        ensures nested { IsNested self.new }
+        requires nested { IsNested (view_of self.old) }
+        ensures goes { IfOk result (λ piece. (out : List (List ℕ)) → remaining program.now (view_of self.old) space.old out ≡ remaining program.now (view_of self.new) space.new (printed out piece)) }
+        ensures nested { IsNested (view_of self.new) }
         ensures left { OnOk result (self.new.left + 1 ≡ self.old.left) }
-        ensures size { OnOk result (size self.new ≤ size self.old + 2) }
-        ensures err { IfErr result (λ f. Stands self.old self.new space.old space.new f) }
+        ensures size { OnOk result (size (view_of self.new) ≤ size (view_of self.old) + 2) }
+        ensures err { IfErr result (λ f. Stands (view_of self.old) (view_of self.new) space.old space.new f) }
         ensures limit { space.new.limit ≡ space.old.limit }
-        ensures full { IfErr result (λ f. (out : List (List ℕ)) → Passes f space.old.limit (objects_of (whole program.now self.old space.old out))) }
+        ensures full { IfErr result (λ f. (out : List (List ℕ)) → Passes f space.old.limit (objects_of (remaining program.now (view_of self.old) space.old out))) }
     {
         match self.open_rare(program, space, node) {
             Ok(piece) => {
@@ -206,12 +207,12 @@ impl Engine {
     #[inline(always)]
     fn pop_frame(&mut self, answer: Answer) -> Option<Frame>
         requires control { self.old.control ≡ Control.Give answer }
-        requires nested { IsNested self.old }
-        ensures goes { (p : Program) (t : Table) (out : List (List ℕ)) → MatchOption result (whole p self.old t out ≡ Ended answer (state_of self.new t out) self.new.left) (λ f. whole p self.old t out ≡ follows_on p self.new t f answer out self.new.left) }
-        ensures nested { MatchOption result (IsNested self.new) (λ f. Nested (reverse self.new.frames.items) (below_of f self.new.held.items)) }
+        requires nested { IsNested (view_of self.old) }
+        ensures goes { (p : Program) (t : Table) (out : List (List ℕ)) → MatchOption result (remaining p (view_of self.old) t out ≡ Ended answer (state_of (view_of self.new) t out) self.new.left) (λ f. remaining p (view_of self.old) t out ≡ after_answer p (view_of self.new) t f answer out self.new.left) }
+        ensures nested { MatchOption result (IsNested (view_of self.new)) (λ f. Nested (reverse self.new.frames.items) (below_of f self.new.held.items)) }
         ensures base { IfSome result (λ f. base_of f ≤ length self.new.held.items) }
         ensures room { IfSome result (λ _. length self.new.frames.items < vec_capacity self.new.frames) }
-        ensures size { IfSome result (λ _. size self.old ≡ 2 * length self.new.frames.items + 3) }
+        ensures size { IfSome result (λ _. size (view_of self.old) ≡ 2 * length self.new.frames.items + 3) }
         ensures control { self.new.control ≡ self.old.control }
         ensures left { self.new.left ≡ self.old.left }
     {
@@ -221,13 +222,13 @@ impl Engine {
     /// Makes room for one more frame.
     #[inline(always)]
     fn make_room(&mut self) -> Result<(), Fault>
-        requires nested { IsNested self.old }
-        ensures nested { IsNested self.new }
+        requires nested { IsNested (view_of self.old) }
+        ensures nested { IsNested (view_of self.new) }
         ensures room { OnOk result (length self.new.frames.items < vec_capacity self.new.frames) }
         ensures control { self.new.control ≡ self.old.control }
         ensures left { self.new.left ≡ self.old.left }
-        ensures size { size self.new ≡ size self.old }
-        ensures goes { (p : Program) (t : Table) (out : List (List ℕ)) → whole p self.old t out ≡ whole p self.new t out }
+        ensures size { size (view_of self.new) ≡ size (view_of self.old) }
+        ensures goes { (p : Program) (t : Table) (out : List (List ℕ)) → remaining p (view_of self.old) t out ≡ remaining p (view_of self.new) t out }
         ensures fault { IfErr result (λ f. f ≡ Fault.Memory) }
     {
         self.frames.reserve(1)?;
@@ -236,12 +237,12 @@ impl Engine {
 
     /// At most `budget` steps. A refused growth leaves what is still to be done as it is, and the next turn goes on there.
     pub fn turn(&mut self, program: &Program, space: &mut Space, budget: u32) -> Result<Turn, Fault>
-        requires nested { IsNested self.old }
-        ensures nested { IsNested self.new }
-        ensures turned { Turned program.now self.old space.old budget result self.new space.new }
-        ensures falls { 0 < budget → Falls self.old result self.new }
+        requires nested { IsNested (view_of self.old) }
+        ensures nested { IsNested (view_of self.new) }
+        ensures turned { Turned program.now (view_of self.old) space.old budget result (view_of self.new) space.new }
+        ensures falls { 0 < budget → Falls (view_of self.old) result (view_of self.new) }
         ensures limit { space.new.limit ≡ space.old.limit }
-        ensures full { IfErr result (λ f. (out : List (List ℕ)) → Passes f space.old.limit (objects_of (whole program.now self.old space.old out))) }
+        ensures full { IfErr result (λ f. (out : List (List ℕ)) → Passes f space.old.limit (objects_of (remaining program.now (view_of self.old) space.old out))) }
     {
         let stop = self.left.saturating_sub(u64::from(budget));
         loop {

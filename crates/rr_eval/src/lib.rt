@@ -9,13 +9,12 @@ mod machine;
 mod nodes;
 mod open;
 mod operator;
+mod output;
 mod print;
 mod problem;
 mod report;
 mod resume;
 mod run;
-#[cfg(test)]
-mod tests;
 mod value;
 
 pub use counted::Counted;
@@ -23,4 +22,4 @@ pub use engine::Turn;
 pub use integer::{division_rounds_down, floor_div, floor_mod};
 pub use machine::{Machine, rules_hold};
 pub use problem::{Answer, Problem, ValueClass};
-pub use run::{Outcome, run_source, run_source_to, run_source_within};
+pub use run::{Outcome, run_source, run_source_within};

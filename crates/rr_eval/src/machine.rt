@@ -9,8 +9,7 @@ ghost use Rattle.rr_tree.specs.Tree.{Tree, tree_at, listed};
 ghost use Rattle.rr_eval.specs.Acts.{Passes};
 ghost use Rattle.rr_eval.specs.Script.{State, run, Spent, objects_of};
 ghost use Rattle.rr_eval.specs.Rules.{Context, rule, meaning, items};
-ghost use Rattle.rr_eval.specs.Whole.{context_of};
-ghost use Rattle.rr_eval.specs.Turns.{remaining, Turned, FallsSeen};
+ghost use Rattle.rr_eval.specs.Turns.{context_of, remaining, Turned, Falls};
 
 use crate::engine::{Engine, Turn};
 use crate::frame::Control;
@@ -34,12 +33,12 @@ impl Model for Machine {
 
     ghost Value = { View };
 
-    ghost use Rattle.rr_eval.specs.Whole.{IsNested};
+    ghost use Rattle.rr_eval.specs.Turns.{IsNested};
     ghost use Rattle.rr_eval.specs.Views.{view_of};
 
     ghost view = { λ m. view_of m.engine };
 
-    ghost invariant = { λ m. IsNested m.engine };
+    ghost invariant = { λ m. IsNested (view_of m.engine) };
 }
 
 /// Variables that are unset.
@@ -78,7 +77,7 @@ impl Machine {
     /// next turn goes on there.
     pub fn turn(&mut self, program: &Program, space: &mut Space, budget: u32) -> Result<Turn, Fault>
         ensures turned { Turned program.now self.old space.old budget result self.new space.new }
-        ensures falls { 0 < budget → FallsSeen self.old result self.new }
+        ensures falls { 0 < budget → Falls self.old result self.new }
         ensures limit { space.new.limit ≡ space.old.limit }
         ensures full { IfErr result (λ f. (out : List (List ℕ)) → Passes f space.old.limit (objects_of (remaining program.now self.old space.old out))) }
     {

@@ -11,9 +11,10 @@ ghost use Rattle.rr_eval.specs.Acts.{Passes};
 ghost use Rattle.rr_eval.specs.Script.{Go, Do, Ret, objects_of};
 ghost use Rattle.rr_eval.specs.Operators.{make};
 ghost use Rattle.rr_eval.specs.Rules.{rule, statements, on_table, put};
-ghost use Rattle.rr_eval.specs.Nodes.{node_tree, trees_before, IsEvaluated, IsRareNode};
+ghost use Rattle.rr_eval.specs.Nodes.{evaluated_tree, trees_before, IsEvaluated, IsRareNode};
 ghost use Rattle.rr_eval.specs.Frames.{resumed, IsNew};
-ghost use Rattle.rr_eval.specs.Whole.{context_of, IsNested, runs, going, printed, Stands, size};
+ghost use Rattle.rr_eval.specs.Turns.{context_of, IsNested, after_script, remaining_with, printed, Stands, size};
+ghost use Rattle.rr_eval.specs.Views.{view_of};
 
 use crate::engine::{Engine, push_within};
 use crate::frame::{Control, Frame};
@@ -49,11 +50,11 @@ impl Engine {
     pub fn enter_above(&mut self, frame: Frame, part: NodeId)
         requires room { length self.old.frames.items < vec_capacity self.old.frames }
         requires new { IsNew frame (length self.old.held.items) }
-        requires nested { IsNested self.old }
-        ensures goes { (p : Program) (t : Table) (out : List (List ℕ)) (n : ℕ) → runs p self.old t (Go (tree_at p.nodes.items part) (resumed p.nodes.items frame [])) out n ≡ going p self.new t out n }
-        ensures nested { IsNested self.new }
+        requires nested { IsNested (view_of self.old) }
+        ensures goes { (p : Program) (t : Table) (out : List (List ℕ)) (n : ℕ) → after_script p (view_of self.old) t (Go (tree_at p.nodes.items part) (resumed p.nodes.items frame [])) out n ≡ remaining_with p (view_of self.new) t out n }
+        ensures nested { IsNested (view_of self.new) }
         ensures left { self.new.left ≡ self.old.left }
-        ensures size { size self.new ≤ 2 * length self.old.frames.items + 2 }
+        ensures size { size (view_of self.new) ≤ 2 * length self.old.frames.items + 2 }
     {
         push_within(&mut self.frames, frame);
         self.control = Control::Enter(part);
@@ -63,11 +64,11 @@ impl Engine {
     #[inline(always)]
     pub fn begin(&mut self, end: NodeId, count: u32)
         requires room { length self.old.frames.items < vec_capacity self.old.frames }
-        requires nested { IsNested self.old }
-        ensures goes { (p : Program) (t : Table) (out : List (List ℕ)) (n : ℕ) → runs p self.old t (statements (trees_before p.nodes.items end count)) out n ≡ going p self.new t out n }
-        ensures nested { IsNested self.new }
+        requires nested { IsNested (view_of self.old) }
+        ensures goes { (p : Program) (t : Table) (out : List (List ℕ)) (n : ℕ) → after_script p (view_of self.old) t (statements (trees_before p.nodes.items end count)) out n ≡ remaining_with p (view_of self.new) t out n }
+        ensures nested { IsNested (view_of self.new) }
         ensures left { self.new.left ≡ self.old.left }
-        ensures size { size self.new ≤ 2 * length self.old.frames.items + 2 }
+        ensures size { size (view_of self.new) ≤ 2 * length self.old.frames.items + 2 }
     {
         match count {
             0 => self.control = Control::Give(Answer::Gave(Ref::Nil)),
@@ -84,14 +85,14 @@ impl Engine {
         space: &mut Space,
         i: u32,
     ) -> Result<Option<Vec<u8>>, Fault>
-        requires nested { IsNested self.old }
-        ensures goes { IfOk result (λ piece. (out : List (List ℕ)) (n : ℕ) → runs program.now self.old space.old (Do (on_table (make (slice_index_or (context_of program.now).texts i []))) Ret) out n ≡ going program.now self.new space.new (printed out piece) n) }
-        ensures nested { IsNested self.new }
+        requires nested { IsNested (view_of self.old) }
+        ensures goes { IfOk result (λ piece. (out : List (List ℕ)) (n : ℕ) → after_script program.now (view_of self.old) space.old (Do (on_table (make (slice_index_or (context_of program.now).texts i []))) Ret) out n ≡ remaining_with program.now (view_of self.new) space.new (printed out piece) n) }
+        ensures nested { IsNested (view_of self.new) }
         ensures left { self.new.left ≡ self.old.left }
-        ensures err { IfErr result (λ f. Stands self.old self.new space.old space.new f) }
-        ensures size { size self.new ≤ 2 * length self.old.frames.items + 2 }
+        ensures err { IfErr result (λ f. Stands (view_of self.old) (view_of self.new) space.old space.new f) }
+        ensures size { size (view_of self.new) ≤ 2 * length self.old.frames.items + 2 }
         ensures limit { space.new.limit ≡ space.old.limit }
-        ensures full { IfErr result (λ f. (out : List (List ℕ)) (n : ℕ) → Passes f space.old.limit (objects_of (runs program.now self.old space.old (Do (on_table (make (slice_index_or (context_of program.now).texts i []))) Ret) out n))) }
+        ensures full { IfErr result (λ f. (out : List (List ℕ)) (n : ℕ) → Passes f space.old.limit (objects_of (after_script program.now (view_of self.old) space.old (Do (on_table (make (slice_index_or (context_of program.now).texts i []))) Ret) out n))) }
     {
         let text = literal(self.alloc, program, i)?;
         match make(space, text) {
@@ -106,12 +107,12 @@ impl Engine {
     /// Prints a line end.
     #[inline(never)]
     fn open_empty_puts(&mut self) -> Result<Option<Vec<u8>>, Fault>
-        requires nested { IsNested self.old }
-        ensures goes { IfOk result (λ piece. (p : Program) (t : Table) (out : List (List ℕ)) (n : ℕ) → runs p self.old t (put []) out n ≡ going p self.new t (printed out piece) n) }
-        ensures nested { IsNested self.new }
+        requires nested { IsNested (view_of self.old) }
+        ensures goes { IfOk result (λ piece. (p : Program) (t : Table) (out : List (List ℕ)) (n : ℕ) → after_script p (view_of self.old) t (put []) out n ≡ remaining_with p (view_of self.new) t (printed out piece) n) }
+        ensures nested { IsNested (view_of self.new) }
         ensures left { self.new.left ≡ self.old.left }
-        ensures err { (t : Table) → IfErr result (λ f. Stands self.old self.new t t f) }
-        ensures size { size self.new ≤ 2 * length self.old.frames.items + 2 }
+        ensures err { (t : Table) → IfErr result (λ f. Stands (view_of self.old) (view_of self.new) t t f) }
+        ensures size { size (view_of self.new) ≤ 2 * length self.old.frames.items + 2 }
         ensures fault { IfErr result (λ f. f ≡ Fault.Memory) }
     {
         let piece = empty_piece(self.alloc)?;
@@ -122,12 +123,12 @@ impl Engine {
     /// Evaluates `puts`.
     fn open_puts(&mut self, first: NodeId, count: u32) -> Result<Option<Vec<u8>>, Fault>
         requires small { first + count < 2 ^ 32 }
-        requires nested { IsNested self.old }
-        ensures goes { IfOk result (λ piece. (p : Program) (t : Table) (out : List (List ℕ)) (n : ℕ) → runs p self.old t (rule (context_of p) (node_tree p.nodes.items (Node.Puts first count))) out n ≡ going p self.new t (printed out piece) n) }
-        ensures nested { IsNested self.new }
+        requires nested { IsNested (view_of self.old) }
+        ensures goes { IfOk result (λ piece. (p : Program) (t : Table) (out : List (List ℕ)) (n : ℕ) → after_script p (view_of self.old) t (rule (context_of p) (evaluated_tree p.nodes.items (Node.Puts first count))) out n ≡ remaining_with p (view_of self.new) t (printed out piece) n) }
+        ensures nested { IsNested (view_of self.new) }
         ensures left { self.new.left ≡ self.old.left }
-        ensures err { (t : Table) → IfErr result (λ f. Stands self.old self.new t t f) }
-        ensures size { size self.new ≤ 2 * length self.old.frames.items + 2 }
+        ensures err { (t : Table) → IfErr result (λ f. Stands (view_of self.old) (view_of self.new) t t f) }
+        ensures size { size (view_of self.new) ≤ 2 * length self.old.frames.items + 2 }
         ensures fault { IfErr result (λ f. f ≡ Fault.Memory) }
     {
         match count {
@@ -150,14 +151,14 @@ impl Engine {
     ) -> Result<Option<Vec<u8>>, Fault>
         requires evaluated { IsEvaluated node }
         requires rare { IsRareNode node }
-        requires nested { IsNested self.old }
-        ensures goes { IfOk result (λ piece. (out : List (List ℕ)) (n : ℕ) → runs program.now self.old space.old (rule (context_of program.now) (node_tree program.now.nodes.items node)) out n ≡ going program.now self.new space.new (printed out piece) n) }
-        ensures nested { IsNested self.new }
+        requires nested { IsNested (view_of self.old) }
+        ensures goes { IfOk result (λ piece. (out : List (List ℕ)) (n : ℕ) → after_script program.now (view_of self.old) space.old (rule (context_of program.now) (evaluated_tree program.now.nodes.items node)) out n ≡ remaining_with program.now (view_of self.new) space.new (printed out piece) n) }
+        ensures nested { IsNested (view_of self.new) }
         ensures left { self.new.left ≡ self.old.left }
-        ensures err { IfErr result (λ f. Stands self.old self.new space.old space.new f) }
-        ensures size { size self.new ≤ 2 * length self.old.frames.items + 2 }
+        ensures err { IfErr result (λ f. Stands (view_of self.old) (view_of self.new) space.old space.new f) }
+        ensures size { size (view_of self.new) ≤ 2 * length self.old.frames.items + 2 }
         ensures limit { space.new.limit ≡ space.old.limit }
-        ensures full { IfErr result (λ f. (out : List (List ℕ)) (n : ℕ) → Passes f space.old.limit (objects_of (runs program.now self.old space.old (rule (context_of program.now) (node_tree program.now.nodes.items node)) out n))) }
+        ensures full { IfErr result (λ f. (out : List (List ℕ)) (n : ℕ) → Passes f space.old.limit (objects_of (after_script program.now (view_of self.old) space.old (rule (context_of program.now) (evaluated_tree program.now.nodes.items node)) out n))) }
     {
         match node {
             Node::Text(i) => self.open_text(program, space, i),
@@ -171,11 +172,11 @@ impl Engine {
     pub fn open(&mut self, node: Node) -> bool
         requires evaluated { IsEvaluated node }
         requires room { length self.old.frames.items < vec_capacity self.old.frames }
-        requires nested { IsNested self.old }
-        ensures goes { IsTrue result → (p : Program) (t : Table) (out : List (List ℕ)) (n : ℕ) → runs p self.old t (rule (context_of p) (node_tree p.nodes.items node)) out n ≡ going p self.new t out n }
-        ensures nested { IsNested self.new }
+        requires nested { IsNested (view_of self.old) }
+        ensures goes { IsTrue result → (p : Program) (t : Table) (out : List (List ℕ)) (n : ℕ) → after_script p (view_of self.old) t (rule (context_of p) (evaluated_tree p.nodes.items node)) out n ≡ remaining_with p (view_of self.new) t out n }
+        ensures nested { IsNested (view_of self.new) }
         ensures left { self.new.left ≡ self.old.left }
-        ensures size { size self.new ≤ 2 * length self.old.frames.items + 2 }
+        ensures size { size (view_of self.new) ≤ 2 * length self.old.frames.items + 2 }
         ensures same { IsFalse result → self.new ≡ self.old }
         ensures rare { IsFalse result → IsRareNode node }
     {

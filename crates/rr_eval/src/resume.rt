@@ -12,7 +12,8 @@ ghost use Rattle.rr_eval.specs.Operators.{operate};
 ghost use Rattle.rr_eval.specs.Rules.{on_table, put, meaning};
 ghost use Rattle.rr_eval.specs.Script.{Do, Ret, run, objects_of};
 ghost use Rattle.rr_eval.specs.Frames.{below_of, base_of, stand_of, unwind, Nested, IsRareFrame};
-ghost use Rattle.rr_eval.specs.Whole.{context_of, code_of, state_of, whole, IsNested, runs, follows_on, going, printed, Stands, size};
+ghost use Rattle.rr_eval.specs.Turns.{context_of, code_of, state_of, remaining, IsNested, after_script, after_answer, remaining_with, printed, Stands, size};
+ghost use Rattle.rr_eval.specs.Views.{view_of};
 
 use crate::engine::{Engine, push_within};
 use crate::frame::{Control, Frame};
@@ -65,13 +66,13 @@ impl Engine {
         b: NodeId,
         stop: u64,
     ) -> bool
-        requires nested { IsNested self.old }
+        requires nested { IsNested (view_of self.old) }
         requires within { stop ≤ self.old.left }
-        ensures goes { IsTrue result → (t : Table) (out : List (List ℕ)) → follows_on program.now self.old t (Frame.Left op b) (Answer.Gave left) out self.old.left ≡ whole program.now self.new t out }
-        ensures nested { IsNested self.new }
+        ensures goes { IsTrue result → (t : Table) (out : List (List ℕ)) → after_answer program.now (view_of self.old) t (Frame.Left op b) (Answer.Gave left) out self.old.left ≡ remaining program.now (view_of self.new) t out }
+        ensures nested { IsNested (view_of self.new) }
         ensures left { stop ≤ self.new.left }
         ensures kept { self.new.left ≤ self.old.left }
-        ensures size { IsTrue result → size self.new ≤ 2 * length self.old.frames.items + 1 }
+        ensures size { IsTrue result → size (view_of self.new) ≤ 2 * length self.old.frames.items + 1 }
         ensures same { IsFalse result → self.new ≡ self.old }
     {
         if let Ref::Int(x) = left
@@ -88,11 +89,11 @@ impl Engine {
     /// An operator on two values, where they are integers.
     #[inline(always)]
     fn operate_integers(&mut self, op: BinaryOperator, left: Ref, right: Ref) -> bool
-        requires nested { IsNested self.old }
-        ensures goes { IsTrue result → (p : Program) (t : Table) (out : List (List ℕ)) (n : ℕ) → runs p self.old t (Do (on_table (operate op left right)) Ret) out n ≡ going p self.new t out n }
-        ensures nested { IsNested self.new }
+        requires nested { IsNested (view_of self.old) }
+        ensures goes { IsTrue result → (p : Program) (t : Table) (out : List (List ℕ)) (n : ℕ) → after_script p (view_of self.old) t (Do (on_table (operate op left right)) Ret) out n ≡ remaining_with p (view_of self.new) t out n }
+        ensures nested { IsNested (view_of self.new) }
         ensures left { self.new.left ≡ self.old.left }
-        ensures size { IsTrue result → size self.new ≤ 2 * length self.old.frames.items + 1 }
+        ensures size { IsTrue result → size (view_of self.new) ≤ 2 * length self.old.frames.items + 1 }
         ensures same { IsFalse result → self.new ≡ self.old }
     {
         match (left, right) {
@@ -111,11 +112,11 @@ impl Engine {
         requires base { base_of frame ≤ length self.old.held.items }
         requires nested { Nested (reverse self.old.frames.items) (below_of frame self.old.held.items) }
         requires within { stop ≤ self.old.left }
-        ensures goes { IsTrue result → (t : Table) (out : List (List ℕ)) → follows_on program.now self.old t frame (Answer.Gave value) out self.old.left ≡ whole program.now self.new t out }
-        ensures nested { IsTrue result → IsNested self.new }
+        ensures goes { IsTrue result → (t : Table) (out : List (List ℕ)) → after_answer program.now (view_of self.old) t frame (Answer.Gave value) out self.old.left ≡ remaining program.now (view_of self.new) t out }
+        ensures nested { IsTrue result → IsNested (view_of self.new) }
         ensures left { stop ≤ self.new.left }
         ensures kept { self.new.left ≤ self.old.left }
-        ensures size { IsTrue result → size self.new ≤ 2 * length self.old.frames.items + 2 }
+        ensures size { IsTrue result → size (view_of self.new) ≤ 2 * length self.old.frames.items + 2 }
         ensures same { IsFalse result → self.new ≡ self.old }
         ensures rare { IsFalse result → IsRareFrame frame }
     {
@@ -152,16 +153,16 @@ impl Engine {
         left: Ref,
         right: Ref,
     ) -> Result<Option<Vec<u8>>, Fault>
-        requires nested { IsNested self.old }
+        requires nested { IsNested (view_of self.old) }
         requires room { length self.old.frames.items < vec_capacity self.old.frames }
-        ensures goes { IfOk result (λ piece. (p : Program) (out : List (List ℕ)) (n : ℕ) → runs p self.old space.old (Do (on_table (operate op left right)) Ret) out n ≡ going p self.new space.new (printed out piece) n) }
-        ensures nested { IsNested self.new }
+        ensures goes { IfOk result (λ piece. (p : Program) (out : List (List ℕ)) (n : ℕ) → after_script p (view_of self.old) space.old (Do (on_table (operate op left right)) Ret) out n ≡ remaining_with p (view_of self.new) space.new (printed out piece) n) }
+        ensures nested { IsNested (view_of self.new) }
         ensures left { self.new.left ≡ self.old.left }
-        ensures err { IfErr result (λ f. Stands self.old self.new space.old space.new f) }
-        ensures size { size self.new ≤ 2 * length self.old.frames.items + 2 }
+        ensures err { IfErr result (λ f. Stands (view_of self.old) (view_of self.new) space.old space.new f) }
+        ensures size { size (view_of self.new) ≤ 2 * length self.old.frames.items + 2 }
         ensures room { IfErr result (λ _. length self.new.frames.items < vec_capacity self.new.frames) }
         ensures limit { space.new.limit ≡ space.old.limit }
-        ensures full { IfErr result (λ f. (p : Program) (out : List (List ℕ)) (n : ℕ) → Passes f space.old.limit (objects_of (runs p self.old space.old (Do (on_table (operate op left right)) Ret) out n))) }
+        ensures full { IfErr result (λ f. (p : Program) (out : List (List ℕ)) (n : ℕ) → Passes f space.old.limit (objects_of (after_script p (view_of self.old) space.old (Do (on_table (operate op left right)) Ret) out n))) }
     {
         match operate(self.alloc, space, op, left, right) {
             Ok(answer) => {
@@ -184,11 +185,11 @@ impl Engine {
         requires some { 0 < count }
         requires base { base ≤ length self.old.held.items }
         requires nested { Nested (reverse self.old.frames.items) (take base self.old.held.items) }
-        ensures goes { IfOk result (λ piece. (p : Program) (t : Table) (out : List (List ℕ)) (n : ℕ) → follows_on p self.old t (Frame.Argument end count base) (Answer.Gave value) out n ≡ going p self.new t (printed out piece) n) }
-        ensures nested { OnOk result (IsNested self.new) }
+        ensures goes { IfOk result (λ piece. (p : Program) (t : Table) (out : List (List ℕ)) (n : ℕ) → after_answer p (view_of self.old) t (Frame.Argument end count base) (Answer.Gave value) out n ≡ remaining_with p (view_of self.new) t (printed out piece) n) }
+        ensures nested { OnOk result (IsNested (view_of self.new)) }
         ensures left { self.new.left ≡ self.old.left }
-        ensures err { (t : Table) → IfErr result (λ f. Stands self.old self.new t t f) }
-        ensures size { size self.new ≤ 2 * length self.old.frames.items + 2 }
+        ensures err { (t : Table) → IfErr result (λ f. Stands (view_of self.old) (view_of self.new) t t f) }
+        ensures size { size (view_of self.new) ≤ 2 * length self.old.frames.items + 2 }
         ensures room { IfErr result (λ _. length self.new.frames.items < vec_capacity self.new.frames) }
         ensures fault { IfErr result (λ f. f ≡ Fault.Memory) }
     {
@@ -203,11 +204,11 @@ impl Engine {
         requires room { length self.old.frames.items < vec_capacity self.old.frames }
         requires base { base_of frame ≤ length self.old.held.items }
         requires nested { Nested (reverse self.old.frames.items) (below_of frame self.old.held.items) }
-        ensures goes { IfOk result (λ piece. (p : Program) (out : List (List ℕ)) (n : ℕ) → unwind (code_of p) (reverse self.old.frames.items) (below_of frame self.old.held.items) (run (meaning (context_of p)) (put (stand_of frame self.old.held.items ++ value ∷ [])) (state_of self.old space.now out) n) ≡ going p self.new space.now (printed out piece) n) }
-        ensures nested { OnOk result (IsNested self.new) }
+        ensures goes { IfOk result (λ piece. (p : Program) (out : List (List ℕ)) (n : ℕ) → unwind (code_of p) (reverse self.old.frames.items) (below_of frame self.old.held.items) (run (meaning (context_of p)) (put (stand_of frame self.old.held.items ++ value ∷ [])) (state_of (view_of self.old) space.now out) n) ≡ remaining_with p (view_of self.new) space.now (printed out piece) n) }
+        ensures nested { OnOk result (IsNested (view_of self.new)) }
         ensures left { self.new.left ≡ self.old.left }
-        ensures err { (t : Table) → IfErr result (λ f. Stands self.old self.new t t f) }
-        ensures size { size self.new ≤ 2 * length self.old.frames.items + 2 }
+        ensures err { (t : Table) → IfErr result (λ f. Stands (view_of self.old) (view_of self.new) t t f) }
+        ensures size { size (view_of self.new) ≤ 2 * length self.old.frames.items + 2 }
         ensures room { IfErr result (λ _. length self.new.frames.items < vec_capacity self.new.frames) }
         ensures fault { IfErr result (λ f. f ≡ Fault.Memory) }
     {
@@ -229,11 +230,11 @@ impl Engine {
         requires room { length self.old.frames.items < vec_capacity self.old.frames }
         requires base { base ≤ length self.old.held.items }
         requires nested { Nested (reverse self.old.frames.items) (take base self.old.held.items) }
-        ensures goes { IfOk result (λ piece. (p : Program) (out : List (List ℕ)) (n : ℕ) → follows_on p self.old space.now (Frame.Argument end count base) (Answer.Gave value) out n ≡ going p self.new space.now (printed out piece) n) }
-        ensures nested { OnOk result (IsNested self.new) }
+        ensures goes { IfOk result (λ piece. (p : Program) (out : List (List ℕ)) (n : ℕ) → after_answer p (view_of self.old) space.now (Frame.Argument end count base) (Answer.Gave value) out n ≡ remaining_with p (view_of self.new) space.now (printed out piece) n) }
+        ensures nested { OnOk result (IsNested (view_of self.new)) }
         ensures left { self.new.left ≡ self.old.left }
-        ensures err { (t : Table) → IfErr result (λ f. Stands self.old self.new t t f) }
-        ensures size { size self.new ≤ 2 * length self.old.frames.items + 2 }
+        ensures err { (t : Table) → IfErr result (λ f. Stands (view_of self.old) (view_of self.new) t t f) }
+        ensures size { size (view_of self.new) ≤ 2 * length self.old.frames.items + 2 }
         ensures room { IfErr result (λ _. length self.new.frames.items < vec_capacity self.new.frames) }
         ensures fault { IfErr result (λ f. f ≡ Fault.Memory) }
     {
@@ -254,14 +255,14 @@ impl Engine {
         requires base { base_of frame ≤ length self.old.held.items }
         requires nested { Nested (reverse self.old.frames.items) (below_of frame self.old.held.items) }
         requires rare { IsRareFrame frame }
-        ensures goes { IfOk result (λ piece. (p : Program) (out : List (List ℕ)) (n : ℕ) → follows_on p self.old space.old frame (Answer.Gave value) out n ≡ going p self.new space.new (printed out piece) n) }
-        ensures nested { OnOk result (IsNested self.new) }
+        ensures goes { IfOk result (λ piece. (p : Program) (out : List (List ℕ)) (n : ℕ) → after_answer p (view_of self.old) space.old frame (Answer.Gave value) out n ≡ remaining_with p (view_of self.new) space.new (printed out piece) n) }
+        ensures nested { OnOk result (IsNested (view_of self.new)) }
         ensures left { self.new.left ≡ self.old.left }
-        ensures err { IfErr result (λ f. Stands self.old self.new space.old space.new f) }
-        ensures size { size self.new ≤ 2 * length self.old.frames.items + 2 }
+        ensures err { IfErr result (λ f. Stands (view_of self.old) (view_of self.new) space.old space.new f) }
+        ensures size { size (view_of self.new) ≤ 2 * length self.old.frames.items + 2 }
         ensures room { IfErr result (λ _. length self.new.frames.items < vec_capacity self.new.frames) }
         ensures limit { space.new.limit ≡ space.old.limit }
-        ensures full { IfErr result (λ f. (p : Program) (out : List (List ℕ)) (n : ℕ) → Passes f space.old.limit (objects_of (follows_on p self.old space.old frame (Answer.Gave value) out n))) }
+        ensures full { IfErr result (λ f. (p : Program) (out : List (List ℕ)) (n : ℕ) → Passes f space.old.limit (objects_of (after_answer p (view_of self.old) space.old frame (Answer.Gave value) out n))) }
     {
         match frame {
             Frame::Negation => {
@@ -288,14 +289,14 @@ impl Engine {
         requires base { base_of frame ≤ length self.old.held.items }
         requires nested { Nested (reverse self.old.frames.items) (below_of frame self.old.held.items) }
         requires rare { IsRareFrame frame }
-        ensures goes { IfOk result (λ piece. (p : Program) (out : List (List ℕ)) → follows_on p self.old space.old frame (Answer.Gave value) out self.old.left ≡ whole p self.new space.new (printed out piece)) }
-        ensures nested { IsNested self.new }
+        ensures goes { IfOk result (λ piece. (p : Program) (out : List (List ℕ)) → after_answer p (view_of self.old) space.old frame (Answer.Gave value) out self.old.left ≡ remaining p (view_of self.new) space.new (printed out piece)) }
+        ensures nested { IsNested (view_of self.new) }
         ensures left { self.new.left ≡ self.old.left }
-        ensures size { OnOk result (size self.new ≤ 2 * length self.old.frames.items + 2) }
+        ensures size { OnOk result (size (view_of self.new) ≤ 2 * length self.old.frames.items + 2) }
         ensures fault { IfErr result IsRefusal }
-        ensures back { IfErr result (λ _. (p : Program) (out : List (List ℕ)) → follows_on p self.old space.old frame (Answer.Gave value) out self.old.left ≡ whole p self.new space.new out) }
+        ensures back { IfErr result (λ _. (p : Program) (out : List (List ℕ)) → after_answer p (view_of self.old) space.old frame (Answer.Gave value) out self.old.left ≡ remaining p (view_of self.new) space.new out) }
         ensures limit { space.new.limit ≡ space.old.limit }
-        ensures full { IfErr result (λ f. (p : Program) (out : List (List ℕ)) → Passes f space.old.limit (objects_of (follows_on p self.old space.old frame (Answer.Gave value) out self.old.left))) }
+        ensures full { IfErr result (λ f. (p : Program) (out : List (List ℕ)) → Passes f space.old.limit (objects_of (after_answer p (view_of self.old) space.old frame (Answer.Gave value) out self.old.left))) }
     {
         match self.resume_value(space, frame, value) {
             Ok(piece) => Ok(piece),
@@ -312,10 +313,10 @@ impl Engine {
         requires control { self.old.control ≡ Control.Give (Answer.Raised problem) }
         requires base { base_of frame ≤ length self.old.held.items }
         requires nested { Nested (reverse self.old.frames.items) (below_of frame self.old.held.items) }
-        ensures goes { (p : Program) (t : Table) (out : List (List ℕ)) → follows_on p self.old t frame (Answer.Raised problem) out self.old.left ≡ whole p self.new t out }
-        ensures nested { IsNested self.new }
+        ensures goes { (p : Program) (t : Table) (out : List (List ℕ)) → after_answer p (view_of self.old) t frame (Answer.Raised problem) out self.old.left ≡ remaining p (view_of self.new) t out }
+        ensures nested { IsNested (view_of self.new) }
         ensures left { self.new.left ≡ self.old.left }
-        ensures size { size self.new ≡ 2 * length self.old.frames.items + 1 }
+        ensures size { size (view_of self.new) ≡ 2 * length self.old.frames.items + 1 }
     {
         clear(&mut self.held, frame);
     }

@@ -1,17 +1,18 @@
 //! A script from its bytes to its printed bytes.
 
-ghost use Rattle.std.specs.Prelude.{ℕ, ◌≡◌, ◌+◌, ◌<◌, ◌≤◌, ◌^◌, length};
+ghost use Rattle.std.specs.Prelude.{◌≡◌, ◌+◌, ◌<◌, ◌≤◌, ◌^◌, length};
 ghost use Rattle.rr_lexer.specs.Tokens.{AreTokensOf};
-ghost use Rattle.rr_tree.specs.Tree.{tree_at};
-ghost use Rattle.rr_eval.specs.Counted.{failures, holds};
-ghost use Rattle.rr_eval.specs.Whole.{context_of};
-ghost use Rattle.rr_eval.specs.Runs.{reading_fault, Reads, Runs, WithinSlots, Meets, script_meaning};
+ghost use Rattle.rr_eval.specs.Counted.{failures, counted};
+ghost use Rattle.rr_eval.specs.Written.{written_to};
+ghost use Rattle.rr_eval.specs.Turns.{context_of};
+ghost use Rattle.rr_eval.specs.Runs.{Reads, Leaves, WithinSlots, Meets, program_meaning};
 
-use crate::counted::{Counted, put};
+use crate::counted::Counted;
 use crate::engine::Turn;
 use crate::machine::Machine;
+use crate::output::{Output, put};
 use crate::report::report;
-use rr_base::{Fault, LimitKind, Limits, RactorNo};
+use rr_base::{Fault, Limits, RactorNo};
 use rr_lexer::{Token, lex, tokens_are_one};
 use rr_parser::parse;
 use rr_space::Space;
@@ -30,20 +31,12 @@ pub enum Outcome {
     StepLimit,
     /// With a write that failed.
     OutputFailed,
+    /// With a fault that no script sees: `Memory`, or `Limit(Slots)` where the script makes more objects than there may be.
+    Stopped(Fault),
 }
 
 /// The steps of one turn.
 const BUDGET: u32 = 1_000_000;
-
-/// The fault of a source that could not be read. That its parts are too many for a table is want of memory too.
-fn reading_fault(fault: Fault) -> Fault
-    ensures { result ≡ reading_fault fault }
-{
-    match fault {
-        Fault::Limit(LimitKind::Slots) => Fault::Memory,
-        other => other,
-    }
-}
 
 /// The program that the tokens of a source spell.
 fn parse_program(alloc: Global, source: &[u8], tokens: &[Token]) -> Result<Program, Fault>
@@ -53,7 +46,7 @@ fn parse_program(alloc: Global, source: &[u8], tokens: &[Token]) -> Result<Progr
     tokens_are_one();
     match parse(alloc, source, tokens) {
         Ok(program) => Ok(program),
-        Err(fault) => Err(reading_fault(fault)),
+        Err(fault) => Err(fault),
     }
 }
 
@@ -75,71 +68,69 @@ fn objects_fit(space: &Space)
 }
 
 /// Runs a program on the main ractor.
-fn run_program<W: Write>(
+fn run_program<O: Output>(
     alloc: Global,
     program: &Program,
     limits: Limits,
-    output: &mut W,
-    failed: &mut u64,
-) -> Result<Outcome, Fault>
-    requires { failed.old + 1 < 2 ^ 64 }
-    ensures runs { Runs (W.contents output.old) (W.contents output.new) failed.old failed.new (context_of program.now) (script_meaning (context_of program.now) (tree_at program.now.nodes.items program.now.root) limits.steps limits.slots) result }
-    ensures slots { WithinSlots limits.slots (script_meaning (context_of program.now) (tree_at program.now.nodes.items program.now.root) limits.steps limits.slots) result }
+    output: &mut O,
+) -> Outcome
+    requires { O.failures output.old + 1 < 2 ^ 64 }
+    ensures leaves { Leaves (written_to O.contents O.failures output.old) (written_to O.contents O.failures output.new) (context_of program.now) (program_meaning program.now limits) result }
+    ensures slots { WithinSlots limits.slots (program_meaning program.now limits) result }
 {
     let mut space = Space::new(alloc, RactorNo(1), limits.slots);
     let mut machine = match Machine::new(alloc, program, limits.steps) {
         Ok(machine) => machine,
-        Err(fault) => return Err(fault),
+        Err(fault) => return Outcome::Stopped(fault),
     };
     loop {
         match machine.turn(program, &mut space, BUDGET) {
             Ok(Turn::More) => {}
             Ok(Turn::Print(piece)) => {
-                if !put(output, failed, piece.as_slice()) {
-                    return Ok(Outcome::OutputFailed);
+                if !put(output, piece.as_slice()) {
+                    return Outcome::OutputFailed;
                 }
             }
             Ok(Turn::Done(_)) => {
                 objects_fit(&space);
-                return Ok(Outcome::Done);
+                return Outcome::Done;
             }
             Ok(Turn::Raised(problem)) => {
                 objects_fit(&space);
                 return match report(alloc, program, problem) {
-                    Ok(told) => Ok(Outcome::Raised(told)),
-                    Err(_) => Err(Fault::Memory),
+                    Ok(told) => Outcome::Raised(told),
+                    Err(_) => Outcome::Stopped(Fault::Memory),
                 };
             }
             Ok(Turn::StepLimit) => {
                 objects_fit(&space);
-                return Ok(Outcome::StepLimit);
+                return Outcome::StepLimit;
             }
-            Err(fault) => return Err(fault),
+            Err(fault) => return Outcome::Stopped(fault),
         }
     }
 }
 
-/// Runs a script, and adds to `failed` the writes that failed.
-fn run_within<W: Write>(
+/// Reads a script and runs it.
+fn run_within<O: Output>(
     alloc: Global,
     limits: Limits,
     source: &[u8],
-    output: &mut W,
-    failed: &mut u64,
+    output: &mut O,
 ) -> Result<Outcome, Fault>
-    requires { failed.old + 1 < 2 ^ 64 }
-    ensures { Meets (W.contents output.old) (W.contents output.new) failed.old failed.new source.now limits.steps limits.slots result }
+    requires { O.failures output.old + 1 < 2 ^ 64 }
+    ensures { Meets (record { source = source.now; limits = limits; before = written_to O.contents O.failures output.old; after = written_to O.contents O.failures output.new; ended = result }) }
 {
     match read_program(alloc, source) {
-        Ok(program) => run_program(alloc, &program, limits, output, failed),
+        Ok(program) => Ok(run_program(alloc, &program, limits, output)),
         Err(fault) => Err(fault),
     }
 }
 
 /// Runs a script within limits, of which it takes the steps and the slots.
 ///
-/// The faults are `Memory`, `Syntax` and, by the limit that was passed, `Limit`: of `Source`, of `Nesting`, or of `Slots`
-/// where the script makes more objects than that.
+/// A fault means that the source was not read, and nothing was written: `Syntax`, `Limit` of `Source`, of `Nesting` or, where the
+/// program needs too many parts, of `Slots`, and `Memory`. Once it is read, the outcome says how the run ended.
 pub fn run_source_within<W: Write>(
     alloc: Global,
     limits: Limits,
@@ -147,15 +138,9 @@ pub fn run_source_within<W: Write>(
     output: &mut Counted<W>,
 ) -> Result<Outcome, Fault>
     requires { failures output.old + 1 < 2 ^ 64 }
-    ensures { Meets (holds W.contents output.old) (holds W.contents output.new) (failures output.old) (failures output.new) source.now limits.steps limits.slots result }
+    ensures { Meets (record { source = source.now; limits = limits; before = counted W.contents output.old; after = counted W.contents output.new; ended = result }) }
 {
-    run_within(
-        alloc,
-        limits,
-        source,
-        &mut output.writer,
-        &mut output.failed,
-    )
+    run_within(alloc, limits, source, output)
 }
 
 /// Runs a script within the limits that hold where nothing else is asked for.
@@ -165,19 +150,7 @@ pub fn run_source<W: Write>(
     output: &mut Counted<W>,
 ) -> Result<Outcome, Fault>
     requires { failures output.old + 1 < 2 ^ 64 }
-    ensures { Meets (holds W.contents output.old) (holds W.contents output.new) (failures output.old) (failures output.new) source.now 100000000 4294967295 result }
+    ensures { Meets (record { source = source.now; limits = Limits.DEFAULT; before = counted W.contents output.old; after = counted W.contents output.new; ended = result }) }
 {
     run_source_within(alloc, Limits::DEFAULT, source, output)
-}
-
-/// `run_source` on a writer that is lent, where nobody asks how many writes failed.
-pub fn run_source_to<W: Write>(
-    alloc: Global,
-    source: &[u8],
-    output: &mut W,
-) -> Result<Outcome, Fault>
-    ensures { (failed : ℕ) × Meets (W.contents output.old) (W.contents output.new) 0 failed source.now 100000000 4294967295 result }
-{
-    let mut failed = 0;
-    run_within(alloc, Limits::DEFAULT, source, output, &mut failed)
 }

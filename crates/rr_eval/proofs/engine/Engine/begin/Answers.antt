@@ -1,10 +1,11 @@
 -- The first statement is evaluated, and then the others.
 use Rattle.std.proofs.Common.{sym, ap, ◌∙◌, arith}
-use Rattle.rr_eval.specs.Whole.{runs}
+use Rattle.rr_eval.specs.Turns.{after_script}
 use Rattle.rr_eval.proofs.Lists.{statements_from}
+use Rattle.rr_eval.specs.Views.{view_of}
 use Rattle.rr_eval.proofs.engine.Engine.begin.Goals as goal
 
 pub returns-in_default-clause-goes : goal.returns-in_default-clause-goes
 returns-in_default-clause-goes c p t out n =
-    ap (λ r. runs p c.args.self.now t r out n) (sym (statements_from p.nodes.items c.args.end c.args.count _ (omega arith) c.saturating_sub-in_default.ensures))
+    ap (λ r. after_script p (view_of c.args.self.now) t r out n) (sym (statements_from p.nodes.items c.args.end c.args.count _ (omega arith) c.saturating_sub-in_default.ensures))
     ∙ c.enter_above.ensures.goes p t out n

@@ -2,18 +2,19 @@
 use Rattle.std.proofs.Common.{◌≡◌, sym, ap, ◌-◌, ◌∙◌, [], ◌∷◌, ◌++◌}
 use Rattle.rr_eval.specs.declared.frame.Frame.TheVariants.{Argument}
 use Rattle.rr_eval.specs.declared.frame.Control.TheVariants.{Enter}
-use Rattle.rr_eval.specs.Frames.{rest}
-use Rattle.rr_eval.specs.Whole.{code_of, state_of}
+use Rattle.rr_eval.specs.Frames.{outcome_of}
+use Rattle.rr_eval.specs.Turns.{code_of, state_of}
 use Rattle.rr_eval.proofs.Unwind.{kept}
+use Rattle.rr_eval.specs.Views.{view_of}
 use Rattle.rr_eval.proofs.engine.Engine.keep.Goals as goal
 
 pub returns-clause-goes : goal.returns-clause-goes
 returns-clause-goes c p t out n =
-    let m = c.args.self.now in
+    let m = view_of c.args.self.now in
     let s = state_of m t out in
     let place = c.saturating_sub.result in
-    let frames = m.frames.items ++ Argument c.args.end (c.args.count - 1) c.args.base ∷ [] in
+    let frames = m.frames ++ Argument c.args.end (c.args.count - 1) c.args.base ∷ [] in
     let pushed : c.push_within.new.items.items ≡ frames = c.push_within.ensures in
-    kept (code_of p) m.frames.items c.args.end c.args.count place c.args.base m.held.items c.args.value s n c.requires.some c.saturating_sub.ensures c.requires.base
-    ∙ ap (λ held. rest (code_of p) frames held (Enter place) s n) (sym c.in_ok-push.ensures.items)
-    ∙ ap (λ fs. rest (code_of p) fs c.push.new.self.items (Enter place) s n) (sym pushed)
+    kept (code_of p) m.frames c.args.end c.args.count place c.args.base m.held c.args.value s n c.requires.some c.saturating_sub.ensures c.requires.base
+    ∙ ap (λ held. outcome_of (code_of p) frames held (Enter place) s n) (sym c.in_ok-push.ensures.items)
+    ∙ ap (λ fs. outcome_of (code_of p) fs c.push.new.self.items (Enter place) s n) (sym pushed)

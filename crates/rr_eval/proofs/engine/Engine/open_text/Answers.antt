@@ -2,8 +2,9 @@
 use Rattle.std.proofs.Common.{subst, length, [], slice_index_or}
 use Rattle.rr_eval.specs.Acts.{Passes}
 use Rattle.rr_eval.specs.Operators.{make}
-use Rattle.rr_eval.specs.Whole.{context_of}
+use Rattle.rr_eval.specs.Turns.{context_of}
 use Rattle.rr_eval.proofs.Objects.{act_passes}
+use Rattle.rr_eval.specs.Views.{view_of}
 use Rattle.rr_eval.proofs.engine.Engine.open_text.Goals as goal
 
 pub returns-in-Err-clause-full : goal.returns-in-Err-clause-full
@@ -12,4 +13,4 @@ returns-in-Err-clause-full c out n =
     let t = c.args.space.now in
     let f = c.in-Err.fault in
     let passes = subst (λ bytes. Passes f t.limit (length (make bytes t).1.slots)) c.in_ok-text.ensures c.in-Err.ensures.full in
-    act_passes p c.args.self.now t (make (slice_index_or (context_of p).texts c.args.i [])) f out n passes
+    act_passes p (view_of c.args.self.now) t (make (slice_index_or (context_of p).texts c.args.i [])) f out n passes

@@ -1,0 +1,17 @@
+//! Worked examples of scripts, from their bytes to their printed bytes.
+#![tactic(auto)]
+
+#[cfg(test)]
+mod broken;
+#[cfg(test)]
+mod large;
+#[cfg(test)]
+mod limits;
+#[cfg(test)]
+mod rows;
+#[cfg(test)]
+mod run;
+#[cfg(test)]
+mod table;
+#[cfg(test)]
+mod writers;
