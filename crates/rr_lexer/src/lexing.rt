@@ -86,7 +86,7 @@ fn all_tokens(alloc: Global, source: &[u8]) -> Result<Vec<Token>, Fault>
 /// The tokens stand in the order of their spans, which do not overlap. A source that is no UTF-8, or that has a control
 /// byte other than tab, line feed and carriage return, is refused at its first such byte, kind `encoding`. Any other
 /// source is refused at the first place at which no token begins. One of more than 16,777,216 bytes that has neither is
-/// refused by `LimitKind::Source`, and `Fault::Memory` means that the allocator refused a growth.
+/// refused by `LimitKind::Source`. `Fault::Memory` means that the allocator refused a growth, and that no byte is refused.
 pub fn lex(alloc: Global, source: &[u8]) -> Result<Vec<Token>, Fault>
     ensures tokens { IfOk result (λ tokens. AreTokensOf source.now tokens.items) }
     ensures fault { IfErr result (λ fault. Faults source.now fault) }
