@@ -1,12 +1,12 @@
 -- What a table of nodes stands for stays as it grows.
-use Rattle.std.proofs.Common.{rules, below_more, ◌≡◌, ℕ, zero, suc, ◌+◌, ◌<◌, ◌≤◌, ◌&&◌, Bool, true, false, List, [], ◌∷◌, ◌++◌, length, get_or, map, take, drop, refl, sym, ap, ◌∙◌, subst, append_assoc, arith, length-append}
-use Rattle.std.specs.Prelude.{nat_lt, nat_le, IsTrue, All}
+use Rattle.std.proofs.Common.{below_more, ◌≡◌, ℕ, zero, suc, ◌+◌, ◌<◌, ◌≤◌, List, [], ◌∷◌, ◌++◌, length, get_or, map, take, drop, refl, sym, ap, ◌∙◌, subst, append_assoc, arith, length-append}
+use Rattle.std.specs.Prelude.{All}
 use Rattle.std.proofs.lemmas.List.{append-nil, get_or_append_left, length-map}
 use Rattle.std.proofs.Math.Seq.{get_or-append_seam, drop-append_seam, take-length}
 use Rattle.rr_tree.specs.declared.node.Node.{Node}
 use Rattle.rr_tree.specs.declared.node.Node.TheVariants as node
-use Rattle.rr_tree.specs.Tree.{Tree, nil, tree_of, trees_after, tree_at, is_after_parts, IsOrdered}
-use Rattle.rr_tree.specs.Nodes.{Extends, HasPartsBefore, item, trees_in, node_tree}
+use Rattle.rr_tree.specs.Tree.{Tree, nil, tree_of, trees_after, tree_at, HasPartsBefore, IsOrdered}
+use Rattle.rr_tree.specs.Nodes.{Extends, item, trees_in, node_tree}
 
 pub trees_after-append : (ts : List Tree) (a b : List Node) → trees_after ts (a ++ b) ≡ trees_after (trees_after ts a) b
 unfolding trees_after
@@ -36,19 +36,7 @@ tree_at-kept old new i e lt =
 
 tree_of_is : (ns : List Node) (n : Node) → tree_of (trees_after [] ns) n ≡ node_tree ns n
 unfolding tree_of tree_at trees_in
-tree_of_is ns node.Nil = refl
-tree_of_is ns (node.Truth b) = refl
-tree_of_is ns (node.Int z) = refl
-tree_of_is ns (node.Text i) = refl
-tree_of_is ns (node.Local x) = refl
-tree_of_is ns (node.Call x) = refl
-tree_of_is ns (node.Negate a) = refl
-tree_of_is ns (node.Binary o a b) = refl
-tree_of_is ns (node.Assign x a) = refl
-tree_of_is ns (node.Choose a b d) = refl
-tree_of_is ns (node.Item a) = refl
-tree_of_is ns (node.Sequence i n) = refl
-tree_of_is ns (node.Puts i n) = refl
+tree_of_is ns n = refl
 
 get_or-last : (ts : List Tree) (t : Tree) (i : ℕ) → i ≡ length ts → get_or (ts ++ t ∷ []) i nil ≡ t
 get_or-last ts t i e = rw e (get_or-append_seam ts t [] nil)
@@ -105,25 +93,10 @@ trees_in-items ns xs all =
 
 -- ---- order
 
-before_true : (i : ℕ) (n : Node) → HasPartsBefore i n → IsTrue (is_after_parts i n)
-before_true i node.Nil h = search rules
-before_true i (node.Truth b) h = search rules
-before_true i (node.Int z) h = search rules
-before_true i (node.Text x) h = search rules
-before_true i (node.Local x) h = search rules
-before_true i (node.Call x) h = search rules
-before_true i (node.Negate a) h = search rules
-before_true i (node.Binary o a b) h = search rules
-before_true i (node.Assign x a) h = search rules
-before_true i (node.Choose a b d) h = search rules
-before_true i (node.Item a) h = search rules
-before_true i (node.Sequence x y) h = search rules
-before_true i (node.Puts x y) h = search rules
-
 -- a table stays in order where a node is put behind its parts
 pub IsOrdered-put : (ns : List Node) (n : Node) → IsOrdered ns → HasPartsBefore (length ns) n → IsOrdered (ns ++ n ∷ [])
 IsOrdered-put ns n ordered h =
-    let P : ℕ → Type 0 = λ k. IsTrue (is_after_parts k (get_or (ns ++ n ∷ []) k node.Nil)) in
-    let below : (k : ℕ) → k < length ns → P k = λ k lt. subst (λ (m : Node). IsTrue (is_after_parts k m)) (sym (get_or_append_left ns (n ∷ []) node.Nil k lt)) (ordered k lt) in
-    let here : P (length ns) = subst (λ (m : Node). IsTrue (is_after_parts (length ns) m)) (sym (get_or-append_seam ns n [] node.Nil)) (before_true (length ns) n h) in
+    let P : ℕ → Type 0 = λ k. HasPartsBefore k (get_or (ns ++ n ∷ []) k node.Nil) in
+    let below : (k : ℕ) → k < length ns → P k = λ k lt. subst (HasPartsBefore k) (sym (get_or_append_left ns (n ∷ []) node.Nil k lt)) (ordered k lt) in
+    let here : P (length ns) = subst (HasPartsBefore (length ns)) (sym (get_or-append_seam ns n [] node.Nil)) h in
     λ i lt. below_more P (length ns) below here i (omega (arith, length-append ns (n ∷ [])))

@@ -1,8 +1,13 @@
 //! Programs: trees as flat tables.
 #![tactic(auto)]
 
+mod class;
+mod names;
 mod node;
 mod program;
+mod scope;
 
-pub use node::{BinaryOperator, Node, NodeId};
+pub use class::{Class, Method, MethodKind};
+pub use node::{BinaryOperator, BlockId, Node, NodeId, Path};
 pub use program::Program;
+pub use scope::{Scope, ScopeId, ScopeKind};

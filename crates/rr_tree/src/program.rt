@@ -1,8 +1,13 @@
 //! A program, as its parser made it.
 
-ghost use Rattle.rr_tree.specs.Tree.{IsOrdered};
+ghost use Rattle.std.specs.Prelude.{◌≡◌, slice_index_or};
+ghost use Rattle.rr_tree.specs.Tree.{tree_at, HasPartsBefore, IsOrdered};
+ghost use Rattle.rr_tree.specs.Nodes.{node_tree};
+ghost use Rattle.rr_tree.specs.Order.{IsOrdered-prop};
 
+use crate::class::{Class, Method};
 use crate::node::{Node, NodeId};
+use crate::scope::Scope;
 
 /// A program.
 #[derive(Drop)]
@@ -15,5 +20,36 @@ pub struct Program {
     pub symbols: Vec<Vec<u8>>,
     /// The bytes of each text literal.
     pub texts: Vec<Vec<u8>>,
-    ghost ordered: { IsOrdered nodes.items },
+    /// Whether text literals without parts that are evaluated are frozen.
+    pub freezes: bool,
+    /// The classes of the program, in the order in which they first stand in the source.
+    pub classes: Vec<Class>,
+    /// The methods of all classes, those that were defined later behind.
+    pub methods: Vec<Method>,
+    /// The scope of the program, and those of its methods and blocks in the order in which they begin.
+    pub scopes: Vec<Scope>,
+    /// How many calls are numbered.
+    pub sites: u32,
+    ghost ordered: { IsOrdered nodes.items } by { IsOrdered-prop nodes.items },
+}
+
+impl Program {
+    fn entry(&self, id: NodeId) -> Node
+        ensures { result ≡ slice_index_or self.now.nodes.items id Node.Nil }
+    {
+        match self.nodes.get(id as usize) {
+            Some(node) => *node,
+            None => Node::Nil,
+        }
+    }
+
+    /// The node with a number; nil where there is none.
+    pub fn node(&self, id: NodeId) -> Node
+        ensures node { result ≡ slice_index_or self.now.nodes.items id Node.Nil }
+        // Its tree is made of its parts' trees.
+        ensures tree { tree_at self.now.nodes.items id ≡ node_tree self.now.nodes.items result }
+        ensures parts { HasPartsBefore id result }
+    {
+        self.entry(id)
+    }
 }
