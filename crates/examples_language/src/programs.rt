@@ -33,33 +33,78 @@ fn shown(alloc: Global, source: &[u8]) -> Result<String, AllocError> {
     }
 }
 
-/// Sources with their nodes. The name `puts` has the number 0.
+/// Sources with their nodes.
 const SHAPES: &str = "\
-\x20-> Sequence(0, 0)
-;^n; -> Sequence(0, 0)
-9 - 4 - 3 -> Int(9), Int(4), Binary(Subtract, 0, 1), Int(3), Binary(Subtract, 2, 3), Item(4), Sequence(5, 1)
-x -1 -> Call(Sym(1)), Int(1), Binary(Subtract, 0, 1), Item(2), Sequence(3, 1)
-puts -1 -> Int(-1), Item(0), Puts(1, 1), Item(2), Sequence(3, 1)
-puts - 1 -> Puts(0, 0), Int(1), Binary(Subtract, 0, 1), Item(2), Sequence(3, 1)
-puts = 1; puts -1 -> Int(1), Assign(Sym(0), 0), Local(Sym(0)), Int(1), Binary(Subtract, 2, 3), Item(1), Item(4), Sequence(5, 2)
-puts(1, 2) -> Int(1), Int(2), Item(0), Item(1), Puts(2, 2), Item(4), Sequence(5, 1)
-puts() -> Puts(0, 0), Item(0), Sequence(1, 1)
-puts (1) + 2 -> Int(1), Item(0), Sequence(1, 1), Int(2), Binary(Add, 2, 3), Item(4), Puts(5, 1), Item(6), Sequence(7, 1)
-a = a -> Local(Sym(1)), Assign(Sym(1), 0), Item(1), Sequence(2, 1)
-a = b = nil -> Nil, Assign(Sym(2), 0), Assign(Sym(1), 1), Item(2), Sequence(3, 1)
--9223372036854775808 -> Int(-9223372036854775808), Item(0), Sequence(1, 1)
-- 1 -> Int(1), Negate(0), Item(1), Sequence(2, 1)
-if 1 then 2 end -> Int(1), Int(2), Item(1), Sequence(2, 1), Nil, Choose(0, 3, 4), Item(5), Sequence(6, 1)
-if 1^nthen elsif 3; 4 else 'a' end -> Int(1), Sequence(1, 0), Int(3), Int(4), Item(3), Sequence(4, 1), Text(0), Item(6), Sequence(7, 1), Choose(2, 5, 8), Choose(0, 1, 9), Item(10), Sequence(11, 1)
--7 -> Int(-7), Item(0), Sequence(1, 1)
--^n7 -> Int(7), Negate(0), Item(1), Sequence(2, 1)
-- # c^n7 -> Int(7), Negate(0), Item(1), Sequence(2, 1)
-1 --^n7 -> Int(1), Int(7), Negate(1), Binary(Subtract, 0, 2), Item(3), Sequence(4, 1)
-puts -^n1 -> Puts(0, 0), Int(1), Binary(Subtract, 0, 1), Item(2), Sequence(3, 1)
-a? -> Call(Sym(1)), Item(0), Sequence(1, 1)
-a! -1 -> Call(Sym(1)), Int(1), Binary(Subtract, 0, 1), Item(2), Sequence(3, 1)
-a = 1; a?; a -> Int(1), Assign(Sym(1), 0), Call(Sym(2)), Local(Sym(1)), Item(1), Item(2), Item(3), Sequence(4, 3)
-puts a? -> Call(Sym(1)), Item(0), Puts(1, 1), Item(2), Sequence(3, 1)
+\x20-> Sequence { first: 0, count: 0 }
+;^n; -> Sequence { first: 0, count: 0 }
+9 - 4 - 3 -> Int(9), Int(4), Binary(Subtract, 0, 1), Int(3), Binary(Subtract, 2, 3), Item(4), Sequence { first: 5, count: 1 }
+x -1 -> Int(-1), Item(0), Call { name: Sym(0), first: 1, count: 1, site: 0 }, Item(2), Sequence { first: 3, count: 1 }
+x - 1 -> Bare { name: Sym(0), site: 0 }, Int(1), Binary(Subtract, 0, 1), Item(2), Sequence { first: 3, count: 1 }
+x = 1; x -1 -> Int(1), Assign { depth: 0, slot: 0, name: Sym(0), value: 0 }, Local { depth: 0, slot: 0, name: Sym(0) }, Int(1), Binary(Subtract, 2, 3), Item(1), Item(4), Sequence { first: 5, count: 2 }
+puts -1 -> Int(-1), Item(0), Call { name: Sym(0), first: 1, count: 1, site: 0 }, Item(2), Sequence { first: 3, count: 1 }
+puts - 1 -> Bare { name: Sym(0), site: 0 }, Int(1), Binary(Subtract, 0, 1), Item(2), Sequence { first: 3, count: 1 }
+puts(1, 2) -> Int(1), Int(2), Item(0), Item(1), Call { name: Sym(0), first: 2, count: 2, site: 0 }, Item(4), Sequence { first: 5, count: 1 }
+puts() -> Call { name: Sym(0), first: 0, count: 0, site: 0 }, Item(0), Sequence { first: 1, count: 1 }
+foo(bar(), 1) -> Call { name: Sym(1), first: 0, count: 0, site: 0 }, Int(1), Item(0), Item(1), Call { name: Sym(0), first: 2, count: 2, site: 1 }, Item(4), Sequence { first: 5, count: 1 }
+puts (1) + 2 -> Int(1), Item(0), Sequence { first: 1, count: 1 }, Int(2), Binary(Add, 2, 3), Item(4), Call { name: Sym(0), first: 5, count: 1, site: 0 }, Item(6), Sequence { first: 7, count: 1 }
+a = a -> Local { depth: 0, slot: 0, name: Sym(0) }, Assign { depth: 0, slot: 0, name: Sym(0), value: 0 }, Item(1), Sequence { first: 2, count: 1 }
+a = b = nil -> Nil, Assign { depth: 0, slot: 1, name: Sym(1), value: 0 }, Assign { depth: 0, slot: 0, name: Sym(0), value: 1 }, Item(2), Sequence { first: 3, count: 1 }
+c; a = b = 1; a = c -> Bare { name: Sym(0), site: 0 }, Int(1), Assign { depth: 0, slot: 1, name: Sym(2), value: 1 }, Assign { depth: 0, slot: 0, name: Sym(1), value: 2 }, Bare { name: Sym(0), site: 1 }, Assign { depth: 0, slot: 0, name: Sym(1), value: 4 }, Item(0), Item(3), Item(5), Sequence { first: 6, count: 3 }
+-9223372036854775808 -> Int(-9223372036854775808), Item(0), Sequence { first: 1, count: 1 }
+- 1 -> Int(1), Negate(0), Item(1), Sequence { first: 2, count: 1 }
+if 1 then 2 end -> Int(1), Int(2), Item(1), Sequence { first: 2, count: 1 }, Nil, Choose(0, 3, 4), Item(5), Sequence { first: 6, count: 1 }
+if 1^nthen elsif 3; 4 else 'a' end -> Int(1), Sequence { first: 1, count: 0 }, Int(3), Int(4), Item(3), Sequence { first: 4, count: 1 }, Text(0), Item(6), Sequence { first: 7, count: 1 }, Choose(2, 5, 8), Choose(0, 1, 9), Item(10), Sequence { first: 11, count: 1 }
+-7 -> Int(-7), Item(0), Sequence { first: 1, count: 1 }
+-^n7 -> Int(7), Negate(0), Item(1), Sequence { first: 2, count: 1 }
+- # c^n7 -> Int(7), Negate(0), Item(1), Sequence { first: 2, count: 1 }
+1 --^n7 -> Int(1), Int(7), Negate(1), Binary(Subtract, 0, 2), Item(3), Sequence { first: 4, count: 1 }
+puts -^n1 -> Bare { name: Sym(0), site: 0 }, Int(1), Binary(Subtract, 0, 1), Item(2), Sequence { first: 3, count: 1 }
+a? -> Bare { name: Sym(0), site: 0 }, Item(0), Sequence { first: 1, count: 1 }
+a! -1 -> Int(-1), Item(0), Call { name: Sym(0), first: 1, count: 1, site: 0 }, Item(2), Sequence { first: 3, count: 1 }
+a = 1; a?; a -> Int(1), Assign { depth: 0, slot: 0, name: Sym(0), value: 0 }, Bare { name: Sym(1), site: 0 }, Local { depth: 0, slot: 0, name: Sym(0) }, Item(1), Item(2), Item(3), Sequence { first: 4, count: 3 }
+puts a? -> Bare { name: Sym(1), site: 0 }, Item(0), Call { name: Sym(0), first: 1, count: 1, site: 1 }, Item(2), Sequence { first: 3, count: 1 }
+a && b || c -> Bare { name: Sym(0), site: 0 }, Bare { name: Sym(1), site: 1 }, And(0, 1), Bare { name: Sym(2), site: 2 }, Or(2, 3), Item(4), Sequence { first: 5, count: 1 }
+a || b && c -> Bare { name: Sym(0), site: 0 }, Bare { name: Sym(1), site: 1 }, Bare { name: Sym(2), site: 2 }, And(1, 2), Or(0, 3), Item(4), Sequence { first: 5, count: 1 }
+a = 1 == 2 ||^n3 || 4 -> Int(1), Int(2), Binary(Equal, 0, 1), Int(3), Or(2, 3), Int(4), Or(4, 5), Assign { depth: 0, slot: 0, name: Sym(0), value: 6 }, Item(7), Sequence { first: 8, count: 1 }
+puts! 1 -> Int(1), Item(0), Call { name: Sym(0), first: 1, count: 1, site: 0 }, Item(2), Sequence { first: 3, count: 1 }
+not a == b -> Bare { name: Sym(0), site: 0 }, Bare { name: Sym(1), site: 1 }, Binary(Equal, 0, 1), Not(2), Item(3), Sequence { first: 4, count: 1 }
+!a == b -> Bare { name: Sym(0), site: 0 }, Not(0), Bare { name: Sym(1), site: 1 }, Binary(Equal, 1, 2), Item(3), Sequence { first: 4, count: 1 }
+a&&b||c and d -> Bare { name: Sym(0), site: 0 }, Bare { name: Sym(1), site: 1 }, And(0, 1), Bare { name: Sym(2), site: 2 }, Or(2, 3), Bare { name: Sym(3), site: 3 }, And(4, 5), Item(6), Sequence { first: 7, count: 1 }
+1 or 2 and not 3 -> Int(1), Int(2), Or(0, 1), Int(3), Not(3), And(2, 4), Item(5), Sequence { first: 6, count: 1 }
+a ? b : c -> Bare { name: Sym(0), site: 0 }, Bare { name: Sym(1), site: 1 }, Bare { name: Sym(2), site: 2 }, Choose(0, 1, 2), Item(3), Sequence { first: 4, count: 1 }
+1 || 2 ? 3 : 4 ? 5 : 6 -> Int(1), Int(2), Or(0, 1), Int(3), Int(4), Int(5), Int(6), Choose(4, 5, 6), Choose(2, 3, 7), Item(8), Sequence { first: 9, count: 1 }
+x = 1 if 2 -> Int(1), Assign { depth: 0, slot: 0, name: Sym(0), value: 0 }, Int(2), Nil, Choose(2, 1, 3), Item(4), Sequence { first: 5, count: 1 }
+1 unless 2 while 3 -> Int(1), Int(2), Nil, Choose(1, 2, 0), Int(3), Nil, Loop { until: false, condition: 4, body: 3 }, Item(6), Sequence { first: 7, count: 1 }
+1 until 2 and 3 -> Int(1), Int(2), Int(3), And(1, 2), Nil, Loop { until: true, condition: 3, body: 0 }, Item(5), Sequence { first: 6, count: 1 }
+while 1 do 2 end -> Int(1), Int(2), Item(1), Sequence { first: 2, count: 1 }, Loop { until: false, condition: 0, body: 3 }, Item(4), Sequence { first: 5, count: 1 }
+until 1^n2; end -> Int(1), Int(2), Item(1), Sequence { first: 2, count: 1 }, Loop { until: true, condition: 0, body: 3 }, Item(4), Sequence { first: 5, count: 1 }
+unless 1 then 2 else 3 end -> Int(1), Int(2), Item(1), Sequence { first: 2, count: 1 }, Int(3), Item(4), Sequence { first: 5, count: 1 }, Choose(0, 6, 3), Item(7), Sequence { first: 8, count: 1 }
+if not 1 then 2 end -> Int(1), Not(0), Int(2), Item(2), Sequence { first: 3, count: 1 }, Nil, Choose(1, 4, 5), Item(6), Sequence { first: 7, count: 1 }
+x = y = z 1 -> Int(1), Item(0), Call { name: Sym(2), first: 1, count: 1, site: 0 }, Assign { depth: 0, slot: 1, name: Sym(1), value: 2 }, Assign { depth: 0, slot: 0, name: Sym(0), value: 3 }, Item(4), Sequence { first: 5, count: 1 }
+puts puts 1 -> Int(1), Item(0), Call { name: Sym(0), first: 1, count: 1, site: 0 }, Item(2), Call { name: Sym(0), first: 3, count: 1, site: 1 }, Item(4), Sequence { first: 5, count: 1 }
+a b c, d -> Bare { name: Sym(2), site: 0 }, Bare { name: Sym(3), site: 1 }, Item(0), Item(1), Call { name: Sym(1), first: 2, count: 2, site: 2 }, Item(4), Call { name: Sym(0), first: 5, count: 1, site: 3 }, Item(6), Sequence { first: 7, count: 1 }
+puts !1 -> Int(1), Not(0), Item(1), Call { name: Sym(0), first: 2, count: 1, site: 0 }, Item(3), Sequence { first: 4, count: 1 }
+[] -> Array { first: 0, count: 0 }, Item(0), Sequence { first: 1, count: 1 }
+[1, 2,] -> Int(1), Int(2), Item(0), Item(1), Array { first: 2, count: 2 }, Item(4), Sequence { first: 5, count: 1 }
+foo(1,) -> Int(1), Item(0), Call { name: Sym(0), first: 1, count: 1, site: 0 }, Item(2), Sequence { first: 3, count: 1 }
+puts [1] -> Int(1), Item(0), Array { first: 1, count: 1 }, Item(2), Call { name: Sym(0), first: 3, count: 1, site: 0 }, Item(4), Sequence { first: 5, count: 1 }
+puts [1][0] -> Int(1), Item(0), Array { first: 1, count: 1 }, Int(0), Index(2, 3), Item(4), Call { name: Sym(0), first: 5, count: 1, site: 0 }, Item(6), Sequence { first: 7, count: 1 }
+a[0] -> Bare { name: Sym(0), site: 0 }, Int(0), Index(0, 1), Item(2), Sequence { first: 3, count: 1 }
+a.b -> Bare { name: Sym(0), site: 0 }, Send { receiver: 0, name: Sym(1), first: 1, count: 0, site: 1 }, Item(1), Sequence { first: 2, count: 1 }
+a.b(1)^n.c -> Bare { name: Sym(0), site: 0 }, Int(1), Item(1), Send { receiver: 0, name: Sym(1), first: 2, count: 1, site: 1 }, Send { receiver: 3, name: Sym(2), first: 4, count: 0, site: 2 }, Item(4), Sequence { first: 5, count: 1 }
+-2.abs -> Int(-2), Send { receiver: 0, name: Sym(0), first: 1, count: 0, site: 0 }, Item(1), Sequence { first: 2, count: 1 }
+- 2.abs -> Int(2), Send { receiver: 0, name: Sym(0), first: 1, count: 0, site: 0 }, Negate(1), Item(2), Sequence { first: 3, count: 1 }
+!a.b == c -> Bare { name: Sym(0), site: 0 }, Send { receiver: 0, name: Sym(1), first: 1, count: 0, site: 1 }, Not(1), Bare { name: Sym(2), site: 2 }, Binary(Equal, 2, 3), Item(4), Sequence { first: 5, count: 1 }
+:a; self -> Symbol(Sym(0)), Itself, Item(0), Item(1), Sequence { first: 2, count: 2 }
+@a = $b = A -> Constant(Plain(Sym(2))), SetGlobal(Sym(1), 0), SetField(Sym(0), 1), Item(2), Sequence { first: 3, count: 1 }
+@a + $b -> Field(Sym(0)), Global(Sym(1)), Binary(Add, 0, 1), Item(2), Sequence { first: 3, count: 1 }
+{a: 1, 'b' => 2,} -> Int(1), Symbol(Sym(0)), Pair(1, 0), Text(0), Int(2), Pair(3, 4), Item(2), Item(5), Hash { first: 6, count: 2 }, Item(8), Sequence { first: 9, count: 1 }
+p({}) -> Hash { first: 0, count: 0 }, Item(0), Call { name: Sym(0), first: 1, count: 1, site: 0 }, Item(2), Sequence { first: 3, count: 1 }
+x += 1 -> Int(1), Local { depth: 0, slot: 0, name: Sym(0) }, OperatorAssign(Add, 1, 0), Item(2), Sequence { first: 3, count: 1 }
+x = 1; x -= 2 * 3 -> Int(1), Assign { depth: 0, slot: 0, name: Sym(0), value: 0 }, Int(2), Int(3), Binary(Multiply, 2, 3), Local { depth: 0, slot: 0, name: Sym(0) }, OperatorAssign(Subtract, 5, 4), Item(1), Item(6), Sequence { first: 7, count: 2 }
+@a ||= $b &&= 1 -> Int(1), Global(Sym(1)), AndAssign(1, 0), Field(Sym(0)), OrAssign(3, 2), Item(4), Sequence { first: 5, count: 1 }
+puts x *= 1 -> Int(1), Local { depth: 0, slot: 0, name: Sym(1) }, OperatorAssign(Multiply, 1, 0), Item(2), Call { name: Sym(0), first: 3, count: 1, site: 0 }, Item(4), Sequence { first: 5, count: 1 }
+x /= y %= puts 1 -> Int(1), Item(0), Call { name: Sym(2), first: 1, count: 1, site: 0 }, Local { depth: 0, slot: 1, name: Sym(1) }, OperatorAssign(Remainder, 3, 2), Local { depth: 0, slot: 0, name: Sym(0) }, OperatorAssign(Divide, 5, 4), Item(6), Sequence { first: 7, count: 1 }
 ";
 
 /// Sources that are refused.
@@ -72,20 +117,52 @@ if 1 2 end -> 1:6 unexpected token
 if 1; else; 2; elsif 3; end -> 1:16 unexpected token
 1 + -> 1:4 unexpected end
 1 + puts 2 -> 1:10 unexpected token
-x = puts 1 -> 1:10 unexpected token
-foo 1 -> 1:5 unexpected token
-foo(1) -> 1:4 unexpected token
+puts (x = puts 1), y = puts 2 -> 1:29 unexpected token
+1 + foo 2 -> 1:9 unexpected token
+foo 1 2 -> 1:7 unexpected token
+foo(1 -> 1:6 unexpected end
+foo(,) -> 1:5 unexpected token
+1 += 2 -> 1:3 unexpected token
+x += -> 1:5 unexpected end
+a? += 1 -> 1:4 unexpected token
+foo(1,, 2) -> 1:7 unexpected token
+foo 1, -> 1:7 unexpected end
+[1 -> 1:3 unexpected end
+[,] -> 1:2 unexpected token
+x = 1; x [1] -> 1:10 unexpected token
+1 + a.b 2 -> 1:6 unexpected token
+a.1 -> 1:2 unexpected token
+{a: 1 -> 1:6 unexpected end
+{1} -> 1:3 unexpected token
+a[] -> 1:3 unexpected token
+a[1, 2] -> 1:4 unexpected token
+foo = foo 1 -> 1:11 unexpected token
 puts (1, 2) -> 1:8 unexpected token
 1 == 2 == 3 -> 1:8 unexpected token
 1 = 2 -> 1:3 unexpected token
-while 1 -> 1:1 unexpected token
+a || x = 1 -> 1:8 unexpected token
+a && -> 1:5 unexpected end
+while 1 -> 1:8 unexpected end
+while 1 end -> 1:9 unexpected token
+while 1; 2 -> 1:11 unexpected end
+x = not 1 -> 1:5 unexpected token
+1 + not 2 -> 1:5 unexpected token
+puts not 1 -> 1:6 unexpected token
+not -> 1:4 unexpected end
+1 and -> 1:6 unexpected end
+1 if -> 1:5 unexpected end
+1 ? 2 -> 1:6 unexpected end
+1 ? 2 ; 3 -> 1:7 unexpected token
+a ?b :c -> 1:6 unexpected token
+1 unless 2 then 3 -> 1:12 unexpected token
+unless 1; 2; elsif 3; end -> 1:14 unexpected token
+1, 2 -> 1:2 unexpected token
 9223372036854775808 -> 1:1 number
 a = - 9223372036854775808 -> 1:7 number
 a = -^n9223372036854775808 -> 2:1 number
 a? = 1 -> 1:4 unexpected token
 a! = 1 -> 1:4 unexpected token
 b = a? = 1 -> 1:8 unexpected token
-puts! 1 -> 1:7 unexpected token
 ";
 
 fn check_rows(rt: &impl Abort, alloc: Global, rows: &str) -> Result<(), AllocError> {
@@ -117,8 +194,8 @@ fn sources_are_refused(rt: HostRuntime) -> Result<(), Fail> {
 fn names_and_texts(rt: HostRuntime) -> Result<(), Fail> {
     let program = read(rt.alloc(), b"a = \"x\\n\"; puts b, a, 'y'")?;
     assert_eq!(rt; program.symbols.len(), 3);
-    assert_eq!(rt; program.symbols[0].as_slice(), b"puts".as_slice());
-    assert_eq!(rt; program.symbols[1].as_slice(), b"a".as_slice());
+    assert_eq!(rt; program.symbols[0].as_slice(), b"a".as_slice());
+    assert_eq!(rt; program.symbols[1].as_slice(), b"puts".as_slice());
     assert_eq!(rt; program.symbols[2].as_slice(), b"b".as_slice());
     assert_eq!(rt; program.texts.len(), 2);
     assert_eq!(rt; program.texts[0].as_slice(), b"x\n".as_slice());
@@ -155,6 +232,21 @@ a = (b = 1) -> 2
 - - 1 -> 2
 puts() -> 1
 if 1 then if 2 then 3 end elsif 4 then 5 else 6 end -> 2
+!1 -> 1
+not not 1 -> 2
+puts puts puts 1 -> 2
+1 ? 2 : 3 -> 1
+1 ? 2 : 3 ? 4 : 5 -> 2
+while 1 do 2 end -> 1
+unless 1 then 2 else 3 end -> 1
+1 and 2 or 3 if 4 unless 5 -> 0
+a = b = puts 1 -> 1
+a += b -= 1 -> 1
+[[1]] -> 2
+a[b[0]] -> 2
+{a: 1} -> 1
+a.b(c.d(1)) -> 2
+a.b.c[0][1] -> 1
 ";
 
 #[test]

@@ -3,7 +3,7 @@ use Rattle.std.proofs.Common.{◌≡◌, ℕ, zero, suc, ◌<◌, ◌≤◌, len
 use Rattle.rr_parser.specs.declared.word.WordKind.{WordKind}
 use Rattle.rr_parser.specs.Places.{Place, Look, word, at, next}
 use Rattle.rr_parser.specs.Grammar.Chains.{Chain, one, more}
-use Rattle.rr_parser.specs.Reading.Answers.{◌>>=◌, Refused, Answer, Parse, built, ended_by, closed, turn, chain_from, chain_on, chain}
+use Rattle.rr_parser.specs.Reading.Answers.{◌>>=◌, Refused, Answer, Parse, built, ended_by, closed, from, on_seen, across, turn, chain_from, chain_on, chain}
 use Rattle.rr_parser.proofs.Told.{Told}
 use Rattle.rr_parser.proofs.Looks.{left, Steps, word-next}
 
@@ -55,6 +55,37 @@ IsShrinking {A} P = (s z : Place) (t : A) → P s t z → left z ≤ left s
 
 pub shrinks_by : {A : Type 0} (p : Parse A) (P : Place → A → Place → Type 0) → IsSound p P → IsShrinking P → Shrinks p
 shrinks_by p P sound smaller s z t e = smaller s z t (sound s z t e)
+
+-- what goes on from what U spells reads only what P spells
+abbrev pub IsSoundOn : {A B : Type 0} → (A → Parse B) → (Place → A → Place → Type 0) → (Place → B → Place → Type 0) → Type 0
+IsSoundOn {A} {B} on U P = (s m z : Place) (l : A) (t : B) → U s l m → on l m ≡ Ok (t, z) → P s t z
+
+pub from_sound : {A B : Type 0} (p : Parse A) (on : A → Parse B) (U : Place → A → Place → Type 0) (P : Place → B → Place → Type 0) → IsSound p U → IsSoundOn on U P → IsSound (from p on) P
+from_sound p on U P sound sound_on s z t e =
+    let b = bind_ok (p s) (λ x. on x.0 x.1) (t, z) e in
+    sound_on s b.0.1 z b.0.0 t (sound s b.0.1 b.0.0 b.1) b.2
+
+-- what was read, what was seen behind it, and what was read there
+pub record Across {A B C : Type 0} (f : A → B → C) (look : Look (Unit {0})) (p : Parse B) (r : Answer A) (z : Place) (t : C) : Type 0 where
+  pub a : A
+  pub m : Place
+  pub n : Place
+  pub u : Unit {0}
+  pub b : B
+  pub former : r ≡ Ok (a, m)
+  pub seen : at look m ≡ Some (u, n)
+  pub latter : p n ≡ Ok (b, z)
+  pub tree : t ≡ f a b
+
+pub across_ok : {A B C : Type 0} (f : A → B → C) (look : Look (Unit {0})) (p : Parse B) (r : Answer A) (z : Place) (t : C) → across f look p r ≡ Ok (t, z) → Across f look p r z t
+across_ok f look p (Err d) z t e = absurd cc
+across_ok {A} {B} {C} f look p (Ok a) z t e = by_look (at look a.1) refl e
+  where
+    by_look : (o : Option (Unit {0} × Place)) → at look a.1 ≡ o → on_seen (f a.0) p o ≡ Ok (t, z) → Across f look p (Ok a) z t
+    by_look None g h = absurd cc
+    by_look (Some x) g h =
+        let b = built_ok (f a.0) (p x.1) t z h in
+        record { a = a.0; m = a.1; n = x.1; u = x.0; b = b.0; former = refl; seen = g; latter = b.1; tree = b.2 }
 
 -- ---- chains
 
@@ -119,6 +150,10 @@ module _ {X R S : Type 0} (between step : Look X) (first : R → S) (join : X �
   unfolding chain_from
   chain_from-sound zero s l m z t c e = at_answer (Chain between first join P s) l t m z e c
   chain_from-sound (suc n) s l m z t c e = turn_sound (chain_from step join p n) s l m z t (at step m) refl c (λ u o d f. chain_from-sound n s u o z t d f) e
+
+  pub chain_on-sound : (s : Place) (l : S) (m z : Place) (t : S) → Chain between first join P s l m → chain_on step join p l m ≡ Ok (t, z) → Chain between first join P s t z
+  unfolding chain_on
+  chain_on-sound s l m z t c e = chain_from-sound (length m.rest) s l m z t c e
 
   pub chain_sound : IsSound (chain step first join p) (Chain between first join P)
   unfolding chain chain_on

@@ -1,33 +1,42 @@
 -- Reading is too deep only where the constructs that are begun pass the limit.
 use Rattle.std.proofs.Common.{◌≡◌, ℕ, zero, suc, pos, ◌⊎◌, inl, inr, Bool, true, false, cond, List, [], ◌∷◌, length, Option, Some, None, Result, Ok, Err, refl}
-use Rattle.rr_parser.specs.Reading.Answers.{ended_by, turn, chain_from, chain_on}
 use Rattle.rr_base.specs.declared.name.Sym.{Sym}
 use Rattle.rr_tree.specs.declared.node.BinaryOperator.{BinaryOperator}
-use Rattle.rr_tree.specs.Tree.{Tree, int, local, call, negate, binary, assign, sequence, puts, listed}
+use Rattle.rr_tree.specs.Tree.{Tree, int, local, bare, call, negate, binary, sequence, choose, repeat, send, index, array, hash, pair, symbol, logical_not, listed}
+use Rattle.rr_parser.specs.declared.word.Tail.{Tail}
+use Rattle.rr_parser.specs.declared.word.Tail.TheVariants as tails
+use Rattle.rr_parser.specs.declared.word.Aim.{Aim}
+use Rattle.rr_parser.specs.declared.word.Listed.{Listed}
+use Rattle.rr_parser.specs.declared.word.Listed.TheVariants as listings
+use Rattle.rr_parser.specs.declared.word.Part.{Part}
+use Rattle.rr_parser.specs.declared.word.Part.TheVariants as parts
 use Rattle.rr_parser.specs.declared.word.WordKind.{WordKind}
 use Rattle.rr_parser.specs.declared.word.WordKind.TheVariants as kind
 use Rattle.rr_parser.specs.declared.word.Word.{Word}
 use Rattle.rr_parser.specs.Places.{Place, Look, word, at, next, skip, separators, start}
 use Rattle.rr_parser.specs.Grammar.Chains.{Chain, one, more, same, one_of, and_one}
 use Rattle.rr_parser.specs.Grammar.Nesting.{Nested}
-use Rattle.rr_parser.specs.Grammar.Names.{is_puts, is_local, with_local, bracket, begins_operands}
-use Rattle.rr_parser.specs.Grammar.Operands.{fits, fits_below, negated, joined}
-use Rattle.rr_parser.specs.Grammar.Operators.{operator, Binary}
-use Rattle.rr_parser.specs.Grammar.Calls.{comma}
-use Rattle.rr_parser.specs.Grammar.Control.{thens, elsif, chosen, Statement, Branch, Branches}
+use Rattle.rr_parser.specs.Grammar.Names.{is_local, slot_of, name, bracket, begins_operands, command}
+use Rattle.rr_parser.specs.Grammar.Operands.{fits, fits_below, negated, joined, literal_of, construct_of, tail, Primary, Tailed, Minus}
+use Rattle.rr_parser.specs.Grammar.Operators.{operator, connective, joined_by, Binary, Logical}
+use Rattle.rr_parser.specs.Grammar.Calls.{target, with_target, assigned_to, label, comma, closing, last, Argument, Member}
+use Rattle.rr_parser.specs.Grammar.Sequences.{Negation, Expression, modifier, modified, Statement}
+use Rattle.rr_parser.specs.Grammar.Control.{thens, loops, elsif, chosen, unless_chosen, Branch, Branches}
 use Rattle.rr_parser.specs.Grammar.{inside, outside}
-use Rattle.rr_parser.specs.Reading.Answers.{◌>>=◌, Refused, wrong, deep, Answer, Parse, built, closed, chain}
+use Rattle.rr_parser.specs.Reading.Answers.{◌>>=◌, Refused, wrong, deep, Answer, Parse, built, ended_by, closed, from, on_seen, across, trail_on, turn, chain_from, chain_on, chain}
 use Rattle.rr_parser.specs.Reading.Nesting.{Readers}
-use Rattle.rr_parser.specs.Reading.Operands.{bare_puts, name_or, name_of, int_at, negative_in, negative_of, group_of, primary_at, primary_in, primary_of, prefix_minus, minus_or, minus_of}
-use Rattle.rr_parser.specs.Reading.Operators.{binary_of, pair_or, equality_of}
-use Rattle.rr_parser.specs.Reading.Calls.{target, argument_or, argument_of, arguments_of, bracketed_or, bracketed_of}
-use Rattle.rr_parser.specs.Reading.Control.{command, statement_or, statement_of, ends, row, rows_of, sequence_of, statements_of, branch_on, branch_of, branches_of, otherwise_or, otherwise_of, choice_of}
-use Rattle.rr_parser.specs.Reading.{readers_inside, readers_outside, readers, whole_of, program_of}
-use Rattle.rr_parser.specs.Fronts.{Fronts, ChainFront, in_one, in_more, PrimaryFront, in_group, in_puts, in_if, MinusFront, in_minus, in_primary, BinaryFront, EqualityFront, in_left, in_right, ArgumentFront, in_value, in_equality, ArgumentsFront, StatementFront, in_command, in_argument, RowsFront, StatementsFront, BranchFront, in_condition, in_body, BranchesFront, ChoiceFront, in_branches, in_else, fronts_inside, fronts_outside}
-use Rattle.rr_parser.proofs.Told.{told_else}
-use Rattle.rr_parser.proofs.Looks.{word-next, row-separators, prefix-next, target-next, command-next}
+use Rattle.rr_parser.specs.Reading.Operands.{bare_call, name_or, name_of, int_at, negative_in, negative_of, begun, primary_at, primary_in, primary_of, tailed_of, postfix_of, bang_or, bang_of, prefix_minus, minus_or, minus_of}
+use Rattle.rr_parser.specs.Reading.Operators.{binary_on, binary_of, pair_or, equality_on, logical_on, logical_of, question_or, ternary_on, ternary_of}
+use Rattle.rr_parser.specs.Reading.Calls.{assigned_or, assigned_of, argument_of, pair_by, pair_of, member_of, another, members_of, bracketed_or, bracketed_of, array_of, hash_of, index_of, commanded_or, commanded_of, command_or, command_of, phrase_or, phrase_of, operand_of, value_of}
+use Rattle.rr_parser.specs.Reading.Sequences.{negation_or, negation_of, expression_of, statement_of, ends, row, rows_of, sequence_of, statements_of, group_of}
+use Rattle.rr_parser.specs.Reading.Control.{both, branch_of, branches_of, otherwise_or, otherwise_of, ended, choice_of, unless_of, loop_of}
+use Rattle.rr_parser.specs.Reading.{part_of, readers_inside, readers_outside, readers, whole_of, program_of}
+use Rattle.rr_parser.specs.Fronts.{Fronts, ChainFront, in_one, in_more, in_head, TailedFront, PostfixFront, PairFront, behind_label, in_entry, MemberFront, MembersFront, AcrossFront, in_former, in_latter, PrimaryFront, in_construct, in_call, BangFront, in_bang, behind_no_bang, MinusFront, in_minus, behind_no_minus, BinaryFront, EqualityFront, LogicalFront, TernaryFront, AssignedFront, in_value, in_operand, ArgumentFront, CommandedFront, in_arguments, in_argument_command, CommandFront, behind_name, PhraseFront, in_command, in_plain, OperandFront, ValueFront, NegationFront, in_negation, behind_no_negation, ExpressionFront, StatementFront, RowsFront, StatementsFront, BranchFront, BranchesFront, EndedFront, LoopFront, PartFront, fronts_inside, fronts_outside}
+use Rattle.rr_parser.proofs.Told.{told_bang, told_not}
+use Rattle.rr_parser.proofs.Looks.{word-next, another-comma, next-name, row-separators, prefix-next}
+use Rattle.rr_parser.proofs.Trails.{trail_deep}
 use Rattle.rr_parser.proofs.Chains.{done, IsSound}
-use Rattle.rr_parser.proofs.Sound.{NestedSound, binary_sound, argument_sound, statement_sound, branch_sound, branches_sound, sound_inside, sound_outside}
+use Rattle.rr_parser.proofs.Sound.{NestedSound, primary_sound, tailed_sound, member_sound, minus_sound, binary_sound_on, binary_sound, logical_sound_on, logical_sound, argument_sound, negation_sound, expression_sound, statement_sound, branch_sound, branches_sound, sound_inside, sound_outside}
 
 abbrev pub IsDeep : {A : Type 0} → Parse A → (Place → Place → Type 0) → Type 0
 IsDeep {A} p F = (s : Place) → p s ≡ Err deep → (z : Place) × F s z
@@ -51,6 +60,30 @@ closed_deep k (Ok x) e = absurd (ended_not_deep x.0 (at (word k) x.1) e)
 closed_deep k (Err wrong) e = absurd cc
 closed_deep k (Err deep) e = refl
 
+-- what goes on from what U spells is too deep only where F tells so
+abbrev pub IsDeepOn : {A B : Type 0} → (A → Parse B) → (Place → A → Place → Type 0) → (Place → Place → Type 0) → Type 0
+IsDeepOn {A} {B} on U F = (s m : Place) (l : A) → U s l m → on l m ≡ Err deep → (z : Place) × F s z
+
+from_deep : {A B : Type 0} (p : Parse A) (on : A → Parse B) (U : Place → A → Place → Type 0) (F : Place → Place → Type 0) → IsSound p U → IsDeepOn on U F → IsDeep p F → IsDeep (from p on) F
+from_deep p on U F sound deep_on first s e =
+    elim (bind_deep (p s) (λ x. on x.0 x.1) e) [
+      | inl g ↦ first s g
+      | inr b ↦ deep_on s b.0.1 b.0.0 (sound s b.0.1 b.0.0 b.1) b.2
+    ]
+
+-- two parts with something between them
+across_deep : {A B C : Type 0} (f : A → B → C) (look : Look (Unit {0})) (p : Parse B) (r : Answer A) (s : Place) (P : Place → A → Place → Type 0) (F G : Place → Place → Type 0)
+    → ((a : A) (m : Place) → r ≡ Ok (a, m) → P s a m) → (r ≡ Err deep → (z : Place) × F s z) → IsDeep p G → across f look p r ≡ Err deep → (z : Place) × AcrossFront look P F G s z
+across_deep {A} {B} {C} f look p r s P F G sound first second e =
+    elim (bind_deep r (λ a. on_seen (f a.0) p (at look a.1)) e) [
+      | inl g ↦ (let d = first g in (d.0, in_former d.1))
+      | inr b ↦ by_look b.0.0 b.0.1 (sound b.0.0 b.0.1 b.1) (at look b.0.1) refl b.2
+    ]
+  where
+    by_look : (a : A) (m : Place) → P s a m → (o : Option (Unit {0} × Place)) → at look m ≡ o → on_seen (f a) p o ≡ Err deep → (z : Place) × AcrossFront look P F G s z
+    by_look a m h None g i = absurd cc
+    by_look a m h (Some x) g i = let d = second x.1 (built_deep (f a) (p x.1) i) in (d.0, in_latter {x = x.0} h g d.1)
+
 -- ---- chains
 
 module _ {X R S : Type 0} (between step : Look X) (first : R → S) (join : X → S → R → S) (p : Parse R) (P : Place → R → Place → Type 0) (F : Place → Place → Type 0)
@@ -65,17 +98,22 @@ module _ {X R S : Type 0} (between step : Look X) (first : R → S) (join : X �
         | inr b ↦ i (join x.0 l b.0.0) b.0.1 (more c (steps m x.1 x.0 f) (sound x.1 b.0.1 b.0.0 b.1)) b.2
       ]
 
-  from_deep : (n : ℕ) (s : Place) (l : S) (m : Place) → Chain between first join P s l m → chain_from step join p n l m ≡ Err deep → (z : Place) × ChainFront between (Chain between first join P) F s z
+  turns_deep : (n : ℕ) (s : Place) (l : S) (m : Place) → Chain between first join P s l m → chain_from step join p n l m ≡ Err deep → (z : Place) × ChainFront between (Chain between first join P) F s z
   unfolding chain_from
-  from_deep zero s l m c e = absurd cc
-  from_deep (suc n) s l m c e = turn_deep (chain_from step join p n) s l m (at step m) refl c (λ u o d f. from_deep n s u o d f) e
+  turns_deep zero s l m c e = absurd cc
+  turns_deep (suc n) s l m c e = turn_deep (chain_from step join p n) s l m (at step m) refl c (λ u o d f. turns_deep n s u o d f) e
+
+  -- the same from what has come of it
+  pub on_deep : (s : Place) (l : S) (m : Place) → Chain between first join P s l m → chain_on step join p l m ≡ Err deep → (z : Place) × ChainFront between (Chain between first join P) F s z
+  unfolding chain_on
+  on_deep s l m c e = turns_deep (length m.rest) s l m c e
 
   pub chain_deep : IsDeep (chain step first join p) (ChainFront between (Chain between first join P) F)
   unfolding chain chain_on
   chain_deep s e =
       elim (bind_deep (p s) (λ r. chain_from step join p (length r.1.rest) (first r.0) r.1) e) [
         | inl g ↦ (let d = is_deep s g in (d.0, in_one d.1))
-        | inr b ↦ from_deep (length b.0.1.rest) s (first b.0.0) b.0.1 (one (sound s b.0.1 b.0.0 b.1)) b.2
+        | inr b ↦ turns_deep (length b.0.1.rest) s (first b.0.0) b.0.1 (one (sound s b.0.1 b.0.0 b.1)) b.2
       ]
 
 -- ---- each reader
@@ -92,32 +130,29 @@ negative_not_deep : (o : Option (ℕ × Place)) → negative_in o ≡ Err deep �
 negative_not_deep None e = let never : ⊥ = cc in never
 negative_not_deep (Some n) e = below_not_deep (fits_below n.0) n.0 n.1 e
 
-bare_not_deep : (b : Bool) (m : Place) → cond b (Err wrong) (done (puts (listed [])) m) ≡ Err deep → ⊥
-bare_not_deep true m e = let never : ⊥ = cc in never
-bare_not_deep false m e = let never : ⊥ = cc in never
+bare_not_deep : (b : Bool) (x : Sym) (m : Place) → cond b (Err wrong) (done (bare x.0) m) ≡ Err deep → ⊥
+bare_not_deep true x m e = let never : ⊥ = cc in never
+bare_not_deep false x m e = let never : ⊥ = cc in never
 
-plain_not_deep : (b c : Bool) (x : Sym) (m : Place) → cond b (done (local x.0) m) (cond c (bare_puts m) (done (call x.0) m)) ≡ Err deep → ⊥
-plain_not_deep true c x m e = let never : ⊥ = cc in never
-plain_not_deep false true x m e = bare_not_deep (begins_operands m.rest) m e
-plain_not_deep false false x m e = let never : ⊥ = cc in never
+plain_not_deep : (b : Bool) (x : Sym) (m : Place) → cond b (done (local 0 (slot_of x m) x.0) m) (bare_call x m) ≡ Err deep → ⊥
+plain_not_deep true x m e = let never : ⊥ = cc in never
+plain_not_deep false x m e = bare_not_deep (begins_operands m.rest) x m e
 
 pub record NestedDeep (N : Readers) (F : Fronts) : Type 0 where
-  pub statements : IsDeep N.statements F.statements
+  pub part : (p : Part) → IsDeep (N.part p) (F.part p)
   pub bracketed : IsDeep N.bracketed F.bracketed
-  pub choice : IsDeep N.choice F.choice
-  pub minus : IsDeep N.minus F.minus
-  pub value : IsDeep N.value F.value
+  pub value : (b : Bool) → IsDeep (N.value b) (F.value b)
 
 module _ (N : Readers) (R : Nested) (F : Fronts) (sounds : NestedSound N R) (nests : NestedDeep N F) where
-  name_or-deep : (s m : Place) (x : Sym) (o : Option (Unit {0} × Place)) → next s ≡ Some (kind.Name x, m) → at (bracket x) m ≡ o → name_or N x m o ≡ Err deep → (z : Place) × PrimaryFront F s z
-  name_or-deep s m x None f g e = absurd (plain_not_deep (is_local x m) (is_puts x) x m e)
+  name_or-deep : (s m : Place) (x : Sym) (o : Option (Unit {0} × Place)) → at name s ≡ Some (x, m) → at bracket m ≡ o → name_or N x m o ≡ Err deep → (z : Place) × PrimaryFront F s z
+  name_or-deep s m x None f g e = absurd (plain_not_deep (is_local x m) x m e)
   name_or-deep s m x (Some b) f g e =
-      let d = nests.bracketed b.1 (closed_deep kind.Close (N.bracketed b.1) (built_deep (λ l. puts (listed l)) (closed kind.Close (N.bracketed b.1)) e)) in
-      (d.0, in_puts {u = b.0} f g d.1)
+      let d = nests.bracketed b.1 (built_deep (λ l. call x.0 (listed l)) (N.bracketed b.1) e) in
+      (d.0, in_call {u = b.0} f g d.1)
 
-  name_deep : (s m : Place) (x : Sym) → next s ≡ Some (kind.Name x, m) → name_of N x m ≡ Err deep → (z : Place) × PrimaryFront F s z
+  name_deep : (s m : Place) (x : Sym) → at name s ≡ Some (x, m) → name_of N x m ≡ Err deep → (z : Place) × PrimaryFront F s z
   unfolding name_of
-  name_deep s m x f e = name_or-deep s m x (at (bracket x) m) f refl e
+  name_deep s m x f e = name_or-deep s m x (at bracket m) f refl e
 
   int_deep : (s m : Place) (n : ℕ) → int_at n m ≡ Err deep → (z : Place) × PrimaryFront F s z
   unfolding int_at
@@ -127,17 +162,16 @@ module _ (N : Readers) (R : Nested) (F : Fronts) (sounds : NestedSound N R) (nes
   unfolding negative_of
   negative_deep s m e = absurd (negative_not_deep (at joined m) e)
 
-  group_deep : (s m : Place) → next s ≡ Some (kind.Open, m) → group_of N m ≡ Err deep → (z : Place) × PrimaryFront F s z
-  unfolding group_of
-  group_deep s m f e = let d = nests.statements m (closed_deep kind.Close (N.statements m) e) in (d.0, in_group f d.1)
+  begun_deep : (s : Place) (k : WordKind) (m : Place) (l : Option Tree) (c : Option Part) → next s ≡ Some (k, m) → construct_of k ≡ c → begun N l c m ≡ Err deep → (z : Place) × PrimaryFront F s z
+  begun_deep s k m (Some u) c f h e = absurd cc
+  begun_deep s k m None (Some p) f h e = let d = nests.part p m e in (d.0, in_construct f h d.1)
+  begun_deep s k m None None f h e = absurd cc
 
   primary_at-deep : (s : Place) (k : WordKind) (m : Place) → next s ≡ Some (k, m) → primary_at N k m ≡ Err deep → (z : Place) × PrimaryFront F s z
   primary_at-deep s (kind.Int n) m f e = int_deep s m n e
-  primary_at-deep s (kind.Name x) m f e = name_deep s m x f e
+  primary_at-deep s (kind.Name x b) m f e = name_deep s m x (next-name s m x b f) e
   primary_at-deep s kind.Minus m f e = negative_deep s m e
-  primary_at-deep s kind.Open m f e = group_deep s m f e
-  primary_at-deep s kind.If m f e = let d = nests.choice m e in (d.0, in_if f d.1)
-  primary_at-deep s _ m f e = absurd cc
+  primary_at-deep s k m f e = begun_deep s k m (literal_of k) (construct_of k) f refl e
 
   primary_in-deep : (s : Place) (r : Option (WordKind × Place)) → next s ≡ r → primary_in N r ≡ Err deep → (z : Place) × PrimaryFront F s z
   primary_in-deep s None f e = absurd cc
@@ -147,67 +181,223 @@ module _ (N : Readers) (R : Nested) (F : Fronts) (sounds : NestedSound N R) (nes
   unfolding primary_of
   primary_deep s e = primary_in-deep s (next s) refl e
 
-  minus_or-deep : (s : Place) (o : Option (Unit {0} × Place)) → at prefix_minus s ≡ o → minus_or N s o ≡ Err deep → (z : Place) × MinusFront F s z
-  minus_or-deep s None f e = let d = primary_deep s e in (d.0, in_primary d.1)
+  tailed_deep : (x : Tail) (l : Tree) (n : Place) → tailed_of N x l n ≡ Err deep → (z : Place) × TailedFront F x n z
+  unfolding tailed_of
+  tailed_deep (tails.Send x) l n e = absurd cc
+  tailed_deep (tails.Call x) l n e = nests.bracketed n (built_deep (λ q. send l x.0 (listed q)) (N.bracketed n) e)
+  tailed_deep tails.Index l n e = nests.part parts.Index n (built_deep (index l) (N.part parts.Index n) e)
+
+  postfix_deep : IsDeep (postfix_of N) (PostfixFront R F)
+  unfolding postfix_of
+  postfix_deep =
+      from_deep (primary_of N) (trail_on tail (tailed_of N)) (Primary R) (PostfixFront R F) (primary_sound N R sounds)
+      (trail_deep tail (tailed_of N) (Primary R) (Tailed R) (tailed_sound N R sounds) (PrimaryFront F) (TailedFront F) tailed_deep (λ r f e. bind_deep r f e))
+      (λ s e. let d = primary_deep s e in (d.0, in_head d.1))
+
+  bang_or-deep : (s : Place) (o : Option (Unit {0} × Place)) → at (word kind.Bang) s ≡ o → bang_or N s o ≡ Err deep → (z : Place) × BangFront R F s z
+  bang_or-deep s None f e = let d = postfix_deep s e in (d.0, behind_no_bang d.1)
+  bang_or-deep s (Some m) f e =
+      let d = nests.part parts.Bang m.1 (built_deep logical_not (N.part parts.Bang m.1) e) in
+      (d.0, in_bang (word-next kind.Bang told_bang s m.1 m.0 f) d.1)
+
+  pub bang_deep : IsDeep (bang_of N) (BangFront R F)
+  unfolding bang_of
+  bang_deep s e = bang_or-deep s (at (word kind.Bang) s) refl e
+
+  minus_or-deep : (s : Place) (o : Option (Unit {0} × Place)) → at prefix_minus s ≡ o → minus_or N s o ≡ Err deep → (z : Place) × MinusFront R F s z
+  minus_or-deep s None f e = let d = bang_deep s e in (d.0, behind_no_minus d.1)
   minus_or-deep s (Some m) f e =
-      let d = nests.minus m.1 (built_deep negate (N.minus m.1) e) in
+      let d = nests.part parts.Minus m.1 (built_deep negate (N.part parts.Minus m.1) e) in
       let k = prefix-next s m.1 m.0 f in
       (d.0, in_minus k.0 k.1 d.1)
 
-  pub minus_deep : IsDeep (minus_of N) (MinusFront F)
+  pub minus_deep : IsDeep (minus_of N) (MinusFront R F)
   unfolding minus_of
   minus_deep s e = minus_or-deep s (at prefix_minus s) refl e
 
-  pub binary_deep : (level : ℕ) → IsDeep (binary_of N level) (BinaryFront R F level)
-  unfolding binary_of
-  binary_deep zero = minus_deep
-  binary_deep (suc level) = chain_deep (operator (suc level)) (operator (suc level)) same binary (binary_of N level) (Binary R level) (BinaryFront R F level) (λ m n x e. e) (binary_sound N R sounds level) (binary_deep level)
+  -- ---- operators
+
+  -- where the first operand is too deep, so is what it is the first of
+  binary_front : (level : ℕ) (s z : Place) → MinusFront R F s z → BinaryFront R F level s z
+  binary_front zero s z f = f
+  binary_front (suc level) s z f = in_one (binary_front level s z f)
+
+  logical_front : (level : ℕ) (s z : Place) → MinusFront R F s z → LogicalFront R F level s z
+  logical_front zero s z f = in_former (binary_front 3 s z f)
+  logical_front (suc level) s z f = in_one (logical_front level s z f)
+
+  front_first : (G : Place → Place → Type 0) → ((s z : Place) → MinusFront R F s z → G s z) → IsDeep (minus_of N) G
+  front_first G front s e = let d = minus_deep s e in (d.0, front s d.0 d.1)
+
+  binary_deep_on : (level : ℕ) → IsDeepOn (binary_on N level) (Minus R) (BinaryFront R F level)
+  unfolding binary_on
+  binary_deep_on zero s m l h e = absurd cc
+  binary_deep_on (suc level) s m l h e =
+      let p = binary_of N level in
+      let is_deep = from_deep (minus_of N) (binary_on N level) (Minus R) (BinaryFront R F level) (minus_sound N R sounds) (binary_deep_on level) (front_first (BinaryFront R F level) (binary_front level)) in
+      elim (bind_deep (binary_on N level l m) (λ x. chain_on (operator (suc level)) binary p x.0 x.1) e) [
+        | inl g ↦ (let d = binary_deep_on level s m l h g in (d.0, in_one d.1))
+        | inr b ↦ on_deep (operator (suc level)) (operator (suc level)) same binary p (Binary R level) (BinaryFront R F level) (λ m n x e. e) (binary_sound N R sounds level) is_deep
+            s b.0.0 b.0.1 (one (binary_sound_on N R sounds level s m b.0.1 l b.0.0 h b.1)) b.2
+      ]
+
+  binary_deep : (level : ℕ) → IsDeep (binary_of N level) (BinaryFront R F level)
+  binary_deep level = from_deep (minus_of N) (binary_on N level) (Minus R) (BinaryFront R F level) (minus_sound N R sounds) (binary_deep_on level) (front_first (BinaryFront R F level) (binary_front level))
 
   pair_or-deep : (s m : Place) (l : Tree) (o : Option (BinaryOperator × Place)) → Binary R 3 s l m → at (operator 4) m ≡ o → pair_or N l m o ≡ Err deep → (z : Place) × EqualityFront R F s z
   pair_or-deep s m l None h f e = absurd cc
-  pair_or-deep s m l (Some o) h f e = let d = binary_deep 3 o.1 (built_deep (binary o.0 l) (binary_of N 3 o.1) e) in (d.0, in_right h f d.1)
+  pair_or-deep s m l (Some o) h f e = let d = binary_deep 3 o.1 (built_deep (binary o.0 l) (binary_of N 3 o.1) e) in (d.0, in_latter h f d.1)
 
-  equality_deep : IsDeep (equality_of N) (EqualityFront R F)
-  unfolding equality_of
-  equality_deep s e =
-      elim (bind_deep (binary_of N 3 s) (λ l. pair_or N l.0 l.1 (at (operator 4) l.1)) e) [
-        | inl g ↦ (let d = binary_deep 3 s g in (d.0, in_left d.1))
-        | inr b ↦ pair_or-deep s b.0.1 b.0.0 (at (operator 4) b.0.1) (binary_sound N R sounds 3 s b.0.1 b.0.0 b.1) refl b.2
+  equality_deep_on : IsDeepOn (equality_on N) (Minus R) (EqualityFront R F)
+  unfolding equality_on
+  equality_deep_on s m l h e =
+      elim (bind_deep (binary_on N 3 l m) (λ x. pair_or N x.0 x.1 (at (operator 4) x.1)) e) [
+        | inl g ↦ (let d = binary_deep_on 3 s m l h g in (d.0, in_former d.1))
+        | inr b ↦ pair_or-deep s b.0.1 b.0.0 (at (operator 4) b.0.1) (binary_sound_on N R sounds 3 s m b.0.1 l b.0.0 h b.1) refl b.2
       ]
 
-  argument_or-deep : (s : Place) (o : Option (Sym × Place)) → at target s ≡ o → argument_or N s o ≡ Err deep → (z : Place) × ArgumentFront R F s z
-  argument_or-deep s None f e = let d = equality_deep s e in (d.0, in_equality d.1)
-  argument_or-deep s (Some x) f e =
-      let d = nests.value (with_local x.0 x.1) (built_deep (assign x.0.0) (N.value (with_local x.0 x.1)) e) in
-      let k = target-next s x.1 x.0 f in
-      (d.0, in_value k.1 k.2 d.1)
+  logical_deep_on : (level : ℕ) → IsDeepOn (logical_on N level) (Minus R) (LogicalFront R F level)
+  unfolding logical_on
+  logical_deep_on zero = equality_deep_on
+  logical_deep_on (suc level) = λ s m l h e.
+      let p = logical_of N level in
+      let is_deep = from_deep (minus_of N) (logical_on N level) (Minus R) (LogicalFront R F level) (minus_sound N R sounds) (logical_deep_on level) (front_first (LogicalFront R F level) (logical_front level)) in
+      elim (bind_deep (logical_on N level l m) (λ x. chain_on (connective (suc level)) joined_by p x.0 x.1) e) [
+        | inl g ↦ (let d = logical_deep_on level s m l h g in (d.0, in_one d.1))
+        | inr b ↦ on_deep (connective (suc level)) (connective (suc level)) same joined_by p (Logical R level) (LogicalFront R F level) (λ m n x e. e) (logical_sound N R sounds level) is_deep
+            s b.0.0 b.0.1 (one (logical_sound_on N R sounds level s m b.0.1 l b.0.0 h b.1)) b.2
+      ]
+
+  question_or-deep : (s m : Place) (c : Tree) (o : Option (Unit {0} × Place)) → Logical R 2 s c m → at (word kind.Question) m ≡ o → question_or N c m o ≡ Err deep → (z : Place) × TernaryFront R F s z
+  question_or-deep s m c None h f e = absurd cc
+  question_or-deep s m c (Some q) h f e =
+      let d = across_deep (choose c) (word kind.Colon) (N.part parts.Branch) (N.part parts.Branch q.1) q.1 (R.part parts.Branch) (F.part parts.Branch) (F.part parts.Branch)
+      (λ a n g. sounds.part parts.Branch q.1 n a g) (λ g. nests.part parts.Branch q.1 g) (nests.part parts.Branch) e in
+      (d.0, in_latter {x = q.0} h f d.1)
+
+  ternary_deep_on : IsDeepOn (ternary_on N) (Minus R) (TernaryFront R F)
+  unfolding ternary_on
+  ternary_deep_on s m l h e =
+      elim (bind_deep (logical_on N 2 l m) (λ x. question_or N x.0 x.1 (at (word kind.Question) x.1)) e) [
+        | inl g ↦ (let d = logical_deep_on 2 s m l h g in (d.0, in_former d.1))
+        | inr b ↦ question_or-deep s b.0.1 b.0.0 (at (word kind.Question) b.0.1) (logical_sound_on N R sounds 2 s m b.0.1 l b.0.0 h b.1) refl b.2
+      ]
+
+  ternary_deep : IsDeep (ternary_of N) (TernaryFront R F)
+  ternary_deep = from_deep (minus_of N) (ternary_on N) (Minus R) (TernaryFront R F) (minus_sound N R sounds) ternary_deep_on (front_first (TernaryFront R F) (λ s z f. in_former (logical_front 2 s z f)))
+
+  -- ---- assignments and calls
+
+  assigned_or-deep : (b : Bool) (q : Parse Tree) (G : Place → Place → Type 0) → IsDeep q G → (s : Place) (o : Option (Aim × Place)) → at target s ≡ o → assigned_or N b q s o ≡ Err deep → (z : Place) × AssignedFront F b G s z
+  assigned_or-deep b q G first s None f e = let d = first s e in (d.0, in_operand d.1)
+  assigned_or-deep b q G first s (Some x) f e =
+      let d = nests.value b (with_target x.0.target x.1) (built_deep (assigned_to x.0 (with_target x.0.target x.1)) (N.value b (with_target x.0.target x.1)) e) in
+      (d.0, in_value f d.1)
+
+  assigned_deep : (b : Bool) (q : Parse Tree) (G : Place → Place → Type 0) → IsDeep q G → IsDeep (assigned_of N b q) (AssignedFront F b G)
+  unfolding assigned_of
+  assigned_deep b q G first s e = assigned_or-deep b q G first s (at target s) refl e
 
   pub argument_deep : IsDeep (argument_of N) (ArgumentFront R F)
-  unfolding argument_of
-  argument_deep s e = argument_or-deep s (at target s) refl e
+  argument_deep = assigned_deep false (ternary_of N) (TernaryFront R F) ternary_deep
 
-  arguments_deep : IsDeep (arguments_of N) (ArgumentsFront R F)
-  unfolding arguments_of
-  arguments_deep = chain_deep comma comma one_of and_one (argument_of N) _ (ArgumentFront R F) (λ m n x e. e) (argument_sound N R sounds) argument_deep
+  pair_by-deep : (s : Place) (o : Option (Sym × Place)) → at label s ≡ o → pair_by N s o ≡ Err deep → (z : Place) × PairFront R F s z
+  pair_by-deep s None f e =
+      let d = across_deep pair (word kind.Arrow) (argument_of N) (argument_of N s) s (Argument R) (ArgumentFront R F) (ArgumentFront R F) (λ a m g. argument_sound N R sounds s m a g) (λ g. argument_deep s g) argument_deep e in
+      (d.0, in_entry d.1)
+  pair_by-deep s (Some x) f e = let d = argument_deep x.1 (built_deep (pair (symbol x.0.0)) (argument_of N x.1) e) in (d.0, behind_label f d.1)
 
-  bracketed_or-deep : (s : Place) (o : Option (Unit {0} × Place)) → bracketed_or N s o ≡ Err deep → (z : Place) × ArgumentsFront R F s z
-  bracketed_or-deep s None e = arguments_deep s e
-  bracketed_or-deep s (Some x) e = absurd cc
+  pair_deep : IsDeep (pair_of N) (PairFront R F)
+  unfolding pair_of
+  pair_deep s e = pair_by-deep s (at label s) refl e
 
-  pub bracketed_deep : IsDeep (bracketed_of N) (ArgumentsFront R F)
+  member_deep : (k : Listed) → IsDeep (member_of N k) (MemberFront R F k)
+  member_deep listings.Command = argument_deep
+  member_deep listings.Call = argument_deep
+  member_deep listings.Array = argument_deep
+  member_deep listings.Hash = pair_deep
+
+  members_deep : (k : Listed) → IsDeep (members_of N k) (MembersFront R F k)
+  unfolding members_of
+  members_deep k = chain_deep comma (another k) one_of and_one (member_of N k) (Member R k) (MemberFront R F k) (λ m n x e. another-comma k m n x e) (member_sound N R sounds k) (member_deep k)
+
+  bracketed_or-deep : (k : Listed) (s : Place) (o : Option (Unit {0} × Place)) → bracketed_or N k s o ≡ Err deep → (z : Place) × MembersFront R F k s z
+  bracketed_or-deep k s None e =
+      elim (bind_deep (members_of N k s) (λ l. ended_by l.0 (at (last k) l.1)) e) [
+        | inl g ↦ members_deep k s g
+        | inr b ↦ absurd (ended_not_deep b.0.0 (at (last k) b.0.1) b.2)
+      ]
+  bracketed_or-deep k s (Some x) e = absurd cc
+
+  pub bracketed_deep : (k : Listed) → IsDeep (bracketed_of N k) (MembersFront R F k)
   unfolding bracketed_of
-  bracketed_deep s e = bracketed_or-deep s (at (word kind.Close) s) e
+  bracketed_deep k s e = bracketed_or-deep k s (at (closing k) s) e
 
-  statement_or-deep : (s : Place) (o : Option (Unit {0} × Place)) → at (command s.known) s ≡ o → statement_or N s o ≡ Err deep → (z : Place) × StatementFront R F s z
-  statement_or-deep s None f e = let d = argument_deep s e in (d.0, in_argument d.1)
-  statement_or-deep s (Some x) f e =
-      let d = arguments_deep x.1 (built_deep (λ l. puts (listed l)) (arguments_of N x.1) e) in
-      let k = command-next s x.1 x.0 f in
-      (d.0, in_command k.1 k.2 d.1)
+  array_deep : IsDeep (array_of N) (MembersFront R F listings.Array)
+  unfolding array_of
+  array_deep s e = bracketed_deep listings.Array s (built_deep (λ l. array (listed l)) (bracketed_of N listings.Array s) e)
+
+  hash_deep : IsDeep (hash_of N) (MembersFront R F listings.Hash)
+  unfolding hash_of
+  hash_deep s e = bracketed_deep listings.Hash s (built_deep (λ l. hash (listed l)) (bracketed_of N listings.Hash s) e)
+
+  index_deep : IsDeep (index_of N) (ArgumentFront R F)
+  unfolding index_of
+  index_deep s e = argument_deep s (closed_deep kind.CloseSquare (argument_of N s) e)
+
+  commanded_or-deep : (s : Place) (o : Option (Sym × Place)) → at (command s.known) s ≡ o → commanded_or N s o ≡ Err deep → (z : Place) × CommandedFront R F s z
+  commanded_or-deep s None f e = let d = members_deep listings.Command s e in (d.0, in_arguments d.1)
+  commanded_or-deep s (Some x) f e = let d = nests.part parts.Command s (built_deep one_of (N.part parts.Command s) e) in (d.0, in_argument_command f d.1)
+
+  commanded_deep : IsDeep (commanded_of N) (CommandedFront R F)
+  unfolding commanded_of
+  commanded_deep s e = commanded_or-deep s (at (command s.known) s) refl e
+
+  called_deep : (s m : Place) (x : Sym) → at (command s.known) s ≡ Some (x, m) → built (λ l. call x.0 (listed l)) (commanded_of N m) ≡ Err deep → (z : Place) × CommandFront R F s z
+  called_deep s m x f e = let d = commanded_deep m (built_deep (λ l. call x.0 (listed l)) (commanded_of N m) e) in (d.0, behind_name f d.1)
+
+  command_or-deep : (s : Place) (o : Option (Sym × Place)) → at (command s.known) s ≡ o → command_or N o ≡ Err deep → (z : Place) × CommandFront R F s z
+  command_or-deep s None f e = absurd cc
+  command_or-deep s (Some x) f e = called_deep s x.1 x.0 f e
+
+  pub command_deep : IsDeep (command_of N) (CommandFront R F)
+  unfolding command_of
+  command_deep s e = command_or-deep s (at (command s.known) s) refl e
+
+  phrase_or-deep : (s : Place) (o : Option (Sym × Place)) → at (command s.known) s ≡ o → phrase_or N s o ≡ Err deep → (z : Place) × PhraseFront R F s z
+  phrase_or-deep s None f e = let d = ternary_deep s e in (d.0, in_plain d.1)
+  phrase_or-deep s (Some x) f e = let d = called_deep s x.1 x.0 f e in (d.0, in_command d.1)
+
+  phrase_deep : IsDeep (phrase_of N) (PhraseFront R F)
+  unfolding phrase_of
+  phrase_deep s e = phrase_or-deep s (at (command s.known) s) refl e
+
+  operand_deep : (b : Bool) → IsDeep (operand_of N b) (OperandFront R F b)
+  operand_deep false = ternary_deep
+  operand_deep true = phrase_deep
+
+  pub value_deep : (b : Bool) → IsDeep (value_of N b) (ValueFront R F b)
+  value_deep b = assigned_deep b (operand_of N b) (OperandFront R F b) (operand_deep b)
+
+  -- ---- statements
+
+  negation_or-deep : (s : Place) (o : Option (Unit {0} × Place)) → at (word kind.NotWord) s ≡ o → negation_or N s o ≡ Err deep → (z : Place) × NegationFront R F s z
+  negation_or-deep s None f e = let d = value_deep true s e in (d.0, behind_no_negation d.1)
+  negation_or-deep s (Some m) f e =
+      let d = nests.part parts.Not m.1 (built_deep logical_not (N.part parts.Not m.1) e) in
+      (d.0, in_negation (word-next kind.NotWord told_not s m.1 m.0 f) d.1)
+
+  pub negation_deep : IsDeep (negation_of N) (NegationFront R F)
+  unfolding negation_of
+  negation_deep s e = negation_or-deep s (at (word kind.NotWord) s) refl e
+
+  expression_deep : IsDeep (expression_of N) (ExpressionFront R F)
+  unfolding expression_of
+  expression_deep = chain_deep (connective 3) (connective 3) same joined_by (negation_of N) (Negation R) (NegationFront R F) (λ m n x e. e) (negation_sound N R sounds) negation_deep
 
   statement_deep : IsDeep (statement_of N) (StatementFront R F)
   unfolding statement_of
-  statement_deep s e = statement_or-deep s (at (command s.known) s) refl e
+  statement_deep = chain_deep modifier modifier same modified (expression_of N) (Expression R) (ExpressionFront R F) (λ m n x e. e) (expression_sound N R sounds) expression_deep
 
   rows_deep : IsDeep (rows_of N) (RowsFront R F)
   unfolding rows_of
@@ -226,59 +416,78 @@ module _ (N : Readers) (R : Nested) (F : Fronts) (sounds : NestedSound N R) (nes
   unfolding statements_of
   statements_deep s e = statements_test (ends (skip s).rest) s e
 
-  branch_on-deep : (s m : Place) (c : Tree) (r : Option (Unit {0} × Place)) → Statement R s c m → at thens m ≡ r → branch_on N c r ≡ Err deep → (z : Place) × BranchFront R F s z
-  branch_on-deep s m c None h f e = absurd cc
-  branch_on-deep s m c (Some x) h f e = let d = statements_deep x.1 (built_deep (λ (u : Tree). (c, u)) (statements_of N x.1) e) in (d.0, in_body {u = x.0} h f d.1)
+  group_deep : IsDeep (group_of N) (StatementsFront R F)
+  unfolding group_of
+  group_deep s e = statements_deep s (closed_deep kind.Close (statements_of N s) e)
+
+  -- ---- control
 
   branch_deep : IsDeep (branch_of N) (BranchFront R F)
   unfolding branch_of
   branch_deep s e =
-      elim (bind_deep (statement_of N s) (λ c. branch_on N c.0 (at thens c.1)) e) [
-        | inl g ↦ (let d = statement_deep s g in (d.0, in_condition d.1))
-        | inr b ↦ branch_on-deep s b.0.1 b.0.0 (at thens b.0.1) (statement_sound N R sounds s b.0.1 b.0.0 b.1) refl b.2
-      ]
+      across_deep both thens (statements_of N) (expression_of N s) s (Expression R) (ExpressionFront R F) (StatementsFront R F) (λ a m g. expression_sound N R sounds s m a g) (λ g. expression_deep s g) statements_deep e
 
   branches_deep : IsDeep (branches_of N) (BranchesFront R F)
   unfolding branches_of
   branches_deep = chain_deep elsif elsif one_of and_one (branch_of N) (Branch R) (BranchFront R F) (λ m n x e. e) (branch_sound N R sounds) branch_deep
 
-  otherwise_or-deep : (s m : Place) (l : List (Tree × Tree)) (o : Option (Unit {0} × Place)) → Branches R s l m → at (word kind.Else) m ≡ o → otherwise_or N m o ≡ Err deep → (z : Place) × ChoiceFront R F s z
-  otherwise_or-deep s m l None h f e = absurd cc
-  otherwise_or-deep s m l (Some x) h f e = let d = statements_deep x.1 e in (d.0, in_else h (word-next kind.Else told_else m x.1 x.0 f) d.1)
-
-  otherwise_deep : (s m : Place) (l : List (Tree × Tree)) → Branches R s l m → otherwise_of N m ≡ Err deep → (z : Place) × ChoiceFront R F s z
+  ended_deep : {A : Type 0} (f : A → Tree → Tree) (r : Answer A) (s : Place) (P : Place → A → Place → Type 0) (G : Place → Place → Type 0)
+      → ((a : A) (m : Place) → r ≡ Ok (a, m) → P s a m) → (r ≡ Err deep → (z : Place) × G s z) → ended N f r ≡ Err deep → (z : Place) × EndedFront R F P G s z
   unfolding otherwise_of
-  otherwise_deep s m l h e = otherwise_or-deep s m l (at (word kind.Else) m) h refl e
-
-  pub choice_deep : IsDeep (choice_of N) (ChoiceFront R F)
-  unfolding choice_of
-  choice_deep s e =
-      elim (bind_deep (branches_of N s) (λ l. closed kind.End (built (chosen l.0) (otherwise_of N l.1))) e) [
-        | inl g ↦ (let d = branches_deep s g in (d.0, in_branches d.1))
-        | inr b ↦ otherwise_deep s b.0.1 b.0.0 (branches_sound N R sounds s b.0.1 b.0.0 b.1)
-            (built_deep (chosen b.0.0) (otherwise_of N b.0.1) (closed_deep kind.End (built (chosen b.0.0) (otherwise_of N b.0.1)) b.2))
+  ended_deep {A} f r s P G sound first e =
+      elim (bind_deep r (λ l. closed kind.End (built (f l.0) (otherwise_of N l.1))) e) [
+        | inl g ↦ (let d = first g in (d.0, in_former d.1))
+        | inr b ↦ by_else b.0.0 b.0.1 (sound b.0.0 b.0.1 b.1) (at (word kind.Else) b.0.1) refl (built_deep (f b.0.0) (otherwise_of N b.0.1) (closed_deep kind.End (built (f b.0.0) (otherwise_of N b.0.1)) b.2))
       ]
+    where
+      by_else : (a : A) (m : Place) → P s a m → (o : Option (Unit {0} × Place)) → at (word kind.Else) m ≡ o → otherwise_or N m o ≡ Err deep → (z : Place) × EndedFront R F P G s z
+      by_else a m h None g i = absurd cc
+      by_else a m h (Some x) g i = let d = statements_deep x.1 i in (d.0, in_latter {x = x.0} h g d.1)
+
+  choice_deep : IsDeep (choice_of N) (EndedFront R F (Branches R) (BranchesFront R F))
+  unfolding choice_of
+  choice_deep s e = ended_deep chosen (branches_of N s) s (Branches R) (BranchesFront R F) (λ a m g. branches_sound N R sounds s m a g) (λ g. branches_deep s g) e
+
+  unless_deep : IsDeep (unless_of N) (EndedFront R F (Branch R) (BranchFront R F))
+  unfolding unless_of
+  unless_deep s e = ended_deep unless_chosen (branch_of N s) s (Branch R) (BranchFront R F) (λ a m g. branch_sound N R sounds s m a g) (λ g. branch_deep s g) e
+
+  loop_deep : (until : Bool) → IsDeep (loop_of N until) (LoopFront R F)
+  unfolding loop_of
+  loop_deep until s e =
+      across_deep (repeat until) loops (statements_of N) (expression_of N s) s (Expression R) (ExpressionFront R F) (StatementsFront R F) (λ a m g. expression_sound N R sounds s m a g) (λ g. expression_deep s g) statements_deep
+      (closed_deep kind.End (across (repeat until) loops (statements_of N) (expression_of N s)) e)
+
+  pub part_deep : (p : Part) → IsDeep (part_of N p) (PartFront R F p)
+  part_deep parts.Group = group_deep
+  part_deep parts.Array = array_deep
+  part_deep parts.Hash = hash_deep
+  part_deep parts.Index = index_deep
+  part_deep parts.Choice = choice_deep
+  part_deep parts.Unless = unless_deep
+  part_deep (parts.Loop until) = loop_deep until
+  part_deep parts.Minus = minus_deep
+  part_deep parts.Bang = bang_deep
+  part_deep parts.Not = negation_deep
+  part_deep parts.Command = command_deep
+  part_deep parts.Branch = argument_deep
 
 pub deep_inside : (d : ℕ) → NestedDeep (readers_inside d) (fronts_inside d)
 unfolding readers_inside fronts_inside
-deep_inside zero = record { statements = λ s e. (s, refl); bracketed = λ s e. (s, refl); choice = λ s e. (s, refl); minus = λ s e. (s, refl); value = λ s e. (s, refl) }
+deep_inside zero = record { part = λ p s e. (s, refl); bracketed = λ s e. (s, refl); value = λ b s e. (s, refl) }
 deep_inside (suc d) = record {
-  statements = statements_deep (readers_inside d) (inside d) (fronts_inside d) (sound_inside d) (deep_inside d);
-  bracketed = bracketed_deep (readers_inside d) (inside d) (fronts_inside d) (sound_inside d) (deep_inside d);
-  choice = choice_deep (readers_inside d) (inside d) (fronts_inside d) (sound_inside d) (deep_inside d);
-  minus = minus_deep (readers_inside d) (inside d) (fronts_inside d) (sound_inside d) (deep_inside d);
-  value = argument_deep (readers_inside d) (inside d) (fronts_inside d) (sound_inside d) (deep_inside d);
+  part = part_deep (readers_inside d) (inside d) (fronts_inside d) (sound_inside d) (deep_inside d);
+  bracketed = bracketed_deep (readers_inside d) (inside d) (fronts_inside d) (sound_inside d) (deep_inside d) listings.Call;
+  value = value_deep (readers_inside d) (inside d) (fronts_inside d) (sound_inside d) (deep_inside d);
 }
 
 pub deep_outside : (d : ℕ) → NestedDeep (readers_outside d) (fronts_outside d)
 unfolding readers_outside fronts_outside
-deep_outside zero = record { statements = λ s e. (s, refl); bracketed = λ s e. (s, refl); choice = λ s e. (s, refl); minus = λ s e. (s, refl); value = argument_deep (readers_inside zero) (inside zero) (fronts_inside zero) (sound_inside zero) (deep_inside zero) }
+deep_outside zero = record { part = λ p s e. (s, refl); bracketed = λ s e. (s, refl); value = value_deep (readers_inside zero) (inside zero) (fronts_inside zero) (sound_inside zero) (deep_inside zero) }
 deep_outside (suc d) = record {
-  statements = statements_deep (readers_outside d) (outside d) (fronts_outside d) (sound_outside d) (deep_outside d);
-  bracketed = bracketed_deep (readers_outside d) (outside d) (fronts_outside d) (sound_outside d) (deep_outside d);
-  choice = choice_deep (readers_outside d) (outside d) (fronts_outside d) (sound_outside d) (deep_outside d);
-  minus = minus_deep (readers_outside d) (outside d) (fronts_outside d) (sound_outside d) (deep_outside d);
-  value = argument_deep (readers_inside (suc d)) (inside (suc d)) (fronts_inside (suc d)) (sound_inside (suc d)) (deep_inside (suc d));
+  part = part_deep (readers_outside d) (outside d) (fronts_outside d) (sound_outside d) (deep_outside d);
+  bracketed = bracketed_deep (readers_outside d) (outside d) (fronts_outside d) (sound_outside d) (deep_outside d) listings.Call;
+  value = value_deep (readers_inside (suc d)) (inside (suc d)) (fronts_inside (suc d)) (sound_inside (suc d)) (deep_inside (suc d));
 }
 
 whole_not_deep : (t : Tree) (ws : List Word) → whole_of t ws ≡ Err deep → ⊥

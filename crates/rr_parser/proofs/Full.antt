@@ -1,32 +1,41 @@
 -- What is spelled is read, unless it nests too deep.
-use Rattle.std.proofs.Common.{◌≡◌, ℕ, zero, suc, ◌<◌, inl, inr, pos, Bool, true, false, cond, List, [], Some, None, Ok, Err, refl, sym, ap, ◌∙◌, arith}
-use Rattle.rr_parser.specs.Reading.Answers.{ended_by}
-use Rattle.rr_parser.specs.Places.{is_kind, where_true, seen_before, placed}
+use Rattle.std.proofs.Common.{◌≡◌, ℕ, zero, suc, ◌+◌, ◌*◌, ◌<◌, inl, inr, pos, Bool, true, false, cond, List, [], Option, Some, None, Ok, Err, refl, sym, ap, ◌∙◌, subst, arith}
 use Rattle.rr_base.specs.declared.name.Sym.{Sym}
-use Rattle.rr_tree.specs.Tree.{Tree, int, local, call, negate, binary, assign, sequence, puts, listed}
+use Rattle.rr_tree.specs.Tree.{Tree, nil, truth, int, text, local, bare, call, negate, binary, sequence, choose, repeat, send, index, array, hash, pair, symbol, constant, field, global, itself, logical_not, listed}
+use Rattle.rr_parser.specs.declared.word.Tail.{Tail}
+use Rattle.rr_parser.specs.declared.word.Listed.{Listed}
+use Rattle.rr_parser.specs.declared.word.Listed.TheVariants as listings
+use Rattle.rr_parser.specs.declared.word.Part.{Part}
+use Rattle.rr_parser.specs.declared.word.Part.TheVariants as parts
 use Rattle.rr_parser.specs.declared.word.WordKind.{WordKind}
 use Rattle.rr_parser.specs.declared.word.WordKind.TheVariants as kind
 use Rattle.rr_parser.specs.declared.word.Word.{Word}
-use Rattle.rr_parser.specs.Places.{Place, word, at, next, skip, separators, start}
+use Rattle.rr_parser.specs.Places.{is_kind, where_true, seen_before, placed, Place, word, at, next, skip, separators, start}
 use Rattle.rr_parser.specs.Grammar.Chains.{same, one_of, and_one}
 use Rattle.rr_parser.specs.Grammar.Nesting.{Nested}
-use Rattle.rr_parser.specs.Grammar.Names.{is_puts, is_local, with_local, bracket, begins_operands}
-use Rattle.rr_parser.specs.Grammar.Operands.{fits, fits_below, negated, joined, Primary, an_int, a_negative, a_text, a_nil, a_truth, a_local, a_call, a_marked_call, a_bare_puts, a_puts, a_group, an_if, Minus, a_minus, a_primary}
-use Rattle.rr_parser.specs.Grammar.Operators.{operator, Binary, Equality, a_comparison, a_pair}
-use Rattle.rr_parser.specs.Grammar.Calls.{comma, Argument, an_assignment, an_equality, Arguments, Bracketed, no_arguments, some_arguments}
-use Rattle.rr_parser.specs.Grammar.Control.{thens, elsif, chosen, Statement, a_command, an_argument, Rows, Statements, no_statements, some_statements, Branch, a_branch, Branches, Otherwise, no_else, an_else, Choice, a_choice}
-use Rattle.rr_parser.specs.Grammar.{inside, outside, WordsSpell}
-use Rattle.rr_parser.specs.Reading.Answers.{◌>>=◌, wrong, deep, Answer, Parse, built, closed}
+use Rattle.rr_parser.specs.Grammar.Names.{is_local, slot_of, name, bracket, begins_operands, command}
+use Rattle.rr_parser.specs.Grammar.Operands.{fits, fits_below, negated, joined, literal_of, construct_of, Primary, a_literal, a_negative, a_local, a_bare_call, a_call, a_construct, tail, Tailed, a_send, a_sent_call, an_index, Postfix, Bang, a_bang, no_bang, Minus, a_minus, no_minus}
+use Rattle.rr_parser.specs.Grammar.Operators.{operator, connective, joined_by, Logical, Binary, Equality, a_comparison, a_pair, Ternary, no_question, a_question}
+use Rattle.rr_parser.specs.Grammar.Calls.{target, with_target, assigned_to, label, comma, closing, last, Assigned, an_assignment, no_assignment, Argument, Pair, by_label, by_arrow, Member, Members, Bracketed, no_members, some_members, Array, an_array, Hash, a_hash, Index, of_element, Commanded, by_arguments, by_command, Command, a_command, Phrase, by_name, an_operand, Value}
+use Rattle.rr_parser.specs.Grammar.Sequences.{Negation, a_negation, no_negation, Expression, modifier, modified, Statement, Rows, Statements, no_statements, some_statements, Group, a_group}
+use Rattle.rr_parser.specs.Grammar.Control.{thens, loops, elsif, chosen, unless_chosen, Branch, a_branch, Branches, Otherwise, no_else, an_else, Choice, a_choice, Unless, an_unless, Loop, a_loop}
+use Rattle.rr_parser.specs.Grammar.{PartOf, inside, outside, WordsSpell}
+use Rattle.rr_parser.specs.Reading.Answers.{◌>>=◌, wrong, deep, Answer, Parse, built, ended_by, closed, across}
 use Rattle.rr_parser.specs.Reading.Nesting.{Readers}
-use Rattle.rr_parser.specs.Reading.Operands.{puts_of, bare_puts, plain_name, name_or, name_of, int_at, negative_in, negative_of, group_of, primary_in, primary_of, prefix_minus, minus_or, minus_of}
-use Rattle.rr_parser.specs.Reading.Operators.{binary_of, pair_or, equality_of}
-use Rattle.rr_parser.specs.Reading.Calls.{target, argument_or, argument_of, arguments_of, bracketed_or, bracketed_of}
-use Rattle.rr_parser.specs.Reading.Control.{command, statement_or, statement_of, ends, row, rows_of, sequence_of, statements_at, statements_of, branch_on, branch_of, branches_of, otherwise_or, otherwise_of, choice_of}
-use Rattle.rr_parser.specs.Reading.{readers_inside, readers_outside, whole_of, program_of}
-use Rattle.rr_parser.proofs.Looks.{by_next, other-word, next-prefix, no_prefix, next-target, next-command, separators-row, Steps-row}
-use Rattle.rr_parser.proofs.Shrinking.{ReadersShrink, shrinks_nested, Steps-operator, Steps-comma, Steps-elsif}
-use Rattle.rr_parser.proofs.Leading.{Leads, leads_bind, leads_trans, leads_eq, leads_map, IsFull, chain_full}
-use Rattle.rr_parser.proofs.Stopping.{Stops, stops_below, Outer, outer_stops, EndsStatement, ends_statement_by, comma_outer, separators_end, ends_behind, next_ends, chain_first, argument_starts, statement_starts, other_bracket, no_command, no_target, Closes, no_close, AtEnd, thens_end, elsif_ends}
+use Rattle.rr_parser.specs.Reading.Operands.{call_of, bare_call, variable_or_call, name_or, name_of, int_at, negative_in, negative_of, primary_at, primary_in, primary_of, tailed_of, postfix_of, bang_or, bang_of, prefix_minus, minus_or, minus_of}
+use Rattle.rr_parser.specs.Reading.Operators.{binary_on, binary_of, pair_or, equality_on, logical_on, logical_of, question_or, ternary_on, ternary_of}
+use Rattle.rr_parser.specs.Reading.Calls.{assigned_or, assigned_of, argument_of, pair_by, pair_of, member_of, another, members_of, bracketed_or, bracketed_of, array_of, hash_of, index_of, commanded_or, commanded_of, command_or, command_of, phrase_or, phrase_of, value_of}
+use Rattle.rr_parser.specs.Reading.Sequences.{negation_or, negation_of, expression_of, statement_of, ends, row, rows_of, sequence_of, statements_at, statements_of, group_of}
+use Rattle.rr_parser.specs.Reading.Control.{both, branch_of, branches_of, otherwise_or, otherwise_of, ended, choice_of, unless_of, loop_of}
+use Rattle.rr_parser.specs.Reading.{part_of, readers_inside, readers_outside, whole_of, program_of}
+use Rattle.rr_parser.proofs.Told.{told_question, told_comma}
+use Rattle.rr_parser.proofs.Looks.{seen, none_unless, another-comma, comma-another, last-another, Steps-another, Steps-tail, by_next, name-next, other-word, next-prefix, separators-row, Steps-row}
+use Rattle.rr_parser.proofs.Shrinking.{ReadersShrink, shrinks_nested, Steps-operator, Steps-connective, Steps-modifier, Steps-elsif}
+use Rattle.rr_tree.specs.declared.node.Path.TheVariants as paths
+use Rattle.rr_parser.proofs.Trails.{trail_full}
+use Rattle.rr_parser.proofs.Chains.{done}
+use Rattle.rr_parser.proofs.Leading.{Leads, leads_bind, leads_trans, leads_eq, leads_map, IsFull, chain_full, IsFullOn, from_full, onward_bind, onward_full, across_full}
+use Rattle.rr_parser.proofs.Stopping.{Stops, stops_by, word_unseen, operator_strength, no_operator_at, connective_strength, no_connective_at, modifier_strength, no_modifier_at, comma_strength, separators_stop, thens_stop, loops_stop, ends_behind, next_ends, chain_first, postfix_no_bang, no_tail_at, member_no_closing, starts_no_label, last_stops, bang_no_prefix, ternary_first, first_no_command, argument_starts, value_starts, starts_no_not, statement_starts, target_no_command, ternary_no_target, phrase_no_target, AtEnd, elsif_ends}
 
 abbrev pub Anywhere : Place → Type 0
 Anywhere z = Unit {0}
@@ -34,12 +43,24 @@ Anywhere z = Unit {0}
 abbrev pub Ends : Place → Type 0
 Ends z = ends z.rest ≡ true
 
+-- what stops each part
+abbrev pub PartStops : Part → Place → Type 0
+PartStops parts.Minus = Stops 0
+PartStops parts.Bang = Stops 0
+PartStops parts.Not = Stops 27
+PartStops parts.Command = Stops 27
+PartStops parts.Branch = Stops 26
+PartStops _ = Anywhere
+
+-- what stops a value
+abbrev pub value_stop : Bool → ℕ
+value_stop false = 26
+value_stop true = 27
+
 pub record NestedFull (N : Readers) (R : Nested) (D : Type 0) : Type 0 where
-  pub statements : IsFull N.statements R.statements Ends D
-  pub bracketed : IsFull N.bracketed R.bracketed Closes D
-  pub choice : IsFull N.choice R.choice Anywhere D
-  pub minus : IsFull N.minus R.minus Anywhere D
-  pub value : IsFull N.value R.value Outer D
+  pub part : (p : Part) → IsFull (N.part p) (R.part p) (PartStops p) D
+  pub bracketed : IsFull N.bracketed R.bracketed Anywhere D
+  pub value : (b : Bool) → IsFull (N.value b) (R.value b) (Stops (value_stop b)) D
 
 -- a word of this kind is seen
 word_here : (k : WordKind) (s z : Place) → next s ≡ Some (k, z) → is_kind k k ≡ true → at (word k) s ≡ Some (tt, z)
@@ -50,134 +71,290 @@ closed_full k r t n z same_kind h e =
     leads_trans (closed k r) (ended_by t (at (word k) n)) (Ok (t, z)) (leads_bind r (t, n) (λ x. ended_by x.0 (at (word k) x.1)) h) (inl (ap (ended_by t) (word_here k n z e same_kind)))
 
 module _ (N : Readers) (R : Nested) (D : Type 0) (shrinks : ReadersShrink N) (nests : NestedFull N R D) where
-  int_full : (n : ℕ) (z : Place) → fits n ≡ true → int_at n z ≡ Ok (int (pos n), z)
+  same_tree : (t u : Tree) → ◌≡◌ {A = Option Tree} (Some t) (Some u) → t ≡ u
+  same_tree t u f = cc
+
+  same_part : (p q : Part) → ◌≡◌ {A = Option Part} (Some p) (Some q) → p ≡ q
+  same_part p q f = cc
+
+  reads : (t u : Tree) (z : Place) → ◌≡◌ {A = Option Tree} (Some t) (Some u) → done t z ≡ done u z
+  reads t u z f = ap (λ v. done v z) (same_tree t u f)
+
+  int_full : (b : Bool) (n : ℕ) (z : Place) (t : Tree) → ◌≡◌ {A = Option Tree} (cond b (Some (int (pos n))) None) (Some t) → cond b (done (int (pos n)) z) (Err wrong) ≡ done t z
+  int_full true n z t f = reads (int (pos n)) t z f
+  int_full false n z t f = absurd cc
+
+  literal_full : (k : WordKind) (z : Place) (t : Tree) → literal_of k ≡ Some t → primary_at N k z ≡ done t z
   unfolding int_at
-  int_full n z f = ap (λ b. cond b (Ok (int (pos n), z)) (Err wrong)) f
+  literal_full (kind.Int n) z t f = int_full (fits n) n z t f
+  literal_full (kind.Text i) z t f = reads (text i) t z f
+  literal_full kind.Nil z t f = reads nil t z f
+  literal_full (kind.Truth b) z t f = reads (truth b) t z f
+  literal_full (kind.Symbol x) z t f = reads (symbol x.0) t z f
+  literal_full (kind.Constant x) z t f = reads (constant (paths.Plain x)) t z f
+  literal_full (kind.Field x) z t f = reads (field x.0) t z f
+  literal_full (kind.Global x) z t f = reads (global x.0) t z f
+  literal_full kind.Itself z t f = reads itself t z f
+  literal_full _ z t f = absurd cc
+
+  construct_full : (k : WordKind) (m : Place) (p : Part) → construct_of k ≡ Some p → primary_at N k m ≡ N.part p m
+  construct_full kind.Open m p f = ap (λ q. N.part q m) (same_part parts.Group p f)
+  construct_full kind.OpenSquare m p f = ap (λ q. N.part q m) (same_part parts.Array p f)
+  construct_full kind.OpenBrace m p f = ap (λ q. N.part q m) (same_part parts.Hash p f)
+  construct_full kind.If m p f = ap (λ q. N.part q m) (same_part parts.Choice p f)
+  construct_full kind.Unless m p f = ap (λ q. N.part q m) (same_part parts.Unless p f)
+  construct_full (kind.Loop until) m p f = ap (λ q. N.part q m) (same_part (parts.Loop until) p f)
+  construct_full _ m p f = absurd cc
+
+  -- a construct ends by itself
+  construct_anywhere : (k : WordKind) (p : Part) (z : Place) → construct_of k ≡ Some p → PartStops p z
+  construct_anywhere kind.Open p z f = subst (λ q. PartStops q z) (same_part parts.Group p f) tt
+  construct_anywhere kind.OpenSquare p z f = subst (λ q. PartStops q z) (same_part parts.Array p f) tt
+  construct_anywhere kind.OpenBrace p z f = subst (λ q. PartStops q z) (same_part parts.Hash p f) tt
+  construct_anywhere kind.If p z f = subst (λ q. PartStops q z) (same_part parts.Choice p f) tt
+  construct_anywhere kind.Unless p z f = subst (λ q. PartStops q z) (same_part parts.Unless p f) tt
+  construct_anywhere (kind.Loop until) p z f = subst (λ q. PartStops q z) (same_part (parts.Loop until) p f) tt
+  construct_anywhere _ p z f = absurd cc
 
   negative_full : (m z : Place) (n : ℕ) → at joined m ≡ Some (n, z) → fits_below n ≡ true → negative_of m ≡ Ok (int (negated n), z)
   unfolding negative_of
   negative_full m z n e f = ap negative_in e ∙ ap (λ b. cond b (Ok (int (negated n), z)) (Err wrong)) f
 
-  plain_full : (x : Sym) (m : Place) → at (bracket x) m ≡ None → name_of N x m ≡ plain_name x m
+  plain_full : (x : Sym) (m : Place) → at bracket m ≡ None → name_of N x m ≡ variable_or_call x m
   unfolding name_of
   plain_full x m e = ap (name_or N x m) e
 
-  local_full : (x : Sym) (m : Place) → is_local x m ≡ true → plain_name x m ≡ Ok (local x.0, m)
-  local_full x m e = ap (λ b. cond b (Ok (local x.0, m)) (cond (is_puts x) (bare_puts m) (Ok (call x.0, m)))) e
+  local_full : (x : Sym) (m : Place) → is_local x m ≡ true → variable_or_call x m ≡ Ok (local 0 (slot_of x m) x.0, m)
+  local_full x m e = ap (λ b. cond b (Ok (local 0 (slot_of x m) x.0, m)) (bare_call x m)) e
 
-  other_full : (x : Sym) (m : Place) (b : Bool) → is_local x m ≡ false → is_puts x ≡ b → plain_name x m ≡ cond b (bare_puts m) (Ok (call x.0, m))
-  other_full x m b e f = ap (λ b. cond b (Ok (local x.0, m)) (cond (is_puts x) (bare_puts m) (Ok (call x.0, m)))) e ∙ ap (λ b. cond b (bare_puts m) (Ok (call x.0, m))) f
+  other_full : (x : Sym) (m : Place) → is_local x m ≡ false → variable_or_call x m ≡ bare_call x m
+  other_full x m e = ap (λ b. cond b (Ok (local 0 (slot_of x m) x.0, m)) (bare_call x m)) e
 
-  bare_full : (m : Place) → begins_operands m.rest ≡ false → bare_puts m ≡ Ok (puts (listed []), m)
-  bare_full m e = ap (λ b. cond b (Err wrong) (Ok (puts (listed []), m))) e
+  bare_full : (x : Sym) (m : Place) → begins_operands m.rest ≡ false → bare_call x m ≡ Ok (bare x.0, m)
+  bare_full x m e = ap (λ b. cond b (Err wrong) (Ok (bare x.0, m))) e
 
-  puts_full : (x : Sym) (m n o z : Place) (u : Unit {0}) (l : List Tree) → at (bracket x) m ≡ Some (u, n) → R.bracketed n l o → next o ≡ Some (kind.Close, z) → Leads (name_of N x m) (Ok (puts (listed l), z)) D
+  call_full : (x : Sym) (m n z : Place) (u : Unit {0}) (l : List Tree) → at bracket m ≡ Some (u, n) → R.bracketed n l z → Leads (name_of N x m) (Ok (call x.0 (listed l), z)) D
   unfolding name_of
-  puts_full x m n o z u l e h f =
-      leads_eq (name_or N x m (at (bracket x) m)) (puts_of (closed kind.Close (N.bracketed n))) (Ok (puts (listed l), z)) (ap (name_or N x m) e)
-      (leads_bind (closed kind.Close (N.bracketed n)) (l, z) (λ q. Ok (puts (listed q.0), q.1)) (closed_full kind.Close (N.bracketed n) l o z refl (nests.bracketed n o l h (z, f)) f))
+  call_full x m n z u l e h =
+      leads_eq (name_or N x m (at bracket m)) (call_of x (N.bracketed n)) (Ok (call x.0 (listed l), z)) (ap (name_or N x m) e)
+      (leads_bind (N.bracketed n) (l, z) (λ q. Ok (call x.0 (listed q.0), q.1)) (nests.bracketed n z l h tt))
 
-  group_full : (m n z : Place) (t : Tree) → R.statements m t n → next n ≡ Some (kind.Close, z) → Leads (group_of N m) (Ok (t, z)) D
-  unfolding group_of
-  group_full m n z t h g = closed_full kind.Close (N.statements m) t n z refl (nests.statements m n t h (next_ends n z kind.Close true g refl)) g
-
-  pub primary_full : IsFull (primary_of N) (Primary R) Anywhere D
+  -- what a name is read as
+  by_name_full : (s m : Place) (x : Sym) → at name s ≡ Some (x, m) → primary_of N s ≡ name_of N x m
   unfolding primary_of
-  primary_full s z t (an_int {n = n} e f) u = inl (ap (primary_in N) e ∙ int_full n z f)
-  primary_full s z t (a_negative {m = m} {n = n} e f g) u = inl (ap (primary_in N) e ∙ negative_full m z n f g)
-  primary_full s z t (a_text e) u = inl (ap (primary_in N) e)
-  primary_full s z t (a_nil e) u = inl (ap (primary_in N) e)
-  primary_full s z t (a_truth e) u = inl (ap (primary_in N) e)
-  primary_full s z t (a_local {x = x} e o f) u = inl (ap (primary_in N) e ∙ plain_full x z o ∙ local_full x z f)
-  primary_full s z t (a_call {x = x} e f g) u = inl (ap (primary_in N) e ∙ plain_full x z (other_bracket x z f) ∙ other_full x z false g f)
-  primary_full s z t (a_marked_call e) u = inl (ap (primary_in N) e)
-  primary_full s z t (a_bare_puts {x = x} e o f g h) u = inl (ap (primary_in N) e ∙ plain_full x z o ∙ other_full x z true g f ∙ bare_full z h)
-  primary_full s z t (a_puts {m = m} {n = n} {o = o} {x = x} {u = v} {l = l} e f h g) u =
-      leads_eq (primary_in N (next s)) (name_of N x m) (Ok (t, z)) (ap (primary_in N) e) (puts_full x m n o z v l f h g)
-  primary_full s z t (a_group {m = m} {n = n} e h g) u =
-      leads_eq (primary_in N (next s)) (group_of N m) (Ok (t, z)) (ap (primary_in N) e) (group_full m n z t h g)
-  primary_full s z t (an_if {m = m} e h) u =
-      leads_eq (primary_in N (next s)) (N.choice m) (Ok (t, z)) (ap (primary_in N) e) (nests.choice m z t h tt)
+  by_name_full s m x e = let h = name-next s m x e in ap (primary_in N) h.1
 
-  primary_no_minus : (s z : Place) (t : Tree) → Primary R s t z → at prefix_minus s ≡ None
-  primary_no_minus s z t (an_int {n = n} e f) = by_next (λ q. at prefix_minus q ≡ None) s z (kind.Int n) e (λ b. refl)
-  primary_no_minus s z t (a_negative {m = m} {n = n} e f g) = no_prefix s m e n z f
-  primary_no_minus s z t (a_text {i = i} e) = by_next (λ q. at prefix_minus q ≡ None) s z (kind.Text i) e (λ b. refl)
-  primary_no_minus s z t (a_nil e) = by_next (λ q. at prefix_minus q ≡ None) s z kind.Nil e (λ b. refl)
-  primary_no_minus s z t (a_truth {b = c} e) = by_next (λ q. at prefix_minus q ≡ None) s z (kind.Truth c) e (λ b. refl)
-  primary_no_minus s z t (a_local {x = x} e o f) = by_next (λ q. at prefix_minus q ≡ None) s z (kind.Name x) e (λ b. refl)
-  primary_no_minus s z t (a_call {x = x} e f g) = by_next (λ q. at prefix_minus q ≡ None) s z (kind.Name x) e (λ b. refl)
-  primary_no_minus s z t (a_marked_call {x = x} e) = by_next (λ q. at prefix_minus q ≡ None) s z (kind.Marked x) e (λ b. refl)
-  primary_no_minus s z t (a_bare_puts {x = x} e o f g h) = by_next (λ q. at prefix_minus q ≡ None) s z (kind.Name x) e (λ b. refl)
-  primary_no_minus s z t (a_puts {m = m} {x = x} e f h g) = by_next (λ q. at prefix_minus q ≡ None) s m (kind.Name x) e (λ b. refl)
-  primary_no_minus s z t (a_group {m = m} e h g) = by_next (λ q. at prefix_minus q ≡ None) s m kind.Open e (λ b. refl)
-  primary_no_minus s z t (an_if {m = m} e h) = by_next (λ q. at prefix_minus q ≡ None) s m kind.If e (λ b. refl)
+  by_kind_full : (s m : Place) (k : WordKind) → next s ≡ Some (k, m) → primary_of N s ≡ primary_at N k m
+  unfolding primary_of
+  by_kind_full s m k e = ap (primary_in N) e
 
-  pub minus_full : IsFull (minus_of N) (Minus R) Anywhere D
+  primary_full : IsFull (primary_of N) (Primary R) Anywhere D
+  primary_full s z t (a_literal {k = k} e f) u = inl (by_kind_full s z k e ∙ literal_full k z t f)
+  primary_full s z t (a_negative {m = m} {n = n} e f g) u = inl (by_kind_full s m kind.Minus e ∙ negative_full m z n f g)
+  primary_full s z t (a_local {x = x} e o f) u = inl (by_name_full s z x e ∙ plain_full x z o ∙ local_full x z f)
+  primary_full s z t (a_bare_call {x = x} e o f g) u = inl (by_name_full s z x e ∙ plain_full x z o ∙ other_full x z f ∙ bare_full x z g)
+  primary_full s z t (a_call {m = m} {n = n} {x = x} {u = v} {l = l} e f h) u =
+      leads_eq (primary_of N s) (name_of N x m) (Ok (t, z)) (by_name_full s m x e) (call_full x m n z v l f h)
+  primary_full s z t (a_construct {m = m} {k = k} {p = p} e f h) u =
+      leads_eq (primary_of N s) (N.part p m) (Ok (t, z)) (by_kind_full s m k e ∙ construct_full k m p f) (nests.part p m z t h (construct_anywhere k p z f))
+
+  tailed_full : (x : Tail) (l : Tree) (n z : Place) (t : Tree) → Tailed R x l n t z → Leads (tailed_of N x l n) (Ok (t, z)) D
+  unfolding tailed_of
+  tailed_full x l n z t a_send = inl refl
+  tailed_full x l n z t (a_sent_call {x = y} {l = a} h) = leads_bind (N.bracketed n) (a, z) (λ q. Ok (send l y.0 (listed q.0), q.1)) (nests.bracketed n z a h tt)
+  tailed_full x l n z t (an_index {i = i} h) = leads_bind (N.part parts.Index n) (i, z) (λ q. Ok (index l q.0, q.1)) (nests.part parts.Index n z i h tt)
+
+  pub postfix_full : IsFull (postfix_of N) (Postfix R) (Stops 0) D
+  unfolding postfix_of
+  postfix_full = trail_full tail (tailed_of N) Steps-tail (λ x l n z t e. shrinks.tailed x l n z t e) (primary_of N) (Primary R) (Tailed R) D (Stops 0) (λ s z t h. primary_full s z t h tt) tailed_full no_tail_at
+
+  pub bang_full : IsFull (bang_of N) (Bang R) (Stops 0) D
+  unfolding bang_of
+  bang_full s z t (a_bang {m = m} {t = v} e h) stops =
+      leads_eq (bang_or N s (at (word kind.Bang) s)) (built logical_not (N.part parts.Bang m)) (Ok (t, z)) (ap (bang_or N s) (word_here kind.Bang s m e refl))
+      (leads_bind (N.part parts.Bang m) (v, z) (λ x. Ok (logical_not x.0, x.1)) (nests.part parts.Bang m z v h stops))
+  bang_full s z t (no_bang h) stops =
+      leads_eq (bang_or N s (at (word kind.Bang) s)) (postfix_of N s) (Ok (t, z)) (ap (bang_or N s) (postfix_no_bang R s z t h)) (postfix_full s z t h stops)
+
+  pub minus_full : IsFull (minus_of N) (Minus R) (Stops 0) D
   unfolding minus_of
-  minus_full s z t (a_minus {m = m} {t = v} e f h) u =
-      leads_eq (minus_or N s (at prefix_minus s)) (built negate (N.minus m)) (Ok (t, z)) (ap (minus_or N s) (next-prefix s m e f))
-      (leads_bind (N.minus m) (v, z) (λ x. Ok (negate x.0, x.1)) (nests.minus m z v h tt))
-  minus_full s z t (a_primary h) u =
-      leads_eq (minus_or N s (at prefix_minus s)) (primary_of N s) (Ok (t, z)) (ap (minus_or N s) (primary_no_minus s z t h)) (primary_full s z t h tt)
+  minus_full s z t (a_minus {m = m} {t = v} e f h) stops =
+      leads_eq (minus_or N s (at prefix_minus s)) (built negate (N.part parts.Minus m)) (Ok (t, z)) (ap (minus_or N s) (next-prefix s m e f))
+      (leads_bind (N.part parts.Minus m) (v, z) (λ x. Ok (negate x.0, x.1)) (nests.part parts.Minus m z v h stops))
+  minus_full s z t (no_minus h) stops =
+      leads_eq (minus_or N s (at prefix_minus s)) (bang_of N s) (Ok (t, z)) (ap (minus_or N s) (bang_no_prefix R s z t h)) (bang_full s z t h stops)
 
-  pub binary_full : (level : ℕ) → IsFull (binary_of N level) (Binary R level) (Stops level) D
-  unfolding binary_of
-  binary_full zero = minus_full
-  binary_full (suc level) = λ s z t c stops.
-      chain_full (operator (suc level)) (operator (suc level)) same binary (binary_of N level) (Binary R level) (Stops level) D
-      (Steps-operator (suc level)) (shrinks.binary level)
-      (λ m n x e. stops_below (suc level) level (omega arith) m n x e) (λ m n z x r e h. e) (binary_full level) s z t c stops.0 stops.1
+  -- ---- operators
 
-  pub equality_full : IsFull (equality_of N) (Equality R) (Stops 4) D
-  unfolding equality_of
-  equality_full s z t (a_comparison h) stops =
-      leads_trans (binary_of N 3 s >>= λ l. pair_or N l.0 l.1 (at (operator 4) l.1)) (pair_or N t z (at (operator 4) z)) (Ok (t, z))
-      (leads_bind (binary_of N 3 s) (t, z) (λ l. pair_or N l.0 l.1 (at (operator 4) l.1)) (binary_full 3 s z t h stops.0))
-      (inl (ap (pair_or N t z) stops.1))
-  equality_full s z t (a_pair {m = m} {n = n} {l = l} {r = r} {o = o} h e g) stops =
-      leads_trans (binary_of N 3 s >>= λ l. pair_or N l.0 l.1 (at (operator 4) l.1)) (pair_or N l m (at (operator 4) m)) (Ok (t, z))
-      (leads_bind (binary_of N 3 s) (l, m) (λ l. pair_or N l.0 l.1 (at (operator 4) l.1)) (binary_full 3 s m l h (stops_below 4 3 (omega arith) m n o e)))
+  binary_full_on : (level : ℕ) → IsFullOn (Minus R) (Stops 0) (binary_on N level) (Binary R level) (Stops (4 * level)) D
+  unfolding binary_on
+  binary_full_on zero s z t h stops = record { first = t; behind = z; spelled = h; stops = stops; leads = inl refl }
+  binary_full_on (suc level) s z t c stops =
+      onward_full (operator (suc level)) binary (binary_of N level) (Binary R level) (Stops (4 * level)) D (Steps-operator (suc level)) (shrinks.binary level)
+      (λ m n x e. omega (arith, operator_strength (suc level) m n x e))
+      (from_full (minus_of N) (binary_on N level) (Minus R) (Stops 0) (Binary R level) (Stops (4 * level)) minus_full (binary_full_on level))
+      (Minus R) (Stops 0) (binary_on N level) (binary_full_on level) s z t c (omega (arith, stops)) (no_operator_at (suc level) z stops)
+
+  pub binary_full : (level : ℕ) → IsFull (binary_of N level) (Binary R level) (Stops (4 * level)) D
+  binary_full level = from_full (minus_of N) (binary_on N level) (Minus R) (Stops 0) (Binary R level) (Stops (4 * level)) minus_full (binary_full_on level)
+
+  equality_full_on : IsFullOn (Minus R) (Stops 0) (equality_on N) (Equality R) (Stops 16) D
+  unfolding equality_on
+  equality_full_on s z t (a_comparison h) stops =
+      onward_bind (binary_on N 3) (λ l. pair_or N l.0 l.1 (at (operator 4) l.1)) s t z (Ok (t, z)) (binary_full_on 3 s z t h (omega (arith, stops))) (inl (ap (pair_or N t z) (no_operator_at 4 z stops)))
+  equality_full_on s z t (a_pair {m = m} {n = n} {l = l} {r = r} {o = o} h e g) stops =
+      onward_bind (binary_on N 3) (λ l. pair_or N l.0 l.1 (at (operator 4) l.1)) s l m (Ok (t, z)) (binary_full_on 3 s m l h (omega (arith, operator_strength 4 m n o e)))
       (leads_eq (pair_or N l m (at (operator 4) m)) (built (binary o l) (binary_of N 3 n)) (Ok (t, z)) (ap (pair_or N l m) e)
-      (leads_bind (binary_of N 3 n) (r, z) (λ x. Ok (binary o l x.0, x.1)) (binary_full 3 n z r g stops.0)))
+      (leads_bind (binary_of N 3 n) (r, z) (λ x. Ok (binary o l x.0, x.1)) (binary_full 3 n z r g (omega (arith, stops)))))
 
-  pub argument_full : IsFull (argument_of N) (Argument R) Outer D
-  unfolding argument_of
-  argument_full s z t (an_assignment {m = m} {n = n} {x = x} {t = v} e f h) outer =
-      leads_eq (argument_or N s (at target s)) (built (assign x.0) (N.value (with_local x n))) (Ok (t, z)) (ap (argument_or N s) (next-target s m n x e f))
-      (leads_bind (N.value (with_local x n)) (v, z) (λ q. Ok (assign x.0 q.0, q.1)) (nests.value (with_local x n) z v h outer))
-  argument_full s z t (an_equality h) outer =
-      leads_eq (argument_or N s (at target s)) (equality_of N s) (Ok (t, z)) (ap (argument_or N s) (no_target R s z t h outer)) (equality_full s z t h (outer_stops 4 z outer))
+  logical_full_on : (level : ℕ) → IsFullOn (Minus R) (Stops 0) (logical_on N level) (Logical R level) (Stops (16 + 4 * level)) D
+  unfolding logical_on
+  logical_full_on zero s z t h stops = equality_full_on s z t h stops
+  logical_full_on (suc level) s z t c stops =
+      onward_full (connective (suc level)) joined_by (logical_of N level) (Logical R level) (Stops (16 + 4 * level)) D (Steps-connective (suc level)) (shrinks.logical level)
+      (λ m n x e. omega (arith, connective_strength (suc level) m n x e))
+      (from_full (minus_of N) (logical_on N level) (Minus R) (Stops 0) (Logical R level) (Stops (16 + 4 * level)) minus_full (logical_full_on level))
+      (Minus R) (Stops 0) (logical_on N level) (logical_full_on level) s z t c (omega (arith, stops)) (no_connective_at (suc level) z stops)
 
-  pub arguments_full : IsFull (arguments_of N) (Arguments R) EndsStatement D
-  unfolding arguments_of
-  arguments_full s z t c stops =
-      chain_full comma comma one_of and_one (argument_of N) (Argument R) Outer D Steps-comma shrinks.argument
-      (λ m n x e. comma_outer m n x e) (λ m n z x r e h. e) argument_full s z t c stops.0 stops.1
+  ternary_full_on : IsFullOn (Minus R) (Stops 0) (ternary_on N) (Ternary R) (Stops 26) D
+  unfolding ternary_on
+  ternary_full_on s z t (no_question h) stops =
+      onward_bind (logical_on N 2) (λ c. question_or N c.0 c.1 (at (word kind.Question) c.1)) s t z (Ok (t, z)) (logical_full_on 2 s z t h (omega (arith, stops)))
+      (inl (ap (question_or N t z) (word_unseen kind.Question told_question z (omega (arith, stops)))))
+  ternary_full_on s z t (a_question {m = m} {n = n} {o = o} {y = y} {c = c} {t = a} {e = b} h e f g i) stops =
+      onward_bind (logical_on N 2) (λ c. question_or N c.0 c.1 (at (word kind.Question) c.1)) s c m (Ok (t, z)) (logical_full_on 2 s m c h (stops_by kind.Question 24 m n e (omega arith)))
+      (leads_eq (question_or N c m (at (word kind.Question) m)) (across (choose c) (word kind.Colon) (N.part parts.Branch) (N.part parts.Branch n)) (Ok (t, z)) (ap (question_or N c m) (word_here kind.Question m n e refl))
+      (across_full (choose c) (word kind.Colon) (N.part parts.Branch) (N.part parts.Branch n) a o y z tt b
+      (nests.part parts.Branch n o a f (stops_by kind.Colon 26 o y g (omega arith))) (word_here kind.Colon o y g refl) (nests.part parts.Branch y z b i stops)))
 
-  arguments_start : (s z : Place) (l : List Tree) → Arguments R s l z → at (word kind.Close) s ≡ None
-  arguments_start s z l c = let f = chain_first comma one_of and_one (Argument R) s z l c in no_close s (argument_starts R s f.1 f.0 f.2)
+  pub ternary_full : IsFull (ternary_of N) (Ternary R) (Stops 26) D
+  ternary_full = from_full (minus_of N) (ternary_on N) (Minus R) (Stops 0) (Ternary R) (Stops 26) minus_full ternary_full_on
 
-  pub bracketed_full : IsFull (bracketed_of N) (Bracketed R) Closes D
+  -- ---- assignments and calls
+
+  assigned_full : (b : Bool) (q : Parse Tree) (Q : Place → Tree → Place → Type 0) → IsFull q Q (Stops (value_stop b)) D → ((s z : Place) (t : Tree) → Q s t z → Stops (value_stop b) z → at target s ≡ None)
+      → IsFull (assigned_of N b q) (Assigned R b Q) (Stops (value_stop b)) D
+  unfolding assigned_of
+  assigned_full b q Q full none s z t (an_assignment {n = n} {x = x} {t = v} e h) stops =
+      leads_eq (assigned_or N b q s (at target s)) (built (assigned_to x (with_target x.target n)) (N.value b (with_target x.target n))) (Ok (t, z)) (ap (assigned_or N b q s) e)
+      (leads_bind (N.value b (with_target x.target n)) (v, z) (λ y. Ok (assigned_to x (with_target x.target n) y.0, y.1)) (nests.value b (with_target x.target n) z v h stops))
+  assigned_full b q Q full none s z t (no_assignment h) stops =
+      leads_eq (assigned_or N b q s (at target s)) (q s) (Ok (t, z)) (ap (assigned_or N b q s) (none s z t h stops)) (full s z t h stops)
+
+  pub argument_full : IsFull (argument_of N) (Argument R) (Stops 26) D
+  argument_full = assigned_full false (ternary_of N) (Ternary R) ternary_full (ternary_no_target R)
+
+  pair_full : IsFull (pair_of N) (Pair R) (Stops 26) D
+  unfolding pair_of
+  pair_full s z t (by_label {m = m} {x = x} {t = v} e h) stops =
+      leads_eq (pair_by N s (at label s)) (built (pair (symbol x.0)) (argument_of N m)) (Ok (t, z)) (ap (pair_by N s) e)
+      (leads_bind (argument_of N m) (v, z) (λ q. Ok (pair (symbol x.0) q.0, q.1)) (argument_full m z v h stops))
+  pair_full s z t (by_arrow {m = m} {n = n} {k = k} {t = v} h e i) stops =
+      leads_eq (pair_by N s (at label s)) (across pair (word kind.Arrow) (argument_of N) (argument_of N s)) (Ok (t, z)) (ap (pair_by N s) (starts_no_label s (argument_starts R s m k h)))
+      (across_full pair (word kind.Arrow) (argument_of N) (argument_of N s) k m n z tt v (argument_full s m k h (stops_by kind.Arrow 26 m n e (omega arith))) (word_here kind.Arrow m n e refl) (argument_full n z v i stops))
+
+  member_full : (k : Listed) → IsFull (member_of N k) (Member R k) (Stops 26) D
+  member_full listings.Command = argument_full
+  member_full listings.Call = argument_full
+  member_full listings.Array = argument_full
+  member_full listings.Hash = pair_full
+
+  members_full : (k : Listed) (s z : Place) (l : List Tree) → Members R k s l z → Stops 26 z → at (another k) z ≡ None → Leads (members_of N k s) (Ok (l, z)) D
+  unfolding members_of
+  members_full k s z l c stops none =
+      chain_full comma (another k) one_of and_one (member_of N k) (Member R k) (Stops 26) D (Steps-another k) (shrinks.member k)
+      (λ m n x e. omega (arith, comma_strength m n x e)) (λ m n z x r e h. comma-another k m n x e (member_no_closing R k n z r h)) (member_full k) s z l c stops none
+
+  -- no comma, no further member
+  no_another : (k : Listed) (z : Place) → at comma z ≡ None → at (another k) z ≡ None
+  no_another k z e = none_unless (at (another k) z) (λ u n f.
+      let g : seen u n ≡ None = sym (another-comma k z n u f) ∙ e in
+      let never : ⊥ = cc in never)
+
+  commands_full : (s z : Place) (l : List Tree) → Members R listings.Command s l z → Stops 27 z → Leads (members_of N listings.Command s) (Ok (l, z)) D
+  commands_full s z l c stops = members_full listings.Command s z l c (omega (arith, stops)) (no_another listings.Command z (word_unseen kind.Comma told_comma z stops))
+
+  pub bracketed_full : (k : Listed) → IsFull (bracketed_of N k) (Bracketed R k) Anywhere D
   unfolding bracketed_of
-  bracketed_full s z l no_arguments stops = inl (ap (bracketed_or N s) (word_here kind.Close s stops.0 stops.1 refl))
-  bracketed_full s z l (some_arguments c) stops =
-      leads_eq (bracketed_or N s (at (word kind.Close) s)) (arguments_of N s) (Ok (l, z)) (ap (bracketed_or N s) (arguments_start s z l c))
-      (arguments_full s z l c (ends_statement_by kind.Close z stops.0 stops.1 refl refl))
+  bracketed_full k s z l (no_members e) u = inl (ap (bracketed_or N k s) e)
+  bracketed_full k s z l (some_members {m = m} {u = v} c e) u =
+      let f = chain_first comma one_of and_one (Member R k) s m l c in
+      leads_eq (bracketed_or N k s (at (closing k) s)) (members_of N k s >>= λ q. ended_by q.0 (at (last k) q.1)) (Ok (l, z)) (ap (bracketed_or N k s) (member_no_closing R k s f.1 f.0 f.2))
+      (leads_trans (members_of N k s >>= λ q. ended_by q.0 (at (last k) q.1)) (ended_by l (at (last k) m)) (Ok (l, z))
+      (leads_bind (members_of N k s) (l, m) (λ q. ended_by q.0 (at (last k) q.1)) (members_full k s m l c (last_stops k m z v e) (last-another k m z v e)))
+      (inl (ap (ended_by l) e)))
 
-  pub statement_full : IsFull (statement_of N) (Statement R) EndsStatement D
+  array_full : IsFull (array_of N) (Array R) Anywhere D
+  unfolding array_of
+  array_full s z t (an_array {l = l} h) u = leads_bind (bracketed_of N listings.Array s) (l, z) (λ q. Ok (array (listed q.0), q.1)) (bracketed_full listings.Array s z l h tt)
+
+  hash_full : IsFull (hash_of N) (Hash R) Anywhere D
+  unfolding hash_of
+  hash_full s z t (a_hash {l = l} h) u = leads_bind (bracketed_of N listings.Hash s) (l, z) (λ q. Ok (hash (listed q.0), q.1)) (bracketed_full listings.Hash s z l h tt)
+
+  index_full : IsFull (index_of N) (Index R) Anywhere D
+  unfolding index_of
+  index_full s z t (of_element {m = m} h e) u = closed_full kind.CloseSquare (argument_of N s) t m z refl (argument_full s m t h (stops_by kind.CloseSquare 26 m z e (omega arith))) e
+
+  argument_no_command : (s z : Place) (t : Tree) → Argument R s t z → at (command s.known) s ≡ None
+  argument_no_command s z t (an_assignment {n = n} {x = x} e h) = target_no_command s n x e
+  argument_no_command s z t (no_assignment h) = first_no_command s (ternary_first R s z t h)
+
+  pub commanded_full : IsFull (commanded_of N) (Commanded R) (Stops 27) D
+  unfolding commanded_of
+  commanded_full s z l (by_arguments c) stops =
+      let f = chain_first comma one_of and_one (Argument R) s z l c in
+      leads_eq (commanded_or N s (at (command s.known) s)) (members_of N listings.Command s) (Ok (l, z)) (ap (commanded_or N s) (argument_no_command s f.1 f.0 f.2)) (commands_full s z l c stops)
+  commanded_full s z l (by_command {t = t} e h) stops =
+      leads_eq (commanded_or N s (at (command s.known) s)) (built one_of (N.part parts.Command s)) (Ok (l, z)) (ap (commanded_or N s) e)
+      (leads_bind (N.part parts.Command s) (t, z) (λ y. Ok (one_of y.0, y.1)) (nests.part parts.Command s z t h stops))
+
+  called_full : (s m z : Place) (x : Sym) (l : List Tree) → Commanded R m l z → Stops 27 z → Leads (call_of x (commanded_of N m)) (Ok (call x.0 (listed l), z)) D
+  called_full s m z x l h stops = leads_bind (commanded_of N m) (l, z) (λ q. Ok (call x.0 (listed q.0), q.1)) (commanded_full m z l h stops)
+
+  pub command_full : IsFull (command_of N) (Command R) (Stops 27) D
+  unfolding command_of
+  command_full s z t (a_command {m = m} {x = x} {l = l} e h) stops =
+      leads_eq (command_or N (at (command s.known) s)) (call_of x (commanded_of N m)) (Ok (t, z)) (ap (command_or N) e) (called_full s m z x l h stops)
+
+  phrase_full : IsFull (phrase_of N) (Phrase R) (Stops 27) D
+  unfolding phrase_of
+  phrase_full s z t (by_name (a_command {m = m} {x = x} {l = l} e h)) stops =
+      leads_eq (phrase_or N s (at (command s.known) s)) (call_of x (commanded_of N m)) (Ok (t, z)) (ap (phrase_or N s) e) (called_full s m z x l h stops)
+  phrase_full s z t (an_operand h) stops =
+      leads_eq (phrase_or N s (at (command s.known) s)) (ternary_of N s) (Ok (t, z)) (ap (phrase_or N s) (first_no_command s (ternary_first R s z t h))) (ternary_full s z t h (omega (arith, stops)))
+
+  pub value_full : (b : Bool) → IsFull (value_of N b) (Value R b) (Stops (value_stop b)) D
+  value_full false = assigned_full false (ternary_of N) (Ternary R) ternary_full (ternary_no_target R)
+  value_full true = assigned_full true (phrase_of N) (Phrase R) phrase_full (phrase_no_target R)
+
+  -- ---- statements
+
+  pub negation_full : IsFull (negation_of N) (Negation R) (Stops 27) D
+  unfolding negation_of
+  negation_full s z t (a_negation {m = m} {t = v} e h) stops =
+      leads_eq (negation_or N s (at (word kind.NotWord) s)) (built logical_not (N.part parts.Not m)) (Ok (t, z)) (ap (negation_or N s) (word_here kind.NotWord s m e refl))
+      (leads_bind (N.part parts.Not m) (v, z) (λ x. Ok (logical_not x.0, x.1)) (nests.part parts.Not m z v h stops))
+  negation_full s z t (no_negation h) stops =
+      leads_eq (negation_or N s (at (word kind.NotWord) s)) (value_of N true s) (Ok (t, z)) (ap (negation_or N s) (starts_no_not s (value_starts R s z t h))) (value_full true s z t h stops)
+
+  pub expression_full : IsFull (expression_of N) (Expression R) (Stops 28) D
+  unfolding expression_of
+  expression_full s z t c stops =
+      chain_full (connective 3) (connective 3) same joined_by (negation_of N) (Negation R) (Stops 27) D (Steps-connective 3) shrinks.negation
+      (λ m n x e. omega (arith, connective_strength 3 m n x e)) (λ m n z x r e h. e) negation_full s z t c (omega (arith, stops)) (no_connective_at 3 z stops)
+
+  pub statement_full : IsFull (statement_of N) (Statement R) (Stops 29) D
   unfolding statement_of
-  statement_full s z t (a_command {m = m} {x = x} {l = l} e f h) stops =
-      leads_eq (statement_or N s (at (command s.known) s)) (puts_of (arguments_of N m)) (Ok (t, z)) (ap (statement_or N s) (next-command s m x e f))
-      (leads_bind (arguments_of N m) (l, z) (λ q. Ok (puts (listed q.0), q.1)) (arguments_full m z l h stops))
-  statement_full s z t (an_argument h) stops =
-      leads_eq (statement_or N s (at (command s.known) s)) (argument_of N s) (Ok (t, z)) (ap (statement_or N s) (no_command R s z t h)) (argument_full s z t h stops.0)
+  statement_full s z t c stops =
+      chain_full modifier modifier same modified (expression_of N) (Expression R) (Stops 28) D Steps-modifier shrinks.expression
+      (λ m n x e. omega (arith, modifier_strength m n x e)) (λ m n z x r e h. e) expression_full s z t c (omega (arith, stops)) (no_modifier_at z stops)
 
-  rows_full : (s z : Place) (l : List Tree) → Rows R s l z → EndsStatement z → at row z ≡ None → Leads (rows_of N s) (Ok (l, z)) D
+  rows_full : (s z : Place) (l : List Tree) → Rows R s l z → Stops 29 z → at row z ≡ None → Leads (rows_of N s) (Ok (l, z)) D
   unfolding rows_of
   rows_full s z l c stops e =
-      chain_full separators row one_of and_one (statement_of N) (Statement R) EndsStatement D Steps-row shrinks.statement
-      (λ m n x e. separators_end m n x e) (λ m n z x r e h. separators-row m n x e (statement_starts R n z r h)) statement_full s z l c stops e
+      chain_full separators row one_of and_one (statement_of N) (Statement R) (Stops 29) D Steps-row shrinks.statement
+      (λ m n x e. separators_stop m n x e) (λ m n z x r e h. separators-row m n x e (statement_starts R n z r h)) statement_full s z l c stops e
 
   pub statements_full : IsFull (statements_of N) (Statements R) Ends D
   unfolding statements_of
@@ -190,13 +367,16 @@ module _ (N : Readers) (R : Nested) (D : Type 0) (shrinks : ReadersShrink N) (ne
       (ap (λ b. cond b (Ok (sequence (listed []), skip s)) (sequence_of (rows_of N (skip s)))) begins)
       (leads_bind (rows_of N (skip s)) (l, m) (λ x. Ok (sequence (listed x.0), skip x.1)) (rows_full (skip s) m l c behind.0 behind.1))
 
+  pub group_full : IsFull (group_of N) (Group R) Anywhere D
+  unfolding group_of
+  group_full s z t (a_group {m = m} h e) u = closed_full kind.Close (statements_of N s) t m z refl (statements_full s m t h (next_ends m z kind.Close true e refl)) e
+
+  -- ---- control
+
   pub branch_full : IsFull (branch_of N) (Branch R) Ends D
   unfolding branch_of
   branch_full s z b (a_branch {m = m} {n = n} {c = c} {t = t} {u = u} h e i) stops =
-      leads_trans (statement_of N s >>= λ c. branch_on N c.0 (at thens c.1)) (branch_on N c (at thens m)) (Ok ((c, t), z))
-      (leads_bind (statement_of N s) (c, m) (λ c. branch_on N c.0 (at thens c.1)) (statement_full s m c h (thens_end m n u e)))
-      (leads_eq (branch_on N c (at thens m)) (built (λ (v : Tree). (c, v)) (statements_of N n)) (Ok ((c, t), z)) (ap (branch_on N c) e)
-      (leads_bind (statements_of N n) (t, z) (λ q. Ok ((c, q.0), q.1)) (statements_full n z t i stops)))
+      across_full both thens (statements_of N) (expression_of N s) c m n z u t (expression_full s m c h (thens_stop m n u e)) e (statements_full n z t i stops)
 
   branches_full : (s z : Place) (l : List (Tree × Tree)) → Branches R s l z → Ends z → at elsif z ≡ None → Leads (branches_of N s) (Ok (l, z)) D
   unfolding branches_of
@@ -216,14 +396,40 @@ module _ (N : Readers) (R : Nested) (D : Type 0) (shrinks : ReadersShrink N) (ne
   branches_end m n e no_else stops = (next_ends m stops.0 kind.End true stops.1 refl, other-word kind.Elsif kind.End m stops.0 stops.1 refl)
   branches_end m n e (an_else {m = o} f h) stops = (next_ends m o kind.Else true f refl, other-word kind.Elsif kind.Else m o f refl)
 
+  ended_full : {A : Type 0} (f : A → Tree → Tree) (r : Answer A) (l : A) (m n z : Place) (e : Tree) → Leads r (Ok (l, m)) D → Otherwise R m e n → next n ≡ Some (kind.End, z) → Leads (ended N f r) (Ok (f l e, z)) D
+  ended_full f r l m n z e b h i =
+      leads_trans (ended N f r) (closed kind.End (built (f l) (otherwise_of N m))) (Ok (f l e, z)) (leads_bind r (l, m) (λ l. closed kind.End (built (f l.0) (otherwise_of N l.1))) b)
+      (closed_full kind.End (built (f l) (otherwise_of N m)) (f l e) n z refl (leads_bind (otherwise_of N m) (e, n) (λ x. Ok (f l x.0, x.1)) (otherwise_full m n e h (z, i))) i)
+
   pub choice_full : IsFull (choice_of N) (Choice R) Anywhere D
   unfolding choice_of
   choice_full s z t (a_choice {m = m} {n = n} {l = l} {e = e} b h f) u =
-      let ended = branches_end m n e h (z, f) in
-      leads_trans (branches_of N s >>= λ l. closed kind.End (built (chosen l.0) (otherwise_of N l.1))) (closed kind.End (built (chosen l) (otherwise_of N m))) (Ok (t, z))
-      (leads_bind (branches_of N s) (l, m) (λ l. closed kind.End (built (chosen l.0) (otherwise_of N l.1))) (branches_full s m l b ended.0 ended.1))
-      (closed_full kind.End (built (chosen l) (otherwise_of N m)) t n z refl
-      (leads_bind (otherwise_of N m) (e, n) (λ x. Ok (chosen l x.0, x.1)) (otherwise_full m n e h (z, f))) f)
+      let stops = branches_end m n e h (z, f) in ended_full chosen (branches_of N s) l m n z e (branches_full s m l b stops.0 stops.1) h f
+
+  pub unless_full : IsFull (unless_of N) (Unless R) Anywhere D
+  unfolding unless_of
+  unless_full s z t (an_unless {m = m} {n = n} {b = b} {e = e} c h f) u =
+      let stops = branches_end m n e h (z, f) in ended_full unless_chosen (branch_of N s) b m n z e (branch_full s m b c stops.0) h f
+
+  pub loop_full : (until : Bool) → IsFull (loop_of N until) (Loop R until) Anywhere D
+  unfolding loop_of
+  loop_full until s z t (a_loop {m = m} {n = n} {o = o} {c = c} {t = b} {u = u} h e i f) v =
+      closed_full kind.End (across (repeat until) loops (statements_of N) (expression_of N s)) t o z refl
+      (across_full (repeat until) loops (statements_of N) (expression_of N s) c m n o u b (expression_full s m c h (loops_stop m n u e)) e (statements_full n o b i (next_ends o z kind.End true f refl))) f
+
+  pub part_full : (p : Part) → IsFull (part_of N p) (PartOf R p) (PartStops p) D
+  part_full parts.Group = group_full
+  part_full parts.Array = array_full
+  part_full parts.Hash = hash_full
+  part_full parts.Index = index_full
+  part_full parts.Choice = choice_full
+  part_full parts.Unless = unless_full
+  part_full (parts.Loop until) = loop_full until
+  part_full parts.Minus = minus_full
+  part_full parts.Bang = bang_full
+  part_full parts.Not = negation_full
+  part_full parts.Command = command_full
+  part_full parts.Branch = argument_full
 
 -- ---- all depths
 
@@ -232,39 +438,35 @@ full_map p P Stops f h s z t i stops = leads_map (p s) (Ok (t, z)) f (h s z t i 
 
 full_inside : (k d : ℕ) → NestedFull (readers_inside k) (inside d) (k < d)
 unfolding readers_inside inside
-full_inside zero zero = record { statements = λ s z t h stops. absurd h; bracketed = λ s z t h stops. absurd h; choice = λ s z t h stops. absurd h; minus = λ s z t h stops. absurd h; value = λ s z t h stops. absurd h }
-full_inside zero (suc d) = record { statements = λ s z t h stops. inr (refl, omega arith); bracketed = λ s z t h stops. inr (refl, omega arith); choice = λ s z t h stops. inr (refl, omega arith); minus = λ s z t h stops. inr (refl, omega arith); value = λ s z t h stops. inr (refl, omega arith) }
-full_inside (suc k) zero = record { statements = λ s z t h stops. absurd h; bracketed = λ s z t h stops. absurd h; choice = λ s z t h stops. absurd h; minus = λ s z t h stops. absurd h; value = λ s z t h stops. absurd h }
+full_inside zero zero = record { part = λ p s z t h stops. absurd h; bracketed = λ s z t h stops. absurd h; value = λ b s z t h stops. absurd h }
+full_inside zero (suc d) = record { part = λ p s z t h stops. inr (refl, omega arith); bracketed = λ s z t h stops. inr (refl, omega arith); value = λ b s z t h stops. inr (refl, omega arith) }
+full_inside (suc k) zero = record { part = λ p s z t h stops. absurd h; bracketed = λ s z t h stops. absurd h; value = λ b s z t h stops. absurd h }
 full_inside (suc k) (suc d) =
     let i = full_inside k d in
     let j = shrinks_nested true k in
     let deeper : k < d → suc k < suc d = λ (lt : k < d). omega arith in
     record {
-      statements = full_map (statements_of (readers_inside k)) (Statements (inside d)) Ends deeper (statements_full (readers_inside k) (inside d) (k < d) j i);
-      bracketed = full_map (bracketed_of (readers_inside k)) (Bracketed (inside d)) Closes deeper (bracketed_full (readers_inside k) (inside d) (k < d) j i);
-      choice = full_map (choice_of (readers_inside k)) (Choice (inside d)) Anywhere deeper (choice_full (readers_inside k) (inside d) (k < d) j i);
-      minus = full_map (minus_of (readers_inside k)) (Minus (inside d)) Anywhere deeper (minus_full (readers_inside k) (inside d) (k < d) j i);
-      value = full_map (argument_of (readers_inside k)) (Argument (inside d)) Outer deeper (argument_full (readers_inside k) (inside d) (k < d) j i);
+      part = λ p. full_map (part_of (readers_inside k) p) (PartOf (inside d) p) (PartStops p) deeper (part_full (readers_inside k) (inside d) (k < d) j i p);
+      bracketed = full_map (bracketed_of (readers_inside k) listings.Call) (Bracketed (inside d) listings.Call) Anywhere deeper (bracketed_full (readers_inside k) (inside d) (k < d) j i listings.Call);
+      value = λ b. full_map (value_of (readers_inside k) b) (Value (inside d) b) (Stops (value_stop b)) deeper (value_full (readers_inside k) (inside d) (k < d) j i b);
     }
 
-value_full : (k d : ℕ) → IsFull (argument_of (readers_inside k)) (Argument (inside d)) Outer (k < d)
-value_full k d = argument_full (readers_inside k) (inside d) (k < d) (shrinks_nested true k) (full_inside k d)
+inner_full : (k d : ℕ) (b : Bool) → IsFull (value_of (readers_inside k) b) (Value (inside d) b) (Stops (value_stop b)) (k < d)
+inner_full k d = value_full (readers_inside k) (inside d) (k < d) (shrinks_nested true k) (full_inside k d)
 
 pub full_outside : (k d : ℕ) → NestedFull (readers_outside k) (outside d) (k < d)
 unfolding readers_outside outside
-full_outside zero zero = record { statements = λ s z t h stops. absurd h; bracketed = λ s z t h stops. absurd h; choice = λ s z t h stops. absurd h; minus = λ s z t h stops. absurd h; value = value_full zero zero }
-full_outside zero (suc d) = record { statements = λ s z t h stops. inr (refl, omega arith); bracketed = λ s z t h stops. inr (refl, omega arith); choice = λ s z t h stops. inr (refl, omega arith); minus = λ s z t h stops. inr (refl, omega arith); value = value_full zero (suc d) }
-full_outside (suc k) zero = record { statements = λ s z t h stops. absurd h; bracketed = λ s z t h stops. absurd h; choice = λ s z t h stops. absurd h; minus = λ s z t h stops. absurd h; value = value_full (suc k) zero }
+full_outside zero zero = record { part = λ p s z t h stops. absurd h; bracketed = λ s z t h stops. absurd h; value = inner_full zero zero }
+full_outside zero (suc d) = record { part = λ p s z t h stops. inr (refl, omega arith); bracketed = λ s z t h stops. inr (refl, omega arith); value = inner_full zero (suc d) }
+full_outside (suc k) zero = record { part = λ p s z t h stops. absurd h; bracketed = λ s z t h stops. absurd h; value = inner_full (suc k) zero }
 full_outside (suc k) (suc d) =
     let i = full_outside k d in
     let j = shrinks_nested false k in
     let deeper : k < d → suc k < suc d = λ (lt : k < d). omega arith in
     record {
-      statements = full_map (statements_of (readers_outside k)) (Statements (outside d)) Ends deeper (statements_full (readers_outside k) (outside d) (k < d) j i);
-      bracketed = full_map (bracketed_of (readers_outside k)) (Bracketed (outside d)) Closes deeper (bracketed_full (readers_outside k) (outside d) (k < d) j i);
-      choice = full_map (choice_of (readers_outside k)) (Choice (outside d)) Anywhere deeper (choice_full (readers_outside k) (outside d) (k < d) j i);
-      minus = full_map (minus_of (readers_outside k)) (Minus (outside d)) Anywhere deeper (minus_full (readers_outside k) (outside d) (k < d) j i);
-      value = value_full (suc k) (suc d);
+      part = λ p. full_map (part_of (readers_outside k) p) (PartOf (outside d) p) (PartStops p) deeper (part_full (readers_outside k) (outside d) (k < d) j i p);
+      bracketed = full_map (bracketed_of (readers_outside k) listings.Call) (Bracketed (outside d) listings.Call) Anywhere deeper (bracketed_full (readers_outside k) (outside d) (k < d) j i listings.Call);
+      value = inner_full (suc k) (suc d);
     }
 
 -- what is spelled is read, unless it nests deeper than is read

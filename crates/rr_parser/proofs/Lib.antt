@@ -4,6 +4,7 @@ pub mod Chains
 pub mod Sound
 pub mod Shrinking
 pub mod Leading
+pub mod Trails
 pub mod Stopping
 pub mod Full
 pub mod Deep

@@ -4,7 +4,7 @@ use Rattle.std.specs.Prelude.{All, IfOk, Result, Ok, Err}
 use Rattle.std.proofs.lemmas.List.{map-append, take_more, get_or_append_left}
 use Rattle.std.proofs.Math.Seq.{get_or-append_seam}
 use Rattle.rr_tree.specs.declared.node.Node.{Node}
-use Rattle.rr_tree.specs.Tree.{Tree, listed, choose, tree_at}
+use Rattle.rr_tree.specs.Tree.{Tree, Trees, listed, choose, send, tree_at}
 use Rattle.rr_tree.specs.Nodes.{Extends, item, trees_in}
 use Rattle.rr_tree.proofs.Growth.{trees_in-items, tree_at-kept, Extends-trans, length-kept}
 use Rattle.rr_parser.specs.declared.refusal.Storage.{Storage}
@@ -26,7 +26,7 @@ items_more old s0 s1 xs i lt e f =
     ∙ ap (λ (l : List ℕ). old ++ map item l) (sym (take_more xs i 0 lt))
 
 -- the node of a list whose items stand side by side before it
-pub list_put : (old mid new : Parser) (xs : List ℕ) (first count id : ℕ) (f : Tree → Tree) → All (λ i. i < length old.nodes.items) xs → mid.nodes.items ≡ old.nodes.items ++ map item xs → mid.known.items ≡ old.known.items
+pub list_put : (old mid new : Parser) (xs : List ℕ) (first count id : ℕ) (f : Trees → Tree) → All (λ i. i < length old.nodes.items) xs → mid.nodes.items ≡ old.nodes.items ++ map item xs → mid.known ≡ old.known
     → first ≡ length old.nodes.items → count ≡ length xs → Puts mid new (f (listed (trees_in mid.nodes.items first count))) id → Puts old new (f (listed (map (tree_at old.nodes.items) xs))) id
 list_put old mid new xs first count id f all e k a b p = record {
   there = p.there;
@@ -76,7 +76,15 @@ choices_put old s0 s1 bs cs c t e is all x lt =
     let le : length old.nodes.items ≤ length s0.nodes.items = length-kept old.nodes.items s0.nodes.items x in
     (omega (arith, w.0), omega (arith, w.1), lt)
 
-pub list_ok : (old mid new : Parser) (xs : List ℕ) (first count : ℕ) (f : Tree → Tree) (r : Result ℕ Storage) → All (λ i. i < length old.nodes.items) xs → mid.nodes.items ≡ old.nodes.items ++ map item xs → mid.known.items ≡ old.known.items
+pub list_ok : (old mid new : Parser) (xs : List ℕ) (first count : ℕ) (f : Trees → Tree) (r : Result ℕ Storage) → All (λ i. i < length old.nodes.items) xs → mid.nodes.items ≡ old.nodes.items ++ map item xs → mid.known ≡ old.known
     → first ≡ length old.nodes.items → count ≡ length xs → IfOk r (λ id. Puts mid new (f (listed (trees_in mid.nodes.items first count))) id) → IfOk r (λ id. Puts old new (f (listed (map (tree_at old.nodes.items) xs))) id)
 list_ok old mid new xs first count f (Ok id) all e k a b p = list_put old mid new xs first count id f all e k a b p
 list_ok old mid new xs first count f (Err d) all e k a b p = tt
+
+-- the node of a call, whose arguments stand side by side before it
+pub send_ok : (old mid new : Parser) (xs : List ℕ) (first count r : ℕ) (x : ℕ) (o : Result ℕ Storage) → r < length old.nodes.items → All (λ i. i < length old.nodes.items) xs → mid.nodes.items ≡ old.nodes.items ++ map item xs → mid.known ≡ old.known
+    → first ≡ length old.nodes.items → count ≡ length xs → IfOk o (λ id. Puts mid new (send (tree_at mid.nodes.items r) x (listed (trees_in mid.nodes.items first count))) id)
+    → IfOk o (λ id. Puts old new (send (tree_at old.nodes.items r) x (listed (map (tree_at old.nodes.items) xs))) id)
+send_ok old mid new xs first count r x o lt all e k a b p =
+    list_ok old mid new xs first count (send (tree_at old.nodes.items r) x) o all e k a b
+    (subst (λ (u : Tree). IfOk o (λ id. Puts mid new (send u x (listed (trees_in mid.nodes.items first count))) id)) (tree_at-kept old.nodes.items mid.nodes.items r (map item xs, e) lt) p)

@@ -1,17 +1,25 @@
 -- What is seen at a place.
-use Rattle.std.proofs.Common.{◌≡◌, ℕ, suc, ◌<◌, ◌≤◌, ◌⊎◌, inl, inr, Bool, true, false, cond, List, [], ◌∷◌, length, Option, Some, None, refl, sym, ap, ◌∙◌, subst, arith}
+use Rattle.std.proofs.Common.{◌≡◌, ℕ, suc, ◌<◌, ◌≤◌, ◌⊎◌, inl, inr, Bool, true, false, cond, List, [], ◌∷◌, length, Option, Some, None, is_some, refl, sym, ap, ◌∙◌, subst, arith}
 use Rattle.rr_base.specs.declared.name.Sym.{Sym}
+use Rattle.rr_parser.specs.declared.word.Tail.{Tail}
+use Rattle.rr_parser.specs.declared.word.Tail.TheVariants as tails
+use Rattle.rr_parser.specs.declared.word.Sign.{Sign}
+use Rattle.rr_parser.specs.declared.word.Aim.{Aim}
+use Rattle.rr_parser.specs.declared.word.Target.{Target}
+use Rattle.rr_parser.specs.declared.word.Listed.{Listed}
+use Rattle.rr_parser.specs.declared.word.Listed.TheVariants as listings
 use Rattle.rr_parser.specs.declared.word.WordKind.{WordKind}
 use Rattle.rr_parser.specs.declared.word.WordKind.TheVariants as kind
 use Rattle.rr_parser.specs.declared.word.Word.{Word}
 use Rattle.rr_parser.specs.Places.{Known, Place, Look, seen_before, first_as, unless, where_true, is_kind, word, any_word, placed, at, next, without_separators, skip, behind_separators, separators}
-use Rattle.rr_parser.specs.Grammar.Names.{name_of_kind, name, begins_command}
-use Rattle.rr_parser.specs.Grammar.Operands.{joined}
-use Rattle.rr_parser.specs.Grammar.Control.{behind_word, then_or_separators, thens}
+use Rattle.rr_parser.specs.Grammar.Names.{name_of_kind, name, bracket, begins_operands, begins_command, commanding, command}
+use Rattle.rr_parser.specs.Grammar.Operands.{joined, square, called, sent, indexed, behind_dot, tail}
+use Rattle.rr_parser.specs.Grammar.Calls.{target_of_kind, sign_of_kind, sign, assigned, named, target_word, target, comma, closing, behind_comma, last}
+use Rattle.rr_parser.specs.Grammar.Control.{behind_word, then_or_separators, thens, either, loops}
 use Rattle.rr_parser.specs.Reading.Operands.{without_integer, no_integer, prefix_minus}
-use Rattle.rr_parser.specs.Reading.Calls.{assigned, named, target}
-use Rattle.rr_parser.specs.Reading.Control.{commanding, command, ends, before_row, row}
-use Rattle.rr_parser.proofs.Told.{Told, told_separator, told_then, told_minus, told_assign}
+use Rattle.rr_parser.specs.Reading.Calls.{unless_closing, another}
+use Rattle.rr_parser.specs.Reading.Sequences.{ends, before_row, row}
+use Rattle.rr_parser.proofs.Told.{Told, told_dot, told_comma, told_close, told_close_square, told_close_brace, told_open_square, told_separator, told_then, told_minus, told_do}
 
 abbrev pub seen : {X : Type 0} → X → Place → Option (X × Place)
 seen x z = Some (x, z)
@@ -28,6 +36,24 @@ none_unless (Some p) h = absurd (h p.0 p.1 refl)
 
 abbrev pub left : Place → ℕ
 left s = length s.rest
+
+-- what follows an operand
+abbrev pub is_tail : WordKind → Bool
+is_tail kind.Dot = true
+is_tail kind.OpenSquare = true
+is_tail _ = false
+
+-- the word that ends a list
+abbrev pub closes : Listed → WordKind → Bool
+closes listings.Call kind.Close = true
+closes listings.Array kind.CloseSquare = true
+closes listings.Hash kind.CloseBrace = true
+closes _ _ = false
+
+-- what ends a member of a list
+abbrev pub ends_member : Listed → WordKind → Bool
+ends_member k kind.Comma = true
+ends_member k q = closes k q
 
 -- ---- one word
 
@@ -79,6 +105,11 @@ seen_words {X} f known (w ∷ ws) x z e = by_answer (f w) refl e
 pub seen_as : {X : Type 0} (f : Word → Option X) (s z : Place) (x : X) → at (first_as f) s ≡ Some (x, z) → SeenAs f s x z
 seen_as f s z x e = seen_words f s.known s.rest x z e
 
+pub unless_true : (b c : Bool) (u : Unit {0}) → unless b (where_true c) ≡ Some u → c ≡ true
+unless_true true c u e = absurd cc
+unless_true false true u e = refl
+unless_true false false u e = absurd cc
+
 true_where : (b : Bool) (u : Unit {0}) → where_true b ≡ Some u → b ≡ true
 true_where true u e = refl
 true_where false u e = absurd cc
@@ -92,14 +123,19 @@ word-next k told s z u e =
 pub other-word : (k q : WordKind) (s z : Place) → next s ≡ Some (q, z) → is_kind q k ≡ false → at (word k) s ≡ None
 other-word k q s z e f = by_next (λ p. at (word k) p ≡ None) s z q e (λ b. ap (λ t. placed z.known (seen_before (where_true t) z.rest)) f)
 
-name_told : (k : WordKind) (x : Sym) → name_of_kind k ≡ Some x → k ≡ kind.Name x
-name_told (kind.Name y) x e = cc
+-- a name, and whether it ends with a mark
+name_told : (k : WordKind) (x : Sym) → name_of_kind k ≡ Some x → (b : Bool) × (k ≡ kind.Name x b)
+name_told (kind.Name y b) x e = (b, cc)
 name_told _ x e = absurd cc
 
-pub name-next : (s z : Place) (x : Sym) → at name s ≡ Some (x, z) → next s ≡ Some (kind.Name x, z)
+pub name-next : (s z : Place) (x : Sym) → at name s ≡ Some (x, z) → (b : Bool) × (next s ≡ Some (kind.Name x b, z))
 name-next s z x e =
     let w = seen_as (λ w. name_of_kind w.kind) s z x e in
-    w.here ∙ ap (λ (q : WordKind). Some (q, z)) (name_told w.kind x w.told)
+    let t = name_told w.kind x w.told in
+    (t.0, w.here ∙ ap (λ (q : WordKind). Some (q, z)) t.1)
+
+pub next-name : (s z : Place) (x : Sym) (b : Bool) → next s ≡ Some (kind.Name x b, z) → at name s ≡ Some (x, z)
+next-name s z x b e = by_next (λ q. at name q ≡ Some (x, z)) s z (kind.Name x b) e (λ c. refl)
 
 -- ---- several words
 
@@ -181,45 +217,68 @@ module _ (s m : Place) (e : next s ≡ Some (kind.Minus, m)) where
   pub no_prefix : (n : ℕ) (z : Place) → at joined m ≡ Some (n, z) → at prefix_minus s ≡ None
   no_prefix n z f = minus_prefix (Some (n, z.rest)) (placed_some m.known (joined m.rest) n z f).0
 
-pub target-next : (s z : Place) (x : Sym) → at target s ≡ Some (x, z) → (m : Place) × (next s ≡ Some (kind.Name x, m)) × (next m ≡ Some (kind.Assign, z))
-target-next s z x e = by_name (name s.rest) refl e
-  where
-    by_sign : (y : Sym) (ws : List Word) (o : Option (Unit {0} × List Word)) → word kind.Assign ws ≡ o → placed s.known (assigned y o) ≡ Some (x, z)
-        → (y ≡ x) × (next (record { known = s.known; rest = ws }) ≡ Some (kind.Assign, z))
-    by_sign y ws None g h = absurd cc
-    by_sign y ws (Some r) g h =
-        let n : Place = record { known = s.known; rest = r.1 } in
-        (some_what y x n z h, word-next kind.Assign told_assign (record { known = s.known; rest = ws }) n r.0 (ap (placed s.known) g) ∙ ap (λ (q : Place). Some (kind.Assign, q)) (some_place y x n z h))
+-- the first word of a target, and the sign behind it
+pub record TargetAt (s : Place) (x : Aim) (z : Place) : Type 0 where
+  pub first : WordKind
+  pub m : Place
+  pub here : next s ≡ Some (first, m)
+  pub told : target_of_kind first ≡ Some x.target
+  pub sign : next m ≡ Some (kind.Assign x.sign, z)
 
-    by_name : (o : Option (Sym × List Word)) → name s.rest ≡ o → placed s.known (named o) ≡ Some (x, z) → (m : Place) × (next s ≡ Some (kind.Name x, m)) × (next m ≡ Some (kind.Assign, z))
+sign_told : (k : WordKind) (q : Sign) → sign_of_kind k ≡ Some q → k ≡ kind.Assign q
+sign_told (kind.Assign p) q e = cc
+sign_told _ q e = absurd cc
+
+pub target-next : (s z : Place) (x : Aim) → at target s ≡ Some (x, z) → TargetAt s x z
+target-next s z x e = by_name (target_word s.rest) refl e
+  where
+    by_sign : (y : Target) (m : Place) (o : Option (Sign × List Word)) → sign m.rest ≡ o → m.known ≡ s.known → placed s.known (assigned y o) ≡ Some (x, z)
+        → (y ≡ x.target) × (next m ≡ Some (kind.Assign x.sign, z))
+    by_sign y m None g k h = absurd cc
+    by_sign y m (Some r) g k h =
+        let n : Place = record { known = s.known; rest = r.1 } in
+        let a : Aim = record { target = y; sign = r.0 } in
+        let is : a ≡ x = some_what a x n z h in
+        let w = seen_as (λ w. sign_of_kind w.kind) m n r.0 (ap (placed m.known) g ∙ ap (λ (q : Known). Some (r.0, record { known = q; rest = r.1 })) k) in (
+          ap (λ (b : Aim). b.target) is,
+          w.here ∙ ap (λ (q : WordKind). Some (q, n)) (sign_told w.kind r.0 w.told) ∙ ap (λ (b : Aim). Some (kind.Assign b.sign, n)) is ∙ ap (λ (q : Place). Some (kind.Assign x.sign, q)) (some_place a x n z h),
+        )
+
+    by_name : (o : Option (Target × List Word)) → target_word s.rest ≡ o → placed s.known (named o) ≡ Some (x, z) → TargetAt s x z
     by_name None g h = absurd cc
     by_name (Some y) g h =
         let m : Place = record { known = s.known; rest = y.1 } in
-        let t = by_sign y.0 y.1 (word kind.Assign y.1) refl h in
-        (m, name-next s m y.0 (ap (placed s.known) g) ∙ ap (λ (q : Sym). Some (kind.Name q, m)) t.0, t.1)
+        let t = by_sign y.0 m (sign y.1) refl refl h in
+        let w = seen_as (λ w. target_of_kind w.kind) s m y.0 (ap (placed s.known) g) in
+        record { first = w.kind; m = m; here = w.here; told = w.told ∙ ap (λ (q : Target). Some q) t.0; sign = t.1 }
 
-pub next-target : (s m z : Place) (x : Sym) → next s ≡ Some (kind.Name x, m) → next m ≡ Some (kind.Assign, z) → at target s ≡ Some (x, z)
-next-target s m z x e f =
-    by_next (λ q. at target q ≡ Some (x, z)) s m (kind.Name x) e (λ b.
-    by_next (λ q. placed q.known (assigned x (word kind.Assign q.rest)) ≡ Some (x, z)) m z kind.Assign f (λ c. refl))
-
-pub command-next : (s z : Place) (u : Unit {0}) → at (command s.known) s ≡ Some (u, z) → (x : Sym) × (next s ≡ Some (kind.Name x, z)) × (begins_command x z ≡ true)
-command-next s z u e = by_name (name s.rest) refl e
+pub command-next : (s z : Place) (x : Sym) → at (command s.known) s ≡ Some (x, z) → (at name s ≡ Some (x, z)) × (begins_command x z ≡ true)
+command-next s z x e = by_name (name s.rest) refl e
   where
-    by_test : (y : Sym) (ws : List Word) (b : Bool) → begins_command y (record { known = s.known; rest = ws }) ≡ b → placed s.known (cond b (Some (tt, ws)) None) ≡ Some (u, z)
-        → (record { known = s.known; rest = ws } ≡ z) × (begins_command y z ≡ true)
-    by_test y ws true g h = let q = some_place tt u (record { known = s.known; rest = ws }) z h in (q, ap (begins_command y) (sym q) ∙ g)
+    by_test : (y : Sym) (ws : List Word) (b : Bool) → begins_command y (record { known = s.known; rest = ws }) ≡ b → placed s.known (cond b (Some (y, ws)) None) ≡ Some (x, z)
+        → (y ≡ x) × (record { known = s.known; rest = ws } ≡ z) × (begins_command y (record { known = s.known; rest = ws }) ≡ true)
+    by_test y ws true g h = let m : Place = record { known = s.known; rest = ws } in (some_what y x m z h, some_place y x m z h, g)
     by_test y ws false g h = absurd cc
 
-    by_name : (o : Option (Sym × List Word)) → name s.rest ≡ o → placed s.known (commanding s.known o) ≡ Some (u, z) → (x : Sym) × (next s ≡ Some (kind.Name x, z)) × (begins_command x z ≡ true)
+    by_name : (o : Option (Sym × List Word)) → name s.rest ≡ o → placed s.known (commanding s.known o) ≡ Some (x, z) → (at name s ≡ Some (x, z)) × (begins_command x z ≡ true)
     by_name None g h = absurd cc
     by_name (Some y) g h =
         let m : Place = record { known = s.known; rest = y.1 } in
-        let t = by_test y.0 y.1 (begins_command y.0 m) refl h in
-        (y.0, name-next s m y.0 (ap (placed s.known) g) ∙ ap (λ (q : Place). Some (kind.Name y.0, q)) t.0, t.1)
+        let t = by_test y.0 y.1 (begins_command y.0 m) refl h in (
+          ap (placed s.known) g ∙ ap (λ (q : Sym). Some (q, m)) t.0 ∙ ap (λ (q : Place). Some (x, q)) t.1,
+          ap (λ (q : Place). begins_command x q) (sym t.1) ∙ ap (λ (q : Sym). begins_command q m) (sym t.0) ∙ t.2,
+        )
 
-pub next-command : (s m : Place) (x : Sym) → next s ≡ Some (kind.Name x, m) → begins_command x m ≡ true → at (command s.known) s ≡ Some (tt, m)
-next-command s m x e f = by_next (λ q. at (command q.known) q ≡ Some (tt, m)) s m (kind.Name x) e (λ b. ap (λ t. placed m.known (cond t (Some (tt, m.rest)) None)) f)
+-- the word `do`, or separators
+pub loops-next : (s z : Place) (u : Unit {0}) → at loops s ≡ Some (u, z) → ((n : Place) × (next s ≡ Some (kind.Do, n)) × (n ≡ z)) ⊎ (at separators s ≡ Some (u, z))
+loops-next s z u e = by_words (word kind.Do s.rest) (separators s.rest) refl refl e
+  where
+    by_words : (o p : Option (Unit {0} × List Word)) → word kind.Do s.rest ≡ o → separators s.rest ≡ p → placed s.known (either o p) ≡ Some (u, z)
+        → ((n : Place) × (next s ≡ Some (kind.Do, n)) × (n ≡ z)) ⊎ (at separators s ≡ Some (u, z))
+    by_words None p g h i = inr (ap (placed s.known) h ∙ i)
+    by_words (Some r) p g h i =
+        let n : Place = record { known = s.known; rest = r.1 } in
+        inl (n, word-next kind.Do told_do s n r.0 (ap (placed s.known) g), some_place r.0 u n z i)
 
 -- ---- what is left behind what was seen
 
@@ -269,3 +328,123 @@ Steps-thens s m u e = by_words (word kind.Then s.rest) (separators s.rest) refl 
           left-behind_word r.1 (word kind.Then r.1) (step (word kind.Then) (Steps-word kind.Then) r.1),
           ap left (some_place tt u (record { known = s.known; rest = after }) m i),
         )
+
+pub Steps-loops : Steps loops
+Steps-loops s m u e = elim (loops-next s m u e) [
+  | inl h ↦ omega (arith, next-left s h.0 kind.Do h.1, ap left h.2)
+  | inr h ↦ Steps-separators s m u h
+]
+
+pub Steps-target : Steps target
+Steps-target s m x e = let h = target-next s m x e in omega (arith, next-left s h.m h.first h.here, next-left h.m m (kind.Assign x.sign) h.sign)
+
+-- ---- what follows an operand
+
+-- a dot comes, or a bracket; and what is behind is no longer
+pub record TailAt (s z : Place) : Type 0 where
+  pub first : WordKind
+  pub m : Place
+  pub here : next s ≡ Some (first, m)
+  pub told : is_tail first ≡ true
+  pub less : left z ≤ left m
+
+pub tail-next : (s z : Place) (x : Tail) → at tail s ≡ Some (x, z) → TailAt s z
+tail-next s z x e = by_dot (word kind.Dot s.rest) refl e
+  where
+    by_call : (y : Sym) (m : Place) (ws : List Word) (o : Option (Unit {0} × List Word)) → next s ≡ Some (kind.Dot, m) → length ws ≤ left m → ((r : Unit {0} × List Word) → o ≡ Some r → length r.1 < length ws)
+        → placed s.known (called y ws o) ≡ Some (x, z) → TailAt s z
+    by_call y m ws (Some r) f le h g = record { first = kind.Dot; m = m; here = f; told = refl; less = omega (arith, le, h r refl, ap left (some_place (tails.Call y) x (record { known = s.known; rest = r.1 }) z g)) }
+    by_call y m ws None f le h g = by_test (begins_operands ws) refl g
+      where
+        by_test : (b : Bool) → begins_operands ws ≡ b → placed s.known (cond b None (Some (tails.Send y, ws))) ≡ Some (x, z) → TailAt s z
+        by_test true i g = absurd cc
+        by_test false i g = record { first = kind.Dot; m = m; here = f; told = refl; less = omega (arith, le, ap left (some_place (tails.Send y) x (record { known = s.known; rest = ws }) z g)) }
+
+    step : {Y : Type 0} (look : Look Y) → Steps look → (ws : List Word) (r : Y × List Word) → look ws ≡ Some r → length r.1 < length ws
+    step look steps ws r g = steps (record { known = s.known; rest = ws }) (record { known = s.known; rest = r.1 }) r.0 (ap (placed s.known) g)
+
+    by_name : (m : Place) (ws : List Word) (o : Option (Sym × List Word)) → name ws ≡ o → next s ≡ Some (kind.Dot, m) → length ws ≤ left m → placed s.known (sent o) ≡ Some (x, z) → TailAt s z
+    by_name m ws None f h le g = absurd cc
+    by_name m ws (Some y) f h le g = by_call y.0 m y.1 (bracket y.1) h (omega (arith, step name (Steps-first_as _) ws y f, le)) (λ r i. step bracket (Steps-first_as _) y.1 r i) g
+
+    by_square : (o : Option (Unit {0} × List Word)) → square s.rest ≡ o → placed s.known (indexed o) ≡ Some (x, z) → TailAt s z
+    by_square None f g = absurd cc
+    by_square (Some r) f g =
+        let m : Place = record { known = s.known; rest = r.1 } in
+        let w = seen_as (λ w. unless w.blank (where_true (is_kind w.kind kind.OpenSquare))) s m r.0 (ap (placed s.known) f) in
+        record { first = kind.OpenSquare; m = m; here = w.here ∙ ap (λ (q : WordKind). Some (q, m)) (told_open_square w.kind (unless_true w.blank (is_kind w.kind kind.OpenSquare) r.0 w.told)); told = refl; less = omega (arith, ap left (some_place tails.Index x m z g)) }
+
+    by_dot : (o : Option (Unit {0} × List Word)) → word kind.Dot s.rest ≡ o → placed s.known (behind_dot s.rest o) ≡ Some (x, z) → TailAt s z
+    by_dot None f g = by_square (square s.rest) refl g
+    by_dot (Some r) f g =
+        let m : Place = record { known = s.known; rest = r.1 } in
+        by_name m r.1 (name r.1) refl (word-next kind.Dot told_dot s m r.0 (ap (placed s.known) f)) (omega arith) g
+
+pub Steps-tail : Steps tail
+Steps-tail s m x e = let h = tail-next s m x e in omega (arith, next-left s h.m h.first h.here, h.less)
+
+-- ---- lists
+
+pub another-comma : (k : Listed) (s z : Place) (u : Unit {0}) → at (another k) s ≡ Some (u, z) → at comma s ≡ Some (u, z)
+another-comma k s z u e = by_comma (comma s.rest) refl e
+  where
+    by_test : (r : Unit {0} × List Word) (b : Bool) → placed s.known (unless b (Some r)) ≡ Some (u, z) → placed s.known (Some r) ≡ Some (u, z)
+    by_test r true g = absurd cc
+    by_test r false g = g
+
+    by_comma : (o : Option (Unit {0} × List Word)) → comma s.rest ≡ o → placed s.known (unless_closing k o) ≡ Some (u, z) → at comma s ≡ Some (u, z)
+    by_comma None f g = absurd cc
+    by_comma (Some r) f g = ap (placed s.known) f ∙ by_test r (is_some (closing k r.1)) g
+
+pub Steps-another : (k : Listed) → Steps (another k)
+Steps-another k s m u e = Steps-word kind.Comma s m u (another-comma k s m u e)
+
+-- a comma, behind which the list does not end
+pub comma-another : (k : Listed) (s z : Place) (u : Unit {0}) → at comma s ≡ Some (u, z) → at (closing k) z ≡ None → at (another k) s ≡ Some (u, z)
+comma-another k s z u e f =
+    let h = placed_some s.known (comma s.rest) u z e in
+    ap (λ o. placed s.known (unless_closing k o)) h.0 ∙ by_closing (closing k z.rest) refl f ∙ ap (λ q. placed q (Some (u, z.rest))) h.1
+  where
+    by_closing : (o : Option (Unit {0} × List Word)) → closing k z.rest ≡ o → placed z.known o ≡ None → placed s.known (unless (is_some (closing k z.rest)) (Some (u, z.rest))) ≡ placed s.known (Some (u, z.rest))
+    by_closing None g i = ap (λ o. placed s.known (unless (is_some o) (Some (u, z.rest)))) g
+    by_closing (Some r) g i = absurd cc
+
+-- where a list ends, no member comes: its end, or a comma and its end
+pub last-another : (k : Listed) (s z : Place) (u : Unit {0}) → at (last k) s ≡ Some (u, z) → at (another k) s ≡ None
+last-another k s z u e = by_comma (comma s.rest) refl e
+  where
+    by_closing : (r : Unit {0} × List Word) (o : Option (Unit {0} × List Word)) → placed s.known o ≡ Some (u, z) → placed s.known (unless (is_some o) (Some r)) ≡ None
+    by_closing r None g = absurd cc
+    by_closing r (Some q) g = refl
+
+    by_comma : (o : Option (Unit {0} × List Word)) → comma s.rest ≡ o → placed s.known (closing k (behind_comma s.rest o)) ≡ Some (u, z) → at (another k) s ≡ None
+    by_comma None f g = ap (λ o. placed s.known (unless_closing k o)) f
+    by_comma (Some r) f g = ap (λ o. placed s.known (unless_closing k o)) f ∙ by_closing r (closing k r.1) g
+
+-- what ends a list
+pub closing-next : (k : Listed) (s z : Place) (u : Unit {0}) → at (closing k) s ≡ Some (u, z) → (q : WordKind) × (next s ≡ Some (q, z)) × (closes k q ≡ true)
+closing-next listings.Command s z u e = absurd cc
+closing-next listings.Call s z u e = (kind.Close, word-next kind.Close told_close s z u e, refl)
+closing-next listings.Array s z u e = (kind.CloseSquare, word-next kind.CloseSquare told_close_square s z u e, refl)
+closing-next listings.Hash s z u e = (kind.CloseBrace, word-next kind.CloseBrace told_close_brace s z u e, refl)
+
+-- the first word of what ends a list, which may be a comma
+pub last-next : (k : Listed) (s z : Place) (u : Unit {0}) → at (last k) s ≡ Some (u, z) → (q : WordKind) × (n : Place) × (next s ≡ Some (q, n)) × (ends_member k q ≡ true) × (left z ≤ left n)
+last-next k s z u e = by_comma (comma s.rest) refl e
+  where
+    closes_member : (k : Listed) (q : WordKind) → closes k q ≡ true → ends_member k q ≡ true
+    closes_member k kind.Comma f = refl
+    closes_member k _ f = f
+
+    by_comma : (o : Option (Unit {0} × List Word)) → comma s.rest ≡ o → placed s.known (closing k (behind_comma s.rest o)) ≡ Some (u, z) → (q : WordKind) × (n : Place) × (next s ≡ Some (q, n)) × (ends_member k q ≡ true) × (left z ≤ left n)
+    by_comma None f g = let h = closing-next k s z u g in (h.0, z, h.1, closes_member k h.0 h.2, omega arith)
+    by_comma (Some r) f g =
+        let n : Place = record { known = s.known; rest = r.1 } in
+        let h = closing-next k n z u g in
+        (kind.Comma, n, word-next kind.Comma told_comma s n r.0 (ap (placed s.known) f), refl, omega (arith, next-left n z h.0 h.1))
+
+pub Steps-last : (k : Listed) → Steps (last k)
+Steps-last k s m u e = let h = last-next k s m u e in omega (arith, next-left s h.1 h.0 h.2, h.4)
+
+pub Steps-closing : (k : Listed) → Steps (closing k)
+Steps-closing k s m u e = let h = closing-next k s m u e in omega (arith, next-left s m h.0 h.1)

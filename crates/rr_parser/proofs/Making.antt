@@ -1,36 +1,59 @@
 -- What the code made, step after step.
-use Rattle.std.proofs.Common.{◌≡◌, ℕ, zero, suc, ◌-◌, ◌<◌, ◌≤◌, ◌==◌, ◌||◌, Bool, true, false, cond, List, [], ◌∷◌, ◌++◌, length, get_or, set, map, Some, None, Result, Ok, Err, refl, sym, ap, ◌∙◌, subst, arith, length-append}
-use Rattle.std.specs.Prelude.{All}
+use Rattle.std.proofs.Common.{◌≡◌, ℕ, zero, suc, ◌-◌, ◌<◌, ◌≤◌, ◌==◌, Bool, true, false, cond, List, [], ◌∷◌, ◌++◌, length, get_or, set, map, Option, Some, None, Result, Ok, Err, refl, sym, ap, ◌∙◌, subst, arith, length-append}
+use Rattle.std.specs.Prelude.{All, IfOk}
 use Rattle.std.proofs.lemmas.List.{map-append}
 use Rattle.std.proofs.lemmas.List.Elements.{All-append}
-use Rattle.std.proofs.Math.Path.{fun_ext}
 use Rattle.std.proofs.Math.Dec.{eqb-suc-zero, eqb-zero-suc, eqb-suc-suc}
 use Rattle.rr_base.specs.declared.name.Sym.{Sym}
 use Rattle.rr_tree.specs.declared.node.BinaryOperator.{BinaryOperator}
 use Rattle.rr_tree.specs.declared.node.Node.{Node}
-use Rattle.rr_tree.specs.Tree.{Tree, assign, binary, sequence, listed, choose, tree_at, IsOrdered}
-use Rattle.rr_tree.specs.Nodes.{Extends, HasPartsBefore, node_tree}
-use Rattle.rr_tree.proofs.Growth.{IsOrdered-put, tree_at-put, tree_at-kept, Extends-trans, length-kept}
+use Rattle.rr_tree.specs.Tree.{Tree, nil, binary, sequence, listed, choose, repeat, send, index, pair, symbol, tree_at, HasPartsBefore, IsOrdered}
+use Rattle.rr_tree.specs.Nodes.{Extends, node_tree}
+use Rattle.rr_tree.proofs.Growth.{IsOrdered-put, tree_at-put, tree_at-kept, Extends-refl, Extends-trans, length-kept}
+use Rattle.std.specs.Borrow.{Bor}
+use Rattle.rr_parser.specs.declared.refusal.Storage.{Storage}
+use Rattle.rr_parser.specs.declared.word.Modifier.{Modifier}
+use Rattle.rr_parser.specs.declared.word.Modifier.TheVariants as modifiers
+use Rattle.rr_parser.specs.Grammar.Sequences.{modified}
+use Rattle.rr_parser.specs.declared.word.Tail.{Tail}
+use Rattle.rr_parser.specs.declared.word.Tail.TheVariants as tails
+use Rattle.rr_parser.specs.declared.word.Operation.{Operation}
+use Rattle.rr_parser.specs.declared.word.Sign.{Sign}
+use Rattle.rr_parser.specs.declared.word.Sign.TheVariants as signs
+use Rattle.rr_parser.specs.declared.word.Aim.{Aim}
+use Rattle.rr_parser.specs.declared.word.Target.{Target}
+use Rattle.rr_parser.specs.declared.word.Target.TheVariants as targets
+use Rattle.rr_parser.specs.declared.word.Listed.{Listed}
+use Rattle.rr_parser.specs.declared.word.Listed.TheVariants as listings
+use Rattle.rr_parser.specs.declared.word.Part.{Part}
+use Rattle.rr_parser.specs.declared.word.Part.TheVariants as parts
 use Rattle.rr_parser.specs.declared.word.Word.{Word}
 use Rattle.rr_parser.specs.declared.refusal.Refusal.{Refusal}
 use Rattle.rr_parser.specs.declared.refusal.Refusal.TheVariants as refusal
 use Rattle.rr_parser.specs.declared.parser.Parser.{Parser}
 use Rattle.rr_parser.specs.declared.word.WordKind.{WordKind}
 use Rattle.rr_parser.specs.declared.word.WordKind.TheVariants as kind
-use Rattle.rr_parser.specs.Places.{Place, Look, placed, without_separators, word, at, skip}
+use Rattle.rr_parser.specs.Places.{Known, Place, Look, placed, without_separators, word, at, skip}
 use Rattle.rr_parser.specs.Grammar.Chains.{same, one_of}
-use Rattle.rr_parser.specs.Grammar.Names.{with_local}
+use Rattle.rr_parser.specs.Grammar.Names.{with_local, command}
 use Rattle.rr_parser.specs.Grammar.Operators.{operator}
-use Rattle.rr_parser.specs.Grammar.Control.{thens, chosen}
-use Rattle.rr_parser.specs.Reading.Answers.{◌>>=◌, Refused, wrong, deep, Answer, Parse, built, ended_by, closed, chain, chain_on}
+use Rattle.rr_parser.specs.Grammar.Calls.{target, with_target, target_tree, operated, signed, assigned_to, label, closing, last}
+use Rattle.rr_parser.specs.Grammar.Control.{thens, loops, chosen, unless_chosen}
+use Rattle.rr_parser.specs.Reading.Answers.{◌>>=◌, Refused, wrong, deep, Answer, Parse, built, ended_by, closed, from, on_seen, across, trail_on, chain, chain_on}
 use Rattle.rr_parser.specs.Reading.Nesting.{Readers}
-use Rattle.rr_parser.specs.Reading.Operands.{minus_of}
-use Rattle.rr_parser.specs.Reading.Operators.{binary_of, pair_or, equality_of}
-use Rattle.rr_parser.specs.Reading.Calls.{target, argument_or, argument_of, bracketed_of}
-use Rattle.rr_parser.specs.Reading.Control.{statement_of, ends, rows_of, sequence_of, statements_of, branch_on, branch_of, branches_of, otherwise_of, choice_of}
-use Rattle.rr_parser.specs.Reading.{readers_inside, readers_outside, readers}
-use Rattle.rr_parser.specs.Meets.{View, nodes, pairs, lists, Made, Fails, Appends, Puts, Marks, known_of, place, locals_of}
-use Rattle.rr_parser.proofs.Looks.{Steps}
+use Rattle.rr_parser.specs.Reading.Operators.{binary_on, binary_of, pair_or, equality_on, logical_on, question_or, ternary_on}
+use Rattle.rr_parser.specs.Reading.Calls.{assigned_or, assigned_of, argument_of, pair_by, pair_of, members_of, bracketed_or, bracketed_of, commanded_or, commanded_of, operand_of, value_of}
+use Rattle.rr_parser.specs.Reading.Sequences.{expression_of, ends, rows_of, sequence_of, statements_of}
+use Rattle.rr_parser.specs.Reading.Control.{both, branch_of, branches_of, otherwise_of, ended, choice_of, unless_of, loop_of}
+use Rattle.rr_parser.specs.Reading.{part_of, readers_inside, readers_outside, readers}
+use Rattle.rr_parser.specs.Meets.{View, nodes, pairs, lists, Made, Fails, Gives, Appends, Puts, Marks, Aims, known_of, place}
+use Rattle.rr_parser.specs.declared.variables.Variables.{Variables}
+use Rattle.rr_parser.specs.Variables.{slots_in, known_in}
+use Rattle.rr_parser.specs.Grammar.Operands.{tail}
+use Rattle.rr_parser.specs.Reading.Operands.{primary_of, tailed_of, postfix_of}
+use Rattle.rr_parser.proofs.Shrinking.{ReadersShrink}
+use Rattle.rr_parser.proofs.Trails.{trail_on-ends, trail_on-turn}
+use Rattle.rr_parser.proofs.Looks.{Steps, Steps-tail}
 use Rattle.rr_parser.proofs.Chains.{Shrinks, chain_on-turn, chain_on-ends}
 
 -- ---- one node more
@@ -42,6 +65,56 @@ puts_is old new n id a = record {
   kept = (n ∷ [], a.nodes);
   known = a.known;
 }
+
+-- a node over parts, behind another one
+puts_over : (old mid new : Parser) (t u v : Tree) (id i : ℕ) → Puts old mid u i → t ≡ v → Puts mid new t id → Puts old new v id
+puts_over old mid new t u v id i a e b = record { there = b.there; tree = b.tree ∙ e; kept = Extends-trans old.nodes.items mid.nodes.items new.nodes.items a.kept b.kept; known = b.known ∙ a.known }
+
+over_ok : (old mid new : Parser) (t u v : Tree) (i : ℕ) (r : Result ℕ Storage) → Puts old mid u i → t ≡ v → IfOk r (λ id. Puts mid new t id) → IfOk r (λ id. Puts old new v id)
+over_ok old mid new t u v i (Ok id) a e b = puts_over old mid new t u v id i a e b
+over_ok old mid new t u v i (Err d) a e b = tt
+
+-- a symbol and what stands under it
+pub entry_ok : (old mid new : Parser) (x a i : ℕ) (r : Result ℕ Storage) → a < length old.nodes.items → Puts old mid (symbol x) i → IfOk r (λ id. Puts mid new (pair (tree_at mid.nodes.items i) (tree_at mid.nodes.items a)) id)
+    → IfOk r (λ id. Puts old new (pair (symbol x) (tree_at old.nodes.items a)) id)
+entry_ok old mid new x a i r lt p h =
+    over_ok old mid new (pair (tree_at mid.nodes.items i) (tree_at mid.nodes.items a)) (symbol x) (pair (symbol x) (tree_at old.nodes.items a)) i r p
+    (ap (λ u. pair u (tree_at mid.nodes.items a)) p.tree ∙ ap (pair (symbol x)) (tree_at-kept old.nodes.items mid.nodes.items a p.kept lt)) h
+
+-- an assignment with an operator, whose target was put behind its right side
+pub operation_ok : (old mid new : Parser) (q : Sign) (o : Operation) (x : Target) (n a i : ℕ) (r : Result ℕ Storage) → q ≡ signs.With o → a < length old.nodes.items → Puts old mid (target_tree x n) i
+    → IfOk r (λ id. Puts mid new (operated o (tree_at mid.nodes.items i) (tree_at mid.nodes.items a)) id) → IfOk r (λ id. Puts old new (signed q x n (tree_at old.nodes.items a)) id)
+operation_ok old mid new q o x n a i r is lt p h =
+    over_ok old mid new (operated o (tree_at mid.nodes.items i) (tree_at mid.nodes.items a)) (target_tree x n) (signed q x n (tree_at old.nodes.items a)) i r p
+    (ap (λ u. operated o u (tree_at mid.nodes.items a)) p.tree ∙ ap (operated o (target_tree x n)) (tree_at-kept old.nodes.items mid.nodes.items a p.kept lt) ∙ ap (λ s. signed s x n (tree_at old.nodes.items a)) (sym is)) h
+
+-- a statement and its condition, and the nil that was put behind them
+module _ (old mid new : Parser) (a c i : ℕ) (r : Result ℕ Storage) (m : Modifier) (la : a < length old.nodes.items) (lc : c < length old.nodes.items) (p : Puts old mid nil i) where
+  kept_statement : tree_at mid.nodes.items a ≡ tree_at old.nodes.items a
+  kept_statement = tree_at-kept old.nodes.items mid.nodes.items a p.kept la
+
+  kept_condition : tree_at mid.nodes.items c ≡ tree_at old.nodes.items c
+  kept_condition = tree_at-kept old.nodes.items mid.nodes.items c p.kept lc
+
+  abbrev done_so : Modifier → Tree
+  done_so n = modified n (tree_at old.nodes.items a) (tree_at old.nodes.items c)
+
+  pub modified_if : m ≡ modifiers.If → IfOk r (λ id. Puts mid new (choose (tree_at mid.nodes.items c) (tree_at mid.nodes.items a) (tree_at mid.nodes.items i)) id) → IfOk r (λ id. Puts old new (done_so m) id)
+  modified_if is h =
+      over_ok old mid new (choose (tree_at mid.nodes.items c) (tree_at mid.nodes.items a) (tree_at mid.nodes.items i)) nil (done_so m) i r p
+      (ap (λ u. choose u (tree_at mid.nodes.items a) (tree_at mid.nodes.items i)) kept_condition ∙ ap (λ u. choose (tree_at old.nodes.items c) u (tree_at mid.nodes.items i)) kept_statement
+      ∙ ap (choose (tree_at old.nodes.items c) (tree_at old.nodes.items a)) p.tree ∙ ap done_so (sym is)) h
+
+  pub modified_unless : m ≡ modifiers.Unless → IfOk r (λ id. Puts mid new (choose (tree_at mid.nodes.items c) (tree_at mid.nodes.items i) (tree_at mid.nodes.items a)) id) → IfOk r (λ id. Puts old new (done_so m) id)
+  modified_unless is h =
+      over_ok old mid new (choose (tree_at mid.nodes.items c) (tree_at mid.nodes.items i) (tree_at mid.nodes.items a)) nil (done_so m) i r p
+      (ap (λ u. choose u (tree_at mid.nodes.items i) (tree_at mid.nodes.items a)) kept_condition ∙ ap (λ u. choose (tree_at old.nodes.items c) u (tree_at mid.nodes.items a)) p.tree
+      ∙ ap (choose (tree_at old.nodes.items c) nil) kept_statement ∙ ap done_so (sym is)) h
+
+  pub modified_loop : (until : Bool) → m ≡ modifiers.Loop until → IfOk r (λ id. Puts mid new (repeat until (tree_at mid.nodes.items c) (tree_at mid.nodes.items a)) id) → IfOk r (λ id. Puts old new (done_so m) id)
+  modified_loop until is h =
+      over_ok old mid new (repeat until (tree_at mid.nodes.items c) (tree_at mid.nodes.items a)) nil (done_so m) i r p
+      (ap (λ u. repeat until u (tree_at mid.nodes.items a)) kept_condition ∙ ap (repeat until (tree_at old.nodes.items c)) kept_statement ∙ ap done_so (sym is)) h
 
 -- ---- views
 
@@ -71,8 +144,8 @@ module _ {E A : Type 0} (v : View E A) (stable : IsStable v) where
   pub grown_list : (m n : ℕ) (es : List E) → m ≤ n → All (v.within m) es → All (v.within n) es
   grown_list m n es le all = λ k d lt. stable.grows m n (get_or es k d) le (all k d lt)
 
-pub same_place : (a b : Parser) (ws : List Word) → b.known.items ≡ a.known.items → place b ws ≡ place a ws
-same_place a b ws e = ap (λ (k : List Bool). record { known = record { locals = locals_of k }; rest = ws }) e
+pub same_place : (a b : Parser) (ws : List Word) → b.known ≡ a.known → place b ws ≡ place a ws
+same_place a b ws e = ap (λ (v : Variables). record { known = known_in v; rest = ws }) e
 
 -- ---- what was made, and why nothing was
 
@@ -192,75 +265,62 @@ module _ {X R E : Type 0} (v : View E R) (stable : IsStable v) (between : Look X
         ∙ ap (λ (l : List E). chain_on between adds p (map (v.tree s1.nodes.items) l) (place s1 left)) (sym is);
   }
 
--- a chain of operators
-module _ (between : Look BinaryOperator) (p : Parse Tree) (steps : Steps between) (shrinks : Shrinks p) where
-  pub operators_begin : (old new : Parser) (e : ℕ) (words rest : List Word) → Made nodes old new e rest (p (place old words))
-      → Goes nodes old new e (chain between same binary p (place old words)) (chain_on between binary p (tree_at new.nodes.items e) (place new rest))
-  unfolding chain
-  operators_begin old new e words rest m = record { there = m.there; kept = m.kept; same = ap (λ (q : Answer Tree). q >>= λ r. chain_on between binary p (same r.0) r.1) m.tree }
+-- going on from an operand
+pub operators_from : {X : Type 0} (between : Look X) (join : X → Tree → Tree → Tree) (p : Parse Tree) (on : Parse Tree) (old new : Parser) (e : ℕ) (words rest : List Word) → Made nodes old new e rest (on (place old words))
+    → Goes nodes old new e (from on (chain_on between join p) (place old words)) (chain_on between join p (tree_at new.nodes.items e) (place new rest))
+operators_from between join p on old new e words rest m = record { there = m.there; kept = m.kept; same = ap (λ (q : Answer Tree). q >>= λ r. chain_on between join p r.0 r.1) m.tree }
 
-  pub operators_on : (old s0 s1 s2 : Parser) (l b id : ℕ) (rest after left : List Word) (o : BinaryOperator) (read : Answer Tree)
-      → Goes nodes old s0 l read (chain_on between binary p (tree_at s0.nodes.items l) (place s0 rest)) → between rest ≡ Some (o, after)
-      → Made nodes s0 s1 b left (p (place s0 after)) → Puts s1 s2 (binary o (tree_at s1.nodes.items l) (tree_at s1.nodes.items b)) id
-      → Goes nodes old s2 id read (chain_on between binary p (tree_at s2.nodes.items id) (place s2 left))
+-- a chain of operators
+module _ {X : Type 0} (between : Look X) (join : X → Tree → Tree → Tree) (p : Parse Tree) (steps : Steps between) (shrinks : Shrinks p) where
+  pub operators_begin : (old new : Parser) (e : ℕ) (words rest : List Word) → Made nodes old new e rest (p (place old words))
+      → Goes nodes old new e (chain between same join p (place old words)) (chain_on between join p (tree_at new.nodes.items e) (place new rest))
+  unfolding chain
+  operators_begin old new e words rest m = record { there = m.there; kept = m.kept; same = ap (λ (q : Answer Tree). q >>= λ r. chain_on between join p (same r.0) r.1) m.tree }
+
+  pub operators_on : (old s0 s1 s2 : Parser) (l b id : ℕ) (rest after left : List Word) (o : X) (read : Answer Tree)
+      → Goes nodes old s0 l read (chain_on between join p (tree_at s0.nodes.items l) (place s0 rest)) → between rest ≡ Some (o, after)
+      → Made nodes s0 s1 b left (p (place s0 after)) → Puts s1 s2 (join o (tree_at s1.nodes.items l) (tree_at s1.nodes.items b)) id
+      → Goes nodes old s2 id read (chain_on between join p (tree_at s2.nodes.items id) (place s2 left))
   operators_on old s0 s1 s2 l b id rest after left o read g e m t = record {
     there = t.there;
     kept = Extends-trans old.nodes.items s0.nodes.items s2.nodes.items g.kept (Extends-trans s0.nodes.items s1.nodes.items s2.nodes.items m.kept t.kept);
     same =
         g.same
-        ∙ chain_on-turn between binary p steps shrinks (tree_at s0.nodes.items l) (place s0 rest) (place s0 after) o (seen_at s0 between rest after o e)
-        ∙ ap (λ (q : Answer Tree). q >>= λ r. chain_on between binary p (binary o (tree_at s0.nodes.items l) r.0) r.1) m.tree
-        ∙ ap (λ (u : Tree). chain_on between binary p (binary o u (tree_at s1.nodes.items b)) (place s1 left)) (sym (tree_at-kept s0.nodes.items s1.nodes.items l m.kept g.there))
-        ∙ ap (λ (u : Tree). chain_on between binary p u (place s1 left)) (sym t.tree)
-        ∙ ap (λ (s : Place). chain_on between binary p (tree_at s2.nodes.items id) s) (sym (same_place s1 s2 left t.known));
+        ∙ chain_on-turn between join p steps shrinks (tree_at s0.nodes.items l) (place s0 rest) (place s0 after) o (seen_at s0 between rest after o e)
+        ∙ ap (λ (q : Answer Tree). q >>= λ r. chain_on between join p (join o (tree_at s0.nodes.items l) r.0) r.1) m.tree
+        ∙ ap (λ (u : Tree). chain_on between join p (join o u (tree_at s1.nodes.items b)) (place s1 left)) (sym (tree_at-kept s0.nodes.items s1.nodes.items l m.kept g.there))
+        ∙ ap (λ (u : Tree). chain_on between join p u (place s1 left)) (sym t.tree)
+        ∙ ap (λ (s : Place). chain_on between join p (tree_at s2.nodes.items id) s) (sym (same_place s1 s2 left t.known));
   }
 
 -- ---- one level of nesting
 
-at_statements : (b : Bool) (d : ℕ) → (readers b (suc d)).statements ≡ statements_of (readers b d)
+at_part : (b : Bool) (d : ℕ) → (readers b (suc d)).part ≡ part_of (readers b d)
 unfolding readers_inside readers_outside
-at_statements true d = refl
-at_statements false d = refl
+at_part true d = refl
+at_part false d = refl
 
-pub nested_statements : (b : Bool) (d : ℕ) → 0 < d → (readers b d).statements ≡ statements_of (readers b (d - 1))
-nested_statements b zero lt = let never : ⊥ = omega arith in absurd never
-nested_statements b (suc d) lt = let e : d ≡ suc d - 1 = omega arith in at_statements b d ∙ ap (λ (k : ℕ). statements_of (readers b k)) e
+pub nested_part : (b : Bool) (d : ℕ) → 0 < d → (readers b d).part ≡ part_of (readers b (d - 1))
+nested_part b zero lt = let never : ⊥ = omega arith in absurd never
+nested_part b (suc d) lt = let e : d ≡ suc d - 1 = omega arith in at_part b d ∙ ap (λ (k : ℕ). part_of (readers b k)) e
 
-none_statements-zero : (b : Bool) (s : Place) → (readers b 0).statements s ≡ Err deep
+none_part-zero : (b : Bool) (p : Part) (s : Place) → (readers b 0).part p s ≡ Err deep
 unfolding readers_inside readers_outside
-none_statements-zero true s = refl
-none_statements-zero false s = refl
+none_part-zero true p s = refl
+none_part-zero false p s = refl
 
 -- at the limit nothing is nested
-pub none_statements : (b : Bool) (d : ℕ) (s : Place) → d ≡ 0 → (readers b d).statements s ≡ Err deep
-none_statements b d s e = ap (λ (k : ℕ). (readers b k).statements s) e ∙ none_statements-zero b s
+pub none_part : (b : Bool) (d : ℕ) (p : Part) (s : Place) → d ≡ 0 → (readers b d).part p s ≡ Err deep
+none_part b d p s e = ap (λ (k : ℕ). (readers b k).part p s) e ∙ none_part-zero b p s
 
-at_minus : (b : Bool) (d : ℕ) → (readers b (suc d)).minus ≡ minus_of (readers b d)
-unfolding readers_inside readers_outside
-at_minus true d = refl
-at_minus false d = refl
-
-pub nested_minus : (b : Bool) (d : ℕ) → 0 < d → (readers b d).minus ≡ minus_of (readers b (d - 1))
-nested_minus b zero lt = let never : ⊥ = omega arith in absurd never
-nested_minus b (suc d) lt = let e : d ≡ suc d - 1 = omega arith in at_minus b d ∙ ap (λ (k : ℕ). minus_of (readers b k)) e
-
-none_minus-zero : (b : Bool) (s : Place) → (readers b 0).minus s ≡ Err deep
-unfolding readers_inside readers_outside
-none_minus-zero true s = refl
-none_minus-zero false s = refl
-
--- at the limit nothing is nested
-pub none_minus : (b : Bool) (d : ℕ) (s : Place) → d ≡ 0 → (readers b d).minus s ≡ Err deep
-none_minus b d s e = ap (λ (k : ℕ). (readers b k).minus s) e ∙ none_minus-zero b s
-
-at_bracketed : (b : Bool) (d : ℕ) → (readers b (suc d)).bracketed ≡ bracketed_of (readers b d)
+at_bracketed : (b : Bool) (d : ℕ) → (readers b (suc d)).bracketed ≡ bracketed_of (readers b d) listings.Call
 unfolding readers_inside readers_outside
 at_bracketed true d = refl
 at_bracketed false d = refl
 
-pub nested_bracketed : (b : Bool) (d : ℕ) → 0 < d → (readers b d).bracketed ≡ bracketed_of (readers b (d - 1))
+pub nested_bracketed : (b : Bool) (d : ℕ) → 0 < d → (readers b d).bracketed ≡ bracketed_of (readers b (d - 1)) listings.Call
 nested_bracketed b zero lt = let never : ⊥ = omega arith in absurd never
-nested_bracketed b (suc d) lt = let e : d ≡ suc d - 1 = omega arith in at_bracketed b d ∙ ap (λ (k : ℕ). bracketed_of (readers b k)) e
+nested_bracketed b (suc d) lt = let e : d ≡ suc d - 1 = omega arith in at_bracketed b d ∙ ap (λ (k : ℕ). bracketed_of (readers b k) listings.Call) e
 
 none_bracketed-zero : (b : Bool) (s : Place) → (readers b 0).bracketed s ≡ Err deep
 unfolding readers_inside readers_outside
@@ -271,150 +331,414 @@ none_bracketed-zero false s = refl
 pub none_bracketed : (b : Bool) (d : ℕ) (s : Place) → d ≡ 0 → (readers b d).bracketed s ≡ Err deep
 none_bracketed b d s e = ap (λ (k : ℕ). (readers b k).bracketed s) e ∙ none_bracketed-zero b s
 
-at_choice : (b : Bool) (d : ℕ) → (readers b (suc d)).choice ≡ choice_of (readers b d)
-unfolding readers_inside readers_outside
-at_choice true d = refl
-at_choice false d = refl
-
-pub nested_choice : (b : Bool) (d : ℕ) → 0 < d → (readers b d).choice ≡ choice_of (readers b (d - 1))
-nested_choice b zero lt = let never : ⊥ = omega arith in absurd never
-nested_choice b (suc d) lt = let e : d ≡ suc d - 1 = omega arith in at_choice b d ∙ ap (λ (k : ℕ). choice_of (readers b k)) e
-
-none_choice-zero : (b : Bool) (s : Place) → (readers b 0).choice s ≡ Err deep
-unfolding readers_inside readers_outside
-none_choice-zero true s = refl
-none_choice-zero false s = refl
-
--- at the limit nothing is nested
-pub none_choice : (b : Bool) (d : ℕ) (s : Place) → d ≡ 0 → (readers b d).choice s ≡ Err deep
-none_choice b d s e = ap (λ (k : ℕ). (readers b k).choice s) e ∙ none_choice-zero b s
-
-pub value_inside : (d : ℕ) → 0 < d → (readers true d).value ≡ argument_of (readers true (d - 1))
+pub value_inside : (d : ℕ) → 0 < d → (readers true d).value ≡ value_of (readers true (d - 1))
 unfolding readers_inside
 value_inside zero lt = let never : ⊥ = omega arith in absurd never
-value_inside (suc d) lt = let e : d ≡ suc d - 1 = omega arith in ap (λ (k : ℕ). argument_of (readers_inside k)) e
+value_inside (suc d) lt = let e : d ≡ suc d - 1 = omega arith in ap (λ (k : ℕ). value_of (readers_inside k)) e
 
-pub value_outside : (d : ℕ) → (readers false d).value ≡ argument_of (readers true d)
+pub value_outside : (d : ℕ) → (readers false d).value ≡ value_of (readers true d)
 unfolding readers_outside
 value_outside zero = refl
 value_outside (suc d) = refl
 
-none_value-zero : (s : Place) → (readers true 0).value s ≡ Err deep
-unfolding readers_inside
-none_value-zero s = refl
+pub gives_outside : (old new : Parser) (r : Result (ℕ × Bor (List Word)) Refusal) (b : Bool) (d : ℕ) (c : Bool) (s : Place) → b ≡ false → Gives old new r (value_of (readers true d) c s) → Gives old new r ((readers b d).value c s)
+gives_outside old new r true d c s e g = absurd cc
+gives_outside old new r false d c s e g = subst (λ (p : Bool → Parse Tree). Gives old new r (p c s)) (sym (value_outside d)) g
 
-pub none_value : (d : ℕ) (s : Place) → d ≡ 0 → (readers true d).value s ≡ Err deep
-none_value d s e = ap (λ (k : ℕ). (readers true k).value s) e ∙ none_value-zero s
+none_value-zero : (c : Bool) (s : Place) → (readers true 0).value c s ≡ Err deep
+unfolding readers_inside
+none_value-zero c s = refl
+
+pub none_value : (d : ℕ) (c : Bool) (s : Place) → d ≡ 0 → (readers true d).value c s ≡ Err deep
+none_value d c s e = ap (λ (k : ℕ). (readers true k).value c s) e ∙ none_value-zero c s
+
+-- ---- one step behind another one
+
+-- what the second function returned is what reading goes on to give
+pub gives_from : (old mid new : Parser) (a : ℕ) (rest : List Word) (read : Answer Tree) (on : Tree → Parse Tree) (r : Result (ℕ × Bor (List Word)) Refusal) → Made nodes old mid a rest read
+    → Gives mid new r (on (tree_at mid.nodes.items a) (place mid rest)) → Gives old new r (read >>= λ x. on x.0 x.1)
+gives_from old mid new a rest read on (Ok x) m g = record {
+  there = g.there;
+  tree = ap (λ (q : Answer Tree). q >>= λ x. on x.0 x.1) m.tree ∙ g.tree;
+  kept = Extends-trans old.nodes.items mid.nodes.items new.nodes.items m.kept g.kept;
+}
+gives_from old mid new a rest read on (Err e) m g =
+    fails_eq e (read >>= λ x. on x.0 x.1) (on (tree_at mid.nodes.items a) (place mid rest)) (ap (λ (q : Answer Tree). q >>= λ x. on x.0 x.1) m.tree) g
+
+-- a node for what was read
+pub made_put : (old mid new : Parser) (id : ℕ) (rest : List Word) (t : Tree) (read : Answer Tree) → read ≡ Ok (t, place mid rest) → Extends old.nodes.items mid.nodes.items → Puts mid new t id → Made nodes old new id rest read
+made_put old mid new id rest t read e x p = record {
+  there = p.there;
+  tree = e ∙ ap (λ (u : Tree). Ok (u, place mid rest)) (sym p.tree) ∙ ap (λ (s : Place). Ok (tree_at new.nodes.items id, s)) (sym (same_place mid new rest p.known));
+  kept = Extends-trans old.nodes.items mid.nodes.items new.nodes.items x p.kept;
+}
+
+-- a word of this kind behind what was read
+pub closed_tree : {A : Type 0} (mid : Parser) (k : WordKind) (rest after : List Word) (t : A) (read : Answer A) → read ≡ Ok (t, place mid rest) → word k rest ≡ Some (tt, after) → closed k read ≡ Ok (t, place mid after)
+closed_tree mid k rest after t read e c = ap (closed k) e ∙ ap (ended_by t) (seen_at mid (word k) rest after tt c)
+
+pub closed_wrong : {A : Type 0} (mid : Parser) (k : WordKind) (rest : List Word) (t : A) (read : Answer A) → read ≡ Ok (t, place mid rest) → word k rest ≡ None → closed k read ≡ Err wrong
+closed_wrong mid k rest t read e c = ap (closed k) e ∙ ap (ended_by t) (unseen_at mid (word k) rest c)
+
+module _ {C : Type 0} (f : Tree → Tree → C) (look : Look (Unit {0})) (p : Parse Tree) (old mid : Parser) (a : ℕ) (rest : List Word) (read : Answer Tree) (m : Made nodes old mid a rest read) where
+  across_at : across f look p read ≡ on_seen (f (tree_at mid.nodes.items a)) p (at look (place mid rest))
+  across_at = ap (λ (q : Answer Tree). q >>= λ x. on_seen (f x.0) p (at look x.1)) m.tree
+
+  -- two parts with something between them
+  pub across_tree : (next : Parser) (b : ℕ) (after left : List Word) → look rest ≡ Some (tt, after) → Made nodes mid next b left (p (place mid after))
+      → across f look p read ≡ Ok (f (tree_at next.nodes.items a) (tree_at next.nodes.items b), place next left)
+  across_tree next b after left e k =
+      across_at
+      ∙ ap (on_seen (f (tree_at mid.nodes.items a)) p) (seen_at mid look rest after tt e)
+      ∙ ap (built (f (tree_at mid.nodes.items a))) k.tree
+      ∙ ap (λ (u : Tree). Ok (f u (tree_at next.nodes.items b), place next left)) (sym (tree_at-kept mid.nodes.items next.nodes.items a k.kept m.there))
+
+  -- nothing between them
+  pub across_wrong : look rest ≡ None → across f look p read ≡ Err wrong
+  across_wrong e = across_at ∙ ap (on_seen (f (tree_at mid.nodes.items a)) p) (unseen_at mid look rest e)
+
+  -- the second part fails
+  pub across_fails : (after : List Word) (d : Refusal) → look rest ≡ Some (tt, after) → Fails d (p (place mid after)) → Fails d (across f look p read)
+  across_fails after d e h =
+      fails_eq d (across f look p read) (built (f (tree_at mid.nodes.items a)) (p (place mid after))) (across_at ∙ ap (on_seen (f (tree_at mid.nodes.items a)) p) (seen_at mid look rest after tt e))
+      (fails_bind d (p (place mid after)) (λ x. Ok (f (tree_at mid.nodes.items a) x.0, x.1)) h)
 
 -- ---- two parts
 
 -- both sides of an equality
-pub made_pair : (N : Readers) (old m1 m2 new : Parser) (a b id : ℕ) (words rest after left : List Word) (o : BinaryOperator)
-    → Made nodes old m1 a rest (binary_of N 3 (place old words)) → operator 4 rest ≡ Some (o, after)
+pub made_pair : (N : Readers) (old m1 m2 new : Parser) (l : Tree) (a b id : ℕ) (words rest after left : List Word) (o : BinaryOperator)
+    → Made nodes old m1 a rest (binary_on N 3 l (place old words)) → operator 4 rest ≡ Some (o, after)
     → Made nodes m1 m2 b left (binary_of N 3 (place m1 after)) → Puts m2 new (binary o (tree_at m2.nodes.items a) (tree_at m2.nodes.items b)) id
-    → Made nodes old new id left (equality_of N (place old words))
-unfolding equality_of
-made_pair N old m1 m2 new a b id words rest after left o m e k p = record {
-  there = p.there;
-  tree =
-      ap (λ (q : Answer Tree). q >>= λ l. pair_or N l.0 l.1 (at (operator 4) l.1)) m.tree
-      ∙ ap (pair_or N (tree_at m1.nodes.items a) (place m1 rest)) (seen_at m1 (operator 4) rest after o e)
-      ∙ ap (built (binary o (tree_at m1.nodes.items a))) k.tree
-      ∙ ap (λ (u : Tree). Ok (binary o u (tree_at m2.nodes.items b), place m2 left)) (sym (tree_at-kept m1.nodes.items m2.nodes.items a k.kept m.there))
-      ∙ ap (λ (t : Tree). Ok (t, place m2 left)) (sym p.tree)
-      ∙ ap (λ (s : Place). Ok (tree_at new.nodes.items id, s)) (sym (same_place m2 new left p.known));
-  kept = Extends-trans old.nodes.items m1.nodes.items new.nodes.items m.kept (Extends-trans m1.nodes.items m2.nodes.items new.nodes.items k.kept p.kept);
+    → Made nodes old new id left (equality_on N l (place old words))
+unfolding equality_on
+made_pair N old m1 m2 new l a b id words rest after left o m e k p =
+    made_put old m2 new id left (binary o (tree_at m2.nodes.items a) (tree_at m2.nodes.items b)) (equality_on N l (place old words))
+    (ap (λ (q : Answer Tree). q >>= λ l. pair_or N l.0 l.1 (at (operator 4) l.1)) m.tree
+    ∙ ap (pair_or N (tree_at m1.nodes.items a) (place m1 rest)) (seen_at m1 (operator 4) rest after o e)
+    ∙ ap (built (binary o (tree_at m1.nodes.items a))) k.tree
+    ∙ ap (λ (u : Tree). Ok (binary o u (tree_at m2.nodes.items b), place m2 left)) (sym (tree_at-kept m1.nodes.items m2.nodes.items a k.kept m.there)))
+    (Extends-trans old.nodes.items m1.nodes.items m2.nodes.items m.kept k.kept) p
+
+-- what is chosen between
+pub gives_question : (N : Readers) (old m1 new : Parser) (l : Tree) (a : ℕ) (words rest after : List Word) (r : Result (ℕ × Bor (List Word)) Refusal) → Made nodes old m1 a rest (logical_on N 2 l (place old words))
+    → word kind.Question rest ≡ Some (tt, after) → Gives m1 new r (across (choose (tree_at m1.nodes.items a)) (word kind.Colon) (N.part parts.Branch) (N.part parts.Branch (place m1 after)))
+    → Gives old new r (ternary_on N l (place old words))
+unfolding ternary_on
+gives_question N old m1 new l a words rest after r m e g =
+    gives_from old m1 new a rest (logical_on N 2 l (place old words)) (λ c s. question_or N c s (at (word kind.Question) s)) r m
+    (subst (λ (o : Option (Unit {0} × Place)). Gives m1 new r (question_or N (tree_at m1.nodes.items a) (place m1 rest) o)) (sym (seen_at m1 (word kind.Question) rest after tt e)) g)
+
+pub no_question_made : (N : Readers) (old m1 : Parser) (l : Tree) (a : ℕ) (words rest : List Word) → Made nodes old m1 a rest (logical_on N 2 l (place old words)) → word kind.Question rest ≡ None
+    → Made nodes old m1 a rest (ternary_on N l (place old words))
+unfolding ternary_on
+no_question_made N old m1 l a words rest m e = record {
+  there = m.there;
+  tree = ap (λ (q : Answer Tree). q >>= λ c. question_or N c.0 c.1 (at (word kind.Question) c.1)) m.tree ∙ ap (question_or N (tree_at m1.nodes.items a) (place m1 rest)) (unseen_at m1 (word kind.Question) rest e);
+  kept = m.kept;
 }
 
+pub kept_twice : (old m1 m2 : Parser) (a : ℕ) → a < length old.nodes.items → Extends old.nodes.items m1.nodes.items → Extends m1.nodes.items m2.nodes.items → tree_at m2.nodes.items a ≡ tree_at old.nodes.items a
+kept_twice old m1 m2 a lt x y = tree_at-kept old.nodes.items m2.nodes.items a (Extends-trans old.nodes.items m1.nodes.items m2.nodes.items x y) lt
+
+pub made_alternatives : (N : Readers) (old m1 m2 new : Parser) (c a b id : ℕ) (words rest after left : List Word) → c < length old.nodes.items → Made nodes old m1 a rest (N.part parts.Branch (place old words))
+    → word kind.Colon rest ≡ Some (tt, after) → Made nodes m1 m2 b left (N.part parts.Branch (place m1 after))
+    → Puts m2 new (choose (tree_at m2.nodes.items c) (tree_at m2.nodes.items a) (tree_at m2.nodes.items b)) id
+    → Made nodes old new id left (across (choose (tree_at old.nodes.items c)) (word kind.Colon) (N.part parts.Branch) (N.part parts.Branch (place old words)))
+made_alternatives N old m1 m2 new c a b id words rest after left lt m e k p =
+    let read = across (choose (tree_at old.nodes.items c)) (word kind.Colon) (N.part parts.Branch) (N.part parts.Branch (place old words)) in
+    made_put old m2 new id left (choose (tree_at m2.nodes.items c) (tree_at m2.nodes.items a) (tree_at m2.nodes.items b)) read
+    (across_tree (choose (tree_at old.nodes.items c)) (word kind.Colon) (N.part parts.Branch) old m1 a rest (N.part parts.Branch (place old words)) m m2 b after left e k
+    ∙ ap (λ (u : Tree). Ok (choose u (tree_at m2.nodes.items a) (tree_at m2.nodes.items b), place m2 left)) (sym (kept_twice old m1 m2 c lt m.kept k.kept)))
+    (Extends-trans old.nodes.items m1.nodes.items m2.nodes.items m.kept k.kept) p
+
 -- a condition and what is done where it holds
-pub made_branch : (N : Readers) (old m1 m2 : Parser) (c t : ℕ) (words rest after left : List Word) → Made nodes old m1 c rest (statement_of N (place old words))
+pub made_branch : (N : Readers) (old m1 m2 : Parser) (c t : ℕ) (words rest after left : List Word) → Made nodes old m1 c rest (expression_of N (place old words))
     → thens rest ≡ Some (tt, after) → Made nodes m1 m2 t left (statements_of N (place m1 after)) → Made pairs old m2 (c, t) left (branch_of N (place old words))
 unfolding branch_of
 made_branch N old m1 m2 c t words rest after left m e k = record {
   there = (omega (arith, m.there, length-kept m1.nodes.items m2.nodes.items k.kept), k.there);
-  tree =
-      ap (λ (q : Answer Tree). q >>= λ c. branch_on N c.0 (at thens c.1)) m.tree
-      ∙ ap (branch_on N (tree_at m1.nodes.items c)) (seen_at m1 thens rest after tt e)
-      ∙ ap (built (λ (u : Tree). (tree_at m1.nodes.items c, u))) k.tree
-      ∙ ap (λ (u : Tree). Ok ((u, tree_at m2.nodes.items t), place m2 left)) (sym (tree_at-kept m1.nodes.items m2.nodes.items c k.kept m.there));
+  tree = across_tree both thens (statements_of N) old m1 c rest (expression_of N (place old words)) m m2 t after left e k;
   kept = Extends-trans old.nodes.items m1.nodes.items m2.nodes.items m.kept k.kept;
 }
 
--- branches, and what is done otherwise
-pub made_branches : (N : Readers) (old m1 m2 : Parser) (bs : List (ℕ × ℕ)) (words rest : List Word) (e : ℕ) (left : List Word) → Made (lists pairs) old m1 bs rest (branches_of N (place old words))
-    → Made nodes m1 m2 e left (otherwise_of N (place m1 rest))
-    → (branches_of N (place old words) >>= λ l. built (chosen l.0) (otherwise_of N l.1)) ≡ Ok (chosen (map (pairs.tree m2.nodes.items) bs) (tree_at m2.nodes.items e), place m2 left)
-made_branches N old m1 m2 bs words rest e left m k =
-    ap (λ (q : Answer (List (Tree × Tree))). q >>= λ l. built (chosen l.0) (otherwise_of N l.1)) m.tree
-    ∙ ap (built (chosen (map (pairs.tree m1.nodes.items) bs))) k.tree
-    ∙ ap (λ (l : List (Tree × Tree)). Ok (chosen l (tree_at m2.nodes.items e), place m2 left)) (sym (kept_list pairs stable_pairs m1.nodes.items m2.nodes.items bs k.kept m.there))
+-- what is done as long as a condition holds
+pub made_loop : (N : Readers) (until : Bool) (old m1 m2 new : Parser) (c t id : ℕ) (words rest after left behind : List Word) → Made nodes old m1 c rest (expression_of N (place old words))
+    → loops rest ≡ Some (tt, after) → Made nodes m1 m2 t left (statements_of N (place m1 after)) → word kind.End left ≡ Some (tt, behind)
+    → Puts m2 new (repeat until (tree_at m2.nodes.items c) (tree_at m2.nodes.items t)) id → Made nodes old new id behind (loop_of N until (place old words))
+unfolding loop_of
+made_loop N until old m1 m2 new c t id words rest after left behind m e k f p =
+    let read = across (repeat until) loops (statements_of N) (expression_of N (place old words)) in
+    made_put old m2 new id behind (repeat until (tree_at m2.nodes.items c) (tree_at m2.nodes.items t)) (closed kind.End read)
+    (closed_tree m2 kind.End left behind (repeat until (tree_at m2.nodes.items c) (tree_at m2.nodes.items t)) read
+    (across_tree (repeat until) loops (statements_of N) old m1 c rest (expression_of N (place old words)) m m2 t after left e k) f)
+    (Extends-trans old.nodes.items m1.nodes.items m2.nodes.items m.kept k.kept) p
+
+pub wrong_loop : (N : Readers) (until : Bool) (old m1 m2 : Parser) (c t : ℕ) (words rest after left : List Word) → Made nodes old m1 c rest (expression_of N (place old words))
+    → loops rest ≡ Some (tt, after) → Made nodes m1 m2 t left (statements_of N (place m1 after)) → word kind.End left ≡ None → loop_of N until (place old words) ≡ Err wrong
+unfolding loop_of
+wrong_loop N until old m1 m2 c t words rest after left m e k f =
+    let read = across (repeat until) loops (statements_of N) (expression_of N (place old words)) in
+    closed_wrong m2 kind.End left (repeat until (tree_at m2.nodes.items c) (tree_at m2.nodes.items t)) read
+    (across_tree (repeat until) loops (statements_of N) old m1 c rest (expression_of N (place old words)) m m2 t after left e k) f
+
+pub unbegun_loop : (N : Readers) (until : Bool) (old m1 : Parser) (c : ℕ) (words rest : List Word) → Made nodes old m1 c rest (expression_of N (place old words)) → loops rest ≡ None → loop_of N until (place old words) ≡ Err wrong
+unfolding loop_of
+unbegun_loop N until old m1 c words rest m e = ap (closed kind.End) (across_wrong (repeat until) loops (statements_of N) old m1 c rest (expression_of N (place old words)) m e)
+
+pub fails_loop : (N : Readers) (until : Bool) (old m1 : Parser) (c : ℕ) (words rest after : List Word) (d : Refusal) → Made nodes old m1 c rest (expression_of N (place old words))
+    → loops rest ≡ Some (tt, after) → Fails d (statements_of N (place m1 after)) → Fails d (loop_of N until (place old words))
+unfolding loop_of
+fails_loop N until old m1 c words rest after d m e h =
+    let read = across (repeat until) loops (statements_of N) (expression_of N (place old words)) in
+    fails_bind d read (λ x. ended_by x.0 (at (word kind.End) x.1)) (across_fails (repeat until) loops (statements_of N) old m1 c rest (expression_of N (place old words)) m after d e h)
+
+-- ---- what is done otherwise
 
 -- a step behind another one, with what ends them
 bind_closed : {A B : Type 0} (k : WordKind) (r : Answer A) (f : A × Place → Answer B) → (r >>= λ x. closed k (f x)) ≡ closed k (r >>= f)
 bind_closed k (Ok x) f = refl
 bind_closed k (Err d) f = refl
 
-choice_closed : (N : Readers) (s : Place) → choice_of N s ≡ closed kind.End (branches_of N s >>= λ l. built (chosen l.0) (otherwise_of N l.1))
-unfolding choice_of
-choice_closed N s = bind_closed kind.End (branches_of N s) (λ l. built (chosen l.0) (otherwise_of N l.1))
+module _ {E A : Type 0} (v : View E A) (N : Readers) (f : A → Tree → Tree) (old m1 m2 : Parser) (l : E) (rest : List Word) (e : ℕ) (left : List Word) (read : Answer A) (m : Made v old m1 l rest read)
+    (same : v.tree m2.nodes.items l ≡ v.tree m1.nodes.items l) (k : Made nodes m1 m2 e left (otherwise_of N (place m1 rest))) where
+  ended_read : (read >>= λ l. built (f l.0) (otherwise_of N l.1)) ≡ Ok (f (v.tree m2.nodes.items l) (tree_at m2.nodes.items e), place m2 left)
+  ended_read =
+      ap (λ (q : Answer A). q >>= λ l. built (f l.0) (otherwise_of N l.1)) m.tree
+      ∙ ap (built (f (v.tree m1.nodes.items l))) k.tree
+      ∙ ap (λ (u : A). Ok (f u (tree_at m2.nodes.items e), place m2 left)) (sym same)
 
--- and the word `end`
+  pub made_ended : (new : Parser) (id : ℕ) (after : List Word) → word kind.End left ≡ Some (tt, after) → Puts m2 new (f (v.tree m2.nodes.items l) (tree_at m2.nodes.items e)) id → Made nodes old new id after (ended N f read)
+  made_ended new id after c p =
+      made_put old m2 new id after (f (v.tree m2.nodes.items l) (tree_at m2.nodes.items e)) (ended N f read)
+      (bind_closed kind.End read (λ l. built (f l.0) (otherwise_of N l.1))
+      ∙ closed_tree m2 kind.End left after (f (v.tree m2.nodes.items l) (tree_at m2.nodes.items e)) (read >>= λ l. built (f l.0) (otherwise_of N l.1)) ended_read c)
+      (Extends-trans old.nodes.items m1.nodes.items m2.nodes.items m.kept k.kept) p
+
+  pub wrong_ended : word kind.End left ≡ None → ended N f read ≡ Err wrong
+  wrong_ended c =
+      bind_closed kind.End read (λ l. built (f l.0) (otherwise_of N l.1))
+      ∙ closed_wrong m2 kind.End left (f (v.tree m2.nodes.items l) (tree_at m2.nodes.items e)) (read >>= λ l. built (f l.0) (otherwise_of N l.1)) ended_read c
+
+pub fails_ended : {E A : Type 0} (v : View E A) (N : Readers) (f : A → Tree → Tree) (old m1 : Parser) (l : E) (rest : List Word) (read : Answer A) (d : Refusal) → Made v old m1 l rest read → Fails d (otherwise_of N (place m1 rest)) → Fails d (ended N f read)
+fails_ended {E} {A} v N f old m1 l rest read d m h =
+    let on = built (f (v.tree m1.nodes.items l)) (otherwise_of N (place m1 rest)) in
+    fails_eq d (ended N f read) (closed kind.End on) (ap (λ (q : Answer A). q >>= λ l. closed kind.End (built (f l.0) (otherwise_of N l.1))) m.tree)
+    (fails_bind d on (λ x. ended_by x.0 (at (word kind.End) x.1)) (fails_bind d (otherwise_of N (place m1 rest)) (λ x. Ok (f (v.tree m1.nodes.items l) x.0, x.1)) h))
+
+same_branches : (m1 m2 : Parser) (bs : List (ℕ × ℕ)) → Extends m1.nodes.items m2.nodes.items → All (pairs.within (length m1.nodes.items)) bs → map (pairs.tree m2.nodes.items) bs ≡ map (pairs.tree m1.nodes.items) bs
+same_branches m1 m2 bs x all = kept_list pairs stable_pairs m1.nodes.items m2.nodes.items bs x all
+
 pub made_choice : (N : Readers) (old m1 m2 new : Parser) (bs : List (ℕ × ℕ)) (e id : ℕ) (words rest left after : List Word) → Made (lists pairs) old m1 bs rest (branches_of N (place old words))
     → Made nodes m1 m2 e left (otherwise_of N (place m1 rest)) → word kind.End left ≡ Some (tt, after)
     → Puts m2 new (chosen (map (pairs.tree m2.nodes.items) bs) (tree_at m2.nodes.items e)) id → Made nodes old new id after (choice_of N (place old words))
-made_choice N old m1 m2 new bs e id words rest left after m k f p = record {
-  there = p.there;
-  tree =
-      choice_closed N (place old words)
-      ∙ ap (closed kind.End) (made_branches N old m1 m2 bs words rest e left m k)
-      ∙ ap (ended_by (chosen (map (pairs.tree m2.nodes.items) bs) (tree_at m2.nodes.items e))) (seen_at m2 (word kind.End) left after tt f)
-      ∙ ap (λ (t : Tree). Ok (t, place m2 after)) (sym p.tree)
-      ∙ ap (λ (s : Place). Ok (tree_at new.nodes.items id, s)) (sym (same_place m2 new after p.known));
-  kept = Extends-trans old.nodes.items m1.nodes.items new.nodes.items m.kept (Extends-trans m1.nodes.items m2.nodes.items new.nodes.items k.kept p.kept);
-}
+unfolding choice_of
+made_choice N old m1 m2 new bs e id words rest left after m k f p =
+    made_ended (lists pairs) N chosen old m1 m2 bs rest e left (branches_of N (place old words)) m (same_branches m1 m2 bs k.kept m.there) k new id after f p
 
 pub wrong_choice : (N : Readers) (old m1 m2 : Parser) (bs : List (ℕ × ℕ)) (e : ℕ) (words rest left : List Word) → Made (lists pairs) old m1 bs rest (branches_of N (place old words))
     → Made nodes m1 m2 e left (otherwise_of N (place m1 rest)) → word kind.End left ≡ None → choice_of N (place old words) ≡ Err wrong
-wrong_choice N old m1 m2 bs e words rest left m k f =
-    choice_closed N (place old words)
-    ∙ ap (closed kind.End) (made_branches N old m1 m2 bs words rest e left m k)
-    ∙ ap (ended_by (chosen (map (pairs.tree m2.nodes.items) bs) (tree_at m2.nodes.items e))) (unseen_at m2 (word kind.End) left f)
-
-pub fails_otherwise : (N : Readers) (old m1 : Parser) (bs : List (ℕ × ℕ)) (words rest : List Word) (d : Refusal) → Made (lists pairs) old m1 bs rest (branches_of N (place old words))
-    → Fails d (otherwise_of N (place m1 rest)) → Fails d (choice_of N (place old words))
 unfolding choice_of
-fails_otherwise N old m1 bs words rest d m h =
-    let read = built (chosen (map (pairs.tree m1.nodes.items) bs)) (otherwise_of N (place m1 rest)) in
-    fails_eq d (choice_of N (place old words)) (closed kind.End read)
-    (ap (λ (q : Answer (List (Tree × Tree))). q >>= λ l. closed kind.End (built (chosen l.0) (otherwise_of N l.1))) m.tree)
-    (fails_bind d read (λ x. ended_by x.0 (at (word kind.End) x.1)) (fails_bind d (otherwise_of N (place m1 rest)) (λ x. Ok (chosen (map (pairs.tree m1.nodes.items) bs) x.0, x.1)) h))
+wrong_choice N old m1 m2 bs e words rest left m k f = wrong_ended (lists pairs) N chosen old m1 m2 bs rest e left (branches_of N (place old words)) m (same_branches m1 m2 bs k.kept m.there) k f
+
+pub made_unless : (N : Readers) (old m1 m2 new : Parser) (c t e id : ℕ) (words rest left after : List Word) → Made pairs old m1 (c, t) rest (branch_of N (place old words))
+    → Made nodes m1 m2 e left (otherwise_of N (place m1 rest)) → word kind.End left ≡ Some (tt, after)
+    → Puts m2 new (choose (tree_at m2.nodes.items c) (tree_at m2.nodes.items e) (tree_at m2.nodes.items t)) id → Made nodes old new id after (unless_of N (place old words))
+unfolding unless_of
+made_unless N old m1 m2 new c t e id words rest left after m k f p =
+    made_ended pairs N unless_chosen old m1 m2 (c, t) rest e left (branch_of N (place old words)) m (stable_pairs.kept m1.nodes.items m2.nodes.items (c, t) k.kept m.there) k new id after f p
 
 -- ---- assignments
 
 -- the place where a name has become a local variable
-pub marked_place : (old mid : Parser) (x : Sym) (ws : List Word) → Marks old mid x → place mid ws ≡ with_local x (place old ws)
-marked_place old mid x ws m = ap (λ (l : ℕ → Bool). record { known = record { locals = l }; rest = ws }) (fun_ext m.known)
+marked_place : (old mid : Parser) (x : Sym) (i : ℕ) (ws : List Word) → Marks old mid x i → place mid ws ≡ with_local x (place old ws)
+marked_place old mid x i ws m = ap (λ (k : Known). record { known = k; rest = ws }) m.known
 
-reads_assignment : (N : Readers) (s n : Place) (x : Sym) → at target s ≡ Some (x, n) → argument_of N s ≡ built (assign x.0) (N.value (with_local x n))
-unfolding argument_of
-reads_assignment N s n x e = ap (argument_or N s) e
+aims_variable : (old mid : Parser) (x : Sym) (i : ℕ) → Marks old mid x i → Aims old mid (targets.Variable x) i
+aims_variable old mid x i m = record { nodes = m.nodes; known = λ ws. marked_place old mid x i ws m; slot = λ ws. sym m.slot }
 
-pub made_assignment : (N : Readers) (old mid m2 new : Parser) (a id : ℕ) (x : Sym) (words after rest : List Word) → Marks old mid x → target words ≡ Some (x, after)
-    → Made nodes mid m2 a rest (N.value (place mid after)) → Puts m2 new (assign x.0 (tree_at m2.nodes.items a)) id → Made nodes old new id rest (argument_of N (place old words))
-made_assignment N old mid m2 new a id x words after rest k e m p =
-    let made : Made nodes mid new id rest (built (assign x.0) (N.value (place mid after))) = made_over (assign x.0) m p refl in
+pub aims_marked : (old mid : Parser) (x : Sym) (t : Target) (r : Result ℕ Storage) → t ≡ targets.Variable x → IfOk r (Marks old mid x) → IfOk r (Aims old mid t)
+aims_marked old mid x t (Ok i) is m = subst (λ (q : Target). Aims old mid q i) (sym is) (aims_variable old mid x i m)
+aims_marked old mid x t (Err d) is m = tt
+
+pub aims_field : (p : Parser) (x : Sym) → Aims p p (targets.Field x) 0
+aims_field p x = record { nodes = refl; known = λ ws. refl; slot = λ ws. refl }
+
+pub aims_global : (p : Parser) (x : Sym) → Aims p p (targets.Global x) 0
+aims_global p x = record { nodes = refl; known = λ ws. refl; slot = λ ws. refl }
+
+-- reading an assignment where the target is known
+abbrev assigning : Readers → Bool → Aim → Place → Answer Tree
+assigning N b x s = built (assigned_to x s) (N.value b s)
+
+reads_assignment : (N : Readers) (b : Bool) (s n : Place) (x : Aim) → at target s ≡ Some (x, n) → value_of N b s ≡ assigning N b x (with_target x.target n)
+unfolding assigned_of
+reads_assignment N b s n x e = ap (assigned_or N b (operand_of N b) s) e
+
+pub reads_operand : (N : Readers) (b : Bool) (p : Parser) (ws : List Word) → target ws ≡ None → value_of N b (place p ws) ≡ operand_of N b (place p ws)
+unfolding assigned_of
+reads_operand N b p ws e = ap (assigned_or N b (operand_of N b) (place p ws)) (unseen_at p target ws e)
+
+pub made_assignment : (N : Readers) (b : Bool) (old mid m2 new : Parser) (i a id : ℕ) (x : Aim) (words after rest : List Word) → Aims old mid x.target i → target words ≡ Some (x, after)
+    → Made nodes mid m2 a rest (N.value b (place mid after)) → Puts m2 new (signed x.sign x.target i (tree_at m2.nodes.items a)) id → Made nodes old new id rest (value_of N b (place old words))
+made_assignment N b old mid m2 new i a id x words after rest k e m p =
+    let made : Made nodes mid new id rest (assigning N b x (place mid after)) = made_over (assigned_to x (place mid after)) m p (ap (λ (n : ℕ). signed x.sign x.target n (tree_at m2.nodes.items a)) (sym (k.slot after))) in
     record {
       there = made.there;
-      tree = reads_assignment N (place old words) (place old after) x (seen_at old target words after x e) ∙ ap (λ (s : Place). built (assign x.0) (N.value s)) (sym (marked_place old mid x after k)) ∙ made.tree;
+      tree = reads_assignment N b (place old words) (place old after) x (seen_at old target words after x e) ∙ ap (assigning N b x) (sym (k.known after)) ∙ made.tree;
       kept = subst (λ (ns : List Node). Extends ns new.nodes.items) k.nodes made.kept;
     }
 
-pub fails_assignment : (N : Readers) (old mid : Parser) (x : Sym) (words after : List Word) (d : Refusal) → Marks old mid x → target words ≡ Some (x, after)
-    → Fails d (N.value (place mid after)) → Fails d (argument_of N (place old words))
-fails_assignment N old mid x words after d k e h =
-    fails_eq d (argument_of N (place old words)) (built (assign x.0) (N.value (place mid after)))
-    (reads_assignment N (place old words) (place old after) x (seen_at old target words after x e) ∙ ap (λ (s : Place). built (assign x.0) (N.value s)) (sym (marked_place old mid x after k)))
-    (fails_bind d (N.value (place mid after)) (λ q. Ok (assign x.0 q.0, q.1)) h)
+pub fails_assignment : (N : Readers) (b : Bool) (old mid : Parser) (i : ℕ) (x : Aim) (words after : List Word) (d : Refusal) → Aims old mid x.target i → target words ≡ Some (x, after)
+    → Fails d (N.value b (place mid after)) → Fails d (value_of N b (place old words))
+fails_assignment N b old mid i x words after d k e h =
+    fails_eq d (value_of N b (place old words)) (assigning N b x (place mid after))
+    (reads_assignment N b (place old words) (place old after) x (seen_at old target words after x e) ∙ ap (assigning N b x) (sym (k.known after)))
+    (fails_bind d (N.value b (place mid after)) (λ q. Ok (assigned_to x (place mid after) q.0, q.1)) h)
+
+-- ---- what follows an operand
+
+module _ (N : Readers) (shrinks : ReadersShrink N) where
+  abbrev goes_on : Tree → Parse Tree
+  goes_on = trail_on tail (tailed_of N)
+
+  pub trail_begins : (old new : Parser) (e : ℕ) (words rest : List Word) → Made nodes old new e rest (primary_of N (place old words))
+      → Goes nodes old new e (postfix_of N (place old words)) (trail_on tail (tailed_of N) (tree_at new.nodes.items e) (place new rest))
+  unfolding postfix_of
+  trail_begins old new e words rest m = record { there = m.there; kept = m.kept; same = ap (λ (q : Answer Tree). q >>= λ r. goes_on r.0 r.1) m.tree }
+
+  turns : (new : Parser) (l : ℕ) (rest after : List Word) (x : Tail) → tail rest ≡ Some (x, after)
+      → goes_on (tree_at new.nodes.items l) (place new rest) ≡ (tailed_of N x (tree_at new.nodes.items l) (place new after) >>= λ r. goes_on r.0 r.1)
+  turns new l rest after x e = trail_on-turn tail (tailed_of N) Steps-tail (λ x l n z t e. shrinks.tailed x l n z t e) (tree_at new.nodes.items l) (place new rest) (place new after) x (seen_at new tail rest after x e)
+
+  pub trail_ends : (old new : Parser) (l : ℕ) (rest : List Word) (read : Answer Tree) → Goes nodes old new l read (trail_on tail (tailed_of N) (tree_at new.nodes.items l) (place new rest)) → tail rest ≡ None → Made nodes old new l rest read
+  trail_ends old new l rest read g e = record {
+    there = g.there;
+    tree = g.same ∙ trail_on-ends tail (tailed_of N) Steps-tail (λ x l n z t e. shrinks.tailed x l n z t e) (tree_at new.nodes.items l) (place new rest) (unseen_at new tail rest e);
+    kept = g.kept;
+  }
+
+  pub trail_fails : (old s0 : Parser) (l : ℕ) (rest after : List Word) (x : Tail) (read : Answer Tree) (d : Refusal) → Goes nodes old s0 l read (trail_on tail (tailed_of N) (tree_at s0.nodes.items l) (place s0 rest)) → tail rest ≡ Some (x, after)
+      → Fails d (tailed_of N x (tree_at s0.nodes.items l) (place s0 after)) → Fails d read
+  trail_fails old s0 l rest after x read d g e h =
+      fails_eq d read (tailed_of N x (tree_at s0.nodes.items l) (place s0 after) >>= λ r. goes_on r.0 r.1) (g.same ∙ turns s0 l rest after x e)
+      (fails_bind d (tailed_of N x (tree_at s0.nodes.items l) (place s0 after)) (λ r. goes_on r.0 r.1) h)
+
+  pub trail_smaller : (s0 s1 : Parser) (l b : ℕ) (rest after left : List Word) (x : Tail) → tail rest ≡ Some (x, after) → Made nodes s0 s1 b left (tailed_of N x (tree_at s0.nodes.items l) (place s0 after)) → length left < length rest
+  trail_smaller s0 s1 l b rest after left x e m =
+      omega (arith, Steps-tail (place s0 rest) (place s0 after) x (seen_at s0 tail rest after x e), shrinks.tailed x (tree_at s0.nodes.items l) (place s0 after) (place s1 left) (tree_at s1.nodes.items b) m.tree)
+
+  pub trail_goes : (old s0 s1 : Parser) (l b : ℕ) (rest after left : List Word) (x : Tail) (read : Answer Tree) → Goes nodes old s0 l read (trail_on tail (tailed_of N) (tree_at s0.nodes.items l) (place s0 rest)) → tail rest ≡ Some (x, after)
+      → Made nodes s0 s1 b left (tailed_of N x (tree_at s0.nodes.items l) (place s0 after)) → Goes nodes old s1 b read (trail_on tail (tailed_of N) (tree_at s1.nodes.items b) (place s1 left))
+  trail_goes old s0 s1 l b rest after left x read g e m = record {
+    there = m.there;
+    kept = Extends-trans old.nodes.items s0.nodes.items s1.nodes.items g.kept m.kept;
+    same = g.same ∙ turns s0 l rest after x e ∙ ap (λ (q : Answer Tree). q >>= λ r. goes_on r.0 r.1) m.tree;
+  }
+
+-- an operand and its index
+pub made_element : (N : Readers) (old m1 new : Parser) (x : Tail) (l a id : ℕ) (words rest : List Word) → x ≡ tails.Index → l < length old.nodes.items → Made nodes old m1 a rest (N.part parts.Index (place old words))
+    → Puts m1 new (index (tree_at m1.nodes.items l) (tree_at m1.nodes.items a)) id → Made nodes old new id rest (tailed_of N x (tree_at old.nodes.items l) (place old words))
+unfolding tailed_of
+made_element N old m1 new x l a id words rest is lt m p =
+    made_eq (tailed_of N x (tree_at old.nodes.items l) (place old words)) (built (index (tree_at old.nodes.items l)) (N.part parts.Index (place old words))) (ap (λ (y : Tail). tailed_of N y (tree_at old.nodes.items l) (place old words)) is)
+    (made_over (index (tree_at old.nodes.items l)) m p (ap (λ (u : Tree). index u (tree_at m1.nodes.items a)) (tree_at-kept old.nodes.items m1.nodes.items l m.kept lt)))
+
+-- a call and its arguments
+pub made_send : (N : Readers) (old m1 new : Parser) (y : Tail) (l id : ℕ) (x : Sym) (es fs : List ℕ) (words rest : List Word) → y ≡ tails.Call x → fs ≡ es → l < length old.nodes.items → Made (lists nodes) old m1 es rest (N.bracketed (place old words))
+    → Puts m1 new (send (tree_at m1.nodes.items l) x.0 (listed (map (tree_at m1.nodes.items) fs))) id → Made nodes old new id rest (tailed_of N y (tree_at old.nodes.items l) (place old words))
+unfolding tailed_of
+made_send N old m1 new y l id x es fs words rest is same lt m p =
+    let reads : List Tree → Tree = λ q. send (tree_at old.nodes.items l) x.0 (listed q) in
+    made_eq (tailed_of N y (tree_at old.nodes.items l) (place old words)) (built reads (N.bracketed (place old words))) (ap (λ (z : Tail). tailed_of N z (tree_at old.nodes.items l) (place old words)) is)
+    (made_over reads m p (ap (λ (u : Tree). send u x.0 (listed (map (tree_at m1.nodes.items) fs))) (tree_at-kept old.nodes.items m1.nodes.items l m.kept lt) ∙ ap (λ (q : List ℕ). reads (map (tree_at m1.nodes.items) q)) same))
+
+-- a key, its arrow and its value
+pub made_arrow : (N : Readers) (old m1 m2 new : Parser) (a b id : ℕ) (words rest after left : List Word) → label words ≡ None → Made nodes old m1 a rest (argument_of N (place old words))
+    → word kind.Arrow rest ≡ Some (tt, after) → Made nodes m1 m2 b left (argument_of N (place m1 after)) → Puts m2 new (pair (tree_at m2.nodes.items a) (tree_at m2.nodes.items b)) id
+    → Made nodes old new id left (pair_of N (place old words))
+unfolding pair_of
+made_arrow N old m1 m2 new a b id words rest after left none m e k p =
+    made_put old m2 new id left (pair (tree_at m2.nodes.items a) (tree_at m2.nodes.items b)) (pair_of N (place old words))
+    (ap (pair_by N (place old words)) (unseen_at old label words none)
+    ∙ across_tree pair (word kind.Arrow) (argument_of N) old m1 a rest (argument_of N (place old words)) m m2 b after left e k)
+    (Extends-trans old.nodes.items m1.nodes.items m2.nodes.items m.kept k.kept) p
+
+pub wrong_arrow : (N : Readers) (old m1 : Parser) (a : ℕ) (words rest : List Word) → label words ≡ None → Made nodes old m1 a rest (argument_of N (place old words)) → word kind.Arrow rest ≡ None → pair_of N (place old words) ≡ Err wrong
+unfolding pair_of
+wrong_arrow N old m1 a words rest none m e =
+    ap (pair_by N (place old words)) (unseen_at old label words none) ∙ across_wrong pair (word kind.Arrow) (argument_of N) old m1 a rest (argument_of N (place old words)) m e
+
+pub fails_arrow : (N : Readers) (old m1 : Parser) (a : ℕ) (words rest after : List Word) (d : Refusal) → label words ≡ None → Made nodes old m1 a rest (argument_of N (place old words))
+    → word kind.Arrow rest ≡ Some (tt, after) → Fails d (argument_of N (place m1 after)) → Fails d (pair_of N (place old words))
+unfolding pair_of
+fails_arrow N old m1 a words rest after d none m e h =
+    fails_eq d (pair_of N (place old words)) (across pair (word kind.Arrow) (argument_of N) (argument_of N (place old words))) (ap (pair_by N (place old words)) (unseen_at old label words none))
+    (across_fails pair (word kind.Arrow) (argument_of N) old m1 a rest (argument_of N (place old words)) m after d e h)
+
+-- a label and its value
+pub made_label : (N : Readers) (old m1 new : Parser) (x : Sym) (a id : ℕ) (words after rest : List Word) → label words ≡ Some (x, after) → Made nodes old m1 a rest (argument_of N (place old after))
+    → Puts m1 new (pair (symbol x.0) (tree_at m1.nodes.items a)) id → Made nodes old new id rest (pair_of N (place old words))
+unfolding pair_of
+made_label N old m1 new x a id words after rest e m p =
+    made_eq (pair_of N (place old words)) (built (pair (symbol x.0)) (argument_of N (place old after))) (ap (pair_by N (place old words)) (seen_at old label words after x e)) (made_over (pair (symbol x.0)) m p refl)
+
+pub fails_label : (N : Readers) (old : Parser) (x : Sym) (words after : List Word) (d : Refusal) → label words ≡ Some (x, after) → Fails d (argument_of N (place old after)) → Fails d (pair_of N (place old words))
+unfolding pair_of
+fails_label N old x words after d e h =
+    fails_eq d (pair_of N (place old words)) (built (pair (symbol x.0)) (argument_of N (place old after))) (ap (pair_by N (place old words)) (seen_at old label words after x e))
+    (fails_bind d (argument_of N (place old after)) (λ q. Ok (pair (symbol x.0) q.0, q.1)) h)
+
+-- members of a list, with what ends it
+pub made_bracketed : (N : Readers) (k : Listed) (old mid : Parser) (es : List ℕ) (words rest after : List Word) → closing k words ≡ None → Made (lists nodes) old mid es rest (members_of N k (place old words)) → last k rest ≡ Some (tt, after)
+    → Made (lists nodes) old mid es after (bracketed_of N k (place old words))
+unfolding bracketed_of
+made_bracketed N k old mid es words rest after none m e = record {
+  there = m.there;
+  tree =
+      ap (bracketed_or N k (place old words)) (unseen_at old (closing k) words none)
+      ∙ ap (λ (q : Answer (List Tree)). q >>= λ l. ended_by l.0 (at (last k) l.1)) m.tree
+      ∙ ap (ended_by (map (tree_at mid.nodes.items) es)) (seen_at mid (last k) rest after tt e);
+  kept = m.kept;
+}
+
+pub wrong_bracketed : (N : Readers) (k : Listed) (old mid : Parser) (es : List ℕ) (words rest : List Word) → closing k words ≡ None → Made (lists nodes) old mid es rest (members_of N k (place old words)) → last k rest ≡ None
+    → bracketed_of N k (place old words) ≡ Err wrong
+unfolding bracketed_of
+wrong_bracketed N k old mid es words rest none m e =
+    ap (bracketed_or N k (place old words)) (unseen_at old (closing k) words none)
+    ∙ ap (λ (q : Answer (List Tree)). q >>= λ l. ended_by l.0 (at (last k) l.1)) m.tree
+    ∙ ap (ended_by (map (tree_at mid.nodes.items) es)) (unseen_at mid (last k) rest e)
+
+pub fails_bracketed : (N : Readers) (k : Listed) (old : Parser) (words : List Word) (d : Refusal) → closing k words ≡ None → Fails d (members_of N k (place old words)) → Fails d (bracketed_of N k (place old words))
+unfolding bracketed_of
+fails_bracketed N k old words d none h =
+    fails_eq d (bracketed_of N k (place old words)) (members_of N k (place old words) >>= λ l. ended_by l.0 (at (last k) l.1)) (ap (bracketed_or N k (place old words)) (unseen_at old (closing k) words none))
+    (fails_bind d (members_of N k (place old words)) (λ l. ended_by l.0 (at (last k) l.1)) h)
+
+pub empty_bracketed : (N : Readers) (k : Listed) (old : Parser) (es : List ℕ) (words after : List Word) → closing k words ≡ Some (tt, after) → es ≡ [] → Made (lists nodes) old old es after (bracketed_of N k (place old words))
+unfolding bracketed_of
+empty_bracketed N k old es words after e is = record {
+  there = subst (λ (l : List ℕ). All (λ i. i < length old.nodes.items) l) (sym is) (λ k d lt. let never : ⊥ = omega arith in absurd never);
+  tree = ap (bracketed_or N k (place old words)) (seen_at old (closing k) words after tt e) ∙ ap (λ (l : List ℕ). Ok (map (tree_at old.nodes.items) l, place old after)) (sym is);
+  kept = Extends-refl old.nodes.items;
+}
+
+-- a command that is the only argument of another one
+pub made_argument_command : (N : Readers) (old new : Parser) (id : ℕ) (es : List ℕ) (x : Sym) (words after rest : List Word) → command (known_of old) words ≡ Some (x, after) → Made nodes old new id rest (N.part parts.Command (place old words)) → es ≡ id ∷ []
+    → Made (lists nodes) old new es rest (commanded_of N (place old words))
+unfolding commanded_of
+made_argument_command N old new id es x words after rest e m is = record {
+  there = subst (λ (l : List ℕ). All (λ i. i < length new.nodes.items) l) (sym is) (lone (length new.nodes.items) id m.there);
+  tree =
+      ap (commanded_or N (place old words)) (ap (placed (known_of old)) e)
+      ∙ ap (built one_of) m.tree
+      ∙ ap (λ (l : List ℕ). Ok (map (tree_at new.nodes.items) l, place new rest)) (sym is);
+  kept = m.kept;
+}
+  where
+    lone : (n i : ℕ) → i < n → All (λ j. j < n) (i ∷ [])
+    lone n i h zero d lt = h
+    lone n i h (suc k) d lt = let never : ⊥ = omega arith in absurd never
 
 -- ---- branches over one another
 
@@ -434,19 +758,28 @@ ordered_pushed false ns new n e ordered h = subst IsOrdered (sym e) ordered
 
 -- ---- names
 
-more_false : (ks : List Bool) (y : ℕ) → locals_of (ks ++ false ∷ []) y ≡ locals_of ks y
-more_false [] zero = refl
-more_false [] (suc y) = refl
-more_false (k ∷ ks) zero = refl
-more_false (k ∷ ks) (suc y) = more_false ks y
+more_none : (ks : List (Option ℕ)) (y : ℕ) → slots_in (ks ++ None ∷ []) y ≡ slots_in ks y
+more_none [] zero = refl
+more_none [] (suc y) = refl
+more_none (k ∷ ks) zero = refl
+more_none (k ∷ ks) (suc y) = more_none ks y
 
-pub pushed_false : (ks new : List Bool) (y : ℕ) → new ≡ ks ++ false ∷ [] → locals_of new y ≡ locals_of ks y
-pushed_false ks new y e = ap (λ (l : List Bool). locals_of l y) e ∙ more_false ks y
+pub pushed_none : (ks new : List (Option ℕ)) (y : ℕ) → new ≡ ks ++ None ∷ [] → slots_in new y ≡ slots_in ks y
+pushed_none ks new y e = ap (λ (l : List (Option ℕ)). slots_in l y) e ∙ more_none ks y
 
--- a name is marked
-pub set_true : (ks : List Bool) (p y : ℕ) → p < length ks → locals_of (set ks p true) y ≡ (y == p || locals_of ks y)
-set_true [] p y lt = let never : ⊥ = omega arith in absurd never
-set_true (k ∷ ks) zero zero lt = refl
-set_true (k ∷ ks) zero (suc y) lt = sym (ap (λ b. b || locals_of ks y) (eqb-suc-zero y))
-set_true (k ∷ ks) (suc p) zero lt = sym (ap (λ b. b || k) (eqb-zero-suc p))
-set_true (k ∷ ks) (suc p) (suc y) lt = set_true ks p y (omega arith) ∙ sym (ap (λ b. b || locals_of ks y) (eqb-suc-suc y p))
+-- a name gets a number
+set_some : (ks : List (Option ℕ)) (p n y : ℕ) → p < length ks → slots_in (set ks p (Some n)) y ≡ cond (y == p) (Some n) (slots_in ks y)
+set_some [] p n y lt = let never : ⊥ = omega arith in absurd never
+set_some (k ∷ ks) zero n zero lt = refl
+set_some (k ∷ ks) zero n (suc y) lt = sym (ap (λ b. cond b (Some n) (slots_in ks y)) (eqb-suc-zero y))
+set_some (k ∷ ks) (suc p) n zero lt = sym (ap (λ b. cond b (Some n) k) (eqb-zero-suc p))
+set_some (k ∷ ks) (suc p) n (suc y) lt = set_some ks p n y (omega arith) ∙ sym (ap (λ b. cond b (Some n) (slots_in ks y)) (eqb-suc-suc y p))
+
+-- what is known where a name that is no variable has become one
+pub known_set : (old mid : List (Option ℕ)) (p n : ℕ) → p < length mid → ((y : ℕ) → slots_in mid y ≡ slots_in old y) → (y : ℕ) → slots_in (set mid p (Some n)) y ≡ cond (y == p) (Some n) (slots_in old y)
+known_set old mid p n lt same y = set_some mid p n y lt ∙ ap (cond (y == p) (Some n)) (same y)
+
+pub slot_set : (ks : List (Option ℕ)) (p n : ℕ) → p < length ks → slots_in (set ks p (Some n)) p ≡ Some n
+slot_set [] p n lt = let never : ⊥ = omega arith in absurd never
+slot_set (k ∷ ks) zero n lt = refl
+slot_set (k ∷ ks) (suc p) n lt = slot_set ks p n (omega arith)

@@ -1,41 +1,62 @@
 -- What is spelled takes no words back, and so reading takes none back.
-use Rattle.std.proofs.Common.{ℕ, zero, suc, Bool, true, false, arith}
-use Rattle.rr_base.specs.declared.name.Sym.{Sym}
+use Rattle.std.proofs.Common.{ℕ, zero, suc, Bool, true, false, arith, ◌≤◌}
 use Rattle.rr_tree.specs.Tree.{binary}
+use Rattle.rr_parser.specs.declared.word.Tail.{Tail}
+use Rattle.rr_parser.specs.declared.word.Target.{Target}
+use Rattle.rr_parser.specs.declared.word.Listed.{Listed}
+use Rattle.rr_parser.specs.declared.word.Listed.TheVariants as listings
+use Rattle.rr_parser.specs.declared.word.Part.{Part}
+use Rattle.rr_parser.specs.declared.word.Part.TheVariants as parts
 use Rattle.rr_parser.specs.declared.word.WordKind.TheVariants as kind
-use Rattle.rr_parser.specs.Places.{skip, separators}
+use Rattle.rr_parser.specs.Places.{Place, skip, separators}
+use Rattle.rr_tree.specs.Tree.{Tree}
 use Rattle.rr_parser.specs.Grammar.Chains.{same, one_of, and_one}
 use Rattle.rr_parser.specs.Grammar.Nesting.{Nested}
-use Rattle.rr_parser.specs.Grammar.Names.{with_local, bracket}
-use Rattle.rr_parser.specs.Grammar.Operands.{joined, Primary, an_int, a_negative, a_text, a_nil, a_truth, a_local, a_call, a_marked_call, a_bare_puts, a_puts, a_group, an_if, Minus, a_minus, a_primary}
-use Rattle.rr_parser.specs.Grammar.Operators.{operator, Binary, Equality, a_comparison, a_pair}
-use Rattle.rr_parser.specs.Grammar.Calls.{comma, Argument, an_assignment, an_equality, Arguments, Bracketed, no_arguments, some_arguments}
-use Rattle.rr_parser.specs.Grammar.Control.{elsif, Statement, a_command, an_argument, Rows, Statements, no_statements, some_statements, Branch, a_branch, Branches, Otherwise, no_else, an_else, Choice, a_choice}
-use Rattle.rr_parser.specs.Grammar.{inside, outside}
+use Rattle.rr_parser.specs.Grammar.Names.{name, bracket}
+use Rattle.rr_parser.specs.Grammar.Operands.{joined, Primary, a_literal, a_negative, a_local, a_bare_call, a_call, a_construct, tail, Tailed, a_send, a_sent_call, an_index, Postfix, Bang, a_bang, no_bang, Minus, a_minus, no_minus}
+use Rattle.rr_parser.specs.Grammar.Operators.{operator, connective, joined_by, Logical, Binary, Equality, a_comparison, a_pair, Ternary, no_question, a_question}
+use Rattle.rr_parser.specs.Grammar.Calls.{with_target, label, comma, Assigned, an_assignment, no_assignment, Argument, Pair, by_label, by_arrow, Member, Members, Bracketed, no_members, some_members, Array, an_array, Hash, a_hash, Index, of_element, Commanded, by_arguments, by_command, Command, a_command, Phrase, by_name, an_operand, Operand, Value}
+use Rattle.rr_parser.specs.Grammar.Sequences.{Negation, a_negation, no_negation, Expression, modifier, modified, Statement, Rows, Statements, no_statements, some_statements, Group, a_group}
+use Rattle.rr_parser.specs.Grammar.Control.{elsif, Branch, a_branch, Branches, Otherwise, no_else, an_else, Choice, a_choice, Unless, an_unless, Loop, a_loop}
+use Rattle.rr_parser.specs.Grammar.{PartOf, inside, outside}
 use Rattle.rr_parser.specs.Reading.Nesting.{Readers}
-use Rattle.rr_parser.specs.Reading.Operators.{binary_of}
-use Rattle.rr_parser.specs.Reading.Calls.{argument_of}
-use Rattle.rr_parser.specs.Reading.Control.{statement_of, branch_of}
+use Rattle.rr_parser.specs.Reading.Operators.{binary_of, logical_of}
+use Rattle.rr_parser.specs.Reading.Calls.{argument_of, member_of}
+use Rattle.rr_parser.specs.Reading.Sequences.{negation_of, expression_of, statement_of}
+use Rattle.rr_parser.specs.Reading.Control.{branch_of}
 use Rattle.rr_parser.specs.Reading.{readers}
-use Rattle.rr_parser.proofs.Looks.{Steps, Steps-first_as, Steps-word, Steps-separators, Steps-thens, next-left, left-without_separators}
+use Rattle.rr_parser.proofs.Looks.{Steps, Steps-first_as, Steps-word, Steps-separators, Steps-thens, Steps-loops, Steps-target, Steps-tail, Steps-last, Steps-closing, command-next, next-left, left, left-without_separators}
+use Rattle.rr_parser.specs.declared.word.Target.TheVariants as targets
+use Rattle.rr_parser.specs.Reading.Operands.{tailed_of}
+use Rattle.rr_parser.proofs.Trails.{trail_shrinking}
 use Rattle.rr_parser.proofs.Chains.{Shrinks, IsShrinking, shrinks_by, chain_shrinking}
-use Rattle.rr_parser.proofs.Sound.{nested, sound_nested, binary_sound, argument_sound, statement_sound, branch_sound}
+use Rattle.rr_parser.proofs.Sound.{nested, sound_nested, binary_sound, logical_sound, argument_sound, member_sound, tailed_sound, negation_sound, expression_sound, statement_sound, branch_sound}
 
 record NestedShrinking (R : Nested) : Type 0 where
-  statements : IsShrinking R.statements
+  part : (p : Part) → IsShrinking (R.part p)
   bracketed : IsShrinking R.bracketed
-  choice : IsShrinking R.choice
-  minus : IsShrinking R.minus
-  value : IsShrinking R.value
+  value : (b : Bool) → IsShrinking (R.value b)
 
 pub Steps-joined : Steps joined
 Steps-joined = Steps-first_as _
 
-pub Steps-bracket : (x : Sym) → Steps (bracket x)
-Steps-bracket x = Steps-first_as _
+pub Steps-name : Steps name
+Steps-name = Steps-first_as _
+
+pub Steps-bracket : Steps bracket
+Steps-bracket = Steps-first_as _
+
+pub Steps-connective : (level : ℕ) → Steps (connective level)
+Steps-connective level = Steps-first_as _
 
 pub Steps-operator : (level : ℕ) → Steps (operator level)
 Steps-operator level = Steps-first_as _
+
+pub Steps-label : Steps label
+Steps-label = Steps-first_as _
+
+pub Steps-modifier : Steps modifier
+Steps-modifier = Steps-first_as _
 
 pub Steps-comma : Steps comma
 Steps-comma = Steps-word kind.Comma
@@ -45,23 +66,28 @@ Steps-elsif = Steps-word kind.Elsif
 
 module _ (R : Nested) (nests : NestedShrinking R) where
   primary_shrinking : IsShrinking (Primary R)
-  primary_shrinking s z t (an_int {n = n} e f) = omega (arith, next-left s z (kind.Int n) e)
+  primary_shrinking s z t (a_literal {k = k} e f) = omega (arith, next-left s z k e)
   primary_shrinking s z t (a_negative {m = m} {n = n} e f g) = omega (arith, next-left s m kind.Minus e, Steps-joined m z n f)
-  primary_shrinking s z t (a_text {i = i} e) = omega (arith, next-left s z (kind.Text i) e)
-  primary_shrinking s z t (a_nil e) = omega (arith, next-left s z kind.Nil e)
-  primary_shrinking s z t (a_truth {b = b} e) = omega (arith, next-left s z (kind.Truth b) e)
-  primary_shrinking s z t (a_local {x = x} e f g) = omega (arith, next-left s z (kind.Name x) e)
-  primary_shrinking s z t (a_call {x = x} e f g) = omega (arith, next-left s z (kind.Name x) e)
-  primary_shrinking s z t (a_marked_call {x = x} e) = omega (arith, next-left s z (kind.Marked x) e)
-  primary_shrinking s z t (a_bare_puts {x = x} e f g h i) = omega (arith, next-left s z (kind.Name x) e)
-  primary_shrinking s z t (a_puts {m = m} {n = n} {o = o} {x = x} {u = u} {l = l} e f h g) =
-      omega (arith, next-left s m (kind.Name x) e, Steps-bracket x m n u f, nests.bracketed n o l h, next-left o z kind.Close g)
-  primary_shrinking s z t (a_group {m = m} {n = n} e h g) = omega (arith, next-left s m kind.Open e, nests.statements m n t h, next-left n z kind.Close g)
-  primary_shrinking s z t (an_if {m = m} e h) = omega (arith, next-left s m kind.If e, nests.choice m z t h)
+  primary_shrinking s z t (a_local {x = x} e f g) = omega (arith, Steps-name s z x e)
+  primary_shrinking s z t (a_bare_call {x = x} e f g h) = omega (arith, Steps-name s z x e)
+  primary_shrinking s z t (a_call {m = m} {n = n} {x = x} {u = u} {l = l} e f h) = omega (arith, Steps-name s m x e, Steps-bracket m n u f, nests.bracketed n z l h)
+  primary_shrinking s z t (a_construct {m = m} {k = k} {p = p} e f h) = omega (arith, next-left s m k e, nests.part p m z t h)
+
+  tailed_shrinking : (x : Tail) (l : Tree) (n z : Place) (t : Tree) → Tailed R x l n t z → left z ≤ left n
+  tailed_shrinking x l n z t a_send = omega arith
+  tailed_shrinking x l n z t (a_sent_call {l = a} h) = nests.bracketed n z a h
+  tailed_shrinking x l n z t (an_index {i = i} h) = nests.part parts.Index n z i h
+
+  postfix_shrinking : IsShrinking (Postfix R)
+  postfix_shrinking = trail_shrinking tail (Primary R) (Tailed R) Steps-tail primary_shrinking tailed_shrinking
+
+  bang_shrinking : IsShrinking (Bang R)
+  bang_shrinking s z t (a_bang {m = m} {t = v} e h) = omega (arith, next-left s m kind.Bang e, nests.part parts.Bang m z v h)
+  bang_shrinking s z t (no_bang h) = postfix_shrinking s z t h
 
   minus_shrinking : IsShrinking (Minus R)
-  minus_shrinking s z t (a_minus {m = m} {t = v} e f h) = omega (arith, next-left s m kind.Minus e, nests.minus m z v h)
-  minus_shrinking s z t (a_primary h) = primary_shrinking s z t h
+  minus_shrinking s z t (a_minus {m = m} {t = v} e f h) = omega (arith, next-left s m kind.Minus e, nests.part parts.Minus m z v h)
+  minus_shrinking s z t (no_minus h) = bang_shrinking s z t h
 
   binary_shrinking : (level : ℕ) → IsShrinking (Binary R level)
   binary_shrinking zero = minus_shrinking
@@ -71,21 +97,80 @@ module _ (R : Nested) (nests : NestedShrinking R) where
   equality_shrinking s z t (a_comparison h) = binary_shrinking 3 s z t h
   equality_shrinking s z t (a_pair {m = m} {n = n} {l = l} {r = r} {o = o} h e g) = omega (arith, binary_shrinking 3 s m l h, Steps-operator 4 m n o e, binary_shrinking 3 n z r g)
 
+  logical_shrinking : (level : ℕ) → IsShrinking (Logical R level)
+  logical_shrinking zero = equality_shrinking
+  logical_shrinking (suc level) = chain_shrinking (connective (suc level)) same joined_by (Logical R level) (Steps-connective (suc level)) (logical_shrinking level)
+
+  ternary_shrinking : IsShrinking (Ternary R)
+  ternary_shrinking s z t (no_question h) = logical_shrinking 2 s z t h
+  ternary_shrinking s z t (a_question {m = m} {n = n} {o = o} {y = y} {c = c} {t = a} {e = b} h e f g i) =
+      omega (arith, logical_shrinking 2 s m c h, next-left m n kind.Question e, nests.part parts.Branch n o a f, next-left o y kind.Colon g, nests.part parts.Branch y z b i)
+
+  target_left : (x : Target) (n : Place) → left (with_target x n) ≤ left n
+  target_left (targets.Variable x) n = omega arith
+  target_left (targets.Field x) n = omega arith
+  target_left (targets.Global x) n = omega arith
+
+  assigned_shrinking : (commands : Bool) (Q : Place → Tree → Place → Type 0) → IsShrinking Q → IsShrinking (Assigned R commands Q)
+  assigned_shrinking commands Q smaller s z t (an_assignment {n = n} {x = x} {t = v} e h) = omega (arith, Steps-target s n x e, target_left x.target n, nests.value commands (with_target x.target n) z v h)
+  assigned_shrinking commands Q smaller s z t (no_assignment h) = smaller s z t h
+
   argument_shrinking : IsShrinking (Argument R)
-  argument_shrinking s z t (an_assignment {m = m} {n = n} {x = x} {t = v} e f h) =
-      omega (arith, next-left s m (kind.Name x) e, next-left m n kind.Assign f, nests.value (with_local x n) z v h)
-  argument_shrinking s z t (an_equality h) = equality_shrinking s z t h
+  argument_shrinking = assigned_shrinking false (Ternary R) ternary_shrinking
 
-  arguments_shrinking : IsShrinking (Arguments R)
-  arguments_shrinking = chain_shrinking comma one_of and_one (Argument R) Steps-comma argument_shrinking
+  pair_shrinking : IsShrinking (Pair R)
+  pair_shrinking s z t (by_label {m = m} {x = x} {t = v} e h) = omega (arith, Steps-label s m x e, argument_shrinking m z v h)
+  pair_shrinking s z t (by_arrow {m = m} {n = n} {k = k} {t = v} h e i) = omega (arith, argument_shrinking s m k h, next-left m n kind.Arrow e, argument_shrinking n z v i)
 
-  bracketed_shrinking : IsShrinking (Bracketed R)
-  bracketed_shrinking s z l no_arguments = omega arith
-  bracketed_shrinking s z l (some_arguments h) = arguments_shrinking s z l h
+  member_shrinking : (k : Listed) → IsShrinking (Member R k)
+  member_shrinking listings.Command = argument_shrinking
+  member_shrinking listings.Call = argument_shrinking
+  member_shrinking listings.Array = argument_shrinking
+  member_shrinking listings.Hash = pair_shrinking
+
+  members_shrinking : (k : Listed) → IsShrinking (Members R k)
+  members_shrinking k = chain_shrinking comma one_of and_one (Member R k) Steps-comma (member_shrinking k)
+
+  bracketed_shrinking : (k : Listed) → IsShrinking (Bracketed R k)
+  bracketed_shrinking k s z l (no_members {u = u} e) = omega (arith, Steps-closing k s z u e)
+  bracketed_shrinking k s z l (some_members {m = m} {u = u} h e) = omega (arith, members_shrinking k s m l h, Steps-last k m z u e)
+
+  array_shrinking : IsShrinking (Array R)
+  array_shrinking s z t (an_array {l = l} h) = bracketed_shrinking listings.Array s z l h
+
+  hash_shrinking : IsShrinking (Hash R)
+  hash_shrinking s z t (a_hash {l = l} h) = bracketed_shrinking listings.Hash s z l h
+
+  index_shrinking : IsShrinking (Index R)
+  index_shrinking s z t (of_element {m = m} h e) = omega (arith, argument_shrinking s m t h, next-left m z kind.CloseSquare e)
+
+  commanded_shrinking : IsShrinking (Commanded R)
+  commanded_shrinking s z l (by_arguments h) = members_shrinking listings.Command s z l h
+  commanded_shrinking s z l (by_command {t = t} e h) = nests.part parts.Command s z t h
+
+  command_shrinking : IsShrinking (Command R)
+  command_shrinking s z t (a_command {m = m} {x = x} {l = l} e h) = omega (arith, Steps-name s m x (command-next s m x e).0, commanded_shrinking m z l h)
+
+  phrase_shrinking : IsShrinking (Phrase R)
+  phrase_shrinking s z t (by_name h) = command_shrinking s z t h
+  phrase_shrinking s z t (an_operand h) = ternary_shrinking s z t h
+
+  operand_shrinking : (b : Bool) → IsShrinking (Operand R b)
+  operand_shrinking false = ternary_shrinking
+  operand_shrinking true = phrase_shrinking
+
+  value_shrinking : (b : Bool) → IsShrinking (Value R b)
+  value_shrinking b = assigned_shrinking b (Operand R b) (operand_shrinking b)
+
+  negation_shrinking : IsShrinking (Negation R)
+  negation_shrinking s z t (a_negation {m = m} {t = v} e h) = omega (arith, next-left s m kind.NotWord e, nests.part parts.Not m z v h)
+  negation_shrinking s z t (no_negation h) = value_shrinking true s z t h
+
+  expression_shrinking : IsShrinking (Expression R)
+  expression_shrinking = chain_shrinking (connective 3) same joined_by (Negation R) (Steps-connective 3) negation_shrinking
 
   statement_shrinking : IsShrinking (Statement R)
-  statement_shrinking s z t (a_command {m = m} {x = x} {l = l} e f h) = omega (arith, next-left s m (kind.Name x) e, arguments_shrinking m z l h)
-  statement_shrinking s z t (an_argument h) = argument_shrinking s z t h
+  statement_shrinking = chain_shrinking modifier same modified (Expression R) Steps-modifier expression_shrinking
 
   rows_shrinking : IsShrinking (Rows R)
   rows_shrinking = chain_shrinking separators one_of and_one (Statement R) Steps-separators statement_shrinking
@@ -94,8 +179,11 @@ module _ (R : Nested) (nests : NestedShrinking R) where
   statements_shrinking s z t no_statements = left-without_separators s.rest
   statements_shrinking s z t (some_statements {m = m} {l = l} h) = omega (arith, left-without_separators s.rest, rows_shrinking (skip s) m l h, left-without_separators m.rest)
 
+  group_shrinking : IsShrinking (Group R)
+  group_shrinking s z t (a_group {m = m} h e) = omega (arith, statements_shrinking s m t h, next-left m z kind.Close e)
+
   branch_shrinking : IsShrinking (Branch R)
-  branch_shrinking s z b (a_branch {m = m} {n = n} {c = c} {t = t} {u = u} h e i) = omega (arith, statement_shrinking s m c h, Steps-thens m n u e, statements_shrinking n z t i)
+  branch_shrinking s z b (a_branch {m = m} {n = n} {c = c} {t = t} {u = u} h e i) = omega (arith, expression_shrinking s m c h, Steps-thens m n u e, statements_shrinking n z t i)
 
   branches_shrinking : IsShrinking (Branches R)
   branches_shrinking = chain_shrinking elsif one_of and_one (Branch R) Steps-elsif branch_shrinking
@@ -107,26 +195,43 @@ module _ (R : Nested) (nests : NestedShrinking R) where
   choice_shrinking : IsShrinking (Choice R)
   choice_shrinking s z t (a_choice {m = m} {n = n} {l = l} {e = e} b h f) = omega (arith, branches_shrinking s m l b, otherwise_shrinking m n e h, next-left n z kind.End f)
 
+  unless_shrinking : IsShrinking (Unless R)
+  unless_shrinking s z t (an_unless {m = m} {n = n} {b = b} {e = e} c h f) = omega (arith, branch_shrinking s m b c, otherwise_shrinking m n e h, next-left n z kind.End f)
+
+  loop_shrinking : (until : Bool) → IsShrinking (Loop R until)
+  loop_shrinking until s z t (a_loop {m = m} {n = n} {o = o} {c = c} {t = b} {u = u} h e i f) =
+      omega (arith, expression_shrinking s m c h, Steps-loops m n u e, statements_shrinking n o b i, next-left o z kind.End f)
+
+  part_shrinking : (p : Part) → IsShrinking (PartOf R p)
+  part_shrinking parts.Group = group_shrinking
+  part_shrinking parts.Array = array_shrinking
+  part_shrinking parts.Hash = hash_shrinking
+  part_shrinking parts.Index = index_shrinking
+  part_shrinking parts.Choice = choice_shrinking
+  part_shrinking parts.Unless = unless_shrinking
+  part_shrinking (parts.Loop until) = loop_shrinking until
+  part_shrinking parts.Minus = minus_shrinking
+  part_shrinking parts.Bang = bang_shrinking
+  part_shrinking parts.Not = negation_shrinking
+  part_shrinking parts.Command = command_shrinking
+  part_shrinking parts.Branch = argument_shrinking
+
 shrinking_inside : (d : ℕ) → NestedShrinking (inside d)
 unfolding inside
-shrinking_inside zero = record { statements = λ s z t h. absurd h; bracketed = λ s z t h. absurd h; choice = λ s z t h. absurd h; minus = λ s z t h. absurd h; value = λ s z t h. absurd h }
+shrinking_inside zero = record { part = λ p s z t h. absurd h; bracketed = λ s z t h. absurd h; value = λ b s z t h. absurd h }
 shrinking_inside (suc d) = record {
-  statements = statements_shrinking (inside d) (shrinking_inside d);
-  bracketed = bracketed_shrinking (inside d) (shrinking_inside d);
-  choice = choice_shrinking (inside d) (shrinking_inside d);
-  minus = minus_shrinking (inside d) (shrinking_inside d);
-  value = argument_shrinking (inside d) (shrinking_inside d);
+  part = part_shrinking (inside d) (shrinking_inside d);
+  bracketed = bracketed_shrinking (inside d) (shrinking_inside d) listings.Call;
+  value = value_shrinking (inside d) (shrinking_inside d);
 }
 
 shrinking_outside : (d : ℕ) → NestedShrinking (outside d)
 unfolding outside
-shrinking_outside zero = record { statements = λ s z t h. absurd h; bracketed = λ s z t h. absurd h; choice = λ s z t h. absurd h; minus = λ s z t h. absurd h; value = argument_shrinking (inside zero) (shrinking_inside zero) }
+shrinking_outside zero = record { part = λ p s z t h. absurd h; bracketed = λ s z t h. absurd h; value = value_shrinking (inside zero) (shrinking_inside zero) }
 shrinking_outside (suc d) = record {
-  statements = statements_shrinking (outside d) (shrinking_outside d);
-  bracketed = bracketed_shrinking (outside d) (shrinking_outside d);
-  choice = choice_shrinking (outside d) (shrinking_outside d);
-  minus = minus_shrinking (outside d) (shrinking_outside d);
-  value = argument_shrinking (inside (suc d)) (shrinking_inside (suc d));
+  part = part_shrinking (outside d) (shrinking_outside d);
+  bracketed = bracketed_shrinking (outside d) (shrinking_outside d) listings.Call;
+  value = value_shrinking (inside (suc d)) (shrinking_inside (suc d));
 }
 
 shrinking_nested : (b : Bool) (d : ℕ) → NestedShrinking (nested b d)
@@ -138,7 +243,12 @@ shrinking_nested false d = shrinking_outside d
 -- what is left after each of these readers is no longer than what was there
 pub record ReadersShrink (N : Readers) : Type 0 where
   pub binary : (level : ℕ) → Shrinks (binary_of N level)
+  pub logical : (level : ℕ) → Shrinks (logical_of N level)
   pub argument : Shrinks (argument_of N)
+  pub member : (k : Listed) → Shrinks (member_of N k)
+  pub tailed : (x : Tail) (l : Tree) → Shrinks (tailed_of N x l)
+  pub negation : Shrinks (negation_of N)
+  pub expression : Shrinks (expression_of N)
   pub statement : Shrinks (statement_of N)
   pub branch : Shrinks (branch_of N)
 
@@ -150,7 +260,12 @@ shrinks_nested b d =
     let nests = shrinking_nested b d in
     record {
       binary = λ level. shrinks_by (binary_of N level) (Binary R level) (binary_sound N R sounds level) (binary_shrinking R nests level);
+      logical = λ level. shrinks_by (logical_of N level) (Logical R level) (logical_sound N R sounds level) (logical_shrinking R nests level);
       argument = shrinks_by (argument_of N) (Argument R) (argument_sound N R sounds) (argument_shrinking R nests);
+      member = λ k. shrinks_by (member_of N k) (Member R k) (member_sound N R sounds k) (member_shrinking R nests k);
+      tailed = λ x l s z t e. tailed_shrinking R nests x l s z t (tailed_sound N R sounds x l s z t e);
+      negation = shrinks_by (negation_of N) (Negation R) (negation_sound N R sounds) (negation_shrinking R nests);
+      expression = shrinks_by (expression_of N) (Expression R) (expression_sound N R sounds) (expression_shrinking R nests);
       statement = shrinks_by (statement_of N) (Statement R) (statement_sound N R sounds) (statement_shrinking R nests);
       branch = shrinks_by (branch_of N) (Branch R) (branch_sound N R sounds) (branch_shrinking R nests);
     }

@@ -1,135 +1,181 @@
 -- What stops which reader, and which words begin what.
-use Rattle.std.proofs.Common.{◌≡◌, ◌≢◌, ℕ, zero, suc, ◌<◌, inl, inr, Bool, true, false, cond, not, ◌&&◌, ◌==◌, List, [], ◌∷◌, Option, Some, None, refl, sym, ap, ◌∙◌, subst, arith}
+use Rattle.std.proofs.Common.{◌≡◌, ℕ, zero, suc, ◌+◌, ◌*◌, ◌<◌, ◌≤◌, inl, inr, Bool, true, false, cond, not, ◌&&◌, ◌==◌, List, [], ◌∷◌, Option, Some, None, refl, sym, ap, ◌∙◌, subst, arith}
 use Rattle.std.proofs.lemmas.Bool.Decides.{eqb_tells}
-use Rattle.rr_tree.specs.declared.node.BinaryOperator.TheVariants as op
-use Rattle.rr_parser.specs.Places.{Known, Look, seen_before, unless, where_true, is_kind, placed, without_separators}
-use Rattle.rr_parser.specs.Grammar.Names.{is_tight, begins_operand}
-use Rattle.rr_parser.specs.Grammar.Operators.{level_of, at_level, operator_of}
-use Rattle.rr_parser.specs.Reading.Control.{ends_at}
 use Rattle.rr_base.specs.declared.name.Sym.{Sym}
 use Rattle.rr_tree.specs.declared.node.BinaryOperator.{BinaryOperator}
+use Rattle.rr_tree.specs.declared.node.BinaryOperator.TheVariants as op
 use Rattle.rr_tree.specs.Tree.{Tree, binary}
+use Rattle.rr_parser.specs.declared.word.Connective.{Connective}
+use Rattle.rr_parser.specs.declared.word.Connective.TheVariants as connectives
+use Rattle.rr_parser.specs.declared.word.Modifier.{Modifier}
+use Rattle.rr_parser.specs.declared.word.Tail.{Tail}
+use Rattle.rr_parser.specs.declared.word.Sign.{Sign}
+use Rattle.rr_parser.specs.declared.word.Aim.{Aim}
+use Rattle.rr_parser.specs.declared.word.Target.{Target}
+use Rattle.rr_parser.specs.declared.word.Listed.{Listed}
+use Rattle.rr_parser.specs.declared.word.Listed.TheVariants as listings
+use Rattle.rr_parser.specs.declared.word.Part.{Part}
 use Rattle.rr_parser.specs.declared.word.WordKind.{WordKind}
 use Rattle.rr_parser.specs.declared.word.WordKind.TheVariants as kind
 use Rattle.rr_parser.specs.declared.word.Word.{Word}
-use Rattle.rr_parser.specs.Places.{Place, Look, word, at, next, skip, separators}
-use Rattle.rr_parser.specs.Grammar.Chains.{Chain, one, more, same}
+use Rattle.rr_parser.specs.Places.{Known, Place, Look, first_as, seen_before, unless, where_true, is_kind, placed, without_separators, word, at, next, skip, separators}
+use Rattle.rr_parser.specs.Grammar.Chains.{Chain, one, more, at_first, and_then, same}
 use Rattle.rr_parser.specs.Grammar.Nesting.{Nested}
-use Rattle.rr_parser.specs.Grammar.Names.{is_puts, is_local, bracket, begins_operands, begins_command}
-use Rattle.rr_parser.specs.Grammar.Operands.{Primary, an_int, a_negative, a_text, a_nil, a_truth, a_local, a_call, a_marked_call, a_bare_puts, a_puts, a_group, an_if, Minus, a_minus, a_primary}
-use Rattle.rr_parser.specs.Grammar.Operators.{operator, Binary, Equality, a_comparison, a_pair}
-use Rattle.rr_parser.specs.Grammar.Calls.{comma, Argument, an_assignment, an_equality}
-use Rattle.rr_parser.specs.Grammar.Control.{thens, elsif, Statement, a_command, an_argument}
-use Rattle.rr_parser.specs.Reading.Calls.{target}
-use Rattle.rr_parser.specs.Reading.Control.{command, ends, row}
-use Rattle.rr_parser.proofs.Told.{told_close, told_comma, told_elsif}
-use Rattle.rr_parser.proofs.Looks.{seen, seen_as, none_unless, by_next, one_kind, one_place, word-next, other-word, separators-next, no_row, next-separators, thens-next, target-next, command-next}
+use Rattle.rr_parser.specs.Grammar.Names.{is_local, name, bracket, is_tight, begins_operand, begins_operands, begins_command, command}
+use Rattle.rr_parser.specs.Grammar.Operands.{joined, literal_of, construct_of, Primary, a_literal, a_negative, a_local, a_bare_call, a_call, a_construct, tail, Postfix, Bang, a_bang, no_bang, Minus, a_minus, no_minus}
+use Rattle.rr_parser.specs.Grammar.Operators.{level_of, at_level, operator_of, operator, where_level, connective_of, connective, joined_by, Binary, a_comparison, a_pair, Logical, Ternary, no_question, a_question}
+use Rattle.rr_parser.specs.Grammar.Calls.{target, comma, Assigned, an_assignment, no_assignment, Argument, a_command, Phrase, by_name, an_operand, Value, closing, target_of_kind, label, Member, label_of_kind, last, by_label, by_arrow}
+use Rattle.rr_parser.specs.Grammar.Sequences.{Negation, a_negation, no_negation, Expression, modifier_of, modifier, Statement, modified}
+use Rattle.rr_parser.specs.Grammar.Control.{thens, loops, elsif}
+use Rattle.rr_parser.specs.Reading.Operands.{prefix_minus}
+use Rattle.rr_parser.specs.Reading.Sequences.{ends_at, ends, row}
+use Rattle.rr_parser.proofs.Told.{Told, told_comma, told_elsif}
+use Rattle.rr_parser.proofs.Looks.{closes, ends_member, is_tail, closing-next, last-next, tail-next, seen, some_what, some_place, seen_as, none_unless, by_next, one_kind, one_place, word-next, other-word, name-next, next-name, separators-next, no_row, no_prefix, next-separators, thens-next, loops-next, target-next, command-next}
 
--- no operator of the levels up to this one comes
+-- How loosely a word goes on with what stands before it: what follows an operand first, then the operators, then the conditions, `?`, the sign of an
+-- assignment, the comma, the words `and` and `or`, the modifiers, and last what goes on with nothing.
+abbrev pub strength : WordKind → ℕ
+strength (kind.Operator o) = 4 * level_of o
+strength kind.Dot = 0
+strength kind.OpenSquare = 0
+strength kind.Minus = 8
+strength kind.And = 20
+strength kind.Or = 24
+strength kind.Question = 25
+strength (kind.Assign q) = 26
+strength kind.Comma = 27
+strength kind.AndWord = 28
+strength kind.OrWord = 28
+strength kind.If = 29
+strength kind.Unless = 29
+strength (kind.Loop until) = 29
+strength _ = 30
+
+abbrev pub strength_in : Option (WordKind × Place) → ℕ
+strength_in None = 30
+strength_in (Some k) = strength k.0
+
+-- what comes goes on with nothing that is as tight as this
 abbrev pub Stops : ℕ → Place → Type 0
-Stops zero z = Unit {0}
-Stops (suc level) z = Stops level z × (at (operator (suc level)) z ≡ None)
+Stops n z = n < strength_in (next z)
+
+pub stops_by : (k : WordKind) (n : ℕ) (z m : Place) → next z ≡ Some (k, m) → n < strength k → Stops n z
+stops_by k n z m e lt = subst (λ (q : ℕ). n < q) (sym (ap strength_in e)) lt
+
+-- what is seen tells how loose the word is
+pub seen_strength : {X : Type 0} (f : WordKind → Option X) (n : ℕ) → ((k : WordKind) (x : X) → f k ≡ Some x → strength k ≡ n) → (s z : Place) (x : X) → at (first_as (λ w. f w.kind)) s ≡ Some (x, z) → strength_in (next s) ≡ n
+seen_strength f n tells s z x e = let w = seen_as (λ w. f w.kind) s z x e in ap strength_in w.here ∙ tells w.kind x w.told
+
+pub unseen : {X : Type 0} (f : WordKind → Option X) (n : ℕ) → ((k : WordKind) (x : X) → f k ≡ Some x → strength k ≡ n) → (s : Place) → Stops n s → at (first_as (λ w. f w.kind)) s ≡ None
+unseen f n tells s stops = none_unless (at (first_as (λ w. f w.kind)) s) (λ x z e. let never : ⊥ = omega (arith, seen_strength f n tells s z x e, stops) in never)
+
+pub word_unseen : (k : WordKind) → Told k → (s : Place) → Stops (strength k) s → at (word k) s ≡ None
+word_unseen k told s stops = none_unless (at (word k) s) (λ u z e. let never : ⊥ = omega (arith, ap strength_in (word-next k told s z u e), stops) in never)
+
+-- ---- operators
 
 no_operator : (b : Bool) (o x : BinaryOperator) → b ≡ false → cond b (Some o) None ≡ Some x → ⊥
 no_operator true o x f e = let never : ⊥ = cc in never
 no_operator false o x f e = let never : ⊥ = cc in never
 
--- an operator has one level
-at_level-apart : (l k : ℕ) (o x : BinaryOperator) → l ≢ k → at_level l o ≡ Some x → at_level k o ≡ None
-at_level-apart l k o x ne e =
-    elim (eqb_tells (level_of o) k) [
-      | inr f ↦ ap (λ b. cond b (Some o) None) f.0
-      | inl t ↦ absurd (elim (eqb_tells (level_of o) l) [ inl u ↦ ne (sym u.1 ∙ t.1) | inr f ↦ no_operator (level_of o == l) o x f.0 e ])
-    ]
+at_level-is : (l : ℕ) (o x : BinaryOperator) → at_level l o ≡ Some x → level_of o ≡ l
+at_level-is l o x e = elim (eqb_tells (level_of o) l) [ inl t ↦ t.1 | inr f ↦ absurd (no_operator (level_of o == l) o x f.0 e) ]
 
-operator_of-apart : (l k : ℕ) (q : WordKind) (x : BinaryOperator) → l ≢ k → operator_of l q ≡ Some x → operator_of k q ≡ None
-operator_of-apart l k (kind.Operator o) x ne e = at_level-apart l k o x ne e
-operator_of-apart l k kind.Minus x ne e = at_level-apart l k op.Subtract x ne e
-operator_of-apart l k _ x ne e = refl
+operator_tells : (l : ℕ) (k : WordKind) (x : BinaryOperator) → operator_of l k ≡ Some x → strength k ≡ 4 * l
+operator_tells l (kind.Operator o) x e = ap (λ n. 4 * n) (at_level-is l o x e)
+operator_tells l kind.Minus x e = ap (λ n. 4 * n) (at_level-is l op.Subtract x e)
+operator_tells l _ x e = absurd cc
 
-pub operator-apart : (l k : ℕ) → l ≢ k → (s z : Place) (x : BinaryOperator) → at (operator l) s ≡ Some (x, z) → at (operator k) s ≡ None
-operator-apart l k ne s z x e =
-    let w = seen_as (λ w. operator_of l w.kind) s z x e in
-    by_next (λ q. at (operator k) q ≡ None) s z w.kind w.here (λ b. ap (λ o. placed z.known (seen_before o z.rest)) (operator_of-apart l k w.kind x ne w.told))
+pub operator_strength : (l : ℕ) (s z : Place) (x : BinaryOperator) → at (operator l) s ≡ Some (x, z) → strength_in (next s) ≡ 4 * l
+operator_strength l = seen_strength (operator_of l) (4 * l) (operator_tells l)
 
--- an operator of a level stops the levels below it
-pub stops_below : (l : ℕ) (k : ℕ) → k < l → (m n : Place) (x : BinaryOperator) → at (operator l) m ≡ Some (x, n) → Stops k m
-stops_below l zero lt m n x e = tt
-stops_below l (suc k) lt m n x e = (stops_below l k (omega arith) m n x e, operator-apart l (suc k) (λ (f : l ≡ suc k). let never : ⊥ = omega arith in never) m n x e)
+pub no_operator_at : (l : ℕ) (s : Place) → Stops (4 * l) s → at (operator l) s ≡ None
+no_operator_at l = unseen (operator_of l) (4 * l) (operator_tells l)
 
--- a word that ends an argument comes, or none
-abbrev pub outer_kind : WordKind → Bool
-outer_kind kind.Close = true
-outer_kind kind.Separator = true
-outer_kind kind.Comma = true
-outer_kind kind.Then = true
-outer_kind kind.Elsif = true
-outer_kind kind.Else = true
-outer_kind kind.End = true
-outer_kind _ = false
+no_connective : (b : Bool) (o x : Connective) → b ≡ false → cond b (Some o) None ≡ Some x → ⊥
+no_connective true o x f e = let never : ⊥ = cc in never
+no_connective false o x f e = let never : ⊥ = cc in never
 
-abbrev pub outer_in : Option (WordKind × Place) → Bool
-outer_in None = true
-outer_in (Some k) = outer_kind k.0
+where_level-is : (w l : ℕ) (o x : Connective) → where_level w l o ≡ Some x → w ≡ l
+where_level-is w l o x e = elim (eqb_tells w l) [ inl t ↦ t.1 | inr f ↦ absurd (no_connective (w == l) o x f.0 e) ]
 
-abbrev pub Outer : Place → Type 0
-Outer z = outer_in (next z) ≡ true
+connective_tells : (l : ℕ) (k : WordKind) (x : Connective) → connective_of l k ≡ Some x → strength k ≡ 16 + 4 * l
+connective_tells l kind.And x e = ap (λ n. 16 + 4 * n) (where_level-is 1 l connectives.And x e)
+connective_tells l kind.Or x e = ap (λ n. 16 + 4 * n) (where_level-is 2 l connectives.Or x e)
+connective_tells l kind.AndWord x e = ap (λ n. 16 + 4 * n) (where_level-is 3 l connectives.And x e)
+connective_tells l kind.OrWord x e = ap (λ n. 16 + 4 * n) (where_level-is 3 l connectives.Or x e)
+connective_tells l _ x e = absurd cc
 
-outer_not : (k : WordKind) (level : ℕ) → outer_kind k ≡ true → operator_of level k ≡ None
-outer_not kind.Close level e = refl
-outer_not kind.Separator level e = refl
-outer_not kind.Comma level e = refl
-outer_not kind.Then level e = refl
-outer_not kind.Elsif level e = refl
-outer_not kind.Else level e = refl
-outer_not kind.End level e = refl
-outer_not _ level e = absurd cc
+pub connective_strength : (l : ℕ) (s z : Place) (x : Connective) → at (connective l) s ≡ Some (x, z) → strength_in (next s) ≡ 16 + 4 * l
+connective_strength l = seen_strength (connective_of l) (16 + 4 * l) (connective_tells l)
 
-outer_no_operator : (level : ℕ) (z : Place) → Outer z → at (operator level) z ≡ None
-outer_no_operator level z e = none_unless (at (operator level) z) (λ x n f.
-    let w = seen_as (λ w. operator_of level w.kind) z n x f in
-    let g : Some x ≡ None = sym w.told ∙ outer_not w.kind level (sym (ap outer_in w.here) ∙ e) in
-    let never : ⊥ = cc in never)
+pub no_connective_at : (l : ℕ) (s : Place) → Stops (16 + 4 * l) s → at (connective l) s ≡ None
+no_connective_at l = unseen (connective_of l) (16 + 4 * l) (connective_tells l)
 
-pub outer_stops : (level : ℕ) (z : Place) → Outer z → Stops level z
-outer_stops zero z e = tt
-outer_stops (suc level) z e = (outer_stops level z e, outer_no_operator (suc level) z e)
+modifier_tells : (k : WordKind) (x : Modifier) → modifier_of k ≡ Some x → strength k ≡ 29
+modifier_tells kind.If x e = refl
+modifier_tells kind.Unless x e = refl
+modifier_tells (kind.Loop until) x e = refl
+modifier_tells _ x e = absurd cc
 
--- a word of this kind ends an argument
-pub outer_by : (k : WordKind) (z n : Place) → next z ≡ Some (k, n) → outer_kind k ≡ true → Outer z
-outer_by k z n e f = ap outer_in e ∙ f
+pub modifier_strength : (s z : Place) (x : Modifier) → at modifier s ≡ Some (x, z) → strength_in (next s) ≡ 29
+modifier_strength = seen_strength modifier_of 29 modifier_tells
 
--- what ends a statement comes
-abbrev pub EndsStatement : Place → Type 0
-EndsStatement z = Outer z × (at comma z ≡ None)
+pub no_modifier_at : (s : Place) → Stops 29 s → at modifier s ≡ None
+no_modifier_at = unseen modifier_of 29 modifier_tells
 
-pub ends_statement_by : (k : WordKind) (z n : Place) → next z ≡ Some (k, n) → outer_kind k ≡ true → is_kind k kind.Comma ≡ false → EndsStatement z
-ends_statement_by k z n e f g = (outer_by k z n e f, other-word kind.Comma k z n e g)
+-- ---- what follows an operand
 
-pub comma_outer : (z n : Place) (u : Unit {0}) → at comma z ≡ Some (u, n) → Outer z
-comma_outer z n u e = outer_by kind.Comma z n (word-next kind.Comma told_comma z n u e) refl
+tail_strong : (k : WordKind) → is_tail k ≡ true → strength k ≡ 0
+tail_strong kind.Dot e = refl
+tail_strong kind.OpenSquare e = refl
+tail_strong _ e = absurd cc
 
-pub separators_end : (z n : Place) (u : Unit {0}) → at separators z ≡ Some (u, n) → EndsStatement z
-separators_end z n u e = let h = separators-next z n u e in ends_statement_by kind.Separator z h.0 h.1 refl refl
+pub tail_strength : (s z : Place) (x : Tail) → at tail s ≡ Some (x, z) → strength_in (next s) ≡ 0
+tail_strength s z x e = let h = tail-next s z x e in ap strength_in h.here ∙ tail_strong h.first h.told
+
+pub no_tail_at : (s : Place) → Stops 0 s → at tail s ≡ None
+no_tail_at s stops = none_unless (at tail s) (λ x z e. let never : ⊥ = omega (arith, tail_strength s z x e, stops) in never)
+
+-- ---- what ends statements
+
+pub comma_strength : (s z : Place) (u : Unit {0}) → at comma s ≡ Some (u, z) → strength_in (next s) ≡ 27
+comma_strength s z u e = ap strength_in (word-next kind.Comma told_comma s z u e)
+
+pub separators_stop : (z n : Place) (u : Unit {0}) → at separators z ≡ Some (u, n) → Stops 29 z
+separators_stop z n u e = let h = separators-next z n u e in stops_by kind.Separator 29 z h.0 h.1 (omega arith)
+
+pub thens_stop : (z n : Place) (u : Unit {0}) → at thens z ≡ Some (u, n) → Stops 28 z
+thens_stop z n u e = elim (thens-next z n u e) [
+  | inl h ↦ stops_by kind.Then 28 z h.0 h.1 (omega arith)
+  | inr h ↦ stops_by kind.Separator 28 z h.0 h.1 (omega arith)
+]
+
+pub loops_stop : (z n : Place) (u : Unit {0}) → at loops z ≡ Some (u, n) → Stops 28 z
+loops_stop z n u e = elim (loops-next z n u e) [
+  | inl h ↦ stops_by kind.Do 28 z h.0 h.1 (omega arith)
+  | inr h ↦ omega (arith, separators_stop z n u h)
+]
 
 -- at the end of statements, behind separators
 abbrev pub BeforeEnd : Place → Type 0
-BeforeEnd z = EndsStatement z × (at row z ≡ None)
+BeforeEnd z = Stops 29 z × (at row z ≡ None)
 
 at_word : (known : Known) (w : Word) (ws : List Word) (k : WordKind) → w.kind ≡ k → ends (cond (is_kind k kind.Separator) (without_separators ws) (w ∷ ws)) ≡ true
     → BeforeEnd (record { known = known; rest = record { kind = k; blank = w.blank } ∷ ws })
 at_word known w ws kind.Separator f e =
     let s : Place = record { known = known; rest = record { kind = kind.Separator; blank = w.blank } ∷ ws } in
     let n : Place = record { known = known; rest = ws } in
-    ((refl, refl), no_row s (skip n) tt (next-separators s n refl) e)
-at_word known w ws kind.Close f e = ((refl, refl), refl)
-at_word known w ws kind.Elsif f e = ((refl, refl), refl)
-at_word known w ws kind.Else f e = ((refl, refl), refl)
-at_word known w ws kind.End f e = ((refl, refl), refl)
+    (omega arith, no_row s (skip n) tt (next-separators s n refl) e)
+at_word known w ws kind.Close f e = (omega arith, refl)
+at_word known w ws kind.CloseBrace f e = (omega arith, refl)
+at_word known w ws kind.Elsif f e = (omega arith, refl)
+at_word known w ws kind.Else f e = (omega arith, refl)
+at_word known w ws kind.End f e = (omega arith, refl)
 at_word known w ws _ f e = let g = sym e ∙ ap ends_at f in absurd cc
 
 before_end : (known : Known) (ws : List Word) → ends (without_separators ws) ≡ true → BeforeEnd (record { known = known; rest = ws })
-before_end known [] e = ((refl, refl), refl)
+before_end known [] e = (omega arith, refl)
 before_end known (w ∷ ws) e = at_word known w ws w.kind refl e
 
 pub ends_behind : (z : Place) → ends (skip z).rest ≡ true → BeforeEnd z
@@ -144,206 +190,423 @@ pub chain_first : {X R S : Type 0} (between : Look X) (first : R → S) (join : 
 chain_first between first join P s z t (one {z = y} {t = u} h) = (u, y, h)
 chain_first between first join P s z t (more {m = m} {l = l} c e h) = chain_first between first join P s m l c
 
-binary_first : (R : Nested) (level : ℕ) (s z : Place) (t : Tree) → Binary R level s t z → (u : Tree) × (y : Place) × Minus R s u y
-binary_first R zero s z t h = (t, z, h)
-binary_first R (suc level) s z t c =
-    let f = chain_first (operator (suc level)) same binary (Binary R level) s z t c in
-    binary_first R level s f.1 f.0 f.2
+-- a word, other than a name, that an operand begins with; but for the minus and the `!`
+abbrev pub opens : WordKind → Bool
+opens (kind.Int n) = true
+opens (kind.Text i) = true
+opens kind.Nil = true
+opens (kind.Truth b) = true
+opens (kind.Symbol x) = true
+opens (kind.Constant x) = true
+opens (kind.Field x) = true
+opens (kind.Global x) = true
+opens kind.Itself = true
+opens kind.Open = true
+opens kind.OpenSquare = true
+opens kind.OpenBrace = true
+opens kind.If = true
+opens kind.Unless = true
+opens (kind.Loop until) = true
+opens _ = false
 
-equality_first : (R : Nested) (s z : Place) (t : Tree) → Equality R s t z → (u : Tree) × (y : Place) × Minus R s u y
-equality_first R s z t (a_comparison h) = binary_first R 3 s z t h
-equality_first R s z t (a_pair {m = m} {l = l} h e g) = binary_first R 3 s m l h
+literal_opens : (k : WordKind) (t : Tree) → literal_of k ≡ Some t → opens k ≡ true
+literal_opens (kind.Int n) t e = refl
+literal_opens (kind.Text i) t e = refl
+literal_opens kind.Nil t e = refl
+literal_opens (kind.Truth b) t e = refl
+literal_opens (kind.Symbol x) t e = refl
+literal_opens (kind.Constant x) t e = refl
+literal_opens (kind.Field x) t e = refl
+literal_opens (kind.Global x) t e = refl
+literal_opens kind.Itself t e = refl
+literal_opens _ t e = absurd cc
 
-primary_starts : (R : Nested) (s z : Place) (t : Tree) → Primary R s t z → ends s.rest ≡ false
-primary_starts R s z t (an_int {n = n} e f) = next_ends s z (kind.Int n) false e refl
-primary_starts R s z t (a_negative {m = m} e f g) = next_ends s m kind.Minus false e refl
-primary_starts R s z t (a_text {i = i} e) = next_ends s z (kind.Text i) false e refl
-primary_starts R s z t (a_nil e) = next_ends s z kind.Nil false e refl
-primary_starts R s z t (a_truth {b = b} e) = next_ends s z (kind.Truth b) false e refl
-primary_starts R s z t (a_local {x = x} e o f) = next_ends s z (kind.Name x) false e refl
-primary_starts R s z t (a_call {x = x} e f g) = next_ends s z (kind.Name x) false e refl
-primary_starts R s z t (a_marked_call {x = x} e) = next_ends s z (kind.Marked x) false e refl
-primary_starts R s z t (a_bare_puts {x = x} e o f g h) = next_ends s z (kind.Name x) false e refl
-primary_starts R s z t (a_puts {m = m} {x = x} e f h g) = next_ends s m (kind.Name x) false e refl
-primary_starts R s z t (a_group {m = m} e h g) = next_ends s m kind.Open false e refl
-primary_starts R s z t (an_if {m = m} e h) = next_ends s m kind.If false e refl
+construct_opens : (k : WordKind) (p : Part) → construct_of k ≡ Some p → opens k ≡ true
+construct_opens kind.Open p e = refl
+construct_opens kind.OpenSquare p e = refl
+construct_opens kind.OpenBrace p e = refl
+construct_opens kind.If p e = refl
+construct_opens kind.Unless p e = refl
+construct_opens (kind.Loop until) p e = refl
+construct_opens _ p e = absurd cc
 
-minus_starts : (R : Nested) (s z : Place) (t : Tree) → Minus R s t z → ends s.rest ≡ false
-minus_starts R s z t (a_minus {m = m} e f h) = next_ends s m kind.Minus false e refl
-minus_starts R s z t (a_primary h) = primary_starts R s z t h
-
-pub argument_starts : (R : Nested) (s z : Place) (t : Tree) → Argument R s t z → ends s.rest ≡ false
-argument_starts R s z t (an_assignment {m = m} {x = x} e f h) = next_ends s m (kind.Name x) false e refl
-argument_starts R s z t (an_equality h) = let f = equality_first R s z t h in minus_starts R s f.1 f.0 f.2
-
-pub statement_starts : (R : Nested) (s z : Place) (t : Tree) → Statement R s t z → ends s.rest ≡ false
-statement_starts R s z t (a_command {m = m} {x = x} e f h) = next_ends s m (kind.Name x) false e refl
-statement_starts R s z t (an_argument h) = argument_starts R s z t h
-
--- ---- a name that begins no command
+-- What an operand begins with.
+pub data First (s : Place) : Type 0 where
+  by_word : {k : WordKind} {m : Place} → next s ≡ Some (k, m) → opens k ≡ true → First s
+  by_integer : {m z : Place} {n : ℕ} → next s ≡ Some (kind.Minus, m) → at joined m ≡ Some (n, z) → First s
+  by_no_command : {m : Place} {x : Sym} → at name s ≡ Some (x, m) → begins_command x m ≡ false → First s
+  by_bang : {m : Place} → next s ≡ Some (kind.Bang, m) → First s
+  by_prefix : {m : Place} → next s ≡ Some (kind.Minus, m) → First s
 
 and_false : (b : Bool) → (b && false) ≡ false
 and_false true = refl
 and_false false = refl
 
-no_operands : (z n : Place) → next z ≡ Some (kind.Assign, n) → begins_operands z.rest ≡ false
-no_operands z n e = by_next (λ q. begins_operands q.rest ≡ false) z n kind.Assign e (λ b. and_false b)
+local_no_command : (x : Sym) (m : Place) → is_local x m ≡ true → begins_command x m ≡ false
+local_no_command x m e = ap (λ b. not b && begins_operands m.rest) e
 
-bracket_told : (x : Sym) (b : Bool) (k : WordKind) (u : Unit {0}) → unless b (where_true (is_puts x && is_kind k kind.Open)) ≡ Some u → (b ≡ false) × (is_puts x ≡ true) × (is_kind k kind.Open ≡ true)
-bracket_told x true k u e = absurd cc
-bracket_told x false k u e = by_tests (is_puts x) (is_kind k kind.Open) refl refl e
+bare_no_command : (x : Sym) (m : Place) → begins_operands m.rest ≡ false → begins_command x m ≡ false
+bare_no_command x m e = ap (λ b. not (is_local x m) && b) e ∙ and_false (not (is_local x m))
+
+bracket_told : (b : Bool) (k : WordKind) (u : Unit {0}) → unless b (where_true (is_kind k kind.Open)) ≡ Some u → is_kind k kind.Open ≡ true
+bracket_told true k u e = absurd cc
+bracket_told false k u e = by_test (is_kind k kind.Open) refl e
   where
-    by_tests : (p o : Bool) → is_puts x ≡ p → is_kind k kind.Open ≡ o → where_true (p && o) ≡ Some u → (false ≡ false) × (is_puts x ≡ true) × (is_kind k kind.Open ≡ true)
-    by_tests true true f g h = (refl, f, g)
-    by_tests true false f g h = absurd cc
-    by_tests false o f g h = absurd cc
+    by_test : (o : Bool) → is_kind k kind.Open ≡ o → where_true o ≡ Some u → is_kind k kind.Open ≡ true
+    by_test true f h = f
+    by_test false f h = absurd cc
 
 -- the bracket that opens arguments has no blank before it
-bracket_no_operands : (x : Sym) (z n : Place) (u : Unit {0}) → at (bracket x) z ≡ Some (u, n) → begins_operands z.rest ≡ false
-bracket_no_operands x z n u e = by_words z.known z.rest e
+bracket_no_operands : (z n : Place) (u : Unit {0}) → at bracket z ≡ Some (u, n) → begins_operands z.rest ≡ false
+bracket_no_operands z n u e = by_words z.known z.rest e
   where
-    by_blank : (b : Bool) (known : Known) (w : Word) (ws : List Word) → w.blank ≡ b → placed known (seen_before (unless b (where_true (is_puts x && is_kind w.kind kind.Open))) ws) ≡ Some (u, n)
+    by_blank : (b : Bool) (known : Known) (w : Word) (ws : List Word) → w.blank ≡ b → placed known (seen_before (unless b (where_true (is_kind w.kind kind.Open))) ws) ≡ Some (u, n)
         → (b && begins_operand w.kind (is_tight ws)) ≡ false
     by_blank true known w ws f h = absurd cc
     by_blank false known w ws f h = refl
 
-    by_words : (known : Known) (ws : List Word) → placed known (bracket x ws) ≡ Some (u, n) → begins_operands ws ≡ false
+    by_words : (known : Known) (ws : List Word) → placed known (bracket ws) ≡ Some (u, n) → begins_operands ws ≡ false
     by_words known [] f = absurd cc
     by_words known (w ∷ ws) f = by_blank w.blank known w ws refl f
 
-bracket_not_assign : (x : Sym) (z n o : Place) (u : Unit {0}) → at (bracket x) z ≡ Some (u, n) → next z ≡ Some (kind.Assign, o) → ⊥
-bracket_not_assign x z n o u e f =
-    let w = seen_as (λ w. unless w.blank (where_true (is_puts x && is_kind w.kind kind.Open))) z n u e in
-    let t = bracket_told x w.blank w.kind u w.told in
-    let k = one_kind z n o w.kind kind.Assign w.here f in
-    let g : false ≡ true = ap (λ q. is_kind q kind.Open) (sym k) ∙ t.2 in
+bracket_not_assign : (z n o : Place) (u : Unit {0}) (sign : Sign) → at bracket z ≡ Some (u, n) → next z ≡ Some (kind.Assign sign, o) → ⊥
+bracket_not_assign z n o u sign e f =
+    let w = seen_as (λ w. unless w.blank (where_true (is_kind w.kind kind.Open))) z n u e in
+    let t = bracket_told w.blank w.kind u w.told in
+    let k = one_kind z n o w.kind (kind.Assign sign) w.here f in
+    let g : false ≡ true = ap (λ q. is_kind q kind.Open) (sym k) ∙ t in
     let never : ⊥ = cc in never
 
--- only `puts` has a bracket of arguments
-pub other_bracket : (x : Sym) (z : Place) → is_puts x ≡ false → at (bracket x) z ≡ None
-other_bracket x z e = none_unless (at (bracket x) z) (λ u n f.
-    let w = seen_as (λ w. unless w.blank (where_true (is_puts x && is_kind w.kind kind.Open))) z n u f in
-    let t = bracket_told x w.blank w.kind u w.told in
-    let g : false ≡ true = sym e ∙ t.1 in
+pub primary_first : (R : Nested) (s z : Place) (t : Tree) → Primary R s t z → First s
+primary_first R s z t (a_literal {k = k} e f) = by_word e (literal_opens k t f)
+primary_first R s z t (a_negative e f g) = by_integer e f
+primary_first R s z t (a_local {x = x} e o f) = by_no_command e (local_no_command x z f)
+primary_first R s z t (a_bare_call {x = x} e o f g) = by_no_command e (bare_no_command x z g)
+primary_first R s z t (a_call {m = m} {n = n} {x = x} {u = u} e f h) = by_no_command e (bare_no_command x m (bracket_no_operands m n u f))
+primary_first R s z t (a_construct {k = k} {p = p} e f h) = by_word e (construct_opens k p f)
+
+open_no_bang : (k : WordKind) → opens k ≡ true → is_kind k kind.Bang ≡ false
+open_no_bang kind.Bang e = absurd cc
+open_no_bang _ e = refl
+
+primary_no_bang : (R : Nested) (s z : Place) (t : Tree) → Primary R s t z → at (word kind.Bang) s ≡ None
+primary_no_bang R s z t (a_literal {k = k} e f) = other-word kind.Bang k s z e (open_no_bang k (literal_opens k t f))
+primary_no_bang R s z t (a_negative {m = m} e f g) = other-word kind.Bang kind.Minus s m e refl
+primary_no_bang R s z t (a_local {x = x} e o f) = let h = name-next s z x e in other-word kind.Bang (kind.Name x h.0) s z h.1 refl
+primary_no_bang R s z t (a_bare_call {x = x} e o f g) = let h = name-next s z x e in other-word kind.Bang (kind.Name x h.0) s z h.1 refl
+primary_no_bang R s z t (a_call {m = m} {x = x} e f g) = let h = name-next s m x e in other-word kind.Bang (kind.Name x h.0) s m h.1 refl
+primary_no_bang R s z t (a_construct {m = m} {k = k} {p = p} e f h) = other-word kind.Bang k s m e (open_no_bang k (construct_opens k p f))
+
+open_no_prefix : (s m : Place) (k : WordKind) → next s ≡ Some (k, m) → opens k ≡ true → at prefix_minus s ≡ None
+open_no_prefix s m kind.Minus e f = absurd cc
+open_no_prefix s m k e f = by_next (λ q. at prefix_minus q ≡ None) s m k e (λ b. refl)
+
+primary_no_prefix : (R : Nested) (s z : Place) (t : Tree) → Primary R s t z → at prefix_minus s ≡ None
+primary_no_prefix R s z t (a_literal {k = k} e f) = open_no_prefix s z k e (literal_opens k t f)
+primary_no_prefix R s z t (a_negative {m = m} {n = n} e f g) = no_prefix s m e n z f
+primary_no_prefix R s z t (a_local {x = x} e o f) = let h = name-next s z x e in by_next (λ q. at prefix_minus q ≡ None) s z (kind.Name x h.0) h.1 (λ b. refl)
+primary_no_prefix R s z t (a_bare_call {x = x} e o f g) = let h = name-next s z x e in by_next (λ q. at prefix_minus q ≡ None) s z (kind.Name x h.0) h.1 (λ b. refl)
+primary_no_prefix R s z t (a_call {m = m} {x = x} e f g) = let h = name-next s m x e in by_next (λ q. at prefix_minus q ≡ None) s m (kind.Name x h.0) h.1 (λ b. refl)
+primary_no_prefix R s z t (a_construct {m = m} {k = k} {p = p} e f h) = open_no_prefix s m k e (construct_opens k p f)
+
+-- the first operand of a trail
+postfix_head : (R : Nested) (s z : Place) (t : Tree) → Postfix R s t z → (u : Tree) × (y : Place) × Primary R s u y
+postfix_head R s z t (at_first h) = (t, z, h)
+postfix_head R s z t (and_then {m = m} {l = l} c e h) = postfix_head R s m l c
+
+pub postfix_no_bang : (R : Nested) (s z : Place) (t : Tree) → Postfix R s t z → at (word kind.Bang) s ≡ None
+postfix_no_bang R s z t h = let p = postfix_head R s z t h in primary_no_bang R s p.1 p.0 p.2
+
+pub bang_no_prefix : (R : Nested) (s z : Place) (t : Tree) → Bang R s t z → at prefix_minus s ≡ None
+bang_no_prefix R s z t (a_bang {m = m} e h) = by_next (λ q. at prefix_minus q ≡ None) s m kind.Bang e (λ b. refl)
+bang_no_prefix R s z t (no_bang h) = let p = postfix_head R s z t h in primary_no_prefix R s p.1 p.0 p.2
+
+minus_first : (R : Nested) (s z : Place) (t : Tree) → Minus R s t z → First s
+minus_first R s z t (a_minus e f h) = by_prefix e
+minus_first R s z t (no_minus (a_bang e h)) = by_bang e
+minus_first R s z t (no_minus (no_bang h)) = let p = postfix_head R s z t h in primary_first R s p.1 p.0 p.2
+
+binary_first : (R : Nested) (level : ℕ) (s z : Place) (t : Tree) → Binary R level s t z → First s
+binary_first R zero s z t h = minus_first R s z t h
+binary_first R (suc level) s z t c =
+    let f = chain_first (operator (suc level)) same binary (Binary R level) s z t c in
+    binary_first R level s f.1 f.0 f.2
+
+logical_first : (R : Nested) (level : ℕ) (s z : Place) (t : Tree) → Logical R level s t z → First s
+logical_first R zero s z t (a_comparison h) = binary_first R 3 s z t h
+logical_first R zero s z t (a_pair {m = m} {l = l} h e g) = binary_first R 3 s m l h
+logical_first R (suc level) s z t c =
+    let f = chain_first (connective (suc level)) same joined_by (Logical R level) s z t c in
+    logical_first R level s f.1 f.0 f.2
+
+pub ternary_first : (R : Nested) (s z : Place) (t : Tree) → Ternary R s t z → First s
+ternary_first R s z t (no_question h) = logical_first R 2 s z t h
+ternary_first R s z t (a_question {m = m} {c = c} h e f g i) = logical_first R 2 s m c h
+
+-- ---- what the first word tells
+
+-- a word that begins a value
+abbrev starts : WordKind → Bool
+starts (kind.Name x b) = true
+starts kind.Minus = true
+starts kind.Bang = true
+starts k = opens k
+
+pub record Starts (s : Place) : Type 0 where
+  pub kind : WordKind
+  pub behind : Place
+  pub here : next s ≡ Some (kind, behind)
+  pub told : starts kind ≡ true
+
+open_starts : (k : WordKind) → opens k ≡ true → starts k ≡ true
+open_starts (kind.Name x b) e = refl
+open_starts kind.Minus e = refl
+open_starts kind.Bang e = refl
+open_starts k e = e
+
+name_starts : (s m : Place) (x : Sym) → at name s ≡ Some (x, m) → Starts s
+name_starts s m x e = let h = name-next s m x e in record { kind = kind.Name x h.0; behind = m; here = h.1; told = refl }
+
+pub first_starts : (s : Place) → First s → Starts s
+first_starts s (by_word {k = k} {m = m} e f) = record { kind = k; behind = m; here = e; told = open_starts k f }
+first_starts s (by_integer {m = m} e f) = record { kind = kind.Minus; behind = m; here = e; told = refl }
+first_starts s (by_no_command {m = m} {x = x} e f) = name_starts s m x e
+first_starts s (by_bang {m = m} e) = record { kind = kind.Bang; behind = m; here = e; told = refl }
+first_starts s (by_prefix {m = m} e) = record { kind = kind.Minus; behind = m; here = e; told = refl }
+
+start_no_end : (k : WordKind) → starts k ≡ true → ends_at k ≡ false
+start_no_end kind.Close e = absurd cc
+start_no_end kind.CloseBrace e = absurd cc
+start_no_end kind.Elsif e = absurd cc
+start_no_end kind.Else e = absurd cc
+start_no_end kind.End e = absurd cc
+start_no_end _ e = refl
+
+pub starts_no_end : (s : Place) → Starts s → ends s.rest ≡ false
+starts_no_end s f = next_ends s f.behind f.kind false f.here (start_no_end f.kind f.told)
+
+start_no_not : (k : WordKind) → starts k ≡ true → is_kind k kind.NotWord ≡ false
+start_no_not kind.NotWord e = absurd cc
+start_no_not _ e = refl
+
+pub starts_no_not : (s : Place) → Starts s → at (word kind.NotWord) s ≡ None
+starts_no_not s f = other-word kind.NotWord f.kind s f.behind f.here (start_no_not f.kind f.told)
+
+start_no_closing : (k : Listed) (q : WordKind) → starts q ≡ true → closes k q ≡ false
+start_no_closing listings.Command q e = refl
+start_no_closing listings.Call kind.Close e = absurd cc
+start_no_closing listings.Call _ e = refl
+start_no_closing listings.Array kind.CloseSquare e = absurd cc
+start_no_closing listings.Array _ e = refl
+start_no_closing listings.Hash kind.CloseBrace e = absurd cc
+start_no_closing listings.Hash _ e = refl
+
+-- where a value begins, no list ends
+pub starts_no_closing : (k : Listed) (s : Place) → Starts s → at (closing k) s ≡ None
+starts_no_closing k s f = none_unless (at (closing k) s) (λ u z e.
+    let c = closing-next k s z u e in
+    let q = one_kind s f.behind z f.kind c.0 f.here c.1 in
+    let g : false ≡ true = sym (start_no_closing k f.kind f.told) ∙ ap (closes k) q ∙ c.2 in
     let never : ⊥ = cc in never)
 
-same_name : (x y : Sym) → kind.Name x ≡ kind.Name y → x ≡ y
-same_name x y e = cc
+pub target_starts : (s z : Place) (x : Aim) → at target s ≡ Some (x, z) → Starts s
+target_starts s z x e = let h = target-next s z x e in record { kind = h.first; behind = h.m; here = h.here; told = target_start h.first x.target h.told }
+  where
+    target_start : (k : WordKind) (x : Target) → target_of_kind k ≡ Some x → starts k ≡ true
+    target_start (kind.Name y b) x f = refl
+    target_start (kind.Field y) x f = refl
+    target_start (kind.Global y) x f = refl
+    target_start _ x f = absurd cc
 
-at_name : (x y : Sym) (m n : Place) → kind.Name x ≡ kind.Name y → m ≡ n → begins_command x m ≡ false → begins_command y n ≡ false
-at_name x y m n e f h = ap (λ q. begins_command q n) (sym (same_name x y e)) ∙ ap (λ q. begins_command x q) (sym f) ∙ h
+pub phrase_starts : (R : Nested) (s z : Place) (t : Tree) → Phrase R s t z → Starts s
+phrase_starts R s z t (by_name (a_command {m = m} {x = x} e h)) = name_starts s m x (command-next s m x e).0
+phrase_starts R s z t (an_operand h) = first_starts s (ternary_first R s z t h)
 
-local_no_command : (x : Sym) (m : Place) → is_local x m ≡ true → begins_command x m ≡ false
-local_no_command x m e = ap (λ b. is_puts x && (not b && begins_operands m.rest)) e ∙ and_false (is_puts x)
+pub assigned_starts : (R : Nested) (commands : Bool) (Q : Place → Tree → Place → Type 0) → ((s z : Place) (t : Tree) → Q s t z → Starts s) → (s z : Place) (t : Tree) → Assigned R commands Q s t z → Starts s
+assigned_starts R commands Q begins s z t (an_assignment {n = n} {x = x} e h) = target_starts s n x e
+assigned_starts R commands Q begins s z t (no_assignment h) = begins s z t h
 
-other_no_command : (x : Sym) (m : Place) → is_puts x ≡ false → begins_command x m ≡ false
-other_no_command x m e = ap (λ b. b && (not (is_local x m) && begins_operands m.rest)) e
+pub argument_starts : (R : Nested) (s z : Place) (t : Tree) → Argument R s t z → Starts s
+argument_starts R = assigned_starts R false (Ternary R) (λ s z t h. first_starts s (ternary_first R s z t h))
 
-bare_no_command : (x : Sym) (m : Place) → begins_operands m.rest ≡ false → begins_command x m ≡ false
-bare_no_command x m e = ap (λ b. is_puts x && (not (is_local x m) && b)) e ∙ ap (λ b. is_puts x && b) (and_false (not (is_local x m))) ∙ and_false (is_puts x)
+-- a label begins a pair, and else a value does
+label_no_closing : (k : Listed) (s m : Place) (x : Sym) → at label s ≡ Some (x, m) → at (closing k) s ≡ None
+label_no_closing k s m x e = none_unless (at (closing k) s) (λ u z f.
+    let c = closing-next k s z u f in
+    let w = seen_as (λ w. label_of_kind w.kind) s m x e in
+    let g : ◌≡◌ {A = Option Sym} None (Some x) = sym (closing_no_label k c.0 c.2) ∙ ap label_of_kind (one_kind s z m c.0 w.kind c.1 w.here) ∙ w.told in
+    let never : ⊥ = cc in never)
+  where
+    closing_no_label : (k : Listed) (q : WordKind) → closes k q ≡ true → label_of_kind q ≡ None
+    closing_no_label k (kind.Label y) f = not_closing k f
+      where
+        not_closing : (k : Listed) → closes k (kind.Label y) ≡ true → ◌≡◌ {A = Option Sym} (Some y) None
+        not_closing listings.Command f = absurd cc
+        not_closing listings.Call f = absurd cc
+        not_closing listings.Array f = absurd cc
+        not_closing listings.Hash f = absurd cc
+    closing_no_label k _ f = refl
 
-primary_no_command : (R : Nested) (s z : Place) (t : Tree) (x : Sym) (m : Place) → Primary R s t z → next s ≡ Some (kind.Name x, m) → begins_command x m ≡ false
-primary_no_command R s z t x m (an_int {n = n} e g) f = let h = one_kind s z m (kind.Int n) (kind.Name x) e f in absurd cc
-primary_no_command R s z t x m (a_negative {m = n} e g h) f = let h = one_kind s n m kind.Minus (kind.Name x) e f in absurd cc
-primary_no_command R s z t x m (a_text {i = i} e) f = let h = one_kind s z m (kind.Text i) (kind.Name x) e f in absurd cc
-primary_no_command R s z t x m (a_nil e) f = let h = one_kind s z m kind.Nil (kind.Name x) e f in absurd cc
-primary_no_command R s z t x m (a_truth {b = b} e) f = let h = one_kind s z m (kind.Truth b) (kind.Name x) e f in absurd cc
-primary_no_command R s z t x m (a_local {x = y} e o g) f = at_name y x z m (one_kind s z m (kind.Name y) (kind.Name x) e f) (one_place s z m (kind.Name y) (kind.Name x) e f) (local_no_command y z g)
-primary_no_command R s z t x m (a_call {x = y} e g h) f = at_name y x z m (one_kind s z m (kind.Name y) (kind.Name x) e f) (one_place s z m (kind.Name y) (kind.Name x) e f) (other_no_command y z g)
-primary_no_command R s z t x m (a_marked_call {x = y} e) f = let h = one_kind s z m (kind.Marked y) (kind.Name x) e f in absurd cc
-primary_no_command R s z t x m (a_bare_puts {x = y} e o g h i) f = at_name y x z m (one_kind s z m (kind.Name y) (kind.Name x) e f) (one_place s z m (kind.Name y) (kind.Name x) e f) (bare_no_command y z i)
-primary_no_command R s z t x m (a_puts {m = n} {n = o} {x = y} {u = u} e g h i) f =
-    at_name y x n m (one_kind s n m (kind.Name y) (kind.Name x) e f) (one_place s n m (kind.Name y) (kind.Name x) e f) (bare_no_command y n (bracket_no_operands y n o u g))
-primary_no_command R s z t x m (a_group {m = n} e g h) f = let h = one_kind s n m kind.Open (kind.Name x) e f in absurd cc
-primary_no_command R s z t x m (an_if {m = n} e g) f = let h = one_kind s n m kind.If (kind.Name x) e f in absurd cc
+pub member_no_closing : (R : Nested) (k : Listed) (s z : Place) (t : Tree) → Member R k s t z → at (closing k) s ≡ None
+member_no_closing R listings.Command s z t h = starts_no_closing listings.Command s (argument_starts R s z t h)
+member_no_closing R listings.Call s z t h = starts_no_closing listings.Call s (argument_starts R s z t h)
+member_no_closing R listings.Array s z t h = starts_no_closing listings.Array s (argument_starts R s z t h)
+member_no_closing R listings.Hash s z t (by_label {m = m} {x = x} e h) = label_no_closing listings.Hash s m x e
+member_no_closing R listings.Hash s z t (by_arrow {m = m} {k = q} h e i) = starts_no_closing listings.Hash s (argument_starts R s m q h)
 
-minus_no_command : (R : Nested) (s z : Place) (t : Tree) (x : Sym) (m : Place) → Minus R s t z → next s ≡ Some (kind.Name x, m) → begins_command x m ≡ false
-minus_no_command R s z t x m (a_minus {m = n} e g h) f = let h = one_kind s n m kind.Minus (kind.Name x) e f in absurd cc
-minus_no_command R s z t x m (a_primary h) f = primary_no_command R s z t x m h f
+start_no_label : (k : WordKind) → starts k ≡ true → label_of_kind k ≡ None
+start_no_label (kind.Label y) e = absurd cc
+start_no_label _ e = refl
 
-pub argument_no_command : (R : Nested) (s z : Place) (t : Tree) (x : Sym) (m : Place) → Argument R s t z → next s ≡ Some (kind.Name x, m) → begins_command x m ≡ false
-argument_no_command R s z t x m (an_assignment {m = n} {n = o} {x = y} e g h) f =
-    let p = one_place s n m (kind.Name y) (kind.Name x) e f in
-    let g' : next m ≡ Some (kind.Assign, o) = subst (λ q. next q ≡ Some (kind.Assign, o)) p g in
-    bare_no_command x m (no_operands m o g')
-argument_no_command R s z t x m (an_equality h) f = let q = equality_first R s z t h in minus_no_command R s q.1 q.0 x m q.2 f
+-- where a value begins, no label stands
+pub starts_no_label : (s : Place) → Starts s → at label s ≡ None
+starts_no_label s f = none_unless (at label s) (λ x z e.
+    let w = seen_as (λ w. label_of_kind w.kind) s z x e in
+    let g : ◌≡◌ {A = Option Sym} None (Some x) = sym (start_no_label f.kind f.told) ∙ ap label_of_kind (one_kind s f.behind z f.kind w.kind f.here w.here) ∙ w.told in
+    let never : ⊥ = cc in never)
 
-pub no_command : (R : Nested) (s z : Place) (t : Tree) → Argument R s t z → at (command s.known) s ≡ None
-no_command R s z t h = none_unless (at (command s.known) s) (λ u m e.
-    let c = command-next s m u e in
-    let g : false ≡ true = sym (argument_no_command R s z t c.0 m h c.1) ∙ c.2 in
+-- what ends a list stops its members
+pub last_stops : (k : Listed) (m z : Place) (u : Unit {0}) → at (last k) m ≡ Some (u, z) → Stops 26 m
+last_stops k m z u e = let h = last-next k m z u e in stops_by h.0 26 m h.1 h.2 (member_stop k h.0 h.3)
+  where
+    member_stop : (k : Listed) (q : WordKind) → ends_member k q ≡ true → 26 < strength q
+    member_stop k kind.Comma f = omega arith
+    member_stop listings.Call kind.Close f = omega arith
+    member_stop listings.Array kind.CloseSquare f = omega arith
+    member_stop listings.Hash kind.CloseBrace f = omega arith
+    member_stop listings.Command _ f = absurd cc
+    member_stop listings.Call _ f = absurd cc
+    member_stop listings.Array _ f = absurd cc
+    member_stop listings.Hash _ f = absurd cc
+
+pub value_starts : (R : Nested) (s z : Place) (t : Tree) → Value R true s t z → Starts s
+value_starts R = assigned_starts R true (Phrase R) (phrase_starts R)
+
+pub negation_starts : (R : Nested) (s z : Place) (t : Tree) → Negation R s t z → ends s.rest ≡ false
+negation_starts R s z t (a_negation {m = m} e h) = next_ends s m kind.NotWord false e refl
+negation_starts R s z t (no_negation h) = starts_no_end s (value_starts R s z t h)
+
+pub statement_starts : (R : Nested) (s z : Place) (t : Tree) → Statement R s t z → ends s.rest ≡ false
+statement_starts R s z t c =
+    let f = chain_first modifier same modified (Expression R) s z t c in
+    let g = chain_first (connective 3) same joined_by (Negation R) s f.1 f.0 f.2 in
+    negation_starts R s g.1 g.0 g.2
+
+-- ---- a name that begins no command
+
+open_no_name : (s m : Place) (k : WordKind) → next s ≡ Some (k, m) → opens k ≡ true → at (command s.known) s ≡ None
+open_no_name s m (kind.Name x b) e f = absurd cc
+open_no_name s m k e f = by_next (λ q. at (command q.known) q ≡ None) s m k e (λ b. refl)
+
+pub first_no_command : (s : Place) → First s → at (command s.known) s ≡ None
+first_no_command s (by_word {k = k} {m = m} e f) = open_no_name s m k e f
+first_no_command s (by_integer {m = m} e f) = by_next (λ q. at (command q.known) q ≡ None) s m kind.Minus e (λ b. refl)
+first_no_command s (by_bang {m = m} e) = by_next (λ q. at (command q.known) q ≡ None) s m kind.Bang e (λ b. refl)
+first_no_command s (by_prefix {m = m} e) = by_next (λ q. at (command q.known) q ≡ None) s m kind.Minus e (λ b. refl)
+first_no_command s (by_no_command {m = m} {x = x} e f) = none_unless (at (command s.known) s) (λ y n g.
+    let c = command-next s n y g in
+    let p : seen x m ≡ seen y n = sym e ∙ c.0 in
+    let h : false ≡ true = sym f ∙ ap (λ q. begins_command q m) (some_what x y m n p) ∙ ap (λ q. begins_command y q) (some_place x y m n p) ∙ c.1 in
     let never : ⊥ = cc in never)
 
 -- ---- a name before the sign of an assignment
 
-abbrev Assigns : Place → Place → Type 0
-Assigns z n = next z ≡ Some (kind.Assign, n)
+no_operands : (z n : Place) (sign : Sign) → next z ≡ Some (kind.Assign sign, n) → begins_operands z.rest ≡ false
+no_operands z n sign e = by_next (λ q. begins_operands q.rest ≡ false) z n (kind.Assign sign) e (λ b. and_false b)
 
-assign_no_operator : (level : ℕ) (z n o : Place) (x : BinaryOperator) → Assigns z n → at (operator level) z ≡ Some (x, o) → ⊥
-assign_no_operator level z n o x e f =
-    let none : at (operator level) z ≡ None = by_next (λ q. at (operator level) q ≡ None) z n kind.Assign e (λ b. refl) in
-    let g : seen x o ≡ None = sym f ∙ none in
-    let never : ⊥ = cc in never
+pub target_no_command : (s n : Place) (x : Aim) → at target s ≡ Some (x, n) → at (command s.known) s ≡ None
+target_no_command s n x e = let h = target-next s n x e in by_kind h.first h.m h.here h.told h.sign
+  where
+    by_kind : (k : WordKind) (m : Place) → next s ≡ Some (k, m) → target_of_kind k ≡ Some x.target → next m ≡ Some (kind.Assign x.sign, n) → at (command s.known) s ≡ None
+    by_kind (kind.Name y b) m f g i = first_no_command s (by_no_command (next-name s m y b f) (bare_no_command y m (no_operands m n x.sign i)))
+    by_kind (kind.Field y) m f g i = open_no_name s m (kind.Field y) f refl
+    by_kind (kind.Global y) m f g i = open_no_name s m (kind.Global y) f refl
+    by_kind _ m f g i = absurd cc
 
-module _ (R : Nested) (s m n : Place) (x : Sym) (named : next s ≡ Some (kind.Name x, m)) (assigns : Assigns m n) where
-  primary_stuck : (z : Place) (t : Tree) → Primary R s t z → Assigns z n
-  primary_stuck z t (an_int {n = i} e g) = let h = one_kind s z m (kind.Int i) (kind.Name x) e named in absurd cc
-  primary_stuck z t (a_negative {m = o} e g h) = let h = one_kind s o m kind.Minus (kind.Name x) e named in absurd cc
-  primary_stuck z t (a_text {i = i} e) = let h = one_kind s z m (kind.Text i) (kind.Name x) e named in absurd cc
-  primary_stuck z t (a_nil e) = let h = one_kind s z m kind.Nil (kind.Name x) e named in absurd cc
-  primary_stuck z t (a_truth {b = b} e) = let h = one_kind s z m (kind.Truth b) (kind.Name x) e named in absurd cc
-  primary_stuck z t (a_local {x = y} e o g) = subst (λ q. Assigns q n) (sym (one_place s z m (kind.Name y) (kind.Name x) e named)) assigns
-  primary_stuck z t (a_call {x = y} e g h) = subst (λ q. Assigns q n) (sym (one_place s z m (kind.Name y) (kind.Name x) e named)) assigns
-  primary_stuck z t (a_marked_call {x = y} e) = let h = one_kind s z m (kind.Marked y) (kind.Name x) e named in absurd cc
-  primary_stuck z t (a_bare_puts {x = y} e o g h i) = subst (λ q. Assigns q n) (sym (one_place s z m (kind.Name y) (kind.Name x) e named)) assigns
-  primary_stuck z t (a_puts {m = o} {n = q} {x = y} {u = u} e g h i) =
-      let p = one_place s o m (kind.Name y) (kind.Name x) e named in
-      absurd (bracket_not_assign y o q n u g (subst (λ v. Assigns v n) (sym p) assigns))
-  primary_stuck z t (a_group {m = o} e g h) = let h = one_kind s o m kind.Open (kind.Name x) e named in absurd cc
-  primary_stuck z t (an_if {m = o} e g) = let h = one_kind s o m kind.If (kind.Name x) e named in absurd cc
+-- the sign of an assignment comes
+abbrev Assigns : Place → Type 0
+Assigns z = strength_in (next z) ≡ 26
 
-  minus_stuck : (z : Place) (t : Tree) → Minus R s t z → Assigns z n
-  minus_stuck z t (a_minus {m = o} e g h) = let h = one_kind s o m kind.Minus (kind.Name x) e named in absurd cc
-  minus_stuck z t (a_primary h) = primary_stuck z t h
+module _ (R : Nested) (s m n : Place) (k : WordKind) (x : Target) (sign : Sign) (here : next s ≡ Some (k, m)) (is_target : target_of_kind k ≡ Some x) (assigns : next m ≡ Some (kind.Assign sign, n)) where
+  by_place : (z : Place) → m ≡ z → Assigns z
+  by_place z e = subst Assigns e (ap strength_in assigns)
 
-  chain_stuck : (level : ℕ) (P : Place → Tree → Place → Type 0) → ((z : Place) (t : Tree) → P s t z → Assigns z n) → (z : Place) (t : Tree) → Chain (operator level) same binary P s t z → Assigns z n
-  chain_stuck level P stuck z t (one {t = u} h) = stuck z u h
-  chain_stuck level P stuck z t (more {m = o} {n = q} {l = l} {x = y} c e h) = absurd (assign_no_operator level o n q y (chain_stuck level P stuck o l c) e)
+  same_word : (q : WordKind) (z : Place) → next s ≡ Some (q, z) → Assigns z
+  same_word q z e = by_place z (one_place s m z k q here e)
 
-  binary_stuck : (level : ℕ) (z : Place) (t : Tree) → Binary R level s t z → Assigns z n
-  binary_stuck zero z t h = minus_stuck z t h
-  binary_stuck (suc level) z t c = chain_stuck (suc level) (Binary R level) (binary_stuck level) z t c
+  -- a target begins no construct
+  no_construct : (q : WordKind) (p : Part) → target_of_kind q ≡ Some x → construct_of q ≡ Some p → ⊥
+  no_construct (kind.Name y b) p e f = let never : ⊥ = cc in never
+  no_construct (kind.Field y) p e f = let never : ⊥ = cc in never
+  no_construct (kind.Global y) p e f = let never : ⊥ = cc in never
+  no_construct _ p e f = let never : ⊥ = cc in never
 
-  equality_stuck : (z : Place) (t : Tree) → Equality R s t z → Assigns z n
-  equality_stuck z t (a_comparison h) = binary_stuck 3 z t h
-  equality_stuck z t (a_pair {m = o} {n = q} {l = l} {o = b} h e g) = absurd (assign_no_operator 4 o n q b (binary_stuck 3 o l h) e)
+  no_word : (q o : WordKind) → target_of_kind q ≡ Some x → q ≡ o → target_of_kind o ≡ None → ⊥
+  no_word q o e f g = let h : ◌≡◌ {A = Option Target} (Some x) None = sym e ∙ ap target_of_kind f ∙ g in let never : ⊥ = cc in never
 
-pub no_target : (R : Nested) (s z : Place) (t : Tree) → Equality R s t z → Outer z → at target s ≡ None
-no_target R s z t h outer = none_unless (at target s) (λ x n e.
+  primary_stuck : (z : Place) (t : Tree) → Primary R s t z → Assigns z
+  primary_stuck z t (a_literal {k = q} e f) = same_word q z e
+  primary_stuck z t (a_negative {m = o} e f g) = absurd (no_word k kind.Minus is_target (one_kind s m o k kind.Minus here e) refl)
+  primary_stuck z t (a_local {x = y} e o f) = let h = name-next s z y e in same_word (kind.Name y h.0) z h.1
+  primary_stuck z t (a_bare_call {x = y} e o f g) = let h = name-next s z y e in same_word (kind.Name y h.0) z h.1
+  primary_stuck z t (a_call {m = o} {n = q} {x = y} {u = u} e f h) =
+      let g = name-next s o y e in
+      absurd (bracket_not_assign o q n u sign f (subst (λ v. next v ≡ Some (kind.Assign sign, n)) (one_place s m o k (kind.Name y g.0) here g.1) assigns))
+  primary_stuck z t (a_construct {m = o} {k = q} {p = p} e f h) = absurd (no_construct k p is_target (ap construct_of (one_kind s m o k q here e) ∙ f))
+
+  postfix_stuck : (z : Place) (t : Tree) → Postfix R s t z → Assigns z
+  postfix_stuck z t (at_first h) = primary_stuck z t h
+  postfix_stuck z t (and_then {m = o} {n = q} {l = l} {x = y} c e h) =
+      let a = postfix_stuck o l c in
+      let never : ⊥ = omega (arith, tail_strength o q y e, a) in absurd never
+
+  minus_stuck : (z : Place) (t : Tree) → Minus R s t z → Assigns z
+  minus_stuck z t (a_minus {m = o} e f h) = absurd (no_word k kind.Minus is_target (one_kind s m o k kind.Minus here e) refl)
+  minus_stuck z t (no_minus (a_bang {m = o} e h)) = absurd (no_word k kind.Bang is_target (one_kind s m o k kind.Bang here e) refl)
+  minus_stuck z t (no_minus (no_bang h)) = postfix_stuck z t h
+
+  -- what is seen at another strength does not come
+  chain_stuck : {X : Type 0} (between : Look X) (w : ℕ) (join : X → Tree → Tree → Tree) (P : Place → Tree → Place → Type 0) → w < 26 → ((o q : Place) (y : X) → at between o ≡ Some (y, q) → strength_in (next o) ≡ w)
+      → ((z : Place) (t : Tree) → P s t z → Assigns z) → (z : Place) (t : Tree) → Chain between same join P s t z → Assigns z
+  chain_stuck between w join P lt tells stuck z t (one {t = u} h) = stuck z u h
+  chain_stuck between w join P lt tells stuck z t (more {m = o} {n = q} {l = l} {x = y} c e h) =
+      let a = chain_stuck between w join P lt tells stuck o l c in
+      let never : ⊥ = omega (arith, tells o q y e, a, lt) in absurd never
+
+  binary_stuck : (level : ℕ) → level ≤ 3 → (z : Place) (t : Tree) → Binary R level s t z → Assigns z
+  binary_stuck zero le z t h = minus_stuck z t h
+  binary_stuck (suc level) le z t c = chain_stuck (operator (suc level)) (4 * suc level) binary (Binary R level) (omega (arith, le)) (operator_strength (suc level)) (binary_stuck level (omega (arith, le))) z t c
+
+  logical_stuck : (level : ℕ) → level ≤ 2 → (z : Place) (t : Tree) → Logical R level s t z → Assigns z
+  logical_stuck zero le z t (a_comparison h) = binary_stuck 3 (omega arith) z t h
+  logical_stuck zero le z t (a_pair {m = o} {n = q} {l = l} {o = b} h e g) =
+      let a = binary_stuck 3 (omega arith) o l h in
+      let never : ⊥ = omega (arith, operator_strength 4 o q b e, a) in absurd never
+  logical_stuck (suc level) le z t c =
+      chain_stuck (connective (suc level)) (16 + 4 * suc level) joined_by (Logical R level) (omega (arith, le)) (connective_strength (suc level)) (logical_stuck level (omega (arith, le))) z t c
+
+  ternary_stuck : (z : Place) (t : Tree) → Ternary R s t z → Assigns z
+  ternary_stuck z t (no_question h) = logical_stuck 2 (omega arith) z t h
+  ternary_stuck z t (a_question {m = o} {n = q} {c = c} h e f g i) =
+      let a = logical_stuck 2 (omega arith) o c h in
+      let never : ⊥ = omega (arith, ap strength_in e, a) in absurd never
+
+pub ternary_no_target : (R : Nested) (s z : Place) (t : Tree) → Ternary R s t z → Stops 26 z → at target s ≡ None
+ternary_no_target R s z t h stops = none_unless (at target s) (λ x n e.
     let k = target-next s n x e in
-    let g = sym (ap outer_in (equality_stuck R s k.0 n x k.1 k.2 z t h)) ∙ outer in
+    let never : ⊥ = omega (arith, ternary_stuck R s k.m n k.first x.target x.sign k.here k.told k.sign z t h, stops) in never)
+
+pub phrase_no_target : (R : Nested) (s z : Place) (t : Tree) → Phrase R s t z → Stops 27 z → at target s ≡ None
+phrase_no_target R s z t (an_operand h) stops = ternary_no_target R s z t h (omega (arith, stops))
+phrase_no_target R s z t (by_name (a_command {m = m} {x = x} e h)) stops = none_unless (at target s) (λ y n f.
+    let g : seen x m ≡ None = sym e ∙ target_no_command s n y f in
     let never : ⊥ = cc in never)
 
--- ---- what stops the lists
-
--- a closing bracket comes
-abbrev pub Closes : Place → Type 0
-Closes z = (y : Place) × (next z ≡ Some (kind.Close, y))
-
-pub no_close : (z : Place) → ends z.rest ≡ false → at (word kind.Close) z ≡ None
-no_close z e = none_unless (at (word kind.Close) z) (λ u n f.
-    let g : true ≡ false = sym (next_ends z n kind.Close true (word-next kind.Close told_close z n u f) refl) ∙ e in
-    let never : ⊥ = cc in never)
+-- ---- what ends branches
 
 -- the word `end` comes
 abbrev pub AtEnd : Place → Type 0
 AtEnd z = (y : Place) × (next z ≡ Some (kind.End, y))
-
-pub thens_end : (z n : Place) (u : Unit {0}) → at thens z ≡ Some (u, n) → EndsStatement z
-thens_end z n u e = elim (thens-next z n u e) [
-  | inl h ↦ ends_statement_by kind.Then z h.0 h.1 refl refl
-  | inr h ↦ ends_statement_by kind.Separator z h.0 h.1 refl refl
-]
 
 pub elsif_ends : (z n : Place) (u : Unit {0}) → at elsif z ≡ Some (u, n) → ends z.rest ≡ true
 elsif_ends z n u e = next_ends z n kind.Elsif true (word-next kind.Elsif told_elsif z n u e) refl

@@ -16,10 +16,6 @@ pub told_comma : Told kind.Comma
 told_comma kind.Comma e = refl
 told_comma _ e = absurd (false≢true e)
 
-pub told_assign : Told kind.Assign
-told_assign kind.Assign e = refl
-told_assign _ e = absurd (false≢true e)
-
 pub told_separator : Told kind.Separator
 told_separator kind.Separator e = refl
 told_separator _ e = absurd (false≢true e)
@@ -43,3 +39,43 @@ told_end _ e = absurd (false≢true e)
 pub told_minus : Told kind.Minus
 told_minus kind.Minus h = refl
 told_minus _ e = absurd (false≢true e)
+
+pub told_bang : Told kind.Bang
+told_bang kind.Bang e = refl
+told_bang _ e = absurd (false≢true e)
+
+pub told_not : Told kind.NotWord
+told_not kind.NotWord e = refl
+told_not _ e = absurd (false≢true e)
+
+pub told_question : Told kind.Question
+told_question kind.Question e = refl
+told_question _ e = absurd (false≢true e)
+
+pub told_colon : Told kind.Colon
+told_colon kind.Colon e = refl
+told_colon _ e = absurd (false≢true e)
+
+pub told_do : Told kind.Do
+told_do kind.Do e = refl
+told_do _ e = absurd (false≢true e)
+
+pub told_dot : Told kind.Dot
+told_dot kind.Dot e = refl
+told_dot _ e = absurd (false≢true e)
+
+pub told_arrow : Told kind.Arrow
+told_arrow kind.Arrow e = refl
+told_arrow _ e = absurd (false≢true e)
+
+pub told_close_square : Told kind.CloseSquare
+told_close_square kind.CloseSquare e = refl
+told_close_square _ e = absurd (false≢true e)
+
+pub told_close_brace : Told kind.CloseBrace
+told_close_brace kind.CloseBrace e = refl
+told_close_brace _ e = absurd (false≢true e)
+
+pub told_open_square : Told kind.OpenSquare
+told_open_square kind.OpenSquare e = refl
+told_open_square _ e = absurd (false≢true e)

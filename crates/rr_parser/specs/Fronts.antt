@@ -1,60 +1,133 @@
 -- Where constructs are begun and not ended: what stands before is spelled, and the innermost has just begun.
-use Rattle.std.specs.Prelude.{◌≡◌, ℕ, zero, suc, List, true, Some, None}
+use Rattle.std.specs.Prelude.{◌≡◌, ℕ, zero, suc, List, Bool, true, false, Some, None}
 use Rattle.rr_base.specs.declared.name.Sym.{Sym}
-use Rattle.rr_tree.specs.declared.node.BinaryOperator.{BinaryOperator}
 use Rattle.rr_tree.specs.Tree.{Tree}
 use Rattle.rr_lexer.specs.declared.kind.Token.{Token}
+use Rattle.rr_parser.specs.declared.word.Tail.{Tail}
+use Rattle.rr_parser.specs.declared.word.Tail.TheVariants as tails
+use Rattle.rr_parser.specs.declared.word.Aim.{Aim}
+use Rattle.rr_parser.specs.declared.word.Listed.{Listed}
+use Rattle.rr_parser.specs.declared.word.Listed.TheVariants as listings
+use Rattle.rr_parser.specs.declared.word.Part.{Part}
+use Rattle.rr_parser.specs.declared.word.Part.TheVariants as parts
+use Rattle.rr_parser.specs.declared.word.WordKind.{WordKind}
 use Rattle.rr_parser.specs.declared.word.WordKind.TheVariants as kind
 use Rattle.rr_parser.specs.Words.{words_of}
-use Rattle.rr_parser.specs.Places.{Place, Look, at, next, skip, separators, start}
+use Rattle.rr_parser.specs.Places.{Place, Look, word, at, next, skip, separators, start}
 use Rattle.rr_parser.specs.Grammar.Nesting.{Nested}
-use Rattle.rr_parser.specs.Grammar.Names.{with_local, bracket, begins_command}
-use Rattle.rr_parser.specs.Grammar.Operands.{joined}
-use Rattle.rr_parser.specs.Grammar.Operators.{operator, Binary}
-use Rattle.rr_parser.specs.Grammar.Calls.{comma, Arguments}
-use Rattle.rr_parser.specs.Grammar.Control.{thens, elsif, Statement, Rows, Branches}
+use Rattle.rr_parser.specs.Grammar.Names.{name, bracket, command}
+use Rattle.rr_parser.specs.Grammar.Operands.{joined, construct_of, tail, Postfix}
+use Rattle.rr_parser.specs.Grammar.Operators.{operator, connective, Binary, Logical}
+use Rattle.rr_parser.specs.Grammar.Calls.{target, with_target, label, comma, Argument, Members}
+use Rattle.rr_parser.specs.Grammar.Sequences.{Expression, Statement, Rows, modifier}
+use Rattle.rr_parser.specs.Grammar.Control.{thens, loops, elsif, Branch, Branches}
 use Rattle.rr_parser.specs.Grammar.{inside, outside}
 
 -- F s z: from s on, as many constructs as F tells are begun, and the innermost begins at z
 pub record Fronts : Type 1 where
-  pub statements : Place → Place → Type 0
+  pub part : Part → Place → Place → Type 0
   pub bracketed : Place → Place → Type 0
-  pub choice : Place → Place → Type 0
-  pub minus : Place → Place → Type 0
-  pub value : Place → Place → Type 0
+  pub value : Bool → Place → Place → Type 0
 
 -- in the first of a chain, or in a later one, where those before it are spelled
 pub data ChainFront {X S : Type 0} (between : Look X) (C : Place → S → Place → Type 0) (F : Place → Place → Type 0) : Place → Place → Type 0 where
   in_one : {s z : Place} → F s z → ChainFront between C F s z
   in_more : {s m n z : Place} {l : S} {x : X} → C s l m → at between m ≡ Some (x, n) → F n z → ChainFront between C F s z
 
-pub data PrimaryFront (F : Fronts) : Place → Place → Type 0 where
-  in_group : {s m z : Place} → next s ≡ Some (kind.Open, m) → F.statements m z → PrimaryFront F s z
-  in_puts : {s m n z : Place} {x : Sym} {u : Unit {0}} → next s ≡ Some (kind.Name x, m) → at (bracket x) m ≡ Some (u, n) → F.bracketed n z → PrimaryFront F s z
-  in_if : {s m z : Place} → next s ≡ Some (kind.If, m) → F.choice m z → PrimaryFront F s z
+-- in what P spells, or behind it and what is seen there
+pub data AcrossFront {X A : Type 0} (look : Look X) (P : Place → A → Place → Type 0) (F G : Place → Place → Type 0) : Place → Place → Type 0 where
+  in_former : {s z : Place} → F s z → AcrossFront look P F G s z
+  in_latter : {s m n z : Place} {a : A} {x : X} → P s a m → at look m ≡ Some (x, n) → G n z → AcrossFront look P F G s z
 
-pub data MinusFront (F : Fronts) : Place → Place → Type 0 where
-  in_minus : {s m z : Place} → next s ≡ Some (kind.Minus, m) → at joined m ≡ None → F.minus m z → MinusFront F s z
-  in_primary : {s z : Place} → PrimaryFront F s z → MinusFront F s z
+-- in what comes first, or in what follows it
+pub data TrailFront {X : Type 0} (look : Look X) (T : Place → Tree → Place → Type 0) (F : Place → Place → Type 0) (G : X → Place → Place → Type 0) : Place → Place → Type 0 where
+  in_head : {s z : Place} → F s z → TrailFront look T F G s z
+  in_tail : {s m n z : Place} {l : Tree} {x : X} → T s l m → at look m ≡ Some (x, n) → G x n z → TrailFront look T F G s z
+
+pub data PrimaryFront (F : Fronts) : Place → Place → Type 0 where
+  in_construct : {s m z : Place} {k : WordKind} {p : Part} → next s ≡ Some (k, m) → construct_of k ≡ Some p → F.part p m z → PrimaryFront F s z
+  in_call : {s m n z : Place} {x : Sym} {u : Unit {0}} → at name s ≡ Some (x, m) → at bracket m ≡ Some (u, n) → F.bracketed n z → PrimaryFront F s z
+
+abbrev pub TailedFront : Fronts → Tail → Place → Place → Type 0
+TailedFront F (tails.Send x) s z = ⊥
+TailedFront F (tails.Call x) s z = F.bracketed s z
+TailedFront F tails.Index s z = F.part parts.Index s z
+
+abbrev pub PostfixFront : Nested → Fronts → Place → Place → Type 0
+PostfixFront N F = TrailFront tail (Postfix N) (PrimaryFront F) (TailedFront F)
+
+pub data BangFront (N : Nested) (F : Fronts) : Place → Place → Type 0 where
+  in_bang : {s m z : Place} → next s ≡ Some (kind.Bang, m) → F.part parts.Bang m z → BangFront N F s z
+  behind_no_bang : {s z : Place} → PostfixFront N F s z → BangFront N F s z
+
+pub data MinusFront (N : Nested) (F : Fronts) : Place → Place → Type 0 where
+  in_minus : {s m z : Place} → next s ≡ Some (kind.Minus, m) → at joined m ≡ None → F.part parts.Minus m z → MinusFront N F s z
+  behind_no_minus : {s z : Place} → BangFront N F s z → MinusFront N F s z
 
 abbrev pub BinaryFront : Nested → Fronts → ℕ → Place → Place → Type 0
-BinaryFront N F zero = MinusFront F
+BinaryFront N F zero = MinusFront N F
 BinaryFront N F (suc level) = ChainFront (operator (suc level)) (Binary N (suc level)) (BinaryFront N F level)
 
-pub data EqualityFront (N : Nested) (F : Fronts) : Place → Place → Type 0 where
-  in_left : {s z : Place} → BinaryFront N F 3 s z → EqualityFront N F s z
-  in_right : {s m n z : Place} {l : Tree} {o : BinaryOperator} → Binary N 3 s l m → at (operator 4) m ≡ Some (o, n) → BinaryFront N F 3 n z → EqualityFront N F s z
+abbrev pub EqualityFront : Nested → Fronts → Place → Place → Type 0
+EqualityFront N F = AcrossFront (operator 4) (Binary N 3) (BinaryFront N F 3) (BinaryFront N F 3)
 
-pub data ArgumentFront (N : Nested) (F : Fronts) : Place → Place → Type 0 where
-  in_value : {s m n z : Place} {x : Sym} → next s ≡ Some (kind.Name x, m) → next m ≡ Some (kind.Assign, n) → F.value (with_local x n) z → ArgumentFront N F s z
-  in_equality : {s z : Place} → EqualityFront N F s z → ArgumentFront N F s z
+abbrev pub LogicalFront : Nested → Fronts → ℕ → Place → Place → Type 0
+LogicalFront N F zero = EqualityFront N F
+LogicalFront N F (suc level) = ChainFront (connective (suc level)) (Logical N (suc level)) (LogicalFront N F level)
 
-abbrev pub ArgumentsFront : Nested → Fronts → Place → Place → Type 0
-ArgumentsFront N F = ChainFront comma (Arguments N) (ArgumentFront N F)
+abbrev pub BranchesOfQuestion : Nested → Fronts → Place → Place → Type 0
+BranchesOfQuestion N F = AcrossFront (word kind.Colon) (N.part parts.Branch) (F.part parts.Branch) (F.part parts.Branch)
 
-pub data StatementFront (N : Nested) (F : Fronts) : Place → Place → Type 0 where
-  in_command : {s m z : Place} {x : Sym} → next s ≡ Some (kind.Name x, m) → begins_command x m ≡ true → ArgumentsFront N F m z → StatementFront N F s z
-  in_argument : {s z : Place} → ArgumentFront N F s z → StatementFront N F s z
+abbrev pub TernaryFront : Nested → Fronts → Place → Place → Type 0
+TernaryFront N F = AcrossFront (word kind.Question) (Logical N 2) (LogicalFront N F 2) (BranchesOfQuestion N F)
+
+pub data AssignedFront (F : Fronts) (commands : Bool) (G : Place → Place → Type 0) : Place → Place → Type 0 where
+  in_value : {s n z : Place} {x : Aim} → at target s ≡ Some (x, n) → F.value commands (with_target x.target n) z → AssignedFront F commands G s z
+  in_operand : {s z : Place} → G s z → AssignedFront F commands G s z
+
+abbrev pub ArgumentFront : Nested → Fronts → Place → Place → Type 0
+ArgumentFront N F = AssignedFront F false (TernaryFront N F)
+
+pub data PairFront (N : Nested) (F : Fronts) : Place → Place → Type 0 where
+  behind_label : {s m z : Place} {x : Sym} → at label s ≡ Some (x, m) → ArgumentFront N F m z → PairFront N F s z
+  in_entry : {s z : Place} → AcrossFront (word kind.Arrow) (Argument N) (ArgumentFront N F) (ArgumentFront N F) s z → PairFront N F s z
+
+abbrev pub MemberFront : Nested → Fronts → Listed → Place → Place → Type 0
+MemberFront N F listings.Command = ArgumentFront N F
+MemberFront N F listings.Call = ArgumentFront N F
+MemberFront N F listings.Array = ArgumentFront N F
+MemberFront N F listings.Hash = PairFront N F
+
+abbrev pub MembersFront : Nested → Fronts → Listed → Place → Place → Type 0
+MembersFront N F k = ChainFront comma (Members N k) (MemberFront N F k)
+
+pub data CommandedFront (N : Nested) (F : Fronts) : Place → Place → Type 0 where
+  in_arguments : {s z : Place} → MembersFront N F listings.Command s z → CommandedFront N F s z
+  in_argument_command : {s m z : Place} {x : Sym} → at (command s.known) s ≡ Some (x, m) → F.part parts.Command s z → CommandedFront N F s z
+
+pub data CommandFront (N : Nested) (F : Fronts) : Place → Place → Type 0 where
+  behind_name : {s m z : Place} {x : Sym} → at (command s.known) s ≡ Some (x, m) → CommandedFront N F m z → CommandFront N F s z
+
+pub data PhraseFront (N : Nested) (F : Fronts) : Place → Place → Type 0 where
+  in_command : {s z : Place} → CommandFront N F s z → PhraseFront N F s z
+  in_plain : {s z : Place} → TernaryFront N F s z → PhraseFront N F s z
+
+abbrev pub OperandFront : Nested → Fronts → Bool → Place → Place → Type 0
+OperandFront N F false = TernaryFront N F
+OperandFront N F true = PhraseFront N F
+
+abbrev pub ValueFront : Nested → Fronts → Bool → Place → Place → Type 0
+ValueFront N F commands = AssignedFront F commands (OperandFront N F commands)
+
+pub data NegationFront (N : Nested) (F : Fronts) : Place → Place → Type 0 where
+  in_negation : {s m z : Place} → next s ≡ Some (kind.NotWord, m) → F.part parts.Not m z → NegationFront N F s z
+  behind_no_negation : {s z : Place} → ValueFront N F true s z → NegationFront N F s z
+
+abbrev pub ExpressionFront : Nested → Fronts → Place → Place → Type 0
+ExpressionFront N F = ChainFront (connective 3) (Expression N) (NegationFront N F)
+
+abbrev pub StatementFront : Nested → Fronts → Place → Place → Type 0
+StatementFront N F = ChainFront modifier (Statement N) (ExpressionFront N F)
 
 abbrev pub RowsFront : Nested → Fronts → Place → Place → Type 0
 RowsFront N F = ChainFront separators (Rows N) (StatementFront N F)
@@ -62,38 +135,42 @@ RowsFront N F = ChainFront separators (Rows N) (StatementFront N F)
 abbrev pub StatementsFront : Nested → Fronts → Place → Place → Type 0
 StatementsFront N F s z = RowsFront N F (skip s) z
 
-pub data BranchFront (N : Nested) (F : Fronts) : Place → Place → Type 0 where
-  in_condition : {s z : Place} → StatementFront N F s z → BranchFront N F s z
-  in_body : {s m n z : Place} {c : Tree} {u : Unit {0}} → Statement N s c m → at thens m ≡ Some (u, n) → StatementsFront N F n z → BranchFront N F s z
+abbrev pub BranchFront : Nested → Fronts → Place → Place → Type 0
+BranchFront N F = AcrossFront thens (Expression N) (ExpressionFront N F) (StatementsFront N F)
 
 abbrev pub BranchesFront : Nested → Fronts → Place → Place → Type 0
 BranchesFront N F = ChainFront elsif (Branches N) (BranchFront N F)
 
-pub data ChoiceFront (N : Nested) (F : Fronts) : Place → Place → Type 0 where
-  in_branches : {s z : Place} → BranchesFront N F s z → ChoiceFront N F s z
-  in_else : {s m n z : Place} {l : List (Tree × Tree)} → Branches N s l m → next m ≡ Some (kind.Else, n) → StatementsFront N F n z → ChoiceFront N F s z
+-- in one part of a construct, or in what is done otherwise
+abbrev pub EndedFront : {A : Type 0} → Nested → Fronts → (Place → A → Place → Type 0) → (Place → Place → Type 0) → Place → Place → Type 0
+EndedFront N F P G = AcrossFront (word kind.Else) P G (StatementsFront N F)
+
+abbrev pub LoopFront : Nested → Fronts → Place → Place → Type 0
+LoopFront N F = AcrossFront loops (Expression N) (ExpressionFront N F) (StatementsFront N F)
+
+abbrev pub PartFront : Nested → Fronts → Part → Place → Place → Type 0
+PartFront N F parts.Group = StatementsFront N F
+PartFront N F parts.Choice = EndedFront N F (Branches N) (BranchesFront N F)
+PartFront N F parts.Unless = EndedFront N F (Branch N) (BranchFront N F)
+PartFront N F (parts.Loop until) = LoopFront N F
+PartFront N F parts.Array = MembersFront N F listings.Array
+PartFront N F parts.Hash = MembersFront N F listings.Hash
+PartFront N F parts.Index = ArgumentFront N F
+PartFront N F parts.Minus = MinusFront N F
+PartFront N F parts.Bang = BangFront N F
+PartFront N F parts.Not = NegationFront N F
+PartFront N F parts.Command = CommandFront N F
+PartFront N F parts.Branch = ArgumentFront N F
 
 -- Inside the right side of an assignment so many constructs more are begun, and then one that has just begun.
 unfoldable pub fronts_inside : ℕ → Fronts
-fronts_inside zero = record { statements = λ s z. s ≡ z; bracketed = λ s z. s ≡ z; choice = λ s z. s ≡ z; minus = λ s z. s ≡ z; value = λ s z. s ≡ z }
-fronts_inside (suc d) = record {
-  statements = StatementsFront (inside d) (fronts_inside d);
-  bracketed = ArgumentsFront (inside d) (fronts_inside d);
-  choice = ChoiceFront (inside d) (fronts_inside d);
-  minus = MinusFront (fronts_inside d);
-  value = ArgumentFront (inside d) (fronts_inside d);
-}
+fronts_inside zero = record { part = λ p s z. s ≡ z; bracketed = λ s z. s ≡ z; value = λ b s z. s ≡ z }
+fronts_inside (suc d) = record { part = PartFront (inside d) (fronts_inside d); bracketed = MembersFront (inside d) (fronts_inside d) listings.Call; value = ValueFront (inside d) (fronts_inside d) }
 
 -- The same outside of all right sides. A right side there does not count.
 unfoldable pub fronts_outside : ℕ → Fronts
-fronts_outside zero = record { statements = λ s z. s ≡ z; bracketed = λ s z. s ≡ z; choice = λ s z. s ≡ z; minus = λ s z. s ≡ z; value = ArgumentFront (inside zero) (fronts_inside zero) }
-fronts_outside (suc d) = record {
-  statements = StatementsFront (outside d) (fronts_outside d);
-  bracketed = ArgumentsFront (outside d) (fronts_outside d);
-  choice = ChoiceFront (outside d) (fronts_outside d);
-  minus = MinusFront (fronts_outside d);
-  value = ArgumentFront (inside (suc d)) (fronts_inside (suc d));
-}
+fronts_outside zero = record { part = λ p s z. s ≡ z; bracketed = λ s z. s ≡ z; value = ValueFront (inside zero) (fronts_inside zero) }
+fronts_outside (suc d) = record { part = PartFront (outside d) (fronts_outside d); bracketed = MembersFront (outside d) (fronts_outside d) listings.Call; value = ValueFront (inside (suc d)) (fronts_inside (suc d)) }
 
 -- from the first word on, more constructs than the number are begun at some place and not ended there
 abbrev pub NestsBeyond : ℕ → List ℕ → List Token → Type 0

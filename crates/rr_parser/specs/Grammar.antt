@@ -1,31 +1,51 @@
 -- The grammar: a relation between the place before a construct, its tree, and the place behind it.
-use Rattle.std.specs.Prelude.{◌≡◌, ℕ, zero, suc, List, []}
+use Rattle.std.specs.Prelude.{◌≡◌, ℕ, zero, suc, false, List, []}
 use Rattle.rr_tree.specs.Tree.{Tree}
 use Rattle.rr_lexer.specs.declared.kind.Token.{Token}
+use Rattle.rr_parser.specs.declared.word.Part.{Part}
+use Rattle.rr_parser.specs.declared.word.Part.TheVariants as parts
+use Rattle.rr_parser.specs.declared.word.Listed.TheVariants as listings
 use Rattle.rr_parser.specs.declared.word.Word.{Word}
 use Rattle.rr_parser.specs.Words.{words_of}
 use Rattle.rr_parser.specs.Places.{Place, start}
 use Rattle.rr_parser.specs.Grammar.Nesting.{Nested}
-use Rattle.rr_parser.specs.Grammar.Operands.{Minus}
-use Rattle.rr_parser.specs.Grammar.Calls.{Argument, Bracketed}
-use Rattle.rr_parser.specs.Grammar.Control.{Statements, Choice}
+use Rattle.rr_parser.specs.Grammar.Operands.{Bang, Minus}
+use Rattle.rr_parser.specs.Grammar.Calls.{Argument, Array, Hash, Index, Bracketed, Command, Value}
+use Rattle.rr_parser.specs.Grammar.Sequences.{Negation, Statements, Group}
+use Rattle.rr_parser.specs.Grammar.Control.{Choice, Unless, Loop}
 pub mod Chains
 pub mod Nesting
 pub mod Names
 pub mod Operands
 pub mod Operators
 pub mod Calls
+pub mod Sequences
 pub mod Control
+
+-- what each part is
+abbrev pub PartOf : Nested → Part → Place → Tree → Place → Type 0
+PartOf N parts.Group = Group N
+PartOf N parts.Array = Array N
+PartOf N parts.Hash = Hash N
+PartOf N parts.Index = Index N
+PartOf N parts.Choice = Choice N
+PartOf N parts.Unless = Unless N
+PartOf N (parts.Loop until) = Loop N until
+PartOf N parts.Minus = Minus N
+PartOf N parts.Bang = Bang N
+PartOf N parts.Not = Negation N
+PartOf N parts.Command = Command N
+PartOf N parts.Branch = Argument N
 
 -- What nests no deeper than a number inside the right side of an assignment. There, each further right side counts.
 unfoldable pub inside : ℕ → Nested
-inside zero = record { statements = λ s t z. ⊥; bracketed = λ s l z. ⊥; choice = λ s t z. ⊥; minus = λ s t z. ⊥; value = λ s t z. ⊥ }
-inside (suc d) = record { statements = Statements (inside d); bracketed = Bracketed (inside d); choice = Choice (inside d); minus = Minus (inside d); value = Argument (inside d) }
+inside zero = record { part = λ p s t z. ⊥; bracketed = λ s l z. ⊥; value = λ b s t z. ⊥ }
+inside (suc d) = record { part = PartOf (inside d); bracketed = Bracketed (inside d) listings.Call; value = Value (inside d) }
 
 -- The same outside of all right sides. A right side there does not count.
 unfoldable pub outside : ℕ → Nested
-outside zero = record { statements = λ s t z. ⊥; bracketed = λ s l z. ⊥; choice = λ s t z. ⊥; minus = λ s t z. ⊥; value = Argument (inside zero) }
-outside (suc d) = record { statements = Statements (outside d); bracketed = Bracketed (outside d); choice = Choice (outside d); minus = Minus (outside d); value = Argument (inside (suc d)) }
+outside zero = record { part = λ p s t z. ⊥; bracketed = λ s l z. ⊥; value = Value (inside zero) }
+outside (suc d) = record { part = PartOf (outside d); bracketed = Bracketed (outside d) listings.Call; value = Value (inside (suc d)) }
 
 -- the words spell the tree, with constructs nested no deeper than a number
 abbrev pub WordsSpell : ℕ → List Word → Tree → Type 0

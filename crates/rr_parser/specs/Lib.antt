@@ -3,6 +3,7 @@ pub mod Numbering
 pub mod Places
 pub mod Grammar
 pub mod Reading
+pub mod Variables
 pub mod Meets
 pub mod Faults
 pub mod Fronts

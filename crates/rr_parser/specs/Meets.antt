@@ -1,5 +1,5 @@
 -- What the code owes to reading.
-use Rattle.std.specs.Prelude.{◌≡◌, ℕ, ◌<◌, ◌||◌, ◌==◌, Bool, false, List, [], ◌∷◌, ◌++◌, length, map, get_or, All, Vec, Option, Some, None, Result, Ok, Err}
+use Rattle.std.specs.Prelude.{◌≡◌, ℕ, ◌<◌, List, [], ◌∷◌, ◌++◌, length, map, All, Vec, Option, Some, None, Result, Ok, Err}
 use Rattle.std.specs.declared.alloc.Global.{Global}
 use Rattle.std.specs.Borrow.{Bor}
 use Rattle.rr_base.specs.declared.name.Sym.{Sym}
@@ -11,14 +11,14 @@ use Rattle.rr_parser.specs.declared.refusal.Refusal.{Refusal}
 use Rattle.rr_parser.specs.declared.refusal.Refusal.TheVariants as refusal
 use Rattle.rr_parser.specs.declared.parser.Parser.{Parser}
 use Rattle.rr_parser.specs.Places.{Known, Place}
+use Rattle.rr_parser.specs.Variables.{known_in}
+use Rattle.rr_parser.specs.Grammar.Names.{or_zero, with_variable}
+use Rattle.rr_parser.specs.Grammar.Calls.{with_target, target_slot}
+use Rattle.rr_parser.specs.declared.word.Target.{Target}
 use Rattle.rr_parser.specs.Reading.Answers.{Answer, Refused, wrong, deep}
 
--- the names that are known as local variables
-abbrev pub locals_of : List Bool → ℕ → Bool
-locals_of known x = get_or known x false
-
 abbrev pub known_of : Parser → Known
-known_of p = record { locals = locals_of p.known.items }
+known_of p = known_in p.known
 
 abbrev pub place : Parser → List Word → Place
 place p ws = record { known = known_of p; rest = ws }
@@ -72,19 +72,26 @@ GivesPairs old new (Err e) read = Fails e read
 pub record Appends (old new : Parser) (n : Node) (id : ℕ) : Type 0 where
   pub at : id ≡ length old.nodes.items
   pub nodes : new.nodes.items ≡ old.nodes.items ++ n ∷ []
-  pub known : new.known.items ≡ old.known.items
+  pub known : new.known ≡ old.known
 
 -- A node that stands for this tree was put behind the others.
 pub record Puts (old new : Parser) (t : Tree) (id : ℕ) : Type 0 where
   pub there : id < length new.nodes.items
   pub tree : tree_at new.nodes.items id ≡ t
   pub kept : Extends old.nodes.items new.nodes.items
-  pub known : new.known.items ≡ old.known.items
+  pub known : new.known ≡ old.known
 
--- A name became a local variable.
-pub record Marks (old new : Parser) (x : Sym) : Type 0 where
+-- A name became a local variable, with this number.
+pub record Marks (old new : Parser) (x : Sym) (i : ℕ) : Type 0 where
   pub nodes : new.nodes.items ≡ old.nodes.items
-  pub known : (y : ℕ) → locals_of new.known.items y ≡ (y == x.0 || locals_of old.known.items y)
+  pub known : known_of new ≡ with_variable (known_of old) x.0 ((known_of old).slots x.0)
+  pub slot : i ≡ or_zero ((known_of new).slots x.0)
+
+-- A target became known, with this number where it is a local variable.
+pub record Aims (old new : Parser) (x : Target) (i : ℕ) : Type 0 where
+  pub nodes : new.nodes.items ≡ old.nodes.items
+  pub known : (ws : List Word) → place new ws ≡ with_target x (place old ws)
+  pub slot : (ws : List Word) → target_slot x (place new ws) ≡ i
 
 -- what was seen first, and the words behind it
 abbrev pub Sees : {A : Type 0} → Option (A × Bor (List Word)) → Option (A × List Word) → Type 0

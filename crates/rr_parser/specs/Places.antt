@@ -5,9 +5,11 @@ use Rattle.rr_parser.specs.declared.word.WordKind.TheVariants as kind
 use Rattle.rr_parser.specs.declared.word.Word.{Word}
 use Rattle.rr_parser.specs.contracts.word.WordKindPartialEq.TheImpl as kind_equality
 
--- what is known at a place: which names are local variables there, by number
+-- what is known at a place: by the numbers of names, the local variables there, each with its own number; and how many
+-- there are
 pub record Known : Type 0 where
-  pub locals : ℕ → Bool
+  pub slots : ℕ → Option ℕ
+  pub count : ℕ
 
 -- what is known there, and the words that are left
 pub record Place : Type 0 where
@@ -68,7 +70,7 @@ abbrev pub next : Place → Option (WordKind × Place)
 next s = at any_word s
 
 abbrev pub start : List Word → Place
-start ws = record { known = record { locals = λ x. false }; rest = ws }
+start ws = record { known = record { slots = λ x. None; count = 0 }; rest = ws }
 
 -- ---- separators
 

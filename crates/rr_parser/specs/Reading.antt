@@ -1,39 +1,46 @@
 -- Reading from left to right, as a function of the place.
 use Rattle.std.specs.Prelude.{ℕ, zero, suc, List, [], ◌∷◌, Bool, true, false, Result, Ok, Err}
 use Rattle.rr_tree.specs.Tree.{Tree}
+use Rattle.rr_parser.specs.declared.word.Part.{Part}
+use Rattle.rr_parser.specs.declared.word.Part.TheVariants as parts
+use Rattle.rr_parser.specs.declared.word.Listed.TheVariants as listings
 use Rattle.rr_parser.specs.declared.word.Word.{Word}
 use Rattle.rr_parser.specs.Places.{start}
-use Rattle.rr_parser.specs.Reading.Answers.{◌>>=◌, Refused, wrong, deep}
+use Rattle.rr_parser.specs.Reading.Answers.{◌>>=◌, Refused, wrong, deep, Parse}
 use Rattle.rr_parser.specs.Reading.Nesting.{Readers}
-use Rattle.rr_parser.specs.Reading.Operands.{minus_of}
-use Rattle.rr_parser.specs.Reading.Calls.{argument_of, bracketed_of}
-use Rattle.rr_parser.specs.Reading.Control.{statements_of, choice_of}
+use Rattle.rr_parser.specs.Reading.Operands.{bang_of, minus_of}
+use Rattle.rr_parser.specs.Reading.Calls.{argument_of, bracketed_of, array_of, hash_of, index_of, command_of, value_of}
+use Rattle.rr_parser.specs.Reading.Sequences.{negation_of, statements_of, group_of}
+use Rattle.rr_parser.specs.Reading.Control.{choice_of, unless_of, loop_of}
 pub mod Answers
 pub mod Nesting
 pub mod Operands
 pub mod Operators
 pub mod Calls
+pub mod Sequences
 pub mod Control
 
+abbrev pub part_of : Readers → Part → Parse Tree
+part_of N parts.Group = group_of N
+part_of N parts.Array = array_of N
+part_of N parts.Hash = hash_of N
+part_of N parts.Index = index_of N
+part_of N parts.Choice = choice_of N
+part_of N parts.Unless = unless_of N
+part_of N (parts.Loop until) = loop_of N until
+part_of N parts.Minus = minus_of N
+part_of N parts.Bang = bang_of N
+part_of N parts.Not = negation_of N
+part_of N parts.Command = command_of N
+part_of N parts.Branch = argument_of N
+
 unfoldable pub readers_inside : ℕ → Readers
-readers_inside zero = record { statements = λ s. Err deep; bracketed = λ s. Err deep; choice = λ s. Err deep; minus = λ s. Err deep; value = λ s. Err deep }
-readers_inside (suc d) = record {
-  statements = statements_of (readers_inside d);
-  bracketed = bracketed_of (readers_inside d);
-  choice = choice_of (readers_inside d);
-  minus = minus_of (readers_inside d);
-  value = argument_of (readers_inside d);
-}
+readers_inside zero = record { part = λ p s. Err deep; bracketed = λ s. Err deep; value = λ b s. Err deep }
+readers_inside (suc d) = record { part = part_of (readers_inside d); bracketed = bracketed_of (readers_inside d) listings.Call; value = value_of (readers_inside d) }
 
 unfoldable pub readers_outside : ℕ → Readers
-readers_outside zero = record { statements = λ s. Err deep; bracketed = λ s. Err deep; choice = λ s. Err deep; minus = λ s. Err deep; value = argument_of (readers_inside zero) }
-readers_outside (suc d) = record {
-  statements = statements_of (readers_outside d);
-  bracketed = bracketed_of (readers_outside d);
-  choice = choice_of (readers_outside d);
-  minus = minus_of (readers_outside d);
-  value = argument_of (readers_inside (suc d));
-}
+readers_outside zero = record { part = λ p s. Err deep; bracketed = λ s. Err deep; value = value_of (readers_inside zero) }
+readers_outside (suc d) = record { part = part_of (readers_outside d); bracketed = bracketed_of (readers_outside d) listings.Call; value = value_of (readers_inside (suc d)) }
 
 -- inside the right side of an assignment or not, with constructs nested no deeper than a number
 abbrev pub readers : Bool → ℕ → Readers

@@ -1,5 +1,5 @@
 -- Words from tokens, with names and texts by number.
-use Rattle.std.specs.Prelude.{ℕ, ◌-◌, ◌==◌, ◌||◌, Bool, List, [], ◌∷◌, ◌++◌, true, false, Option, Some, None, length, fold, codes, bytes_eq, slice_index, if◌then◌else◌}
+use Rattle.std.specs.Prelude.{ℕ, ◌-◌, ◌==◌, ◌||◌, Bool, List, [], ◌∷◌, ◌++◌, true, false, Option, Some, None, length, fold, bytes_eq, slice_index, if◌then◌else◌}
 use Rattle.std.specs.List.{list_any, position_or_len}
 use Rattle.rr_base.specs.declared.name.Sym.{Sym}
 use Rattle.rr_lexer.specs.declared.kind.Kind.{Kind}
@@ -9,8 +9,11 @@ use Rattle.rr_lexer.specs.declared.kind.Keyword.TheVariants as keywords
 use Rattle.rr_lexer.specs.declared.kind.Op.{Op}
 use Rattle.rr_lexer.specs.declared.kind.Op.TheVariants as ops
 use Rattle.rr_lexer.specs.declared.kind.Token.{Token}
-use Rattle.rr_lexer.specs.Contents.{word_of, int_value_of, contents_of}
+use Rattle.rr_lexer.specs.Contents.{word_of, name_of, int_value_of, contents_of}
 use Rattle.rr_tree.specs.declared.node.BinaryOperator.TheVariants as op
+use Rattle.rr_parser.specs.declared.word.Connective.TheVariants as connectives
+use Rattle.rr_parser.specs.declared.word.Operation.TheVariants as operations
+use Rattle.rr_parser.specs.declared.word.Sign.TheVariants as signs
 use Rattle.rr_parser.specs.declared.word.WordKind.{WordKind}
 use Rattle.rr_parser.specs.declared.word.WordKind.TheVariants as kind
 use Rattle.rr_parser.specs.declared.word.Word.{Word}
@@ -19,7 +22,15 @@ abbrev pub keyword_kind : Keyword → WordKind
 keyword_kind keywords.Nil = kind.Nil
 keyword_kind keywords.True = kind.Truth true
 keyword_kind keywords.False = kind.Truth false
+keyword_kind keywords.SelfWord = kind.Itself
 keyword_kind keywords.If = kind.If
+keyword_kind keywords.Unless = kind.Unless
+keyword_kind keywords.While = kind.Loop false
+keyword_kind keywords.Until = kind.Loop true
+keyword_kind keywords.Do = kind.Do
+keyword_kind keywords.And = kind.AndWord
+keyword_kind keywords.Or = kind.OrWord
+keyword_kind keywords.Not = kind.NotWord
 keyword_kind keywords.Then = kind.Then
 keyword_kind keywords.Elsif = kind.Elsif
 keyword_kind keywords.Else = kind.Else
@@ -29,9 +40,20 @@ keyword_kind _ = kind.Other
 abbrev pub op_kind : Op → WordKind
 op_kind ops.Open = kind.Open
 op_kind ops.Close = kind.Close
+op_kind ops.OpenSquare = kind.OpenSquare
+op_kind ops.CloseSquare = kind.CloseSquare
+op_kind ops.Dot = kind.Dot
+op_kind ops.Arrow = kind.Arrow
 op_kind ops.Comma = kind.Comma
 op_kind ops.Semicolon = kind.Separator
-op_kind ops.Assign = kind.Assign
+op_kind ops.Assign = kind.Assign signs.Plain
+op_kind ops.PlusAssign = kind.Assign (signs.With (operations.Binary op.Add))
+op_kind ops.MinusAssign = kind.Assign (signs.With (operations.Binary op.Subtract))
+op_kind ops.StarAssign = kind.Assign (signs.With (operations.Binary op.Multiply))
+op_kind ops.SlashAssign = kind.Assign (signs.With (operations.Binary op.Divide))
+op_kind ops.PercentAssign = kind.Assign (signs.With (operations.Binary op.Remainder))
+op_kind ops.OrAssign = kind.Assign (signs.With (operations.Connective connectives.Or))
+op_kind ops.AndAssign = kind.Assign (signs.With (operations.Connective connectives.And))
 op_kind ops.Minus = kind.Minus
 op_kind ops.Plus = kind.Operator op.Add
 op_kind ops.Star = kind.Operator op.Multiply
@@ -44,19 +66,33 @@ op_kind ops.GreaterOrEqual = kind.Operator op.GreaterOrEqual
 op_kind ops.Compare = kind.Operator op.Compare
 op_kind ops.Equal = kind.Operator op.Equal
 op_kind ops.NotEqual = kind.Operator op.NotEqual
+op_kind ops.And = kind.And
+op_kind ops.Or = kind.Or
+op_kind ops.Bang = kind.Bang
+op_kind ops.Question = kind.Question
+op_kind ops.Colon = kind.Colon
 op_kind _ = kind.Other
 
 -- the names, where one more comes: a name that is there already is not added
 abbrev pub with_name : List (List ℕ) → List ℕ → List (List ℕ)
 with_name names name = if list_any (bytes_eq name) names then names else names ++ name ∷ []
 
+-- the name that a token of a kind has
+abbrev pub token_name : List ℕ → Token → Kind → List ℕ
+token_name source token k = name_of k (word_of source token)
+
 abbrev pub with_symbol : List ℕ → List (List ℕ) → Token → Kind → List (List ℕ)
-with_symbol source names token kinds.Name = with_name names (word_of source token)
+with_symbol source names token kinds.Name = with_name names (token_name source token kinds.Name)
+with_symbol source names token kinds.Constant = with_name names (token_name source token kinds.Constant)
+with_symbol source names token kinds.InstanceVariable = with_name names (token_name source token kinds.InstanceVariable)
+with_symbol source names token kinds.GlobalVariable = with_name names (token_name source token kinds.GlobalVariable)
+with_symbol source names token kinds.Symbol = with_name names (token_name source token kinds.Symbol)
+with_symbol source names token kinds.Label = with_name names (token_name source token kinds.Label)
 with_symbol source names token _ = names
 
--- `puts`, and the texts of the names among the tokens, each once, in the order of their first places
+-- the texts of the names among the tokens, each once, in the order of their first places
 abbrev pub symbols_of : List ℕ → List Token → List (List ℕ)
-symbols_of source tokens = fold (λ names token. with_symbol source names token token.kind) (codes "puts" ∷ []) tokens
+symbols_of source tokens = fold (λ names token. with_symbol source names token token.kind) [] tokens
 
 abbrev pub with_text : List ℕ → List (List ℕ) → Token → Kind → List (List ℕ)
 with_text source texts token kinds.Text = texts ++ contents_of (word_of source token) ∷ []
@@ -80,19 +116,22 @@ number_of names name = record { 0 = position_or_len (bytes_eq name) names }
 abbrev pub is_marked : List ℕ → Bool
 is_marked name = let last = slice_index name (length name - 1) in last == 63 || last == 33
 
-abbrev pub name_kind : Bool → Sym → WordKind
-name_kind true x = kind.Marked x
-name_kind false x = kind.Name x
-
 -- what a token is as a word, behind these names and so many texts
 abbrev pub word_kind : List ℕ → List (List ℕ) → ℕ → Token → Kind → WordKind
-word_kind source names texts token kinds.Name = name_kind (is_marked (word_of source token)) (number_of names (word_of source token))
+word_kind source names texts token kinds.Name = kind.Name (number_of names (token_name source token kinds.Name)) (is_marked (token_name source token kinds.Name))
+word_kind source names texts token kinds.Constant = kind.Constant (number_of names (token_name source token kinds.Constant))
+word_kind source names texts token kinds.InstanceVariable = kind.Field (number_of names (token_name source token kinds.InstanceVariable))
+word_kind source names texts token kinds.GlobalVariable = kind.Global (number_of names (token_name source token kinds.GlobalVariable))
+word_kind source names texts token kinds.Symbol = kind.Symbol (number_of names (token_name source token kinds.Symbol))
+word_kind source names texts token kinds.Label = kind.Label (number_of names (token_name source token kinds.Label))
 word_kind source names texts token kinds.Int = int_kind (int_value_of (word_of source token))
 word_kind source names texts token kinds.Text = kind.Text texts
 word_kind source names texts token kinds.Single = kind.Text texts
 word_kind source names texts token (kinds.Keyword k) = keyword_kind k
 word_kind source names texts token (kinds.Op o) = op_kind o
 word_kind source names texts token kinds.LineEnd = kind.Separator
+word_kind source names texts token kinds.OpenBrace = kind.OpenBrace
+word_kind source names texts token kinds.CloseBrace = kind.CloseBrace
 word_kind source names texts token _ = kind.Other
 
 abbrev pub word_with : List ℕ → List (List ℕ) → ℕ → Token → Word

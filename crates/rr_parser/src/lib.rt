@@ -1,11 +1,18 @@
 //! The trees of programs, read from their tokens.
 #![tactic(auto)]
 
+mod calls;
+mod control;
 mod look;
 mod names;
+mod nodes;
+mod operands;
+mod operators;
 mod parser;
 mod program;
 mod refusal;
+mod statements;
+mod variables;
 mod word;
 
 pub use program::parse;

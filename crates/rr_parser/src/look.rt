@@ -3,20 +3,19 @@
 ghost use Rattle.std.specs.Prelude.{◌≡◌, ◌≤◌};
 ghost use Rattle.rr_parser.specs.Places.{word, without_separators, separators};
 ghost use Rattle.rr_parser.specs.Grammar.Names.{name, bracket, begins_operands, begins_operand, is_tight};
-ghost use Rattle.rr_parser.specs.Grammar.Operands.{negated, joined};
-ghost use Rattle.rr_parser.specs.Grammar.Operators.{level_of, operator_of, at_level, operator};
-ghost use Rattle.rr_parser.specs.Grammar.Control.{thens};
+ghost use Rattle.rr_parser.specs.Grammar.Operands.{negated, joined, square, sent, tail};
+ghost use Rattle.rr_parser.specs.Grammar.Operators.{level_of, operator_of, at_level, operator, connective_of, connective};
+ghost use Rattle.rr_parser.specs.Grammar.Calls.{sign, target_word, target, label, closing, last};
+ghost use Rattle.rr_parser.specs.Grammar.Sequences.{modifier};
+ghost use Rattle.rr_parser.specs.Grammar.Control.{thens, loops};
 ghost use Rattle.rr_parser.specs.Reading.Operands.{prefix_minus};
-ghost use Rattle.rr_parser.specs.Reading.Calls.{target};
-ghost use Rattle.rr_parser.specs.Reading.Control.{ends, row};
+ghost use Rattle.rr_parser.specs.Reading.Calls.{another};
+ghost use Rattle.rr_parser.specs.Reading.Sequences.{ends_at, ends, row};
 ghost use Rattle.rr_parser.specs.Meets.{Sees, SeesRest};
 
-use crate::word::{Word, WordKind};
+use crate::word::{Aim, Connective, Listed, Modifier, Sign, Tail, Target, Word, WordKind};
 use rr_base::Sym;
 use rr_tree::BinaryOperator;
-
-/// The number of the name `puts`.
-pub(crate) const PUTS: Sym = Sym(0);
 
 /// How many integers there are from 0 on.
 pub(crate) const INTEGERS: u64 = 9_223_372_036_854_775_808;
@@ -87,14 +86,79 @@ pub(crate) fn operator(level: u8, words: &[Word]) -> Option<(BinaryOperator, &[W
     Some((operator, rest))
 }
 
-/// A name without `?` and `!`.
+/// What joins conditions at a level that a word is. `&&` is level 1, `||` level 2, and the words `and` and `or` are
+/// level 3.
+fn connective_of(level: u8, kind: WordKind) -> Option<Connective>
+    ensures { result ≡ connective_of level kind }
+{
+    match kind {
+        WordKind::And if level == 1 => Some(Connective::And),
+        WordKind::Or if level == 2 => Some(Connective::Or),
+        WordKind::AndWord if level == 3 => Some(Connective::And),
+        WordKind::OrWord if level == 3 => Some(Connective::Or),
+        _ => None,
+    }
+}
+
+/// What joins conditions at a level.
+pub(crate) fn connective(level: u8, words: &[Word]) -> Option<(Connective, &[Word])>
+    ensures { Sees result (connective level words.now) }
+{
+    let (word, rest) = words.split_first()?;
+    let connective = connective_of(level, word.kind)?;
+    Some((connective, rest))
+}
+
+/// What says whether, or how often, a statement is done.
+pub(crate) fn modifier(words: &[Word]) -> Option<(Modifier, &[Word])>
+    ensures { Sees result (modifier words.now) }
+{
+    let (word, rest) = words.split_first()?;
+    match word.kind {
+        WordKind::If => Some((Modifier::If, rest)),
+        WordKind::Unless => Some((Modifier::Unless, rest)),
+        WordKind::Loop { until } => Some((Modifier::Loop { until }, rest)),
+        _ => None,
+    }
+}
+
+/// A name.
 pub(crate) fn name(words: &[Word]) -> Option<(Sym, &[Word])>
     ensures { Sees result (name words.now) }
 {
     match words {
         [
             Word {
-                kind: WordKind::Name(name),
+                kind: WordKind::Name(name, _),
+                ..
+            },
+            rest @ ..,
+        ] => Some((*name, rest)),
+        _ => None,
+    }
+}
+
+/// What is assigned to.
+fn target_word(words: &[Word]) -> Option<(Target, &[Word])>
+    ensures { Sees result (target_word words.now) }
+{
+    let (word, rest) = words.split_first()?;
+    match word.kind {
+        WordKind::Name(name, false) => Some((Target::Variable(name), rest)),
+        WordKind::Field(name) => Some((Target::Field(name), rest)),
+        WordKind::Global(name) => Some((Target::Global(name), rest)),
+        _ => None,
+    }
+}
+
+/// The key of a pair.
+pub(crate) fn label(words: &[Word]) -> Option<(Sym, &[Word])>
+    ensures { Sees result (label words.now) }
+{
+    match words {
+        [
+            Word {
+                kind: WordKind::Label(name),
                 ..
             },
             rest @ ..,
@@ -130,9 +194,9 @@ pub(crate) fn prefix_minus(words: &[Word]) -> Option<&[Word]>
     }
 }
 
-/// The bracket of the arguments of `puts`, which stands directly behind the name.
-pub(crate) fn bracket(name: Sym, words: &[Word]) -> Option<&[Word]>
-    ensures { SeesRest result (bracket name words.now) }
+/// The bracket of arguments, which stands directly behind a name.
+pub(crate) fn bracket(words: &[Word]) -> Option<&[Word]>
+    ensures { SeesRest result (bracket words.now) }
 {
     match words {
         [
@@ -141,18 +205,106 @@ pub(crate) fn bracket(name: Sym, words: &[Word]) -> Option<&[Word]>
                 blank: false,
             },
             rest @ ..,
-        ] if name.0 == PUTS.0 => Some(rest),
+        ] => Some(rest),
         _ => None,
     }
 }
 
-/// The name and the sign of an assignment.
-pub(crate) fn target(words: &[Word]) -> Option<(Sym, &[Word])>
-    ensures { Sees result (target words.now) }
+/// The bracket of an index, which stands directly behind an operand.
+fn square(words: &[Word]) -> Option<&[Word]>
+    ensures { SeesRest result (square words.now) }
+{
+    match words {
+        [
+            Word {
+                kind: WordKind::OpenSquare,
+                blank: false,
+            },
+            rest @ ..,
+        ] => Some(rest),
+        _ => None,
+    }
+}
+
+/// The call that stands behind a dot, unless it is a command.
+fn sent(words: &[Word]) -> Option<(Tail, &[Word])>
+    ensures { Sees result (sent (name words.now)) }
 {
     let (name, rest) = name(words)?;
-    let rest = behind(WordKind::Assign, rest)?;
-    Some((name, rest))
+    match bracket(rest) {
+        Some(behind) => Some((Tail::Call(name), behind)),
+        None if begins_operands(rest) => None,
+        None => Some((Tail::Send(name), rest)),
+    }
+}
+
+/// What follows an operand.
+pub(crate) fn tail(words: &[Word]) -> Option<(Tail, &[Word])>
+    ensures { Sees result (tail words.now) }
+{
+    if let Some(rest) = behind(WordKind::Dot, words) {
+        return sent(rest);
+    }
+    let rest = square(words)?;
+    Some((Tail::Index, rest))
+}
+
+/// The word that ends a list.
+pub(crate) fn closing(list: Listed, words: &[Word]) -> Option<&[Word]>
+    ensures { SeesRest result (closing list words.now) }
+{
+    match list {
+        Listed::Command => None,
+        Listed::Call => behind(WordKind::Close, words),
+        Listed::Array => behind(WordKind::CloseSquare, words),
+        Listed::Hash => behind(WordKind::CloseBrace, words),
+    }
+}
+
+/// The word that ends a list, before which a comma may stand.
+pub(crate) fn last(list: Listed, words: &[Word]) -> Option<&[Word]>
+    ensures { SeesRest result (last list words.now) }
+{
+    match behind(WordKind::Comma, words) {
+        Some(rest) => closing(list, rest),
+        None => closing(list, words),
+    }
+}
+
+/// A comma, unless the list ends behind it.
+pub(crate) fn another(list: Listed, words: &[Word]) -> Option<&[Word]>
+    ensures { SeesRest result (another list words.now) }
+{
+    let rest = behind(WordKind::Comma, words)?;
+    match closing(list, rest) {
+        Some(_) => None,
+        None => Some(rest),
+    }
+}
+
+/// The sign of an assignment.
+fn sign(words: &[Word]) -> Option<(Sign, &[Word])>
+    ensures { Sees result (sign words.now) }
+{
+    match words {
+        [
+            Word {
+                kind: WordKind::Assign(sign),
+                ..
+            },
+            rest @ ..,
+        ] => Some((*sign, rest)),
+        _ => None,
+    }
+}
+
+/// What is assigned to, and the sign of the assignment.
+pub(crate) fn target(words: &[Word]) -> Option<(Aim, &[Word])>
+    ensures { Sees result (target words.now) }
+{
+    let (target, rest) = target_word(words)?;
+    let (sign, rest) = sign(rest)?;
+    Some((Aim { target, sign }, rest))
 }
 
 /// The words from the first on that is no separator.
@@ -181,15 +333,21 @@ fn separators(words: &[Word]) -> Option<&[Word]>
     Some(without_separators(rest))
 }
 
+fn ends_at(kind: WordKind) -> bool
+    ensures { result ≡ ends_at kind }
+{
+    match kind {
+        WordKind::Close | WordKind::Elsif | WordKind::Else | WordKind::End => true,
+        _ => false,
+    }
+}
+
 /// Whether what ends a list of statements comes.
 pub(crate) fn ends(words: &[Word]) -> bool
     ensures { result ≡ ends words.now }
 {
     match words.first() {
-        Some(word) => matches!(
-            word.kind,
-            WordKind::Close | WordKind::Elsif | WordKind::Else | WordKind::End
-        ),
+        Some(word) => ends_at(word.kind),
         None => true,
     }
 }
@@ -216,6 +374,16 @@ pub(crate) fn thens(words: &[Word]) -> Option<&[Word]>
     }
 }
 
+/// What stands between the condition of a loop and its statements: the word `do`, or separators.
+pub(crate) fn loops(words: &[Word]) -> Option<&[Word]>
+    ensures { SeesRest result (loops words.now) }
+{
+    match behind(WordKind::Do, words) {
+        Some(rest) => Some(rest),
+        None => separators(words),
+    }
+}
+
 /// Whether operands follow a name: a blank, and a word that begins an operand.
 pub(crate) fn begins_operands(words: &[Word]) -> bool
     ensures { result ≡ begins_operands words.now }
@@ -232,11 +400,17 @@ fn begins_operand(kind: WordKind, tight: bool) -> bool
     match kind {
         WordKind::Int(_)
         | WordKind::Text(_)
-        | WordKind::Name(_)
-        | WordKind::Marked(_)
+        | WordKind::Name(_, _)
         | WordKind::Nil
         | WordKind::Truth(_)
-        | WordKind::Open => true,
+        | WordKind::Symbol(_)
+        | WordKind::Constant(_)
+        | WordKind::Field(_)
+        | WordKind::Global(_)
+        | WordKind::Itself
+        | WordKind::Bang
+        | WordKind::Open
+        | WordKind::OpenSquare => true,
         WordKind::Minus => tight,
         _ => false,
     }

@@ -1,13 +1,13 @@
 //! Words from tokens: each name and each text gets its number.
 
 ghost use Rattle.std.specs.Prelude.{◌≡◌, ◌∷◌, [], ◌++◌, length, map, IfOk, OnOk};
-ghost use Rattle.rr_parser.specs.Words.{keyword_kind, op_kind, is_marked, name_kind, with_name, number_of, with_symbol, with_text, word_with, words_of, symbols_of, texts_of};
+ghost use Rattle.rr_parser.specs.Words.{keyword_kind, op_kind, is_marked, with_name, number_of, with_symbol, with_text, word_with, words_of, symbols_of, texts_of};
 
 use crate::refusal::Storage;
-use crate::word::{Word, WordKind};
+use crate::word::{Connective, Operation, Sign, Word, WordKind};
 use indexmap::IndexSet;
 use rr_base::Sym;
-use rr_lexer::{Keyword, Kind, Op, Token, int_value, text_contents, word};
+use rr_lexer::{Keyword, Kind, Op, Token, int_value, name, text_contents};
 use rr_tree::BinaryOperator;
 use std::alloc::Global;
 
@@ -26,7 +26,15 @@ fn keyword_kind(keyword: Keyword) -> WordKind
         Keyword::Nil => WordKind::Nil,
         Keyword::True => WordKind::Truth(true),
         Keyword::False => WordKind::Truth(false),
+        Keyword::SelfWord => WordKind::Itself,
         Keyword::If => WordKind::If,
+        Keyword::Unless => WordKind::Unless,
+        Keyword::While => WordKind::Loop { until: false },
+        Keyword::Until => WordKind::Loop { until: true },
+        Keyword::Do => WordKind::Do,
+        Keyword::And => WordKind::AndWord,
+        Keyword::Or => WordKind::OrWord,
+        Keyword::Not => WordKind::NotWord,
         Keyword::Then => WordKind::Then,
         Keyword::Elsif => WordKind::Elsif,
         Keyword::Else => WordKind::Else,
@@ -41,9 +49,24 @@ fn op_kind(op: Op) -> WordKind
     match op {
         Op::Open => WordKind::Open,
         Op::Close => WordKind::Close,
+        Op::OpenSquare => WordKind::OpenSquare,
+        Op::CloseSquare => WordKind::CloseSquare,
+        Op::Dot => WordKind::Dot,
+        Op::Arrow => WordKind::Arrow,
         Op::Comma => WordKind::Comma,
         Op::Semicolon => WordKind::Separator,
-        Op::Assign => WordKind::Assign,
+        Op::Assign => WordKind::Assign(Sign::Plain),
+        Op::PlusAssign => WordKind::Assign(Sign::With(Operation::Binary(BinaryOperator::Add))),
+        Op::MinusAssign => WordKind::Assign(Sign::With(Operation::Binary(
+            BinaryOperator::Subtract,
+        ))),
+        Op::StarAssign => WordKind::Assign(Sign::With(Operation::Binary(BinaryOperator::Multiply))),
+        Op::SlashAssign => WordKind::Assign(Sign::With(Operation::Binary(BinaryOperator::Divide))),
+        Op::PercentAssign => WordKind::Assign(Sign::With(Operation::Binary(
+            BinaryOperator::Remainder,
+        ))),
+        Op::OrAssign => WordKind::Assign(Sign::With(Operation::Connective(Connective::Or))),
+        Op::AndAssign => WordKind::Assign(Sign::With(Operation::Connective(Connective::And))),
         Op::Minus => WordKind::Minus,
         Op::Plus => WordKind::Operator(BinaryOperator::Add),
         Op::Star => WordKind::Operator(BinaryOperator::Multiply),
@@ -56,6 +79,11 @@ fn op_kind(op: Op) -> WordKind
         Op::Compare => WordKind::Operator(BinaryOperator::Compare),
         Op::Equal => WordKind::Operator(BinaryOperator::Equal),
         Op::NotEqual => WordKind::Operator(BinaryOperator::NotEqual),
+        Op::And => WordKind::And,
+        Op::Or => WordKind::Or,
+        Op::Bang => WordKind::Bang,
+        Op::Question => WordKind::Question,
+        Op::Colon => WordKind::Colon,
         _ => WordKind::Other,
     }
 }
@@ -65,16 +93,6 @@ fn is_marked(name: &[u8]) -> bool
     ensures { result ≡ is_marked name.now }
 {
     matches!(name.last(), Some(b'?' | b'!'))
-}
-
-fn name_kind(is_marked: bool, name: Sym) -> WordKind
-    ensures { result ≡ name_kind is_marked name }
-{
-    if is_marked {
-        WordKind::Marked(name)
-    } else {
-        WordKind::Name(name)
-    }
 }
 
 /// The names and the texts that have come, each with its number.
@@ -123,9 +141,14 @@ impl<'s> Numbering<'s> {
     {
         let kind = match token.kind {
             Kind::Name => {
-                let name = word(source, token);
-                name_kind(is_marked(name), self.name(name)?)
+                let name = name(source, token);
+                WordKind::Name(self.name(name)?, is_marked(name))
             }
+            Kind::Constant => WordKind::Constant(self.name(name(source, token))?),
+            Kind::InstanceVariable => WordKind::Field(self.name(name(source, token))?),
+            Kind::GlobalVariable => WordKind::Global(self.name(name(source, token))?),
+            Kind::Symbol => WordKind::Symbol(self.name(name(source, token))?),
+            Kind::Label => WordKind::Label(self.name(name(source, token))?),
             Kind::Int => match int_value(source, token) {
                 Some(value) => WordKind::Int(value),
                 None => WordKind::Other,
@@ -136,6 +159,8 @@ impl<'s> Numbering<'s> {
             Kind::Keyword(keyword) => keyword_kind(keyword),
             Kind::Op(op) => op_kind(op),
             Kind::LineEnd => WordKind::Separator,
+            Kind::OpenBrace => WordKind::OpenBrace,
+            Kind::CloseBrace => WordKind::CloseBrace,
             _ => WordKind::Other,
         };
         Ok(Word {
@@ -166,7 +191,6 @@ pub(crate) fn read_words(alloc: Global, source: &[u8], tokens: &[Token]) -> Resu
         names: IndexSet::new(alloc),
         texts: Vec::new(alloc),
     };
-    numbering.name(b"puts")?;
     let mut words = Vec::with_capacity(alloc, tokens.len())?;
     for token in tokens {
         words.push(numbering.word(alloc, source, *token)?)?;

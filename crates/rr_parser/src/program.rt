@@ -3,6 +3,8 @@
 ghost use Rattle.std.specs.Prelude.{◌≡◌, ℕ, List, map, MatchResult, IfOk, IfErr, Ok, Err};
 ghost use Rattle.rr_base.specs.declared.fault.SyntaxKind.{SyntaxKind};
 ghost use Rattle.rr_tree.specs.Tree.{Tree, tree_at, IsOrdered};
+ghost use Rattle.rr_lexer.specs.Freezes.{freezes};
+ghost use Rattle.rr_tree.specs.Order.{IsOrdered-prop};
 ghost use Rattle.rr_parser.specs.Words.{words_of, symbols_of, texts_of};
 ghost use Rattle.rr_parser.specs.Fronts.{NestsBeyond};
 ghost use Rattle.rr_parser.specs.Grammar.{Spells, SpellsWithin};
@@ -13,24 +15,38 @@ ghost use Rattle.rr_parser.specs.Faults.{IsParseFault, IsFaultOf, IsSyntax};
 use crate::names::read_words;
 use crate::parser::Parser;
 use crate::refusal::{Refusal, Storage};
+use crate::variables::Variables;
 use crate::word::Word;
 use rr_base::{Fault, LimitKind, SyntaxKind};
-use rr_lexer::{Token, line_and_column};
+use rr_lexer::{Token, freezes_literals, line_and_column};
 use rr_tree::{Node, NodeId, Program};
 use std::alloc::Global;
 
 /// How many constructs may be open at one place.
 const NESTING: u32 = 200;
 
+/// The nodes of a program.
+#[derive(Drop)]
+struct Nodes {
+    pub nodes: Vec<Node>,
+    pub root: NodeId,
+    /// How many calls are numbered.
+    pub sites: u32,
+    ghost ordered: { IsOrdered nodes.items } by { IsOrdered-prop nodes.items },
+}
+
 #[tactic(auto, unfolding(crate::specs::Reading::program_of))]
-fn read_nodes(alloc: Global, words: &[Word], depth: u32) -> Result<(Vec<Node>, NodeId), Refusal>
-    ensures tree { MatchResult result (λ p. program_of depth words.now ≡ Ok (tree_at p.0.items p.1)) (λ e. Fails e (program_of depth words.now)) }
-    ensures ordered { IfOk result (λ p. IsOrdered p.0.items) }
+fn read_nodes(alloc: Global, words: &[Word], depth: u32) -> Result<Nodes, Refusal>
+    ensures tree { MatchResult result (λ p. program_of depth words.now ≡ Ok (tree_at p.nodes.items p.root)) (λ e. Fails e (program_of depth words.now)) }
 {
     let mut parser = Parser {
         alloc,
         nodes: Vec::new(alloc),
-        known: Vec::new(alloc),
+        known: Variables {
+            slots: Vec::new(alloc),
+            count: 0,
+        },
+        sites: 0,
     };
     let (root, rest) = parser.statements(false, depth, words)?;
     if !rest.is_empty() {
@@ -40,8 +56,9 @@ fn read_nodes(alloc: Global, words: &[Word], depth: u32) -> Result<(Vec<Node>, N
         alloc: _,
         nodes,
         known: _,
+        sites,
     } = parser;
-    Ok((nodes, root))
+    Ok(Nodes { nodes, root, sites })
 }
 
 /// The fault at the first of the tokens that are left, or behind the source.
@@ -80,29 +97,37 @@ pub(crate) fn read(
     ensures tree { MatchResult result (λ p. program_of depth (words_of source.now tokens.now) ≡ Ok (tree_at p.nodes.items p.root)) (λ e. Fails e (program_of depth (words_of source.now tokens.now))) }
     ensures symbols { IfOk result (λ p. map (λ s. s.items) p.symbols.items ≡ symbols_of source.now tokens.now) }
     ensures texts { IfOk result (λ p. map (λ s. s.items) p.texts.items ≡ texts_of source.now tokens.now) }
+    ensures freezes { IfOk result (λ p. p.freezes ≡ freezes source.now tokens.now) }
 {
     let words = read_words(alloc, source, tokens)?;
-    let (nodes, root) = read_nodes(alloc, &words.words, depth)?;
+    let Nodes { nodes, root, sites } = read_nodes(alloc, &words.words, depth)?;
     Ok(Program {
         nodes,
         root,
         symbols: words.symbols,
         texts: words.texts,
+        freezes: freezes_literals(source, tokens),
+        classes: Vec::new(alloc),
+        methods: Vec::new(alloc),
+        scopes: Vec::new(alloc),
+        sites,
     })
 }
 
 /// The program that the tokens of a source spell.
 ///
 /// The tokens are those that `lex` gives for the source. A `Syntax` fault stands at the first token that no construct
-/// goes on with, or at the end of the source. At most 200 constructs may be open at one place: brackets, an `if`, a
-/// minus before an operand, and the right side of an assignment inside the right side of another one; past that the
-/// fault is `Limit(Nesting)`. A program that needs more than 4,294,967,295 nodes, names or texts is `Limit(Slots)`, and
-/// where the allocator refuses a growth the fault is `Memory`.
+/// goes on with, or at the end of the source. At most 200 constructs may be open at one place: brackets, a construct that
+/// an `end` ends, a minus, a `!` or a `not` before an operand, a command that is the argument of a command, a branch of
+/// `? :`, and the right side of an assignment inside the right side of another one; past that the fault is
+/// `Limit(Nesting)`. A program that needs more than 4,294,967,295 nodes, names or texts is `Limit(Slots)`, and where the
+/// allocator refuses a growth the fault is `Memory`.
 pub fn parse(alloc: Global, source: &[u8], tokens: &[Token]) -> Result<Program, Fault>
     // What is read is spelled so.
     ensures found { IfOk result (λ p. SpellsWithin 200 source.now tokens.now (tree_at p.nodes.items p.root)) }
     ensures symbols { IfOk result (λ p. map (λ s. s.items) p.symbols.items ≡ symbols_of source.now tokens.now) }
     ensures texts { IfOk result (λ p. map (λ s. s.items) p.texts.items ≡ texts_of source.now tokens.now) }
+    ensures freezes { IfOk result (λ p. p.freezes ≡ freezes source.now tokens.now) }
     // Where the tokens are refused, they spell no tree.
     ensures refused { (line column : ℕ) (kind : SyntaxKind) → result ≡ Err (Fault.Syntax line column kind) → (t : Tree) → Spells source.now tokens.now t → ⊥ }
     // Where they nest too deep, they spell none within the limit.

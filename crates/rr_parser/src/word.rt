@@ -3,6 +3,100 @@
 use rr_base::Sym;
 use rr_tree::BinaryOperator;
 
+/// What joins two conditions.
+#[derive(Clone, Copy, Debug, PartialEq, Eq, Drop)]
+pub(crate) enum Connective {
+    And,
+    Or,
+}
+
+/// What stands behind a statement and says whether, or how often, it is done.
+#[derive(Clone, Copy, Debug, PartialEq, Eq, Drop)]
+pub(crate) enum Modifier {
+    If,
+    Unless,
+    Loop { until: bool },
+}
+
+/// What follows an operand and makes another one of it.
+#[derive(Clone, Copy, Debug, PartialEq, Eq, Drop)]
+pub(crate) enum Tail {
+    /// A call without arguments.
+    Send(Sym),
+    /// A call with a bracket, behind which its arguments stand.
+    Call(Sym),
+    /// A bracket, behind which an index stands.
+    Index,
+}
+
+/// What stands before the `=` of an assignment with an operator.
+#[derive(Clone, Copy, Debug, PartialEq, Eq, Drop)]
+pub(crate) enum Operation {
+    Binary(BinaryOperator),
+    Connective(Connective),
+}
+
+/// The sign of an assignment.
+#[derive(Clone, Copy, Debug, PartialEq, Eq, Drop)]
+pub(crate) enum Sign {
+    Plain,
+    With(Operation),
+}
+
+/// What is assigned to, and how.
+#[derive(Clone, Copy, Debug, PartialEq, Eq, Drop)]
+pub(crate) struct Aim {
+    pub target: Target,
+    pub sign: Sign,
+}
+
+/// What is assigned to.
+#[derive(Clone, Copy, Debug, PartialEq, Eq, Drop)]
+pub(crate) enum Target {
+    Variable(Sym),
+    Field(Sym),
+    Global(Sym),
+}
+
+/// What has members with commas between them.
+#[derive(Clone, Copy, Debug, PartialEq, Eq, Drop)]
+pub(crate) enum Listed {
+    /// A command, whose arguments no bracket ends.
+    Command,
+    Call,
+    Array,
+    Hash,
+}
+
+/// What is one construct more that is open.
+#[derive(Clone, Copy, Debug, PartialEq, Eq, Drop)]
+pub(crate) enum Part {
+    /// Statements, with the bracket behind them.
+    Group,
+    /// The members of an array, with the bracket behind them.
+    Array,
+    /// The pairs of a hash, with the brace behind them.
+    Hash,
+    /// An index, with the bracket behind it.
+    Index,
+    /// What stands behind `if`, with its `end`.
+    Choice,
+    /// What stands behind `unless`, with its `end`.
+    Unless,
+    /// What stands behind `while` or `until`, with its `end`.
+    Loop { until: bool },
+    /// What stands behind a minus.
+    Minus,
+    /// What stands behind a `!`.
+    Bang,
+    /// What stands behind `not`.
+    Not,
+    /// A command that is the argument of a command.
+    Command,
+    /// One of the two operands between which is chosen.
+    Branch,
+}
+
 /// What a word is.
 #[derive(Clone, Copy, Debug, PartialEq, Eq, Drop)]
 pub(crate) enum WordKind {
@@ -10,27 +104,59 @@ pub(crate) enum WordKind {
     Int(u64),
     /// A literal, by its number among the program's texts.
     Text(u32),
-    /// A name without `?` and `!`.
-    Name(Sym),
-    /// A name with `?` or `!`, which is never a variable.
-    Marked(Sym),
+    /// A name, and whether it ends with `?` or `!`: such a name is no target.
+    Name(Sym, bool),
     Nil,
     Truth(bool),
+    /// `:name`
+    Symbol(Sym),
+    /// `name:`, the key of a pair.
+    Label(Sym),
+    Constant(Sym),
+    /// An instance variable.
+    Field(Sym),
+    Global(Sym),
+    /// `self`
+    Itself,
     Open,
     Close,
+    OpenSquare,
+    CloseSquare,
+    OpenBrace,
+    CloseBrace,
     Comma,
-    Assign,
+    Dot,
+    /// `=>`
+    Arrow,
+    Assign(Sign),
     /// A line end or a `;`.
     Separator,
     If,
+    Unless,
+    /// `while`, or `until`.
+    Loop { until: bool },
+    Do,
     Then,
     Elsif,
     Else,
     End,
+    /// The words `and`, `or` and `not`.
+    AndWord,
+    OrWord,
+    NotWord,
     /// A minus, before an operand or between two.
     Minus,
     /// An operator between two operands, other than the minus.
     Operator(BinaryOperator),
+    /// `&&`.
+    And,
+    /// `||`.
+    Or,
+    /// `!`.
+    Bang,
+    /// `?` and `:` of a choice between two operands.
+    Question,
+    Colon,
     /// A token that no construct has.
     Other,
 }

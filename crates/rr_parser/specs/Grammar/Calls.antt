@@ -1,26 +1,174 @@
--- Assignments and arguments.
-use Rattle.std.specs.Prelude.{◌≡◌, List, [], Some}
+-- Assignments, arguments and commands.
+use Rattle.std.specs.Prelude.{◌≡◌, ℕ, List, [], ◌∷◌, Bool, true, false, Option, Some, None}
 use Rattle.rr_base.specs.declared.name.Sym.{Sym}
-use Rattle.rr_tree.specs.Tree.{Tree, assign}
+use Rattle.rr_tree.specs.Tree.{Tree, local, field, global, operator_assign, or_assign, and_assign, assign, set_field, set_global, symbol, array, hash, pair, call, listed}
 use Rattle.rr_parser.specs.declared.word.WordKind.TheVariants as kind
-use Rattle.rr_parser.specs.Places.{Place, Look, word, next}
+use Rattle.rr_parser.specs.declared.word.Word.{Word}
+use Rattle.rr_parser.specs.declared.word.WordKind.{WordKind}
+use Rattle.rr_parser.specs.declared.word.Connective.TheVariants as connectives
+use Rattle.rr_parser.specs.declared.word.Operation.{Operation}
+use Rattle.rr_parser.specs.declared.word.Operation.TheVariants as operations
+use Rattle.rr_parser.specs.declared.word.Sign.{Sign}
+use Rattle.rr_parser.specs.declared.word.Sign.TheVariants as signs
+use Rattle.rr_parser.specs.declared.word.Aim.{Aim}
+use Rattle.rr_parser.specs.declared.word.Target.{Target}
+use Rattle.rr_parser.specs.declared.word.Target.TheVariants as targets
+use Rattle.rr_parser.specs.declared.word.Listed.{Listed}
+use Rattle.rr_parser.specs.declared.word.Listed.TheVariants as listings
+use Rattle.rr_parser.specs.declared.word.Part.TheVariants as parts
+use Rattle.rr_parser.specs.Places.{Place, Look, first_as, word, at, next}
 use Rattle.rr_parser.specs.Grammar.Chains.{Chain, one_of, and_one}
 use Rattle.rr_parser.specs.Grammar.Nesting.{Nested}
-use Rattle.rr_parser.specs.Grammar.Names.{with_local}
-use Rattle.rr_parser.specs.Grammar.Operators.{Equality}
+use Rattle.rr_parser.specs.Grammar.Names.{slot_of, with_local, command}
+use Rattle.rr_parser.specs.Grammar.Operators.{Ternary}
 
--- The variable is known on the right side already.
-pub data Argument (N : Nested) : Place → Tree → Place → Type 0 where
-  an_assignment : {s m n z : Place} {x : Sym} {t : Tree} → next s ≡ Some (kind.Name x, m) → next m ≡ Some (kind.Assign, n) → N.value (with_local x n) t z → Argument N s (assign x.0 t) z
-  an_equality : {s z : Place} {t : Tree} → Equality N s t z → Argument N s t z
+-- what is assigned to
+abbrev pub target_of_kind : WordKind → Option Target
+target_of_kind (kind.Name x false) = Some (targets.Variable x)
+target_of_kind (kind.Field x) = Some (targets.Field x)
+target_of_kind (kind.Global x) = Some (targets.Global x)
+target_of_kind _ = None
+
+abbrev pub sign_of_kind : WordKind → Option Sign
+sign_of_kind (kind.Assign q) = Some q
+sign_of_kind _ = None
+
+-- the sign of an assignment
+abbrev pub sign : Look Sign
+sign = first_as (λ w. sign_of_kind w.kind)
+
+abbrev pub assigned : Target → Option (Sign × List Word) → Option (Aim × List Word)
+assigned x None = None
+assigned x (Some r) = Some (record { target = x; sign = r.0 }, r.1)
+
+abbrev pub named : Option (Target × List Word) → Option (Aim × List Word)
+named None = None
+named (Some x) = assigned x.0 (sign x.1)
+
+abbrev pub target_word : Look Target
+target_word = first_as (λ w. target_of_kind w.kind)
+
+-- what is assigned to, and the sign of the assignment
+abbrev pub target : Look Aim
+target ws = named (target_word ws)
+
+-- the place where the target is known
+abbrev pub with_target : Target → Place → Place
+with_target (targets.Variable x) s = with_local x s
+with_target (targets.Field x) s = s
+with_target (targets.Global x) s = s
+
+-- the target as what reads it, where a variable has this number
+abbrev pub target_tree : Target → ℕ → Tree
+target_tree (targets.Variable x) i = local 0 i x.0
+target_tree (targets.Field x) i = field x.0
+target_tree (targets.Global x) i = global x.0
+
+abbrev pub set_target : Target → ℕ → Tree → Tree
+set_target (targets.Variable x) i t = assign 0 i x.0 t
+set_target (targets.Field x) i t = set_field x.0 t
+set_target (targets.Global x) i t = set_global x.0 t
+
+-- an assignment with an operator, to what is read so
+abbrev pub operated : Operation → Tree → Tree → Tree
+operated (operations.Binary o) x t = operator_assign o x t
+operated (operations.Connective connectives.Or) x t = or_assign x t
+operated (operations.Connective connectives.And) x t = and_assign x t
+
+-- the tree of an assignment, where a variable has this number
+abbrev pub signed : Sign → Target → ℕ → Tree → Tree
+signed signs.Plain x i t = set_target x i t
+signed (signs.With o) x i t = operated o (target_tree x i) t
+
+-- the number of a target that is a local variable
+abbrev pub target_slot : Target → Place → ℕ
+target_slot (targets.Variable x) s = slot_of x s
+target_slot (targets.Field x) s = 0
+target_slot (targets.Global x) s = 0
+
+-- the tree of an assignment, at the place where the target is known
+abbrev pub assigned_to : Aim → Place → Tree → Tree
+assigned_to a s t = signed a.sign a.target (target_slot a.target s) t
 
 abbrev pub comma : Look (Unit {0})
 comma = word kind.Comma
 
--- one argument or more, with commas between them
-abbrev pub Arguments : Nested → Place → List Tree → Place → Type 0
-Arguments N = Chain comma one_of and_one (Argument N)
+-- An assignment, or a Q. The variable is known on the right side already.
+pub data Assigned (N : Nested) (commands : Bool) (Q : Place → Tree → Place → Type 0) : Place → Tree → Place → Type 0 where
+  an_assignment : {s n z : Place} {x : Aim} {t : Tree} → at target s ≡ Some (x, n) → N.value commands (with_target x.target n) t z → Assigned N commands Q s (assigned_to x (with_target x.target n) t) z
+  no_assignment : {s z : Place} {t : Tree} → Q s t z → Assigned N commands Q s t z
 
-pub data Bracketed (N : Nested) : Place → List Tree → Place → Type 0 where
-  no_arguments : {s : Place} → Bracketed N s [] s
-  some_arguments : {s z : Place} {l : List Tree} → Arguments N s l z → Bracketed N s l z
+abbrev pub Argument : Nested → Place → Tree → Place → Type 0
+Argument N = Assigned N false (Ternary N)
+
+abbrev pub label_of_kind : WordKind → Option Sym
+label_of_kind (kind.Label x) = Some x
+label_of_kind _ = None
+
+abbrev pub label : Look Sym
+label = first_as (λ w. label_of_kind w.kind)
+
+-- a key and its value
+pub data Pair (N : Nested) : Place → Tree → Place → Type 0 where
+  by_label : {s m z : Place} {x : Sym} {t : Tree} → at label s ≡ Some (x, m) → Argument N m t z → Pair N s (pair (symbol x.0) t) z
+  by_arrow : {s m n z : Place} {k t : Tree} → Argument N s k m → next m ≡ Some (kind.Arrow, n) → Argument N n t z → Pair N s (pair k t) z
+
+abbrev pub Member : Nested → Listed → Place → Tree → Place → Type 0
+Member N listings.Command = Argument N
+Member N listings.Call = Argument N
+Member N listings.Array = Argument N
+Member N listings.Hash = Pair N
+
+-- one member or more, with commas between them
+abbrev pub Members : Nested → Listed → Place → List Tree → Place → Type 0
+Members N k = Chain comma one_of and_one (Member N k)
+
+-- the word that ends a list
+abbrev pub closing : Listed → Look (Unit {0})
+closing listings.Command ws = None
+closing listings.Call ws = word kind.Close ws
+closing listings.Array ws = word kind.CloseSquare ws
+closing listings.Hash ws = word kind.CloseBrace ws
+
+abbrev pub behind_comma : List Word → Option (Unit {0} × List Word) → List Word
+behind_comma ws None = ws
+behind_comma ws (Some r) = r.1
+
+-- the same, where a comma may stand before it
+abbrev pub last : Listed → Look (Unit {0})
+last k ws = closing k (behind_comma ws (comma ws))
+
+-- members and the word that ends them
+pub data Bracketed (N : Nested) (k : Listed) : Place → List Tree → Place → Type 0 where
+  no_members : {s z : Place} {u : Unit {0}} → at (closing k) s ≡ Some (u, z) → Bracketed N k s [] z
+  some_members : {s m z : Place} {u : Unit {0}} {l : List Tree} → Members N k s l m → at (last k) m ≡ Some (u, z) → Bracketed N k s l z
+
+pub data Array (N : Nested) : Place → Tree → Place → Type 0 where
+  an_array : {s z : Place} {l : List Tree} → Bracketed N listings.Array s l z → Array N s (array (listed l)) z
+
+pub data Hash (N : Nested) : Place → Tree → Place → Type 0 where
+  a_hash : {s z : Place} {l : List Tree} → Bracketed N listings.Hash s l z → Hash N s (hash (listed l)) z
+
+pub data Index (N : Nested) : Place → Tree → Place → Type 0 where
+  of_element : {s m z : Place} {t : Tree} → Argument N s t m → next m ≡ Some (kind.CloseSquare, z) → Index N s t z
+
+-- what stands behind the name of a command: arguments, or a command
+pub data Commanded (N : Nested) : Place → List Tree → Place → Type 0 where
+  by_arguments : {s z : Place} {l : List Tree} → Members N listings.Command s l z → Commanded N s l z
+  by_command : {s m z : Place} {x : Sym} {t : Tree} → at (command s.known) s ≡ Some (x, m) → N.part parts.Command s t z → Commanded N s (t ∷ []) z
+
+pub data Command (N : Nested) : Place → Tree → Place → Type 0 where
+  a_command : {s m z : Place} {x : Sym} {l : List Tree} → at (command s.known) s ≡ Some (x, m) → Commanded N m l z → Command N s (call x.0 (listed l)) z
+
+pub data Phrase (N : Nested) : Place → Tree → Place → Type 0 where
+  by_name : {s z : Place} {t : Tree} → Command N s t z → Phrase N s t z
+  an_operand : {s z : Place} {t : Tree} → Ternary N s t z → Phrase N s t z
+
+-- an operand; and a command too, where commands may stand
+abbrev pub Operand : Nested → Bool → Place → Tree → Place → Type 0
+Operand N false = Ternary N
+Operand N true = Phrase N
+
+-- a right side, an argument, or what is joined to an expression
+abbrev pub Value : Nested → Bool → Place → Tree → Place → Type 0
+Value N commands = Assigned N commands (Operand N commands)

@@ -1,29 +1,12 @@
--- Statements, and choices between them.
-use Rattle.std.specs.Prelude.{◌≡◌, List, [], ◌∷◌, true, Option, Some, None}
-use Rattle.rr_base.specs.declared.name.Sym.{Sym}
-use Rattle.rr_tree.specs.Tree.{Tree, nil, choose, sequence, puts, listed}
+-- Choices and loops.
+use Rattle.std.specs.Prelude.{◌≡◌, List, [], ◌∷◌, Bool, Option, Some, None}
+use Rattle.rr_tree.specs.Tree.{Tree, nil, choose, repeat}
 use Rattle.rr_parser.specs.declared.word.WordKind.TheVariants as kind
 use Rattle.rr_parser.specs.declared.word.Word.{Word}
-use Rattle.rr_parser.specs.Places.{Place, Look, word, at, next, skip, separators}
+use Rattle.rr_parser.specs.Places.{Place, Look, word, at, next, separators}
 use Rattle.rr_parser.specs.Grammar.Chains.{Chain, one_of, and_one}
 use Rattle.rr_parser.specs.Grammar.Nesting.{Nested}
-use Rattle.rr_parser.specs.Grammar.Names.{begins_command}
-use Rattle.rr_parser.specs.Grammar.Calls.{Argument, Arguments}
-
-pub data Statement (N : Nested) : Place → Tree → Place → Type 0 where
-  a_command : {s m z : Place} {x : Sym} {l : List Tree} → next s ≡ Some (kind.Name x, m) → begins_command x m ≡ true → Arguments N m l z → Statement N s (puts (listed l)) z
-  an_argument : {s z : Place} {t : Tree} → Argument N s t z → Statement N s t z
-
--- statements with separators between them
-abbrev pub Rows : Nested → Place → List Tree → Place → Type 0
-Rows N = Chain separators one_of and_one (Statement N)
-
--- Separators may stand before and behind them too.
-pub data Statements (N : Nested) : Place → Tree → Place → Type 0 where
-  no_statements : {s : Place} → Statements N s (sequence (listed [])) (skip s)
-  some_statements : {s m : Place} {l : List Tree} → Rows N (skip s) l m → Statements N s (sequence (listed l)) (skip m)
-
--- ---- choices
+use Rattle.rr_parser.specs.Grammar.Sequences.{Expression, Statements}
 
 abbrev pub behind_word : List Word → Option (Unit {0} × List Word) → List Word
 behind_word ws None = ws
@@ -38,9 +21,17 @@ then_or_separators None (Some x) = Some (tt, behind_word x.1 (word kind.Then x.1
 abbrev pub thens : Look (Unit {0})
 thens ws = then_or_separators (word kind.Then ws) (separators ws)
 
+abbrev pub either : Option (Unit {0} × List Word) → Option (Unit {0} × List Word) → Option (Unit {0} × List Word)
+either (Some x) o = Some x
+either None o = o
+
+-- the word `do`, or separators
+abbrev pub loops : Look (Unit {0})
+loops ws = either (word kind.Do ws) (separators ws)
+
 -- a condition, and what is done where it holds
 pub data Branch (N : Nested) : Place → Tree × Tree → Place → Type 0 where
-  a_branch : {s m n z : Place} {c t : Tree} {u : Unit {0}} → Statement N s c m → at thens m ≡ Some (u, n) → Statements N n t z → Branch N s (c, t) z
+  a_branch : {s m n z : Place} {c t : Tree} {u : Unit {0}} → Expression N s c m → at thens m ≡ Some (u, n) → Statements N n t z → Branch N s (c, t) z
 
 abbrev pub elsif : Look (Unit {0})
 elsif = word kind.Elsif
@@ -59,3 +50,13 @@ chosen (b ∷ bs) e = choose b.0 b.1 (chosen bs e)
 
 pub data Choice (N : Nested) : Place → Tree → Place → Type 0 where
   a_choice : {s m n z : Place} {l : List (Tree × Tree)} {e : Tree} → Branches N s l m → Otherwise N m e n → next n ≡ Some (kind.End, z) → Choice N s (chosen l e) z
+
+-- what is done unless the condition holds
+abbrev pub unless_chosen : Tree × Tree → Tree → Tree
+unless_chosen b e = choose b.0 e b.1
+
+pub data Unless (N : Nested) : Place → Tree → Place → Type 0 where
+  an_unless : {s m n z : Place} {b : Tree × Tree} {e : Tree} → Branch N s b m → Otherwise N m e n → next n ≡ Some (kind.End, z) → Unless N s (unless_chosen b e) z
+
+pub data Loop (N : Nested) (until : Bool) : Place → Tree → Place → Type 0 where
+  a_loop : {s m n o z : Place} {c t : Tree} {u : Unit {0}} → Expression N s c m → at loops m ≡ Some (u, n) → Statements N n t o → next o ≡ Some (kind.End, z) → Loop N until s (repeat until c t) z

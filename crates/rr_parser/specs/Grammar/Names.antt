@@ -1,32 +1,42 @@
 -- What a name stands for, and what its neighbours say about it.
-use Rattle.std.specs.Prelude.{◌==◌, List, [], ◌∷◌, Bool, true, false, not, ◌&&◌, ◌||◌, Option, Some, None}
+use Rattle.std.specs.Prelude.{ℕ, ◌==◌, ◌+◌, List, [], ◌∷◌, Bool, true, false, not, ◌&&◌, Option, Some, None, is_some, if◌then◌else◌}
 use Rattle.rr_base.specs.declared.name.Sym.{Sym}
 use Rattle.rr_parser.specs.declared.word.WordKind.{WordKind}
 use Rattle.rr_parser.specs.declared.word.WordKind.TheVariants as kind
 use Rattle.rr_parser.specs.declared.word.Word.{Word}
-use Rattle.rr_parser.specs.Places.{Place, Look, first_as, where_true, is_kind, tight_as}
-
--- the name `puts` has the number 0
-abbrev pub is_puts : Sym → Bool
-is_puts x = x.0 == 0
+use Rattle.rr_parser.specs.Places.{Known, Place, Look, first_as, where_true, is_kind, tight_as}
 
 abbrev pub is_local : Sym → Place → Bool
-is_local x s = s.known.locals x.0
+is_local x s = is_some (s.known.slots x.0)
+
+abbrev pub or_zero : Option ℕ → ℕ
+or_zero (Some n) = n
+or_zero None = 0
+
+-- the number of a local variable
+abbrev pub slot_of : Sym → Place → ℕ
+slot_of x s = or_zero (s.known.slots x.0)
+
+-- a name that is no variable yet becomes one and gets the next number
+abbrev pub with_variable : Known → ℕ → Option ℕ → Known
+with_variable k x (Some n) = k
+with_variable k x None = record { slots = λ y. if y == x then Some k.count else k.slots y; count = k.count + 1 }
 
 -- the same place, where the name is a local variable
 abbrev pub with_local : Sym → Place → Place
-with_local x s = record { known = record { locals = λ y. y == x.0 || s.known.locals y }; rest = s.rest }
+with_local x s = record { known = with_variable s.known x.0 (s.known.slots x.0); rest = s.rest }
 
 abbrev pub name_of_kind : WordKind → Option Sym
-name_of_kind (kind.Name x) = Some x
+name_of_kind (kind.Name x marked) = Some x
 name_of_kind _ = None
 
+-- a name
 abbrev pub name : Look Sym
 name = first_as (λ w. name_of_kind w.kind)
 
--- behind `puts`, the bracket that stands directly there
-abbrev pub bracket : Sym → Look (Unit {0})
-bracket x = tight_as (λ k. where_true (is_puts x && is_kind k kind.Open))
+-- the bracket that stands directly behind a name
+abbrev pub bracket : Look (Unit {0})
+bracket = tight_as (λ k. where_true (is_kind k kind.Open))
 
 -- what follows has no blank before it
 abbrev pub is_tight : List Word → Bool
@@ -37,11 +47,17 @@ is_tight (w ∷ ws) = not w.blank
 abbrev pub begins_operand : WordKind → Bool → Bool
 begins_operand (kind.Int n) tight = true
 begins_operand (kind.Text i) tight = true
-begins_operand (kind.Name x) tight = true
-begins_operand (kind.Marked x) tight = true
+begins_operand (kind.Name x marked) tight = true
 begins_operand kind.Nil tight = true
 begins_operand (kind.Truth b) tight = true
+begins_operand (kind.Symbol x) tight = true
+begins_operand (kind.Constant x) tight = true
+begins_operand (kind.Field x) tight = true
+begins_operand (kind.Global x) tight = true
+begins_operand kind.Itself tight = true
 begins_operand kind.Open tight = true
+begins_operand kind.OpenSquare tight = true
+begins_operand kind.Bang tight = true
 begins_operand kind.Minus tight = tight
 begins_operand _ tight = false
 
@@ -50,6 +66,14 @@ abbrev pub begins_operands : List Word → Bool
 begins_operands [] = false
 begins_operands (w ∷ ws) = w.blank && begins_operand w.kind (is_tight ws)
 
--- the name begins a command: it is `puts` and no local variable, and operands follow
+-- the name begins a command: it is no local variable, and operands follow
 abbrev pub begins_command : Sym → Place → Bool
-begins_command x s = is_puts x && (not (is_local x s) && begins_operands s.rest)
+begins_command x s = not (is_local x s) && begins_operands s.rest
+
+abbrev pub commanding : Known → Option (Sym × List Word) → Option (Sym × List Word)
+commanding known None = None
+commanding known (Some x) = if begins_command x.0 (record { known = known; rest = x.1 }) then Some (x.0, x.1) else None
+
+-- the name that begins a command
+abbrev pub command : Known → Look Sym
+command known ws = commanding known (name ws)

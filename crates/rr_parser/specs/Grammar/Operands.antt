@@ -1,12 +1,19 @@
 -- Operands.
-use Rattle.std.specs.Prelude.{◌≡◌, ℕ, zero, suc, ℤ, pos, negsuc, nat_lt, nat_le, List, [], Bool, true, false, Option, Some, None}
+use Rattle.std.specs.Prelude.{◌≡◌, ℕ, zero, suc, ℤ, pos, negsuc, nat_lt, nat_le, List, Bool, true, false, Option, Some, None, if◌then◌else◌, []}
 use Rattle.rr_base.specs.declared.name.Sym.{Sym}
-use Rattle.rr_tree.specs.Tree.{Tree, nil, truth, int, text, local, call, negate, puts, listed}
+use Rattle.rr_tree.specs.Tree.{Tree, nil, truth, int, text, local, bare, call, send, index, symbol, constant, field, global, itself, negate, logical_not, listed}
 use Rattle.rr_parser.specs.declared.word.WordKind.{WordKind}
 use Rattle.rr_parser.specs.declared.word.WordKind.TheVariants as kind
-use Rattle.rr_parser.specs.Places.{Place, Look, tight_as, at, next}
+use Rattle.rr_parser.specs.declared.word.Part.{Part}
+use Rattle.rr_parser.specs.declared.word.Part.TheVariants as parts
+use Rattle.rr_parser.specs.declared.word.Tail.{Tail}
+use Rattle.rr_parser.specs.declared.word.Tail.TheVariants as tails
+use Rattle.rr_parser.specs.declared.word.Word.{Word}
+use Rattle.rr_tree.specs.declared.node.Path.TheVariants as paths
+use Rattle.rr_parser.specs.Places.{Place, Look, where_true, is_kind, word, tight_as, at, next}
+use Rattle.rr_parser.specs.Grammar.Chains.{Trail}
 use Rattle.rr_parser.specs.Grammar.Nesting.{Nested}
-use Rattle.rr_parser.specs.Grammar.Names.{is_puts, is_local, bracket, begins_operands}
+use Rattle.rr_parser.specs.Grammar.Names.{is_local, slot_of, name, bracket, begins_operands}
 
 -- ---- integers
 
@@ -32,24 +39,77 @@ joined = tight_as int_of_kind
 
 -- ---- the productions
 
+-- the tree of a word that stands for itself
+abbrev pub literal_of : WordKind → Option Tree
+literal_of (kind.Int n) = if fits n then Some (int (pos n)) else None
+literal_of (kind.Text i) = Some (text i)
+literal_of kind.Nil = Some nil
+literal_of (kind.Truth b) = Some (truth b)
+literal_of (kind.Symbol x) = Some (symbol x.0)
+literal_of (kind.Constant x) = Some (constant (paths.Plain x))
+literal_of (kind.Field x) = Some (field x.0)
+literal_of (kind.Global x) = Some (global x.0)
+literal_of kind.Itself = Some itself
+literal_of _ = None
+
+-- the construct that a word begins
+abbrev pub construct_of : WordKind → Option Part
+construct_of kind.Open = Some parts.Group
+construct_of kind.OpenSquare = Some parts.Array
+construct_of kind.OpenBrace = Some parts.Hash
+construct_of kind.If = Some parts.Choice
+construct_of kind.Unless = Some parts.Unless
+construct_of (kind.Loop until) = Some (parts.Loop until)
+construct_of _ = None
+
 pub data Primary (N : Nested) : Place → Tree → Place → Type 0 where
-  an_int : {s z : Place} {n : ℕ} → next s ≡ Some (kind.Int n, z) → fits n ≡ true → Primary N s (int (pos n)) z
+  a_literal : {s z : Place} {k : WordKind} {t : Tree} → next s ≡ Some (k, z) → literal_of k ≡ Some t → Primary N s t z
   a_negative : {s m z : Place} {n : ℕ} → next s ≡ Some (kind.Minus, m) → at joined m ≡ Some (n, z) → fits_below n ≡ true → Primary N s (int (negated n)) z
-  a_text : {s z : Place} {i : ℕ} → next s ≡ Some (kind.Text i, z) → Primary N s (text i) z
-  a_nil : {s z : Place} → next s ≡ Some (kind.Nil, z) → Primary N s nil z
-  a_truth : {s z : Place} {b : Bool} → next s ≡ Some (kind.Truth b, z) → Primary N s (truth b) z
-  a_local : {s z : Place} {x : Sym} → next s ≡ Some (kind.Name x, z) → at (bracket x) z ≡ None → is_local x z ≡ true → Primary N s (local x.0) z
-  a_call : {s z : Place} {x : Sym} → next s ≡ Some (kind.Name x, z) → is_puts x ≡ false → is_local x z ≡ false → Primary N s (call x.0) z
-  a_marked_call : {s z : Place} {x : Sym} → next s ≡ Some (kind.Marked x, z) → Primary N s (call x.0) z
-  -- `puts` with no arguments
-  a_bare_puts : {s z : Place} {x : Sym} → next s ≡ Some (kind.Name x, z) → at (bracket x) z ≡ None → is_puts x ≡ true → is_local x z ≡ false → begins_operands z.rest ≡ false
-      → Primary N s (puts (listed [])) z
-  -- `puts` with arguments in brackets
-  a_puts : {s m n o z : Place} {x : Sym} {u : Unit {0}} {l : List Tree} → next s ≡ Some (kind.Name x, m) → at (bracket x) m ≡ Some (u, n) → N.bracketed n l o → next o ≡ Some (kind.Close, z)
-      → Primary N s (puts (listed l)) z
-  a_group : {s m n z : Place} {t : Tree} → next s ≡ Some (kind.Open, m) → N.statements m t n → next n ≡ Some (kind.Close, z) → Primary N s t z
-  an_if : {s m z : Place} {t : Tree} → next s ≡ Some (kind.If, m) → N.choice m t z → Primary N s t z
+  a_local : {s z : Place} {x : Sym} → at name s ≡ Some (x, z) → at bracket z ≡ None → is_local x z ≡ true → Primary N s (local 0 (slot_of x z) x.0) z
+  -- a call with no arguments
+  a_bare_call : {s z : Place} {x : Sym} → at name s ≡ Some (x, z) → at bracket z ≡ None → is_local x z ≡ false → begins_operands z.rest ≡ false → Primary N s (bare x.0) z
+  -- a call with arguments in brackets
+  a_call : {s m n z : Place} {x : Sym} {u : Unit {0}} {l : List Tree} → at name s ≡ Some (x, m) → at bracket m ≡ Some (u, n) → N.bracketed n l z → Primary N s (call x.0 (listed l)) z
+  a_construct : {s m z : Place} {k : WordKind} {p : Part} {t : Tree} → next s ≡ Some (k, m) → construct_of k ≡ Some p → N.part p m t z → Primary N s t z
+
+-- ---- what follows an operand
+
+abbrev pub square : Look (Unit {0})
+square = tight_as (λ k. where_true (is_kind k kind.OpenSquare))
+
+abbrev pub called : Sym → List Word → Option (Unit {0} × List Word) → Option (Tail × List Word)
+called x ws (Some r) = Some (tails.Call x, r.1)
+called x ws None = if begins_operands ws then None else Some (tails.Send x, ws)
+
+abbrev pub sent : Option (Sym × List Word) → Option (Tail × List Word)
+sent None = None
+sent (Some x) = called x.0 x.1 (bracket x.1)
+
+abbrev pub indexed : Option (Unit {0} × List Word) → Option (Tail × List Word)
+indexed None = None
+indexed (Some r) = Some (tails.Index, r.1)
+
+abbrev pub behind_dot : List Word → Option (Unit {0} × List Word) → Option (Tail × List Word)
+behind_dot ws None = indexed (square ws)
+behind_dot ws (Some r) = sent (name r.1)
+
+-- A dot and a name, unless operands follow, which make a command of it; or a bracket with no blank before it.
+abbrev pub tail : Look Tail
+tail ws = behind_dot ws (word kind.Dot ws)
+
+-- what an operand and what follows it make
+pub data Tailed (N : Nested) : Tail → Tree → Place → Tree → Place → Type 0 where
+  a_send : {s : Place} {x : Sym} {r : Tree} → Tailed N (tails.Send x) r s (send r x.0 (listed [])) s
+  a_sent_call : {s z : Place} {x : Sym} {r : Tree} {l : List Tree} → N.bracketed s l z → Tailed N (tails.Call x) r s (send r x.0 (listed l)) z
+  an_index : {s z : Place} {r i : Tree} → N.part parts.Index s i z → Tailed N tails.Index r s (index r i) z
+
+abbrev pub Postfix : Nested → Place → Tree → Place → Type 0
+Postfix N = Trail tail (Primary N) (Tailed N)
+
+pub data Bang (N : Nested) : Place → Tree → Place → Type 0 where
+  a_bang : {s m z : Place} {t : Tree} → next s ≡ Some (kind.Bang, m) → N.part parts.Bang m t z → Bang N s (logical_not t) z
+  no_bang : {s z : Place} {t : Tree} → Postfix N s t z → Bang N s t z
 
 pub data Minus (N : Nested) : Place → Tree → Place → Type 0 where
-  a_minus : {s m z : Place} {t : Tree} → next s ≡ Some (kind.Minus, m) → at joined m ≡ None → N.minus m t z → Minus N s (negate t) z
-  a_primary : {s z : Place} {t : Tree} → Primary N s t z → Minus N s t z
+  a_minus : {s m z : Place} {t : Tree} → next s ≡ Some (kind.Minus, m) → at joined m ≡ None → N.part parts.Minus m t z → Minus N s (negate t) z
+  no_minus : {s z : Place} {t : Tree} → Bang N s t z → Minus N s t z

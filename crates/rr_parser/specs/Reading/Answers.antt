@@ -1,5 +1,6 @@
 -- What reading answers, and reading one thing after another.
 use Rattle.std.specs.Prelude.{ℕ, zero, suc, length, Option, Some, None, Result, Ok, Err}
+use Rattle.rr_tree.specs.Tree.{Tree}
 use Rattle.rr_parser.specs.declared.word.WordKind.{WordKind}
 use Rattle.rr_parser.specs.Places.{Place, Look, word, at}
 
@@ -32,11 +33,36 @@ ended_by t (Some x) = Ok (t, x.1)
 abbrev pub closed : {A : Type 0} → WordKind → Answer A → Answer A
 closed k r = r >>= λ x. ended_by x.0 (at (word k) x.1)
 
+-- one thing, and another that goes on from it
+abbrev pub from : {A B : Type 0} → Parse A → (A → Parse B) → Parse B
+from p on s = p s >>= λ x. on x.0 x.1
+
+abbrev pub on_seen : {B C : Type 0} → (B → C) → Parse B → Option (Unit {0} × Place) → Answer C
+on_seen f p None = Err wrong
+on_seen f p (Some x) = built f (p x.1)
+
+-- what was read, what is seen behind it, and what p reads there
+abbrev pub across : {A B C : Type 0} → (A → B → C) → Look (Unit {0}) → Parse B → Answer A → Answer C
+across f look p r = r >>= λ a. on_seen (f a.0) p (at look a.1)
+
 -- ---- chains
 
 abbrev pub turn : {X R S : Type 0} → (X → S → R → S) → Parse R → (S → Parse S) → S → Place → Option (X × Place) → Answer S
 turn join p go l s None = Ok (l, s)
 turn join p go l s (Some x) = p x.1 >>= λ r. go (join x.0 l r.0) r.1
+
+abbrev pub trail_turn : {X : Type 0} → (X → Tree → Parse Tree) → (Tree → Parse Tree) → Tree → Place → Option (X × Place) → Answer Tree
+trail_turn q go l s None = Ok (l, s)
+trail_turn q go l s (Some x) = q x.0 l x.1 >>= λ r. go r.0 r.1
+
+-- what a trail gives of which l has come; the number bounds the turns
+unfoldable pub trail_from : {X : Type 0} → Look X → (X → Tree → Parse Tree) → ℕ → Tree → Parse Tree
+trail_from look q zero l s = Ok (l, s)
+trail_from look q (suc n) l s = trail_turn q (trail_from look q n) l s (at look s)
+
+-- the same with turns enough
+unfoldable pub trail_on : {X : Type 0} → Look X → (X → Tree → Parse Tree) → Tree → Parse Tree
+trail_on look q l s = trail_from look q (length s.rest) l s
 
 -- what a chain gives of which l has come; the number bounds the turns
 unfoldable pub chain_from : {X R S : Type 0} → Look X → (X → S → R → S) → Parse R → ℕ → S → Parse S

@@ -1,42 +1,96 @@
--- Reading assignments and arguments.
-use Rattle.std.specs.Prelude.{List, [], Option, Some, None, Ok}
+-- Reading assignments, arguments and commands.
+use Rattle.std.specs.Prelude.{List, [], Bool, true, false, Option, Some, None, is_some, Ok, Err}
 use Rattle.rr_base.specs.declared.name.Sym.{Sym}
-use Rattle.rr_tree.specs.Tree.{Tree, assign}
+use Rattle.rr_tree.specs.Tree.{Tree, array, hash, symbol, pair, listed}
+use Rattle.rr_parser.specs.declared.word.Part.TheVariants as parts
 use Rattle.rr_parser.specs.declared.word.WordKind.TheVariants as kind
+use Rattle.rr_parser.specs.declared.word.Aim.{Aim}
+use Rattle.rr_parser.specs.declared.word.Listed.{Listed}
+use Rattle.rr_parser.specs.declared.word.Listed.TheVariants as listings
 use Rattle.rr_parser.specs.declared.word.Word.{Word}
-use Rattle.rr_parser.specs.Places.{Place, Look, word, at}
+use Rattle.rr_parser.specs.Places.{Place, Look, unless, word, at}
 use Rattle.rr_parser.specs.Grammar.Chains.{one_of, and_one}
-use Rattle.rr_parser.specs.Grammar.Names.{with_local, name}
-use Rattle.rr_parser.specs.Grammar.Calls.{comma}
-use Rattle.rr_parser.specs.Reading.Answers.{Answer, Parse, built, chain}
+use Rattle.rr_parser.specs.Grammar.Names.{command}
+use Rattle.rr_parser.specs.Grammar.Calls.{target, with_target, assigned_to, label, comma, closing, last}
+use Rattle.rr_parser.specs.Reading.Answers.{◌>>=◌, wrong, Answer, Parse, built, ended_by, closed, across, chain}
 use Rattle.rr_parser.specs.Reading.Nesting.{Readers}
-use Rattle.rr_parser.specs.Reading.Operators.{equality_of}
+use Rattle.rr_parser.specs.Reading.Operands.{call_of}
+use Rattle.rr_parser.specs.Reading.Operators.{ternary_of}
 
-abbrev pub assigned : Sym → Option (Unit {0} × List Word) → Option (Sym × List Word)
-assigned x None = None
-assigned x (Some r) = Some (x, r.1)
+abbrev pub assigned_or : Readers → Bool → Parse Tree → Place → Option (Aim × Place) → Answer Tree
+assigned_or N commands q s None = q s
+assigned_or N commands q s (Some x) = built (assigned_to x.0 (with_target x.0.target x.1)) (N.value commands (with_target x.0.target x.1))
 
-abbrev pub named : Option (Sym × List Word) → Option (Sym × List Word)
-named None = None
-named (Some x) = assigned x.0 (word kind.Assign x.1)
+unfoldable pub assigned_of : Readers → Bool → Parse Tree → Parse Tree
+assigned_of N commands q s = assigned_or N commands q s (at target s)
 
--- the name and the sign of an assignment
-abbrev pub target : Look Sym
-target ws = named (name ws)
+abbrev pub argument_of : Readers → Parse Tree
+argument_of N = assigned_of N false (ternary_of N)
 
-abbrev pub argument_or : Readers → Place → Option (Sym × Place) → Answer Tree
-argument_or N s None = equality_of N s
-argument_or N s (Some x) = built (assign x.0.0) (N.value (with_local x.0 x.1))
+abbrev pub pair_by : Readers → Place → Option (Sym × Place) → Answer Tree
+pair_by N s None = across pair (word kind.Arrow) (argument_of N) (argument_of N s)
+pair_by N s (Some x) = built (pair (symbol x.0.0)) (argument_of N x.1)
 
-unfoldable pub argument_of : Readers → Parse Tree
-argument_of N s = argument_or N s (at target s)
+unfoldable pub pair_of : Readers → Parse Tree
+pair_of N s = pair_by N s (at label s)
 
-unfoldable pub arguments_of : Readers → Parse (List Tree)
-arguments_of N = chain comma one_of and_one (argument_of N)
+abbrev pub member_of : Readers → Listed → Parse Tree
+member_of N listings.Command = argument_of N
+member_of N listings.Call = argument_of N
+member_of N listings.Array = argument_of N
+member_of N listings.Hash = pair_of N
 
-abbrev pub bracketed_or : Readers → Place → Option (Unit {0} × Place) → Answer (List Tree)
-bracketed_or N s None = arguments_of N s
-bracketed_or N s (Some x) = Ok ([], s)
+abbrev pub unless_closing : Listed → Option (Unit {0} × List Word) → Option (Unit {0} × List Word)
+unless_closing k None = None
+unless_closing k (Some r) = unless (is_some (closing k r.1)) (Some r)
 
-unfoldable pub bracketed_of : Readers → Parse (List Tree)
-bracketed_of N s = bracketed_or N s (at (word kind.Close) s)
+-- a comma, unless the list ends behind it
+abbrev pub another : Listed → Look (Unit {0})
+another k ws = unless_closing k (comma ws)
+
+unfoldable pub members_of : Readers → Listed → Parse (List Tree)
+members_of N k = chain (another k) one_of and_one (member_of N k)
+
+abbrev pub bracketed_or : Readers → Listed → Place → Option (Unit {0} × Place) → Answer (List Tree)
+bracketed_or N k s None = members_of N k s >>= λ l. ended_by l.0 (at (last k) l.1)
+bracketed_or N k s (Some x) = Ok ([], x.1)
+
+unfoldable pub bracketed_of : Readers → Listed → Parse (List Tree)
+bracketed_of N k s = bracketed_or N k s (at (closing k) s)
+
+unfoldable pub array_of : Readers → Parse Tree
+array_of N s = built (λ l. array (listed l)) (bracketed_of N listings.Array s)
+
+unfoldable pub hash_of : Readers → Parse Tree
+hash_of N s = built (λ l. hash (listed l)) (bracketed_of N listings.Hash s)
+
+unfoldable pub index_of : Readers → Parse Tree
+index_of N s = closed kind.CloseSquare (argument_of N s)
+
+abbrev pub commanded_or : Readers → Place → Option (Sym × Place) → Answer (List Tree)
+commanded_or N s None = members_of N listings.Command s
+commanded_or N s (Some x) = built one_of (N.part parts.Command s)
+
+unfoldable pub commanded_of : Readers → Parse (List Tree)
+commanded_of N s = commanded_or N s (at (command s.known) s)
+
+abbrev pub command_or : Readers → Option (Sym × Place) → Answer Tree
+command_or N None = Err wrong
+command_or N (Some x) = call_of x.0 (commanded_of N x.1)
+
+unfoldable pub command_of : Readers → Parse Tree
+command_of N s = command_or N (at (command s.known) s)
+
+abbrev pub phrase_or : Readers → Place → Option (Sym × Place) → Answer Tree
+phrase_or N s None = ternary_of N s
+phrase_or N s (Some x) = call_of x.0 (commanded_of N x.1)
+
+unfoldable pub phrase_of : Readers → Parse Tree
+phrase_of N s = phrase_or N s (at (command s.known) s)
+
+abbrev pub operand_of : Readers → Bool → Parse Tree
+operand_of N false = ternary_of N
+operand_of N true = phrase_of N
+
+abbrev pub value_of : Readers → Bool → Parse Tree
+value_of N commands = assigned_of N commands (operand_of N commands)

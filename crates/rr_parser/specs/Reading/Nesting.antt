@@ -1,11 +1,10 @@
 -- What is read one level of nesting further in.
-use Rattle.std.specs.Prelude.{List}
+use Rattle.std.specs.Prelude.{List, Bool}
 use Rattle.rr_tree.specs.Tree.{Tree}
+use Rattle.rr_parser.specs.declared.word.Part.{Part}
 use Rattle.rr_parser.specs.Reading.Answers.{Parse}
 
 pub record Readers : Type 0 where
-  pub statements : Parse Tree
+  pub part : Part → Parse Tree
   pub bracketed : Parse (List Tree)
-  pub choice : Parse Tree
-  pub minus : Parse Tree
-  pub value : Parse Tree
+  pub value : Bool → Parse Tree

@@ -2,36 +2,37 @@ use Rattle.std.proofs.Common.{List, ◌-◌, sym, subst, arith}
 use Rattle.std.proofs.lemmas.Result.{err_from_is_err_and}
 use Rattle.rr_tree.specs.Tree.{Tree, binary}
 use Rattle.rr_parser.specs.Grammar.Chains.{and_one}
-use Rattle.rr_parser.specs.Grammar.Operators.{operator}
-use Rattle.rr_parser.specs.Grammar.Calls.{comma}
+use Rattle.rr_parser.specs.Grammar.Operators.{operator, connective, joined_by}
+use Rattle.rr_parser.specs.Grammar.Sequences.{modifier, modified}
 use Rattle.rr_parser.specs.Grammar.Control.{elsif}
 use Rattle.rr_parser.specs.Reading.Answers.{Parse}
-use Rattle.rr_parser.specs.Reading.Operators.{binary_of}
-use Rattle.rr_parser.specs.Reading.Calls.{argument_of}
-use Rattle.rr_parser.specs.Reading.Control.{statement_of, branch_of, row}
+use Rattle.rr_parser.specs.Reading.Operators.{binary_of, logical_of}
+use Rattle.rr_parser.specs.Reading.Calls.{another, member_of}
+use Rattle.rr_parser.specs.Reading.Sequences.{negation_of, expression_of, statement_of, row}
+use Rattle.rr_parser.specs.Reading.Control.{branch_of}
 use Rattle.rr_parser.specs.Reading.{readers}
 use Rattle.rr_parser.specs.Meets.{Gives, GivesList, nodes, pairs, lists, place}
-use Rattle.rr_parser.proofs.Looks.{Steps-row}
-use Rattle.rr_parser.proofs.Shrinking.{Steps-operator, Steps-comma, Steps-elsif, shrinks_nested}
-use Rattle.rr_parser.proofs.Making.{stable_nodes, stable_pairs, goes_ends, goes_fails, goes_smaller, list_on, operators_on, nested_statements, nested_minus, nested_bracketed, nested_choice, made_pair, made_branch, made_choice, made_assignment, fails_assignment}
+use Rattle.rr_parser.proofs.Looks.{Steps-row, Steps-another}
+use Rattle.rr_parser.proofs.Shrinking.{Steps-operator, Steps-connective, Steps-modifier, Steps-elsif, shrinks_nested}
+use Rattle.rr_parser.proofs.Making.{made_send, made_element, made_arrow, trail_fails, trail_smaller, trail_goes, trail_ends, stable_nodes, stable_pairs, goes_ends, goes_fails, goes_smaller, list_on, operators_on, nested_part, nested_bracketed, made_alternatives, made_pair, made_branch, made_loop, made_choice, made_unless, gives_outside}
 use Rattle.rr_parser.proofs.parser.Parser.+parser.Goals as goal
 
-pub arguments-returns-in_err-next : goal.arguments-returns-in_err-next
-arguments-returns-in_err-next t c =
+pub members-returns-in_err-next : goal.members-returns-in_err-next
+members-returns-in_err-next t c =
     let p = err_from_is_err_and c.from_residual-in_err-next.result c.from_residual-in_err-next.ensures.1 in
-    rw (p.1, p.2) (goes_fails (lists nodes) nodes comma and_one (argument_of (readers c.args.inside c.args.depth)) Steps-comma (shrinks_nested c.args.inside c.args.depth).argument _ _ _ _ _ _ _ _ c.loop-after.invariant c.in-Some.ensures c.in_err-next.ensures)
+    rw (p.1, p.2) (goes_fails (lists nodes) nodes (another c.args.list) and_one (member_of (readers c.args.inside c.args.depth) c.args.list) (Steps-another c.args.list) ((shrinks_nested c.args.inside c.args.depth).member c.args.list) _ _ _ _ _ _ _ _ c.loop-after.invariant c.in-Some.ensures c.in_err-next.ensures)
 
-pub arguments-loop-after-smaller : goal.arguments-loop-after-smaller
-arguments-loop-after-smaller t c =
-    goes_smaller (lists nodes) nodes comma and_one (argument_of (readers c.args.inside c.args.depth)) Steps-comma (shrinks_nested c.args.inside c.args.depth).argument _ _ _ _ _ _ _ c.in-Some.ensures c.in_ok-next.ensures
+pub members-loop-after-smaller : goal.members-loop-after-smaller
+members-loop-after-smaller t c =
+    goes_smaller (lists nodes) nodes (another c.args.list) and_one (member_of (readers c.args.inside c.args.depth) c.args.list) (Steps-another c.args.list) ((shrinks_nested c.args.inside c.args.depth).member c.args.list) _ _ _ _ _ _ _ c.in-Some.ensures c.in_ok-next.ensures
 
-pub arguments-loop-after-preserved : goal.arguments-loop-after-preserved
-arguments-loop-after-preserved t c =
-    list_on nodes stable_nodes comma (argument_of (readers c.args.inside c.args.depth)) Steps-comma (shrinks_nested c.args.inside c.args.depth).argument _ _ _ _ _ _ _ _ _ _ _ c.loop-after.invariant c.in-Some.ensures c.in_ok-next.ensures c.in_ok-push-2.ensures.items
+pub members-loop-after-preserved : goal.members-loop-after-preserved
+members-loop-after-preserved t c =
+    list_on nodes stable_nodes (another c.args.list) (member_of (readers c.args.inside c.args.depth) c.args.list) (Steps-another c.args.list) ((shrinks_nested c.args.inside c.args.depth).member c.args.list) _ _ _ _ _ _ _ _ _ _ _ c.loop-after.invariant c.in-Some.ensures c.in_ok-next.ensures c.in_ok-push-2.ensures.items
 
-pub arguments-returns : goal.arguments-returns
-arguments-returns t c =
-    goes_ends (lists nodes) nodes comma and_one (argument_of (readers c.args.inside c.args.depth)) Steps-comma (shrinks_nested c.args.inside c.args.depth).argument _ _ _ _ _ c.loop-after.invariant c.in_default.ensures
+pub members-returns : goal.members-returns
+members-returns t c =
+    goes_ends (lists nodes) nodes (another c.args.list) and_one (member_of (readers c.args.inside c.args.depth) c.args.list) (Steps-another c.args.list) ((shrinks_nested c.args.inside c.args.depth).member c.args.list) _ _ _ _ _ c.loop-after.invariant c.in_default.ensures
 
 pub rows-returns-in_err-next : goal.rows-returns-in_err-next
 rows-returns-in_err-next t c =
@@ -67,63 +68,139 @@ pub branches-returns : goal.branches-returns
 branches-returns t c =
     goes_ends (lists pairs) pairs elsif and_one (branch_of (readers c.args.inside c.args.depth)) Steps-elsif (shrinks_nested c.args.inside c.args.depth).branch _ _ _ _ _ c.loop-after.invariant c.in_default.ensures
 
-pub binary-returns-in_err-right : goal.binary-returns-in_err-right
-binary-returns-in_err-right t c =
+pub statement-returns-in_err-condition : goal.statement-returns-in_err-condition
+statement-returns-in_err-condition t c =
+    let p = err_from_is_err_and c.from_residual-in_err-condition.result c.from_residual-in_err-condition.ensures.1 in
+    rw (p.1, p.2) (goes_fails nodes nodes modifier modified (expression_of (readers c.args.inside c.args.depth)) Steps-modifier (shrinks_nested c.args.inside c.args.depth).expression _ _ _ _ _ _ _ _ c.loop-modifier.invariant c.in-Some.ensures c.in_err-condition.ensures)
+
+pub statement-loop-modifier-smaller : goal.statement-loop-modifier-smaller
+statement-loop-modifier-smaller t c =
+    goes_smaller nodes nodes modifier modified (expression_of (readers c.args.inside c.args.depth)) Steps-modifier (shrinks_nested c.args.inside c.args.depth).expression _ _ _ _ _ _ _ c.in-Some.ensures c.in_ok-condition.ensures
+
+pub statement-loop-modifier-preserved : goal.statement-loop-modifier-preserved
+statement-loop-modifier-preserved t c =
+    operators_on modifier modified (expression_of (readers c.args.inside c.args.depth)) Steps-modifier (shrinks_nested c.args.inside c.args.depth).expression _ _ _ _ _ _ _ _ _ _ _ _ c.loop-modifier.invariant c.in-Some.ensures c.in_ok-condition.ensures c.in_ok-statement-2.ensures
+
+pub statement-returns : goal.statement-returns
+statement-returns t c =
+    goes_ends nodes nodes modifier modified (expression_of (readers c.args.inside c.args.depth)) Steps-modifier (shrinks_nested c.args.inside c.args.depth).expression _ _ _ _ _ c.loop-modifier.invariant c.in_default.ensures
+
+pub expression-returns-in_err-right : goal.expression-returns-in_err-right
+expression-returns-in_err-right t c =
+    let p = err_from_is_err_and c.from_residual-in_err-right.result c.from_residual-in_err-right.ensures.1 in
+    rw (p.1, p.2) (goes_fails nodes nodes (connective 3) joined_by (negation_of (readers c.args.inside c.args.depth)) (Steps-connective 3) (shrinks_nested c.args.inside c.args.depth).negation _ _ _ _ _ _ _ _ c.loop-connective.invariant c.in-Some.ensures c.in_err-right.ensures)
+
+pub expression-loop-connective-smaller : goal.expression-loop-connective-smaller
+expression-loop-connective-smaller t c =
+    goes_smaller nodes nodes (connective 3) joined_by (negation_of (readers c.args.inside c.args.depth)) (Steps-connective 3) (shrinks_nested c.args.inside c.args.depth).negation _ _ _ _ _ _ _ c.in-Some.ensures c.in_ok-right.ensures
+
+pub expression-loop-connective-preserved : goal.expression-loop-connective-preserved
+expression-loop-connective-preserved t c =
+    operators_on (connective 3) joined_by (negation_of (readers c.args.inside c.args.depth)) (Steps-connective 3) (shrinks_nested c.args.inside c.args.depth).negation _ _ _ _ _ _ _ _ _ _ _ _ c.loop-connective.invariant c.in-Some.ensures c.in_ok-right.ensures c.in_ok-left-2.ensures
+
+pub expression-returns : goal.expression-returns
+expression-returns t c =
+    goes_ends nodes nodes (connective 3) joined_by (negation_of (readers c.args.inside c.args.depth)) (Steps-connective 3) (shrinks_nested c.args.inside c.args.depth).negation _ _ _ _ _ c.loop-connective.invariant c.in_default.ensures
+
+pub binary_on-returns-in_err-right : goal.binary_on-returns-in_err-right
+binary_on-returns-in_err-right t c =
     let p = err_from_is_err_and c.from_residual-in_err-right.result c.from_residual-in_err-right.ensures.1 in
     rw (p.1, p.2) (goes_fails nodes nodes (operator c.args.level) binary (binary_of (readers c.args.inside c.args.depth) (c.args.level - 1)) (Steps-operator c.args.level) ((shrinks_nested c.args.inside c.args.depth).binary (c.args.level - 1)) _ _ _ _ _ _ _ _ c.loop-operator.invariant.goes c.in-Some.ensures c.in_err-right.ensures)
 
-pub binary-loop-operator-smaller : goal.binary-loop-operator-smaller
-binary-loop-operator-smaller t c =
+pub binary_on-loop-operator-smaller : goal.binary_on-loop-operator-smaller
+binary_on-loop-operator-smaller t c =
     goes_smaller nodes nodes (operator c.args.level) binary (binary_of (readers c.args.inside c.args.depth) (c.args.level - 1)) (Steps-operator c.args.level) ((shrinks_nested c.args.inside c.args.depth).binary (c.args.level - 1)) _ _ _ _ _ _ _ c.in-Some.ensures c.in_ok-right.ensures
 
-pub binary-loop-operator-preserved : goal.binary-loop-operator-preserved
-binary-loop-operator-preserved t c = record {
+pub binary_on-loop-operator-preserved : goal.binary_on-loop-operator-preserved
+binary_on-loop-operator-preserved t c = record {
   above = c.loop-operator.invariant.above;
   at_most = c.loop-operator.invariant.at_most;
-  goes = operators_on (operator c.args.level) (binary_of (readers c.args.inside c.args.depth) (c.args.level - 1)) (Steps-operator c.args.level) ((shrinks_nested c.args.inside c.args.depth).binary (c.args.level - 1)) _ _ _ _ _ _ _ _ _ _ _ _ c.loop-operator.invariant.goes c.in-Some.ensures c.in_ok-right.ensures c.in_ok-left-2.ensures.puts;
+  goes = operators_on (operator c.args.level) binary (binary_of (readers c.args.inside c.args.depth) (c.args.level - 1)) (Steps-operator c.args.level) ((shrinks_nested c.args.inside c.args.depth).binary (c.args.level - 1)) _ _ _ _ _ _ _ _ _ _ _ _ c.loop-operator.invariant.goes c.in-Some.ensures c.in_ok-right.ensures c.in_ok-left-2.ensures.puts;
 }
 
-pub binary-returns : goal.binary-returns
-binary-returns t c =
+pub binary_on-returns : goal.binary_on-returns
+binary_on-returns t c =
     goes_ends nodes nodes (operator c.args.level) binary (binary_of (readers c.args.inside c.args.depth) (c.args.level - 1)) (Steps-operator c.args.level) ((shrinks_nested c.args.inside c.args.depth).binary (c.args.level - 1)) _ _ _ _ _ c.loop-operator.invariant.goes c.in_default.ensures
 
-pub argument-returns : goal.argument-returns
-argument-returns t c =
-    made_assignment (readers c.args.inside c.args.depth) c.args.self.now c.mark.new.self c.value.new.self c.put.new.self _ _ _ _ _ _ c.in_ok-mark.ensures c.in-Some.ensures c.in_ok-value.ensures c.in_ok-put.ensures.puts
+pub logical_on-returns-in_err-right : goal.logical_on-returns-in_err-right
+logical_on-returns-in_err-right t c =
+    let p = err_from_is_err_and c.from_residual-in_err-right.result c.from_residual-in_err-right.ensures.1 in
+    rw (p.1, p.2) (goes_fails nodes nodes (connective c.args.level) joined_by (logical_of (readers c.args.inside c.args.depth) (c.args.level - 1)) (Steps-connective c.args.level) ((shrinks_nested c.args.inside c.args.depth).logical (c.args.level - 1)) _ _ _ _ _ _ _ _ c.loop-connective.invariant.goes c.in-Some.ensures c.in_err-right.ensures)
 
-pub argument-returns-in_err-value : goal.argument-returns-in_err-value
-argument-returns-in_err-value t c =
-    let p = err_from_is_err_and c.from_residual-in_err-value.result c.from_residual-in_err-value.ensures.1 in
-    rw (p.1, p.2) (fails_assignment (readers c.args.inside c.args.depth) c.args.self.now c.mark.new.self _ _ _ _ c.in_ok-mark.ensures c.in-Some.ensures c.in_err-value.ensures)
+pub logical_on-loop-connective-smaller : goal.logical_on-loop-connective-smaller
+logical_on-loop-connective-smaller t c =
+    goes_smaller nodes nodes (connective c.args.level) joined_by (logical_of (readers c.args.inside c.args.depth) (c.args.level - 1)) (Steps-connective c.args.level) ((shrinks_nested c.args.inside c.args.depth).logical (c.args.level - 1)) _ _ _ _ _ _ _ c.in-Some.ensures c.in_ok-right.ensures
 
-pub equality-returns : goal.equality-returns
-equality-returns t c =
-    made_pair (readers c.args.inside c.args.depth) c.args.self.now c.binary.new.self c.binary-2.new.self c.put.new.self _ _ _ _ _ _ _ _ c.in_ok-left.ensures c.in-Some.ensures c.in_ok-right.ensures c.in_ok-put.ensures.puts
+pub logical_on-loop-connective-preserved : goal.logical_on-loop-connective-preserved
+logical_on-loop-connective-preserved t c = record {
+  above = c.loop-connective.invariant.above;
+  at_most = c.loop-connective.invariant.at_most;
+  goes = operators_on (connective c.args.level) joined_by (logical_of (readers c.args.inside c.args.depth) (c.args.level - 1)) (Steps-connective c.args.level) ((shrinks_nested c.args.inside c.args.depth).logical (c.args.level - 1)) _ _ _ _ _ _ _ _ _ _ _ _ c.loop-connective.invariant.goes c.in-Some.ensures c.in_ok-right.ensures c.in_ok-left-2.ensures;
+}
 
-pub branch-returns : goal.branch-returns
-branch-returns t c =
-    made_branch (readers c.args.inside c.args.depth) c.args.self.now c.statement.new.self c.statements.new.self _ _ _ _ _ _ c.in_ok-condition.ensures c.in-Some.ensures c.in_ok-then.ensures
+pub logical_on-returns : goal.logical_on-returns
+logical_on-returns t c =
+    goes_ends nodes nodes (connective c.args.level) joined_by (logical_of (readers c.args.inside c.args.depth) (c.args.level - 1)) (Steps-connective c.args.level) ((shrinks_nested c.args.inside c.args.depth).logical (c.args.level - 1)) _ _ _ _ _ c.loop-connective.invariant.goes c.in_default.ensures
 
-pub choice-returns-in_ok-put_choices-in-Some : goal.choice-returns-in_ok-put_choices-in-Some
-choice-returns-in_ok-put_choices-in-Some t c =
-    made_choice (readers c.args.inside c.args.depth) c.args.self.now c.branches.new.self c.otherwise.new.self c.put_choices.new.self _ _ _ _ _ _ _ c.in_ok-branches.ensures c.in_ok-otherwise.ensures c.in-Some.ensures c.in_ok-put_choices-in-Some.ensures
-
-pub inner_statements-returns : goal.inner_statements-returns
-inner_statements-returns t c =
-    subst (λ (p : Parse Tree). Gives c.args.self.now c.statements.new.self c.statements.result (p (place c.args.self.now c.args.words.now)))
-    (sym (nested_statements c.args.inside c.args.depth (omega arith))) c.statements.ensures
-
-pub inner_minus-returns : goal.inner_minus-returns
-inner_minus-returns t c =
-    subst (λ (p : Parse Tree). Gives c.args.self.now c.minus.new.self c.minus.result (p (place c.args.self.now c.args.words.now)))
-    (sym (nested_minus c.args.inside c.args.depth (omega arith))) c.minus.ensures
-
-pub inner_choice-returns : goal.inner_choice-returns
-inner_choice-returns t c =
-    subst (λ (p : Parse Tree). Gives c.args.self.now c.choice.new.self c.choice.result (p (place c.args.self.now c.args.words.now)))
-    (sym (nested_choice c.args.inside c.args.depth (omega arith))) c.choice.ensures
+pub part-returns : goal.part-returns
+part-returns t c =
+    subst (λ p. Gives c.args.self.now c.part_within.new.self c.part_within.result (p c.args.part (place c.args.self.now c.args.words.now)))
+    (sym (nested_part c.args.inside c.args.depth (omega arith))) c.part_within.ensures
 
 pub inner_arguments-returns : goal.inner_arguments-returns
 inner_arguments-returns t c =
     subst (λ (p : Parse (List Tree)). GivesList c.args.self.now c.bracketed.new.self c.bracketed.result (p (place c.args.self.now c.args.words.now)))
     (sym (nested_bracketed c.args.inside c.args.depth (omega arith))) c.bracketed.ensures
+
+pub alternatives-returns : goal.alternatives-returns
+alternatives-returns t c =
+    made_alternatives (readers c.args.inside c.args.depth) c.args.self.now c.part.new.self c.part-2.new.self c.put.new.self _ _ _ _ _ _ _ _ c.requires c.in_ok-then.ensures c.in-Some.ensures c.in_ok-otherwise.ensures c.in_ok-put.ensures.puts
+
+pub equality_on-returns : goal.equality_on-returns
+equality_on-returns t c =
+    made_pair (readers c.args.inside c.args.depth) c.args.self.now c.binary_on.new.self c.binary.new.self c.put.new.self _ _ _ _ _ _ _ _ _ c.in_ok-left.ensures c.in-Some.ensures c.in_ok-right.ensures c.in_ok-put.ensures.puts
+
+pub branch-returns : goal.branch-returns
+branch-returns t c =
+    made_branch (readers c.args.inside c.args.depth) c.args.self.now c.expression.new.self c.statements.new.self _ _ _ _ _ _ c.in_ok-condition.ensures c.in-Some.ensures c.in_ok-then.ensures
+
+pub choice-returns-in_ok-put_choices-in-Some : goal.choice-returns-in_ok-put_choices-in-Some
+choice-returns-in_ok-put_choices-in-Some t c =
+    made_choice (readers c.args.inside c.args.depth) c.args.self.now c.branches.new.self c.otherwise.new.self c.put_choices.new.self _ _ _ _ _ _ _ c.in_ok-branches.ensures c.in_ok-otherwise.ensures c.in-Some.ensures c.in_ok-put_choices-in-Some.ensures
+
+pub unless-returns-in_ok-put-in-Some : goal.unless-returns-in_ok-put-in-Some
+unless-returns-in_ok-put-in-Some t c =
+    made_unless (readers c.args.inside c.args.depth) c.args.self.now c.branch-self.new.self c.otherwise.new.self c.put.new.self _ _ _ _ _ _ _ _ c.in_ok-condition.ensures c.in_ok-otherwise.ensures c.in-Some.ensures c.in_ok-put-in-Some.ensures.puts
+
+pub repeat-returns : goal.repeat-returns
+repeat-returns t c =
+    made_loop (readers c.args.inside c.args.depth) c.args.until c.args.self.now c.expression.new.self c.statements.new.self c.put.new.self _ _ _ _ _ _ _ _ c.in_ok-condition.ensures c.in-Some.ensures c.in_ok-body.ensures c.in-Some-behind.ensures c.in_ok-put.ensures.puts
+
+pub right_side-returns-then-not-inside : goal.right_side-returns-then-not-inside
+right_side-returns-then-not-inside t c = gives_outside c.args.self.now c.value.new.self c.value.result c.args.inside c.args.depth c.args.commands _ c.if-not-inside.true c.value.ensures
+
+pub postfix-returns-in_err-made : goal.postfix-returns-in_err-made
+postfix-returns-in_err-made t c =
+    let p = err_from_is_err_and c.from_residual-in_err-made.result c.from_residual-in_err-made.ensures.1 in
+    rw (p.1, p.2) (trail_fails (readers c.args.inside c.args.depth) (shrinks_nested c.args.inside c.args.depth) _ _ _ _ _ _ _ _ c.loop-tail.invariant c.in-Some.ensures c.in_err-made.ensures)
+
+pub postfix-loop-tail-smaller : goal.postfix-loop-tail-smaller
+postfix-loop-tail-smaller t c = trail_smaller (readers c.args.inside c.args.depth) (shrinks_nested c.args.inside c.args.depth) _ _ _ _ _ _ _ _ c.in-Some.ensures c.in_ok-made.ensures
+
+pub postfix-loop-tail-preserved : goal.postfix-loop-tail-preserved
+postfix-loop-tail-preserved t c = trail_goes (readers c.args.inside c.args.depth) (shrinks_nested c.args.inside c.args.depth) _ _ _ _ _ _ _ _ _ _ c.loop-tail.invariant c.in-Some.ensures c.in_ok-made.ensures
+
+pub postfix-returns : goal.postfix-returns
+postfix-returns t c = trail_ends (readers c.args.inside c.args.depth) (shrinks_nested c.args.inside c.args.depth) _ _ _ _ _ c.loop-tail.invariant c.in_default.ensures
+
+pub tailed-returns-in_ok-put_send-in-Call : goal.tailed-returns-in_ok-put_send-in-Call
+tailed-returns-in_ok-put_send-in-Call t c =
+    made_send (readers c.args.inside c.args.depth) c.args.self.now c.inner_arguments.new.self c.put_send-in-Call.new.self c.args.tail _ _ _ c.in_ok-items-in-Call.items.items c.deref.result.now _ _ c.in-Call.is c.deref.ensures.value c.requires c.in_ok-items-in-Call.ensures c.in_ok-put_send-in-Call.ensures
+
+pub tailed-returns-in_ok-put-in-Index : goal.tailed-returns-in_ok-put-in-Index
+tailed-returns-in_ok-put-in-Index t c =
+    made_element (readers c.args.inside c.args.depth) c.args.self.now c.part.new.self c.put.new.self c.args.tail _ _ _ _ _ c.in-Index.is c.requires c.in_ok-index-in-Index.ensures c.in_ok-put-in-Index.ensures.puts
+
+pub pair-returns : goal.pair-returns
+pair-returns t c =
+    made_arrow (readers c.args.inside c.args.depth) c.args.self.now c.value-2.new.self c.value-3.new.self c.put.new.self _ _ _ _ _ _ _ c.in_default.ensures c.in_ok-key.ensures c.in-Some-behind.ensures c.in_ok-value-2.ensures c.in_ok-put.ensures.puts

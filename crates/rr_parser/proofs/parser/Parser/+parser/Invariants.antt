@@ -1,88 +1,138 @@
 use Rattle.std.proofs.Common.{cond, ◌<◌, ◌≤◌, length, ◌+◌, ◌-◌, ◌*◌, map}
 use Rattle.rr_tree.specs.Tree.{tree_at, binary}
 use Rattle.rr_parser.specs.Grammar.Chains.{and_one}
-use Rattle.rr_parser.specs.Grammar.Operators.{operator}
-use Rattle.rr_parser.specs.Grammar.Calls.{comma}
+use Rattle.rr_parser.specs.Grammar.Operators.{operator, connective, joined_by}
+use Rattle.rr_parser.specs.Grammar.Operands.{tail}
+use Rattle.rr_parser.specs.Grammar.Sequences.{modifier, modified}
 use Rattle.rr_parser.specs.Grammar.Control.{elsif}
-use Rattle.rr_parser.specs.Reading.Answers.{chain_on}
-use Rattle.rr_parser.specs.Reading.Operators.{binary_of}
-use Rattle.rr_parser.specs.Reading.Calls.{argument_of, arguments_of}
-use Rattle.rr_parser.specs.Reading.Control.{statement_of, rows_of, branch_of, branches_of, row}
+use Rattle.rr_parser.specs.Reading.Answers.{chain_on, trail_on}
+use Rattle.rr_parser.specs.Reading.Operators.{binary_on, binary_of, logical_on, logical_of}
+use Rattle.rr_parser.specs.Reading.Operands.{tailed_of, postfix_of}
+use Rattle.rr_parser.specs.Reading.Calls.{another, member_of, members_of}
+use Rattle.rr_parser.specs.Reading.Sequences.{negation_of, expression_of, statement_of, rows_of, row}
+use Rattle.rr_parser.specs.Reading.Control.{branch_of, branches_of}
 use Rattle.rr_parser.specs.Reading.{readers}
 use Rattle.rr_parser.specs.Meets.{place, nodes, pairs, lists}
 use Rattle.rr_parser.proofs.Making.{Goes}
 use Rattle.rr_parser.proofs.parser.Parser.+parser.Given as goal
 
-abbrev pub decreases-inner_statements : goal.decreases-inner_statements
-decreases-inner_statements l = 64 * l.depth + cond l.inside 0 32
-
-abbrev pub decreases-inner_minus : goal.decreases-inner_minus
-decreases-inner_minus l = 64 * l.depth + cond l.inside 0 32
+abbrev pub decreases-part : goal.decreases-part
+decreases-part l = 128 * l.depth + cond l.inside 0 64 + 0
 
 abbrev pub decreases-inner_arguments : goal.decreases-inner_arguments
-decreases-inner_arguments l = 64 * l.depth + cond l.inside 0 32
+decreases-inner_arguments l = 128 * l.depth + cond l.inside 0 64 + 0
 
-abbrev pub decreases-inner_choice : goal.decreases-inner_choice
-decreases-inner_choice l = 64 * l.depth + cond l.inside 0 32
-
-abbrev pub decreases-value : goal.decreases-value
-decreases-value l = 64 * l.depth + cond l.inside 0 32
+abbrev pub decreases-right_side : goal.decreases-right_side
+decreases-right_side l = 128 * l.depth + cond l.inside 0 64 + 0
 
 abbrev pub decreases-name : goal.decreases-name
-decreases-name l = 64 * l.depth + cond l.inside 0 32 + 1
+decreases-name l = 128 * l.depth + cond l.inside 0 64 + 1
 
-abbrev pub decreases-group : goal.decreases-group
-decreases-group l = 64 * l.depth + cond l.inside 0 32 + 1
+abbrev pub decreases-alternatives : goal.decreases-alternatives
+decreases-alternatives l = 128 * l.depth + cond l.inside 0 64 + 1
 
 abbrev pub decreases-primary : goal.decreases-primary
-decreases-primary l = 64 * l.depth + cond l.inside 0 32 + 2
+decreases-primary l = 128 * l.depth + cond l.inside 0 64 + 2
+
+abbrev pub decreases-bang : goal.decreases-bang
+decreases-bang l = 128 * l.depth + cond l.inside 0 64 + 4
 
 abbrev pub decreases-minus : goal.decreases-minus
-decreases-minus l = 64 * l.depth + cond l.inside 0 32 + 3
+decreases-minus l = 128 * l.depth + cond l.inside 0 64 + 5
 
-abbrev pub decreases-binary : goal.decreases-binary
-decreases-binary l = 64 * l.depth + cond l.inside 0 32 + (l.level + 4)
+abbrev pub decreases-equality_on : goal.decreases-equality_on
+decreases-equality_on l = 128 * l.depth + cond l.inside 0 64 + 14
 
-abbrev pub decreases-equality : goal.decreases-equality
-decreases-equality l = 64 * l.depth + cond l.inside 0 32 + 8
+abbrev pub decreases-ternary_on : goal.decreases-ternary_on
+decreases-ternary_on l = 128 * l.depth + cond l.inside 0 64 + 20
 
-abbrev pub decreases-argument : goal.decreases-argument
-decreases-argument l = 64 * l.depth + cond l.inside 0 32 + 9
+abbrev pub decreases-ternary : goal.decreases-ternary
+decreases-ternary l = 128 * l.depth + cond l.inside 0 64 + 21
 
-abbrev pub decreases-arguments : goal.decreases-arguments
-decreases-arguments l = 64 * l.depth + cond l.inside 0 32 + 10
+abbrev pub decreases-commanded : goal.decreases-commanded
+decreases-commanded l = 128 * l.depth + cond l.inside 0 64 + 28
 
 abbrev pub decreases-bracketed : goal.decreases-bracketed
-decreases-bracketed l = 64 * l.depth + cond l.inside 0 32 + 11
+decreases-bracketed l = 128 * l.depth + cond l.inside 0 64 + 27
+
+abbrev pub decreases-phrase : goal.decreases-phrase
+decreases-phrase l = 128 * l.depth + cond l.inside 0 64 + 29
+
+abbrev pub decreases-command : goal.decreases-command
+decreases-command l = 128 * l.depth + cond l.inside 0 64 + 29
+
+abbrev pub decreases-negation : goal.decreases-negation
+decreases-negation l = 128 * l.depth + cond l.inside 0 64 + 32
+
+abbrev pub decreases-expression : goal.decreases-expression
+decreases-expression l = 128 * l.depth + cond l.inside 0 64 + 33
 
 abbrev pub decreases-statement : goal.decreases-statement
-decreases-statement l = 64 * l.depth + cond l.inside 0 32 + 12
+decreases-statement l = 128 * l.depth + cond l.inside 0 64 + 34
 
 abbrev pub decreases-rows : goal.decreases-rows
-decreases-rows l = 64 * l.depth + cond l.inside 0 32 + 13
+decreases-rows l = 128 * l.depth + cond l.inside 0 64 + 35
 
 abbrev pub decreases-statements : goal.decreases-statements
-decreases-statements l = 64 * l.depth + cond l.inside 0 32 + 14
+decreases-statements l = 128 * l.depth + cond l.inside 0 64 + 36
+
+abbrev pub decreases-group : goal.decreases-group
+decreases-group l = 128 * l.depth + cond l.inside 0 64 + 37
 
 abbrev pub decreases-otherwise : goal.decreases-otherwise
-decreases-otherwise l = 64 * l.depth + cond l.inside 0 32 + 15
+decreases-otherwise l = 128 * l.depth + cond l.inside 0 64 + 37
 
 abbrev pub decreases-branch : goal.decreases-branch
-decreases-branch l = 64 * l.depth + cond l.inside 0 32 + 15
+decreases-branch l = 128 * l.depth + cond l.inside 0 64 + 37
+
+abbrev pub decreases-repeat : goal.decreases-repeat
+decreases-repeat l = 128 * l.depth + cond l.inside 0 64 + 37
 
 abbrev pub decreases-branches : goal.decreases-branches
-decreases-branches l = 64 * l.depth + cond l.inside 0 32 + 16
+decreases-branches l = 128 * l.depth + cond l.inside 0 64 + 38
 
 abbrev pub decreases-choice : goal.decreases-choice
-decreases-choice l = 64 * l.depth + cond l.inside 0 32 + 17
+decreases-choice l = 128 * l.depth + cond l.inside 0 64 + 39
 
-abbrev pub invariant-arguments-loop-after : goal.invariant-arguments-loop-after
-invariant-arguments-loop-after l =
-    Goes (lists nodes) l.fn.self l.self l.items.items (arguments_of (readers l.inside l.depth) (place l.fn.self l.fn.words))
-    (chain_on comma and_one (argument_of (readers l.inside l.depth)) (map (tree_at l.self.nodes.items) l.items.items) (place l.self l.rest))
+abbrev pub decreases-unless : goal.decreases-unless
+decreases-unless l = 128 * l.depth + cond l.inside 0 64 + 39
 
-abbrev pub decreases-arguments-loop-after : goal.decreases-arguments-loop-after
-decreases-arguments-loop-after l = length l.rest
+abbrev pub decreases-part_within : goal.decreases-part_within
+decreases-part_within l = 128 * l.depth + cond l.inside 0 64 + 40
+
+abbrev pub decreases-binary_on : goal.decreases-binary_on
+decreases-binary_on l = 128 * l.depth + cond l.inside 0 64 + (2 * l.level + 6)
+
+abbrev pub decreases-binary : goal.decreases-binary
+decreases-binary l = 128 * l.depth + cond l.inside 0 64 + (2 * l.level + 7)
+
+abbrev pub decreases-logical_on : goal.decreases-logical_on
+decreases-logical_on l = 128 * l.depth + cond l.inside 0 64 + (2 * l.level + 15)
+
+abbrev pub decreases-logical : goal.decreases-logical
+decreases-logical l = 128 * l.depth + cond l.inside 0 64 + (2 * l.level + 16)
+
+abbrev pub decreases-operand : goal.decreases-operand
+decreases-operand l = 128 * l.depth + cond l.inside 0 64 + cond l.commands 30 22
+
+abbrev pub decreases-value : goal.decreases-value
+decreases-value l = 128 * l.depth + cond l.inside 0 64 + cond l.commands 31 23
+
+abbrev pub invariant-members-loop-after : goal.invariant-members-loop-after
+invariant-members-loop-after l =
+    Goes (lists nodes) l.fn.self l.self l.items.items (members_of (readers l.inside l.depth) l.list (place l.fn.self l.fn.words))
+    (chain_on (another l.list) and_one (member_of (readers l.inside l.depth) l.list) (map (tree_at l.self.nodes.items) l.items.items) (place l.self l.rest))
+
+abbrev pub decreases-members-loop-after : goal.decreases-members-loop-after
+decreases-members-loop-after l = length l.rest
+
+abbrev pub invariant-postfix-loop-tail : goal.invariant-postfix-loop-tail
+invariant-postfix-loop-tail l =
+    Goes nodes l.fn.self l.self l.operand (postfix_of (readers l.inside l.depth) (place l.fn.self l.fn.words))
+    (trail_on tail (tailed_of (readers l.inside l.depth)) (tree_at l.self.nodes.items l.operand) (place l.self l.rest))
+
+abbrev pub decreases-postfix-loop-tail : goal.decreases-postfix-loop-tail
+decreases-postfix-loop-tail l = length l.rest
 
 abbrev pub invariant-rows-loop-after : goal.invariant-rows-loop-after
 invariant-rows-loop-after l =
@@ -100,13 +150,64 @@ invariant-branches-loop-after l =
 abbrev pub decreases-branches-loop-after : goal.decreases-branches-loop-after
 decreases-branches-loop-after l = length l.rest
 
-abbrev pub invariant-binary-loop-operator : goal.invariant-binary-loop-operator
-invariant-binary-loop-operator l = record {
+abbrev pub invariant-statement-loop-modifier : goal.invariant-statement-loop-modifier
+invariant-statement-loop-modifier l =
+    Goes nodes l.fn.self l.self l.statement (statement_of (readers l.inside l.depth) (place l.fn.self l.fn.words))
+    (chain_on modifier modified (expression_of (readers l.inside l.depth)) (tree_at l.self.nodes.items l.statement) (place l.self l.rest))
+
+abbrev pub decreases-statement-loop-modifier : goal.decreases-statement-loop-modifier
+decreases-statement-loop-modifier l = length l.rest
+
+abbrev pub invariant-expression-loop-connective : goal.invariant-expression-loop-connective
+invariant-expression-loop-connective l =
+    Goes nodes l.fn.self l.self l.left (expression_of (readers l.inside l.depth) (place l.fn.self l.fn.words))
+    (chain_on (connective 3) joined_by (negation_of (readers l.inside l.depth)) (tree_at l.self.nodes.items l.left) (place l.self l.rest))
+
+abbrev pub decreases-expression-loop-connective : goal.decreases-expression-loop-connective
+decreases-expression-loop-connective l = length l.rest
+
+abbrev pub invariant-binary_on-loop-operator : goal.invariant-binary_on-loop-operator
+invariant-binary_on-loop-operator l = record {
   above : 0 < l.level;
   at_most : l.level ≤ 3;
-  goes : Goes nodes l.fn.self l.self l.left (binary_of (readers l.inside l.depth) l.level (place l.fn.self l.fn.words))
+  goes : Goes nodes l.fn.self l.self l.left (binary_on (readers l.inside l.depth) l.level (tree_at l.fn.self.nodes.items l.fn.left) (place l.fn.self l.fn.words))
       (chain_on (operator l.level) binary (binary_of (readers l.inside l.depth) (l.level - 1)) (tree_at l.self.nodes.items l.left) (place l.self l.rest));
 }
 
-abbrev pub decreases-binary-loop-operator : goal.decreases-binary-loop-operator
-decreases-binary-loop-operator l = length l.rest
+abbrev pub decreases-binary_on-loop-operator : goal.decreases-binary_on-loop-operator
+decreases-binary_on-loop-operator l = length l.rest
+
+abbrev pub invariant-logical_on-loop-connective : goal.invariant-logical_on-loop-connective
+invariant-logical_on-loop-connective l = record {
+  above : 0 < l.level;
+  at_most : l.level ≤ 2;
+  goes : Goes nodes l.fn.self l.self l.left (logical_on (readers l.inside l.depth) l.level (tree_at l.fn.self.nodes.items l.fn.left) (place l.fn.self l.fn.words))
+      (chain_on (connective l.level) joined_by (logical_of (readers l.inside l.depth) (l.level - 1)) (tree_at l.self.nodes.items l.left) (place l.self l.rest));
+}
+
+abbrev pub decreases-logical_on-loop-connective : goal.decreases-logical_on-loop-connective
+decreases-logical_on-loop-connective l = length l.rest
+
+abbrev pub decreases-tailed : goal.decreases-tailed
+decreases-tailed l = 128 * l.depth + cond l.inside 0 64 + 1
+
+abbrev pub decreases-postfix : goal.decreases-postfix
+decreases-postfix l = 128 * l.depth + cond l.inside 0 64 + 3
+
+abbrev pub decreases-pair : goal.decreases-pair
+decreases-pair l = 128 * l.depth + cond l.inside 0 64 + 24
+
+abbrev pub decreases-member : goal.decreases-member
+decreases-member l = 128 * l.depth + cond l.inside 0 64 + 25
+
+abbrev pub decreases-members : goal.decreases-members
+decreases-members l = 128 * l.depth + cond l.inside 0 64 + 26
+
+abbrev pub decreases-array : goal.decreases-array
+decreases-array l = 128 * l.depth + cond l.inside 0 64 + 28
+
+abbrev pub decreases-hash : goal.decreases-hash
+decreases-hash l = 128 * l.depth + cond l.inside 0 64 + 28
+
+abbrev pub decreases-index : goal.decreases-index
+decreases-index l = 128 * l.depth + cond l.inside 0 64 + 28

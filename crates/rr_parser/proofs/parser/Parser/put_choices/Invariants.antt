@@ -12,7 +12,7 @@ invariant-loop-condition l = record {
   there : l.chosen < length l.self.nodes.items;
   tree : chosen (map (pairs.tree l.fn.self.nodes.items) l.branches.items) (tree_at l.self.nodes.items l.chosen) ≡ chosen (map (pairs.tree l.fn.self.nodes.items) l.fn.branches.items) (tree_at l.fn.self.nodes.items l.fn.otherwise);
   kept : Extends l.fn.self.nodes.items l.self.nodes.items;
-  known : l.self.known.items ≡ l.fn.self.known.items;
+  known : l.self.known ≡ l.fn.self.known;
 }
 
 abbrev pub decreases-loop-condition : goal.decreases-loop-condition

@@ -5,5 +5,5 @@ use Rattle.rr_parser.proofs.parser.Parser.put_items.Given as goal
 abbrev pub invariant-loop-item : goal.invariant-loop-item
 invariant-loop-item l = record {
   nodes : l.self.nodes.items ≡ l.fn.self.nodes.items ++ map item (take l.item-index l.items);
-  known : l.self.known.items ≡ l.fn.self.known.items;
+  known : l.self.known ≡ l.fn.self.known;
 }

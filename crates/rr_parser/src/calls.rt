@@ -1,0 +1,204 @@
+//! Reading assignments, arguments and commands.
+
+ghost use Rattle.std.specs.Prelude.{◌≡◌};
+ghost use Rattle.rr_parser.specs.Reading.Calls.{pair_of, member_of, members_of, bracketed_of, array_of, hash_of, index_of, commanded_of, command_of, phrase_of, operand_of, value_of};
+ghost use Rattle.rr_parser.specs.Reading.{readers};
+
+use crate::look::{another, behind, closing, label, last, target};
+use crate::parser::{Parsed, ParsedList, Parser};
+use crate::refusal::Refusal;
+use crate::word::{Listed, Part, Word, WordKind};
+use rr_tree::{Node, NodeId};
+
+impl Parser {
+    ghost use Rattle.rr_parser.specs.Meets.{Gives, GivesList, place};
+
+    /// An assignment or an operand, and a command too where commands may stand.
+    #[cycle(parser)]
+    #[tactic(auto, unfolding(crate::specs::Reading::Calls::assigned_of))]
+    pub fn value<'w>(
+        &mut self,
+        commands: bool,
+        inside: bool,
+        depth: u32,
+        words: &'w [Word],
+    ) -> Parsed<'w, NodeId>
+        ensures { Gives self.old self.new result (value_of (readers inside depth) commands (place self.old words.now)) }
+    {
+        let Some((aim, rest)) = target(words) else {
+            return self.operand(commands, inside, depth, words);
+        };
+        let slot = self.aim(aim.target)?;
+        let (value, rest) = self.right_side(commands, inside, depth, rest)?;
+        Ok((self.put_assignment(aim, slot, value)?, rest))
+    }
+
+    #[cycle(parser)]
+    fn operand<'w>(
+        &mut self,
+        commands: bool,
+        inside: bool,
+        depth: u32,
+        words: &'w [Word],
+    ) -> Parsed<'w, NodeId>
+        ensures { Gives self.old self.new result (operand_of (readers inside depth) commands (place self.old words.now)) }
+    {
+        if commands {
+            self.phrase(inside, depth, words)
+        } else {
+            self.ternary(inside, depth, words)
+        }
+    }
+
+    /// A command or an operand.
+    #[cycle(parser)]
+    #[tactic(auto, unfolding(crate::specs::Reading::Calls::phrase_of))]
+    fn phrase<'w>(&mut self, inside: bool, depth: u32, words: &'w [Word]) -> Parsed<'w, NodeId>
+        ensures { Gives self.old self.new result (phrase_of (readers inside depth) (place self.old words.now)) }
+    {
+        let Some((name, rest)) = self.command_name(words) else {
+            return self.ternary(inside, depth, words);
+        };
+        let (items, rest) = self.commanded(inside, depth, rest)?;
+        Ok((self.put_call(name, &items)?, rest))
+    }
+
+    #[cycle(parser)]
+    #[tactic(auto, unfolding(crate::specs::Reading::Calls::command_of))]
+    pub fn command<'w>(&mut self, inside: bool, depth: u32, words: &'w [Word]) -> Parsed<'w, NodeId>
+        ensures { Gives self.old self.new result (command_of (readers inside depth) (place self.old words.now)) }
+    {
+        let Some((name, rest)) = self.command_name(words) else {
+            return Err(Refusal::Unexpected(words.len()));
+        };
+        let (items, rest) = self.commanded(inside, depth, rest)?;
+        Ok((self.put_call(name, &items)?, rest))
+    }
+
+    /// What stands behind the name of a command.
+    #[cycle(parser)]
+    #[tactic(auto, unfolding(crate::specs::Reading::Calls::commanded_of))]
+    fn commanded<'w>(&mut self, inside: bool, depth: u32, words: &'w [Word]) -> ParsedList<'w>
+        ensures { GivesList self.old self.new result (commanded_of (readers inside depth) (place self.old words.now)) }
+    {
+        if self.command_name(words).is_none() {
+            return self.members(Listed::Command, inside, depth, words);
+        }
+        let (command, rest) = self.part(Part::Command, inside, depth, words)?;
+        let mut items = Vec::new(self.alloc);
+        items.push(command)?;
+        Ok((items, rest))
+    }
+
+    /// Members of a list, with commas between them.
+    #[cycle(parser)]
+    #[tactic(auto, unfolding(crate::specs::Reading::Calls::members_of, crate::specs::Reading::Answers::chain))]
+    fn members<'w>(
+        &mut self,
+        list: Listed,
+        inside: bool,
+        depth: u32,
+        words: &'w [Word],
+    ) -> ParsedList<'w>
+        ensures { GivesList self.old self.new result (members_of (readers inside depth) list (place self.old words.now)) }
+    {
+        let mut items = Vec::new(self.alloc);
+        let (first, mut rest) = self.member(list, inside, depth, words)?;
+        items.push(first)?;
+        while let Some(after) = another(list, rest) {
+            let (next, after) = self.member(list, inside, depth, after)?;
+            items.push(next)?;
+            rest = after;
+        }
+        Ok((items, rest))
+    }
+
+    #[cycle(parser)]
+    fn member<'w>(
+        &mut self,
+        list: Listed,
+        inside: bool,
+        depth: u32,
+        words: &'w [Word],
+    ) -> Parsed<'w, NodeId>
+        ensures { Gives self.old self.new result (member_of (readers inside depth) list (place self.old words.now)) }
+    {
+        match list {
+            Listed::Command | Listed::Call | Listed::Array => {
+                self.value(false, inside, depth, words)
+            }
+            Listed::Hash => self.pair(inside, depth, words),
+        }
+    }
+
+    /// A key and its value.
+    #[cycle(parser)]
+    #[tactic(auto, unfolding(crate::specs::Reading::Calls::pair_of))]
+    fn pair<'w>(&mut self, inside: bool, depth: u32, words: &'w [Word]) -> Parsed<'w, NodeId>
+        ensures { Gives self.old self.new result (pair_of (readers inside depth) (place self.old words.now)) }
+    {
+        if let Some((key, rest)) = label(words) {
+            let (value, rest) = self.value(false, inside, depth, rest)?;
+            return Ok((self.put_entry(key, value)?, rest));
+        }
+        let (key, rest) = self.value(false, inside, depth, words)?;
+        let Some(after) = behind(WordKind::Arrow, rest) else {
+            return Err(Refusal::Unexpected(rest.len()));
+        };
+        let (value, rest) = self.value(false, inside, depth, after)?;
+        Ok((self.put(Node::Pair(key, value))?, rest))
+    }
+
+    /// Members of a list, with the word that ends it.
+    #[cycle(parser)]
+    #[tactic(auto, unfolding(crate::specs::Reading::Calls::bracketed_of))]
+    pub fn bracketed<'w>(
+        &mut self,
+        list: Listed,
+        inside: bool,
+        depth: u32,
+        words: &'w [Word],
+    ) -> ParsedList<'w>
+        ensures { GivesList self.old self.new result (bracketed_of (readers inside depth) list (place self.old words.now)) }
+    {
+        if let Some(rest) = closing(list, words) {
+            return Ok((Vec::new(self.alloc), rest));
+        }
+        let (items, rest) = self.members(list, inside, depth, words)?;
+        match last(list, rest) {
+            Some(rest) => Ok((items, rest)),
+            None => Err(Refusal::Unexpected(rest.len())),
+        }
+    }
+
+    #[cycle(parser)]
+    #[tactic(auto, unfolding(crate::specs::Reading::Calls::array_of))]
+    pub fn array<'w>(&mut self, inside: bool, depth: u32, words: &'w [Word]) -> Parsed<'w, NodeId>
+        ensures { Gives self.old self.new result (array_of (readers inside depth) (place self.old words.now)) }
+    {
+        let (items, rest) = self.bracketed(Listed::Array, inside, depth, words)?;
+        Ok((self.put_array(&items)?, rest))
+    }
+
+    #[cycle(parser)]
+    #[tactic(auto, unfolding(crate::specs::Reading::Calls::hash_of))]
+    pub fn hash<'w>(&mut self, inside: bool, depth: u32, words: &'w [Word]) -> Parsed<'w, NodeId>
+        ensures { Gives self.old self.new result (hash_of (readers inside depth) (place self.old words.now)) }
+    {
+        let (items, rest) = self.bracketed(Listed::Hash, inside, depth, words)?;
+        Ok((self.put_hash(&items)?, rest))
+    }
+
+    /// An index, with the bracket behind it.
+    #[cycle(parser)]
+    #[tactic(auto, unfolding(crate::specs::Reading::Calls::index_of))]
+    pub fn index<'w>(&mut self, inside: bool, depth: u32, words: &'w [Word]) -> Parsed<'w, NodeId>
+        ensures { Gives self.old self.new result (index_of (readers inside depth) (place self.old words.now)) }
+    {
+        let (index, rest) = self.value(false, inside, depth, words)?;
+        match behind(WordKind::CloseSquare, rest) {
+            Some(rest) => Ok((index, rest)),
+            None => Err(Refusal::Unexpected(rest.len())),
+        }
+    }
+}

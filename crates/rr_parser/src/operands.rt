@@ -1,0 +1,141 @@
+//! Reading operands.
+
+ghost use Rattle.std.specs.Prelude.{◌≡◌, ◌<◌, length};
+ghost use Rattle.rr_tree.specs.Tree.{tree_at};
+ghost use Rattle.rr_parser.specs.Reading.Operands.{primary_of, tailed_of, postfix_of, name_of, bang_of, minus_of};
+ghost use Rattle.rr_parser.specs.Reading.{readers};
+
+use crate::look::{begins_operands, behind, bracket, prefix_minus, tail};
+use crate::parser::{Parsed, Parser};
+use crate::refusal::Refusal;
+use crate::word::{Part, Tail, Word, WordKind};
+use rr_base::Sym;
+use rr_tree::{Node, NodeId, Path};
+
+impl Parser {
+    ghost use Rattle.rr_parser.specs.Meets.{Gives, place};
+
+    #[cycle(parser)]
+    #[tactic(auto, unfolding(crate::specs::Reading::Operands::minus_of))]
+    pub fn minus<'w>(&mut self, inside: bool, depth: u32, words: &'w [Word]) -> Parsed<'w, NodeId>
+        ensures { Gives self.old self.new result (minus_of (readers inside depth) (place self.old words.now)) }
+    {
+        let Some(rest) = prefix_minus(words) else {
+            return self.bang(inside, depth, words);
+        };
+        let (operand, rest) = self.part(Part::Minus, inside, depth, rest)?;
+        Ok((self.put(Node::Negate(operand))?, rest))
+    }
+
+    #[cycle(parser)]
+    #[tactic(auto, unfolding(crate::specs::Reading::Operands::bang_of))]
+    pub fn bang<'w>(&mut self, inside: bool, depth: u32, words: &'w [Word]) -> Parsed<'w, NodeId>
+        ensures { Gives self.old self.new result (bang_of (readers inside depth) (place self.old words.now)) }
+    {
+        let Some(rest) = behind(WordKind::Bang, words) else {
+            return self.postfix(inside, depth, words);
+        };
+        let (operand, rest) = self.part(Part::Bang, inside, depth, rest)?;
+        Ok((self.put(Node::Not(operand))?, rest))
+    }
+
+    /// An operand and what follows it.
+    #[cycle(parser)]
+    #[tactic(auto, unfolding(crate::specs::Reading::Operands::postfix_of))]
+    fn postfix<'w>(&mut self, inside: bool, depth: u32, words: &'w [Word]) -> Parsed<'w, NodeId>
+        ensures { Gives self.old self.new result (postfix_of (readers inside depth) (place self.old words.now)) }
+    {
+        let (mut operand, mut rest) = self.primary(inside, depth, words)?;
+        while let Some((tail, after)) = tail(rest) {
+            let (made, after) = self.tailed(tail, operand, inside, depth, after)?;
+            operand = made;
+            rest = after;
+        }
+        Ok((operand, rest))
+    }
+
+    #[cycle(parser)]
+    #[tactic(auto, unfolding(crate::specs::Reading::Operands::tailed_of))]
+    fn tailed<'w>(
+        &mut self,
+        tail: Tail,
+        operand: NodeId,
+        inside: bool,
+        depth: u32,
+        words: &'w [Word],
+    ) -> Parsed<'w, NodeId>
+        requires { operand < length self.old.nodes.items }
+        ensures { Gives self.old self.new result (tailed_of (readers inside depth) tail (tree_at self.old.nodes.items operand) (place self.old words.now)) }
+    {
+        match tail {
+            Tail::Send(name) => Ok((self.put_send(operand, name, &[])?, words)),
+            Tail::Call(name) => {
+                let (items, rest) = self.inner_arguments(inside, depth, words)?;
+                Ok((self.put_send(operand, name, &items)?, rest))
+            }
+            Tail::Index => {
+                let (index, rest) = self.part(Part::Index, inside, depth, words)?;
+                Ok((self.put(Node::Index(operand, index))?, rest))
+            }
+        }
+    }
+
+    #[cycle(parser)]
+    #[tactic(auto, unfolding(crate::specs::Reading::Operands::primary_of))]
+    fn primary<'w>(&mut self, inside: bool, depth: u32, words: &'w [Word]) -> Parsed<'w, NodeId>
+        ensures { Gives self.old self.new result (primary_of (readers inside depth) (place self.old words.now)) }
+    {
+        let Some((word, rest)) = words.split_first() else {
+            return Err(Refusal::Unexpected(0));
+        };
+        match word.kind {
+            WordKind::Int(n) => self.int(n, rest),
+            WordKind::Text(text) => Ok((self.put(Node::Text(text))?, rest)),
+            WordKind::Nil => Ok((self.put(Node::Nil)?, rest)),
+            WordKind::Truth(truth) => Ok((self.put(Node::Truth(truth))?, rest)),
+            WordKind::Symbol(name) => Ok((self.put(Node::Symbol(name))?, rest)),
+            WordKind::Constant(name) => { Ok((self.put(Node::Constant(Path::Plain(name)))?, rest)) }
+            WordKind::Field(name) => Ok((self.put(Node::Field(name))?, rest)),
+            WordKind::Global(name) => Ok((self.put(Node::Global(name))?, rest)),
+            WordKind::Itself => Ok((self.put(Node::Itself)?, rest)),
+            WordKind::Minus => self.negative(rest),
+            WordKind::Name(name, _) => self.name(inside, depth, name, rest),
+            WordKind::Open => self.part(Part::Group, inside, depth, rest),
+            WordKind::OpenSquare => self.part(Part::Array, inside, depth, rest),
+            WordKind::OpenBrace => self.part(Part::Hash, inside, depth, rest),
+            WordKind::If => self.part(Part::Choice, inside, depth, rest),
+            WordKind::Unless => self.part(Part::Unless, inside, depth, rest),
+            WordKind::Loop { until } => self.part(Part::Loop { until }, inside, depth, rest),
+            _ => Err(Refusal::Unexpected(words.len())),
+        }
+    }
+
+    #[cycle(parser)]
+    #[tactic(auto, unfolding(crate::specs::Reading::Operands::name_of))]
+    fn name<'w>(
+        &mut self,
+        inside: bool,
+        depth: u32,
+        name: Sym,
+        words: &'w [Word],
+    ) -> Parsed<'w, NodeId>
+        ensures { Gives self.old self.new result (name_of (readers inside depth) name (place self.old words.now)) }
+    {
+        if let Some(rest) = bracket(words) {
+            let (items, rest) = self.inner_arguments(inside, depth, rest)?;
+            return Ok((self.put_call(name, &items)?, rest));
+        }
+        if let Some(slot) = self.known.slot(name) {
+            let node = Node::Local {
+                depth: 0,
+                slot,
+                name,
+            };
+            return Ok((self.put(node)?, words));
+        }
+        if begins_operands(words) {
+            return Err(Refusal::Unexpected(words.len()));
+        }
+        Ok((self.put_bare(name)?, words))
+    }
+}

@@ -1,0 +1,169 @@
+//! Reading operators between two operands, from the first operand on.
+
+ghost use Rattle.std.specs.Prelude.{◌≡◌, ◌<◌, ◌≤◌, length};
+ghost use Rattle.rr_tree.specs.Tree.{tree_at, choose};
+ghost use Rattle.rr_parser.specs.declared.word.Part.TheVariants.{Branch};
+ghost use Rattle.rr_parser.specs.declared.word.WordKind.TheVariants.{Colon};
+ghost use Rattle.rr_parser.specs.Places.{word};
+ghost use Rattle.rr_parser.specs.Reading.Answers.{across};
+ghost use Rattle.rr_parser.specs.Reading.Operators.{binary_on, binary_of, equality_on, logical_on, logical_of, ternary_on, ternary_of};
+ghost use Rattle.rr_parser.specs.Reading.{readers};
+
+use crate::look::{behind, connective, operator};
+use crate::parser::{Parsed, Parser};
+use crate::refusal::Refusal;
+use crate::word::{Part, Word, WordKind};
+use rr_tree::{Node, NodeId};
+
+impl Parser {
+    ghost use Rattle.rr_parser.specs.Meets.{Gives, place};
+
+    #[cycle(parser)]
+    pub fn ternary<'w>(&mut self, inside: bool, depth: u32, words: &'w [Word]) -> Parsed<'w, NodeId>
+        ensures { Gives self.old self.new result (ternary_of (readers inside depth) (place self.old words.now)) }
+    {
+        let (left, rest) = self.minus(inside, depth, words)?;
+        self.ternary_on(left, inside, depth, rest)
+    }
+
+    #[cycle(parser)]
+    #[tactic(auto, unfolding(crate::specs::Reading::Operators::ternary_on))]
+    fn ternary_on<'w>(
+        &mut self,
+        left: NodeId,
+        inside: bool,
+        depth: u32,
+        words: &'w [Word],
+    ) -> Parsed<'w, NodeId>
+        requires { left < length self.old.nodes.items }
+        ensures { Gives self.old self.new result (ternary_on (readers inside depth) (tree_at self.old.nodes.items left) (place self.old words.now)) }
+    {
+        let (condition, rest) = self.logical_on(2, left, inside, depth, words)?;
+        match behind(WordKind::Question, rest) {
+            Some(after) => self.alternatives(condition, inside, depth, after),
+            None => Ok((condition, rest)),
+        }
+    }
+
+    /// The two operands between which is chosen.
+    #[cycle(parser)]
+    fn alternatives<'w>(
+        &mut self,
+        condition: NodeId,
+        inside: bool,
+        depth: u32,
+        words: &'w [Word],
+    ) -> Parsed<'w, NodeId>
+        requires { condition < length self.old.nodes.items }
+        ensures { Gives self.old self.new result (across (choose (tree_at self.old.nodes.items condition)) (word Colon) ((readers inside depth).part Branch) ((readers inside depth).part Branch (place self.old words.now))) }
+    {
+        let (then, rest) = self.part(Part::Branch, inside, depth, words)?;
+        let Some(after) = behind(WordKind::Colon, rest) else {
+            return Err(Refusal::Unexpected(rest.len()));
+        };
+        let (otherwise, rest) = self.part(Part::Branch, inside, depth, after)?;
+        Ok((self.put(Node::Choose(condition, then, otherwise))?, rest))
+    }
+
+    #[cycle(parser)]
+    fn logical<'w>(
+        &mut self,
+        level: u8,
+        inside: bool,
+        depth: u32,
+        words: &'w [Word],
+    ) -> Parsed<'w, NodeId>
+        requires { level ≤ 2 }
+        ensures { Gives self.old self.new result (logical_of (readers inside depth) level (place self.old words.now)) }
+    {
+        let (left, rest) = self.minus(inside, depth, words)?;
+        self.logical_on(level, left, inside, depth, rest)
+    }
+
+    #[cycle(parser)]
+    #[tactic(auto, unfolding(crate::specs::Reading::Operators::logical_on))]
+    fn logical_on<'w>(
+        &mut self,
+        level: u8,
+        left: NodeId,
+        inside: bool,
+        depth: u32,
+        words: &'w [Word],
+    ) -> Parsed<'w, NodeId>
+        requires level { level ≤ 2 }
+        requires left { left < length self.old.nodes.items }
+        ensures { Gives self.old self.new result (logical_on (readers inside depth) level (tree_at self.old.nodes.items left) (place self.old words.now)) }
+    {
+        if level == 0 {
+            return self.equality_on(left, inside, depth, words);
+        }
+        let (mut left, mut rest) = self.logical_on(level - 1, left, inside, depth, words)?;
+        while let Some((connective, after)) = connective(level, rest) {
+            let (right, after) = self.logical(level - 1, inside, depth, after)?;
+            left = self.put_joined(connective, left, right)?;
+            rest = after;
+        }
+        Ok((left, rest))
+    }
+
+    #[cycle(parser)]
+    #[tactic(auto, unfolding(crate::specs::Reading::Operators::equality_on))]
+    fn equality_on<'w>(
+        &mut self,
+        left: NodeId,
+        inside: bool,
+        depth: u32,
+        words: &'w [Word],
+    ) -> Parsed<'w, NodeId>
+        requires { left < length self.old.nodes.items }
+        ensures { Gives self.old self.new result (equality_on (readers inside depth) (tree_at self.old.nodes.items left) (place self.old words.now)) }
+    {
+        let (left, rest) = self.binary_on(3, left, inside, depth, words)?;
+        let Some((operator, after)) = operator(4, rest) else {
+            return Ok((left, rest));
+        };
+        let (right, rest) = self.binary(3, inside, depth, after)?;
+        Ok((self.put(Node::Binary(operator, left, right))?, rest))
+    }
+
+    #[cycle(parser)]
+    fn binary<'w>(
+        &mut self,
+        level: u8,
+        inside: bool,
+        depth: u32,
+        words: &'w [Word],
+    ) -> Parsed<'w, NodeId>
+        requires { level ≤ 3 }
+        ensures { Gives self.old self.new result (binary_of (readers inside depth) level (place self.old words.now)) }
+    {
+        let (left, rest) = self.minus(inside, depth, words)?;
+        self.binary_on(level, left, inside, depth, rest)
+    }
+
+    #[cycle(parser)]
+    #[tactic(auto, unfolding(crate::specs::Reading::Operators::binary_on))]
+    fn binary_on<'w>(
+        &mut self,
+        level: u8,
+        left: NodeId,
+        inside: bool,
+        depth: u32,
+        words: &'w [Word],
+    ) -> Parsed<'w, NodeId>
+        requires level { level ≤ 3 }
+        requires left { left < length self.old.nodes.items }
+        ensures { Gives self.old self.new result (binary_on (readers inside depth) level (tree_at self.old.nodes.items left) (place self.old words.now)) }
+    {
+        if level == 0 {
+            return Ok((left, words));
+        }
+        let (mut left, mut rest) = self.binary_on(level - 1, left, inside, depth, words)?;
+        while let Some((operator, after)) = operator(level, rest) {
+            let (right, after) = self.binary(level - 1, inside, depth, after)?;
+            left = self.put(Node::Binary(operator, left, right))?;
+            rest = after;
+        }
+        Ok((left, rest))
+    }
+}
