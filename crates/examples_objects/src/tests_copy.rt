@@ -234,7 +234,7 @@ fn published(alloc: Global) -> Result<&'static Cluster, Fail>
     ensures { IfOk result (λ cluster. IsHold 0 cluster.now) }
 {
     let text = Sealed::Text(b"abc".to_vec(alloc)?);
-    match Cluster::new(vec![in alloc; text]?).publish(alloc, 8) {
+    match Cluster::new(alloc, vec![in alloc; text]?)?.publish(alloc, 8) {
         Ok(cluster) if cluster.len() > 0 => Ok(cluster),
         _ => Err(Fail::from("nothing was published")),
     }

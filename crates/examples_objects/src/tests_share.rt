@@ -74,7 +74,7 @@ fn link(space: &mut Space, slot: u32, word: &str) -> Result<(), Fail> {
 fn publish(alloc: Global, space: &mut Space, slot: u32) -> Result<(), Fail> {
     let mut nodes = Vec::new(alloc);
     nodes.push(Sealed::Text(b"a".to_vec(alloc)?))?;
-    let Ok(cluster) = Cluster::new(nodes).publish(alloc, 7) else {
+    let Ok(cluster) = Cluster::new(alloc, nodes)?.publish(alloc, 7) else {
         return Err(Fail::from("not published"));
     };
     let text = Ref::Local(slot);

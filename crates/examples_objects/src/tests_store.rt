@@ -91,7 +91,7 @@ fn text(alloc: Global, bytes: &[u8]) -> Result<Cluster, Fail>
 {
     let mut nodes = Vec::new(alloc);
     nodes.push(Sealed::Text(Vec::from_slice(alloc, bytes)?))?;
-    Ok(Cluster::new(nodes))
+    Ok(Cluster::new(alloc, nodes)?)
 }
 
 #[test]

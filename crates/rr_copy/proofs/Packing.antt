@@ -27,7 +27,7 @@ use Rattle.rr_copy.specs.Contents.{packed_of, IsMessage, IsCarriedFrom}
 use Rattle.rr_copy.proofs.Contained.{ref_inside, message_at, message_sealed}
 use Rattle.rr_share.proofs.Places.{none_distinct, one_place}
 use Rattle.rr_share.proofs.Zips.{zip_at, zip_back, zip_length}
-use Rattle.rr_copy.proofs.Pairings.{paired_alike}
+use Rattle.rr_copy.proofs.Pairings.{paired_objects_alike}
 
 -- slots without repeats, each of which is there, are at most as many as there are
 pub few_names : (names : List ℕ) (slots : List Slot) → IsDistinct nat_eq names → ((n : ℕ) → Contains names n → (o : Object) × (slice_get slots n ≡ Some (Here o)) × (o.kind ≡ shell → ⊥)) → length names ≤ length slots
@@ -132,7 +132,7 @@ module _ (t : Table) (v : Ref) (names : List ℕ) (cs : List Carried) (root : Re
   pack_alike : (sender sequence : ℕ) → Alike (space_graph t) (resolve t.slots (value_of v)) (message_graph (packed_of cs root sender sequence)) (value_of root) (IsAt names)
   pack_alike sender sequence =
       let m = packed_of cs root sender sequence in
-      paired_alike (space_graph t) (resolve t.slots (value_of v)) (message_graph m) (value_of root) (IsAt names) (record {
+      paired_objects_alike (space_graph t) (resolve t.slots (value_of v)) (message_graph m) (value_of root) (IsAt names) (record {
         left_sealed = p.sealed;
         right_sealed = message_sealed cs root sender sequence objects_within root_within;
         roots = p.roots;

@@ -10,7 +10,7 @@ use Rattle.rr_space.proofs.Renaming.{map_at, contains_at}
 use Rattle.rr_space.proofs.Sounds.{gets}
 use Rattle.rr_copy.specs.Messages.{Behind, IsEachPart}
 use Rattle.rr_copy.proofs.Contained.{message_at}
-use Rattle.rr_copy.proofs.Pairings.{paired_alike}
+use Rattle.rr_copy.proofs.Pairings.{paired_objects_alike}
 
 -- what a list has behind another
 get_behind : {A : Type 0} (xs ys : List A) (i : ℕ) → slice_get (xs ++ ys) (length xs + i) ≡ slice_get ys i
@@ -40,7 +40,7 @@ module _ (m : Packed) (old : List Slot) (new : Table) (come : new.slots ≡ old 
   pub stands_alike : IsSealed (message_graph m) → IsSealed (space_graph new) → IsEachPart m
       → Alike (message_graph m) m.root (space_graph new) (resolve new.slots (renamed (behind (length old)) m.root)) (Behind m (length old))
   stands_alike left right parts =
-      paired_alike (message_graph m) m.root (space_graph new) (resolve new.slots (renamed (behind (length old)) m.root)) (Behind m (length old)) (record {
+      paired_objects_alike (message_graph m) m.root (space_graph new) (resolve new.slots (renamed (behind (length old)) m.root)) (Behind m (length old)) (record {
         left_sealed = left;
         right_sealed = right;
         roots = value_behind m.root closed.root;

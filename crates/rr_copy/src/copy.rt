@@ -7,6 +7,7 @@ ghost use Rattle.rr_space.specs.Moves.{IsCopy, IsPromoted};
 ghost use Rattle.rr_space.specs.Parts.{value_of, below_ref};
 ghost use Rattle.rr_space.specs.Tables.{Here, joined, space_graph, resolve, resolve_object};
 ghost use Rattle.rr_space.specs.Parts.{IsWithin};
+ghost use Rattle.rr_share.specs.Plans.{IsFound};
 ghost use Rattle.rr_share.specs.Search.{LeadsToShell};
 ghost use Rattle.rr_copy.specs.Contents.{IsCarriedFrom};
 
@@ -58,6 +59,7 @@ fn copies_of(alloc: Global, space: &Space, names: &SlotSet) -> Result<Vec<Carrie
 /// Published objects are not copied: the message refers to them. One object that is led to twice is copied once. The
 /// faults are `HoldsShell`, where the value leads to an object that was moved away, and `Memory`. A value that is no object
 /// of the space is not searched, and takes no memory.
+#[inline(always)]
 pub fn pack_copy(alloc: Global, space: &Space, value: Ref) -> Result<Message, Fault>
     requires promoted { IsPromoted space.now (value_of value) }
     requires within { IsWithin (length space.now.slots) value }
@@ -69,24 +71,46 @@ pub fn pack_copy(alloc: Global, space: &Space, value: Ref) -> Result<Message, Fa
     ensures fault { IfErr result (λ fault. (fault ≡ Fault.Memory) ⊎ ((fault ≡ Fault.HoldsShell) × LeadsToShell (space_graph space.now) (resolve space.now.slots (value_of value)))) }
     ensures grows { IfErr result (λ fault. (s : ℕ) × (value ≡ Ref.Local s)) }
 {
-    // No slot has two names, so there are no more names than slots, and no more slots than 32 bits count.
+    // With the number of slots comes that no reference in them leads nowhere.
     let _slots = space.len();
-    let _limit = space.limit();
-    let sender = space.owner();
     let Ref::Local(_) = value else {
         return Ok(Message {
             objects: Vec::new(alloc),
             root: value,
-            sender,
+            sender: space.owner(),
             sequence: OF_A_COPY,
         });
     };
     let names = reached_objects(alloc, space, value)?;
-    let _places = names.len();
-    let objects = copies_of(alloc, space, &names)?;
+    let message = pack_found(alloc, space, value, &names)?;
+    Ok(message)
+}
+
+/// As `pack_copy`, without a search: `found` is what `rr_share::prepare` found for the value, and the objects are still as
+/// they were then. `Memory` is the only fault.
+pub fn pack_found(
+    alloc: Global,
+    space: &Space,
+    value: Ref,
+    found: &SlotSet,
+) -> Result<Message, Fault>
+    requires found { IsFound space.now (value_of value) found.now }
+    requires within { IsWithin (length space.now.slots) value }
+    ensures copy { IfOk result (λ message. IsCopy space.now (value_of value) found.now message) }
+    ensures sender { IfOk result (λ message. message.sender ≡ space.now.owner) }
+    ensures sequence { IfOk result (λ message. message.sequence ≡ 0) }
+    ensures below { IfOk result (λ message. (e : ℕ × List Object) → Contains (message.root_below ++ joined message.below) e → Contains (joined space.now.below ++ below_ref value) e) }
+    ensures fault { IfErr result (λ fault. fault ≡ Fault.Memory) }
+{
+    // No slot has two names, so there are no more names than slots, and no more slots than 32 bits count.
+    let _slots = space.len();
+    let _limit = space.limit();
+    let _places = found.len();
+    let sender = space.owner();
+    let objects = copies_of(alloc, space, found)?;
     Ok(Message {
         objects,
-        root: space.carried(value, &names),
+        root: space.carried(value, found),
         sender,
         sequence: OF_A_COPY,
     })

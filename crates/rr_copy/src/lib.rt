@@ -6,7 +6,7 @@ mod laws;
 mod message;
 mod opening;
 
-pub use copy::{can_pack, pack_copy};
+pub use copy::{can_pack, pack_copy, pack_found};
 pub use laws::shown_by_messages;
 pub use message::{Message, MessageParts};
 pub use opening::open;

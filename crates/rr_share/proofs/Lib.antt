@@ -10,3 +10,4 @@ pub mod Forwards
 pub mod Zips
 pub mod Copies
 pub mod Promoted
+pub mod Handing

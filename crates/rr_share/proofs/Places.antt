@@ -3,13 +3,13 @@ use Rattle.std.proofs.Common.{◌≡◌, ℕ, zero, suc, ◌+◌, ◌<◌, ◌�
 use Rattle.std.proofs.lemmas.Bool.{eqb-true}
 use Rattle.std.proofs.lemmas.Cmp.{nat_eq_equiv}
 use Rattle.std.proofs.lemmas.Option.{slice_get_within, get_or_from_slice_get, same_Some, none-some}
-use Rattle.std.proofs.lemmas.Map.Keys.{apart_from_distinct}
 use Rattle.std.proofs.lemmas.Map.Made.{length-le_from_is_member}
 use Rattle.std.proofs.lemmas.Map.Views.{list_any-from_Contains}
 use Rattle.std.specs.List.{IsDistinct}
 use Rattle.indexmap.specs.IndexSet.{insert_key}
 use Rattle.indexmap.proofs.CallerLemmas.{Contains-list_any}
 use Rattle.std.proofs.lemmas.List.Elements.{Contains-append_cases}
+pub use Rattle.rr_space.proofs.Paging.{one_place}
 use Rattle.rr_share.specs.Search.{Adds}
 use Rattle.rr_share.proofs.Searching.{contains_at, at_contains, below_cases, adds_as, adds_one, slice_get_left}
 
@@ -22,21 +22,6 @@ same_or_not m n = grind arith
 
 below_or_not : (i k : ℕ) → (i < k) ⊎ (k ≤ i)
 below_or_not i k = grind arith
-
--- two places of a list without repeats that hold one number are one place
-pub one_place : (names : List ℕ) (n i j : ℕ) → IsDistinct nat_eq names → slice_get names i ≡ Some n → slice_get names j ≡ Some n → i ≡ j
-one_place names n i j distinct p q = ⊎_elim (λ e. e) (λ w. ⊎_elim (λ lt. absurd (clash i j lt p q)) (λ lt. absurd (clash j i lt q p)) w) (three i j)
-  where
-    three : (i j : ℕ) → (i ≡ j) ⊎ ((i < j) ⊎ (j < i))
-    three i j = grind arith
-
-    clash : (i j : ℕ) → i < j → slice_get names i ≡ Some n → slice_get names j ≡ Some n → ⊥
-    clash i j lt p q =
-        let a = apart_from_distinct nat_eq names i j n distinct lt (slice_get_within names j n q) in
-        let b = get_or_from_slice_get names i n n p in
-        let d = get_or_from_slice_get names j n n q in
-        let e : nat_eq n n ≡ false = subst (λ t. nat_eq n t ≡ false) d (subst (λ t. nat_eq t (get_or names j n) ≡ false) b a) in
-        grind (arith, e)
 
 -- numbers that are each once and all in a list are at most as many
 pub few_among : (xs ys : List ℕ) → IsDistinct nat_eq xs → ((n : ℕ) → Contains xs n → Contains ys n) → length xs ≤ length ys

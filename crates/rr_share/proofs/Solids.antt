@@ -1,5 +1,5 @@
 -- What the slots that a value leads to hold, and whether it is shareable.
-use Rattle.std.proofs.Common.{◌≡◌, ℕ, ◌↔◌, List, [], slice_get, Some, Contains, ap, ◌∙◌, subst}
+use Rattle.std.proofs.Common.{◌≡◌, ℕ, ◌↔◌, List, [], slice_get, Some, Contains, refl, ap, ◌∙◌, subst}
 use Rattle.std.specs.Option.{option_and_then}
 use Rattle.rr_space.specs.Graph.{Own, Published, Value, At, Object, IsSolid, Reaches, IsShareable, IsFreeOfShells}
 use Rattle.rr_space.specs.Tables.{Here, Table, joined, resolve, resolve_object, object_in, space_graph}
@@ -42,6 +42,10 @@ module _ (t : Table) where
 
   pub at_solid : (n : ℕ) → ((o : Object) → space_graph t (Own n) ≡ Some o → IsSolid o) → IsSolidAt t.slots n
   at_solid n solid o here = let s = solid (resolve_object t.slots o) (graph_here t n o here) in record { frozen = s.frozen; no_shell = s.no_shell }
+
+  -- what is shareable is solid itself
+  pub shareable_is_solid : (n : ℕ) → IsShareable (space_graph t) (At (Own n)) → IsSolidAt t.slots n
+  shareable_is_solid n s = at_solid n (λ o here. s (Own n) o ([], refl) here)
 
 -- a value is shareable where the slots that it leads to are solid
 pub solid_is_shareable : (t : Table) (v : Value) (found : List ℕ) → IsTableSound t.slots t.below → ((n : ℕ) → Contains found n ↔ Reaches (space_graph t) v (Own n))

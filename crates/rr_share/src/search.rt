@@ -82,6 +82,7 @@ fn add_ends(space: &Space, slot: u32, found: &mut SlotSet) -> Result<(), Fault>
 }
 
 /// The slot that the `k`-th reference of the object in `slot` leads to, if it leads to an object of the space.
+#[inline(always)]
 pub(crate) fn end_at(space: &Space, slot: u32, k: usize) -> Option<u32>
     requires { IsSettled space.now.slots slot }
     ensures some { IfSome result (λ m. LeadsAt (space_graph space.now) slot k m) }

@@ -65,7 +65,20 @@ pub fn shareable_objects(alloc: Global, space: &Space, root: Ref) -> Result<Slot
     shareable_among(alloc, space, &found)
 }
 
-/// The slots found whose object is shareable.
+/// Whether the object of one of the slots is frozen and no shell.
+fn has_solid(space: &Space, found: &SlotSet) -> bool
+    requires { (n : ℕ) → Contains found.now n → IsSettled space.now.slots n }
+    ensures { IsTrue result ↔ ((n : ℕ) × Contains found.now n × IsSolidAt space.now.slots n) }
+{
+    for place in 0..found.len() {
+        if is_solid(space, found.at(place)) {
+            return true;
+        }
+    }
+    false
+}
+
+/// The slots found whose object is shareable. A shareable object is frozen, so that there are none where none is.
 pub(crate) fn shareable_among(
     alloc: Global,
     space: &Space,
@@ -75,6 +88,9 @@ pub(crate) fn shareable_among(
     ensures exact { IfOk result (λ rest. (n : ℕ) → Contains rest n ↔ (Contains found.now n × IsShareable (space_graph space.now) (At (Own n)))) }
     ensures fault { IfErr result (λ e. e ≡ Fault.Memory) }
 {
+    if !has_solid(space, found) {
+        return Ok(SlotSet::new(alloc));
+    }
     let sources = sources_of(alloc, space, found)?;
     let marked = marked(alloc, space, found, &sources)?;
     unmarked(alloc, found, marked)

@@ -1,8 +1,8 @@
--- Objects that match, place by place, what a list of names holds are alike to it, published objects being leaves.
+-- Two graphs in which paired objects match, published objects being leaves, are alike.
 use Rattle.std.proofs.Common.{◌≡◌, ℕ, zero, suc, List, [], ◌∷◌, slice_get, Some, Contains, sym, ap, ◌∙◌, subst, refl}
 use Rattle.std.proofs.lemmas.Option.{slice_get_within, get_or_from_slice_get, slice_get-get_or, same_Some, none-some}
 use Rattle.std.specs.List.{AllZip}
-use Rattle.rr_space.specs.Graph.{Graph, Name, Own, Published, Value, Plain, At, Label, Object, Leads, Reaches, IsSolid, IsShareable}
+use Rattle.rr_space.specs.Graph.{Graph, Name, Own, Published, Value, Plain, At, Label, Object, Leads, Reaches, IsSolid, IsShareable, IsPart}
 use Rattle.rr_space.specs.Graph.{SameValue, SameTriple, Matches, Alike, IsAt}
 use Rattle.rr_space.specs.Tables.{IsSealed, IsPublished}
 use Rattle.rr_space.specs.Laws.{Copied, CopiesAreAlike}
@@ -55,41 +55,48 @@ module _ (P : ℕ → ℕ → Type 0) where
   paired_back m (At (Own n)) y e s = (n, refl, subst (λ t. SameValue P (At (Own n)) t) e s)
   paired_back m (At (Published c p)) y e s = absurd (subst (λ t. SameValue P (At (Published c p)) t) e s)
 
-module _ (g : Graph) (v : Value) (names : List ℕ) (h : Graph) (w : Value) (c : Copied g v names h w) where
-  published_at : (d q : ℕ) (x : Value) → x ≡ At (Published d q) → IsPublished x
-  published_at d q x e = subst IsPublished (sym e) tt
+-- P pairs names one to one, each on the left is of the part of v, paired objects match, and so do the roots
+pub record IsPairing (g : Graph) (v : Value) (h : Graph) (w : Value) (P : ℕ → ℕ → Type 0) : Type 0 where
+  pub left_sealed : IsSealed g
+  pub right_sealed : IsSealed h
+  pub roots : SameValue P v w
+  pub there : (n m : ℕ) (o : Object) → P n m → g (Own n) ≡ Some o → (p : Object) × (h (Own m) ≡ Some p) × Matches P o p
+  pub back : (n m : ℕ) (p : Object) → P n m → h (Own m) ≡ Some p → (o : Object) × (g (Own n) ≡ Some o) × Matches P o p
+  pub part : (n m : ℕ) → P n m → IsPart g v (Own n)
+  pub one_left : (n m k : ℕ) → P n m → P n k → m ≡ k
+  pub one_right : (n k m : ℕ) → P n m → P k m → n ≡ k
 
-  path_on : (path : List Label) (x y : Value) (n : ℕ) → SameValue (IsAt names) x y → Leads g x path (At (Own n)) → (m : ℕ) × Leads h y path (At (Own m)) × IsAt names n m
-  path_on [] x y n s e = paired_on (IsAt names) n x y e s
+module _ (g : Graph) (v : Value) (h : Graph) (w : Value) (P : ℕ → ℕ → Type 0) (c : IsPairing g v h w P) where
+  path_on : (path : List Label) (x y : Value) (n : ℕ) → SameValue P x y → Leads g x path (At (Own n)) → (m : ℕ) × Leads h y path (At (Own m)) × P n m
+  path_on [] x y n s e = paired_on P n x y e s
   path_on (l ∷ path) x y n s (z, (Published d q, o, is, here, has), rest) =
       absurd (stays_out g c.left_sealed path z n (c.left_sealed.shut d q o l z here has) rest)
   path_on (l ∷ path) x y n s (z, (Own k, o, is, here, has), rest) =
-      let a = paired_on (IsAt names) k x y is s in
+      let a = paired_on P k x y is s in
       let t = c.there k a.0 o a.2 here in
-      let b = triple_on (IsAt names) o t.0 l z t.2 has in
+      let b = triple_on P o t.0 l z t.2 has in
       let r = path_on path z b.0 n b.2 rest in
       (r.0, (b.0, (Own a.0, t.0, a.1, t.1, b.1), r.1), r.2)
 
-  path_back : (path : List Label) (x y : Value) (m : ℕ) → SameValue (IsAt names) x y → Leads h y path (At (Own m)) → (n : ℕ) × Leads g x path (At (Own n)) × IsAt names n m
-  path_back [] x y m s e = paired_back (IsAt names) m x y e s
+  path_back : (path : List Label) (x y : Value) (m : ℕ) → SameValue P x y → Leads h y path (At (Own m)) → (n : ℕ) × Leads g x path (At (Own n)) × P n m
+  path_back [] x y m s e = paired_back P m x y e s
   path_back (l ∷ path) x y m s (z, (Published d q, o, is, here, has), rest) =
       absurd (stays_out h c.right_sealed path z m (c.right_sealed.shut d q o l z here has) rest)
   path_back (l ∷ path) x y m s (z, (Own k, p, is, here, has), rest) =
-      let a = paired_back (IsAt names) k x y is s in
+      let a = paired_back P k x y is s in
       let t = c.back a.0 k p a.2 here in
-      let b = triple_back (IsAt names) t.0 p l z t.2 has in
+      let b = triple_back P t.0 p l z t.2 has in
       let r = path_back path b.0 z m b.2 rest in
       (r.0, (b.0, (Own a.0, t.0, a.1, t.1, b.1), r.1), r.2)
 
-  left : (n m : ℕ) → IsAt names n m → Reaches g v (Own n)
-  left n m p = (c.exact n).0 (contains_at names m n p)
+  right : (n m : ℕ) → P n m → Reaches h w (Own m)
+  right n m p =
+      let r = (c.part n m p).0 in
+      let f = path_on r.0 v w n c.roots r.1 in
+      subst (λ j. Reaches h w (Own j)) (c.one_left n f.0 m f.2 p) (r.0, f.1)
 
-  right : (n m : ℕ) → IsAt names n m → Reaches h w (Own m)
-  right n m p = let r = left n m p in let f = path_on r.0 v w n c.roots r.1 in
-      subst (λ j. Reaches h w (Own j)) (c.distinct n f.0 m f.2 p) (r.0, f.1)
-
-  -- a copy that were shareable would make what it was copied from shareable
-  solid_back : (n m : ℕ) → IsAt names n m → IsShareable h (At (Own m)) → IsShareable g (At (Own n))
+  -- what is paired with a shareable object is shareable
+  solid_back : (n m : ℕ) → P n m → IsShareable h (At (Own m)) → IsShareable g (At (Own n))
   solid_back n m p all = by
     where
       by : (k : Name) (o : Object) → Reaches g (At (Own n)) k → g k ≡ Some o → IsSolid o
@@ -100,17 +107,26 @@ module _ (g : Graph) (v : Value) (names : List ℕ) (h : Graph) (w : Value) (c :
           let s = all (Own f.0) t.0 (reach.0, f.1) t.1 in
           record { frozen = t.2.frozen ∙ s.frozen; no_shell = λ e. s.no_shell (sym t.2.kind ∙ e) }
 
-  alike : Alike g v h w (IsAt names)
-  alike = record {
+  pub paired_alike : Alike g v h w P
+  paired_alike = record {
     roots = c.roots;
-    same = λ n m o p at here there. let t = c.there n m o at here in subst (Matches (IsAt names) o) (same_Some t.0 p (sym t.1 ∙ there)) t.2;
-    has_left = λ n part. at_contains names n ((c.exact n).1 part.0);
+    same = λ n m o p at here gone. let t = c.there n m o at here in subst (Matches P o) (same_Some t.0 p (sym t.1 ∙ gone)) t.2;
+    has_left = λ n part. let f = path_on part.0.0 v w n c.roots part.0.1 in (f.0, f.2);
     has_right = λ m part. let b = path_back part.0.0 v w m c.roots part.0.1 in (b.0, b.2);
-    left = λ n m p. (left n m p, c.promoted n (left n m p));
-    right = λ n m p. (right n m p, λ all. c.promoted n (left n m p) (solid_back n m p all));
-    one_left = λ n m k p q. c.distinct n m k p q;
-    one_right = λ n k m p q. same_Some n k (sym p ∙ q);
+    left = λ n m p. c.part n m p;
+    right = λ n m p. (right n m p, λ all. (c.part n m p).1 (solid_back n m p all));
+    one_left = λ n m k p q. c.one_left n m k p q;
+    one_right = λ n k m p q. c.one_right n k m p q;
   }
 
 pub copies_are_alike : CopiesAreAlike
-copies_are_alike g v names h w c = alike g v names h w c
+copies_are_alike g v names h w c = paired_alike g v h w (IsAt names) (record {
+  left_sealed = c.left_sealed;
+  right_sealed = c.right_sealed;
+  roots = c.roots;
+  there = c.there;
+  back = c.back;
+  part = λ n m p. let r = (c.exact n).0 (contains_at names m n p) in (r, c.promoted n r);
+  one_left = λ n m k p q. c.distinct n m k p q;
+  one_right = λ n k m p q. same_Some n k (sym p ∙ q);
+})

@@ -38,11 +38,11 @@ composed f g h (t ∷ ts) same =
 abbrev pub set_names : Naming → Owner → List ℕ → Naming
 set_names names b ns h = if owner_eq h b then ns else names h
 
-pub set_same : (names : Naming) (b : Owner) (ns : List ℕ) → set_names names b ns b ≡ ns
-set_same names b ns = ap (λ v. if v then ns else names b) (owner_refl b)
+pub names_of_set : (names : Naming) (b : Owner) (ns : List ℕ) → set_names names b ns b ≡ ns
+names_of_set names b ns = ap (λ v. if v then ns else names b) (owner_refl b)
 
-pub set_other : (names : Naming) (b : Owner) (ns : List ℕ) (h : Owner) → (h ≡ b → ⊥) → set_names names b ns h ≡ names h
-set_other names b ns h differ = by (owner_eq h b) refl
+pub names_of_others : (names : Naming) (b : Owner) (ns : List ℕ) (h : Owner) → (h ≡ b → ⊥) → set_names names b ns h ≡ names h
+names_of_others names b ns h differ = by (owner_eq h b) refl
   where
     by : (v : Bool) → owner_eq h b ≡ v → set_names names b ns h ≡ names h
     by true p = absurd (differ (owner_same h b p))
@@ -73,10 +73,10 @@ module _ (a b : Owner) (os : List Object) (s : List Slot) (old new : Layout) (na
   ra = R.reads a (map Here os) G.from
 
   m2 : set_names names b (ns ++ names a) b ≡ ns ++ names a
-  m2 = set_same names b (ns ++ names a)
+  m2 = names_of_set names b (ns ++ names a)
 
   shared : (c : ℕ) → set_names names b (ns ++ names a) (Shared c) ≡ names (Shared c)
-  shared c = set_other names b (ns ++ names a) (Shared c) (λ e. G.unshared_b c (sym e))
+  shared c = names_of_others names b (ns ++ names a) (Shared c) (λ e. G.unshared_b c (sym e))
 
   left_name : (i : ℕ) → i < length s → slice_index (set_names names b (ns ++ names a) b) i ≡ slice_index ns i
   left_name i lt = ap (λ l. slice_index l i) m2 ∙ get_or_append_left ns (names a) 0 i (let w = ns_size in omega arith)
@@ -211,7 +211,7 @@ module _ (a b : Owner) (os : List Object) (s : List Slot) (old new : Layout) (na
   reads_by h t (the_new e is) = subst (λ k. Reads new (set_names names b (ns ++ names a)) (λ n. option_map (turned a b) (g n)) k t) (sym e)
       (subst (λ u. Reads new (set_names names b (ns ++ names a)) (λ n. option_map (turned a b) (g n)) b u) (sym is) reads_b)
   reads_by h t (an_old not_a not_b is) = reads_kept old new names (set_names names b (ns ++ names a)) g (λ n. option_map (turned a b) (g n)) h t (R.sound h t is)
-      (set_other names b (ns ++ names a) h not_b) (λ c u e. shared c) (λ n o e. g2_kept n (record { owner = h; object = o }) e not_a) (R.reads h t is)
+      (names_of_others names b (ns ++ names a) h not_b) (λ c u e. shared c) (λ n o e. g2_kept n (record { owner = h; object = o }) e not_a) (R.reads h t is)
 
   sound_by : (h : Owner) (t : List Slot) → Which h t → IsSound new t
   sound_by h t (the_new e is) = subst (IsSound new) (sym is) sound_b
@@ -265,7 +265,7 @@ module _ (a b : Owner) (os : List Object) (s : List Slot) (old new : Layout) (na
             raw = st.raw;
             is_table = G.rest x.owner p q ∙ st.is_table;
             is_raw = st.is_raw;
-            is_name = ap (λ l. slice_index l st.place) (set_other names b (ns ++ names a) x.owner q) ∙ st.is_name;
+            is_name = ap (λ l. slice_index l st.place) (names_of_others names b (ns ++ names a) x.owner q) ∙ st.is_name;
           })
 
   reading : IsReading new (set_names names b (ns ++ names a)) bound (λ n. option_map (turned a b) (g n))
@@ -292,7 +292,7 @@ module _ (a b : Owner) (os : List Object) (s : List Slot) (old new : Layout) (na
     set_names names b (ns ++ names a),
     (λ n. option_map (turned a b) (g n)),
     reading,
-    record { rest = λ h differ. set_other names b (ns ++ names a) h differ },
+    record { rest = λ h differ. names_of_others names b (ns ++ names a) h differ },
     record { turned = g2_turned; kept = g2_kept; none = λ n e. ap (option_map (turned a b)) e },
     joined,
   )

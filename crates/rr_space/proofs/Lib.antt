@@ -23,6 +23,8 @@ pub mod Writing
 pub mod Wells
 pub mod Pairing
 pub mod Keys
+pub mod Indexing
+pub mod Named
 pub mod Entering
 pub mod Removing
 pub mod Fielding
@@ -40,3 +42,4 @@ pub mod Preserving
 pub mod Renumbered
 pub mod Taking
 pub mod Labelling
+pub mod Paging

@@ -10,7 +10,7 @@ use Rattle.rr_space.specs.Tables.{renamed_object}
 use Rattle.rr_space.specs.Readings.{Owner, Shared, Owned, Objects, Naming, Layout, name_in, named, HasPlace, IsSound, Reads, Stands, IsReading}
 use Rattle.rr_space.specs.Steps.{Remakes, IsRemade, IsNamed, RemakingIsAStep}
 use Rattle.rr_space.proofs.Frames.{owner_cases, reads_kept, sound_kept}
-use Rattle.rr_space.proofs.Hands.{set_names, set_same, set_other}
+use Rattle.rr_space.proofs.Hands.{set_names, names_of_set, names_of_others}
 
 abbrev pub fresh_names : ℕ → ℕ → List ℕ
 fresh_names b zero = []
@@ -71,10 +71,10 @@ module _ (h : Owner) (k : ℕ) (s s2 : List Slot) (old new : Layout) (names : Na
     (C : Remakes h k s s2 old new) (R : IsReading old names bound g)
     (ns : List ℕ) (ns_size : length ns ≡ length s) (ns_is : (i : ℕ) (x : Slot) → slice_get s i ≡ Some x → (old h ≡ Some s) × (ns ≡ names h)) where
   m2 : (set_names names h (ns ++ fresh_names bound k)) h ≡ ns ++ fresh_names bound k
-  m2 = set_same names h (ns ++ fresh_names bound k)
+  m2 = names_of_set names h (ns ++ fresh_names bound k)
 
   shared : (c : ℕ) → (set_names names h (ns ++ fresh_names bound k)) (Shared c) ≡ names (Shared c)
-  shared c = set_other names h (ns ++ fresh_names bound k) (Shared c) (λ e. C.unshared c (sym e))
+  shared c = names_of_others names h (ns ++ fresh_names bound k) (Shared c) (λ e. C.unshared c (sym e))
 
   size : length ((set_names names h (ns ++ fresh_names bound k)) h) ≡ length s2
   size = ap length m2 ∙ (let a = length-append ns (fresh_names bound k) in let b = fresh_length bound k in let d = C.size in let e = ns_size in omega arith)
@@ -156,7 +156,7 @@ module _ (h : Owner) (k : ℕ) (s s2 : List Slot) (old new : Layout) (names : Na
   reads_by j t e = ⊎_elim
       (λ p. subst (λ x. Reads new (set_names names h (ns ++ fresh_names bound k)) (made h (name_in (set_names names h (ns ++ fresh_names bound k)) h) ((set_names names h (ns ++ fresh_names bound k)) h) s2 g) x t) (sym p) (subst (λ u. Reads new (set_names names h (ns ++ fresh_names bound k)) (made h (name_in (set_names names h (ns ++ fresh_names bound k)) h) ((set_names names h (ns ++ fresh_names bound k)) h) s2 g) h u) (same_Some s2 t (sym C.now ∙ ap new (sym p) ∙ e)) reads_h))
       (λ p. let is = sym (C.rest j p) ∙ e in reads_kept old new names (set_names names h (ns ++ fresh_names bound k)) g (made h (name_in (set_names names h (ns ++ fresh_names bound k)) h) ((set_names names h (ns ++ fresh_names bound k)) h) s2 g) j t (R.sound j t is)
-      (set_other names h (ns ++ fresh_names bound k) j p) (λ c u w. shared c) (λ n o w. g2_others n _ w p) (R.reads j t is))
+      (names_of_others names h (ns ++ fresh_names bound k) j p) (λ c u w. shared c) (λ n o w. g2_others n _ w p) (R.reads j t is))
       (owner_cases j h)
 
   sound_by : (j : Owner) (t : List Slot) → new j ≡ Some t → IsSound new t
@@ -181,7 +181,7 @@ module _ (h : Owner) (k : ℕ) (s s2 : List Slot) (old new : Layout) (names : Na
         raw = st.raw;
         is_table = C.rest y.owner p ∙ st.is_table;
         is_raw = st.is_raw;
-        is_name = ap (λ l. slice_index l st.place) (set_other names h (ns ++ fresh_names bound k) y.owner p) ∙ st.is_name;
+        is_name = ap (λ l. slice_index l st.place) (names_of_others names h (ns ++ fresh_names bound k) y.owner p) ∙ st.is_name;
       }
 
       from_h : y.owner ≡ h → Stands new (set_names names h (ns ++ fresh_names bound k)) n y.owner
@@ -221,7 +221,7 @@ module _ (h : Owner) (k : ℕ) (s s2 : List Slot) (old new : Layout) (names : Na
     (set_names names h (ns ++ fresh_names bound k)),
     (made h (name_in (set_names names h (ns ++ fresh_names bound k)) h) ((set_names names h (ns ++ fresh_names bound k)) h) s2 g),
     record { sound = sound_by; reads = reads_by; only = λ n y e. only_by n y (lookup ((set_names names h (ns ++ fresh_names bound k)) h) s2 n) refl e; bounded = λ n y e. bounded_by n y (lookup ((set_names names h (ns ++ fresh_names bound k)) h) s2 n) refl e },
-    record { rest = λ j differ. set_other names h (ns ++ fresh_names bound k) j differ },
+    record { rest = λ j differ. names_of_others names h (ns ++ fresh_names bound k) j differ },
     record { others = g2_others; own = g2_own; kept = name_kept; fresh = fresh_by },
   )
 

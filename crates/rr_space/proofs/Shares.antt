@@ -14,7 +14,7 @@ use Rattle.rr_space.specs.Readings.{Owner, Space, Shared, Owned, Objects, Naming
 use Rattle.rr_space.specs.Steps.{IsPublished, Publishes, IsNamed, PublishingIsTurning}
 use Rattle.rr_space.proofs.Renaming.{mapped_at, map_at, contains_at, at_contains, contains_map, contains_map_back}
 use Rattle.rr_space.proofs.Frames.{owner_cases, object_same, reads_kept, sound_kept}
-use Rattle.rr_space.proofs.Hands.{set_names, set_same, set_other, some_back}
+use Rattle.rr_space.proofs.Hands.{set_names, names_of_set, names_of_others, some_back}
 
 abbrev pub has : List ℕ → ℕ → Bool
 has [] n = false
@@ -78,10 +78,10 @@ module _ (r c : ℕ) (places : List ℕ) (s s2 : List Slot) (os : List Object) (
   rs = R.reads (Space r) s P.space
 
   m2 : set_names names (Shared c) (map (slice_index (names (Space r))) places) (Shared c) ≡ map (slice_index (names (Space r))) places
-  m2 = set_same names (Shared c) (map (slice_index (names (Space r))) places)
+  m2 = names_of_set names (Shared c) (map (slice_index (names (Space r))) places)
 
   kept : (d : ℕ) (u : List Slot) → old (Shared d) ≡ Some u → set_names names (Shared c) (map (slice_index (names (Space r))) places) (Shared d) ≡ names (Shared d)
-  kept d u e = set_other names (Shared c) (map (slice_index (names (Space r))) places) (Shared d) (λ q. none-some u (sym P.vacant ∙ ap old (sym q) ∙ e))
+  kept d u e = names_of_others names (Shared c) (map (slice_index (names (Space r))) places) (Shared d) (λ q. none-some u (sym P.vacant ∙ ap old (sym q) ∙ e))
 
   -- a place of the cluster has the name of its slot
   place_name : (n i : ℕ) → IsAt places n i → slice_index (set_names names (Shared c) (map (slice_index (names (Space r))) places) (Shared c)) i ≡ slice_index (names (Space r)) n
@@ -176,7 +176,7 @@ module _ (r c : ℕ) (places : List ℕ) (s s2 : List Slot) (os : List Object) (
 
   reads_space : Reads new (set_names names (Shared c) (map (slice_index (names (Space r))) places)) (published c (map (slice_index (names (Space r))) places) g) (Space r) s2
   reads_space = record {
-    size = ap length (set_other names (Shared c) (map (slice_index (names (Space r))) places) (Space r) (λ q. let v : ⊥ = cc in v)) ∙ rs.size ∙ sym P.size;
+    size = ap length (names_of_others names (Shared c) (map (slice_index (names (Space r))) places) (Space r) (λ q. let v : ⊥ = cc in v)) ∙ rs.size ∙ sym P.size;
     here = λ i o at.
         ap (λ l. (published c (map (slice_index (names (Space r))) places) g) (slice_index l i)) own
         ∙ published_out c (map (slice_index (names (Space r))) places) g (slice_index (names (Space r)) i) (not_named i o at) ∙ rs.here i o (stayed i o at)
@@ -186,7 +186,7 @@ module _ (r c : ℕ) (places : List ℕ) (s s2 : List Slot) (os : List Object) (
   }
     where
       own : (set_names names (Shared c) (map (slice_index (names (Space r))) places)) (Space r) ≡ names (Space r)
-      own = set_other names (Shared c) (map (slice_index (names (Space r))) places) (Space r) (λ q. let v : ⊥ = cc in v)
+      own = names_of_others names (Shared c) (map (slice_index (names (Space r))) places) (Space r) (λ q. let v : ⊥ = cc in v)
 
       led_by : (i d p : ℕ) → slice_get s2 i ≡ Some (Led d p) → slice_index ((set_names names (Shared c) (map (slice_index (names (Space r))) places)) (Space r)) i ≡ slice_index ((set_names names (Shared c) (map (slice_index (names (Space r))) places)) (Shared d)) p
       led_by i d p at = ⊎_elim
@@ -278,7 +278,7 @@ module _ (r c : ℕ) (places : List ℕ) (s s2 : List Slot) (os : List Object) (
   reads_by h t (the_space e is) = subst (λ k. Reads new (set_names names (Shared c) (map (slice_index (names (Space r))) places)) (published c (map (slice_index (names (Space r))) places) g) k t) (sym e) (subst (λ u. Reads new (set_names names (Shared c) (map (slice_index (names (Space r))) places)) (published c (map (slice_index (names (Space r))) places) g) (Space r) u) (sym is) reads_space)
   reads_by h t (the_cluster e is) = subst (λ k. Reads new (set_names names (Shared c) (map (slice_index (names (Space r))) places)) (published c (map (slice_index (names (Space r))) places) g) k t) (sym e) (subst (λ u. Reads new (set_names names (Shared c) (map (slice_index (names (Space r))) places)) (published c (map (slice_index (names (Space r))) places) g) (Shared c) u) (sym is) reads_cluster)
   reads_by h t (an_old not_a not_b is) = reads_kept old new names (set_names names (Shared c) (map (slice_index (names (Space r))) places)) g (published c (map (slice_index (names (Space r))) places) g) h t (R.sound h t is)
-      (set_other names (Shared c) (map (slice_index (names (Space r))) places) h not_b) kept (λ n o e. g2_kept h n o not_a e) (R.reads h t is)
+      (names_of_others names (Shared c) (map (slice_index (names (Space r))) places) h not_b) kept (λ n o e. g2_kept h n o not_a e) (R.reads h t is)
 
   sound_by : (h : Owner) (t : List Slot) → Which h t → IsSound new t
   sound_by h t (the_space e is) = subst (IsSound new) (sym is) sound_space
@@ -307,7 +307,7 @@ module _ (r c : ℕ) (places : List ℕ) (s s2 : List Slot) (os : List Object) (
             raw = st.raw;
             is_table = P.space2;
             is_raw = P.others st.place (λ h. out (subst (λ k. Contains (map (slice_index (names (Space r))) places) k) name (contains_map (slice_index (names (Space r))) places st.place h))) ∙ at;
-            is_name = ap (λ l. slice_index l st.place) (set_other names (Shared c) (map (slice_index (names (Space r))) places) (Space r) (λ q. let v : ⊥ = cc in v)) ∙ name;
+            is_name = ap (λ l. slice_index l st.place) (names_of_others names (Shared c) (map (slice_index (names (Space r))) places) (Space r) (λ q. let v : ⊥ = cc in v)) ∙ name;
           })
 
       from_rest : (y.owner ≡ Space r → ⊥) → Stands new (set_names names (Shared c) (map (slice_index (names (Space r))) places)) n y.owner
@@ -317,7 +317,7 @@ module _ (r c : ℕ) (places : List ℕ) (s s2 : List Slot) (os : List Object) (
         raw = st.raw;
         is_table = P.rest y.owner p not_c ∙ st.is_table;
         is_raw = st.is_raw;
-        is_name = ap (λ l. slice_index l st.place) (set_other names (Shared c) (map (slice_index (names (Space r))) places) y.owner not_c) ∙ st.is_name;
+        is_name = ap (λ l. slice_index l st.place) (names_of_others names (Shared c) (map (slice_index (names (Space r))) places) y.owner not_c) ∙ st.is_name;
       }
 
   only_in : (n : ℕ) (x y : Owned) → Contains (map (slice_index (names (Space r))) places) n → g n ≡ Some x → shared_by c x ≡ y → Stands new (set_names names (Shared c) (map (slice_index (names (Space r))) places)) n y.owner
@@ -346,7 +346,7 @@ module _ (r c : ℕ) (places : List ℕ) (s s2 : List Slot) (os : List Object) (
     (set_names names (Shared c) (map (slice_index (names (Space r))) places)),
     (published c (map (slice_index (names (Space r))) places) g),
     record { sound = λ h t e. sound_by h t (which h t e); reads = λ h t e. reads_by h t (which h t e); only = only_by; bounded = bounded_by },
-    record { rest = λ h differ. set_other names (Shared c) (map (slice_index (names (Space r))) places) h differ },
+    record { rest = λ h differ. names_of_others names (Shared c) (map (slice_index (names (Space r))) places) h differ },
     record { turned = λ n x h e. published_in c (map (slice_index (names (Space r))) places) g n h ∙ ap (option_map (shared_by c)) e; kept = λ n h. published_out c (map (slice_index (names (Space r))) places) g n h },
   )
 

@@ -10,6 +10,8 @@ pub mod Kinds
 pub mod Names
 pub mod Labels
 pub mod Lookups
+pub mod Indexes
+pub mod Places
 pub mod Moves
 pub mod Steps
 pub mod Laws

@@ -1,6 +1,6 @@
 //! The elements of an array.
 
-ghost use Rattle.std.specs.Prelude.{ℕ, ◌≡◌, ◌-◌, ◌<◌, ◌^◌, [], ◌∷◌, ◌++◌, length, map, remove, slice_get, slice_set, Some, IfOk, IfErr};
+ghost use Rattle.std.specs.Prelude.{ℕ, ◌≡◌, ◌-◌, ◌<◌, ◌^◌, [], ◌∷◌, ◌++◌, length, map, remove, slice_get, slice_set, vec_len, Some, IfOk, IfErr};
 ghost use Rattle.rr_space.specs.Views.{ref_behind};
 ghost use Rattle.rr_space.specs.Parts.{places_from};
 ghost use Rattle.rr_space.specs.Parts.{AllWithin};
@@ -11,6 +11,7 @@ use crate::behind::refs_behind;
 use crate::refer::Ref;
 use crate::renumber::{Renumber, renumber_refs};
 use crate::replace::replace_at;
+use crate::shifted::Shifted;
 use rr_base::Fault;
 use std::alloc::Global;
 use std::marker::Model;
@@ -27,6 +28,8 @@ enum Kept {
     One(Global, Ref),
     Two(Global, Ref, Ref),
     Many(Vec<Ref>),
+    /// Many, of which some were taken from the front.
+    Late(Shifted),
 }
 
 impl Model for Items {
@@ -77,6 +80,15 @@ impl Items {
         }
     }
 
+    /// Elements of which some were taken from the front.
+    fn late(items: Shifted) -> Items
+        ensures { result ≡ items }
+    {
+        Items {
+            kept: Kept::Late(items),
+        }
+    }
+
     /// The number of elements.
     pub fn len(&self) -> usize
         ensures { result ≡ length self.now }
@@ -86,6 +98,7 @@ impl Items {
             Kept::One(_, _) => 1,
             Kept::Two(_, _, _) => 2,
             Kept::Many(items) => items.len(),
+            Kept::Late(items) => items.len(),
         }
     }
 
@@ -99,6 +112,7 @@ impl Items {
             Kept::Two(_, first, _) if k == 0 => Some(*first),
             Kept::Two(_, _, second) if k == 1 => Some(*second),
             Kept::Many(items) if k < items.len() => Some(items[k]),
+            Kept::Late(items) => items.get(k),
             _ => None,
         }
     }
@@ -120,6 +134,10 @@ impl Items {
             Kept::Many(mut items) => match items.push(item) {
                 Ok(()) => (Items::from_vec(items), Ok(())),
                 Err(_) => (Items::from_vec(items), Err(Fault::Memory)),
+            },
+            Kept::Late(mut items) => match items.push(item) {
+                Ok(()) => (Items::late(items), Ok(())),
+                Err(fault) => (Items::late(items), Err(fault)),
             },
         }
     }
@@ -144,6 +162,10 @@ impl Items {
                 replace_at(&mut items, k, item);
                 Items::from_vec(items)
             }
+            Kept::Late(mut items) => {
+                items.set(k, item);
+                Items::late(items)
+            }
         }
     }
 
@@ -160,6 +182,11 @@ impl Items {
                 Items::two(alloc, first.behind(count), second.behind(count))
             }
             Kept::Many(mut items) => {
+                refs_behind(&mut items, count);
+                Items::from_vec(items)
+            }
+            Kept::Late(items) => {
+                let mut items = items.into_vec();
                 refs_behind(&mut items, count);
                 Items::from_vec(items)
             }
@@ -182,10 +209,15 @@ impl Items {
                 renumber_refs(&mut items, by);
                 Items::from_vec(items)
             }
+            Kept::Late(items) => {
+                let mut items = items.into_vec();
+                renumber_refs(&mut items, by);
+                Items::from_vec(items)
+            }
         }
     }
 
-    /// The elements without the `k`-th.
+    /// The elements without the `k`-th. Taking all elements from the front costs a few moves each, however many there are.
     pub(crate) fn without(self, k: usize) -> Items
         requires { k < length self }
         ensures { result ≡ remove self k }
@@ -201,11 +233,42 @@ impl Items {
                     Items::one(alloc, first)
                 }
             }
-            Kept::Many(mut items) => {
-                items.remove(k);
-                Items::from_vec(items)
+            Kept::Many(items) => without_one(items, k),
+            Kept::Late(items) => {
+                if k == 0 {
+                    shortened(items.without_first())
+                } else {
+                    without_one(items.into_vec(), k)
+                }
             }
         }
+    }
+}
+
+/// A vector of fewer elements is moved up as a whole where its first is taken.
+const FEW: usize = 16;
+
+/// The elements of the vector without the `k`-th.
+fn without_one(items: Vec<Ref>, k: usize) -> Items
+    requires { k < vec_len items }
+    ensures { result ≡ remove items.items k }
+{
+    if k == 0 && items.len() > FEW {
+        return Items::late(Shifted::new(items));
+    }
+    let mut items = items;
+    items.remove(k);
+    Items::from_vec(items)
+}
+
+/// The elements, in a vector of their own once most of theirs was taken.
+fn shortened(items: Shifted) -> Items
+    ensures { result ≡ items }
+{
+    if items.is_mostly_taken() {
+        Items::from_vec(items.into_vec())
+    } else {
+        Items::late(items)
     }
 }
 

@@ -18,7 +18,8 @@ use rr_base::Fault;
 use std::alloc::Global;
 
 impl Cluster {
-    /// The first pair of the hash under `place` that has this key; none where no such pair is there.
+    /// The first pair of the hash under `place` that has this key; none where no such pair is there. A hash of many pairs
+    /// has an index.
     pub(crate) fn find(&self, place: u32, key: &Key) -> Option<usize>
         ensures there { IfSome result (λ i. IsPairThere (triples_of (slice_get (outer_objects self.now) place)) i) }
         ensures none { (object_kind (slice_get (outer_objects self.now) place) ≡ Kind.Hash → ⊥) → result ≡ None }
@@ -26,7 +27,10 @@ impl Cluster {
     {
         if (place as usize) < self.nodes.len() {
             if let Sealed::Hash(pairs) = &self.nodes[place as usize] {
-                return self.find_among(pairs, key);
+                return match self.indexes.get(place as usize) {
+                    Some(Some(firsts)) => firsts.get(key).copied(),
+                    _ => self.find_among(pairs, key),
+                };
             }
         }
         None
@@ -113,7 +117,7 @@ impl Space {
 }
 
 /// The key that an immediate is.
-fn plain_key(value: Ref) -> Option<Key>
+pub(crate) fn plain_key(value: Ref) -> Option<Key>
     ensures { option_map key_of result ≡ key_of_plain (value_of value) }
 {
     match value {

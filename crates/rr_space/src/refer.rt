@@ -1,6 +1,6 @@
 //! References, and the clusters that shared ones lead into.
 
-ghost use Rattle.std.specs.Prelude.{◌≡◌, ℕ, List, length, slice_get, map, Contains, IfSome, IfOk, IfErr};
+ghost use Rattle.std.specs.Prelude.{◌≡◌, ℕ, ◌≤◌, List, length, slice_get, map, Contains, IfSome, IfOk, IfErr};
 ghost use Rattle.std.specs.Option.{option_map};
 ghost use Rattle.rr_space.specs.Parts.{below_ref, bytes_of, sealed_parts, value_of, sealed_object, below_all};
 ghost use Rattle.rr_space.specs.Parts.{is_frozen_object};
@@ -12,10 +12,11 @@ ghost use Rattle.rr_space.specs.Names.{value_named};
 ghost use Rattle.rr_space.specs.Labels.{labelled, labelled_value, triples_of, AreLabelsPlaced};
 ghost use Rattle.rr_space.specs.Kinds.{object_kind, object_class};
 
+use crate::indexes::{Firsts, indexes_of};
 use crate::kind::Kind;
 use crate::label::Label;
 use crate::part::{half_of_pair, nth_element, nth_field, nth_of_raised, nth_pair};
-use rr_base::{ClassId, RactorNo, Sym};
+use rr_base::{ClassId, Fault, RactorNo, Sym};
 use std::alloc::Global;
 use std::marker::Model;
 
@@ -102,6 +103,7 @@ pub enum Sealed {
 pub struct Cluster {
     number: u32,
     pub(crate) nodes: Vec<Sealed>,
+    pub(crate) indexes: Vec<Option<Box<Firsts>>>,
 }
 
 impl Model for Cluster {
@@ -115,8 +117,9 @@ impl Model for Cluster {
     ghost view = { λ a. record { number = a.number; own = map sealed_object a.nodes.items; below = below_all a.nodes.items } };
 
     ghost use Rattle.rr_space.specs.Parts.{AllSealedWithin};
+    ghost use Rattle.rr_space.specs.Indexes.{AreIndexed};
 
-    ghost invariant = { λ a. AllSealedWithin (length a.nodes.items) a.nodes.items };
+    ghost invariant = { λ a. AllSealedWithin (length a.nodes.items) a.nodes.items × AreIndexed (λ b. b.value.entries) a.nodes.items a.indexes.items };
 
     ghost size = { λ v. 2 * length v.below };
 
@@ -166,13 +169,21 @@ impl Cluster {
     }
 
     /// A cluster of these objects, whose `Ref::Local`s are places among them. It has the number 0 until it is published.
-    pub fn new(nodes: Vec<Sealed>) -> Cluster
+    /// `Memory` is the only fault, and none where there are no objects.
+    pub fn new(alloc: Global, nodes: Vec<Sealed>) -> Result<Cluster, Fault>
         requires { AllSealedWithin (length nodes.items) nodes.items }
-        ensures own { result.own ≡ map sealed_object nodes.items }
-        ensures below { result.below ≡ below_all nodes.items }
-        ensures number { result.number ≡ 0 }
+        ensures own { IfOk result (λ c. c.own ≡ map sealed_object nodes.items) }
+        ensures below { IfOk result (λ c. c.below ≡ below_all nodes.items) }
+        ensures number { IfOk result (λ c. c.number ≡ 0) }
+        ensures grows { IfErr result (λ _. 1 ≤ length nodes.items) }
+        ensures fault { IfErr result (λ e. e ≡ Fault.Memory) }
     {
-        Cluster { number: 0, nodes }
+        let indexes = indexes_of(alloc, &nodes)?;
+        Ok(Cluster {
+            number: 0,
+            nodes,
+            indexes,
+        })
     }
 
     /// Gives the cluster its number, and the memory that it lies in up for good, so that references to it are copied
@@ -185,6 +196,7 @@ impl Cluster {
         let numbered = Cluster {
             number,
             nodes: self.nodes,
+            indexes: self.indexes,
         };
         match Box::new(alloc, numbered) {
             Ok(boxed) => Ok(Box::leak(boxed)),
@@ -193,6 +205,7 @@ impl Cluster {
                 Err(Cluster {
                     number: before,
                     nodes: back.nodes,
+                    indexes: back.indexes,
                 })
             }
         }

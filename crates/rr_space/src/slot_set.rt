@@ -1,26 +1,36 @@
 //! Slots, each once, in the order in which they were found.
 
-ghost use Rattle.std.specs.Prelude.{◌≡◌, ◌<◌, [], nat_eq, length, slice_get, Some, Contains, IsTrue, ◌↔◌, IfErr, OnOk, OnErr};
+ghost use Rattle.std.specs.Prelude.{◌≡◌, ◌<◌, ◌≤◌, ◌++◌, ◌∷◌, [], nat_eq, length, slice_get, Some, Contains, IsTrue, ◌↔◌, IfErr, IfNone, IfSome, OnErr, OnOk};
 ghost use Rattle.indexmap.specs.IndexSet.{insert_key};
 ghost use Rattle.std.specs.List.{IsDistinct};
+ghost use Rattle.rr_space.specs.Places.{ArePlaced, HasPlaces};
 
-use indexmap::IndexSet;
+use crate::place_table::PlaceTable;
 use rr_base::Fault;
 use std::alloc::Global;
 use std::marker::Model;
 
+/// So many slots are tried one by one, which costs less than a table.
+const FEW: usize = 8;
+
 /// Slots, each once, in the order in which they were found. The place of a slot among them is its name in a message.
 #[derive(Drop)]
 pub struct SlotSet {
-    slots: IndexSet<u32>,
+    slots: Vec<u32>,
+    /// The places of the slots, once there are more than a few.
+    places: PlaceTable,
 }
 
 impl Model for SlotSet {
-    ghost use Rattle.std.specs.Prelude.{List, ℕ};
+    ghost use Rattle.std.specs.Prelude.{List, ℕ, nat_eq};
+    ghost use Rattle.std.specs.List.{IsDistinct};
+    ghost use Rattle.rr_space.specs.Places.{ArePlaced};
 
     ghost Value = { List ℕ };
 
-    ghost view = { λ f. f.slots.keys };
+    ghost view = { λ f. f.slots.items };
+
+    ghost invariant = { λ f. IsDistinct nat_eq f.slots.items × ArePlaced f.slots.items f.places };
 }
 
 impl SlotSet {
@@ -29,7 +39,8 @@ impl SlotSet {
         ensures { result ≡ [] }
     {
         SlotSet {
-            slots: IndexSet::new(alloc),
+            slots: Vec::new(alloc),
+            places: PlaceTable::new(alloc),
         }
     }
 
@@ -52,7 +63,7 @@ impl SlotSet {
     pub fn contains(&self, slot: u32) -> bool
         ensures { IsTrue result ↔ Contains self.now slot }
     {
-        self.slots.contains(&slot)
+        self.find(slot).is_some()
     }
 
     /// The slot at the place `place`.
@@ -60,10 +71,7 @@ impl SlotSet {
         requires { place < length self.now }
         ensures { slice_get self.now place ≡ Some result }
     {
-        match self.slots.get_index(place) {
-            Some(slot) => *slot,
-            None => unreachable!(),
-        }
+        self.slots[place]
     }
 
     /// The place of a slot that is there.
@@ -71,7 +79,7 @@ impl SlotSet {
         requires { Contains self.now slot }
         ensures { slice_get self.now result ≡ Some slot }
     {
-        match self.slots.get_index_of(&slot) {
+        match self.find(slot) {
             Some(place) => place,
             None => unreachable!(),
         }
@@ -84,7 +92,76 @@ impl SlotSet {
         ensures grows { OnErr result (Contains self.old slot → ⊥) }
         ensures fault { IfErr result (λ e. e ≡ Fault.Memory) }
     {
-        self.slots.insert_full(slot)?;
+        if self.contains(slot) {
+            return Ok(());
+        }
+        keep_place(&mut self.places, &self.slots, slot)?;
+        self.slots.push(slot)?;
         Ok(())
     }
+
+    /// The place of a slot, if it is there.
+    fn find(&self, slot: u32) -> Option<usize>
+        ensures some { IfSome result (λ place. slice_get self.now place ≡ Some slot) }
+        ensures none { IfNone result (Contains self.now slot → ⊥) }
+    {
+        if self.slots.len() <= FEW {
+            return find_among(&self.slots, slot);
+        }
+        let place = self.places.get(slot)? as usize;
+        if place < self.slots.len() && self.slots[place] == slot {
+            Some(place)
+        } else {
+            None
+        }
+    }
+}
+
+/// The place of a slot among others, which are tried one by one.
+fn find_among(slots: &[u32], slot: u32) -> Option<usize>
+    ensures some { IfSome result (λ place. slice_get slots.now place ≡ Some slot) }
+    ensures none { IfNone result (Contains slots.now slot → ⊥) }
+{
+    for place in 0..slots.len() {
+        if slots[place] == slot {
+            return Some(place);
+        }
+    }
+    None
+}
+
+/// Keeps the place of a slot that comes behind others, and the places of these where they were few until now.
+fn keep_place(places: &mut PlaceTable, slots: &[u32], slot: u32) -> Result<(), Fault>
+    requires distinct { IsDistinct nat_eq slots.now }
+    requires absent { Contains slots.now slot → ⊥ }
+    requires placed { ArePlaced slots.now places.old }
+    ensures still { ArePlaced slots.now places.new }
+    ensures placed { OnOk result (ArePlaced (slots.now ++ slot ∷ []) places.new) }
+    ensures fault { IfErr result (λ e. e ≡ Fault.Memory) }
+{
+    if slots.len() < FEW {
+        return Ok(());
+    }
+    if slots.len() == FEW {
+        keep_places(places, slots)?;
+    }
+    // There are no more slots than 32 bits count.
+    let Ok(place) = u32::try_from(slots.len()) else {
+        return Err(Fault::Memory);
+    };
+    places.set(slot, place)
+}
+
+/// Keeps the places of a few slots.
+fn keep_places(places: &mut PlaceTable, slots: &[u32]) -> Result<(), Fault>
+    requires distinct { IsDistinct nat_eq slots.now }
+    requires few { length slots.now ≤ 8 }
+    ensures placed { OnOk result (HasPlaces slots.now places.new) }
+    ensures fault { IfErr result (λ e. e ≡ Fault.Memory) }
+{
+    for place in 0..slots.len() {
+        let slot = slots[place];
+        places.set(slot, place as u32)?;
+    }
+    Ok(())
 }

@@ -17,6 +17,7 @@ use crate::space::Space;
 impl Space {
     /// The number of references in the object that `value` leads to; 0 for an immediate. Each but a field has the place that
     /// its label names.
+    #[inline(always)]
     pub fn arity(&self, value: Ref) -> usize
         ensures count { result ≡ length (triples_at self.now value) }
         ensures placed { AreLabelsPlaced (triples_at self.now value) }

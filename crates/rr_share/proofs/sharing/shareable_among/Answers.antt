@@ -1,8 +1,10 @@
-use Rattle.std.proofs.Common.{ℕ, ◌↔◌, Contains}
+use Rattle.std.proofs.Common.{ℕ, ◌↔◌, Contains, IsTrue, subst}
 use Rattle.std.proofs.lemmas.Result.{IfOk-weaker}
 use Rattle.rr_space.specs.Graph.{Own, At, IsShareable}
 use Rattle.rr_space.specs.Tables.{space_graph}
 use Rattle.rr_space.proofs.Marks.{marks_decide}
+use Rattle.rr_share.proofs.Searching.{none_in}
+use Rattle.rr_share.proofs.Solids.{shareable_is_solid}
 use Rattle.rr_share.proofs.sharing.shareable_among.Goals as goal
 
 pub returns-clause-exact : goal.returns-clause-exact
@@ -16,3 +18,9 @@ returns-clause-exact c =
       λ s. (e n).1 (s.0, λ bad. (marks_decide g found marked n c.in_ok-marked.ensures.exact s.0).1 bad s.1),
     ))
     c.unmarked.ensures.exact
+
+pub returns-then-not-has_solid-clause-exact : goal.returns-then-not-has_solid-clause-exact
+returns-then-not-has_solid-clause-exact c n = (
+  λ w. absurd (none_in n (subst (λ xs. Contains xs n) c.new.ensures w)),
+  λ s. let yes : IsTrue c.has_solid.result = c.has_solid.ensures.1 (n, s.0, shareable_is_solid c.args.space.now n s.1) in absurd (cc),
+)

@@ -9,7 +9,7 @@ use Rattle.rr_space.proofs.refer.Cluster.outward.Goals as goal
 pub returns-in-Local-clause-within : goal.returns-in-Local-clause-within
 returns-in-Local-clause-within c = λ w n.
     let lt : c.in-Local.inner < length c.args.self.now.own = subst (IsWithin (length c.args.self.now.own)) c.in-Local.is w in
-    record { within = lt; sound = is_sound c.self.inside.number c.self.inside.nodes.items c.args.self.now c.self.view_is c.self.invariant }
+    record { within = lt; sound = is_sound c.self.inside.number c.self.inside.nodes.items c.args.self.now c.self.view_is c.self.invariant.0 }
 
 pub returns-in_default-clause-is : goal.returns-in_default-clause-is
 returns-in_default-clause-is c = outward_same c.args.self.now.number c.args.value c.in_default.not-Local

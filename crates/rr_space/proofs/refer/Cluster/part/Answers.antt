@@ -23,7 +23,7 @@ returns-then-place-len-clause-within c =
     let at = slice_get_read items (length items) c.args.place c.index.result.now refl lt c.index.ensures in
     let size : length items ≡ length c.args.self.now.own = sym (length-map items sealed_object) ∙ ap (λ (w : Whole). length w.own) c.self.view_is in
     part_within (length c.args.self.now.own) (sealed_parts c.index.result.now) c.args.k c.part.result
-    (subst (λ n. AllWithin n (sealed_parts c.index.result.now)) size (sealed_within (length items) items c.args.place c.index.result.now c.self.invariant at)) c.part.ensures
+    (subst (λ n. AllWithin n (sealed_parts c.index.result.now)) size (sealed_within (length items) items c.args.place c.index.result.now c.self.invariant.0 at)) c.part.ensures
 
 pub returns-else-place-len-clause-part : goal.returns-else-place-len-clause-part
 returns-else-place-len-clause-part c =
