@@ -1,2 +1,5 @@
 mod Taking
 mod Putting
+mod Held
+mod Shells
+mod Undone

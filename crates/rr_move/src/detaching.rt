@@ -7,6 +7,7 @@ ghost use Rattle.rr_space.specs.Moves.{IsCopy, IsEmptied, IsPromoted};
 ghost use Rattle.rr_space.specs.Parts.{value_of, below_ref};
 ghost use Rattle.rr_space.specs.Tables.{Here, IsRestKept, joined, resolve, resolve_object, space_graph};
 ghost use Rattle.rr_space.specs.Parts.{IsWithin};
+ghost use Rattle.rr_share.specs.Plans.{IsFound};
 ghost use Rattle.rr_share.specs.Search.{LeadsToShell};
 ghost use Rattle.rr_copy.specs.Contents.{IsCarriedFrom};
 
@@ -56,16 +57,40 @@ pub fn detach(alloc: Global, space: &mut Space, value: Ref) -> Result<Detached, 
     ensures fault { IfErr result (λ fault. (fault ≡ Fault.Memory) ⊎ ((fault ≡ Fault.Limit LimitKind.Slots) × (2 ^ 64 - 1 ≤ space.old.next_message))
         ⊎ ((fault ≡ Fault.HoldsShell) × LeadsToShell (space_graph space.old) (resolve space.old.slots (value_of value)))) }
 {
+    let found = reached_objects(alloc, space, value)?;
+    let detached = detach_found(alloc, space, value, found)?;
+    Ok(detached)
+}
+
+/// As `detach`, without a search: `found` is what `rr_share::prepare` found for the value, and the objects are still as they
+/// were then. The faults leave the space as it was: `Limit(Slots)` and `Memory`, as for `detach`.
+pub fn detach_found(
+    alloc: Global,
+    space: &mut Space,
+    value: Ref,
+    found: SlotSet,
+) -> Result<Detached, Fault>
+    requires found { IsFound space.old (value_of value) found }
+    requires within { IsWithin (length space.old.slots) value }
+    ensures slots { IfOk result (λ d. d.home.slots ≡ found) }
+    ensures copy { IfOk result (λ d. IsCopy space.old (value_of value) d.home.slots d.message) }
+    ensures emptied { IfOk result (λ d. IsEmptied d.home.slots space.old space.new) }
+    ensures sender { IfOk result (λ d. d.message.sender ≡ space.old.owner) }
+    ensures sequence { IfOk result (λ d. d.message.sequence ≡ space.old.next_message) }
+    ensures next { IfOk result (λ d. space.new.next_message ≡ space.old.next_message + 1) }
+    ensures below { IfOk result (λ d. (e : ℕ × List Object) → Contains (d.message.root_below ++ joined d.message.below) e → Contains (joined space.old.below ++ below_ref value) e) }
+    ensures kept { IfErr result (λ _. space.new ≡ space.old) }
+    ensures fault { IfErr result (λ fault. (fault ≡ Fault.Memory) ⊎ ((fault ≡ Fault.Limit LimitKind.Slots) × (2 ^ 64 - 1 ≤ space.old.next_message))) }
+{
     // No slot has two names, so there are no more names than slots, and no more slots than 32 bits count.
     let _slots = space.len();
     if space.next_message() == u64::MAX {
         return Err(Fault::Limit(LimitKind::Slots));
     }
-    let slots = reached_objects(alloc, space, value)?;
     let mut objects = Vec::new(alloc);
-    objects.reserve_exact(slots.len())?;
-    let root = space.carried(value, &slots);
-    take_all(space, &slots, &mut objects);
+    objects.reserve_exact(found.len())?;
+    let root = space.carried(value, &found);
+    take_all(space, &found, &mut objects);
     let sender = space.owner();
     let sequence = space.number_message();
     let message = Message::from_parts(MessageParts {
@@ -75,7 +100,7 @@ pub fn detach(alloc: Global, space: &mut Space, value: Ref) -> Result<Detached, 
         sequence,
     });
     let home = Home {
-        slots,
+        slots: found,
         sender,
         sequence,
     };
