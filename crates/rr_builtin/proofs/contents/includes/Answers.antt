@@ -1,0 +1,9 @@
+use Rattle.std.proofs.Common.{◌∙◌, ap}
+use Rattle.std.specs.Option.{is_some}
+use Rattle.memchr.proofs.lemmas.ValueLemmas.{FindsNeedle-value}
+use Rattle.rr_builtin.specs.Contents.{includes}
+use Rattle.rr_builtin.proofs.contents.includes.Goals as goal
+
+pub returns : goal.returns
+unfolding includes
+returns c = c.is_some.ensures ∙ ap is_some (FindsNeedle-value c.args.text.now c.args.part.now c.find.result c.find.ensures)

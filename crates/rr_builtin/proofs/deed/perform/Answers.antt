@@ -1,0 +1,23 @@
+use Rattle.std.proofs.Common.{ℕ, List, sym, subst}
+use Rattle.rr_builtin.specs.declared.deed.Deed.{Deed}
+use Rattle.rr_builtin.specs.Acts.{Acts, Appends, IsDone, performed}
+use Rattle.rr_builtin.specs.Deeds.{act_of, IsDeedAmong}
+use Rattle.rr_builtin.proofs.deed.perform.Goals as goal
+
+pub returns-in-Make : goal.returns-in-Make
+returns-in-Make c = λ below read receiver among.
+    subst (λ (d : Deed). Acts below (performed (act_of d) c.args.receiver) c.args.space.now c.make.new.space c.make.result) (sym c.in-Make.is) (c.make.ensures below c.args.receiver read)
+
+pub returns-in-Append : goal.returns-in-Append
+returns-in-Append c = λ below read receiver among.
+    subst (λ (d : Deed). Acts below (performed (act_of d) c.args.receiver) c.args.space.now c.append.new.space c.append.result) (sym c.in-Append.is)
+    (subst (λ (bytes : List ℕ). Acts below (performed (Appends bytes) c.args.receiver) c.args.space.now c.append.new.space c.append.result) c.deref.ensures.value (c.append.ensures below read))
+
+pub returns-in-Push : goal.returns-in-Push
+returns-in-Push c = λ below read receiver among.
+    subst (λ (d : Deed). Acts below (performed (act_of d) c.args.receiver) c.args.space.now c.push.new.space c.push.result) (sym c.in-Push.is)
+    (c.push.ensures below read (subst (λ (d : Deed). IsDeedAmong below d) c.in-Push.is among))
+
+pub returns-in-Take : goal.returns-in-Take
+returns-in-Take c = λ below read receiver among.
+    subst (λ (d : Deed). IsDone below (performed (act_of d) c.args.receiver c.args.space.now) c.args.space.now c.take.new.space c.take.result) (sym c.in-Take.is) (c.take.ensures below read)

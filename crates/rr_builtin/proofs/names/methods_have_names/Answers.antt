@@ -1,0 +1,11 @@
+use Rattle.rr_builtin.proofs.Naming.{names_are_one, names_are_met, table_is_by_name}
+use Rattle.rr_builtin.proofs.names.methods_have_names.Goals as goal
+
+pub returns-clause-one : goal.returns-clause-one
+returns-clause-one c = names_are_one
+
+pub returns-clause-met : goal.returns-clause-met
+returns-clause-met c = names_are_met
+
+pub returns-clause-table : goal.returns-clause-table
+returns-clause-table c = table_is_by_name

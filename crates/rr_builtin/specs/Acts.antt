@@ -1,0 +1,135 @@
+-- Acts on the objects of a space, and what they give and leave.
+use Rattle.std.specs.Prelude.{◌≡◌, ◌<◌, ◌⊎◌, ℕ, List, [], ◌∷◌, ◌++◌, length, map, remove, Result, Ok, Err, Option, Some, None, slice_get, slice_set, if◌then◌else◌, Contains, true}
+use Rattle.rr_base.specs.declared.fault.Fault.{Fault}
+use Rattle.rr_base.specs.declared.fault.Fault.TheVariants.{Memory, Limit}
+use Rattle.rr_base.specs.declared.limits.LimitKind.TheVariants.{Slots}
+use Rattle.rr_space.specs.Graph.{Value, Plain, At, Own, Nil, Label, Place, Object}
+use Rattle.rr_space.specs.Tables.{Table, Slot, Here, Led, Below, IsRestKept, below_hold}
+use Rattle.rr_space.specs.Lookups.{text_object}
+use Rattle.rr_space.specs.Parts.{value_of, IsWithin}
+use Rattle.rr_space.specs.Views.{is_shell, placed_from}
+use Rattle.rr_space.specs.Labels.{triples_at}
+use Rattle.rr_space.specs.declared.refer.Ref.{Ref}
+use Rattle.rr_space.specs.declared.refer.Ref.TheVariants.{Local, Shared}
+use Rattle.rr_text.specs.Reads.{IsReadWith}
+use Rattle.rr_builtin.specs.declared.problem.Problem.{Problem}
+use Rattle.rr_builtin.specs.declared.built.Built.{Built}
+use Rattle.rr_builtin.specs.declared.built.Built.TheVariants as built
+
+-- what a call comes to
+pub data Outcome : Type 0 where
+  Gives : (value : Value) → Outcome
+  Raises : (problem : Problem) → Outcome
+  Lacks : Outcome
+
+-- what is done with the receiver of a call
+pub data Act : Type 0 where
+  -- nothing is changed
+  Answers : (outcome : Outcome) → Act
+  -- a new text
+  Makes : (bytes : List ℕ) → Act
+  -- the receiver is frozen, and given
+  Freezes : Act
+  -- bytes come behind those of the receiver, which is given
+  Appends : (bytes : List ℕ) → Act
+  -- a value comes behind the elements of the receiver, which is given
+  Pushes : (value : Value) → Act
+  -- an element is taken out of the receiver, and given
+  Takes : (place : ℕ) → Act
+
+abbrev pub outcome_of : Built → Outcome
+outcome_of (built.Value r) = Gives (value_of r)
+outcome_of (built.Raised p) = Raises p
+outcome_of built.Missing = Lacks
+
+-- ---- What an act leaves.
+
+-- a new text gets the next slot
+abbrev pub with_text : List ℕ → Table → Table
+with_text bytes t = record t { slots = t.slots ++ Here (text_object bytes) ∷ []; below = t.below ++ [] ∷ []; keys = t.keys ++ [] ∷ [] }
+
+abbrev pub changed_slot : (Object → Object) → List Slot → ℕ → Option Slot → List Slot
+changed_slot f slots n (Some (Here o)) = slice_set slots n (Here (f o))
+changed_slot f slots n (Some (Led c p)) = slots
+changed_slot f slots n None = slots
+
+-- the object of the slot that a reference names is another one
+abbrev pub changed : (Object → Object) → Ref → Table → Table
+changed f (Local n) t = record t { slots = changed_slot f t.slots n (slice_get t.slots n) }
+changed f _ t = t
+
+abbrev pub froze_slot : List Slot → ℕ → Option Slot → List Slot
+froze_slot slots n (Some (Here o)) = if is_shell o.kind then slots else slice_set slots n (Here (record o { frozen = true }))
+froze_slot slots n (Some (Led c p)) = slots
+froze_slot slots n None = slots
+
+-- the object of a slot is frozen; what is published is, and an immediate stays
+abbrev pub froze : Ref → Table → Table
+froze (Local n) t = record t { slots = froze_slot t.slots n (slice_get t.slots n) }
+froze _ t = t
+
+abbrev pub with_bytes : List ℕ → Object → Object
+with_bytes bytes o = record o { bytes = o.bytes ++ bytes }
+
+abbrev pub with_element : Value → Object → Object
+with_element x o = record o { triples = o.triples ++ (Place (length o.triples), x) ∷ [] }
+
+abbrev pub part_value : Label × Value → Value
+part_value p = p.1
+
+abbrev pub without_element : ℕ → Object → Object
+without_element k o = record o { triples = placed_from 0 (remove (map part_value o.triples) k) }
+
+abbrev pub value_or_nil : Option (Label × Value) → Value
+value_or_nil (Some p) = p.1
+value_or_nil None = Plain Nil
+
+-- the k-th value that the object of a reference leads to, or nil
+abbrev pub element_at : Table → Ref → ℕ → Value
+element_at t v k = value_or_nil (slice_get (triples_at t v) k)
+
+-- what an act on the receiver gives and leaves
+abbrev pub performed : Act → Ref → Table → Outcome × Table
+performed (Answers o) v t = (o, t)
+performed (Makes bytes) v t = (Gives (At (Own (length t.slots))), with_text bytes t)
+performed Freezes v t = (Gives (value_of v), froze v t)
+performed (Appends bytes) v t = (Gives (value_of v), changed (with_bytes bytes) v t)
+performed (Pushes x) v t = (Gives (value_of v), changed (with_element x) v t)
+performed (Takes k) v t = (Gives (element_at t v k), changed (without_element k) v t)
+
+-- ---- When a call has done an act.
+
+-- each cluster that a reference leads to is one of these; an immediate and a slot lead to none
+abbrev pub IsRefAmong : Below → Ref → Type 0
+IsRefAmong below (Shared p c) = (e : ℕ × List Object) → Contains (below_hold c.now) e → Contains below e
+IsRefAmong below _ = Unit {0}
+
+abbrev pub IsBuiltWithin : ℕ → Built → Type 0
+IsBuiltWithin k (built.Value r) = IsWithin k r
+IsBuiltWithin k (built.Raised p) = Unit {0}
+IsBuiltWithin k built.Missing = Unit {0}
+
+abbrev pub IsBuiltAmong : Below → Built → Type 0
+IsBuiltAmong below (built.Value r) = IsRefAmong below r
+IsBuiltAmong below (built.Raised p) = Unit {0}
+IsBuiltAmong below built.Missing = Unit {0}
+
+-- The outcome is given. Slots and keys are those that the act leaves, and limit, owner and numbering stay. The table is read
+-- with the clusters that it was read with, and what is given lies within it and leads to these clusters.
+pub record IsDone (below : Below) (done : Outcome × Table) (old new : Table) (b : Built) : Type 0 where
+  pub outcome : outcome_of b ≡ done.0
+  pub slots : new.slots ≡ done.1.slots
+  pub keys : new.keys ≡ done.1.keys
+  pub rest : IsRestKept old new
+  pub read : IsReadWith new below
+  pub within : IsBuiltWithin (length new.slots) b
+  pub among : IsBuiltAmong below b
+
+-- a growth was refused: there was no memory, or no room for so many objects
+abbrev pub IsRefusal : Fault → ℕ → ℕ → Type 0
+IsRefusal f limit objects = (f ≡ Memory) ⊎ ((f ≡ Limit Slots) × (limit < objects))
+
+-- the act was done; a refused one did nothing, and is refused for want of memory or because its objects pass the limit
+abbrev pub Acts : Below → (Table → Outcome × Table) → Table → Table → Result Built Fault → Type 0
+Acts below act old new (Ok b) = IsDone below (act old) old new b
+Acts below act old new (Err f) = (new ≡ old) × IsRefusal f old.limit (length (act old).1.slots)

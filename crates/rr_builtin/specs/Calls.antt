@@ -1,0 +1,84 @@
+-- What a call of a built-in method comes to.
+use Rattle.std.specs.Prelude.{ℕ, Bool, not, nat_eq, List, length, slice_index_or, if◌then◌else◌}
+use Rattle.std.specs.Cmp.Lexicographic.{slice_cmp}
+use Rattle.std.specs.Ordering.{nat_cmp}
+use Rattle.rr_space.specs.Graph.{Plain, Nil as NilValue}
+use Rattle.rr_space.specs.Tables.{Table, Below}
+use Rattle.rr_space.specs.Kinds.{kind_at}
+use Rattle.rr_space.specs.declared.kind.Kind.{Kind}
+use Rattle.rr_space.specs.declared.kind.Kind.TheVariants as kind
+use Rattle.rr_space.specs.declared.refer.Ref.{Ref}
+use Rattle.rr_space.specs.declared.refer.Ref.TheVariants.{Nil, Int, Symbol}
+use Rattle.rr_tree.specs.declared.node.BinaryOperator.{BinaryOperator}
+use Rattle.rr_tree.specs.declared.node.BinaryOperator.TheVariants.{Compare, Equal, NotEqual}
+use Rattle.rr_tree.specs.declared.program.Program.{Program}
+use Rattle.rr_text.specs.Forms.{Names, spoken}
+use Rattle.rr_builtin.specs.declared.method.TellingMethod.{TellingMethod}
+use Rattle.rr_builtin.specs.declared.method.TellingMethod.TheVariants.{Name, Message, Cause}
+use Rattle.rr_text.specs.Names.{names_of}
+use Rattle.rr_builtin.specs.declared.problem.Problem.TheVariants.{Moved, Count}
+use Rattle.rr_builtin.specs.declared.method.NumberMethod.{NumberMethod}
+use Rattle.rr_builtin.specs.declared.method.BuiltInMethod.{BuiltInMethod}
+use Rattle.rr_builtin.specs.declared.method.BuiltInMethod.TheVariants.{Operator, Number, Object, Content, Telling}
+use Rattle.rr_builtin.specs.Acts.{Act, Answers, Outcome, Gives, Raises, Lacks, outcome_of, element_at, performed}
+use Rattle.rr_builtin.specs.Numbers.{on_integer, number_answer}
+use Rattle.rr_builtin.specs.Objects.{equals, truth, told, printed_text, object_act}
+use Rattle.rr_builtin.specs.Texts.{text_operator, ordered}
+use Rattle.rr_builtin.specs.Contents.{content_act}
+use Rattle.rr_builtin.specs.Kinds.{is_shell_kind, has, count_of}
+
+-- `==` and `!=` of values that are equal or not
+abbrev pub equality : BinaryOperator → Bool → Act
+equality Equal same = truth same
+equality NotEqual same = truth (not same)
+equality _ same = Answers Lacks
+
+-- an operator on a symbol
+abbrev pub symbol_order : Names → ℕ → Ref → Table → Outcome
+symbol_order names s (Symbol other) t = ordered Compare (slice_cmp nat_cmp (names.symbol s) (names.symbol other.0))
+symbol_order names s a t = Gives (Plain NilValue)
+
+abbrev pub symbol_operator : Names → BinaryOperator → ℕ → Ref → Ref → Table → Act
+symbol_operator names Compare s v a t = Answers (symbol_order names s a t)
+symbol_operator names op s v a t = equality op (equals t v a)
+
+-- an operator on a value that is no text
+abbrev pub plain_operator : Names → BinaryOperator → Ref → Ref → Table → Act
+plain_operator names op (Int x) a t = Answers (outcome_of (on_integer op x a t))
+plain_operator names op (Symbol s) a t = symbol_operator names op s.0 (Symbol s) a t
+plain_operator names op v a t = equality op (equals t v a)
+
+abbrev pub operator_act : Names → Kind → BinaryOperator → Ref → Ref → Table → Act
+operator_act names kind.Text op v a t = text_operator op v a t
+operator_act names _ op v a t = plain_operator names op v a t
+
+abbrev pub number_act : NumberMethod → Ref → Act
+number_act m (Int x) = Answers (outcome_of (number_answer m x))
+number_act m v = Answers Lacks
+
+-- the name of a class, and the message and the cause of an exception, which are the first things that it leads to
+abbrev pub telling_act : Names → Below → TellingMethod → Ref → Table → Act
+telling_act names below Name v t = told (printed_text names below spoken t v)
+telling_act names below Message v t = told (printed_text names below spoken t v)
+telling_act names below Cause v t = Answers (Gives (element_at t v 1))
+
+-- what a method does that the receiver has, with its first argument
+abbrev pub method_act : Program → Below → BuiltInMethod → Ref → Ref → Table → Act
+method_act p below (Operator op) v a t = operator_act (names_of p) (kind_at t v) op v a t
+method_act p below (Number m) v a t = number_act m v
+method_act p below (Object m) v a t = object_act p below m v a t
+method_act p below (Content m) v a t = content_act (kind_at t v) m v a t
+method_act p below (Telling m) v a t = telling_act (names_of p) below m v t
+
+-- what a call does: first it is asked whether the receiver was moved away, then whether it has the method, and then
+-- whether the number of arguments is right
+abbrev pub call_act : Program → Below → Ref → BuiltInMethod → List Ref → Table → Act
+call_act p below v m args t =
+    if is_shell_kind (kind_at t v) then Answers (Raises Moved) else
+    if has (kind_at t v) m then
+    (if nat_eq (length args) (count_of m) then method_act p below m v (slice_index_or args 0 Nil) t else Answers (Raises (Count (length args) (count_of m) (count_of m))))
+    else Answers Lacks
+
+-- what a call comes to, and the table then
+abbrev pub called : Program → Below → Ref → BuiltInMethod → List Ref → Table → Outcome × Table
+called p below v m args t = performed (call_act p below v m args t) v t

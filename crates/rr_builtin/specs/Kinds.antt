@@ -1,0 +1,131 @@
+-- Which methods the values of a kind have, and how many arguments they take.
+use Rattle.std.specs.Prelude.{ℕ, Bool, true, false}
+use Rattle.rr_space.specs.declared.kind.Kind.{Kind}
+use Rattle.rr_space.specs.declared.kind.Kind.TheVariants as kind
+use Rattle.rr_tree.specs.declared.node.BinaryOperator.{BinaryOperator}
+use Rattle.rr_tree.specs.declared.node.BinaryOperator.TheVariants.{Add, Subtract, Multiply, Divide, Remainder, Less, LessOrEqual, Greater, GreaterOrEqual, Compare, Equal, NotEqual}
+use Rattle.rr_builtin.specs.declared.method.ObjectMethod.{ObjectMethod}
+use Rattle.rr_builtin.specs.declared.method.ObjectMethod.TheVariants.{IsA, KindOf, IsIdentical}
+use Rattle.rr_builtin.specs.declared.method.ContentMethod.{ContentMethod}
+use Rattle.rr_builtin.specs.declared.method.ContentMethod.TheVariants.{Size, Length, IsEmpty, First, Last, At, Append, Push, Pop, Shift, Includes}
+use Rattle.rr_builtin.specs.declared.method.TellingMethod.{TellingMethod}
+use Rattle.rr_builtin.specs.declared.method.TellingMethod.TheVariants as telling
+use Rattle.rr_builtin.specs.declared.method.BuiltInMethod.{BuiltInMethod}
+use Rattle.rr_builtin.specs.declared.method.BuiltInMethod.TheVariants.{Operator, Number, Object, Content, Telling}
+
+abbrev pub is_shell_kind : Kind → Bool
+is_shell_kind kind.Shell = true
+is_shell_kind _ = false
+
+abbrev pub is_integer_kind : Kind → Bool
+is_integer_kind kind.Integer = true
+is_integer_kind _ = false
+
+abbrev pub is_array_kind : Kind → Bool
+is_array_kind kind.Array = true
+is_array_kind _ = false
+
+-- whether values of the kind are compared without a walk
+abbrev pub is_compared : Kind → Bool
+is_compared kind.Array = false
+is_compared kind.Hash = false
+is_compared _ = true
+
+-- which kinds have `+` and `*`, `<` and its kin, and `<=>`
+abbrev pub is_added : Kind → Bool
+is_added kind.Integer = true
+is_added kind.Text = true
+is_added _ = false
+
+abbrev pub has_order : Kind → Bool
+has_order kind.Integer = true
+has_order kind.Text = true
+has_order kind.Symbol = true
+has_order _ = false
+
+-- the operators of values of the kind
+abbrev pub has_operator : Kind → BinaryOperator → Bool
+has_operator k Add = is_added k
+has_operator k Multiply = is_added k
+has_operator k Subtract = is_integer_kind k
+has_operator k Divide = is_integer_kind k
+has_operator k Remainder = is_integer_kind k
+has_operator k Less = is_added k
+has_operator k LessOrEqual = is_added k
+has_operator k Greater = is_added k
+has_operator k GreaterOrEqual = is_added k
+has_operator k Compare = has_order k
+has_operator k Equal = is_compared k
+has_operator k NotEqual = is_compared k
+
+-- texts, arrays and hashes
+abbrev pub has_size : Kind → Bool
+has_size kind.Text = true
+has_size kind.Array = true
+has_size kind.Hash = true
+has_size _ = false
+
+abbrev pub is_text : Kind → Bool
+is_text kind.Text = true
+is_text _ = false
+
+-- texts and arrays
+abbrev pub is_appended : Kind → Bool
+is_appended kind.Text = true
+is_appended kind.Array = true
+is_appended _ = false
+
+abbrev pub has_content : Kind → ContentMethod → Bool
+has_content k Size = has_size k
+has_content k Length = has_size k
+has_content k IsEmpty = has_size k
+has_content k Append = is_appended k
+has_content k First = is_array_kind k
+has_content k Last = is_array_kind k
+has_content k At = is_appended k
+has_content k Push = is_array_kind k
+has_content k Pop = is_array_kind k
+has_content k Shift = is_array_kind k
+has_content k Includes = is_text k
+
+abbrev pub is_class : Kind → Bool
+is_class kind.Class = true
+is_class _ = false
+
+abbrev pub is_exception : Kind → Bool
+is_exception kind.Exception = true
+is_exception _ = false
+
+abbrev pub has_telling : Kind → TellingMethod → Bool
+has_telling k telling.Name = is_class k
+has_telling k telling.Message = is_exception k
+has_telling k telling.Cause = is_exception k
+
+-- whether values of the kind have the method
+abbrev pub has : Kind → BuiltInMethod → Bool
+has k (Operator op) = has_operator k op
+has k (Number m) = is_integer_kind k
+has k (Object m) = true
+has k (Content m) = has_content k m
+has k (Telling m) = has_telling k m
+
+abbrev pub object_count : ObjectMethod → ℕ
+object_count IsIdentical = 1
+object_count IsA = 1
+object_count KindOf = 1
+object_count _ = 0
+
+abbrev pub content_count : ContentMethod → ℕ
+content_count At = 1
+content_count Append = 1
+content_count Push = 1
+content_count Includes = 1
+content_count _ = 0
+
+-- how many arguments the method takes
+abbrev pub count_of : BuiltInMethod → ℕ
+count_of (Operator op) = 1
+count_of (Number m) = 0
+count_of (Object m) = object_count m
+count_of (Content m) = content_count m
+count_of (Telling m) = 0

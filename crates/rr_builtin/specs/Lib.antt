@@ -1,0 +1,14 @@
+pub mod Floor
+pub mod Integers
+pub mod Methods
+pub mod Problems
+pub mod Acts
+pub mod Deeds
+pub mod Numbers
+pub mod Classes
+pub mod Objects
+pub mod Texts
+pub mod Characters
+pub mod Contents
+pub mod Kinds
+pub mod Calls

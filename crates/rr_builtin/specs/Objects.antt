@@ -1,0 +1,114 @@
+-- The methods of all values but shells.
+use Rattle.std.specs.Prelude.{ℕ, Bool, true, false, not, ◌&&◌, nat_eq, List, if◌then◌else◌}
+use Rattle.std.specs.Str.{bytes_eq}
+use Rattle.std.specs.Ordering.{int_eq}
+use Rattle.rr_base.specs.declared.limits.TheConstants.Limits.{DEFAULT}
+use Rattle.rr_space.specs.Graph.{Immediate, Nil, Truth, Integer, SymbolNo, ClassNo, RactorNo, Value, Plain, At}
+use Rattle.rr_space.specs.Tables.{Table, Below, graph_of, resolve}
+use Rattle.rr_space.specs.Parts.{value_of}
+use Rattle.rr_space.specs.Views.{text_at, frozen_at}
+use Rattle.rr_space.specs.Kinds.{kind_at, class_at}
+use Rattle.rr_space.specs.declared.kind.Kind.{Kind}
+use Rattle.rr_space.specs.declared.kind.Kind.TheVariants as kind
+use Rattle.rr_space.specs.declared.refer.Ref.{Ref}
+use Rattle.rr_space.specs.declared.refer.Ref.TheVariants as ref
+use Rattle.rr_text.specs.Walk.{Walked, Wrote, Differs, Deep, Shell}
+use Rattle.rr_text.specs.Forms.{Names, Way, spoken, inspected, same_name, printed}
+use Rattle.rr_builtin.specs.declared.problem.Problem.TheVariants.{Moved, TooDeep, WrongType}
+use Rattle.rr_builtin.specs.declared.method.ObjectMethod.{ObjectMethod}
+use Rattle.rr_builtin.specs.declared.method.ObjectMethod.TheVariants.{Class, IsA, KindOf, IsNil, IsIdentical, Not, Freeze, IsFrozen, ToS, Inspect}
+use Rattle.rr_tree.specs.declared.program.Program.{Program}
+use Rattle.rr_text.specs.Names.{names_of}
+use Rattle.rr_builtin.specs.Classes.{descends}
+use Rattle.rr_builtin.specs.Acts.{Act, Answers, Makes, Freezes, Gives, Raises}
+
+abbrev pub same_truth : Bool → Bool → Bool
+same_truth true b = b
+same_truth false b = not b
+
+-- whether two are one immediate
+abbrev pub same_immediate : Immediate → Immediate → Bool
+same_immediate Nil Nil = true
+same_immediate (Truth a) (Truth b) = same_truth a b
+same_immediate (Integer x) (Integer y) = int_eq x y
+same_immediate (SymbolNo m) (SymbolNo n) = nat_eq m n
+same_immediate (ClassNo m) (ClassNo n) = nat_eq m n
+same_immediate (RactorNo m) (RactorNo n) = nat_eq m n
+same_immediate _ _ = false
+
+-- whether two are one immediate or one object
+abbrev pub same_value : Value → Value → Bool
+same_value (Plain i) (Plain j) = same_immediate i j
+same_value (Plain i) (At n) = false
+same_value (At m) (Plain i) = false
+same_value (At m) (At n) = same_name m n
+
+-- one immediate or one object of the table, forwards followed
+unfoldable pub identical : Table → Ref → Ref → Bool
+identical t v w = same_value (resolve t.slots (value_of v)) (resolve t.slots (value_of w))
+
+-- whether a value counts as true
+abbrev pub is_truthy : Ref → Bool
+is_truthy ref.Nil = false
+is_truthy (ref.Truth b) = b
+is_truthy _ = true
+
+abbrev pub is_nil : Ref → Bool
+is_nil ref.Nil = true
+is_nil _ = false
+
+-- classes and ractors answer that they are not frozen, and all other immediates that they are
+abbrev pub answers_frozen : Table → Ref → Bool
+answers_frozen t (ref.Class c) = false
+answers_frozen t (ref.Ractor r) = false
+answers_frozen t v = frozen_at t v
+
+-- the text of a value, with the limit of levels that scripts have
+unfoldable pub printed_text : Names → Below → Way → Table → Ref → Walked
+printed_text names below way t v = printed names (graph_of t.slots below) DEFAULT.levels way (resolve t.slots (value_of v))
+
+-- a text that was written is a new object
+abbrev pub told : Walked → Act
+told (Wrote s) = Makes s
+told Differs = Answers (Raises Moved)
+told Deep = Answers (Raises TooDeep)
+told Shell = Answers (Raises Moved)
+
+abbrev pub is_text_kind : Kind → Bool
+is_text_kind kind.Text = true
+is_text_kind _ = false
+
+-- a text is its own `to_s`
+abbrev pub spoken_act : Names → Below → Ref → Table → Act
+spoken_act names below v t = if is_text_kind (kind_at t v) then Answers (Gives (value_of v)) else told (printed_text names below spoken t v)
+
+abbrev pub truth : Bool → Act
+truth b = Answers (Gives (Plain (Truth b)))
+
+-- whether the class of a value is the class, or one below it
+abbrev pub kind_of_act : Program → Ref → Ref → Table → Act
+kind_of_act p v (ref.Class c) t = truth (descends p (class_at t v).0 c.0)
+kind_of_act p v a t = Answers (Raises (WrongType (class_at t a)))
+
+-- a method of all values, with its argument
+abbrev pub object_act : Program → Below → ObjectMethod → Ref → Ref → Table → Act
+object_act p below Class v a t = Answers (Gives (Plain (ClassNo (class_at t v).0)))
+object_act p below IsA v a t = kind_of_act p v a t
+object_act p below KindOf v a t = kind_of_act p v a t
+object_act p below IsNil v a t = truth (is_nil v)
+object_act p below IsIdentical v a t = truth (identical t v a)
+object_act p below Not v a t = truth (not (is_truthy v))
+object_act p below Freeze v a t = Freezes
+object_act p below IsFrozen v a t = truth (answers_frozen t v)
+object_act p below ToS v a t = spoken_act (names_of p) below v t
+object_act p below Inspect v a t = told (printed_text (names_of p) below inspected t v)
+
+-- ---- Equality of values that are no containers.
+
+abbrev pub same_texts : Bool → List ℕ → List ℕ → Bool → Bool
+same_texts true a b same = bytes_eq a b
+same_texts false a b same = same
+
+-- texts are equal by their bytes, and all else is where it is the same
+abbrev pub equals : Table → Ref → Ref → Bool
+equals t v w = same_texts (is_text_kind (kind_at t v) && is_text_kind (kind_at t w)) (text_at t v) (text_at t w) (identical t v w)

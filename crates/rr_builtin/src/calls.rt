@@ -1,0 +1,245 @@
+//! Calls of built-in methods.
+
+ghost use Rattle.std.specs.Prelude.{◌≡◌, ℕ, slice_index_or, IfOk, IfErr, length};
+ghost use Rattle.std.specs.List.{All};
+ghost use Rattle.rr_space.specs.Tables.{Below, Table};
+ghost use Rattle.rr_space.specs.Parts.{IsWithin};
+ghost use Rattle.rr_space.specs.Kinds.{kind_at};
+ghost use Rattle.rr_text.specs.Names.{names_of};
+ghost use Rattle.rr_text.specs.Reads.{IsAmong, IsReadWith};
+ghost use Rattle.rr_builtin.specs.Acts.{Acts, IsRefAmong, IsBuiltWithin, IsBuiltAmong, outcome_of};
+ghost use Rattle.rr_builtin.specs.Deeds.{act_of, IsFit, IsDeedAmong};
+ghost use Rattle.rr_builtin.specs.Calls.{equality, symbol_order, symbol_operator, plain_operator, operator_act, number_act, telling_act, method_act, call_act, called};
+
+use crate::built::Built;
+use crate::contents::{content_deed, element_at};
+use crate::deed::{Deed, perform};
+use crate::kinds::{count_of, has, is_shell_kind};
+use crate::method::{BuiltInMethod, NumberMethod, TellingMethod};
+use crate::numbers::{number_answer, on_integer};
+use crate::objects::{is_equal, object_deed, raise, told, truth};
+use crate::problem::Problem;
+use crate::texts::{order_of, ordered, text_operator};
+use rr_base::{Fault, Sym};
+use rr_space::{Kind, Ref, Space};
+use rr_text::{Form, symbol_name};
+use rr_tree::{BinaryOperator, Program};
+use std::alloc::Global;
+
+/// The argument of that place; nil where there is none.
+fn argument_at(arguments: &[Ref], place: usize) -> Ref
+    ensures is { result ≡ slice_index_or arguments.now place Ref.Nil }
+    ensures within { (k : ℕ) → All (IsWithin k) arguments.now → IsWithin k result }
+    ensures among { (below : Below) → All (IsRefAmong below) arguments.now → IsRefAmong below result }
+{
+    match arguments.get(place) {
+        Some(argument) => *argument,
+        None => Ref::Nil,
+    }
+}
+
+/// `==` and `!=` of values that are equal or not.
+fn equality(operator: BinaryOperator, same: bool) -> Deed
+    ensures act { act_of result ≡ equality operator same }
+    ensures fit { (value : Ref) (space : Table) → IsFit space value result }
+    ensures among { (below : Below) → IsDeedAmong below result }
+{
+    match operator {
+        BinaryOperator::Equal => truth(same),
+        BinaryOperator::NotEqual => truth(!same),
+        _ => Deed::Answer(Built::Missing),
+    }
+}
+
+/// `<=>` of a symbol.
+fn symbol_order(space: &Space, program: &Program, symbol: Sym, operand: Ref) -> Built
+    ensures is { outcome_of result ≡ symbol_order (names_of program.now) symbol.0 operand space.now }
+    ensures plain { (k : ℕ) (below : Below) → IsBuiltWithin k result × IsBuiltAmong below result }
+{
+    match operand {
+        Ref::Symbol(other) => {
+            let order = order_of(symbol_name(program, symbol), symbol_name(program, other));
+            ordered(BinaryOperator::Compare, order)
+        }
+        _ => Built::Value(Ref::Nil),
+    }
+}
+
+/// An operator on a symbol.
+fn symbol_operator(
+    space: &Space,
+    program: &Program,
+    operator: BinaryOperator,
+    symbol: Sym,
+    value: Ref,
+    operand: Ref,
+) -> Deed
+    ensures act { act_of result ≡ symbol_operator (names_of program.now) operator symbol.0 value operand space.now }
+    ensures fit { IsFit space.now value result }
+    ensures among { (below : Below) → IsDeedAmong below result }
+{
+    match operator {
+        BinaryOperator::Compare => Deed::Answer(symbol_order(space, program, symbol, operand)),
+        _ => equality(operator, is_equal(space, value, operand)),
+    }
+}
+
+/// An operator on a value that is no text.
+fn plain_operator(
+    space: &Space,
+    program: &Program,
+    operator: BinaryOperator,
+    value: Ref,
+    operand: Ref,
+) -> Deed
+    ensures act { act_of result ≡ plain_operator (names_of program.now) operator value operand space.now }
+    ensures fit { IsFit space.now value result }
+    ensures among { (below : Below) → IsDeedAmong below result }
+{
+    match value {
+        Ref::Int(x) => Deed::Answer(on_integer(space, operator, x, operand)),
+        Ref::Symbol(symbol) => symbol_operator(space, program, operator, symbol, value, operand),
+        _ => equality(operator, is_equal(space, value, operand)),
+    }
+}
+
+fn operator_deed(
+    alloc: Global,
+    space: &Space,
+    program: &Program,
+    operator: BinaryOperator,
+    value: Ref,
+    operand: Ref,
+) -> Result<Deed, Fault>
+    ensures act { IfOk result (λ deed. act_of deed ≡ operator_act (names_of program.now) (kind_at space.now value) operator value operand space.now) }
+    ensures fit { IfOk result (λ deed. IsFit space.now value deed) }
+    ensures among { IfOk result (λ deed. (below : Below) → IsDeedAmong below deed) }
+    ensures fault { IfErr result (λ f. f ≡ Fault.Memory) }
+{
+    match space.kind_of(value) {
+        Kind::Text => text_operator(alloc, space, operator, value, operand),
+        _ => Ok(plain_operator(space, program, operator, value, operand)),
+    }
+}
+
+fn number_deed(method: NumberMethod, value: Ref) -> Deed
+    ensures act { act_of result ≡ number_act method value }
+    ensures fit { (receiver : Ref) (space : Table) → IsFit space receiver result }
+    ensures among { (below : Below) → IsDeedAmong below result }
+{
+    match value {
+        Ref::Int(x) => Deed::Answer(number_answer(method, x)),
+        _ => Deed::Answer(Built::Missing),
+    }
+}
+
+/// What a method tells of a class or of an exception.
+fn telling_deed(
+    alloc: Global,
+    space: &Space,
+    program: &Program,
+    method: TellingMethod,
+    value: Ref,
+) -> Result<Deed, Fault>
+    ensures act { IfOk result (λ deed. (below : Below) → IsReadWith space.now below → IsAmong below value
+        → act_of deed ≡ telling_act (names_of program.now) below method value space.now) }
+    ensures fit { IfOk result (λ deed. IsFit space.now value deed) }
+    ensures among { IfOk result (λ deed. (below : Below) → IsReadWith space.now below → IsRefAmong below value → IsDeedAmong below deed) }
+    ensures fault { IfErr result (λ f. f ≡ Fault.Memory) }
+{
+    match method {
+        TellingMethod::Name => told(alloc, space, program, value, Form::ToS),
+        TellingMethod::Message => told(alloc, space, program, value, Form::ToS),
+        TellingMethod::Cause => Ok(Deed::Answer(element_at(space, value, 1))),
+    }
+}
+
+/// What a method does that the receiver has, with its first argument.
+fn method_deed(
+    alloc: Global,
+    space: &Space,
+    program: &Program,
+    receiver: Ref,
+    method: BuiltInMethod,
+    argument: Ref,
+) -> Result<Deed, Fault>
+    requires receiver { IsWithin (length space.now.slots) receiver }
+    requires argument { IsWithin (length space.now.slots) argument }
+    ensures act { IfOk result (λ deed. (below : Below) → IsReadWith space.now below → IsAmong below receiver
+        → act_of deed ≡ method_act program.now below method receiver argument space.now) }
+    ensures fit { IfOk result (λ deed. IsFit space.now receiver deed) }
+    ensures among { IfOk result (λ deed. (below : Below) → IsReadWith space.now below → IsRefAmong below receiver → IsRefAmong below argument → IsDeedAmong below deed) }
+    ensures fault { IfErr result (λ f. f ≡ Fault.Memory) }
+{
+    match method {
+        BuiltInMethod::Operator(operator) => {
+            operator_deed(alloc, space, program, operator, receiver, argument)
+        }
+        BuiltInMethod::Number(method) => Ok(number_deed(method, receiver)),
+        BuiltInMethod::Object(method) => {
+            object_deed(alloc, space, program, method, receiver, argument)
+        }
+        BuiltInMethod::Content(method) => content_deed(alloc, space, method, receiver, argument),
+        BuiltInMethod::Telling(method) => telling_deed(alloc, space, program, method, receiver),
+    }
+}
+
+/// What a call does.
+fn call_deed(
+    alloc: Global,
+    space: &Space,
+    program: &Program,
+    receiver: Ref,
+    method: BuiltInMethod,
+    arguments: &[Ref],
+) -> Result<Deed, Fault>
+    requires receiver { IsWithin (length space.now.slots) receiver }
+    requires arguments { All (IsWithin (length space.now.slots)) arguments.now }
+    ensures act { IfOk result (λ deed. (below : Below) → IsReadWith space.now below → IsAmong below receiver
+        → act_of deed ≡ call_act program.now below receiver method arguments.now space.now) }
+    ensures fit { IfOk result (λ deed. IsFit space.now receiver deed) }
+    ensures among { IfOk result (λ deed. (below : Below) → IsReadWith space.now below → IsRefAmong below receiver → All (IsRefAmong below) arguments.now → IsDeedAmong below deed) }
+    ensures fault { IfErr result (λ f. f ≡ Fault.Memory) }
+{
+    let kind = space.kind_of(receiver);
+    if is_shell_kind(kind) {
+        return Ok(raise(Problem::Moved));
+    }
+    if !has(kind, method) {
+        return Ok(Deed::Answer(Built::Missing));
+    }
+    let expected = count_of(method);
+    if arguments.len() != expected {
+        return Ok(raise(Problem::Count {
+            given: arguments.len(),
+            least: expected,
+            most: expected,
+        }));
+    }
+    let argument = argument_at(arguments, 0);
+    method_deed(alloc, space, program, receiver, method, argument)
+}
+
+/// Calls a built-in method. A refused growth leaves the objects as they were.
+///
+/// It is asked in this order whether the receiver was moved away, whether it has the method, whether the number of
+/// arguments is right, whether the receiver is frozen where it is changed, and whether the arguments are of the right class.
+///
+/// What a call does is exact with any clusters among which are all that the space, the receiver and the arguments lead to,
+/// and of which no two have one number.
+pub fn call(
+    alloc: Global,
+    space: &mut Space,
+    program: &Program,
+    receiver: Ref,
+    method: BuiltInMethod,
+    arguments: &[Ref],
+) -> Result<Built, Fault>
+    requires receiver { IsWithin (length space.old.slots) receiver }
+    requires arguments { All (IsWithin (length space.old.slots)) arguments.now }
+    ensures { (below : Below) → IsReadWith space.old below → IsAmong below receiver → All (IsRefAmong below) arguments.now
+        → Acts below (called program.now below receiver method arguments.now) space.old space.new result }
+{
+    let deed = call_deed(alloc, space, program, receiver, method, arguments)?;
+    perform(space, receiver, deed)
+}

@@ -1,0 +1,325 @@
+//! The methods of texts, arrays and hashes.
+
+ghost use Rattle.std.specs.Prelude.{◌≡◌, ℕ, ◌≤◌, IfOk, IfErr, length};
+ghost use Rattle.rr_space.specs.Tables.{Below, Table};
+ghost use Rattle.rr_space.specs.Parts.{IsWithin, value_of};
+ghost use Rattle.rr_space.specs.Kinds.{kind_at};
+ghost use Rattle.rr_space.specs.Views.{text_at};
+ghost use Rattle.rr_space.specs.Labels.{triples_at};
+ghost use Rattle.rr_text.specs.Reads.{IsReadWith};
+ghost use Rattle.rr_builtin.specs.Integers.{given};
+ghost use Rattle.rr_builtin.specs.Numbers.{number_given};
+ghost use Rattle.rr_builtin.specs.Acts.{Answers, Gives, Pushes, IsRefAmong, IsBuiltWithin, IsBuiltAmong, outcome_of, element_at};
+ghost use Rattle.rr_builtin.specs.Deeds.{act_of, IsFit, IsDeedAmong};
+ghost use Rattle.rr_builtin.specs.Contents.{size_at, size_act, is_empty, place_of, element_of, indexed, character_of, character_act, unless_frozen, text_append, includes, includes_act, taken, popped, text_content, array_content, hash_content, content_act};
+ghost use Rattle.std.specs.Prelude.{pos};
+
+use crate::built::Built;
+use crate::characters::{character_at, characters};
+use crate::deed::Deed;
+use crate::integer::NumberProblem;
+use crate::method::ContentMethod;
+use crate::numbers::number_given;
+use crate::objects::{is_text_kind, raise, truth};
+use crate::problem::Problem;
+use memchr::memmem;
+use rr_base::Fault;
+use rr_space::{Kind, Ref, Space};
+use std::alloc::Global;
+
+fn size_at(space: &Space, kind: Kind, value: Ref) -> usize
+    ensures { result ≡ size_at kind space.now value }
+{
+    match kind {
+        Kind::Text => characters(space.text_bytes(value)),
+        Kind::Hash => space.arity(value) / 2,
+        _ => space.arity(value),
+    }
+}
+
+/// A number of 64 bits, if it is one.
+fn counted(count: usize) -> Result<i64, NumberProblem>
+    ensures { result ≡ given (pos count) }
+{
+    if count < 9_223_372_036_854_775_808 {
+        Ok(count as i64)
+    } else {
+        Err(NumberProblem::OutOfRange)
+    }
+}
+
+fn size_deed(space: &Space, kind: Kind, value: Ref) -> Deed
+    ensures act { act_of result ≡ size_act kind value space.now }
+    ensures fit { IsFit space.now value result }
+    ensures among { (below : Below) → IsDeedAmong below result }
+{
+    Deed::Answer(number_given(counted(size_at(space, kind, value))))
+}
+
+fn is_empty(space: &Space, kind: Kind, value: Ref) -> bool
+    ensures { result ≡ is_empty kind space.now value }
+{
+    match kind {
+        Kind::Text => space.text_bytes(value).len() == 0,
+        _ => space.arity(value) == 0,
+    }
+}
+
+/// The element of that place, or nil.
+pub(crate) fn element_at(space: &Space, array: Ref, place: usize) -> Built
+    ensures is { outcome_of result ≡ Gives (element_at space.now array place) }
+    ensures within { IsBuiltWithin (length space.now.slots) result }
+    ensures among { (below : Below) → IsReadWith space.now below → IsRefAmong below array → IsBuiltAmong below result }
+{
+    match space.part(array, place) {
+        Some((_, value)) => Built::Value(value),
+        None => Built::Value(Ref::Nil),
+    }
+}
+
+/// The place that an index names among so many: a negative one counts from the end.
+fn place_of(index: i64, count: usize) -> Option<usize>
+    ensures { result ≡ place_of index count }
+{
+    if index >= 0 {
+        return Some(index as usize);
+    }
+    let behind = (-(index + 1)) as usize;
+    if behind < count {
+        Some(count - (behind + 1))
+    } else {
+        None
+    }
+}
+
+/// `[]` of an array.
+fn indexed(space: &Space, array: Ref, index: Ref) -> Built
+    ensures is { outcome_of result ≡ indexed array index space.now }
+    ensures within { IsBuiltWithin (length space.now.slots) result }
+    ensures among { (below : Below) → IsReadWith space.now below → IsRefAmong below array → IsBuiltAmong below result }
+{
+    match index {
+        Ref::Int(index) => match place_of(index, space.arity(array)) {
+            Some(place) => element_at(space, array, place),
+            None => Built::Value(Ref::Nil),
+        },
+        _ => Built::Raised(Problem::WrongType(space.class_of(index))),
+    }
+}
+
+/// The character of a text that an index names.
+fn character_of(
+    alloc: Global,
+    space: &Space,
+    text: Ref,
+    place: Option<usize>,
+) -> Result<Deed, Fault>
+    ensures act { IfOk result (λ deed. act_of deed ≡ character_of (text_at space.now text) place) }
+    ensures fit { IfOk result (λ deed. IsFit space.now text deed) }
+    ensures among { IfOk result (λ deed. (below : Below) → IsDeedAmong below deed) }
+    ensures fault { IfErr result (λ f. f ≡ Fault.Memory) }
+{
+    match place {
+        Some(place) => {
+            if place < characters(space.text_bytes(text)) {
+                let bytes = character_at(alloc, space.text_bytes(text), place)?;
+                Ok(Deed::Make(bytes))
+            } else {
+                Ok(Deed::Answer(Built::Value(Ref::Nil)))
+            }
+        }
+        None => Ok(Deed::Answer(Built::Value(Ref::Nil))),
+    }
+}
+
+/// `[]` of a text.
+fn character_deed(alloc: Global, space: &Space, text: Ref, index: Ref) -> Result<Deed, Fault>
+    ensures act { IfOk result (λ deed. act_of deed ≡ character_act text index space.now) }
+    ensures fit { IfOk result (λ deed. IsFit space.now text deed) }
+    ensures among { IfOk result (λ deed. (below : Below) → IsDeedAmong below deed) }
+    ensures fault { IfErr result (λ f. f ≡ Fault.Memory) }
+{
+    match index {
+        Ref::Int(index) => {
+            let place = place_of(index, characters(space.text_bytes(text)));
+            character_of(alloc, space, text, place)
+        }
+        _ => Ok(raise(Problem::WrongType(space.class_of(index)))),
+    }
+}
+
+/// `<<` of a text.
+fn text_append(alloc: Global, space: &Space, text: Ref, more: Ref) -> Result<Deed, Fault>
+    requires { kind_at space.now text ≡ Kind.Text }
+    ensures act { IfOk result (λ deed. act_of deed ≡ unless_frozen text space.now (text_append more space.now)) }
+    ensures fit { IfOk result (λ deed. IsFit space.now text deed) }
+    ensures among { IfOk result (λ deed. (below : Below) → IsDeedAmong below deed) }
+    ensures fault { IfErr result (λ f. f ≡ Fault.Memory) }
+{
+    if !space.can_write(text) {
+        return Ok(raise(Problem::Frozen(space.class_of(text))));
+    }
+    if is_text_kind(space.kind_of(more)) {
+        let bytes = space.text_bytes(more).to_vec(alloc)?;
+        Ok(Deed::Append(bytes))
+    } else {
+        Ok(raise(Problem::WrongType(space.class_of(more))))
+    }
+}
+
+/// Whether a text stands somewhere in another.
+fn includes(text: &[u8], part: &[u8]) -> bool
+    ensures { result ≡ includes text.now part.now }
+{
+    memmem::find(text, part).is_some()
+}
+
+/// `include?` of a text.
+fn includes_deed(space: &Space, text: Ref, part: Ref) -> Deed
+    ensures act { act_of result ≡ includes_act text part space.now }
+    ensures fit { IsFit space.now text result }
+    ensures among { (below : Below) → IsDeedAmong below result }
+{
+    if is_text_kind(space.kind_of(part)) {
+        truth(includes(space.text_bytes(text), space.text_bytes(part)))
+    } else {
+        raise(Problem::WrongType(space.class_of(part)))
+    }
+}
+
+/// `push`, and `<<` of an array.
+fn push_deed(space: &Space, array: Ref, value: Ref) -> Deed
+    requires kind { kind_at space.now array ≡ Kind.Array }
+    requires value { IsWithin (length space.now.slots) value }
+    ensures act { act_of result ≡ unless_frozen array space.now (Pushes (value_of value)) }
+    ensures fit { IsFit space.now array result }
+    ensures among { (below : Below) → IsRefAmong below value → IsDeedAmong below result }
+{
+    if space.can_write(array) {
+        Deed::Push(value)
+    } else {
+        raise(Problem::Frozen(space.class_of(array)))
+    }
+}
+
+/// `shift`, which takes the first element.
+fn shift_deed(space: &Space, array: Ref) -> Deed
+    requires { kind_at space.now array ≡ Kind.Array }
+    ensures act { act_of result ≡ taken array 0 space.now }
+    ensures fit { IsFit space.now array result }
+    ensures among { (below : Below) → IsDeedAmong below result }
+{
+    if !space.can_write(array) {
+        return raise(Problem::Frozen(space.class_of(array)));
+    }
+    if 0 < space.arity(array) {
+        Deed::Take(0)
+    } else {
+        Deed::Answer(Built::Value(Ref::Nil))
+    }
+}
+
+/// `pop`, which takes the last element.
+fn pop_deed(space: &Space, array: Ref) -> Deed
+    requires { kind_at space.now array ≡ Kind.Array }
+    ensures act { act_of result ≡ popped array space.now }
+    ensures fit { IsFit space.now array result }
+    ensures among { (below : Below) → IsDeedAmong below result }
+{
+    if !space.can_write(array) {
+        return raise(Problem::Frozen(space.class_of(array)));
+    }
+    let count = space.arity(array);
+    if 0 < count {
+        Deed::Take(count - 1)
+    } else {
+        Deed::Answer(Built::Value(Ref::Nil))
+    }
+}
+
+/// A method of texts.
+fn text_content(
+    alloc: Global,
+    space: &Space,
+    method: ContentMethod,
+    text: Ref,
+    argument: Ref,
+) -> Result<Deed, Fault>
+    requires { kind_at space.now text ≡ Kind.Text }
+    ensures act { IfOk result (λ deed. act_of deed ≡ text_content method text argument space.now) }
+    ensures fit { IfOk result (λ deed. IsFit space.now text deed) }
+    ensures among { IfOk result (λ deed. (below : Below) → IsDeedAmong below deed) }
+    ensures fault { IfErr result (λ f. f ≡ Fault.Memory) }
+{
+    match method {
+        ContentMethod::Size => Ok(size_deed(space, Kind::Text, text)),
+        ContentMethod::Length => Ok(size_deed(space, Kind::Text, text)),
+        ContentMethod::IsEmpty => Ok(truth(is_empty(space, Kind::Text, text))),
+        ContentMethod::Append => text_append(alloc, space, text, argument),
+        ContentMethod::Includes => Ok(includes_deed(space, text, argument)),
+        ContentMethod::At => character_deed(alloc, space, text, argument),
+        _ => Ok(Deed::Answer(Built::Missing)),
+    }
+}
+
+/// A method of arrays.
+fn array_content(space: &Space, method: ContentMethod, array: Ref, argument: Ref) -> Deed
+    requires kind { kind_at space.now array ≡ Kind.Array }
+    requires argument { IsWithin (length space.now.slots) argument }
+    ensures act { act_of result ≡ array_content method array argument space.now }
+    ensures fit { IsFit space.now array result }
+    ensures among { (below : Below) → IsReadWith space.now below → IsRefAmong below array → IsRefAmong below argument → IsDeedAmong below result }
+{
+    match method {
+        ContentMethod::Size => size_deed(space, Kind::Array, array),
+        ContentMethod::Length => size_deed(space, Kind::Array, array),
+        ContentMethod::IsEmpty => truth(is_empty(space, Kind::Array, array)),
+        ContentMethod::First => Deed::Answer(element_at(space, array, 0)),
+        ContentMethod::Last => {
+            let count = space.arity(array);
+            Deed::Answer(element_at(space, array, count.saturating_sub(1)))
+        }
+        ContentMethod::At => Deed::Answer(indexed(space, array, argument)),
+        ContentMethod::Append => push_deed(space, array, argument),
+        ContentMethod::Push => push_deed(space, array, argument),
+        ContentMethod::Pop => pop_deed(space, array),
+        ContentMethod::Shift => shift_deed(space, array),
+        ContentMethod::Includes => Deed::Answer(Built::Missing),
+    }
+}
+
+/// A method of hashes.
+fn hash_content(space: &Space, method: ContentMethod, hash: Ref) -> Deed
+    ensures act { act_of result ≡ hash_content method hash space.now }
+    ensures fit { IsFit space.now hash result }
+    ensures among { (below : Below) → IsDeedAmong below result }
+{
+    match method {
+        ContentMethod::Size => size_deed(space, Kind::Hash, hash),
+        ContentMethod::Length => size_deed(space, Kind::Hash, hash),
+        ContentMethod::IsEmpty => truth(is_empty(space, Kind::Hash, hash)),
+        _ => Deed::Answer(Built::Missing),
+    }
+}
+
+/// A method of texts, arrays and hashes.
+pub(crate) fn content_deed(
+    alloc: Global,
+    space: &Space,
+    method: ContentMethod,
+    value: Ref,
+    argument: Ref,
+) -> Result<Deed, Fault>
+    requires { IsWithin (length space.now.slots) argument }
+    ensures act { IfOk result (λ deed. act_of deed ≡ content_act (kind_at space.now value) method value argument space.now) }
+    ensures fit { IfOk result (λ deed. IsFit space.now value deed) }
+    ensures among { IfOk result (λ deed. (below : Below) → IsReadWith space.now below → IsRefAmong below value → IsRefAmong below argument → IsDeedAmong below deed) }
+    ensures fault { IfErr result (λ f. f ≡ Fault.Memory) }
+{
+    match space.kind_of(value) {
+        Kind::Text => text_content(alloc, space, method, value, argument),
+        Kind::Array => Ok(array_content(space, method, value, argument)),
+        Kind::Hash => Ok(hash_content(space, method, value)),
+        _ => Ok(Deed::Answer(Built::Missing)),
+    }
+}

@@ -1,0 +1,112 @@
+//! What is done with the receiver of a call.
+
+ghost use Rattle.std.specs.Prelude.{◌≡◌, ◌<◌, IsTrue, length, IfOk};
+ghost use Rattle.rr_space.specs.Tables.{Below};
+ghost use Rattle.rr_space.specs.Parts.{IsWithin};
+ghost use Rattle.rr_space.specs.Kinds.{kind_at};
+ghost use Rattle.rr_space.specs.Labels.{triples_at};
+ghost use Rattle.rr_space.specs.Views.{can_write_at};
+ghost use Rattle.rr_text.specs.Reads.{IsReadWith};
+ghost use Rattle.rr_builtin.specs.Acts.{Acts, performed, froze, IsRefAmong, Answers, Makes, Freezes, Appends, Pushes, Takes, IsDone};
+ghost use Rattle.rr_builtin.specs.Deeds.{act_of, IsFit, IsDeedAmong};
+ghost use Rattle.rr_space.specs.Parts.{value_of};
+
+use crate::built::Built;
+use rr_base::Fault;
+use rr_space::{Kind, Node, Ref, Space};
+
+/// What is done with the receiver of a call.
+#[derive(Drop)]
+pub(crate) enum Deed {
+    /// Nothing is changed.
+    Answer(Built),
+    /// A new text.
+    Make(Vec<u8>),
+    /// The receiver is frozen, and given.
+    Freeze,
+    /// Bytes come behind those of the receiver, which is given.
+    Append(Vec<u8>),
+    /// A value comes behind the elements of the receiver, which is given.
+    Push(Ref),
+    /// An element is taken out of the receiver, and given.
+    Take(usize),
+}
+
+/// Makes a new text.
+fn make(space: &mut Space, bytes: Vec<u8>) -> Result<Built, Fault>
+    ensures { (below : Below) (v : Ref) → IsReadWith space.old below → Acts below (performed (Makes bytes.items) v) space.old space.new result }
+{
+    match space.alloc(Node::Text(bytes)) {
+        Ok(text) => Ok(Built::Value(text)),
+        Err(fault) => Err(fault),
+    }
+}
+
+/// Freezes an object, and nothing that it leads to; an immediate stays as it is.
+fn freeze(space: &mut Space, value: Ref)
+    ensures { space.new ≡ froze value space.old }
+{
+    if space.can_freeze(value) {
+        space.freeze(value);
+    }
+}
+
+/// Puts bytes behind those of a text, which may be written.
+fn append(space: &mut Space, text: Ref, bytes: &[u8]) -> Result<Built, Fault>
+    requires within { IsWithin (length space.old.slots) text }
+    requires can { IsTrue (can_write_at space.old text) }
+    requires kind { kind_at space.old text ≡ Kind.Text }
+    ensures { (below : Below) → IsReadWith space.old below → Acts below (performed (Appends bytes.now) text) space.old space.new result }
+{
+    match space.append_text(text, bytes) {
+        Ok(()) => Ok(Built::Value(text)),
+        Err(fault) => Err(fault),
+    }
+}
+
+/// Puts a value behind the elements of an array, which may be written.
+fn push(space: &mut Space, array: Ref, value: Ref) -> Result<Built, Fault>
+    requires within { IsWithin (length space.old.slots) array }
+    requires can { IsTrue (can_write_at space.old array) }
+    requires kind { kind_at space.old array ≡ Kind.Array }
+    requires value { IsWithin (length space.old.slots) value }
+    ensures { (below : Below) → IsReadWith space.old below → IsRefAmong below value → Acts below (performed (Pushes (value_of value)) array) space.old space.new result }
+{
+    match space.push_element(array, value) {
+        Ok(()) => Ok(Built::Value(array)),
+        Err(fault) => Err(fault),
+    }
+}
+
+/// Takes an element out of an array, which may be written.
+fn take(space: &mut Space, array: Ref, place: usize) -> Built
+    requires can { IsTrue (can_write_at space.old array) }
+    requires kind { kind_at space.old array ≡ Kind.Array }
+    requires place { place < length (triples_at space.old array) }
+    ensures { (below : Below) → IsReadWith space.old below → IsDone below (performed (Takes place) array space.old) space.old space.new result }
+{
+    match space.take_element(array, place) {
+        Some(taken) => Built::Value(taken),
+        None => unreachable!(),
+    }
+}
+
+/// Does the deed. A refused growth leaves the objects as they were.
+pub(crate) fn perform(space: &mut Space, receiver: Ref, deed: Deed) -> Result<Built, Fault>
+    requires within { IsWithin (length space.old.slots) receiver }
+    requires fit { IsFit space.old receiver deed }
+    ensures { (below : Below) → IsReadWith space.old below → IsRefAmong below receiver → IsDeedAmong below deed
+        → Acts below (performed (act_of deed) receiver) space.old space.new result }
+{
+    match deed {
+        Deed::Answer(built) => Ok(built),
+        Deed::Make(bytes) => make(space, bytes),
+        Deed::Freeze => {
+            freeze(space, receiver);
+            Ok(Built::Value(receiver))
+        }
+        Deed::Append(bytes) => append(space, receiver, &bytes),
+        Deed::Push(value) => push(space, receiver, value),
+        Deed::Take(place) => Ok(take(space, receiver, place)),
+    }
+}

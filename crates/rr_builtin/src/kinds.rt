@@ -1,0 +1,214 @@
+//! Which methods the values of a kind have, and how many arguments they take.
+
+ghost use Rattle.std.specs.Prelude.{◌≡◌};
+ghost use Rattle.rr_builtin.specs.Kinds.{is_shell_kind, is_integer_kind, is_array_kind, is_compared, is_added, has_order, has_operator, has_size, is_text, is_appended, has_content, is_class, is_exception, has_telling, has, object_count, content_count, count_of};
+
+use crate::method::{BuiltInMethod, ContentMethod, ObjectMethod, TellingMethod};
+use rr_space::Kind;
+use rr_tree::BinaryOperator;
+
+pub(crate) fn is_shell_kind(kind: Kind) -> bool
+    ensures { result ≡ is_shell_kind kind }
+{
+    match kind {
+        Kind::Shell => true,
+        _ => false,
+    }
+}
+
+fn is_integer_kind(kind: Kind) -> bool
+    ensures { result ≡ is_integer_kind kind }
+{
+    match kind {
+        Kind::Integer => true,
+        _ => false,
+    }
+}
+
+fn is_array_kind(kind: Kind) -> bool
+    ensures { result ≡ is_array_kind kind }
+{
+    match kind {
+        Kind::Array => true,
+        _ => false,
+    }
+}
+
+/// Whether values of the kind are compared without a walk.
+fn is_compared(kind: Kind) -> bool
+    ensures { result ≡ is_compared kind }
+{
+    match kind {
+        Kind::Array => false,
+        Kind::Hash => false,
+        _ => true,
+    }
+}
+
+/// Whether values of the kind have `+`, `*`, and `<` and its kin.
+fn is_added(kind: Kind) -> bool
+    ensures { result ≡ is_added kind }
+{
+    match kind {
+        Kind::Integer => true,
+        Kind::Text => true,
+        _ => false,
+    }
+}
+
+/// Whether values of the kind have `<=>`.
+fn has_order(kind: Kind) -> bool
+    ensures { result ≡ has_order kind }
+{
+    match kind {
+        Kind::Integer => true,
+        Kind::Text => true,
+        Kind::Symbol => true,
+        _ => false,
+    }
+}
+
+fn has_operator(kind: Kind, operator: BinaryOperator) -> bool
+    ensures { result ≡ has_operator kind operator }
+{
+    match operator {
+        BinaryOperator::Add => is_added(kind),
+        BinaryOperator::Multiply => is_added(kind),
+        BinaryOperator::Subtract => is_integer_kind(kind),
+        BinaryOperator::Divide => is_integer_kind(kind),
+        BinaryOperator::Remainder => is_integer_kind(kind),
+        BinaryOperator::Less => is_added(kind),
+        BinaryOperator::LessOrEqual => is_added(kind),
+        BinaryOperator::Greater => is_added(kind),
+        BinaryOperator::GreaterOrEqual => is_added(kind),
+        BinaryOperator::Compare => has_order(kind),
+        BinaryOperator::Equal => is_compared(kind),
+        BinaryOperator::NotEqual => is_compared(kind),
+    }
+}
+
+fn has_size(kind: Kind) -> bool
+    ensures { result ≡ has_size kind }
+{
+    match kind {
+        Kind::Text => true,
+        Kind::Array => true,
+        Kind::Hash => true,
+        _ => false,
+    }
+}
+
+fn is_text(kind: Kind) -> bool
+    ensures { result ≡ is_text kind }
+{
+    match kind {
+        Kind::Text => true,
+        _ => false,
+    }
+}
+
+/// Whether values of the kind have `<<`.
+fn is_appended(kind: Kind) -> bool
+    ensures { result ≡ is_appended kind }
+{
+    match kind {
+        Kind::Text => true,
+        Kind::Array => true,
+        _ => false,
+    }
+}
+
+fn has_content(kind: Kind, method: ContentMethod) -> bool
+    ensures { result ≡ has_content kind method }
+{
+    match method {
+        ContentMethod::Size => has_size(kind),
+        ContentMethod::Length => has_size(kind),
+        ContentMethod::IsEmpty => has_size(kind),
+        ContentMethod::Append => is_appended(kind),
+        ContentMethod::First => is_array_kind(kind),
+        ContentMethod::Last => is_array_kind(kind),
+        ContentMethod::At => is_appended(kind),
+        ContentMethod::Push => is_array_kind(kind),
+        ContentMethod::Pop => is_array_kind(kind),
+        ContentMethod::Shift => is_array_kind(kind),
+        ContentMethod::Includes => is_text(kind),
+    }
+}
+
+fn is_class(kind: Kind) -> bool
+    ensures { result ≡ is_class kind }
+{
+    match kind {
+        Kind::Class => true,
+        _ => false,
+    }
+}
+
+fn is_exception(kind: Kind) -> bool
+    ensures { result ≡ is_exception kind }
+{
+    match kind {
+        Kind::Exception => true,
+        _ => false,
+    }
+}
+
+fn has_telling(kind: Kind, method: TellingMethod) -> bool
+    ensures { result ≡ has_telling kind method }
+{
+    match method {
+        TellingMethod::Name => is_class(kind),
+        TellingMethod::Message => is_exception(kind),
+        TellingMethod::Cause => is_exception(kind),
+    }
+}
+
+/// Whether values of the kind have the method.
+pub fn has(kind: Kind, method: BuiltInMethod) -> bool
+    ensures { result ≡ has kind method }
+{
+    match method {
+        BuiltInMethod::Operator(operator) => has_operator(kind, operator),
+        BuiltInMethod::Number(_) => is_integer_kind(kind),
+        BuiltInMethod::Object(_) => true,
+        BuiltInMethod::Content(method) => has_content(kind, method),
+        BuiltInMethod::Telling(method) => has_telling(kind, method),
+    }
+}
+
+fn object_count(method: ObjectMethod) -> usize
+    ensures { result ≡ object_count method }
+{
+    match method {
+        ObjectMethod::IsIdentical => 1,
+        ObjectMethod::IsA => 1,
+        ObjectMethod::KindOf => 1,
+        _ => 0,
+    }
+}
+
+fn content_count(method: ContentMethod) -> usize
+    ensures { result ≡ content_count method }
+{
+    match method {
+        ContentMethod::At => 1,
+        ContentMethod::Append => 1,
+        ContentMethod::Push => 1,
+        ContentMethod::Includes => 1,
+        _ => 0,
+    }
+}
+
+/// How many arguments the method takes.
+pub(crate) fn count_of(method: BuiltInMethod) -> usize
+    ensures { result ≡ count_of method }
+{
+    match method {
+        BuiltInMethod::Operator(_) => 1,
+        BuiltInMethod::Number(_) => 0,
+        BuiltInMethod::Object(method) => object_count(method),
+        BuiltInMethod::Content(method) => content_count(method),
+        BuiltInMethod::Telling(_) => 0,
+    }
+}

@@ -1,0 +1,33 @@
+//! The built-in methods, each its rule.
+#![tactic(auto)]
+
+mod built;
+mod calls;
+mod characters;
+mod classes;
+mod contents;
+mod deed;
+mod dividing;
+mod integer;
+mod kinds;
+mod method;
+mod names;
+mod numbers;
+mod objects;
+mod problem;
+mod texts;
+
+pub use built::Built;
+pub use calls::call;
+pub use classes::{descends, superclass};
+pub use dividing::{division_rounds_down, floor_div, floor_mod};
+pub use integer::{
+    NumberProblem, absolute, compare, difference, is_even, is_odd, is_zero, opposite, product,
+    quotient, remainder, sum,
+};
+pub use kinds::has;
+pub use method::{BuiltInMethod, ContentMethod, NumberMethod, ObjectMethod, TellingMethod};
+pub use names::{Methods, methods_have_names};
+pub use numbers::{number_answer, on_integer};
+pub use objects::is_truthy;
+pub use problem::{Problem, Receiver, write_missing};

@@ -1,0 +1,7 @@
+pub mod Quoting
+pub mod Stack
+pub mod Seeing
+pub mod Loads
+pub mod Looking
+pub mod Turning
+pub mod Rows

@@ -1,0 +1,27 @@
+-- Worked rows, computed from the definitions.
+use Rattle.std.proofs.Common.{refl}
+use Rattle.std.specs.Fmt.{digits}
+use Rattle.rr_text.specs.Quoted.{quoted}
+use Rattle.rr_text.specs.Rows.{AllRows}
+
+pub rows_compute : AllRows
+unfolding digits quoted
+rows_compute = record {
+  itself = refl;
+  pairs = refl;
+  lined = refl;
+  lined_itself = refl;
+  lined_hash = refl;
+  spoken_text = refl;
+  too_deep = refl;
+  not_too_deep = refl;
+  shell_met = refl;
+  deep_before_shell = refl;
+  escapes = refl;
+  raised = refl;
+  raised_spoken = refl;
+  raised_bare = refl;
+  plain_object = refl;
+  immediates = refl;
+  hash_itself = refl;
+}

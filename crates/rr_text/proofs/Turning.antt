@@ -1,0 +1,124 @@
+-- The next part of a container, or its end.
+use Rattle.std.proofs.Common.{◌≡◌, ℕ, suc, ◌+◌, ◌-◌, ◌<◌, ◌≤◌, List, [], ◌∷◌, ◌++◌, drop, length, codes, slice_get, Some, None, ap, sym, ◌∙◌, arith}
+use Rattle.std.proofs.lemmas.List.{length-map}
+use Rattle.rr_space.specs.Graph.{Name, Value, At, Label, Graph}
+use Rattle.rr_space.specs.Tables.{Slot, Below, Table, resolve, resolve_triple, graph_of}
+use Rattle.rr_space.specs.Sound.{IsTableSound}
+use Rattle.rr_space.specs.Parts.{value_of}
+use Rattle.rr_space.specs.Views.{text_at}
+use Rattle.rr_space.specs.Labels.{triples_at}
+use Rattle.rr_space.specs.declared.refer.Ref.{Ref}
+use Rattle.rr_text.specs.Forms.{Names, Way, printed, inspected, lines, elements, entries, key_text, look, same_key}
+use Rattle.rr_text.specs.Rest.{whole, showing}
+use Rattle.rr_text.specs.Quoted.{quoted}
+use Rattle.rr_text.specs.Ways.{way_of}
+use Rattle.rr_text.specs.Reads.{IsAmong, IsReadWith, IsAtEnd}
+use Rattle.rr_text.specs.Frames.{lead_at, thing_in, parts_from, closing_of, begun_of, key_of, walker_of, IsTurned, Showed, Stepped}
+use Rattle.rr_text.specs.declared.walk.Part.{Part}
+use Rattle.rr_text.specs.declared.walk.Going.{Going}
+use Rattle.rr_text.specs.declared.walk.Going.TheVariants.{On, Deep as GoingDeep, Shell as GoingShell}
+use Rattle.rr_text.proofs.Stack.{next_top, closed_top, followed_none, followed_end}
+use Rattle.rr_text.specs.Walk.{Walked, Wrote, followed, walk}
+use Rattle.rr_text.specs.declared.form.Form.{Form}
+use Rattle.rr_text.specs.declared.walk.Shape.{Shape}
+use Rattle.rr_text.specs.declared.walk.Shape.TheVariants.{Elements, Lines, Pairs}
+use Rattle.rr_text.specs.declared.walk.Frame.{Frame}
+use Rattle.rr_text.proofs.Seeing.{bytes_are}
+use Rattle.rr_text.proofs.Looking.{in_triples, elements_next, elements_none, entries_next, entries_none, lead_next, resolved_at, resolved_name}
+
+-- a text as a key
+pub text_key : (names : Names) (t : Table) (below : Below) (r : Ref) (n : Name) → IsTableSound t.slots t.below → IsReadWith t below → IsAmong below r → value_of r ≡ At n
+    → quoted (text_at t r) ++ codes " => " ≡ key_text names (graph_of t.slots below) (resolve t.slots (value_of r))
+text_key names t below r n sound read among e =
+    let m = resolved_name t.slots n in
+    let at : resolve t.slots (value_of r) ≡ At m.0 = ap (resolve t.slots) e ∙ m.1 in
+    ap (λ (s : List ℕ). quoted s ++ codes " => ") (sym (bytes_are t below r m.0 sound read among at))
+    ∙ ap (key_text names (graph_of t.slots below)) (sym at)
+
+module _ (names : Names) (t : Table) (below : Below) (sound : IsTableSound t.slots t.below) (read : IsReadWith t below) (top : Frame) (among : IsAmong below top.object) (end : IsAtEnd t top.object) where
+  now_at : (k : ℕ) (l : Label) (r : Ref) → slice_get (triples_at t top.object) k ≡ Some (l, value_of r)
+      → slice_get (thing_in names (graph_of t.slots below) (value_of top.object)).triples k ≡ Some (l, resolve t.slots (value_of r))
+  now_at k l r e = ap (λ (ts : List (Label × Value)). slice_get ts k) (in_triples names t below sound read top.object among end) ∙ resolved_at t.slots (triples_at t top.object) k l (value_of r) e
+
+  now_count : length (thing_in names (graph_of t.slots below) (value_of top.object)).triples ≡ length (triples_at t top.object)
+  now_count = ap length (in_triples names t below sound read top.object among end) ∙ length-map (triples_at t top.object) (resolve_triple t.slots)
+
+  shaped : (s : Shape) → top.shape ≡ s → (begun_of names (graph_of t.slots below) top).parts ≡ parts_from names (graph_of t.slots below) s top.next (thing_in names (graph_of t.slots below) (value_of top.object)).triples
+  shaped s e = ap (λ (s : Shape). parts_from names (graph_of t.slots below) s top.next (thing_in names (graph_of t.slots below) (value_of top.object)).triples) e
+
+  pub closing_is : (s : Shape) → top.shape ≡ s → (begun_of names (graph_of t.slots below) top).closing ≡ closing_of names (graph_of t.slots below) s
+  closing_is s e = ap (closing_of names (graph_of t.slots below)) e
+
+  pub element_turned : (l : Label) (r : Ref) → top.shape ≡ Elements → slice_get (triples_at t top.object) top.next ≡ Some (l, value_of r)
+      → (begun_of names (graph_of t.slots below) top).parts
+      ≡ (lead_at top.next (codes ", "), (inspected, resolve t.slots (value_of r))) ∷ (begun_of names (graph_of t.slots below) (record { shape = Elements; object = top.object; next = top.next + 1 })).parts
+  element_turned l r shape e =
+      let ts = (thing_in names (graph_of t.slots below) (value_of top.object)).triples in
+      shaped Elements shape
+      ∙ elements_next inspected (lead_at top.next (codes ", ")) (codes ", ") ts top.next l (resolve t.slots (value_of r)) (now_at top.next l r e)
+      ∙ ap (λ (s : List ℕ). (lead_at top.next (codes ", "), (inspected, resolve t.slots (value_of r))) ∷ elements inspected s (codes ", ") (drop (top.next + 1) ts)) (sym (lead_next top.next (codes ", ")))
+
+  pub elements_closed : top.shape ≡ Elements → length (triples_at t top.object) ≤ top.next → (begun_of names (graph_of t.slots below) top).parts ≡ []
+  elements_closed shape none =
+      shaped Elements shape
+      ∙ elements_none inspected (lead_at top.next (codes ", ")) (codes ", ") (thing_in names (graph_of t.slots below) (value_of top.object)).triples top.next (omega (arith, now_count, none))
+
+  pub line_turned : (l : Label) (r : Ref) → top.shape ≡ Lines → slice_get (triples_at t top.object) top.next ≡ Some (l, value_of r)
+      → (begun_of names (graph_of t.slots below) top).parts
+      ≡ ([], (lines, resolve t.slots (value_of r))) ∷ (begun_of names (graph_of t.slots below) (record { shape = Lines; object = top.object; next = top.next + 1 })).parts
+  line_turned l r shape e =
+      shaped Lines shape
+      ∙ elements_next lines [] [] (thing_in names (graph_of t.slots below) (value_of top.object)).triples top.next l (resolve t.slots (value_of r)) (now_at top.next l r e)
+
+  pub lines_closed : top.shape ≡ Lines → length (triples_at t top.object) ≤ top.next → (begun_of names (graph_of t.slots below) top).parts ≡ []
+  lines_closed shape none =
+      shaped Lines shape
+      ∙ elements_none lines [] [] (thing_in names (graph_of t.slots below) (value_of top.object)).triples top.next (omega (arith, now_count, none))
+
+  pub pair_turned : (form : Form) (l m : Label) (k r : Ref) → top.shape ≡ Pairs form → slice_get (triples_at t top.object) top.next ≡ Some (l, value_of k) → slice_get (triples_at t top.object) (top.next + 1) ≡ Some (m, value_of r)
+      → (begun_of names (graph_of t.slots below) top).parts
+      ≡ (lead_at top.next (codes ", ") ++ key_text names (graph_of t.slots below) (resolve t.slots (value_of k)), (inspected, resolve t.slots (value_of r)))
+      ∷ (begun_of names (graph_of t.slots below) (record { shape = Pairs form; object = top.object; next = top.next + 2 })).parts
+  pair_turned form l m k r shape e f =
+      let g = graph_of t.slots below in
+      let ts = (thing_in names (graph_of t.slots below) (value_of top.object)).triples in
+      shaped (Pairs form) shape
+      ∙ entries_next names g (lead_at top.next (codes ", ")) ts top.next l m (resolve t.slots (value_of k)) (resolve t.slots (value_of r)) (now_at top.next l k e) (now_at (top.next + 1) m r f)
+      ∙ ap (λ (s : List ℕ). (lead_at top.next (codes ", ") ++ key_text names g (resolve t.slots (value_of k)), (inspected, resolve t.slots (value_of r))) ∷ entries names g s (drop (top.next + 2) ts))
+      (sym (ap (λ n. lead_at n (codes ", ")) (let two : top.next + 2 ≡ suc (top.next + 1) = omega arith in two)))
+
+  pub pairs_closed : (form : Form) → top.shape ≡ Pairs form → length (triples_at t top.object) ≤ top.next + 1 → (begun_of names (graph_of t.slots below) top).parts ≡ []
+  pairs_closed form shape none =
+      shaped (Pairs form) shape
+      ∙ entries_none names (graph_of t.slots below) (lead_at top.next (codes ", ")) (thing_in names (graph_of t.slots below) (value_of top.object)).triples top.next (omega (arith, now_count, none))
+
+-- ---- A turn.
+
+module _ (names : Names) (g : Graph) (slots : List Slot) (levels : ℕ) (fs : List Frame) (top : Frame) (out : List ℕ) where
+  pub turned_steps : (fs1 fs' : List Frame) (out1 out' : List ℕ) (p : Part) (going : Going) → IsTurned names g slots top out (Some p) out1 → p.frame.shape ≡ top.shape → p.frame.object ≡ top.object
+      → fs1 ≡ fs ++ p.frame ∷ [] → Showed names g levels fs1 out1 (way_of p.form, resolve slots (value_of p.value)) going fs' out' → Stepped names g levels fs top out going fs' out'
+  turned_steps fs1 fs' out1 out' p going (lead, parts, more) shape object es h = by going h
+    where
+      key : key_of top ≡ key_of p.frame
+      key = ap (λ (s : Shape). (walker_of s, value_of top.object)) (sym shape) ∙ ap (λ (o : Ref). (walker_of p.frame.shape, value_of o)) (sym object)
+
+      on : whole (look names g) same_key (begun_of names g) levels (fs ++ top ∷ []) out ≡ showing (look names g) same_key (begun_of names g) levels fs1 out1 (way_of p.form, resolve slots (value_of p.value))
+      on = next_top (look names g) same_key (begun_of names g) levels fs fs1 top p.frame out out1 (lead, (way_of p.form, resolve slots (value_of p.value))) parts key (ap (closing_of names g) (sym shape)) es more
+
+      by : (going : Going) → Showed names g levels fs1 out1 (way_of p.form, resolve slots (value_of p.value)) going fs' out' → Stepped names g levels fs top out going fs' out'
+      by On h = on ∙ h
+      by GoingDeep h = on ∙ h
+      by GoingShell h = on ∙ h
+
+  pub closed_steps : (fs' : List Frame) (out' : List ℕ) → length fs < levels → IsTurned names g slots top out None out' → fs' ≡ fs → Stepped names g levels fs top out On fs' out'
+  closed_steps fs' out' fits (none, more) same = closed_top (look names g) same_key (begun_of names g) levels fs fs' top out out' fits none same more
+
+-- nothing was begun and nothing written
+pub starts : (names : Names) (g : Graph) (levels : ℕ) (fs : List Frame) (out : List ℕ) (way : Way) (v : Value) → fs ≡ [] → out ≡ []
+    → printed names g levels way v ≡ showing (look names g) same_key (begun_of names g) levels fs out (way, v)
+starts names g levels fs out way v e f =
+    let one : Walked = walk (look names g) same_key (levels - 0) [] (way, v) in
+    sym (ap (λ (xs : List Frame). showing (look names g) same_key (begun_of names g) levels xs out (way, v)) e
+    ∙ ap (λ (s : List ℕ). showing (look names g) same_key (begun_of names g) levels [] s (way, v)) f
+    ∙ followed_none (followed one (Wrote [])) ∙ followed_end one
+    ∙ ap (λ (n : ℕ). walk (look names g) same_key n [] (way, v)) (let z : levels - 0 ≡ levels = omega arith in z))

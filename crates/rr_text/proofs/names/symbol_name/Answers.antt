@@ -1,0 +1,6 @@
+use Rattle.rr_text.specs.Names.{names_of}
+use Rattle.rr_text.proofs.names.symbol_name.Goals as goal
+
+pub returns : goal.returns
+unfolding names_of
+returns c = c.symbol_bytes.ensures

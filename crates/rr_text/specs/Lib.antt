@@ -1,0 +1,10 @@
+pub mod Walk
+pub mod Quoted
+pub mod Forms
+pub mod Names
+pub mod Ways
+pub mod Rest
+pub mod Reads
+pub mod Told
+pub mod Frames
+pub mod Rows
