@@ -2,7 +2,8 @@
 
 use crate::run::{repeated, run_script, run_within, text_of};
 use rr_base::{Fault, LimitKind, Limits};
-use rr_eval::{Outcome, floor_div, floor_mod};
+use rr_builtin::{floor_div, floor_mod};
+use rr_eval::Outcome;
 use std::alloc::{AllocError, Global};
 use std::test::Fail;
 

@@ -27,6 +27,19 @@ a method of true|puts true * 2^n||undefined method '*' for true (NoMethodError)
 a method of false|puts false < 2^n||undefined method '<' for false (NoMethodError)
 a method of a text|puts -\"a\"^n||undefined method '-@' for an instance of String (NoMethodError)
 a bare name|puts a^n||undefined local variable or method 'a' (NameError)
+a command with another name|puts 1; foo 2^n|1^n|not here yet (RuntimeError)
+a call with another name|foo(1)^n||not here yet (RuntimeError)
+a bare name with a mark|a?^n||undefined local variable or method 'a?' (NameError)
+a part that is not evaluated yet|puts 1; puts [1]^n|1^n|not here yet (RuntimeError)
+what does not decide is not evaluated|puts false && a, true ^p^p a, (nil and a), (1 or a)^n|false^ntrue^n^n1^n|
+what decides is the value|puts nil ^p^p 7, 1 && 2, (not nil), !0^n|7^n2^ntrue^nfalse^n|
+and binds tighter than or|puts true ^p^p false && false, 1 < 2 && 2 < 3^n|true^ntrue^n|
+a loop while and a loop until|i = 0^nwhile i < 3 do i = i + 1 end^nuntil i == 0; puts i; i = i - 1; end^n|3^n2^n1^n|
+a loop is nil|puts (while false; end) == nil^n|true^n|
+modifiers|i = 0^nx = nil^n(i = i + 1; x = i if i == 5) while x == nil^nputs i if i == 5^nputs 0 unless i == 5^ni = i - 1 until i < 2^nputs i^n|5^n1^n|
+unless and else|unless 1 > 2; puts 1; else; puts 2; end^nunless true then puts 3 end^n|1^n|
+a choice between two|puts (1 < 2 ? \"a\" : \"b\"), (nil ? 1 : 2)^n|a^n2^n|
+an exception ends a loop|i = 0^nwhile true; i = i + 1; puts 6 / (3 - i); end^n|3^n6^n|divided by 0 (ZeroDivisionError)
 a local of a part that did not run|if false; a = 1; end; puts a^n|^n|
 a variable in its own assignment|a = a; puts a^n|^n|
 assignments in one another|a = b = c = 4; puts a + b + c^n|12^n|
@@ -67,7 +80,7 @@ an open bracket|puts (1^n|2|1|unexpected end
 an open if|if 1^nputs 2^n|3|1|unexpected end
 a bracket too many|puts 1)^n|1|7|unexpected token
 equality does not chain|puts 1 == 2 == 3^n|1|13|unexpected token
-a method call|puts 1.abs^n|1|7|unexpected token
-a command with another name|foo 1^n|1|5|unexpected token
-a part of the language that is not there yet|while true; end^n|1|1|unexpected token
+a number that is assigned to|1 = 2^n|1|3|unexpected token
+an if without its separator|if 1 end^n|1|6|unexpected token
+a loop without its end|while true^n|2|1|unexpected end
 an end without a beginning|end^n|1|1|unexpected token";

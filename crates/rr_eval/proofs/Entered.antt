@@ -6,64 +6,79 @@ use Rattle.rr_space.specs.declared.refer.Ref.TheVariants.{Int}
 use Rattle.rr_tree.specs.Tree.{Tree, int, local, tree_at}
 use Rattle.rr_tree.specs.declared.node.BinaryOperator.{BinaryOperator}
 use Rattle.rr_tree.specs.declared.node.Node.TheVariants.{Binary}
+use Rattle.rr_eval.specs.declared.problem.Answer.{Answer}
 use Rattle.rr_eval.specs.declared.problem.Answer.TheVariants.{Gave}
 use Rattle.rr_eval.specs.Operators.{on_integers, operate}
 use Rattle.rr_tree.specs.declared.node.Node.{Node}
 use Rattle.rr_tree.specs.declared.program.Program.{Program}
 use Rattle.rr_eval.specs.declared.frame.Frame.{Frame}
 use Rattle.rr_eval.specs.declared.frame.Frame.TheVariants.{Left}
-use Rattle.rr_eval.specs.declared.frame.Control.TheVariants.{Enter, Give}
+use Rattle.rr_eval.specs.declared.frame.Control.TheVariants.{Enter}
 use Rattle.rr_eval.specs.View.{View}
-use Rattle.rr_eval.specs.Script.{State, Script, Ret, Do, Spent, Ended, run, after}
-use Rattle.rr_eval.specs.Rules.{Context, rule, meaning, on_value, with_value, on_table}
+use Rattle.rr_eval.specs.Script.{State, Script, World, Spent, Ended, Waits, run, after, taken}
+use Rattle.rr_eval.specs.Requests.{Course, asking}
+use Rattle.rr_eval.specs.Rules.{Context, rule, meaning, on_value, with_value, settled, on_table}
 use Rattle.rr_eval.specs.Nodes.{evaluated_tree}
 use Rattle.rr_eval.specs.Frames.{Code, resumed, unwind, outcome_of, below_of}
-use Rattle.rr_eval.specs.Turns.{context_of, code_of, state_of, remaining, after_script, leaf_value}
+use Rattle.rr_eval.specs.Turns.{context_of, code_of, state_of, remaining, after_script, Replied, leaf_value}
 use Rattle.rr_eval.proofs.Depth.{meaning_rule}
 
-pub entered : (p : Program) (m : View) (t : Table) (here n : ℕ) (node : Node) (script : Script) → m.control ≡ Enter here → m.left ≡ suc n → tree_at p.nodes.items here ≡ evaluated_tree p.nodes.items node → script ≡ rule (context_of p) (evaluated_tree p.nodes.items node) → (out : List (List ℕ)) → remaining p m t out ≡ after_script p m t script out n
-entered p m t here n node script at left there is out =
-    ap (λ k. outcome_of (code_of p) m.frames m.held k (state_of m t out) m.left) at
-    ∙ ap (λ k. outcome_of (code_of p) m.frames m.held (Enter here) (state_of m t out) k) left
-    ∙ ap (unwind (code_of p) (reverse m.frames) m.held) (meaning_rule (context_of p) (tree_at p.nodes.items here) (state_of m t out) n)
-    ∙ ap (λ tree. after_script p m t (rule (context_of p) tree) out n) there
-    ∙ ap (λ r. after_script p m t r out n) (sym is)
+pub entered : (p : Program) (m : View) (t : Table) (here n : ℕ) (node : Node) (script : Script) → m.control ≡ Enter here → m.left ≡ suc n → tree_at p.nodes.items here ≡ evaluated_tree p.nodes.items node → script ≡ rule (context_of p) (evaluated_tree p.nodes.items node) → (h : Course) → remaining p m t h ≡ after_script p m t script h n
+entered p m t here n node script at left there is h =
+    ap (λ k. outcome_of (code_of p h.world) m.frames m.held k (state_of m t h) m.left) at
+    ∙ ap (λ k. outcome_of (code_of p h.world) m.frames m.held (Enter here) (state_of m t h) k) left
+    ∙ ap (unwind (code_of p h.world) (reverse m.frames) m.held) (meaning_rule (context_of p) h.world (tree_at p.nodes.items here) (state_of m t h) n)
+    ∙ ap (λ tree. after_script p m t (rule (context_of p) tree) h n) there
+    ∙ ap (λ r. after_script p m t r h n) (sym is)
 
 unwind_spent : (c : Code) (fs : List Frame) (held : List Ref) (s : State) → unwind c fs held (Spent s) ≡ Spent s
 unwind_spent c [] held s = refl
 unwind_spent c (f ∷ fs) held s = unwind_spent c fs (below_of f held) s
 
+unwind_waits : (c : Code) (fs : List Frame) (held : List Ref) (s : State) → unwind c fs held (Waits s) ≡ Waits s
+unwind_waits c [] held s = refl
+unwind_waits c (f ∷ fs) held s = unwind_waits c fs (below_of f held) s
+
+-- what a reply does
+pub replied : (p : Program) (m : View) (a : Answer) → Replied p m a
+replied p m a = record {
+  goes = λ t u q h e. ap (λ r. unwind (code_of p h.world) (reverse m.frames) m.held (taken r (state_of m t (asking q h)) m.left)) e;
+  none = λ t q h e.
+      ap (λ r. unwind (code_of p h.world) (reverse m.frames) m.held (taken r (state_of m t (asking q h)) m.left)) e
+      ∙ unwind_waits (code_of p h.world) (reverse m.frames) m.held (state_of m t (asking q h));
+}
+
 -- without steps a part is out of steps
-pub limit : (p : Program) (m : View) (t : Table) (here : ℕ) → m.control ≡ Enter here → m.left ≡ 0 → (out : List (List ℕ)) → remaining p m t out ≡ Spent (state_of m t out)
-limit p m t here at left out =
-    ap (λ k. outcome_of (code_of p) m.frames m.held k (state_of m t out) m.left) at
-    ∙ ap (λ k. outcome_of (code_of p) m.frames m.held (Enter here) (state_of m t out) k) left
-    ∙ unwind_spent (code_of p) (reverse m.frames) m.held (state_of m t out)
+pub limit : (p : Program) (m : View) (t : Table) (here : ℕ) → m.control ≡ Enter here → m.left ≡ 0 → (h : Course) → remaining p m t h ≡ Spent (state_of m t h)
+limit p m t here at left h =
+    ap (λ k. outcome_of (code_of p h.world) m.frames m.held k (state_of m t h) m.left) at
+    ∙ ap (λ k. outcome_of (code_of p h.world) m.frames m.held (Enter here) (state_of m t h) k) left
+    ∙ unwind_spent (code_of p h.world) (reverse m.frames) m.held (state_of m t h)
 
 -- a leaf takes one step and changes nothing
-leaf_of : (c : Context) (tree : Tree) (s : State) (n : ℕ) (v : Ref) → leaf_value tree s.memory.vars ≡ Some v → run (meaning c) (rule c tree) s n ≡ Ended (Gave v) s n
-leaf_of c (int z) s n v e = ap (λ x. Ended (Gave x) s n) (cc e)
-leaf_of c (local x) s n v e = ap (λ y. Ended (Gave y) s n) (cc e)
-leaf_of c _ s n v e = cc e
+leaf_of : (c : Context) (w : World) (tree : Tree) (s : State) (n : ℕ) (v : Ref) → leaf_value tree s.memory.vars ≡ Some v → run w (meaning c w) (rule c tree) s n ≡ Ended (Gave v) s n
+leaf_of c w (int z) s n v e = ap (λ x. Ended (Gave x) s n) (cc e)
+leaf_of c w (local depth slot x) s n v e = ap (λ y. Ended (Gave y) s n) (cc e)
+leaf_of c w _ s n v e = cc e
 
-leaf : (c : Context) (tree : Tree) (s : State) (n : ℕ) (v : Ref) → leaf_value tree s.memory.vars ≡ Some v → meaning c tree s (suc n) ≡ Ended (Gave v) s n
-leaf c tree s n v e = meaning_rule c tree s n ∙ leaf_of c tree s n v e
+leaf : (c : Context) (w : World) (tree : Tree) (s : State) (n : ℕ) (v : Ref) → leaf_value tree s.memory.vars ≡ Some v → meaning c w tree s (suc n) ≡ Ended (Gave v) s n
+leaf c w tree s n v e = meaning_rule c w tree s n ∙ leaf_of c w tree s n v e
 
 -- an operator on two leaves that are integers
-pub leaves : (p : Program) (m : View) (t : Table) (here n a b : ℕ) (op : BinaryOperator) (x y : ℤ) → m.control ≡ Enter here → m.left ≡ suc (suc (suc n)) → tree_at p.nodes.items here ≡ evaluated_tree p.nodes.items (Binary op a b) → leaf_value (tree_at p.nodes.items a) m.vars ≡ Some (Int x) → leaf_value (tree_at p.nodes.items b) m.vars ≡ Some (Int y) → (out : List (List ℕ)) → remaining p m t out ≡ outcome_of (code_of p) m.frames m.held (Give (on_integers op x y)) (state_of m t out) n
-leaves p m t here n a b op x y at left there first second out =
+pub leaves : (p : Program) (m : View) (t : Table) (here n a b : ℕ) (op : BinaryOperator) (x y : ℤ) → m.control ≡ Enter here → m.left ≡ suc (suc (suc n)) → tree_at p.nodes.items here ≡ evaluated_tree p.nodes.items (Binary op a b) → leaf_value (tree_at p.nodes.items a) m.vars ≡ Some (Int x) → leaf_value (tree_at p.nodes.items b) m.vars ≡ Some (Int y) → (h : Course) → remaining p m t h ≡ after_script p m t (settled (context_of p) (on_integers op x y)) h n
+leaves p m t here n a b op x y at left there first second h =
     let c = context_of p in
     let ns = p.nodes.items in
-    let s = state_of m t out in
-    entered p m t here (suc (suc n)) (Binary op a b) (rule c (evaluated_tree ns (Binary op a b))) at left there refl out
-    ∙ ap (unwind (code_of p) (reverse m.frames) m.held)
-    (ap (λ o. after o (λ r. run (meaning c) (on_value (λ v. with_value (tree_at ns b) (λ w. Do (on_table (operate op v w)) Ret)) r))) (leaf c (tree_at ns a) s (suc n) (Int x) first)
-    ∙ ap (λ o. after o (λ r. run (meaning c) (on_value (λ w. Do (on_table (operate op (Int x) w)) Ret) r))) (leaf c (tree_at ns b) s n (Int y) second))
+    let s = state_of m t h in
+    entered p m t here (suc (suc n)) (Binary op a b) (rule c (evaluated_tree ns (Binary op a b))) at left there refl h
+    ∙ ap (unwind (code_of p h.world) (reverse m.frames) m.held)
+    (ap (λ o. after o (λ r. run h.world (meaning c h.world) (on_value (λ v. with_value (tree_at ns b) (λ w. on_table c (operate op v w))) r))) (leaf c h.world (tree_at ns a) s (suc n) (Int x) first)
+    ∙ ap (λ o. after o (λ r. run h.world (meaning c h.world) (on_value (λ w. on_table c (operate op (Int x) w)) r))) (leaf c h.world (tree_at ns b) s n (Int y) second))
 
 -- an operator on an integer and a right operand that is a leaf
-pub leaf_right : (p : Program) (m : View) (t : Table) (n b : ℕ) (op : BinaryOperator) (x y : ℤ) → m.left ≡ suc n → leaf_value (tree_at p.nodes.items b) m.vars ≡ Some (Int y) → (out : List (List ℕ)) → after_script p m t (resumed p.nodes.items (Left op b) [] (Gave (Int x))) out m.left ≡ outcome_of (code_of p) m.frames m.held (Give (on_integers op x y)) (state_of m t out) n
-leaf_right p m t n b op x y left there out =
+pub leaf_right : (p : Program) (m : View) (t : Table) (n b : ℕ) (op : BinaryOperator) (x y : ℤ) → m.left ≡ suc n → leaf_value (tree_at p.nodes.items b) m.vars ≡ Some (Int y) → (h : Course) → after_script p m t (resumed (code_of p h.world) (Left op b) [] (Gave (Int x))) h m.left ≡ after_script p m t (settled (context_of p) (on_integers op x y)) h n
+leaf_right p m t n b op x y left there h =
     let c = context_of p in
     let ns = p.nodes.items in
-    ap (after_script p m t (resumed ns (Left op b) [] (Gave (Int x))) out) left
-    ∙ ap (λ o. unwind (code_of p) (reverse m.frames) m.held (after o (λ r. run (meaning c) (on_value (λ w. Do (on_table (operate op (Int x) w)) Ret) r)))) (leaf c (tree_at ns b) (state_of m t out) n (Int y) there)
+    ap (after_script p m t (resumed (code_of p h.world) (Left op b) [] (Gave (Int x))) h) left
+    ∙ ap (λ o. unwind (code_of p h.world) (reverse m.frames) m.held (after o (λ r. run h.world (meaning c h.world) (on_value (λ w. on_table c (operate op (Int x) w)) r)))) (leaf c h.world (tree_at ns b) (state_of m t h) n (Int y) there)

@@ -1,4 +1,3 @@
-pub mod Division
 pub mod Trees
 pub mod Lists
 pub mod Pieces
@@ -9,4 +8,9 @@ pub mod Bytes
 pub mod Printed
 pub mod Objects
 pub mod Running
+pub mod Changing
+pub mod Holding
+pub mod Telling
+pub mod Replies
+pub mod Serving
 pub mod Reading

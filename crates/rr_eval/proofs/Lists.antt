@@ -1,13 +1,16 @@
 -- Statements and arguments, taken one by one.
-use Rattle.std.proofs.Common.{◌≡◌, ℕ, zero, suc, ◌+◌, ◌-◌, ◌≤◌, ◌∙◌, sym, ap, arith, List, []}
+use Rattle.std.proofs.Common.{◌≡◌, ℕ, zero, suc, ◌+◌, ◌-◌, ◌≤◌, ◌∙◌, sym, ap, refl, arith, true, List, []}
 use Rattle.rr_tree.specs.Tree.{tree_at}
 use Rattle.rr_tree.specs.declared.node.Node.{Node}
-use Rattle.rr_tree.specs.declared.node.Node.TheVariants.{Sequence, Puts}
+use Rattle.rr_tree.specs.declared.node.Node.TheVariants.{Sequence, Call}
+use Rattle.rr_tree.specs.declared.node.Node.TheVariants as nodes
+use Rattle.rr_tree.specs.Nodes.{trees_before}
+use Rattle.rr_base.specs.declared.name.Sym.{Sym}
 use Rattle.rr_eval.specs.declared.frame.Frame.TheVariants.{Argument}
 use Rattle.rr_eval.specs.Script.{Go}
-use Rattle.rr_eval.specs.Rules.{Context, rule, statements, values, on_value, put}
-use Rattle.rr_eval.specs.Nodes.{evaluated_tree, trees_before}
-use Rattle.rr_eval.specs.Frames.{resumed}
+use Rattle.rr_eval.specs.Rules.{Context, rule, statements, values, on_value, put, is_puts, call_rule, not_here}
+use Rattle.rr_eval.specs.Nodes.{evaluated_tree, is_unknown}
+use Rattle.rr_eval.specs.Frames.{Code, resumed}
 use Rattle.rr_eval.proofs.Trees.{items_listed}
 
 -- the first of several statements
@@ -23,11 +26,33 @@ pub sequence_rule : (ns : List Node) (c : Context) (first count : ℕ) → state
 sequence_rule ns c first count = ap statements (sym (items_listed (trees_before ns (first + count) count)))
 
 -- the first of several arguments
-pub puts_rule : (ns : List Node) (c : Context) (first count held : ℕ) → 1 ≤ count → Go (tree_at ns first) (resumed ns (Argument (first + count) (count - 1) held) []) ≡ rule c (evaluated_tree ns (Puts first count))
-puts_rule ns c first zero held h = absurd (omega arith)
-puts_rule ns c first (suc more) held h =
+pub puts_from : (c : Code) (first count held : ℕ) → 1 ≤ count → Go (tree_at c.nodes first) (resumed c (Argument (first + count) (count - 1) held) []) ≡ values (trees_before c.nodes (first + count) count) [] put
+puts_from c first zero held h = absurd (omega arith)
+puts_from c first (suc more) held h =
     let k : suc more - 1 ≡ more = omega arith in
     let e : first ≡ first + suc more - suc more = omega arith in
-    ap (λ m. Go (tree_at ns first) (resumed ns (Argument (first + suc more) m held) [])) k
-    ∙ ap (λ p. Go (tree_at ns p) (resumed ns (Argument (first + suc more) more held) [])) e
-    ∙ ap (λ ts. values ts [] put) (sym (items_listed (trees_before ns (first + suc more) (suc more))))
+    ap (λ m. Go (tree_at c.nodes first) (resumed c (Argument (first + suc more) m held) [])) k ∙ ap (λ p. Go (tree_at c.nodes p) (resumed c (Argument (first + suc more) more held) [])) e
+
+pub call_is : (ns : List Node) (c : Context) (x : Sym) (first count site : ℕ) → call_rule c (is_puts c x.0) (trees_before ns (first + count) count) ≡ rule c (evaluated_tree ns (Call x first count site))
+call_is ns c x first count site = ap (call_rule c (is_puts c x.0)) (sym (items_listed (trees_before ns (first + count) count)))
+
+-- what is not evaluated yet
+pub unknown_rule : (ns : List Node) (c : Context) (n : Node) → is_unknown n ≡ true → rule c (evaluated_tree ns n) ≡ not_here c
+unknown_rule ns c nodes.Nil e = absurd cc
+unknown_rule ns c (nodes.Truth b) e = absurd cc
+unknown_rule ns c (nodes.Int z) e = absurd cc
+unknown_rule ns c (nodes.Text i) e = absurd cc
+unknown_rule ns c (nodes.Local depth slot x) e = absurd cc
+unknown_rule ns c (nodes.Bare x site) e = absurd cc
+unknown_rule ns c (nodes.Call x first count site) e = absurd cc
+unknown_rule ns c (nodes.And a b) e = absurd cc
+unknown_rule ns c (nodes.Or a b) e = absurd cc
+unknown_rule ns c (nodes.Not a) e = absurd cc
+unknown_rule ns c (nodes.Negate a) e = absurd cc
+unknown_rule ns c (nodes.Binary o a b) e = absurd cc
+unknown_rule ns c (nodes.Assign depth slot x a) e = absurd cc
+unknown_rule ns c (nodes.Choose a b d) e = absurd cc
+unknown_rule ns c (nodes.Loop until a b) e = absurd cc
+unknown_rule ns c (nodes.Sequence first count) e = absurd cc
+unknown_rule ns c (nodes.Item a) e = absurd cc
+unknown_rule ns c _ e = refl

@@ -1,27 +1,37 @@
 -- An evaluation takes no object away.
-use Rattle.std.proofs.Common.{◌≤◌, ℕ, zero, suc, arith, List, [], ◌∷◌, ◌++◌, length, length-append, reverse, Option, Some, None}
+use Rattle.std.proofs.Common.{if◌then◌else◌, ◌≤◌, ℕ, zero, suc, Bool, arith, List, [], ◌∷◌, ◌++◌, length, length-append, reverse, Option, Some, None, true, false}
+use Rattle.rr_base.specs.Classes.{class_id}
+use Rattle.rr_base.specs.declared.name.ClassId.{ClassId}
 use Rattle.rr_space.specs.Tables.{Table, Here}
 use Rattle.rr_space.specs.Lookups.{text_object}
 use Rattle.rr_space.specs.declared.refer.Ref.{Ref}
-use Rattle.rr_space.specs.declared.refer.Ref.TheVariants.{Int}
-use Rattle.rr_tree.specs.Tree.{Tree, nil, truth, int, text, local, call, negate, binary, assign, choose, sequence, puts, empty, then_one}
-use Rattle.rr_tree.specs.declared.node.Node.{Node}
+use Rattle.rr_space.specs.declared.refer.Ref.TheVariants.{Int, Local}
+use Rattle.rr_space.specs.declared.refer.Ref.TheVariants as refs
+use Rattle.rr_eval.specs.Values.{is_truthy, goes_on}
+use Rattle.rr_tree.specs.Tree.{tree_at, Tree, nil, truth, int, text, local, bare, call, logical_and, logical_or, logical_not, negate, binary, assign, choose, repeat, sequence}
 use Rattle.rr_tree.specs.declared.node.BinaryOperator.{BinaryOperator}
 use Rattle.rr_tree.specs.declared.node.BinaryOperator.TheVariants.{Add, Equal, NotEqual}
 use Rattle.rr_tree.specs.declared.program.Program.{Program}
 use Rattle.rr_eval.specs.declared.problem.Answer.{Answer}
 use Rattle.rr_eval.specs.declared.problem.Answer.TheVariants.{Gave, Raised}
+use Rattle.rr_eval.specs.declared.problem.Worked.{Worked}
+use Rattle.rr_eval.specs.declared.problem.Worked.TheVariants.{Works, Fails}
+use Rattle.rr_eval.specs.declared.problem.Problem.{Problem}
+use Rattle.rr_eval.specs.declared.problem.Problem.TheVariants.{MissingName, NotHere}
 use Rattle.rr_eval.specs.declared.frame.Frame.{Frame}
-use Rattle.rr_eval.specs.declared.frame.Frame.TheVariants.{Negation, Left, Right, Store, Branch, Rest, Argument}
-use Rattle.rr_eval.specs.Script.{Memory, State, Script, Ret, Go, Do, Put, Outcome, Ended, Spent, Evaluation, run, after, objects_of}
+use Rattle.rr_eval.specs.declared.frame.Frame.TheVariants.{Not, Negation, And, Or, Left, Right, Store, Branch, Condition, Body, Rest, Argument}
+use Rattle.rr_eval.specs.Script.{Memory, State, Script, Ret, Go, See, Do, Ask, Asked, Reply, World, Outcome, Ended, Spent, Waits, Evaluation, run, after, taken, asks, objects_of}
+use Rattle.rr_eval.specs.Requests.{Course, Adds, AddsTo}
 use Rattle.rr_base.specs.declared.fault.Fault.{Fault}
 use Rattle.rr_eval.specs.View.{View}
 use Rattle.rr_eval.specs.Acts.{Passes}
 use Rattle.rr_eval.specs.Turns.{context_of, code_of, state_of, after_script}
-use Rattle.rr_eval.specs.Operators.{make, joined, on_object, operate, negated}
-use Rattle.rr_eval.specs.Rules.{Context, items, on_value, on_table, statements, values, put, rule, eval, meaning}
-use Rattle.rr_eval.specs.Nodes.{trees_before}
-use Rattle.rr_eval.specs.Frames.{Code, resumed, stand_of, below_of, unwind}
+use Rattle.rr_eval.specs.Operators.{make, with_text, joined, on_object, operate, negated}
+use Rattle.rr_eval.specs.Rules.{Context, items, throw, raise, settled, on_value, with_value, on_table, statements, values, put, is_puts, bare_rule, call_rule, rule, eval}
+use Rattle.rr_tree.specs.Nodes.{trees_before}
+use Rattle.rr_eval.specs.Messages.{message, exception_class}
+use Rattle.rr_eval.specs.Exceptions.{exception_object, with_exception}
+use Rattle.rr_eval.specs.Frames.{Code, means, runs_in, resumed, stand_of, below_of, unwind}
 
 -- the objects of a table
 abbrev count : Table → ℕ
@@ -52,18 +62,32 @@ negated_keeps v t = omega arith
 abbrev Keeps : Script → Type 0
 Keeps (Ret a) = Unit {0}
 Keeps (Go tree next) = (a : Answer) → Keeps (next a)
-Keeps (Do act next) = ((m : Memory) → count m.table ≤ count (act m).1.table) × ((a : Answer) → Keeps (next a))
-Keeps (Put piece next) = Keeps next
+Keeps (See look) = (m : Memory) → Keeps (look m)
+Keeps (Do act next) = ((m : Memory) → count m.table ≤ count (act m).table) × Keeps next
+Keeps (Ask q next) = (a : Answer) → Keeps (next a)
 
 on_value_keeps : (next : Ref → Script) → ((v : Ref) → Keeps (next v)) → (a : Answer) → Keeps (on_value next a)
 on_value_keeps next h (Gave v) = h v
 on_value_keeps next h (Raised e) = tt
 
-operates : (op : BinaryOperator) (v w : Ref) → Keeps (Do (on_table (operate op v w)) Ret)
-operates op v w = (λ m. operate_keeps op v w m.table, λ a. tt)
+exception_keeps : (class : ClassId) (message : Ref) (t : Table) → count t ≤ count (with_exception class message t)
+exception_keeps class message t = omega (arith, length-append t.slots (Here (exception_object class message) ∷ []))
 
-negates : (v : Ref) → Keeps (Do (on_table (negated v)) Ret)
-negates v = (λ m. negated_keeps v m.table, λ a. tt)
+raise_keeps : (class : ClassId) (message : Ref) → Keeps (raise class message)
+raise_keeps class message = λ m. (λ k. exception_keeps class message k.table, tt)
+
+throw_keeps : (c : Context) (e : Problem) → Keeps (throw c e)
+throw_keeps c e = λ m. (λ k. make_keeps (message c e) k.table, raise_keeps (class_id (exception_class e)) (Local (length m.table.slots)))
+
+settled_keeps : (c : Context) (r : Worked) → Keeps (settled c r)
+settled_keeps c (Works v) = tt
+settled_keeps c (Fails e) = throw_keeps c e
+
+operates : (c : Context) (op : BinaryOperator) (v w : Ref) → Keeps (on_table c (operate op v w))
+operates c op v w = λ m. (λ k. operate_keeps op v w k.table, settled_keeps c _)
+
+negates : (c : Context) (v : Ref) → Keeps (on_table c (negated v))
+negates c v = λ m. (λ k. negated_keeps v k.table, settled_keeps c _)
 
 statements_keep : (ts : List Tree) → Keeps (statements ts)
 statements_keep [] = tt
@@ -71,33 +95,57 @@ statements_keep (t ∷ []) = λ a. tt
 statements_keep (t ∷ u ∷ ts) = on_value_keeps (λ v. statements (u ∷ ts)) (λ v. statements_keep (u ∷ ts))
 
 values_keep : (ts : List Tree) (stand : List Ref) → Keeps (values ts stand put)
-values_keep [] stand = tt
+values_keep [] stand = λ m a. tt
 values_keep (t ∷ ts) stand = on_value_keeps (λ v. values ts (stand ++ v ∷ []) put) (λ v. values_keep ts (stand ++ v ∷ []))
+
+if_keeps : (b : Bool) (p q : Script) → Keeps p → Keeps q → Keeps (if b then p else q)
+if_keeps true p q kept other = kept
+if_keeps false p q kept other = other
+
+round_keeps : (b : Bool) (body loop : Tree) → Keeps (if b then with_value body (λ w. Go loop Ret) else Ret (Gave refs.Nil))
+round_keeps true body loop = on_value_keeps _ (λ w. λ a. tt)
+round_keeps false body loop = tt
+
+bare_keeps : (c : Context) (b : Bool) (x : ℕ) → Keeps (bare_rule c b x)
+bare_keeps c true x = λ m a. tt
+bare_keeps c false x = throw_keeps c (MissingName (record { 0 = x }))
+
+call_keeps : (c : Context) (b : Bool) (ts : List Tree) → Keeps (call_rule c b ts)
+call_keeps c true ts = values_keep ts []
+call_keeps c false ts = throw_keeps c NotHere
 
 rule_keeps : (c : Context) (tree : Tree) → Keeps (rule c tree)
 rule_keeps c nil = tt
 rule_keeps c (truth b) = tt
 rule_keeps c (int z) = tt
-rule_keeps c (text i) = (λ m. make_keeps _ m.table, λ a. tt)
-rule_keeps c (local x) = (λ m. omega arith, λ a. tt)
-rule_keeps c (call x) = tt
-rule_keeps c (negate a) = on_value_keeps _ (λ v. negates v)
-rule_keeps c (binary op a b) = on_value_keeps _ (λ v. on_value_keeps _ (λ w. operates op v w))
-rule_keeps c (assign x a) = on_value_keeps _ (λ v. (λ m. omega arith, λ a'. tt))
+rule_keeps c (text i) = λ m. (λ k. make_keeps _ k.table, tt)
+rule_keeps c (local depth slot x) = λ m. tt
+rule_keeps c (bare x) = bare_keeps c (is_puts c x) x
+rule_keeps c (call x list) = call_keeps c (is_puts c x) (items list)
+rule_keeps c (logical_and a b) = on_value_keeps _ (λ v. if_keeps (is_truthy v) (Go b Ret) (Ret (Gave v)) (λ a'. tt) tt)
+rule_keeps c (logical_or a b) = on_value_keeps _ (λ v. if_keeps (is_truthy v) (Ret (Gave v)) (Go b Ret) tt (λ a'. tt))
+rule_keeps c (logical_not a) = on_value_keeps _ (λ v. tt)
+rule_keeps c (negate a) = on_value_keeps _ (λ v. negates c v)
+rule_keeps c (binary op a b) = on_value_keeps _ (λ v. on_value_keeps _ (λ w. operates c op v w))
+rule_keeps c (assign depth slot x a) = on_value_keeps _ (λ v. (λ m. omega arith, tt))
 rule_keeps c (choose a b d) = on_value_keeps _ (λ v. λ a'. tt)
+rule_keeps c (repeat until a b) = on_value_keeps _ (λ v. round_keeps (goes_on until v) b (repeat until a b))
 rule_keeps c (sequence list) = statements_keep (items list)
-rule_keeps c (puts list) = values_keep (items list) []
-rule_keeps c empty = tt
-rule_keeps c (then_one list t) = tt
+rule_keeps c _ = throw_keeps c NotHere
 
-resumed_keeps : (ns : List Node) (f : Frame) (stand : List Ref) (a : Answer) → Keeps (resumed ns f stand a)
-resumed_keeps ns Negation stand = on_value_keeps _ (λ v. negates v)
-resumed_keeps ns (Left op b) stand = on_value_keeps _ (λ v. on_value_keeps _ (λ w. operates op v w))
-resumed_keeps ns (Right op v) stand = on_value_keeps _ (λ w. operates op v w)
-resumed_keeps ns (Store x) stand = on_value_keeps _ (λ v. (λ m. omega arith, λ a. tt))
-resumed_keeps ns (Branch b d) stand = on_value_keeps _ (λ v. λ a. tt)
-resumed_keeps ns (Rest end more) stand = on_value_keeps _ (λ v. statements_keep (trees_before ns end more))
-resumed_keeps ns (Argument end more base) stand = on_value_keeps _ (λ v. values_keep (trees_before ns end more) (stand ++ v ∷ []))
+resumed_keeps : (c : Code) (f : Frame) (stand : List Ref) (a : Answer) → Keeps (resumed c f stand a)
+resumed_keeps c Not stand = on_value_keeps _ (λ v. tt)
+resumed_keeps c (And b) stand = on_value_keeps _ (λ v. if_keeps (is_truthy v) (Go (tree_at c.nodes b) Ret) (Ret (Gave v)) (λ a. tt) tt)
+resumed_keeps c (Or b) stand = on_value_keeps _ (λ v. if_keeps (is_truthy v) (Ret (Gave v)) (Go (tree_at c.nodes b) Ret) tt (λ a. tt))
+resumed_keeps c Negation stand = on_value_keeps _ (λ v. negates c.context v)
+resumed_keeps c (Left op b) stand = on_value_keeps _ (λ v. on_value_keeps _ (λ w. operates c.context op v w))
+resumed_keeps c (Right op v) stand = on_value_keeps _ (λ w. operates c.context op v w)
+resumed_keeps c (Store x) stand = on_value_keeps _ (λ v. (λ m. omega arith, tt))
+resumed_keeps c (Branch b d) stand = on_value_keeps _ (λ v. λ a. tt)
+resumed_keeps c (Condition until body loop) stand = on_value_keeps _ (λ v. round_keeps (goes_on until v) (tree_at c.nodes body) (tree_at c.nodes loop))
+resumed_keeps c (Body loop) stand = on_value_keeps _ (λ w. λ a. tt)
+resumed_keeps c (Rest end more) stand = on_value_keeps _ (λ v. statements_keep (trees_before c.nodes end more))
+resumed_keeps c (Argument end more base) stand = on_value_keeps _ (λ v. values_keep (trees_before c.nodes end more) (stand ++ v ∷ []))
 
 -- an evaluation that takes no object away
 abbrev KeepsAll : Evaluation → Type 0
@@ -108,34 +156,64 @@ after_keeps k (Ended a s n) next le h =
     let more = h a s n in
     omega arith
 after_keeps k (Spent s) next le h = le
+after_keeps k (Waits s) next le h = le
 
-run_keeps : (go : Evaluation) → KeepsAll go → (p : Script) → Keeps p → (s : State) (n : ℕ) → count s.memory.table ≤ objects_of (run go p s n)
-run_keeps go h (Ret a) keeps s n = omega arith
-run_keeps go h (Go t next) keeps s n = after_keeps (count s.memory.table) (go t s n) (λ a. run go (next a)) (h t s n) (λ a s' m. run_keeps go h (next a) (keeps a) s' m)
-run_keeps go h (Do act next) keeps s n =
+taken_keeps : (r : Option Reply) (s : State) (n : ℕ) → AddsTo s.memory.table r → count s.memory.table ≤ objects_of (taken r s n)
+taken_keeps None s n adds = omega arith
+taken_keeps (Some r) s n adds = adds
+
+asks_keeps : (w : World) → Adds w → (q : Asked) (s : State) (n : ℕ) → count s.memory.table ≤ objects_of (asks w q s n)
+asks_keeps w adds q s n = taken_keeps (w s.asked q s.memory.table) (record s { asked = s.asked ++ q ∷ [] }) n (adds s.asked q s.memory.table)
+
+run_keeps : (w : World) → Adds w → (go : Evaluation) → KeepsAll go → (p : Script) → Keeps p → (s : State) (n : ℕ) → count s.memory.table ≤ objects_of (run w go p s n)
+run_keeps w adds go h (Ret a) keeps s n = omega arith
+run_keeps w adds go h (Go t next) keeps s n = after_keeps (count s.memory.table) (go t s n) (λ a. run w go (next a)) (h t s n) (λ a s' m. run_keeps w adds go h (next a) (keeps a) s' m)
+run_keeps w adds go h (See look) keeps s n = run_keeps w adds go h (look s.memory) (keeps s.memory) s n
+run_keeps w adds go h (Do act next) keeps s n =
     let first = keeps.0 s.memory in
-    let more = run_keeps go h (next (act s.memory).0) (keeps.1 (act s.memory).0) (record s { memory = (act s.memory).1 }) n in
+    let more = run_keeps w adds go h next keeps.1 (record s { memory = act s.memory }) n in
     omega arith
-run_keeps go h (Put piece next) keeps s n = run_keeps go h next keeps (record s { out = s.out ++ piece s.memory ∷ [] }) n
+run_keeps w adds go h (Ask q next) keeps s n = after_keeps (count s.memory.table) (asks w q s n) (λ a. run w go (next a)) (asks_keeps w adds q s n) (λ a s' m. run_keeps w adds go h (next a) (keeps a) s' m)
 
-eval_keeps : (c : Context) (depth : ℕ) → KeepsAll (eval c depth)
-eval_keeps c zero t s n = omega arith
-eval_keeps c (suc depth) t s zero = omega arith
-eval_keeps c (suc depth) t s (suc n) = run_keeps (eval c depth) (eval_keeps c depth) (rule c t) (rule_keeps c t) s n
+eval_keeps : (c : Context) (w : World) → Adds w → (depth : ℕ) → KeepsAll (eval c w depth)
+eval_keeps c w adds zero t s n = omega arith
+eval_keeps c w adds (suc depth) t s zero = omega arith
+eval_keeps c w adds (suc depth) t s (suc n) = run_keeps w adds (eval c w depth) (eval_keeps c w adds depth) (rule c t) (rule_keeps c t) s n
 
-meaning_keeps : (c : Context) → KeepsAll (meaning c)
-meaning_keeps c t s n = eval_keeps c n t s n
+meaning_keeps : (c : Code) → Adds c.world → KeepsAll (means c)
+meaning_keeps c adds t s n = eval_keeps c.context c.world adds n t s n
 
 -- what the frames still do takes no object away
-pub unwind_keeps : (k : ℕ) (c : Code) (fs : List Frame) (held : List Ref) (o : Outcome) → k ≤ objects_of o → k ≤ objects_of (unwind c fs held o)
-unwind_keeps k c [] held o le = le
-unwind_keeps k c (f ∷ fs) held o le =
-    let next = λ (a : Answer). run (meaning c.context) (resumed c.nodes f (stand_of f held) a) in
-    unwind_keeps k c fs (below_of f held) (after o next) (after_keeps k o next le (λ a s n. run_keeps (meaning c.context) (meaning_keeps c.context) (resumed c.nodes f (stand_of f held) a) (resumed_keeps c.nodes f (stand_of f held) a) s n))
+pub unwind_keeps : (k : ℕ) (c : Code) → Adds c.world → (fs : List Frame) (held : List Ref) (o : Outcome) → k ≤ objects_of o → k ≤ objects_of (unwind c fs held o)
+unwind_keeps k c adds [] held o le = le
+unwind_keeps k c adds (f ∷ fs) held o le =
+    let next = λ (a : Answer). runs_in c (resumed c f (stand_of f held) a) in
+    unwind_keeps k c adds fs (below_of f held) (after o next) (after_keeps k o next le (λ a s n. run_keeps c.world adds (means c) (meaning_keeps c adds) (resumed c f (stand_of f held) a) (resumed_keeps c f (stand_of f held) a) s n))
+
+-- what a script comes to, and the frames after it, has no fewer objects than there are
+script_keeps : (p : Program) (m : View) (t : Table) (script : Script) (h : Course) (n : ℕ) → Adds h.world → Keeps script → count t ≤ objects_of (after_script p m t script h n)
+script_keeps p m t script h n adds keeps =
+    let c = code_of p h.world in
+    unwind_keeps (count t) c adds (reverse m.frames) m.held (runs_in c script (state_of m t h) n) (run_keeps h.world adds (means c) (meaning_keeps c adds) script keeps (state_of m t h) n)
 
 -- an act that would pass the limit of slots, and what comes after it
-pub act_passes : (p : Program) (m : View) (t : Table) (act : Table → Answer × Table) (f : Fault) (out : List (List ℕ)) (n : ℕ) → Passes f t.limit (length (act t).1.slots) → Passes f t.limit (objects_of (after_script p m t (Do (on_table act) Ret) out n))
-act_passes p m t act f out n passes = λ is.
+pub act_passes : (p : Program) (m : View) (t : Table) (act : Table → Worked × Table) (f : Fault) (h : Course) (n : ℕ) → Adds h.world → Passes f t.limit (length (act t).1.slots) → Passes f t.limit (objects_of (after_script p m t (on_table (context_of p) act) h n))
+act_passes p m t act f h n adds passes = λ is.
     let more = passes is in
-    let kept = unwind_keeps (length (act t).1.slots) (code_of p) (reverse m.frames) m.held (run (meaning (context_of p)) (Do (on_table act) Ret) (state_of m t out) n) (omega arith) in
+    let kept = script_keeps p m (act t).1 (settled (context_of p) (act t).0) h n adds (settled_keeps (context_of p) (act t).0) in
+    omega arith
+
+-- the same of the message of an exception, and of the exception
+pub throw_passes : (p : Program) (m : View) (t : Table) (e : Problem) (f : Fault) (h : Course) (n : ℕ) → Adds h.world → Passes f t.limit (length (with_text (message (context_of p) e) t).slots) → Passes f t.limit (objects_of (after_script p m t (throw (context_of p) e) h n))
+throw_passes p m t e f h n adds passes = λ is.
+    let more = passes is in
+    let made = with_text (message (context_of p) e) t in
+    let kept = script_keeps p m made (raise (class_id (exception_class e)) (Local (length t.slots))) h n adds (raise_keeps (class_id (exception_class e)) (Local (length t.slots))) in
+    omega arith
+
+pub raise_passes : (p : Program) (m : View) (t : Table) (class : ClassId) (message : Ref) (f : Fault) (h : Course) (n : ℕ) → Adds h.world → Passes f t.limit (length (with_exception class message t).slots) → Passes f t.limit (objects_of (after_script p m t (raise class message) h n))
+raise_passes p m t class message f h n adds passes = λ is.
+    let more = passes is in
+    let made = with_exception class message t in
+    let kept = script_keeps p m made (Ret (Raised (Local (length t.slots)))) h n adds tt in
     omega arith

@@ -1,7 +1,6 @@
 -- An evaluation prints behind what was printed before.
-use Rattle.std.proofs.Common.{◌≡◌, ℕ, zero, suc, ◌∙◌, sym, ap, List, [], ◌∷◌, ◌++◌, append_assoc, reverse}
+use Rattle.std.proofs.Common.{◌≡◌, ℕ, zero, suc, ◌∙◌, sym, ap, refl, subst, List, [], ◌∷◌, ◌++◌, append_assoc, reverse, Option, Some, None}
 use Rattle.std.proofs.lemmas.List.{append-nil}
-use Rattle.std.specs.List.{concat}
 use Rattle.rr_space.specs.Tables.{Table}
 use Rattle.rr_space.specs.declared.refer.Ref.{Ref}
 use Rattle.rr_tree.specs.Tree.{Tree, tree_at}
@@ -9,58 +8,77 @@ use Rattle.rr_tree.specs.declared.program.Program.{Program}
 use Rattle.rr_eval.specs.declared.problem.Answer.{Answer}
 use Rattle.rr_eval.specs.declared.frame.Frame.{Frame}
 use Rattle.rr_eval.specs.declared.frame.Control.{Control}
-use Rattle.rr_eval.specs.declared.frame.Control.TheVariants.{Enter, Give}
-use Rattle.rr_eval.specs.Script.{State, Script, Ret, Go, Do, Put, Outcome, Ended, Spent, Evaluation, run, after}
-use Rattle.rr_eval.specs.Rules.{Context, rule, eval, meaning}
-use Rattle.rr_eval.specs.Frames.{Code, resumed, stand_of, below_of, unwind, start}
+use Rattle.rr_eval.specs.declared.frame.Control.TheVariants.{Enter, Give, Throw, Raise}
+use Rattle.rr_eval.specs.Script.{State, Script, Ret, Go, See, Do, Ask, Asked, Reply, World, Outcome, Ended, Spent, Waits, Evaluation, run, after, taken, asks}
+use Rattle.rr_eval.specs.Rules.{Context, throw, raise, rule, eval}
+use Rattle.rr_eval.specs.Requests.{Course}
+use Rattle.rr_eval.specs.Frames.{Code, means, runs_in, resumed, stand_of, below_of, unwind, start}
 use Rattle.rr_eval.specs.View.{View}
-use Rattle.rr_eval.specs.Turns.{code_of, remaining, state_of}
+use Rattle.rr_eval.specs.Turns.{code_of, remaining, asking_then, state_of}
 use Rattle.rr_eval.specs.Written.{IsBeginning}
-use Rattle.rr_eval.specs.Runs.{text_of}
+use Rattle.rr_eval.specs.Runs.{piece_asked, text_asked, text_of}
 use Rattle.rr_eval.proofs.Bytes.{beginning-trans}
 
--- one piece more
-pub concat-push : (xs : List (List ℕ)) (x : List ℕ) → concat (xs ++ x ∷ []) ≡ concat xs ++ x
-concat-push [] x = append-nil x
-concat-push (y ∷ xs) x = ap (λ l. y ++ l) (concat-push xs x) ∙ sym (append_assoc y (concat xs) x)
+-- one request more
+pub text-push : (qs : List Asked) (q : Asked) → text_asked (qs ++ q ∷ []) ≡ text_asked qs ++ piece_asked q
+text-push [] q = append-nil (piece_asked q)
+text-push (r ∷ qs) q = ap (λ l. piece_asked r ++ l) (text-push qs q) ∙ sym (append_assoc (piece_asked r) (text_asked qs) (piece_asked q))
 
 pub beginning-refl : (a : List ℕ) → IsBeginning a a
 beginning-refl a = ([], sym (append-nil a))
 
 -- the evaluation prints behind what was printed
 abbrev Grows : Evaluation → Type 0
-Grows go = (t : Tree) (s : State) (n : ℕ) → IsBeginning (concat s.out) (text_of (go t s n))
+Grows go = (t : Tree) (s : State) (n : ℕ) → IsBeginning (text_asked s.asked) (text_of (go t s n))
 
-after_grows : (x : List ℕ) (o : Outcome) (next : Answer → State → ℕ → Outcome) → IsBeginning x (text_of o) → ((a : Answer) (s : State) (n : ℕ) → IsBeginning (concat s.out) (text_of (next a s n))) → IsBeginning x (text_of (after o next))
-after_grows x (Ended a s n) next b h = beginning-trans x (concat s.out) (text_of (next a s n)) b (h a s n)
+after_grows : (x : List ℕ) (o : Outcome) (next : Answer → State → ℕ → Outcome) → IsBeginning x (text_of o) → ((a : Answer) (s : State) (n : ℕ) → IsBeginning (text_asked s.asked) (text_of (next a s n))) → IsBeginning x (text_of (after o next))
+after_grows x (Ended a s n) next b h = beginning-trans x (text_asked s.asked) (text_of (next a s n)) b (h a s n)
 after_grows x (Spent s) next b h = b
+after_grows x (Waits s) next b h = b
 
-run_grows : (go : Evaluation) → Grows go → (p : Script) (s : State) (n : ℕ) → IsBeginning (concat s.out) (text_of (run go p s n))
-run_grows go h (Ret a) s n = beginning-refl (concat s.out)
-run_grows go h (Go t next) s n = after_grows (concat s.out) (go t s n) (λ a. run go (next a)) (h t s n) (λ a s' m. run_grows go h (next a) s' m)
-run_grows go h (Do act next) s n = run_grows go h (next (act s.memory).0) (record s { memory = (act s.memory).1 }) n
-run_grows go h (Put piece next) s n =
-    let more = s.out ++ piece s.memory ∷ [] in
-    beginning-trans (concat s.out) (concat more) (text_of (run go next (record s { out = more }) n)) (piece s.memory, concat-push s.out (piece s.memory)) (run_grows go h next (record s { out = more }) n)
+taken_prints : (r : Option Reply) (s : State) (n : ℕ) → text_asked s.asked ≡ text_of (taken r s n)
+taken_prints None s n = refl
+taken_prints (Some r) s n = refl
 
-eval_grows : (c : Context) (depth : ℕ) → Grows (eval c depth)
-eval_grows c zero t s n = beginning-refl (concat s.out)
-eval_grows c (suc depth) t s zero = beginning-refl (concat s.out)
-eval_grows c (suc depth) t s (suc n) = run_grows (eval c depth) (eval_grows c depth) (rule c t) s n
+asks_grows : (w : World) (q : Asked) (s : State) (n : ℕ) → IsBeginning (text_asked s.asked) (text_of (asks w q s n))
+asks_grows w q s n =
+    let more = record s { asked = s.asked ++ q ∷ [] } in
+    (piece_asked q, sym (taken_prints (w s.asked q s.memory.table) more n) ∙ text-push s.asked q)
 
-meaning_grows : (c : Context) → Grows (meaning c)
-meaning_grows c t s n = eval_grows c n t s n
+run_grows : (w : World) (go : Evaluation) → Grows go → (p : Script) (s : State) (n : ℕ) → IsBeginning (text_asked s.asked) (text_of (run w go p s n))
+run_grows w go h (Ret a) s n = beginning-refl (text_asked s.asked)
+run_grows w go h (Go t next) s n = after_grows (text_asked s.asked) (go t s n) (λ a. run w go (next a)) (h t s n) (λ a s' m. run_grows w go h (next a) s' m)
+run_grows w go h (See look) s n = run_grows w go h (look s.memory) s n
+run_grows w go h (Do act next) s n = run_grows w go h next (record s { memory = act s.memory }) n
+run_grows w go h (Ask q next) s n = after_grows (text_asked s.asked) (asks w q s n) (λ a. run w go (next a)) (asks_grows w q s n) (λ a s' m. run_grows w go h (next a) s' m)
+
+eval_grows : (c : Context) (w : World) (depth : ℕ) → Grows (eval c w depth)
+eval_grows c w zero t s n = beginning-refl (text_asked s.asked)
+eval_grows c w (suc depth) t s zero = beginning-refl (text_asked s.asked)
+eval_grows c w (suc depth) t s (suc n) = run_grows w (eval c w depth) (eval_grows c w depth) (rule c t) s n
+
+meaning_grows : (c : Code) → Grows (means c)
+meaning_grows c t s n = eval_grows c.context c.world n t s n
 
 unwind_grows : (x : List ℕ) (c : Code) (fs : List Frame) (held : List Ref) (o : Outcome) → IsBeginning x (text_of o) → IsBeginning x (text_of (unwind c fs held o))
 unwind_grows x c [] held o b = b
 unwind_grows x c (f ∷ fs) held o b =
-    let next = λ (a : Answer). run (meaning c.context) (resumed c.nodes f (stand_of f held) a) in
-    unwind_grows x c fs (below_of f held) (after o next) (after_grows x o next b (λ a s n. run_grows (meaning c.context) (meaning_grows c.context) (resumed c.nodes f (stand_of f held) a) s n))
+    let next = λ (a : Answer). runs_in c (resumed c f (stand_of f held) a) in
+    unwind_grows x c fs (below_of f held) (after o next) (after_grows x o next b (λ a s n. run_grows c.world (means c) (meaning_grows c) (resumed c f (stand_of f held) a) s n))
 
-start_grows : (c : Code) (k : Control) (s : State) (n : ℕ) → IsBeginning (concat s.out) (text_of (start c k s n))
-start_grows c (Enter part) s n = meaning_grows c.context (tree_at c.nodes part) s n
-start_grows c (Give a) s n = beginning-refl (concat s.out)
+start_grows : (c : Code) (k : Control) (s : State) (n : ℕ) → IsBeginning (text_asked s.asked) (text_of (start c k s n))
+start_grows c (Enter part) s n = meaning_grows c (tree_at c.nodes part) s n
+start_grows c (Give a) s n = beginning-refl (text_asked s.asked)
+start_grows c (Throw e) s n = run_grows c.world (means c) (meaning_grows c) (throw c.context e) s n
+start_grows c (Raise class message) s n = run_grows c.world (means c) (meaning_grows c) (raise class message) s n
 
 -- what is still to be done prints behind what was printed
-pub remaining_grows : (p : Program) (m : View) (t : Table) (out : List (List ℕ)) → IsBeginning (concat out) (text_of (remaining p m t out))
-remaining_grows p m t out = unwind_grows (concat out) (code_of p) (reverse m.frames) m.held (start (code_of p) m.control (state_of m t out) m.left) (start_grows (code_of p) m.control (state_of m t out) m.left)
+pub remaining_grows : (p : Program) (m : View) (t : Table) (h : Course) → IsBeginning (text_asked h.asked) (text_of (remaining p m t h))
+remaining_grows p m t h = unwind_grows (text_asked h.asked) (code_of p h.world) (reverse m.frames) m.held (start (code_of p h.world) m.control (state_of m t h) m.left) (start_grows (code_of p h.world) m.control (state_of m t h) m.left)
+
+-- a request is printed first
+pub asking_grows : (p : Program) (m : View) (t : Table) (q : Asked) (h : Course) → IsBeginning (text_asked (h.asked ++ q ∷ [])) (text_of (asking_then p m t q h))
+asking_grows p m t q h =
+    let more = record (state_of m t h) { asked = h.asked ++ q ∷ [] } in
+    let o = asks h.world q (state_of m t h) m.left in
+    unwind_grows (text_asked more.asked) (code_of p h.world) (reverse m.frames) m.held o (subst (IsBeginning (text_asked more.asked)) (taken_prints (h.world h.asked q t) more m.left) (beginning-refl (text_asked more.asked)))

@@ -1,57 +1,106 @@
 -- What is still to be run, and what was written so far.
-use Rattle.std.proofs.Common.{◌≡◌, ℕ, ◌∙◌, sym, ap, subst, refl, List, [], ◌∷◌, ◌++◌}
-use Rattle.std.specs.List.{concat}
+use Rattle.std.proofs.Common.{replicate, length, ◌≡◌, ◌≤◌, ℕ, ◌∙◌, sym, ap, subst, refl, List, [], ◌∷◌, ◌++◌, Some, arith}
+use Rattle.std.proofs.lemmas.List.{length-map}
 use Rattle.std.proofs.KnownBytes.{Appends-nil}
 use Rattle.rr_space.specs.Tables.{Table}
+use Rattle.rr_space.specs.declared.refer.Ref.{Ref}
+use Rattle.rr_space.specs.declared.refer.Ref.TheVariants.{Nil}
 use Rattle.rr_tree.specs.declared.program.Program.{Program}
-use Rattle.rr_eval.specs.Script.{Outcome, Ended}
+use Rattle.rr_eval.specs.declared.problem.Answer.{Answer}
+use Rattle.rr_eval.specs.declared.problem.Answer.TheVariants.{Gave, Raised}
+use Rattle.rr_eval.specs.Script.{Asked, Prints, World, Outcome, Ended, Spent, objects_of}
+use Rattle.rr_eval.specs.declared.request.Request.{Request}
+use Rattle.rr_eval.specs.declared.request.Request.TheVariants as requests
+use Rattle.rr_eval.specs.Requests.{Course, Adds, asked_of}
+use Rattle.rr_eval.specs.Exceptions.{IsTold}
+use Rattle.rr_eval.specs.Rules.{start_state}
 use Rattle.rr_eval.specs.View.{View}
-use Rattle.rr_eval.specs.Turns.{context_of, remaining, state_of}
+use Rattle.rr_eval.specs.Turns.{context_of, remaining, asking_then, answered, state_of}
 use Rattle.rr_eval.specs.Written.{Written, IsBeginning, WritesAll, WritesBeginning, FallsShort}
-use Rattle.rr_eval.specs.Runs.{text_of, IsRaised}
-use Rattle.rr_eval.specs.Messages.{report}
-use Rattle.rr_eval.specs.declared.problem.Answer.TheVariants.{Raised}
-use Rattle.rr_eval.specs.declared.problem.Problem.{Problem}
+use Rattle.rr_eval.specs.Runs.{text_of, text_asked, piece_asked, alone, no_objects, IsRaised, IsDone, IsSpent}
 use Rattle.rr_eval.proofs.Bytes.{writes_both, falls_short_after, falls_short_longer, writes_beginning}
-use Rattle.rr_eval.proofs.Printed.{concat-push, remaining_grows}
+use Rattle.rr_eval.proofs.Entered.{replied}
+use Rattle.rr_eval.proofs.Printed.{text-push, remaining_grows, asking_grows}
 
--- some pieces were written whole, and the rest of what all means is still to be done
-pub record IsRunning (p : Program) (m : View) (t : Table) (all : Outcome) (old now : Written) : Type 0 where
-  pub out : List (List ℕ)
-  pub same : all ≡ remaining p m t out
-  pub wrote : WritesAll old now (concat out)
+-- what was asked, in this environment
+abbrev pub in_world : World → List Asked → Course
+in_world w asked = record { asked = asked; world = w }
+
+-- some requests were made and served, and the rest of what all means is still to be done
+pub record IsRunning (w : World) (p : Program) (m : View) (t : Table) (all : Outcome) (old now : Written) : Type 0 where
+  pub asked : List Asked
+  pub same : all ≡ remaining p m t (in_world w asked)
+  pub wrote : WritesAll old now (text_asked asked)
 
 -- at first
-pub running_first : (p : Program) (m : View) (t : Table) (all : Outcome) (old : Written) → all ≡ remaining p m t [] → IsRunning p m t all old old
-running_first p m t all old e = record { out = []; same = e; wrote = record { wrote = Appends-nil old.bytes; failed = refl } }
+pub running_first : (w : World) (p : Program) (m : View) (t : Table) (all : Outcome) (old : Written) → all ≡ remaining p m t (in_world w []) → IsRunning w p m t all old old
+running_first w p m t all old e = record { asked = []; same = e; wrote = record { wrote = Appends-nil old.bytes; failed = refl } }
 
--- the machine went on without printing
-pub running_on : (p : Program) (m n : View) (t u : Table) (all : Outcome) (old now : Written) → IsRunning p m t all old now → ((out : List (List ℕ)) → remaining p m t out ≡ remaining p n u out) → IsRunning p n u all old now
-running_on p m n t u all old now r e = record { out = r.out; same = r.same ∙ e r.out; wrote = r.wrote }
+-- the machine went on without a request
+pub running_on : (w : World) (p : Program) (m n : View) (t u : Table) (all : Outcome) (old now : Written) → IsRunning w p m t all old now → ((h : Course) → remaining p m t h ≡ remaining p n u h) → IsRunning w p n u all old now
+running_on w p m n t u all old now r e = record { asked = r.asked; same = r.same ∙ e (in_world w r.asked); wrote = r.wrote }
 
--- a piece was written whole
-pub running_more : (p : Program) (m n : View) (t u : Table) (all : Outcome) (old now new : Written) (piece : List ℕ) → IsRunning p m t all old now → ((out : List (List ℕ)) → remaining p m t out ≡ remaining p n u (out ++ piece ∷ [])) → WritesAll now new piece → IsRunning p n u all old new
-running_more p m n t u all old now new piece r e w = record {
-  out = r.out ++ piece ∷ [];
-  same = r.same ∙ e r.out;
-  wrote = subst (WritesAll old new) (sym (concat-push r.out piece)) (writes_both old now new (concat r.out) piece r.wrote w);
+-- a request was served, and its piece written whole
+pub running_more : (w : World) (p : Program) (m n : View) (t u v : Table) (all : Outcome) (old now new : Written) (q : Asked) (a : Answer) → IsRunning w p m t all old now → ((h : Course) → remaining p m t h ≡ asking_then p n u q h) → ((asked : List Asked) → w asked q u ≡ Some (record { answer = a; table = v })) → WritesAll now new (piece_asked q) → IsRunning w p (answered n a) v all old new
+running_more w p m n t u v all old now new q a r e reply written = record {
+  asked = r.asked ++ q ∷ [];
+  same = r.same ∙ e (in_world w r.asked) ∙ (replied p n a).goes u v q (in_world w r.asked) (reply r.asked);
+  wrote = subst (WritesAll old new) (sym (text-push r.asked q)) (writes_both old now new (text_asked r.asked) (piece_asked q) r.wrote written);
 }
 
 -- a piece could not be written whole
-pub running_failed : (p : Program) (m n : View) (t u : Table) (all : Outcome) (old now new : Written) (piece : List ℕ) → IsRunning p m t all old now → ((out : List (List ℕ)) → remaining p m t out ≡ remaining p n u (out ++ piece ∷ [])) → FallsShort now new piece → FallsShort old new (text_of all)
-running_failed p m n t u all old now new piece r e w =
-    let more = r.out ++ piece ∷ [] in
-    let short = falls_short_after old now new (concat r.out) piece r.wrote w in
-    let begins = subst (IsBeginning (concat more)) (sym (ap text_of (r.same ∙ e r.out))) (remaining_grows p n u more) in
-    falls_short_longer old new (concat r.out ++ piece) (text_of all) short (subst (λ l. IsBeginning l (text_of all)) (concat-push r.out piece) begins)
+pub running_failed : (w : World) (p : Program) (m n : View) (t u : Table) (all : Outcome) (old now new : Written) (q : Asked) → IsRunning w p m t all old now → ((h : Course) → remaining p m t h ≡ asking_then p n u q h) → FallsShort now new (piece_asked q) → FallsShort old new (text_of all)
+running_failed w p m n t u all old now new q r e written =
+    let h = in_world w r.asked in
+    let more = r.asked ++ q ∷ [] in
+    let short = falls_short_after old now new (text_asked r.asked) (piece_asked q) r.wrote written in
+    let begins = subst (IsBeginning (text_asked more)) (sym (ap text_of (r.same ∙ e h))) (asking_grows p n u q h) in
+    falls_short_longer old new (text_asked r.asked ++ piece_asked q) (text_of all) short (subst (λ l. IsBeginning l (text_of all)) (text-push r.asked q) begins)
 
 -- nothing more was printed
-pub running_stopped : (p : Program) (m : View) (t : Table) (all : Outcome) (old now : Written) → IsRunning p m t all old now → WritesBeginning old now (text_of all)
-running_stopped p m t all old now r =
-    writes_beginning old now (concat r.out) (text_of all) r.wrote (subst (IsBeginning (concat r.out)) (sym (ap text_of r.same)) (remaining_grows p m t r.out))
+pub running_stopped : (w : World) (p : Program) (m : View) (t : Table) (all : Outcome) (old now : Written) → IsRunning w p m t all old now → WritesBeginning old now (text_of all)
+running_stopped w p m t all old now r =
+    writes_beginning old now (text_asked r.asked) (text_of all) r.wrote (subst (IsBeginning (text_asked r.asked)) (sym (ap text_of r.same)) (remaining_grows p m t (in_world w r.asked)))
 
 -- all ended with an exception, of which this is told
-pub running_raised : (p : Program) (m n : View) (t u : Table) (all : Outcome) (old now : Written) (e : Problem) (told : List ℕ) → IsRunning p m t all old now → ((out : List (List ℕ)) → remaining p m t out ≡ Ended (Raised e) (state_of n u out) n.left) → told ≡ report (context_of p) e
-    → IsRaised (context_of p) all told × WritesAll old now (text_of all)
-running_raised p m n t u all old now e told r ends is =
-    subst (λ (o : Outcome). IsRaised (context_of p) o told × WritesAll old now (text_of o)) (sym (r.same ∙ ends r.out)) (is, r.wrote)
+pub running_raised : (w : World) (p : Program) (m n : View) (t u : Table) (all : Outcome) (old now : Written) (v : Ref) (told : List ℕ) → IsRunning w p m t all old now → ((h : Course) → remaining p m t h ≡ Ended (Raised v) (state_of n u h) n.left) → IsTold u v told
+    → IsRaised all told × WritesAll old now (text_of all)
+running_raised w p m n t u all old now v told r ends is =
+    subst (λ (o : Outcome). IsRaised o told × WritesAll old now (text_of o)) (sym (r.same ∙ ends (in_world w r.asked))) (is, r.wrote)
+
+-- all ended with a value; all is out of steps
+pub running_done : (w : World) (p : Program) (m n : View) (t u : Table) (all : Outcome) (old now : Written) (v : Ref) → IsRunning w p m t all old now → ((h : Course) → remaining p m t h ≡ Ended (Gave v) (state_of n u h) n.left) → IsDone all × WritesAll old now (text_of all)
+running_done w p m n t u all old now v r ends =
+    subst (λ (o : Outcome). IsDone o × WritesAll old now (text_of o)) (sym (r.same ∙ ends (in_world w r.asked))) (tt, r.wrote)
+
+pub running_spent : (w : World) (p : Program) (m n : View) (t u : Table) (all : Outcome) (old now : Written) → IsRunning w p m t all old now → ((h : Course) → remaining p m t h ≡ Spent (state_of n u h)) → IsSpent all × WritesAll old now (text_of all)
+running_spent w p m n t u all old now r ends =
+    subst (λ (o : Outcome). IsSpent o × WritesAll old now (text_of o)) (sym (r.same ∙ ends (in_world w r.asked))) (tt, r.wrote)
+
+-- no more objects than there may be
+pub running_fits : (w : World) (p : Program) (m : View) (t : Table) (all : Outcome) (old now : Written) (slots : ℕ) → IsRunning w p m t all old now → (o : Course → Outcome) → ((h : Course) → remaining p m t h ≡ o h) → ((h : Course) → objects_of (o h) ≤ slots) → objects_of all ≤ slots
+running_fits w p m t all old now slots r o ends fits =
+    subst (λ (x : Outcome). objects_of x ≤ slots) (sym (r.same ∙ ends (in_world w r.asked))) (fits (in_world w r.asked))
+
+-- a script that runs alone takes no object away
+pub alone_adds : Adds alone
+alone_adds asked (Prints piece) t = omega arith
+
+-- the reply to each of its requests is nil
+pub alone_replies : (asked : List Asked) (q : Request) (t : Table) → alone asked (asked_of q) t ≡ Some (record { answer = Gave Nil; table = t })
+alone_replies asked (requests.Print piece) t = refl
+
+-- a script begins with no object
+pub first_table : (t : Table) (slots : ℕ) → t.slots ≡ [] → t.below ≡ [] → t.keys ≡ [] → t.limit ≡ slots → t.owner ≡ 1 → t.next_message ≡ 1 → no_objects slots ≡ t
+first_table t slots a b c d e f =
+    ap (λ x. record { slots = x; below = []; keys = []; limit = slots; owner = 1; next_message = 1 }) (sym a)
+    ∙ ap (λ x. record { slots = t.slots; below = x; keys = []; limit = slots; owner = 1; next_message = 1 }) (sym b)
+    ∙ ap (λ x. record { slots = t.slots; below = t.below; keys = x; limit = slots; owner = 1; next_message = 1 }) (sym c)
+    ∙ ap (λ x. record { slots = t.slots; below = t.below; keys = t.keys; limit = x; owner = 1; next_message = 1 }) (sym d)
+    ∙ ap (λ x. record { slots = t.slots; below = t.below; keys = t.keys; limit = t.limit; owner = x; next_message = 1 }) (sym e)
+    ∙ ap (λ x. record { slots = t.slots; below = t.below; keys = t.keys; limit = t.limit; owner = t.owner; next_message = x }) (sym f)
+
+pub first_state : (p : Program) (t : Table) (slots : ℕ) → no_objects slots ≡ t → start_state (context_of p) (no_objects slots) ≡ record { memory = record { vars = replicate (length p.symbols.items) Nil; table = t }; asked = [] }
+first_state p t slots e =
+    ap (λ k. record { memory = record { vars = replicate k Nil; table = no_objects slots }; asked = [] }) (length-map p.symbols.items _)
+    ∙ ap (λ u. record { memory = record { vars = replicate (length p.symbols.items) Nil; table = u }; asked = [] }) e

@@ -7,35 +7,40 @@ use Rattle.rr_eval.specs.declared.problem.Answer.{Answer}
 use Rattle.rr_eval.specs.declared.frame.Frame.{Frame}
 use Rattle.rr_eval.specs.declared.frame.Frame.TheVariants.{Left, Argument}
 use Rattle.rr_eval.specs.declared.frame.Control.TheVariants.{Enter, Give}
-use Rattle.rr_eval.specs.Script.{State, Ret, Go, Outcome, Ended, Spent, run, after}
-use Rattle.rr_eval.specs.Rules.{meaning, values, put}
-use Rattle.rr_eval.specs.Nodes.{trees_before}
-use Rattle.rr_eval.specs.Frames.{Code, IsNew, resumed, stand_of, below_of, unwind, Nested, base_of, outcome_of}
+use Rattle.rr_eval.specs.Script.{State, Ret, Go, Outcome, Ended, Spent, Waits, after}
+use Rattle.rr_eval.specs.Rules.{values, put}
+use Rattle.rr_tree.specs.Nodes.{trees_before}
+use Rattle.rr_eval.specs.Frames.{Code, means, runs_in, IsNew, resumed, stand_of, below_of, unwind, Nested, base_of, outcome_of}
 
 -- an evaluation whose answer is the answer
 pub after_ended : (o : Outcome) → after o Ended ≡ o
 after_ended (Ended a s n) = refl
 after_ended (Spent s) = refl
+after_ended (Waits s) = refl
 
 -- a part whose answer is the answer
-pub part_only : (c : Code) (part : ℕ) (s : State) (n : ℕ) → run (meaning c.context) (Go (tree_at c.nodes part) Ret) s n ≡ meaning c.context (tree_at c.nodes part) s n
-part_only c part s n = after_ended (meaning c.context (tree_at c.nodes part) s n)
+pub part_only : (c : Code) (part : ℕ) (s : State) (n : ℕ) → runs_in c (Go (tree_at c.nodes part) Ret) s n ≡ means c (tree_at c.nodes part) s n
+part_only c part s n = after_ended (means c (tree_at c.nodes part) s n)
 
 -- a frame on top
-pub rest_push : (c : Code) (fs : List Frame) (f : Frame) (held : List Ref) (o : Outcome) → unwind c (reverse (fs ++ f ∷ [])) held o ≡ unwind c (reverse fs) (below_of f held) (after o (λ a. run (meaning c.context) (resumed c.nodes f (stand_of f held) a)))
+pub rest_push : (c : Code) (fs : List Frame) (f : Frame) (held : List Ref) (o : Outcome) → unwind c (reverse (fs ++ f ∷ [])) held o ≡ unwind c (reverse fs) (below_of f held) (after o (λ a. runs_in c (resumed c f (stand_of f held) a)))
 rest_push c fs f held o = ap (λ l. unwind c l held o) (reverse-append fs (f ∷ []))
 
+-- a new frame over a request
+pub asking_frame : (c : Code) (fs : List Frame) (f : Frame) (held : List Ref) (o : Outcome) → IsNew f (length held) → unwind c (reverse fs) held (after o (λ a. runs_in c (resumed c f [] a))) ≡ unwind c (reverse (fs ++ f ∷ [])) held o
+asking_frame c fs (Argument e k b) held o new =
+    ap (λ h. unwind c (reverse fs) h (after o (λ a. runs_in c (resumed c (Argument e k b) [] a)))) (sym (take_all b held (omega arith)))
+    ∙ ap (λ h. unwind c (reverse fs) (take b held) (after o (λ a. runs_in c (resumed c (Argument e k b) h a)))) (sym (drop_all b held (omega arith)))
+    ∙ sym (rest_push c fs (Argument e k b) held o)
+asking_frame c fs (Left op b) held o new = sym (rest_push c fs (Left op b) held o)
+asking_frame c fs f held o new = sym (rest_push c fs f held o)
+
 -- a new frame has nothing of what stands
-pub new_frame : (c : Code) (fs : List Frame) (f : Frame) (held : List Ref) (part : ℕ) (s : State) (n : ℕ) → IsNew f (length held) → unwind c (reverse fs) held (run (meaning c.context) (Go (tree_at c.nodes part) (resumed c.nodes f [])) s n) ≡ unwind c (reverse (fs ++ f ∷ [])) held (meaning c.context (tree_at c.nodes part) s n)
-new_frame c fs (Argument e k b) held part s n new =
-    ap (λ h. unwind c (reverse fs) h (run (meaning c.context) (Go (tree_at c.nodes part) (resumed c.nodes (Argument e k b) [])) s n)) (sym (take_all b held (omega arith)))
-    ∙ ap (λ h. unwind c (reverse fs) (take b held) (run (meaning c.context) (Go (tree_at c.nodes part) (resumed c.nodes (Argument e k b) h)) s n)) (sym (drop_all b held (omega arith)))
-    ∙ sym (rest_push c fs (Argument e k b) held (meaning c.context (tree_at c.nodes part) s n))
-new_frame c fs (Left op b) held part s n new = sym (rest_push c fs (Left op b) held (meaning c.context (tree_at c.nodes part) s n))
-new_frame c fs f held part s n new = sym (rest_push c fs f held (meaning c.context (tree_at c.nodes part) s n))
+pub new_frame : (c : Code) (fs : List Frame) (f : Frame) (held : List Ref) (part : ℕ) (s : State) (n : ℕ) → IsNew f (length held) → unwind c (reverse fs) held (runs_in c (Go (tree_at c.nodes part) (resumed c f [])) s n) ≡ unwind c (reverse (fs ++ f ∷ [])) held (means c (tree_at c.nodes part) s n)
+new_frame c fs f held part s n new = asking_frame c fs f held (means c (tree_at c.nodes part) s n) new
 
 -- a frame gets its answer
-pub given : (c : Code) (fs : List Frame) (f : Frame) (held : List Ref) (a : Answer) (s : State) (n : ℕ) → outcome_of c (fs ++ f ∷ []) held (Give a) s n ≡ unwind c (reverse fs) (below_of f held) (run (meaning c.context) (resumed c.nodes f (stand_of f held) a) s n)
+pub given : (c : Code) (fs : List Frame) (f : Frame) (held : List Ref) (a : Answer) (s : State) (n : ℕ) → outcome_of c (fs ++ f ∷ []) held (Give a) s n ≡ unwind c (reverse fs) (below_of f held) (runs_in c (resumed c f (stand_of f held) a) s n)
 given c fs f held a s n = rest_push c fs f held (Ended a s n)
 
 -- a frame on top begins within what stands
@@ -51,16 +56,16 @@ nested_new fs (Left op b) held new nested = nested_push fs (Left op b) held (ome
 nested_new fs f held new nested = nested_push fs f held (omega arith) nested
 
 -- the value of an argument is kept, and the next one is evaluated
-pub kept : (c : Code) (fs : List Frame) (end count place base : ℕ) (held : List Ref) (v : Ref) (s : State) (n : ℕ) → 0 < count → place ≡ end - count → base ≤ length held → unwind c (reverse fs) (take base held) (run (meaning c.context) (values (trees_before c.nodes end count) (drop base held ++ v ∷ []) put) s n) ≡ outcome_of c (fs ++ Argument end (count - 1) base ∷ []) (held ++ v ∷ []) (Enter place) s n
+pub kept : (c : Code) (fs : List Frame) (end count place base : ℕ) (held : List Ref) (v : Ref) (s : State) (n : ℕ) → 0 < count → place ≡ end - count → base ≤ length held → unwind c (reverse fs) (take base held) (runs_in c (values (trees_before c.nodes end count) (drop base held ++ v ∷ []) put) s n) ≡ outcome_of c (fs ++ Argument end (count - 1) base ∷ []) (held ++ v ∷ []) (Enter place) s n
 kept c fs end zero place base held v s n h at le = absurd (omega arith)
 kept c fs end (suc more) place base held v s n h at le =
     let f = Argument end more base in
     let k : suc more - 1 ≡ more = omega arith in
     let below = take-append-le base held (v ∷ []) le in
     let stand = drop-append-le base held (v ∷ []) le in
-    let o = meaning c.context (tree_at c.nodes place) s n in
-    ap (λ p. unwind c (reverse fs) (take base held) (run (meaning c.context) (Go (tree_at c.nodes p) (resumed c.nodes f (drop base held ++ v ∷ []))) s n)) (sym at)
-    ∙ ap (λ h. unwind c (reverse fs) h (after o (λ a. run (meaning c.context) (resumed c.nodes f (drop base held ++ v ∷ []) a)))) (sym below)
-    ∙ ap (λ h. unwind c (reverse fs) (take base (held ++ v ∷ [])) (after o (λ a. run (meaning c.context) (resumed c.nodes f h a)))) (sym stand)
+    let o = means c (tree_at c.nodes place) s n in
+    ap (λ p. unwind c (reverse fs) (take base held) (runs_in c (Go (tree_at c.nodes p) (resumed c f (drop base held ++ v ∷ []))) s n)) (sym at)
+    ∙ ap (λ h. unwind c (reverse fs) h (after o (λ a. runs_in c (resumed c f (drop base held ++ v ∷ []) a)))) (sym below)
+    ∙ ap (λ h. unwind c (reverse fs) (take base (held ++ v ∷ [])) (after o (λ a. runs_in c (resumed c f h a)))) (sym stand)
     ∙ sym (rest_push c fs f (held ++ v ∷ []) o)
     ∙ ap (λ m. unwind c (reverse (fs ++ Argument end m base ∷ [])) (held ++ v ∷ []) o) (sym k)

@@ -1,33 +1,48 @@
 -- What the frames of the machine stand for.
-use Rattle.std.specs.Prelude.{◌≡◌, ℕ, ◌≤◌, List, [], ◌∷◌, ◌++◌, if◌then◌else◌, length, take, drop, reverse}
+use Rattle.std.specs.Prelude.{◌≡◌, ℕ, ◌≤◌, List, [], ◌∷◌, ◌++◌, if◌then◌else◌, not, length, take, drop, reverse}
 use Rattle.rr_space.specs.declared.refer.Ref.{Ref}
+use Rattle.rr_space.specs.declared.refer.Ref.TheVariants.{Nil, Truth}
 use Rattle.rr_tree.specs.Tree.{tree_at}
 use Rattle.rr_tree.specs.declared.node.Node.{Node}
 use Rattle.rr_eval.specs.declared.problem.Answer.{Answer}
+use Rattle.rr_eval.specs.declared.problem.Answer.TheVariants.{Gave}
 use Rattle.rr_eval.specs.declared.frame.Frame.{Frame}
-use Rattle.rr_eval.specs.declared.frame.Frame.TheVariants.{Negation, Left, Right, Store, Branch, Rest, Argument}
+use Rattle.rr_eval.specs.declared.frame.Frame.TheVariants.{Not, Negation, And, Or, Left, Right, Store, Branch, Condition, Body, Rest, Argument}
 use Rattle.rr_eval.specs.declared.frame.Control.{Control}
-use Rattle.rr_eval.specs.declared.frame.Control.TheVariants.{Enter, Give}
-use Rattle.rr_eval.specs.Script.{State, Script, Ret, Go, Do, Outcome, Ended, run, after}
-use Rattle.rr_eval.specs.Values.{is_truthy}
+use Rattle.rr_eval.specs.declared.frame.Control.TheVariants.{Enter, Give, Throw, Raise}
+use Rattle.rr_eval.specs.Script.{State, Script, Ret, Go, World, Evaluation, Outcome, Ended, run, after}
+use Rattle.rr_eval.specs.Values.{is_truthy, goes_on}
 use Rattle.rr_eval.specs.Operators.{operate, negated}
-use Rattle.rr_eval.specs.Rules.{Context, on_value, with_value, on_table, write, statements, values, put, meaning}
-use Rattle.rr_eval.specs.Nodes.{trees_before}
+use Rattle.rr_eval.specs.Rules.{Context, throw, raise, on_value, with_value, on_table, write, statements, values, put, meaning}
+use Rattle.rr_tree.specs.Nodes.{trees_before}
 
--- a program: its nodes, and what its trees refer to
+-- a program: its nodes, what its trees refer to, and the environment that it runs in
 pub record Code : Type 0 where
   pub nodes : List Node
   pub context : Context
+  pub world : World
+
+-- what trees and scripts of a program do
+abbrev pub means : Code → Evaluation
+means c = meaning c.context c.world
+
+abbrev pub runs_in : Code → Script → State → ℕ → Outcome
+runs_in c = run c.world (means c)
 
 -- what a frame does with the answer that it waits for; `stand` are the values that stand for it
-abbrev pub resumed : List Node → Frame → List Ref → Answer → Script
-resumed ns Negation stand = on_value (λ v. Do (on_table (negated v)) Ret)
-resumed ns (Left op b) stand = on_value (λ v. with_value (tree_at ns b) (λ w. Do (on_table (operate op v w)) Ret))
-resumed ns (Right op v) stand = on_value (λ w. Do (on_table (operate op v w)) Ret)
-resumed ns (Store x) stand = on_value (λ v. Do (write x.0 v) Ret)
-resumed ns (Branch b d) stand = on_value (λ v. Go (if is_truthy v then tree_at ns b else tree_at ns d) Ret)
-resumed ns (Rest end count) stand = on_value (λ v. statements (trees_before ns end count))
-resumed ns (Argument end count base) stand = on_value (λ v. values (trees_before ns end count) (stand ++ v ∷ []) put)
+abbrev pub resumed : Code → Frame → List Ref → Answer → Script
+resumed c Not stand = on_value (λ v. Ret (Gave (Truth (not (is_truthy v)))))
+resumed c (And b) stand = on_value (λ v. if is_truthy v then Go (tree_at c.nodes b) Ret else Ret (Gave v))
+resumed c (Or b) stand = on_value (λ v. if is_truthy v then Ret (Gave v) else Go (tree_at c.nodes b) Ret)
+resumed c Negation stand = on_value (λ v. on_table c.context (negated v))
+resumed c (Left op b) stand = on_value (λ v. with_value (tree_at c.nodes b) (λ w. on_table c.context (operate op v w)))
+resumed c (Right op v) stand = on_value (λ w. on_table c.context (operate op v w))
+resumed c (Store x) stand = on_value (λ v. write x v)
+resumed c (Branch b d) stand = on_value (λ v. Go (if is_truthy v then tree_at c.nodes b else tree_at c.nodes d) Ret)
+resumed c (Condition until body loop) stand = on_value (λ v. if goes_on until v then with_value (tree_at c.nodes body) (λ w. Go (tree_at c.nodes loop) Ret) else Ret (Gave Nil))
+resumed c (Body loop) stand = on_value (λ w. Go (tree_at c.nodes loop) Ret)
+resumed c (Rest end count) stand = on_value (λ v. statements (trees_before c.nodes end count))
+resumed c (Argument end count base) stand = on_value (λ v. values (trees_before c.nodes end count) (stand ++ v ∷ []) put)
 
 -- the values that stand for a frame, and those below
 abbrev pub stand_of : Frame → List Ref → List Ref
@@ -46,7 +61,7 @@ IsNew _ n = Unit {0}
 -- what the frames, the topmost first, do with an outcome
 abbrev pub unwind : Code → List Frame → List Ref → Outcome → Outcome
 unwind c [] held o = o
-unwind c (f ∷ fs) held o = unwind c fs (below_of f held) (after o (λ a. run (meaning c.context) (resumed c.nodes f (stand_of f held) a)))
+unwind c (f ∷ fs) held o = unwind c fs (below_of f held) (after o (λ a. runs_in c (resumed c f (stand_of f held) a)))
 
 -- where a frame's values begin
 abbrev pub base_of : Frame → ℕ
@@ -67,8 +82,10 @@ IsRareFrame _ = ⊥
 
 -- what comes first
 abbrev pub start : Code → Control → State → ℕ → Outcome
-start c (Enter part) s n = meaning c.context (tree_at c.nodes part) s n
+start c (Enter part) s n = means c (tree_at c.nodes part) s n
 start c (Give a) s n = Ended a s n
+start c (Throw e) s n = runs_in c (throw c.context e) s n
+start c (Raise class message) s n = runs_in c (raise class message) s n
 
 -- how all ends that frames and what comes first have still to do
 abbrev pub outcome_of : Code → List Frame → List Ref → Control → State → ℕ → Outcome

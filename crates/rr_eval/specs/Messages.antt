@@ -1,12 +1,14 @@
 -- What an exception says.
 use Rattle.std.specs.Prelude.{ℕ, List, [], ◌++◌, codes, slice_index_or}
+use Rattle.rr_base.specs.declared.class.BuiltInClass.{BuiltInClass}
+use Rattle.rr_base.specs.declared.class.BuiltInClass.TheVariants as built_in
 use Rattle.rr_tree.specs.declared.node.BinaryOperator.{BinaryOperator}
 use Rattle.rr_tree.specs.declared.node.BinaryOperator.TheVariants.{Add, Subtract, Multiply, Divide, Remainder, Less, LessOrEqual, Greater, GreaterOrEqual, Compare, Equal, NotEqual}
 use Rattle.rr_eval.specs.declared.problem.ValueClass.{ValueClass}
 use Rattle.rr_eval.specs.declared.problem.ValueClass.TheVariants as class
 use Rattle.rr_eval.specs.declared.problem.Problem.{Problem}
-use Rattle.rr_eval.specs.declared.problem.Problem.TheVariants.{OutOfRange, DividedByZero, WrongType, Incomparable, MissingOperator, MissingMinus, MissingName}
-use Rattle.rr_eval.specs.Rules.{Context}
+use Rattle.rr_eval.specs.declared.problem.Problem.TheVariants.{OutOfRange, DividedByZero, WrongType, Incomparable, MissingOperator, MissingMinus, MissingName, NotHere}
+use Rattle.rr_eval.specs.Context.{Context}
 
 abbrev pub class_name : ValueClass → List ℕ
 class_name class.Integer = codes "Integer"
@@ -48,16 +50,15 @@ message c (Incomparable k l) = codes "comparison of " ++ class_name k ++ codes "
 message c (MissingOperator op k) = missing (operator_name op) k
 message c (MissingMinus k) = missing (codes "-@") k
 message c (MissingName x) = codes "undefined local variable or method '" ++ slice_index_or c.symbols x.0 [] ++ codes "'"
+message c NotHere = codes "not here yet"
 
-abbrev pub exception_name : Problem → List ℕ
-exception_name OutOfRange = codes "RangeError"
-exception_name DividedByZero = codes "ZeroDivisionError"
-exception_name (WrongType k) = codes "TypeError"
-exception_name (Incomparable k l) = codes "ArgumentError"
-exception_name (MissingOperator op k) = codes "NoMethodError"
-exception_name (MissingMinus k) = codes "NoMethodError"
-exception_name (MissingName x) = codes "NameError"
-
--- `MESSAGE (CLASS)`
-abbrev pub report : Context → Problem → List ℕ
-report c e = message c e ++ codes " (" ++ exception_name e ++ codes ")"
+-- the class of the exception
+abbrev pub exception_class : Problem → BuiltInClass
+exception_class OutOfRange = built_in.RangeError
+exception_class DividedByZero = built_in.ZeroDivisionError
+exception_class (WrongType k) = built_in.TypeError
+exception_class (Incomparable k l) = built_in.ArgumentError
+exception_class (MissingOperator op k) = built_in.NoMethodError
+exception_class (MissingMinus k) = built_in.NoMethodError
+exception_class (MissingName x) = built_in.NameError
+exception_class NotHere = built_in.RuntimeError

@@ -1,30 +1,47 @@
 -- The tree of a node, by the numbers of its parts.
-use Rattle.std.specs.Prelude.{ℕ, zero, suc, ◌+◌, ◌-◌, ◌<◌, ◌^◌, List, [], ◌∷◌}
-use Rattle.rr_tree.specs.Nodes.{node_tree}
-use Rattle.rr_tree.specs.Tree.{Tree, sequence, puts, listed, tree_at}
+use Rattle.std.specs.Prelude.{◌+◌, ◌<◌, ◌^◌, Bool, true, false, List}
+use Rattle.rr_tree.specs.Nodes.{node_tree, trees_before}
+use Rattle.rr_tree.specs.Tree.{Tree, sequence, call, listed}
 use Rattle.rr_tree.specs.declared.node.Node.{Node}
 use Rattle.rr_tree.specs.declared.node.Node.TheVariants as node
-
--- the trees of the last `count` nodes before a place
-abbrev pub trees_before : List Node → ℕ → ℕ → List Tree
-trees_before ns end zero = []
-trees_before ns end (suc more) = tree_at ns (end - suc more) ∷ trees_before ns end more
 
 -- the tree of a node that is evaluated; nil stands for the items of a list past the table
 abbrev pub evaluated_tree : List Node → Node → Tree
 evaluated_tree ns (node.Sequence first count) = sequence (listed (trees_before ns (first + count) count))
-evaluated_tree ns (node.Puts first count) = puts (listed (trees_before ns (first + count) count))
+evaluated_tree ns (node.Call x first count site) = call x.0 (listed (trees_before ns (first + count) count))
 evaluated_tree ns n = node_tree ns n
 
 -- a node that is evaluated: no item of a list, and its own list ends at a number
 abbrev pub IsEvaluated : Node → Type 0
 IsEvaluated (node.Item a) = ⊥
 IsEvaluated (node.Sequence first count) = first + count < 2 ^ 32
-IsEvaluated (node.Puts first count) = first + count < 2 ^ 32
+IsEvaluated (node.Call x first count site) = first + count < 2 ^ 32
 IsEvaluated _ = Unit {0}
 
--- a node whose evaluation needs the objects or memory
+-- a node whose evaluation needs the objects, the program's names or memory
 abbrev pub IsRareNode : Node → Type 0
 IsRareNode (node.Text i) = Unit {0}
-IsRareNode (node.Puts first count) = Unit {0}
+IsRareNode (node.Bare x site) = Unit {0}
+IsRareNode (node.Call x first count site) = Unit {0}
 IsRareNode _ = ⊥
+
+-- a node that is not evaluated yet
+abbrev pub is_unknown : Node → Bool
+is_unknown node.Nil = false
+is_unknown (node.Truth b) = false
+is_unknown (node.Int z) = false
+is_unknown (node.Text i) = false
+is_unknown (node.Local depth slot x) = false
+is_unknown (node.Bare x site) = false
+is_unknown (node.Call x first count site) = false
+is_unknown (node.And a b) = false
+is_unknown (node.Or a b) = false
+is_unknown (node.Not a) = false
+is_unknown (node.Negate a) = false
+is_unknown (node.Binary o a b) = false
+is_unknown (node.Assign depth slot x a) = false
+is_unknown (node.Choose a b d) = false
+is_unknown (node.Loop until a b) = false
+is_unknown (node.Sequence first count) = false
+is_unknown (node.Item a) = false
+is_unknown _ = true

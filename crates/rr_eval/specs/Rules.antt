@@ -1,25 +1,29 @@
 -- The rules of the language, each on a whole tree.
-use Rattle.std.specs.Prelude.{ℕ, zero, suc, List, [], ◌∷◌, ◌++◌, if◌then◌else◌, slice_index_or, slice_set, length, replicate}
+use Rattle.std.specs.Prelude.{ℕ, zero, suc, Bool, true, false, not, List, [], ◌∷◌, ◌++◌, if◌then◌else◌, slice_index_or, slice_set, length, replicate, codes}
+use Rattle.std.specs.Str.{bytes_eq}
+use Rattle.rr_base.specs.Classes.{class_id}
+use Rattle.rr_base.specs.declared.name.ClassId.{ClassId}
 use Rattle.rr_space.specs.Tables.{Table}
 use Rattle.rr_space.specs.declared.refer.Ref.{Ref}
-use Rattle.rr_space.specs.declared.refer.Ref.TheVariants.{Nil, Truth, Int}
-use Rattle.rr_tree.specs.Tree.{Tree, nil, truth, int, text, local, call, negate, binary, assign, choose, sequence, puts, empty, then_one}
+use Rattle.rr_space.specs.declared.refer.Ref.TheVariants.{Nil, Truth, Int, Local}
+use Rattle.rr_tree.specs.Tree.{Tree, Trees, nil, truth, int, text, local, bare, call, logical_and, logical_or, logical_not, negate, binary, assign, choose, repeat, sequence, empty, then_one}
 use Rattle.rr_eval.specs.declared.problem.Answer.{Answer}
 use Rattle.rr_eval.specs.declared.problem.Answer.TheVariants.{Gave, Raised}
-use Rattle.rr_eval.specs.declared.problem.Problem.TheVariants.{MissingName}
-use Rattle.rr_eval.specs.Script.{Memory, State, Script, Ret, Go, Do, Put, Spent, Evaluation, run}
-use Rattle.rr_eval.specs.Values.{is_truthy, piece_of}
-use Rattle.rr_eval.specs.Operators.{make, operate, negated}
-
--- the names and the text literals of a program, by number
-pub record Context : Type 0 where
-  pub symbols : List (List ℕ)
-  pub texts : List (List ℕ)
+use Rattle.rr_eval.specs.declared.problem.Worked.{Worked}
+use Rattle.rr_eval.specs.declared.problem.Worked.TheVariants.{Works, Fails}
+use Rattle.rr_eval.specs.declared.problem.Problem.{Problem}
+use Rattle.rr_eval.specs.declared.problem.Problem.TheVariants.{MissingName, NotHere}
+use Rattle.rr_eval.specs.Script.{State, Script, Ret, Go, See, Do, Ask, Prints, World, Spent, Evaluation, run}
+use Rattle.rr_eval.specs.Values.{is_truthy, goes_on, piece_of}
+use Rattle.rr_eval.specs.Operators.{make, with_text, operate, negated}
+use Rattle.rr_eval.specs.Messages.{message, exception_class}
+use Rattle.rr_eval.specs.Exceptions.{with_exception}
+pub use Rattle.rr_eval.specs.Context.{Context}
 
 -- the trees of a list
-abbrev pub items : Tree → List Tree
+abbrev pub items : Trees → List Tree
+items empty = []
 items (then_one list t) = items list ++ t ∷ []
-items _ = []
 
 -- goes on with a value; an exception passes
 abbrev pub on_value : (Ref → Script) → Answer → Script
@@ -30,15 +34,30 @@ on_value next (Raised e) = Ret (Raised e)
 abbrev pub with_value : Tree → (Ref → Script) → Script
 with_value t next = Go t (on_value next)
 
-abbrev pub read : ℕ → Memory → Answer × Memory
-read x m = (Gave (slice_index_or m.vars x Nil), m)
+-- the value of a variable
+abbrev pub read : ℕ → Script
+read x = See (λ m. Ret (Gave (slice_index_or m.vars x Nil)))
 
-abbrev pub write : ℕ → Ref → Memory → Answer × Memory
-write x v m = (Gave v, record m { vars = slice_set m.vars x v })
+-- gives a variable a value
+abbrev pub write : ℕ → Ref → Script
+write x v = Do (λ m. record m { vars = slice_set m.vars x v }) (Ret (Gave v))
 
--- an act on the objects alone
-abbrev pub on_table : (Table → Answer × Table) → Memory → Answer × Memory
-on_table act m = ((act m.table).0, record m { table = (act m.table).1 })
+-- makes an exception of a class, with a message, and raises it
+abbrev pub raise : ClassId → Ref → Script
+raise class message = See (λ m. Do (λ k. record k { table = with_exception class message k.table }) (Ret (Raised (Local (length m.table.slots)))))
+
+-- the same, where the message is made first
+abbrev pub throw : Context → Problem → Script
+throw c e = See (λ m. Do (λ k. record k { table = with_text (message c e) k.table }) (raise (class_id (exception_class e)) (Local (length m.table.slots))))
+
+-- the value of an operation, or its exception
+abbrev pub settled : Context → Worked → Script
+settled c (Works v) = Ret (Gave v)
+settled c (Fails e) = throw c e
+
+-- an operation on the objects
+abbrev pub on_table : Context → (Table → Worked × Table) → Script
+on_table c act = See (λ m. Do (λ k. record k { table = (act k.table).1 }) (settled c (act m.table).0))
 
 -- statements, one after the other; the last one's answer
 abbrev pub statements : List Tree → Script
@@ -53,35 +72,57 @@ values (t ∷ ts) stand next = with_value t (λ v. values ts (stand ++ v ∷ [])
 
 -- prints the lines of values
 abbrev pub put : List Ref → Script
-put vs = Put (λ m. piece_of m.table vs) (Ret (Gave Nil))
+put vs = See (λ m. Ask (Prints (piece_of m.table vs)) Ret)
 
--- the rule of each kind of tree
+-- a name is `puts`
+abbrev pub is_puts : Context → ℕ → Bool
+is_puts c x = bytes_eq (slice_index_or c.symbols x []) (codes "puts")
+
+-- what is not evaluated yet
+abbrev pub not_here : Context → Script
+not_here c = throw c NotHere
+
+-- a bare name: `puts` or not
+abbrev pub bare_rule : Context → Bool → ℕ → Script
+bare_rule c true x = put []
+bare_rule c false x = throw c (MissingName (record { 0 = x }))
+
+-- a call with arguments: of `puts` or not
+abbrev pub call_rule : Context → Bool → List Tree → Script
+call_rule c true ts = values ts [] put
+call_rule c false ts = not_here c
+
+-- The rule of each kind of tree. No block or method is evaluated yet, so each variable is one of the program's own scope.
 abbrev pub rule : Context → Tree → Script
 rule c nil = Ret (Gave Nil)
 rule c (truth b) = Ret (Gave (Truth b))
 rule c (int z) = Ret (Gave (Int z))
-rule c (text i) = Do (on_table (make (slice_index_or c.texts i []))) Ret
-rule c (local x) = Do (read x) Ret
-rule c (call x) = Ret (Raised (MissingName (record { 0 = x })))
-rule c (negate a) = with_value a (λ v. Do (on_table (negated v)) Ret)
-rule c (binary op a b) = with_value a (λ v. with_value b (λ w. Do (on_table (operate op v w)) Ret))
-rule c (assign x a) = with_value a (λ v. Do (write x v) Ret)
+rule c (text i) = on_table c (make (slice_index_or c.texts i []))
+rule c (local depth slot x) = read slot
+rule c (bare x) = bare_rule c (is_puts c x) x
+rule c (call x list) = call_rule c (is_puts c x) (items list)
+rule c (logical_and a b) = with_value a (λ v. if is_truthy v then Go b Ret else Ret (Gave v))
+rule c (logical_or a b) = with_value a (λ v. if is_truthy v then Ret (Gave v) else Go b Ret)
+rule c (logical_not a) = with_value a (λ v. Ret (Gave (Truth (not (is_truthy v)))))
+rule c (negate a) = with_value a (λ v. on_table c (negated v))
+rule c (binary op a b) = with_value a (λ v. with_value b (λ w. on_table c (operate op v w)))
+rule c (assign depth slot x a) = with_value a (λ v. write slot v)
 rule c (choose a b d) = with_value a (λ v. Go (if is_truthy v then b else d) Ret)
+-- each turn of a loop evaluates the loop again
+rule c (repeat until a b) = with_value a (λ v. if goes_on until v then with_value b (λ w. Go (repeat until a b) Ret) else Ret (Gave Nil))
 rule c (sequence list) = statements (items list)
-rule c (puts list) = values (items list) [] put
-rule c empty = Ret (Gave Nil)
-rule c (then_one list t) = Ret (Gave Nil)
+rule c _ = not_here c
 
 -- evaluations not deeper than `depth`, each of them one step
-abbrev pub eval : Context → ℕ → Evaluation
-eval c zero t s n = Spent s
-eval c (suc depth) t s zero = Spent s
-eval c (suc depth) t s (suc n) = run (eval c depth) (rule c t) s n
+abbrev pub eval : Context → World → ℕ → Evaluation
+eval c w zero t s n = Spent s
+eval c w (suc depth) t s zero = Spent s
+eval c w (suc depth) t s (suc n) = run w (eval c w depth) (rule c t) s n
 
 -- what a tree does in a state with n steps to spend: no evaluation goes deeper than its steps
-abbrev pub meaning : Context → Evaluation
-meaning c t s n = eval c n t s n
+abbrev pub meaning : Context → World → Evaluation
+meaning c w t s n = eval c w n t s n
 
--- a script begins with its variables unset, with no object, and with nothing printed
+-- a script begins with its variables unset, with no object, and with nothing asked
 abbrev pub start_state : Context → Table → State
-start_state c table = record { memory = record { vars = replicate (length c.symbols) Nil; table = table }; out = [] }
+start_state c table = record { memory = record { vars = replicate (length c.symbols) Nil; table = table }; asked = [] }

@@ -1,6 +1,6 @@
 -- What a run of a source leaves.
-use Rattle.std.specs.Prelude.{◌≡◌, ◌≤◌, ◌⊎◌, ℕ, List, [], length, Result, Ok, Err, MatchResult}
-use Rattle.std.specs.List.{concat}
+use Rattle.std.specs.Prelude.{◌≡◌, ◌≤◌, ◌⊎◌, ℕ, List, [], length, Some, Result, Ok, Err, MatchResult}
+use Rattle.std.specs.List.{flat_map}
 use Rattle.std.specs.Io.KnownBytes.{Keeps}
 use Rattle.rr_base.specs.declared.fault.Fault.{Fault}
 use Rattle.rr_base.specs.declared.fault.Fault.TheVariants as faults
@@ -15,43 +15,57 @@ use Rattle.rr_parser.specs.Grammar.{Spells, SpellsWithin}
 use Rattle.rr_parser.specs.Fronts.{NestsBeyond}
 use Rattle.rr_parser.specs.Words.{symbols_of, texts_of}
 use Rattle.rr_space.specs.Tables.{Table}
+use Rattle.rr_space.specs.declared.refer.Ref.TheVariants.{Nil}
 use Rattle.rr_tree.specs.Tree.{Tree, tree_at}
 use Rattle.rr_tree.specs.declared.program.Program.{Program}
 use Rattle.rr_eval.specs.declared.problem.Answer.TheVariants.{Gave, Raised}
 use Rattle.rr_eval.specs.declared.run.Outcome.{Outcome as RunOutcome}
 use Rattle.rr_eval.specs.declared.run.Outcome.TheVariants as outcomes
-use Rattle.rr_eval.specs.Script.{Outcome, Ended, Spent, objects_of}
+use Rattle.rr_eval.specs.Script.{Asked, Prints, World, Outcome, Ended, Spent, Waits, objects_of}
 use Rattle.rr_eval.specs.Rules.{Context, meaning, start_state}
-use Rattle.rr_eval.specs.Messages.{report}
+use Rattle.rr_eval.specs.Exceptions.{IsTold}
 use Rattle.rr_eval.specs.Written.{Written, WritesAll, WritesBeginning, FallsShort}
 use Rattle.rr_eval.specs.Turns.{context_of}
 use Rattle.rr_eval.specs.Acts.{IsRefusal, Passes}
 
+-- what a request prints
+abbrev pub piece_asked : Asked → List ℕ
+piece_asked (Prints piece) = piece
+
+-- what requests printed
+abbrev pub text_asked : List Asked → List ℕ
+text_asked asked = flat_map piece_asked asked
+
 -- what an evaluation printed
 abbrev pub text_of : Outcome → List ℕ
-text_of (Ended a s n) = concat s.out
-text_of (Spent s) = concat s.out
+text_of (Ended a s n) = text_asked s.asked
+text_of (Spent s) = text_asked s.asked
+text_of (Waits s) = text_asked s.asked
+
+-- the environment of a script that runs alone: what is to be printed is printed, and the reply is nil
+abbrev pub alone : World
+alone asked (Prints piece) t = Some (record { answer = Gave Nil; table = t })
 
 -- it ended with a value; it raised an exception, of which this is told; it ran out of steps
 abbrev pub IsDone : Outcome → Type 0
 IsDone (Ended (Gave v) s n) = Unit {0}
 IsDone _ = ⊥
 
-abbrev pub IsRaised : Context → Outcome → List ℕ → Type 0
-IsRaised c (Ended (Raised e) s n) told = told ≡ report c e
-IsRaised c _ told = ⊥
+abbrev pub IsRaised : Outcome → List ℕ → Type 0
+IsRaised (Ended (Raised v) s n) told = IsTold s.memory.table v told
+IsRaised _ told = ⊥
 
 abbrev pub IsSpent : Outcome → Type 0
 IsSpent (Spent s) = Unit {0}
 IsSpent _ = ⊥
 
 -- What a run leaves of what a program means.
-abbrev pub Leaves : Written → Written → Context → Outcome → RunOutcome → Type 0
-Leaves old new c o outcomes.Done = IsDone o × WritesAll old new (text_of o)
-Leaves old new c o (outcomes.Raised told) = IsRaised c o told.items × WritesAll old new (text_of o)
-Leaves old new c o outcomes.StepLimit = IsSpent o × WritesAll old new (text_of o)
-Leaves old new c o outcomes.OutputFailed = FallsShort old new (text_of o)
-Leaves old new c o (outcomes.Stopped fault) = IsRefusal fault × WritesBeginning old new (text_of o)
+abbrev pub Leaves : Written → Written → Outcome → RunOutcome → Type 0
+Leaves old new o outcomes.Done = IsDone o × WritesAll old new (text_of o)
+Leaves old new o (outcomes.Raised told) = IsRaised o told.items × WritesAll old new (text_of o)
+Leaves old new o outcomes.StepLimit = IsSpent o × WritesAll old new (text_of o)
+Leaves old new o outcomes.OutputFailed = FallsShort old new (text_of o)
+Leaves old new o (outcomes.Stopped fault) = IsRefusal fault × WritesBeginning old new (text_of o)
 
 -- A run that comes to its end makes no more objects than there may be, and it stops at the limit of slots only where
 -- more are made.
@@ -110,9 +124,9 @@ Reads source (Err fault) = Refuses source fault
 abbrev pub no_objects : ℕ → Table
 no_objects slots = record { slots = []; below = []; keys = []; limit = slots; owner = 1; next_message = 1 }
 
--- what a script does within limits
+-- what a script that runs alone does within limits
 abbrev pub script_meaning : Context → Tree → Limits → Outcome
-script_meaning c tree within = meaning c tree (start_state c (no_objects within.slots)) within.steps
+script_meaning c tree within = meaning c alone tree (start_state c (no_objects within.slots)) within.steps
 
 -- what a program does
 abbrev pub program_meaning : Program → Limits → Outcome
@@ -131,7 +145,7 @@ pub record RunsScript (r : Run) (outcome : RunOutcome) : Type 0 where
   pub context : Context
   pub tree : Tree
   pub script : IsScript r.source context tree
-  pub leaves : Leaves r.before r.after context (script_meaning context tree r.limits) outcome
+  pub leaves : Leaves r.before r.after (script_meaning context tree r.limits) outcome
   pub within : WithinSlots r.limits.slots (script_meaning context tree r.limits) outcome
 
 -- The source was not read, and nothing was written.

@@ -1,50 +1,79 @@
--- What a rule says: evaluate a part, change the state, print, answer.
-use Rattle.std.specs.Prelude.{ℕ, List, [], ◌∷◌, ◌++◌, length}
+-- What a rule says: evaluate a part, look at the memory, change it, ask the environment, answer.
+use Rattle.std.specs.Prelude.{ℕ, List, [], ◌∷◌, ◌++◌, length, Option, Some, None}
 use Rattle.rr_space.specs.Tables.{Table}
 use Rattle.rr_space.specs.declared.refer.Ref.{Ref}
 use Rattle.rr_tree.specs.Tree.{Tree}
 use Rattle.rr_eval.specs.declared.problem.Answer.{Answer}
 
--- the variables by the numbers of their names, and the objects
+-- the variables by their numbers, and the objects
 pub record Memory : Type 0 where
   pub vars : List Ref
   pub table : Table
 
--- the memory, and what was printed, one piece for each `puts`
+-- what a rule asks of the environment: to print a piece
+pub data Asked : Type 0 where
+  Prints : List ℕ → Asked
+
+-- what the environment answers, and the objects then
+pub record Reply : Type 0 where
+  pub answer : Answer
+  pub table : Table
+
+-- the environment: what it answers to a request, after what was asked before, where these objects are; it may leave a
+-- request without a reply
+abbrev pub World : Type 0
+World = List Asked → Asked → Table → Option Reply
+
+-- the memory, and what was asked so far
 pub record State : Type 0 where
   pub memory : Memory
-  pub out : List (List ℕ)
+  pub asked : List Asked
 
--- a rule: it answers, or evaluates a tree and goes on with its answer, or reads and changes the memory and goes on with
--- an answer, or prints a piece
+-- a rule: it answers, or evaluates a tree and goes on with its answer, or looks at the memory and goes on, or changes the
+-- memory and goes on, or asks and goes on with the reply
 pub data Script : Type 0 where
   Ret : Answer → Script
   Go : Tree → (Answer → Script) → Script
-  Do : (Memory → Answer × Memory) → (Answer → Script) → Script
-  Put : (Memory → List ℕ) → Script → Script
+  See : (Memory → Script) → Script
+  Do : (Memory → Memory) → Script → Script
+  Ask : Asked → (Answer → Script) → Script
 
--- how an evaluation ends: with an answer, the state and the steps that are left, or out of steps
+-- how an evaluation ends: with an answer, the state and the steps that are left; out of steps; or with a request that has
+-- no reply
 pub data Outcome : Type 0 where
   Ended : Answer → State → ℕ → Outcome
   Spent : State → Outcome
+  Waits : State → Outcome
 
 -- how many objects there are then
 abbrev pub objects_of : Outcome → ℕ
 objects_of (Ended a s n) = length s.memory.table.slots
 objects_of (Spent s) = length s.memory.table.slots
+objects_of (Waits s) = length s.memory.table.slots
 
 -- goes on from where an evaluation ended
 abbrev pub after : Outcome → (Answer → State → ℕ → Outcome) → Outcome
 after (Ended a s n) next = next a s n
 after (Spent s) next = Spent s
+after (Waits s) next = Waits s
+
+-- what a reply does
+abbrev pub taken : Option Reply → State → ℕ → Outcome
+taken None s n = Waits s
+taken (Some r) s n = Ended r.answer (record s { memory = record s.memory { table = r.table } }) n
+
+-- what a request does
+abbrev pub asks : World → Asked → State → ℕ → Outcome
+asks w q s n = taken (w s.asked q s.memory.table) (record s { asked = s.asked ++ q ∷ [] }) n
 
 -- what trees do in a state, with so many steps to spend
 abbrev pub Evaluation : Type 0
 Evaluation = Tree → State → ℕ → Outcome
 
 -- what a rule does, where `go` evaluates its parts
-abbrev pub run : Evaluation → Script → State → ℕ → Outcome
-run go (Ret a) s n = Ended a s n
-run go (Go tree next) s n = after (go tree s n) (λ a. run go (next a))
-run go (Do act next) s n = run go (next (act s.memory).0) (record s { memory = (act s.memory).1 }) n
-run go (Put piece next) s n = run go next (record s { out = s.out ++ piece s.memory ∷ [] }) n
+abbrev pub run : World → Evaluation → Script → State → ℕ → Outcome
+run w go (Ret a) s n = Ended a s n
+run w go (Go tree next) s n = after (go tree s n) (λ a. run w go (next a))
+run w go (See look) s n = run w go (look s.memory) s n
+run w go (Do act next) s n = run w go next (record s { memory = act s.memory }) n
+run w go (Ask q next) s n = after (asks w q s n) (λ a. run w go (next a))

@@ -9,16 +9,22 @@ ghost use Rattle.rr_tree.specs.declared.program.Program.{Program};
 ghost use Rattle.rr_tree.specs.Tree.{tree_at};
 ghost use Rattle.rr_eval.specs.Acts.{Passes};
 ghost use Rattle.rr_eval.specs.Script.{Ended, objects_of};
+ghost use Rattle.rr_eval.specs.Requests.{Course, Adds};
+ghost use Rattle.rr_eval.specs.Changes.{Changes};
 ghost use Rattle.rr_eval.specs.Frames.{below_of, base_of, Nested};
 ghost use Rattle.rr_eval.specs.Nodes.{evaluated_tree, IsEvaluated, IsRareNode};
-ghost use Rattle.rr_eval.specs.Turns.{state_of, remaining, after_answer, IsNested, printed, Stands, leaf_value, Turned, size, power, Falls};
+ghost use Rattle.rr_eval.specs.Turns.{context_of, state_of, remaining, remaining_with, after_script, after_answer, continuing, IsNested, Stands, leaf_value, Turned, size, sized, power, Falls};
 ghost use Rattle.rr_eval.specs.Views.{view_of};
+ghost use Rattle.rr_eval.specs.Within.{AreWithin, IsAnswerWithin, IsFrameWithin, IsTurnWithin};
+ghost use Rattle.rr_space.specs.Views.{IsWithin};
+ghost use Rattle.std.specs.List.{All};
 
 use crate::frame::{Control, Frame};
 use crate::nodes::evaluated_node;
 use crate::operator::on_integers;
-use crate::problem::{Answer, Problem};
-use rr_base::{Fault, Sym};
+use crate::problem::Answer;
+use crate::request::Request;
+use rr_base::Fault;
 use rr_space::{Ref, Space};
 use rr_tree::{BinaryOperator, Node, NodeId, Program};
 use std::alloc::Global;
@@ -30,7 +36,7 @@ pub struct Engine {
     pub frames: Vec<Frame>,
     /// The values of arguments that were evaluated so far, those of the topmost frame last.
     pub held: Vec<Ref>,
-    /// The variables, by the numbers of their names.
+    /// The variables, by their numbers.
     pub vars: Vec<Ref>,
     /// The steps that are left.
     pub left: u64,
@@ -42,12 +48,12 @@ pub struct Engine {
 pub enum Turn {
     /// The steps of the turn are spent.
     More,
-    /// A piece of output.
-    Print(Vec<u8>),
+    /// A request to the environment, which replies before the next turn.
+    Ask(Request),
     /// The value of all.
     Done(Ref),
     /// An exception that nothing rescues.
-    Raised(Problem),
+    Raised(Ref),
     /// No step is left.
     StepLimit,
 }
@@ -67,10 +73,11 @@ pub fn push_within<T: Drop>(items: &mut Vec<T>, item: T)
 impl Engine {
     /// The value of a variable.
     #[inline(always)]
-    pub fn variable(&self, name: Sym) -> Ref
-        ensures { result ≡ slice_index_or self.now.vars.items name.0 Ref.Nil }
+    pub fn variable(&self, slot: u32) -> Ref
+        ensures value { result ≡ slice_index_or self.now.vars.items slot Ref.Nil }
+        ensures within { (k : ℕ) → All (IsWithin k) self.now.vars.items → IsWithin k result }
     {
-        match self.vars.get(name.0 as usize) {
+        match self.vars.get(slot as usize) {
             Some(value) => *value,
             None => Ref::Nil,
         }
@@ -83,7 +90,7 @@ impl Engine {
     {
         match evaluated_node(program, place) {
             Node::Int(z) => Some(z),
-            Node::Local(name) => match self.variable(name) {
+            Node::Local { slot, .. } => match self.variable(slot) {
                 Ref::Int(z) => Some(z),
                 _ => None,
             },
@@ -105,16 +112,17 @@ impl Engine {
         requires node { tree_at program.now.nodes.items here ≡ evaluated_tree program.now.nodes.items (Node.Binary op a b) }
         requires some { 2 < self.old.left }
         requires nested { IsNested (view_of self.old) }
-        ensures goes { IsTrue result → (t : Table) (out : List (List ℕ)) → remaining program.now (view_of self.old) t out ≡ remaining program.now (view_of self.new) t out }
+        ensures goes { IsTrue result → (t : Table) (h : Course) → remaining program.now (view_of self.old) t h ≡ remaining program.now (view_of self.new) t h }
         ensures nested { IsNested (view_of self.new) }
+        ensures within { (k : ℕ) → AreWithin k (view_of self.old) → AreWithin k (view_of self.new) }
         ensures left { IsTrue result → self.new.left + 3 ≡ self.old.left }
-        ensures size { IsTrue result → size (view_of self.new) ≤ size (view_of self.old) + 1 }
+        ensures size { IsTrue result → size (view_of self.new) ≤ size (view_of self.old) + 4 }
         ensures not { IsFalse result → self.new ≡ self.old }
     {
         match (self.leaf(program, a), self.leaf(program, b)) {
             (Some(x), Some(y)) => {
                 self.left -= 3;
-                self.control = Control::Give(on_integers(op, x, y));
+                self.settle(on_integers(op, x, y));
                 true
             }
             _ => false,
@@ -131,8 +139,9 @@ impl Engine {
         requires some { stop < self.old.left }
         requires room { length self.old.frames.items < vec_capacity self.old.frames }
         requires nested { IsNested (view_of self.old) }
-        ensures goes { IsTrue result → (t : Table) (out : List (List ℕ)) → remaining program.now (view_of self.old) t out ≡ remaining program.now (view_of self.new) t out }
+        ensures goes { IsTrue result → (t : Table) (h : Course) → remaining program.now (view_of self.old) t h ≡ remaining program.now (view_of self.new) t h }
         ensures nested { IsNested (view_of self.new) }
+        ensures within { (k : ℕ) → AreWithin k (view_of self.old) → AreWithin k (view_of self.new) }
         ensures left { IsTrue result → stop ≤ self.new.left }
         ensures spends { IsTrue result → self.new.left < self.old.left }
         ensures falls { IsTrue result → power (view_of self.new) + self.old.left ≤ power (view_of self.old) + self.new.left }
@@ -157,14 +166,15 @@ impl Engine {
         requires some { 0 < self.old.left }
         requires room { length self.old.frames.items < vec_capacity self.old.frames }
         requires nested { IsNested (view_of self.old) }
-        ensures goes { IsTrue result → (t : Table) (out : List (List ℕ)) → remaining program.now (view_of self.old) t out ≡ remaining program.now (view_of self.new) t out }
+        ensures goes { IsTrue result → (t : Table) (h : Course) → remaining program.now (view_of self.old) t h ≡ remaining program.now (view_of self.new) t h }
         ensures nested { IsNested (view_of self.new) }
+        ensures within { (k : ℕ) → AreWithin k (view_of self.old) → AreWithin k (view_of self.new) }
         ensures left { IsTrue result → self.new.left + 1 ≡ self.old.left }
-        ensures size { IsTrue result → size (view_of self.new) ≤ size (view_of self.old) + 2 }
+        ensures size { IsTrue result → size (view_of self.new) ≤ size (view_of self.old) + 4 }
         ensures same { IsFalse result → self.new ≡ self.old }
         ensures rare { IsFalse result → IsRareNode node }
     {
-        if self.open(node) {
+        if self.open(program, here, node) {
             self.left -= 1;
             return true;
         }
@@ -179,40 +189,47 @@ impl Engine {
         space: &mut Space,
         here: NodeId,
         node: Node,
-    ) -> Result<Option<Vec<u8>>, Fault>
+    ) -> Result<Option<Request>, Fault>
         requires control { self.old.control ≡ Control.Enter here }
         requires tree { tree_at program.now.nodes.items here ≡ evaluated_tree program.now.nodes.items node }
         requires evaluated { IsEvaluated node }
         requires rare { IsRareNode node }
         requires some { 0 < self.old.left }
         requires nested { IsNested (view_of self.old) }
-        ensures goes { IfOk result (λ piece. (out : List (List ℕ)) → remaining program.now (view_of self.old) space.old out ≡ remaining program.now (view_of self.new) space.new (printed out piece)) }
+        requires within { AreWithin (length space.old.slots) (view_of self.old) }
+        ensures goes { IfOk result (λ q. (h : Course) → remaining program.now (view_of self.old) space.old h ≡ continuing program.now (view_of self.new) space.new q h self.new.left) }
         ensures nested { IsNested (view_of self.new) }
+        ensures within { AreWithin (length space.new.slots) (view_of self.new) }
         ensures left { OnOk result (self.new.left + 1 ≡ self.old.left) }
-        ensures size { OnOk result (size (view_of self.new) ≤ size (view_of self.old) + 2) }
+        ensures size { IfOk result (λ q. sized q (view_of self.new) ≤ size (view_of self.old) + 4) }
         ensures err { IfErr result (λ f. Stands (view_of self.old) (view_of self.new) space.old space.new f) }
         ensures limit { space.new.limit ≡ space.old.limit }
-        ensures full { IfErr result (λ f. (out : List (List ℕ)) → Passes f space.old.limit (objects_of (remaining program.now (view_of self.old) space.old out))) }
+        ensures changed { Changes space.old space.new }
+        ensures full { IfErr result (λ f. (h : Course) → Adds h.world → Passes f space.old.limit (objects_of (remaining program.now (view_of self.old) space.old h))) }
     {
         match self.open_rare(program, space, node) {
-            Ok(piece) => {
+            Ok(request) => {
                 self.left -= 1;
-                Ok(piece)
+                Ok(request)
             }
             Err(fault) => Err(fault),
         }
     }
 
     /// Takes the topmost frame off the stack, where there is one.
+    #[tactic(auto, unfolding(crate::specs::Within::AreWithin))]
     #[inline(always)]
     fn pop_frame(&mut self, answer: Answer) -> Option<Frame>
         requires control { self.old.control ≡ Control.Give answer }
         requires nested { IsNested (view_of self.old) }
-        ensures goes { (p : Program) (t : Table) (out : List (List ℕ)) → MatchOption result (remaining p (view_of self.old) t out ≡ Ended answer (state_of (view_of self.new) t out) self.new.left) (λ f. remaining p (view_of self.old) t out ≡ after_answer p (view_of self.new) t f answer out self.new.left) }
+        ensures goes { (p : Program) (t : Table) (h : Course) → MatchOption result (remaining p (view_of self.old) t h ≡ Ended answer (state_of (view_of self.new) t h) self.new.left) (λ f. remaining p (view_of self.old) t h ≡ after_answer p (view_of self.new) t f answer h self.new.left) }
         ensures nested { MatchOption result (IsNested (view_of self.new)) (λ f. Nested (reverse self.new.frames.items) (below_of f self.new.held.items)) }
+        ensures within { (k : ℕ) → AreWithin k (view_of self.old) → AreWithin k (view_of self.new) }
+        ensures frame { (k : ℕ) → AreWithin k (view_of self.old) → IfSome result (IsFrameWithin k) }
+        ensures given { (k : ℕ) → AreWithin k (view_of self.old) → IsAnswerWithin k answer }
         ensures base { IfSome result (λ f. base_of f ≤ length self.new.held.items) }
         ensures room { IfSome result (λ _. length self.new.frames.items < vec_capacity self.new.frames) }
-        ensures size { IfSome result (λ _. size (view_of self.old) ≡ 2 * length self.new.frames.items + 3) }
+        ensures size { IfSome result (λ _. size (view_of self.old) ≡ 3 * length self.new.frames.items + 5) }
         ensures control { self.new.control ≡ self.old.control }
         ensures left { self.new.left ≡ self.old.left }
     {
@@ -220,15 +237,17 @@ impl Engine {
     }
 
     /// Makes room for one more frame.
+    #[tactic(auto, unfolding(crate::specs::Within::AreWithin))]
     #[inline(always)]
     fn make_room(&mut self) -> Result<(), Fault>
         requires nested { IsNested (view_of self.old) }
         ensures nested { IsNested (view_of self.new) }
+        ensures within { (k : ℕ) → AreWithin k (view_of self.old) → AreWithin k (view_of self.new) }
         ensures room { OnOk result (length self.new.frames.items < vec_capacity self.new.frames) }
         ensures control { self.new.control ≡ self.old.control }
         ensures left { self.new.left ≡ self.old.left }
         ensures size { size (view_of self.new) ≡ size (view_of self.old) }
-        ensures goes { (p : Program) (t : Table) (out : List (List ℕ)) → remaining p (view_of self.old) t out ≡ remaining p (view_of self.new) t out }
+        ensures goes { (p : Program) (t : Table) (h : Course) → remaining p (view_of self.old) t h ≡ remaining p (view_of self.new) t h }
         ensures fault { IfErr result (λ f. f ≡ Fault.Memory) }
     {
         self.frames.reserve(1)?;
@@ -236,13 +255,18 @@ impl Engine {
     }
 
     /// At most `budget` steps. A refused growth leaves what is still to be done as it is, and the next turn goes on there.
+    #[tactic(auto, using(crate::proofs::Changing::changes_trans, crate::proofs::Changing::changes_none))]
     pub fn turn(&mut self, program: &Program, space: &mut Space, budget: u32) -> Result<Turn, Fault>
         requires nested { IsNested (view_of self.old) }
+        requires within { AreWithin (length space.old.slots) (view_of self.old) }
         ensures nested { IsNested (view_of self.new) }
+        ensures within { AreWithin (length space.new.slots) (view_of self.new) }
+        ensures ends_within { IfOk result (IsTurnWithin (length space.new.slots)) }
         ensures turned { Turned program.now (view_of self.old) space.old budget result (view_of self.new) space.new }
         ensures falls { 0 < budget → Falls (view_of self.old) result (view_of self.new) }
         ensures limit { space.new.limit ≡ space.old.limit }
-        ensures full { IfErr result (λ f. (out : List (List ℕ)) → Passes f space.old.limit (objects_of (remaining program.now (view_of self.old) space.old out))) }
+        ensures changed { Changes space.old space.new }
+        ensures full { IfErr result (λ f. (h : Course) → Adds h.world → Passes f space.old.limit (objects_of (remaining program.now (view_of self.old) space.old h))) }
     {
         let stop = self.left.saturating_sub(u64::from(budget));
         loop {
@@ -252,17 +276,19 @@ impl Engine {
                         return Ok(Turn::Done(value));
                     };
                     if !self.resume(program, frame, value, stop)
-                        && let Some(piece) = self.resume_rare(space, frame, value)?
+                        && let Some(request) = self.resume_rare(space, frame, value)?
                     {
-                        return Ok(Turn::Print(piece));
+                        return Ok(Turn::Ask(request));
                     }
                 }
-                Control::Give(Answer::Raised(problem)) => {
-                    let Some(frame) = self.pop_frame(Answer::Raised(problem)) else {
-                        return Ok(Turn::Raised(problem));
+                Control::Give(Answer::Raised(exception)) => {
+                    let Some(frame) = self.pop_frame(Answer::Raised(exception)) else {
+                        return Ok(Turn::Raised(exception));
                     };
-                    self.pass(frame, problem);
+                    self.pass(frame, exception);
                 }
+                Control::Throw(problem) => self.throw(program, space, problem)?,
+                Control::Raise(class, message) => self.raise(space, class, message)?,
                 Control::Enter(here) => {
                     if self.left == 0 {
                         return Ok(Turn::StepLimit);
@@ -273,9 +299,9 @@ impl Engine {
                     self.make_room()?;
                     let node = evaluated_node(program, here);
                     if !self.visit_usual(program, here, node, stop)
-                        && let Some(piece) = self.visit_rare(program, space, here, node)?
+                        && let Some(request) = self.visit_rare(program, space, here, node)?
                     {
-                        return Ok(Turn::Print(piece));
+                        return Ok(Turn::Ask(request));
                     }
                 }
             }

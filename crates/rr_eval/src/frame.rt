@@ -1,22 +1,33 @@
 //! What the machine has still to do.
 
-use crate::problem::Answer;
-use rr_base::Sym;
+use crate::problem::{Answer, Problem};
+use rr_base::ClassId;
 use rr_space::Ref;
 use rr_tree::{BinaryOperator, NodeId};
 
 /// What waits for the answer of a part.
 #[derive(Clone, Copy)]
 pub enum Frame {
+    /// `!`.
+    Not,
     /// Unary minus.
     Negation,
+    /// `&&`, with its right operand still to be evaluated.
+    And(NodeId),
+    /// `||`, with its right operand still to be evaluated.
+    Or(NodeId),
     /// An operator, with its right operand still to be evaluated.
     Left(BinaryOperator, NodeId),
     /// An operator, with the value of its left operand.
     Right(BinaryOperator, Ref),
-    Store(Sym),
+    /// An assignment, with the number of its variable.
+    Store(u32),
     /// The parts for true and for false.
     Branch(NodeId, NodeId),
+    /// The condition of a loop: whether the loop goes on until it holds, the body, and the loop itself.
+    Condition(bool, NodeId, NodeId),
+    /// The body of a loop, and the loop itself.
+    Body(NodeId),
     /// Statements: the number behind the last one, and how many are still to be evaluated.
     Rest(NodeId, u32),
     /// Arguments of `puts`: the number behind the last one, how many are still to be evaluated, and where the values of
@@ -29,4 +40,8 @@ pub enum Frame {
 pub enum Control {
     Enter(NodeId),
     Give(Answer),
+    /// An exception that is made and raised, its message first.
+    Throw(Problem),
+    /// An exception of a class, with the message that was made for it, which is made and raised.
+    Raise(ClassId, Ref),
 }

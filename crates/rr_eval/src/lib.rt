@@ -3,23 +3,27 @@
 
 mod counted;
 mod engine;
+mod environment;
+mod exception;
 mod frame;
-mod integer;
 mod machine;
+mod message;
 mod nodes;
 mod open;
 mod operator;
 mod output;
 mod print;
 mod problem;
-mod report;
+mod request;
 mod resume;
 mod run;
+mod throw;
 mod value;
 
 pub use counted::Counted;
 pub use engine::Turn;
-pub use integer::{division_rounds_down, floor_div, floor_mod};
-pub use machine::{Machine, rules_hold};
+pub use environment::{Ending, Environment, replies_hold, run_in};
+pub use machine::{Machine, exceptions_hold, rules_hold};
 pub use problem::{Answer, Problem, ValueClass};
+pub use request::Request;
 pub use run::{Outcome, run_source, run_source_within};

@@ -7,12 +7,20 @@ ghost use Rattle.rr_space.specs.Tables.{Table};
 ghost use Rattle.rr_tree.specs.declared.program.Program.{Program};
 ghost use Rattle.rr_tree.specs.Tree.{Tree, tree_at, listed};
 ghost use Rattle.rr_eval.specs.Acts.{Passes};
-ghost use Rattle.rr_eval.specs.Script.{State, run, Spent, objects_of};
-ghost use Rattle.rr_eval.specs.Rules.{Context, rule, meaning, items};
-ghost use Rattle.rr_eval.specs.Turns.{context_of, remaining, Turned, Falls};
+ghost use Rattle.rr_eval.specs.Script.{State, World, Evaluation, run, Ended, Spent, objects_of};
+ghost use Rattle.rr_eval.specs.Rules.{Context, rule, throw, meaning, items};
+ghost use Rattle.rr_eval.specs.Requests.{Course, Adds};
+ghost use Rattle.rr_eval.specs.Exceptions.{IsTold};
+ghost use Rattle.rr_eval.specs.Thrown.{thrown, thrown_at, report};
+ghost use Rattle.rr_eval.specs.declared.problem.Problem.{Problem};
+ghost use Rattle.rr_eval.specs.declared.problem.Answer.{Answer};
+ghost use Rattle.rr_eval.specs.Changes.{Changes};
+ghost use Rattle.rr_eval.specs.Within.{AreWithin, IsAnswerWithin, IsTurnWithin};
+ghost use Rattle.rr_eval.specs.Turns.{context_of, remaining, answered, Turned, Replied, Falls};
 
 use crate::engine::{Engine, Turn};
 use crate::frame::Control;
+use crate::problem::Answer;
 use rr_base::Fault;
 use rr_space::{Ref, Space};
 use rr_tree::Program;
@@ -54,9 +62,11 @@ fn unset(alloc: Global, count: usize) -> Result<Vec<Ref>, AllocError>
 
 impl Machine {
     /// A machine that has the whole program still to do, with `steps` steps to spend. The only fault is `Memory`.
+    #[tactic(auto, unfolding(crate::specs::Within::AreWithin))]
     pub fn new(alloc: Global, program: &Program, steps: u64) -> Result<Machine, Fault>
         ensures left { IfOk result (λ m. m.left ≡ steps) }
-        ensures whole { IfOk result (λ m. (t : Table) (out : List (List ℕ)) → remaining program.now m t out ≡ meaning (context_of program.now) (tree_at program.now.nodes.items program.now.root) (record { memory = record { vars = replicate (length program.now.symbols.items) Ref.Nil; table = t }; out = out }) steps) }
+        ensures within { IfOk result (λ m. (k : ℕ) → AreWithin k m) }
+        ensures whole { IfOk result (λ m. (t : Table) (h : Course) → remaining program.now m t h ≡ meaning (context_of program.now) h.world (tree_at program.now.nodes.items program.now.root) (record { memory = record { vars = replicate (length program.now.symbols.items) Ref.Nil; table = t }; asked = h.asked }) steps) }
         ensures fault { IfErr result (λ f. f ≡ Fault.Memory) }
     {
         let engine = Engine {
@@ -70,25 +80,47 @@ impl Machine {
         Ok(Machine { engine })
     }
 
-    /// Takes at most `budget` steps, and fewer where it comes to a piece of output, to the end, or to the step limit.
+    /// Takes at most `budget` steps, and fewer where it comes to a request, to the end, or to the step limit. After a
+    /// request the machine is given its reply, by `answer`, before the next turn.
     ///
     /// The faults are `Memory` and `Limit(Slots)`, the second only where what is still to be done makes more objects than
     /// the space may have. A refused growth leaves what is still to be done as it is, and the
     /// next turn goes on there.
     pub fn turn(&mut self, program: &Program, space: &mut Space, budget: u32) -> Result<Turn, Fault>
+        requires within { AreWithin (length space.old.slots) self.old }
+        ensures within { AreWithin (length space.new.slots) self.new }
+        ensures ends_within { IfOk result (IsTurnWithin (length space.new.slots)) }
         ensures turned { Turned program.now self.old space.old budget result self.new space.new }
         ensures falls { 0 < budget → Falls self.old result self.new }
         ensures limit { space.new.limit ≡ space.old.limit }
-        ensures full { IfErr result (λ f. (out : List (List ℕ)) → Passes f space.old.limit (objects_of (remaining program.now self.old space.old out))) }
+        ensures changed { Changes space.old space.new }
+        ensures full { IfErr result (λ f. (h : Course) → Adds h.world → Passes f space.old.limit (objects_of (remaining program.now self.old space.old h))) }
     {
         self.engine.turn(program, space, budget)
+    }
+
+    /// Goes on with what the environment replied to the request of the last turn. The environment may have changed the
+    /// space before.
+    #[tactic(auto, unfolding(crate::specs::Within::AreWithin))]
+    pub fn answer(&mut self, answer: Answer)
+        ensures goes { self.new ≡ answered self.old answer }
+        ensures within { (k : ℕ) → AreWithin k self.old → IsAnswerWithin k answer → AreWithin k self.new }
+        ensures replied { (p : Program) → Replied p self.old answer }
+    {
+        self.engine.control = Control::Give(answer);
     }
 }
 
 /// Each tree does what its rule says, over what its parts do; without steps it does nothing; and a list of trees has
 /// these trees, in their order.
 pub fn rules_hold()
-    ensures rule { (c : Context) (tree : Tree) (s : State) (n : ℕ) → meaning c tree s (suc n) ≡ run (meaning c) (rule c tree) s n }
-    ensures spent { (c : Context) (tree : Tree) (s : State) → meaning c tree s 0 ≡ Spent s }
+    ensures rule { (c : Context) (w : World) (tree : Tree) (s : State) (n : ℕ) → meaning c w tree s (suc n) ≡ run w (meaning c w) (rule c tree) s n }
+    ensures spent { (c : Context) (w : World) (tree : Tree) (s : State) → meaning c w tree s 0 ≡ Spent s }
     ensures lists { (trees : List Tree) → items (listed trees) ≡ trees }
+{}
+
+/// An exception that is thrown is made with its message, and what is told of it has that message and its class.
+pub fn exceptions_hold()
+    ensures thrown { (c : Context) (w : World) (go : Evaluation) (e : Problem) (s : State) (n : ℕ) → run w go (throw c e) s n ≡ Ended (Answer.Raised (thrown_at c e s.memory.table)) (record s { memory = record s.memory { table = thrown c e s.memory.table } }) n }
+    ensures told { (c : Context) (e : Problem) (t : Table) (told : List ℕ) → IsTold (thrown c e t) (thrown_at c e t) told → told ≡ report c e }
 {}

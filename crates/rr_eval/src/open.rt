@@ -1,6 +1,6 @@
 //! What a node does first.
 
-ghost use Rattle.std.specs.Prelude.{◌≡◌, ◌+◌, ◌-◌, ◌*◌, ◌<◌, ◌≤◌, ◌^◌, ℕ, List, [], ◌∷◌, length, slice_index_or, vec_capacity, IfOk, IfErr, IsTrue, IsFalse};
+ghost use Rattle.std.specs.Prelude.{◌≡◌, ◌+◌, ◌-◌, ◌*◌, ◌<◌, ◌≤◌, ◌^◌, ℕ, List, [], ◌∷◌, true, length, slice_index_or, vec_capacity, IfOk, IfErr, IsTrue, IsFalse};
 ghost use Rattle.rr_base.specs.declared.fault.Fault.{Fault};
 ghost use Rattle.rr_space.specs.Tables.{Table};
 ghost use Rattle.rr_tree.specs.Tree.{tree_at};
@@ -8,20 +8,25 @@ ghost use Rattle.rr_tree.specs.declared.node.Node.{Node};
 ghost use Rattle.rr_tree.specs.declared.program.Program.{Program};
 ghost use Rattle.rr_eval.specs.declared.frame.Control.{Control};
 ghost use Rattle.rr_eval.specs.Acts.{Passes};
-ghost use Rattle.rr_eval.specs.Script.{Go, Do, Ret, objects_of};
+ghost use Rattle.rr_eval.specs.Script.{Go, objects_of};
+ghost use Rattle.rr_eval.specs.Requests.{Course, Adds};
+ghost use Rattle.rr_eval.specs.Changes.{Changes};
 ghost use Rattle.rr_eval.specs.Operators.{make};
-ghost use Rattle.rr_eval.specs.Rules.{rule, statements, on_table, put};
-ghost use Rattle.rr_eval.specs.Nodes.{evaluated_tree, trees_before, IsEvaluated, IsRareNode};
+ghost use Rattle.rr_eval.specs.Rules.{rule, statements, values, on_table, put, is_puts, bare_rule, call_rule};
+ghost use Rattle.rr_tree.specs.Nodes.{trees_before};
+ghost use Rattle.rr_eval.specs.Nodes.{evaluated_tree, IsEvaluated, IsRareNode, is_unknown};
 ghost use Rattle.rr_eval.specs.Frames.{resumed, IsNew};
-ghost use Rattle.rr_eval.specs.Turns.{context_of, IsNested, after_script, remaining_with, printed, Stands, size};
+ghost use Rattle.rr_eval.specs.Turns.{context_of, code_of, IsNested, after_script, remaining_with, continuing, Stands, size, sized};
 ghost use Rattle.rr_eval.specs.Views.{view_of};
+ghost use Rattle.rr_eval.specs.Within.{AreWithin, IsFrameWithin};
 
 use crate::engine::{Engine, push_within};
 use crate::frame::{Control, Frame};
 use crate::operator::make;
 use crate::print::empty_piece;
 use crate::problem::{Answer, Problem};
-use rr_base::Fault;
+use crate::request::Request;
+use rr_base::{Fault, Sym};
 use rr_space::{Ref, Space};
 use rr_tree::{Node, NodeId, Program};
 use std::alloc::{AllocError, Global};
@@ -36,6 +41,13 @@ fn literal(alloc: Global, program: &Program, i: u32) -> Result<Vec<u8>, AllocErr
     }
 }
 
+/// Whether a name is `puts`.
+fn is_puts(program: &Program, name: Sym) -> bool
+    ensures { result ≡ is_puts (context_of program.now) name.0 }
+{
+    program.symbol_bytes(name) == b"puts".as_slice()
+}
+
 impl Engine {
     /// Answers at once.
     #[inline(always)]
@@ -46,29 +58,33 @@ impl Engine {
     }
 
     /// Puts a frame over a part that is evaluated next.
+    #[tactic(auto, unfolding(crate::specs::Within::AreWithin))]
     #[inline(always)]
     pub fn enter_above(&mut self, frame: Frame, part: NodeId)
         requires room { length self.old.frames.items < vec_capacity self.old.frames }
         requires new { IsNew frame (length self.old.held.items) }
         requires nested { IsNested (view_of self.old) }
-        ensures goes { (p : Program) (t : Table) (out : List (List ℕ)) (n : ℕ) → after_script p (view_of self.old) t (Go (tree_at p.nodes.items part) (resumed p.nodes.items frame [])) out n ≡ remaining_with p (view_of self.new) t out n }
+        ensures goes { (p : Program) (t : Table) (h : Course) (n : ℕ) → after_script p (view_of self.old) t (Go (tree_at p.nodes.items part) (resumed (code_of p h.world) frame [])) h n ≡ remaining_with p (view_of self.new) t h n }
         ensures nested { IsNested (view_of self.new) }
+        ensures within { (k : ℕ) → AreWithin k (view_of self.old) → IsFrameWithin k frame → AreWithin k (view_of self.new) }
         ensures left { self.new.left ≡ self.old.left }
-        ensures size { size (view_of self.new) ≤ 2 * length self.old.frames.items + 2 }
+        ensures size { size (view_of self.new) ≤ 3 * length self.old.frames.items + 4 }
     {
         push_within(&mut self.frames, frame);
         self.control = Control::Enter(part);
     }
 
     /// Begins with the last `count` statements before `end`.
+    #[tactic(auto, unfolding(crate::specs::Within::AreWithin))]
     #[inline(always)]
     pub fn begin(&mut self, end: NodeId, count: u32)
         requires room { length self.old.frames.items < vec_capacity self.old.frames }
         requires nested { IsNested (view_of self.old) }
-        ensures goes { (p : Program) (t : Table) (out : List (List ℕ)) (n : ℕ) → after_script p (view_of self.old) t (statements (trees_before p.nodes.items end count)) out n ≡ remaining_with p (view_of self.new) t out n }
+        ensures goes { (p : Program) (t : Table) (h : Course) (n : ℕ) → after_script p (view_of self.old) t (statements (trees_before p.nodes.items end count)) h n ≡ remaining_with p (view_of self.new) t h n }
         ensures nested { IsNested (view_of self.new) }
+        ensures within { (k : ℕ) → AreWithin k (view_of self.old) → AreWithin k (view_of self.new) }
         ensures left { self.new.left ≡ self.old.left }
-        ensures size { size (view_of self.new) ≤ 2 * length self.old.frames.items + 2 }
+        ensures size { size (view_of self.new) ≤ 3 * length self.old.frames.items + 4 }
     {
         match count {
             0 => self.control = Control::Give(Answer::Gave(Ref::Nil)),
@@ -84,20 +100,23 @@ impl Engine {
         program: &Program,
         space: &mut Space,
         i: u32,
-    ) -> Result<Option<Vec<u8>>, Fault>
+    ) -> Result<Option<Request>, Fault>
         requires nested { IsNested (view_of self.old) }
-        ensures goes { IfOk result (λ piece. (out : List (List ℕ)) (n : ℕ) → after_script program.now (view_of self.old) space.old (Do (on_table (make (slice_index_or (context_of program.now).texts i []))) Ret) out n ≡ remaining_with program.now (view_of self.new) space.new (printed out piece) n) }
+        requires within { AreWithin (length space.old.slots) (view_of self.old) }
+        ensures goes { IfOk result (λ q. (h : Course) (n : ℕ) → after_script program.now (view_of self.old) space.old (on_table (context_of program.now) (make (slice_index_or (context_of program.now).texts i []))) h n ≡ continuing program.now (view_of self.new) space.new q h n) }
         ensures nested { IsNested (view_of self.new) }
+        ensures within { AreWithin (length space.new.slots) (view_of self.new) }
         ensures left { self.new.left ≡ self.old.left }
         ensures err { IfErr result (λ f. Stands (view_of self.old) (view_of self.new) space.old space.new f) }
-        ensures size { size (view_of self.new) ≤ 2 * length self.old.frames.items + 2 }
+        ensures size { IfOk result (λ q. sized q (view_of self.new) ≤ 3 * length self.old.frames.items + 4) }
         ensures limit { space.new.limit ≡ space.old.limit }
-        ensures full { IfErr result (λ f. (out : List (List ℕ)) (n : ℕ) → Passes f space.old.limit (objects_of (after_script program.now (view_of self.old) space.old (Do (on_table (make (slice_index_or (context_of program.now).texts i []))) Ret) out n))) }
+        ensures changed { Changes space.old space.new }
+        ensures full { IfErr result (λ f. (h : Course) (n : ℕ) → Adds h.world → Passes f space.old.limit (objects_of (after_script program.now (view_of self.old) space.old (on_table (context_of program.now) (make (slice_index_or (context_of program.now).texts i []))) h n))) }
     {
         let text = literal(self.alloc, program, i)?;
         match make(space, text) {
-            Ok(answer) => {
-                self.control = Control::Give(answer);
+            Ok(what) => {
+                self.settle(what);
                 Ok(None)
             }
             Err(fault) => Err(fault),
@@ -105,30 +124,32 @@ impl Engine {
     }
 
     /// Prints a line end.
+    #[tactic(auto, unfolding(crate::specs::Within::AreWithin))]
     #[inline(never)]
-    fn open_empty_puts(&mut self) -> Result<Option<Vec<u8>>, Fault>
+    fn open_empty_puts(&mut self) -> Result<Option<Request>, Fault>
         requires nested { IsNested (view_of self.old) }
-        ensures goes { IfOk result (λ piece. (p : Program) (t : Table) (out : List (List ℕ)) (n : ℕ) → after_script p (view_of self.old) t (put []) out n ≡ remaining_with p (view_of self.new) t (printed out piece) n) }
+        ensures goes { IfOk result (λ q. (p : Program) (t : Table) (h : Course) (n : ℕ) → after_script p (view_of self.old) t (put []) h n ≡ continuing p (view_of self.new) t q h n) }
         ensures nested { IsNested (view_of self.new) }
+        ensures within { (k : ℕ) → AreWithin k (view_of self.old) → AreWithin k (view_of self.new) }
         ensures left { self.new.left ≡ self.old.left }
         ensures err { (t : Table) → IfErr result (λ f. Stands (view_of self.old) (view_of self.new) t t f) }
-        ensures size { size (view_of self.new) ≤ 2 * length self.old.frames.items + 2 }
+        ensures size { IfOk result (λ q. sized q (view_of self.new) ≤ 3 * length self.old.frames.items + 4) }
         ensures fault { IfErr result (λ f. f ≡ Fault.Memory) }
     {
         let piece = empty_piece(self.alloc)?;
-        self.control = Control::Give(Answer::Gave(Ref::Nil));
-        Ok(Some(piece))
+        Ok(Some(Request::Print(piece)))
     }
 
-    /// Evaluates `puts`.
-    fn open_puts(&mut self, first: NodeId, count: u32) -> Result<Option<Vec<u8>>, Fault>
+    /// Evaluates `puts` with arguments.
+    fn open_puts(&mut self, first: NodeId, count: u32) -> Result<Option<Request>, Fault>
         requires small { first + count < 2 ^ 32 }
         requires nested { IsNested (view_of self.old) }
-        ensures goes { IfOk result (λ piece. (p : Program) (t : Table) (out : List (List ℕ)) (n : ℕ) → after_script p (view_of self.old) t (rule (context_of p) (evaluated_tree p.nodes.items (Node.Puts first count))) out n ≡ remaining_with p (view_of self.new) t (printed out piece) n) }
+        ensures goes { IfOk result (λ q. (p : Program) (t : Table) (h : Course) (n : ℕ) → after_script p (view_of self.old) t (values (trees_before p.nodes.items (first + count) count) [] put) h n ≡ continuing p (view_of self.new) t q h n) }
         ensures nested { IsNested (view_of self.new) }
+        ensures within { (k : ℕ) → AreWithin k (view_of self.old) → AreWithin k (view_of self.new) }
         ensures left { self.new.left ≡ self.old.left }
         ensures err { (t : Table) → IfErr result (λ f. Stands (view_of self.old) (view_of self.new) t t f) }
-        ensures size { size (view_of self.new) ≤ 2 * length self.old.frames.items + 2 }
+        ensures size { IfOk result (λ q. sized q (view_of self.new) ≤ 3 * length self.old.frames.items + 4) }
         ensures fault { IfErr result (λ f. f ≡ Fault.Memory) }
     {
         match count {
@@ -142,41 +163,112 @@ impl Engine {
         }
     }
 
+    /// Evaluates a call with arguments, of which only `puts` is served.
+    #[tactic(auto, unfolding(crate::specs::Within::AreWithin))]
+    fn open_call(
+        &mut self,
+        program: &Program,
+        name: Sym,
+        first: NodeId,
+        count: u32,
+    ) -> Result<Option<Request>, Fault>
+        requires small { first + count < 2 ^ 32 }
+        requires nested { IsNested (view_of self.old) }
+        ensures goes { IfOk result (λ q. (t : Table) (h : Course) (n : ℕ) → after_script program.now (view_of self.old) t (call_rule (context_of program.now) (is_puts (context_of program.now) name.0) (trees_before program.now.nodes.items (first + count) count)) h n ≡ continuing program.now (view_of self.new) t q h n) }
+        ensures nested { IsNested (view_of self.new) }
+        ensures within { (k : ℕ) → AreWithin k (view_of self.old) → AreWithin k (view_of self.new) }
+        ensures left { self.new.left ≡ self.old.left }
+        ensures err { (t : Table) → IfErr result (λ f. Stands (view_of self.old) (view_of self.new) t t f) }
+        ensures size { IfOk result (λ q. sized q (view_of self.new) ≤ 3 * length self.old.frames.items + 4) }
+        ensures fault { IfErr result (λ f. f ≡ Fault.Memory) }
+    {
+        if is_puts(program, name) {
+            return self.open_puts(first, count);
+        }
+        self.control = Control::Throw(Problem::NotHere);
+        Ok(None)
+    }
+
+    /// Evaluates a bare name, which is `puts` or missing.
+    #[tactic(auto, unfolding(crate::specs::Within::AreWithin))]
+    fn open_bare(&mut self, program: &Program, name: Sym) -> Result<Option<Request>, Fault>
+        requires nested { IsNested (view_of self.old) }
+        ensures goes { IfOk result (λ q. (t : Table) (h : Course) (n : ℕ) → after_script program.now (view_of self.old) t (bare_rule (context_of program.now) (is_puts (context_of program.now) name.0) name.0) h n ≡ continuing program.now (view_of self.new) t q h n) }
+        ensures nested { IsNested (view_of self.new) }
+        ensures within { (k : ℕ) → AreWithin k (view_of self.old) → AreWithin k (view_of self.new) }
+        ensures left { self.new.left ≡ self.old.left }
+        ensures err { (t : Table) → IfErr result (λ f. Stands (view_of self.old) (view_of self.new) t t f) }
+        ensures size { IfOk result (λ q. sized q (view_of self.new) ≤ 3 * length self.old.frames.items + 4) }
+        ensures fault { IfErr result (λ f. f ≡ Fault.Memory) }
+    {
+        if is_puts(program, name) {
+            return self.open_empty_puts();
+        }
+        self.control = Control::Throw(Problem::MissingName(name));
+        Ok(None)
+    }
+
+    /// Does what a node does that is not evaluated yet.
+    #[tactic(auto, unfolding(crate::specs::Within::AreWithin))]
+    fn open_unknown(&mut self, node: Node)
+        requires unknown { is_unknown node ≡ true }
+        requires nested { IsNested (view_of self.old) }
+        ensures goes { (p : Program) (t : Table) (h : Course) (n : ℕ) → after_script p (view_of self.old) t (rule (context_of p) (evaluated_tree p.nodes.items node)) h n ≡ remaining_with p (view_of self.new) t h n }
+        ensures nested { IsNested (view_of self.new) }
+        ensures within { (k : ℕ) → AreWithin k (view_of self.old) → AreWithin k (view_of self.new) }
+        ensures left { self.new.left ≡ self.old.left }
+        ensures size { size (view_of self.new) ≤ 3 * length self.old.frames.items + 4 }
+    {
+        self.control = Control::Throw(Problem::NotHere);
+    }
+
     /// Does what a node does first that needs the objects or memory.
     pub fn open_rare(
         &mut self,
         program: &Program,
         space: &mut Space,
         node: Node,
-    ) -> Result<Option<Vec<u8>>, Fault>
+    ) -> Result<Option<Request>, Fault>
         requires evaluated { IsEvaluated node }
         requires rare { IsRareNode node }
         requires nested { IsNested (view_of self.old) }
-        ensures goes { IfOk result (λ piece. (out : List (List ℕ)) (n : ℕ) → after_script program.now (view_of self.old) space.old (rule (context_of program.now) (evaluated_tree program.now.nodes.items node)) out n ≡ remaining_with program.now (view_of self.new) space.new (printed out piece) n) }
+        requires within { AreWithin (length space.old.slots) (view_of self.old) }
+        ensures goes { IfOk result (λ q. (h : Course) (n : ℕ) → after_script program.now (view_of self.old) space.old (rule (context_of program.now) (evaluated_tree program.now.nodes.items node)) h n ≡ continuing program.now (view_of self.new) space.new q h n) }
         ensures nested { IsNested (view_of self.new) }
+        ensures within { AreWithin (length space.new.slots) (view_of self.new) }
         ensures left { self.new.left ≡ self.old.left }
         ensures err { IfErr result (λ f. Stands (view_of self.old) (view_of self.new) space.old space.new f) }
-        ensures size { size (view_of self.new) ≤ 2 * length self.old.frames.items + 2 }
+        ensures size { IfOk result (λ q. sized q (view_of self.new) ≤ 3 * length self.old.frames.items + 4) }
         ensures limit { space.new.limit ≡ space.old.limit }
-        ensures full { IfErr result (λ f. (out : List (List ℕ)) (n : ℕ) → Passes f space.old.limit (objects_of (after_script program.now (view_of self.old) space.old (rule (context_of program.now) (evaluated_tree program.now.nodes.items node)) out n))) }
+        ensures changed { Changes space.old space.new }
+        ensures full { IfErr result (λ f. (h : Course) (n : ℕ) → Adds h.world → Passes f space.old.limit (objects_of (after_script program.now (view_of self.old) space.old (rule (context_of program.now) (evaluated_tree program.now.nodes.items node)) h n))) }
     {
         match node {
             Node::Text(i) => self.open_text(program, space, i),
-            Node::Puts(first, count) => self.open_puts(first, count),
+            Node::Bare { name, .. } => self.open_bare(program, name),
+            Node::Call {
+                name,
+                first,
+                count,
+                ..
+            } => self.open_call(program, name, first, count),
             _ => unreachable!(),
         }
     }
 
     /// Does what a node does first, unless that needs the objects or memory.
+    #[tactic(auto, unfolding(crate::specs::Within::AreWithin))]
     #[inline(always)]
-    pub fn open(&mut self, node: Node) -> bool
+    pub fn open(&mut self, program: &Program, here: NodeId, node: Node) -> bool
+        requires tree { tree_at program.now.nodes.items here ≡ evaluated_tree program.now.nodes.items node }
         requires evaluated { IsEvaluated node }
         requires room { length self.old.frames.items < vec_capacity self.old.frames }
         requires nested { IsNested (view_of self.old) }
-        ensures goes { IsTrue result → (p : Program) (t : Table) (out : List (List ℕ)) (n : ℕ) → after_script p (view_of self.old) t (rule (context_of p) (evaluated_tree p.nodes.items node)) out n ≡ remaining_with p (view_of self.new) t out n }
+        ensures goes { IsTrue result → (t : Table) (h : Course) (n : ℕ) → after_script program.now (view_of self.old) t (rule (context_of program.now) (evaluated_tree program.now.nodes.items node)) h n ≡ remaining_with program.now (view_of self.new) t h n }
         ensures nested { IsNested (view_of self.new) }
+        ensures within { (k : ℕ) → AreWithin k (view_of self.old) → AreWithin k (view_of self.new) }
         ensures left { self.new.left ≡ self.old.left }
-        ensures size { size (view_of self.new) ≤ 2 * length self.old.frames.items + 2 }
+        ensures size { size (view_of self.new) ≤ 3 * length self.old.frames.items + 4 }
         ensures same { IsFalse result → self.new ≡ self.old }
         ensures rare { IsFalse result → IsRareNode node }
     {
@@ -184,15 +276,23 @@ impl Engine {
             Node::Nil => self.answer(Answer::Gave(Ref::Nil)),
             Node::Truth(truth) => self.answer(Answer::Gave(Ref::Truth(truth))),
             Node::Int(z) => self.answer(Answer::Gave(Ref::Int(z))),
-            Node::Local(name) => self.answer(Answer::Gave(self.variable(name))),
-            Node::Call(name) => self.answer(Answer::Raised(Problem::MissingName(name))),
+            Node::Local { slot, .. } => self.answer(Answer::Gave(self.variable(slot))),
+            Node::And(a, b) => self.enter_above(Frame::And(b), a),
+            Node::Or(a, b) => self.enter_above(Frame::Or(b), a),
+            Node::Not(a) => self.enter_above(Frame::Not, a),
             Node::Negate(a) => self.enter_above(Frame::Negation, a),
             Node::Binary(op, a, b) => self.enter_above(Frame::Left(op, b), a),
-            Node::Assign(name, a) => self.enter_above(Frame::Store(name), a),
+            Node::Assign { slot, value, .. } => self.enter_above(Frame::Store(slot), value),
             Node::Choose(a, b, d) => self.enter_above(Frame::Branch(b, d), a),
-            Node::Sequence(first, count) => self.begin(first + count, count),
+            Node::Loop {
+                until,
+                condition,
+                body,
+            } => self.enter_above(Frame::Condition(until, body, here), condition),
+            Node::Sequence { first, count } => self.begin(first + count, count),
             Node::Item(_) => unreachable!(),
-            Node::Text(_) | Node::Puts(_, _) => return false,
+            Node::Text(_) | Node::Bare { .. } | Node::Call { .. } => return false,
+            _ => self.open_unknown(node),
         }
         true
     }

@@ -1,78 +1,87 @@
 //! The operators.
 
-ghost use Rattle.std.specs.Prelude.{◌≡◌, ◌+ℤ◌, ◌-ℤ◌, ◌*ℤ◌, neg_ℤ, pos, ◌++◌, length, IfOk, IfErr};
-ghost use Rattle.rr_eval.specs.Acts.{Acts, Passes};
+ghost use Rattle.std.specs.Prelude.{◌≡◌, ◌+ℤ◌, ◌-ℤ◌, ◌*ℤ◌, neg_ℤ, pos, ℕ, ◌++◌, length, IfOk, IfErr};
+ghost use Rattle.rr_eval.specs.Acts.{Acts, IsRefusal, Passes};
+ghost use Rattle.rr_eval.specs.Changes.{Changes};
+ghost use Rattle.rr_eval.specs.Within.{IsWorkedWithin};
+ghost use Rattle.rr_space.specs.Views.{IsWithin};
 ghost use Rattle.rr_eval.specs.Values.{text_of};
-ghost use Rattle.rr_eval.specs.Operators.{number, order_of, on_integers, on_other, on_integer, make, on_object, operate, negated};
+ghost use Rattle.rr_eval.specs.Operators.{number, order_of, on_integers, on_other, on_integer, with_text, make, on_object, operate, negated};
 
-use crate::integer::{floor_div, floor_mod};
-use crate::problem::{Answer, Problem, ValueClass};
+use crate::problem::{Problem, ValueClass, Worked};
 use crate::value::{class_of, is_same, text_of};
 use rr_base::Fault;
+use rr_builtin::{floor_div, floor_mod};
 use rr_space::{Node, Ref, Space};
 use rr_tree::BinaryOperator;
 use std::alloc::{AllocError, Global};
 
 #[inline(always)]
-fn sum(x: i64, y: i64) -> Answer
-    ensures { result ≡ number (x +ℤ y) }
+fn sum(x: i64, y: i64) -> Worked
+    ensures does { result ≡ number (x +ℤ y) }
+    ensures within { (k : ℕ) → IsWorkedWithin k result }
 {
     match x.checked_add(y) {
-        Some(z) => Answer::Gave(Ref::Int(z)),
-        None => Answer::Raised(Problem::OutOfRange),
+        Some(z) => Worked::Works(Ref::Int(z)),
+        None => Worked::Fails(Problem::OutOfRange),
     }
 }
 
 #[inline(always)]
-fn difference(x: i64, y: i64) -> Answer
-    ensures { result ≡ number (x -ℤ y) }
+fn difference(x: i64, y: i64) -> Worked
+    ensures does { result ≡ number (x -ℤ y) }
+    ensures within { (k : ℕ) → IsWorkedWithin k result }
 {
     match x.checked_sub(y) {
-        Some(z) => Answer::Gave(Ref::Int(z)),
-        None => Answer::Raised(Problem::OutOfRange),
+        Some(z) => Worked::Works(Ref::Int(z)),
+        None => Worked::Fails(Problem::OutOfRange),
     }
 }
 
 #[inline(always)]
-fn product(x: i64, y: i64) -> Answer
-    ensures { result ≡ number (x *ℤ y) }
+fn product(x: i64, y: i64) -> Worked
+    ensures does { result ≡ number (x *ℤ y) }
+    ensures within { (k : ℕ) → IsWorkedWithin k result }
 {
     match x.checked_mul(y) {
-        Some(z) => Answer::Gave(Ref::Int(z)),
-        None => Answer::Raised(Problem::OutOfRange),
+        Some(z) => Worked::Works(Ref::Int(z)),
+        None => Worked::Fails(Problem::OutOfRange),
     }
 }
 
-fn opposite(x: i64) -> Answer
-    ensures { result ≡ number (neg_ℤ x) }
+fn opposite(x: i64) -> Worked
+    ensures does { result ≡ number (neg_ℤ x) }
+    ensures within { (k : ℕ) → IsWorkedWithin k result }
 {
     match x.checked_neg() {
-        Some(z) => Answer::Gave(Ref::Int(z)),
-        None => Answer::Raised(Problem::OutOfRange),
+        Some(z) => Worked::Works(Ref::Int(z)),
+        None => Worked::Fails(Problem::OutOfRange),
     }
 }
 
 #[inline(always)]
-fn quotient(x: i64, y: i64) -> Answer
-    ensures { result ≡ on_integers BinaryOperator.Divide x y }
+fn quotient(x: i64, y: i64) -> Worked
+    ensures does { result ≡ on_integers BinaryOperator.Divide x y }
+    ensures within { (k : ℕ) → IsWorkedWithin k result }
 {
     if y == 0 {
-        return Answer::Raised(Problem::DividedByZero);
+        return Worked::Fails(Problem::DividedByZero);
     }
     match floor_div(x, y) {
-        Some(z) => Answer::Gave(Ref::Int(z)),
-        None => Answer::Raised(Problem::OutOfRange),
+        Some(z) => Worked::Works(Ref::Int(z)),
+        None => Worked::Fails(Problem::OutOfRange),
     }
 }
 
 #[inline(always)]
-fn remainder(x: i64, y: i64) -> Answer
-    ensures { result ≡ on_integers BinaryOperator.Remainder x y }
+fn remainder(x: i64, y: i64) -> Worked
+    ensures does { result ≡ on_integers BinaryOperator.Remainder x y }
+    ensures within { (k : ℕ) → IsWorkedWithin k result }
 {
     if y == 0 {
-        return Answer::Raised(Problem::DividedByZero);
+        return Worked::Fails(Problem::DividedByZero);
     }
-    Answer::Gave(Ref::Int(floor_mod(x, y)))
+    Worked::Works(Ref::Int(floor_mod(x, y)))
 }
 
 #[inline(always)]
@@ -89,16 +98,18 @@ fn order_of(x: i64, y: i64) -> i64
 }
 
 #[inline(always)]
-fn truth(holds: bool) -> Answer
-    ensures { result ≡ Answer.Gave (Ref.Truth holds) }
+fn truth(holds: bool) -> Worked
+    ensures does { result ≡ Worked.Works (Ref.Truth holds) }
+    ensures within { (k : ℕ) → IsWorkedWithin k result }
 {
-    Answer::Gave(Ref::Truth(holds))
+    Worked::Works(Ref::Truth(holds))
 }
 
 /// An operator on two integers.
 #[inline(always)]
-pub fn on_integers(op: BinaryOperator, x: i64, y: i64) -> Answer
-    ensures { result ≡ on_integers op x y }
+pub fn on_integers(op: BinaryOperator, x: i64, y: i64) -> Worked
+    ensures does { result ≡ on_integers op x y }
+    ensures within { (k : ℕ) → IsWorkedWithin k result }
 {
     match op {
         BinaryOperator::Add => sum(x, y),
@@ -110,31 +121,33 @@ pub fn on_integers(op: BinaryOperator, x: i64, y: i64) -> Answer
         BinaryOperator::LessOrEqual => truth(x <= y),
         BinaryOperator::Greater => truth(x > y),
         BinaryOperator::GreaterOrEqual => truth(x >= y),
-        BinaryOperator::Compare => Answer::Gave(Ref::Int(order_of(x, y))),
+        BinaryOperator::Compare => Worked::Works(Ref::Int(order_of(x, y))),
         BinaryOperator::Equal => truth(x == y),
         BinaryOperator::NotEqual => truth(x != y),
     }
 }
 
-fn on_other(op: BinaryOperator, class: ValueClass) -> Answer
-    ensures { result ≡ on_other op class }
+fn on_other(op: BinaryOperator, class: ValueClass) -> Worked
+    ensures does { result ≡ on_other op class }
+    ensures within { (k : ℕ) → IsWorkedWithin k result }
 {
     match op {
         BinaryOperator::Equal => truth(false),
         BinaryOperator::NotEqual => truth(true),
-        BinaryOperator::Compare => Answer::Gave(Ref::Nil),
+        BinaryOperator::Compare => Worked::Works(Ref::Nil),
         BinaryOperator::Less
         | BinaryOperator::LessOrEqual
         | BinaryOperator::Greater
         | BinaryOperator::GreaterOrEqual => {
-            Answer::Raised(Problem::Incomparable(ValueClass::Integer, class))
+            Worked::Fails(Problem::Incomparable(ValueClass::Integer, class))
         }
-        _ => Answer::Raised(Problem::WrongType(class)),
+        _ => Worked::Fails(Problem::WrongType(class)),
     }
 }
 
-fn on_integer(space: &Space, op: BinaryOperator, x: i64, right: Ref) -> Answer
-    ensures { result ≡ on_integer op x right space.now }
+fn on_integer(space: &Space, op: BinaryOperator, x: i64, right: Ref) -> Worked
+    ensures does { result ≡ on_integer op x right space.now }
+    ensures within { (k : ℕ) → IsWorkedWithin k result }
 {
     match right {
         Ref::Int(y) => on_integers(op, x, y),
@@ -142,14 +155,32 @@ fn on_integer(space: &Space, op: BinaryOperator, x: i64, right: Ref) -> Answer
     }
 }
 
-/// Makes a new text.
-pub fn make(space: &mut Space, bytes: Vec<u8>) -> Result<Answer, Fault>
-    ensures acts { Acts (make bytes.items) space.old space.new result }
+/// Makes a new text. A refused growth leaves the objects as they were.
+pub fn make_text(space: &mut Space, bytes: Vec<u8>) -> Result<Ref, Fault>
+    ensures name { IfOk result (λ text. text ≡ Ref.Local (length space.old.slots)) }
+    ensures made { IfOk result (λ _. space.new ≡ with_text bytes.items space.old) }
+    ensures kept { IfErr result (λ _. space.new ≡ space.old) }
+    ensures refused { IfErr result IsRefusal }
     ensures limit { space.new.limit ≡ space.old.limit }
-    ensures full { IfErr result (λ f. Passes f space.old.limit (length (make bytes.items space.old).1.slots)) }
+    ensures changed { Changes space.old space.new }
+    ensures full { IfErr result (λ f. Passes f space.old.limit (length (with_text bytes.items space.old).slots)) }
 {
     match space.alloc(Node::Text(bytes)) {
-        Ok(text) => Ok(Answer::Gave(text)),
+        Ok(text) => Ok(text),
+        Err(fault) => Err(fault),
+    }
+}
+
+/// Makes a new text, as an operation.
+pub fn make(space: &mut Space, bytes: Vec<u8>) -> Result<Worked, Fault>
+    ensures acts { Acts (make bytes.items) space.old space.new result }
+    ensures within { IfOk result (IsWorkedWithin (length space.new.slots)) }
+    ensures limit { space.new.limit ≡ space.old.limit }
+    ensures changed { Changes space.old space.new }
+    ensures full { IfErr result (λ f. Passes f space.old.limit (length (make bytes.items space.old).1.slots)) }
+{
+    match make_text(space, bytes) {
+        Ok(text) => Ok(Worked::Works(text)),
         Err(fault) => Err(fault),
     }
 }
@@ -164,15 +195,18 @@ fn joined(alloc: Global, first: &[u8], second: &[u8]) -> Result<Vec<u8>, AllocEr
     Ok(text)
 }
 
+#[tactic(auto, using(crate::proofs::Changing::changes_none))]
 fn on_object(
     alloc: Global,
     space: &mut Space,
     op: BinaryOperator,
     left: Ref,
     right: Ref,
-) -> Result<Answer, Fault>
+) -> Result<Worked, Fault>
     ensures acts { Acts (λ t. on_object op (text_of t left) left right t) space.old space.new result }
+    ensures within { IfOk result (IsWorkedWithin (length space.new.slots)) }
     ensures limit { space.new.limit ≡ space.old.limit }
+    ensures changed { Changes space.old space.new }
     ensures full { IfErr result (λ f. Passes f space.old.limit (length (on_object op (text_of space.old left) left right space.old).1.slots)) }
 {
     match (op, text_of(space, left)) {
@@ -183,9 +217,9 @@ fn on_object(
                 let text = joined(alloc, first, second)?;
                 make(space, text)
             }
-            None => Ok(Answer::Raised(Problem::WrongType(class_of(space, right)))),
+            None => Ok(Worked::Fails(Problem::WrongType(class_of(space, right)))),
         },
-        _ => Ok(Answer::Raised(Problem::MissingOperator(op, class_of(space, left)))),
+        _ => Ok(Worked::Fails(Problem::MissingOperator(op, class_of(space, left)))),
     }
 }
 
@@ -196,9 +230,11 @@ pub fn operate(
     op: BinaryOperator,
     left: Ref,
     right: Ref,
-) -> Result<Answer, Fault>
+) -> Result<Worked, Fault>
     ensures acts { Acts (operate op left right) space.old space.new result }
+    ensures within { IfOk result (IsWorkedWithin (length space.new.slots)) }
     ensures limit { space.new.limit ≡ space.old.limit }
+    ensures changed { Changes space.old space.new }
     ensures full { IfErr result (λ f. Passes f space.old.limit (length (operate op left right space.old).1.slots)) }
 {
     match left {
@@ -208,11 +244,12 @@ pub fn operate(
 }
 
 /// Unary minus.
-pub fn negated(space: &Space, value: Ref) -> Answer
-    ensures { (result, space.now) ≡ negated value space.now }
+pub fn negated(space: &Space, value: Ref) -> Worked
+    ensures does { (result, space.now) ≡ negated value space.now }
+    ensures within { (k : ℕ) → IsWorkedWithin k result }
 {
     match value {
         Ref::Int(x) => opposite(x),
-        _ => Answer::Raised(Problem::MissingMinus(class_of(space, value))),
+        _ => Worked::Fails(Problem::MissingMinus(class_of(space, value))),
     }
 }

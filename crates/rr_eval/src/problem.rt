@@ -32,11 +32,21 @@ pub enum Problem {
     MissingMinus(ValueClass),
     /// NameError: a bare name that is no variable.
     MissingName(Sym),
+    /// RuntimeError: what is not evaluated yet.
+    NotHere,
 }
 
 /// How the evaluation of a tree ends.
 #[derive(Clone, Copy)]
 pub enum Answer {
     Gave(Ref),
-    Raised(Problem),
+    /// With an exception, which is an object.
+    Raised(Ref),
+}
+
+/// What an operation comes to: a value, or why it raises an exception, which is made then.
+#[derive(Clone, Copy)]
+pub enum Worked {
+    Works(Ref),
+    Fails(Problem),
 }

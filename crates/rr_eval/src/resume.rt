@@ -9,19 +9,24 @@ ghost use Rattle.rr_eval.specs.declared.frame.Control.{Control};
 ghost use Rattle.rr_eval.specs.declared.frame.Frame.{Frame};
 ghost use Rattle.rr_eval.specs.Acts.{IsRefusal, Passes};
 ghost use Rattle.rr_eval.specs.Operators.{operate};
-ghost use Rattle.rr_eval.specs.Rules.{on_table, put, meaning};
-ghost use Rattle.rr_eval.specs.Script.{Do, Ret, run, objects_of};
-ghost use Rattle.rr_eval.specs.Frames.{below_of, base_of, stand_of, unwind, Nested, IsRareFrame};
-ghost use Rattle.rr_eval.specs.Turns.{context_of, code_of, state_of, remaining, IsNested, after_script, after_answer, remaining_with, printed, Stands, size};
+ghost use Rattle.rr_eval.specs.Rules.{on_table, put};
+ghost use Rattle.rr_eval.specs.Script.{objects_of};
+ghost use Rattle.rr_eval.specs.Requests.{Course, Adds};
+ghost use Rattle.rr_eval.specs.Changes.{Changes};
+ghost use Rattle.rr_eval.specs.Frames.{resumed, runs_in, below_of, base_of, stand_of, unwind, Nested, IsRareFrame};
+ghost use Rattle.rr_eval.specs.Turns.{context_of, code_of, state_of, remaining, IsNested, after_script, after_answer, remaining_with, continuing, Stands, size, sized};
 ghost use Rattle.rr_eval.specs.Views.{view_of};
+ghost use Rattle.rr_eval.specs.Within.{AreWithin, IsFrameWithin};
+ghost use Rattle.rr_space.specs.Views.{IsWithin};
 
 use crate::engine::{Engine, push_within};
 use crate::frame::{Control, Frame};
 use crate::operator::{negated, on_integers, operate};
 use crate::print::piece_of;
-use crate::problem::{Answer, Problem};
-use crate::value::is_truthy;
-use rr_base::{Fault, Sym};
+use crate::problem::Answer;
+use crate::request::Request;
+use crate::value::{goes_on, is_truthy};
+use rr_base::Fault;
 use rr_space::{Ref, Space};
 use rr_tree::{BinaryOperator, NodeId, Program};
 
@@ -48,10 +53,10 @@ fn clear(held: &mut Vec<Ref>, frame: Frame)
 
 /// Gives a variable a value.
 #[inline(always)]
-fn set_variable(vars: &mut Vec<Ref>, name: Sym, value: Ref)
-    ensures { vars.new.items ≡ slice_set vars.old.items name.0 value }
+fn set_variable(vars: &mut Vec<Ref>, slot: u32, value: Ref)
+    ensures { vars.new.items ≡ slice_set vars.old.items slot value }
 {
-    set_at(vars, name.0 as usize, value);
+    set_at(vars, slot as usize, value);
 }
 
 impl Engine {
@@ -68,11 +73,12 @@ impl Engine {
     ) -> bool
         requires nested { IsNested (view_of self.old) }
         requires within { stop ≤ self.old.left }
-        ensures goes { IsTrue result → (t : Table) (out : List (List ℕ)) → after_answer program.now (view_of self.old) t (Frame.Left op b) (Answer.Gave left) out self.old.left ≡ remaining program.now (view_of self.new) t out }
+        ensures goes { IsTrue result → (t : Table) (h : Course) → after_answer program.now (view_of self.old) t (Frame.Left op b) (Answer.Gave left) h self.old.left ≡ remaining program.now (view_of self.new) t h }
         ensures nested { IsNested (view_of self.new) }
+        ensures within { (k : ℕ) → AreWithin k (view_of self.old) → AreWithin k (view_of self.new) }
         ensures left { stop ≤ self.new.left }
         ensures kept { self.new.left ≤ self.old.left }
-        ensures size { IsTrue result → size (view_of self.new) ≤ 2 * length self.old.frames.items + 1 }
+        ensures size { IsTrue result → size (view_of self.new) ≤ 3 * length self.old.frames.items + 4 }
         ensures same { IsFalse result → self.new ≡ self.old }
     {
         if let Ref::Int(x) = left
@@ -80,7 +86,7 @@ impl Engine {
             && let Some(y) = self.leaf(program, b)
         {
             self.left -= 1;
-            self.control = Control::Give(on_integers(op, x, y));
+            self.settle(on_integers(op, x, y));
             return true;
         }
         false
@@ -90,33 +96,55 @@ impl Engine {
     #[inline(always)]
     fn operate_integers(&mut self, op: BinaryOperator, left: Ref, right: Ref) -> bool
         requires nested { IsNested (view_of self.old) }
-        ensures goes { IsTrue result → (p : Program) (t : Table) (out : List (List ℕ)) (n : ℕ) → after_script p (view_of self.old) t (Do (on_table (operate op left right)) Ret) out n ≡ remaining_with p (view_of self.new) t out n }
+        ensures goes { IsTrue result → (p : Program) (t : Table) (h : Course) (n : ℕ) → after_script p (view_of self.old) t (on_table (context_of p) (operate op left right)) h n ≡ remaining_with p (view_of self.new) t h n }
         ensures nested { IsNested (view_of self.new) }
+        ensures within { (k : ℕ) → AreWithin k (view_of self.old) → AreWithin k (view_of self.new) }
         ensures left { self.new.left ≡ self.old.left }
-        ensures size { IsTrue result → size (view_of self.new) ≤ 2 * length self.old.frames.items + 1 }
+        ensures size { IsTrue result → size (view_of self.new) ≤ 3 * length self.old.frames.items + 4 }
         ensures same { IsFalse result → self.new ≡ self.old }
     {
         match (left, right) {
             (Ref::Int(x), Ref::Int(y)) => {
-                self.control = Control::Give(on_integers(op, x, y));
+                self.settle(on_integers(op, x, y));
                 true
             }
             _ => false,
         }
     }
 
+    /// Goes on with the body of a loop, or behind the loop, by the value of its condition.
+    #[tactic(auto, unfolding(crate::specs::Within::AreWithin))]
+    #[inline(always)]
+    fn go_round(&mut self, until: bool, body: NodeId, place: NodeId, condition: Ref)
+        requires room { length self.old.frames.items < vec_capacity self.old.frames }
+        requires nested { IsNested (view_of self.old) }
+        ensures goes { (p : Program) (t : Table) (h : Course) (n : ℕ) → after_script p (view_of self.old) t (resumed (code_of p h.world) (Frame.Condition until body place) [] (Answer.Gave condition)) h n ≡ remaining_with p (view_of self.new) t h n }
+        ensures nested { IsNested (view_of self.new) }
+        ensures within { (k : ℕ) → AreWithin k (view_of self.old) → AreWithin k (view_of self.new) }
+        ensures left { self.new.left ≡ self.old.left }
+        ensures size { size (view_of self.new) ≤ 3 * length self.old.frames.items + 4 }
+    {
+        if goes_on(until, condition) {
+            self.enter_above(Frame::Body(place), body);
+        } else {
+            self.control = Control::Give(Answer::Gave(Ref::Nil));
+        }
+    }
+
     /// Does what a frame, which is taken off the stack, does with a value, unless that needs the objects or memory.
+    #[tactic(auto, unfolding(crate::specs::Within::AreWithin))]
     #[inline(always)]
     pub fn resume(&mut self, program: &Program, frame: Frame, value: Ref, stop: u64) -> bool
         requires room { length self.old.frames.items < vec_capacity self.old.frames }
         requires base { base_of frame ≤ length self.old.held.items }
         requires nested { Nested (reverse self.old.frames.items) (below_of frame self.old.held.items) }
         requires within { stop ≤ self.old.left }
-        ensures goes { IsTrue result → (t : Table) (out : List (List ℕ)) → after_answer program.now (view_of self.old) t frame (Answer.Gave value) out self.old.left ≡ remaining program.now (view_of self.new) t out }
+        ensures goes { IsTrue result → (t : Table) (h : Course) → after_answer program.now (view_of self.old) t frame (Answer.Gave value) h self.old.left ≡ remaining program.now (view_of self.new) t h }
         ensures nested { IsTrue result → IsNested (view_of self.new) }
+        ensures within { (k : ℕ) → AreWithin k (view_of self.old) → IsFrameWithin k frame → IsWithin k value → AreWithin k (view_of self.new) }
         ensures left { stop ≤ self.new.left }
         ensures kept { self.new.left ≤ self.old.left }
-        ensures size { IsTrue result → size (view_of self.new) ≤ 2 * length self.old.frames.items + 2 }
+        ensures size { IsTrue result → size (view_of self.new) ≤ 3 * length self.old.frames.items + 4 }
         ensures same { IsFalse result → self.new ≡ self.old }
         ensures rare { IsFalse result → IsRareFrame frame }
     {
@@ -128,13 +156,41 @@ impl Engine {
                 true
             }
             Frame::Right(op, left) => self.operate_integers(op, left, value),
-            Frame::Store(name) => {
-                set_variable(&mut self.vars, name, value);
+            Frame::Store(slot) => {
+                set_variable(&mut self.vars, slot, value);
                 self.control = Control::Give(Answer::Gave(value));
                 true
             }
             Frame::Branch(b, d) => {
                 self.control = Control::Enter(if is_truthy(value) { b } else { d });
+                true
+            }
+            Frame::And(b) => {
+                self.control = if is_truthy(value) {
+                    Control::Enter(b)
+                } else {
+                    Control::Give(Answer::Gave(value))
+                };
+                true
+            }
+            Frame::Or(b) => {
+                self.control = if is_truthy(value) {
+                    Control::Give(Answer::Gave(value))
+                } else {
+                    Control::Enter(b)
+                };
+                true
+            }
+            Frame::Not => {
+                self.control = Control::Give(Answer::Gave(Ref::Truth(!is_truthy(value))));
+                true
+            }
+            Frame::Condition(until, body, place) => {
+                self.go_round(until, body, place, value);
+                true
+            }
+            Frame::Body(place) => {
+                self.control = Control::Enter(place);
                 true
             }
             Frame::Rest(end, count) => {
@@ -152,21 +208,24 @@ impl Engine {
         op: BinaryOperator,
         left: Ref,
         right: Ref,
-    ) -> Result<Option<Vec<u8>>, Fault>
+    ) -> Result<Option<Request>, Fault>
         requires nested { IsNested (view_of self.old) }
         requires room { length self.old.frames.items < vec_capacity self.old.frames }
-        ensures goes { IfOk result (λ piece. (p : Program) (out : List (List ℕ)) (n : ℕ) → after_script p (view_of self.old) space.old (Do (on_table (operate op left right)) Ret) out n ≡ remaining_with p (view_of self.new) space.new (printed out piece) n) }
+        requires within { AreWithin (length space.old.slots) (view_of self.old) }
+        ensures goes { IfOk result (λ q. (p : Program) (h : Course) (n : ℕ) → after_script p (view_of self.old) space.old (on_table (context_of p) (operate op left right)) h n ≡ continuing p (view_of self.new) space.new q h n) }
         ensures nested { IsNested (view_of self.new) }
+        ensures within { AreWithin (length space.new.slots) (view_of self.new) }
         ensures left { self.new.left ≡ self.old.left }
         ensures err { IfErr result (λ f. Stands (view_of self.old) (view_of self.new) space.old space.new f) }
-        ensures size { size (view_of self.new) ≤ 2 * length self.old.frames.items + 2 }
+        ensures size { IfOk result (λ q. sized q (view_of self.new) ≤ 3 * length self.old.frames.items + 4) }
         ensures room { IfErr result (λ _. length self.new.frames.items < vec_capacity self.new.frames) }
         ensures limit { space.new.limit ≡ space.old.limit }
-        ensures full { IfErr result (λ f. (p : Program) (out : List (List ℕ)) (n : ℕ) → Passes f space.old.limit (objects_of (after_script p (view_of self.old) space.old (Do (on_table (operate op left right)) Ret) out n))) }
+        ensures changed { Changes space.old space.new }
+        ensures full { IfErr result (λ f. (p : Program) (h : Course) (n : ℕ) → Adds h.world → Passes f space.old.limit (objects_of (after_script p (view_of self.old) space.old (on_table (context_of p) (operate op left right)) h n))) }
     {
         match operate(self.alloc, space, op, left, right) {
-            Ok(answer) => {
-                self.control = Control::Give(answer);
+            Ok(what) => {
+                self.settle(what);
                 Ok(None)
             }
             Err(fault) => Err(fault),
@@ -174,22 +233,24 @@ impl Engine {
     }
 
     /// Keeps the value of an argument and evaluates the next one.
+    #[tactic(auto, unfolding(crate::specs::Within::AreWithin))]
     fn keep(
         &mut self,
         end: NodeId,
         count: u32,
         base: usize,
         value: Ref,
-    ) -> Result<Option<Vec<u8>>, Fault>
+    ) -> Result<Option<Request>, Fault>
         requires room { length self.old.frames.items < vec_capacity self.old.frames }
         requires some { 0 < count }
         requires base { base ≤ length self.old.held.items }
         requires nested { Nested (reverse self.old.frames.items) (take base self.old.held.items) }
-        ensures goes { IfOk result (λ piece. (p : Program) (t : Table) (out : List (List ℕ)) (n : ℕ) → after_answer p (view_of self.old) t (Frame.Argument end count base) (Answer.Gave value) out n ≡ remaining_with p (view_of self.new) t (printed out piece) n) }
+        ensures goes { IfOk result (λ q. (p : Program) (t : Table) (h : Course) (n : ℕ) → after_answer p (view_of self.old) t (Frame.Argument end count base) (Answer.Gave value) h n ≡ continuing p (view_of self.new) t q h n) }
         ensures nested { OnOk result (IsNested (view_of self.new)) }
+        ensures within { (k : ℕ) → AreWithin k (view_of self.old) → IsWithin k value → AreWithin k (view_of self.new) }
         ensures left { self.new.left ≡ self.old.left }
         ensures err { (t : Table) → IfErr result (λ f. Stands (view_of self.old) (view_of self.new) t t f) }
-        ensures size { size (view_of self.new) ≤ 2 * length self.old.frames.items + 2 }
+        ensures size { IfOk result (λ q. sized q (view_of self.new) ≤ 3 * length self.old.frames.items + 4) }
         ensures room { IfErr result (λ _. length self.new.frames.items < vec_capacity self.new.frames) }
         ensures fault { IfErr result (λ f. f ≡ Fault.Memory) }
     {
@@ -200,22 +261,23 @@ impl Engine {
     }
 
     /// Prints the values that stand for a frame, and one more.
-    fn print(&mut self, space: &Space, frame: Frame, value: Ref) -> Result<Option<Vec<u8>>, Fault>
+    #[tactic(auto, unfolding(crate::specs::Within::AreWithin))]
+    fn print(&mut self, space: &Space, frame: Frame, value: Ref) -> Result<Option<Request>, Fault>
         requires room { length self.old.frames.items < vec_capacity self.old.frames }
         requires base { base_of frame ≤ length self.old.held.items }
         requires nested { Nested (reverse self.old.frames.items) (below_of frame self.old.held.items) }
-        ensures goes { IfOk result (λ piece. (p : Program) (out : List (List ℕ)) (n : ℕ) → unwind (code_of p) (reverse self.old.frames.items) (below_of frame self.old.held.items) (run (meaning (context_of p)) (put (stand_of frame self.old.held.items ++ value ∷ [])) (state_of (view_of self.old) space.now out) n) ≡ remaining_with p (view_of self.new) space.now (printed out piece) n) }
+        ensures goes { IfOk result (λ q. (p : Program) (h : Course) (n : ℕ) → unwind (code_of p h.world) (reverse self.old.frames.items) (below_of frame self.old.held.items) (runs_in (code_of p h.world) (put (stand_of frame self.old.held.items ++ value ∷ [])) (state_of (view_of self.old) space.now h) n) ≡ continuing p (view_of self.new) space.now q h n) }
         ensures nested { OnOk result (IsNested (view_of self.new)) }
+        ensures within { (k : ℕ) → AreWithin k (view_of self.old) → AreWithin k (view_of self.new) }
         ensures left { self.new.left ≡ self.old.left }
         ensures err { (t : Table) → IfErr result (λ f. Stands (view_of self.old) (view_of self.new) t t f) }
-        ensures size { size (view_of self.new) ≤ 2 * length self.old.frames.items + 2 }
+        ensures size { IfOk result (λ q. sized q (view_of self.new) ≤ 3 * length self.old.frames.items + 4) }
         ensures room { IfErr result (λ _. length self.new.frames.items < vec_capacity self.new.frames) }
         ensures fault { IfErr result (λ f. f ≡ Fault.Memory) }
     {
         let piece = piece_of(self.alloc, space, &self.held, frame, value)?;
         clear(&mut self.held, frame);
-        self.control = Control::Give(Answer::Gave(Ref::Nil));
-        Ok(Some(piece))
+        Ok(Some(Request::Print(piece)))
     }
 
     /// Goes on with the arguments of `puts`.
@@ -226,15 +288,16 @@ impl Engine {
         count: u32,
         base: usize,
         value: Ref,
-    ) -> Result<Option<Vec<u8>>, Fault>
+    ) -> Result<Option<Request>, Fault>
         requires room { length self.old.frames.items < vec_capacity self.old.frames }
         requires base { base ≤ length self.old.held.items }
         requires nested { Nested (reverse self.old.frames.items) (take base self.old.held.items) }
-        ensures goes { IfOk result (λ piece. (p : Program) (out : List (List ℕ)) (n : ℕ) → after_answer p (view_of self.old) space.now (Frame.Argument end count base) (Answer.Gave value) out n ≡ remaining_with p (view_of self.new) space.now (printed out piece) n) }
+        ensures goes { IfOk result (λ q. (p : Program) (h : Course) (n : ℕ) → after_answer p (view_of self.old) space.now (Frame.Argument end count base) (Answer.Gave value) h n ≡ continuing p (view_of self.new) space.now q h n) }
         ensures nested { OnOk result (IsNested (view_of self.new)) }
+        ensures within { (k : ℕ) → AreWithin k (view_of self.old) → IsWithin k value → AreWithin k (view_of self.new) }
         ensures left { self.new.left ≡ self.old.left }
         ensures err { (t : Table) → IfErr result (λ f. Stands (view_of self.old) (view_of self.new) t t f) }
-        ensures size { size (view_of self.new) ≤ 2 * length self.old.frames.items + 2 }
+        ensures size { IfOk result (λ q. sized q (view_of self.new) ≤ 3 * length self.old.frames.items + 4) }
         ensures room { IfErr result (λ _. length self.new.frames.items < vec_capacity self.new.frames) }
         ensures fault { IfErr result (λ f. f ≡ Fault.Memory) }
     {
@@ -250,23 +313,28 @@ impl Engine {
         space: &mut Space,
         frame: Frame,
         value: Ref,
-    ) -> Result<Option<Vec<u8>>, Fault>
+    ) -> Result<Option<Request>, Fault>
         requires room { length self.old.frames.items < vec_capacity self.old.frames }
         requires base { base_of frame ≤ length self.old.held.items }
         requires nested { Nested (reverse self.old.frames.items) (below_of frame self.old.held.items) }
         requires rare { IsRareFrame frame }
-        ensures goes { IfOk result (λ piece. (p : Program) (out : List (List ℕ)) (n : ℕ) → after_answer p (view_of self.old) space.old frame (Answer.Gave value) out n ≡ remaining_with p (view_of self.new) space.new (printed out piece) n) }
+        requires within { AreWithin (length space.old.slots) (view_of self.old) }
+        requires held { IsFrameWithin (length space.old.slots) frame }
+        requires value { IsWithin (length space.old.slots) value }
+        ensures goes { IfOk result (λ q. (p : Program) (h : Course) (n : ℕ) → after_answer p (view_of self.old) space.old frame (Answer.Gave value) h n ≡ continuing p (view_of self.new) space.new q h n) }
         ensures nested { OnOk result (IsNested (view_of self.new)) }
+        ensures within { AreWithin (length space.new.slots) (view_of self.new) }
         ensures left { self.new.left ≡ self.old.left }
         ensures err { IfErr result (λ f. Stands (view_of self.old) (view_of self.new) space.old space.new f) }
-        ensures size { size (view_of self.new) ≤ 2 * length self.old.frames.items + 2 }
+        ensures size { IfOk result (λ q. sized q (view_of self.new) ≤ 3 * length self.old.frames.items + 4) }
         ensures room { IfErr result (λ _. length self.new.frames.items < vec_capacity self.new.frames) }
         ensures limit { space.new.limit ≡ space.old.limit }
-        ensures full { IfErr result (λ f. (p : Program) (out : List (List ℕ)) (n : ℕ) → Passes f space.old.limit (objects_of (after_answer p (view_of self.old) space.old frame (Answer.Gave value) out n))) }
+        ensures changed { Changes space.old space.new }
+        ensures full { IfErr result (λ f. (p : Program) (h : Course) (n : ℕ) → Adds h.world → Passes f space.old.limit (objects_of (after_answer p (view_of self.old) space.old frame (Answer.Gave value) h n))) }
     {
         match frame {
             Frame::Negation => {
-                self.control = Control::Give(negated(space, value));
+                self.settle(negated(space, value));
                 Ok(None)
             }
             Frame::Right(op, left) => self.operate(space, op, left, value),
@@ -277,29 +345,35 @@ impl Engine {
 
     /// Does what a frame, which is taken off the stack, does with a value, where that needs the objects or memory. A
     /// refused growth puts the frame back.
+    #[tactic(auto, unfolding(crate::specs::Within::AreWithin))]
     #[inline(never)]
     pub fn resume_rare(
         &mut self,
         space: &mut Space,
         frame: Frame,
         value: Ref,
-    ) -> Result<Option<Vec<u8>>, Fault>
+    ) -> Result<Option<Request>, Fault>
         requires control { self.old.control ≡ Control.Give (Answer.Gave value) }
         requires room { length self.old.frames.items < vec_capacity self.old.frames }
         requires base { base_of frame ≤ length self.old.held.items }
         requires nested { Nested (reverse self.old.frames.items) (below_of frame self.old.held.items) }
         requires rare { IsRareFrame frame }
-        ensures goes { IfOk result (λ piece. (p : Program) (out : List (List ℕ)) → after_answer p (view_of self.old) space.old frame (Answer.Gave value) out self.old.left ≡ remaining p (view_of self.new) space.new (printed out piece)) }
+        requires within { AreWithin (length space.old.slots) (view_of self.old) }
+        requires held { IsFrameWithin (length space.old.slots) frame }
+        requires value { IsWithin (length space.old.slots) value }
+        ensures goes { IfOk result (λ q. (p : Program) (h : Course) → after_answer p (view_of self.old) space.old frame (Answer.Gave value) h self.old.left ≡ continuing p (view_of self.new) space.new q h self.new.left) }
         ensures nested { IsNested (view_of self.new) }
+        ensures within { AreWithin (length space.new.slots) (view_of self.new) }
         ensures left { self.new.left ≡ self.old.left }
-        ensures size { OnOk result (size (view_of self.new) ≤ 2 * length self.old.frames.items + 2) }
+        ensures size { IfOk result (λ q. sized q (view_of self.new) ≤ 3 * length self.old.frames.items + 4) }
         ensures fault { IfErr result IsRefusal }
-        ensures back { IfErr result (λ _. (p : Program) (out : List (List ℕ)) → after_answer p (view_of self.old) space.old frame (Answer.Gave value) out self.old.left ≡ remaining p (view_of self.new) space.new out) }
+        ensures back { IfErr result (λ _. (p : Program) (h : Course) → after_answer p (view_of self.old) space.old frame (Answer.Gave value) h self.old.left ≡ remaining p (view_of self.new) space.new h) }
         ensures limit { space.new.limit ≡ space.old.limit }
-        ensures full { IfErr result (λ f. (p : Program) (out : List (List ℕ)) → Passes f space.old.limit (objects_of (after_answer p (view_of self.old) space.old frame (Answer.Gave value) out self.old.left))) }
+        ensures changed { Changes space.old space.new }
+        ensures full { IfErr result (λ f. (p : Program) (h : Course) → Adds h.world → Passes f space.old.limit (objects_of (after_answer p (view_of self.old) space.old frame (Answer.Gave value) h self.old.left))) }
     {
         match self.resume_value(space, frame, value) {
-            Ok(piece) => Ok(piece),
+            Ok(request) => Ok(request),
             Err(fault) => {
                 push_within(&mut self.frames, frame);
                 Err(fault)
@@ -308,15 +382,17 @@ impl Engine {
     }
 
     /// Passes an exception through a frame, which is taken off the stack.
+    #[tactic(auto, unfolding(crate::specs::Within::AreWithin))]
     #[inline(never)]
-    pub fn pass(&mut self, frame: Frame, problem: Problem)
-        requires control { self.old.control ≡ Control.Give (Answer.Raised problem) }
+    pub fn pass(&mut self, frame: Frame, exception: Ref)
+        requires control { self.old.control ≡ Control.Give (Answer.Raised exception) }
         requires base { base_of frame ≤ length self.old.held.items }
         requires nested { Nested (reverse self.old.frames.items) (below_of frame self.old.held.items) }
-        ensures goes { (p : Program) (t : Table) (out : List (List ℕ)) → after_answer p (view_of self.old) t frame (Answer.Raised problem) out self.old.left ≡ remaining p (view_of self.new) t out }
+        ensures goes { (p : Program) (t : Table) (h : Course) → after_answer p (view_of self.old) t frame (Answer.Raised exception) h self.old.left ≡ remaining p (view_of self.new) t h }
         ensures nested { IsNested (view_of self.new) }
+        ensures within { (k : ℕ) → AreWithin k (view_of self.old) → AreWithin k (view_of self.new) }
         ensures left { self.new.left ≡ self.old.left }
-        ensures size { size (view_of self.new) ≡ 2 * length self.old.frames.items + 1 }
+        ensures size { size (view_of self.new) ≡ 3 * length self.old.frames.items + 2 }
     {
         clear(&mut self.held, frame);
     }

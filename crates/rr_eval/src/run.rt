@@ -3,19 +3,21 @@
 ghost use Rattle.std.specs.Prelude.{◌≡◌, ◌+◌, ◌<◌, ◌≤◌, ◌^◌, length};
 ghost use Rattle.rr_lexer.specs.Tokens.{AreTokensOf};
 ghost use Rattle.rr_eval.specs.Counted.{failures, counted};
-ghost use Rattle.rr_eval.specs.Written.{written_to};
-ghost use Rattle.rr_eval.specs.Turns.{context_of};
-ghost use Rattle.rr_eval.specs.Runs.{Reads, Leaves, WithinSlots, Meets, program_meaning};
+ghost use Rattle.rr_eval.specs.Requests.{asked_of};
+ghost use Rattle.rr_eval.specs.Written.{Puts, written_to};
+ghost use Rattle.rr_eval.specs.Runs.{Reads, piece_asked, Leaves, WithinSlots, Meets, program_meaning};
 
 use crate::counted::Counted;
 use crate::engine::Turn;
+use crate::exception::report;
 use crate::machine::Machine;
 use crate::output::{Output, put};
-use crate::report::report;
+use crate::problem::Answer;
+use crate::request::Request;
 use rr_base::{Fault, Limits, RactorNo};
 use rr_lexer::{Token, lex, tokens_are_one};
 use rr_parser::parse;
-use rr_space::Space;
+use rr_space::{Ref, Space};
 use rr_tree::Program;
 use std::alloc::Global;
 use std::io::Write;
@@ -67,6 +69,16 @@ fn objects_fit(space: &Space)
     let _count = space.len();
 }
 
+/// Does what a script that runs alone asks for, to which the reply is nil, and answers whether it could.
+fn serve<O: Output>(output: &mut O, request: Request) -> bool
+    requires { O.failures output.old + 1 < 2 ^ 64 }
+    ensures { Puts (written_to O.contents O.failures output.old) (written_to O.contents O.failures output.new) (piece_asked (asked_of request)) result }
+{
+    match request {
+        Request::Print(piece) => put(output, piece.as_slice()),
+    }
+}
+
 /// Runs a program on the main ractor.
 fn run_program<O: Output>(
     alloc: Global,
@@ -75,7 +87,7 @@ fn run_program<O: Output>(
     output: &mut O,
 ) -> Outcome
     requires { O.failures output.old + 1 < 2 ^ 64 }
-    ensures leaves { Leaves (written_to O.contents O.failures output.old) (written_to O.contents O.failures output.new) (context_of program.now) (program_meaning program.now limits) result }
+    ensures leaves { Leaves (written_to O.contents O.failures output.old) (written_to O.contents O.failures output.new) (program_meaning program.now limits) result }
     ensures slots { WithinSlots limits.slots (program_meaning program.now limits) result }
 {
     let mut space = Space::new(alloc, RactorNo(1), limits.slots);
@@ -86,18 +98,19 @@ fn run_program<O: Output>(
     loop {
         match machine.turn(program, &mut space, BUDGET) {
             Ok(Turn::More) => {}
-            Ok(Turn::Print(piece)) => {
-                if !put(output, piece.as_slice()) {
+            Ok(Turn::Ask(request)) => {
+                if !serve(output, request) {
                     return Outcome::OutputFailed;
                 }
+                machine.answer(Answer::Gave(Ref::Nil));
             }
             Ok(Turn::Done(_)) => {
                 objects_fit(&space);
                 return Outcome::Done;
             }
-            Ok(Turn::Raised(problem)) => {
+            Ok(Turn::Raised(exception)) => {
                 objects_fit(&space);
-                return match report(alloc, program, problem) {
+                return match report(alloc, program, &space, exception) {
                     Ok(told) => Outcome::Raised(told),
                     Err(_) => Outcome::Stopped(Fault::Memory),
                 };

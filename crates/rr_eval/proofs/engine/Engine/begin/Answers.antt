@@ -6,6 +6,9 @@ use Rattle.rr_eval.specs.Views.{view_of}
 use Rattle.rr_eval.proofs.engine.Engine.begin.Goals as goal
 
 pub returns-in_default-clause-goes : goal.returns-in_default-clause-goes
-returns-in_default-clause-goes c p t out n =
-    ap (λ r. after_script p (view_of c.args.self.now) t r out n) (sym (statements_from p.nodes.items c.args.end c.args.count _ (omega arith) c.saturating_sub-in_default.ensures))
-    ∙ c.enter_above.ensures.goes p t out n
+returns-in_default-clause-goes c p t h n =
+    ap (λ r. after_script p (view_of c.args.self.now) t r h n) (sym (statements_from p.nodes.items c.args.end c.args.count _ (omega arith) c.saturating_sub-in_default.ensures))
+    ∙ c.enter_above.ensures.goes p t h n
+
+pub returns-in_default-clause-within : goal.returns-in_default-clause-within
+returns-in_default-clause-within c k h = c.enter_above.ensures.within k h tt

@@ -9,12 +9,12 @@ use Rattle.rr_eval.specs.Views.{view_of}
 use Rattle.rr_eval.proofs.engine.Engine.keep.Goals as goal
 
 pub returns-clause-goes : goal.returns-clause-goes
-returns-clause-goes c p t out n =
+returns-clause-goes c p t h n =
     let m = view_of c.args.self.now in
-    let s = state_of m t out in
+    let s = state_of m t h in
     let place = c.saturating_sub.result in
     let frames = m.frames ++ Argument c.args.end (c.args.count - 1) c.args.base ∷ [] in
     let pushed : c.push_within.new.items.items ≡ frames = c.push_within.ensures in
-    kept (code_of p) m.frames c.args.end c.args.count place c.args.base m.held c.args.value s n c.requires.some c.saturating_sub.ensures c.requires.base
-    ∙ ap (λ held. outcome_of (code_of p) frames held (Enter place) s n) (sym c.in_ok-push.ensures.items)
-    ∙ ap (λ fs. outcome_of (code_of p) fs c.push.new.self.items (Enter place) s n) (sym pushed)
+    kept (code_of p h.world) m.frames c.args.end c.args.count place c.args.base m.held c.args.value s n c.requires.some c.saturating_sub.ensures c.requires.base
+    ∙ ap (λ held. outcome_of (code_of p h.world) frames held (Enter place) s n) (sym c.in_ok-push.ensures.items)
+    ∙ ap (λ fs. outcome_of (code_of p h.world) fs c.push.new.self.items (Enter place) s n) (sym pushed)

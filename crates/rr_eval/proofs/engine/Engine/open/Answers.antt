@@ -1,6 +1,11 @@
 -- A sequence has these statements.
-use Rattle.std.proofs.Common.{sym, ap, ◌∙◌}
-use Rattle.rr_eval.specs.Rules.{rule}
+use Rattle.std.proofs.Common.{◌≡◌, if◌then◌else◌, sym, ap, ◌∙◌}
+use Rattle.rr_space.specs.declared.refer.Ref.TheVariants.{Nil}
+use Rattle.rr_tree.specs.Tree.{tree_at, repeat}
+use Rattle.rr_eval.specs.declared.problem.Answer.TheVariants.{Gave}
+use Rattle.rr_eval.specs.Script.{Go, Ret}
+use Rattle.rr_eval.specs.Values.{goes_on}
+use Rattle.rr_eval.specs.Rules.{rule, with_value}
 use Rattle.rr_eval.specs.Nodes.{evaluated_tree}
 use Rattle.rr_eval.specs.Turns.{context_of, after_script}
 use Rattle.rr_eval.proofs.Lists.{sequence_rule}
@@ -8,7 +13,45 @@ use Rattle.rr_eval.specs.Views.{view_of}
 use Rattle.rr_eval.proofs.engine.Engine.open.Goals as goal
 
 pub returns-in-Sequence-clause-goes : goal.returns-in-Sequence-clause-goes
-returns-in-Sequence-clause-goes c = λ _ p t out n.
+returns-in-Sequence-clause-goes c = λ _ t h n.
+    let p = c.args.program.now in
     let ns = p.nodes.items in
     let script = ap (λ x. rule (context_of p) (evaluated_tree ns x)) c.in-Sequence.is ∙ sym (sequence_rule ns (context_of p) c.in-Sequence.first c.in-Sequence.count) in
-    ap (λ r. after_script p (view_of c.args.self.now) t r out n) script ∙ c.begin.ensures.goes p t out n
+    ap (λ r. after_script p (view_of c.args.self.now) t r h n) script ∙ c.begin.ensures.goes p t h n
+
+pub returns-in-Loop-clause-goes : goal.returns-in-Loop-clause-goes
+returns-in-Loop-clause-goes c = λ _ t h n.
+    let p = c.args.program.now in
+    let ns = p.nodes.items in
+    let m = view_of c.args.self.now in
+    let until = c.in-Loop.until in
+    let a = tree_at ns c.in-Loop.condition in
+    let b = tree_at ns c.in-Loop.body in
+    let there : tree_at ns c.args.here ≡ repeat until a b = c.requires.tree ∙ ap (evaluated_tree ns) c.in-Loop.is in
+    ap (λ x. after_script p m t (rule (context_of p) (evaluated_tree ns x)) h n) c.in-Loop.is
+    ∙ ap (λ loop. after_script p m t (with_value a (λ v. if goes_on until v then with_value b (λ w. Go loop Ret) else Ret (Gave Nil))) h n) (sym there)
+    ∙ c.enter_above-in-Loop.ensures.goes p t h n
+
+pub returns-in-And-clause-within : goal.returns-in-And-clause-within
+returns-in-And-clause-within c k h = c.enter_above.ensures.within k h tt
+
+pub returns-in-Or-clause-within : goal.returns-in-Or-clause-within
+returns-in-Or-clause-within c k h = c.enter_above-in-Or.ensures.within k h tt
+
+pub returns-in-Not-clause-within : goal.returns-in-Not-clause-within
+returns-in-Not-clause-within c k h = c.enter_above-in-Not.ensures.within k h tt
+
+pub returns-in-Negate-clause-within : goal.returns-in-Negate-clause-within
+returns-in-Negate-clause-within c k h = c.enter_above-in-Negate.ensures.within k h tt
+
+pub returns-in-Binary-clause-within : goal.returns-in-Binary-clause-within
+returns-in-Binary-clause-within c k h = c.enter_above-in-Binary.ensures.within k h tt
+
+pub returns-in-Assign-clause-within : goal.returns-in-Assign-clause-within
+returns-in-Assign-clause-within c k h = c.enter_above-in-Assign.ensures.within k h tt
+
+pub returns-in-Choose-clause-within : goal.returns-in-Choose-clause-within
+returns-in-Choose-clause-within c k h = c.enter_above-in-Choose.ensures.within k h tt
+
+pub returns-in-Loop-clause-within : goal.returns-in-Loop-clause-within
+returns-in-Loop-clause-within c k h = c.enter_above-in-Loop.ensures.within k h tt

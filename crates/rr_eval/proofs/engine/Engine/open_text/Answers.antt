@@ -5,12 +5,17 @@ use Rattle.rr_eval.specs.Operators.{make}
 use Rattle.rr_eval.specs.Turns.{context_of}
 use Rattle.rr_eval.proofs.Objects.{act_passes}
 use Rattle.rr_eval.specs.Views.{view_of}
+use Rattle.rr_eval.proofs.Holding.{within_more}
 use Rattle.rr_eval.proofs.engine.Engine.open_text.Goals as goal
 
 pub returns-in-Err-clause-full : goal.returns-in-Err-clause-full
-returns-in-Err-clause-full c out n =
+returns-in-Err-clause-full c h n adds =
     let p = c.args.program.now in
     let t = c.args.space.now in
     let f = c.in-Err.fault in
     let passes = subst (λ bytes. Passes f t.limit (length (make bytes t).1.slots)) c.in_ok-text.ensures c.in-Err.ensures.full in
-    act_passes p (view_of c.args.self.now) t (make (slice_index_or (context_of p).texts c.args.i [])) f out n passes
+    act_passes p (view_of c.args.self.now) t (make (slice_index_or (context_of p).texts c.args.i [])) f h n adds passes
+
+pub returns-in-Ok-clause-within : goal.returns-in-Ok-clause-within
+returns-in-Ok-clause-within c =
+    c.settle.ensures.within _ (within_more _ _ c.in-Ok.ensures.changed.grows (view_of c.args.self.now) c.requires.within) c.in-Ok.ensures.within

@@ -1,0 +1,22 @@
+-- What is held stays within.
+use Rattle.rr_eval.proofs.Holding.{with_variable}
+use Rattle.rr_eval.specs.Views.{view_of}
+use Rattle.rr_eval.proofs.engine.Engine.resume.Goals as goal
+
+pub returns-then-not-operate_leaf-clause-within : goal.returns-then-not-operate_leaf-clause-within
+returns-then-not-operate_leaf-clause-within c k h frame value = c.enter_above.ensures.within k (c.operate_leaf.ensures.within k h) value
+
+pub returns-else-not-operate_leaf-clause-within : goal.returns-else-not-operate_leaf-clause-within
+returns-else-not-operate_leaf-clause-within c k h frame value = c.operate_leaf.ensures.within k h
+
+pub returns-in-Right-clause-within : goal.returns-in-Right-clause-within
+returns-in-Right-clause-within c k h frame value = c.operate_integers.ensures.within k h
+
+pub returns-in-Store-clause-within : goal.returns-in-Store-clause-within
+returns-in-Store-clause-within c k h frame value = with_variable k (view_of c.args.self.now) _ _ _ _ c.set_variable.ensures h value value
+
+pub returns-in-Rest-clause-within : goal.returns-in-Rest-clause-within
+returns-in-Rest-clause-within c k h frame value = c.begin.ensures.within k h
+
+pub returns-in-Condition-clause-within : goal.returns-in-Condition-clause-within
+returns-in-Condition-clause-within c k h frame value = c.go_round.ensures.within k h

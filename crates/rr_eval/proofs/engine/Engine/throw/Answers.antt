@@ -1,0 +1,21 @@
+-- The message would be one object too many.
+use Rattle.std.proofs.Common.{◌≡◌, subst, sym, ap, length}
+use Rattle.rr_eval.specs.Acts.{Passes}
+use Rattle.rr_eval.specs.Script.{objects_of}
+use Rattle.rr_eval.specs.Operators.{with_text}
+use Rattle.rr_eval.specs.Rules.{throw}
+use Rattle.rr_eval.specs.Frames.{outcome_of}
+use Rattle.rr_eval.specs.Turns.{context_of, code_of, state_of, remaining, after_script}
+use Rattle.rr_eval.proofs.Objects.{throw_passes}
+use Rattle.rr_eval.specs.Views.{view_of}
+use Rattle.rr_eval.proofs.engine.Engine.throw.Goals as goal
+
+pub returns-in-Err-clause-full : goal.returns-in-Err-clause-full
+returns-in-Err-clause-full c h adds =
+    let p = c.args.program.now in
+    let m = view_of c.args.self.now in
+    let t = c.args.space.now in
+    let f = c.in-Err.fault in
+    let passes = subst (λ bytes. Passes f t.limit (length (with_text bytes t).slots)) c.in_ok-text.ensures c.in-Err.ensures.full in
+    let at : remaining p m t h ≡ after_script p m t (throw (context_of p) c.args.problem) h m.left = ap (λ k. outcome_of (code_of p h.world) m.frames m.held k (state_of m t h) m.left) c.requires.control in
+    subst (λ o. Passes f t.limit (objects_of o)) (sym at) (throw_passes p m t c.args.problem f h m.left adds passes)

@@ -1,0 +1,26 @@
+-- Requests, and the environment that replies.
+use Rattle.std.specs.Prelude.{List, [], ◌∷◌, ◌++◌, ◌≤◌, length, Option, Some, None}
+use Rattle.rr_space.specs.Tables.{Table}
+use Rattle.rr_eval.specs.declared.request.Request.{Request}
+use Rattle.rr_eval.specs.declared.request.Request.TheVariants as requests
+use Rattle.rr_eval.specs.Script.{Asked, Prints, Reply, World}
+
+abbrev pub asked_of : Request → Asked
+asked_of (requests.Print piece) = Prints piece.items
+
+-- what was asked so far, and the environment
+pub record Course : Type 0 where
+  pub asked : List Asked
+  pub world : World
+
+-- one request more
+abbrev pub asking : Asked → Course → Course
+asking q h = record h { asked = h.asked ++ q ∷ [] }
+
+-- an environment that takes no object away
+abbrev pub AddsTo : Table → Option Reply → Type 0
+AddsTo t None = Unit {0}
+AddsTo t (Some r) = length t.slots ≤ length r.table.slots
+
+abbrev pub Adds : World → Type 0
+Adds w = (asked : List Asked) (q : Asked) (t : Table) → AddsTo t (w asked q t)

@@ -1,0 +1,8 @@
+//! What a script asks of its environment.
+
+/// A request of a script to its environment, which replies with a value or an exception.
+#[derive(Drop)]
+pub enum Request {
+    /// To print a piece of output.
+    Print(Vec<u8>),
+}
