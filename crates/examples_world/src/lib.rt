@@ -1,0 +1,4 @@
+//! Runs of a World.
+#![tactic(auto)]
+
+mod steps;

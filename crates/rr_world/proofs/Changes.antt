@@ -1,0 +1,164 @@
+-- What a change of one object leaves of a ractor.
+use Rattle.std.proofs.Common.{◌≡◌, ℕ, zero, suc, arith, ◌++◌, ◌⊎◌, ⊎_elim, inl, inr, List, [], ◌∷◌, length, map, Option, Some, None, IsTrue, Bool, true, false, slice_get, slice_set, Contains, sym, ap, ◌∙◌, subst, refl}
+use Rattle.std.specs.Prelude.{◌&&◌, not}
+use Rattle.std.proofs.lemmas.Option.{slice_get_within}
+use Rattle.rr_base.specs.declared.limits.Limits.{Limits}
+use Rattle.rr_space.specs.Graph.{Kind, text, array, hash, plain, exception, shell, Object, Label, Field}
+use Rattle.rr_space.specs.Tables.{Table, Packed, Slot, Here, Led, Below, joined}
+use Rattle.rr_space.specs.Parts.{value_of, below_ref, IsWithin}
+use Rattle.rr_space.specs.Labels.{triples_at, triples_of, IsFirstUnder}
+use Rattle.rr_space.specs.Kinds.{kind_at, kind_named, object_kind}
+use Rattle.rr_space.specs.Views.{can_freeze_at, can_write_at, slot_object, is_shell, is_whole, is_open, IsLedBy, IsKnownFrom, IsFirstAt, label_part}
+use Rattle.rr_space.specs.declared.kind.Kind.TheVariants as kinds
+use Rattle.rr_space.specs.declared.refer.Ref.{Ref}
+use Rattle.rr_space.specs.declared.refer.Ref.TheVariants as ref
+use Rattle.rr_space.proofs.Sounds.{joined_back, joined_in, gets}
+use Rattle.rr_world.specs.Views.{Member, AreRootsWithin}
+use Rattle.rr_world.specs.Cases.{IsNoShell, IsOpen, with_field}
+use Rattle.rr_world.specs.Changing.{IsMadeOf, IsReadBy}
+use Rattle.rr_world.specs.Packing.{named_ref}
+use Rattle.rr_world.specs.declared.step.Operand.{Operand}
+use Rattle.rr_world.proofs.Fields.{field_cases}
+use Rattle.rr_world.proofs.Lists.{eq_cases}
+
+abbrev pub member : Table → List Ref → Option Packed → Limits → Member
+member space roots hand limits = record { space = space; roots = roots; hand = hand; limits = limits }
+
+no_shell : (o : Object) → not (is_shell o.kind) ≡ true → IsNoShell o
+no_shell o holds is = let no : not (is_shell shell) ≡ true = subst (λ (k : Kind). not (is_shell k) ≡ true) is holds in cc
+
+-- an object of the space that may be frozen
+pub whole_slot : (t : Table) (v : Ref) → IsTrue (can_freeze_at t v) → (n : ℕ) × (o : Object) × (v ≡ ref.Local n) × (slice_get t.slots n ≡ Some (Here o)) × IsNoShell o
+whole_slot t ref.Nil holds = let no : false ≡ true = holds in cc
+whole_slot t (ref.Truth x) holds = let no : false ≡ true = holds in cc
+whole_slot t (ref.Int x) holds = let no : false ≡ true = holds in cc
+whole_slot t (ref.Symbol x) holds = let no : false ≡ true = holds in cc
+whole_slot t (ref.Class x) holds = let no : false ≡ true = holds in cc
+whole_slot t (ref.Ractor x) holds = let no : false ≡ true = holds in cc
+whole_slot t (ref.Shared p c) holds = let no : false ≡ true = holds in cc
+whole_slot t (ref.Local n) holds = by (slice_get t.slots n) refl
+  where
+    by : (x : Option Slot) → slice_get t.slots n ≡ x → (m : ℕ) × (o : Object) × (ref.Local n ≡ ref.Local m) × (slice_get t.slots m ≡ Some (Here o)) × IsNoShell o
+    by None e = let no : is_whole None ≡ true = ap is_whole (sym e) ∙ holds in cc
+    by (Some (Led c p)) e = let no : is_whole (Some (Led c p)) ≡ true = ap is_whole (sym e) ∙ holds in cc
+    by (Some (Here o)) e = (n, o, refl, e, no_shell o (ap is_whole (sym e) ∙ holds))
+
+is_text : (k : Kind) → kind_named k ≡ kinds.Text → k ≡ text
+is_text text e = refl
+is_text array e = cc
+is_text hash e = cc
+is_text plain e = cc
+is_text exception e = cc
+is_text shell e = cc
+
+is_array : (k : Kind) → kind_named k ≡ kinds.Array → k ≡ array
+is_array array e = refl
+is_array text e = cc
+is_array hash e = cc
+is_array plain e = cc
+is_array exception e = cc
+is_array shell e = cc
+
+is_plain : (k : Kind) → kind_named k ≡ kinds.Object → k ≡ plain
+is_plain plain e = refl
+is_plain text e = cc
+is_plain array e = cc
+is_plain hash e = cc
+is_plain exception e = cc
+is_plain shell e = cc
+
+not_frozen : (a b : Bool) → a && not b ≡ true → b ≡ false
+not_frozen true false e = refl
+not_frozen true true e = cc
+not_frozen false b e = cc
+
+-- an object of the space that may be written, with its kind
+open_slot : (t : Table) (v : Ref) → IsTrue (can_write_at t v)
+    → (n : ℕ) × (o : Object) × (v ≡ ref.Local n) × (slice_get t.slots n ≡ Some (Here o)) × (kind_at t v ≡ kind_named o.kind) × (o.frozen ≡ false)
+open_slot t ref.Nil holds = let no : false ≡ true = holds in cc
+open_slot t (ref.Truth x) holds = let no : false ≡ true = holds in cc
+open_slot t (ref.Int x) holds = let no : false ≡ true = holds in cc
+open_slot t (ref.Symbol x) holds = let no : false ≡ true = holds in cc
+open_slot t (ref.Class x) holds = let no : false ≡ true = holds in cc
+open_slot t (ref.Ractor x) holds = let no : false ≡ true = holds in cc
+open_slot t (ref.Shared p c) holds = let no : false ≡ true = holds in cc
+open_slot t (ref.Local n) holds = by (slice_get t.slots n) refl
+  where
+    by : (x : Option Slot) → slice_get t.slots n ≡ x
+        → (m : ℕ) × (o : Object) × (ref.Local n ≡ ref.Local m) × (slice_get t.slots m ≡ Some (Here o)) × (kind_at t (ref.Local n) ≡ kind_named o.kind) × (o.frozen ≡ false)
+    by None e = let no : is_open None ≡ true = ap is_open (sym e) ∙ holds in cc
+    by (Some (Led c p)) e = let no : is_open (Some (Led c p)) ≡ true = ap is_open (sym e) ∙ holds in cc
+    by (Some (Here o)) e = (n, o, refl, e, ap (λ x. object_kind (slot_object x (slice_get t.below n))) e, not_frozen (not (is_shell o.kind)) o.frozen (ap is_open (sym e) ∙ holds))
+
+pub open_text : (t : Table) (v : Ref) → IsTrue (can_write_at t v) → kind_at t v ≡ kinds.Text → (n : ℕ) × (o : Object) × (v ≡ ref.Local n) × (slice_get t.slots n ≡ Some (Here o)) × IsOpen text o
+open_text t v holds is = let s = open_slot t v holds in (s.0, s.1, s.2, s.3, (is_text s.1.kind (sym s.4 ∙ is), s.5))
+
+pub open_array : (t : Table) (v : Ref) → IsTrue (can_write_at t v) → kind_at t v ≡ kinds.Array → (n : ℕ) × (o : Object) × (v ≡ ref.Local n) × (slice_get t.slots n ≡ Some (Here o)) × IsOpen array o
+open_array t v holds is = let s = open_slot t v holds in (s.0, s.1, s.2, s.3, (is_array s.1.kind (sym s.4 ∙ is), s.5))
+
+pub open_plain : (t : Table) (v : Ref) → IsTrue (can_write_at t v) → kind_at t v ≡ kinds.Object → (n : ℕ) × (o : Object) × (v ≡ ref.Local n) × (slice_get t.slots n ≡ Some (Here o)) × IsOpen plain o
+open_plain t v holds is = let s = open_slot t v holds in (s.0, s.1, s.2, s.3, (is_plain s.1.kind (sym s.4 ∙ is), s.5))
+
+-- the triples of an object, with a field set
+pub field_set : (name : ℕ) (v : Ref) (n : ℕ) (o : Object) (a b : Table)
+    → ((i : ℕ) → IsFirstAt (map label_part o.triples) (Field name) i → b.slots ≡ slice_set a.slots n (Here (record o { triples = slice_set o.triples i (Field name, value_of v) })))
+    → ((Contains (map label_part o.triples) (Field name) → ⊥) → b.slots ≡ slice_set a.slots n (Here (record o { triples = o.triples ++ (Field name, value_of v) ∷ [] })))
+    → b.slots ≡ slice_set a.slots n (Here (with_field name (value_of v) o))
+field_set name v n o a b present absent = ⊎_elim
+    (λ z. present z.0 z.1 ∙ ap (λ ts. slice_set a.slots n (Here (record o { triples = ts }))) (sym (z.2 (value_of v))))
+    (λ z. absent z.0 ∙ ap (λ ts. slice_set a.slots n (Here (record o { triples = ts }))) (sym (z.1 (value_of v))))
+    (field_cases name o.triples)
+
+-- what stands under labels in an object of the space
+pub at_slot : (t : Table) (v : Ref) (n : ℕ) (o : Object) → v ≡ ref.Local n → slice_get t.slots n ≡ Some (Here o) → triples_at t v ≡ o.triples
+at_slot t v n o is here = ap (triples_at t) is ∙ ap (λ x. triples_of (slot_object x (slice_get t.below n))) here
+
+pub set_length : {A : Type 0} (xs : List A) (i : ℕ) (x : A) → length (slice_set xs i x) ≡ length xs
+set_length [] i x = refl
+set_length (y ∷ ys) zero x = refl
+set_length (y ∷ ys) (suc i) x = ap suc (set_length ys i x)
+
+-- roots stay within a space with another object in a slot
+pub set_within : (a b : Table) (n : ℕ) (x : Slot) (rs : List Ref) → b.slots ≡ slice_set a.slots n x → AreRootsWithin (length a.slots) rs → AreRootsWithin (length b.slots) rs
+set_within a b n x rs is within = subst (λ k. AreRootsWithin k rs) (sym (ap length is ∙ set_length a.slots n x)) within
+
+-- what a space leads to after a write it led to before, or came with the value
+pub led_known : (v : Ref) (n : ℕ) (a b : List Below) → IsLedBy v n a b → (e : ℕ × List Object) → Contains (joined b) e → Contains (joined a) e ⊎ Contains (below_ref v) e
+led_known v n a b L e has =
+    let z = joined_back b e has in
+    ⊎_elim
+    (λ same.
+    let at : slice_get b n ≡ Some z.1 = ap (slice_get b) (sym same) ∙ z.2 in
+    let old = gets a n (let lt = slice_get_within b n z.1 at in omega (arith, L.size, lt)) in
+    ⊎_elim (λ was. inl (joined_in a n old.0 e old.1 was)) (λ came. inr came) (L.same old.0 z.1 e old.1 at z.3))
+    (λ other. inl (joined_in a z.0 z.1 e (sym (L.others z.0 other) ∙ z.2) z.3))
+    (eq_cases z.0 n)
+
+pub kept_known : (v : Ref) (a b : List Below) → b ≡ a → (e : ℕ × List Object) → Contains (joined b) e → Contains (joined a) e ⊎ Contains (below_ref v) e
+kept_known v a b same e has = inl (subst (λ x. Contains (joined x) e) same has)
+
+-- an object of the space is made another
+pub made : (op : Operand) (may : Object → Type 0) (change : Object → Object) (x v : Ref) (old : Member) (sp new : Table) (rs : List Ref) (hand : Option Packed) (limits : Limits) (n : ℕ) (o : Object)
+    → member sp rs hand limits ≡ old → named_ref old.roots op ≡ Some v → v ≡ ref.Local n → slice_get sp.slots n ≡ Some (Here o) → may o → new.slots ≡ slice_set sp.slots n (Here (change o))
+    → ((e : ℕ × List Object) → Contains (joined new.below) e → Contains (joined sp.below) e ⊎ Contains (below_ref x) e) → new.limit ≡ sp.limit → new.owner ≡ sp.owner
+    → AreRootsWithin (length sp.slots) rs → IsWithin (length sp.slots) x → IsMadeOf op may change x old (member new rs hand limits)
+made op may change x v old sp new rs hand limits n o is named slot here holds slots below limit owner within value =
+    subst (λ (m : Member). IsMadeOf op may change x m (member new rs hand limits)) is (
+      n,
+      o,
+      record { named = subst (λ (m : Member). named_ref m.roots op ≡ Some v) (sym is) named ∙ ap (λ r. Some r) slot; here = here },
+      holds,
+      record { within = within; value = value; slots = slots; below = below; limit = limit; roots = refl; hand = refl; owner = owner; limits = refl },
+    )
+
+pub read_by : (op : Operand) (l : Label) (v r : Ref) (old : Member) (sp : Table) (rs all : List Ref) (hand : Option Packed) (limits : Limits) → member sp rs hand limits ≡ old → all ≡ rs ++ r ∷ [] → named_ref old.roots op ≡ Some v
+    → IsFirstUnder (triples_at sp v) l (value_of r) → IsWithin (length sp.slots) r → IsKnownFrom sp v r → AreRootsWithin (length sp.slots) rs → IsReadBy op l v r old (member sp all hand limits)
+read_by op l v r old sp rs all hand limits is more named first root known within =
+    subst (λ (m : Member). IsReadBy op l v r m (member sp all hand limits)) is (record {
+      within = within;
+      named = subst (λ (m : Member). named_ref m.roots op ≡ Some v) (sym is) named;
+      first = first;
+      root = root;
+      known = known;
+      now_is = ap (λ xs. member sp xs hand limits) more;
+    })

@@ -1,0 +1,58 @@
+-- The message in a hand goes.
+use Rattle.std.proofs.Common.{◌≡◌, ℕ, Some, None, slice_get, ap, ◌∙◌, refl, arith}
+use Rattle.std.specs.Prelude.{slice_set}
+use Rattle.std.specs.Option.{option_map, option_and_then}
+use Rattle.std.proofs.lemmas.Option.{slice_get_within}
+use Rattle.rr_base.specs.declared.name.RactorNo.{RactorNo}
+use Rattle.rr_space.specs.Tables.{Packed}
+use Rattle.rr_space.specs.Readings.{Owner, Space, Hand, Mail, Shared}
+use Rattle.rr_space.specs.Steps.{Goneby}
+use Rattle.rr_space.proofs.Drops.{dropping_is_a_step}
+use Rattle.rr_world.specs.Views.{Member, Assembly}
+use Rattle.rr_world.specs.Layouts.{layout, space_slots, hand_slots, inbox_slots}
+use Rattle.rr_world.specs.Readings.{each_from, actor_in, mailbox_in, parcel_in}
+use Rattle.rr_world.specs.Cases.{StandsAt}
+use Rattle.rr_world.specs.Runs.{IsStep}
+use Rattle.rr_world.specs.declared.step.Action.TheVariants.{Discard}
+use Rattle.rr_world.specs.declared.step.Reply.TheVariants.{Done}
+use Rattle.rr_world.proofs.Lists.{set_at, set_off, seen_same, each_set}
+use Rattle.rr_world.proofs.Knowing.{knows_set, emptied_knows, owned_set}
+use Rattle.rr_world.proofs.Enabled.{actor_at, holds}
+
+module _ (w w2 : Assembly) (k : ℕ) (m : Member) (p : Packed) (at : slice_get w.ractors k ≡ Some m) (held : m.hand ≡ Some p)
+    (rs : w2.ractors ≡ slice_set w.ractors k (record m { hand = None })) (is : w2.inboxes ≡ w.inboxes) where
+  rest : (h : Owner) → (h ≡ Hand k → ⊥) → layout w2 h ≡ layout w h
+  unfolding layout
+  rest (Space j) q = ap (λ xs. option_map space_slots (slice_get xs j)) rs ∙ seen_same (option_map space_slots) w.ractors k j m (record m { hand = None }) at refl
+  rest (Hand j) q = ap (λ xs. option_and_then hand_slots (slice_get xs j)) rs ∙ ap (option_and_then hand_slots) (set_off w.ractors k j (record m { hand = None }) (λ e. q (ap Hand e)))
+  rest (Mail d u) q = ap (λ xs. option_and_then (inbox_slots u) (slice_get xs d)) is
+  rest (Shared d) q = refl
+
+  gone : Goneby (Hand k) (layout w) (layout w2)
+  unfolding layout
+  gone = record {
+    gone = ap (λ xs. option_and_then hand_slots (slice_get xs k)) rs ∙ ap (option_and_then hand_slots) (set_at w.ractors k (record m { hand = None }) (slice_get_within w.ractors k m at));
+    rest = rest;
+    unshared = λ c e. let n : ⊥ = cc in n;
+  }
+
+  pub discarded : (who : RactorNo) → StandsAt who k → IsStep (record { who = who; action = Discard }) Done w w2
+  discarded who stands names bound g R =
+      let q = dropping_is_a_step (Hand k) (layout w) (layout w2) names bound g gone R.tables in (
+        names,
+        bound,
+        q.0,
+        record { tables = q.1; knows = knows_set w w2 k (record m { hand = None }) rs is (emptied_knows (layout w) m (R.knows.ractors k m at)) R.knows; owned = owned_set w w2 k m (record m { hand = None }) at rs refl R.owned },
+        (
+          k,
+          actor_in names k m,
+          stands,
+          actor_at w names g k m at,
+          (parcel_in names (Hand k) p, holds names k m p held),
+          record {
+            objects = q.2;
+            ractors = ap (each_from (actor_in names) 0) rs ∙ each_set (actor_in names) (actor_in names) 0 w.ractors k k (record m { hand = None }) (omega arith) (λ i n x d e a. refl);
+            inboxes = ap (each_from (mailbox_in names) 0) is;
+          },
+        ),
+      )

@@ -1,0 +1,71 @@
+-- The new World has a reading.
+use Rattle.std.proofs.Common.{◌≡◌, ◌+◌, ℕ, Contains, subst, zero, suc, List, [], ◌∷◌, Some, None, slice_get, sym, ap, ◌∙◌}
+use Rattle.std.specs.Option.{option_map, option_and_then}
+use Rattle.std.proofs.lemmas.Option.{none-some, same_Some}
+use Rattle.rr_base.specs.declared.limits.Limits.{Limits}
+use Rattle.rr_space.specs.Tables.{Slot, Below, joined}
+use Rattle.rr_space.specs.Readings.{Knows, Layout, Owner, Space, Hand, Mail, Shared}
+use Rattle.rr_space.proofs.Cases.{empty_is_read}
+use Rattle.rr_inbox.specs.Inboxes.{Inbox, new_inbox}
+use Rattle.rr_inbox.specs.declared.entry.Entry.{Entry}
+use Rattle.rr_space.proofs.Sounds.{none_in}
+use Rattle.rr_world.specs.Views.{Member, Assembly}
+use Rattle.rr_world.specs.Layouts.{MemberKnows, layout, space_slots, hand_slots, message_slots, inbox_slots}
+use Rattle.rr_world.specs.Runs.{IsNew, HasReading}
+
+space_empty : (m : Member) (k : ℕ) (t : List Slot) → m.space.slots ≡ [] → option_map space_slots (slice_get (m ∷ []) k) ≡ Some t → t ≡ []
+space_empty m zero t none is = sym (same_Some m.space.slots t is) ∙ none
+space_empty m (suc k) t none is = absurd (none-some t is)
+
+hand_empty : (m : Member) (k : ℕ) (t : List Slot) → m.hand ≡ None → option_and_then hand_slots (slice_get (m ∷ []) k) ≡ Some t → t ≡ []
+hand_empty m zero t none is = absurd (none-some t (sym (ap (option_map message_slots) none) ∙ is))
+hand_empty m (suc k) t none is = absurd (none-some t is)
+
+mail_empty : (limit c u : ℕ) (t : List Slot) → option_and_then (inbox_slots u) (slice_get (new_inbox limit ∷ []) c) ≡ Some t → t ≡ []
+mail_empty limit zero u t is = absurd (none-some t is)
+mail_empty limit (suc c) u t is = absurd (none-some t is)
+
+all_empty : (limits : Limits) (w : Assembly) → IsNew limits w → (h : Owner) (t : List Slot) → layout w h ≡ Some t → t ≡ []
+unfolding layout
+all_empty limits w N (Space k) t is = space_empty N.main k t N.slots (ap (λ xs. option_map space_slots (slice_get xs k)) (sym N.ractors) ∙ is)
+all_empty limits w N (Hand k) t is = hand_empty N.main k t N.hand (ap (λ xs. option_and_then hand_slots (slice_get xs k)) (sym N.ractors) ∙ is)
+all_empty limits w N (Mail c u) t is = mail_empty limits.events c u t (ap (λ xs. option_and_then (inbox_slots u) (slice_get xs c)) (sym N.inboxes) ∙ is)
+all_empty limits w N (Shared c) t is = absurd (none-some t is)
+
+nothing_known : (tables : Layout) (b : Below) → b ≡ [] → Knows b tables
+nothing_known tables b none = record { known = λ c os has. absurd (none_in (c, os) (subst (λ x. Contains x (c, os)) none has)) }
+
+main_knows : (limits : Limits) (w : Assembly) (N : IsNew limits w) → MemberKnows (layout w) N.main
+main_knows limits w N = record {
+  space = nothing_known (layout w) (joined N.main.space.below) (ap joined N.below);
+  roots = λ r has. absurd (none_in r (subst (λ rs. Contains rs r) N.roots has));
+  hand = λ p is. absurd (none-some p (sym N.hand ∙ is));
+}
+
+only_main : (limits : Limits) (w : Assembly) (N : IsNew limits w) (k : ℕ) (m : Member) → slice_get (N.main ∷ []) k ≡ Some m → MemberKnows (layout w) m
+only_main limits w N zero m is = subst (MemberKnows (layout w)) (same_Some N.main m is) (main_knows limits w N)
+only_main limits w N (suc k) m is = absurd (none-some m is)
+
+main_owned : (limits : Limits) (w : Assembly) (N : IsNew limits w) (k : ℕ) (m : Member) → slice_get (N.main ∷ []) k ≡ Some m → m.space.owner ≡ k + 1
+main_owned limits w N zero m is = ap (λ (x : Member). x.space.owner) (sym (same_Some N.main m is)) ∙ N.owner
+main_owned limits w N (suc k) m is = absurd (none-some m is)
+
+no_mail : (limit c : ℕ) (i : Inbox) (e : Entry) → slice_get (new_inbox limit ∷ []) c ≡ Some i → Contains i.inside e → ⊥
+no_mail limit zero i e is has = none_in e (subst (λ (x : Inbox). Contains x.inside e) (sym (same_Some (new_inbox limit) i is)) has)
+no_mail limit (suc c) i e is has = none-some i is
+
+pub new_is_read : (limits : Limits) (w : Assembly) → IsNew limits w → HasReading w
+new_is_read limits w N =
+    let e = empty_is_read (layout w) (all_empty limits w N) in (
+      e.0,
+      0,
+      e.1,
+      record {
+        tables = e.2;
+        knows = record {
+          ractors = λ k m at. only_main limits w N k m (ap (λ xs. slice_get xs k) (sym N.ractors) ∙ at);
+          inboxes = λ c i x at has. absurd (no_mail limits.events c i x (ap (λ xs. slice_get xs c) (sym N.inboxes) ∙ at) has);
+        };
+        owned = λ k m at. main_owned limits w N k m (ap (λ xs. slice_get xs k) (sym N.ractors) ∙ at);
+      },
+    )

@@ -1,0 +1,117 @@
+-- What the tables of a World know of clusters, step by step.
+use Rattle.std.proofs.Common.{◌≡◌, ℕ, ◌+◌, zero, suc, ◌⊎◌, ⊎_elim, inl, inr, List, [], ◌∷◌, Some, None, slice_get, Contains, sym, ap, ◌∙◌, subst, refl}
+use Rattle.std.specs.Prelude.{slice_set}
+use Rattle.std.proofs.lemmas.List.Elements.{Contains-append_cases, Contains-append_left, Contains-append_right}
+use Rattle.std.proofs.lemmas.Option.{none-some, same_Some, slice_get_within}
+use Rattle.rr_space.specs.Graph.{Object}
+use Rattle.rr_space.specs.Tables.{Packed, Below, joined}
+use Rattle.rr_space.specs.Parts.{below_ref}
+use Rattle.rr_space.specs.Readings.{Shared, Knows, Layout}
+use Rattle.rr_space.specs.declared.refer.Ref.{Ref}
+use Rattle.rr_space.proofs.Hands.{append_cases}
+use Rattle.rr_space.proofs.Sounds.{joined_back, joined_in, none_in, in_first}
+use Rattle.rr_inbox.specs.Inboxes.{Inbox}
+use Rattle.rr_inbox.specs.declared.entry.Entry.{Entry}
+use Rattle.rr_world.specs.Views.{Member, Assembly}
+use Rattle.rr_world.specs.Layouts.{layout, message_below, MemberKnows, IsKnowing, AreOwned}
+use Rattle.rr_world.specs.Opening.{IsOpenedBy}
+use Rattle.rr_world.proofs.Lists.{eq_cases, set_at, set_off}
+
+pub no_clusters : (w : Assembly) (c : ℕ) → layout w (Shared c) ≡ None
+unfolding layout
+no_clusters w c = refl
+
+pub knows_on : (w w2 : Assembly) (b : Below) → Knows b (layout w) → Knows b (layout w2)
+knows_on w w2 b K = record { known = λ c os has. let q = K.known c os has in (q.0, no_clusters w2 c ∙ sym (no_clusters w c) ∙ q.1, q.2) }
+
+-- no cluster is known, as long as none is published
+pub none_known : (w : Assembly) (b : Below) → Knows b (layout w) → (c : ℕ) (os : List Object) → Contains b (c, os) → ⊥
+none_known w b K c os has = let q = K.known c os has in none-some _ (sym (no_clusters w c) ∙ q.1)
+
+knows_fewer : (tables : Layout) (a b : Below) → ((e : ℕ × List Object) → Contains a e → Contains b e) → Knows b tables → Knows a tables
+knows_fewer tables a b fewer K = record { known = λ c os has. K.known c os (fewer (c, os) has) }
+
+pub knows_either : (tables : Layout) (a b d : Below) → ((e : ℕ × List Object) → Contains d e → Contains a e ⊎ Contains b e) → Knows a tables → Knows b tables → Knows d tables
+knows_either tables a b d either K L = record { known = λ c os has. ⊎_elim (K.known c os) (L.known c os) (either (c, os) has) }
+
+pub set_cases : {A : Type 0} (xs : List A) (i j : ℕ) (x z : A) → slice_get (slice_set xs i x) j ≡ Some z → (x ≡ z) ⊎ (slice_get xs j ≡ Some z)
+set_cases [] i j x z e = absurd (none-some z e)
+set_cases (y ∷ ys) zero zero x z e = inl (same_Some x z e)
+set_cases (y ∷ ys) zero (suc j) x z e = inr e
+set_cases (y ∷ ys) (suc i) zero x z e = inr e
+set_cases (y ∷ ys) (suc i) (suc j) x z e = set_cases ys i j x z e
+
+pub member_on : (w w2 : Assembly) (m : Member) → MemberKnows (layout w) m → MemberKnows (layout w2) m
+member_on w w2 m K = record {
+  space = knows_on w w2 (joined m.space.below) K.space;
+  roots = λ r has. knows_on w w2 (below_ref r) (K.roots r has);
+  hand = λ p is. knows_on w w2 (message_below p) (K.hand p is);
+}
+
+-- the spaces stay whose they are
+pub owned_set : (w w2 : Assembly) (k : ℕ) (m m2 : Member) → slice_get w.ractors k ≡ Some m → w2.ractors ≡ slice_set w.ractors k m2 → m2.space.owner ≡ m.space.owner → AreOwned w → AreOwned w2
+owned_set w w2 k m m2 at rs same all j x here = ⊎_elim
+    (λ one. ap (λ (y : Member). y.space.owner) (same_Some x m2 (sym (ap (λ xs. slice_get xs j) (sym rs) ∙ here) ∙ ap (slice_get (slice_set w.ractors k m2)) one ∙ set_at w.ractors k m2 (slice_get_within w.ractors k m at))) ∙ same ∙ all k m at
+    ∙ ap (λ n. n + 1) (sym one))
+    (λ other. all j x (sym (set_off w.ractors k j m2 other) ∙ ap (λ xs. slice_get xs j) (sym rs) ∙ here))
+    (eq_cases j k)
+
+-- one ractor is another
+pub knows_set : (w w2 : Assembly) (k : ℕ) (m2 : Member) → w2.ractors ≡ slice_set w.ractors k m2 → w2.inboxes ≡ w.inboxes → MemberKnows (layout w) m2 → IsKnowing w → IsKnowing w2
+knows_set w w2 k m2 rs is M K = record {
+  ractors = λ j m at. member_on w w2 m (⊎_elim (λ same. subst (MemberKnows (layout w)) same M) (λ there. K.ractors j m there) (set_cases w.ractors k j m2 m (ap (λ xs. slice_get xs j) (sym rs) ∙ at)));
+  inboxes = λ c i e at has. knows_on w w2 (message_below e.message) (K.inboxes c i e (ap (λ xs. slice_get xs c) (sym is) ∙ at) has);
+}
+
+-- one ractor and one inbox are others
+pub knows_both : (w w2 : Assembly) (k c : ℕ) (m2 : Member) (i2 : Inbox) → w2.ractors ≡ slice_set w.ractors k m2 → w2.inboxes ≡ slice_set w.inboxes c i2 → MemberKnows (layout w) m2
+    → ((e : Entry) → Contains i2.inside e → Knows (message_below e.message) (layout w)) → IsKnowing w → IsKnowing w2
+knows_both w w2 k c m2 i2 rs is M I K = record {
+  ractors = λ j m at. member_on w w2 m (⊎_elim (λ same. subst (MemberKnows (layout w)) same M) (λ there. K.ractors j m there) (set_cases w.ractors k j m2 m (ap (λ xs. slice_get xs j) (sym rs) ∙ at)));
+  inboxes = λ d i e at has. knows_on w w2 (message_below e.message) (⊎_elim
+      (λ same. I e (subst (λ (x : Inbox). Contains x.inside e) (sym same) has))
+      (λ there. K.inboxes d i e there has)
+      (set_cases w.inboxes c d i2 i (ap (λ xs. slice_get xs d) (sym is) ∙ at)));
+}
+
+-- one inbox is another with the same messages
+pub knows_told : (w w2 : Assembly) (c : ℕ) (i i2 : Inbox) → slice_get w.inboxes c ≡ Some i → i2.inside ≡ i.inside → w2.ractors ≡ w.ractors → w2.inboxes ≡ slice_set w.inboxes c i2 → IsKnowing w → IsKnowing w2
+knows_told w w2 c i i2 box inside rs is K = record {
+  ractors = λ j m at. member_on w w2 m (K.ractors j m (ap (λ xs. slice_get xs j) (sym rs) ∙ at));
+  inboxes = λ d x e at has. knows_on w w2 (message_below e.message) (⊎_elim
+      (λ same. K.inboxes c i e box (subst (λ xs. Contains xs e) inside (subst (λ (y : Inbox). Contains y.inside e) (sym same) has)))
+      (λ there. K.inboxes d x e there has)
+      (set_cases w.inboxes c d i2 x (ap (λ xs. slice_get xs d) (sym is) ∙ at)));
+}
+
+-- with the hand empty, less is known
+pub emptied_knows : (tables : Layout) (m : Member) → MemberKnows tables m → MemberKnows tables (record m { hand = None })
+emptied_knows tables m K = record { space = K.space; roots = K.roots; hand = λ p is. absurd (none-some p is) }
+
+pub holding_knows : (tables : Layout) (m : Member) (p : Packed) → MemberKnows tables m → Knows (message_below p) tables → MemberKnows tables (record m { hand = Some p })
+holding_knows tables m p K L = record { space = K.space; roots = K.roots; hand = λ q is. subst (λ (x : Packed). Knows (message_below x) tables) (same_Some p q is) L }
+
+-- what is opened brings what it knows
+pub opened_knows : (tables : Layout) (p : Packed) (root : Ref) (m m2 : Member) → IsOpenedBy p root m m2 → MemberKnows tables m → MemberKnows tables m2
+opened_knows tables p root m m2 O K =
+    let L = K.hand p O.held in
+    record {
+      space = knows_either tables (joined m.space.below) (message_below p) (joined m2.space.below) split K.space L;
+      roots = λ r has. ⊎_elim
+          (λ old. K.roots r old)
+          (λ new. ⊎_elim
+          (λ (same : root ≡ r). subst (λ (x : Ref). Knows (below_ref x) tables) same (knows_fewer tables (below_ref root) (message_below p)
+          (λ e h. Contains-append_left p.root_below (joined p.below) e (subst (λ (b : Below). Contains b e) O.below h)) L))
+          (λ none. absurd (none_in r none))
+          (in_first root [] r new))
+          (Contains-append_cases m.roots (root ∷ []) r (subst (λ (rs : List Ref). Contains rs r) O.roots has));
+      hand = λ q is. absurd (none-some q (sym O.hand ∙ is));
+    }
+  where
+    split : (e : ℕ × List Object) → Contains (joined m2.space.below) e → Contains (joined m.space.below) e ⊎ Contains (message_below p) e
+    split e has =
+        let b = joined_back m2.space.below e has in
+        ⊎_elim
+        (λ old. inl (joined_in m.space.below b.0 b.1 e old b.3))
+        (λ new. inr (Contains-append_right p.root_below (joined p.below) e (joined_in p.below new.0 b.1 e new.2 b.3)))
+        (append_cases m.space.below p.below b.0 b.1 (ap (λ bs. slice_get bs b.0) (sym O.opened.below) ∙ b.2))

@@ -1,0 +1,390 @@
+-- Changes of one object, as cases of the machine.
+use Rattle.std.proofs.Common.{◌≡◌, ℕ, zero, suc, ◌<◌, ◌⊎◌, ⊎_elim, inl, inr, List, [], ◌∷◌, ◌++◌, length, map, Option, Some, None, slice_get, Contains, true, false, sym, ap, ◌∙◌, subst, refl, arith}
+use Rattle.std.specs.Prelude.{slice_index, slice_set}
+use Rattle.std.specs.Option.{option_map}
+use Rattle.std.proofs.lemmas.List.{length-map, map-append}
+use Rattle.std.proofs.lemmas.List.Elements.{Contains-append_cases}
+use Rattle.std.proofs.lemmas.Option.{none-some, same_Some}
+use Rattle.rr_base.specs.declared.name.RactorNo.{RactorNo}
+use Rattle.rr_base.specs.declared.fault.Fault.{Fault}
+use Rattle.rr_base.specs.declared.name.Sym.{Sym}
+use Rattle.rr_space.specs.Graph.{Kind, text, array, plain, shell, Own, Published, Value, Plain, At, Label, Place, Name, Object}
+use Rattle.rr_space.specs.Tables.{Slot, Here, Led, renamed_triple}
+use Rattle.rr_space.specs.Parts.{value_of, below_ref}
+use Rattle.rr_space.specs.Readings.{Owner, Space, Owned, Objects, Naming, Layout, Knows, named, name_in, whole}
+use Rattle.rr_space.specs.Steps.{IsNewValue}
+use Rattle.rr_space.specs.declared.refer.Ref.{Ref}
+use Rattle.rr_space.specs.declared.refer.Ref.TheVariants as ref
+use Rattle.rr_space.proofs.Frames.{named_same}
+use Rattle.rr_space.proofs.Hands.{some_back}
+use Rattle.rr_space.proofs.Renaming.{contains_at, contains_map}
+use Rattle.rr_space.proofs.Sounds.{none_in, in_first}
+use Rattle.rr_world.specs.Views.{Member, Assembly}
+use Rattle.rr_world.specs.Layouts.{layout, space_slots, IsRead}
+use Rattle.rr_world.specs.Readings.{root_in, value_in, actor_in, state_in}
+use Rattle.rr_world.specs.Cases.{StandsAt, IsOwn, MayChange, IsNoShell, IsOpen, HasElement, IsValue, IsMade, IsEnabled, IsCase, named_value, frozen, appended, pushed, written, with_field}
+use Rattle.rr_world.specs.Changing.{IsSlot, MayChangeSlot, IsMadeOf, IsNamedRef, HasRootsWithin, Freezes, Appends, Pushes, Writes, Sets}
+use Rattle.rr_world.specs.Packing.{named_ref}
+use Rattle.rr_world.specs.Runs.{IsStep}
+use Rattle.rr_world.specs.declared.step.Operand.{Operand}
+use Rattle.rr_world.specs.declared.step.Operand.TheVariants as operand
+use Rattle.rr_world.specs.declared.step.Action.{Action}
+use Rattle.rr_world.specs.declared.step.Action.TheVariants.{Freeze, Append, Push, Write, SetField}
+use Rattle.rr_world.specs.declared.step.Reply.{Reply}
+use Rattle.rr_world.specs.declared.step.Reply.TheVariants.{NotEnabled, Done, Offered, Empty, EmptyAndClosed, WasClosed, Refused, Started}
+use Rattle.rr_world.proofs.Enabled.{actor_at, allowed}
+use Rattle.rr_world.proofs.Fields.{set_renamed, field_values}
+use Rattle.rr_world.proofs.Insides.{set_again, same_assembly}
+use Rattle.rr_world.proofs.Knowing.{no_clusters, none_known}
+use Rattle.rr_world.proofs.Operands.{value_named, known_named, root_within}
+use Rattle.rr_world.proofs.Rewrites.{rewritten}
+use Rattle.rr_world.proofs.Staying.{stays_read, same_state}
+
+-- a root's value is an immediate or one that the roots reach
+root_reached : (g : Objects) (names : Naming) (h : Owner) (rs : List Ref) (v : Ref) → Contains rs v → IsNewValue g (map (root_in names h) rs) (root_in names h v)
+root_reached g names h rs v has = by (value_of v) refl
+  where
+    by : (x : Value) → value_of v ≡ x → IsNewValue g (map (root_in names h) rs) (root_in names h v)
+    by (Plain i) e = subst (λ y. IsNewValue g (map (root_in names h) rs) (value_in names h y)) (sym e) tt
+    by (At n) e = at_name (name_in names h n) (ap (value_in names h) e)
+      where
+        at_name : (q : Name) → root_in names h v ≡ At q → IsNewValue g (map (root_in names h) rs) (root_in names h v)
+        at_name (Own j) f = subst (IsNewValue g (map (root_in names h) rs)) (sym f) (inl (root_in names h v, contains_map (root_in names h) rs v has, ([], f)))
+        at_name (Published c q) f = absurd (never n (sym (ap (value_in names h) e) ∙ f))
+          where
+            never : (i : Name) → At (name_in names h i) ≡ At (Published c q) → ⊥
+            never (Own i) z = cc
+            never (Published d i) z = cc
+
+-- what an operand is
+pub named_new : (g : Objects) (names : Naming) (h : Owner) (rs : List Ref) (op : Operand) (v : Ref) → named_ref rs op ≡ Some v → IsNewValue g (map (root_in names h) rs) (root_in names h v)
+named_new g names h rs operand.Nil v is = subst (λ r. IsNewValue g (map (root_in names h) rs) (root_in names h r)) (same_Some _ v is) tt
+named_new g names h rs (operand.Truth b) v is = subst (λ r. IsNewValue g (map (root_in names h) rs) (root_in names h r)) (same_Some _ v is) tt
+named_new g names h rs (operand.Int b) v is = subst (λ r. IsNewValue g (map (root_in names h) rs) (root_in names h r)) (same_Some _ v is) tt
+named_new g names h rs (operand.Symbol b) v is = subst (λ r. IsNewValue g (map (root_in names h) rs) (root_in names h r)) (same_Some _ v is) tt
+named_new g names h rs (operand.Class b) v is = subst (λ r. IsNewValue g (map (root_in names h) rs) (root_in names h r)) (same_Some _ v is) tt
+named_new g names h rs (operand.Ractor b) v is = subst (λ r. IsNewValue g (map (root_in names h) rs) (root_in names h r)) (same_Some _ v is) tt
+named_new g names h rs (operand.Root n) v is = root_reached g names h rs v (contains_at rs n v is)
+
+map_set : {A B : Type 0} (f : A → B) (xs : List A) (i : ℕ) (x : A) → map f (slice_set xs i x) ≡ slice_set (map f xs) i (f x)
+map_set f [] i x = refl
+map_set f (y ∷ ys) zero x = refl
+map_set f (y ∷ ys) (suc i) x = ap (λ zs. f y ∷ zs) (map_set f ys i x)
+
+module _ (w : Assembly) (names : Naming) (bound : ℕ) (g : Objects) (R : IsRead w names bound g) (k : ℕ) (m : Member) (at : slice_get w.ractors k ≡ Some m) where
+  here_space : layout w (Space k) ≡ Some m.space.slots
+  unfolding layout
+  here_space = ap (option_map space_slots) at
+
+  -- an operand that is an object is a slot of the space
+  pub slot_named : (op : Operand) (n : ℕ) → HasRootsWithin m → named_value (actor_in names k m).roots op ≡ Some (At (Own n))
+      → (i : ℕ) × (raw : Object) × IsSlot op m i raw × (slice_index (names (Space k)) i ≡ n)
+  slot_named op n within is =
+      let b = some_back (root_in names (Space k)) (named_ref m.roots op) (At (Own n)) (sym (value_named names (Space k) m.roots op) ∙ is) in
+      by b.0 b.1 b.2
+    where
+      at_slot : (i : ℕ) → i < length m.space.slots → named_ref m.roots op ≡ Some (ref.Local i) → slice_index (names (Space k)) i ≡ n → (x : Option Slot) → slice_get m.space.slots i ≡ x
+          → (j : ℕ) × (raw : Object) × IsSlot op m j raw × (slice_index (names (Space k)) j ≡ n)
+      at_slot i lt is_named name None e = absurd (none_there m.space.slots i lt e)
+        where
+          none_there : (xs : List Slot) (j : ℕ) → j < length xs → slice_get xs j ≡ None → ⊥
+          none_there [] j l none = absurd (omega arith)
+          none_there (y ∷ ys) zero l none = none-some y (sym none)
+          none_there (y ∷ ys) (suc j) l none = none_there ys j (omega arith) none
+      at_slot i lt is_named name (Some (Led c q)) e = let z = (R.tables.sound (Space k) m.space.slots here_space).led i c q e in absurd (none-some z.0 (sym (no_clusters w c) ∙ z.2))
+      at_slot i lt is_named name (Some (Here raw)) e = (i, raw, record { named = is_named; here = e }, name)
+
+      by : (v : Ref) → named_ref m.roots op ≡ Some v → root_in names (Space k) v ≡ At (Own n) → (i : ℕ) × (raw : Object) × IsSlot op m i raw × (slice_index (names (Space k)) i ≡ n)
+      by ref.Nil is_named e = absurd (let z : ⊥ = cc in z)
+      by (ref.Truth b) is_named e = absurd (let z : ⊥ = cc in z)
+      by (ref.Int b) is_named e = absurd (let z : ⊥ = cc in z)
+      by (ref.Symbol b) is_named e = absurd (let z : ⊥ = cc in z)
+      by (ref.Class b) is_named e = absurd (let z : ⊥ = cc in z)
+      by (ref.Ractor b) is_named e = absurd (let z : ⊥ = cc in z)
+      by (ref.Local i) is_named e = at_slot i (named_within op is_named) is_named (let z : At (Own (slice_index (names (Space k)) i)) ≡ At (Own n) = e in cc) (slice_get m.space.slots i) refl
+        where
+          named_within : (o : Operand) → named_ref m.roots o ≡ Some (ref.Local i) → i < length m.space.slots
+          named_within operand.Nil z = let y : ref.Nil ≡ ref.Local i = same_Some _ _ z in cc
+          named_within (operand.Truth b) z = let y : ref.Truth b ≡ ref.Local i = same_Some _ _ z in cc
+          named_within (operand.Int b) z = let y : ref.Int b ≡ ref.Local i = same_Some _ _ z in cc
+          named_within (operand.Symbol b) z = let y : ref.Symbol b ≡ ref.Local i = same_Some _ _ z in cc
+          named_within (operand.Class b) z = let y : ref.Class b ≡ ref.Local i = same_Some _ _ z in cc
+          named_within (operand.Ractor b) z = let y : ref.Ractor b ≡ ref.Local i = same_Some _ _ z in cc
+          named_within (operand.Root r) z = root_within (length m.space.slots) m.roots r (ref.Local i) within z
+      by (ref.Shared q c) is_named e = absurd (none_known w (below_ref (ref.Shared q c)) (known_named (layout w) m.roots op (ref.Shared q c) (R.knows.ractors k m at).roots is_named) _ _ (0, omega arith, refl))
+
+  -- what may be changed in the machine may be changed in the space
+  pub may_back : (who : RactorNo) (op : Operand) (may : Object → Type 0) → StandsAt who k → HasRootsWithin m → ((o : Object) → may (named names (Space k) o) → may o)
+      → MayChange (state_in w names g) who (actor_in names k m) op may → MayChangeSlot op may m
+  may_back who op may stands within keeps (j, n, o, there, own, holds) =
+      let s = slot_named op n within own.named in
+      let same : j ≡ k = omega (arith, stands, there) in
+      let read = (R.tables.reads (Space k) m.space.slots here_space).here s.0 s.1 s.2.here in
+      let owned : Some (record { owner = Space k; object = named names (Space k) s.1 }) ≡ Some (record { owner = Space j; object = o }) = sym read ∙ ap g s.3 ∙ own.here in
+      let one : named names (Space k) s.1 ≡ o = ap (λ (y : Owned). y.object) (same_Some _ _ owned) in
+      (s.0, s.1, s.2, keeps s.1 (subst may (sym one) holds))
+
+  -- an object of the space that an operand is, in the machine
+  pub own_slot : (op : Operand) (n : ℕ) (o : Object) → IsSlot op m n o → IsOwn (state_in w names g) k (actor_in names k m) op (slice_index (names (Space k)) n) (named names (Space k) o)
+  own_slot op n o s = record {
+    named = value_named names (Space k) m.roots op ∙ ap (option_map (root_in names (Space k))) s.named;
+    here = (R.tables.reads (Space k) m.space.slots here_space).here n o s.here;
+  }
+
+  pub may_on : (who : RactorNo) (op : Operand) (may : Object → Type 0) → StandsAt who k → ((o : Object) → may o → may (named names (Space k) o)) → MayChangeSlot op may m
+      → MayChange (state_in w names g) who (actor_in names k m) op may
+  may_on who op may stands keeps (n, o, s, holds) = (k, slice_index (names (Space k)) n, named names (Space k) o, stands, own_slot op n o s, keeps o holds)
+
+  pub value_on : (op : Operand) (v : Ref) → named_ref m.roots op ≡ Some v → named_value (actor_in names k m).roots op ≡ Some (root_in names (Space k) v)
+  value_on op v is = value_named names (Space k) m.roots op ∙ ap (option_map (root_in names (Space k))) is
+
+  pub value_back : (op : Operand) → IsValue (actor_in names k m) op → IsNamedRef op m
+  value_back op (x, is) = let b = some_back (root_in names (Space k)) (named_ref m.roots op) x (sym (value_named names (Space k) m.roots op) ∙ is) in (b.0, b.1)
+
+module _ (w w2 : Assembly) (k : ℕ) (m m2 : Member) (at : slice_get w.ractors k ≡ Some m) (rs : w2.ractors ≡ slice_set w.ractors k m2) (is : w2.inboxes ≡ w.inboxes) where
+  -- a change of an object of the space is one of the machine's
+  pub making : (op : Operand) (may : Object → Type 0) (raw change : Object → Object) (v : Ref) → IsMadeOf op may raw v m m2 → (names : Naming) (bound : ℕ) (g : Objects) → IsRead w names bound g
+      → Knows (below_ref v) (layout w) → IsNewValue g (actor_in names k m).roots (root_in names (Space k) v)
+      → ((o : Object) → may o → may (named names (Space k) o)) → ((o : Object) → may o → (o.frozen ≡ true) ⊎ (o.kind ≡ shell) → raw o ≡ o)
+      → ((o : Object) (l : Label) (x : Value) → Contains (raw o).triples (l, x) → ((j : Label) × Contains o.triples (j, x)) ⊎ (x ≡ value_of v))
+      → ((o : Object) → named names (Space k) (raw o) ≡ change (named names (Space k) o))
+      → (names2 : Naming) × (bound2 : ℕ) × (g2 : Objects) × IsRead w2 names2 bound2 g2
+      × IsMade k (actor_in names k m) op may change (state_in w names g) (state_in w2 names2 g2)
+  making op may raw change v (n, o, slot, holds, A) names bound g R K rooted keeps shut values same =
+      let q = rewritten w w2 k n m m2 o (raw o) v at slot.here A rs is (values o) names bound g R K (shut o holds) rooted in
+      let now : named q.0 (Space k) (raw o) ≡ change (named names (Space k) o) = named_same (name_in q.0 (Space k)) (name_in names (Space k)) (raw o) q.5 ∙ same o in
+      let changed = q.4 in (
+        q.0,
+        q.1,
+        q.2,
+        q.3,
+        (
+          slice_index (names (Space k)) n,
+          named names (Space k) o,
+          own_slot w names bound g R k m at op n o slot,
+          keeps o holds,
+          record {
+            was = changed.was;
+            now = changed.now ∙ ap (λ (p : Object). Some (record { owner = Space k; object = p })) now;
+            others = changed.others;
+            objects = changed.objects;
+            ractors = changed.ractors;
+            inboxes = changed.inboxes;
+          },
+        ),
+      )
+
+frozen_same : (o : Object) → IsNoShell o → (o.frozen ≡ true) ⊎ (o.kind ≡ shell) → frozen o ≡ o
+frozen_same o whole (inl e) = ap (λ b. let x : Object = record o { frozen = b } in x) (sym e)
+frozen_same o whole (inr e) = absurd (whole e)
+
+open_never : (kind : Kind) (o p : Object) → (kind ≡ shell → ⊥) → IsOpen kind o → (o.frozen ≡ true) ⊎ (o.kind ≡ shell) → p ≡ o
+open_never kind o p differ (is, thawed) (inl e) = absurd (let z : false ≡ true = sym thawed ∙ e in cc)
+open_never kind o p differ (is, thawed) (inr e) = absurd (differ (sym is ∙ e))
+
+text_differs : text ≡ shell → ⊥
+text_differs e = cc
+
+array_differs : array ≡ shell → ⊥
+array_differs e = cc
+
+plain_differs : plain ≡ shell → ⊥
+plain_differs e = cc
+
+pushed_values : (v : Value) (o : Object) (l : Label) (x : Value) → Contains (pushed v o).triples (l, x) → ((j : Label) × Contains o.triples (j, x)) ⊎ (x ≡ v)
+pushed_values v o l x has = ⊎_elim
+    (λ old. inl (l, old))
+    (λ new. ⊎_elim (λ one. inr (sym (ap (λ (t : Label × Value). t.1) one))) (λ none. absurd (none_in (l, x) none)) (in_first (Place (length o.triples), v) [] (l, x) new))
+    (Contains-append_cases o.triples ((Place (length o.triples), v) ∷ []) (l, x) has)
+
+later : (a : Label × Value) (xs : List (Label × Value)) (y : Label × Value) → Contains xs y → Contains (a ∷ xs) y
+later a xs y (n, lt, e) = (suc n, omega (arith, lt), e)
+
+set_values : (ts : List (Label × Value)) (i : ℕ) (t : Label × Value) (l : Label) (x : Value) → Contains (slice_set ts i t) (l, x) → ((j : Label) × Contains ts (j, x)) ⊎ (x ≡ t.1)
+set_values [] i t l x has = absurd (none_in (l, x) has)
+set_values (s ∷ ts) zero t l x has = ⊎_elim
+    (λ one. inr (sym (ap (λ (z : Label × Value). z.1) one)))
+    (λ old. inl (l, later s ts (l, x) old))
+    (in_first t ts (l, x) has)
+set_values (s ∷ ts) (suc i) t l x has = ⊎_elim
+    (λ one. inl (l, subst (λ y. Contains (s ∷ ts) y) one (0, omega arith, refl)))
+    (λ old. ⊎_elim (λ z. inl (z.0, later s ts (z.0, x) z.1)) (λ z. inr z) (set_values ts i t l x old))
+    (in_first s (slice_set ts i t) (l, x) has)
+
+pushed_same : (names : Naming) (h : Owner) (v : Ref) (o : Object) → named names h (pushed (value_of v) o) ≡ pushed (root_in names h v) (named names h o)
+pushed_same names h v o =
+    ap (λ ts. let x : Object = record o { triples = ts } in x) (map-append (renamed_triple (name_in names h)) o.triples ((Place (length o.triples), value_of v) ∷ [])
+    ∙ ap (λ n. map (renamed_triple (name_in names h)) o.triples ++ (Place n, root_in names h v) ∷ []) (sym (length-map o.triples (renamed_triple (name_in names h)))))
+
+field_same : (names : Naming) (h : Owner) (x : ℕ) (v : Ref) (o : Object) → named names h (with_field x (value_of v) o) ≡ with_field x (root_in names h v) (named names h o)
+field_same names h x v o = ap (λ ts. let y : Object = record o { triples = ts } in y) (set_renamed (name_in names h) x (value_of v) o.triples)
+
+written_same : (names : Naming) (h : Owner) (i : ℕ) (v : Ref) (o : Object) → named names h (written i (value_of v) o) ≡ written i (root_in names h v) (named names h o)
+written_same names h i v o = ap (λ ts. let x : Object = record o { triples = ts } in x) (map_set (renamed_triple (name_in names h)) o.triples i (Place i, value_of v))
+
+has_on : (names : Naming) (h : Owner) (i : ℕ) (o : Object) → HasElement i o → HasElement i (named names h o)
+has_on names h i o (opened, lt) = (opened, omega (arith, lt, length-map o.triples (renamed_triple (name_in names h))))
+
+has_back : (names : Naming) (h : Owner) (i : ℕ) (o : Object) → HasElement i (named names h o) → HasElement i o
+has_back names h i o (opened, lt) = (opened, omega (arith, lt, length-map o.triples (renamed_triple (name_in names h))))
+
+-- nothing is changed
+pub unmade : (w w2 : Assembly) (who : RactorNo) (k : ℕ) (m m2 : Member) (action : Action) → slice_get w.ractors k ≡ Some m → w2.ractors ≡ slice_set w.ractors k m2 → w2.inboxes ≡ w.inboxes → m2 ≡ m
+    → ((names : Naming) (bound : ℕ) (g : Objects) → IsRead w names bound g → IsEnabled (state_in w names g) (record { who = who; action = action }) → ⊥) → IsStep (record { who = who; action = action }) NotEnabled w w2
+unmade w w2 who k m m2 action at rs is same never =
+    stays_read (record { who = who; action = action }) NotEnabled w w2 (same_assembly w2.ractors w.ractors w2.inboxes w.inboxes (rs ∙ set_again w.ractors w.ractors k m2 m refl at same) is)
+    (λ names bound g R. (never names bound g R, same_state (state_in w names g)))
+
+-- a growth was refused, and all is as it was
+pub unmade_for : (w w2 : Assembly) (who : RactorNo) (k : ℕ) (m m2 : Member) (action : Action) (f : Fault) → slice_get w.ractors k ≡ Some m → w2.ractors ≡ slice_set w.ractors k m2 → w2.inboxes ≡ w.inboxes → m2 ≡ m
+    → ((names : Naming) (bound : ℕ) (g : Objects) → IsRead w names bound g → IsCase (record { who = who; action = action }) (Refused f) (state_in w names g) (state_in w names g))
+    → IsStep (record { who = who; action = action }) (Refused f) w w2
+unmade_for w w2 who k m m2 action f at rs is same case =
+    stays_read (record { who = who; action = action }) (Refused f) w w2 (same_assembly w2.ractors w.ractors w2.inboxes w.inboxes (rs ∙ set_again w.ractors w.ractors k m2 m refl at same) is) case
+
+no_below : (tables : Layout) → Knows (below_ref ref.Nil) tables
+no_below tables = record { known = λ c os has. absurd (none_in (c, os) has) }
+
+-- whatever a freeze answers
+pub frozen_by : (w w2 : Assembly) (who : RactorNo) (k : ℕ) (m m2 : Member) (op : Operand) (r : Reply) → slice_get w.ractors k ≡ Some m → w2.ractors ≡ slice_set w.ractors k m2 → w2.inboxes ≡ w.inboxes
+    → StandsAt who k → Freezes op r m m2 → IsStep (record { who = who; action = Freeze op }) r w w2
+frozen_by w w2 who k m m2 op Done at rs is stands a = λ names bound g R.
+    let q = making w w2 k m m2 at rs is op IsNoShell frozen frozen ref.Nil a names bound g R (no_below (layout w)) tt (λ o whole. whole) (λ o whole shut. frozen_same o whole shut) (λ o l x has. inl (l, has)) (λ o. refl) in
+    (q.0, q.1, q.2, q.3, (k, actor_in names k m, stands, actor_at w names g k m at, may_on w names bound g R k m at who op IsNoShell stands (λ o whole. whole) (a.0, a.1, a.2, a.3), q.4))
+frozen_by w w2 who k m m2 op NotEnabled at rs is stands a =
+    unmade w w2 who k m m2 (Freeze op) at rs is a.2 (λ names bound g R e.
+    a.1 (may_back w names bound g R k m at who op IsNoShell stands a.0 (λ o whole. whole) (allowed w names g (record { who = who; action = Freeze op }) k m stands at e)))
+frozen_by w w2 who k m m2 op (Refused f) at rs is stands a = absurd a
+frozen_by w w2 who k m m2 op (Offered t) at rs is stands a = absurd a
+frozen_by w w2 who k m m2 op Empty at rs is stands a = absurd a
+frozen_by w w2 who k m m2 op EmptyAndClosed at rs is stands a = absurd a
+frozen_by w w2 who k m m2 op (WasClosed b) at rs is stands a = absurd a
+frozen_by w w2 who k m m2 op (Started j) at rs is stands a = absurd a
+
+-- whatever an append answers
+pub appended_by : (w w2 : Assembly) (who : RactorNo) (k : ℕ) (m m2 : Member) (op : Operand) (byte : ℕ) (r : Reply) → slice_get w.ractors k ≡ Some m → w2.ractors ≡ slice_set w.ractors k m2 → w2.inboxes ≡ w.inboxes
+    → StandsAt who k → Appends op byte r m m2 → IsStep (record { who = who; action = Append op byte }) r w w2
+appended_by w w2 who k m m2 op byte Done at rs is stands a = λ names bound g R.
+    let q = making w w2 k m m2 at rs is op (IsOpen text) (appended byte) (appended byte) ref.Nil a names bound g R (no_below (layout w)) tt (λ o whole. whole)
+    (λ o opened shut. open_never text o (appended byte o) text_differs opened shut) (λ o l x has. inl (l, has)) (λ o. refl) in
+    (q.0, q.1, q.2, q.3, (k, actor_in names k m, stands, actor_at w names g k m at, may_on w names bound g R k m at who op (IsOpen text) stands (λ o whole. whole) (a.0, a.1, a.2, a.3), q.4))
+appended_by w w2 who k m m2 op byte NotEnabled at rs is stands a =
+    unmade w w2 who k m m2 (Append op byte) at rs is a.2 (λ names bound g R e.
+    a.1 (may_back w names bound g R k m at who op (IsOpen text) stands a.0 (λ o whole. whole) (allowed w names g (record { who = who; action = Append op byte }) k m stands at e)))
+appended_by w w2 who k m m2 op byte (Refused f) at rs is stands a =
+    unmade_for w w2 who k m m2 (Append op byte) f at rs is a.2 (λ names bound g R.
+    (k, actor_in names k m, stands, actor_at w names g k m at, may_on w names bound g R k m at who op (IsOpen text) stands (λ o whole. whole) a.1, (a.0, same_state (state_in w names g))))
+appended_by w w2 who k m m2 op byte (Offered t) at rs is stands a = absurd a
+appended_by w w2 who k m m2 op byte Empty at rs is stands a = absurd a
+appended_by w w2 who k m m2 op byte EmptyAndClosed at rs is stands a = absurd a
+appended_by w w2 who k m m2 op byte (WasClosed b) at rs is stands a = absurd a
+appended_by w w2 who k m m2 op byte (Started j) at rs is stands a = absurd a
+
+-- whatever a push answers
+pub pushed_by : (w w2 : Assembly) (who : RactorNo) (k : ℕ) (m m2 : Member) (op value : Operand) (r : Reply) → slice_get w.ractors k ≡ Some m → w2.ractors ≡ slice_set w.ractors k m2 → w2.inboxes ≡ w.inboxes
+    → StandsAt who k → Pushes op value r m m2 → IsStep (record { who = who; action = Push op value }) r w w2
+pushed_by w w2 who k m m2 op value Done at rs is stands (v, is_named, a) = λ names bound g R.
+    let q = making w w2 k m m2 at rs is op (IsOpen array) (pushed (value_of v)) (pushed (root_in names (Space k) v)) v a names bound g R
+    (known_named (layout w) m.roots value v (R.knows.ractors k m at).roots is_named) (named_new g names (Space k) m.roots value v is_named) (λ o whole. whole)
+    (λ o opened shut. open_never array o (pushed (value_of v) o) array_differs opened shut) (λ o l x has. pushed_values (value_of v) o l x has) (λ o. pushed_same names (Space k) v o) in (
+      q.0,
+      q.1,
+      q.2,
+      q.3,
+      (
+        k,
+        actor_in names k m,
+        stands,
+        actor_at w names g k m at,
+        (may_on w names bound g R k m at who op (IsOpen array) stands (λ o whole. whole) (a.0, a.1, a.2, a.3), (root_in names (Space k) v, value_on w names bound g R k m at value v is_named)),
+        (root_in names (Space k) v, value_on w names bound g R k m at value v is_named, q.4),
+      ),
+    )
+pushed_by w w2 who k m m2 op value NotEnabled at rs is stands a =
+    unmade w w2 who k m m2 (Push op value) at rs is a.2 (λ names bound g R e.
+    let z = allowed w names g (record { who = who; action = Push op value }) k m stands at e in
+    a.1 (may_back w names bound g R k m at who op (IsOpen array) stands a.0 (λ o whole. whole) z.0) (value_back w names bound g R k m at value z.1))
+pushed_by w w2 who k m m2 op value (Refused f) at rs is stands a =
+    unmade_for w w2 who k m m2 (Push op value) f at rs is a.3 (λ names bound g R. (
+      k,
+      actor_in names k m,
+      stands,
+      actor_at w names g k m at,
+      (may_on w names bound g R k m at who op (IsOpen array) stands (λ o whole. whole) a.1, (root_in names (Space k) a.2.0, value_on w names bound g R k m at value a.2.0 a.2.1)),
+      (a.0, same_state (state_in w names g)),
+    ))
+pushed_by w w2 who k m m2 op value (Offered t) at rs is stands a = absurd a
+pushed_by w w2 who k m m2 op value Empty at rs is stands a = absurd a
+pushed_by w w2 who k m m2 op value EmptyAndClosed at rs is stands a = absurd a
+pushed_by w w2 who k m m2 op value (WasClosed b) at rs is stands a = absurd a
+pushed_by w w2 who k m m2 op value (Started j) at rs is stands a = absurd a
+
+-- whatever a write answers
+pub written_by : (w w2 : Assembly) (who : RactorNo) (k : ℕ) (m m2 : Member) (op : Operand) (i : ℕ) (value : Operand) (r : Reply) → slice_get w.ractors k ≡ Some m → w2.ractors ≡ slice_set w.ractors k m2 → w2.inboxes ≡ w.inboxes
+    → StandsAt who k → Writes op i value r m m2 → IsStep (record { who = who; action = Write op i value }) r w w2
+written_by w w2 who k m m2 op i value Done at rs is stands (v, is_named, a) = λ names bound g R.
+    let q = making w w2 k m m2 at rs is op (HasElement i) (written i (value_of v)) (written i (root_in names (Space k) v)) v a names bound g R
+    (known_named (layout w) m.roots value v (R.knows.ractors k m at).roots is_named) (named_new g names (Space k) m.roots value v is_named) (λ o has. has_on names (Space k) i o has)
+    (λ o has shut. open_never array o (written i (value_of v) o) array_differs has.0 shut) (λ o l x has. set_values o.triples i (Place i, value_of v) l x has) (λ o. written_same names (Space k) i v o) in (
+      q.0,
+      q.1,
+      q.2,
+      q.3,
+      (
+        k,
+        actor_in names k m,
+        stands,
+        actor_at w names g k m at,
+        (may_on w names bound g R k m at who op (HasElement i) stands (λ o has. has_on names (Space k) i o has) (a.0, a.1, a.2, a.3), (root_in names (Space k) v, value_on w names bound g R k m at value v is_named)),
+        (root_in names (Space k) v, value_on w names bound g R k m at value v is_named, q.4),
+      ),
+    )
+written_by w w2 who k m m2 op i value NotEnabled at rs is stands a =
+    unmade w w2 who k m m2 (Write op i value) at rs is a.2 (λ names bound g R e.
+    let z = allowed w names g (record { who = who; action = Write op i value }) k m stands at e in
+    a.1 (may_back w names bound g R k m at who op (HasElement i) stands a.0 (λ o has. has_back names (Space k) i o has) z.0) (value_back w names bound g R k m at value z.1))
+written_by w w2 who k m m2 op i value (Refused f) at rs is stands a = absurd a
+written_by w w2 who k m m2 op i value (Offered t) at rs is stands a = absurd a
+written_by w w2 who k m m2 op i value Empty at rs is stands a = absurd a
+written_by w w2 who k m m2 op i value EmptyAndClosed at rs is stands a = absurd a
+written_by w w2 who k m m2 op i value (WasClosed b) at rs is stands a = absurd a
+written_by w w2 who k m m2 op i value (Started j) at rs is stands a = absurd a
+
+-- whatever setting a field answers
+pub set_by : (w w2 : Assembly) (who : RactorNo) (k : ℕ) (m m2 : Member) (op : Operand) (name : Sym) (value : Operand) (r : Reply) → slice_get w.ractors k ≡ Some m → w2.ractors ≡ slice_set w.ractors k m2 → w2.inboxes ≡ w.inboxes
+    → StandsAt who k → Sets op name.0 value r m m2 → IsStep (record { who = who; action = SetField op name value }) r w w2
+set_by w w2 who k m m2 op name value Done at rs is stands (v, is_named, a) = λ names bound g R.
+    let q = making w w2 k m m2 at rs is op (IsOpen plain) (with_field name.0 (value_of v)) (with_field name.0 (root_in names (Space k) v)) v a names bound g R
+    (known_named (layout w) m.roots value v (R.knows.ractors k m at).roots is_named) (named_new g names (Space k) m.roots value v is_named) (λ o whole. whole)
+    (λ o opened shut. open_never plain o (with_field name.0 (value_of v) o) plain_differs opened shut) (λ o l x has. field_values name.0 (value_of v) o.triples l x has) (λ o. field_same names (Space k) name.0 v o) in (
+      q.0,
+      q.1,
+      q.2,
+      q.3,
+      (
+        k,
+        actor_in names k m,
+        stands,
+        actor_at w names g k m at,
+        (may_on w names bound g R k m at who op (IsOpen plain) stands (λ o whole. whole) (a.0, a.1, a.2, a.3), (root_in names (Space k) v, value_on w names bound g R k m at value v is_named)),
+        (root_in names (Space k) v, value_on w names bound g R k m at value v is_named, q.4),
+      ),
+    )
+set_by w w2 who k m m2 op name value NotEnabled at rs is stands a =
+    unmade w w2 who k m m2 (SetField op name value) at rs is a.2 (λ names bound g R e.
+    let z = allowed w names g (record { who = who; action = SetField op name value }) k m stands at e in
+    a.1 (may_back w names bound g R k m at who op (IsOpen plain) stands a.0 (λ o whole. whole) z.0) (value_back w names bound g R k m at value z.1))
+set_by w w2 who k m m2 op name value (Refused f) at rs is stands a =
+    unmade_for w w2 who k m m2 (SetField op name value) f at rs is a.3 (λ names bound g R. (
+      k,
+      actor_in names k m,
+      stands,
+      actor_at w names g k m at,
+      (may_on w names bound g R k m at who op (IsOpen plain) stands (λ o whole. whole) a.1, (root_in names (Space k) a.2.0, value_on w names bound g R k m at value a.2.0 a.2.1)),
+      (a.0, same_state (state_in w names g)),
+    ))
+set_by w w2 who k m m2 op name value (Offered t) at rs is stands a = absurd a
+set_by w w2 who k m m2 op name value Empty at rs is stands a = absurd a
+set_by w w2 who k m m2 op name value EmptyAndClosed at rs is stands a = absurd a
+set_by w w2 who k m m2 op name value (WasClosed b) at rs is stands a = absurd a
+set_by w w2 who k m m2 op name value (Started j) at rs is stands a = absurd a

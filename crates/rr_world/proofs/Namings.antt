@@ -1,0 +1,122 @@
+-- What new lists of names do to values, messages, ractors and inboxes.
+use Rattle.std.proofs.Common.{◌≡◌, ℕ, ◌+◌, List, [], ◌∷◌, length, map, Bool, Option, Some, None, Contains, sym, ap, ◌∙◌, refl, arith}
+use Rattle.std.specs.Prelude.{slice_index}
+use Rattle.std.specs.Option.{option_map}
+use Rattle.rr_base.specs.declared.event.InboxEvent.{InboxEvent}
+use Rattle.rr_space.specs.Graph.{Own, Published, Value, Plain, At, Object}
+use Rattle.rr_space.specs.Tables.{Slot, Packed, renamed, behind}
+use Rattle.rr_space.specs.Parts.{IsWithin}
+use Rattle.rr_space.specs.Readings.{Owner, Space, Hand, Mail, Shared, Naming, Layout}
+use Rattle.rr_space.specs.Steps.{IsNamed, IsJoined}
+use Rattle.rr_space.specs.declared.refer.Ref.{Ref}
+use Rattle.rr_space.specs.declared.refer.Ref.TheVariants.{Nil, Truth, Int, Symbol, Class, Ractor, Local, Shared as SharedRef}
+use Rattle.rr_space.proofs.Frames.{map_same}
+use Rattle.rr_copy.specs.Messages.{size_of}
+use Rattle.rr_inbox.specs.Inboxes.{Inbox}
+use Rattle.rr_inbox.specs.declared.entry.Entry.{Entry}
+use Rattle.rr_world.specs.Views.{Member, AreRootsWithin}
+use Rattle.rr_world.specs.States.{Parcel, Letter, Mailbox, Actor}
+use Rattle.rr_world.specs.Readings.{value_in, root_in, parcel_in, letter_in, mailbox_in, actor_in}
+
+-- clusters have the names that they had
+abbrev pub KeepsShared : Naming → Naming → Type 0
+KeepsShared names names2 = (c : ℕ) → names2 (Shared c) ≡ names (Shared c)
+
+pub value_same : (names names2 : Naming) (h : Owner) (v : Value) → names2 h ≡ names h → KeepsShared names names2 → value_in names2 h v ≡ value_in names h v
+value_same names names2 h (Plain i) own shared = refl
+value_same names names2 h (At (Own i)) own shared = ap (λ ns. At (Own (slice_index ns i))) own
+value_same names names2 h (At (Published c p)) own shared = ap (λ ns. At (Own (slice_index ns p))) (shared c)
+
+abbrev pub box_with : List Letter → Bool → ℕ → List InboxEvent → ℕ → Mailbox
+box_with ls c n es l = record { inside = ls; closed = c; next = n; history = es; limit = l }
+
+abbrev pub parcel_with : Packed → Value → Parcel
+parcel_with m v = record { root = v; size = size_of m; sender = m.sender; sequence = m.sequence }
+
+pub parcel_same : (names names2 : Naming) (h : Owner) (m : Packed) → names2 h ≡ names h → KeepsShared names names2 → parcel_in names2 h m ≡ parcel_in names h m
+parcel_same names names2 h m own shared = ap (parcel_with m) (value_same names names2 h m.root own shared)
+
+pub hand_same : (names names2 : Naming) (h : Owner) (x : Option Packed) → names2 h ≡ names h → KeepsShared names names2
+    → option_map (parcel_in names2 h) x ≡ option_map (parcel_in names h) x
+hand_same names names2 h None own shared = refl
+hand_same names names2 h (Some m) own shared = ap (λ (p : Parcel). Some p) (parcel_same names names2 h m own shared)
+
+pub roots_same : (names names2 : Naming) (h : Owner) (rs : List Ref) → names2 h ≡ names h → KeepsShared names names2
+    → map (root_in names2 h) rs ≡ map (root_in names h) rs
+roots_same names names2 h [] own shared = refl
+roots_same names names2 h (r ∷ rs) own shared =
+    ap (λ v. v ∷ map (root_in names2 h) rs) (value_same names names2 h _ own shared)
+    ∙ ap (λ vs. root_in names h r ∷ vs) (roots_same names names2 h rs own shared)
+
+pub actor_same : (names names2 : Naming) (k : ℕ) (r : Member) → names2 (Space k) ≡ names (Space k) → names2 (Hand k) ≡ names (Hand k) → KeepsShared names names2
+    → actor_in names2 k r ≡ actor_in names k r
+actor_same names names2 k r space hand shared =
+    ap (λ vs. let a : Actor = record { roots = vs; hand = option_map (parcel_in names2 (Hand k)) r.hand; slots = length r.space.slots; limit = r.space.limit; limits = r.limits } in a) (roots_same names names2 (Space k) r.roots space shared)
+    ∙ ap (λ h. let a : Actor = record { roots = map (root_in names (Space k)) r.roots; hand = h; slots = length r.space.slots; limit = r.space.limit; limits = r.limits } in a) (hand_same names names2 (Hand k) r.hand hand shared)
+
+-- a ractor but for its hand
+pub unhanded : (names names2 : Naming) (k : ℕ) (r : Member) → names2 (Space k) ≡ names (Space k) → KeepsShared names names2
+    → record (actor_in names2 k r) { hand = None } ≡ record (actor_in names k r) { hand = None }
+unhanded names names2 k r space shared =
+    ap (λ vs. let a : Actor = record { roots = vs; hand = None; slots = length r.space.slots; limit = r.space.limit; limits = r.limits } in a) (roots_same names names2 (Space k) r.roots space shared)
+
+-- a ractor with another message in its hand
+pub handed : (names names2 : Naming) (k : ℕ) (r : Member) (p : Packed) → names2 (Space k) ≡ names (Space k) → KeepsShared names names2
+    → actor_in names2 k (record r { hand = Some p }) ≡ record (actor_in names k r) { hand = Some (parcel_in names2 (Hand k) p) }
+handed names names2 k r p space shared =
+    ap (λ vs. let a : Actor = record { roots = vs; hand = Some (parcel_in names2 (Hand k) p); slots = length r.space.slots; limit = r.space.limit; limits = r.limits } in a) (roots_same names names2 (Space k) r.roots space shared)
+
+pub letters_same : (names names2 : Naming) (c : ℕ) (es : List Entry) → ((e : Entry) → Contains es e → names2 (Mail c e.ticket) ≡ names (Mail c e.ticket)) → KeepsShared names names2
+    → map (letter_in names2 c) es ≡ map (letter_in names c) es
+letters_same names names2 c es own shared =
+    map_same (letter_in names2 c) (letter_in names c) es
+    (λ e has. ap (λ p. let l : Letter = record { ticket = e.ticket; parcel = p } in l) (parcel_same names names2 (Mail c e.ticket) e.message (own e has) shared))
+
+pub mailbox_same : (names names2 : Naming) (c : ℕ) (i : Inbox) → ((e : Entry) → Contains i.inside e → names2 (Mail c e.ticket) ≡ names (Mail c e.ticket)) → KeepsShared names names2
+    → mailbox_in names2 c i ≡ mailbox_in names c i
+mailbox_same names names2 c i own shared =
+    ap (λ ls. let b : Mailbox = record { inside = ls; closed = i.closed; next = i.next; history = i.history; limit = i.limit } in b) (letters_same names names2 c i.inside own shared)
+
+-- ---- A table that went behind another's.
+
+module _ (tables : Layout) (a b : Owner) (os : List Object) (s : List Slot) (names names2 : Naming)
+    (N : IsNamed b names names2) (J : IsJoined tables a b os s names names2) (unshared : (c : ℕ) → b ≡ Shared c → ⊥) where
+  pub shared_kept : KeepsShared names names2
+  shared_kept c = N.rest (Shared c) (λ e. unshared c (sym e))
+
+  -- a value of the table that went has the name that it had
+  pub value_moved : (v : Value) → value_in names2 b (renamed (behind (length s)) v) ≡ value_in names a v
+  value_moved (Plain i) = refl
+  value_moved (At (Own i)) = ap (λ n. At (Own n)) (J.come i)
+  value_moved (At (Published c p)) = ap (λ ns. At (Own (slice_index ns p))) (shared_kept c)
+
+  root_stands : (r : Ref) → IsWithin (length s) r → root_in names2 b r ≡ root_in names b r
+  root_stands Nil w = refl
+  root_stands (Truth x) w = refl
+  root_stands (Int x) w = refl
+  root_stands (Symbol x) w = refl
+  root_stands (Class x) w = refl
+  root_stands (Ractor x) w = refl
+  root_stands (Local n) w = ap (λ n. At (Own n)) (J.stand n w)
+  root_stands (SharedRef p c) w = ap (λ ns. At (Own (slice_index ns p))) (shared_kept c.now.number)
+
+  pub roots_stand : (rs : List Ref) → AreRootsWithin (length s) rs → map (root_in names2 b) rs ≡ map (root_in names b) rs
+  roots_stand [] w = refl
+  roots_stand (r ∷ rs) w = ap (λ v. v ∷ map (root_in names2 b) rs) (root_stands r w.0) ∙ ap (λ vs. root_in names b r ∷ vs) (roots_stand rs w.1)
+
+-- behind no slots nothing is renamed
+pub value_stays : (v : Value) → renamed (behind 0) v ≡ v
+value_stays (Plain n) = refl
+value_stays (At (Own i)) = ap (λ k. At (Own k)) (let e : 0 + i ≡ i = omega arith in e)
+value_stays (At (Published c p)) = refl
+
+-- a message that went to an owner who had nothing
+pub parcel_moved : (tables : Layout) (a b : Owner) (os : List Object) (names names2 : Naming) (m : Packed) → IsNamed b names names2 → IsJoined tables a b os [] names names2
+    → ((c : ℕ) → b ≡ Shared c → ⊥) → parcel_in names2 b m ≡ parcel_in names a m
+parcel_moved tables a b os names names2 m N J unshared =
+    ap (parcel_with m) (ap (value_in names2 b) (sym (value_stays m.root)) ∙ value_moved tables a b os [] names names2 N J unshared m.root)
+
+-- an inbox is what is in it
+pub same_box : (ls : List Letter) (c d : Bool) (n k : ℕ) (es fs : List InboxEvent) (l j : ℕ) → c ≡ d → n ≡ k → es ≡ fs → l ≡ j → box_with ls c n es l ≡ box_with ls d k fs j
+same_box ls c d n k es fs l j p q r s =
+    ap (λ x. box_with ls x n es l) p ∙ ap (λ x. box_with ls d x es l) q ∙ ap (λ x. box_with ls d k x l) r ∙ ap (λ x. box_with ls d k fs x) s

@@ -1,0 +1,120 @@
+-- The message in a hand is opened in the ractor's space.
+use Rattle.std.proofs.Common.{◌≡◌, ℕ, ◌+◌, [], ◌∷◌, ◌++◌, length, length-append, map, Some, None, slice_get, ap, ◌∙◌, refl, arith, inl}
+use Rattle.std.specs.Prelude.{slice_set}
+use Rattle.std.specs.Option.{option_map, option_and_then}
+use Rattle.std.proofs.lemmas.List.{map-append, length-map}
+use Rattle.std.proofs.lemmas.Option.{slice_get_within}
+use Rattle.rr_base.specs.declared.name.RactorNo.{RactorNo}
+use Rattle.rr_space.specs.Tables.{Packed, here_behind}
+use Rattle.rr_space.specs.Readings.{Owner, Space, Hand, Mail, Shared}
+use Rattle.rr_space.specs.Steps.{Goes}
+use Rattle.rr_space.specs.declared.refer.Ref.{Ref}
+use Rattle.rr_space.proofs.Hands.{hands_on}
+use Rattle.rr_world.specs.Views.{Member, Assembly}
+use Rattle.rr_world.specs.Layouts.{layout, space_slots, hand_slots, inbox_slots, message_slots}
+use Rattle.rr_world.specs.States.{Actor}
+use Rattle.rr_world.specs.Readings.{each_from, actor_in, mailbox_in, parcel_in, value_in, root_in, state_in}
+use Rattle.rr_world.specs.Cases.{StandsAt}
+use Rattle.rr_world.specs.Opening.{IsOpenedBy, Opened}
+use Rattle.rr_world.specs.Runs.{IsStep}
+use Rattle.rr_world.specs.declared.step.Action.TheVariants.{Open}
+use Rattle.rr_world.specs.declared.step.Reply.{Reply}
+use Rattle.rr_world.specs.declared.step.Reply.TheVariants.{NotEnabled, Done, Offered, Empty, EmptyAndClosed, WasClosed, Refused, Started}
+use Rattle.rr_world.proofs.Lists.{set_at, set_off, each_set, each_same}
+use Rattle.rr_world.proofs.Namings.{actor_same, mailbox_same, value_moved, shared_kept, roots_stand}
+use Rattle.rr_world.proofs.Knowing.{knows_set, opened_knows, owned_set}
+use Rattle.rr_world.proofs.Enabled.{actor_at, holds, allowed, holds_not}
+use Rattle.rr_world.proofs.Insides.{set_again, same_assembly}
+use Rattle.rr_world.proofs.Staying.{refused, stays, same_state}
+
+module _ (w w2 : Assembly) (k : ℕ) (m m2 : Member) (p : Packed) (root : Ref) (at : slice_get w.ractors k ≡ Some m) (O : IsOpenedBy p root m m2)
+    (rs : w2.ractors ≡ slice_set w.ractors k m2) (is : w2.inboxes ≡ w.inboxes) where
+  rest : (h : Owner) → (h ≡ Hand k → ⊥) → (h ≡ Space k → ⊥) → layout w2 h ≡ layout w h
+  unfolding layout
+  rest (Space j) q r = ap (λ xs. option_map space_slots (slice_get xs j)) rs ∙ ap (option_map space_slots) (set_off w.ractors k j m2 (λ e. r (ap Space e)))
+  rest (Hand j) q r = ap (λ xs. option_and_then hand_slots (slice_get xs j)) rs ∙ ap (option_and_then hand_slots) (set_off w.ractors k j m2 (λ e. q (ap Hand e)))
+  rest (Mail d u) q r = ap (λ xs. option_and_then (inbox_slots u) (slice_get xs d)) is
+  rest (Shared d) q r = refl
+
+  goes : Goes (Hand k) (Space k) p.objects m.space.slots (layout w) (layout w2)
+  unfolding layout
+  goes = record {
+    from = ap (option_and_then hand_slots) at ∙ ap (option_map message_slots) O.held;
+    to = inl (ap (option_map space_slots) at);
+    gone = ap (λ xs. option_and_then hand_slots (slice_get xs k)) rs ∙ ap (option_and_then hand_slots) (set_at w.ractors k m2 (slice_get_within w.ractors k m at)) ∙ ap (option_map message_slots) O.hand;
+    come = ap (λ xs. option_map space_slots (slice_get xs k)) rs ∙ ap (option_map space_slots) (set_at w.ractors k m2 (slice_get_within w.ractors k m at)) ∙ ap (λ ss. Some ss) O.opened.slots;
+    rest = rest;
+    apart = λ e. let n : ⊥ = cc in n;
+    unshared_a = λ d e. let n : ⊥ = cc in n;
+    unshared_b = λ d e. let n : ⊥ = cc in n;
+  }
+
+  pub opened : (who : RactorNo) → StandsAt who k → IsStep (record { who = who; action = Open }) Done w w2
+  opened who stands names bound g R =
+      let q = hands_on (Hand k) (Space k) p.objects m.space.slots (layout w) (layout w2) names bound g goes R.tables in
+      let names2 = q.0 in
+      let N = q.3 in
+      let J = q.5 in
+      let apart : (c : ℕ) → Space k ≡ Shared c → ⊥ = λ c e. let n : ⊥ = cc in n in
+      let kept : (c : ℕ) → names2 (Shared c) ≡ names (Shared c) = shared_kept (layout w) (Hand k) (Space k) p.objects m.space.slots names names2 N J apart in
+      let roots : map (root_in names2 (Space k)) m2.roots ≡ map (root_in names (Space k)) m.roots ++ value_in names (Hand k) p.root ∷ [] =
+      ap (map (root_in names2 (Space k))) O.roots ∙ map-append (root_in names2 (Space k)) m.roots (root ∷ [])
+      ∙ ap (λ vs. vs ++ root_in names2 (Space k) root ∷ []) (roots_stand (layout w) (Hand k) (Space k) p.objects m.space.slots names names2 N J apart m.roots O.within)
+      ∙ ap (λ v. map (root_in names (Space k)) m.roots ++ v ∷ []) (ap (value_in names2 (Space k)) O.opened.root ∙ value_moved (layout w) (Hand k) (Space k) p.objects m.space.slots names names2 N J apart p.root) in
+      let count : length m2.space.slots ≡ length m.space.slots + length p.objects =
+      ap length O.opened.slots ∙ length-append m.space.slots (map (here_behind (length m.space.slots)) p.objects)
+      ∙ ap (λ n. length m.space.slots + n) (length-map p.objects (here_behind (length m.space.slots))) in
+      let actor : actor_in names2 k m2 ≡ record (actor_in names k m) { roots = (actor_in names k m).roots ++ (parcel_in names (Hand k) p).root ∷ []; hand = None; slots = (actor_in names k m).slots + (parcel_in names (Hand k) p).size } =
+      ap (λ vs. let a : Actor = record { roots = vs; hand = option_map (parcel_in names2 (Hand k)) m2.hand; slots = length m2.space.slots; limit = m2.space.limit; limits = m2.limits } in a) roots
+      ∙ ap (λ h. let a : Actor = record { roots = map (root_in names (Space k)) m.roots ++ value_in names (Hand k) p.root ∷ []; hand = option_map (parcel_in names2 (Hand k)) h; slots = length m2.space.slots; limit = m2.space.limit; limits = m2.limits } in a) O.hand
+      ∙ ap (λ n. let a : Actor = record { roots = map (root_in names (Space k)) m.roots ++ value_in names (Hand k) p.root ∷ []; hand = None; slots = n; limit = m2.space.limit; limits = m2.limits } in a) count
+      ∙ ap (λ n. let a : Actor = record { roots = map (root_in names (Space k)) m.roots ++ value_in names (Hand k) p.root ∷ []; hand = None; slots = length m.space.slots + length p.objects; limit = n; limits = m2.limits } in a) O.opened.rest.limit
+      ∙ ap (λ z. let a : Actor = record { roots = map (root_in names (Space k)) m.roots ++ value_in names (Hand k) p.root ∷ []; hand = None; slots = length m.space.slots + length p.objects; limit = m.space.limit; limits = z } in a) O.limits in (
+        names2,
+        bound,
+        q.1,
+        record { tables = q.2; knows = knows_set w w2 k m2 rs is (opened_knows (layout w) p root m m2 O (R.knows.ractors k m at)) R.knows; owned = owned_set w w2 k m m2 at rs O.opened.rest.owner R.owned },
+        (
+          k,
+          actor_in names k m,
+          stands,
+          actor_at w names g k m at,
+          (parcel_in names (Hand k) p, holds names k m p O.held),
+          (
+            parcel_in names (Hand k) p,
+            holds names k m p O.held,
+            record {
+              objects = q.4;
+              ractors = ap (each_from (actor_in names2) 0) rs
+                  ∙ each_set (actor_in names) (actor_in names2) 0 w.ractors k k m2 (omega arith)
+                  (λ i n x d e a. actor_same names names2 n x (N.rest (Space n) (λ z. d (let y : n ≡ k = cc in omega arith))) (N.rest (Hand n) (λ z. let y : ⊥ = cc in y)) kept)
+                  ∙ ap (slice_set (each_from (actor_in names) 0 w.ractors) k) actor;
+              inboxes = ap (each_from (mailbox_in names2) 0) is
+                  ∙ each_same (mailbox_in names) (mailbox_in names2) 0 w.inboxes (λ i n x e a. mailbox_same names names2 n x (λ y has. N.rest (Mail n y.ticket) (λ z. let f : ⊥ = cc in f)) kept);
+            },
+          ),
+        ),
+      )
+
+-- whatever opening answers
+pub opened_by : (w w2 : Assembly) (who : RactorNo) (k : ℕ) (m m2 : Member) (r : Reply) → slice_get w.ractors k ≡ Some m → w2.ractors ≡ slice_set w.ractors k m2 → w2.inboxes ≡ w.inboxes
+    → StandsAt who k → Opened r m m2 → IsStep (record { who = who; action = Open }) r w w2
+opened_by w w2 who k m m2 NotEnabled at rs is stands (none, same) =
+    refused (record { who = who; action = Open }) w w2 (same_assembly w2.ractors w.ractors w2.inboxes w.inboxes (rs ∙ set_again w.ractors w.ractors k m2 m refl at same) is)
+    (λ names g e. holds_not names k m none (allowed w names g (record { who = who; action = Open }) k m stands at e))
+opened_by w w2 who k m m2 Done at rs is stands (p, root, O) = opened w w2 k m m2 p root at O rs is who stands
+opened_by w w2 who k m m2 (Refused f) at rs is stands (p, held, why, same) =
+    stays (record { who = who; action = Open }) (Refused f) w w2 (same_assembly w2.ractors w.ractors w2.inboxes w.inboxes (rs ∙ set_again w.ractors w.ractors k m2 m refl at same) is)
+    (λ names g. (
+      k,
+      actor_in names k m,
+      stands,
+      actor_at w names g k m at,
+      (parcel_in names (Hand k) p, holds names k m p held),
+      (parcel_in names (Hand k) p, holds names k m p held, (why, same_state (state_in w names g))),
+    ))
+opened_by w w2 who k m m2 (Offered t) at rs is stands o = absurd o
+opened_by w w2 who k m m2 Empty at rs is stands o = absurd o
+opened_by w w2 who k m m2 EmptyAndClosed at rs is stands o = absurd o
+opened_by w w2 who k m m2 (WasClosed b) at rs is stands o = absurd o
+opened_by w w2 who k m m2 (Started j) at rs is stands o = absurd o

@@ -1,0 +1,21 @@
+use Rattle.std.proofs.Common.{◌≡◌, ◌≤◌, ◌+◌, ◌++◌, ◌∷◌, [], List, length, length-append, ap, sym, ◌∙◌, subst, arith}
+use Rattle.rr_space.specs.Parts.{IsWithin}
+use Rattle.rr_space.specs.Tables.{Here}
+use Rattle.rr_space.specs.Views.{object_of}
+use Rattle.rr_space.specs.declared.refer.Ref.{Ref}
+use Rattle.rr_world.specs.Views.{AreRootsWithin}
+use Rattle.rr_world.proofs.Rooting.{roots_and_more}
+use Rattle.rr_world.proofs.ractor.Ractor.alloc.Goals as goal
+
+pub invariant_of-self-in-Ok : goal.invariant_of-self-in-Ok
+invariant_of-self-in-Ok c =
+    let old = c.self.inside.space.slots in
+    let count : length c.alloc.new.self.slots ≡ length old + 1 = ap length c.in-Ok.ensures.slots ∙ length-append old (Here (object_of c.empty_node.result) ∷ []) in
+    let le : length old ≤ length c.alloc.new.self.slots = omega (arith, count) in
+    let pushed : c.push_reserved.new.self.items ≡ c.self.inside.roots.items ++ c.in-Ok.root ∷ [] =
+    c.push_reserved.ensures.items ∙ ap (λ (rs : List Ref). rs ++ c.in-Ok.root ∷ []) c.reserve.ensures.items in (
+      subst (λ (rs : List Ref). AreRootsWithin (length c.alloc.new.self.slots) rs) (sym pushed)
+          (roots_and_more (length old) (length c.alloc.new.self.slots) c.self.inside.roots.items c.in-Ok.root le c.self.invariant.0
+          (subst (λ (r : Ref). IsWithin (length c.alloc.new.self.slots) r) (sym c.in-Ok.ensures.name) (omega (arith, count)))),
+      c.self.invariant.1,
+    )

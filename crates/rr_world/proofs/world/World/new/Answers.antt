@@ -1,0 +1,22 @@
+use Rattle.std.proofs.Common.{◌++◌, ◌∷◌, [], List, ap, ◌∙◌}
+use Rattle.rr_inbox.specs.Inboxes.{Inbox}
+use Rattle.rr_world.specs.Views.{Member}
+use Rattle.rr_world.proofs.Fresh.{new_is_read}
+use Rattle.rr_world.proofs.world.World.new.Goals as goal
+
+pub returns-clause-made : goal.returns-clause-made
+returns-clause-made c = record {
+  main = c.new.result;
+  ractors = c.in_ok-push.ensures.items ∙ ap (λ (xs : List Member). xs ++ c.new.result ∷ []) c.new-ractors.ensures.items;
+  slots = c.new.ensures.slots;
+  below = c.new.ensures.below;
+  limit = c.new.ensures.limit;
+  owner = c.new.ensures.owner;
+  roots = c.new.ensures.roots;
+  hand = c.new.ensures.hand;
+  run = c.new.ensures.limits;
+  inboxes = c.in_ok-push-2.ensures.items ∙ ap (λ (xs : List Inbox). xs ++ c.in_ok-new.field-0 ∷ []) c.new-inboxes.ensures.items ∙ ap (λ (x : Inbox). x ∷ []) c.in_ok-new.ensures.made;
+}
+
+pub returns-clause-reading : goal.returns-clause-reading
+returns-clause-reading c = new_is_read c.args.limits _ (returns-clause-made c)

@@ -1,0 +1,27 @@
+-- What a new object leaves of a ractor.
+use Rattle.std.specs.Prelude.{◌≡◌, ◌⊎◌, ◌++◌, ◌∷◌, [], length}
+use Rattle.rr_base.specs.declared.fault.Fault.TheVariants.{Memory, Limit}
+use Rattle.rr_base.specs.declared.limits.LimitKind.TheVariants.{Slots}
+use Rattle.rr_space.specs.Tables.{Here}
+use Rattle.rr_space.specs.declared.refer.Ref.TheVariants.{Local}
+use Rattle.rr_world.specs.Views.{Member, AreRootsWithin}
+use Rattle.rr_world.specs.Cases.{new_object}
+use Rattle.rr_world.specs.declared.step.NewObject.{NewObject}
+use Rattle.rr_world.specs.declared.step.Reply.{Reply}
+use Rattle.rr_world.specs.declared.step.Reply.TheVariants.{Done, Refused}
+
+-- the object stands in the next slot, and comes last in the roots
+pub record IsAllocatedBy (new : NewObject) (old now : Member) : Type 0 where
+  pub within : AreRootsWithin (length old.space.slots) old.roots
+  pub slots : now.space.slots ≡ old.space.slots ++ Here (new_object new) ∷ []
+  pub below : now.space.below ≡ old.space.below ++ [] ∷ []
+  pub limit : now.space.limit ≡ old.space.limit
+  pub roots : now.roots ≡ old.roots ++ Local (length old.space.slots) ∷ []
+  pub hand : now.hand ≡ old.hand
+  pub owner : now.space.owner ≡ old.space.owner
+  pub limits : now.limits ≡ old.limits
+
+abbrev pub Allocs : NewObject → Reply → Member → Member → Type 0
+Allocs new Done old now = IsAllocatedBy new old now
+Allocs new (Refused f) old now = ((f ≡ Memory) ⊎ ((f ≡ Limit Slots) × (length old.space.slots ≡ old.space.limit))) × (now ≡ old)
+Allocs new _ old now = ⊥

@@ -1,0 +1,130 @@
+-- What a change of one object, or a read, leaves of a ractor.
+use Rattle.std.specs.Prelude.{◌≡◌, ℕ, ◌⊎◌, ◌++◌, List, ◌∷◌, [], length, IsTrue, Some, Contains, slice_get, slice_set}
+use Rattle.rr_base.specs.declared.fault.Fault.TheVariants.{Memory}
+use Rattle.rr_space.specs.Graph.{Object, Label, Value, text, array, plain}
+use Rattle.rr_space.specs.Tables.{Here, joined}
+use Rattle.rr_space.specs.Parts.{value_of, below_ref, IsWithin}
+use Rattle.rr_space.specs.Kinds.{kind_at}
+use Rattle.rr_space.specs.Views.{can_write_at, IsKnownFrom}
+use Rattle.rr_space.specs.Labels.{triples_at, IsFirstUnder}
+use Rattle.rr_space.specs.declared.kind.Kind.TheVariants.{Array, Text}
+use Rattle.rr_space.specs.declared.kind.Kind.TheVariants as kinds
+use Rattle.rr_space.specs.declared.refer.Ref.{Ref}
+use Rattle.rr_space.specs.declared.refer.Ref.TheVariants.{Nil, Local}
+use Rattle.rr_world.specs.Views.{Member, AreRootsWithin}
+use Rattle.rr_world.specs.Cases.{IsNoShell, IsOpen, HasElement, frozen, appended, pushed, written, with_field}
+use Rattle.rr_world.specs.Packing.{named_ref}
+use Rattle.rr_world.specs.declared.step.Operand.{Operand}
+use Rattle.rr_world.specs.declared.step.Reply.{Reply}
+use Rattle.rr_world.specs.declared.step.Reply.TheVariants.{NotEnabled, Done, Refused}
+
+-- the operand is the slot n of the space, and the object there is o
+pub record IsSlot (op : Operand) (old : Member) (n : ℕ) (o : Object) : Type 0 where
+  pub named : named_ref old.roots op ≡ Some (Local n)
+  pub here : slice_get old.space.slots n ≡ Some (Here o)
+
+abbrev pub MayChangeSlot : Operand → (Object → Type 0) → Member → Type 0
+MayChangeSlot op may old = (n : ℕ) × (o : Object) × IsSlot op old n o × may o
+
+-- p stands in the slot n; what the space knows of clusters it knew, or came with v
+pub record IsRewritten (n : ℕ) (p : Object) (v : Ref) (old now : Member) : Type 0 where
+  pub within : AreRootsWithin (length old.space.slots) old.roots
+  pub value : IsWithin (length old.space.slots) v
+  pub slots : now.space.slots ≡ slice_set old.space.slots n (Here p)
+  pub below : (e : ℕ × List Object) → Contains (joined now.space.below) e → Contains (joined old.space.below) e ⊎ Contains (below_ref v) e
+  pub limit : now.space.limit ≡ old.space.limit
+  pub roots : now.roots ≡ old.roots
+  pub hand : now.hand ≡ old.hand
+  pub owner : now.space.owner ≡ old.space.owner
+  pub limits : now.limits ≡ old.limits
+
+-- the object that the operand is, where it may be changed, is what the change makes of it
+abbrev pub IsMadeOf : Operand → (Object → Type 0) → (Object → Object) → Ref → Member → Member → Type 0
+IsMadeOf op may change v old now = (n : ℕ) × (o : Object) × IsSlot op old n o × may o × IsRewritten n (change o) v old now
+
+abbrev pub HasRootsWithin : Member → Type 0
+HasRootsWithin old = AreRootsWithin (length old.space.slots) old.roots
+
+abbrev pub Freezes : Operand → Reply → Member → Member → Type 0
+Freezes op NotEnabled old now = HasRootsWithin old × (MayChangeSlot op IsNoShell old → ⊥) × (now ≡ old)
+Freezes op Done old now = IsMadeOf op IsNoShell frozen Nil old now
+Freezes op _ old now = ⊥
+
+-- the operand is a text of the space that is not frozen
+abbrev pub MayBeAppended : Operand → Member → Type 0
+MayBeAppended op old = MayChangeSlot op (IsOpen text) old
+
+pub record IsWritableText (op : Operand) (old : Member) (a : Ref) : Type 0 where
+  pub text : named_ref old.roots op ≡ Some a
+  pub can : IsTrue (can_write_at old.space a)
+  pub kind : kind_at old.space a ≡ Text
+
+abbrev pub Appends : Operand → ℕ → Reply → Member → Member → Type 0
+Appends op byte NotEnabled old now = HasRootsWithin old × (MayBeAppended op old → ⊥) × (now ≡ old)
+Appends op byte Done old now = IsMadeOf op (IsOpen text) (appended byte) Nil old now
+Appends op byte (Refused f) old now = (f ≡ Memory) × MayBeAppended op old × (now ≡ old)
+Appends op byte _ old now = ⊥
+
+-- the operand is this value
+abbrev pub IsNamedRef : Operand → Member → Type 0
+IsNamedRef op old = (v : Ref) × (named_ref old.roots op ≡ Some v)
+
+-- the operand is an array of the space that is not frozen
+abbrev pub MayBePushed : Operand → Member → Type 0
+MayBePushed op old = MayChangeSlot op (IsOpen array) old
+
+-- the operands are an array that is not frozen, and a value
+pub record AreWritable (op x : Operand) (old : Member) (a v : Ref) : Type 0 where
+  pub array : named_ref old.roots op ≡ Some a
+  pub value : named_ref old.roots x ≡ Some v
+  pub can : IsTrue (can_write_at old.space a)
+  pub kind : kind_at old.space a ≡ Array
+  pub within : IsWithin (length old.space.slots) v
+
+abbrev pub Pushes : Operand → Operand → Reply → Member → Member → Type 0
+Pushes op x NotEnabled old now = HasRootsWithin old × (MayBePushed op old → IsNamedRef x old → ⊥) × (now ≡ old)
+Pushes op x Done old now = (v : Ref) × (named_ref old.roots x ≡ Some v) × IsMadeOf op (IsOpen array) (pushed (value_of v)) v old now
+Pushes op x (Refused f) old now = (f ≡ Memory) × MayBePushed op old × IsNamedRef x old × (now ≡ old)
+Pushes op x _ old now = ⊥
+
+abbrev pub Writes : Operand → ℕ → Operand → Reply → Member → Member → Type 0
+Writes op i x NotEnabled old now = HasRootsWithin old × (MayChangeSlot op (HasElement i) old → IsNamedRef x old → ⊥) × (now ≡ old)
+Writes op i x Done old now = (v : Ref) × (named_ref old.roots x ≡ Some v) × IsMadeOf op (HasElement i) (written i (value_of v)) v old now
+Writes op i x _ old now = ⊥
+
+-- the operand is a plain object of the space that is not frozen
+abbrev pub MayBeSet : Operand → Member → Type 0
+MayBeSet op old = MayChangeSlot op (IsOpen plain) old
+
+-- the operands are a plain object that is not frozen, and a value
+pub record AreSettable (op x : Operand) (old : Member) (a v : Ref) : Type 0 where
+  pub object : named_ref old.roots op ≡ Some a
+  pub value : named_ref old.roots x ≡ Some v
+  pub can : IsTrue (can_write_at old.space a)
+  pub kind : kind_at old.space a ≡ kinds.Object
+  pub within : IsWithin (length old.space.slots) v
+
+abbrev pub Sets : Operand → ℕ → Operand → Reply → Member → Member → Type 0
+Sets op name x NotEnabled old now = HasRootsWithin old × (MayBeSet op old → IsNamedRef x old → ⊥) × (now ≡ old)
+Sets op name x Done old now = (v : Ref) × (named_ref old.roots x ≡ Some v) × IsMadeOf op (IsOpen plain) (with_field name (value_of v)) v old now
+Sets op name x (Refused f) old now = (f ≡ Memory) × MayBeSet op old × IsNamedRef x old × (now ≡ old)
+Sets op name x _ old now = ⊥
+
+-- something stands under the label in the object that the operand is
+abbrev pub HasUnder : Operand → Label → Member → Type 0
+HasUnder op l old = (v : Ref) × (x : Value) × (named_ref old.roots op ≡ Some v) × Contains (triples_at old.space v) (l, x)
+
+-- what stands under the label comes last in the roots
+pub record IsReadBy (op : Operand) (l : Label) (v r : Ref) (old now : Member) : Type 0 where
+  pub within : AreRootsWithin (length old.space.slots) old.roots
+  pub named : named_ref old.roots op ≡ Some v
+  pub first : IsFirstUnder (triples_at old.space v) l (value_of r)
+  pub root : IsWithin (length old.space.slots) r
+  pub known : IsKnownFrom old.space v r
+  pub now_is : now ≡ record old { roots = old.roots ++ r ∷ [] }
+
+abbrev pub Reads : Operand → Label → Reply → Member → Member → Type 0
+Reads op l NotEnabled old now = HasRootsWithin old × (HasUnder op l old → ⊥) × (now ≡ old)
+Reads op l Done old now = (v : Ref) × (r : Ref) × IsReadBy op l v r old now
+Reads op l (Refused f) old now = (f ≡ Memory) × HasUnder op l old × (now ≡ old)
+Reads op l _ old now = ⊥

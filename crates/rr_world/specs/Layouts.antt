@@ -1,0 +1,60 @@
+-- The tables that a World has.
+use Rattle.std.specs.Prelude.{◌≡◌, ◌+◌, ◌++◌, Contains, ℕ, List, [], ◌∷◌, map, Option, None, Some, slice_get, nat_eq, cond}
+use Rattle.std.specs.Option.{option_map, option_and_then}
+use Rattle.rr_space.specs.Tables.{Packed, Slot, Here, Below, joined}
+use Rattle.rr_space.specs.Readings.{Space, Hand, Mail, Shared, Layout, Knows, Naming, Objects, IsReading}
+use Rattle.rr_space.specs.Parts.{below_ref}
+use Rattle.rr_space.specs.declared.refer.Ref.{Ref}
+use Rattle.rr_inbox.specs.Inboxes.{Inbox}
+use Rattle.rr_inbox.specs.declared.entry.Entry.{Entry}
+use Rattle.rr_world.specs.Views.{Member, Assembly}
+
+abbrev pub message_slots : Packed → List Slot
+message_slots m = map Here m.objects
+
+abbrev pub space_slots : Member → List Slot
+space_slots r = r.space.slots
+
+abbrev pub hand_slots : Member → Option (List Slot)
+hand_slots r = option_map message_slots r.hand
+
+-- the message that has a ticket
+abbrev pub mail_slots : ℕ → List Entry → Option (List Slot)
+mail_slots t [] = None
+mail_slots t (e ∷ es) = cond (nat_eq t e.ticket) (Some (message_slots e.message)) (mail_slots t es)
+
+abbrev pub inbox_slots : ℕ → Inbox → Option (List Slot)
+inbox_slots t i = mail_slots t i.inside
+
+-- a table for each space, for each message in a hand, and for each message in an inbox
+unfoldable pub layout : Assembly → Layout
+layout w (Space k) = option_map space_slots (slice_get w.ractors k)
+layout w (Hand k) = option_and_then hand_slots (slice_get w.ractors k)
+layout w (Mail c t) = option_and_then (inbox_slots t) (slice_get w.inboxes c)
+layout w (Shared c) = None
+
+-- the clusters that a message leads to
+abbrev pub message_below : Packed → Below
+message_below m = m.root_below ++ joined m.below
+
+-- what a ractor's objects, its roots and its message know of clusters is what the store has
+pub record MemberKnows (tables : Layout) (m : Member) : Type 0 where
+  pub space : Knows (joined m.space.below) tables
+  pub roots : (r : Ref) → Contains m.roots r → Knows (below_ref r) tables
+  pub hand : (p : Packed) → m.hand ≡ Some p → Knows (message_below p) tables
+
+-- the same of each ractor and of each message in an inbox
+pub record IsKnowing (w : Assembly) : Type 0 where
+  pub ractors : (k : ℕ) (m : Member) → slice_get w.ractors k ≡ Some m → MemberKnows (layout w) m
+  pub inboxes : (c : ℕ) (i : Inbox) (e : Entry) → slice_get w.inboxes c ≡ Some i → Contains i.inside e → Knows (message_below e.message) (layout w)
+
+-- each ractor's space has the ractor's number, so that its messages tell who sent them
+abbrev pub AreOwned : Assembly → Type 0
+AreOwned w = (k : ℕ) (m : Member) → slice_get w.ractors k ≡ Some m → m.space.owner ≡ k + 1
+
+-- a reading of the World: its tables are read as a whole graph, what they know of clusters is what the store has, and each
+-- space is its ractor's
+pub record IsRead (w : Assembly) (names : Naming) (bound : ℕ) (g : Objects) : Type 0 where
+  pub tables : IsReading (layout w) names bound g
+  pub knows : IsKnowing w
+  pub owned : AreOwned w

@@ -1,0 +1,11 @@
+pub mod Views
+pub mod Layouts
+pub mod States
+pub mod Readings
+pub mod Cases
+pub mod Runs
+pub mod Opening
+pub mod Packing
+pub mod Allocating
+pub mod Changing
+pub mod Starting

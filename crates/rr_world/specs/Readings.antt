@@ -1,0 +1,46 @@
+-- A World read as a state of the graph machine, under names.
+use Rattle.std.specs.Prelude.{ℕ, ◌+◌, List, [], ◌∷◌, length, map}
+use Rattle.std.specs.Option.{option_map}
+use Rattle.rr_space.specs.Graph.{Value}
+use Rattle.rr_space.specs.Parts.{value_of}
+use Rattle.rr_space.specs.Tables.{Packed, renamed}
+use Rattle.rr_space.specs.Readings.{Owner, Space, Hand, Mail, Objects, Naming, name_in}
+use Rattle.rr_space.specs.declared.refer.Ref.{Ref}
+use Rattle.rr_copy.specs.Messages.{size_of}
+use Rattle.rr_inbox.specs.Inboxes.{Inbox}
+use Rattle.rr_inbox.specs.declared.entry.Entry.{Entry}
+use Rattle.rr_world.specs.Views.{Member, Assembly}
+use Rattle.rr_world.specs.States.{Parcel, Letter, Mailbox, Actor, State}
+
+-- each element with its place, the first of them with k
+abbrev pub each_from : {A B : Type 0} → (ℕ → A → B) → ℕ → List A → List B
+each_from f k [] = []
+each_from f k (x ∷ xs) = f k x ∷ each_from f (k + 1) xs
+
+abbrev pub value_in : Naming → Owner → Value → Value
+value_in names h v = renamed (name_in names h) v
+
+abbrev pub root_in : Naming → Owner → Ref → Value
+root_in names h r = value_in names h (value_of r)
+
+abbrev pub parcel_in : Naming → Owner → Packed → Parcel
+parcel_in names h m = record { root = value_in names h m.root; size = size_of m; sender = m.sender; sequence = m.sequence }
+
+abbrev pub letter_in : Naming → ℕ → Entry → Letter
+letter_in names c e = record { ticket = e.ticket; parcel = parcel_in names (Mail c e.ticket) e.message }
+
+abbrev pub mailbox_in : Naming → ℕ → Inbox → Mailbox
+mailbox_in names c i = record { inside = map (letter_in names c) i.inside; closed = i.closed; next = i.next; history = i.history; limit = i.limit }
+
+abbrev pub actor_in : Naming → ℕ → Member → Actor
+actor_in names k r = record {
+  roots = map (root_in names (Space k)) r.roots;
+  hand = option_map (parcel_in names (Hand k)) r.hand;
+  slots = length r.space.slots;
+  limit = r.space.limit;
+  limits = r.limits;
+}
+
+-- the state that a World is under a naming and a whole graph
+abbrev pub state_in : Assembly → Naming → Objects → State
+state_in w names g = record { objects = g; ractors = each_from (actor_in names) 0 w.ractors; inboxes = each_from (mailbox_in names) 0 w.inboxes }

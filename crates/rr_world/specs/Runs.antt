@@ -1,0 +1,48 @@
+-- Runs of the graph machine, and what it is for a World to make one.
+use Rattle.std.specs.Prelude.{◌≡◌, ℕ, List, [], ◌∷◌, None}
+use Rattle.rr_base.specs.declared.limits.Limits.{Limits}
+use Rattle.rr_space.specs.Readings.{Objects, Naming, IsApart}
+use Rattle.rr_inbox.specs.Inboxes.{new_inbox}
+use Rattle.rr_world.specs.Views.{Member, Assembly}
+use Rattle.rr_world.specs.Layouts.{IsRead}
+use Rattle.rr_world.specs.States.{State}
+use Rattle.rr_world.specs.Readings.{state_in}
+use Rattle.rr_world.specs.Cases.{IsCase}
+use Rattle.rr_world.specs.declared.step.Step.{Step}
+use Rattle.rr_world.specs.declared.step.Reply.{Reply}
+
+-- each step begins where the one before ended, and after each what two holders both reach is shared
+abbrev pub Chain : List Step → List Reply → State → State → Type 0
+Chain [] [] s t = s ≡ t
+Chain [] (r ∷ rs) s t = ⊥
+Chain (x ∷ xs) [] s t = ⊥
+Chain (x ∷ xs) (r ∷ rs) s t = (mid : State) × IsCase x r s mid × IsApart mid.objects × Chain xs rs mid t
+
+-- from each reading of the World before there is one after, and the two states and the reply are a step of the machine
+abbrev pub IsStep : Step → Reply → Assembly → Assembly → Type 0
+IsStep step reply old new = (names : Naming) (bound : ℕ) (g : Objects) → IsRead old names bound g
+    → (names2 : Naming) × (bound2 : ℕ) × (g2 : Objects) × IsRead new names2 bound2 g2
+    × IsCase step reply (state_in old names g) (state_in new names2 g2)
+
+-- from each reading of the World before there is one after, and the steps and replies are a run between the two states
+abbrev pub IsRun : List Step → List Reply → Assembly → Assembly → Type 0
+IsRun steps replies old new = (names : Naming) (bound : ℕ) (g : Objects) → IsRead old names bound g
+    → (names2 : Naming) × (bound2 : ℕ) × (g2 : Objects) × IsRead new names2 bound2 g2
+    × Chain steps replies (state_in old names g) (state_in new names2 g2)
+
+-- the World has a reading
+abbrev pub HasReading : Assembly → Type 0
+HasReading w = (names : Naming) × (bound : ℕ) × (g : Objects) × IsRead w names bound g
+
+-- one ractor without objects, roots and message, and its inbox, empty
+pub record IsNew (limits : Limits) (w : Assembly) : Type 0 where
+  pub main : Member
+  pub ractors : w.ractors ≡ main ∷ []
+  pub slots : main.space.slots ≡ []
+  pub below : main.space.below ≡ []
+  pub limit : main.space.limit ≡ limits.slots
+  pub owner : main.space.owner ≡ 1
+  pub roots : main.roots ≡ []
+  pub hand : main.hand ≡ None
+  pub run : main.limits ≡ limits
+  pub inboxes : w.inboxes ≡ new_inbox limits.events ∷ []

@@ -1,0 +1,47 @@
+-- The state of the graph machine.
+use Rattle.std.specs.Prelude.{◌≡◌, ℕ, Bool, List, Option}
+use Rattle.rr_base.specs.declared.limits.Limits.{Limits}
+use Rattle.rr_base.specs.declared.event.InboxEvent.{InboxEvent}
+use Rattle.rr_space.specs.Graph.{Value}
+use Rattle.rr_space.specs.Readings.{Objects}
+
+-- a message in the whole graph: its root, the number of its objects, its sender and its sequence number
+pub record Parcel : Type 0 where
+  pub root : Value
+  pub size : ℕ
+  pub sender : ℕ
+  pub sequence : ℕ
+
+-- a message inside an inbox
+pub record Letter : Type 0 where
+  pub ticket : ℕ
+  pub parcel : Parcel
+
+-- an inbox: messages with tickets in their order, a closed mark, the next ticket, and what happened with its limit
+pub record Mailbox : Type 0 where
+  pub inside : List Letter
+  pub closed : Bool
+  pub next : ℕ
+  pub history : List InboxEvent
+  pub limit : ℕ
+
+-- a ractor: the values that it holds, what is in its hand, the slots that it has used, the most that it may use, and the limits
+-- of the run, which it hands on to those that it starts
+pub record Actor : Type 0 where
+  pub roots : List Value
+  pub hand : Option Parcel
+  pub slots : ℕ
+  pub limit : ℕ
+  pub limits : Limits
+
+-- objects with owners, ractors, and their inboxes; number 1 stands first
+pub record State : Type 0 where
+  pub objects : Objects
+  pub ractors : List Actor
+  pub inboxes : List Mailbox
+
+-- all is as it was
+pub record IsSame (old new : State) : Type 0 where
+  pub objects : (n : ℕ) → new.objects n ≡ old.objects n
+  pub ractors : new.ractors ≡ old.ractors
+  pub inboxes : new.inboxes ≡ old.inboxes

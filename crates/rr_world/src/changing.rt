@@ -1,0 +1,147 @@
+//! Changes of one object of a ractor, and reads.
+
+ghost use Rattle.std.specs.Prelude.{IfSome, IfNone};
+ghost use Rattle.rr_world.specs.Changing.{
+  Appends,
+  AreSettable,
+  AreWritable,
+  Freezes,
+  IsNamedRef,
+  IsWritableText,
+  MayBeAppended,
+  MayBePushed,
+  MayBeSet,
+  Pushes,
+  Reads,
+  Sets,
+  Writes,
+};
+ghost use Rattle.rr_space.specs.Labels.{label_of};
+
+use crate::ractor::Ractor;
+use crate::step::{Operand, Reply};
+use rr_base::{Fault, Sym};
+use rr_space::{Kind, Label, Ref};
+
+impl Ractor {
+    /// Freezes one object.
+    pub(crate) fn freeze(&mut self, object: Operand) -> Reply
+        ensures { Freezes object result self.old self.new }
+    {
+        let Some(object) = self.named(object) else {
+            return Reply::NotEnabled;
+        };
+        if !self.space.can_freeze(object) {
+            return Reply::NotEnabled;
+        }
+        self.space.freeze(object);
+        Reply::Done
+    }
+
+    // The text that the operand is, where it may be written.
+    fn writable_text(&self, text: Operand) -> Option<Ref>
+        ensures some { IfSome result (λ v. IsWritableText text self.now v) }
+        ensures none { IfNone result (MayBeAppended text self.now → ⊥) }
+    {
+        let text = self.named(text)?;
+        if !self.space.can_write(text) || self.space.kind_of(text) != Kind::Text {
+            return None;
+        }
+        Some(text)
+    }
+
+    /// Puts a byte behind those of a text.
+    pub(crate) fn append(&mut self, text: Operand, byte: u8) -> Reply
+        ensures { Appends text byte result self.old self.new }
+    {
+        let Some(text) = self.writable_text(text) else {
+            return Reply::NotEnabled;
+        };
+        if let Err(fault) = self.space.append_text(text, &[byte]) {
+            return Reply::Refused(fault);
+        }
+        Reply::Done
+    }
+
+    // The array and the value that the operands are, where the array may be written.
+    fn writable_array(&self, array: Operand, value: Operand) -> Option<(Ref, Ref)>
+        ensures some { IfSome result (λ p. AreWritable array value self.now p.0 p.1) }
+        ensures none { IfNone result (MayBePushed array self.now → IsNamedRef value self.now → ⊥) }
+    {
+        let array = self.named(array)?;
+        let value = self.named(value)?;
+        if !self.space.can_write(array) || self.space.kind_of(array) != Kind::Array {
+            return None;
+        }
+        Some((array, value))
+    }
+
+    /// Puts a value behind the elements of an array.
+    pub(crate) fn push(&mut self, array: Operand, value: Operand) -> Reply
+        ensures { Pushes array value result self.old self.new }
+    {
+        let Some((array, value)) = self.writable_array(array, value) else {
+            return Reply::NotEnabled;
+        };
+        if let Err(fault) = self.space.push_element(array, value) {
+            return Reply::Refused(fault);
+        }
+        Reply::Done
+    }
+
+    /// Puts a value in the place of an element of an array.
+    pub(crate) fn write(&mut self, array: Operand, place: u32, value: Operand) -> Reply
+        ensures { Writes array place value result self.old self.new }
+    {
+        let Some((array, value)) = self.writable_array(array, value) else {
+            return Reply::NotEnabled;
+        };
+        if place as usize >= self.space.arity(array) {
+            return Reply::NotEnabled;
+        }
+        self.space.write_element(array, place as usize, value);
+        Reply::Done
+    }
+    // The plain object and the value that the operands are, where the object may be written.
+    fn writable_object(&self, object: Operand, value: Operand) -> Option<(Ref, Ref)>
+        ensures some { IfSome result (λ p. AreSettable object value self.now p.0 p.1) }
+        ensures none { IfNone result (MayBeSet object self.now → IsNamedRef value self.now → ⊥) }
+    {
+        let object = self.named(object)?;
+        let value = self.named(value)?;
+        if !self.space.can_write(object) || self.space.kind_of(object) != Kind::Object {
+            return None;
+        }
+        Some((object, value))
+    }
+
+    /// Sets a field of a plain object.
+    pub(crate) fn set_field(&mut self, object: Operand, name: Sym, value: Operand) -> Reply
+        ensures { Sets object name.0 value result self.old self.new }
+    {
+        let Some((object, value)) = self.writable_object(object, value) else {
+            return Reply::NotEnabled;
+        };
+        if let Err(fault) = self.space.write_field(object, name, value) {
+            return Reply::Refused(fault);
+        }
+        Reply::Done
+    }
+
+    /// Puts what stands under the label in an object behind the roots.
+    pub(crate) fn read(&mut self, object: Operand, label: Label) -> Reply
+        ensures { Reads object (label_of label) result self.old self.new }
+    {
+        let Some(object) = self.named(object) else {
+            return Reply::NotEnabled;
+        };
+        let Some(found) = self.space.read(object, label) else {
+            return Reply::NotEnabled;
+        };
+        if self.roots.reserve(1).is_err() {
+            return Reply::Refused(Fault::Memory);
+        }
+        self.roots.push_reserved(found);
+        Reply::Done
+    }
+}

@@ -1,0 +1,12 @@
+//! The World: ractors, their hands and their inboxes, and the atomic steps that they make.
+#![tactic(auto)]
+
+mod changing;
+mod packing;
+mod ractor;
+mod step;
+mod world;
+
+pub use rr_space::Label;
+pub use step::{Action, NewObject, Operand, Reply, Step};
+pub use world::World;

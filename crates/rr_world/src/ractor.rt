@@ -1,0 +1,183 @@
+//! A ractor: its space, the values that it holds, and its hand.
+
+ghost use Rattle.std.specs.Prelude.{◌≡◌, ◌≤◌, ◌↔◌, [], IsTrue, Some, None};
+ghost use Rattle.std.specs.Prelude.{length, IfSome};
+ghost use Rattle.rr_space.specs.Parts.{IsWithin};
+ghost use Rattle.rr_space.specs.Views.{AreFieldsDistinct, node_parts, object_of};
+ghost use Rattle.rr_world.specs.Allocating.{Allocs};
+ghost use Rattle.rr_world.specs.Cases.{new_object};
+ghost use Rattle.rr_world.specs.Opening.{Opened};
+ghost use Rattle.rr_world.specs.Packing.{Packs, named_ref};
+
+use crate::packing::copy_of;
+use crate::step::{NewObject, Operand, Reply};
+use rr_base::{Fault, Limits, RactorNo};
+use rr_copy::{Message, open};
+use rr_space::{Items, Node, Ref, Space};
+use std::alloc::Global;
+use std::marker::Model;
+
+/// The objects of a ractor, its roots, the message in its hand, and the limits of the run.
+#[derive(Drop)]
+pub(crate) struct Ractor {
+    pub(crate) space: Space,
+    pub(crate) roots: Vec<Ref>,
+    hand: Option<Message>,
+    limits: Limits,
+}
+
+impl Model for Ractor {
+    ghost use Rattle.std.specs.Prelude.{◌≤◌, length};
+    ghost use Rattle.rr_world.specs.Views.{Member, AreRootsWithin};
+
+    ghost Value = { Member };
+
+    ghost view = { λ r. record { space = r.space; roots = r.roots.items; hand = r.hand; limits = r.limits } };
+
+    ghost invariant = { λ r. AreRootsWithin (length r.space.slots) r.roots.items × (3 ≤ r.limits.events) };
+}
+
+// What a new object is made of.
+fn empty_node(alloc: Global, new: NewObject) -> Node
+    ensures object { object_of result ≡ new_object new }
+    ensures parts { node_parts result ≡ [] }
+    ensures fields { AreFieldsDistinct result }
+{
+    match new {
+        NewObject::Text => Node::Text(Vec::new(alloc)),
+        NewObject::Array => Node::Array(Items::new(alloc)),
+        NewObject::Object(class) => Node::Object(class, Vec::new(alloc)),
+    }
+}
+
+impl Ractor {
+    /// A ractor without objects, under the limits of the run. Takes no memory.
+    pub(crate) fn new(alloc: Global, number: RactorNo, limits: Limits) -> Ractor
+        requires { 3 ≤ limits.events }
+        ensures slots { result.space.slots ≡ [] }
+        ensures below { result.space.below ≡ [] }
+        ensures limit { result.space.limit ≡ limits.slots }
+        ensures owner { result.space.owner ≡ number.0 }
+        ensures roots { result.roots ≡ [] }
+        ensures hand { result.hand ≡ None }
+        ensures limits { result.limits ≡ limits }
+    {
+        Ractor {
+            space: Space::new(alloc, number, limits.slots),
+            roots: Vec::new(alloc),
+            hand: None,
+            limits,
+        }
+    }
+
+    /// The limits of the run.
+    pub(crate) fn limits(&self) -> Limits
+        ensures is { result ≡ self.now.limits }
+        ensures events { 3 ≤ result.events }
+    {
+        self.limits
+    }
+
+    /// Whether nothing is in the hand.
+    pub(crate) fn is_free(&self) -> bool
+        ensures { IsTrue result ↔ self.now.hand ≡ None }
+    {
+        self.hand.is_none()
+    }
+
+    /// Takes the message out of the hand.
+    pub(crate) fn take(&mut self) -> Option<Message>
+        ensures was { result ≡ self.old.hand }
+        ensures now { self.new ≡ record self.old { hand = None } }
+    {
+        self.hand.take()
+    }
+
+    /// Puts a message into the hand.
+    pub(crate) fn hold(&mut self, message: Message)
+        ensures { self.new ≡ record self.old { hand = Some message } }
+    {
+        self.hand = Some(message);
+    }
+
+    /// The value that an operand names; none where there is no such root.
+    pub(crate) fn named(&self, operand: Operand) -> Option<Ref>
+        ensures is { result ≡ named_ref self.now.roots operand }
+        ensures within { IfSome result (λ value. IsWithin (length self.now.space.slots) value) }
+    {
+        match operand {
+            Operand::Nil => Some(Ref::Nil),
+            Operand::Truth(holds) => Some(Ref::Truth(holds)),
+            Operand::Int(number) => Some(Ref::Int(number)),
+            Operand::Symbol(symbol) => Some(Ref::Symbol(symbol)),
+            Operand::Class(class) => Some(Ref::Class(class)),
+            Operand::Ractor(ractor) => Some(Ref::Ractor(ractor)),
+            Operand::Root(root) => {
+                let place = root as usize;
+                if place >= self.roots.len() {
+                    return None;
+                }
+                Some(self.roots[place])
+            }
+        }
+    }
+
+    /// A new object in the space, which comes last in the roots.
+    pub(crate) fn alloc(&mut self, alloc: Global, new: NewObject) -> Reply
+        ensures { Allocs new result self.old self.new }
+    {
+        if self.roots.reserve(1).is_err() {
+            return Reply::Refused(Fault::Memory);
+        }
+        match self.space.alloc(empty_node(alloc, new)) {
+            Ok(root) => {
+                self.roots.push_reserved(root);
+                Reply::Done
+            }
+            Err(fault) => Reply::Refused(fault),
+        }
+    }
+
+    /// Puts a copy of the value into the empty hand.
+    pub(crate) fn pack(&mut self, alloc: Global, operand: Operand) -> Reply
+        ensures { Packs operand result self.old self.new }
+    {
+        if self.hand.is_some() {
+            return Reply::NotEnabled;
+        }
+        let Some(value) = self.named(operand) else {
+            return Reply::NotEnabled;
+        };
+        match copy_of(alloc, &self.space, value) {
+            Ok(Some(message)) => {
+                self.hand = Some(message);
+                Reply::Done
+            }
+            Ok(None) => Reply::NotEnabled,
+            Err(fault) => Reply::Refused(fault),
+        }
+    }
+
+    /// Opens the message in the hand.
+    pub(crate) fn open_held(&mut self) -> Reply
+        ensures { Opened result self.old self.new }
+    {
+        let Some(message) = self.hand.take() else {
+            return Reply::NotEnabled;
+        };
+        if self.roots.reserve(1).is_err() {
+            self.hand = Some(message);
+            return Reply::Refused(Fault::Memory);
+        }
+        match open(&mut self.space, message) {
+            Ok(root) => {
+                self.roots.push_reserved(root);
+                Reply::Done
+            }
+            Err((fault, message)) => {
+                self.hand = Some(message);
+                Reply::Refused(fault)
+            }
+        }
+    }
+}

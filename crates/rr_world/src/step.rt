@@ -1,0 +1,88 @@
+//! Steps, and what they answer.
+
+use rr_base::{ClassId, Fault, RactorNo, Sym, Ticket};
+use rr_space::Label;
+
+/// A value that a step names: an immediate, or one of the ractor's roots, by its number from 0.
+#[derive(Clone, Copy, Drop)]
+pub enum Operand {
+    Nil,
+    Truth(bool),
+    Int(i64),
+    Symbol(Sym),
+    Class(ClassId),
+    Ractor(RactorNo),
+    Root(u32),
+}
+
+/// A new object without contents.
+#[derive(Clone, Copy, Drop)]
+pub enum NewObject {
+    Text,
+    Array,
+    /// A plain object of the class.
+    Object(ClassId),
+}
+
+/// What a ractor does in one step.
+#[derive(Clone, Copy, Drop)]
+pub enum Action {
+    /// A new object, which comes last in the ractor's roots.
+    Alloc(NewObject),
+    /// A copy of the value comes into the hand as a message. The hand has to be empty, and each shareable object that the
+    /// value leads to has to be published.
+    Pack(Operand),
+    /// The message in the hand goes, and its objects with it.
+    Discard,
+    /// The message in the hand goes to the end of a ractor's inbox.
+    Offer(RactorNo),
+    /// The first message of the ractor's own inbox comes into its hand, which has to be empty.
+    Accept,
+    /// The message in the hand is opened in the ractor's space; its root comes last in the ractor's roots.
+    Open,
+    /// A ractor's inbox is closed.
+    Close(RactorNo),
+    /// The ractor's own object is frozen, and nothing that it leads to. A shell is not.
+    Freeze(Operand),
+    /// A byte comes behind those of the ractor's own text, which is not frozen.
+    Append(Operand, u8),
+    /// A value comes behind the elements of the ractor's own array, which is not frozen.
+    Push(Operand, Operand),
+    /// A value comes in the place of an element, by its number from 0, of the ractor's own array, which is not frozen.
+    Write(Operand, u32, Operand),
+    /// A value comes into a field of the ractor's own plain object, which is not frozen: in the place of what was there, or
+    /// behind the others.
+    SetField(Operand, Sym, Operand),
+    /// A ractor starts, under the limits of the run, and its inbox with it.
+    Start,
+    /// What stands under the label in an object comes last in the ractor's roots. A field has the first of its name.
+    Read(Operand, Label),
+}
+
+/// One step of a ractor.
+#[derive(Clone, Copy, Drop)]
+pub struct Step {
+    pub who: RactorNo,
+    pub action: Action,
+}
+
+/// What a step answers.
+#[derive(Drop)]
+pub enum Reply {
+    /// The step is not possible; all is as it was.
+    NotEnabled,
+    /// The step was made.
+    Done,
+    /// The message was offered under this ticket.
+    Offered(Ticket),
+    /// Nothing is in the inbox, which is open.
+    Empty,
+    /// Nothing is in the inbox, which is closed.
+    EmptyAndClosed,
+    /// The inbox is closed; whether it was closed before.
+    WasClosed(bool),
+    /// The ractor of this number was started.
+    Started(RactorNo),
+    /// The step was refused.
+    Refused(Fault),
+}

@@ -1,0 +1,307 @@
+//! The World.
+
+ghost use Rattle.std.specs.Prelude.{◌≡◌, ◌+◌, ◌<◌, ◌≤◌, ℕ, length, None, IfSome, IfOk, IfErr};
+ghost use Rattle.rr_world.specs.Cases.{StandsAt};
+ghost use Rattle.rr_world.specs.Runs.{HasReading, IsNew, IsRun, IsStep};
+ghost use Rattle.rr_world.specs.declared.step.Action.TheVariants.{Alloc, Pack, Discard, Offer, Accept, Open, Close};
+ghost use Rattle.rr_world.specs.declared.step.Action.TheVariants.{Freeze, Append, Push, Write, SetField, Start, Read};
+
+use crate::ractor::Ractor;
+use crate::step::{Action, NewObject, Operand, Reply, Step};
+use rr_base::{Fault, LimitKind, Limits, RactorNo, Sym};
+use rr_inbox::{Front, InboxState};
+use rr_space::Label;
+use std::alloc::Global;
+use std::marker::Model;
+
+/// Ractors with their spaces, roots and hands, and apart from them their inboxes.
+#[derive(Drop)]
+pub struct World {
+    // By their numbers, the main ractor, which is number 1, first.
+    ractors: Vec<Ractor>,
+    inboxes: Vec<InboxState>,
+}
+
+impl Model for World {
+    ghost use Rattle.rr_world.specs.Views.{Assembly};
+
+    ghost Value = { Assembly };
+
+    ghost view = { λ w. record { ractors = w.ractors.items; inboxes = w.inboxes.items } };
+}
+
+// The place of a ractor, or of its inbox, among so many.
+fn place_of(number: RactorNo, count: usize) -> Option<usize>
+    ensures found { IfSome result (λ k. StandsAt number k × (k < count)) }
+    ensures none { result ≡ None → (k : ℕ) → StandsAt number k → count ≤ k }
+{
+    let place = (number.0 as usize).checked_sub(1)?;
+    if place < count { Some(place) } else { None }
+}
+
+impl World {
+    /// The main ractor, without objects, and its inbox, empty. `limits` gives the most slots of a space and the most events
+    /// of a history, at least 3. `Memory` is the only fault.
+    pub fn new(alloc: Global, limits: Limits) -> Result<World, Fault>
+        requires { 3 ≤ limits.events }
+        ensures made { IfOk result (λ world. IsNew limits world) }
+        ensures reading { IfOk result (λ world. HasReading world) }
+        ensures fault { IfErr result (λ fault. fault ≡ Fault.Memory) }
+    {
+        let mut ractors = Vec::new(alloc);
+        let mut inboxes = Vec::new(alloc);
+        ractors.push(Ractor::new(alloc, RactorNo(1), limits))?;
+        inboxes.push(InboxState::new(alloc, limits.events)?)?;
+        Ok(World { ractors, inboxes })
+    }
+
+    // A new object comes into the ractor's space.
+    fn alloc(&mut self, alloc: Global, who: RactorNo, place: usize, new: NewObject) -> Reply
+        requires stands { StandsAt who place }
+        requires within { place < length self.old.ractors }
+        ensures { IsStep (record { who = who; action = Alloc new }) result self.old self.new }
+    {
+        let ractor = &mut self.ractors[place];
+        ractor.alloc(alloc, new)
+    }
+
+    // A copy of the value comes into the hand.
+    fn pack(&mut self, alloc: Global, who: RactorNo, place: usize, value: Operand) -> Reply
+        requires stands { StandsAt who place }
+        requires within { place < length self.old.ractors }
+        ensures { IsStep (record { who = who; action = Pack value }) result self.old self.new }
+    {
+        let ractor = &mut self.ractors[place];
+        ractor.pack(alloc, value)
+    }
+
+    // The message in the hand goes.
+    fn discard(&mut self, who: RactorNo, place: usize) -> Reply
+        requires stands { StandsAt who place }
+        requires within { place < length self.old.ractors }
+        ensures { IsStep (record { who = who; action = Discard }) result self.old self.new }
+    {
+        let Some(_message) = self.ractors[place].take() else {
+            return Reply::NotEnabled;
+        };
+        Reply::Done
+    }
+
+    // The message in the hand goes to the end of an inbox.
+    fn offer(&mut self, who: RactorNo, place: usize, to: RactorNo, inbox: usize) -> Reply
+        requires stands { StandsAt who place }
+        requires within { place < length self.old.ractors }
+        requires there { StandsAt to inbox }
+        requires is_inbox { inbox < length self.old.inboxes }
+        ensures { IsStep (record { who = who; action = Offer to }) result self.old self.new }
+    {
+        let Some(message) = self.ractors[place].take() else {
+            return Reply::NotEnabled;
+        };
+        // With the history comes that no message inside has the next ticket.
+        let _events = self.inboxes[inbox].history();
+        match self.inboxes[inbox].offer(who, message) {
+            Ok(ticket) => Reply::Offered(ticket),
+            Err((fault, message)) => {
+                self.ractors[place].hold(message);
+                Reply::Refused(fault)
+            }
+        }
+    }
+
+    // The first message of the ractor's inbox comes into its hand.
+    fn accept(&mut self, who: RactorNo, place: usize) -> Reply
+        requires stands { StandsAt who place }
+        requires within { place < length self.old.ractors }
+        ensures { IsStep (record { who = who; action = Accept }) result self.old self.new }
+    {
+        if place >= self.inboxes.len() {
+            return Reply::NotEnabled;
+        }
+        if !self.ractors[place].is_free() {
+            return Reply::NotEnabled;
+        }
+        // With the history comes that no two messages inside have one ticket.
+        let _events = self.inboxes[place].history();
+        match self.inboxes[place].accept(who) {
+            Front::Message(message) => {
+                self.ractors[place].hold(message);
+                Reply::Done
+            }
+            Front::Empty => Reply::Empty,
+            Front::EmptyAndClosed => Reply::EmptyAndClosed,
+        }
+    }
+
+    // The message in the hand is opened in the ractor's space.
+    fn open(&mut self, who: RactorNo, place: usize) -> Reply
+        requires stands { StandsAt who place }
+        requires within { place < length self.old.ractors }
+        ensures { IsStep (record { who = who; action = Open }) result self.old self.new }
+    {
+        let ractor = &mut self.ractors[place];
+        ractor.open_held()
+    }
+
+    // An inbox is closed.
+    fn close(&mut self, who: RactorNo, place: usize, to: RactorNo, inbox: usize) -> Reply
+        requires stands { StandsAt who place }
+        requires within { place < length self.old.ractors }
+        requires there { StandsAt to inbox }
+        requires is_inbox { inbox < length self.old.inboxes }
+        ensures { IsStep (record { who = who; action = Close to }) result self.old self.new }
+    {
+        Reply::WasClosed(self.inboxes[inbox].close(who))
+    }
+
+    // One object of the ractor is frozen.
+    fn freeze(&mut self, who: RactorNo, place: usize, object: Operand) -> Reply
+        requires stands { StandsAt who place }
+        requires within { place < length self.old.ractors }
+        ensures { IsStep (record { who = who; action = Freeze object }) result self.old self.new }
+    {
+        let ractor = &mut self.ractors[place];
+        ractor.freeze(object)
+    }
+
+    // A byte comes behind those of a text.
+    fn append(&mut self, who: RactorNo, place: usize, text: Operand, byte: u8) -> Reply
+        requires stands { StandsAt who place }
+        requires within { place < length self.old.ractors }
+        ensures { IsStep (record { who = who; action = Append text byte }) result self.old self.new }
+    {
+        let ractor = &mut self.ractors[place];
+        ractor.append(text, byte)
+    }
+
+    // A value comes behind the elements of an array.
+    fn push(&mut self, who: RactorNo, place: usize, array: Operand, value: Operand) -> Reply
+        requires stands { StandsAt who place }
+        requires within { place < length self.old.ractors }
+        ensures { IsStep (record { who = who; action = Push array value }) result self.old self.new }
+    {
+        let ractor = &mut self.ractors[place];
+        ractor.push(array, value)
+    }
+
+    // A value comes in the place of an element.
+    fn write(
+        &mut self,
+        who: RactorNo,
+        place: usize,
+        array: Operand,
+        at: u32,
+        value: Operand,
+    ) -> Reply
+        requires stands { StandsAt who place }
+        requires within { place < length self.old.ractors }
+        ensures { IsStep (record { who = who; action = Write array at value }) result self.old self.new }
+    {
+        let ractor = &mut self.ractors[place];
+        ractor.write(array, at, value)
+    }
+
+    // A field of an object is set.
+    fn set_field(
+        &mut self,
+        who: RactorNo,
+        place: usize,
+        object: Operand,
+        name: Sym,
+        value: Operand,
+    ) -> Reply
+        requires stands { StandsAt who place }
+        requires within { place < length self.old.ractors }
+        ensures { IsStep (record { who = who; action = SetField object name value }) result self.old self.new }
+    {
+        let ractor = &mut self.ractors[place];
+        ractor.set_field(object, name, value)
+    }
+
+    // What stands under a label joins the roots.
+    fn read(&mut self, who: RactorNo, place: usize, object: Operand, label: Label) -> Reply
+        requires stands { StandsAt who place }
+        requires within { place < length self.old.ractors }
+        ensures { IsStep (record { who = who; action = Read object label }) result self.old self.new }
+    {
+        let ractor = &mut self.ractors[place];
+        ractor.read(object, label)
+    }
+
+    // A ractor starts, and its inbox with it.
+    fn start(&mut self, alloc: Global, who: RactorNo, place: usize) -> Reply
+        requires stands { StandsAt who place }
+        requires within { place < length self.old.ractors }
+        ensures { IsStep (record { who = who; action = Start }) result self.old self.new }
+    {
+        let limits = self.ractors[place].limits();
+        let count = self.ractors.len();
+        if count >= limits.ractors as usize {
+            return Reply::Refused(Fault::Limit(LimitKind::Ractors));
+        }
+        let Ok(inbox) = InboxState::new(alloc, limits.events) else {
+            return Reply::Refused(Fault::Memory);
+        };
+        if self.ractors.reserve(1).is_err() {
+            return Reply::Refused(Fault::Memory);
+        }
+        if self.inboxes.reserve(1).is_err() {
+            return Reply::Refused(Fault::Memory);
+        }
+        let number = RactorNo(count as u16 + 1);
+        self.ractors
+            .push_reserved(Ractor::new(alloc, number, limits));
+        self.inboxes.push_reserved(inbox);
+        Reply::Started(number)
+    }
+
+    /// Makes one step.
+    pub fn step(&mut self, alloc: Global, step: &Step) -> Reply
+        ensures step { IsStep step.now result self.old self.new }
+    {
+        let Step { who, action } = *step;
+        let Some(place) = place_of(who, self.ractors.len()) else {
+            return Reply::NotEnabled;
+        };
+        match action {
+            Action::Alloc(new) => self.alloc(alloc, who, place, new),
+            Action::Pack(value) => self.pack(alloc, who, place, value),
+            Action::Discard => self.discard(who, place),
+            Action::Accept => self.accept(who, place),
+            Action::Open => self.open(who, place),
+            Action::Start => self.start(alloc, who, place),
+            Action::Freeze(object) => self.freeze(who, place, object),
+            Action::Append(text, byte) => self.append(who, place, text, byte),
+            Action::Push(array, value) => self.push(who, place, array, value),
+            Action::Write(array, at, value) => self.write(who, place, array, at, value),
+            Action::SetField(object, name, value) => self.set_field(
+                who, place, object, name, value,
+            ),
+            Action::Read(object, label) => self.read(who, place, object, label),
+            Action::Offer(to) => match place_of(to, self.inboxes.len()) {
+                Some(inbox) => self.offer(who, place, to, inbox),
+                None => Reply::NotEnabled,
+            },
+            Action::Close(to) => match place_of(to, self.inboxes.len()) {
+                Some(inbox) => self.close(who, place, to, inbox),
+                None => Reply::NotEnabled,
+            },
+        }
+    }
+
+    /// Makes each step in turn, and answers what each answered.
+    ///
+    /// A step's own fault is its reply. `Memory`, where room for the replies was refused, is the only fault; then no step
+    /// was made.
+    pub fn run_steps(&mut self, alloc: Global, steps: &[Step]) -> Result<Vec<Reply>, Fault>
+        ensures run { IfOk result (λ replies. IsRun steps.now replies.items self.old self.new) }
+        ensures fault { IfErr result (λ fault. (fault ≡ Fault.Memory) × (self.new ≡ self.old)) }
+    {
+        let mut replies = Vec::with_capacity(alloc, steps.len())?;
+        for step in steps {
+            let reply = self.step(alloc, step);
+            replies.push_reserved(reply);
+        }
+        Ok(replies)
+    }
+}
