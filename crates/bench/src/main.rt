@@ -1,7 +1,10 @@
 //! Measurements of single layers, in nanoseconds of wall clock. The scripts under bench/ measure the whole program.
 #![tactic(auto)]
 
+mod changes;
 mod channels;
+mod clock;
+mod moves;
 mod objects;
 mod scripts;
 mod tokens;
@@ -15,17 +18,29 @@ fn main(rt: HostRuntime) -> io::Result<()> {
     match name {
         "script" => scripts::measure(&rt, file),
         "tokens" => tokens::measure(&rt, file),
-        "objects" => objects::measure(&rt),
         "inbox" => channels::measure_inbox(&rt),
         "text" => channels::measure_text(&rt),
-        _ => {
-            println!(rt; "script FILE: its tokens, its tree, its steps")?;
-            println!(rt; "tokens FILE: its tokens alone")?;
-            println!(rt; "objects: ten million arrays of two integers, made and read")?;
-            println!(rt; "inbox: a million integers offered and accepted")?;
-            println!(rt;
-                "text: a text of a mebibyte, packed and opened, beside one copy of its bytes"
-            )
-        }
+        _ => measure_objects(&rt, name),
     }
+}
+
+fn measure_objects(rt: &HostRuntime, name: &str) -> io::Result<()> {
+    match name {
+        "objects" => objects::measure(rt),
+        "changes" => changes::measure(rt),
+        "moves" => moves::measure(rt),
+        _ => explain(rt),
+    }
+}
+
+fn explain(rt: &HostRuntime) -> io::Result<()> {
+    println!(rt; "script FILE: its tokens, its tree, its steps")?;
+    println!(rt; "tokens FILE: its tokens alone")?;
+    println!(rt; "objects: ten million arrays of two integers, made and read")?;
+    println!(rt;
+        "changes: a text that grows, an array that is shifted, pairs deleted, a published hash"
+    )?;
+    println!(rt; "moves: a million arrays and a hundred mebibytes of texts, moved")?;
+    println!(rt; "inbox: a million integers offered and accepted")?;
+    println!(rt; "text: a text of a mebibyte, packed and opened, beside one copy of its bytes")
 }

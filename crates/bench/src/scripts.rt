@@ -1,10 +1,10 @@
 //! A script's tokens, tree and steps.
 
 use rr_base::{Fault, RactorNo};
-use rr_eval::{Machine, Turn};
+use rr_eval::{Answer, Machine, Turn};
 use rr_lexer::lex;
 use rr_parser::parse;
-use rr_space::Space;
+use rr_space::{Ref, Space};
 use rr_tree::Program;
 use std::alloc::Global;
 use std::time::Instant;
@@ -19,26 +19,32 @@ fn steps_of(alloc: Global, program: &Program) -> Result<u64, Fault> {
     let mut space = Space::new(alloc, RactorNo(1), u32::MAX);
     let mut machine = Machine::new(alloc, program, STEPS)?;
     let mut steps = 0u64;
-    for _ in 0..u64::MAX {
+    for _turn in 0..u64::MAX {
         match machine.turn(program, &mut space, 1)? {
             Turn::More => steps = steps.wrapping_add(1),
-            Turn::Print(_) => {}
+            Turn::Ask(_) => machine.answer(Answer::Gave(Ref::Nil)),
             Turn::Done(_) | Turn::Raised(_) | Turn::StepLimit => break,
         }
     }
     Ok(steps)
 }
 
+fn run_once(alloc: Global, program: &Program) -> Result<(), Fault> {
+    let mut space = Space::new(alloc, RactorNo(1), u32::MAX);
+    let mut machine = Machine::new(alloc, program, STEPS)?;
+    for _turn in 0..STEPS {
+        match machine.turn(program, &mut space, 1_000_000)? {
+            Turn::More => {}
+            Turn::Ask(_) => machine.answer(Answer::Gave(Ref::Nil)),
+            Turn::Done(_) | Turn::Raised(_) | Turn::StepLimit => break,
+        }
+    }
+    Ok(())
+}
+
 fn run(alloc: Global, program: &Program) -> Result<(), Fault> {
     for _ in 0..ROUNDS {
-        let mut space = Space::new(alloc, RactorNo(1), u32::MAX);
-        let mut machine = Machine::new(alloc, program, STEPS)?;
-        for _ in 0..STEPS {
-            match machine.turn(program, &mut space, 1_000_000)? {
-                Turn::More | Turn::Print(_) => {}
-                Turn::Done(_) | Turn::Raised(_) | Turn::StepLimit => break,
-            }
-        }
+        run_once(alloc, program)?;
     }
     Ok(())
 }
