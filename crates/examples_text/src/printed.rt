@@ -17,6 +17,7 @@ fn program(alloc: Global) -> Result<Program, Fail> {
         symbols,
         texts: Vec::new(alloc),
         freezes: false,
+        definitions: Vec::new(alloc),
         classes: Vec::new(alloc),
         methods: Vec::new(alloc),
         scopes: Vec::new(alloc),

@@ -107,6 +107,7 @@ pub(crate) fn read(
         symbols: words.symbols,
         texts: words.texts,
         freezes: freezes_literals(source, tokens),
+        definitions: Vec::new(alloc),
         classes: Vec::new(alloc),
         methods: Vec::new(alloc),
         scopes: Vec::new(alloc),

@@ -103,13 +103,15 @@ module _ (at at2 : ℕ → Tree) (list list2 : ℕ → ℕ → List Tree) (i : �
   same_parts (node.Not a) h = let e0 = part a h in cc
   same_parts (node.Negate a) h = let e0 = part a h in cc
   same_parts (node.Binary o a b) h = let e0 = part a h.0 in let e1 = part b h.1 in cc
+  same_parts (node.Append a b) h = let e0 = part a h.0 in let e1 = part b h.1 in cc
   same_parts (node.Choose a b d) h = let e0 = part a h.0 in let e1 = part b h.1 in let e2 = part d h.2 in cc
   same_parts (node.Loop until a b) h = let e0 = part a h.0 in let e1 = part b h.1 in cc
   same_parts (node.Sequence first count) h = let e0 = items first count h in cc
   same_parts (node.Bare x site) h = refl
   same_parts (node.Call x first count site) h = let e0 = items first count h in cc
   same_parts (node.Send a x first count site) h = let e0 = part a h.0 in let e1 = items first count h.1 in cc
-  same_parts (node.WithBlock a block) h = let e0 = part a h in cc
+  same_parts (node.WithBlock a b) h = let e0 = part a h.0 in let e1 = part b h.1 in cc
+  same_parts (node.Block scope parameters size a) h = let e0 = part a h in cc
   same_parts (node.Super first count) h = let e0 = items first count h in cc
   same_parts node.ForwardingSuper h = refl
   same_parts (node.Yield first count) h = let e0 = items first count h in cc
@@ -120,6 +122,7 @@ module _ (at at2 : ℕ → Tree) (list list2 : ℕ → ℕ → List Tree) (i : �
   same_parts (node.Clause first count a b) h = let e0 = items first count h.0 in let e1 = part a h.1 in let e2 = part b h.2 in cc
   same_parts (node.Ensure a b) h = let e0 = part a h.0 in let e1 = part b h.1 in cc
   same_parts (node.OperatorAssign o a b) h = let e0 = part a h.0 in let e1 = part b h.1 in cc
+  same_parts (node.AppendAssign a b) h = let e0 = part a h.0 in let e1 = part b h.1 in cc
   same_parts (node.OrAssign a b) h = let e0 = part a h.0 in let e1 = part b h.1 in cc
   same_parts (node.AndAssign a b) h = let e0 = part a h.0 in let e1 = part b h.1 in cc
   same_parts (node.Index a b) h = let e0 = part a h.0 in let e1 = part b h.1 in cc
@@ -128,6 +131,10 @@ module _ (at at2 : ℕ → Tree) (list list2 : ℕ → ℕ → List Tree) (i : �
   same_parts (node.MultipleAssign first count a) h = let e0 = items first count h.0 in let e1 = part a h.1 in cc
   same_parts (node.Splat a) h = let e0 = part a h in cc
   same_parts (node.Pair a b) h = let e0 = part a h.0 in let e1 = part b h.1 in cc
+  same_parts (node.Method x scope parameters size a) h = let e0 = part a h in cc
+  same_parts (node.Reader x) h = refl
+  same_parts (node.Writer x) h = refl
+  same_parts (node.ClassBody x superclass first count) h = let e0 = items first count h in cc
   same_parts (node.Item a) h = part a h
 
 -- a node that stands after its parts has the tree that they make

@@ -6,8 +6,9 @@ use Rattle.rr_tree.specs.declared.node.Path.{Path}
 use Rattle.rr_tree.specs.declared.node.Node.{Node}
 use Rattle.rr_tree.specs.declared.node.Node.TheVariants as node
 
--- Names and texts are by number, in the order in which the source first has them, and so are blocks. A variable is how many
--- scopes outside it is, its number among the variables there, and its name.
+-- Names and texts are by number, in the order in which the source first has them. A variable is how many scopes outside it is,
+-- its number among the variables there, and its name. A block and a method are the number of their scope, how many parameters
+-- and how many variables they have, and their statements.
 mutual
   pub data Tree : Type 0 where
     nil : Tree
@@ -34,13 +35,15 @@ mutual
     logical_not : Tree → Tree
     negate : Tree → Tree
     binary : BinaryOperator → Tree → Tree → Tree
+    append : Tree → Tree → Tree
     choose : Tree → Tree → Tree → Tree
     repeat : Bool → Tree → Tree → Tree
     sequence : Trees → Tree
     bare : ℕ → Tree
     call : ℕ → Trees → Tree
     send : Tree → ℕ → Trees → Tree
-    with_block : Tree → ℕ → Tree
+    with_block : Tree → Tree → Tree
+    block : ℕ → ℕ → ℕ → Tree → Tree
     super : Trees → Tree
     forwarding_super : Tree
     yield : Trees → Tree
@@ -51,6 +54,7 @@ mutual
     clause : Trees → Tree → Tree → Tree
     ensure : Tree → Tree → Tree
     operator_assign : BinaryOperator → Tree → Tree → Tree
+    append_assign : Tree → Tree → Tree
     or_assign : Tree → Tree → Tree
     and_assign : Tree → Tree → Tree
     index : Tree → Tree → Tree
@@ -59,6 +63,10 @@ mutual
     multiple_assign : Trees → Tree → Tree
     splat : Tree → Tree
     pair : Tree → Tree → Tree
+    method : ℕ → ℕ → ℕ → ℕ → Tree → Tree
+    reader : ℕ → Tree
+    writer : ℕ → Tree
+    class_body : ℕ → ClassId → Trees → Tree
 
   -- a list of trees: none, or a list and one more at its end
   pub data Trees : Type 0 where
@@ -99,13 +107,15 @@ tree_with at list (node.Or a b) = logical_or (at a) (at b)
 tree_with at list (node.Not a) = logical_not (at a)
 tree_with at list (node.Negate a) = negate (at a)
 tree_with at list (node.Binary o a b) = binary o (at a) (at b)
+tree_with at list (node.Append a b) = append (at a) (at b)
 tree_with at list (node.Choose a b d) = choose (at a) (at b) (at d)
 tree_with at list (node.Loop until a b) = repeat until (at a) (at b)
 tree_with at list (node.Sequence first count) = sequence (listed (list first count))
 tree_with at list (node.Bare x site) = bare x.0
 tree_with at list (node.Call x first count site) = call x.0 (listed (list first count))
 tree_with at list (node.Send a x first count site) = send (at a) x.0 (listed (list first count))
-tree_with at list (node.WithBlock a block) = with_block (at a) block
+tree_with at list (node.WithBlock a b) = with_block (at a) (at b)
+tree_with at list (node.Block scope parameters size a) = block scope parameters size (at a)
 tree_with at list (node.Super first count) = super (listed (list first count))
 tree_with at list node.ForwardingSuper = forwarding_super
 tree_with at list (node.Yield first count) = yield (listed (list first count))
@@ -116,6 +126,7 @@ tree_with at list (node.Rescue a first count b) = rescue (at a) (listed (list fi
 tree_with at list (node.Clause first count a b) = clause (listed (list first count)) (at a) (at b)
 tree_with at list (node.Ensure a b) = ensure (at a) (at b)
 tree_with at list (node.OperatorAssign o a b) = operator_assign o (at a) (at b)
+tree_with at list (node.AppendAssign a b) = append_assign (at a) (at b)
 tree_with at list (node.OrAssign a b) = or_assign (at a) (at b)
 tree_with at list (node.AndAssign a b) = and_assign (at a) (at b)
 tree_with at list (node.Index a b) = index (at a) (at b)
@@ -124,6 +135,10 @@ tree_with at list (node.SetAttribute a x b site) = set_attribute (at a) x.0 (at 
 tree_with at list (node.MultipleAssign first count a) = multiple_assign (listed (list first count)) (at a)
 tree_with at list (node.Splat a) = splat (at a)
 tree_with at list (node.Pair a b) = pair (at a) (at b)
+tree_with at list (node.Method x scope parameters size a) = method x.0 scope parameters size (at a)
+tree_with at list (node.Reader x) = reader x.0
+tree_with at list (node.Writer x) = writer x.0
+tree_with at list (node.ClassBody x superclass first count) = class_body x.0 superclass (listed (list first count))
 tree_with at list (node.Item a) = at a
 
 -- the tree of a node, whose parts are among the trees before it
@@ -154,12 +169,14 @@ HasPartsBefore i (node.Or a b) = (a < i) × (b < i)
 HasPartsBefore i (node.Not a) = a < i
 HasPartsBefore i (node.Negate a) = a < i
 HasPartsBefore i (node.Binary o a b) = (a < i) × (b < i)
+HasPartsBefore i (node.Append a b) = (a < i) × (b < i)
 HasPartsBefore i (node.Choose a b d) = (a < i) × (b < i) × (d < i)
 HasPartsBefore i (node.Loop until a b) = (a < i) × (b < i)
 HasPartsBefore i (node.Sequence first count) = first + count ≤ i
 HasPartsBefore i (node.Call x first count site) = first + count ≤ i
 HasPartsBefore i (node.Send a x first count site) = (a < i) × (first + count ≤ i)
-HasPartsBefore i (node.WithBlock a block) = a < i
+HasPartsBefore i (node.WithBlock a b) = (a < i) × (b < i)
+HasPartsBefore i (node.Block scope parameters size a) = a < i
 HasPartsBefore i (node.Super first count) = first + count ≤ i
 HasPartsBefore i (node.Yield first count) = first + count ≤ i
 HasPartsBefore i (node.Break a) = a < i
@@ -169,6 +186,7 @@ HasPartsBefore i (node.Rescue a first count b) = (a < i) × (first + count ≤ i
 HasPartsBefore i (node.Clause first count a b) = (first + count ≤ i) × (a < i) × (b < i)
 HasPartsBefore i (node.Ensure a b) = (a < i) × (b < i)
 HasPartsBefore i (node.OperatorAssign o a b) = (a < i) × (b < i)
+HasPartsBefore i (node.AppendAssign a b) = (a < i) × (b < i)
 HasPartsBefore i (node.OrAssign a b) = (a < i) × (b < i)
 HasPartsBefore i (node.AndAssign a b) = (a < i) × (b < i)
 HasPartsBefore i (node.Index a b) = (a < i) × (b < i)
@@ -177,6 +195,8 @@ HasPartsBefore i (node.SetAttribute a x b site) = (a < i) × (b < i)
 HasPartsBefore i (node.MultipleAssign first count a) = (first + count ≤ i) × (a < i)
 HasPartsBefore i (node.Splat a) = a < i
 HasPartsBefore i (node.Pair a b) = (a < i) × (b < i)
+HasPartsBefore i (node.Method x scope parameters size a) = a < i
+HasPartsBefore i (node.ClassBody x superclass first count) = first + count ≤ i
 HasPartsBefore i (node.Item a) = a < i
 HasPartsBefore i _ = Unit {0}
 

@@ -1,6 +1,6 @@
 //! The classes and the methods of a program.
 
-use crate::scope::ScopeId;
+use crate::node::NodeId;
 use rr_base::{ClassId, Sym};
 
 /// A class of a program. Its number is its place among the program's classes, behind those of the built-in ones.
@@ -13,8 +13,8 @@ pub struct Class {
 /// What a method does.
 #[derive(Clone, Copy, Debug, PartialEq, Eq, Drop)]
 pub enum MethodKind {
-    /// Evaluates the body of a scope.
-    Defined(ScopeId),
+    /// Evaluates the statements of the definition with this number.
+    Defined(NodeId),
     /// Reads an instance variable.
     Reader(Sym),
     /// Writes an instance variable.

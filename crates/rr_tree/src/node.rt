@@ -92,6 +92,8 @@ pub enum Node {
     Not(NodeId),
     Negate(NodeId),
     Binary(BinaryOperator, NodeId, NodeId),
+    /// `<<`.
+    Append(NodeId, NodeId),
     /// Condition, then, else.
     Choose(NodeId, NodeId, NodeId),
     /// `while`, or `until`, which goes on as long as the condition does not hold.
@@ -125,7 +127,14 @@ pub enum Node {
         site: u32,
     },
     /// A call, and the block that it is given.
-    WithBlock(NodeId, BlockId),
+    WithBlock(NodeId, NodeId),
+    /// A block: its scope, how many parameters and how many variables it has, and its statements.
+    Block {
+        scope: BlockId,
+        parameters: u32,
+        size: u32,
+        body: NodeId,
+    },
     Super {
         first: NodeId,
         count: u32,
@@ -158,6 +167,8 @@ pub enum Node {
     Ensure(NodeId, NodeId),
     /// An assignment with an operator: the target, and the right side.
     OperatorAssign(BinaryOperator, NodeId, NodeId),
+    /// `<<=`.
+    AppendAssign(NodeId, NodeId),
     OrAssign(NodeId, NodeId),
     AndAssign(NodeId, NodeId),
     Index(NodeId, NodeId),
@@ -182,6 +193,26 @@ pub enum Node {
     Splat(NodeId),
     /// A key and its value.
     Pair(NodeId, NodeId),
+    /// The definition of a method: its name, its scope, how many parameters and how many variables it has, and its
+    /// statements.
+    Method {
+        name: Sym,
+        scope: u32,
+        parameters: u32,
+        size: u32,
+        body: NodeId,
+    },
+    /// The definition of a method that reads an instance variable.
+    Reader(Sym),
+    /// The definition of a method that writes an instance variable.
+    Writer(Sym),
+    /// The definition of a class: its name, its superclass, and the definitions in it.
+    ClassBody {
+        name: Sym,
+        superclass: ClassId,
+        first: NodeId,
+        count: u32,
+    },
     /// One part of a list.
     Item(NodeId),
 }

@@ -14,8 +14,10 @@ use crate::scope::Scope;
 pub struct Program {
     /// Each node stands after its parts.
     pub nodes: Vec<Node>,
-    /// The node of the whole program.
+    /// The node of the program's statements.
     pub root: NodeId,
+    /// The nodes of its definitions, classes and methods outside of classes, in the order in which they stand in the source.
+    pub definitions: Vec<NodeId>,
     /// The bytes of each name, by its `Sym`.
     pub symbols: Vec<Vec<u8>>,
     /// The bytes of each text literal.
