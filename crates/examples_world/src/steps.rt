@@ -121,7 +121,12 @@ fn a_text_goes_to_another_ractor(rt: HostRuntime) -> Result<(), Fail> {
     let replies = world.run_steps(rt.alloc(), &steps)?;
     assert!(rt; matches!(&replies[1], Reply::NotEnabled));
     assert!(rt; matches!(&replies[2], Reply::Started(RactorNo(2))));
-    assert!(rt; matches!(&replies[3], Reply::Refused(Fault::Limit(LimitKind::Ractors))));
+    assert!(rt;
+        matches!(
+            &replies[3],
+            Reply::Refused(Fault::Limit(LimitKind::Ractors))
+        )
+    );
     assert!(rt; matches!(&replies[5], Reply::Offered(0)));
     for reply in &replies[6..] {
         assert!(rt; matches!(reply, Reply::Done));
