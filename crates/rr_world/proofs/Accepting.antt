@@ -11,18 +11,18 @@ use Rattle.rr_space.proofs.Hands.{hands_on}
 use Rattle.rr_copy.specs.Messages.{size_of}
 use Rattle.rr_inbox.specs.Inboxes.{Inbox, IsTicketed}
 use Rattle.rr_inbox.specs.declared.entry.Entry.{Entry}
-use Rattle.rr_world.specs.Views.{Member, Assembly}
+use Rattle.rr_world.specs.Views.{Member, Channels, Assembly, with_inbox}
 use Rattle.rr_world.specs.Layouts.{layout, space_slots, hand_slots, inbox_slots, message_slots, mail_slots}
-use Rattle.rr_world.specs.States.{Actor, Parcel}
-use Rattle.rr_world.specs.Readings.{each_from, actor_in, mailbox_in, parcel_in, letter_in, state_in}
+use Rattle.rr_world.specs.States.{Actor, Parcel, with_box}
+use Rattle.rr_world.specs.Readings.{each_from, actor_in, mailbox_in, parcel_in, letter_in, post_in, state_in}
 use Rattle.rr_world.specs.Cases.{StandsAt, IsCase}
 use Rattle.rr_world.specs.Runs.{IsStep}
 use Rattle.rr_world.specs.declared.step.Action.TheVariants.{Accept}
 use Rattle.rr_world.specs.declared.step.Reply.TheVariants.{Done, Empty, EmptyAndClosed}
 use Rattle.rr_world.proofs.Lists.{eq_cases, set_at, set_off, seen_same, each_set}
-use Rattle.rr_world.proofs.Namings.{actor_same, unhanded, mailbox_same, parcel_moved, shared_kept}
+use Rattle.rr_world.proofs.Namings.{actor_same, unhanded, mailbox_same, post_set, parcel_moved, shared_kept}
 use Rattle.rr_world.proofs.Tickets.{mail_none, mail_here, mail_past, first_differs}
-use Rattle.rr_world.proofs.Knowing.{knows_both, holding_knows, owned_set}
+use Rattle.rr_world.proofs.Knowing.{read_both, holding_knows}
 use Rattle.rr_world.proofs.Enabled.{actor_at, mailbox_at, free}
 use Rattle.rr_world.proofs.Offering.{objects_stay}
 use Rattle.rr_world.proofs.Staying.{same_state}
@@ -34,21 +34,21 @@ in_later e es x (j, lt, is) = (suc j, omega arith, is)
 abbrev pub less_first : Inbox → RactorNo → Entry → List Entry → Inbox
 less_first i who e es = record i { inside = es; history = i.history ++ event.Accepted e.ticket (size_of e.message) who ∷ [] }
 
-module _ (w w2 : Assembly) (who : RactorNo) (k : ℕ) (m : Member) (i : Inbox) (e : Entry) (es : List Entry) (at : slice_get w.ractors k ≡ Some m) (box : slice_get w.inboxes k ≡ Some i)
+module _ (w w2 : Assembly) (who : RactorNo) (k : ℕ) (m : Member) (i : Inbox) (e : Entry) (es : List Entry) (at : slice_get w.ractors k ≡ Some m) (box : slice_get w.channels.inboxes k ≡ Some i)
     (free_hand : m.hand ≡ None) (tickets : IsTicketed i) (first : i.inside ≡ e ∷ es) (rs : w2.ractors ≡ slice_set w.ractors k (record m { hand = Some e.message }))
-    (is : w2.inboxes ≡ slice_set w.inboxes k (less_first i who e es)) where
+    (is : w2.channels ≡ with_inbox w.channels k (less_first i who e es)) where
   rest : (h : Owner) → (h ≡ Mail k e.ticket → ⊥) → (h ≡ Hand k → ⊥) → layout w2 h ≡ layout w h
   unfolding layout
   rest (Space j) q r = ap (λ xs. option_map space_slots (slice_get xs j)) rs ∙ seen_same (option_map space_slots) w.ractors k j m (record m { hand = Some e.message }) at refl
   rest (Hand j) q r = ap (λ xs. option_and_then hand_slots (slice_get xs j)) rs ∙ ap (option_and_then hand_slots) (set_off w.ractors k j (record m { hand = Some e.message }) (λ z. r (ap Hand z)))
-  rest (Mail d u) q r = ap (λ xs. option_and_then (inbox_slots u) (slice_get xs d)) is ∙ ⊎_elim here other (eq_cases d k)
+  rest (Mail d u) q r = ap (λ (x : Channels). option_and_then (inbox_slots u) (slice_get x.inboxes d)) is ∙ ⊎_elim here other (eq_cases d k)
     where
-      here : d ≡ k → option_and_then (inbox_slots u) (slice_get (slice_set w.inboxes k (less_first i who e es)) d) ≡ option_and_then (inbox_slots u) (slice_get w.inboxes d)
-      here z = seen_same (option_and_then (inbox_slots u)) w.inboxes k d i (less_first i who e es) box
+      here : d ≡ k → option_and_then (inbox_slots u) (slice_get (slice_set w.channels.inboxes k (less_first i who e es)) d) ≡ option_and_then (inbox_slots u) (slice_get w.channels.inboxes d)
+      here z = seen_same (option_and_then (inbox_slots u)) w.channels.inboxes k d i (less_first i who e es) box
           (sym (mail_past e es u (λ y. q (ap (λ x. Mail x u) z ∙ ap (Mail k) y))) ∙ ap (mail_slots u) (sym first))
 
-      other : (d ≡ k → ⊥) → option_and_then (inbox_slots u) (slice_get (slice_set w.inboxes k (less_first i who e es)) d) ≡ option_and_then (inbox_slots u) (slice_get w.inboxes d)
-      other z = ap (option_and_then (inbox_slots u)) (set_off w.inboxes k d (less_first i who e es) z)
+      other : (d ≡ k → ⊥) → option_and_then (inbox_slots u) (slice_get (slice_set w.channels.inboxes k (less_first i who e es)) d) ≡ option_and_then (inbox_slots u) (slice_get w.channels.inboxes d)
+      other z = ap (option_and_then (inbox_slots u)) (set_off w.channels.inboxes k d (less_first i who e es) z)
   rest (Shared d) q r = refl
 
   goes : Goes (Mail k e.ticket) (Hand k) e.message.objects [] (layout w) (layout w2)
@@ -56,8 +56,8 @@ module _ (w w2 : Assembly) (who : RactorNo) (k : ℕ) (m : Member) (i : Inbox) (
   goes = record {
     from = ap (option_and_then (inbox_slots e.ticket)) box ∙ ap (mail_slots e.ticket) first ∙ mail_here e es;
     to = inr (ap (option_and_then hand_slots) at ∙ ap (option_map message_slots) free_hand, refl);
-    gone = ap (λ xs. option_and_then (inbox_slots e.ticket) (slice_get xs k)) is
-        ∙ ap (option_and_then (inbox_slots e.ticket)) (set_at w.inboxes k (less_first i who e es) (slice_get_within w.inboxes k i box))
+    gone = ap (λ (x : Channels). option_and_then (inbox_slots e.ticket) (slice_get x.inboxes k)) is
+        ∙ ap (option_and_then (inbox_slots e.ticket)) (set_at w.channels.inboxes k (less_first i who e es) (slice_get_within w.channels.inboxes k i box))
         ∙ mail_none es e.ticket (first_differs i e es tickets first);
     come = ap (λ xs. option_and_then hand_slots (slice_get xs k)) rs ∙ ap (option_and_then hand_slots) (set_at w.ractors k (record m { hand = Some e.message }) (slice_get_within w.ractors k m at))
         ∙ ap (λ x. Some x) (objects_stay e.message.objects);
@@ -85,13 +85,10 @@ module _ (w w2 : Assembly) (who : RactorNo) (k : ℕ) (m : Member) (i : Inbox) (
         names2,
         bound,
         q.1,
-        record {
-          tables = q.2;
-          knows = knows_both w w2 k k (record m { hand = Some e.message }) (less_first i who e es) rs is
-              (holding_knows (layout w) m e.message (R.knows.ractors k m at) (R.knows.inboxes k i e box (subst (λ xs. Contains xs e) (sym first) (0, omega arith, refl))))
-              (λ x has. R.knows.inboxes k i x box (subst (λ xs. Contains xs x) (sym first) (in_later e es x has))) R.knows;
-          owned = owned_set w w2 k m (record m { hand = Some e.message }) at rs refl R.owned;
-        },
+        read_both w w2 k k m (record m { hand = Some e.message }) (less_first i who e es) at rs is refl
+            (holding_knows (layout w) m e.message (R.knows.ractors k m at) (R.knows.inboxes k i e box (subst (λ xs. Contains xs e) (sym first) (0, omega arith, refl))))
+            (λ x has. R.knows.inboxes k i x box (subst (λ xs. Contains xs x) (sym first) (in_later e es x has)))
+            R q.2,
         (
           k,
           actor_in names k m,
@@ -110,16 +107,16 @@ module _ (w w2 : Assembly) (who : RactorNo) (k : ℕ) (m : Member) (i : Inbox) (
                   ∙ each_set (actor_in names) (actor_in names2) 0 w.ractors k k (record m { hand = Some e.message }) (omega arith)
                   (λ j n x d z a. actor_same names names2 n x (spaces n) (N.rest (Hand n) (λ y. d (let f : n ≡ k = cc in omega arith))) kept)
                   ∙ ap (slice_set (each_from (actor_in names) 0 w.ractors) k) actor;
-              inboxes = ap (each_from (mailbox_in names2) 0) is
-                  ∙ each_set (mailbox_in names) (mailbox_in names2) 0 w.inboxes k k (less_first i who e es) (omega arith) (λ j n x d z a. mailbox_same names names2 n x (λ y has. mails n y.ticket) kept)
-                  ∙ ap (slice_set (each_from (mailbox_in names) 0 w.inboxes) k) (mailbox_same names names2 k (less_first i who e es) (λ y has. mails k y.ticket) kept);
+              post = ap (post_in names2) is
+                  ∙ post_set names names2 w.channels k (less_first i who e es) (λ d u z. mails d u) kept
+                  ∙ ap (with_box (post_in names w.channels) k) (mailbox_same names names2 k (less_first i who e es) (λ y has. mails k y.ticket) kept);
             },
           ),
         ),
       )
 
 -- nothing is inside
-pub nothing_open : (w : Assembly) (names : Naming) (g : Objects) (who : RactorNo) (k : ℕ) (m : Member) (i : Inbox) → slice_get w.ractors k ≡ Some m → slice_get w.inboxes k ≡ Some i
+pub nothing_open : (w : Assembly) (names : Naming) (g : Objects) (who : RactorNo) (k : ℕ) (m : Member) (i : Inbox) → slice_get w.ractors k ≡ Some m → slice_get w.channels.inboxes k ≡ Some i
     → m.hand ≡ None → StandsAt who k → i.inside ≡ [] → i.closed ≡ false → IsCase (record { who = who; action = Accept }) Empty (state_in w names g) (state_in w names g)
 nothing_open w names g who k m i at box free_hand stands none unshut = (
   k,
@@ -130,7 +127,7 @@ nothing_open w names g who k m i at box free_hand stands none unshut = (
   (mailbox_in names k i, (stands, mailbox_at w names g k i box), ap (map (letter_in names k)) none, unshut, same_state (state_in w names g)),
 )
 
-pub nothing_closed : (w : Assembly) (names : Naming) (g : Objects) (who : RactorNo) (k : ℕ) (m : Member) (i : Inbox) → slice_get w.ractors k ≡ Some m → slice_get w.inboxes k ≡ Some i
+pub nothing_closed : (w : Assembly) (names : Naming) (g : Objects) (who : RactorNo) (k : ℕ) (m : Member) (i : Inbox) → slice_get w.ractors k ≡ Some m → slice_get w.channels.inboxes k ≡ Some i
     → m.hand ≡ None → StandsAt who k → i.inside ≡ [] → i.closed ≡ true → IsCase (record { who = who; action = Accept }) EmptyAndClosed (state_in w names g) (state_in w names g)
 nothing_closed w names g who k m i at box free_hand stands none shut = (
   k,

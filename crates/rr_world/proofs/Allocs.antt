@@ -17,10 +17,10 @@ use Rattle.rr_space.proofs.Frames.{owner_cases, object_same}
 use Rattle.rr_space.proofs.Hands.{append_cases, append_left, append_right}
 use Rattle.rr_space.proofs.Remaking.{remaking_is_a_step}
 use Rattle.rr_space.proofs.Sounds.{joined_back, joined_in, none_in, in_first, gets}
-use Rattle.rr_world.specs.Views.{Member, Assembly}
+use Rattle.rr_world.specs.Views.{Member, Channels, Assembly}
 use Rattle.rr_world.specs.Layouts.{layout, space_slots, hand_slots, inbox_slots, message_slots, MemberKnows, IsRead}
 use Rattle.rr_world.specs.States.{Actor}
-use Rattle.rr_world.specs.Readings.{each_from, actor_in, mailbox_in, root_in, state_in, parcel_in}
+use Rattle.rr_world.specs.Readings.{each_from, actor_in, root_in, post_in, state_in, parcel_in}
 use Rattle.rr_world.specs.Cases.{StandsAt, new_object}
 use Rattle.rr_world.specs.Allocating.{IsAllocatedBy, Allocs}
 use Rattle.rr_world.specs.Runs.{IsStep}
@@ -30,9 +30,9 @@ use Rattle.rr_world.specs.declared.step.NewObject.TheVariants as new
 use Rattle.rr_world.specs.declared.step.Action.TheVariants.{Alloc}
 use Rattle.rr_world.specs.declared.step.Reply.{Reply}
 use Rattle.rr_world.specs.declared.step.Reply.TheVariants.{NotEnabled, Done, Offered, Empty, EmptyAndClosed, WasClosed, Refused, Started}
-use Rattle.rr_world.proofs.Lists.{eq_cases, set_at, set_off, seen_same, each_set, each_same}
-use Rattle.rr_world.proofs.Namings.{actor_same, mailbox_same, hand_same}
-use Rattle.rr_world.proofs.Knowing.{knows_set, owned_set}
+use Rattle.rr_world.proofs.Lists.{eq_cases, set_at, set_off, seen_same, each_set}
+use Rattle.rr_world.proofs.Namings.{actor_same, post_same, hand_same}
+use Rattle.rr_world.proofs.Knowing.{read_set}
 use Rattle.rr_world.proofs.Enabled.{actor_at}
 use Rattle.rr_world.proofs.Insides.{set_again, same_assembly}
 use Rattle.rr_world.proofs.Staying.{stays, same_state}
@@ -49,12 +49,12 @@ alone names h Array = refl
 alone names h (new.Object c) = refl
 
 module _ (w w2 : Assembly) (k : ℕ) (m m2 : Member) (kind : NewObject) (at : slice_get w.ractors k ≡ Some m) (A : IsAllocatedBy kind m m2)
-    (rs : w2.ractors ≡ slice_set w.ractors k m2) (is : w2.inboxes ≡ w.inboxes) where
+    (rs : w2.ractors ≡ slice_set w.ractors k m2) (is : w2.channels ≡ w.channels) where
   rest : (h : Owner) → (h ≡ Space k → ⊥) → layout w2 h ≡ layout w h
   unfolding layout
   rest (Space j) q = ap (λ xs. option_map space_slots (slice_get xs j)) rs ∙ ap (option_map space_slots) (set_off w.ractors k j m2 (λ e. q (ap Space e)))
   rest (Hand j) q = ap (λ xs. option_and_then hand_slots (slice_get xs j)) rs ∙ seen_same (option_and_then hand_slots) w.ractors k j m m2 at (ap (option_map message_slots) A.hand)
-  rest (Mail d u) q = ap (λ xs. option_and_then (inbox_slots u) (slice_get xs d)) is
+  rest (Mail d u) q = ap (λ (x : Channels). option_and_then (inbox_slots u) (slice_get x.inboxes d)) is
   rest (Shared d) q = refl
 
   was : layout w (Space k) ≡ Some m.space.slots
@@ -243,7 +243,7 @@ module _ (w w2 : Assembly) (k : ℕ) (m m2 : Member) (kind : NewObject) (at : sl
         names2,
         bound + 1,
         q.1,
-        record { tables = q.2; knows = knows_set w w2 k m2 rs is (allocated_knows (layout w) (R.knows.ractors k m at)) R.knows; owned = owned_set w w2 k m m2 at rs A.owner R.owned },
+        read_set w w2 k m m2 at rs is A.owner (allocated_knows (layout w) (R.knows.ractors k m at)) R q.2,
         (
           k,
           actor_in names k m,
@@ -260,18 +260,17 @@ module _ (w w2 : Assembly) (k : ℕ) (m m2 : Member) (kind : NewObject) (at : sl
                 ∙ each_set (actor_in names) (actor_in names2) 0 w.ractors k k m2 (omega arith)
                 (λ j n x d z a. actor_same names names2 n x (N.rest (Space n) (λ y. d (let f : n ≡ k = cc in omega arith))) (hands n) kept)
                 ∙ ap (slice_set (each_from (actor_in names) 0 w.ractors) k) actor;
-            inboxes = ap (each_from (mailbox_in names2) 0) is
-                ∙ each_same (mailbox_in names) (mailbox_in names2) 0 w.inboxes (λ j n x e a. mailbox_same names names2 n x (λ y has. mails n y.ticket) kept);
+            post = ap (post_in names2) is ∙ post_same names names2 w.channels mails kept;
           },
         ),
       )
 
 -- whatever an alloc answers
-pub allocated_by : (w w2 : Assembly) (who : RactorNo) (k : ℕ) (m m2 : Member) (kind : NewObject) (r : Reply) → slice_get w.ractors k ≡ Some m → w2.ractors ≡ slice_set w.ractors k m2 → w2.inboxes ≡ w.inboxes
+pub allocated_by : (w w2 : Assembly) (who : RactorNo) (k : ℕ) (m m2 : Member) (kind : NewObject) (r : Reply) → slice_get w.ractors k ≡ Some m → w2.ractors ≡ slice_set w.ractors k m2 → w2.channels ≡ w.channels
     → StandsAt who k → Allocs kind r m m2 → IsStep (record { who = who; action = Alloc kind }) r w w2
 allocated_by w w2 who k m m2 kind Done at rs is stands A = allocated w w2 k m m2 kind at A rs is who stands
 allocated_by w w2 who k m m2 kind (Refused f) at rs is stands (why, same) =
-    stays (record { who = who; action = Alloc kind }) (Refused f) w w2 (same_assembly w2.ractors w.ractors w2.inboxes w.inboxes (rs ∙ set_again w.ractors w.ractors k m2 m refl at same) is)
+    stays (record { who = who; action = Alloc kind }) (Refused f) w w2 (same_assembly w2.ractors w.ractors w2.channels w.channels (rs ∙ set_again w.ractors w.ractors k m2 m refl at same) is)
     (λ names g. (k, actor_in names k m, stands, actor_at w names g k m at, tt, (why, same_state (state_in w names g))))
 allocated_by w w2 who k m m2 kind NotEnabled at rs is stands o = absurd o
 allocated_by w w2 who k m m2 kind (Offered t) at rs is stands o = absurd o

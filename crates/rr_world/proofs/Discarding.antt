@@ -8,24 +8,24 @@ use Rattle.rr_space.specs.Tables.{Packed}
 use Rattle.rr_space.specs.Readings.{Owner, Space, Hand, Mail, Shared}
 use Rattle.rr_space.specs.Steps.{Goneby}
 use Rattle.rr_space.proofs.Drops.{dropping_is_a_step}
-use Rattle.rr_world.specs.Views.{Member, Assembly}
+use Rattle.rr_world.specs.Views.{Member, Channels, Assembly}
 use Rattle.rr_world.specs.Layouts.{layout, space_slots, hand_slots, inbox_slots}
-use Rattle.rr_world.specs.Readings.{each_from, actor_in, mailbox_in, parcel_in}
+use Rattle.rr_world.specs.Readings.{each_from, actor_in, parcel_in, post_in}
 use Rattle.rr_world.specs.Cases.{StandsAt}
 use Rattle.rr_world.specs.Runs.{IsStep}
 use Rattle.rr_world.specs.declared.step.Action.TheVariants.{Discard}
 use Rattle.rr_world.specs.declared.step.Reply.TheVariants.{Done}
 use Rattle.rr_world.proofs.Lists.{set_at, set_off, seen_same, each_set}
-use Rattle.rr_world.proofs.Knowing.{knows_set, emptied_knows, owned_set}
+use Rattle.rr_world.proofs.Knowing.{read_set, emptied_knows}
 use Rattle.rr_world.proofs.Enabled.{actor_at, holds}
 
 module _ (w w2 : Assembly) (k : ℕ) (m : Member) (p : Packed) (at : slice_get w.ractors k ≡ Some m) (held : m.hand ≡ Some p)
-    (rs : w2.ractors ≡ slice_set w.ractors k (record m { hand = None })) (is : w2.inboxes ≡ w.inboxes) where
+    (rs : w2.ractors ≡ slice_set w.ractors k (record m { hand = None })) (is : w2.channels ≡ w.channels) where
   rest : (h : Owner) → (h ≡ Hand k → ⊥) → layout w2 h ≡ layout w h
   unfolding layout
   rest (Space j) q = ap (λ xs. option_map space_slots (slice_get xs j)) rs ∙ seen_same (option_map space_slots) w.ractors k j m (record m { hand = None }) at refl
   rest (Hand j) q = ap (λ xs. option_and_then hand_slots (slice_get xs j)) rs ∙ ap (option_and_then hand_slots) (set_off w.ractors k j (record m { hand = None }) (λ e. q (ap Hand e)))
-  rest (Mail d u) q = ap (λ xs. option_and_then (inbox_slots u) (slice_get xs d)) is
+  rest (Mail d u) q = ap (λ (x : Channels). option_and_then (inbox_slots u) (slice_get x.inboxes d)) is
   rest (Shared d) q = refl
 
   gone : Goneby (Hand k) (layout w) (layout w2)
@@ -42,7 +42,7 @@ module _ (w w2 : Assembly) (k : ℕ) (m : Member) (p : Packed) (at : slice_get w
         names,
         bound,
         q.0,
-        record { tables = q.1; knows = knows_set w w2 k (record m { hand = None }) rs is (emptied_knows (layout w) m (R.knows.ractors k m at)) R.knows; owned = owned_set w w2 k m (record m { hand = None }) at rs refl R.owned },
+        read_set w w2 k m (record m { hand = None }) at rs is refl (emptied_knows (layout w) m (R.knows.ractors k m at)) R q.1,
         (
           k,
           actor_in names k m,
@@ -52,7 +52,7 @@ module _ (w w2 : Assembly) (k : ℕ) (m : Member) (p : Packed) (at : slice_get w
           record {
             objects = q.2;
             ractors = ap (each_from (actor_in names) 0) rs ∙ each_set (actor_in names) (actor_in names) 0 w.ractors k k (record m { hand = None }) (omega arith) (λ i n x d e a. refl);
-            inboxes = ap (each_from (mailbox_in names) 0) is;
+            post = ap (post_in names) is;
           },
         ),
       )

@@ -18,9 +18,9 @@ pub actor_at : (w : Assembly) (names : Naming) (g : Objects) (k : ℕ) (m : Memb
     → slice_get (state_in w names g).ractors k ≡ Some (actor_in names k m)
 actor_at w names g k m at = each_at (actor_in names) 0 w.ractors k k m (omega arith) at
 
-pub mailbox_at : (w : Assembly) (names : Naming) (g : Objects) (c : ℕ) (i : Inbox) → slice_get w.inboxes c ≡ Some i
-    → slice_get (state_in w names g).inboxes c ≡ Some (mailbox_in names c i)
-mailbox_at w names g c i at = each_at (mailbox_in names) 0 w.inboxes c c i (omega arith) at
+pub mailbox_at : (w : Assembly) (names : Naming) (g : Objects) (c : ℕ) (i : Inbox) → slice_get w.channels.inboxes c ≡ Some i
+    → slice_get (state_in w names g).post.inboxes c ≡ Some (mailbox_in names c i)
+mailbox_at w names g c i at = each_at (mailbox_in names) 0 w.channels.inboxes c c i (omega arith) at
 
 -- what an enabled step needs, it needs of the ractor that stands there
 pub allowed : (w : Assembly) (names : Naming) (g : Objects) (step : Step) (k : ℕ) (m : Member) → StandsAt step.who k → slice_get w.ractors k ≡ Some m
@@ -45,10 +45,10 @@ nobody w names g step none (k, a, there, is, allows, tested) =
     let le = none k there in
     absurd (omega arith)
 
-pub no_inbox : (w : Assembly) (names : Naming) (g : Objects) (to : RactorNo) → ((k : ℕ) → StandsAt to k → length w.inboxes ≤ k) → HasInbox (state_in w names g) to → ⊥
+pub no_inbox : (w : Assembly) (names : Naming) (g : Objects) (to : RactorNo) → ((k : ℕ) → StandsAt to k → length w.channels.inboxes ≤ k) → HasInbox (state_in w names g) to → ⊥
 no_inbox w names g to none (c, b, there, is) =
-    let x = each_back (mailbox_in names) 0 w.inboxes c c b (omega arith) is in
-    let lt = slice_get_within w.inboxes c x.0 x.1 in
+    let x = each_back (mailbox_in names) 0 w.channels.inboxes c c b (omega arith) is in
+    let lt = slice_get_within w.channels.inboxes c x.0 x.1 in
     let le = none c there in
     absurd (omega arith)
 
@@ -68,12 +68,12 @@ free_back names k m is = by m.hand is
     by None e = refl
     by (Some p) e = absurd (none-some (parcel_in names (Hand k) p) (sym e))
 
-pub no_offer : (w : Assembly) (names : Naming) (g : Objects) (step : Step) (to : RactorNo) → step.action ≡ Offer to → ((k : ℕ) → StandsAt to k → length w.inboxes ≤ k)
+pub no_offer : (w : Assembly) (names : Naming) (g : Objects) (step : Step) (to : RactorNo) → step.action ≡ Offer to → ((k : ℕ) → StandsAt to k → length w.channels.inboxes ≤ k)
     → IsEnabled (state_in w names g) step → ⊥
 no_offer w names g step to is none (k, a, there, at, allows, tested) =
     no_inbox w names g to none (subst (λ x. Allows (state_in w names g) step.who a x) is allows).1
 
-pub no_close : (w : Assembly) (names : Naming) (g : Objects) (step : Step) (to : RactorNo) → step.action ≡ Close to → ((k : ℕ) → StandsAt to k → length w.inboxes ≤ k)
+pub no_close : (w : Assembly) (names : Naming) (g : Objects) (step : Step) (to : RactorNo) → step.action ≡ Close to → ((k : ℕ) → StandsAt to k → length w.channels.inboxes ≤ k)
     → IsEnabled (state_in w names g) step → ⊥
 no_close w names g step to is none (k, a, there, at, allows, tested) =
     no_inbox w names g to none (subst (λ x. Allows (state_in w names g) step.who a x) is allows)

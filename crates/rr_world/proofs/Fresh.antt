@@ -1,5 +1,5 @@
 -- The new World has a reading.
-use Rattle.std.proofs.Common.{◌≡◌, ◌+◌, ℕ, Contains, subst, zero, suc, List, [], ◌∷◌, Some, None, slice_get, sym, ap, ◌∙◌}
+use Rattle.std.proofs.Common.{◌≡◌, ◌+◌, ℕ, Contains, subst, zero, suc, List, [], ◌∷◌, length, Some, None, slice_get, sym, ap, ◌∙◌}
 use Rattle.std.specs.Option.{option_map, option_and_then}
 use Rattle.std.proofs.lemmas.Option.{none-some, same_Some}
 use Rattle.rr_base.specs.declared.limits.Limits.{Limits}
@@ -67,5 +67,6 @@ new_is_read limits w N =
           inboxes = λ c i x at has. absurd (no_mail limits.events c i x (ap (λ xs. slice_get xs c) (sym N.inboxes) ∙ at) has);
         };
         owned = λ k m at. main_owned limits w N k m (ap (λ xs. slice_get xs k) (sym N.ractors) ∙ at);
+        inboxes = ap length N.inboxes ∙ sym (ap length N.ractors);
       },
     )

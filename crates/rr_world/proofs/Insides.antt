@@ -3,7 +3,7 @@ use Rattle.std.proofs.Common.{◌≡◌, ℕ, zero, suc, ◌<◌, List, [], ◌�
 use Rattle.std.proofs.lemmas.Option.{slice_get_read, slice_get_within, same_Some}
 use Rattle.std.specs.Prelude.{slice_set}
 use Rattle.rr_inbox.specs.Inboxes.{Inbox}
-use Rattle.rr_world.specs.Views.{Member, Assembly}
+use Rattle.rr_world.specs.Views.{Member, Channels, Assembly}
 use Rattle.rr_world.proofs.Lists.{set_at, set_back, set_twice}
 
 -- what was read at k stands there, under both names of the list
@@ -23,10 +23,13 @@ set_again xs ys k x y same at is = set_in xs ys k x y same is ∙ set_back ys k 
 pub set_twice_again : {A : Type 0} (xs ys : List A) (k : ℕ) (z x y : A) → xs ≡ ys → slice_get ys k ≡ Some y → x ≡ y → slice_set (slice_set xs k z) k x ≡ ys
 set_twice_again xs ys k z x y same at is = set_twice xs k z x ∙ set_again xs ys k x y same at is
 
-abbrev pub assembly : List Member → List Inbox → Assembly
-assembly rs is = record { ractors = rs; inboxes = is }
+abbrev pub channels : List Inbox → Channels
+channels is = record { inboxes = is }
 
-pub same_assembly : (rs rs2 : List Member) (is is2 : List Inbox) → rs ≡ rs2 → is ≡ is2 → assembly rs is ≡ assembly rs2 is2
+abbrev pub assembly : List Member → Channels → Assembly
+assembly rs is = record { ractors = rs; channels = is }
+
+pub same_assembly : (rs rs2 : List Member) (is is2 : Channels) → rs ≡ rs2 → is ≡ is2 → assembly rs is ≡ assembly rs2 is2
 same_assembly rs rs2 is is2 e f = ap (λ x. assembly x is) e ∙ ap (assembly rs2) f
 
 pub some_at : {A : Type 0} (xs : List A) (k : ℕ) → k < length xs → (x : A) × (slice_get xs k ≡ Some x)

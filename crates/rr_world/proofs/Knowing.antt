@@ -1,19 +1,19 @@
 -- What the tables of a World know of clusters, step by step.
-use Rattle.std.proofs.Common.{◌≡◌, ℕ, ◌+◌, zero, suc, ◌⊎◌, ⊎_elim, inl, inr, List, [], ◌∷◌, Some, None, slice_get, Contains, sym, ap, ◌∙◌, subst, refl}
+use Rattle.std.proofs.Common.{◌≡◌, ℕ, ◌+◌, zero, suc, ◌⊎◌, ⊎_elim, inl, inr, List, [], ◌∷◌, length, length-set, Some, None, slice_get, Contains, sym, ap, ◌∙◌, subst, refl}
 use Rattle.std.specs.Prelude.{slice_set}
 use Rattle.std.proofs.lemmas.List.Elements.{Contains-append_cases, Contains-append_left, Contains-append_right}
 use Rattle.std.proofs.lemmas.Option.{none-some, same_Some, slice_get_within}
 use Rattle.rr_space.specs.Graph.{Object}
 use Rattle.rr_space.specs.Tables.{Packed, Below, joined}
 use Rattle.rr_space.specs.Parts.{below_ref}
-use Rattle.rr_space.specs.Readings.{Shared, Knows, Layout}
+use Rattle.rr_space.specs.Readings.{Shared, Knows, Layout, Naming, Objects, IsReading}
 use Rattle.rr_space.specs.declared.refer.Ref.{Ref}
 use Rattle.rr_space.proofs.Hands.{append_cases}
 use Rattle.rr_space.proofs.Sounds.{joined_back, joined_in, none_in, in_first}
 use Rattle.rr_inbox.specs.Inboxes.{Inbox}
 use Rattle.rr_inbox.specs.declared.entry.Entry.{Entry}
-use Rattle.rr_world.specs.Views.{Member, Assembly}
-use Rattle.rr_world.specs.Layouts.{layout, message_below, MemberKnows, IsKnowing, AreOwned}
+use Rattle.rr_world.specs.Views.{Member, Channels, Assembly, with_inbox}
+use Rattle.rr_world.specs.Layouts.{layout, message_below, MemberKnows, IsKnowing, AreOwned, IsRead}
 use Rattle.rr_world.specs.Opening.{IsOpenedBy}
 use Rattle.rr_world.proofs.Lists.{eq_cases, set_at, set_off}
 
@@ -57,31 +57,52 @@ owned_set w w2 k m m2 at rs same all j x here = ⊎_elim
     (eq_cases j k)
 
 -- one ractor is another
-pub knows_set : (w w2 : Assembly) (k : ℕ) (m2 : Member) → w2.ractors ≡ slice_set w.ractors k m2 → w2.inboxes ≡ w.inboxes → MemberKnows (layout w) m2 → IsKnowing w → IsKnowing w2
+pub knows_set : (w w2 : Assembly) (k : ℕ) (m2 : Member) → w2.ractors ≡ slice_set w.ractors k m2 → w2.channels ≡ w.channels → MemberKnows (layout w) m2 → IsKnowing w → IsKnowing w2
 knows_set w w2 k m2 rs is M K = record {
   ractors = λ j m at. member_on w w2 m (⊎_elim (λ same. subst (MemberKnows (layout w)) same M) (λ there. K.ractors j m there) (set_cases w.ractors k j m2 m (ap (λ xs. slice_get xs j) (sym rs) ∙ at)));
-  inboxes = λ c i e at has. knows_on w w2 (message_below e.message) (K.inboxes c i e (ap (λ xs. slice_get xs c) (sym is) ∙ at) has);
+  inboxes = λ c i e at has. knows_on w w2 (message_below e.message) (K.inboxes c i e (ap (λ (x : Channels). slice_get x.inboxes c) (sym is) ∙ at) has);
 }
 
 -- one ractor and one inbox are others
-pub knows_both : (w w2 : Assembly) (k c : ℕ) (m2 : Member) (i2 : Inbox) → w2.ractors ≡ slice_set w.ractors k m2 → w2.inboxes ≡ slice_set w.inboxes c i2 → MemberKnows (layout w) m2
+pub knows_both : (w w2 : Assembly) (k c : ℕ) (m2 : Member) (i2 : Inbox) → w2.ractors ≡ slice_set w.ractors k m2 → w2.channels ≡ with_inbox w.channels c i2 → MemberKnows (layout w) m2
     → ((e : Entry) → Contains i2.inside e → Knows (message_below e.message) (layout w)) → IsKnowing w → IsKnowing w2
 knows_both w w2 k c m2 i2 rs is M I K = record {
   ractors = λ j m at. member_on w w2 m (⊎_elim (λ same. subst (MemberKnows (layout w)) same M) (λ there. K.ractors j m there) (set_cases w.ractors k j m2 m (ap (λ xs. slice_get xs j) (sym rs) ∙ at)));
   inboxes = λ d i e at has. knows_on w w2 (message_below e.message) (⊎_elim
       (λ same. I e (subst (λ (x : Inbox). Contains x.inside e) (sym same) has))
       (λ there. K.inboxes d i e there has)
-      (set_cases w.inboxes c d i2 i (ap (λ xs. slice_get xs d) (sym is) ∙ at)));
+      (set_cases w.channels.inboxes c d i2 i (ap (λ (x : Channels). slice_get x.inboxes d) (sym is) ∙ at)));
 }
 
 -- one inbox is another with the same messages
-pub knows_told : (w w2 : Assembly) (c : ℕ) (i i2 : Inbox) → slice_get w.inboxes c ≡ Some i → i2.inside ≡ i.inside → w2.ractors ≡ w.ractors → w2.inboxes ≡ slice_set w.inboxes c i2 → IsKnowing w → IsKnowing w2
+pub knows_told : (w w2 : Assembly) (c : ℕ) (i i2 : Inbox) → slice_get w.channels.inboxes c ≡ Some i → i2.inside ≡ i.inside → w2.ractors ≡ w.ractors → w2.channels ≡ with_inbox w.channels c i2 → IsKnowing w → IsKnowing w2
 knows_told w w2 c i i2 box inside rs is K = record {
   ractors = λ j m at. member_on w w2 m (K.ractors j m (ap (λ xs. slice_get xs j) (sym rs) ∙ at));
   inboxes = λ d x e at has. knows_on w w2 (message_below e.message) (⊎_elim
       (λ same. K.inboxes c i e box (subst (λ xs. Contains xs e) inside (subst (λ (y : Inbox). Contains y.inside e) (sym same) has)))
       (λ there. K.inboxes d x e there has)
-      (set_cases w.inboxes c d i2 x (ap (λ xs. slice_get xs d) (sym is) ∙ at)));
+      (set_cases w.channels.inboxes c d i2 x (ap (λ (x : Channels). slice_get x.inboxes d) (sym is) ∙ at)));
+}
+
+-- a reading of the World with one ractor in another's place
+pub read_set : {names names2 : Naming} {bound bound2 : ℕ} {g g2 : Objects} (w w2 : Assembly) (k : ℕ) (m m2 : Member) → slice_get w.ractors k ≡ Some m → w2.ractors ≡ slice_set w.ractors k m2
+    → w2.channels ≡ w.channels → m2.space.owner ≡ m.space.owner → MemberKnows (layout w) m2 → IsRead w names bound g → IsReading (layout w2) names2 bound2 g2 → IsRead w2 names2 bound2 g2
+read_set w w2 k m m2 at rs is same M R tables = record {
+  tables = tables;
+  knows = knows_set w w2 k m2 rs is M R.knows;
+  owned = owned_set w w2 k m m2 at rs same R.owned;
+  inboxes = ap (λ (x : Channels). length x.inboxes) is ∙ R.inboxes ∙ sym (length-set w.ractors k m2) ∙ sym (ap length rs);
+}
+
+-- and with one inbox in another's place
+pub read_both : {names names2 : Naming} {bound bound2 : ℕ} {g g2 : Objects} (w w2 : Assembly) (k c : ℕ) (m m2 : Member) (i2 : Inbox) → slice_get w.ractors k ≡ Some m → w2.ractors ≡ slice_set w.ractors k m2
+    → w2.channels ≡ with_inbox w.channels c i2 → m2.space.owner ≡ m.space.owner → MemberKnows (layout w) m2 → ((e : Entry) → Contains i2.inside e → Knows (message_below e.message) (layout w))
+    → IsRead w names bound g → IsReading (layout w2) names2 bound2 g2 → IsRead w2 names2 bound2 g2
+read_both w w2 k c m m2 i2 at rs is same M I R tables = record {
+  tables = tables;
+  knows = knows_both w w2 k c m2 i2 rs is M I R.knows;
+  owned = owned_set w w2 k m m2 at rs same R.owned;
+  inboxes = ap (λ (x : Channels). length x.inboxes) is ∙ length-set w.channels.inboxes c i2 ∙ R.inboxes ∙ sym (length-set w.ractors k m2) ∙ sym (ap length rs);
 }
 
 -- with the hand empty, less is known

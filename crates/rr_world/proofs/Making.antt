@@ -141,7 +141,7 @@ module _ (w : Assembly) (names : Naming) (bound : ℕ) (g : Objects) (R : IsRead
   pub value_back : (op : Operand) → IsValue (actor_in names k m) op → IsNamedRef op m
   value_back op (x, is) = let b = some_back (root_in names (Space k)) (named_ref m.roots op) x (sym (value_named names (Space k) m.roots op) ∙ is) in (b.0, b.1)
 
-module _ (w w2 : Assembly) (k : ℕ) (m m2 : Member) (at : slice_get w.ractors k ≡ Some m) (rs : w2.ractors ≡ slice_set w.ractors k m2) (is : w2.inboxes ≡ w.inboxes) where
+module _ (w w2 : Assembly) (k : ℕ) (m m2 : Member) (at : slice_get w.ractors k ≡ Some m) (rs : w2.ractors ≡ slice_set w.ractors k m2) (is : w2.channels ≡ w.channels) where
   -- a change of an object of the space is one of the machine's
   pub making : (op : Operand) (may : Object → Type 0) (raw change : Object → Object) (v : Ref) → IsMadeOf op may raw v m m2 → (names : Naming) (bound : ℕ) (g : Objects) → IsRead w names bound g
       → Knows (below_ref v) (layout w) → IsNewValue g (actor_in names k m).roots (root_in names (Space k) v)
@@ -169,7 +169,7 @@ module _ (w w2 : Assembly) (k : ℕ) (m m2 : Member) (at : slice_get w.ractors k
             others = changed.others;
             objects = changed.objects;
             ractors = changed.ractors;
-            inboxes = changed.inboxes;
+            post = changed.post;
           },
         ),
       )
@@ -229,24 +229,24 @@ has_back : (names : Naming) (h : Owner) (i : ℕ) (o : Object) → HasElement i 
 has_back names h i o (opened, lt) = (opened, omega (arith, lt, length-map o.triples (renamed_triple (name_in names h))))
 
 -- nothing is changed
-pub unmade : (w w2 : Assembly) (who : RactorNo) (k : ℕ) (m m2 : Member) (action : Action) → slice_get w.ractors k ≡ Some m → w2.ractors ≡ slice_set w.ractors k m2 → w2.inboxes ≡ w.inboxes → m2 ≡ m
+pub unmade : (w w2 : Assembly) (who : RactorNo) (k : ℕ) (m m2 : Member) (action : Action) → slice_get w.ractors k ≡ Some m → w2.ractors ≡ slice_set w.ractors k m2 → w2.channels ≡ w.channels → m2 ≡ m
     → ((names : Naming) (bound : ℕ) (g : Objects) → IsRead w names bound g → IsEnabled (state_in w names g) (record { who = who; action = action }) → ⊥) → IsStep (record { who = who; action = action }) NotEnabled w w2
 unmade w w2 who k m m2 action at rs is same never =
-    stays_read (record { who = who; action = action }) NotEnabled w w2 (same_assembly w2.ractors w.ractors w2.inboxes w.inboxes (rs ∙ set_again w.ractors w.ractors k m2 m refl at same) is)
+    stays_read (record { who = who; action = action }) NotEnabled w w2 (same_assembly w2.ractors w.ractors w2.channels w.channels (rs ∙ set_again w.ractors w.ractors k m2 m refl at same) is)
     (λ names bound g R. (never names bound g R, same_state (state_in w names g)))
 
 -- a growth was refused, and all is as it was
-pub unmade_for : (w w2 : Assembly) (who : RactorNo) (k : ℕ) (m m2 : Member) (action : Action) (f : Fault) → slice_get w.ractors k ≡ Some m → w2.ractors ≡ slice_set w.ractors k m2 → w2.inboxes ≡ w.inboxes → m2 ≡ m
+pub unmade_for : (w w2 : Assembly) (who : RactorNo) (k : ℕ) (m m2 : Member) (action : Action) (f : Fault) → slice_get w.ractors k ≡ Some m → w2.ractors ≡ slice_set w.ractors k m2 → w2.channels ≡ w.channels → m2 ≡ m
     → ((names : Naming) (bound : ℕ) (g : Objects) → IsRead w names bound g → IsCase (record { who = who; action = action }) (Refused f) (state_in w names g) (state_in w names g))
     → IsStep (record { who = who; action = action }) (Refused f) w w2
 unmade_for w w2 who k m m2 action f at rs is same case =
-    stays_read (record { who = who; action = action }) (Refused f) w w2 (same_assembly w2.ractors w.ractors w2.inboxes w.inboxes (rs ∙ set_again w.ractors w.ractors k m2 m refl at same) is) case
+    stays_read (record { who = who; action = action }) (Refused f) w w2 (same_assembly w2.ractors w.ractors w2.channels w.channels (rs ∙ set_again w.ractors w.ractors k m2 m refl at same) is) case
 
 no_below : (tables : Layout) → Knows (below_ref ref.Nil) tables
 no_below tables = record { known = λ c os has. absurd (none_in (c, os) has) }
 
 -- whatever a freeze answers
-pub frozen_by : (w w2 : Assembly) (who : RactorNo) (k : ℕ) (m m2 : Member) (op : Operand) (r : Reply) → slice_get w.ractors k ≡ Some m → w2.ractors ≡ slice_set w.ractors k m2 → w2.inboxes ≡ w.inboxes
+pub frozen_by : (w w2 : Assembly) (who : RactorNo) (k : ℕ) (m m2 : Member) (op : Operand) (r : Reply) → slice_get w.ractors k ≡ Some m → w2.ractors ≡ slice_set w.ractors k m2 → w2.channels ≡ w.channels
     → StandsAt who k → Freezes op r m m2 → IsStep (record { who = who; action = Freeze op }) r w w2
 frozen_by w w2 who k m m2 op Done at rs is stands a = λ names bound g R.
     let q = making w w2 k m m2 at rs is op IsNoShell frozen frozen ref.Nil a names bound g R (no_below (layout w)) tt (λ o whole. whole) (λ o whole shut. frozen_same o whole shut) (λ o l x has. inl (l, has)) (λ o. refl) in
@@ -262,7 +262,7 @@ frozen_by w w2 who k m m2 op (WasClosed b) at rs is stands a = absurd a
 frozen_by w w2 who k m m2 op (Started j) at rs is stands a = absurd a
 
 -- whatever an append answers
-pub appended_by : (w w2 : Assembly) (who : RactorNo) (k : ℕ) (m m2 : Member) (op : Operand) (byte : ℕ) (r : Reply) → slice_get w.ractors k ≡ Some m → w2.ractors ≡ slice_set w.ractors k m2 → w2.inboxes ≡ w.inboxes
+pub appended_by : (w w2 : Assembly) (who : RactorNo) (k : ℕ) (m m2 : Member) (op : Operand) (byte : ℕ) (r : Reply) → slice_get w.ractors k ≡ Some m → w2.ractors ≡ slice_set w.ractors k m2 → w2.channels ≡ w.channels
     → StandsAt who k → Appends op byte r m m2 → IsStep (record { who = who; action = Append op byte }) r w w2
 appended_by w w2 who k m m2 op byte Done at rs is stands a = λ names bound g R.
     let q = making w w2 k m m2 at rs is op (IsOpen text) (appended byte) (appended byte) ref.Nil a names bound g R (no_below (layout w)) tt (λ o whole. whole)
@@ -281,7 +281,7 @@ appended_by w w2 who k m m2 op byte (WasClosed b) at rs is stands a = absurd a
 appended_by w w2 who k m m2 op byte (Started j) at rs is stands a = absurd a
 
 -- whatever a push answers
-pub pushed_by : (w w2 : Assembly) (who : RactorNo) (k : ℕ) (m m2 : Member) (op value : Operand) (r : Reply) → slice_get w.ractors k ≡ Some m → w2.ractors ≡ slice_set w.ractors k m2 → w2.inboxes ≡ w.inboxes
+pub pushed_by : (w w2 : Assembly) (who : RactorNo) (k : ℕ) (m m2 : Member) (op value : Operand) (r : Reply) → slice_get w.ractors k ≡ Some m → w2.ractors ≡ slice_set w.ractors k m2 → w2.channels ≡ w.channels
     → StandsAt who k → Pushes op value r m m2 → IsStep (record { who = who; action = Push op value }) r w w2
 pushed_by w w2 who k m m2 op value Done at rs is stands (v, is_named, a) = λ names bound g R.
     let q = making w w2 k m m2 at rs is op (IsOpen array) (pushed (value_of v)) (pushed (root_in names (Space k) v)) v a names bound g R
@@ -320,7 +320,7 @@ pushed_by w w2 who k m m2 op value (WasClosed b) at rs is stands a = absurd a
 pushed_by w w2 who k m m2 op value (Started j) at rs is stands a = absurd a
 
 -- whatever a write answers
-pub written_by : (w w2 : Assembly) (who : RactorNo) (k : ℕ) (m m2 : Member) (op : Operand) (i : ℕ) (value : Operand) (r : Reply) → slice_get w.ractors k ≡ Some m → w2.ractors ≡ slice_set w.ractors k m2 → w2.inboxes ≡ w.inboxes
+pub written_by : (w w2 : Assembly) (who : RactorNo) (k : ℕ) (m m2 : Member) (op : Operand) (i : ℕ) (value : Operand) (r : Reply) → slice_get w.ractors k ≡ Some m → w2.ractors ≡ slice_set w.ractors k m2 → w2.channels ≡ w.channels
     → StandsAt who k → Writes op i value r m m2 → IsStep (record { who = who; action = Write op i value }) r w w2
 written_by w w2 who k m m2 op i value Done at rs is stands (v, is_named, a) = λ names bound g R.
     let q = making w w2 k m m2 at rs is op (HasElement i) (written i (value_of v)) (written i (root_in names (Space k) v)) v a names bound g R
@@ -351,7 +351,7 @@ written_by w w2 who k m m2 op i value (WasClosed b) at rs is stands a = absurd a
 written_by w w2 who k m m2 op i value (Started j) at rs is stands a = absurd a
 
 -- whatever setting a field answers
-pub set_by : (w w2 : Assembly) (who : RactorNo) (k : ℕ) (m m2 : Member) (op : Operand) (name : Sym) (value : Operand) (r : Reply) → slice_get w.ractors k ≡ Some m → w2.ractors ≡ slice_set w.ractors k m2 → w2.inboxes ≡ w.inboxes
+pub set_by : (w w2 : Assembly) (who : RactorNo) (k : ℕ) (m m2 : Member) (op : Operand) (name : Sym) (value : Operand) (r : Reply) → slice_get w.ractors k ≡ Some m → w2.ractors ≡ slice_set w.ractors k m2 → w2.channels ≡ w.channels
     → StandsAt who k → Sets op name.0 value r m m2 → IsStep (record { who = who; action = SetField op name value }) r w w2
 set_by w w2 who k m m2 op name value Done at rs is stands (v, is_named, a) = λ names bound g R.
     let q = making w w2 k m m2 at rs is op (IsOpen plain) (with_field name.0 (value_of v)) (with_field name.0 (root_in names (Space k) v)) v a names bound g R

@@ -14,9 +14,10 @@ use Rattle.rr_space.proofs.Frames.{map_same}
 use Rattle.rr_copy.specs.Messages.{size_of}
 use Rattle.rr_inbox.specs.Inboxes.{Inbox}
 use Rattle.rr_inbox.specs.declared.entry.Entry.{Entry}
-use Rattle.rr_world.specs.Views.{Member, AreRootsWithin}
-use Rattle.rr_world.specs.States.{Parcel, Letter, Mailbox, Actor}
-use Rattle.rr_world.specs.Readings.{value_in, root_in, parcel_in, letter_in, mailbox_in, actor_in}
+use Rattle.rr_world.specs.Views.{Member, Channels, AreRootsWithin, with_inbox}
+use Rattle.rr_world.specs.States.{Parcel, Letter, Mailbox, Actor, Post, with_box}
+use Rattle.rr_world.specs.Readings.{value_in, root_in, parcel_in, letter_in, mailbox_in, actor_in, post_in}
+use Rattle.rr_world.proofs.Lists.{each_same, each_set}
 
 -- clusters have the names that they had
 abbrev pub KeepsShared : Naming → Naming → Type 0
@@ -76,6 +77,18 @@ pub mailbox_same : (names names2 : Naming) (c : ℕ) (i : Inbox) → ((e : Entry
     → mailbox_in names2 c i ≡ mailbox_in names c i
 mailbox_same names names2 c i own shared =
     ap (λ ls. let b : Mailbox = record { inside = ls; closed = i.closed; next = i.next; history = i.history; limit = i.limit } in b) (letters_same names names2 c i.inside own shared)
+
+-- what lies between ractors
+pub post_same : (names names2 : Naming) (x : Channels) → ((c u : ℕ) → names2 (Mail c u) ≡ names (Mail c u)) → KeepsShared names names2 → post_in names2 x ≡ post_in names x
+post_same names names2 x own shared =
+    ap (λ bs. let p : Post = record { inboxes = bs } in p) (each_same (mailbox_in names) (mailbox_in names2) 0 x.inboxes (λ j n i e at. mailbox_same names names2 n i (λ y has. own n y.ticket) shared))
+
+-- and with another inbox in one's place
+pub post_set : (names names2 : Naming) (x : Channels) (c : ℕ) (i : Inbox) → ((d u : ℕ) → (d ≡ c → ⊥) → names2 (Mail d u) ≡ names (Mail d u)) → KeepsShared names names2
+    → post_in names2 (with_inbox x c i) ≡ with_box (post_in names x) c (mailbox_in names2 c i)
+post_set names names2 x c i own shared =
+    ap (λ bs. let p : Post = record { inboxes = bs } in p)
+    (each_set (mailbox_in names) (mailbox_in names2) 0 x.inboxes c c i (omega arith) (λ j n y differ e at. mailbox_same names names2 n y (λ z has. own n z.ticket (λ same. differ (omega arith))) shared))
 
 -- ---- A table that went behind another's.
 

@@ -14,20 +14,20 @@ use Rattle.rr_space.proofs.Hands.{hands_on}
 use Rattle.rr_copy.specs.Messages.{size_of}
 use Rattle.rr_inbox.specs.Inboxes.{Inbox, IsTicketed}
 use Rattle.rr_inbox.specs.declared.entry.Entry.{Entry}
-use Rattle.rr_world.specs.Views.{Member, Assembly}
+use Rattle.rr_world.specs.Views.{Member, Channels, Assembly, with_inbox}
 use Rattle.rr_world.specs.Layouts.{layout, space_slots, hand_slots, inbox_slots, message_slots, mail_slots, message_below}
-use Rattle.rr_world.specs.States.{Mailbox}
-use Rattle.rr_world.specs.Readings.{each_from, actor_in, mailbox_in, parcel_in, letter_in}
+use Rattle.rr_world.specs.States.{Mailbox, with_box}
+use Rattle.rr_world.specs.Readings.{each_from, actor_in, mailbox_in, parcel_in, letter_in, post_in}
 use Rattle.rr_world.specs.Cases.{StandsAt}
 use Rattle.rr_world.specs.Runs.{IsStep}
 use Rattle.rr_world.specs.declared.step.Action.TheVariants.{Offer}
 use Rattle.rr_world.specs.declared.step.Reply.TheVariants.{Offered}
 use Rattle.rr_world.proofs.Lists.{eq_cases, set_at, set_off, seen_same, each_set}
-use Rattle.rr_world.proofs.Namings.{actor_same, mailbox_same, same_box, letters_same, parcel_moved, shared_kept, value_stays}
+use Rattle.rr_world.proofs.Namings.{actor_same, post_set, same_box, letters_same, parcel_moved, shared_kept, value_stays}
 use Rattle.rr_world.proofs.Tickets.{mail_none, mail_last, mail_others, next_is_new}
 use Rattle.std.proofs.lemmas.List.Elements.{Contains-append_cases}
 use Rattle.rr_space.proofs.Sounds.{none_in, in_first}
-use Rattle.rr_world.proofs.Knowing.{knows_both, emptied_knows, owned_set}
+use Rattle.rr_world.proofs.Knowing.{read_both, emptied_knows}
 use Rattle.rr_world.proofs.Enabled.{actor_at, mailbox_at, holds}
 
 triples_stay : (ts : List (Label × Value)) → map (renamed_triple (behind 0)) ts ≡ ts
@@ -49,8 +49,8 @@ pub record IsLonger (who : RactorNo) (p : Packed) (i i2 : Inbox) : Type 0 where
   pub history : i2.history ≡ i.history ++ event.Offered i.next (size_of p) who ∷ []
   pub limit : i2.limit ≡ i.limit
 
-module _ (w w2 : Assembly) (who : RactorNo) (k c : ℕ) (m : Member) (i i2 : Inbox) (p : Packed) (at : slice_get w.ractors k ≡ Some m) (box : slice_get w.inboxes c ≡ Some i)
-    (held : m.hand ≡ Some p) (L : IsLonger who p i i2) (rs : w2.ractors ≡ slice_set w.ractors k (record m { hand = None })) (is : w2.inboxes ≡ slice_set w.inboxes c i2) where
+module _ (w w2 : Assembly) (who : RactorNo) (k c : ℕ) (m : Member) (i i2 : Inbox) (p : Packed) (at : slice_get w.ractors k ≡ Some m) (box : slice_get w.channels.inboxes c ≡ Some i)
+    (held : m.hand ≡ Some p) (L : IsLonger who p i i2) (rs : w2.ractors ≡ slice_set w.ractors k (record m { hand = None })) (is : w2.channels ≡ with_inbox w.channels c i2) where
   fresh : mail_slots i.next i.inside ≡ None
   fresh = mail_none i.inside i.next (next_is_new i L.tickets)
 
@@ -58,14 +58,14 @@ module _ (w w2 : Assembly) (who : RactorNo) (k c : ℕ) (m : Member) (i i2 : Inb
   unfolding layout
   rest (Space j) q r = ap (λ xs. option_map space_slots (slice_get xs j)) rs ∙ seen_same (option_map space_slots) w.ractors k j m (record m { hand = None }) at refl
   rest (Hand j) q r = ap (λ xs. option_and_then hand_slots (slice_get xs j)) rs ∙ ap (option_and_then hand_slots) (set_off w.ractors k j (record m { hand = None }) (λ e. q (ap Hand e)))
-  rest (Mail d u) q r = ap (λ xs. option_and_then (inbox_slots u) (slice_get xs d)) is ∙ ⊎_elim here other (eq_cases d c)
+  rest (Mail d u) q r = ap (λ (x : Channels). option_and_then (inbox_slots u) (slice_get x.inboxes d)) is ∙ ⊎_elim here other (eq_cases d c)
     where
-      here : d ≡ c → option_and_then (inbox_slots u) (slice_get (slice_set w.inboxes c i2) d) ≡ option_and_then (inbox_slots u) (slice_get w.inboxes d)
-      here e = seen_same (option_and_then (inbox_slots u)) w.inboxes c d i i2 box
+      here : d ≡ c → option_and_then (inbox_slots u) (slice_get (slice_set w.channels.inboxes c i2) d) ≡ option_and_then (inbox_slots u) (slice_get w.channels.inboxes d)
+      here e = seen_same (option_and_then (inbox_slots u)) w.channels.inboxes c d i i2 box
           (ap (mail_slots u) L.inside ∙ mail_others i.inside (record { ticket = i.next; message = p }) u (λ z. r (ap (λ x. Mail x u) e ∙ ap (Mail c) z)))
 
-      other : (d ≡ c → ⊥) → option_and_then (inbox_slots u) (slice_get (slice_set w.inboxes c i2) d) ≡ option_and_then (inbox_slots u) (slice_get w.inboxes d)
-      other e = ap (option_and_then (inbox_slots u)) (set_off w.inboxes c d i2 e)
+      other : (d ≡ c → ⊥) → option_and_then (inbox_slots u) (slice_get (slice_set w.channels.inboxes c i2) d) ≡ option_and_then (inbox_slots u) (slice_get w.channels.inboxes d)
+      other e = ap (option_and_then (inbox_slots u)) (set_off w.channels.inboxes c d i2 e)
   rest (Shared d) q r = refl
 
   goes : Goes (Hand k) (Mail c i.next) p.objects [] (layout w) (layout w2)
@@ -74,8 +74,8 @@ module _ (w w2 : Assembly) (who : RactorNo) (k c : ℕ) (m : Member) (i i2 : Inb
     from = ap (option_and_then hand_slots) at ∙ ap (option_map message_slots) held;
     to = inr (ap (option_and_then (inbox_slots i.next)) box ∙ fresh, refl);
     gone = ap (λ xs. option_and_then hand_slots (slice_get xs k)) rs ∙ ap (option_and_then hand_slots) (set_at w.ractors k (record m { hand = None }) (slice_get_within w.ractors k m at));
-    come = ap (λ xs. option_and_then (inbox_slots i.next) (slice_get xs c)) is
-        ∙ ap (option_and_then (inbox_slots i.next)) (set_at w.inboxes c i2 (slice_get_within w.inboxes c i box))
+    come = ap (λ (x : Channels). option_and_then (inbox_slots i.next) (slice_get x.inboxes c)) is
+        ∙ ap (option_and_then (inbox_slots i.next)) (set_at w.channels.inboxes c i2 (slice_get_within w.channels.inboxes c i box))
         ∙ ap (mail_slots i.next) L.inside ∙ mail_last i.inside (record { ticket = i.next; message = p }) fresh ∙ ap (λ x. Some x) (objects_stay p.objects);
     rest = rest;
     apart = λ e. let n : ⊥ = cc in n;
@@ -108,18 +108,15 @@ module _ (w w2 : Assembly) (who : RactorNo) (k c : ℕ) (m : Member) (i i2 : Inb
         names2,
         bound,
         q.1,
-        record {
-          tables = q.2;
-          knows = knows_both w w2 k c (record m { hand = None }) i2 rs is (emptied_knows (layout w) m (R.knows.ractors k m at))
-              (λ x has. ⊎_elim
-              (λ old. R.knows.inboxes c i x box old)
-              (λ new. ⊎_elim
-              (λ (same : e ≡ x). subst (λ (y : Entry). Knows (message_below y.message) (layout w)) same ((R.knows.ractors k m at).hand p held))
-              (λ none. absurd (none_in x none))
-              (in_first e [] x new))
-              (Contains-append_cases i.inside (e ∷ []) x (subst (λ xs. Contains xs x) L.inside has))) R.knows;
-          owned = owned_set w w2 k m (record m { hand = None }) at rs refl R.owned;
-        },
+        read_both w w2 k c m (record m { hand = None }) i2 at rs is refl (emptied_knows (layout w) m (R.knows.ractors k m at))
+            (λ x has. ⊎_elim
+            (λ old. R.knows.inboxes c i x box old)
+            (λ new. ⊎_elim
+            (λ (same : e ≡ x). subst (λ (y : Entry). Knows (message_below y.message) (layout w)) same ((R.knows.ractors k m at).hand p held))
+            (λ none. absurd (none_in x none))
+            (in_first e [] x new))
+            (Contains-append_cases i.inside (e ∷ []) x (subst (λ xs. Contains xs x) L.inside has)))
+            R q.2,
         (
           k,
           actor_in names k m,
@@ -139,10 +136,9 @@ module _ (w w2 : Assembly) (who : RactorNo) (k c : ℕ) (m : Member) (i i2 : Inb
               ractors = ap (each_from (actor_in names2) 0) rs
                   ∙ each_set (actor_in names) (actor_in names2) 0 w.ractors k k (record m { hand = None }) (omega arith) (λ j n x d e a. actor_same names names2 n x (spaces n) (hands n) kept)
                   ∙ ap (slice_set (each_from (actor_in names) 0 w.ractors) k) (actor_same names names2 k (record m { hand = None }) (spaces k) (hands k) kept);
-              inboxes = ap (each_from (mailbox_in names2) 0) is
-                  ∙ each_set (mailbox_in names) (mailbox_in names2) 0 w.inboxes c c i2 (omega arith)
-                  (λ j n x d e a. mailbox_same names names2 n x (λ y has. N.rest (Mail n y.ticket) (λ z. d (let f : n ≡ c = cc in omega arith))) kept)
-                  ∙ ap (slice_set (each_from (mailbox_in names) 0 w.inboxes) c) mailbox;
+              post = ap (post_in names2) is
+                  ∙ post_set names names2 w.channels c i2 (λ d u z. N.rest (Mail d u) (λ y. z (let f : d ≡ c = cc in f))) kept
+                  ∙ ap (with_box (post_in names w.channels) c) mailbox;
             },
           ),
         ),

@@ -10,30 +10,30 @@ use Rattle.rr_space.specs.Readings.{Owner, Space, Hand, Mail, Shared}
 use Rattle.rr_space.specs.Steps.{Goes}
 use Rattle.rr_space.specs.declared.refer.Ref.{Ref}
 use Rattle.rr_space.proofs.Hands.{hands_on}
-use Rattle.rr_world.specs.Views.{Member, Assembly}
+use Rattle.rr_world.specs.Views.{Member, Channels, Assembly}
 use Rattle.rr_world.specs.Layouts.{layout, space_slots, hand_slots, inbox_slots, message_slots}
 use Rattle.rr_world.specs.States.{Actor}
-use Rattle.rr_world.specs.Readings.{each_from, actor_in, mailbox_in, parcel_in, value_in, root_in, state_in}
+use Rattle.rr_world.specs.Readings.{each_from, actor_in, parcel_in, value_in, root_in, post_in, state_in}
 use Rattle.rr_world.specs.Cases.{StandsAt}
 use Rattle.rr_world.specs.Opening.{IsOpenedBy, Opened}
 use Rattle.rr_world.specs.Runs.{IsStep}
 use Rattle.rr_world.specs.declared.step.Action.TheVariants.{Open}
 use Rattle.rr_world.specs.declared.step.Reply.{Reply}
 use Rattle.rr_world.specs.declared.step.Reply.TheVariants.{NotEnabled, Done, Offered, Empty, EmptyAndClosed, WasClosed, Refused, Started}
-use Rattle.rr_world.proofs.Lists.{set_at, set_off, each_set, each_same}
-use Rattle.rr_world.proofs.Namings.{actor_same, mailbox_same, value_moved, shared_kept, roots_stand}
-use Rattle.rr_world.proofs.Knowing.{knows_set, opened_knows, owned_set}
+use Rattle.rr_world.proofs.Lists.{set_at, set_off, each_set}
+use Rattle.rr_world.proofs.Namings.{actor_same, post_same, value_moved, shared_kept, roots_stand}
+use Rattle.rr_world.proofs.Knowing.{read_set, opened_knows}
 use Rattle.rr_world.proofs.Enabled.{actor_at, holds, allowed, holds_not}
 use Rattle.rr_world.proofs.Insides.{set_again, same_assembly}
 use Rattle.rr_world.proofs.Staying.{refused, stays, same_state}
 
 module _ (w w2 : Assembly) (k : ℕ) (m m2 : Member) (p : Packed) (root : Ref) (at : slice_get w.ractors k ≡ Some m) (O : IsOpenedBy p root m m2)
-    (rs : w2.ractors ≡ slice_set w.ractors k m2) (is : w2.inboxes ≡ w.inboxes) where
+    (rs : w2.ractors ≡ slice_set w.ractors k m2) (is : w2.channels ≡ w.channels) where
   rest : (h : Owner) → (h ≡ Hand k → ⊥) → (h ≡ Space k → ⊥) → layout w2 h ≡ layout w h
   unfolding layout
   rest (Space j) q r = ap (λ xs. option_map space_slots (slice_get xs j)) rs ∙ ap (option_map space_slots) (set_off w.ractors k j m2 (λ e. r (ap Space e)))
   rest (Hand j) q r = ap (λ xs. option_and_then hand_slots (slice_get xs j)) rs ∙ ap (option_and_then hand_slots) (set_off w.ractors k j m2 (λ e. q (ap Hand e)))
-  rest (Mail d u) q r = ap (λ xs. option_and_then (inbox_slots u) (slice_get xs d)) is
+  rest (Mail d u) q r = ap (λ (x : Channels). option_and_then (inbox_slots u) (slice_get x.inboxes d)) is
   rest (Shared d) q r = refl
 
   goes : Goes (Hand k) (Space k) p.objects m.space.slots (layout w) (layout w2)
@@ -73,7 +73,7 @@ module _ (w w2 : Assembly) (k : ℕ) (m m2 : Member) (p : Packed) (root : Ref) (
         names2,
         bound,
         q.1,
-        record { tables = q.2; knows = knows_set w w2 k m2 rs is (opened_knows (layout w) p root m m2 O (R.knows.ractors k m at)) R.knows; owned = owned_set w w2 k m m2 at rs O.opened.rest.owner R.owned },
+        read_set w w2 k m m2 at rs is O.opened.rest.owner (opened_knows (layout w) p root m m2 O (R.knows.ractors k m at)) R q.2,
         (
           k,
           actor_in names k m,
@@ -89,22 +89,21 @@ module _ (w w2 : Assembly) (k : ℕ) (m m2 : Member) (p : Packed) (root : Ref) (
                   ∙ each_set (actor_in names) (actor_in names2) 0 w.ractors k k m2 (omega arith)
                   (λ i n x d e a. actor_same names names2 n x (N.rest (Space n) (λ z. d (let y : n ≡ k = cc in omega arith))) (N.rest (Hand n) (λ z. let y : ⊥ = cc in y)) kept)
                   ∙ ap (slice_set (each_from (actor_in names) 0 w.ractors) k) actor;
-              inboxes = ap (each_from (mailbox_in names2) 0) is
-                  ∙ each_same (mailbox_in names) (mailbox_in names2) 0 w.inboxes (λ i n x e a. mailbox_same names names2 n x (λ y has. N.rest (Mail n y.ticket) (λ z. let f : ⊥ = cc in f)) kept);
+              post = ap (post_in names2) is ∙ post_same names names2 w.channels (λ c u. N.rest (Mail c u) (λ z. let f : ⊥ = cc in f)) kept;
             },
           ),
         ),
       )
 
 -- whatever opening answers
-pub opened_by : (w w2 : Assembly) (who : RactorNo) (k : ℕ) (m m2 : Member) (r : Reply) → slice_get w.ractors k ≡ Some m → w2.ractors ≡ slice_set w.ractors k m2 → w2.inboxes ≡ w.inboxes
+pub opened_by : (w w2 : Assembly) (who : RactorNo) (k : ℕ) (m m2 : Member) (r : Reply) → slice_get w.ractors k ≡ Some m → w2.ractors ≡ slice_set w.ractors k m2 → w2.channels ≡ w.channels
     → StandsAt who k → Opened r m m2 → IsStep (record { who = who; action = Open }) r w w2
 opened_by w w2 who k m m2 NotEnabled at rs is stands (none, same) =
-    refused (record { who = who; action = Open }) w w2 (same_assembly w2.ractors w.ractors w2.inboxes w.inboxes (rs ∙ set_again w.ractors w.ractors k m2 m refl at same) is)
+    refused (record { who = who; action = Open }) w w2 (same_assembly w2.ractors w.ractors w2.channels w.channels (rs ∙ set_again w.ractors w.ractors k m2 m refl at same) is)
     (λ names g e. holds_not names k m none (allowed w names g (record { who = who; action = Open }) k m stands at e))
 opened_by w w2 who k m m2 Done at rs is stands (p, root, O) = opened w w2 k m m2 p root at O rs is who stands
 opened_by w w2 who k m m2 (Refused f) at rs is stands (p, held, why, same) =
-    stays (record { who = who; action = Open }) (Refused f) w w2 (same_assembly w2.ractors w.ractors w2.inboxes w.inboxes (rs ∙ set_again w.ractors w.ractors k m2 m refl at same) is)
+    stays (record { who = who; action = Open }) (Refused f) w w2 (same_assembly w2.ractors w.ractors w2.channels w.channels (rs ∙ set_again w.ractors w.ractors k m2 m refl at same) is)
     (λ names g. (
       k,
       actor_in names k m,

@@ -20,9 +20,9 @@ use Rattle.rr_space.proofs.Renaming.{map_at, mapped_at}
 use Rattle.rr_space.proofs.Sounds.{gets, joined_in, sound_is_sealed}
 use Rattle.rr_space.proofs.Spaces.{spaces_are_inside, raw_of}
 use Rattle.rr_copy.proofs.Shut.{message_is_shut}
-use Rattle.rr_world.specs.Views.{Member, Assembly}
+use Rattle.rr_world.specs.Views.{Member, Channels, Assembly}
 use Rattle.rr_world.specs.Layouts.{layout, space_slots, hand_slots, inbox_slots, message_slots, message_below, IsRead}
-use Rattle.rr_world.specs.Readings.{each_from, actor_in, mailbox_in, parcel_in, root_in, state_in}
+use Rattle.rr_world.specs.Readings.{each_from, actor_in, parcel_in, root_in, post_in, state_in}
 use Rattle.rr_world.specs.Cases.{StandsAt, IsEnabled}
 use Rattle.rr_world.specs.Packing.{IsPackedFrom, MayNotPack, Packs, named_ref}
 use Rattle.rr_world.specs.Runs.{IsStep}
@@ -30,9 +30,9 @@ use Rattle.rr_world.specs.declared.step.Operand.{Operand}
 use Rattle.rr_world.specs.declared.step.Action.TheVariants.{Pack}
 use Rattle.rr_world.specs.declared.step.Reply.TheVariants.{NotEnabled, Done, Offered, Empty, EmptyAndClosed, WasClosed, Refused, Started}
 use Rattle.rr_world.specs.declared.step.Reply.{Reply}
-use Rattle.rr_world.proofs.Lists.{set_at, set_off, seen_same, each_set, each_same}
-use Rattle.rr_world.proofs.Namings.{actor_same, mailbox_same, handed}
-use Rattle.rr_world.proofs.Knowing.{none_known, knows_on, knows_either, knows_set, holding_knows, owned_set}
+use Rattle.rr_world.proofs.Lists.{set_at, set_off, seen_same, each_set}
+use Rattle.rr_world.proofs.Namings.{actor_same, post_same, handed}
+use Rattle.rr_world.proofs.Knowing.{none_known, knows_on, knows_either, read_set, holding_knows}
 use Rattle.rr_world.proofs.Enabled.{actor_at, free, free_back, allowed, tested_at}
 use Rattle.rr_world.proofs.Insides.{set_again, same_assembly}
 use Rattle.rr_world.proofs.Staying.{stays_read, same_state}
@@ -45,12 +45,12 @@ table_of p = record { slots = map Here p.objects; below = p.root_below ∷ p.bel
 
 module _ (w w2 : Assembly) (names : Naming) (bound : ℕ) (g : Objects) (R : IsRead w names bound g) (k : ℕ) (m : Member) (v : Ref) (p : Packed) (at : slice_get w.ractors k ≡ Some m)
     (P : IsPackedFrom m.space v p) (empty : m.hand ≡ None) (knows : Knows (below_ref v) (layout w))
-    (rs : w2.ractors ≡ slice_set w.ractors k (record m { hand = Some p })) (is : w2.inboxes ≡ w.inboxes) where
+    (rs : w2.ractors ≡ slice_set w.ractors k (record m { hand = Some p })) (is : w2.channels ≡ w.channels) where
   rest : (h : Owner) → (h ≡ Hand k → ⊥) → layout w2 h ≡ layout w h
   unfolding layout
   rest (Space j) q = ap (λ xs. option_map space_slots (slice_get xs j)) rs ∙ seen_same (option_map space_slots) w.ractors k j m (record m { hand = Some p }) at refl
   rest (Hand j) q = ap (λ xs. option_and_then hand_slots (slice_get xs j)) rs ∙ ap (option_and_then hand_slots) (set_off w.ractors k j (record m { hand = Some p }) (λ e. q (ap Hand e)))
-  rest (Mail d u) q = ap (λ xs. option_and_then (inbox_slots u) (slice_get xs d)) is
+  rest (Mail d u) q = ap (λ (x : Channels). option_and_then (inbox_slots u) (slice_get x.inboxes d)) is
   rest (Shared d) q = refl
 
   was : layout w (Hand k) ≡ None
@@ -176,7 +176,7 @@ module _ (w w2 : Assembly) (names : Naming) (bound : ℕ) (g : Objects) (R : IsR
     }
 
 module _ (w w2 : Assembly) (who : RactorNo) (k : ℕ) (m : Member) (op : Operand) (v : Ref) (p : Packed) (at : slice_get w.ractors k ≡ Some m) (stands : StandsAt who k)
-    (named : named_ref m.roots op ≡ Some v) (P : IsPackedFrom m.space v p) (empty : m.hand ≡ None) (rs : w2.ractors ≡ slice_set w.ractors k (record m { hand = Some p })) (is : w2.inboxes ≡ w.inboxes) where
+    (named : named_ref m.roots op ≡ Some v) (P : IsPackedFrom m.space v p) (empty : m.hand ≡ None) (rs : w2.ractors ≡ slice_set w.ractors k (record m { hand = Some p })) (is : w2.channels ≡ w.channels) where
   pub packed : ((names : Naming) (bound : ℕ) (g : Objects) → IsRead w names bound g → Knows (below_ref v) (layout w)) → IsStep (record { who = who; action = Pack op }) Done w w2
   packed all names bound g R =
       let knows = all names bound g R in
@@ -190,7 +190,7 @@ module _ (w w2 : Assembly) (who : RactorNo) (k : ℕ) (m : Member) (op : Operand
         names2,
         bound + length p.objects,
         q.1,
-        record { tables = q.2; knows = knows_set w w2 k (record m { hand = Some p }) rs is (holding_knows (layout w) m p (R.knows.ractors k m at) (known w w2 names bound g R k m v p at P empty knows rs is)) R.knows; owned = owned_set w w2 k m (record m { hand = Some p }) at rs refl R.owned },
+        read_set w w2 k m (record m { hand = Some p }) at rs is refl (holding_knows (layout w) m p (R.knows.ractors k m at) (known w w2 names bound g R k m v p at P empty knows rs is)) R q.2,
         (
           k,
           actor_in names k m,
@@ -214,8 +214,7 @@ module _ (w w2 : Assembly) (who : RactorNo) (k : ℕ) (m : Member) (op : Operand
                   ∙ each_set (actor_in names) (actor_in names2) 0 w.ractors k k (record m { hand = Some p }) (omega arith)
                   (λ j n x d z a. actor_same names names2 n x (spaces n) (N.rest (Hand n) (λ y. d (let f : n ≡ k = cc in omega arith))) kept)
                   ∙ ap (slice_set (each_from (actor_in names) 0 w.ractors) k) (handed names names2 k m p (spaces k) kept);
-              inboxes = ap (each_from (mailbox_in names2) 0) is
-                  ∙ each_same (mailbox_in names) (mailbox_in names2) 0 w.inboxes (λ j n x e a. mailbox_same names names2 n x (λ y has. N.rest (Mail n y.ticket) (λ z. let f : ⊥ = cc in f)) kept);
+              post = ap (post_in names2) is ∙ post_same names names2 w.channels (λ c u. N.rest (Mail c u) (λ z. let f : ⊥ = cc in f)) kept;
             },
           ),
         ),
@@ -237,15 +236,15 @@ not_packed w names bound g who k m op R at stands (inr (inr (v, named, N))) e =
     (tested_at w names g (record { who = who; action = Pack op }) k m stands at e (root_in names (Space k) v) (value_named names (Space k) m.roots op ∙ ap (option_map (root_in names (Space k))) named))
 
 -- whatever a pack answers
-pub packed_by : (w w2 : Assembly) (who : RactorNo) (k : ℕ) (m m2 : Member) (op : Operand) (r : Reply) → slice_get w.ractors k ≡ Some m → w2.ractors ≡ slice_set w.ractors k m2 → w2.inboxes ≡ w.inboxes
+pub packed_by : (w w2 : Assembly) (who : RactorNo) (k : ℕ) (m m2 : Member) (op : Operand) (r : Reply) → slice_get w.ractors k ≡ Some m → w2.ractors ≡ slice_set w.ractors k m2 → w2.channels ≡ w.channels
     → StandsAt who k → Packs op r m m2 → IsStep (record { who = who; action = Pack op }) r w w2
 packed_by w w2 who k m m2 op Done at rs is stands (v, p, empty, named, P, same) =
     packed w w2 who k m op v p at stands named P empty (rs ∙ ap (slice_set w.ractors k) same) is (λ names bound g R. known_named (layout w) m.roots op v (R.knows.ractors k m at).roots named)
 packed_by w w2 who k m m2 op NotEnabled at rs is stands (why, same) =
-    stays_read (record { who = who; action = Pack op }) NotEnabled w w2 (same_assembly w2.ractors w.ractors w2.inboxes w.inboxes (rs ∙ set_again w.ractors w.ractors k m2 m refl at same) is)
+    stays_read (record { who = who; action = Pack op }) NotEnabled w w2 (same_assembly w2.ractors w.ractors w2.channels w.channels (rs ∙ set_again w.ractors w.ractors k m2 m refl at same) is)
     (λ names bound g R. (not_packed w names bound g who k m op R at stands why, same_state (state_in w names g)))
 packed_by w w2 who k m m2 op (Refused f) at rs is stands (v, empty, named, F, same) =
-    stays_read (record { who = who; action = Pack op }) (Refused f) w w2 (same_assembly w2.ractors w.ractors w2.inboxes w.inboxes (rs ∙ set_again w.ractors w.ractors k m2 m refl at same) is)
+    stays_read (record { who = who; action = Pack op }) (Refused f) w w2 (same_assembly w2.ractors w.ractors w2.channels w.channels (rs ∙ set_again w.ractors w.ractors k m2 m refl at same) is)
     (λ names bound g R.
     let value = value_named names (Space k) m.roots op ∙ ap (option_map (root_in names (Space k))) named in (
       k,

@@ -18,10 +18,10 @@ use Rattle.rr_space.specs.declared.label.Label.{Label as CodeLabel}
 use Rattle.rr_space.proofs.Frames.{reading_same}
 use Rattle.rr_space.proofs.Renaming.{contains_at, map_at, mapped_at, contains_map, contains_map_back}
 use Rattle.rr_space.proofs.Sounds.{none_in, in_first}
-use Rattle.rr_world.specs.Views.{Member, Assembly}
+use Rattle.rr_world.specs.Views.{Member, Channels, Assembly}
 use Rattle.rr_world.specs.Layouts.{layout, space_slots, hand_slots, inbox_slots, MemberKnows, IsRead}
 use Rattle.rr_world.specs.States.{Actor}
-use Rattle.rr_world.specs.Readings.{each_from, actor_in, mailbox_in, root_in, state_in}
+use Rattle.rr_world.specs.Readings.{each_from, actor_in, root_in, post_in, state_in}
 use Rattle.rr_world.specs.Cases.{StandsAt, IsReadAs, named_value}
 use Rattle.rr_world.specs.Changing.{HasRootsWithin, HasUnder, IsReadBy, Reads}
 use Rattle.rr_world.specs.Packing.{named_ref}
@@ -32,7 +32,7 @@ use Rattle.rr_world.specs.declared.step.Reply.{Reply}
 use Rattle.rr_world.specs.declared.step.Reply.TheVariants.{NotEnabled, Done, Offered, Empty, EmptyAndClosed, WasClosed, Refused, Started}
 use Rattle.rr_world.proofs.Changes.{at_slot}
 use Rattle.rr_world.proofs.Enabled.{actor_at, allowed}
-use Rattle.rr_world.proofs.Knowing.{no_clusters, none_known, knows_either, knows_set, owned_set}
+use Rattle.rr_world.proofs.Knowing.{no_clusters, none_known, knows_either, read_set}
 use Rattle.rr_world.proofs.Lists.{seen_same, each_set}
 use Rattle.rr_world.proofs.Making.{slot_named, value_on, unmade, unmade_for}
 use Rattle.rr_world.proofs.Operands.{known_named}
@@ -92,7 +92,7 @@ module _ (w : Assembly) (names : Naming) (bound : ℕ) (g : Objects) (R : IsRead
       (ref.Local s.0, b.0.1, s.2.named, subst (λ ts. Contains ts (l, b.0.1)) (sym (at_slot m.space (ref.Local s.0) s.0 s.1 refl s.2.here)) (subst (λ j. Contains s.1.triples (j, b.0.1)) label b.1))
 
 module _ (w w2 : Assembly) (who : RactorNo) (k : ℕ) (m m2 : Member) (op : Operand) (label : CodeLabel) (v r : Ref) (at : slice_get w.ractors k ≡ Some m) (rs : w2.ractors ≡ slice_set w.ractors k m2)
-    (is : w2.inboxes ≡ w.inboxes) (stands : StandsAt who k) (A : IsReadBy op (label_of label) v r m m2) where
+    (is : w2.channels ≡ w.channels) (stands : StandsAt who k) (A : IsReadBy op (label_of label) v r m m2) where
   set : w2.ractors ≡ slice_set w.ractors k (with_root m r)
   set = rs ∙ ap (slice_set w.ractors k) A.now_is
 
@@ -100,7 +100,7 @@ module _ (w w2 : Assembly) (who : RactorNo) (k : ℕ) (m m2 : Member) (op : Oper
   unfolding layout
   same_tables (Space j) = ap (λ xs. option_map space_slots (slice_get xs j)) set ∙ seen_same (option_map space_slots) w.ractors k j m (with_root m r) at refl
   same_tables (Hand j) = ap (λ xs. option_and_then hand_slots (slice_get xs j)) set ∙ seen_same (option_and_then hand_slots) w.ractors k j m (with_root m r) at refl
-  same_tables (Mail d u) = ap (λ xs. option_and_then (inbox_slots u) (slice_get xs d)) is
+  same_tables (Mail d u) = ap (λ (x : Channels). option_and_then (inbox_slots u) (slice_get x.inboxes d)) is
   same_tables (Shared d) = refl
 
   root_known : (tables : Layout) → MemberKnows tables m → MemberKnows tables (with_root m r)
@@ -142,7 +142,7 @@ module _ (w w2 : Assembly) (who : RactorNo) (k : ℕ) (m m2 : Member) (op : Oper
         ractors = ap (each_from (actor_in names) 0) set
             ∙ each_set (actor_in names) (actor_in names) 0 w.ractors k k (with_root m r) (omega arith) (λ j n x d z a. refl)
             ∙ ap (λ vs. slice_set (each_from (actor_in names) 0 w.ractors) k (let a : Actor = record (actor_in names k m) { roots = vs } in a)) (map-append (root_in names (Space k)) m.roots (r ∷ []));
-        inboxes = ap (each_from (mailbox_in names) 0) is;
+        post = ap (post_in names) is;
       }
 
   read_done : IsStep (record { who = who; action = Read op label }) Done w w2
@@ -150,17 +150,13 @@ module _ (w w2 : Assembly) (who : RactorNo) (k : ℕ) (m m2 : Member) (op : Oper
     names,
     bound,
     g,
-    record {
-      tables = reading_same (layout w) (layout w2) names bound g same_tables R.tables;
-      knows = knows_set w w2 k (with_root m r) set is (root_known (layout w) (R.knows.ractors k m at)) R.knows;
-      owned = owned_set w w2 k m (with_root m r) at set refl R.owned;
-    },
+    read_set w w2 k m (with_root m r) at set is refl (root_known (layout w) (R.knows.ractors k m at)) R (reading_same (layout w) (layout w2) names bound g same_tables R.tables),
     (k, actor_in names k m, stands, actor_at w names g k m at, under_on w names bound g R k m at who op (label_of label) under, read_as names bound g R),
   )
 
 -- whatever a read answers
 pub read_of : (w w2 : Assembly) (who : RactorNo) (k : ℕ) (m m2 : Member) (op : Operand) (label : CodeLabel) (r : Reply) → slice_get w.ractors k ≡ Some m → w2.ractors ≡ slice_set w.ractors k m2
-    → w2.inboxes ≡ w.inboxes → StandsAt who k → Reads op (label_of label) r m m2 → IsStep (record { who = who; action = Read op label }) r w w2
+    → w2.channels ≡ w.channels → StandsAt who k → Reads op (label_of label) r m m2 → IsStep (record { who = who; action = Read op label }) r w w2
 read_of w w2 who k m m2 op label Done at rs is stands (v, r, A) = read_done w w2 who k m m2 op label v r at rs is stands A
 read_of w w2 who k m m2 op label NotEnabled at rs is stands a =
     unmade w w2 who k m m2 (Read op label) at rs is a.2 (λ names bound g R e.

@@ -1,7 +1,6 @@
 -- An offer that is refused, and an inbox that is closed.
 use Rattle.std.proofs.Common.{◌≡◌, ℕ, ◌++◌, ◌∷◌, List, [], map, Some, slice_get, ap, ◌∙◌, arith, cond, Bool, true, Err}
 use Rattle.std.proofs.lemmas.List.{length-map, append-nil}
-use Rattle.std.specs.Prelude.{slice_set}
 use Rattle.rr_base.specs.declared.name.RactorNo.{RactorNo}
 use Rattle.rr_base.specs.declared.fault.Fault.{Fault}
 use Rattle.rr_base.specs.declared.fault.Fault.TheVariants as fault
@@ -12,9 +11,9 @@ use Rattle.rr_space.specs.Readings.{Naming, Objects, Hand}
 use Rattle.rr_copy.specs.Messages.{size_of}
 use Rattle.rr_inbox.specs.Inboxes.{Inbox, HasEvents, told_of_offer}
 use Rattle.rr_inbox.specs.Answers.{Refusal}
-use Rattle.rr_world.specs.Views.{Member, Assembly}
-use Rattle.rr_world.specs.States.{IsSame}
-use Rattle.rr_world.specs.Readings.{each_from, actor_in, mailbox_in, letter_in, parcel_in, state_in}
+use Rattle.rr_world.specs.Views.{Member, Assembly, with_inbox}
+use Rattle.rr_world.specs.States.{Post, IsSame, with_box}
+use Rattle.rr_world.specs.Readings.{each_from, actor_in, mailbox_in, letter_in, parcel_in, post_in, state_in}
 use Rattle.rr_world.specs.Cases.{StandsAt, HasRoom}
 use Rattle.rr_world.specs.Runs.{IsStep}
 use Rattle.rr_world.specs.declared.step.Action.TheVariants.{Offer, Close}
@@ -43,26 +42,26 @@ room_seen names c i h = omega (arith, length-map i.inside (letter_in names c), h
 no_room_seen : (names : Naming) (c : ℕ) (i : Inbox) → (HasEvents i → ⊥) → HasRoom (mailbox_in names c i) → ⊥
 no_room_seen names c i none h = none (omega (arith, length-map i.inside (letter_in names c), h))
 
-module _ (w w2 : Assembly) (who to : RactorNo) (k c : ℕ) (m : Member) (i i2 : Inbox) (p : Packed) (at : slice_get w.ractors k ≡ Some m) (box : slice_get w.inboxes c ≡ Some i)
-    (held : m.hand ≡ Some p) (rs : w2.ractors ≡ w.ractors) (is : w2.inboxes ≡ slice_set w.inboxes c i2) (stands : StandsAt who k) (there : StandsAt to c) where
+module _ (w w2 : Assembly) (who to : RactorNo) (k c : ℕ) (m : Member) (i i2 : Inbox) (p : Packed) (at : slice_get w.ractors k ≡ Some m) (box : slice_get w.channels.inboxes c ≡ Some i)
+    (held : m.hand ≡ Some p) (rs : w2.ractors ≡ w.ractors) (is : w2.channels ≡ with_inbox w.channels c i2) (stands : StandsAt who k) (there : StandsAt to c) where
   -- the inbox is as it was
-  back : (names : Naming) (g : Objects) → IsTold i i2 [] → IsSame (record (state_in w names g) { inboxes = slice_set (each_from (mailbox_in names) 0 w.inboxes) c (mailbox_in names c i2) }) (state_in w2 names g)
+  back : (names : Naming) (g : Objects) → IsTold i i2 [] → IsSame (record (state_in w names g) { post = with_box (post_in names w.channels) c (mailbox_in names c i2) }) (state_in w2 names g)
       → IsSame (state_in w names g) (state_in w2 names g)
   back names g t same = record {
     objects = same.objects;
     ractors = same.ractors;
-    inboxes = same.inboxes
-        ∙ ap (slice_set (each_from (mailbox_in names) 0 w.inboxes) c) (told_box names c i i2 [] t ∙ ap (λ es. box_with (map (letter_in names c) i.inside) i.closed i.next es i.limit) (append-nil i.history))
-        ∙ set_back (each_from (mailbox_in names) 0 w.inboxes) c (mailbox_in names c i) (mailbox_at w names g c i box);
+    post = same.post
+        ∙ ap (with_box (post_in names w.channels) c) (told_box names c i i2 [] t ∙ ap (λ es. box_with (map (letter_in names c) i.inside) i.closed i.next es i.limit) (append-nil i.history))
+        ∙ ap (λ bs. let q : Post = record { inboxes = bs } in q) (set_back (each_from (mailbox_in names) 0 w.channels.inboxes) c (mailbox_in names c i) (mailbox_at w names g c i box));
   }
 
   on_closed : (names : Naming) (g : Objects) → IsTold i i2 (event.Refused (size_of p) who ∷ [])
-      → IsSame (record (state_in w names g) { inboxes = slice_set (each_from (mailbox_in names) 0 w.inboxes) c (mailbox_in names c i2) }) (state_in w2 names g)
-      → IsSame (record (state_in w names g) { inboxes = slice_set (each_from (mailbox_in names) 0 w.inboxes) c (record (mailbox_in names c i) { history = i.history ++ event.Refused (size_of p) who ∷ [] }) }) (state_in w2 names g)
+      → IsSame (record (state_in w names g) { post = with_box (post_in names w.channels) c (mailbox_in names c i2) }) (state_in w2 names g)
+      → IsSame (record (state_in w names g) { post = with_box (post_in names w.channels) c (record (mailbox_in names c i) { history = i.history ++ event.Refused (size_of p) who ∷ [] }) }) (state_in w2 names g)
   on_closed names g t same = record {
     objects = same.objects;
     ractors = same.ractors;
-    inboxes = same.inboxes ∙ ap (slice_set (each_from (mailbox_in names) 0 w.inboxes) c) (told_box names c i i2 (event.Refused (size_of p) who ∷ []) t);
+    post = same.post ∙ ap (with_box (post_in names w.channels) c) (told_box names c i i2 (event.Refused (size_of p) who ∷ []) t);
   }
 
   pub offer_refused : (f : Fault) (b : Packed) → IsTold i i2 (told_of_offer (Err (f, b)) who p) → Refusal f i → IsStep (record { who = who; action = Offer to }) (Refused f) w w2
@@ -110,8 +109,8 @@ module _ (w w2 : Assembly) (who to : RactorNo) (k c : ℕ) (m : Member) (i i2 : 
 abbrev pub shut_by : Inbox → RactorNo → Inbox
 shut_by i who = record i { closed = true; history = i.history ++ cond i.closed [] (event.Closed who ∷ []) }
 
-pub closed_by : (w w2 : Assembly) (who to : RactorNo) (k c : ℕ) (m : Member) (i i2 : Inbox) (already : Bool) → slice_get w.ractors k ≡ Some m → slice_get w.inboxes c ≡ Some i
-    → w2.ractors ≡ w.ractors → w2.inboxes ≡ slice_set w.inboxes c i2 → i2 ≡ shut_by i who → already ≡ i.closed → StandsAt who k → StandsAt to c
+pub closed_by : (w w2 : Assembly) (who to : RactorNo) (k c : ℕ) (m : Member) (i i2 : Inbox) (already : Bool) → slice_get w.ractors k ≡ Some m → slice_get w.channels.inboxes c ≡ Some i
+    → w2.ractors ≡ w.ractors → w2.channels ≡ with_inbox w.channels c i2 → i2 ≡ shut_by i who → already ≡ i.closed → StandsAt who k → StandsAt to c
     → IsStep (record { who = who; action = Close to }) (WasClosed already) w w2
 closed_by w w2 who to k c m i i2 already at box rs is shut was stands there =
     told w w2 c i i2 box (ap (λ (x : Inbox). x.inside) shut) rs is (record { who = who; action = Close to }) (WasClosed already)
@@ -129,7 +128,7 @@ closed_by w w2 who to k c m i i2 already at box rs is shut was stands there =
           was = was;
           objects = same.objects;
           ractors = same.ractors;
-          inboxes = same.inboxes ∙ ap (slice_set (each_from (mailbox_in names) 0 w.inboxes) c) (ap (mailbox_in names c) shut);
+          post = same.post ∙ ap (with_box (post_in names w.channels) c) (ap (mailbox_in names c) shut);
         },
       ),
     ))

@@ -14,21 +14,21 @@ use Rattle.rr_space.proofs.Frames.{owner_cases, object_same, within_same}
 use Rattle.rr_space.proofs.Remaking.{remaking_is_a_step}
 use Rattle.rr_space.proofs.Renaming.{contains_map, contains_map_back}
 use Rattle.rr_space.proofs.Sounds.{gets}
-use Rattle.rr_world.specs.Views.{Member, Assembly}
+use Rattle.rr_world.specs.Views.{Member, Channels, Assembly}
 use Rattle.rr_world.specs.Layouts.{layout, space_slots, hand_slots, inbox_slots, message_slots, MemberKnows, IsRead}
 use Rattle.rr_world.specs.States.{Actor}
-use Rattle.rr_world.specs.Readings.{each_from, actor_in, mailbox_in, root_in, value_in, state_in, parcel_in}
+use Rattle.rr_world.specs.Readings.{each_from, actor_in, root_in, value_in, post_in, state_in, parcel_in}
 use Rattle.rr_world.specs.Cases.{IsChangedTo}
 use Rattle.rr_world.specs.Changing.{IsRewritten}
-use Rattle.rr_world.proofs.Lists.{eq_cases, set_at, set_off, set_back, seen_same, each_set, each_same}
-use Rattle.rr_world.proofs.Namings.{actor_same, mailbox_same, hand_same}
-use Rattle.rr_world.proofs.Knowing.{knows_set, knows_either, none_known, owned_set}
+use Rattle.rr_world.proofs.Lists.{eq_cases, set_at, set_off, set_back, seen_same, each_set}
+use Rattle.rr_world.proofs.Namings.{actor_same, post_same, hand_same}
+use Rattle.rr_world.proofs.Knowing.{read_set, knows_either, none_known}
 use Rattle.rr_world.proofs.Enabled.{actor_at}
 use Rattle.rr_world.proofs.Rooting.{roots_keep}
 use Rattle.rr_world.proofs.Changes.{set_length}
 
 module _ (w w2 : Assembly) (k n : ℕ) (m m2 : Member) (o p : Object) (v : Ref) (at : slice_get w.ractors k ≡ Some m) (here : slice_get m.space.slots n ≡ Some (Here o))
-    (A : IsRewritten n p v m m2) (rs : w2.ractors ≡ slice_set w.ractors k m2) (is : w2.inboxes ≡ w.inboxes)
+    (A : IsRewritten n p v m m2) (rs : w2.ractors ≡ slice_set w.ractors k m2) (is : w2.channels ≡ w.channels)
     (values : (l : Label) (x : Value) → Contains p.triples (l, x) → ((j : Label) × Contains o.triples (j, x)) ⊎ (x ≡ value_of v)) where
   abbrev after : List Slot
   after = slice_set m.space.slots n (Here p)
@@ -37,7 +37,7 @@ module _ (w w2 : Assembly) (k n : ℕ) (m m2 : Member) (o p : Object) (v : Ref) 
   unfolding layout
   rest (Space j) q = ap (λ xs. option_map space_slots (slice_get xs j)) rs ∙ ap (option_map space_slots) (set_off w.ractors k j m2 (λ e. q (ap Space e)))
   rest (Hand j) q = ap (λ xs. option_and_then hand_slots (slice_get xs j)) rs ∙ seen_same (option_and_then hand_slots) w.ractors k j m m2 at (ap (option_map message_slots) A.hand)
-  rest (Mail d u) q = ap (λ xs. option_and_then (inbox_slots u) (slice_get xs d)) is
+  rest (Mail d u) q = ap (λ (x : Channels). option_and_then (inbox_slots u) (slice_get x.inboxes d)) is
   rest (Shared d) q = refl
 
   was : layout w (Space k) ≡ Some m.space.slots
@@ -265,8 +265,7 @@ module _ (w w2 : Assembly) (k n : ℕ) (m m2 : Member) (o p : Object) (v : Ref) 
               (λ j i x d z a. actor_same names names2 i x (N.rest (Space i) (λ y. d (let f : i ≡ k = cc in omega arith))) (hands i) kept_shared)
               ∙ ap (slice_set (each_from (actor_in names) 0 w.ractors) k) actor
               ∙ set_back (each_from (actor_in names) 0 w.ractors) k (actor_in names k m) (actor_at w names g k m at);
-          inboxes = ap (each_from (mailbox_in names2) 0) is
-              ∙ each_same (mailbox_in names) (mailbox_in names2) 0 w.inboxes (λ j i x e a. mailbox_same names names2 i x (λ y has. mails i y.ticket) kept_shared);
+          post = ap (post_in names2) is ∙ post_same names names2 w.channels mails kept_shared;
         }
 
   rewritten_knows : (tables : Layout) → Knows (below_ref v) tables → MemberKnows tables m → MemberKnows tables m2
@@ -288,7 +287,7 @@ module _ (w w2 : Assembly) (k n : ℕ) (m m2 : Member) (o p : Object) (v : Ref) 
         q.0,
         bound + 0,
         q.1,
-        record { tables = q.2; knows = knows_set w w2 k m2 rs is (rewritten_knows (layout w) K (R.knows.ractors k m at)) R.knows; owned = owned_set w w2 k m m2 at rs A.owner R.owned },
+        read_set w w2 k m m2 at rs is A.owner (rewritten_knows (layout w) K (R.knows.ractors k m at)) R q.2,
         changed_to names bound g R K q.0 q.1 q.2 q.3 q.4 shut rooted,
         λ l x has. value_stays names bound g R K q.0 q.1 q.2 q.3 q.4 x (all_within S K l x has),
       )

@@ -1,5 +1,5 @@
 -- A ractor starts, and its inbox with it.
-use Rattle.std.proofs.Common.{◌≡◌, ℕ, zero, suc, ◌+◌, ◌≤◌, ◌⊎◌, ⊎_elim, inl, inr, List, [], ◌∷◌, ◌++◌, length, map, Option, Some, None, slice_get, Contains, sym, ap, ◌∙◌, subst, refl, arith}
+use Rattle.std.proofs.Common.{◌≡◌, ℕ, zero, suc, ◌+◌, ◌≤◌, ◌⊎◌, ⊎_elim, inl, inr, List, [], ◌∷◌, ◌++◌, length, length-append, map, Option, Some, None, slice_get, Contains, sym, ap, ◌∙◌, subst, refl, arith}
 use Rattle.std.specs.Prelude.{slice_index}
 use Rattle.std.specs.Option.{option_map, option_and_then}
 use Rattle.std.proofs.lemmas.Option.{none-some, same_Some, slice_get_within}
@@ -15,10 +15,10 @@ use Rattle.rr_space.proofs.Frames.{owner_cases}
 use Rattle.rr_space.proofs.Remaking.{remaking_is_a_step}
 use Rattle.rr_space.proofs.Sounds.{none_in}
 use Rattle.rr_inbox.specs.Inboxes.{Inbox, new_inbox}
-use Rattle.rr_world.specs.Views.{Member, Assembly}
-use Rattle.rr_world.specs.Layouts.{layout, space_slots, hand_slots, inbox_slots, message_slots, message_below, MemberKnows, IsKnowing, AreOwned, IsRead}
-use Rattle.rr_world.specs.States.{Actor}
-use Rattle.rr_world.specs.Readings.{each_from, actor_in, mailbox_in, parcel_in, root_in, state_in}
+use Rattle.rr_world.specs.Views.{Member, Channels, Assembly}
+use Rattle.rr_world.specs.Layouts.{layout, space_slots, hand_slots, inbox_slots, message_slots, message_below, MemberKnows, IsKnowing, AreOwned, HaveInboxes, IsRead}
+use Rattle.rr_world.specs.States.{Actor, Post}
+use Rattle.rr_world.specs.Readings.{each_from, actor_in, mailbox_in, parcel_in, root_in, post_in, state_in}
 use Rattle.rr_world.specs.Cases.{StandsAt, IsStarted, new_actor, new_mailbox}
 use Rattle.rr_world.specs.Starting.{IsBegun}
 use Rattle.rr_world.specs.Runs.{IsStep}
@@ -66,7 +66,7 @@ each_append : {A B : Type 0} (f : ℕ → A → B) (k n : ℕ) (xs : List A) (y 
 each_append f k n [] y e = ap (λ i. f i y ∷ []) (let w : k ≡ n = omega arith in w)
 each_append f k n (x ∷ xs) y e = ap (λ ys. f k x ∷ ys) (each_append f (k + 1) n xs y (omega arith))
 
-module _ (w w2 : Assembly) (limits : Limits) (m2 : Member) (A : IsBegun limits (length w.ractors + 1) m2) (rs : w2.ractors ≡ w.ractors ++ m2 ∷ []) (is : w2.inboxes ≡ w.inboxes ++ new_inbox limits.events ∷ []) where
+module _ (w w2 : Assembly) (limits : Limits) (m2 : Member) (A : IsBegun limits (length w.ractors + 1) m2) (rs : w2.ractors ≡ w.ractors ++ m2 ∷ []) (is : w2.channels ≡ record { inboxes = w.channels.inboxes ++ new_inbox limits.events ∷ [] }) where
   abbrev place : ℕ
   place = length w.ractors
 
@@ -74,7 +74,7 @@ module _ (w w2 : Assembly) (limits : Limits) (m2 : Member) (A : IsBegun limits (
   unfolding layout
   rest (Space j) q = ap (λ xs. option_map space_slots (slice_get xs j)) rs ∙ ap (option_map space_slots) (before_last w.ractors m2 j (λ e. q (ap Space e)))
   rest (Hand j) q = ap (λ xs. option_and_then hand_slots (slice_get xs j)) rs ∙ seen_more (option_and_then hand_slots) w.ractors m2 j refl (ap (option_map message_slots) A.hand)
-  rest (Mail d u) q = ap (λ xs. option_and_then (inbox_slots u) (slice_get xs d)) is ∙ seen_more (option_and_then (inbox_slots u)) w.inboxes (new_inbox limits.events) d refl refl
+  rest (Mail d u) q = ap (λ (x : Channels). option_and_then (inbox_slots u) (slice_get x.inboxes d)) is ∙ seen_more (option_and_then (inbox_slots u)) w.channels.inboxes (new_inbox limits.events) d refl refl
   rest (Shared d) q = refl
 
   was : layout w (Space place) ≡ None
@@ -149,11 +149,12 @@ module _ (w w2 : Assembly) (limits : Limits) (m2 : Member) (A : IsBegun limits (
           (λ j i x e at. actor_same names names2 i x (N.rest (Space i) (λ z. let lt = slice_get_within w.ractors j x at in let y : i ≡ place = cc in absurd (omega arith)))
           (N.rest (Hand i) (λ z. let y : ⊥ = cc in y)) kept_shared))
           ∙ ap (λ x. each_from (actor_in names) 0 w.ractors ++ x ∷ []) (new_one ∙ ap new_actor (sym same));
-      inboxes = ap (each_from (mailbox_in names2) 0) is
-          ∙ each_append (mailbox_in names2) 0 (length w.inboxes) w.inboxes (new_inbox limits.events) (omega arith)
-          ∙ ap (λ xs. xs ++ mailbox_in names2 (length w.inboxes) (new_inbox limits.events) ∷ []) (each_same (mailbox_in names) (mailbox_in names2) 0 w.inboxes
+      post = ap (post_in names2) is
+          ∙ ap (λ bs. let q : Post = record { inboxes = bs } in q) (
+          each_append (mailbox_in names2) 0 (length w.channels.inboxes) w.channels.inboxes (new_inbox limits.events) (omega arith)
+          ∙ ap (λ xs. xs ++ mailbox_in names2 (length w.channels.inboxes) (new_inbox limits.events) ∷ []) (each_same (mailbox_in names) (mailbox_in names2) 0 w.channels.inboxes
           (λ j i x e at. mailbox_same names names2 i x (λ y has. N.rest (Mail i y.ticket) (λ z. let f : ⊥ = cc in f)) kept_shared))
-          ∙ ap (λ (l : Limits). each_from (mailbox_in names) 0 w.inboxes ++ new_mailbox l ∷ []) (sym same);
+          ∙ ap (λ (l : Limits). each_from (mailbox_in names) 0 w.channels.inboxes ++ new_mailbox l ∷ []) (sym same));
     }
 
   nothing_known : (tables : Layout) (b : Below) → b ≡ [] → Knows b tables
@@ -172,7 +173,7 @@ module _ (w w2 : Assembly) (limits : Limits) (m2 : Member) (A : IsBegun limits (
     inboxes = λ c i e at has. knows_on w w2 (message_below e.message) (⊎_elim
         (λ old. K.inboxes c i e old has)
         (λ new. absurd (none_in e (subst (λ (x : Inbox). Contains x.inside e) (sym new.1) has)))
-        (last_cases w.inboxes (new_inbox limits.events) c i (ap (λ xs. slice_get xs c) (sym is) ∙ at)));
+        (last_cases w.channels.inboxes (new_inbox limits.events) c i (ap (λ (x : Channels). slice_get x.inboxes c) (sym is) ∙ at)));
   }
 
   more_owned : AreOwned w → AreOwned w2
@@ -180,6 +181,10 @@ module _ (w w2 : Assembly) (limits : Limits) (m2 : Member) (A : IsBegun limits (
       (λ old. all j m old)
       (λ new. ap (λ (x : Member). x.space.owner) (sym new.1) ∙ A.owner ∙ ap (λ n. n + 1) (sym new.0))
       (last_cases w.ractors m2 j m (ap (λ xs. slice_get xs j) (sym rs) ∙ at))
+
+  more_inboxes : HaveInboxes w → HaveInboxes w2
+  more_inboxes even = ap (λ (x : Channels). length x.inboxes) is ∙ length-append w.channels.inboxes (new_inbox limits.events ∷ []) ∙ ap (λ n. n + 1) even
+      ∙ sym (length-append w.ractors (m2 ∷ [])) ∙ sym (ap length rs)
 
   -- the ractor at k, whose limits these are, starts another
   pub begun : (who number : RactorNo) (k : ℕ) (m : Member) → slice_get w.ractors k ≡ Some m → m.limits ≡ limits → StandsAt who k → StandsAt number place
@@ -189,7 +194,7 @@ module _ (w w2 : Assembly) (limits : Limits) (m2 : Member) (A : IsBegun limits (
         q.0,
         bound + 0,
         q.1,
-        record { tables = q.2; knows = more_knows R.knows; owned = more_owned R.owned },
+        record { tables = q.2; knows = more_knows R.knows; owned = more_owned R.owned; inboxes = more_inboxes R.inboxes },
         (k, actor_in names k m, stands, actor_at w names g k m at, tt, started names bound g R q.0 q.1 q.2 q.3 q.4 number (actor_in names k m) same next),
       )
 

@@ -12,7 +12,7 @@ use Rattle.rr_world.specs.declared.step.Reply.{Reply}
 use Rattle.rr_world.specs.declared.step.Reply.TheVariants.{NotEnabled}
 
 pub same_state : (s : State) → IsSame s s
-same_state s = record { objects = λ n. refl; ractors = refl; inboxes = refl }
+same_state s = record { objects = λ n. refl; ractors = refl; post = refl }
 
 -- the World is as it was, and the case says so
 pub stays : (step : Step) (reply : Reply) (w w2 : Assembly) → w2 ≡ w → ((names : Naming) (g : Objects) → IsCase step reply (state_in w names g) (state_in w names g)) → IsStep step reply w w2

@@ -1,41 +1,41 @@
 -- An inbox changes beside its messages: it is closed, or its history tells of a refusal.
-use Rattle.std.proofs.Common.{◌≡◌, ℕ, Some, slice_get, sym, ap, ◌∙◌, refl, arith}
-use Rattle.std.specs.Prelude.{slice_set}
+use Rattle.std.proofs.Common.{◌≡◌, ℕ, length, length-set, Some, slice_get, sym, ap, ◌∙◌, refl}
 use Rattle.std.specs.Option.{option_map, option_and_then}
 use Rattle.rr_space.specs.Readings.{Owner, Space, Hand, Mail, Shared, Naming, Objects}
 use Rattle.rr_space.proofs.Frames.{reading_same}
 use Rattle.rr_inbox.specs.Inboxes.{Inbox}
-use Rattle.rr_world.specs.Views.{Assembly}
+use Rattle.rr_world.specs.Views.{Channels, Assembly, with_inbox}
 use Rattle.rr_world.specs.Layouts.{layout, space_slots, hand_slots, inbox_slots, mail_slots}
-use Rattle.rr_world.specs.States.{IsSame}
-use Rattle.rr_world.specs.Readings.{each_from, actor_in, mailbox_in, state_in}
+use Rattle.rr_world.specs.States.{IsSame, with_box}
+use Rattle.rr_world.specs.Readings.{each_from, actor_in, mailbox_in, post_in, state_in}
 use Rattle.rr_world.specs.Cases.{IsCase}
 use Rattle.rr_world.specs.Runs.{IsStep}
 use Rattle.rr_world.specs.declared.step.Step.{Step}
 use Rattle.rr_world.specs.declared.step.Reply.{Reply}
 use Rattle.rr_world.proofs.Knowing.{knows_told}
-use Rattle.rr_world.proofs.Lists.{seen_same, each_set}
+use Rattle.rr_world.proofs.Lists.{seen_same}
+use Rattle.rr_world.proofs.Namings.{post_set}
 
-module _ (w w2 : Assembly) (c : ℕ) (i i2 : Inbox) (box : slice_get w.inboxes c ≡ Some i) (inside : i2.inside ≡ i.inside) (rs : w2.ractors ≡ w.ractors) (is : w2.inboxes ≡ slice_set w.inboxes c i2) where
+module _ (w w2 : Assembly) (c : ℕ) (i i2 : Inbox) (box : slice_get w.channels.inboxes c ≡ Some i) (inside : i2.inside ≡ i.inside) (rs : w2.ractors ≡ w.ractors) (is : w2.channels ≡ with_inbox w.channels c i2) where
   tables : (h : Owner) → layout w2 h ≡ layout w h
   unfolding layout
   tables (Space j) = ap (λ xs. option_map space_slots (slice_get xs j)) rs
   tables (Hand j) = ap (λ xs. option_and_then hand_slots (slice_get xs j)) rs
-  tables (Mail d u) = ap (λ xs. option_and_then (inbox_slots u) (slice_get xs d)) is ∙ seen_same (option_and_then (inbox_slots u)) w.inboxes c d i i2 box (ap (mail_slots u) inside)
+  tables (Mail d u) = ap (λ (x : Channels). option_and_then (inbox_slots u) (slice_get x.inboxes d)) is ∙ seen_same (option_and_then (inbox_slots u)) w.channels.inboxes c d i i2 box (ap (mail_slots u) inside)
   tables (Shared d) = refl
 
   -- the objects, the ractors and the messages are as they were
   pub told : (step : Step) (reply : Reply)
-      → ((names : Naming) (g : Objects) → IsSame (record (state_in w names g) { inboxes = slice_set (each_from (mailbox_in names) 0 w.inboxes) c (mailbox_in names c i2) }) (state_in w2 names g)
+      → ((names : Naming) (g : Objects) → IsSame (record (state_in w names g) { post = with_box (post_in names w.channels) c (mailbox_in names c i2) }) (state_in w2 names g)
       → IsCase step reply (state_in w names g) (state_in w2 names g)) → IsStep step reply w w2
   told step reply case names bound g R = (
     names,
     bound,
     g,
-    record { tables = reading_same (layout w) (layout w2) names bound g tables R.tables; knows = knows_told w w2 c i i2 box inside rs is R.knows; owned = λ j m at. R.owned j m (ap (λ xs. slice_get xs j) (sym rs) ∙ at) },
+    record { tables = reading_same (layout w) (layout w2) names bound g tables R.tables; knows = knows_told w w2 c i i2 box inside rs is R.knows; owned = λ j m at. R.owned j m (ap (λ xs. slice_get xs j) (sym rs) ∙ at); inboxes = ap (λ (x : Channels). length x.inboxes) is ∙ length-set w.channels.inboxes c i2 ∙ R.inboxes ∙ sym (ap length rs) },
     case names g (record {
       objects = λ n. refl;
       ractors = ap (each_from (actor_in names) 0) rs;
-      inboxes = ap (each_from (mailbox_in names) 0) is ∙ each_set (mailbox_in names) (mailbox_in names) 0 w.inboxes c c i2 (omega arith) (λ j n x d z a. refl);
+      post = ap (post_in names) is ∙ post_set names names w.channels c i2 (λ d u z. refl) (λ d. refl);
     }),
   )

@@ -10,7 +10,7 @@ use Rattle.rr_space.specs.Graph.{Kind, Object, text, array, plain, shell, Label,
 use Rattle.rr_space.specs.Readings.{Space, Hand, Mail, Owned, Objects, IsShared, whole}
 use Rattle.rr_share.specs.Search.{LeadsToShell}
 use Rattle.rr_space.specs.Steps.{IsHandedOn, IsDropped, IsCopied, IsChange}
-use Rattle.rr_world.specs.States.{Parcel, Letter, Mailbox, Actor, State, IsSame}
+use Rattle.rr_world.specs.States.{Parcel, Letter, Mailbox, Actor, State, IsSame, with_box}
 use Rattle.rr_world.specs.declared.step.Action.{Action}
 use Rattle.rr_space.specs.Labels.{label_of, IsFirstUnder}
 use Rattle.rr_world.specs.declared.step.Action.TheVariants.{Alloc, Pack, Discard, Offer, Accept, Open, Close, Freeze, Append, Push, Write, SetField, Read, Start}
@@ -31,7 +31,7 @@ StandsAt who k = who.0 ≡ k + 1
 
 -- there is such an inbox
 abbrev pub HasInbox : State → Number → Type 0
-HasInbox s to = (c : ℕ) × (b : Mailbox) × StandsAt to c × (slice_get s.inboxes c ≡ Some b)
+HasInbox s to = (c : ℕ) × (b : Mailbox) × StandsAt to c × (slice_get s.post.inboxes c ≡ Some b)
 
 -- a message is in the hand
 abbrev pub Holds : Actor → Type 0
@@ -117,7 +117,7 @@ pub record IsAllocated (k : ℕ) (a : Actor) (new : NewObject) (s t : State) : T
   pub others : (n : ℕ) → (n ≡ name → ⊥) → t.objects n ≡ s.objects n
   pub objects : IsChange k a.roots s.objects t.objects
   pub ractors : t.ractors ≡ slice_set s.ractors k (record a { roots = a.roots ++ At (Own name) ∷ []; slots = a.slots + 1 })
-  pub inboxes : t.inboxes ≡ s.inboxes
+  pub post : t.post ≡ s.post
 
 -- a refused alloc: a growth was refused, or the space is full; all is as it was
 abbrev pub IsAllocRefused : Actor → Fault → State → State → Type 0
@@ -130,7 +130,7 @@ pub record IsChangedTo (k : ℕ) (a : Actor) (n : ℕ) (o p : Object) (s t : Sta
   pub others : (m : ℕ) → (m ≡ n → ⊥) → t.objects m ≡ s.objects m
   pub objects : IsChange k a.roots s.objects t.objects
   pub ractors : t.ractors ≡ s.ractors
-  pub inboxes : t.inboxes ≡ s.inboxes
+  pub post : t.post ≡ s.post
 
 abbrev pub frozen : Object → Object
 frozen o = record o { frozen = true }
@@ -180,7 +180,7 @@ pub record IsReadAs (k : ℕ) (a : Actor) (op : Operand) (l : Label) (s t : Stat
   pub first : IsFirstUnder owned.object.triples l value
   pub objects : (n : ℕ) → t.objects n ≡ s.objects n
   pub ractors : t.ractors ≡ slice_set s.ractors k (record a { roots = a.roots ++ value ∷ [] })
-  pub inboxes : t.inboxes ≡ s.inboxes
+  pub post : t.post ≡ s.post
 
 -- a ractor without objects, and its inbox
 abbrev pub new_actor : Limits → Actor
@@ -194,7 +194,7 @@ pub record IsStarted (number : Number) (a : Actor) (s t : State) : Type 0 where
   pub next : StandsAt number (length s.ractors)
   pub objects : (n : ℕ) → t.objects n ≡ s.objects n
   pub ractors : t.ractors ≡ s.ractors ++ new_actor a.limits ∷ []
-  pub inboxes : t.inboxes ≡ s.inboxes ++ new_mailbox a.limits ∷ []
+  pub post : t.post ≡ record { inboxes = s.post.inboxes ++ new_mailbox a.limits ∷ [] }
 
 -- a refused start: a growth was refused, or there are as many ractors as may be; all is as it was
 abbrev pub IsStartRefused : Actor → Fault → State → State → Type 0
@@ -211,7 +211,7 @@ pub record IsPacked (k : ℕ) (a : Actor) (x : Value) (p : Parcel) (s t : State)
   pub sender : p.sender ≡ k + 1
   pub sequence : p.sequence ≡ 0
   pub ractors : t.ractors ≡ slice_set s.ractors k (record a { hand = Some p })
-  pub inboxes : t.inboxes ≡ s.inboxes
+  pub post : t.post ≡ s.post
 
 -- a refused pack: a growth was refused, or the value leads to a shell; all is as it was
 abbrev pub IsPackRefusedFor : Value → Fault → State → State → Type 0
@@ -221,7 +221,7 @@ IsPackRefusedFor x f s t = ((f ≡ fault.Memory) ⊎ ((f ≡ fault.HoldsShell) �
 pub record IsDiscarded (k : ℕ) (a : Actor) (s t : State) : Type 0 where
   pub objects : IsDropped (Hand k) s.objects t.objects
   pub ractors : t.ractors ≡ slice_set s.ractors k (record a { hand = None })
-  pub inboxes : t.inboxes ≡ s.inboxes
+  pub post : t.post ≡ s.post
 
 -- offer, Ok: it was open; the message is last under the next ticket, and the owner of its objects turns from hand to message
 pub record IsOffered (who : Number) (k c : ℕ) (a : Actor) (p : Parcel) (b : Mailbox) (t : ℕ) (old new : State) : Type 0 where
@@ -229,7 +229,7 @@ pub record IsOffered (who : Number) (k c : ℕ) (a : Actor) (p : Parcel) (b : Ma
   pub ticket : t ≡ b.next
   pub objects : IsHandedOn (Hand k) (Mail c t) old.objects new.objects
   pub ractors : new.ractors ≡ slice_set old.ractors k (record a { hand = None })
-  pub inboxes : new.inboxes ≡ slice_set old.inboxes c (record b {
+  pub post : new.post ≡ with_box old.post c (record b {
     inside = b.inside ++ record { ticket = t; parcel = p } ∷ [];
     next = b.next + 1;
     history = b.history ++ event.Offered t p.size who ∷ [];
@@ -248,7 +248,7 @@ abbrev pub IsOfferRefused : Number → ℕ → Parcel → Mailbox → Fault → 
 IsOfferRefused who c p b fault.HistoryFull s t = (HasRoom b → ⊥) × IsSame s t
 IsOfferRefused who c p b fault.Memory s t = HasRoom b × IsSame s t
 IsOfferRefused who c p b fault.Closed s t = HasRoom b × (b.closed ≡ true)
-    × IsSame (record s { inboxes = slice_set s.inboxes c (record b { history = b.history ++ event.Refused p.size who ∷ [] }) }) t
+    × IsSame (record s { post = with_box s.post c (record b { history = b.history ++ event.Refused p.size who ∷ [] }) }) t
 IsOfferRefused who c p b _ s t = ⊥
 
 -- accept: the first message, which is gone from the inbox; its objects' owner turns from message to hand
@@ -256,13 +256,13 @@ pub record IsAccepted (who : Number) (k : ℕ) (a : Actor) (e : Letter) (es : Li
   pub first : b.inside ≡ e ∷ es
   pub objects : IsHandedOn (Mail k e.ticket) (Hand k) s.objects t.objects
   pub ractors : t.ractors ≡ slice_set s.ractors k (record a { hand = Some e.parcel })
-  pub inboxes : t.inboxes ≡ slice_set s.inboxes k (record b { inside = es; history = b.history ++ event.Accepted e.ticket e.parcel.size who ∷ [] })
+  pub post : t.post ≡ with_box s.post k (record b { inside = es; history = b.history ++ event.Accepted e.ticket e.parcel.size who ∷ [] })
 
 -- open: the owner turns from hand to ractor; the root joins its roots
 pub record IsOpenedAs (k : ℕ) (a : Actor) (p : Parcel) (s t : State) : Type 0 where
   pub objects : IsHandedOn (Hand k) (Space k) s.objects t.objects
   pub ractors : t.ractors ≡ slice_set s.ractors k (record a { roots = a.roots ++ p.root ∷ []; hand = None; slots = a.slots + p.size })
-  pub inboxes : t.inboxes ≡ s.inboxes
+  pub post : t.post ≡ s.post
 
 -- a refused open: a growth was refused, or the objects pass the limit of slots; all is as it was
 abbrev pub IsOpenRefused : Actor → Parcel → Fault → State → State → Type 0
@@ -273,11 +273,11 @@ pub record IsClosedBy (who : Number) (c : ℕ) (b : Mailbox) (already : Bool) (s
   pub was : already ≡ b.closed
   pub objects : (n : ℕ) → t.objects n ≡ s.objects n
   pub ractors : t.ractors ≡ s.ractors
-  pub inboxes : t.inboxes ≡ slice_set s.inboxes c (record b { closed = true; history = b.history ++ cond b.closed [] (event.Closed who ∷ []) })
+  pub post : t.post ≡ with_box s.post c (record b { closed = true; history = b.history ++ cond b.closed [] (event.Closed who ∷ []) })
 
 -- the inbox of this number, in a clause of its own
 abbrev pub InboxIs : State → Number → ℕ → Mailbox → Type 0
-InboxIs s to c b = StandsAt to c × (slice_get s.inboxes c ≡ Some b)
+InboxIs s to c b = StandsAt to c × (slice_get s.post.inboxes c ≡ Some b)
 
 -- what an action of the ractor a at k does under each reply
 abbrev pub Effect : Number → ℕ → Actor → Action → Reply → State → State → Type 0

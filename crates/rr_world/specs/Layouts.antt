@@ -1,5 +1,5 @@
 -- The tables that a World has.
-use Rattle.std.specs.Prelude.{◌≡◌, ◌+◌, ◌++◌, Contains, ℕ, List, [], ◌∷◌, map, Option, None, Some, slice_get, nat_eq, cond}
+use Rattle.std.specs.Prelude.{◌≡◌, ◌+◌, ◌++◌, Contains, ℕ, List, [], ◌∷◌, length, map, Option, None, Some, slice_get, nat_eq, cond}
 use Rattle.std.specs.Option.{option_map, option_and_then}
 use Rattle.rr_space.specs.Tables.{Packed, Slot, Here, Below, joined}
 use Rattle.rr_space.specs.Readings.{Space, Hand, Mail, Shared, Layout, Knows, Naming, Objects, IsReading}
@@ -30,7 +30,7 @@ inbox_slots t i = mail_slots t i.inside
 unfoldable pub layout : Assembly → Layout
 layout w (Space k) = option_map space_slots (slice_get w.ractors k)
 layout w (Hand k) = option_and_then hand_slots (slice_get w.ractors k)
-layout w (Mail c t) = option_and_then (inbox_slots t) (slice_get w.inboxes c)
+layout w (Mail c t) = option_and_then (inbox_slots t) (slice_get w.channels.inboxes c)
 layout w (Shared c) = None
 
 -- the clusters that a message leads to
@@ -46,15 +46,20 @@ pub record MemberKnows (tables : Layout) (m : Member) : Type 0 where
 -- the same of each ractor and of each message in an inbox
 pub record IsKnowing (w : Assembly) : Type 0 where
   pub ractors : (k : ℕ) (m : Member) → slice_get w.ractors k ≡ Some m → MemberKnows (layout w) m
-  pub inboxes : (c : ℕ) (i : Inbox) (e : Entry) → slice_get w.inboxes c ≡ Some i → Contains i.inside e → Knows (message_below e.message) (layout w)
+  pub inboxes : (c : ℕ) (i : Inbox) (e : Entry) → slice_get w.channels.inboxes c ≡ Some i → Contains i.inside e → Knows (message_below e.message) (layout w)
 
 -- each ractor's space has the ractor's number, so that its messages tell who sent them
 abbrev pub AreOwned : Assembly → Type 0
 AreOwned w = (k : ℕ) (m : Member) → slice_get w.ractors k ≡ Some m → m.space.owner ≡ k + 1
 
--- a reading of the World: its tables are read as a whole graph, what they know of clusters is what the store has, and each
--- space is its ractor's
+-- each ractor has its inbox, and there are no others
+abbrev pub HaveInboxes : Assembly → Type 0
+HaveInboxes w = length w.channels.inboxes ≡ length w.ractors
+
+-- a reading of the World: its tables are read as a whole graph, what they know of clusters is what the store has, each
+-- space is its ractor's, and there are as many inboxes as ractors
 pub record IsRead (w : Assembly) (names : Naming) (bound : ℕ) (g : Objects) : Type 0 where
   pub tables : IsReading (layout w) names bound g
   pub knows : IsKnowing w
   pub owned : AreOwned w
+  pub inboxes : HaveInboxes w

@@ -9,8 +9,8 @@ use Rattle.rr_space.specs.declared.refer.Ref.{Ref}
 use Rattle.rr_copy.specs.Messages.{size_of}
 use Rattle.rr_inbox.specs.Inboxes.{Inbox}
 use Rattle.rr_inbox.specs.declared.entry.Entry.{Entry}
-use Rattle.rr_world.specs.Views.{Member, Assembly}
-use Rattle.rr_world.specs.States.{Parcel, Letter, Mailbox, Actor, State}
+use Rattle.rr_world.specs.Views.{Member, Channels, Assembly}
+use Rattle.rr_world.specs.States.{Parcel, Letter, Mailbox, Actor, Post, State}
 
 -- each element with its place, the first of them with k
 abbrev pub each_from : {A B : Type 0} → (ℕ → A → B) → ℕ → List A → List B
@@ -41,6 +41,9 @@ actor_in names k r = record {
   limits = r.limits;
 }
 
+abbrev pub post_in : Naming → Channels → Post
+post_in names x = record { inboxes = each_from (mailbox_in names) 0 x.inboxes }
+
 -- the state that a World is under a naming and a whole graph
 abbrev pub state_in : Assembly → Naming → Objects → State
-state_in w names g = record { objects = g; ractors = each_from (actor_in names) 0 w.ractors; inboxes = each_from (mailbox_in names) 0 w.inboxes }
+state_in w names g = record { objects = g; ractors = each_from (actor_in names) 0 w.ractors; post = post_in names w.channels }

@@ -45,4 +45,4 @@ pub record IsNew (limits : Limits) (w : Assembly) : Type 0 where
   pub roots : main.roots ≡ []
   pub hand : main.hand ≡ None
   pub run : main.limits ≡ limits
-  pub inboxes : w.inboxes ≡ new_inbox limits.events ∷ []
+  pub inboxes : w.channels.inboxes ≡ new_inbox limits.events ∷ []

@@ -1,5 +1,5 @@
 -- The state of the graph machine.
-use Rattle.std.specs.Prelude.{◌≡◌, ℕ, Bool, List, Option}
+use Rattle.std.specs.Prelude.{◌≡◌, ℕ, Bool, List, Option, slice_set}
 use Rattle.rr_base.specs.declared.limits.Limits.{Limits}
 use Rattle.rr_base.specs.declared.event.InboxEvent.{InboxEvent}
 use Rattle.rr_space.specs.Graph.{Value}
@@ -34,14 +34,22 @@ pub record Actor : Type 0 where
   pub limit : ℕ
   pub limits : Limits
 
--- objects with owners, ractors, and their inboxes; number 1 stands first
+-- what lies between ractors: their inboxes, by number
+pub record Post : Type 0 where
+  pub inboxes : List Mailbox
+
+-- the same, with another inbox in one's place
+abbrev pub with_box : Post → ℕ → Mailbox → Post
+with_box p c b = record p { inboxes = slice_set p.inboxes c b }
+
+-- objects with owners, ractors, and what lies between them; number 1 stands first
 pub record State : Type 0 where
   pub objects : Objects
   pub ractors : List Actor
-  pub inboxes : List Mailbox
+  pub post : Post
 
 -- all is as it was
 pub record IsSame (old new : State) : Type 0 where
   pub objects : (n : ℕ) → new.objects n ≡ old.objects n
   pub ractors : new.ractors ≡ old.ractors
-  pub inboxes : new.inboxes ≡ old.inboxes
+  pub post : new.post ≡ old.post

@@ -27,7 +27,7 @@ impl Model for World {
 
     ghost Value = { Assembly };
 
-    ghost view = { λ w. record { ractors = w.ractors.items; inboxes = w.inboxes.items } };
+    ghost view = { λ w. record { ractors = w.ractors.items; channels = record { inboxes = w.inboxes.items } } };
 }
 
 // The place of a ractor, or of its inbox, among so many.
@@ -92,7 +92,7 @@ impl World {
         requires stands { StandsAt who place }
         requires within { place < length self.old.ractors }
         requires there { StandsAt to inbox }
-        requires is_inbox { inbox < length self.old.inboxes }
+        requires is_inbox { inbox < length self.old.channels.inboxes }
         ensures { IsStep (record { who = who; action = Offer to }) result self.old self.new }
     {
         let Some(message) = self.ractors[place].take() else {
@@ -148,7 +148,7 @@ impl World {
         requires stands { StandsAt who place }
         requires within { place < length self.old.ractors }
         requires there { StandsAt to inbox }
-        requires is_inbox { inbox < length self.old.inboxes }
+        requires is_inbox { inbox < length self.old.channels.inboxes }
         ensures { IsStep (record { who = who; action = Close to }) result self.old self.new }
     {
         Reply::WasClosed(self.inboxes[inbox].close(who))

@@ -8,7 +8,7 @@ use Rattle.rr_world.specs.Views.{Member, Assembly}
 use Rattle.rr_world.specs.declared.step.Action.TheVariants.{Accept}
 use Rattle.rr_world.specs.declared.step.Reply.TheVariants.{Empty, EmptyAndClosed}
 use Rattle.rr_world.proofs.Accepting.{accepted, less_first, nothing_open, nothing_closed}
-use Rattle.rr_world.proofs.Insides.{read_at, read_twice, set_in, set_again, same_assembly, some_at}
+use Rattle.rr_world.proofs.Insides.{channels, read_at, read_twice, set_in, set_again, same_assembly, some_at}
 use Rattle.rr_world.proofs.Staying.{refused, stays}
 use Rattle.rr_world.proofs.Enabled.{allowed, no_inbox, free_back}
 use Rattle.rr_world.proofs.world.World.accept.Goals as goal
@@ -16,7 +16,7 @@ use Rattle.rr_world.proofs.world.World.accept.Goals as goal
 pub returns-then-place-len : goal.returns-then-place-len
 returns-then-place-len c =
     let w = c.args.self.now in
-    let is : c.self.inside.inboxes.items ≡ w.inboxes = ap (λ (v : Assembly). v.inboxes) c.self.view_is in
+    let is : c.self.inside.inboxes.items ≡ w.channels.inboxes = ap (λ (v : Assembly). v.channels.inboxes) c.self.view_is in
     let someone = some_at w.ractors c.args.place c.requires.within in
     refused (record { who = c.args.who; action = Accept }) w w refl
     (λ names g e. no_inbox w names g c.args.who
@@ -40,24 +40,24 @@ returns-in-Message c =
     let i = c.index_mut.result.now in
     let t = c.in-Message.ensures.takes in
     let vs : c.self.inside.ractors.items ≡ w.ractors = ap (λ (v : Assembly). v.ractors) c.self.view_is in
-    let is : c.self.inside.inboxes.items ≡ w.inboxes = ap (λ (v : Assembly). v.inboxes) c.self.view_is in
+    let is : c.self.inside.inboxes.items ≡ w.channels.inboxes = ap (λ (v : Assembly). v.channels.inboxes) c.self.view_is in
     let lt : c.args.place < length c.self.inside.ractors.items = omega (arith, ap length vs, c.requires.within) in
     let many = ap length is in
     let less : c.args.place < length c.self.inside.inboxes.items = omega (arith, c.len.ensures, c.if-place-len.false) in
-    let within : c.args.place < length w.inboxes = omega (arith, less, many) in
+    let within : c.args.place < length w.channels.inboxes = omega (arith, less, many) in
     let one : c.index.result.now ≡ m = read_twice c.self.inside.ractors.items c.args.place c.index.result.now m lt c.index.ensures c.index_mut-in-Message.ensures.value in
     let box : c.index-2.result.now ≡ i = read_twice c.self.inside.inboxes.items c.args.place c.index-2.result.now i less c.index-2.ensures c.index_mut.ensures.value in
     let none : c.index.result.now.hand ≡ None = c.if-not-is_free.ensures.0 refl in
     accepted w _ c.args.who c.args.place m i t.0 c.accept.new.self.inside
     (read_at c.self.inside.ractors.items w.ractors c.args.place m vs c.requires.within c.index_mut-in-Message.ensures.value)
-    (read_at c.self.inside.inboxes.items w.inboxes c.args.place i is within c.index_mut.ensures.value)
+    (read_at c.self.inside.inboxes.items w.channels.inboxes c.args.place i is within c.index_mut.ensures.value)
     (ap (λ (x : Member). x.hand) (sym one) ∙ none)
     (subst (λ (x : Inbox). IsTicketed x) box c.history-events.ensures.tickets)
     t.2
     (set_in c.self.inside.ractors.items w.ractors c.args.place c.hold.new.self (record m { hand = Some t.0.message }) vs
     (c.hold.ensures ∙ ap (λ (x : Packed). let y : Member = record m { hand = Some x } in y) (sym t.1)))
-    (set_in c.self.inside.inboxes.items w.inboxes c.args.place c.accept.new.self (less_first i c.args.who t.0 c.accept.new.self.inside) is
-    (t.3 ∙ ap (λ (x : Packed). let y : Inbox = record i { inside = c.accept.new.self.inside; history = i.history ++ event.Accepted t.0.ticket (size_of x) c.args.who ∷ [] } in y) (sym t.1)))
+    (ap channels (set_in c.self.inside.inboxes.items w.channels.inboxes c.args.place c.accept.new.self (less_first i c.args.who t.0 c.accept.new.self.inside) is
+    (t.3 ∙ ap (λ (x : Packed). let y : Inbox = record i { inside = c.accept.new.self.inside; history = i.history ++ event.Accepted t.0.ticket (size_of x) c.args.who ∷ [] } in y) (sym t.1))))
     c.requires.stands
 
 pub returns-in-Empty : goal.returns-in-Empty
@@ -67,13 +67,13 @@ returns-in-Empty c =
     let i = c.index_mut.result.now in
     let t = c.in-Empty.ensures.takes in
     let vs : c.self.inside.ractors.items ≡ w.ractors = ap (λ (v : Assembly). v.ractors) c.self.view_is in
-    let is : c.self.inside.inboxes.items ≡ w.inboxes = ap (λ (v : Assembly). v.inboxes) c.self.view_is in
+    let is : c.self.inside.inboxes.items ≡ w.channels.inboxes = ap (λ (v : Assembly). v.channels.inboxes) c.self.view_is in
     let at : slice_get w.ractors c.args.place ≡ Some m = read_at c.self.inside.ractors.items w.ractors c.args.place m vs c.requires.within c.index.ensures in
     let many = ap length is in
-    let within : c.args.place < length w.inboxes = omega (arith, c.len.ensures, c.if-place-len.false, many) in
-    let box : slice_get w.inboxes c.args.place ≡ Some i = read_at c.self.inside.inboxes.items w.inboxes c.args.place i is within c.index_mut.ensures.value in
+    let within : c.args.place < length w.channels.inboxes = omega (arith, c.len.ensures, c.if-place-len.false, many) in
+    let box : slice_get w.channels.inboxes c.args.place ≡ Some i = read_at c.self.inside.inboxes.items w.channels.inboxes c.args.place i is within c.index_mut.ensures.value in
     stays (record { who = c.args.who; action = Accept }) Empty w _
-    (same_assembly _ _ _ _ vs (set_again c.self.inside.inboxes.items w.inboxes c.args.place c.accept.new.self i is box t.2))
+    (same_assembly _ _ _ _ vs (ap channels (set_again c.self.inside.inboxes.items w.channels.inboxes c.args.place c.accept.new.self i is box t.2)))
     (λ names g. nothing_open w names g c.args.who c.args.place m i at box (c.if-not-is_free.ensures.0 refl) c.requires.stands t.0 t.1)
 
 pub returns-in-EmptyAndClosed : goal.returns-in-EmptyAndClosed
@@ -83,11 +83,11 @@ returns-in-EmptyAndClosed c =
     let i = c.index_mut.result.now in
     let t = c.in-EmptyAndClosed.ensures.takes in
     let vs : c.self.inside.ractors.items ≡ w.ractors = ap (λ (v : Assembly). v.ractors) c.self.view_is in
-    let is : c.self.inside.inboxes.items ≡ w.inboxes = ap (λ (v : Assembly). v.inboxes) c.self.view_is in
+    let is : c.self.inside.inboxes.items ≡ w.channels.inboxes = ap (λ (v : Assembly). v.channels.inboxes) c.self.view_is in
     let at : slice_get w.ractors c.args.place ≡ Some m = read_at c.self.inside.ractors.items w.ractors c.args.place m vs c.requires.within c.index.ensures in
     let many = ap length is in
-    let within : c.args.place < length w.inboxes = omega (arith, c.len.ensures, c.if-place-len.false, many) in
-    let box : slice_get w.inboxes c.args.place ≡ Some i = read_at c.self.inside.inboxes.items w.inboxes c.args.place i is within c.index_mut.ensures.value in
+    let within : c.args.place < length w.channels.inboxes = omega (arith, c.len.ensures, c.if-place-len.false, many) in
+    let box : slice_get w.channels.inboxes c.args.place ≡ Some i = read_at c.self.inside.inboxes.items w.channels.inboxes c.args.place i is within c.index_mut.ensures.value in
     stays (record { who = c.args.who; action = Accept }) EmptyAndClosed w _
-    (same_assembly _ _ _ _ vs (set_again c.self.inside.inboxes.items w.inboxes c.args.place c.accept.new.self i is box t.2))
+    (same_assembly _ _ _ _ vs (ap channels (set_again c.self.inside.inboxes.items w.channels.inboxes c.args.place c.accept.new.self i is box t.2)))
     (λ names g. nothing_closed w names g c.args.who c.args.place m i at box (c.if-not-is_free.ensures.0 refl) c.requires.stands t.0 t.1)

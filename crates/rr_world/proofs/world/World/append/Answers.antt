@@ -12,4 +12,4 @@ returns c =
     appended_by w _ c.args.who c.args.place m c.append.new.self c.args.text c.args.byte c.append.result
     (read_at c.self.inside.ractors.items w.ractors c.args.place m vs c.requires.within c.index_mut-ractor.ensures.value)
     (set_in c.self.inside.ractors.items w.ractors c.args.place c.append.new.self c.append.new.self vs refl)
-    (ap (λ (v : Assembly). v.inboxes) c.self.view_is) c.requires.stands c.append.ensures
+    (ap (λ (v : Assembly). v.channels) c.self.view_is) c.requires.stands c.append.ensures

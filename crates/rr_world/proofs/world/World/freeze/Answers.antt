@@ -12,4 +12,4 @@ returns c =
     frozen_by w _ c.args.who c.args.place m c.freeze.new.self c.args.object c.freeze.result
     (read_at c.self.inside.ractors.items w.ractors c.args.place m vs c.requires.within c.index_mut-ractor.ensures.value)
     (set_in c.self.inside.ractors.items w.ractors c.args.place c.freeze.new.self c.freeze.new.self vs refl)
-    (ap (λ (v : Assembly). v.inboxes) c.self.view_is) c.requires.stands c.freeze.ensures
+    (ap (λ (v : Assembly). v.channels) c.self.view_is) c.requires.stands c.freeze.ensures

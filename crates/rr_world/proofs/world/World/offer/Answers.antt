@@ -7,7 +7,7 @@ use Rattle.rr_world.specs.Views.{Member, Assembly}
 use Rattle.rr_world.specs.declared.step.Action.TheVariants.{Offer}
 use Rattle.rr_world.proofs.Offering.{offered_under}
 use Rattle.rr_world.proofs.Refusals.{offer_refused}
-use Rattle.rr_world.proofs.Insides.{read_at, read_twice, read_set, set_in, set_again, set_twice_again, same_assembly}
+use Rattle.rr_world.proofs.Insides.{channels, read_at, read_twice, read_set, set_in, set_again, set_twice_again, same_assembly}
 use Rattle.rr_world.proofs.Staying.{refused}
 use Rattle.rr_world.proofs.Enabled.{allowed, holds_not}
 use Rattle.rr_world.proofs.world.World.offer.Goals as goal
@@ -17,12 +17,12 @@ returns-in_default c =
     let w = c.args.self.now in
     let m = c.index_mut.result.now in
     let vs : c.self.inside.ractors.items ≡ w.ractors = ap (λ (v : Assembly). v.ractors) c.self.view_is in
-    let is : c.self.inside.inboxes.items ≡ w.inboxes = ap (λ (v : Assembly). v.inboxes) c.self.view_is in
+    let is : c.self.inside.inboxes.items ≡ w.channels.inboxes = ap (λ (v : Assembly). v.channels.inboxes) c.self.view_is in
     let at : slice_get w.ractors c.args.place ≡ Some m = read_at c.self.inside.ractors.items w.ractors c.args.place m vs c.requires.within c.index_mut.ensures.value in
     let none : m.hand ≡ None = sym c.take.ensures.was ∙ c.in_default.is in
     let same : c.take.new.self ≡ m = c.take.ensures.now ∙ ap (λ x. let y : Member = record m { hand = x } in y) (sym none) in
     refused (record { who = c.args.who; action = Offer c.args.to }) w _
-    (same_assembly _ _ _ _ (set_again c.self.inside.ractors.items w.ractors c.args.place c.take.new.self m vs at same) is)
+    (same_assembly _ _ _ _ (set_again c.self.inside.ractors.items w.ractors c.args.place c.take.new.self m vs at same) (ap channels is))
     (λ names g e. holds_not names c.args.place m none (allowed w names g (record { who = c.args.who; action = Offer c.args.to }) c.args.place m c.requires.stands at e).0)
 
 pub returns-in-Ok : goal.returns-in-Ok
@@ -32,12 +32,12 @@ returns-in-Ok c =
     let i = c.index_mut-2.result.now in
     let d = c.in-Ok.ensures in
     let vs : c.self.inside.ractors.items ≡ w.ractors = ap (λ (v : Assembly). v.ractors) c.self.view_is in
-    let is : c.self.inside.inboxes.items ≡ w.inboxes = ap (λ (v : Assembly). v.inboxes) c.self.view_is in
+    let is : c.self.inside.inboxes.items ≡ w.channels.inboxes = ap (λ (v : Assembly). v.channels.inboxes) c.self.view_is in
     let lt : c.args.inbox < length c.self.inside.inboxes.items = omega (arith, ap length is, c.requires.is_inbox) in
     let one : c.index.result.now ≡ i = read_twice c.self.inside.inboxes.items c.args.inbox c.index.result.now i lt c.index.ensures c.index_mut-2.ensures.value in
     offered_under w _ c.args.who c.args.place c.args.inbox m i c.offer.new.self c.in-Some.message
     (read_at c.self.inside.ractors.items w.ractors c.args.place m vs c.requires.within c.index_mut.ensures.value)
-    (read_at c.self.inside.inboxes.items w.inboxes c.args.inbox i is c.requires.is_inbox c.index_mut-2.ensures.value)
+    (read_at c.self.inside.inboxes.items w.channels.inboxes c.args.inbox i is c.requires.is_inbox c.index_mut-2.ensures.value)
     (sym c.take.ensures.was ∙ c.in-Some.is)
     (record {
       unshut = d.ticket.1;
@@ -49,7 +49,7 @@ returns-in-Ok c =
       limit = d.limit;
     })
     (set_in c.self.inside.ractors.items w.ractors c.args.place c.take.new.self (record m { hand = None }) vs c.take.ensures.now)
-    (set_in c.self.inside.inboxes.items w.inboxes c.args.inbox c.offer.new.self c.offer.new.self is refl)
+    (ap channels (set_in c.self.inside.inboxes.items w.channels.inboxes c.args.inbox c.offer.new.self c.offer.new.self is refl))
     c.args.to c.in-Ok.ticket d.ticket.0 c.requires.stands c.requires.there
 
 pub returns-in-Err : goal.returns-in-Err
@@ -61,17 +61,17 @@ returns-in-Err c =
     let p = c.in-Some.message in
     let held : m.hand ≡ Some p = sym c.take.ensures.was ∙ c.in-Some.is in
     let vs : c.self.inside.ractors.items ≡ w.ractors = ap (λ (v : Assembly). v.ractors) c.self.view_is in
-    let is : c.self.inside.inboxes.items ≡ w.inboxes = ap (λ (v : Assembly). v.inboxes) c.self.view_is in
+    let is : c.self.inside.inboxes.items ≡ w.channels.inboxes = ap (λ (v : Assembly). v.channels.inboxes) c.self.view_is in
     let at : slice_get w.ractors c.args.place ≡ Some m = read_at c.self.inside.ractors.items w.ractors c.args.place m vs c.requires.within c.index_mut.ensures.value in
     let lt : c.args.place < length c.self.inside.ractors.items = omega (arith, ap length vs, c.requires.within) in
     let again : c.index_mut-in-Err.result.now ≡ record m { hand = None } = read_set c.self.inside.ractors.items c.args.place c.take.new.self c.index_mut-in-Err.result.now lt c.index_mut-in-Err.ensures.value ∙ c.take.ensures.now in
     let same : c.hold.new.self ≡ m = c.hold.ensures ∙ ap (λ (x : Member). let y : Member = record x { hand = Some c.in-Err.message } in y) again
     ∙ ap (λ h. let y : Member = record m { hand = h } in y) (ap (λ (x : Packed). Some x) d.back ∙ sym held) in
     offer_refused w _ c.args.who c.args.to c.args.place c.args.inbox m i c.offer.new.self p at
-    (read_at c.self.inside.inboxes.items w.inboxes c.args.inbox i is c.requires.is_inbox c.index_mut-2.ensures.value)
+    (read_at c.self.inside.inboxes.items w.channels.inboxes c.args.inbox i is c.requires.is_inbox c.index_mut-2.ensures.value)
     held
     (set_twice_again c.self.inside.ractors.items w.ractors c.args.place c.take.new.self c.hold.new.self m vs at same)
-    (set_in c.self.inside.inboxes.items w.inboxes c.args.inbox c.offer.new.self c.offer.new.self is refl)
+    (ap channels (set_in c.self.inside.inboxes.items w.channels.inboxes c.args.inbox c.offer.new.self c.offer.new.self is refl))
     c.requires.stands c.requires.there c.in-Err.fault c.in-Err.message
     (record { inside = d.inside; closed = d.closed; next = d.next; history = d.history; limit = d.limit })
     d.fault

@@ -12,4 +12,4 @@ returns c =
     opened_by w _ c.args.who c.args.place m c.open_held.new.self c.open_held.result
     (read_at c.self.inside.ractors.items w.ractors c.args.place m vs c.requires.within c.index_mut-ractor.ensures.value)
     (set_in c.self.inside.ractors.items w.ractors c.args.place c.open_held.new.self c.open_held.new.self vs refl)
-    (ap (λ (v : Assembly). v.inboxes) c.self.view_is) c.requires.stands c.open_held.ensures
+    (ap (λ (v : Assembly). v.channels) c.self.view_is) c.requires.stands c.open_held.ensures

@@ -12,4 +12,4 @@ returns c =
     packed_by w _ c.args.who c.args.place m c.pack.new.self c.args.value c.pack.result
     (read_at c.self.inside.ractors.items w.ractors c.args.place m vs c.requires.within c.index_mut-ractor.ensures.value)
     (set_in c.self.inside.ractors.items w.ractors c.args.place c.pack.new.self c.pack.new.self vs refl)
-    (ap (λ (v : Assembly). v.inboxes) c.self.view_is) c.requires.stands c.pack.ensures
+    (ap (λ (v : Assembly). v.channels) c.self.view_is) c.requires.stands c.pack.ensures

@@ -12,4 +12,4 @@ returns c =
     pushed_by w _ c.args.who c.args.place m c.push.new.self c.args.array c.args.value c.push.result
     (read_at c.self.inside.ractors.items w.ractors c.args.place m vs c.requires.within c.index_mut-ractor.ensures.value)
     (set_in c.self.inside.ractors.items w.ractors c.args.place c.push.new.self c.push.new.self vs refl)
-    (ap (λ (v : Assembly). v.inboxes) c.self.view_is) c.requires.stands c.push.ensures
+    (ap (λ (v : Assembly). v.channels) c.self.view_is) c.requires.stands c.push.ensures

@@ -12,4 +12,4 @@ returns c =
     set_by w _ c.args.who c.args.place m c.set_field.new.self c.args.object c.args.name c.args.value c.set_field.result
     (read_at c.self.inside.ractors.items w.ractors c.args.place m vs c.requires.within c.index_mut-ractor.ensures.value)
     (set_in c.self.inside.ractors.items w.ractors c.args.place c.set_field.new.self c.set_field.new.self vs refl)
-    (ap (λ (v : Assembly). v.inboxes) c.self.view_is) c.requires.stands c.set_field.ensures
+    (ap (λ (v : Assembly). v.channels) c.self.view_is) c.requires.stands c.set_field.ensures

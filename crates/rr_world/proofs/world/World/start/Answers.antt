@@ -1,7 +1,7 @@
 use Rattle.std.proofs.Common.{◌≡◌, ◌++◌, ◌∷◌, [], List, length, inl, inr, sym, ap, ◌∙◌, refl, arith}
 use Rattle.rr_inbox.specs.Inboxes.{Inbox}
 use Rattle.rr_world.specs.Views.{Assembly, Member}
-use Rattle.rr_world.proofs.Insides.{read_at, same_assembly}
+use Rattle.rr_world.proofs.Insides.{channels, read_at, same_assembly}
 use Rattle.rr_world.proofs.Starting.{begun, start_refused}
 use Rattle.rr_world.proofs.world.World.start.Goals as goal
 
@@ -26,31 +26,31 @@ pub returns-then-is_err : goal.returns-then-is_err
 returns-then-is_err c =
     let w = c.args.self.now in
     let vs : c.self.inside.ractors.items ≡ w.ractors = ap (λ (v : Assembly). v.ractors) c.self.view_is in
-    let is : c.self.inside.inboxes.items ≡ w.inboxes = ap (λ (v : Assembly). v.inboxes) c.self.view_is in
+    let is : c.self.inside.inboxes.items ≡ w.channels.inboxes = ap (λ (v : Assembly). v.channels.inboxes) c.self.view_is in
     start_refused w _ c.args.who c.args.place c.index.result.now _
     (read_at c.self.inside.ractors.items w.ractors c.args.place c.index.result.now vs c.requires.within c.index.ensures)
-    (same_assembly c.reserve.new.self.items w.ractors c.self.inside.inboxes.items w.inboxes (c.reserve.ensures.items ∙ vs) is) c.requires.stands (inl refl)
+    (same_assembly c.reserve.new.self.items w.ractors (channels c.self.inside.inboxes.items) w.channels (c.reserve.ensures.items ∙ vs) (ap channels is)) c.requires.stands (inl refl)
 
 pub returns-then-is_err-2 : goal.returns-then-is_err-2
 returns-then-is_err-2 c =
     let w = c.args.self.now in
     let vs : c.self.inside.ractors.items ≡ w.ractors = ap (λ (v : Assembly). v.ractors) c.self.view_is in
-    let is : c.self.inside.inboxes.items ≡ w.inboxes = ap (λ (v : Assembly). v.inboxes) c.self.view_is in
+    let is : c.self.inside.inboxes.items ≡ w.channels.inboxes = ap (λ (v : Assembly). v.channels.inboxes) c.self.view_is in
     start_refused w _ c.args.who c.args.place c.index.result.now _
     (read_at c.self.inside.ractors.items w.ractors c.args.place c.index.result.now vs c.requires.within c.index.ensures)
-    (same_assembly c.reserve.new.self.items w.ractors c.reserve-2.new.self.items w.inboxes (c.reserve.ensures.items ∙ vs) (c.reserve-2.ensures.items ∙ is)) c.requires.stands (inl refl)
+    (same_assembly c.reserve.new.self.items w.ractors (channels c.reserve-2.new.self.items) w.channels (c.reserve.ensures.items ∙ vs) (ap channels (c.reserve-2.ensures.items ∙ is))) c.requires.stands (inl refl)
 
 pub returns : goal.returns
 returns c =
     let w = c.args.self.now in
     let vs : c.self.inside.ractors.items ≡ w.ractors = ap (λ (v : Assembly). v.ractors) c.self.view_is in
-    let is : c.self.inside.inboxes.items ≡ w.inboxes = ap (λ (v : Assembly). v.inboxes) c.self.view_is in
+    let is : c.self.inside.inboxes.items ≡ w.channels.inboxes = ap (λ (v : Assembly). v.channels.inboxes) c.self.view_is in
     let many = ap length vs in
     let l = c.limits-limits.result in
     begun w _ l c.new-2.result
     (record { owner = c.new-2.ensures.owner ∙ omega (arith, many, c.len-count.ensures); slots = c.new-2.ensures.slots; below = c.new-2.ensures.below; limit = c.new-2.ensures.limit; roots = c.new-2.ensures.roots; hand = c.new-2.ensures.hand; run = c.new-2.ensures.limits })
     (c.push_reserved.ensures.items ∙ ap (λ (rs : List Member). rs ++ c.new-2.result ∷ []) (c.reserve.ensures.items ∙ vs))
-    (c.push_reserved-2.ensures.items ∙ ap (λ (bs : List Inbox). bs ++ c.in-Ok.inbox ∷ []) (c.reserve-2.ensures.items ∙ is) ∙ ap (λ (b : Inbox). w.inboxes ++ b ∷ []) c.in-Ok.ensures.made)
+    (ap channels (c.push_reserved-2.ensures.items ∙ ap (λ (bs : List Inbox). bs ++ c.in-Ok.inbox ∷ []) (c.reserve-2.ensures.items ∙ is) ∙ ap (λ (b : Inbox). w.channels.inboxes ++ b ∷ []) c.in-Ok.ensures.made))
     c.args.who _ c.args.place c.index.result.now
     (read_at c.self.inside.ractors.items w.ractors c.args.place c.index.result.now vs c.requires.within c.index.ensures)
     (sym c.limits-limits.ensures.is) c.requires.stands (omega (arith, many, c.len-count.ensures))

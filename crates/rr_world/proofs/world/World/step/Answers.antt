@@ -18,7 +18,7 @@ returns-in_default c =
 pub returns-in-None : goal.returns-in-None
 returns-in-None c =
     let w = c.args.self.now in
-    let many = ap length (ap (λ (v : Assembly). v.inboxes) c.self.view_is) in
+    let many = ap length (ap (λ (v : Assembly). v.channels.inboxes) c.self.view_is) in
     record {
       step = refused c.args.step.now w w refl
           (λ names g e. no_offer w names g c.args.step.now c.in-Offer.to c.in-Offer.is (λ k there. let le = c.in-None.ensures.none refl k there in omega (arith, le, many, c.len-in-Offer.ensures)) e);
@@ -27,7 +27,7 @@ returns-in-None c =
 pub returns-in-None-place_of : goal.returns-in-None-place_of
 returns-in-None-place_of c =
     let w = c.args.self.now in
-    let many = ap length (ap (λ (v : Assembly). v.inboxes) c.self.view_is) in
+    let many = ap length (ap (λ (v : Assembly). v.channels.inboxes) c.self.view_is) in
     record {
       step = refused c.args.step.now w w refl
           (λ names g e. no_close w names g c.args.step.now c.in-Close.to c.in-Close.is (λ k there. let le = c.in-None-place_of.ensures.none refl k there in omega (arith, le, many, c.len-in-Close.ensures)) e);

@@ -12,4 +12,4 @@ returns c =
     written_by w _ c.args.who c.args.place m c.write.new.self c.args.array c.args.at c.args.value c.write.result
     (read_at c.self.inside.ractors.items w.ractors c.args.place m vs c.requires.within c.index_mut-ractor.ensures.value)
     (set_in c.self.inside.ractors.items w.ractors c.args.place c.write.new.self c.write.new.self vs refl)
-    (ap (λ (v : Assembly). v.inboxes) c.self.view_is) c.requires.stands c.write.ensures
+    (ap (λ (v : Assembly). v.channels) c.self.view_is) c.requires.stands c.write.ensures
