@@ -1,0 +1,35 @@
+//! What a frame has beside its variables.
+
+use rr_space::Ref;
+use rr_tree::NodeId;
+
+/// The block that a call was given.
+#[derive(Clone, Copy, Debug, PartialEq, Eq, Drop)]
+pub enum Given {
+    Nothing,
+    /// The block's node, and the number of the frame in which the block stands.
+    Block { block: NodeId, home: u32 },
+}
+
+/// What a frame has beside its variables.
+#[derive(Clone, Copy)]
+pub struct Activation {
+    /// `self`.
+    pub itself: Ref,
+    /// The block that the method was given in which the body stands.
+    pub given: Given,
+    /// The number of the frame whose variables are one scope outside: a block's is that in which it stands, and a method's is
+    /// its own.
+    pub home: u32,
+    /// The number of the frame of the method in which the body stands.
+    pub root: u32,
+    /// The number of that method among the program's.
+    pub method: u32,
+}
+
+/// How many parameters and how many variables a body has. The parameters are the first of the variables.
+#[derive(Clone, Copy, Debug, PartialEq, Eq, Drop)]
+pub struct Shape {
+    pub parameters: u32,
+    pub size: u32,
+}

@@ -1,0 +1,188 @@
+//! A list of frames, whose variables lie in one vector.
+
+ghost use Rattle.std.specs.Prelude.{◌≡◌, nat_lt, ◌∷◌, ◌++◌, [], ◌<◌, length, slice_get, OnOk, OnErr, IfErr, IfSome, IsTrue, IsFalse, if◌then◌else◌};
+ghost use Rattle.std.specs.Option.{option_map};
+ghost use Rattle.rr_base.specs.declared.fault.Fault.{Fault};
+ghost use Rattle.rr_base.specs.declared.limits.LimitKind.{LimitKind};
+ghost use Rattle.rr_frames.specs.Frames.{no_frames, list_of, laid, read_at, write_at, left};
+
+use crate::activation::{Activation, Shape};
+use crate::slots::{add_within, append_within, cut_within, replace_at};
+use rr_base::{Fault, LimitKind};
+use rr_space::Ref;
+use std::alloc::Global;
+use std::marker::Model;
+
+/// Where the variables of a frame lie, and what else it has.
+#[derive(Clone, Copy)]
+pub(crate) struct Row {
+    pub base: usize,
+    pub size: usize,
+    pub activation: Activation,
+}
+
+/// The frames of the methods and blocks that run, by their numbers from 0: the first one is the program's. Each has its
+/// variables.
+#[derive(Drop)]
+pub struct Frames {
+    slots: Vec<Ref>,
+    rows: Vec<Row>,
+    limit: u32,
+}
+
+impl Model for Frames {
+    ghost use Rattle.rr_frames.specs.Frames.{Stack};
+    ghost use Rattle.rr_frames.specs.Layout.{frames_of, IsLaid};
+
+    ghost Value = { Stack };
+
+    ghost view = { λ s. record { frames = frames_of s.slots.items s.rows.items; limit = s.limit } };
+
+    ghost invariant = { λ s. IsLaid s.slots.items s.rows.items s.limit };
+}
+
+impl Frames {
+    /// No frames, of which there may be `limit`. Takes no memory.
+    pub fn new(alloc: Global, limit: u32) -> Frames
+        ensures { result ≡ no_frames limit }
+    {
+        Frames {
+            slots: Vec::new(alloc),
+            rows: Vec::new(alloc),
+            limit,
+        }
+    }
+
+    /// How many frames there are.
+    #[inline(always)]
+    pub fn len(&self) -> usize
+        ensures { result ≡ length self.now.frames }
+    {
+        self.rows.len()
+    }
+
+    /// What the frame has beside its variables.
+    #[inline(always)]
+    pub fn activation(&self, number: u32) -> Option<Activation>
+        ensures { result ≡ option_map (λ f. f.activation) (slice_get self.now.frames number) }
+    {
+        match self.rows.get(number as usize) {
+            Some(row) => Some(row.activation),
+            None => None,
+        }
+    }
+
+    /// A variable of a frame; nil where there is none.
+    #[inline(always)]
+    pub fn get(&self, number: u32, place: u32) -> Ref
+        ensures { result ≡ read_at number place self.now.frames }
+    {
+        let number = number as usize;
+        if number < self.rows.len() {
+            let row = self.rows[number];
+            if (place as usize) < row.size {
+                return self.slots[row.base + place as usize];
+            }
+        }
+        Ref::Nil
+    }
+
+    /// Gives a variable of a frame another value. Nothing is done where there is no such variable.
+    #[inline(always)]
+    pub fn set(&mut self, number: u32, place: u32, value: Ref)
+        ensures frames { self.new.frames ≡ write_at number place value self.old.frames }
+        ensures limit { self.new.limit ≡ self.old.limit }
+    {
+        let number = number as usize;
+        if number < self.rows.len() {
+            let row = self.rows[number];
+            if (place as usize) < row.size {
+                replace_at(&mut self.slots, row.base + place as usize, value);
+            }
+        }
+    }
+
+    /// A new frame, the last one, whose first variables are the parameters: they have the first of the values, and all
+    /// other variables are nil. `last` stands behind `values`.
+    ///
+    /// The faults leave the frames as they were. `Limit(Frames)`: there are as many as there may be. `Memory`: a growth was
+    /// refused.
+    pub fn push(
+        &mut self,
+        values: &[Ref],
+        last: Option<Ref>,
+        shape: Shape,
+        activation: Activation,
+    ) -> Result<(), Fault>
+        ensures pushed { OnOk result (self.new.frames ≡ self.old.frames ++ record { variables = laid shape.parameters shape.size (values.now ++ list_of last); activation = activation } ∷ []) }
+        ensures room { OnOk result (length self.old.frames < self.old.limit) }
+        ensures limit { self.new.limit ≡ self.old.limit }
+        ensures refused { OnErr result (self.new ≡ self.old) }
+        ensures fault { IfErr result (λ fault. fault ≡ (if nat_lt (length self.old.frames) self.old.limit then Fault.Memory else Fault.Limit LimitKind.Frames)) }
+    {
+        if self.rows.len() >= self.limit as usize {
+            return Err(Fault::Limit(LimitKind::Frames));
+        }
+        let base = self.slots.len();
+        let size = shape.size as usize;
+        self.rows.reserve(1)?;
+        self.slots
+            .reserve(size.max(values.len().saturating_add(1)).max(2))?;
+        append_within(&mut self.slots, values, last);
+        self.slots.truncate(base + shape.parameters as usize);
+        cut_within(&mut self.slots, base + size);
+        self.rows.push_reserved(Row {
+            base,
+            size,
+            activation,
+        });
+        Ok(())
+    }
+
+    /// The same for at most two values, where it takes no memory: it answers whether it was done. Where it answers `false`,
+    /// nothing was done.
+    #[inline(always)]
+    pub fn push_usual(
+        &mut self,
+        first: Option<Ref>,
+        last: Option<Ref>,
+        shape: Shape,
+        activation: Activation,
+    ) -> bool
+        ensures pushed { IsTrue result → self.new.frames ≡ self.old.frames ++ record { variables = laid shape.parameters shape.size (list_of first ++ list_of last); activation = activation } ∷ [] }
+        ensures room { IsTrue result → length self.old.frames < self.old.limit }
+        ensures limit { self.new.limit ≡ self.old.limit }
+        ensures declined { IsFalse result → self.new ≡ self.old }
+    {
+        let room = self.slots.capacity().saturating_sub(self.slots.len());
+        let size = shape.size as usize;
+        if self.rows.len() >= self.limit as usize
+            || self.rows.len() >= self.rows.capacity()
+            || room < 2
+            || room < size
+        {
+            return false;
+        }
+        let base = self.slots.len();
+        add_within(&mut self.slots, first, last);
+        self.slots.truncate(base + shape.parameters as usize);
+        cut_within(&mut self.slots, base + size);
+        self.rows.push_reserved(Row {
+            base,
+            size,
+            activation,
+        });
+        true
+    }
+
+    /// Takes the last frame away. Nothing is done where there is none.
+    #[inline(always)]
+    pub fn pop(&mut self)
+        ensures frames { self.new.frames ≡ left self.old.frames }
+        ensures limit { self.new.limit ≡ self.old.limit }
+    {
+        if let Some(row) = self.rows.pop() {
+            self.slots.truncate(row.base);
+        }
+    }
+}

@@ -1,0 +1,68 @@
+//! The variables of all frames in one vector.
+
+ghost use Rattle.std.specs.Prelude.{◌≡◌, ◌<◌, ◌≤◌, ◌+◌, ◌-◌, ◌++◌, length, take, replicate, vec_capacity, vec_len, slice_set};
+ghost use Rattle.rr_space.specs.declared.refer.Ref.{Ref};
+ghost use Rattle.rr_frames.specs.Frames.{list_of};
+
+use rr_space::Ref;
+
+/// One element in the place of another.
+#[inline(always)]
+pub(crate) fn replace_at<T: Copy>(items: &mut Vec<T>, place: usize, item: T)
+    requires { place < vec_len items.old }
+    ensures { items.new.items ≡ slice_set items.old.items place item }
+{
+    items[place] = item;
+}
+
+/// More values, where there is room.
+pub(crate) fn append_within(slots: &mut Vec<Ref>, values: &[Ref], last: Option<Ref>)
+    requires { length slots.old.items + length values.now + 1 ≤ vec_capacity slots.old }
+    ensures items { slots.new.items ≡ slots.old.items ++ values.now ++ list_of last }
+    ensures capacity { vec_capacity slots.old ≤ vec_capacity slots.new }
+{
+    match slots.extend_from_slice(values) {
+        Ok(()) => (),
+        Err(_) => unreachable!(),
+    }
+    if let Some(value) = last {
+        slots.push_reserved(value);
+    }
+}
+
+/// At most two more values, where there is room.
+#[inline(always)]
+pub(crate) fn add_within(slots: &mut Vec<Ref>, first: Option<Ref>, last: Option<Ref>)
+    requires { length slots.old.items + 2 ≤ vec_capacity slots.old }
+    ensures items { slots.new.items ≡ slots.old.items ++ list_of first ++ list_of last }
+    ensures capacity { vec_capacity slots.old ≤ vec_capacity slots.new }
+{
+    if let Some(value) = first {
+        slots.push_reserved(value);
+    }
+    if let Some(value) = last {
+        slots.push_reserved(value);
+    }
+}
+
+// Cut or filled up with nil, where there is room.
+fn fill_within(slots: &mut Vec<Ref>, end: usize)
+    requires { end ≤ vec_capacity slots.old }
+    ensures { slots.new.items ≡ take end slots.old.items ++ replicate (end - length slots.old.items) Ref.Nil }
+{
+    match slots.resize(end, Ref::Nil) {
+        Ok(()) => (),
+        Err(_) => unreachable!(),
+    }
+}
+
+/// Cut or filled up with nil, where there is room; nothing is done where the length is right.
+#[inline(always)]
+pub(crate) fn cut_within(slots: &mut Vec<Ref>, end: usize)
+    requires { end ≤ vec_capacity slots.old }
+    ensures { slots.new.items ≡ take end slots.old.items ++ replicate (end - length slots.old.items) Ref.Nil }
+{
+    if slots.len() != end {
+        fill_within(slots, end);
+    }
+}
