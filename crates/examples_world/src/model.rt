@@ -1,0 +1,298 @@
+//! A slow plain model of the graph machine: the graph is a list of objects with their holders, and each question is
+//! answered by passes over all of it.
+
+use rr_base::{Fault, LimitKind, Limits};
+use rr_space::Label;
+use rr_world::{Operand, Reply};
+use std::alloc::{AllocError, Global};
+
+/// A value: an immediate, which no step tells from another, or an object by its name.
+#[derive(Clone, Copy, Debug, PartialEq, Eq, Drop)]
+pub enum Value {
+    Plain,
+    At(usize),
+}
+
+/// Who holds an object. Ractors and inboxes count from 0; a message inside an inbox has its ticket.
+#[derive(Clone, Copy, Debug, PartialEq, Eq, Drop)]
+pub enum Holder {
+    Ractor(usize),
+    Hand(usize),
+    Inbox(usize, u32),
+    Nobody,
+}
+
+#[derive(Clone, Copy, Debug, PartialEq, Eq, Drop)]
+pub enum Kind {
+    Text,
+    Array,
+    Plain,
+}
+
+/// What a value stands under: an element by its place, a field by its name.
+#[derive(Clone, Copy, Debug, PartialEq, Eq, Drop)]
+pub enum Mark {
+    Place(usize),
+    Field(u32),
+}
+
+#[derive(Drop)]
+pub struct Object {
+    pub holder: Holder,
+    pub kind: Kind,
+    pub frozen: bool,
+    pub parts: Vec<(Mark, Value)>,
+}
+
+#[derive(Clone, Copy, Debug, PartialEq, Eq, Drop)]
+pub struct Parcel {
+    pub root: Value,
+    pub size: usize,
+}
+
+#[derive(Drop)]
+pub struct Actor {
+    pub roots: Vec<Value>,
+    pub hand: Option<Parcel>,
+    pub slots: usize,
+}
+
+#[derive(Drop)]
+pub struct Inbox {
+    pub inside: Vec<(u32, Parcel)>,
+    pub closed: bool,
+    pub next: u32,
+    pub events: usize,
+}
+
+/// What a step answers.
+#[derive(Clone, Copy, Debug, PartialEq, Eq, Drop)]
+pub enum Told {
+    NotEnabled,
+    Done,
+    Offered(u32),
+    Empty,
+    EmptyAndClosed,
+    WasClosed(bool),
+    Started(u32),
+    Closed,
+    HistoryFull,
+    TooManySlots,
+    TooManyRactors,
+    Other,
+}
+
+#[derive(Drop)]
+pub struct Model {
+    pub objects: Vec<Object>,
+    pub actors: Vec<Actor>,
+    pub inboxes: Vec<Inbox>,
+    pub limits: Limits,
+}
+
+/// What a reply of the World tells.
+pub fn what_it_tells(reply: &Reply) -> Told {
+    match reply {
+        Reply::NotEnabled => Told::NotEnabled,
+        Reply::Done => Told::Done,
+        Reply::Offered(ticket) => Told::Offered(*ticket),
+        Reply::Empty => Told::Empty,
+        Reply::EmptyAndClosed => Told::EmptyAndClosed,
+        Reply::WasClosed(already) => Told::WasClosed(*already),
+        Reply::Started(number) => Told::Started(u32::from(number.0)),
+        Reply::Refused(Fault::Closed) => Told::Closed,
+        Reply::Refused(Fault::HistoryFull) => Told::HistoryFull,
+        Reply::Refused(Fault::Limit(LimitKind::Slots)) => Told::TooManySlots,
+        Reply::Refused(Fault::Limit(LimitKind::Ractors)) => Told::TooManyRactors,
+        _ => Told::Other,
+    }
+}
+
+/// The label that is read.
+pub fn mark_of(label: Label) -> Option<Mark> {
+    match label {
+        Label::Place(place) => Some(Mark::Place(place)),
+        Label::Field(name) => Some(Mark::Field(name.0)),
+        _ => None,
+    }
+}
+
+/// The first value under a label.
+pub fn first_under(object: &Object, wanted: Mark) -> Option<Value> {
+    for (mark, value) in &object.parts {
+        if *mark == wanted {
+            return Some(*value);
+        }
+    }
+    None
+}
+
+/// A value comes in the place of the first under the label, or behind all.
+pub fn put(object: &mut Object, wanted: Mark, new: Value) -> Result<(), AllocError> {
+    for (mark, value) in &mut object.parts {
+        if *mark == wanted {
+            *value = new;
+            return Ok(());
+        }
+    }
+    object.parts.push((wanted, new))?;
+    Ok(())
+}
+
+impl Model {
+    /// One ractor without objects.
+    pub fn new(alloc: Global, limits: Limits) -> Result<Model, AllocError> {
+        let mut model = Model {
+            objects: Vec::new(alloc),
+            actors: Vec::new(alloc),
+            inboxes: Vec::new(alloc),
+            limits,
+        };
+        model.begin(alloc)?;
+        Ok(model)
+    }
+
+    /// A ractor without objects comes, and its inbox.
+    pub fn begin(&mut self, alloc: Global) -> Result<(), AllocError> {
+        self.actors.push(Actor {
+            roots: Vec::new(alloc),
+            hand: None,
+            slots: 0,
+        })?;
+        self.inboxes.push(Inbox {
+            inside: Vec::new(alloc),
+            closed: false,
+            next: 0,
+            events: 0,
+        })?;
+        Ok(())
+    }
+
+    /// The value that an operand is.
+    pub fn named(&self, who: usize, operand: Operand) -> Option<Value> {
+        match operand {
+            Operand::Root(number) => {
+                let actor = self.actors.get(who)?;
+                actor.roots.get(number as usize).copied()
+            }
+            _ => Some(Value::Plain),
+        }
+    }
+
+    /// The name of the object that an operand is, where the ractor holds it.
+    pub fn own(&self, who: usize, operand: Operand) -> Option<usize> {
+        match self.named(who, operand)? {
+            Value::At(name) if self.objects.get(name)?.holder == Holder::Ractor(who) => Some(name),
+            _ => None,
+        }
+    }
+
+    /// The same, where the object is of a kind and not frozen.
+    pub fn open(&self, who: usize, operand: Operand, kind: Kind) -> Option<usize> {
+        let name = self.own(who, operand)?;
+        let object = self.objects.get(name)?;
+        if object.kind == kind && !object.frozen {
+            Some(name)
+        } else {
+            None
+        }
+    }
+
+    /// Marks what an object leads to, and answers whether that was new.
+    fn mark_parts(&self, name: usize, found: &mut [bool]) -> bool {
+        let mut more = false;
+        let Some(object) = self.objects.get(name) else {
+            return false;
+        };
+        for (_, value) in &object.parts {
+            if let Value::At(end) = value
+                && let Some(mark) = found.get_mut(*end)
+                && !*mark
+            {
+                *mark = true;
+                more = true;
+            }
+        }
+        more
+    }
+
+    /// Marks what each marked object leads to, and answers whether that was new.
+    fn pass(&self, found: &mut [bool]) -> bool {
+        let mut more = false;
+        for name in 0..self.objects.len() {
+            if found.get(name) == Some(&true) && self.mark_parts(name, found) {
+                more = true;
+            }
+        }
+        more
+    }
+
+    /// Which objects a value leads to.
+    pub fn reached(&self, alloc: Global, value: Value) -> Result<Vec<bool>, AllocError> {
+        let mut found = Vec::new(alloc);
+        for name in 0..self.objects.len() {
+            found.push(value == Value::At(name))?;
+        }
+        for _ in 0..self.objects.len() {
+            if !self.pass(found.as_mut_slice()) {
+                break;
+            }
+        }
+        Ok(found)
+    }
+
+    /// Whether a value leads to frozen objects alone.
+    pub fn is_shareable(&self, alloc: Global, value: Value) -> Result<bool, AllocError> {
+        let found = self.reached(alloc, value)?;
+        for (object, found) in self.objects.iter().zip(found.iter()) {
+            if *found && !object.frozen {
+                return Ok(false);
+            }
+        }
+        Ok(true)
+    }
+
+    /// Whether a value leads to an object that is shareable.
+    pub fn leads_to_shareable(&self, alloc: Global, value: Value) -> Result<bool, AllocError> {
+        let found = self.reached(alloc, value)?;
+        for name in 0..self.objects.len() {
+            if found.get(name) == Some(&true) && self.is_shareable(alloc, Value::At(name))? {
+                return Ok(true);
+            }
+        }
+        Ok(false)
+    }
+
+    /// All that one holds is held by another.
+    pub fn hand_on(&mut self, from: Holder, to: Holder) {
+        for object in &mut self.objects {
+            if object.holder == from {
+                object.holder = to;
+            }
+        }
+    }
+}
+
+/// The kinds of answers, of which there are as many as this.
+pub const KINDS: usize = 12;
+
+impl Told {
+    /// The number of its kind.
+    pub fn kind(self) -> usize {
+        match self {
+            Told::NotEnabled => 0,
+            Told::Done => 1,
+            Told::Offered(_) => 2,
+            Told::Empty => 3,
+            Told::EmptyAndClosed => 4,
+            Told::WasClosed(false) => 5,
+            Told::WasClosed(true) => 6,
+            Told::Started(_) => 7,
+            Told::Closed => 8,
+            Told::HistoryFull => 9,
+            Told::TooManySlots => 10,
+            Told::TooManyRactors => 11,
+            Told::Other => 12,
+        }
+    }
+}

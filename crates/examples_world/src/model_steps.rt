@@ -1,0 +1,323 @@
+//! The steps of the plain model.
+
+use crate::model::{
+    Holder, Inbox, Kind, Mark, Model, Object, Parcel, Told, Value, first_under, mark_of, put,
+};
+use rr_world::{Action, NewObject, Operand, Step};
+use std::alloc::{AllocError, Global};
+
+fn kind_of(new: NewObject) -> Kind {
+    match new {
+        NewObject::Text => Kind::Text,
+        NewObject::Array => Kind::Array,
+        NewObject::Object(_) => Kind::Plain,
+    }
+}
+
+/// The place of a ractor or an inbox of this number, counted from 1.
+fn place_of(number: u16, count: usize) -> Option<usize> {
+    let place = (number as usize).checked_sub(1)?;
+    if place < count { Some(place) } else { None }
+}
+
+/// Whether the history has room for a message: for its coming and its going, beside what it owes.
+fn has_room(inbox: &Inbox, limit: u32) -> bool {
+    let owed = inbox
+        .inside
+        .len()
+        .saturating_add(if inbox.closed { 0 } else { 1 });
+    inbox.events.saturating_add(owed).saturating_add(2) <= limit as usize
+}
+
+impl Model {
+    fn alloc(&mut self, alloc: Global, who: usize, new: NewObject) -> Result<Told, AllocError> {
+        let name = self.objects.len();
+        let Some(actor) = self.actors.get_mut(who) else {
+            return Ok(Told::NotEnabled);
+        };
+        if actor.slots >= self.limits.slots as usize {
+            return Ok(Told::TooManySlots);
+        }
+        actor.slots = actor.slots.saturating_add(1);
+        actor.roots.push(Value::At(name))?;
+        self.objects.push(Object {
+            holder: Holder::Ractor(who),
+            kind: kind_of(new),
+            frozen: false,
+            parts: Vec::new(alloc),
+        })?;
+        Ok(Told::Done)
+    }
+
+    fn freeze(&mut self, who: usize, operand: Operand) -> Told {
+        let Some(name) = self.own(who, operand) else {
+            return Told::NotEnabled;
+        };
+        match self.objects.get_mut(name) {
+            Some(object) => {
+                object.frozen = true;
+                Told::Done
+            }
+            None => Told::NotEnabled,
+        }
+    }
+
+    /// A value comes under the next place of an array, under one of its places, or into a field.
+    fn change(
+        &mut self,
+        who: usize,
+        operand: Operand,
+        kind: Kind,
+        mark: Option<Mark>,
+        value: Operand,
+    ) -> Result<Told, AllocError> {
+        let (Some(name), Some(value)) = (self.open(who, operand, kind), self.named(who, value))
+        else {
+            return Ok(Told::NotEnabled);
+        };
+        let Some(object) = self.objects.get_mut(name) else {
+            return Ok(Told::NotEnabled);
+        };
+        let mark = match mark {
+            Some(Mark::Place(place)) if place >= object.parts.len() => return Ok(Told::NotEnabled),
+            Some(mark) => mark,
+            None => Mark::Place(object.parts.len()),
+        };
+        put(object, mark, value)?;
+        Ok(Told::Done)
+    }
+
+    fn read(
+        &mut self,
+        who: usize,
+        operand: Operand,
+        mark: Option<Mark>,
+    ) -> Result<Told, AllocError> {
+        let (Some(Value::At(name)), Some(mark)) = (self.named(who, operand), mark) else {
+            return Ok(Told::NotEnabled);
+        };
+        let Some(object) = self.objects.get(name) else {
+            return Ok(Told::NotEnabled);
+        };
+        let Some(value) = first_under(object, mark) else {
+            return Ok(Told::NotEnabled);
+        };
+        if let Some(actor) = self.actors.get_mut(who) {
+            actor.roots.push(value)?;
+        }
+        Ok(Told::Done)
+    }
+
+    /// The names that the copies of the objects have that were found: the next ones, in their order.
+    fn names_of_copies(&self, alloc: Global, found: &[bool]) -> Result<Vec<usize>, AllocError> {
+        let mut names = Vec::new(alloc);
+        let mut next = self.objects.len();
+        for found in found {
+            names.push(next)?;
+            if *found {
+                next = next.saturating_add(1);
+            }
+        }
+        Ok(names)
+    }
+
+    /// The copy of a value among copies of these names.
+    fn copied(value: Value, names: &[usize]) -> Value {
+        match value {
+            Value::At(name) => names.get(name).map_or(value, |name| Value::At(*name)),
+            Value::Plain => Value::Plain,
+        }
+    }
+
+    /// A copy of an object, which is in a hand.
+    fn copy(
+        &self,
+        alloc: Global,
+        name: usize,
+        names: &[usize],
+        hand: usize,
+    ) -> Result<Option<Object>, AllocError> {
+        let Some(object) = self.objects.get(name) else {
+            return Ok(None);
+        };
+        let mut parts = Vec::new(alloc);
+        for (mark, value) in &object.parts {
+            parts.push((*mark, Model::copied(*value, names)))?;
+        }
+        Ok(Some(Object {
+            holder: Holder::Hand(hand),
+            kind: object.kind,
+            frozen: object.frozen,
+            parts,
+        }))
+    }
+
+    fn pack(&mut self, alloc: Global, who: usize, operand: Operand) -> Result<Told, AllocError> {
+        let Some(value) = self.named(who, operand) else {
+            return Ok(Told::NotEnabled);
+        };
+        if self.leads_to_shareable(alloc, value)? || self.hand(who).is_some() {
+            return Ok(Told::NotEnabled);
+        }
+        let found = self.reached(alloc, value)?;
+        let names = self.names_of_copies(alloc, found.as_slice())?;
+        let mut size = 0usize;
+        for name in 0..found.len() {
+            if found.get(name) == Some(&true)
+                && let Some(copy) = self.copy(alloc, name, names.as_slice(), who)?
+            {
+                self.objects.push(copy)?;
+                size = size.saturating_add(1);
+            }
+        }
+        let root = Model::copied(value, names.as_slice());
+        self.take_in_hand(who, Some(Parcel { root, size }));
+        Ok(Told::Done)
+    }
+
+    fn hand(&self, who: usize) -> Option<Parcel> {
+        self.actors.get(who)?.hand
+    }
+
+    fn take_in_hand(&mut self, who: usize, hand: Option<Parcel>) {
+        if let Some(actor) = self.actors.get_mut(who) {
+            actor.hand = hand;
+        }
+    }
+
+    fn discard(&mut self, who: usize) -> Told {
+        if self.hand(who).is_none() {
+            return Told::NotEnabled;
+        }
+        self.hand_on(Holder::Hand(who), Holder::Nobody);
+        self.take_in_hand(who, None);
+        Told::Done
+    }
+
+    fn offer(&mut self, who: usize, to: usize) -> Result<Told, AllocError> {
+        let Some(parcel) = self.hand(who) else {
+            return Ok(Told::NotEnabled);
+        };
+        let limit = self.limits.events;
+        let Some(inbox) = self.inboxes.get_mut(to) else {
+            return Ok(Told::NotEnabled);
+        };
+        if !has_room(inbox, limit) {
+            return Ok(Told::HistoryFull);
+        }
+        inbox.events = inbox.events.saturating_add(1);
+        if inbox.closed {
+            return Ok(Told::Closed);
+        }
+        let ticket = inbox.next;
+        inbox.next = ticket.saturating_add(1);
+        inbox.inside.push((ticket, parcel))?;
+        self.hand_on(Holder::Hand(who), Holder::Inbox(to, ticket));
+        self.take_in_hand(who, None);
+        Ok(Told::Offered(ticket))
+    }
+
+    fn accept(&mut self, who: usize) -> Told {
+        if self.hand(who).is_some() {
+            return Told::NotEnabled;
+        }
+        let Some(inbox) = self.inboxes.get_mut(who) else {
+            return Told::NotEnabled;
+        };
+        if inbox.inside.is_empty() {
+            return if inbox.closed {
+                Told::EmptyAndClosed
+            } else {
+                Told::Empty
+            };
+        }
+        let (ticket, parcel) = inbox.inside.remove(0);
+        inbox.events = inbox.events.saturating_add(1);
+        self.hand_on(Holder::Inbox(who, ticket), Holder::Hand(who));
+        self.take_in_hand(who, Some(parcel));
+        Told::Done
+    }
+
+    fn open_message(&mut self, who: usize) -> Result<Told, AllocError> {
+        let limit = self.limits.slots as usize;
+        let Some(actor) = self.actors.get_mut(who) else {
+            return Ok(Told::NotEnabled);
+        };
+        let Some(parcel) = actor.hand else {
+            return Ok(Told::NotEnabled);
+        };
+        let slots = actor.slots.saturating_add(parcel.size);
+        if slots > limit {
+            return Ok(Told::TooManySlots);
+        }
+        actor.slots = slots;
+        actor.roots.push(parcel.root)?;
+        actor.hand = None;
+        self.hand_on(Holder::Hand(who), Holder::Ractor(who));
+        Ok(Told::Done)
+    }
+
+    fn close(&mut self, to: usize) -> Told {
+        let Some(inbox) = self.inboxes.get_mut(to) else {
+            return Told::NotEnabled;
+        };
+        let already = inbox.closed;
+        if !already {
+            inbox.closed = true;
+            inbox.events = inbox.events.saturating_add(1);
+        }
+        Told::WasClosed(already)
+    }
+
+    fn start(&mut self, alloc: Global) -> Result<Told, AllocError> {
+        let count = self.actors.len();
+        if count >= self.limits.ractors as usize {
+            return Ok(Told::TooManyRactors);
+        }
+        self.begin(alloc)?;
+        Ok(Told::Started(count.saturating_add(1) as u32))
+    }
+
+    /// What a step answers, and what it leaves.
+    pub fn step(&mut self, alloc: Global, step: &Step) -> Result<Told, AllocError> {
+        let count = self.actors.len();
+        let Some(who) = place_of(step.who.0, count) else {
+            return Ok(Told::NotEnabled);
+        };
+        match step.action {
+            Action::Alloc(new) => self.alloc(alloc, who, new),
+            Action::Freeze(operand) => Ok(self.freeze(who, operand)),
+            Action::Append(text, _) => Ok(match self.open(who, text, Kind::Text) {
+                Some(_) => Told::Done,
+                None => Told::NotEnabled,
+            }),
+            Action::Push(array, value) => self.change(who, array, Kind::Array, None, value),
+            Action::Write(array, place, value) => {
+                self.change(
+                    who,
+                    array,
+                    Kind::Array,
+                    Some(Mark::Place(place as usize)),
+                    value,
+                )
+            }
+            Action::SetField(object, name, value) => {
+                self.change(who, object, Kind::Plain, Some(Mark::Field(name.0)), value)
+            }
+            Action::Read(operand, label) => self.read(who, operand, mark_of(label)),
+            Action::Pack(operand) => self.pack(alloc, who, operand),
+            Action::Discard => Ok(self.discard(who)),
+            Action::Offer(to) => match place_of(to.0, count) {
+                Some(to) => self.offer(who, to),
+                None => Ok(Told::NotEnabled),
+            },
+            Action::Accept => Ok(self.accept(who)),
+            Action::Open => self.open_message(who),
+            Action::Close(to) => match place_of(to.0, count) {
+                Some(to) => Ok(self.close(to)),
+                None => Ok(Told::NotEnabled),
+            },
+            Action::Start => self.start(alloc),
+        }
+    }
+}

@@ -1,0 +1,202 @@
+//! A walk by chance: each step is made by the World and by a plain model, and the answers are the same.
+
+ghost use Rattle.std.specs.Prelude.{◌≤◌};
+
+use crate::model::{Holder, KINDS, Model, Value, what_it_tells};
+use rr_base::{ClassId, Limits, RactorNo, Sym};
+use rr_space::Label;
+use rr_world::{Action, NewObject, Operand, Step, World};
+use std::alloc::{AllocError, Global};
+use std::process::Abort;
+use std::test::Fail;
+
+/// How many steps a walk has.
+const STEPS: u32 = 2_000;
+
+/// Few slots or few events, so that each limit is reached on the way.
+const FEW_SLOTS: Limits = Limits {
+    ractors: 6,
+    slots: 12,
+    ..Limits::DEFAULT
+};
+
+const FEW_EVENTS: Limits = Limits {
+    ractors: 6,
+    slots: 50,
+    events: 12,
+    ..Limits::DEFAULT
+};
+
+/// Numbers by chance, always the same ones: a linear congruence of 64 bits, of which the upper half is used.
+#[derive(Drop)]
+struct Dice(u64);
+
+impl Dice {
+    fn below(&mut self, bound: u32) -> u32 {
+        self.0 = self
+            .0
+            .wrapping_mul(6_364_136_223_846_793_005)
+            .wrapping_add(1_442_695_040_888_963_407);
+        ((self.0 >> 33) as u32).checked_rem(bound).unwrap_or(0)
+    }
+
+    fn ractor(&mut self) -> RactorNo {
+        RactorNo(u16::try_from(self.below(8)).unwrap_or(0))
+    }
+
+    /// One of the first roots, or an immediate.
+    fn operand(&mut self) -> Operand {
+        match self.below(10) {
+            0 => Operand::Int(7),
+            1 => Operand::Nil,
+            _ => Operand::Root(self.below(30)),
+        }
+    }
+
+    fn label(&mut self) -> Label {
+        match self.below(3) {
+            0 => Label::Field(Sym(self.below(3))),
+            _ => Label::Place(self.below(3) as usize),
+        }
+    }
+
+    fn new_object(&mut self) -> NewObject {
+        match self.below(4) {
+            0 => NewObject::Text,
+            1 => NewObject::Object(ClassId::OBJECT),
+            _ => NewObject::Array,
+        }
+    }
+
+    /// A step on objects.
+    fn change(&mut self) -> Action {
+        match self.below(8) {
+            0 if self.below(6) == 0 => Action::Freeze(self.operand()),
+            0 | 1 => Action::Append(self.operand(), b'a'),
+            2 => Action::Write(self.operand(), self.below(3), self.operand()),
+            3 => Action::SetField(self.operand(), Sym(self.below(3)), self.operand()),
+            4 => Action::Read(self.operand(), self.label()),
+            5 => Action::Alloc(self.new_object()),
+            _ => Action::Push(self.operand(), self.operand()),
+        }
+    }
+
+    /// A step on messages and inboxes.
+    fn exchange(&mut self) -> Action {
+        match self.below(16) {
+            0 => Action::Discard,
+            1 => Action::Start,
+            2 => Action::Open,
+            3 if self.below(8) == 0 => Action::Close(self.ractor()),
+            3 | 4 | 5 => Action::Open,
+            6 | 7 | 8 => Action::Accept,
+            9 | 10 | 11 => Action::Offer(self.ractor()),
+            _ => Action::Pack(self.operand()),
+        }
+    }
+
+    fn step(&mut self) -> Step {
+        let who = self.ractor();
+        let action = match self.below(2) {
+            0 => self.change(),
+            _ => self.exchange(),
+        };
+        Step { who, action }
+    }
+}
+
+/// What a value leads to has one holder.
+fn is_held_by(
+    model: &Model,
+    alloc: Global,
+    value: Value,
+    holder: Holder,
+) -> Result<bool, AllocError> {
+    let found = model.reached(alloc, value)?;
+    for (object, found) in model.objects.iter().zip(found.iter()) {
+        if *found && object.holder != holder {
+            return Ok(false);
+        }
+    }
+    Ok(true)
+}
+
+/// What the roots and the hand of a ractor lead to is its own.
+fn is_apart(model: &Model, alloc: Global, who: usize) -> Result<bool, AllocError> {
+    let Some(actor) = model.actors.get(who) else {
+        return Ok(true);
+    };
+    for root in &actor.roots {
+        if !is_held_by(model, alloc, *root, Holder::Ractor(who))? {
+            return Ok(false);
+        }
+    }
+    match actor.hand {
+        Some(parcel) => is_held_by(model, alloc, parcel.root, Holder::Hand(who)),
+        None => Ok(true),
+    }
+}
+
+/// What the messages of an inbox lead to is theirs.
+fn is_inbox_apart(model: &Model, alloc: Global, place: usize) -> Result<bool, AllocError> {
+    let Some(inbox) = model.inboxes.get(place) else {
+        return Ok(true);
+    };
+    for (ticket, parcel) in &inbox.inside {
+        if !is_held_by(model, alloc, parcel.root, Holder::Inbox(place, *ticket))? {
+            return Ok(false);
+        }
+    }
+    Ok(true)
+}
+
+/// No two holders lead to one object: each leads to its own alone.
+fn are_apart(model: &Model, alloc: Global) -> Result<bool, AllocError> {
+    for who in 0..model.actors.len() {
+        if !is_apart(model, alloc, who)? || !is_inbox_apart(model, alloc, who)? {
+            return Ok(false);
+        }
+    }
+    Ok(true)
+}
+
+fn walk(
+    rt: &impl Abort,
+    alloc: Global,
+    seed: u64,
+    limits: Limits,
+    seen: &mut [bool],
+) -> Result<(), Fail>
+    requires { 3 ≤ limits.events }
+{
+    let mut dice = Dice(seed);
+    let mut world = World::new(alloc, limits)?;
+    let mut model = Model::new(alloc, limits)?;
+    for number in 0..STEPS {
+        let step = dice.step();
+        let reply = world.step(alloc, &step);
+        let wanted = model.step(alloc, &step)?;
+        assert_eq!(rt; (number, what_it_tells(&reply)), (number, wanted));
+        if let Some(mark) = seen.get_mut(wanted.kind()) {
+            *mark = true;
+        }
+        if number % 100 == 0 {
+            assert!(rt; are_apart(&model, alloc)?);
+        }
+    }
+    Ok(())
+}
+
+#[test]
+fn the_world_answers_as_the_model_does(rt: HostRuntime) -> Result<(), Fail> {
+    let mut seen = [false; KINDS];
+    for seed in 1..3 {
+        walk(&rt, rt.alloc(), seed, FEW_SLOTS, &mut seen)?;
+        walk(&rt, rt.alloc(), seed, FEW_EVENTS, &mut seen)?;
+    }
+    // Each kind of answer was seen on the way.
+    for (kind, seen) in seen.iter().enumerate() {
+        assert_eq!(rt; (kind, *seen), (kind, true));
+    }
+    Ok(())
+}
