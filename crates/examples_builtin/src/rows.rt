@@ -124,6 +124,27 @@ error == 1 => false | #<TypeError: TypeError>
 [ shift => nil | []
 *[1 shift => can't modify frozen Array (FrozenError) | [1]
 [1 to_s => \"[1]\" | [1]
+[1,2 + [3 => [1, 2, 3] | [1, 2]
+[1 + 2 => wrong type Integer (TypeError) | [1]
+[ + [ => [] | []
+[1 - [1 => undefined method '-' for an instance of Array | [1]
+[1,2 dup => [1, 2] | [1, 2]
+*[1,2 dup => [1, 2] | [1, 2]
+'ab dup => \"ab\" | \"ab\"
+7 dup => 7 | 7
+nil dup => nil | nil
+:b dup => :b | :b
+[1,2 []= 0 5 => 5 | [5, 2]
+[1,2 []= -1 5 => 5 | [1, 5]
+[1,2 []= 2 5 => 5 | [1, 2, 5]
+[1 []= 3 5 => 5 | [1, nil, nil, 5]
+[ []= 1 5 => 5 | [nil, 5]
+[1 []= -2 5 => index out of range (IndexError) | [1]
+*[1 []= 0 5 => can't modify frozen Array (FrozenError) | [1]
+[1 []= nil 5 => wrong type NilClass (TypeError) | [1]
+[1 []= 0 => wrong number of arguments (given 1, expected 2) (ArgumentError) | [1]
+7 []= 0 1 => undefined method '[]=' for an instance of Integer | 7
+[1 keys => undefined method 'keys' for an instance of Array | [1]
 shell + 1 => moved object (Ractor::MovedError) | shell
 shell nil? => moved object (Ractor::MovedError) | shell
 nil == shell => false | nil";

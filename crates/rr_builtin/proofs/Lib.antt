@@ -5,3 +5,5 @@ pub mod Same
 pub mod Among
 pub mod Performing
 pub mod Ancestors
+pub mod Gathering
+pub mod Arraying

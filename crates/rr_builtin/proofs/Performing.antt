@@ -132,7 +132,7 @@ written_done below old new f v r x w slots keys rest read is within among = reco
 
 -- ---- An element that is taken out.
 
-placed_value : (j : ℕ) (vs : List Value) (k : ℕ) (x : Value) → slice_get vs k ≡ Some x → value_or_nil (slice_get (placed_from j vs) k) ≡ x
+pub placed_value : (j : ℕ) (vs : List Value) (k : ℕ) (x : Value) → slice_get vs k ≡ Some x → value_or_nil (slice_get (placed_from j vs) k) ≡ x
 placed_value j [] k x e = absurd (none-some x e)
 placed_value j (v ∷ vs) zero x e = same_Some v x e
 placed_value j (v ∷ vs) (suc k) x e = placed_value (j + 1) vs k x e

@@ -1,9 +1,10 @@
 -- Acts on the objects of a space, and what they give and leave.
-use Rattle.std.specs.Prelude.{◌≡◌, ◌<◌, ◌⊎◌, ℕ, List, [], ◌∷◌, ◌++◌, length, map, remove, Result, Ok, Err, Option, Some, None, slice_get, slice_set, if◌then◌else◌, Contains, true}
+use Rattle.std.specs.Prelude.{◌≡◌, ◌<◌, ◌⊎◌, ℕ, List, [], ◌∷◌, ◌++◌, length, map, remove, Result, Ok, Err, Option, Some, None, slice_get, slice_set, if◌then◌else◌, Contains, true, false, zero, suc, nat_lt, ◌-◌}
 use Rattle.rr_base.specs.declared.fault.Fault.{Fault}
 use Rattle.rr_base.specs.declared.fault.Fault.TheVariants.{Memory, Limit}
 use Rattle.rr_base.specs.declared.limits.LimitKind.TheVariants.{Slots}
-use Rattle.rr_space.specs.Graph.{Value, Plain, At, Own, Nil, Label, Place, Object}
+use Rattle.rr_base.specs.declared.name.TheConstants.ClassId.{ARRAY}
+use Rattle.rr_space.specs.Graph.{Value, Plain, At, Own, Nil, Label, Place, Object, array}
 use Rattle.rr_space.specs.Tables.{Table, Slot, Here, Led, Below, IsRestKept, below_hold}
 use Rattle.rr_space.specs.Lookups.{text_object}
 use Rattle.rr_space.specs.Parts.{value_of, IsWithin}
@@ -36,6 +37,10 @@ pub data Act : Type 0 where
   Pushes : (value : Value) → Act
   -- an element is taken out of the receiver, and given
   Takes : (place : ℕ) → Act
+  -- a new array
+  MakesArray : (values : List Value) → Act
+  -- a value is put under a place of the receiver, and given
+  Puts : (place : ℕ) (value : Value) → Act
 
 abbrev pub outcome_of : Built → Outcome
 outcome_of (built.Value r) = Gives (value_of r)
@@ -47,6 +52,14 @@ outcome_of built.Missing = Lacks
 -- a new text gets the next slot
 abbrev pub with_text : List ℕ → Table → Table
 with_text bytes t = record t { slots = t.slots ++ Here (text_object bytes) ∷ []; below = t.below ++ [] ∷ []; keys = t.keys ++ [] ∷ [] }
+
+-- an array of these elements, not frozen
+abbrev pub array_object : List Value → Object
+array_object values = record { kind = array; class = ARRAY.0; bytes = []; frozen = false; triples = placed_from 0 values }
+
+-- a new array gets the next slot
+abbrev pub with_array : List Value → Table → Table
+with_array values t = record t { slots = t.slots ++ Here (array_object values) ∷ []; below = t.below ++ [] ∷ []; keys = t.keys ++ [] ∷ [] }
 
 abbrev pub changed_slot : (Object → Object) → List Slot → ℕ → Option Slot → List Slot
 changed_slot f slots n (Some (Here o)) = slice_set slots n (Here (f o))
@@ -74,6 +87,15 @@ with_bytes bytes o = record o { bytes = o.bytes ++ bytes }
 abbrev pub with_element : Value → Object → Object
 with_element x o = record o { triples = o.triples ++ (Place (length o.triples), x) ∷ [] }
 
+abbrev pub nils : ℕ → List Value
+nils zero = []
+nils (suc n) = Plain Nil ∷ nils n
+
+-- a value under a place of an array: in the place of what is there, or behind the elements and as many nils as lie between
+abbrev pub with_put : ℕ → Value → Object → Object
+with_put k x o =
+    record o { triples = if nat_lt k (length o.triples) then slice_set o.triples k (Place k, x) else o.triples ++ placed_from (length o.triples) (nils (k - length o.triples) ++ x ∷ []) }
+
 abbrev pub part_value : Label × Value → Value
 part_value p = p.1
 
@@ -95,6 +117,8 @@ performed (Makes bytes) v t = (Gives (At (Own (length t.slots))), with_text byte
 performed Freezes v t = (Gives (value_of v), froze v t)
 performed (Appends bytes) v t = (Gives (value_of v), changed (with_bytes bytes) v t)
 performed (Pushes x) v t = (Gives (value_of v), changed (with_element x) v t)
+performed (MakesArray values) v t = (Gives (At (Own (length t.slots))), with_array values t)
+performed (Puts k x) v t = (Gives x, changed (with_put k x) v t)
 performed (Takes k) v t = (Gives (element_at t v k), changed (without_element k) v t)
 
 -- ---- When a call has done an act.

@@ -10,7 +10,7 @@ use Rattle.rr_space.specs.declared.kind.Kind.TheVariants as kind
 use Rattle.rr_space.specs.declared.refer.Ref.{Ref}
 use Rattle.rr_space.specs.declared.refer.Ref.TheVariants.{Nil, Int, Symbol}
 use Rattle.rr_tree.specs.declared.node.BinaryOperator.{BinaryOperator}
-use Rattle.rr_tree.specs.declared.node.BinaryOperator.TheVariants.{Compare, Equal, NotEqual}
+use Rattle.rr_tree.specs.declared.node.BinaryOperator.TheVariants.{Add, Compare, Equal, NotEqual}
 use Rattle.rr_tree.specs.declared.program.Program.{Program}
 use Rattle.rr_text.specs.Forms.{Names, spoken}
 use Rattle.rr_builtin.specs.declared.method.TellingMethod.{TellingMethod}
@@ -24,7 +24,8 @@ use Rattle.rr_builtin.specs.Acts.{Act, Answers, Outcome, Gives, Raises, Lacks, o
 use Rattle.rr_builtin.specs.Numbers.{on_integer, number_answer}
 use Rattle.rr_builtin.specs.Objects.{equals, truth, told, printed_text, object_act}
 use Rattle.rr_builtin.specs.Texts.{text_operator, ordered}
-use Rattle.rr_builtin.specs.Contents.{content_act}
+use Rattle.rr_builtin.specs.Containers.{content_act}
+use Rattle.rr_builtin.specs.Arrays.{array_sum}
 use Rattle.rr_builtin.specs.Kinds.{is_shell_kind, has, count_of}
 
 -- `==` and `!=` of values that are equal or not
@@ -48,8 +49,14 @@ plain_operator names op (Int x) a t = Answers (outcome_of (on_integer op x a t))
 plain_operator names op (Symbol s) a t = symbol_operator names op s.0 (Symbol s) a t
 plain_operator names op v a t = equality op (equals t v a)
 
+-- an operator on an array
+abbrev pub array_operator : Names → BinaryOperator → Ref → Ref → Table → Act
+array_operator names Add v a t = array_sum v a t
+array_operator names op v a t = plain_operator names op v a t
+
 abbrev pub operator_act : Names → Kind → BinaryOperator → Ref → Ref → Table → Act
 operator_act names kind.Text op v a t = text_operator op v a t
+operator_act names kind.Array op v a t = array_operator names op v a t
 operator_act names _ op v a t = plain_operator names op v a t
 
 abbrev pub number_act : NumberMethod → Ref → Act
@@ -62,13 +69,13 @@ telling_act names below Name v t = told (printed_text names below spoken t v)
 telling_act names below Message v t = told (printed_text names below spoken t v)
 telling_act names below Cause v t = Answers (Gives (element_at t v 1))
 
--- what a method does that the receiver has, with its first argument
-abbrev pub method_act : Program → Below → BuiltInMethod → Ref → Ref → Table → Act
-method_act p below (Operator op) v a t = operator_act (names_of p) (kind_at t v) op v a t
-method_act p below (Number m) v a t = number_act m v
-method_act p below (Object m) v a t = object_act p below m v a t
-method_act p below (Content m) v a t = content_act (kind_at t v) m v a t
-method_act p below (Telling m) v a t = telling_act (names_of p) below m v t
+-- what a method does that the receiver has, with its first two arguments
+abbrev pub method_act : Program → Below → BuiltInMethod → Ref → Ref → Ref → Table → Act
+method_act p below (Operator op) v a b t = operator_act (names_of p) (kind_at t v) op v a t
+method_act p below (Number m) v a b t = number_act m v
+method_act p below (Object m) v a b t = object_act p below m v a t
+method_act p below (Content m) v a b t = content_act (kind_at t v) m v a b t
+method_act p below (Telling m) v a b t = telling_act (names_of p) below m v t
 
 -- what a call does: first it is asked whether the receiver was moved away, then whether it has the method, and then
 -- whether the number of arguments is right
@@ -76,7 +83,7 @@ abbrev pub call_act : Program → Below → Ref → BuiltInMethod → List Ref �
 call_act p below v m args t =
     if is_shell_kind (kind_at t v) then Answers (Raises Moved) else
     if has (kind_at t v) m then
-    (if nat_eq (length args) (count_of m) then method_act p below m v (slice_index_or args 0 Nil) t else Answers (Raises (Count (length args) (count_of m) (count_of m))))
+    (if nat_eq (length args) (count_of m) then method_act p below m v (slice_index_or args 0 Nil) (slice_index_or args 1 Nil) t else Answers (Raises (Count (length args) (count_of m) (count_of m))))
     else Answers Lacks
 
 -- what a call comes to, and the table then

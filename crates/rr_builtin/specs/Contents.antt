@@ -4,26 +4,21 @@ use Rattle.std.specs.Option.{is_some}
 use Rattle.memchr.specs.Find.{matches, first_of}
 use Rattle.rr_space.specs.Graph.{Value, Plain, Nil}
 use Rattle.rr_space.specs.Tables.{Table}
-use Rattle.rr_space.specs.Parts.{value_of}
 use Rattle.rr_space.specs.Views.{text_at, can_write_at}
 use Rattle.rr_space.specs.Kinds.{kind_at, class_at}
-use Rattle.rr_space.specs.Labels.{triples_at}
 use Rattle.rr_space.specs.declared.kind.Kind.{Kind}
 use Rattle.rr_space.specs.declared.kind.Kind.TheVariants as kind
 use Rattle.rr_space.specs.declared.refer.Ref.{Ref}
 use Rattle.rr_space.specs.declared.refer.Ref.TheVariants as ref
 use Rattle.rr_builtin.specs.declared.problem.Problem.TheVariants.{Frozen, WrongType}
 use Rattle.rr_builtin.specs.declared.method.ContentMethod.{ContentMethod}
-use Rattle.rr_builtin.specs.declared.method.ContentMethod.TheVariants.{Size, Length, IsEmpty, First, Last, At as AtMethod, Append, Push, Pop, Shift, Includes}
+use Rattle.rr_builtin.specs.declared.method.ContentMethod.TheVariants.{Size, Length, IsEmpty, At as AtMethod, Append, Includes}
 use Rattle.rr_builtin.specs.Integers.{given}
 use Rattle.rr_builtin.specs.Numbers.{number_given}
-use Rattle.rr_builtin.specs.Acts.{Act, Answers, Makes, Appends, Pushes, Takes, Outcome, Gives, Raises, Lacks, outcome_of, element_at}
+use Rattle.rr_builtin.specs.Acts.{Act, Answers, Makes, Appends, Takes, Outcome, Gives, Raises, Lacks, outcome_of, element_at}
 use Rattle.rr_builtin.specs.Objects.{is_text_kind, truth}
+use Rattle.rr_builtin.specs.Elements.{count_at}
 use Rattle.rr_builtin.specs.Characters.{begins_character, from_character, first_character}
-
--- how many values an object leads to: two for each pair of a hash
-abbrev pub count_at : Table → Ref → ℕ
-count_at t v = length (triples_at t v)
 
 -- the characters of a text, the elements of an array, the pairs of a hash
 abbrev pub size_at : Kind → Table → Ref → ℕ
@@ -94,31 +89,3 @@ text_content Append v a t = unless_frozen v t (text_append a t)
 text_content Includes v a t = includes_act v a t
 text_content AtMethod v a t = character_act v a t
 text_content _ v a t = Answers Lacks
-
--- a method of arrays
-abbrev pub array_content : ContentMethod → Ref → Ref → Table → Act
-array_content Size v a t = size_act kind.Array v t
-array_content Length v a t = size_act kind.Array v t
-array_content IsEmpty v a t = truth (is_empty kind.Array t v)
-array_content First v a t = Answers (Gives (element_at t v 0))
-array_content Last v a t = Answers (Gives (element_at t v (count_at t v - 1)))
-array_content AtMethod v a t = Answers (indexed v a t)
-array_content Append v a t = unless_frozen v t (Pushes (value_of a))
-array_content Push v a t = unless_frozen v t (Pushes (value_of a))
-array_content Pop v a t = popped v t
-array_content Shift v a t = taken v 0 t
-array_content Includes v a t = Answers Lacks
-
--- a method of hashes
-abbrev pub hash_content : ContentMethod → Ref → Table → Act
-hash_content Size v t = size_act kind.Hash v t
-hash_content Length v t = size_act kind.Hash v t
-hash_content IsEmpty v t = truth (is_empty kind.Hash t v)
-hash_content _ v t = Answers Lacks
-
--- a method of texts, arrays and hashes, by the kind of the receiver
-abbrev pub content_act : Kind → ContentMethod → Ref → Ref → Table → Act
-content_act kind.Text m v a t = text_content m v a t
-content_act kind.Array m v a t = array_content m v a t
-content_act kind.Hash m v a t = hash_content m v t
-content_act _ m v a t = Answers Lacks

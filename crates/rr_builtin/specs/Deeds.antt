@@ -1,5 +1,6 @@
 -- Deeds of the code, and the acts that they are.
-use Rattle.std.specs.Prelude.{◌≡◌, ◌<◌, IsTrue, length}
+use Rattle.std.specs.Prelude.{◌≡◌, ◌<◌, ◌≤◌, ◌-◌, ◌++◌, ℕ, List, [], ◌∷◌, IsTrue, length, map}
+use Rattle.std.specs.List.{All}
 use Rattle.rr_space.specs.Tables.{Table, Below}
 use Rattle.rr_space.specs.Parts.{value_of, IsWithin}
 use Rattle.rr_space.specs.Views.{can_write_at}
@@ -8,8 +9,9 @@ use Rattle.rr_space.specs.Labels.{triples_at}
 use Rattle.rr_space.specs.declared.kind.Kind.TheVariants.{Text, Array}
 use Rattle.rr_space.specs.declared.refer.Ref.{Ref}
 use Rattle.rr_builtin.specs.declared.deed.Deed.{Deed}
-use Rattle.rr_builtin.specs.declared.deed.Deed.TheVariants.{Answer, Make, Freeze, Append, Push, Take}
-use Rattle.rr_builtin.specs.Acts.{Act, Answers, Makes, Freezes, Appends, Pushes, Takes, outcome_of, IsRefAmong, IsBuiltWithin, IsBuiltAmong}
+use Rattle.rr_builtin.specs.declared.deed.Deed.TheVariants.{Answer, Make, Freeze, Append, Push, Take, MakeArray, Put, Refill}
+use Rattle.rr_builtin.specs.Elements.{elements_of}
+use Rattle.rr_builtin.specs.Acts.{Act, Answers, Makes, Freezes, Appends, Pushes, Takes, MakesArray, Puts, nils, outcome_of, IsRefAmong, IsBuiltWithin, IsBuiltAmong}
 
 abbrev pub act_of : Deed → Act
 act_of (Answer b) = Answers (outcome_of b)
@@ -18,6 +20,15 @@ act_of Freeze = Freezes
 act_of (Append bytes) = Appends bytes.items
 act_of (Push r) = Pushes (value_of r)
 act_of (Take k) = Takes k
+act_of (MakeArray items) = MakesArray (map value_of items.items)
+act_of (Put k r) = Puts k (value_of r)
+act_of (Refill items k r) = Puts k (value_of r)
+
+-- the elements that the array has once a value stands under a place behind them
+pub record IsRefilled (t : Table) (v : Ref) (items : List Ref) (k : ℕ) (r : Ref) : Type 0 where
+  pub within : All (IsWithin (length t.slots)) items
+  pub behind : length (triples_at t v) ≤ k
+  pub values : map value_of items ≡ elements_of t v ++ (nils (k - length (triples_at t v)) ++ value_of r ∷ [])
 
 -- the deed may be done: what is written may be written, is of the kind, and leads nowhere outside
 abbrev pub IsFit : Table → Ref → Deed → Type 0
@@ -27,6 +38,9 @@ IsFit t v Freeze = Unit {0}
 IsFit t v (Append bytes) = IsTrue (can_write_at t v) × (kind_at t v ≡ Text)
 IsFit t v (Push r) = IsTrue (can_write_at t v) × (kind_at t v ≡ Array) × IsWithin (length t.slots) r
 IsFit t v (Take k) = IsTrue (can_write_at t v) × (kind_at t v ≡ Array) × (k < length (triples_at t v))
+IsFit t v (MakeArray items) = All (IsWithin (length t.slots)) items.items
+IsFit t v (Put k r) = IsTrue (can_write_at t v) × (kind_at t v ≡ Array) × IsWithin (length t.slots) r × (k ≤ length (triples_at t v))
+IsFit t v (Refill items k r) = IsTrue (can_write_at t v) × (kind_at t v ≡ Array) × IsWithin (length t.slots) r × IsRefilled t v items.items k r
 
 -- each cluster that the deed brings is one of these
 abbrev pub IsDeedAmong : Below → Deed → Type 0
@@ -36,3 +50,6 @@ IsDeedAmong below Freeze = Unit {0}
 IsDeedAmong below (Append bytes) = Unit {0}
 IsDeedAmong below (Push r) = IsRefAmong below r
 IsDeedAmong below (Take k) = Unit {0}
+IsDeedAmong below (MakeArray items) = All (IsRefAmong below) items.items
+IsDeedAmong below (Put k r) = IsRefAmong below r
+IsDeedAmong below (Refill items k r) = All (IsRefAmong below) items.items × IsRefAmong below r

@@ -5,9 +5,9 @@ use Rattle.rr_space.specs.declared.kind.Kind.TheVariants as kind
 use Rattle.rr_tree.specs.declared.node.BinaryOperator.{BinaryOperator}
 use Rattle.rr_tree.specs.declared.node.BinaryOperator.TheVariants.{Add, Subtract, Multiply, Divide, Remainder, Less, LessOrEqual, Greater, GreaterOrEqual, Compare, Equal, NotEqual}
 use Rattle.rr_builtin.specs.declared.method.ObjectMethod.{ObjectMethod}
-use Rattle.rr_builtin.specs.declared.method.ObjectMethod.TheVariants.{IsA, KindOf, IsIdentical}
+use Rattle.rr_builtin.specs.declared.method.ObjectMethod.TheVariants.{IsA, KindOf, IsIdentical, Dup}
 use Rattle.rr_builtin.specs.declared.method.ContentMethod.{ContentMethod}
-use Rattle.rr_builtin.specs.declared.method.ContentMethod.TheVariants.{Size, Length, IsEmpty, First, Last, At, Append, Push, Pop, Shift, Includes}
+use Rattle.rr_builtin.specs.declared.method.ContentMethod.TheVariants.{Size, Length, IsEmpty, First, Last, At, Append, Push, Pop, Shift, Includes, SetAt, Keys, Values}
 use Rattle.rr_builtin.specs.declared.method.TellingMethod.{TellingMethod}
 use Rattle.rr_builtin.specs.declared.method.TellingMethod.TheVariants as telling
 use Rattle.rr_builtin.specs.declared.method.BuiltInMethod.{BuiltInMethod}
@@ -31,11 +31,17 @@ is_compared kind.Array = false
 is_compared kind.Hash = false
 is_compared _ = true
 
--- which kinds have `+` and `*`, `<` and its kin, and `<=>`
+-- which kinds have `*`, `<` and its kin, which have `+`, and which have `<=>`
 abbrev pub is_added : Kind → Bool
 is_added kind.Integer = true
 is_added kind.Text = true
 is_added _ = false
+
+abbrev pub is_joined : Kind → Bool
+is_joined kind.Integer = true
+is_joined kind.Text = true
+is_joined kind.Array = true
+is_joined _ = false
 
 abbrev pub has_order : Kind → Bool
 has_order kind.Integer = true
@@ -45,7 +51,7 @@ has_order _ = false
 
 -- the operators of values of the kind
 abbrev pub has_operator : Kind → BinaryOperator → Bool
-has_operator k Add = is_added k
+has_operator k Add = is_joined k
 has_operator k Multiply = is_added k
 has_operator k Subtract = is_integer_kind k
 has_operator k Divide = is_integer_kind k
@@ -75,6 +81,10 @@ is_appended kind.Text = true
 is_appended kind.Array = true
 is_appended _ = false
 
+abbrev pub is_hash : Kind → Bool
+is_hash kind.Hash = true
+is_hash _ = false
+
 abbrev pub has_content : Kind → ContentMethod → Bool
 has_content k Size = has_size k
 has_content k Length = has_size k
@@ -87,6 +97,9 @@ has_content k Push = is_array_kind k
 has_content k Pop = is_array_kind k
 has_content k Shift = is_array_kind k
 has_content k Includes = is_text k
+has_content k SetAt = is_array_kind k
+has_content k Keys = is_hash k
+has_content k Values = is_hash k
 
 abbrev pub is_class : Kind → Bool
 is_class kind.Class = true
@@ -96,16 +109,27 @@ abbrev pub is_exception : Kind → Bool
 is_exception kind.Exception = true
 is_exception _ = false
 
+abbrev pub is_copied : Kind → Bool
+is_copied kind.Hash = false
+is_copied kind.Object = false
+is_copied kind.Exception = false
+is_copied _ = true
+
 abbrev pub has_telling : Kind → TellingMethod → Bool
 has_telling k telling.Name = is_class k
 has_telling k telling.Message = is_exception k
 has_telling k telling.Cause = is_exception k
 
+-- all have but `dup`, which hashes and objects with fields have not
+abbrev pub has_object : Kind → ObjectMethod → Bool
+has_object k Dup = is_copied k
+has_object k _ = true
+
 -- whether values of the kind have the method
 abbrev pub has : Kind → BuiltInMethod → Bool
 has k (Operator op) = has_operator k op
 has k (Number m) = is_integer_kind k
-has k (Object m) = true
+has k (Object m) = has_object k m
 has k (Content m) = has_content k m
 has k (Telling m) = has_telling k m
 
@@ -120,6 +144,7 @@ content_count At = 1
 content_count Append = 1
 content_count Push = 1
 content_count Includes = 1
+content_count SetAt = 2
 content_count _ = 0
 
 -- how many arguments the method takes

@@ -11,4 +11,7 @@ pub mod Texts
 pub mod Characters
 pub mod Contents
 pub mod Kinds
+pub mod Arrays
+pub mod Elements
+pub mod Containers
 pub mod Calls

@@ -48,6 +48,7 @@ object_name object.Freeze = codes "freeze"
 object_name object.IsFrozen = codes "frozen?"
 object_name object.ToS = codes "to_s"
 object_name object.Inspect = codes "inspect"
+object_name object.Dup = codes "dup"
 
 abbrev pub content_name : ContentMethod → List ℕ
 content_name content.Size = codes "size"
@@ -61,6 +62,9 @@ content_name content.Push = codes "push"
 content_name content.Pop = codes "pop"
 content_name content.Shift = codes "shift"
 content_name content.Includes = codes "include?"
+content_name content.SetAt = codes "[]="
+content_name content.Keys = codes "keys"
+content_name content.Values = codes "values"
 
 abbrev pub telling_name : TellingMethod → List ℕ
 telling_name telling.Name = codes "name"
@@ -84,11 +88,12 @@ number_methods = Number number.Opposite ∷ Number number.Absolute ∷ Number nu
 
 abbrev pub object_methods : List BuiltInMethod
 object_methods = Object object.Class ∷ Object object.IsA ∷ Object object.KindOf ∷ Object object.IsNil ∷ Object object.IsIdentical ∷ Object object.Not ∷ Object object.Freeze ∷ Object object.IsFrozen
-    ∷ Object object.ToS ∷ Object object.Inspect ∷ []
+    ∷ Object object.ToS ∷ Object object.Inspect ∷ Object object.Dup ∷ []
 
 abbrev pub content_methods : List BuiltInMethod
 content_methods = Content content.Size ∷ Content content.Length ∷ Content content.IsEmpty ∷ Content content.First ∷ Content content.Last ∷ Content content.At
-    ∷ Content content.Append ∷ Content content.Push ∷ Content content.Pop ∷ Content content.Shift ∷ Content content.Includes ∷ []
+    ∷ Content content.Append ∷ Content content.Push ∷ Content content.Pop ∷ Content content.Shift ∷ Content content.Includes
+    ∷ Content content.SetAt ∷ Content content.Keys ∷ Content content.Values ∷ []
 
 abbrev pub telling_methods : List BuiltInMethod
 telling_methods = Telling telling.Name ∷ Telling telling.Message ∷ Telling telling.Cause ∷ []

@@ -16,11 +16,12 @@ use Rattle.rr_text.specs.Walk.{Walked, Wrote, Differs, Deep, Shell}
 use Rattle.rr_text.specs.Forms.{Names, Way, spoken, inspected, same_name, printed}
 use Rattle.rr_builtin.specs.declared.problem.Problem.TheVariants.{Moved, TooDeep, WrongType}
 use Rattle.rr_builtin.specs.declared.method.ObjectMethod.{ObjectMethod}
-use Rattle.rr_builtin.specs.declared.method.ObjectMethod.TheVariants.{Class, IsA, KindOf, IsNil, IsIdentical, Not, Freeze, IsFrozen, ToS, Inspect}
+use Rattle.rr_builtin.specs.declared.method.ObjectMethod.TheVariants.{Class, IsA, KindOf, IsNil, IsIdentical, Not, Freeze, IsFrozen, ToS, Inspect, Dup}
 use Rattle.rr_tree.specs.declared.program.Program.{Program}
 use Rattle.rr_text.specs.Names.{names_of}
 use Rattle.rr_builtin.specs.Classes.{descends}
-use Rattle.rr_builtin.specs.Acts.{Act, Answers, Makes, Freezes, Gives, Raises}
+use Rattle.rr_builtin.specs.Acts.{Act, Answers, Makes, MakesArray, Freezes, Gives, Raises}
+use Rattle.rr_builtin.specs.Elements.{elements_of}
 
 abbrev pub same_truth : Bool → Bool → Bool
 same_truth true b = b
@@ -90,6 +91,12 @@ abbrev pub kind_of_act : Program → Ref → Ref → Table → Act
 kind_of_act p v (ref.Class c) t = truth (descends p (class_at t v).0 c.0)
 kind_of_act p v a t = Answers (Raises (WrongType (class_at t a)))
 
+-- a text and an array anew, not frozen, and any other value itself
+abbrev pub copy_act : Kind → Ref → Table → Act
+copy_act kind.Text v t = Makes (text_at t v)
+copy_act kind.Array v t = MakesArray (elements_of t v)
+copy_act _ v t = Answers (Gives (value_of v))
+
 -- a method of all values, with its argument
 abbrev pub object_act : Program → Below → ObjectMethod → Ref → Ref → Table → Act
 object_act p below Class v a t = Answers (Gives (Plain (ClassNo (class_at t v).0)))
@@ -101,6 +108,7 @@ object_act p below Not v a t = truth (not (is_truthy v))
 object_act p below Freeze v a t = Freezes
 object_act p below IsFrozen v a t = truth (answers_frozen t v)
 object_act p below ToS v a t = spoken_act (names_of p) below v t
+object_act p below Dup v a t = copy_act (kind_at t v) v t
 object_act p below Inspect v a t = told (printed_text (names_of p) below inspected t v)
 
 -- ---- Equality of values that are no containers.

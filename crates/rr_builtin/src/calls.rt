@@ -9,8 +9,9 @@ ghost use Rattle.rr_text.specs.Names.{names_of};
 ghost use Rattle.rr_text.specs.Reads.{IsAmong, IsReadWith};
 ghost use Rattle.rr_builtin.specs.Acts.{Acts, IsRefAmong, IsBuiltWithin, IsBuiltAmong, outcome_of};
 ghost use Rattle.rr_builtin.specs.Deeds.{act_of, IsFit, IsDeedAmong};
-ghost use Rattle.rr_builtin.specs.Calls.{equality, symbol_order, symbol_operator, plain_operator, operator_act, number_act, telling_act, method_act, call_act, called};
+ghost use Rattle.rr_builtin.specs.Calls.{equality, symbol_order, symbol_operator, plain_operator, array_operator, operator_act, number_act, telling_act, method_act, call_act, called};
 
+use crate::arrays::sum_of_arrays;
 use crate::built::Built;
 use crate::contents::{content_deed, element_at};
 use crate::deed::{Deed, perform};
@@ -103,6 +104,26 @@ fn plain_operator(
     }
 }
 
+/// An operator on an array.
+fn array_operator(
+    alloc: Global,
+    space: &Space,
+    program: &Program,
+    operator: BinaryOperator,
+    value: Ref,
+    operand: Ref,
+) -> Result<Deed, Fault>
+    ensures act { IfOk result (λ deed. act_of deed ≡ array_operator (names_of program.now) operator value operand space.now) }
+    ensures fit { IfOk result (λ deed. IsFit space.now value deed) }
+    ensures among { IfOk result (λ deed. (below : Below) → IsReadWith space.now below → IsRefAmong below value → IsRefAmong below operand → IsDeedAmong below deed) }
+    ensures fault { IfErr result (λ f. f ≡ Fault.Memory) }
+{
+    match operator {
+        BinaryOperator::Add => sum_of_arrays(alloc, space, value, operand),
+        _ => Ok(plain_operator(space, program, operator, value, operand)),
+    }
+}
+
 fn operator_deed(
     alloc: Global,
     space: &Space,
@@ -113,11 +134,12 @@ fn operator_deed(
 ) -> Result<Deed, Fault>
     ensures act { IfOk result (λ deed. act_of deed ≡ operator_act (names_of program.now) (kind_at space.now value) operator value operand space.now) }
     ensures fit { IfOk result (λ deed. IsFit space.now value deed) }
-    ensures among { IfOk result (λ deed. (below : Below) → IsDeedAmong below deed) }
+    ensures among { IfOk result (λ deed. (below : Below) → IsReadWith space.now below → IsRefAmong below value → IsRefAmong below operand → IsDeedAmong below deed) }
     ensures fault { IfErr result (λ f. f ≡ Fault.Memory) }
 {
     match space.kind_of(value) {
         Kind::Text => text_operator(alloc, space, operator, value, operand),
+        Kind::Array => array_operator(alloc, space, program, operator, value, operand),
         _ => Ok(plain_operator(space, program, operator, value, operand)),
     }
 }
@@ -154,7 +176,7 @@ fn telling_deed(
     }
 }
 
-/// What a method does that the receiver has, with its first argument.
+/// What a method does that the receiver has, with its first two arguments.
 fn method_deed(
     alloc: Global,
     space: &Space,
@@ -162,13 +184,15 @@ fn method_deed(
     receiver: Ref,
     method: BuiltInMethod,
     argument: Ref,
+    second: Ref,
 ) -> Result<Deed, Fault>
     requires receiver { IsWithin (length space.now.slots) receiver }
     requires argument { IsWithin (length space.now.slots) argument }
+    requires second { IsWithin (length space.now.slots) second }
     ensures act { IfOk result (λ deed. (below : Below) → IsReadWith space.now below → IsAmong below receiver
-        → act_of deed ≡ method_act program.now below method receiver argument space.now) }
+        → act_of deed ≡ method_act program.now below method receiver argument second space.now) }
     ensures fit { IfOk result (λ deed. IsFit space.now receiver deed) }
-    ensures among { IfOk result (λ deed. (below : Below) → IsReadWith space.now below → IsRefAmong below receiver → IsRefAmong below argument → IsDeedAmong below deed) }
+    ensures among { IfOk result (λ deed. (below : Below) → IsReadWith space.now below → IsRefAmong below receiver → IsRefAmong below argument → IsRefAmong below second → IsDeedAmong below deed) }
     ensures fault { IfErr result (λ f. f ≡ Fault.Memory) }
 {
     match method {
@@ -179,7 +203,9 @@ fn method_deed(
         BuiltInMethod::Object(method) => {
             object_deed(alloc, space, program, method, receiver, argument)
         }
-        BuiltInMethod::Content(method) => content_deed(alloc, space, method, receiver, argument),
+        BuiltInMethod::Content(method) => content_deed(
+            alloc, space, method, receiver, argument, second,
+        ),
         BuiltInMethod::Telling(method) => telling_deed(alloc, space, program, method, receiver),
     }
 }
@@ -217,7 +243,8 @@ fn call_deed(
         }));
     }
     let argument = argument_at(arguments, 0);
-    method_deed(alloc, space, program, receiver, method, argument)
+    let second = argument_at(arguments, 1);
+    method_deed(alloc, space, program, receiver, method, argument, second)
 }
 
 /// Calls a built-in method. A refused growth leaves the objects as they were.

@@ -11,9 +11,11 @@ ghost use Rattle.rr_builtin.specs.Integers.{given};
 ghost use Rattle.rr_builtin.specs.Numbers.{number_given};
 ghost use Rattle.rr_builtin.specs.Acts.{Answers, Gives, Pushes, IsRefAmong, IsBuiltWithin, IsBuiltAmong, outcome_of, element_at};
 ghost use Rattle.rr_builtin.specs.Deeds.{act_of, IsFit, IsDeedAmong};
-ghost use Rattle.rr_builtin.specs.Contents.{size_at, size_act, is_empty, place_of, element_of, indexed, character_of, character_act, unless_frozen, text_append, includes, includes_act, taken, popped, text_content, array_content, hash_content, content_act};
+ghost use Rattle.rr_builtin.specs.Contents.{size_at, size_act, is_empty, place_of, element_of, indexed, character_of, character_act, unless_frozen, text_append, includes, includes_act, taken, popped, text_content};
+ghost use Rattle.rr_builtin.specs.Containers.{array_content, hash_content, content_act};
 ghost use Rattle.std.specs.Prelude.{pos};
 
+use crate::arrays::{names, put_deed, values};
 use crate::built::Built;
 use crate::characters::{character_at, characters};
 use crate::deed::Deed;
@@ -78,7 +80,7 @@ pub(crate) fn element_at(space: &Space, array: Ref, place: usize) -> Built
 }
 
 /// The place that an index names among so many: a negative one counts from the end.
-fn place_of(index: i64, count: usize) -> Option<usize>
+pub(crate) fn place_of(index: i64, count: usize) -> Option<usize>
     ensures { result ≡ place_of index count }
 {
     if index >= 0 {
@@ -263,42 +265,60 @@ fn text_content(
 }
 
 /// A method of arrays.
-fn array_content(space: &Space, method: ContentMethod, array: Ref, argument: Ref) -> Deed
+fn array_content(
+    alloc: Global,
+    space: &Space,
+    method: ContentMethod,
+    array: Ref,
+    argument: Ref,
+    second: Ref,
+) -> Result<Deed, Fault>
     requires kind { kind_at space.now array ≡ Kind.Array }
     requires argument { IsWithin (length space.now.slots) argument }
-    ensures act { act_of result ≡ array_content method array argument space.now }
-    ensures fit { IsFit space.now array result }
-    ensures among { (below : Below) → IsReadWith space.now below → IsRefAmong below array → IsRefAmong below argument → IsDeedAmong below result }
+    requires second { IsWithin (length space.now.slots) second }
+    ensures act { IfOk result (λ deed. act_of deed ≡ array_content method array argument second space.now) }
+    ensures fit { IfOk result (λ deed. IsFit space.now array deed) }
+    ensures among { IfOk result (λ deed. (below : Below) → IsReadWith space.now below → IsRefAmong below array → IsRefAmong below argument → IsRefAmong below second → IsDeedAmong below deed) }
+    ensures fault { IfErr result (λ f. f ≡ Fault.Memory) }
 {
     match method {
-        ContentMethod::Size => size_deed(space, Kind::Array, array),
-        ContentMethod::Length => size_deed(space, Kind::Array, array),
-        ContentMethod::IsEmpty => truth(is_empty(space, Kind::Array, array)),
-        ContentMethod::First => Deed::Answer(element_at(space, array, 0)),
+        ContentMethod::Size => Ok(size_deed(space, Kind::Array, array)),
+        ContentMethod::Length => Ok(size_deed(space, Kind::Array, array)),
+        ContentMethod::IsEmpty => Ok(truth(is_empty(space, Kind::Array, array))),
+        ContentMethod::First => Ok(Deed::Answer(element_at(space, array, 0))),
         ContentMethod::Last => {
             let count = space.arity(array);
-            Deed::Answer(element_at(space, array, count.saturating_sub(1)))
+            Ok(Deed::Answer(element_at(space, array, count.saturating_sub(1))))
         }
-        ContentMethod::At => Deed::Answer(indexed(space, array, argument)),
-        ContentMethod::Append => push_deed(space, array, argument),
-        ContentMethod::Push => push_deed(space, array, argument),
-        ContentMethod::Pop => pop_deed(space, array),
-        ContentMethod::Shift => shift_deed(space, array),
-        ContentMethod::Includes => Deed::Answer(Built::Missing),
+        ContentMethod::At => Ok(Deed::Answer(indexed(space, array, argument))),
+        ContentMethod::Append => Ok(push_deed(space, array, argument)),
+        ContentMethod::Push => Ok(push_deed(space, array, argument)),
+        ContentMethod::Pop => Ok(pop_deed(space, array)),
+        ContentMethod::Shift => Ok(shift_deed(space, array)),
+        ContentMethod::SetAt => put_deed(alloc, space, array, argument, second),
+        _ => Ok(Deed::Answer(Built::Missing)),
     }
 }
 
 /// A method of hashes.
-fn hash_content(space: &Space, method: ContentMethod, hash: Ref) -> Deed
-    ensures act { act_of result ≡ hash_content method hash space.now }
-    ensures fit { IsFit space.now hash result }
-    ensures among { (below : Below) → IsDeedAmong below result }
+fn hash_content(
+    alloc: Global,
+    space: &Space,
+    method: ContentMethod,
+    hash: Ref,
+) -> Result<Deed, Fault>
+    ensures act { IfOk result (λ deed. act_of deed ≡ hash_content method hash space.now) }
+    ensures fit { IfOk result (λ deed. IsFit space.now hash deed) }
+    ensures among { IfOk result (λ deed. (below : Below) → IsReadWith space.now below → IsRefAmong below hash → IsDeedAmong below deed) }
+    ensures fault { IfErr result (λ f. f ≡ Fault.Memory) }
 {
     match method {
-        ContentMethod::Size => size_deed(space, Kind::Hash, hash),
-        ContentMethod::Length => size_deed(space, Kind::Hash, hash),
-        ContentMethod::IsEmpty => truth(is_empty(space, Kind::Hash, hash)),
-        _ => Deed::Answer(Built::Missing),
+        ContentMethod::Size => Ok(size_deed(space, Kind::Hash, hash)),
+        ContentMethod::Length => Ok(size_deed(space, Kind::Hash, hash)),
+        ContentMethod::IsEmpty => Ok(truth(is_empty(space, Kind::Hash, hash))),
+        ContentMethod::Keys => Ok(Deed::MakeArray(names(alloc, space, hash)?)),
+        ContentMethod::Values => Ok(Deed::MakeArray(values(alloc, space, hash)?)),
+        _ => Ok(Deed::Answer(Built::Missing)),
     }
 }
 
@@ -309,17 +329,19 @@ pub(crate) fn content_deed(
     method: ContentMethod,
     value: Ref,
     argument: Ref,
+    second: Ref,
 ) -> Result<Deed, Fault>
-    requires { IsWithin (length space.now.slots) argument }
-    ensures act { IfOk result (λ deed. act_of deed ≡ content_act (kind_at space.now value) method value argument space.now) }
+    requires argument { IsWithin (length space.now.slots) argument }
+    requires second { IsWithin (length space.now.slots) second }
+    ensures act { IfOk result (λ deed. act_of deed ≡ content_act (kind_at space.now value) method value argument second space.now) }
     ensures fit { IfOk result (λ deed. IsFit space.now value deed) }
-    ensures among { IfOk result (λ deed. (below : Below) → IsReadWith space.now below → IsRefAmong below value → IsRefAmong below argument → IsDeedAmong below deed) }
+    ensures among { IfOk result (λ deed. (below : Below) → IsReadWith space.now below → IsRefAmong below value → IsRefAmong below argument → IsRefAmong below second → IsDeedAmong below deed) }
     ensures fault { IfErr result (λ f. f ≡ Fault.Memory) }
 {
     match space.kind_of(value) {
         Kind::Text => text_content(alloc, space, method, value, argument),
-        Kind::Array => Ok(array_content(space, method, value, argument)),
-        Kind::Hash => Ok(hash_content(space, method, value)),
+        Kind::Array => array_content(alloc, space, method, value, argument, second),
+        Kind::Hash => hash_content(alloc, space, method, value),
         _ => Ok(Deed::Answer(Built::Missing)),
     }
 }

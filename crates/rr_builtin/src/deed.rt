@@ -1,19 +1,20 @@
 //! What is done with the receiver of a call.
 
-ghost use Rattle.std.specs.Prelude.{◌≡◌, ◌<◌, IsTrue, length, IfOk};
+ghost use Rattle.std.specs.Prelude.{◌≡◌, ◌<◌, ◌≤◌, IsTrue, length, map, IfOk};
+ghost use Rattle.std.specs.List.{All};
 ghost use Rattle.rr_space.specs.Tables.{Below};
 ghost use Rattle.rr_space.specs.Parts.{IsWithin};
 ghost use Rattle.rr_space.specs.Kinds.{kind_at};
 ghost use Rattle.rr_space.specs.Labels.{triples_at};
 ghost use Rattle.rr_space.specs.Views.{can_write_at};
 ghost use Rattle.rr_text.specs.Reads.{IsReadWith};
-ghost use Rattle.rr_builtin.specs.Acts.{Acts, performed, froze, IsRefAmong, Answers, Makes, Freezes, Appends, Pushes, Takes, IsDone};
-ghost use Rattle.rr_builtin.specs.Deeds.{act_of, IsFit, IsDeedAmong};
+ghost use Rattle.rr_builtin.specs.Acts.{Acts, performed, froze, IsRefAmong, Answers, Makes, Freezes, Appends, Pushes, Takes, MakesArray, Puts, IsDone};
+ghost use Rattle.rr_builtin.specs.Deeds.{act_of, IsFit, IsDeedAmong, IsRefilled};
 ghost use Rattle.rr_space.specs.Parts.{value_of};
 
 use crate::built::Built;
 use rr_base::Fault;
-use rr_space::{Kind, Node, Ref, Space};
+use rr_space::{Items, Kind, Node, Ref, Space};
 
 /// What is done with the receiver of a call.
 #[derive(Drop)]
@@ -30,6 +31,12 @@ pub(crate) enum Deed {
     Push(Ref),
     /// An element is taken out of the receiver, and given.
     Take(usize),
+    /// A new array.
+    MakeArray(Vec<Ref>),
+    /// A value is put in the place of an element of the receiver or right behind them, and given.
+    Put(usize, Ref),
+    /// The receiver gets these elements, so that under the place is the value, which is given.
+    Refill(Vec<Ref>, usize, Ref),
 }
 
 /// Makes a new text.
@@ -91,6 +98,49 @@ fn take(space: &mut Space, array: Ref, place: usize) -> Built
     }
 }
 
+/// Makes a new array of these values.
+///
+/// A refused growth leaves the objects as they were.
+pub fn make_array(space: &mut Space, items: Vec<Ref>) -> Result<Built, Fault>
+    requires { All (IsWithin (length space.old.slots)) items.items }
+    ensures { (below : Below) (v : Ref) → IsReadWith space.old below → All (IsRefAmong below) items.items → Acts below (performed (MakesArray (map value_of items.items)) v) space.old space.new result }
+{
+    match space.alloc(Node::Array(Items::from_vec(items))) {
+        Ok(array) => Ok(Built::Value(array)),
+        Err(fault) => Err(fault),
+    }
+}
+
+/// Puts a value in the place of an element of an array, which may be written, or right behind the elements.
+fn put(space: &mut Space, array: Ref, place: usize, value: Ref) -> Result<Built, Fault>
+    requires can { IsTrue (can_write_at space.old array) }
+    requires kind { kind_at space.old array ≡ Kind.Array }
+    requires value { IsWithin (length space.old.slots) value }
+    requires place { place ≤ length (triples_at space.old array) }
+    ensures { (below : Below) → IsReadWith space.old below → IsRefAmong below value → Acts below (performed (Puts place (value_of value)) array) space.old space.new result }
+{
+    if place < space.arity(array) {
+        space.write_element(array, place, value);
+        return Ok(Built::Value(value));
+    }
+    match space.push_element(array, value) {
+        Ok(()) => Ok(Built::Value(value)),
+        Err(fault) => Err(fault),
+    }
+}
+
+/// Gives an array, which may be written, other elements, with a value under a place behind the old ones.
+fn refill(space: &mut Space, array: Ref, items: Vec<Ref>, place: usize, value: Ref) -> Built
+    requires can { IsTrue (can_write_at space.old array) }
+    requires kind { kind_at space.old array ≡ Kind.Array }
+    requires value { IsWithin (length space.old.slots) value }
+    requires filled { IsRefilled space.old array items.items place value }
+    ensures { (below : Below) → IsReadWith space.old below → All (IsRefAmong below) items.items → IsRefAmong below value → IsDone below (performed (Puts place (value_of value)) array space.old) space.old space.new result }
+{
+    space.write_elements(array, items);
+    Built::Value(value)
+}
+
 /// Does the deed. A refused growth leaves the objects as they were.
 pub(crate) fn perform(space: &mut Space, receiver: Ref, deed: Deed) -> Result<Built, Fault>
     requires within { IsWithin (length space.old.slots) receiver }
@@ -108,5 +158,8 @@ pub(crate) fn perform(space: &mut Space, receiver: Ref, deed: Deed) -> Result<Bu
         Deed::Append(bytes) => append(space, receiver, &bytes),
         Deed::Push(value) => push(space, receiver, value),
         Deed::Take(place) => Ok(take(space, receiver, place)),
+        Deed::MakeArray(items) => make_array(space, items),
+        Deed::Put(place, value) => put(space, receiver, place, value),
+        Deed::Refill(items, place, value) => Ok(refill(space, receiver, items, place, value)),
     }
 }

@@ -1,7 +1,7 @@
 //! Which methods the values of a kind have, and how many arguments they take.
 
 ghost use Rattle.std.specs.Prelude.{◌≡◌};
-ghost use Rattle.rr_builtin.specs.Kinds.{is_shell_kind, is_integer_kind, is_array_kind, is_compared, is_added, has_order, has_operator, has_size, is_text, is_appended, has_content, is_class, is_exception, has_telling, has, object_count, content_count, count_of};
+ghost use Rattle.rr_builtin.specs.Kinds.{is_shell_kind, is_integer_kind, is_array_kind, is_compared, is_added, has_order, has_operator, has_size, is_text, is_appended, is_joined, is_hash, is_copied, has_object, has_content, is_class, is_exception, has_telling, has, object_count, content_count, count_of};
 
 use crate::method::{BuiltInMethod, ContentMethod, ObjectMethod, TellingMethod};
 use rr_space::Kind;
@@ -25,7 +25,7 @@ fn is_integer_kind(kind: Kind) -> bool
     }
 }
 
-fn is_array_kind(kind: Kind) -> bool
+pub(crate) fn is_array_kind(kind: Kind) -> bool
     ensures { result ≡ is_array_kind kind }
 {
     match kind {
@@ -45,13 +45,25 @@ fn is_compared(kind: Kind) -> bool
     }
 }
 
-/// Whether values of the kind have `+`, `*`, and `<` and its kin.
+/// Whether values of the kind have `*`, and `<` and its kin.
 fn is_added(kind: Kind) -> bool
     ensures { result ≡ is_added kind }
 {
     match kind {
         Kind::Integer => true,
         Kind::Text => true,
+        _ => false,
+    }
+}
+
+/// Whether values of the kind have `+`.
+fn is_joined(kind: Kind) -> bool
+    ensures { result ≡ is_joined kind }
+{
+    match kind {
+        Kind::Integer => true,
+        Kind::Text => true,
+        Kind::Array => true,
         _ => false,
     }
 }
@@ -72,7 +84,7 @@ fn has_operator(kind: Kind, operator: BinaryOperator) -> bool
     ensures { result ≡ has_operator kind operator }
 {
     match operator {
-        BinaryOperator::Add => is_added(kind),
+        BinaryOperator::Add => is_joined(kind),
         BinaryOperator::Multiply => is_added(kind),
         BinaryOperator::Subtract => is_integer_kind(kind),
         BinaryOperator::Divide => is_integer_kind(kind),
@@ -118,6 +130,15 @@ fn is_appended(kind: Kind) -> bool
     }
 }
 
+fn is_hash(kind: Kind) -> bool
+    ensures { result ≡ is_hash kind }
+{
+    match kind {
+        Kind::Hash => true,
+        _ => false,
+    }
+}
+
 fn has_content(kind: Kind, method: ContentMethod) -> bool
     ensures { result ≡ has_content kind method }
 {
@@ -133,6 +154,9 @@ fn has_content(kind: Kind, method: ContentMethod) -> bool
         ContentMethod::Pop => is_array_kind(kind),
         ContentMethod::Shift => is_array_kind(kind),
         ContentMethod::Includes => is_text(kind),
+        ContentMethod::SetAt => is_array_kind(kind),
+        ContentMethod::Keys => is_hash(kind),
+        ContentMethod::Values => is_hash(kind),
     }
 }
 
@@ -154,6 +178,26 @@ fn is_exception(kind: Kind) -> bool
     }
 }
 
+fn is_copied(kind: Kind) -> bool
+    ensures { result ≡ is_copied kind }
+{
+    match kind {
+        Kind::Hash => false,
+        Kind::Object => false,
+        Kind::Exception => false,
+        _ => true,
+    }
+}
+
+fn has_object(kind: Kind, method: ObjectMethod) -> bool
+    ensures { result ≡ has_object kind method }
+{
+    match method {
+        ObjectMethod::Dup => is_copied(kind),
+        _ => true,
+    }
+}
+
 fn has_telling(kind: Kind, method: TellingMethod) -> bool
     ensures { result ≡ has_telling kind method }
 {
@@ -171,7 +215,7 @@ pub fn has(kind: Kind, method: BuiltInMethod) -> bool
     match method {
         BuiltInMethod::Operator(operator) => has_operator(kind, operator),
         BuiltInMethod::Number(_) => is_integer_kind(kind),
-        BuiltInMethod::Object(_) => true,
+        BuiltInMethod::Object(method) => has_object(kind, method),
         BuiltInMethod::Content(method) => has_content(kind, method),
         BuiltInMethod::Telling(method) => has_telling(kind, method),
     }
@@ -196,6 +240,7 @@ fn content_count(method: ContentMethod) -> usize
         ContentMethod::Append => 1,
         ContentMethod::Push => 1,
         ContentMethod::Includes => 1,
+        ContentMethod::SetAt => 2,
         _ => 0,
     }
 }

@@ -1,6 +1,7 @@
 //! The built-in methods, each its rule.
 #![tactic(auto)]
 
+mod arrays;
 mod built;
 mod calls;
 mod characters;
@@ -20,6 +21,7 @@ mod texts;
 pub use built::Built;
 pub use calls::call;
 pub use classes::{descends, superclass};
+pub use deed::make_array;
 pub use dividing::{division_rounds_down, floor_div, floor_mod};
 pub use integer::{
     NumberProblem, absolute, compare, difference, is_even, is_odd, is_zero, opposite, product,

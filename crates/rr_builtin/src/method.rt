@@ -25,6 +25,7 @@ pub enum ObjectMethod {
     IsFrozen,
     ToS,
     Inspect,
+    Dup,
 }
 
 /// A method of texts, arrays and hashes.
@@ -41,6 +42,9 @@ pub enum ContentMethod {
     Pop,
     Shift,
     Includes,
+    SetAt,
+    Keys,
+    Values,
 }
 
 /// A method of classes or of exceptions, which tells something of them.

@@ -84,6 +84,8 @@ fn object_method_named(name: &[u8]) -> Option<BuiltInMethod>
         ObjectMethod::ToS
     } else if name == b"inspect".as_slice() {
         ObjectMethod::Inspect
+    } else if name == b"dup".as_slice() {
+        ObjectMethod::Dup
     } else {
         return None;
     };
@@ -115,6 +117,12 @@ fn content_method_named(name: &[u8]) -> Option<BuiltInMethod>
         ContentMethod::Shift
     } else if name == b"include?".as_slice() {
         ContentMethod::Includes
+    } else if name == b"[]=".as_slice() {
+        ContentMethod::SetAt
+    } else if name == b"keys".as_slice() {
+        ContentMethod::Keys
+    } else if name == b"values".as_slice() {
+        ContentMethod::Values
     } else {
         return None;
     };

@@ -3,13 +3,15 @@
 ghost use Rattle.std.specs.Prelude.{◌≡◌, ℕ, IfOk, IfErr, length};
 ghost use Rattle.rr_space.specs.Tables.{Below, Table};
 ghost use Rattle.rr_space.specs.Parts.{IsWithin};
+ghost use Rattle.rr_space.specs.Kinds.{kind_at};
 ghost use Rattle.rr_text.specs.Names.{names_of};
 ghost use Rattle.rr_text.specs.Ways.{way_of};
 ghost use Rattle.rr_text.specs.Reads.{IsAmong, IsReadWith};
 ghost use Rattle.rr_builtin.specs.Acts.{IsRefAmong, Answers, Raises};
 ghost use Rattle.rr_builtin.specs.Deeds.{act_of, IsFit, IsDeedAmong};
-ghost use Rattle.rr_builtin.specs.Objects.{identical, is_truthy, is_nil, is_text_kind, answers_frozen, told, printed_text, spoken_act, kind_of_act, object_act, equals, truth};
+ghost use Rattle.rr_builtin.specs.Objects.{identical, is_truthy, is_nil, is_text_kind, answers_frozen, told, printed_text, spoken_act, kind_of_act, copy_act, object_act, equals, truth};
 
+use crate::arrays::elements;
 use crate::built::Built;
 use crate::classes::descends;
 use crate::deed::Deed;
@@ -133,6 +135,21 @@ fn kind_of_deed(space: &Space, program: &Program, value: Ref, class: Ref) -> Dee
     }
 }
 
+/// `dup`: a text or an array anew, and any other value itself.
+fn copy_deed(alloc: Global, space: &Space, value: Ref) -> Result<Deed, Fault>
+    requires { IsWithin (length space.now.slots) value }
+    ensures act { IfOk result (λ deed. act_of deed ≡ copy_act (kind_at space.now value) value space.now) }
+    ensures fit { IfOk result (λ deed. IsFit space.now value deed) }
+    ensures among { IfOk result (λ deed. (below : Below) → IsReadWith space.now below → IsRefAmong below value → IsDeedAmong below deed) }
+    ensures fault { IfErr result (λ f. f ≡ Fault.Memory) }
+{
+    match space.kind_of(value) {
+        Kind::Text => Ok(Deed::Make(space.text_bytes(value).to_vec(alloc)?)),
+        Kind::Array => Ok(Deed::MakeArray(elements(alloc, space, value, 0)?)),
+        _ => Ok(Deed::Answer(Built::Value(value))),
+    }
+}
+
 /// A method that all values have.
 pub(crate) fn object_deed(
     alloc: Global,
@@ -146,7 +163,7 @@ pub(crate) fn object_deed(
     ensures act { IfOk result (λ deed. (below : Below) → IsReadWith space.now below → IsAmong below value
         → act_of deed ≡ object_act program.now below method value argument space.now) }
     ensures fit { IfOk result (λ deed. IsFit space.now value deed) }
-    ensures among { IfOk result (λ deed. (below : Below) → IsRefAmong below value → IsDeedAmong below deed) }
+    ensures among { IfOk result (λ deed. (below : Below) → IsReadWith space.now below → IsRefAmong below value → IsDeedAmong below deed) }
     ensures fault { IfErr result (λ f. f ≡ Fault.Memory) }
 {
     match method {
@@ -160,6 +177,7 @@ pub(crate) fn object_deed(
         ObjectMethod::IsFrozen => Ok(truth(answers_frozen(space, value))),
         ObjectMethod::ToS => spoken(alloc, space, program, value),
         ObjectMethod::Inspect => told(alloc, space, program, value, Form::Inspect),
+        ObjectMethod::Dup => copy_deed(alloc, space, value),
     }
 }
 

@@ -5,7 +5,7 @@ use Rattle.std.proofs.lemmas.Option.{slice_get-get_or, same_Some, none-some}
 use Rattle.rr_space.specs.Graph.{Name, Own, Published, Value, Plain, At, Label, Object, Leads, Reaches, IsSolid}
 use Rattle.rr_space.specs.Tables.{Slot, Here, Led}
 use Rattle.rr_space.specs.Tables.{renamed, renamed_triple}
-use Rattle.rr_space.specs.Readings.{AreClustersInOrder, IsSharedValue, Owner, Shared, Owned, Objects, Naming, Layout, name_in, named, whole, object_part, HasPlace, IsInLayout, IsReading, IsShared, IsLocal, IsApart, ReadingsAreApart, RootsAreLocal}
+use Rattle.rr_space.specs.Readings.{AreClustersInOrder, IsSharedValue, Owner, Shared, Owned, Objects, Naming, Layout, name_in, named, whole, object_part, HasPlace, IsInLayout, IsReading, IsShared, IsLocal, ReadingsAreApart, RootsAreLocal}
 use Rattle.rr_space.proofs.Renaming.{contains_map_back}
 use Rattle.rr_space.proofs.Hands.{some_back}
 

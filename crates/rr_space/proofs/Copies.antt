@@ -5,7 +5,7 @@ use Rattle.std.specs.List.{AllZip}
 use Rattle.rr_space.specs.Graph.{Graph, Name, Own, Published, Value, Plain, At, Label, Object, Leads, Reaches, IsSolid, IsShareable, IsPart}
 use Rattle.rr_space.specs.Graph.{SameValue, SameTriple, Matches, Alike, IsAt}
 use Rattle.rr_space.specs.Tables.{IsSealed, IsPublished}
-use Rattle.rr_space.specs.Laws.{Copied, CopiesAreAlike}
+use Rattle.rr_space.specs.Laws.{CopiesAreAlike}
 
 contains_at : {X : Type 0} (xs : List X) (i : ℕ) (x : X) → slice_get xs i ≡ Some x → Contains xs x
 contains_at xs i x e = (i, slice_get_within xs i x e, get_or_from_slice_get xs i x x e)

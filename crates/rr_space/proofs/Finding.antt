@@ -1,20 +1,19 @@
 -- The pair that a search finds is there, and no key is there twice.
-use Rattle.std.proofs.Common.{◌≡◌, ℕ, zero, suc, ◌+◌, ◌*◌, ◌<◌, false, List, [], ◌∷◌, length, map, slice_get, Some, IfSome, sym, ap, ◌∙◌, refl, arith}
+use Rattle.std.proofs.Common.{◌≡◌, ℕ, zero, suc, ◌+◌, ◌*◌, ◌<◌, false, List, [], ◌∷◌, length, map, slice_get, Some, sym, ap, ◌∙◌, refl, arith}
 use Rattle.std.specs.List.{IsDistinct}
 use Rattle.std.specs.Map.{keys_of}
-use Rattle.std.specs.Option.{option_map, option_and_then}
+use Rattle.std.specs.Option.{option_map}
 use Rattle.std.proofs.lemmas.Bool.{false≢true}
 use Rattle.std.proofs.lemmas.Option.{slice_get-map, none-some}
-use Rattle.rr_space.specs.Graph.{Label, Value, Object, KeyAt, ValueAt}
-use Rattle.rr_space.specs.Tables.{Table, Whole, numbered, numbered_triple, outer_objects}
+use Rattle.rr_space.specs.Graph.{Label, Value, KeyAt, ValueAt}
+use Rattle.rr_space.specs.Tables.{Table, numbered, numbered_triple, outer_objects}
 use Rattle.rr_space.specs.Parts.{pairs_from, value_of, value_triple}
-use Rattle.rr_space.specs.Views.{entry_key, slot_of, below_held, slot_object, StandsAt, key_of}
+use Rattle.rr_space.specs.Views.{entry_key, slot_of, slot_object, StandsAt}
 use Rattle.rr_space.specs.Kinds.{kind_at, object_kind}
 use Rattle.rr_space.specs.Labels.{IsPairThere, triples_at, triples_of}
 use Rattle.rr_space.specs.Lookups.{AreDistinct}
 use Rattle.rr_space.specs.declared.refer.Ref.{Ref}
 use Rattle.rr_space.specs.declared.refer.Ref.TheVariants.{Local}
-use Rattle.rr_space.specs.declared.node.Held.{Held}
 use Rattle.rr_space.specs.declared.node.Held.TheVariants.{Forward}
 use Rattle.rr_space.proofs.Carrying.{apart_at}
 use Rattle.rr_space.proofs.Entering.{Entries}

@@ -3,7 +3,7 @@ use Rattle.std.proofs.Common.{◌≡◌, ℕ, zero, suc, ◌+◌, ◌<◌, ◌�
 use Rattle.std.proofs.lemmas.Bool.{eqb-true}
 use Rattle.std.proofs.lemmas.Option.{same_Some, none-some}
 use Rattle.rr_space.specs.Graph.{IsAt}
-use Rattle.rr_space.specs.Tables.{Slot, Here, Led}
+use Rattle.rr_space.specs.Tables.{Slot, Led}
 use Rattle.rr_space.specs.Moves.{forwarded_from, ForwardedIsExact}
 use Rattle.rr_space.proofs.Renaming.{at_contains}
 

@@ -1,11 +1,11 @@
 -- Where labels stand among what objects lead to.
-use Rattle.std.proofs.Common.{◌≡◌, ℕ, zero, suc, ◌+◌, ◌*◌, ◌/◌, ◌%◌, Bool, true, false, nat_eq, eq-eqb, cond, List, [], ◌∷◌, length, map, slice_get, Option, Some, None, sym, ap, ◌∙◌, subst, refl, arith}
+use Rattle.std.proofs.Common.{◌≡◌, ℕ, zero, suc, ◌+◌, ◌*◌, ◌/◌, ◌%◌, Bool, true, false, nat_eq, eq-eqb, cond, List, [], length, map, slice_get, Option, Some, None, sym, ap, ◌∙◌, subst, refl, arith}
 use Rattle.std.specs.Option.{option_map}
 use Rattle.std.proofs.lemmas.Bool.{eqb-true}
 use Rattle.std.proofs.lemmas.List.{length-map}
 use Rattle.std.proofs.lemmas.Option.{same_Some, none-some, slice_get-map}
 use Rattle.rr_base.specs.declared.name.Sym.{Sym}
-use Rattle.rr_space.specs.Graph.{Label, Place, Field, KeyAt, ValueAt, Value, Object}
+use Rattle.rr_space.specs.Graph.{Label, Place, KeyAt, ValueAt, Value, Object}
 use Rattle.rr_space.specs.Tables.{numbered_triple, numbered_object}
 use Rattle.rr_space.specs.Parts.{Parts, places_from, pairs_from, field_part, raised_parts, value_triple, sealed_parts, sealed_object}
 use Rattle.rr_space.specs.Views.{node_parts}

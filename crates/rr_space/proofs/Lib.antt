@@ -26,6 +26,7 @@ pub mod Keys
 pub mod Indexing
 pub mod Named
 pub mod Entering
+pub mod Extending
 pub mod Removing
 pub mod Fielding
 pub mod Standing

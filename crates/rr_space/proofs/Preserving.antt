@@ -1,15 +1,14 @@
 -- What promoting, opening and putting back leave of the objects that were there.
-use Rattle.std.proofs.Common.{◌≡◌, ℕ, ◌+◌, ◌<◌, ◌⊎◌, ⊎_elim, true, false, zero, suc, List, [], ◌∷◌, ◌++◌, length, map, slice_get, Option, Some, None, Contains, sym, ap, ◌∙◌, subst, refl, arith}
-use Rattle.std.specs.Prelude.{slice_index}
+use Rattle.std.proofs.Common.{◌≡◌, ℕ, ◌<◌, ◌⊎◌, ⊎_elim, true, zero, suc, List, [], ◌∷◌, ◌++◌, length, map, slice_get, Option, Some, None, Contains, sym, ap, ◌∙◌, subst, refl, arith}
 use Rattle.std.specs.List.{AllZip}
 use Rattle.std.specs.Option.{option_and_then}
 use Rattle.std.proofs.lemmas.Bool.{false≢true}
 use Rattle.std.proofs.lemmas.Option.{same_Some, none-some, slice_get_within, get_or_from_slice_get}
-use Rattle.rr_space.specs.Graph.{Graph, Name, Own, Published, Value, Plain, At, Label, Object, Leads, Reaches, IsPart, IsSolid, IsShareable}
+use Rattle.rr_space.specs.Graph.{Graph, Name, Own, Published, Value, Plain, At, Label, Object, Leads, IsPart, IsSolid, IsShareable}
 use Rattle.rr_space.specs.Graph.{SameValue, SameTriple, Matches, IsAt}
-use Rattle.rr_space.specs.Tables.{Slot, Here, Led, Below, Whole, Table, Packed, HashKey, resolve, resolve_slot, resolve_triple, resolve_object, numbered, numbered_triple, numbered_object, below_hold, outer_objects, published_at, object_in, graph_of, space_graph, message_graph, joined, IsPublished}
+use Rattle.rr_space.specs.Tables.{Slot, Here, Led, Below, Whole, Table, Packed, HashKey, resolve, resolve_slot, resolve_triple, resolve_object, numbered, numbered_triple, numbered_object, object_in, space_graph, joined, IsPublished}
 use Rattle.rr_space.specs.Tables.{renamed, renamed_triple, renamed_object, here_behind}
-use Rattle.rr_space.specs.Moves.{IsCopy, IsEmptied, IsPutBack, home_name, here_home, IsPlanned, IsPromotedTo, IsOpened, resolved_in, resolved_at, IsObjectKept, IsKept, KeepingAddsUp, PromotingKeeps, OpeningKeeps, PuttingBackKeeps}
+use Rattle.rr_space.specs.Moves.{IsCopy, IsEmptied, IsPutBack, home_name, here_home, IsPlanned, IsPromotedTo, resolved_in, IsObjectKept, IsKept, KeepingAddsUp, PromotingKeeps, OpeningKeeps, PuttingBackKeeps}
 use Rattle.rr_space.proofs.Frames.{map_same}
 use Rattle.rr_space.proofs.Hands.{append_left}
 use Rattle.rr_space.proofs.Keeping.{list_has}

@@ -1,13 +1,11 @@
 -- Loops that relate the elements of a list to those that were there, and the parts of nodes that were renumbered.
-use Rattle.std.proofs.Common.{◌≡◌, ℕ, zero, suc, ◌+◌, ◌<◌, ◌≤◌, ◌⊎◌, ⊎_elim, inl, inr, List, [], ◌∷◌, length, map, slice_get, slice_set, get_or, Some, Contains, sym, ap, ◌∙◌, subst, refl, arith, length-set}
-use Rattle.std.specs.Prelude.{slice_index}
+use Rattle.std.proofs.Common.{◌≡◌, ℕ, zero, suc, ◌+◌, ◌<◌, ◌≤◌, ◌⊎◌, inl, inr, List, [], ◌∷◌, length, map, slice_get, slice_set, get_or, Some, sym, ap, ◌∙◌, subst, refl, arith, length-set}
 use Rattle.std.specs.List.{AllZip}
 use Rattle.std.specs.Option.{option_map}
-use Rattle.std.proofs.lemmas.List.Elements.{Contains-append_left, Contains-append_right, Contains-append_cases}
-use Rattle.std.proofs.lemmas.Option.{same_Some, none-some, slice_get_within, slice_get_read, slice_get-map, get_or_from_slice_get}
+use Rattle.std.proofs.lemmas.Option.{same_Some, none-some, slice_get_within, slice_get_read, slice_get-map}
 use Rattle.indexmap.specs.IndexMap.{set_value_at}
 use Rattle.rr_base.specs.declared.name.Sym.{Sym}
-use Rattle.rr_space.specs.Graph.{Label, Place, Field, KeyAt, ValueAt, Object}
+use Rattle.rr_space.specs.Graph.{Label, Place, Field, KeyAt, ValueAt}
 use Rattle.rr_space.specs.Parts.{Parts, places_from, pairs_from, field_part, raised_parts}
 use Rattle.rr_space.specs.Views.{entry_pair, entry_key}
 use Rattle.rr_space.specs.Views.{IsRenumberedPart, IsRenumberedField, IsRenumberedEntry}
@@ -16,7 +14,6 @@ use Rattle.rr_space.specs.declared.refer.Ref.{Ref}
 use Rattle.rr_space.specs.declared.node.Key.{Key}
 use Rattle.rr_space.proofs.Keeping.{set_same, set_other, nat_cases}
 use Rattle.rr_space.proofs.Listing.{place_first}
-use Rattle.rr_space.proofs.Renaming.{mapped_at}
 
 pub zip_of : {A : Type 0} (G : A → A → Type 0) (xs ys : List A) → length ys ≡ length xs
     → ((j : ℕ) (x y : A) → slice_get xs j ≡ Some x → slice_get ys j ≡ Some y → G x y) → AllZip G xs ys

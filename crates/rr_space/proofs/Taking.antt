@@ -1,5 +1,5 @@
 -- Objects that are taken out of a slot and put back: what their references become.
-use Rattle.std.proofs.Common.{◌≡◌, ℕ, zero, suc, ◌<◌, ◌⊎◌, ⊎_elim, inl, inr, Bool, List, [], ◌∷◌, ◌++◌, length, map, slice_get, slice_set, get_or, Some, Contains, sym, ap, ◌∙◌, subst, refl, arith, length-set}
+use Rattle.std.proofs.Common.{◌≡◌, ℕ, zero, suc, ◌<◌, ⊎_elim, inl, inr, Bool, List, [], ◌∷◌, ◌++◌, length, map, slice_get, slice_set, Some, Contains, sym, ap, ◌∙◌, subst, refl, length-set}
 use Rattle.std.specs.Prelude.{slice_index}
 use Rattle.std.specs.List.{AllZip}
 use Rattle.std.proofs.lemmas.List.Elements.{Contains-append_left, Contains-append_right, Contains-append_cases}
@@ -7,17 +7,16 @@ use Rattle.std.proofs.lemmas.Option.{same_Some, none-some, slice_get_within, sli
 use Rattle.rr_space.specs.Graph.{Own, Published, Value, Plain, At, Label, Object}
 use Rattle.rr_space.specs.Graph.{SameValue, IsAt}
 use Rattle.rr_space.specs.Tables.{Slot, Here, Below, Table, joined, resolve, resolve_slot}
-use Rattle.rr_space.specs.Tables.{renamed, renamed_triple, renamed_object}
+use Rattle.rr_space.specs.Tables.{renamed, renamed_triple}
 use Rattle.rr_space.specs.Moves.{home_name, here_home}
 use Rattle.rr_space.specs.Parts.{Parts, value_of, value_triple, below_ref, below_parts}
 use Rattle.rr_space.specs.Parts.{IsWithin, AllWithin}
-use Rattle.rr_space.specs.Views.{emptied, node_kind, node_class, node_bytes, node_object, node_parts, node_keys, below_node, StandsAt, IsHeadKept}
+use Rattle.rr_space.specs.Views.{emptied, node_kind, node_class, node_object, node_parts, IsHeadKept}
 use Rattle.rr_space.specs.Views.{IsKnown, IsCarried, IsCarriedPart}
 use Rattle.rr_space.specs.Views.{IsRenumberedPart, ref_home}
 use Rattle.rr_space.specs.declared.refer.Ref.{Ref}
 use Rattle.rr_space.specs.declared.refer.Ref.TheVariants.{Nil, Truth, Int, Symbol, Class, Ractor, Local, Shared}
 use Rattle.rr_space.specs.declared.node.Node.{Node}
-use Rattle.rr_space.specs.declared.node.Held.TheVariants.{Whole}
 use Rattle.rr_space.proofs.Keeping.{set_same, set_other, nat_cases}
 use Rattle.rr_space.proofs.Renaming.{contains_at}
 

@@ -16,7 +16,7 @@ use Rattle.rr_space.specs.declared.node.Held.{Held}
 use Rattle.rr_space.specs.declared.node.Held.TheVariants.{Whole, Shell, Forward}
 
 module _ (k m : ℕ) (more : k ≤ m) where
-  ref_later : (r : Ref) → IsWithin k r → IsWithin m r
+  pub ref_later : (r : Ref) → IsWithin k r → IsWithin m r
   ref_later Nil h = tt
   ref_later (Truth b) h = tt
   ref_later (Int z) h = tt

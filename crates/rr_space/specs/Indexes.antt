@@ -1,5 +1,5 @@
 -- Which pair of a hash of a cluster is the first that has a key, and the indexes that say so.
-use Rattle.std.specs.Prelude.{◌≡◌, ◌<◌, ◌⊎◌, ℕ, Bool, List, [], length, map, slice_get, Option, Some, None, MatchOption, cond}
+use Rattle.std.specs.Prelude.{◌≡◌, ◌<◌, ◌⊎◌, ℕ, List, [], length, map, slice_get, Option, Some, None, MatchOption, cond}
 use Rattle.std.specs.List.{AllZip}
 use Rattle.std.specs.Map.{lookup}
 use Rattle.rr_space.specs.Graph.{Object}

@@ -12,6 +12,10 @@ use Rattle.rr_space.specs.Views.{object_at}
 abbrev pub text_object : List ℕ → Object
 text_object bytes = record { kind = text; class = STRING.0; bytes = bytes; frozen = false; triples = [] }
 
+-- the same, frozen
+abbrev pub frozen_text : List ℕ → Object
+frozen_text bytes = record (text_object bytes) { frozen = true }
+
 abbrev pub is_text : Kind → Bool
 is_text text = true
 is_text _ = false

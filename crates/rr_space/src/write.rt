@@ -1,15 +1,16 @@
 //! What changes one object: its flag, its bytes, and what stands under its labels.
 
-ghost use Rattle.std.specs.Prelude.{◌≡◌, ◌<◌, ℕ, true, [], ◌∷◌, ◌++◌, ◌↔◌, List, length, remove, Some, slice_get, slice_set, IsTrue, IsSome, IfOk, IfErr, IfSome, IfNone};
+ghost use Rattle.std.specs.Prelude.{◌≡◌, ◌<◌, ℕ, true, [], ◌∷◌, ◌++◌, ◌↔◌, List, length, map, remove, Some, slice_get, slice_set, IsTrue, IsSome, IfOk, IfErr, IfSome, IfNone};
 ghost use Rattle.rr_space.specs.Graph.{Object, Place, Value};
 ghost use Rattle.rr_space.specs.Tables.{Here, Led, below_hold, IsRestKept};
 ghost use Rattle.rr_space.specs.Sound.{IsHold};
-ghost use Rattle.rr_space.specs.Parts.{value_of};
+ghost use Rattle.rr_space.specs.Parts.{value_of, places_from, below_parts, AllWithin};
 ghost use Rattle.rr_space.specs.Labels.{label_of, triples_at, is_raised_label, raised_place};
 ghost use Rattle.rr_space.specs.Views.{placed_from};
 ghost use Rattle.rr_space.specs.Views.{is_whole, is_frozen_here, IsKnownTo, can_freeze_at, can_write_at, with_held, StandsAt, IsWithin, IsHeldWithin, IsLedBy, IsLedAlso, emptied, node_object, below_node, node_keys, IsNodeWithin};
 ghost use Rattle.rr_space.specs.Kinds.{kind_at};
 
+use crate::items::Items;
 use crate::kind::Kind;
 use crate::label::Label;
 use crate::node::{Held, Node};
@@ -181,6 +182,28 @@ impl Space {
             match self.take(slot) {
                 Held::Whole(frozen, node) => {
                     let changed = node.with_element(place, value);
+                    self.put(slot, Held::Whole(frozen, changed))
+                }
+                other => self.put(slot, other),
+            }
+        }
+    }
+
+    /// Gives an array other elements. `can_write` tells whether `array` may be written.
+    pub fn write_elements(&mut self, array: Ref, items: Vec<Ref>)
+        requires can { IsTrue (can_write_at self.old array) }
+        requires kind { kind_at self.old array ≡ Kind.Array }
+        requires within { AllWithin (length self.old.slots) (places_from 0 items.items) }
+        ensures slots { (n : ℕ) (o : Object) → array ≡ Ref.Local n → slice_get self.old.slots n ≡ Some (Here o)
+            → (vs : List Value) × (o.triples ≡ placed_from 0 vs) × (self.new.slots ≡ slice_set self.old.slots n (Here (record o { triples = placed_from 0 (map value_of items.items) }))) }
+        ensures below { (n : ℕ) → array ≡ Ref.Local n → IsLedAlso (below_parts (places_from 0 items.items)) n self.old.below self.new.below }
+        ensures keys { self.new.keys ≡ self.old.keys }
+        ensures rest { IsRestKept self.old self.new }
+    {
+        if let Ref::Local(slot) = array {
+            match self.take(slot) {
+                Held::Whole(frozen, _) => {
+                    let changed = Node::Array(Items::from_vec(items));
                     self.put(slot, Held::Whole(frozen, changed))
                 }
                 other => self.put(slot, other),

@@ -21,3 +21,18 @@ returns-in-Push c = λ below read receiver among.
 pub returns-in-Take : goal.returns-in-Take
 returns-in-Take c = λ below read receiver among.
     subst (λ (d : Deed). IsDone below (performed (act_of d) c.args.receiver c.args.space.now) c.args.space.now c.take.new.space c.take.result) (sym c.in-Take.is) (c.take.ensures below read)
+
+pub returns-in-MakeArray : goal.returns-in-MakeArray
+returns-in-MakeArray c = λ below read receiver among.
+    subst (λ (d : Deed). Acts below (performed (act_of d) c.args.receiver) c.args.space.now c.make_array.new.space c.make_array.result) (sym c.in-MakeArray.is)
+    (c.make_array.ensures below c.args.receiver read (subst (λ (d : Deed). IsDeedAmong below d) c.in-MakeArray.is among))
+
+pub returns-in-Put : goal.returns-in-Put
+returns-in-Put c = λ below read receiver among.
+    subst (λ (d : Deed). Acts below (performed (act_of d) c.args.receiver) c.args.space.now c.put.new.space c.put.result) (sym c.in-Put.is)
+    (c.put.ensures below read (subst (λ (d : Deed). IsDeedAmong below d) c.in-Put.is among))
+
+pub returns-in-Refill : goal.returns-in-Refill
+returns-in-Refill c = λ below read receiver among.
+    let parts = subst (λ (d : Deed). IsDeedAmong below d) c.in-Refill.is among in
+    subst (λ (d : Deed). IsDone below (performed (act_of d) c.args.receiver c.args.space.now) c.args.space.now c.refill.new.space c.refill.result) (sym c.in-Refill.is) (c.refill.ensures below read parts.0 parts.1)

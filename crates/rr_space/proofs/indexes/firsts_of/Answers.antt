@@ -1,10 +1,10 @@
-use Rattle.std.proofs.Common.{◌≡◌, ℕ, ◌+◌, ◌<◌, List, length, map, Option, Some, None, refl, sym, ap, ◌∙◌, subst, arith}
-use Rattle.std.proofs.lemmas.Option.{slice_get_read, slice_get_within}
+use Rattle.std.proofs.Common.{◌≡◌, ◌+◌, length, map, Option, Some, None, refl, sym, ap, ◌∙◌, subst, arith}
+use Rattle.std.proofs.lemmas.Option.{slice_get_read}
 use Rattle.std.specs.Option.{option_map}
 use Rattle.rr_space.specs.Parts.{sealed_object}
 use Rattle.rr_space.specs.Views.{key_of}
 use Rattle.rr_space.specs.declared.node.Key.{Key}
-use Rattle.rr_space.specs.Indexes.{IsIndexOf, IsFirstNamed, name_key}
+use Rattle.rr_space.specs.Indexes.{IsIndexOf, name_key}
 use Rattle.rr_space.specs.declared.refer.Ref.{Ref}
 use Rattle.rr_space.proofs.Indexing.{passed, noted, enough}
 use Rattle.rr_space.proofs.indexes.firsts_of.Goals as goal

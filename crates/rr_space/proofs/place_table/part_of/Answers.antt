@@ -1,6 +1,5 @@
-use Rattle.std.proofs.Common.{◌≡◌, ℕ, ◌<◌, length, slice_get, Some, refl, ap, ◌∙◌, arith}
+use Rattle.std.proofs.Common.{◌≡◌, length, Some, refl, ap, ◌∙◌, arith}
 use Rattle.std.proofs.lemmas.Option.{slice_get_read}
-use Rattle.rr_space.specs.Places.{ArePaged}
 use Rattle.rr_space.proofs.Keeping.{set_same}
 use Rattle.rr_space.proofs.Paging.{paged_behind, kept_behind, paged_new, kept_new, same_extends}
 use Rattle.rr_space.proofs.place_table.part_of.Goals as goal

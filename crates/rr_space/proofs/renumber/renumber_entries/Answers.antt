@@ -1,6 +1,4 @@
-use Rattle.std.proofs.Common.{◌≡◌, ℕ, ◌<◌, ◌≤◌, List, length, map, slice_get, Some, ap, ◌∙◌, sym, subst, refl, arith}
-use Rattle.std.specs.Prelude.{Option}
-use Rattle.indexmap.specs.IndexMap.{set_value_at}
+use Rattle.std.proofs.Common.{◌≡◌, ℕ, ◌≤◌, List, length, map, slice_get, Some, ◌∙◌, sym, subst, refl, arith}
 use Rattle.rr_space.specs.Views.{IsRenumberedEntry}
 use Rattle.rr_space.specs.Views.{entry_pair}
 use Rattle.rr_space.specs.declared.node.Key.{Key}

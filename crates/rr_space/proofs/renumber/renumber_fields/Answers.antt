@@ -1,4 +1,4 @@
-use Rattle.std.proofs.Common.{◌<◌, ◌≤◌, length, slice_set, ap, ◌∙◌, refl, arith}
+use Rattle.std.proofs.Common.{◌<◌, ◌≤◌, length, refl, arith}
 use Rattle.rr_space.specs.Views.{IsRenumberedField}
 use Rattle.rr_space.proofs.Renumbered.{begun, next_at, next, ended}
 use Rattle.rr_space.proofs.renumber.renumber_fields.Goals as goal

@@ -1,4 +1,4 @@
-use Rattle.std.proofs.Common.{◌<◌, ◌≤◌, length, slice_set, ap, ◌∙◌, arith}
+use Rattle.std.proofs.Common.{◌<◌, ◌≤◌, length, arith}
 use Rattle.rr_space.proofs.Renumbered.{begun, next_at, next, ended}
 use Rattle.rr_space.proofs.renumber.renumber_refs.Goals as goal
 

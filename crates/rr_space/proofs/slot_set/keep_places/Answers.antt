@@ -1,4 +1,4 @@
-use Rattle.std.proofs.Common.{◌≡◌, ℕ, length, get_or, slice_get, Some, refl, arith}
+use Rattle.std.proofs.Common.{get_or, arith}
 use Rattle.std.proofs.lemmas.Option.{slice_get-get_or, slice_get_within}
 use Rattle.rr_space.proofs.Paging.{next_place}
 use Rattle.rr_space.proofs.slot_set.keep_places.Goals as goal

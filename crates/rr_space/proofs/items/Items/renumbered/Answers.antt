@@ -1,4 +1,4 @@
-use Rattle.std.proofs.Common.{List, slice_get, refl, sym, ap, ◌∙◌}
+use Rattle.std.proofs.Common.{List, slice_get, sym, ap, ◌∙◌}
 use Rattle.rr_space.specs.declared.refer.Ref.{Ref}
 use Rattle.rr_space.specs.Elements.{kept_items}
 use Rattle.rr_space.proofs.items.Items.renumbered.Goals as goal

@@ -1,14 +1,13 @@
-use Rattle.std.proofs.Common.{◌≡◌, ◌<◌, map, IfSome, arith, ap, MatchOption, Contains, subst, sym}
+use Rattle.std.proofs.Common.{map, IfSome, arith, ap, MatchOption, Contains, subst, sym}
 use Rattle.rr_space.specs.Views.{key_of, node_keys, node_parts, node_kind, entry_pair}
 use Rattle.rr_space.specs.Views.{IsFirstAt}
 use Rattle.rr_space.specs.declared.node.Node.{Node}
 use Rattle.rr_space.proofs.Keys.{key_eq, keys_decide, place_is}
-use Rattle.rr_space.specs.Graph.{hash}
 use Rattle.rr_space.specs.Labels.{IsPairThere}
 use Rattle.rr_space.specs.Lookups.{AreDistinct}
 use Rattle.rr_space.specs.Parts.{value_triple}
 use Rattle.std.proofs.lemmas.List.{length-map}
-use Rattle.rr_space.proofs.Finding.{pair_there, keys_distinct, none_distinct}
+use Rattle.rr_space.proofs.Finding.{pair_there, keys_distinct}
 use Rattle.rr_space.proofs.Knowing.{if_some}
 use Rattle.rr_space.proofs.node.Node.place_of.Goals as goal
 

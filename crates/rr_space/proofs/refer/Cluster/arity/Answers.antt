@@ -1,8 +1,7 @@
-use Rattle.std.proofs.Common.{◌≡◌, ◌<◌, ◌≤◌, List, length, map, slice_get, Some, sym, ap, ◌∙◌, subst, refl, arith}
+use Rattle.std.proofs.Common.{◌<◌, ◌≤◌, length, map, slice_get, sym, ap, ◌∙◌, subst, refl, arith}
 use Rattle.std.specs.Option.{option_map}
 use Rattle.std.proofs.lemmas.List.{length-map}
 use Rattle.std.proofs.lemmas.Option.{slice_get-map, slice_get_read, slice_get_past}
-use Rattle.rr_space.specs.Graph.{Object}
 use Rattle.rr_space.specs.Tables.{Whole}
 use Rattle.rr_space.specs.Parts.{sealed_object, sealed_parts, value_triple}
 use Rattle.rr_space.specs.Labels.{AreLabelsPlaced, triples_of}

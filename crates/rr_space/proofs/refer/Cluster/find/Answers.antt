@@ -15,7 +15,6 @@ use Rattle.rr_space.proofs.Wells.{cluster_of, sealed_in}
 use Rattle.rr_space.specs.Labels.{IsPairThere, triples_of}
 use Rattle.rr_space.specs.Kinds.{object_kind}
 use Rattle.rr_space.specs.Parts.{value_triple}
-use Rattle.rr_space.specs.Tables.{numbered_triple}
 use Rattle.rr_space.proofs.Finding.{pair_there, numbered_there}
 use Rattle.rr_space.proofs.Knowing.{if_some}
 use Rattle.rr_space.proofs.Named.{indexed_at, by_key, within_pairs}

@@ -1,4 +1,4 @@
-use Rattle.std.proofs.Common.{◌≡◌, ℕ, List, drop, slice_set, sym, ap, ◌∙◌}
+use Rattle.std.proofs.Common.{List, drop, slice_set, ap, ◌∙◌}
 use Rattle.std.proofs.lemmas.List.{drop-set-add}
 use Rattle.rr_space.specs.declared.refer.Ref.{Ref}
 use Rattle.rr_space.proofs.shifted.Shifted.set.Goals as goal

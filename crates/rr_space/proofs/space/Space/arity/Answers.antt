@@ -1,8 +1,6 @@
-use Rattle.std.proofs.Common.{◌≡◌, ◌<◌, ◌≤◌, List, [], length, slice_get, Some, sym, ap, ◌∙◌, subst, refl, arith}
+use Rattle.std.proofs.Common.{◌<◌, ◌≤◌, length, slice_get, Some, sym, ap, ◌∙◌, subst, refl, arith}
 use Rattle.std.proofs.lemmas.List.{length-map}
 use Rattle.std.proofs.lemmas.Option.{slice_get_read, slice_get_past, none-some}
-use Rattle.rr_space.specs.Graph.{Label, Value}
-use Rattle.rr_space.specs.Tables.{outer_objects}
 use Rattle.rr_space.specs.Parts.{value_triple}
 use Rattle.rr_space.specs.Views.{node_parts, slot_object}
 use Rattle.rr_space.specs.Labels.{AreLabelsPlaced, triples_at, triples_of}

@@ -1,6 +1,6 @@
-use Rattle.std.proofs.Common.{◌≡◌, IsTrue, Some, length, slice_set, ap, sym, subst, ◌∙◌}
+use Rattle.std.proofs.Common.{IsTrue, Some, ap, sym, subst, ◌∙◌}
 use Rattle.rr_space.specs.Tables.{Table}
-use Rattle.rr_space.specs.Views.{is_whole, node_object, node_parts, below_node, held_keys}
+use Rattle.rr_space.specs.Views.{is_whole, node_object, node_parts}
 use Rattle.rr_space.proofs.Carrying.{known_part, copy_matches, copy_below, copied_within, not_whole}
 use Rattle.rr_space.proofs.Taking.{known_mid, parts_mid}
 use Rattle.rr_space.proofs.space.Space.take_object.Goals as goal

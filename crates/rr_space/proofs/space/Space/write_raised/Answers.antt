@@ -1,4 +1,4 @@
-use Rattle.std.proofs.Common.{◌≡◌, ℕ, Contains, length, map, slice_set, ap, sym, ◌∙◌, subst}
+use Rattle.std.proofs.Common.{◌≡◌, Contains, length, map, slice_set, ap, sym, ◌∙◌, subst}
 use Rattle.rr_space.specs.Graph.{exception}
 use Rattle.rr_space.specs.Tables.{Here}
 use Rattle.rr_space.specs.Parts.{Parts, value_of, value_triple, below_ref, below_parts}
