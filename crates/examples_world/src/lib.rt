@@ -5,6 +5,9 @@
 mod model;
 #[cfg(test)]
 mod model_steps;
+#[cfg(test)]
+mod moves;
+#[cfg(test)]
 mod steps;
 #[cfg(test)]
 mod walk;

@@ -27,6 +27,8 @@ pub enum Kind {
     Text,
     Array,
     Plain,
+    /// What was moved away leaves it.
+    Shell,
 }
 
 /// What a value stands under: an element by its place, a field by its name.
@@ -54,6 +56,9 @@ pub struct Parcel {
 pub struct Actor {
     pub roots: Vec<Value>,
     pub hand: Option<Parcel>,
+    /// Whether the message in the hand was moved, and the shells that it left, each with what left it.
+    pub moved: bool,
+    pub home: Vec<(usize, usize)>,
     pub slots: usize,
 }
 
@@ -79,6 +84,7 @@ pub enum Told {
     HistoryFull,
     TooManySlots,
     TooManyRactors,
+    HoldsShell,
     Other,
 }
 
@@ -104,6 +110,7 @@ pub fn what_it_tells(reply: &Reply) -> Told {
         Reply::Refused(Fault::HistoryFull) => Told::HistoryFull,
         Reply::Refused(Fault::Limit(LimitKind::Slots)) => Told::TooManySlots,
         Reply::Refused(Fault::Limit(LimitKind::Ractors)) => Told::TooManyRactors,
+        Reply::Refused(Fault::HoldsShell) => Told::HoldsShell,
         _ => Told::Other,
     }
 }
@@ -157,6 +164,8 @@ impl Model {
         self.actors.push(Actor {
             roots: Vec::new(alloc),
             hand: None,
+            moved: false,
+            home: Vec::new(alloc),
             slots: 0,
         })?;
         self.inboxes.push(Inbox {
@@ -263,6 +272,17 @@ impl Model {
         Ok(false)
     }
 
+    /// Whether a value leads to a shell.
+    pub fn leads_to_shell(&self, alloc: Global, value: Value) -> Result<bool, AllocError> {
+        let found = self.reached(alloc, value)?;
+        for (object, found) in self.objects.iter().zip(found.iter()) {
+            if *found && object.kind == Kind::Shell {
+                return Ok(true);
+            }
+        }
+        Ok(false)
+    }
+
     /// All that one holds is held by another.
     pub fn hand_on(&mut self, from: Holder, to: Holder) {
         for object in &mut self.objects {
@@ -274,7 +294,7 @@ impl Model {
 }
 
 /// The kinds of answers, of which there are as many as this.
-pub const KINDS: usize = 12;
+pub const KINDS: usize = 13;
 
 impl Told {
     /// The number of its kind.
@@ -292,7 +312,8 @@ impl Told {
             Told::HistoryFull => 9,
             Told::TooManySlots => 10,
             Told::TooManyRactors => 11,
-            Told::Other => 12,
+            Told::HoldsShell => 12,
+            Told::Other => 13,
         }
     }
 }

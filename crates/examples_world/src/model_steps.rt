@@ -54,11 +54,11 @@ impl Model {
             return Told::NotEnabled;
         };
         match self.objects.get_mut(name) {
-            Some(object) => {
+            Some(object) if object.kind != Kind::Shell => {
                 object.frozen = true;
                 Told::Done
             }
-            None => Told::NotEnabled,
+            _ => Told::NotEnabled,
         }
     }
 
@@ -152,26 +152,124 @@ impl Model {
         }))
     }
 
-    fn pack(&mut self, alloc: Global, who: usize, operand: Operand) -> Result<Told, AllocError> {
-        let Some(value) = self.named(who, operand) else {
-            return Ok(Told::NotEnabled);
-        };
-        if self.leads_to_shareable(alloc, value)? || self.hand(who).is_some() {
-            return Ok(Told::NotEnabled);
-        }
-        let found = self.reached(alloc, value)?;
-        let names = self.names_of_copies(alloc, found.as_slice())?;
+    /// Copies of the objects that were found come into a hand, and answers how many there are.
+    fn copy_all(
+        &mut self,
+        alloc: Global,
+        found: &[bool],
+        names: &[usize],
+        hand: usize,
+    ) -> Result<usize, AllocError> {
         let mut size = 0usize;
         for name in 0..found.len() {
             if found.get(name) == Some(&true)
-                && let Some(copy) = self.copy(alloc, name, names.as_slice(), who)?
+                && let Some(copy) = self.copy(alloc, name, names, hand)?
             {
                 self.objects.push(copy)?;
                 size = size.saturating_add(1);
             }
         }
+        Ok(size)
+    }
+
+    /// The objects that were found are shells, and the hand knows whose.
+    fn empty_all(
+        &mut self,
+        alloc: Global,
+        found: &[bool],
+        names: &[usize],
+        who: usize,
+    ) -> Result<(), AllocError> {
+        for (name, copy) in names.iter().enumerate() {
+            if found.get(name) == Some(&true)
+                && let Some(object) = self.objects.get_mut(name)
+            {
+                object.kind = Kind::Shell;
+                object.frozen = false;
+                object.parts = Vec::new(alloc);
+                if let Some(actor) = self.actors.get_mut(who) {
+                    actor.home.push((name, *copy))?;
+                }
+            }
+        }
+        Ok(())
+    }
+
+    /// A copy of a value comes into the hand, or what it leads to is moved there.
+    fn pack(
+        &mut self,
+        alloc: Global,
+        who: usize,
+        operand: Operand,
+        moves: bool,
+    ) -> Result<Told, AllocError> {
+        let Some(value) = self.named(who, operand) else {
+            return Ok(Told::NotEnabled);
+        };
+        if self.hand(who).is_some() {
+            return Ok(Told::NotEnabled);
+        }
+        if self.leads_to_shell(alloc, value)? {
+            return Ok(Told::HoldsShell);
+        }
+        if self.leads_to_shareable(alloc, value)? {
+            return Ok(Told::NotEnabled);
+        }
+        let found = self.reached(alloc, value)?;
+        let names = self.names_of_copies(alloc, found.as_slice())?;
+        let size = self.copy_all(alloc, found.as_slice(), names.as_slice(), who)?;
+        if moves {
+            self.empty_all(alloc, found.as_slice(), names.as_slice(), who)?;
+        }
         let root = Model::copied(value, names.as_slice());
-        self.take_in_hand(who, Some(Parcel { root, size }));
+        self.take_in_hand(who, Some(Parcel { root, size }), moves);
+        Ok(Told::Done)
+    }
+
+    /// What is in the place of a copy of the home.
+    fn returned(value: Value, home: &[(usize, usize)]) -> Value {
+        for (name, copy) in home {
+            if value == Value::At(*copy) {
+                return Value::At(*name);
+            }
+        }
+        value
+    }
+
+    /// A shell is again what left it.
+    fn refill(
+        &mut self,
+        alloc: Global,
+        name: usize,
+        copy: usize,
+        home: &[(usize, usize)],
+    ) -> Result<(), AllocError> {
+        let mut parts = Vec::new(alloc);
+        let Some(left) = self.objects.get(copy) else {
+            return Ok(());
+        };
+        let (kind, frozen) = (left.kind, left.frozen);
+        for (mark, value) in &left.parts {
+            parts.push((*mark, Model::returned(*value, home)))?;
+        }
+        if let Some(object) = self.objects.get_mut(name) {
+            object.kind = kind;
+            object.frozen = frozen;
+            object.parts = parts;
+        }
+        Ok(())
+    }
+
+    fn put_back(&mut self, alloc: Global, who: usize) -> Result<Told, AllocError> {
+        let home = match self.actors.get(who) {
+            Some(actor) if actor.moved => actor.home.as_slice().to_vec(alloc)?,
+            _ => return Ok(Told::NotEnabled),
+        };
+        for (name, copy) in &home {
+            self.refill(alloc, *name, *copy, home.as_slice())?;
+        }
+        self.hand_on(Holder::Hand(who), Holder::Nobody);
+        self.take_in_hand(who, None, false);
         Ok(Told::Done)
     }
 
@@ -179,9 +277,14 @@ impl Model {
         self.actors.get(who)?.hand
     }
 
-    fn take_in_hand(&mut self, who: usize, hand: Option<Parcel>) {
+    /// What is in the hand is this, which was moved or not; a home stays with what was moved alone.
+    fn take_in_hand(&mut self, who: usize, hand: Option<Parcel>, moved: bool) {
         if let Some(actor) = self.actors.get_mut(who) {
             actor.hand = hand;
+            actor.moved = moved;
+            if !moved {
+                actor.home.truncate(0);
+            }
         }
     }
 
@@ -190,7 +293,7 @@ impl Model {
             return Told::NotEnabled;
         }
         self.hand_on(Holder::Hand(who), Holder::Nobody);
-        self.take_in_hand(who, None);
+        self.take_in_hand(who, None, false);
         Told::Done
     }
 
@@ -213,7 +316,7 @@ impl Model {
         inbox.next = ticket.saturating_add(1);
         inbox.inside.push((ticket, parcel))?;
         self.hand_on(Holder::Hand(who), Holder::Inbox(to, ticket));
-        self.take_in_hand(who, None);
+        self.take_in_hand(who, None, false);
         Ok(Told::Offered(ticket))
     }
 
@@ -234,7 +337,7 @@ impl Model {
         let (ticket, parcel) = inbox.inside.remove(0);
         inbox.events = inbox.events.saturating_add(1);
         self.hand_on(Holder::Inbox(who, ticket), Holder::Hand(who));
-        self.take_in_hand(who, Some(parcel));
+        self.take_in_hand(who, Some(parcel), false);
         Told::Done
     }
 
@@ -252,7 +355,7 @@ impl Model {
         }
         actor.slots = slots;
         actor.roots.push(parcel.root)?;
-        actor.hand = None;
+        self.take_in_hand(who, None, false);
         self.hand_on(Holder::Hand(who), Holder::Ractor(who));
         Ok(Told::Done)
     }
@@ -305,7 +408,9 @@ impl Model {
                 self.change(who, object, Kind::Plain, Some(Mark::Field(name.0)), value)
             }
             Action::Read(operand, label) => self.read(who, operand, mark_of(label)),
-            Action::Pack(operand) => self.pack(alloc, who, operand),
+            Action::Pack(operand) => self.pack(alloc, who, operand, false),
+            Action::Detach(operand) => self.pack(alloc, who, operand, true),
+            Action::PutBack => self.put_back(alloc, who),
             Action::Discard => Ok(self.discard(who)),
             Action::Offer(to) => match place_of(to.0, count) {
                 Some(to) => self.offer(who, to),

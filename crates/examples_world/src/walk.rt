@@ -23,7 +23,7 @@ const FEW_SLOTS: Limits = Limits {
 const FEW_EVENTS: Limits = Limits {
     ractors: 6,
     slots: 50,
-    events: 12,
+    events: 8,
     ..Limits::DEFAULT
 };
 
@@ -91,6 +91,8 @@ impl Dice {
             3 | 4 | 5 => Action::Open,
             6 | 7 | 8 => Action::Accept,
             9 | 10 | 11 => Action::Offer(self.ractor()),
+            12 => Action::PutBack,
+            13 => Action::Detach(self.operand()),
             _ => Action::Pack(self.operand()),
         }
     }

@@ -1,5 +1,5 @@
 -- The first message of an inbox comes into a hand.
-use Rattle.std.proofs.Common.{◌≡◌, ℕ, suc, ⊎_elim, inr, List, [], ◌∷◌, ◌++◌, map, Some, None, slice_get, sym, ap, ◌∙◌, refl, arith, true, false, Contains, subst}
+use Rattle.std.proofs.Common.{◌≡◌, ℕ, suc, ⊎_elim, inr, List, [], ◌∷◌, ◌++◌, map, Some, slice_get, sym, ap, ◌∙◌, refl, arith, true, false, Contains, subst}
 use Rattle.std.specs.Prelude.{slice_set}
 use Rattle.std.specs.Option.{option_map, option_and_then}
 use Rattle.std.proofs.lemmas.Option.{slice_get_within}
@@ -11,7 +11,7 @@ use Rattle.rr_space.proofs.Hands.{hands_on}
 use Rattle.rr_copy.specs.Messages.{size_of}
 use Rattle.rr_inbox.specs.Inboxes.{Inbox, IsTicketed}
 use Rattle.rr_inbox.specs.declared.entry.Entry.{Entry}
-use Rattle.rr_world.specs.Views.{Member, Channels, Assembly, with_inbox}
+use Rattle.rr_world.specs.Views.{Member, Channels, Assembly, IsFree, with_inbox}
 use Rattle.rr_world.specs.Layouts.{layout, space_slots, hand_slots, inbox_slots, message_slots, mail_slots}
 use Rattle.rr_world.specs.States.{Actor, Parcel, with_box}
 use Rattle.rr_world.specs.Readings.{each_from, actor_in, mailbox_in, parcel_in, letter_in, post_in, state_in}
@@ -20,7 +20,7 @@ use Rattle.rr_world.specs.Runs.{IsStep}
 use Rattle.rr_world.specs.declared.step.Action.TheVariants.{Accept}
 use Rattle.rr_world.specs.declared.step.Reply.TheVariants.{Done, Empty, EmptyAndClosed}
 use Rattle.rr_world.proofs.Lists.{eq_cases, set_at, set_off, seen_same, each_set}
-use Rattle.rr_world.proofs.Namings.{actor_same, unhanded, mailbox_same, post_set, parcel_moved, shared_kept}
+use Rattle.rr_world.proofs.Namings.{actor_same, handed, mailbox_same, post_set, names_moved, parcel_moved, shared_kept}
 use Rattle.rr_world.proofs.Tickets.{mail_none, mail_here, mail_past, first_differs}
 use Rattle.rr_world.proofs.Knowing.{read_both, holding_knows}
 use Rattle.rr_world.proofs.Enabled.{actor_at, mailbox_at, free}
@@ -35,7 +35,7 @@ abbrev pub less_first : Inbox → RactorNo → Entry → List Entry → Inbox
 less_first i who e es = record i { inside = es; history = i.history ++ event.Accepted e.ticket (size_of e.message) who ∷ [] }
 
 module _ (w w2 : Assembly) (who : RactorNo) (k : ℕ) (m : Member) (i : Inbox) (e : Entry) (es : List Entry) (at : slice_get w.ractors k ≡ Some m) (box : slice_get w.channels.inboxes k ≡ Some i)
-    (free_hand : m.hand ≡ None) (tickets : IsTicketed i) (first : i.inside ≡ e ∷ es) (rs : w2.ractors ≡ slice_set w.ractors k (record m { hand = Some e.message }))
+    (free_hand : IsFree m) (tickets : IsTicketed i) (first : i.inside ≡ e ∷ es) (rs : w2.ractors ≡ slice_set w.ractors k (record m { hand = Some e.message }))
     (is : w2.channels ≡ with_inbox w.channels k (less_first i who e es)) where
   rest : (h : Owner) → (h ≡ Mail k e.ticket → ⊥) → (h ≡ Hand k → ⊥) → layout w2 h ≡ layout w h
   unfolding layout
@@ -55,7 +55,7 @@ module _ (w w2 : Assembly) (who : RactorNo) (k : ℕ) (m : Member) (i : Inbox) (
   unfolding layout
   goes = record {
     from = ap (option_and_then (inbox_slots e.ticket)) box ∙ ap (mail_slots e.ticket) first ∙ mail_here e es;
-    to = inr (ap (option_and_then hand_slots) at ∙ ap (option_map message_slots) free_hand, refl);
+    to = inr (ap (option_and_then hand_slots) at ∙ ap (option_map message_slots) free_hand.hand, refl);
     gone = ap (λ (x : Channels). option_and_then (inbox_slots e.ticket) (slice_get x.inboxes k)) is
         ∙ ap (option_and_then (inbox_slots e.ticket)) (set_at w.channels.inboxes k (less_first i who e es) (slice_get_within w.channels.inboxes k i box))
         ∙ mail_none es e.ticket (first_differs i e es tickets first);
@@ -78,10 +78,9 @@ module _ (w w2 : Assembly) (who : RactorNo) (k : ℕ) (m : Member) (i : Inbox) (
       let spaces : (n : ℕ) → names2 (Space n) ≡ names (Space n) = λ n. N.rest (Space n) (λ z. let y : ⊥ = cc in y) in
       let mails : (n u : ℕ) → names2 (Mail n u) ≡ names (Mail n u) = λ n u. N.rest (Mail n u) (λ z. let y : ⊥ = cc in y) in
       let moved : parcel_in names2 (Hand k) e.message ≡ parcel_in names (Mail k e.ticket) e.message =
-      parcel_moved (layout w) (Mail k e.ticket) (Hand k) e.message.objects names names2 e.message N J apart in
+      parcel_moved (layout w) (Mail k e.ticket) (Hand k) e.message.objects names names2 e.message N J apart (names_moved goes R.tables q.2 J) in
       let actor : actor_in names2 k (record m { hand = Some e.message }) ≡ record (actor_in names k m) { hand = Some (parcel_in names (Mail k e.ticket) e.message) } =
-      ap (λ (p : Parcel). let a : Actor = record (actor_in names2 k m) { hand = Some p } in a) moved
-      ∙ ap (λ (a : Actor). let b : Actor = record a { hand = Some (parcel_in names (Mail k e.ticket) e.message) } in b) (unhanded names names2 k m (spaces k) kept) in (
+      handed names names2 k m e.message (spaces k) kept ∙ ap (λ (p : Parcel). let a : Actor = record (actor_in names k m) { hand = Some p } in a) moved in (
         names2,
         bound,
         q.1,
@@ -117,7 +116,7 @@ module _ (w w2 : Assembly) (who : RactorNo) (k : ℕ) (m : Member) (i : Inbox) (
 
 -- nothing is inside
 pub nothing_open : (w : Assembly) (names : Naming) (g : Objects) (who : RactorNo) (k : ℕ) (m : Member) (i : Inbox) → slice_get w.ractors k ≡ Some m → slice_get w.channels.inboxes k ≡ Some i
-    → m.hand ≡ None → StandsAt who k → i.inside ≡ [] → i.closed ≡ false → IsCase (record { who = who; action = Accept }) Empty (state_in w names g) (state_in w names g)
+    → IsFree m → StandsAt who k → i.inside ≡ [] → i.closed ≡ false → IsCase (record { who = who; action = Accept }) Empty (state_in w names g) (state_in w names g)
 nothing_open w names g who k m i at box free_hand stands none unshut = (
   k,
   actor_in names k m,
@@ -128,7 +127,7 @@ nothing_open w names g who k m i at box free_hand stands none unshut = (
 )
 
 pub nothing_closed : (w : Assembly) (names : Naming) (g : Objects) (who : RactorNo) (k : ℕ) (m : Member) (i : Inbox) → slice_get w.ractors k ≡ Some m → slice_get w.channels.inboxes k ≡ Some i
-    → m.hand ≡ None → StandsAt who k → i.inside ≡ [] → i.closed ≡ true → IsCase (record { who = who; action = Accept }) EmptyAndClosed (state_in w names g) (state_in w names g)
+    → IsFree m → StandsAt who k → i.inside ≡ [] → i.closed ≡ true → IsCase (record { who = who; action = Accept }) EmptyAndClosed (state_in w names g) (state_in w names g)
 nothing_closed w names g who k m i at box free_hand stands none shut = (
   k,
   actor_in names k m,

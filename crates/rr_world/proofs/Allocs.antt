@@ -19,8 +19,7 @@ use Rattle.rr_space.proofs.Remaking.{remaking_is_a_step}
 use Rattle.rr_space.proofs.Sounds.{joined_back, joined_in, none_in, in_first, gets}
 use Rattle.rr_world.specs.Views.{Member, Channels, Assembly}
 use Rattle.rr_world.specs.Layouts.{layout, space_slots, hand_slots, inbox_slots, message_slots, MemberKnows, IsRead}
-use Rattle.rr_world.specs.States.{Actor}
-use Rattle.rr_world.specs.Readings.{each_from, actor_in, root_in, post_in, state_in, parcel_in}
+use Rattle.rr_world.specs.Readings.{each_from, actor_in, shells_in, root_in, post_in, state_in, parcel_in}
 use Rattle.rr_world.specs.Cases.{StandsAt, new_object}
 use Rattle.rr_world.specs.Allocating.{IsAllocatedBy, Allocs}
 use Rattle.rr_world.specs.Runs.{IsStep}
@@ -31,7 +30,7 @@ use Rattle.rr_world.specs.declared.step.Action.TheVariants.{Alloc}
 use Rattle.rr_world.specs.declared.step.Reply.{Reply}
 use Rattle.rr_world.specs.declared.step.Reply.TheVariants.{NotEnabled, Done, Offered, Empty, EmptyAndClosed, WasClosed, Refused, Started}
 use Rattle.rr_world.proofs.Lists.{eq_cases, set_at, set_off, seen_same, each_set}
-use Rattle.rr_world.proofs.Namings.{actor_same, post_same, hand_same}
+use Rattle.rr_world.proofs.Namings.{actor_same, same_actor, post_same, hand_same, home_stands}
 use Rattle.rr_world.proofs.Knowing.{read_set}
 use Rattle.rr_world.proofs.Enabled.{actor_at}
 use Rattle.rr_world.proofs.Insides.{set_again, same_assembly}
@@ -234,12 +233,8 @@ module _ (w w2 : Assembly) (k : ℕ) (m m2 : Member) (kind : NewObject) (at : sl
       ∙ ap (λ vs. vs ++ At (Own new) ∷ []) (roots_keep (length m.space.slots) names names2 (Space k) m.roots A.within (stand names bound g R names2 q.1 q.2 N q.4) kept) in
       let count : length m2.space.slots ≡ length m.space.slots + 1 = ap length A.slots ∙ size in
       let actor : actor_in names2 k m2 ≡ record (actor_in names k m) { roots = (actor_in names k m).roots ++ At (Own new) ∷ []; slots = (actor_in names k m).slots + 1 } =
-      ap (λ vs. let a : Actor = record { roots = vs; hand = option_map (parcel_in names2 (Hand k)) m2.hand; slots = length m2.space.slots; limit = m2.space.limit; limits = m2.limits } in a) roots
-      ∙ ap (λ h. let a : Actor = record { roots = map (root_in names (Space k)) m.roots ++ At (Own new) ∷ []; hand = h; slots = length m2.space.slots; limit = m2.space.limit; limits = m2.limits } in a)
-      (ap (option_map (parcel_in names2 (Hand k))) A.hand ∙ hand_same names names2 (Hand k) m.hand (hands k) kept)
-      ∙ ap (λ n. let a : Actor = record { roots = map (root_in names (Space k)) m.roots ++ At (Own new) ∷ []; hand = option_map (parcel_in names (Hand k)) m.hand; slots = n; limit = m2.space.limit; limits = m2.limits } in a) count
-      ∙ ap (λ n. let a : Actor = record { roots = map (root_in names (Space k)) m.roots ++ At (Own new) ∷ []; hand = option_map (parcel_in names (Hand k)) m.hand; slots = length m.space.slots + 1; limit = n; limits = m2.limits } in a) A.limit
-      ∙ ap (λ z. let a : Actor = record { roots = map (root_in names (Space k)) m.roots ++ At (Own new) ∷ []; hand = option_map (parcel_in names (Hand k)) m.hand; slots = length m.space.slots + 1; limit = m.space.limit; limits = z } in a) A.limits in (
+      same_actor roots (ap (option_map (parcel_in names2 (Hand k))) A.hand ∙ hand_same names names2 (Hand k) m.hand (hands k) kept)
+      (ap (option_map (shells_in names2 k)) A.home ∙ home_stands names names2 k m.space.slots m.hand m.home A.away (stand names bound g R names2 q.1 q.2 N q.4)) count A.limit A.next A.limits in (
         names2,
         bound + 1,
         q.1,

@@ -1,28 +1,33 @@
 -- What a change of one object leaves of a ractor.
 use Rattle.std.proofs.Common.{◌≡◌, ℕ, zero, suc, arith, ◌++◌, ◌⊎◌, ⊎_elim, inl, inr, List, [], ◌∷◌, length, map, Option, Some, None, IsTrue, Bool, true, false, slice_get, slice_set, Contains, sym, ap, ◌∙◌, subst, refl}
 use Rattle.std.specs.Prelude.{◌&&◌, not}
-use Rattle.std.proofs.lemmas.Option.{slice_get_within}
+use Rattle.std.proofs.lemmas.Option.{none-some, slice_get_within}
 use Rattle.rr_base.specs.declared.limits.Limits.{Limits}
 use Rattle.rr_space.specs.Graph.{Kind, text, array, hash, plain, exception, shell, Object, Label, Field}
 use Rattle.rr_space.specs.Tables.{Table, Packed, Slot, Here, Led, Below, joined}
 use Rattle.rr_space.specs.Parts.{value_of, below_ref, IsWithin}
 use Rattle.rr_space.specs.Labels.{triples_at, triples_of, IsFirstUnder}
 use Rattle.rr_space.specs.Kinds.{kind_at, kind_named, object_kind}
-use Rattle.rr_space.specs.Views.{can_freeze_at, can_write_at, slot_object, is_shell, is_whole, is_open, IsLedBy, IsKnownFrom, IsFirstAt, label_part}
+use Rattle.rr_space.specs.Views.{emptied, can_freeze_at, can_write_at, slot_object, is_shell, is_whole, is_open, IsLedBy, IsKnownFrom, IsFirstAt, label_part}
 use Rattle.rr_space.specs.declared.kind.Kind.TheVariants as kinds
 use Rattle.rr_space.specs.declared.refer.Ref.{Ref}
 use Rattle.rr_space.specs.declared.refer.Ref.TheVariants as ref
 use Rattle.rr_space.proofs.Sounds.{joined_back, joined_in, gets}
-use Rattle.rr_world.specs.Views.{Member, AreRootsWithin}
+use Rattle.rr_space.proofs.Hands.{append_left}
+use Rattle.rr_move.specs.Hands.{message_in, home_in}
+use Rattle.rr_move.specs.declared.home.Home.{Home}
+use Rattle.rr_move.specs.declared.hand.Hand.{Hand}
+use Rattle.rr_move.specs.declared.hand.Hand.TheVariants.{Empty, Planned, Published, Message, Moved, Shown}
+use Rattle.rr_world.specs.Views.{Member, AreAway, AreRootsWithin, HasAtMostAMessage}
 use Rattle.rr_world.specs.Cases.{IsNoShell, IsOpen, with_field}
 use Rattle.rr_world.specs.Changing.{IsMadeOf, IsReadBy}
 use Rattle.rr_world.specs.Packing.{named_ref}
 use Rattle.rr_world.specs.declared.step.Operand.{Operand}
 use Rattle.rr_world.proofs.Fields.{field_cases}
-use Rattle.rr_world.proofs.Lists.{eq_cases}
+use Rattle.rr_world.proofs.Lists.{eq_cases, set_off}
 
-abbrev pub member : Table → List Ref → Option Packed → Limits → Member
-member space roots hand limits = record { space = space; roots = roots; hand = hand; limits = limits }
+abbrev pub member : Table → List Ref → Hand → Limits → Member
+member space roots hand limits = record { space = space; roots = roots; hand = message_in hand; home = home_in hand; limits = limits }
 
 no_shell : (o : Object) → not (is_shell o.kind) ≡ true → IsNoShell o
 no_shell o holds is = let no : not (is_shell shell) ≡ true = subst (λ (k : Kind). not (is_shell k) ≡ true) is holds in cc
@@ -122,6 +127,40 @@ set_length (y ∷ ys) (suc i) x = ap suc (set_length ys i x)
 pub set_within : (a b : Table) (n : ℕ) (x : Slot) (rs : List Ref) → b.slots ≡ slice_set a.slots n x → AreRootsWithin (length a.slots) rs → AreRootsWithin (length b.slots) rs
 set_within a b n x rs is within = subst (λ k. AreRootsWithin k rs) (sym (ap length is ∙ set_length a.slots n x)) within
 
+-- what is away stays so while other slots change, and while slots come behind
+pub away_set : (slots : List Slot) (n : ℕ) (x : Slot) (o : Object) (hand : Option Packed) (home : Option Home) → slice_get slots n ≡ Some (Here o) → IsNoShell o → AreAway slots hand home
+    → AreAway (slice_set slots n x) hand home
+away_set slots n x o hand None here whole away = tt
+away_set slots n x o None (Some h) here whole away = away
+away_set slots n x o (Some p) (Some h) here whole away = record {
+  shells = λ j has. set_off slots n j x (λ same. whole (ap (λ (y : Object). y.kind) (same_here o emptied (sym here ∙ ap (slice_get slots) (sym same) ∙ away.shells j has)))) ∙ away.shells j has;
+  count = away.count;
+}
+  where
+    same_here : (a b : Object) → Some (Here a) ≡ Some (Here b) → a ≡ b
+    same_here a b e = cc
+
+pub set_away : (a b : Table) (n : ℕ) (x : Slot) (o : Object) (hand : Option Packed) (home : Option Home) → b.slots ≡ slice_set a.slots n x → slice_get a.slots n ≡ Some (Here o) → IsNoShell o
+    → AreAway a.slots hand home → AreAway b.slots hand home
+set_away a b n x o hand home is here whole away = subst (λ ss. AreAway ss hand home) (sym is) (away_set a.slots n x o hand home here whole away)
+
+-- a hand that has a message has nothing else
+pub held_fits : (h : Hand) (p : Packed) → message_in h ≡ Some p → HasAtMostAMessage h
+held_fits Empty p is = tt
+held_fits (Planned plan) p is = absurd (none-some p is)
+held_fits (Published places published) p is = absurd (none-some p is)
+held_fits (Message m) p is = tt
+held_fits (Moved d) p is = tt
+held_fits (Shown home ticket) p is = absurd (none-some p is)
+
+pub away_more : (slots more : List Slot) (hand : Option Packed) (home : Option Home) → AreAway slots hand home → AreAway (slots ++ more) hand home
+away_more slots more hand None away = tt
+away_more slots more None (Some h) away = away
+away_more slots more (Some p) (Some h) away = record { shells = λ j has. append_left slots more j (Here emptied) (away.shells j has); count = away.count }
+
+pub open_whole : (kind : Kind) (o : Object) → (kind ≡ shell → ⊥) → IsOpen kind o → IsNoShell o
+open_whole kind o differ opened is = differ (sym opened.0 ∙ is)
+
 -- what a space leads to after a write it led to before, or came with the value
 pub led_known : (v : Ref) (n : ℕ) (a b : List Below) → IsLedBy v n a b → (e : ℕ × List Object) → Contains (joined b) e → Contains (joined a) e ⊎ Contains (below_ref v) e
 led_known v n a b L e has =
@@ -138,20 +177,20 @@ pub kept_known : (v : Ref) (a b : List Below) → b ≡ a → (e : ℕ × List O
 kept_known v a b same e has = inl (subst (λ x. Contains (joined x) e) same has)
 
 -- an object of the space is made another
-pub made : (op : Operand) (may : Object → Type 0) (change : Object → Object) (x v : Ref) (old : Member) (sp new : Table) (rs : List Ref) (hand : Option Packed) (limits : Limits) (n : ℕ) (o : Object)
+pub made : (op : Operand) (may : Object → Type 0) (change : Object → Object) (x v : Ref) (old : Member) (sp new : Table) (rs : List Ref) (hand : Hand) (limits : Limits) (n : ℕ) (o : Object)
     → member sp rs hand limits ≡ old → named_ref old.roots op ≡ Some v → v ≡ ref.Local n → slice_get sp.slots n ≡ Some (Here o) → may o → new.slots ≡ slice_set sp.slots n (Here (change o))
-    → ((e : ℕ × List Object) → Contains (joined new.below) e → Contains (joined sp.below) e ⊎ Contains (below_ref x) e) → new.limit ≡ sp.limit → new.owner ≡ sp.owner
-    → AreRootsWithin (length sp.slots) rs → IsWithin (length sp.slots) x → IsMadeOf op may change x old (member new rs hand limits)
-made op may change x v old sp new rs hand limits n o is named slot here holds slots below limit owner within value =
+    → ((e : ℕ × List Object) → Contains (joined new.below) e → Contains (joined sp.below) e ⊎ Contains (below_ref x) e) → new.limit ≡ sp.limit → new.owner ≡ sp.owner → new.next_message ≡ sp.next_message
+    → AreRootsWithin (length sp.slots) rs → AreAway sp.slots (message_in hand) (home_in hand) → IsWithin (length sp.slots) x → IsMadeOf op may change x old (member new rs hand limits)
+made op may change x v old sp new rs hand limits n o is named slot here holds slots below limit owner next within away value =
     subst (λ (m : Member). IsMadeOf op may change x m (member new rs hand limits)) is (
       n,
       o,
       record { named = subst (λ (m : Member). named_ref m.roots op ≡ Some v) (sym is) named ∙ ap (λ r. Some r) slot; here = here },
       holds,
-      record { within = within; value = value; slots = slots; below = below; limit = limit; roots = refl; hand = refl; owner = owner; limits = refl },
+      record { within = within; value = value; slots = slots; below = below; limit = limit; roots = refl; hand = refl; home = refl; away = away; next = next; owner = owner; limits = refl },
     )
 
-pub read_by : (op : Operand) (l : Label) (v r : Ref) (old : Member) (sp : Table) (rs all : List Ref) (hand : Option Packed) (limits : Limits) → member sp rs hand limits ≡ old → all ≡ rs ++ r ∷ [] → named_ref old.roots op ≡ Some v
+pub read_by : (op : Operand) (l : Label) (v r : Ref) (old : Member) (sp : Table) (rs all : List Ref) (hand : Hand) (limits : Limits) → member sp rs hand limits ≡ old → all ≡ rs ++ r ∷ [] → named_ref old.roots op ≡ Some v
     → IsFirstUnder (triples_at sp v) l (value_of r) → IsWithin (length sp.slots) r → IsKnownFrom sp v r → AreRootsWithin (length sp.slots) rs → IsReadBy op l v r old (member sp all hand limits)
 read_by op l v r old sp rs all hand limits is more named first root known within =
     subst (λ (m : Member). IsReadBy op l v r m (member sp all hand limits)) is (record {

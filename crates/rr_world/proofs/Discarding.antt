@@ -20,18 +20,18 @@ use Rattle.rr_world.proofs.Knowing.{read_set, emptied_knows}
 use Rattle.rr_world.proofs.Enabled.{actor_at, holds}
 
 module _ (w w2 : Assembly) (k : ℕ) (m : Member) (p : Packed) (at : slice_get w.ractors k ≡ Some m) (held : m.hand ≡ Some p)
-    (rs : w2.ractors ≡ slice_set w.ractors k (record m { hand = None })) (is : w2.channels ≡ w.channels) where
+    (rs : w2.ractors ≡ slice_set w.ractors k (record m { hand = None; home = None })) (is : w2.channels ≡ w.channels) where
   rest : (h : Owner) → (h ≡ Hand k → ⊥) → layout w2 h ≡ layout w h
   unfolding layout
-  rest (Space j) q = ap (λ xs. option_map space_slots (slice_get xs j)) rs ∙ seen_same (option_map space_slots) w.ractors k j m (record m { hand = None }) at refl
-  rest (Hand j) q = ap (λ xs. option_and_then hand_slots (slice_get xs j)) rs ∙ ap (option_and_then hand_slots) (set_off w.ractors k j (record m { hand = None }) (λ e. q (ap Hand e)))
+  rest (Space j) q = ap (λ xs. option_map space_slots (slice_get xs j)) rs ∙ seen_same (option_map space_slots) w.ractors k j m (record m { hand = None; home = None }) at refl
+  rest (Hand j) q = ap (λ xs. option_and_then hand_slots (slice_get xs j)) rs ∙ ap (option_and_then hand_slots) (set_off w.ractors k j (record m { hand = None; home = None }) (λ e. q (ap Hand e)))
   rest (Mail d u) q = ap (λ (x : Channels). option_and_then (inbox_slots u) (slice_get x.inboxes d)) is
   rest (Shared d) q = refl
 
   gone : Goneby (Hand k) (layout w) (layout w2)
   unfolding layout
   gone = record {
-    gone = ap (λ xs. option_and_then hand_slots (slice_get xs k)) rs ∙ ap (option_and_then hand_slots) (set_at w.ractors k (record m { hand = None }) (slice_get_within w.ractors k m at));
+    gone = ap (λ xs. option_and_then hand_slots (slice_get xs k)) rs ∙ ap (option_and_then hand_slots) (set_at w.ractors k (record m { hand = None; home = None }) (slice_get_within w.ractors k m at));
     rest = rest;
     unshared = λ c e. let n : ⊥ = cc in n;
   }
@@ -42,7 +42,7 @@ module _ (w w2 : Assembly) (k : ℕ) (m : Member) (p : Packed) (at : slice_get w
         names,
         bound,
         q.0,
-        read_set w w2 k m (record m { hand = None }) at rs is refl (emptied_knows (layout w) m (R.knows.ractors k m at)) R q.1,
+        read_set w w2 k m (record m { hand = None; home = None }) at rs is refl (emptied_knows (layout w) m (R.knows.ractors k m at)) R q.1,
         (
           k,
           actor_in names k m,
@@ -51,7 +51,7 @@ module _ (w w2 : Assembly) (k : ℕ) (m : Member) (p : Packed) (at : slice_get w
           (parcel_in names (Hand k) p, holds names k m p held),
           record {
             objects = q.2;
-            ractors = ap (each_from (actor_in names) 0) rs ∙ each_set (actor_in names) (actor_in names) 0 w.ractors k k (record m { hand = None }) (omega arith) (λ i n x d e a. refl);
+            ractors = ap (each_from (actor_in names) 0) rs ∙ each_set (actor_in names) (actor_in names) 0 w.ractors k k (record m { hand = None; home = None }) (omega arith) (λ i n x d e a. refl);
             post = ap (post_in names) is;
           },
         ),

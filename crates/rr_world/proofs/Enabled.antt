@@ -6,10 +6,10 @@ use Rattle.rr_base.specs.declared.name.RactorNo.{RactorNo}
 use Rattle.rr_space.specs.Tables.{Packed}
 use Rattle.rr_space.specs.Readings.{Naming, Objects, Hand}
 use Rattle.rr_inbox.specs.Inboxes.{Inbox}
-use Rattle.rr_world.specs.Views.{Member, Assembly}
+use Rattle.rr_world.specs.Views.{Member, Assembly, IsFree}
 use Rattle.rr_world.specs.States.{Actor}
-use Rattle.rr_world.specs.Readings.{actor_in, mailbox_in, parcel_in, state_in}
-use Rattle.rr_world.specs.Cases.{IsTested, StandsAt, HasInbox, Holds, Allows, IsEnabled}
+use Rattle.rr_world.specs.Readings.{actor_in, shells_in, mailbox_in, parcel_in, state_in}
+use Rattle.rr_world.specs.Cases.{IsTested, StandsAt, HasInbox, Holds, IsFreeHand, Allows, IsEnabled}
 use Rattle.rr_world.specs.declared.step.Action.TheVariants.{Offer, Close}
 use Rattle.rr_world.specs.declared.step.Step.{Step}
 use Rattle.rr_world.proofs.Lists.{each_at, each_back}
@@ -58,15 +58,15 @@ holds_not names k m none holds = none-some holds.0 (sym (ap (option_map (parcel_
 pub holds : (names : Naming) (k : ℕ) (m : Member) (p : Packed) → m.hand ≡ Some p → (actor_in names k m).hand ≡ Some (parcel_in names (Hand k) p)
 holds names k m p is = ap (option_map (parcel_in names (Hand k))) is
 
-pub free : (names : Naming) (k : ℕ) (m : Member) → m.hand ≡ None → (actor_in names k m).hand ≡ None
-free names k m is = ap (option_map (parcel_in names (Hand k))) is
+pub free : (names : Naming) (k : ℕ) (m : Member) → IsFree m → IsFreeHand (actor_in names k m)
+free names k m is = (ap (option_map (parcel_in names (Hand k))) is.hand, ap (option_map (shells_in names k)) is.home)
 
-pub free_back : (names : Naming) (k : ℕ) (m : Member) → (actor_in names k m).hand ≡ None → m.hand ≡ None
-free_back names k m is = by m.hand is
-  where
-    by : (x : Option Packed) → option_map (parcel_in names (Hand k)) x ≡ None → x ≡ None
-    by None e = refl
-    by (Some p) e = absurd (none-some (parcel_in names (Hand k) p) (sym e))
+none_back : {A B : Type 0} (f : A → B) (x : Option A) → option_map f x ≡ None → x ≡ None
+none_back f None e = refl
+none_back f (Some a) e = absurd (none-some (f a) (sym e))
+
+pub free_back : (names : Naming) (k : ℕ) (m : Member) → IsFreeHand (actor_in names k m) → IsFree m
+free_back names k m is = record { hand = none_back (parcel_in names (Hand k)) m.hand is.0; home = none_back (shells_in names k) m.home is.1 }
 
 pub no_offer : (w : Assembly) (names : Naming) (g : Objects) (step : Step) (to : RactorNo) → step.action ≡ Offer to → ((k : ℕ) → StandsAt to k → length w.channels.inboxes ≤ k)
     → IsEnabled (state_in w names g) step → ⊥

@@ -106,7 +106,7 @@ read_both w w2 k c m m2 i2 at rs is same M I R tables = record {
 }
 
 -- with the hand empty, less is known
-pub emptied_knows : (tables : Layout) (m : Member) → MemberKnows tables m → MemberKnows tables (record m { hand = None })
+pub emptied_knows : (tables : Layout) (m : Member) → MemberKnows tables m → MemberKnows tables (record m { hand = None; home = None })
 emptied_knows tables m K = record { space = K.space; roots = K.roots; hand = λ p is. absurd (none-some p is) }
 
 pub holding_knows : (tables : Layout) (m : Member) (p : Packed) → MemberKnows tables m → Knows (message_below p) tables → MemberKnows tables (record m { hand = Some p })

@@ -24,3 +24,7 @@ pub mod Rewrites
 pub mod Making
 pub mod Reading
 pub mod Starting
+pub mod Hands
+pub mod Tables
+pub mod Detaching
+pub mod Returning

@@ -182,13 +182,13 @@ open_never : (kind : Kind) (o p : Object) → (kind ≡ shell → ⊥) → IsOpe
 open_never kind o p differ (is, thawed) (inl e) = absurd (let z : false ≡ true = sym thawed ∙ e in cc)
 open_never kind o p differ (is, thawed) (inr e) = absurd (differ (sym is ∙ e))
 
-text_differs : text ≡ shell → ⊥
+pub text_differs : text ≡ shell → ⊥
 text_differs e = cc
 
-array_differs : array ≡ shell → ⊥
+pub array_differs : array ≡ shell → ⊥
 array_differs e = cc
 
-plain_differs : plain ≡ shell → ⊥
+pub plain_differs : plain ≡ shell → ⊥
 plain_differs e = cc
 
 pushed_values : (v : Value) (o : Object) (l : Label) (x : Value) → Contains (pushed v o).triples (l, x) → ((j : Label) × Contains o.triples (j, x)) ⊎ (x ≡ v)

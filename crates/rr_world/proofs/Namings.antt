@@ -1,22 +1,27 @@
 -- What new lists of names do to values, messages, ractors and inboxes.
-use Rattle.std.proofs.Common.{◌≡◌, ℕ, ◌+◌, List, [], ◌∷◌, length, map, Bool, Option, Some, None, Contains, sym, ap, ◌∙◌, refl, arith}
+use Rattle.std.proofs.Common.{◌≡◌, ℕ, suc, ◌+◌, ◌<◌, List, [], ◌∷◌, ◌++◌, length, map, Bool, Option, Some, None, Contains, sym, ap, ◌∙◌, refl, arith}
 use Rattle.std.specs.Prelude.{slice_index}
 use Rattle.std.specs.Option.{option_map}
+use Rattle.std.proofs.lemmas.List.{length-map}
+use Rattle.std.proofs.lemmas.Option.{slice_get_within}
 use Rattle.rr_base.specs.declared.event.InboxEvent.{InboxEvent}
+use Rattle.rr_base.specs.declared.limits.Limits.{Limits}
 use Rattle.rr_space.specs.Graph.{Own, Published, Value, Plain, At, Object}
-use Rattle.rr_space.specs.Tables.{Slot, Packed, renamed, behind}
+use Rattle.rr_space.specs.Tables.{Slot, Here, Packed, renamed, behind, here_behind}
+use Rattle.rr_space.specs.Views.{emptied}
 use Rattle.rr_space.specs.Parts.{IsWithin}
-use Rattle.rr_space.specs.Readings.{Owner, Space, Hand, Mail, Shared, Naming, Layout}
-use Rattle.rr_space.specs.Steps.{IsNamed, IsJoined}
+use Rattle.rr_space.specs.Readings.{Owner, Space, Hand, Mail, Shared, Objects, Naming, Layout, IsReading}
+use Rattle.rr_space.specs.Steps.{Goes, IsNamed, IsJoined}
 use Rattle.rr_space.specs.declared.refer.Ref.{Ref}
 use Rattle.rr_space.specs.declared.refer.Ref.TheVariants.{Nil, Truth, Int, Symbol, Class, Ractor, Local, Shared as SharedRef}
 use Rattle.rr_space.proofs.Frames.{map_same}
 use Rattle.rr_copy.specs.Messages.{size_of}
+use Rattle.rr_move.specs.declared.home.Home.{Home}
 use Rattle.rr_inbox.specs.Inboxes.{Inbox}
 use Rattle.rr_inbox.specs.declared.entry.Entry.{Entry}
-use Rattle.rr_world.specs.Views.{Member, Channels, AreRootsWithin, with_inbox}
+use Rattle.rr_world.specs.Views.{Member, Channels, AreAway, AreRootsWithin, with_inbox}
 use Rattle.rr_world.specs.States.{Parcel, Letter, Mailbox, Actor, Post, with_box}
-use Rattle.rr_world.specs.Readings.{value_in, root_in, parcel_in, letter_in, mailbox_in, actor_in, post_in}
+use Rattle.rr_world.specs.Readings.{value_in, root_in, parcel_in, shells_in, letter_in, mailbox_in, actor_in, post_in}
 use Rattle.rr_world.proofs.Lists.{each_same, each_set}
 
 -- clusters have the names that they had
@@ -31,11 +36,11 @@ value_same names names2 h (At (Published c p)) own shared = ap (λ ns. At (Own (
 abbrev pub box_with : List Letter → Bool → ℕ → List InboxEvent → ℕ → Mailbox
 box_with ls c n es l = record { inside = ls; closed = c; next = n; history = es; limit = l }
 
-abbrev pub parcel_with : Packed → Value → Parcel
-parcel_with m v = record { root = v; size = size_of m; sender = m.sender; sequence = m.sequence }
+abbrev pub parcel_with : Packed → Value → List ℕ → Parcel
+parcel_with m v ns = record { root = v; names = ns; size = size_of m; sender = m.sender; sequence = m.sequence }
 
 pub parcel_same : (names names2 : Naming) (h : Owner) (m : Packed) → names2 h ≡ names h → KeepsShared names names2 → parcel_in names2 h m ≡ parcel_in names h m
-parcel_same names names2 h m own shared = ap (parcel_with m) (value_same names names2 h m.root own shared)
+parcel_same names names2 h m own shared = ap (λ v. parcel_with m v (names2 h)) (value_same names names2 h m.root own shared) ∙ ap (parcel_with m (value_in names h m.root)) own
 
 pub hand_same : (names names2 : Naming) (h : Owner) (x : Option Packed) → names2 h ≡ names h → KeepsShared names names2
     → option_map (parcel_in names2 h) x ≡ option_map (parcel_in names h) x
@@ -49,23 +54,37 @@ roots_same names names2 h (r ∷ rs) own shared =
     ap (λ v. v ∷ map (root_in names2 h) rs) (value_same names names2 h _ own shared)
     ∙ ap (λ vs. root_in names h r ∷ vs) (roots_same names names2 h rs own shared)
 
+-- a ractor is what is in it
+abbrev pub actor_with : List Value → Option Parcel → Option (List ℕ) → ℕ → ℕ → ℕ → Limits → Actor
+actor_with vs h o s l n z = record { roots = vs; hand = h; home = o; slots = s; limit = l; next = n; limits = z }
+
+pub same_actor : {vs ws : List Value} {h i : Option Parcel} {o p : Option (List ℕ)} {s t l j n q : ℕ} {z y : Limits} → vs ≡ ws → h ≡ i → o ≡ p → s ≡ t → l ≡ j → n ≡ q → z ≡ y
+    → actor_with vs h o s l n z ≡ actor_with ws i p t j q y
+same_actor {vs} {ws} {h} {i} {o} {p} {s} {t} {l} {j} {n} {q} {z} {y} a b c d e f g =
+    ap (λ x. actor_with x h o s l n z) a ∙ ap (λ x. actor_with ws x o s l n z) b ∙ ap (λ x. actor_with ws i x s l n z) c ∙ ap (λ x. actor_with ws i p x l n z) d
+    ∙ ap (λ x. actor_with ws i p t x n z) e ∙ ap (λ x. actor_with ws i p t j x z) f ∙ ap (λ x. actor_with ws i p t j q x) g
+
+pub home_same : (names names2 : Naming) (k : ℕ) (x : Option Home) → names2 (Space k) ≡ names (Space k) → option_map (shells_in names2 k) x ≡ option_map (shells_in names k) x
+home_same names names2 k None own = refl
+home_same names names2 k (Some h) own = ap (λ ns. Some (map (slice_index ns) h.slots)) own
+
+-- a home has the names that it had, where the slots have
+pub home_stands : (names names2 : Naming) (k : ℕ) (slots : List Slot) (hand : Option Packed) (x : Option Home) → AreAway slots hand x
+    → ((i : ℕ) → i < length slots → slice_index (names2 (Space k)) i ≡ slice_index (names (Space k)) i) → option_map (shells_in names2 k) x ≡ option_map (shells_in names k) x
+home_stands names names2 k slots hand None away stand = refl
+home_stands names names2 k slots None (Some h) away stand = absurd away
+home_stands names names2 k slots (Some p) (Some h) away stand =
+    ap (λ (ns : List ℕ). Some ns) (map_same (slice_index (names2 (Space k))) (slice_index (names (Space k))) h.slots (λ n has. stand n (slice_get_within slots n (Here emptied) (away.shells n has))))
+
 pub actor_same : (names names2 : Naming) (k : ℕ) (r : Member) → names2 (Space k) ≡ names (Space k) → names2 (Hand k) ≡ names (Hand k) → KeepsShared names names2
     → actor_in names2 k r ≡ actor_in names k r
 actor_same names names2 k r space hand shared =
-    ap (λ vs. let a : Actor = record { roots = vs; hand = option_map (parcel_in names2 (Hand k)) r.hand; slots = length r.space.slots; limit = r.space.limit; limits = r.limits } in a) (roots_same names names2 (Space k) r.roots space shared)
-    ∙ ap (λ h. let a : Actor = record { roots = map (root_in names (Space k)) r.roots; hand = h; slots = length r.space.slots; limit = r.space.limit; limits = r.limits } in a) (hand_same names names2 (Hand k) r.hand hand shared)
-
--- a ractor but for its hand
-pub unhanded : (names names2 : Naming) (k : ℕ) (r : Member) → names2 (Space k) ≡ names (Space k) → KeepsShared names names2
-    → record (actor_in names2 k r) { hand = None } ≡ record (actor_in names k r) { hand = None }
-unhanded names names2 k r space shared =
-    ap (λ vs. let a : Actor = record { roots = vs; hand = None; slots = length r.space.slots; limit = r.space.limit; limits = r.limits } in a) (roots_same names names2 (Space k) r.roots space shared)
+    same_actor (roots_same names names2 (Space k) r.roots space shared) (hand_same names names2 (Hand k) r.hand hand shared) (home_same names names2 k r.home space) refl refl refl refl
 
 -- a ractor with another message in its hand
 pub handed : (names names2 : Naming) (k : ℕ) (r : Member) (p : Packed) → names2 (Space k) ≡ names (Space k) → KeepsShared names names2
     → actor_in names2 k (record r { hand = Some p }) ≡ record (actor_in names k r) { hand = Some (parcel_in names2 (Hand k) p) }
-handed names names2 k r p space shared =
-    ap (λ vs. let a : Actor = record { roots = vs; hand = Some (parcel_in names2 (Hand k) p); slots = length r.space.slots; limit = r.space.limit; limits = r.limits } in a) (roots_same names names2 (Space k) r.roots space shared)
+handed names names2 k r p space shared = same_actor (roots_same names names2 (Space k) r.roots space shared) refl (home_same names names2 k r.home space) refl refl refl refl
 
 pub letters_same : (names names2 : Naming) (c : ℕ) (es : List Entry) → ((e : Entry) → Contains es e → names2 (Mail c e.ticket) ≡ names (Mail c e.ticket)) → KeepsShared names names2
     → map (letter_in names2 c) es ≡ map (letter_in names c) es
@@ -123,11 +142,26 @@ value_stays (Plain n) = refl
 value_stays (At (Own i)) = ap (λ k. At (Own k)) (let e : 0 + i ≡ i = omega arith in e)
 value_stays (At (Published c p)) = refl
 
--- a message that went to an owner who had nothing
+same_list : (xs ys : List ℕ) → length xs ≡ length ys → ((i : ℕ) → slice_index xs i ≡ slice_index ys i) → xs ≡ ys
+same_list [] [] size same = refl
+same_list [] (y ∷ ys) size same = absurd (omega (arith, size))
+same_list (x ∷ xs) [] size same = absurd (omega (arith, size))
+same_list (x ∷ xs) (y ∷ ys) size same = ap (λ z. z ∷ xs) (same 0) ∙ ap (λ zs. y ∷ zs) (same_list xs ys (omega (arith, size)) (λ i. same (suc i)))
+
+-- a table that went to an owner who had nothing has the list of names that it had
+pub names_moved : {old new : Layout} {a b : Owner} {os : List Object} {names names2 : Naming} {bound bound2 : ℕ} {g g2 : Objects} → Goes a b os [] old new → IsReading old names bound g
+    → IsReading new names2 bound2 g2 → IsJoined old a b os [] names names2 → names2 b ≡ names a
+names_moved {old} {new} {a} {b} {os} {names} {names2} G R R2 J =
+    same_list (names2 b) (names a)
+    ((R2.reads b ([] ++ map (here_behind 0) os) G.come).size ∙ length-map os (here_behind 0) ∙ sym (length-map os Here) ∙ sym (R.reads a (map Here os) G.from).size)
+    (λ i. ap (slice_index (names2 b)) (let e : i ≡ 0 + i = omega arith in e) ∙ J.come i)
+
+-- and its message is what it was
 pub parcel_moved : (tables : Layout) (a b : Owner) (os : List Object) (names names2 : Naming) (m : Packed) → IsNamed b names names2 → IsJoined tables a b os [] names names2
-    → ((c : ℕ) → b ≡ Shared c → ⊥) → parcel_in names2 b m ≡ parcel_in names a m
-parcel_moved tables a b os names names2 m N J unshared =
-    ap (parcel_with m) (ap (value_in names2 b) (sym (value_stays m.root)) ∙ value_moved tables a b os [] names names2 N J unshared m.root)
+    → ((c : ℕ) → b ≡ Shared c → ⊥) → names2 b ≡ names a → parcel_in names2 b m ≡ parcel_in names a m
+parcel_moved tables a b os names names2 m N J unshared same =
+    ap (λ v. parcel_with m v (names2 b)) (ap (value_in names2 b) (sym (value_stays m.root)) ∙ value_moved tables a b os [] names names2 N J unshared m.root)
+    ∙ ap (parcel_with m (value_in names a m.root)) same
 
 -- an inbox is what is in it
 pub same_box : (ls : List Letter) (c d : Bool) (n k : ℕ) (es fs : List InboxEvent) (l j : ℕ) → c ≡ d → n ≡ k → es ≡ fs → l ≡ j → box_with ls c n es l ≡ box_with ls d k fs j

@@ -23,7 +23,7 @@ use Rattle.rr_world.specs.Runs.{IsStep}
 use Rattle.rr_world.specs.declared.step.Action.TheVariants.{Offer}
 use Rattle.rr_world.specs.declared.step.Reply.TheVariants.{Offered}
 use Rattle.rr_world.proofs.Lists.{eq_cases, set_at, set_off, seen_same, each_set}
-use Rattle.rr_world.proofs.Namings.{actor_same, post_set, same_box, letters_same, parcel_moved, shared_kept, value_stays}
+use Rattle.rr_world.proofs.Namings.{actor_same, post_set, same_box, letters_same, names_moved, parcel_moved, shared_kept, value_stays}
 use Rattle.rr_world.proofs.Tickets.{mail_none, mail_last, mail_others, next_is_new}
 use Rattle.std.proofs.lemmas.List.Elements.{Contains-append_cases}
 use Rattle.rr_space.proofs.Sounds.{none_in, in_first}
@@ -50,14 +50,14 @@ pub record IsLonger (who : RactorNo) (p : Packed) (i i2 : Inbox) : Type 0 where
   pub limit : i2.limit ≡ i.limit
 
 module _ (w w2 : Assembly) (who : RactorNo) (k c : ℕ) (m : Member) (i i2 : Inbox) (p : Packed) (at : slice_get w.ractors k ≡ Some m) (box : slice_get w.channels.inboxes c ≡ Some i)
-    (held : m.hand ≡ Some p) (L : IsLonger who p i i2) (rs : w2.ractors ≡ slice_set w.ractors k (record m { hand = None })) (is : w2.channels ≡ with_inbox w.channels c i2) where
+    (held : m.hand ≡ Some p) (L : IsLonger who p i i2) (rs : w2.ractors ≡ slice_set w.ractors k (record m { hand = None; home = None })) (is : w2.channels ≡ with_inbox w.channels c i2) where
   fresh : mail_slots i.next i.inside ≡ None
   fresh = mail_none i.inside i.next (next_is_new i L.tickets)
 
   rest : (h : Owner) → (h ≡ Hand k → ⊥) → (h ≡ Mail c i.next → ⊥) → layout w2 h ≡ layout w h
   unfolding layout
-  rest (Space j) q r = ap (λ xs. option_map space_slots (slice_get xs j)) rs ∙ seen_same (option_map space_slots) w.ractors k j m (record m { hand = None }) at refl
-  rest (Hand j) q r = ap (λ xs. option_and_then hand_slots (slice_get xs j)) rs ∙ ap (option_and_then hand_slots) (set_off w.ractors k j (record m { hand = None }) (λ e. q (ap Hand e)))
+  rest (Space j) q r = ap (λ xs. option_map space_slots (slice_get xs j)) rs ∙ seen_same (option_map space_slots) w.ractors k j m (record m { hand = None; home = None }) at refl
+  rest (Hand j) q r = ap (λ xs. option_and_then hand_slots (slice_get xs j)) rs ∙ ap (option_and_then hand_slots) (set_off w.ractors k j (record m { hand = None; home = None }) (λ e. q (ap Hand e)))
   rest (Mail d u) q r = ap (λ (x : Channels). option_and_then (inbox_slots u) (slice_get x.inboxes d)) is ∙ ⊎_elim here other (eq_cases d c)
     where
       here : d ≡ c → option_and_then (inbox_slots u) (slice_get (slice_set w.channels.inboxes c i2) d) ≡ option_and_then (inbox_slots u) (slice_get w.channels.inboxes d)
@@ -73,7 +73,7 @@ module _ (w w2 : Assembly) (who : RactorNo) (k c : ℕ) (m : Member) (i i2 : Inb
   goes = record {
     from = ap (option_and_then hand_slots) at ∙ ap (option_map message_slots) held;
     to = inr (ap (option_and_then (inbox_slots i.next)) box ∙ fresh, refl);
-    gone = ap (λ xs. option_and_then hand_slots (slice_get xs k)) rs ∙ ap (option_and_then hand_slots) (set_at w.ractors k (record m { hand = None }) (slice_get_within w.ractors k m at));
+    gone = ap (λ xs. option_and_then hand_slots (slice_get xs k)) rs ∙ ap (option_and_then hand_slots) (set_at w.ractors k (record m { hand = None; home = None }) (slice_get_within w.ractors k m at));
     come = ap (λ (x : Channels). option_and_then (inbox_slots i.next) (slice_get x.inboxes c)) is
         ∙ ap (option_and_then (inbox_slots i.next)) (set_at w.channels.inboxes c i2 (slice_get_within w.channels.inboxes c i box))
         ∙ ap (mail_slots i.next) L.inside ∙ mail_last i.inside (record { ticket = i.next; message = p }) fresh ∙ ap (λ x. Some x) (objects_stay p.objects);
@@ -97,7 +97,7 @@ module _ (w w2 : Assembly) (who : RactorNo) (k c : ℕ) (m : Member) (i i2 : Inb
       let inside : map (letter_in names2 c) i2.inside ≡ map (letter_in names c) i.inside ++ record { ticket = i.next; parcel = parcel_in names (Hand k) p } ∷ [] =
       ap (map (letter_in names2 c)) L.inside ∙ map-append (letter_in names2 c) i.inside (e ∷ [])
       ∙ ap (λ ls. ls ++ letter_in names2 c e ∷ []) (letters_same names names2 c i.inside (λ x has. N.rest (Mail c x.ticket) (λ z. next_is_new i L.tickets x has (let y : x.ticket ≡ i.next = cc in y))) kept)
-      ∙ ap (λ r. map (letter_in names c) i.inside ++ record { ticket = i.next; parcel = r } ∷ []) (parcel_moved (layout w) (Hand k) (Mail c i.next) p.objects names names2 p N J apart) in
+      ∙ ap (λ r. map (letter_in names c) i.inside ++ record { ticket = i.next; parcel = r } ∷ []) (parcel_moved (layout w) (Hand k) (Mail c i.next) p.objects names names2 p N J apart (names_moved goes R.tables q.2 J)) in
       let mailbox : mailbox_in names2 c i2 ≡ record (mailbox_in names c i) {
         inside = (mailbox_in names c i).inside ++ record { ticket = i.next; parcel = parcel_in names (Hand k) p } ∷ [];
         next = i.next + 1;
@@ -108,7 +108,7 @@ module _ (w w2 : Assembly) (who : RactorNo) (k c : ℕ) (m : Member) (i i2 : Inb
         names2,
         bound,
         q.1,
-        read_both w w2 k c m (record m { hand = None }) i2 at rs is refl (emptied_knows (layout w) m (R.knows.ractors k m at))
+        read_both w w2 k c m (record m { hand = None; home = None }) i2 at rs is refl (emptied_knows (layout w) m (R.knows.ractors k m at))
             (λ x has. ⊎_elim
             (λ old. R.knows.inboxes c i x box old)
             (λ new. ⊎_elim
@@ -134,8 +134,8 @@ module _ (w w2 : Assembly) (who : RactorNo) (k c : ℕ) (m : Member) (i i2 : Inb
               ticket = refl;
               objects = q.4;
               ractors = ap (each_from (actor_in names2) 0) rs
-                  ∙ each_set (actor_in names) (actor_in names2) 0 w.ractors k k (record m { hand = None }) (omega arith) (λ j n x d e a. actor_same names names2 n x (spaces n) (hands n) kept)
-                  ∙ ap (slice_set (each_from (actor_in names) 0 w.ractors) k) (actor_same names names2 k (record m { hand = None }) (spaces k) (hands k) kept);
+                  ∙ each_set (actor_in names) (actor_in names2) 0 w.ractors k k (record m { hand = None; home = None }) (omega arith) (λ j n x d e a. actor_same names names2 n x (spaces n) (hands n) kept)
+                  ∙ ap (slice_set (each_from (actor_in names) 0 w.ractors) k) (actor_same names names2 k (record m { hand = None; home = None }) (spaces k) (hands k) kept);
               post = ap (post_in names2) is
                   ∙ post_set names names2 w.channels c i2 (λ d u z. N.rest (Mail d u) (λ y. z (let f : d ≡ c = cc in f))) kept
                   ∙ ap (with_box (post_in names w.channels) c) mailbox;

@@ -12,8 +12,7 @@ use Rattle.rr_space.specs.declared.refer.Ref.{Ref}
 use Rattle.rr_space.proofs.Hands.{hands_on}
 use Rattle.rr_world.specs.Views.{Member, Channels, Assembly}
 use Rattle.rr_world.specs.Layouts.{layout, space_slots, hand_slots, inbox_slots, message_slots}
-use Rattle.rr_world.specs.States.{Actor}
-use Rattle.rr_world.specs.Readings.{each_from, actor_in, parcel_in, value_in, root_in, post_in, state_in}
+use Rattle.rr_world.specs.Readings.{each_from, actor_in, shells_in, parcel_in, value_in, root_in, post_in, state_in}
 use Rattle.rr_world.specs.Cases.{StandsAt}
 use Rattle.rr_world.specs.Opening.{IsOpenedBy, Opened}
 use Rattle.rr_world.specs.Runs.{IsStep}
@@ -21,7 +20,7 @@ use Rattle.rr_world.specs.declared.step.Action.TheVariants.{Open}
 use Rattle.rr_world.specs.declared.step.Reply.{Reply}
 use Rattle.rr_world.specs.declared.step.Reply.TheVariants.{NotEnabled, Done, Offered, Empty, EmptyAndClosed, WasClosed, Refused, Started}
 use Rattle.rr_world.proofs.Lists.{set_at, set_off, each_set}
-use Rattle.rr_world.proofs.Namings.{actor_same, post_same, value_moved, shared_kept, roots_stand}
+use Rattle.rr_world.proofs.Namings.{actor_same, same_actor, post_same, value_moved, shared_kept, roots_stand}
 use Rattle.rr_world.proofs.Knowing.{read_set, opened_knows}
 use Rattle.rr_world.proofs.Enabled.{actor_at, holds, allowed, holds_not}
 use Rattle.rr_world.proofs.Insides.{set_again, same_assembly}
@@ -64,12 +63,8 @@ module _ (w w2 : Assembly) (k : ℕ) (m m2 : Member) (p : Packed) (root : Ref) (
       let count : length m2.space.slots ≡ length m.space.slots + length p.objects =
       ap length O.opened.slots ∙ length-append m.space.slots (map (here_behind (length m.space.slots)) p.objects)
       ∙ ap (λ n. length m.space.slots + n) (length-map p.objects (here_behind (length m.space.slots))) in
-      let actor : actor_in names2 k m2 ≡ record (actor_in names k m) { roots = (actor_in names k m).roots ++ (parcel_in names (Hand k) p).root ∷ []; hand = None; slots = (actor_in names k m).slots + (parcel_in names (Hand k) p).size } =
-      ap (λ vs. let a : Actor = record { roots = vs; hand = option_map (parcel_in names2 (Hand k)) m2.hand; slots = length m2.space.slots; limit = m2.space.limit; limits = m2.limits } in a) roots
-      ∙ ap (λ h. let a : Actor = record { roots = map (root_in names (Space k)) m.roots ++ value_in names (Hand k) p.root ∷ []; hand = option_map (parcel_in names2 (Hand k)) h; slots = length m2.space.slots; limit = m2.space.limit; limits = m2.limits } in a) O.hand
-      ∙ ap (λ n. let a : Actor = record { roots = map (root_in names (Space k)) m.roots ++ value_in names (Hand k) p.root ∷ []; hand = None; slots = n; limit = m2.space.limit; limits = m2.limits } in a) count
-      ∙ ap (λ n. let a : Actor = record { roots = map (root_in names (Space k)) m.roots ++ value_in names (Hand k) p.root ∷ []; hand = None; slots = length m.space.slots + length p.objects; limit = n; limits = m2.limits } in a) O.opened.rest.limit
-      ∙ ap (λ z. let a : Actor = record { roots = map (root_in names (Space k)) m.roots ++ value_in names (Hand k) p.root ∷ []; hand = None; slots = length m.space.slots + length p.objects; limit = m.space.limit; limits = z } in a) O.limits in (
+      let actor : actor_in names2 k m2 ≡ record (actor_in names k m) { roots = (actor_in names k m).roots ++ (parcel_in names (Hand k) p).root ∷ []; hand = None; home = None; slots = (actor_in names k m).slots + (parcel_in names (Hand k) p).size } =
+      same_actor roots (ap (option_map (parcel_in names2 (Hand k))) O.hand) (ap (option_map (shells_in names2 k)) O.home) count O.opened.rest.limit O.opened.rest.next_message O.limits in (
         names2,
         bound,
         q.1,

@@ -20,10 +20,10 @@ use Rattle.rr_space.proofs.Renaming.{map_at, mapped_at}
 use Rattle.rr_space.proofs.Sounds.{gets, joined_in, sound_is_sealed}
 use Rattle.rr_space.proofs.Spaces.{spaces_are_inside, raw_of}
 use Rattle.rr_copy.proofs.Shut.{message_is_shut}
-use Rattle.rr_world.specs.Views.{Member, Channels, Assembly}
+use Rattle.rr_world.specs.Views.{Member, Channels, Assembly, IsFree}
 use Rattle.rr_world.specs.Layouts.{layout, space_slots, hand_slots, inbox_slots, message_slots, message_below, IsRead}
 use Rattle.rr_world.specs.Readings.{each_from, actor_in, parcel_in, root_in, post_in, state_in}
-use Rattle.rr_world.specs.Cases.{StandsAt, IsEnabled}
+use Rattle.rr_world.specs.Cases.{StandsAt, IsFreeHand, IsValue, MayBePacked}
 use Rattle.rr_world.specs.Packing.{IsPackedFrom, MayNotPack, Packs, named_ref}
 use Rattle.rr_world.specs.Runs.{IsStep}
 use Rattle.rr_world.specs.declared.step.Operand.{Operand}
@@ -44,7 +44,7 @@ abbrev table_of : Packed → Table
 table_of p = record { slots = map Here p.objects; below = p.root_below ∷ p.below; keys = []; limit = 0; owner = 0; next_message = 0 }
 
 module _ (w w2 : Assembly) (names : Naming) (bound : ℕ) (g : Objects) (R : IsRead w names bound g) (k : ℕ) (m : Member) (v : Ref) (p : Packed) (at : slice_get w.ractors k ≡ Some m)
-    (P : IsPackedFrom m.space v p) (empty : m.hand ≡ None) (knows : Knows (below_ref v) (layout w))
+    (P : IsPackedFrom m.space v p) (empty : IsFree m) (knows : Knows (below_ref v) (layout w))
     (rs : w2.ractors ≡ slice_set w.ractors k (record m { hand = Some p })) (is : w2.channels ≡ w.channels) where
   rest : (h : Owner) → (h ≡ Hand k → ⊥) → layout w2 h ≡ layout w h
   unfolding layout
@@ -55,7 +55,7 @@ module _ (w w2 : Assembly) (names : Naming) (bound : ℕ) (g : Objects) (R : IsR
 
   was : layout w (Hand k) ≡ None
   unfolding layout
-  was = ap (option_and_then hand_slots) at ∙ ap (option_map message_slots) empty
+  was = ap (option_and_then hand_slots) at ∙ ap (option_map message_slots) empty.hand
 
   now : layout w2 (Hand k) ≡ Some (map Here p.objects)
   unfolding layout
@@ -176,7 +176,7 @@ module _ (w w2 : Assembly) (names : Naming) (bound : ℕ) (g : Objects) (R : IsR
     }
 
 module _ (w w2 : Assembly) (who : RactorNo) (k : ℕ) (m : Member) (op : Operand) (v : Ref) (p : Packed) (at : slice_get w.ractors k ≡ Some m) (stands : StandsAt who k)
-    (named : named_ref m.roots op ≡ Some v) (P : IsPackedFrom m.space v p) (empty : m.hand ≡ None) (rs : w2.ractors ≡ slice_set w.ractors k (record m { hand = Some p })) (is : w2.channels ≡ w.channels) where
+    (named : named_ref m.roots op ≡ Some v) (P : IsPackedFrom m.space v p) (empty : IsFree m) (rs : w2.ractors ≡ slice_set w.ractors k (record m { hand = Some p })) (is : w2.channels ≡ w.channels) where
   pub packed : ((names : Naming) (bound : ℕ) (g : Objects) → IsRead w names bound g → Knows (below_ref v) (layout w)) → IsStep (record { who = who; action = Pack op }) Done w w2
   packed all names bound g R =
       let knows = all names bound g R in
@@ -205,7 +205,6 @@ module _ (w w2 : Assembly) (who : RactorNo) (k : ℕ) (m : Member) (op : Operand
               free = free_of w names bound g R k m v at P.well P.within knows P.free;
               shared = shared_of w names bound g R k m v at P.well P.within knows P.promoted;
               left = map (λ n. name_in names (Space k) (Own n)) P.names;
-              right = map Own (names2 (Hand k));
               objects = copied w w2 names bound g R k m v p at P empty knows rs is names2 q.1 q.2 N q.4;
               size = length-map P.names (λ n. name_in names (Space k) (Own n)) ∙ sym P.copy.size;
               sender = P.sender ∙ R.owned k m at;
@@ -220,20 +219,18 @@ module _ (w w2 : Assembly) (who : RactorNo) (k : ℕ) (m : Member) (op : Operand
         ),
       )
 
--- why a pack is not enabled
-not_packed : (w : Assembly) (names : Naming) (bound : ℕ) (g : Objects) (who : RactorNo) (k : ℕ) (m : Member) (op : Operand) → IsRead w names bound g → slice_get w.ractors k ≡ Some m → StandsAt who k
-    → MayNotPack op m → IsEnabled (state_in w names g) (record { who = who; action = Pack op }) → ⊥
-not_packed w names bound g who k m op R at stands (inl busy) e =
-    busy (free_back names k m (allowed w names g (record { who = who; action = Pack op }) k m stands at e).0)
-not_packed w names bound g who k m op R at stands (inr (inl none)) e =
-    let x = (allowed w names g (record { who = who; action = Pack op }) k m stands at e).1 in
-    none-some x.0 (sym (value_named names (Space k) m.roots op ∙ ap (option_map (root_in names (Space k))) none) ∙ x.1)
-not_packed w names bound g who k m op R at stands (inr (inr (v, named, N))) e =
+-- why a value may not be packed
+pub not_packed : (w : Assembly) (names : Naming) (bound : ℕ) (g : Objects) (k : ℕ) (m : Member) (op : Operand) → IsRead w names bound g → slice_get w.ractors k ≡ Some m
+    → MayNotPack op m → IsFreeHand (actor_in names k m) → IsValue (actor_in names k m) op → MayBePacked (state_in w names g) (actor_in names k m) op → ⊥
+not_packed w names bound g k m op R at (inl busy) empty value tested = busy (free_back names k m empty)
+not_packed w names bound g k m op R at (inr (inl none)) empty value tested =
+    none-some value.0 (sym (value_named names (Space k) m.roots op ∙ ap (option_map (root_in names (Space k))) none) ∙ value.1)
+not_packed w names bound g k m op R at (inr (inr (v, named, N))) empty value tested =
     let knows = known_named (layout w) m.roots op v (R.knows.ractors k m at).roots named in
     ⊎_elim
     (λ s. free_of w names bound g R k m v at N.well N.within knows N.free s.0 s.1 s.2 s.3 s.4)
     (λ s. N.open_left (promoted_of w names bound g R k m v at N.well N.within knows s))
-    (tested_at w names g (record { who = who; action = Pack op }) k m stands at e (root_in names (Space k) v) (value_named names (Space k) m.roots op ∙ ap (option_map (root_in names (Space k))) named))
+    (tested (root_in names (Space k) v) (value_named names (Space k) m.roots op ∙ ap (option_map (root_in names (Space k))) named))
 
 -- whatever a pack answers
 pub packed_by : (w w2 : Assembly) (who : RactorNo) (k : ℕ) (m m2 : Member) (op : Operand) (r : Reply) → slice_get w.ractors k ≡ Some m → w2.ractors ≡ slice_set w.ractors k m2 → w2.channels ≡ w.channels
@@ -242,7 +239,12 @@ packed_by w w2 who k m m2 op Done at rs is stands (v, p, empty, named, P, same) 
     packed w w2 who k m op v p at stands named P empty (rs ∙ ap (slice_set w.ractors k) same) is (λ names bound g R. known_named (layout w) m.roots op v (R.knows.ractors k m at).roots named)
 packed_by w w2 who k m m2 op NotEnabled at rs is stands (why, same) =
     stays_read (record { who = who; action = Pack op }) NotEnabled w w2 (same_assembly w2.ractors w.ractors w2.channels w.channels (rs ∙ set_again w.ractors w.ractors k m2 m refl at same) is)
-    (λ names bound g R. (not_packed w names bound g who k m op R at stands why, same_state (state_in w names g)))
+    (λ names bound g R. (
+      λ e.
+          let z = allowed w names g (record { who = who; action = Pack op }) k m stands at e in
+          not_packed w names bound g k m op R at why z.0 z.1 (tested_at w names g (record { who = who; action = Pack op }) k m stands at e),
+      same_state (state_in w names g),
+    ))
 packed_by w w2 who k m m2 op (Refused f) at rs is stands (v, empty, named, F, same) =
     stays_read (record { who = who; action = Pack op }) (Refused f) w w2 (same_assembly w2.ractors w.ractors w2.channels w.channels (rs ∙ set_again w.ractors w.ractors k m2 m refl at same) is)
     (λ names bound g R.

@@ -16,12 +16,11 @@ use Rattle.rr_space.proofs.Renaming.{contains_map, contains_map_back}
 use Rattle.rr_space.proofs.Sounds.{gets}
 use Rattle.rr_world.specs.Views.{Member, Channels, Assembly}
 use Rattle.rr_world.specs.Layouts.{layout, space_slots, hand_slots, inbox_slots, message_slots, MemberKnows, IsRead}
-use Rattle.rr_world.specs.States.{Actor}
-use Rattle.rr_world.specs.Readings.{each_from, actor_in, root_in, value_in, post_in, state_in, parcel_in}
+use Rattle.rr_world.specs.Readings.{each_from, actor_in, shells_in, root_in, value_in, post_in, state_in, parcel_in}
 use Rattle.rr_world.specs.Cases.{IsChangedTo}
 use Rattle.rr_world.specs.Changing.{IsRewritten}
 use Rattle.rr_world.proofs.Lists.{eq_cases, set_at, set_off, set_back, seen_same, each_set}
-use Rattle.rr_world.proofs.Namings.{actor_same, post_same, hand_same}
+use Rattle.rr_world.proofs.Namings.{actor_same, same_actor, post_same, hand_same, home_stands}
 use Rattle.rr_world.proofs.Knowing.{read_set, knows_either, none_known}
 use Rattle.rr_world.proofs.Enabled.{actor_at}
 use Rattle.rr_world.proofs.Rooting.{roots_keep}
@@ -243,12 +242,8 @@ module _ (w w2 : Assembly) (k n : ℕ) (m m2 : Member) (o p : Object) (v : Ref) 
         let roots : map (root_in names2 (Space k)) m2.roots ≡ map (root_in names (Space k)) m.roots =
         ap (map (root_in names2 (Space k))) A.roots ∙ roots_keep (length m.space.slots) names names2 (Space k) m.roots A.within stand kept_shared in
         let count : length m2.space.slots ≡ length m.space.slots = ap length A.slots ∙ size in
-        ap (λ vs. let a : Actor = record { roots = vs; hand = option_map (parcel_in names2 (Hand k)) m2.hand; slots = length m2.space.slots; limit = m2.space.limit; limits = m2.limits } in a) roots
-        ∙ ap (λ h. let a : Actor = record { roots = map (root_in names (Space k)) m.roots; hand = h; slots = length m2.space.slots; limit = m2.space.limit; limits = m2.limits } in a)
-        (ap (option_map (parcel_in names2 (Hand k))) A.hand ∙ hand_same names names2 (Hand k) m.hand hands kept_shared)
-        ∙ ap (λ i. let a : Actor = record { roots = map (root_in names (Space k)) m.roots; hand = option_map (parcel_in names (Hand k)) m.hand; slots = i; limit = m2.space.limit; limits = m2.limits } in a) count
-        ∙ ap (λ i. let a : Actor = record { roots = map (root_in names (Space k)) m.roots; hand = option_map (parcel_in names (Hand k)) m.hand; slots = length m.space.slots; limit = i; limits = m2.limits } in a) A.limit
-        ∙ ap (λ z. let a : Actor = record { roots = map (root_in names (Space k)) m.roots; hand = option_map (parcel_in names (Hand k)) m.hand; slots = length m.space.slots; limit = m.space.limit; limits = z } in a) A.limits
+        same_actor roots (ap (option_map (parcel_in names2 (Hand k))) A.hand ∙ hand_same names names2 (Hand k) m.hand hands kept_shared)
+        (ap (option_map (shells_in names2 k)) A.home ∙ home_stands names names2 k m.space.slots m.hand m.home A.away stand) count A.limit A.next A.limits
 
     changed_to : ((o.frozen ≡ true) ⊎ (o.kind ≡ shell) → p ≡ o) → IsNewValue g (actor_in names k m).roots (root_in names (Space k) v)
         → IsChangedTo k (actor_in names k m) name (named names (Space k) o) (named names2 (Space k) p) (state_in w names g) (state_in w2 names2 g2)

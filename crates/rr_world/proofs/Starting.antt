@@ -18,7 +18,7 @@ use Rattle.rr_inbox.specs.Inboxes.{Inbox, new_inbox}
 use Rattle.rr_world.specs.Views.{Member, Channels, Assembly}
 use Rattle.rr_world.specs.Layouts.{layout, space_slots, hand_slots, inbox_slots, message_slots, message_below, MemberKnows, IsKnowing, AreOwned, HaveInboxes, IsRead}
 use Rattle.rr_world.specs.States.{Actor, Post}
-use Rattle.rr_world.specs.Readings.{each_from, actor_in, mailbox_in, parcel_in, root_in, post_in, state_in}
+use Rattle.rr_world.specs.Readings.{each_from, actor_in, shells_in, mailbox_in, parcel_in, root_in, post_in, state_in}
 use Rattle.rr_world.specs.Cases.{StandsAt, IsStarted, new_actor, new_mailbox}
 use Rattle.rr_world.specs.Starting.{IsBegun}
 use Rattle.rr_world.specs.Runs.{IsStep}
@@ -27,7 +27,7 @@ use Rattle.rr_world.specs.declared.step.Reply.TheVariants.{Started, Refused}
 use Rattle.rr_world.proofs.Enabled.{actor_at}
 use Rattle.rr_world.proofs.Knowing.{knows_on, member_on}
 use Rattle.rr_world.proofs.Lists.{each_same}
-use Rattle.rr_world.proofs.Namings.{actor_same, mailbox_same}
+use Rattle.rr_world.proofs.Namings.{actor_same, same_actor, mailbox_same}
 use Rattle.rr_world.proofs.Staying.{stays, same_state}
 
 -- what stands in a list with one more
@@ -132,12 +132,8 @@ module _ (w w2 : Assembly) (limits : Limits) (m2 : Member) (A : IsBegun limits (
             on (Some y) q = absurd (none_new j y e q)
 
     new_one : actor_in names2 place m2 ≡ new_actor limits
-    new_one =
-        ap (λ vs. let a : Actor = record { roots = map (root_in names2 (Space place)) vs; hand = option_map (parcel_in names2 (Hand place)) m2.hand; slots = length m2.space.slots; limit = m2.space.limit; limits = m2.limits } in a) A.roots
-        ∙ ap (λ h. let a : Actor = record { roots = []; hand = option_map (parcel_in names2 (Hand place)) h; slots = length m2.space.slots; limit = m2.space.limit; limits = m2.limits } in a) A.hand
-        ∙ ap (λ ss. let a : Actor = record { roots = []; hand = None; slots = length ss; limit = m2.space.limit; limits = m2.limits } in a) A.slots
-        ∙ ap (λ n. let a : Actor = record { roots = []; hand = None; slots = 0; limit = n; limits = m2.limits } in a) A.limit
-        ∙ ap (λ l. let a : Actor = record { roots = []; hand = None; slots = 0; limit = limits.slots; limits = l } in a) A.run
+    new_one = same_actor (ap (map (root_in names2 (Space place))) A.roots) (ap (option_map (parcel_in names2 (Hand place))) A.hand) (ap (option_map (shells_in names2 place)) A.home)
+        (ap length A.slots) A.limit A.next A.run
 
     started : (number : RactorNo) (a : Actor) → a.limits ≡ limits → StandsAt number place → IsStarted number a (state_in w names g) (state_in w2 names2 g2)
     started number a same stands = record {

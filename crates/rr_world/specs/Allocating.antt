@@ -4,7 +4,7 @@ use Rattle.rr_base.specs.declared.fault.Fault.TheVariants.{Memory, Limit}
 use Rattle.rr_base.specs.declared.limits.LimitKind.TheVariants.{Slots}
 use Rattle.rr_space.specs.Tables.{Here}
 use Rattle.rr_space.specs.declared.refer.Ref.TheVariants.{Local}
-use Rattle.rr_world.specs.Views.{Member, AreRootsWithin}
+use Rattle.rr_world.specs.Views.{Member, AreRootsWithin, AreAway}
 use Rattle.rr_world.specs.Cases.{new_object}
 use Rattle.rr_world.specs.declared.step.NewObject.{NewObject}
 use Rattle.rr_world.specs.declared.step.Reply.{Reply}
@@ -18,6 +18,9 @@ pub record IsAllocatedBy (new : NewObject) (old now : Member) : Type 0 where
   pub limit : now.space.limit ≡ old.space.limit
   pub roots : now.roots ≡ old.roots ++ Local (length old.space.slots) ∷ []
   pub hand : now.hand ≡ old.hand
+  pub home : now.home ≡ old.home
+  pub away : AreAway old.space.slots old.hand old.home
+  pub next : now.space.next_message ≡ old.space.next_message
   pub owner : now.space.owner ≡ old.space.owner
   pub limits : now.limits ≡ old.limits
 

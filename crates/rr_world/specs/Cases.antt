@@ -1,5 +1,5 @@
 -- The cases of the graph machine, one after another.
-use Rattle.std.specs.Prelude.{◌≡◌, ℕ, ◌+◌, ◌<◌, ◌≤◌, ◌⊎◌, true, false, Bool, cond, if◌then◌else◌, nat_eq, List, [], ◌∷◌, ◌++◌, length, Contains, Option, Some, None, slice_get, slice_set}
+use Rattle.std.specs.Prelude.{◌≡◌, ℕ, ◌+◌, ◌-◌, ◌^◌, ◌<◌, ◌≤◌, ◌⊎◌, true, false, Bool, cond, if◌then◌else◌, nat_eq, List, [], ◌∷◌, ◌++◌, length, map, Contains, Option, Some, None, slice_get, slice_set}
 use Rattle.rr_base.specs.declared.name.RactorNo.{RactorNo as Number}
 use Rattle.rr_base.specs.declared.fault.Fault.{Fault}
 use Rattle.rr_base.specs.declared.fault.Fault.TheVariants as fault
@@ -9,11 +9,11 @@ use Rattle.rr_base.specs.declared.event.InboxEvent.TheVariants as event
 use Rattle.rr_space.specs.Graph.{Kind, Object, text, array, plain, shell, Label, Place, Field, KeyAt, ValueAt, Message, Cause, Ractor, Name, Own, Value, Plain, At, Nil, Truth, Integer, SymbolNo, ClassNo, RactorNo, Reaches, IsShareable, IsFreeOfShells}
 use Rattle.rr_space.specs.Readings.{Space, Hand, Mail, Owned, Objects, IsShared, whole}
 use Rattle.rr_share.specs.Search.{LeadsToShell}
-use Rattle.rr_space.specs.Steps.{IsHandedOn, IsDropped, IsCopied, IsChange}
+use Rattle.rr_space.specs.Steps.{IsHandedOn, IsDropped, IsCopied, IsMoved, IsUndone, IsChange}
 use Rattle.rr_world.specs.States.{Parcel, Letter, Mailbox, Actor, State, IsSame, with_box}
 use Rattle.rr_world.specs.declared.step.Action.{Action}
 use Rattle.rr_space.specs.Labels.{label_of, IsFirstUnder}
-use Rattle.rr_world.specs.declared.step.Action.TheVariants.{Alloc, Pack, Discard, Offer, Accept, Open, Close, Freeze, Append, Push, Write, SetField, Read, Start}
+use Rattle.rr_world.specs.declared.step.Action.TheVariants.{Alloc, Pack, Discard, Offer, Accept, Open, Close, Freeze, Append, Push, Write, SetField, Read, Start, Detach, PutBack}
 use Rattle.rr_base.specs.declared.name.TheConstants.ClassId.{ARRAY, STRING}
 use Rattle.rr_world.specs.declared.step.NewObject.{NewObject}
 use Rattle.rr_world.specs.declared.step.NewObject.TheVariants as new
@@ -36,6 +36,14 @@ HasInbox s to = (c : ℕ) × (b : Mailbox) × StandsAt to c × (slice_get s.post
 -- a message is in the hand
 abbrev pub Holds : Actor → Type 0
 Holds a = (p : Parcel) × (a.hand ≡ Some p)
+
+-- nothing is in the hand
+abbrev pub IsFreeHand : Actor → Type 0
+IsFreeHand a = (a.hand ≡ None) × (a.home ≡ None)
+
+-- a message is in the hand with its home, the shells that it left
+abbrev pub HoldsMoved : Actor → Type 0
+HoldsMoved a = (p : Parcel) × (home : List ℕ) × (a.hand ≡ Some p) × (a.home ≡ Some home)
 
 -- the value that an operand is, where the roots are these
 abbrev pub named_value : List Value → Operand → Option Value
@@ -73,20 +81,27 @@ IsValue a op = (x : Value) × (named_value a.roots op ≡ Some x)
 abbrev pub AreShareablesShared : Objects → Value → Type 0
 AreShareablesShared g x = (n : ℕ) (y : Owned) → Reaches (whole g) x (Own n) → g n ≡ Some y → IsShareable (whole g) (At (Own n)) → IsShared y.owner
 
--- what a pack has to find out about its value: it leads to a shell, and then the pack is refused; or all that is shareable is Shared
+-- the value leads to a shell; or all that is shareable of it is Shared
+abbrev pub MayBePacked : State → Actor → Operand → Type 0
+MayBePacked s a op = (x : Value) → named_value a.roots op ≡ Some x → LeadsToShell (whole s.objects) x ⊎ AreShareablesShared s.objects x
+
+-- what a pack or a detach has to find out about its value; where it leads to a shell, the step is refused
 abbrev pub IsTested : State → Actor → Action → Type 0
-IsTested s a (Pack op) = (x : Value) → named_value a.roots op ≡ Some x → LeadsToShell (whole s.objects) x ⊎ AreShareablesShared s.objects x
+IsTested s a (Pack op) = MayBePacked s a op
+IsTested s a (Detach op) = MayBePacked s a op
 IsTested s a _ = Unit {0}
 
--- a pack needs an empty hand and a value; discard, offer and open need a message in the hand, and accept an empty hand; channels
--- that are named are there; freeze needs an object of its own that is no shell, append, push and write one of a kind that is not
+-- pack and detach need an empty hand and a value; discard, offer and open need a message in the hand, put back one with its
+-- home, and accept an empty hand; channels that are named are there; freeze needs an object of its own that is no shell, append, push and write one of a kind that is not
 -- frozen, and read an object that has the label
 abbrev pub Allows : State → Number → Actor → Action → Type 0
 Allows s who a (Alloc new) = Unit {0}
-Allows s who a (Pack op) = (a.hand ≡ None) × ((x : Value) × (named_value a.roots op ≡ Some x))
+Allows s who a (Pack op) = IsFreeHand a × IsValue a op
+Allows s who a (Detach op) = IsFreeHand a × IsValue a op
+Allows s who a PutBack = HoldsMoved a
 Allows s who a Discard = Holds a
 Allows s who a (Offer to) = Holds a × HasInbox s to
-Allows s who a Accept = (a.hand ≡ None) × HasInbox s who
+Allows s who a Accept = IsFreeHand a × HasInbox s who
 Allows s who a Open = Holds a
 Allows s who a (Close to) = HasInbox s to
 Allows s who a (Freeze op) = MayChange s who a op IsNoShell
@@ -184,7 +199,7 @@ pub record IsReadAs (k : ℕ) (a : Actor) (op : Operand) (l : Label) (s t : Stat
 
 -- a ractor without objects, and its inbox
 abbrev pub new_actor : Limits → Actor
-new_actor l = record { roots = []; hand = None; slots = 0; limit = l.slots; limits = l }
+new_actor l = record { roots = []; hand = None; home = None; slots = 0; limit = l.slots; next = 1; limits = l }
 
 abbrev pub new_mailbox : Limits → Mailbox
 new_mailbox l = record { inside = []; closed = false; next = 0; history = []; limit = l.events }
@@ -205,8 +220,7 @@ pub record IsPacked (k : ℕ) (a : Actor) (x : Value) (p : Parcel) (s t : State)
   pub free : IsFreeOfShells (whole s.objects) x
   pub shared : AreShareablesShared s.objects x
   pub left : List Name
-  pub right : List Name
-  pub objects : IsCopied k x p.root left right s.objects t.objects
+  pub objects : IsCopied k x p.root left (map Own p.names) s.objects t.objects
   pub size : length left ≡ p.size
   pub sender : p.sender ≡ k + 1
   pub sequence : p.sequence ≡ 0
@@ -217,18 +231,40 @@ pub record IsPacked (k : ℕ) (a : Actor) (x : Value) (p : Parcel) (s t : State)
 abbrev pub IsPackRefusedFor : Value → Fault → State → State → Type 0
 IsPackRefusedFor x f s t = ((f ≡ fault.Memory) ⊎ ((f ≡ fault.HoldsShell) × LeadsToShell (whole s.objects) x)) × IsSame s t
 
--- drop: the hand's objects vanish
-pub record IsDiscarded (k : ℕ) (a : Actor) (s t : State) : Type 0 where
-  pub objects : IsDropped (Hand k) s.objects t.objects
-  pub ractors : t.ractors ≡ slice_set s.ractors k (record a { hand = None })
+-- detach: the same, but for a move; what was moved is away under the ractor's next number, and its shells are the home
+pub record IsDetached (k : ℕ) (a : Actor) (x : Value) (p : Parcel) (home : List ℕ) (s t : State) : Type 0 where
+  pub free : IsFreeOfShells (whole s.objects) x
+  pub shared : AreShareablesShared s.objects x
+  pub objects : IsMoved k x p.root (map Own home) (map Own p.names) s.objects t.objects
+  pub size : length home ≡ p.size
+  pub sender : p.sender ≡ k + 1
+  pub sequence : p.sequence ≡ a.next
+  pub ractors : t.ractors ≡ slice_set s.ractors k (record a { hand = Some p; home = Some home; next = a.next + 1 })
   pub post : t.post ≡ s.post
 
--- offer, Ok: it was open; the message is last under the next ticket, and the owner of its objects turns from hand to message
+-- a refused detach: a growth was refused, or the ractor has used all numbers, or the value leads to a shell; all is as it was
+abbrev pub IsDetachRefusedFor : Actor → Value → Fault → State → State → Type 0
+IsDetachRefusedFor a x f s t = ((f ≡ fault.Memory) ⊎ ((f ≡ fault.Limit kind.Slots) × (2 ^ 64 - 1 ≤ a.next)) ⊎ ((f ≡ fault.HoldsShell) × LeadsToShell (whole s.objects) x)) × IsSame s t
+
+-- put back: the move ends, each shell of the home is again what left it, and the hand's objects vanish
+pub record IsReturned (k : ℕ) (a : Actor) (p : Parcel) (home : List ℕ) (s t : State) : Type 0 where
+  pub objects : IsUndone k home p.names s.objects t.objects
+  pub ractors : t.ractors ≡ slice_set s.ractors k (record a { hand = None; home = None })
+  pub post : t.post ≡ s.post
+
+-- drop: the hand's objects vanish, and a home with them
+pub record IsDiscarded (k : ℕ) (a : Actor) (s t : State) : Type 0 where
+  pub objects : IsDropped (Hand k) s.objects t.objects
+  pub ractors : t.ractors ≡ slice_set s.ractors k (record a { hand = None; home = None })
+  pub post : t.post ≡ s.post
+
+-- offer, Ok: it was open; the message is last under the next ticket, and the owner of its objects turns from hand to message; a
+-- home goes
 pub record IsOffered (who : Number) (k c : ℕ) (a : Actor) (p : Parcel) (b : Mailbox) (t : ℕ) (old new : State) : Type 0 where
   pub unshut : b.closed ≡ false
   pub ticket : t ≡ b.next
   pub objects : IsHandedOn (Hand k) (Mail c t) old.objects new.objects
-  pub ractors : new.ractors ≡ slice_set old.ractors k (record a { hand = None })
+  pub ractors : new.ractors ≡ slice_set old.ractors k (record a { hand = None; home = None })
   pub post : new.post ≡ with_box old.post c (record b {
     inside = b.inside ++ record { ticket = t; parcel = p } ∷ [];
     next = b.next + 1;
@@ -258,10 +294,10 @@ pub record IsAccepted (who : Number) (k : ℕ) (a : Actor) (e : Letter) (es : Li
   pub ractors : t.ractors ≡ slice_set s.ractors k (record a { hand = Some e.parcel })
   pub post : t.post ≡ with_box s.post k (record b { inside = es; history = b.history ++ event.Accepted e.ticket e.parcel.size who ∷ [] })
 
--- open: the owner turns from hand to ractor; the root joins its roots
+-- open: the owner turns from hand to ractor; the root joins its roots; a home goes
 pub record IsOpenedAs (k : ℕ) (a : Actor) (p : Parcel) (s t : State) : Type 0 where
   pub objects : IsHandedOn (Hand k) (Space k) s.objects t.objects
-  pub ractors : t.ractors ≡ slice_set s.ractors k (record a { roots = a.roots ++ p.root ∷ []; hand = None; slots = a.slots + p.size })
+  pub ractors : t.ractors ≡ slice_set s.ractors k (record a { roots = a.roots ++ p.root ∷ []; hand = None; home = None; slots = a.slots + p.size })
   pub post : t.post ≡ s.post
 
 -- a refused open: a growth was refused, or the objects pass the limit of slots; all is as it was
@@ -285,6 +321,9 @@ Effect who k a (Alloc new) Done s t = IsAllocated k a new s t
 Effect who k a (Alloc new) (Refused f) s t = IsAllocRefused a f s t
 Effect who k a (Pack op) Done s t = (x : Value) × (p : Parcel) × (named_value a.roots op ≡ Some x) × IsPacked k a x p s t
 Effect who k a (Pack op) (Refused f) s t = (x : Value) × (named_value a.roots op ≡ Some x) × IsPackRefusedFor x f s t
+Effect who k a (Detach op) Done s t = (x : Value) × (p : Parcel) × (home : List ℕ) × (named_value a.roots op ≡ Some x) × IsDetached k a x p home s t
+Effect who k a (Detach op) (Refused f) s t = (x : Value) × (named_value a.roots op ≡ Some x) × IsDetachRefusedFor a x f s t
+Effect who k a PutBack Done s t = (p : Parcel) × (home : List ℕ) × (a.hand ≡ Some p) × (a.home ≡ Some home) × IsReturned k a p home s t
 Effect who k a Discard Done s t = IsDiscarded k a s t
 Effect who k a (Offer to) (Offered n) s t = (c : ℕ) × (b : Mailbox) × (p : Parcel) × InboxIs s to c b × (a.hand ≡ Some p) × IsOffered who k c a p b n s t
 Effect who k a (Offer to) (Refused f) s t = (c : ℕ) × (b : Mailbox) × (p : Parcel) × InboxIs s to c b × (a.hand ≡ Some p) × IsOfferRefused who c p b f s t

@@ -11,7 +11,7 @@ use Rattle.rr_space.specs.declared.kind.Kind.TheVariants.{Array, Text}
 use Rattle.rr_space.specs.declared.kind.Kind.TheVariants as kinds
 use Rattle.rr_space.specs.declared.refer.Ref.{Ref}
 use Rattle.rr_space.specs.declared.refer.Ref.TheVariants.{Nil, Local}
-use Rattle.rr_world.specs.Views.{Member, AreRootsWithin}
+use Rattle.rr_world.specs.Views.{Member, AreRootsWithin, AreAway}
 use Rattle.rr_world.specs.Cases.{IsNoShell, IsOpen, HasElement, frozen, appended, pushed, written, with_field}
 use Rattle.rr_world.specs.Packing.{named_ref}
 use Rattle.rr_world.specs.declared.step.Operand.{Operand}
@@ -35,6 +35,9 @@ pub record IsRewritten (n : ℕ) (p : Object) (v : Ref) (old now : Member) : Typ
   pub limit : now.space.limit ≡ old.space.limit
   pub roots : now.roots ≡ old.roots
   pub hand : now.hand ≡ old.hand
+  pub home : now.home ≡ old.home
+  pub away : AreAway old.space.slots old.hand old.home
+  pub next : now.space.next_message ≡ old.space.next_message
   pub owner : now.space.owner ≡ old.space.owner
   pub limits : now.limits ≡ old.limits
 

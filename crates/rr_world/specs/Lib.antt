@@ -9,3 +9,4 @@ pub mod Packing
 pub mod Allocating
 pub mod Changing
 pub mod Starting
+pub mod Moving

@@ -24,6 +24,7 @@ pub record IsOpenedBy (m : Packed) (root : Ref) (old new : Member) : Type 0 wher
   pub below : below_ref root ≡ m.root_below
   pub roots : new.roots ≡ old.roots ++ root ∷ []
   pub hand : new.hand ≡ None
+  pub home : new.home ≡ None
   pub limits : new.limits ≡ old.limits
 
 abbrev pub Opened : Reply → Member → Member → Type 0

@@ -11,7 +11,7 @@ use Rattle.rr_space.specs.declared.refer.Ref.{Ref}
 use Rattle.rr_space.specs.declared.refer.Ref.TheVariants as ref
 use Rattle.rr_share.specs.Search.{LeadsToShell}
 use Rattle.rr_copy.specs.Messages.{IsMessageSound}
-use Rattle.rr_world.specs.Views.{Member}
+use Rattle.rr_world.specs.Views.{Member, IsFree}
 use Rattle.rr_world.specs.Layouts.{message_below}
 use Rattle.rr_world.specs.declared.step.Operand.{Operand}
 use Rattle.rr_world.specs.declared.step.Operand.TheVariants as operand
@@ -57,11 +57,11 @@ pub record IsPackRefused (f : Fault) (t : Table) (v : Ref) : Type 0 where
 
 -- the hand is not empty, or there is no such root, or the value may not be packed
 abbrev pub MayNotPack : Operand → Member → Type 0
-MayNotPack op old = (old.hand ≡ None → ⊥) ⊎ ((named_ref old.roots op ≡ None) ⊎ ((v : Ref) × (named_ref old.roots op ≡ Some v) × IsNotPacked old.space v))
+MayNotPack op old = (IsFree old → ⊥) ⊎ ((named_ref old.roots op ≡ None) ⊎ ((v : Ref) × (named_ref old.roots op ≡ Some v) × IsNotPacked old.space v))
 
 -- what a pack answers, and what it leaves of the ractor
 abbrev pub Packs : Operand → Reply → Member → Member → Type 0
 Packs op NotEnabled old new = MayNotPack op old × (new ≡ old)
-Packs op Done old new = (v : Ref) × (m : Packed) × (old.hand ≡ None) × (named_ref old.roots op ≡ Some v) × IsPackedFrom old.space v m × (new ≡ record old { hand = Some m })
-Packs op (Refused f) old new = (v : Ref) × (old.hand ≡ None) × (named_ref old.roots op ≡ Some v) × IsPackRefused f old.space v × (new ≡ old)
+Packs op Done old new = (v : Ref) × (m : Packed) × IsFree old × (named_ref old.roots op ≡ Some v) × IsPackedFrom old.space v m × (new ≡ record old { hand = Some m })
+Packs op (Refused f) old new = (v : Ref) × IsFree old × (named_ref old.roots op ≡ Some v) × IsPackRefused f old.space v × (new ≡ old)
 Packs op _ old new = ⊥

@@ -1,5 +1,5 @@
 -- A World read as a state of the graph machine, under names.
-use Rattle.std.specs.Prelude.{ℕ, ◌+◌, List, [], ◌∷◌, length, map}
+use Rattle.std.specs.Prelude.{ℕ, ◌+◌, List, [], ◌∷◌, length, map, slice_index}
 use Rattle.std.specs.Option.{option_map}
 use Rattle.rr_space.specs.Graph.{Value}
 use Rattle.rr_space.specs.Parts.{value_of}
@@ -7,6 +7,7 @@ use Rattle.rr_space.specs.Tables.{Packed, renamed}
 use Rattle.rr_space.specs.Readings.{Owner, Space, Hand, Mail, Objects, Naming, name_in}
 use Rattle.rr_space.specs.declared.refer.Ref.{Ref}
 use Rattle.rr_copy.specs.Messages.{size_of}
+use Rattle.rr_move.specs.declared.home.Home.{Home}
 use Rattle.rr_inbox.specs.Inboxes.{Inbox}
 use Rattle.rr_inbox.specs.declared.entry.Entry.{Entry}
 use Rattle.rr_world.specs.Views.{Member, Channels, Assembly}
@@ -24,7 +25,7 @@ abbrev pub root_in : Naming → Owner → Ref → Value
 root_in names h r = value_in names h (value_of r)
 
 abbrev pub parcel_in : Naming → Owner → Packed → Parcel
-parcel_in names h m = record { root = value_in names h m.root; size = size_of m; sender = m.sender; sequence = m.sequence }
+parcel_in names h m = record { root = value_in names h m.root; names = names h; size = size_of m; sender = m.sender; sequence = m.sequence }
 
 abbrev pub letter_in : Naming → ℕ → Entry → Letter
 letter_in names c e = record { ticket = e.ticket; parcel = parcel_in names (Mail c e.ticket) e.message }
@@ -32,12 +33,18 @@ letter_in names c e = record { ticket = e.ticket; parcel = parcel_in names (Mail
 abbrev pub mailbox_in : Naming → ℕ → Inbox → Mailbox
 mailbox_in names c i = record { inside = map (letter_in names c) i.inside; closed = i.closed; next = i.next; history = i.history; limit = i.limit }
 
+-- the names of the slots of a home
+abbrev pub shells_in : Naming → ℕ → Home → List ℕ
+shells_in names k h = map (slice_index (names (Space k))) h.slots
+
 abbrev pub actor_in : Naming → ℕ → Member → Actor
 actor_in names k r = record {
   roots = map (root_in names (Space k)) r.roots;
   hand = option_map (parcel_in names (Hand k)) r.hand;
+  home = option_map (shells_in names k) r.home;
   slots = length r.space.slots;
   limit = r.space.limit;
+  next = r.space.next_message;
   limits = r.limits;
 }
 

@@ -44,5 +44,7 @@ pub record IsNew (limits : Limits) (w : Assembly) : Type 0 where
   pub owner : main.space.owner ≡ 1
   pub roots : main.roots ≡ []
   pub hand : main.hand ≡ None
+  pub home : main.home ≡ None
+  pub next : main.space.next_message ≡ 1
   pub run : main.limits ≡ limits
   pub inboxes : w.channels.inboxes ≡ new_inbox limits.events ∷ []

@@ -11,4 +11,6 @@ pub record IsBegun (limits : Limits) (number : ℕ) (m : Member) : Type 0 where
   pub limit : m.space.limit ≡ limits.slots
   pub roots : m.roots ≡ []
   pub hand : m.hand ≡ None
+  pub home : m.home ≡ None
+  pub next : m.space.next_message ≡ 1
   pub run : m.limits ≡ limits

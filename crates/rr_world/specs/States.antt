@@ -5,9 +5,10 @@ use Rattle.rr_base.specs.declared.event.InboxEvent.{InboxEvent}
 use Rattle.rr_space.specs.Graph.{Value}
 use Rattle.rr_space.specs.Readings.{Objects}
 
--- a message in the whole graph: its root, the number of its objects, its sender and its sequence number
+-- a message in the whole graph: its root, the names and the number of its objects, its sender and its sequence number
 pub record Parcel : Type 0 where
   pub root : Value
+  pub names : List ℕ
   pub size : ℕ
   pub sender : ℕ
   pub sequence : ℕ
@@ -25,13 +26,16 @@ pub record Mailbox : Type 0 where
   pub history : List InboxEvent
   pub limit : ℕ
 
--- a ractor: the values that it holds, what is in its hand, the slots that it has used, the most that it may use, and the limits
--- of the run, which it hands on to those that it starts
+-- a ractor: the values that it holds, the message in its hand, the names of the shells that its objects left where it was moved,
+-- in their order, the slots that the ractor has used, the most that it may use, the number of its next moved message, and the
+-- limits of the run, which it hands on to those that it starts
 pub record Actor : Type 0 where
   pub roots : List Value
   pub hand : Option Parcel
+  pub home : Option (List ℕ)
   pub slots : ℕ
   pub limit : ℕ
+  pub next : ℕ
   pub limits : Limits
 
 -- what lies between ractors: their inboxes, by number

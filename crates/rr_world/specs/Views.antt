@@ -1,17 +1,48 @@
 -- What contracts see of a World: plain lists.
-use Rattle.std.specs.Prelude.{ℕ, List, [], ◌∷◌, Option, slice_set}
+use Rattle.std.specs.Prelude.{◌≡◌, ℕ, List, [], ◌∷◌, length, Option, None, Some, Contains, slice_get, slice_set}
 use Rattle.rr_base.specs.declared.limits.Limits.{Limits}
-use Rattle.rr_space.specs.Tables.{Table, Packed}
+use Rattle.rr_space.specs.Tables.{Table, Packed, Slot, Here}
+use Rattle.rr_space.specs.Views.{emptied}
 use Rattle.rr_space.specs.Parts.{IsWithin}
 use Rattle.rr_space.specs.declared.refer.Ref.{Ref}
 use Rattle.rr_inbox.specs.Inboxes.{Inbox}
+use Rattle.rr_move.specs.declared.home.Home.{Home}
+use Rattle.rr_move.specs.declared.hand.Hand.{Hand}
+use Rattle.rr_move.specs.declared.hand.Hand.TheVariants.{Empty, Planned, Published, Message, Moved, Shown}
 
--- a ractor: its space, its roots, the message in its hand, and the limits of the run
+-- a ractor: its space, its roots, the message in its hand, the home of that message where it was moved out of the space, and
+-- the limits of the run
 pub record Member : Type 0 where
   pub space : Table
   pub roots : List Ref
   pub hand : Option Packed
+  pub home : Option Home
   pub limits : Limits
+
+-- nothing is in the hand
+pub record IsFree (m : Member) : Type 0 where
+  pub hand : m.hand ≡ None
+  pub home : m.home ≡ None
+
+-- the hand is empty, or has a message
+abbrev pub HasAtMostAMessage : Hand → Type 0
+HasAtMostAMessage Empty = Unit {0}
+HasAtMostAMessage (Planned plan) = ⊥
+HasAtMostAMessage (Published places published) = ⊥
+HasAtMostAMessage (Message p) = Unit {0}
+HasAtMostAMessage (Moved d) = Unit {0}
+HasAtMostAMessage (Shown home ticket) = ⊥
+
+-- a message is away from its home: each slot of the home is a shell, and each object has its list of clusters
+pub record IsAway (slots : List Slot) (p : Packed) (h : Home) : Type 0 where
+  pub shells : (n : ℕ) → Contains h.slots n → slice_get slots n ≡ Some (Here emptied)
+  pub count : length p.below ≡ length p.objects
+
+-- where a home is in the hand, the message beside it is away from it
+abbrev pub AreAway : List Slot → Option Packed → Option Home → Type 0
+AreAway slots hand None = Unit {0}
+AreAway slots None (Some h) = ⊥
+AreAway slots (Some p) (Some h) = IsAway slots p h
 
 -- what ractors hand messages on by: their inboxes, by number
 pub record Channels : Type 0 where

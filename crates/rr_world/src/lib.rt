@@ -2,6 +2,7 @@
 #![tactic(auto)]
 
 mod changing;
+mod moving;
 mod packing;
 mod ractor;
 mod step;

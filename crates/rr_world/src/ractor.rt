@@ -1,40 +1,45 @@
 //! A ractor: its space, the values that it holds, and its hand.
 
 ghost use Rattle.std.specs.Prelude.{◌≡◌, ◌≤◌, ◌↔◌, [], IsTrue, Some, None};
-ghost use Rattle.std.specs.Prelude.{length, IfSome};
+ghost use Rattle.std.specs.Prelude.{length, IfSome, IfNone};
+ghost use Rattle.std.specs.Option.{ForSome};
 ghost use Rattle.rr_space.specs.Parts.{IsWithin};
 ghost use Rattle.rr_space.specs.Views.{AreFieldsDistinct, node_parts, object_of};
 ghost use Rattle.rr_world.specs.Allocating.{Allocs};
 ghost use Rattle.rr_world.specs.Cases.{new_object};
 ghost use Rattle.rr_world.specs.Opening.{Opened};
 ghost use Rattle.rr_world.specs.Packing.{Packs, named_ref};
+ghost use Rattle.rr_world.specs.Views.{AreAway, IsFree};
+ghost use Rattle.rr_move.specs.Homes.{IsHomeOf};
 
 use crate::packing::copy_of;
 use crate::step::{NewObject, Operand, Reply};
 use rr_base::{Fault, Limits, RactorNo};
 use rr_copy::{Message, open};
+use rr_move::{Hand, Home};
 use rr_space::{Items, Node, Ref, Space};
 use std::alloc::Global;
 use std::marker::Model;
 
-/// The objects of a ractor, its roots, the message in its hand, and the limits of the run.
+/// The objects of a ractor, its roots, what is in its hand, and the limits of the run.
 #[derive(Drop)]
 pub(crate) struct Ractor {
     pub(crate) space: Space,
     pub(crate) roots: Vec<Ref>,
-    hand: Option<Message>,
+    pub(crate) hand: Hand,
     limits: Limits,
 }
 
 impl Model for Ractor {
     ghost use Rattle.std.specs.Prelude.{◌≤◌, length};
-    ghost use Rattle.rr_world.specs.Views.{Member, AreRootsWithin};
+    ghost use Rattle.rr_move.specs.Hands.{message_in, home_in};
+    ghost use Rattle.rr_world.specs.Views.{Member, AreAway, AreRootsWithin, HasAtMostAMessage};
 
     ghost Value = { Member };
 
-    ghost view = { λ r. record { space = r.space; roots = r.roots.items; hand = r.hand; limits = r.limits } };
+    ghost view = { λ r. record { space = r.space; roots = r.roots.items; hand = message_in r.hand; home = home_in r.hand; limits = r.limits } };
 
-    ghost invariant = { λ r. AreRootsWithin (length r.space.slots) r.roots.items × (3 ≤ r.limits.events) };
+    ghost invariant = { λ r. AreRootsWithin (length r.space.slots) r.roots.items × (3 ≤ r.limits.events) × HasAtMostAMessage r.hand × AreAway r.space.slots (message_in r.hand) (home_in r.hand) };
 }
 
 // What a new object is made of.
@@ -58,14 +63,16 @@ impl Ractor {
         ensures below { result.space.below ≡ [] }
         ensures limit { result.space.limit ≡ limits.slots }
         ensures owner { result.space.owner ≡ number.0 }
+        ensures next { result.space.next_message ≡ 1 }
         ensures roots { result.roots ≡ [] }
         ensures hand { result.hand ≡ None }
+        ensures home { result.home ≡ None }
         ensures limits { result.limits ≡ limits }
     {
         Ractor {
             space: Space::new(alloc, number, limits.slots),
             roots: Vec::new(alloc),
-            hand: None,
+            hand: Hand::Empty,
             limits,
         }
     }
@@ -80,24 +87,27 @@ impl Ractor {
 
     /// Whether nothing is in the hand.
     pub(crate) fn is_free(&self) -> bool
-        ensures { IsTrue result ↔ self.now.hand ≡ None }
+        ensures { IsTrue result ↔ IsFree self.now }
     {
-        self.hand.is_none()
+        self.hand.is_empty()
     }
 
-    /// Takes the message out of the hand.
-    pub(crate) fn take(&mut self) -> Option<Message>
-        ensures was { result ≡ self.old.hand }
-        ensures now { self.new ≡ record self.old { hand = None } }
+    /// Takes the message out of the hand, with its home where it was moved.
+    pub(crate) fn take(&mut self) -> Option<(Message, Option<Home>)>
+        ensures some { IfSome result (λ taken. (self.old.hand ≡ Some taken.0) × (self.old.home ≡ taken.1) × (self.new ≡ record self.old { hand = None; home = None })) }
+        ensures fits { IfSome result (λ taken. ForSome taken.1 (λ home. IsHomeOf home taken.0) × AreAway self.old.space.slots (Some taken.0) taken.1) }
+        ensures none { IfNone result ((self.old.hand ≡ None) × (self.new ≡ self.old)) }
     {
-        self.hand.take()
+        self.hand.take_message()
     }
 
-    /// Puts a message into the hand.
-    pub(crate) fn hold(&mut self, message: Message)
-        ensures { self.new ≡ record self.old { hand = Some message } }
+    /// Puts a message into the hand, with its home where it was moved.
+    pub(crate) fn hold(&mut self, message: Message, home: Option<Home>)
+        requires fits { ForSome home (λ home. IsHomeOf home message) }
+        requires away { AreAway self.old.space.slots (Some message) home }
+        ensures { self.new ≡ record self.old { hand = Some message; home = home } }
     {
-        self.hand = Some(message);
+        self.hand = Hand::of_message(message, home);
     }
 
     /// The value that an operand names; none where there is no such root.
@@ -142,7 +152,7 @@ impl Ractor {
     pub(crate) fn pack(&mut self, alloc: Global, operand: Operand) -> Reply
         ensures { Packs operand result self.old self.new }
     {
-        if self.hand.is_some() {
+        if !self.hand.is_empty() {
             return Reply::NotEnabled;
         }
         let Some(value) = self.named(operand) else {
@@ -150,7 +160,7 @@ impl Ractor {
         };
         match copy_of(alloc, &self.space, value) {
             Ok(Some(message)) => {
-                self.hand = Some(message);
+                self.hand = Hand::Message(message);
                 Reply::Done
             }
             Ok(None) => Reply::NotEnabled,
@@ -162,11 +172,11 @@ impl Ractor {
     pub(crate) fn open_held(&mut self) -> Reply
         ensures { Opened result self.old self.new }
     {
-        let Some(message) = self.hand.take() else {
+        let Some((message, home)) = self.hand.take_message() else {
             return Reply::NotEnabled;
         };
         if self.roots.reserve(1).is_err() {
-            self.hand = Some(message);
+            self.hand = Hand::of_message(message, home);
             return Reply::Refused(Fault::Memory);
         }
         match open(&mut self.space, message) {
@@ -175,7 +185,7 @@ impl Ractor {
                 Reply::Done
             }
             Err((fault, message)) => {
-                self.hand = Some(message);
+                self.hand = Hand::of_message(message, home);
                 Reply::Refused(fault)
             }
         }

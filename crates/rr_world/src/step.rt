@@ -57,6 +57,11 @@ pub enum Action {
     Start,
     /// What stands under the label in an object comes last in the ractor's roots. A field has the first of its name.
     Read(Operand, Label),
+    /// What the value leads to is moved into the hand as a message, and is shells under its old names from then on. What a
+    /// `Pack` needs, this needs too.
+    Detach(Operand),
+    /// The moved message in the hand comes back into its home: the shells are again what left them.
+    PutBack,
 }
 
 /// One step of a ractor.

@@ -4,12 +4,13 @@ ghost use Rattle.std.specs.Prelude.{◌≡◌, ◌+◌, ◌<◌, ◌≤◌, ℕ,
 ghost use Rattle.rr_world.specs.Cases.{StandsAt};
 ghost use Rattle.rr_world.specs.Runs.{HasReading, IsNew, IsRun, IsStep};
 ghost use Rattle.rr_world.specs.declared.step.Action.TheVariants.{Alloc, Pack, Discard, Offer, Accept, Open, Close};
-ghost use Rattle.rr_world.specs.declared.step.Action.TheVariants.{Freeze, Append, Push, Write, SetField, Start, Read};
+ghost use Rattle.rr_world.specs.declared.step.Action.TheVariants.{Freeze, Append, Push, Write, SetField, Start, Read, Detach, PutBack};
 
 use crate::ractor::Ractor;
 use crate::step::{Action, NewObject, Operand, Reply, Step};
 use rr_base::{Fault, LimitKind, Limits, RactorNo, Sym};
 use rr_inbox::{Front, InboxState};
+use rr_move::shown_by_moving;
 use rr_space::Label;
 use std::alloc::Global;
 use std::marker::Model;
@@ -75,13 +76,37 @@ impl World {
         ractor.pack(alloc, value)
     }
 
+    // What the value leads to is moved into the hand.
+    fn detach(&mut self, alloc: Global, who: RactorNo, place: usize, value: Operand) -> Reply
+        requires stands { StandsAt who place }
+        requires within { place < length self.old.ractors }
+        ensures { IsStep (record { who = who; action = Detach value }) result self.old self.new }
+    {
+        // By the laws on moves this is one, in the whole graph.
+        shown_by_moving();
+        let ractor = &mut self.ractors[place];
+        ractor.detach(alloc, value)
+    }
+
+    // The moved message in the hand comes back into its home.
+    fn put_back(&mut self, who: RactorNo, place: usize) -> Reply
+        requires stands { StandsAt who place }
+        requires within { place < length self.old.ractors }
+        ensures { IsStep (record { who = who; action = PutBack }) result self.old self.new }
+    {
+        // By the laws on moves this ends one, in the whole graph.
+        shown_by_moving();
+        let ractor = &mut self.ractors[place];
+        ractor.put_back()
+    }
+
     // The message in the hand goes.
     fn discard(&mut self, who: RactorNo, place: usize) -> Reply
         requires stands { StandsAt who place }
         requires within { place < length self.old.ractors }
         ensures { IsStep (record { who = who; action = Discard }) result self.old self.new }
     {
-        let Some(_message) = self.ractors[place].take() else {
+        let Some(_taken) = self.ractors[place].take() else {
             return Reply::NotEnabled;
         };
         Reply::Done
@@ -95,7 +120,7 @@ impl World {
         requires is_inbox { inbox < length self.old.channels.inboxes }
         ensures { IsStep (record { who = who; action = Offer to }) result self.old self.new }
     {
-        let Some(message) = self.ractors[place].take() else {
+        let Some((message, home)) = self.ractors[place].take() else {
             return Reply::NotEnabled;
         };
         // With the history comes that no message inside has the next ticket.
@@ -103,7 +128,7 @@ impl World {
         match self.inboxes[inbox].offer(who, message) {
             Ok(ticket) => Reply::Offered(ticket),
             Err((fault, message)) => {
-                self.ractors[place].hold(message);
+                self.ractors[place].hold(message, home);
                 Reply::Refused(fault)
             }
         }
@@ -125,7 +150,7 @@ impl World {
         let _events = self.inboxes[place].history();
         match self.inboxes[place].accept(who) {
             Front::Message(message) => {
-                self.ractors[place].hold(message);
+                self.ractors[place].hold(message, None);
                 Reply::Done
             }
             Front::Empty => Reply::Empty,
@@ -266,6 +291,8 @@ impl World {
         match action {
             Action::Alloc(new) => self.alloc(alloc, who, place, new),
             Action::Pack(value) => self.pack(alloc, who, place, value),
+            Action::Detach(value) => self.detach(alloc, who, place, value),
+            Action::PutBack => self.put_back(who, place),
             Action::Discard => self.discard(who, place),
             Action::Accept => self.accept(who, place),
             Action::Open => self.open(who, place),

@@ -3,7 +3,9 @@ use Rattle.rr_space.specs.Parts.{IsWithin}
 use Rattle.rr_space.specs.Tables.{Here}
 use Rattle.rr_space.specs.Views.{object_of}
 use Rattle.rr_space.specs.declared.refer.Ref.{Ref}
-use Rattle.rr_world.specs.Views.{AreRootsWithin}
+use Rattle.rr_move.specs.Hands.{message_in, home_in}
+use Rattle.rr_world.specs.Views.{AreAway, AreRootsWithin}
+use Rattle.rr_world.proofs.Changes.{away_more}
 use Rattle.rr_world.proofs.Rooting.{roots_and_more}
 use Rattle.rr_world.proofs.ractor.Ractor.alloc.Goals as goal
 
@@ -18,4 +20,6 @@ invariant_of-self-in-Ok c =
           (roots_and_more (length old) (length c.alloc.new.self.slots) c.self.inside.roots.items c.in-Ok.root le c.self.invariant.0
           (subst (λ (r : Ref). IsWithin (length c.alloc.new.self.slots) r) (sym c.in-Ok.ensures.name) (omega (arith, count)))),
       c.self.invariant.1,
+      c.self.invariant.2,
+      subst (λ ss. AreAway ss (message_in c.self.inside.hand) (home_in c.self.inside.hand)) (sym c.in-Ok.ensures.slots) (away_more c.self.inside.space.slots (Here (object_of c.empty_node.result) ∷ []) (message_in c.self.inside.hand) (home_in c.self.inside.hand) c.self.invariant.3),
     )

@@ -26,6 +26,8 @@ invariant_of-self-2 c =
       subst (λ (rs : List Ref). AreRootsWithin (length c.self.inside.space.slots) rs) (sym pushed)
           (roots_and_more (length c.self.inside.space.slots) (length c.self.inside.space.slots) c.self.inside.roots.items c.in-Some-read.found (omega arith) c.self.invariant.0 c.in-Some-read.ensures.within),
       c.self.invariant.1,
+      c.self.invariant.2,
+      c.self.invariant.3,
     )
 
 pub returns : goal.returns

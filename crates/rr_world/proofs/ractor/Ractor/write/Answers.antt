@@ -1,15 +1,21 @@
 use Rattle.std.proofs.Common.{◌<◌, length, slice_get, sym, ap, subst, ◌∙◌, arith}
+use Rattle.rr_space.specs.Graph.{array}
 use Rattle.rr_space.specs.Parts.{value_of, IsWithin}
 use Rattle.rr_world.specs.Views.{Member}
 use Rattle.rr_world.specs.Cases.{written, HasElement}
-use Rattle.rr_world.proofs.Changes.{open_array, at_slot, set_within, led_known, made}
+use Rattle.rr_world.proofs.Changes.{open_array, at_slot, set_within, led_known, made, open_whole, set_away}
+use Rattle.rr_world.proofs.Making.{array_differs}
 use Rattle.rr_world.proofs.ractor.Ractor.write.Goals as goal
 
 pub invariant_of-self : goal.invariant_of-self
 invariant_of-self c =
     let s = open_array c.args.self.now.space c.in-Some.array c.in-Some.ensures.some.can c.in-Some.ensures.some.kind in
-    let here = ap (λ (m : Member). slice_get m.space.slots s.0) c.self.view_is ∙ s.3 in
-    (set_within c.self.inside.space c.write_element.new.self s.0 _ c.self.inside.roots.items (c.write_element.ensures.slots s.0 s.1 s.2 here) c.self.invariant.0, c.self.invariant.1)
+    let here = ap (λ (m : Member). slice_get m.space.slots s.0) c.self.view_is ∙ s.3 in (
+      set_within c.self.inside.space c.write_element.new.self s.0 _ c.self.inside.roots.items (c.write_element.ensures.slots s.0 s.1 s.2 here) c.self.invariant.0,
+      c.self.invariant.1,
+      c.self.invariant.2,
+      set_away c.self.inside.space c.write_element.new.self s.0 _ s.1 _ _ (c.write_element.ensures.slots s.0 s.1 s.2 here) here (open_whole array s.1 array_differs s.4) c.self.invariant.3,
+    )
 
 pub returns : goal.returns
 returns c =
@@ -21,5 +27,5 @@ returns c =
       c.in-Some.ensures.some.value,
       made c.args.array (HasElement c.args.place) (written c.args.place (value_of c.in-Some.value)) c.in-Some.value c.in-Some.array c.args.self.now c.self.inside.space c.write_element.new.self c.self.inside.roots.items c.self.inside.hand c.self.inside.limits s.0 s.1
           c.self.view_is c.in-Some.ensures.some.array s.2 here (s.4, inside) (c.write_element.ensures.slots s.0 s.1 s.2 here)
-          (led_known c.in-Some.value s.0 c.self.inside.space.below c.write_element.new.self.below (c.write_element.ensures.below s.0 s.2)) c.write_element.ensures.rest.limit c.write_element.ensures.rest.owner c.self.invariant.0 within,
+          (led_known c.in-Some.value s.0 c.self.inside.space.below c.write_element.new.self.below (c.write_element.ensures.below s.0 s.2)) c.write_element.ensures.rest.limit c.write_element.ensures.rest.owner c.write_element.ensures.rest.next_message c.self.invariant.0 c.self.invariant.3 within,
     )

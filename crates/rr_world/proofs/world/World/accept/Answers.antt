@@ -4,7 +4,7 @@ use Rattle.rr_base.specs.declared.event.InboxEvent.TheVariants as event
 use Rattle.rr_copy.specs.Messages.{size_of}
 use Rattle.rr_space.specs.Tables.{Packed}
 use Rattle.rr_inbox.specs.Inboxes.{Inbox, IsTicketed}
-use Rattle.rr_world.specs.Views.{Member, Assembly}
+use Rattle.rr_world.specs.Views.{Member, Assembly, IsFree}
 use Rattle.rr_world.specs.declared.step.Action.TheVariants.{Accept}
 use Rattle.rr_world.specs.declared.step.Reply.TheVariants.{Empty, EmptyAndClosed}
 use Rattle.rr_world.proofs.Accepting.{accepted, less_first, nothing_open, nothing_closed}
@@ -29,7 +29,7 @@ returns-then-not-is_free c =
     let m = c.index.result.now in
     let vs : c.self.inside.ractors.items ≡ w.ractors = ap (λ (v : Assembly). v.ractors) c.self.view_is in
     let at : slice_get w.ractors c.args.place ≡ Some m = read_at c.self.inside.ractors.items w.ractors c.args.place m vs c.requires.within c.index.ensures in
-    let no : m.hand ≡ None → ⊥ = λ none. absurd (false≢true (c.if-not-is_free.ensures.1 none)) in
+    let no : IsFree m → ⊥ = λ none. absurd (false≢true (c.if-not-is_free.ensures.1 none)) in
     refused (record { who = c.args.who; action = Accept }) w w refl
     (λ names g e. no (free_back names c.args.place m (allowed w names g (record { who = c.args.who; action = Accept }) c.args.place m c.requires.stands at e).0))
 
@@ -47,15 +47,15 @@ returns-in-Message c =
     let within : c.args.place < length w.channels.inboxes = omega (arith, less, many) in
     let one : c.index.result.now ≡ m = read_twice c.self.inside.ractors.items c.args.place c.index.result.now m lt c.index.ensures c.index_mut-in-Message.ensures.value in
     let box : c.index-2.result.now ≡ i = read_twice c.self.inside.inboxes.items c.args.place c.index-2.result.now i less c.index-2.ensures c.index_mut.ensures.value in
-    let none : c.index.result.now.hand ≡ None = c.if-not-is_free.ensures.0 refl in
+    let none : IsFree m = subst (λ (x : Member). IsFree x) one (c.if-not-is_free.ensures.0 refl) in
     accepted w _ c.args.who c.args.place m i t.0 c.accept.new.self.inside
     (read_at c.self.inside.ractors.items w.ractors c.args.place m vs c.requires.within c.index_mut-in-Message.ensures.value)
     (read_at c.self.inside.inboxes.items w.channels.inboxes c.args.place i is within c.index_mut.ensures.value)
-    (ap (λ (x : Member). x.hand) (sym one) ∙ none)
+    none
     (subst (λ (x : Inbox). IsTicketed x) box c.history-events.ensures.tickets)
     t.2
     (set_in c.self.inside.ractors.items w.ractors c.args.place c.hold.new.self (record m { hand = Some t.0.message }) vs
-    (c.hold.ensures ∙ ap (λ (x : Packed). let y : Member = record m { hand = Some x } in y) (sym t.1)))
+    (c.hold.ensures ∙ ap (λ (x : Packed). let y : Member = record m { hand = Some x; home = None } in y) (sym t.1) ∙ ap (λ x. let y : Member = record m { hand = Some t.0.message; home = x } in y) (sym none.home)))
     (ap channels (set_in c.self.inside.inboxes.items w.channels.inboxes c.args.place c.accept.new.self (less_first i c.args.who t.0 c.accept.new.self.inside) is
     (t.3 ∙ ap (λ (x : Packed). let y : Inbox = record i { inside = c.accept.new.self.inside; history = i.history ++ event.Accepted t.0.ticket (size_of x) c.args.who ∷ [] } in y) (sym t.1))))
     c.requires.stands

@@ -1,5 +1,5 @@
-use Rattle.std.proofs.Common.{◌≡◌, ap, ◌∙◌, sym, slice_get, Some, None}
-use Rattle.rr_world.specs.Views.{Member, Assembly}
+use Rattle.std.proofs.Common.{◌≡◌, ap, slice_get, Some, None}
+use Rattle.rr_world.specs.Views.{Assembly}
 use Rattle.rr_world.specs.declared.step.Action.TheVariants.{Discard}
 use Rattle.rr_world.proofs.Discarding.{discarded}
 use Rattle.rr_world.proofs.Insides.{channels, read_at, set_in, set_again, same_assembly}
@@ -14,8 +14,8 @@ returns c =
     let vs : c.self.inside.ractors.items ≡ w.ractors = ap (λ (v : Assembly). v.ractors) c.self.view_is in
     let is : c.self.inside.inboxes.items ≡ w.channels.inboxes = ap (λ (v : Assembly). v.channels.inboxes) c.self.view_is in
     let at : slice_get w.ractors c.args.place ≡ Some m = read_at c.self.inside.ractors.items w.ractors c.args.place m vs c.requires.within c.index_mut.ensures.value in
-    discarded w _ c.args.place m c.in-Some._message at (sym c.take.ensures.was ∙ c.in-Some.is)
-    (set_in c.self.inside.ractors.items w.ractors c.args.place c.take.new.self (record m { hand = None }) vs c.take.ensures.now)
+    discarded w _ c.args.place m c.in-Some._taken.0 at c.in-Some.ensures.some.0
+    (set_in c.self.inside.ractors.items w.ractors c.args.place c.take.new.self (record m { hand = None; home = None }) vs c.in-Some.ensures.some.2)
     (ap channels is) c.args.who c.requires.stands
 
 pub returns-in_default : goal.returns-in_default
@@ -25,8 +25,8 @@ returns-in_default c =
     let vs : c.self.inside.ractors.items ≡ w.ractors = ap (λ (v : Assembly). v.ractors) c.self.view_is in
     let is : c.self.inside.inboxes.items ≡ w.channels.inboxes = ap (λ (v : Assembly). v.channels.inboxes) c.self.view_is in
     let at : slice_get w.ractors c.args.place ≡ Some m = read_at c.self.inside.ractors.items w.ractors c.args.place m vs c.requires.within c.index_mut.ensures.value in
-    let none : m.hand ≡ None = sym c.take.ensures.was ∙ c.in_default.is in
-    let same : c.take.new.self ≡ m = c.take.ensures.now ∙ ap (λ x. let y : Member = record m { hand = x } in y) (sym none) in
+    let none : m.hand ≡ None = c.in_default.ensures.none.0 in
+    let same : c.take.new.self ≡ m = c.in_default.ensures.none.1 in
     refused (record { who = c.args.who; action = Discard }) w _
     (same_assembly _ _ _ _ (set_again c.self.inside.ractors.items w.ractors c.args.place c.take.new.self m vs at same) (ap channels is))
     (λ names g e. holds_not names c.args.place m none (allowed w names g (record { who = c.args.who; action = Discard }) c.args.place m c.requires.stands at e))

@@ -14,6 +14,8 @@ returns-clause-made c = record {
   owner = c.new.ensures.owner;
   roots = c.new.ensures.roots;
   hand = c.new.ensures.hand;
+  home = c.new.ensures.home;
+  next = c.new.ensures.next;
   run = c.new.ensures.limits;
   inboxes = c.in_ok-push-2.ensures.items ∙ ap (λ (xs : List Inbox). xs ++ c.in_ok-new.field-0 ∷ []) c.new-inboxes.ensures.items ∙ ap (λ (x : Inbox). x ∷ []) c.in_ok-new.ensures.made;
 }

@@ -1,0 +1,15 @@
+use Rattle.std.proofs.Common.{◌≡◌, ap, refl}
+use Rattle.rr_world.specs.Views.{Assembly}
+use Rattle.rr_world.proofs.Detaching.{detached_by}
+use Rattle.rr_world.proofs.Insides.{read_at, set_in}
+use Rattle.rr_world.proofs.world.World.detach.Goals as goal
+
+pub returns : goal.returns
+returns c =
+    let w = c.args.self.now in
+    let m = c.index_mut-ractor.result.now in
+    let vs : c.self.inside.ractors.items ≡ w.ractors = ap (λ (v : Assembly). v.ractors) c.self.view_is in
+    detached_by c.shown_by_moving.ensures.moved w _ c.args.who c.args.place m c.detach.new.self c.args.value c.detach.result
+    (read_at c.self.inside.ractors.items w.ractors c.args.place m vs c.requires.within c.index_mut-ractor.ensures.value)
+    (set_in c.self.inside.ractors.items w.ractors c.args.place c.detach.new.self c.detach.new.self vs refl)
+    (ap (λ (v : Assembly). v.channels) c.self.view_is) c.requires.stands c.detach.ensures
