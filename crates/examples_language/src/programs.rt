@@ -105,6 +105,14 @@ x = 1; x -= 2 * 3 -> Int(1), Assign { depth: 0, slot: 0, name: Sym(0), value: 0 
 @a ||= $b &&= 1 -> Int(1), Global(Sym(1)), AndAssign(1, 0), Field(Sym(0)), OrAssign(3, 2), Item(4), Sequence { first: 5, count: 1 }
 puts x *= 1 -> Int(1), Local { depth: 0, slot: 0, name: Sym(1) }, OperatorAssign(Multiply, 1, 0), Item(2), Call { name: Sym(0), first: 3, count: 1, site: 0 }, Item(4), Sequence { first: 5, count: 1 }
 x /= y %= puts 1 -> Int(1), Item(0), Call { name: Sym(2), first: 1, count: 1, site: 0 }, Local { depth: 0, slot: 1, name: Sym(1) }, OperatorAssign(Remainder, 3, 2), Local { depth: 0, slot: 0, name: Sym(0) }, OperatorAssign(Divide, 5, 4), Item(6), Sequence { first: 7, count: 1 }
+f { } -> Call { name: Sym(0), first: 0, count: 0, site: 0 }, Sequence { first: 1, count: 0 }, Block { scope: 1, parameters: 0, size: 0, body: 1 }, WithBlock(0, 2), Item(3), Sequence { first: 4, count: 1 }
+f(1) { |a, b| a } -> Int(1), Item(0), Call { name: Sym(0), first: 1, count: 1, site: 0 }, Local { depth: 0, slot: 0, name: Sym(1) }, Item(3), Sequence { first: 4, count: 1 }, Block { scope: 1, parameters: 2, size: 2, body: 5 }, WithBlock(2, 6), Item(7), Sequence { first: 8, count: 1 }
+x = 1; a.each { |v| y = v; x = y }; y -> Int(1), Assign { depth: 0, slot: 0, name: Sym(0), value: 0 }, Bare { name: Sym(1), site: 0 }, Send { receiver: 2, name: Sym(2), first: 3, count: 0, site: 1 }, Local { depth: 0, slot: 0, name: Sym(3) }, Assign { depth: 0, slot: 1, name: Sym(4), value: 4 }, Local { depth: 0, slot: 1, name: Sym(4) }, Assign { depth: 1, slot: 0, name: Sym(0), value: 6 }, Item(5), Item(7), Sequence { first: 8, count: 2 }, Block { scope: 1, parameters: 1, size: 2, body: 10 }, WithBlock(3, 11), Bare { name: Sym(4), site: 2 }, Item(1), Item(12), Item(13), Sequence { first: 14, count: 3 }
+x = 1; f { |x| g { x } }; x -> Int(1), Assign { depth: 0, slot: 0, name: Sym(0), value: 0 }, Call { name: Sym(1), first: 2, count: 0, site: 0 }, Call { name: Sym(2), first: 3, count: 0, site: 1 }, Local { depth: 1, slot: 0, name: Sym(0) }, Item(4), Sequence { first: 5, count: 1 }, Block { scope: 2, parameters: 0, size: 0, body: 6 }, WithBlock(3, 7), Item(8), Sequence { first: 9, count: 1 }, Block { scope: 1, parameters: 1, size: 1, body: 10 }, WithBlock(2, 11), Local { depth: 0, slot: 0, name: Sym(0) }, Item(1), Item(12), Item(13), Sequence { first: 14, count: 3 }
+puts f { 1 } -> Call { name: Sym(1), first: 0, count: 0, site: 0 }, Int(1), Item(1), Sequence { first: 2, count: 1 }, Block { scope: 1, parameters: 0, size: 0, body: 3 }, WithBlock(0, 4), Item(5), Call { name: Sym(0), first: 6, count: 1, site: 1 }, Item(7), Sequence { first: 8, count: 1 }
+f { 1 }.b[0] -> Call { name: Sym(0), first: 0, count: 0, site: 0 }, Int(1), Item(1), Sequence { first: 2, count: 1 }, Block { scope: 1, parameters: 0, size: 0, body: 3 }, WithBlock(0, 4), Send { receiver: 5, name: Sym(1), first: 6, count: 0, site: 1 }, Int(0), Index(6, 7), Item(8), Sequence { first: 9, count: 1 }
+a.b(1) {^n|c|^n2^n} -> Bare { name: Sym(0), site: 0 }, Int(1), Item(1), Send { receiver: 0, name: Sym(1), first: 2, count: 1, site: 1 }, Int(2), Item(4), Sequence { first: 5, count: 1 }, Block { scope: 1, parameters: 1, size: 1, body: 6 }, WithBlock(3, 7), Item(8), Sequence { first: 9, count: 1 }
+x = 1; x { x } -> Int(1), Assign { depth: 0, slot: 0, name: Sym(0), value: 0 }, Call { name: Sym(0), first: 2, count: 0, site: 0 }, Local { depth: 1, slot: 0, name: Sym(0) }, Item(3), Sequence { first: 4, count: 1 }, Block { scope: 1, parameters: 0, size: 0, body: 5 }, WithBlock(2, 6), Item(1), Item(7), Sequence { first: 8, count: 2 }
 ";
 
 /// Sources that are refused.
@@ -163,6 +171,19 @@ a = -^n9223372036854775808 -> 2:1 number
 a? = 1 -> 1:4 unexpected token
 a! = 1 -> 1:4 unexpected token
 b = a? = 1 -> 1:8 unexpected token
+1 { } -> 1:3 unexpected token
+f { |a -> 1:7 unexpected end
+f { |1| } -> 1:6 unexpected token
+f { |a,| } -> 1:8 unexpected token
+f { |a?| 1 } -> 1:6 unexpected token
+f { |a b| 1 } -> 1:8 unexpected token
+f { || } -> 1:5 unexpected token
+f { -> 1:4 unexpected end
+f { } { } -> 1:7 unexpected token
+(f) { } -> 1:5 unexpected token
+a[0] { } -> 1:6 unexpected token
+f { |a| ) } -> 1:9 unexpected token
+f { x = 1 }; x -1; f { |x| x -1 }; x = 2; x [1] -> 1:45 unexpected token
 ";
 
 fn check_rows(rt: &impl Abort, alloc: Global, rows: &str) -> Result<(), AllocError> {
@@ -247,6 +268,9 @@ a[b[0]] -> 2
 {a: 1} -> 1
 a.b(c.d(1)) -> 2
 a.b.c[0][1] -> 1
+f { 1 } -> 1
+f(1) { g { 2 } } -> 2
+a.b { [1] } -> 2
 ";
 
 #[test]

@@ -2,7 +2,7 @@
 use Rattle.std.proofs.Common.{◌≡◌, ℕ, zero, suc, pos, ◌⊎◌, inl, inr, Bool, true, false, cond, List, [], ◌∷◌, length, Option, Some, None, Result, Ok, Err, refl}
 use Rattle.rr_base.specs.declared.name.Sym.{Sym}
 use Rattle.rr_tree.specs.declared.node.BinaryOperator.{BinaryOperator}
-use Rattle.rr_tree.specs.Tree.{Tree, int, local, bare, call, negate, binary, sequence, choose, repeat, send, index, array, hash, pair, symbol, logical_not, listed}
+use Rattle.rr_tree.specs.Tree.{Tree, int, bare, call, with_block, negate, binary, sequence, choose, repeat, send, index, array, hash, pair, symbol, logical_not, listed}
 use Rattle.rr_parser.specs.declared.word.Tail.{Tail}
 use Rattle.rr_parser.specs.declared.word.Tail.TheVariants as tails
 use Rattle.rr_parser.specs.declared.word.Aim.{Aim}
@@ -16,26 +16,28 @@ use Rattle.rr_parser.specs.declared.word.Word.{Word}
 use Rattle.rr_parser.specs.Places.{Place, Look, word, at, next, skip, separators, start}
 use Rattle.rr_parser.specs.Grammar.Chains.{Chain, one, more, same, one_of, and_one}
 use Rattle.rr_parser.specs.Grammar.Nesting.{Nested}
-use Rattle.rr_parser.specs.Grammar.Names.{is_local, slot_of, name, bracket, begins_operands, command}
-use Rattle.rr_parser.specs.Grammar.Operands.{fits, fits_below, negated, joined, literal_of, construct_of, tail, Primary, Tailed, Minus}
+use Rattle.rr_parser.specs.Grammar.Names.{is_local, variable_of, local_tree, name, bracket, begins_operands, command}
+use Rattle.rr_parser.specs.Grammar.Operands.{fits, fits_below, negated, joined, literal_of, construct_of, brace, tail, Primary, Tailed, Minus}
 use Rattle.rr_parser.specs.Grammar.Operators.{operator, connective, joined_by, Binary, Logical}
 use Rattle.rr_parser.specs.Grammar.Calls.{target, with_target, assigned_to, label, comma, closing, last, Argument, Member}
 use Rattle.rr_parser.specs.Grammar.Sequences.{Negation, Expression, modifier, modified, Statement}
 use Rattle.rr_parser.specs.Grammar.Control.{thens, loops, elsif, chosen, unless_chosen, Branch, Branches}
+use Rattle.rr_parser.specs.Grammar.Blocks.{parameters, entered, leaving, block_tree}
 use Rattle.rr_parser.specs.Grammar.{inside, outside}
 use Rattle.rr_parser.specs.Reading.Answers.{◌>>=◌, Refused, wrong, deep, Answer, Parse, built, ended_by, closed, from, on_seen, across, trail_on, turn, chain_from, chain_on, chain}
 use Rattle.rr_parser.specs.Reading.Nesting.{Readers}
-use Rattle.rr_parser.specs.Reading.Operands.{bare_call, name_or, name_of, int_at, negative_in, negative_of, begun, primary_at, primary_in, primary_of, tailed_of, postfix_of, bang_or, bang_of, prefix_minus, minus_or, minus_of}
+use Rattle.rr_parser.specs.Reading.Operands.{bare_call, block_behind, blocked_or, blocked_of, then_blocked, unbracketed_or, name_or, name_of, int_at, negative_in, negative_of, begun, primary_at, primary_in, primary_of, tailed_of, postfix_of, bang_or, bang_of, prefix_minus, minus_or, minus_of}
 use Rattle.rr_parser.specs.Reading.Operators.{binary_on, binary_of, pair_or, equality_on, logical_on, logical_of, question_or, ternary_on, ternary_of}
 use Rattle.rr_parser.specs.Reading.Calls.{assigned_or, assigned_of, argument_of, pair_by, pair_of, member_of, another, members_of, bracketed_or, bracketed_of, array_of, hash_of, index_of, commanded_or, commanded_of, command_or, command_of, phrase_or, phrase_of, operand_of, value_of}
 use Rattle.rr_parser.specs.Reading.Sequences.{negation_or, negation_of, expression_of, statement_of, ends, row, rows_of, sequence_of, statements_of, group_of}
 use Rattle.rr_parser.specs.Reading.Control.{both, branch_of, branches_of, otherwise_or, otherwise_of, ended, choice_of, unless_of, loop_of}
+use Rattle.rr_parser.specs.Reading.Blocks.{left_block, block_or, block_of}
 use Rattle.rr_parser.specs.Reading.{part_of, readers_inside, readers_outside, readers, whole_of, program_of}
-use Rattle.rr_parser.specs.Fronts.{Fronts, ChainFront, in_one, in_more, in_head, TailedFront, PostfixFront, PairFront, behind_label, in_entry, MemberFront, MembersFront, AcrossFront, in_former, in_latter, PrimaryFront, in_construct, in_call, BangFront, in_bang, behind_no_bang, MinusFront, in_minus, behind_no_minus, BinaryFront, EqualityFront, LogicalFront, TernaryFront, AssignedFront, in_value, in_operand, ArgumentFront, CommandedFront, in_arguments, in_argument_command, CommandFront, behind_name, PhraseFront, in_command, in_plain, OperandFront, ValueFront, NegationFront, in_negation, behind_no_negation, ExpressionFront, StatementFront, RowsFront, StatementsFront, BranchFront, BranchesFront, EndedFront, LoopFront, PartFront, fronts_inside, fronts_outside}
+use Rattle.rr_parser.specs.Fronts.{Fronts, ChainFront, in_one, in_more, in_head, TailedFront, PostfixFront, PairFront, behind_label, in_entry, MemberFront, MembersFront, AcrossFront, in_former, in_latter, CallFront, BlockedFront, in_block, PrimaryFront, in_construct, in_call, in_block_call, BangFront, in_bang, behind_no_bang, MinusFront, in_minus, behind_no_minus, BinaryFront, EqualityFront, LogicalFront, TernaryFront, AssignedFront, in_value, in_operand, ArgumentFront, CommandedFront, in_arguments, in_argument_command, CommandFront, behind_name, PhraseFront, in_command, in_plain, OperandFront, ValueFront, NegationFront, in_negation, behind_no_negation, ExpressionFront, StatementFront, RowsFront, StatementsFront, BranchFront, BranchesFront, EndedFront, LoopFront, BlockFront, in_body, PartFront, fronts_inside, fronts_outside}
 use Rattle.rr_parser.proofs.Told.{told_bang, told_not}
 use Rattle.rr_parser.proofs.Looks.{word-next, another-comma, next-name, row-separators, prefix-next}
 use Rattle.rr_parser.proofs.Trails.{trail_deep}
-use Rattle.rr_parser.proofs.Chains.{done, IsSound}
+use Rattle.rr_parser.proofs.Chains.{done, built_ok, IsSound}
 use Rattle.rr_parser.proofs.Sound.{NestedSound, primary_sound, tailed_sound, member_sound, minus_sound, binary_sound_on, binary_sound, logical_sound_on, logical_sound, argument_sound, negation_sound, expression_sound, statement_sound, branch_sound, branches_sound, sound_inside, sound_outside}
 
 abbrev pub IsDeep : {A : Type 0} → Parse A → (Place → Place → Type 0) → Type 0
@@ -134,7 +136,7 @@ bare_not_deep : (b : Bool) (x : Sym) (m : Place) → cond b (Err wrong) (done (b
 bare_not_deep true x m e = let never : ⊥ = cc in never
 bare_not_deep false x m e = let never : ⊥ = cc in never
 
-plain_not_deep : (b : Bool) (x : Sym) (m : Place) → cond b (done (local 0 (slot_of x m) x.0) m) (bare_call x m) ≡ Err deep → ⊥
+plain_not_deep : (b : Bool) (x : Sym) (m : Place) → cond b (done (local_tree x (variable_of x m)) m) (bare_call x m) ≡ Err deep → ⊥
 plain_not_deep true x m e = let never : ⊥ = cc in never
 plain_not_deep false x m e = bare_not_deep (begins_operands m.rest) x m e
 
@@ -144,54 +146,83 @@ pub record NestedDeep (N : Readers) (F : Fronts) : Type 0 where
   pub value : (b : Bool) → IsDeep (N.value b) (F.value b)
 
 module _ (N : Readers) (R : Nested) (F : Fronts) (sounds : NestedSound N R) (nests : NestedDeep N F) where
-  name_or-deep : (s m : Place) (x : Sym) (o : Option (Unit {0} × Place)) → at name s ≡ Some (x, m) → at bracket m ≡ o → name_or N x m o ≡ Err deep → (z : Place) × PrimaryFront F s z
-  name_or-deep s m x None f g e = absurd (plain_not_deep (is_local x m) x m e)
+  behind_deep : (c : Tree) (s : Place) → block_behind N c s ≡ Err deep → (z : Place) × F.part parts.Block s z
+  behind_deep c s e = nests.part parts.Block s (built_deep (with_block c) (N.part parts.Block s) e)
+
+  blocked_or-deep : (c : Tree) (s : Place) (o : Option (Unit {0} × Place)) → at brace s ≡ o → blocked_or N c s o ≡ Err deep → (z : Place) × BlockedFront F s z
+  blocked_or-deep c s None f e = absurd cc
+  blocked_or-deep c s (Some m) f e = let d = behind_deep c m.1 e in (d.0, in_block {u = m.0} f d.1)
+
+  blocked_deep : (c : Tree) (s : Place) → blocked_of N c s ≡ Err deep → (z : Place) × BlockedFront F s z
+  unfolding blocked_of
+  blocked_deep c s e = blocked_or-deep c s (at brace s) refl e
+
+  behind_arguments : (n o z : Place) (l : List Tree) → R.bracketed n l o → BlockedFront F o z → CallFront R F n z
+  behind_arguments n o z l h (in_block {u = u} e f) = in_latter {x = u} h e f
+
+  call_deep : (f : List Tree → Tree) (n : Place) → then_blocked N (built f (N.bracketed n)) ≡ Err deep → (z : Place) × CallFront R F n z
+  call_deep f n e =
+      elim (bind_deep (built f (N.bracketed n)) (λ c. blocked_of N c.0 c.1) e) [
+        | inl g ↦ (let d = nests.bracketed n (built_deep f (N.bracketed n) g) in (d.0, in_former d.1))
+        | inr b ↦ (
+            let k = built_ok f (N.bracketed n) b.0.0 b.0.1 b.1 in
+            let d = blocked_deep b.0.0 b.0.1 b.2 in
+            (d.0, behind_arguments n b.0.1 d.0 k.0 (sounds.bracketed n b.0.1 k.0 k.1) d.1)
+            )
+      ]
+
+  unbracketed_or-deep : (s m : Place) (x : Sym) (o : Option (Unit {0} × Place)) → at name s ≡ Some (x, m) → at bracket m ≡ None → at brace m ≡ o → unbracketed_or N x m o ≡ Err deep → (z : Place) × PrimaryFront R F s z
+  unbracketed_or-deep s m x None f g h e = absurd (plain_not_deep (is_local x m) x m e)
+  unbracketed_or-deep s m x (Some b) f g h e = let d = behind_deep (call x.0 (listed [])) b.1 e in (d.0, in_block_call f g (in_block {u = b.0} h d.1))
+
+  name_or-deep : (s m : Place) (x : Sym) (o : Option (Unit {0} × Place)) → at name s ≡ Some (x, m) → at bracket m ≡ o → name_or N x m o ≡ Err deep → (z : Place) × PrimaryFront R F s z
+  name_or-deep s m x None f g e = unbracketed_or-deep s m x (at brace m) f g refl e
   name_or-deep s m x (Some b) f g e =
-      let d = nests.bracketed b.1 (built_deep (λ l. call x.0 (listed l)) (N.bracketed b.1) e) in
+      let d = call_deep (λ l. call x.0 (listed l)) b.1 e in
       (d.0, in_call {u = b.0} f g d.1)
 
-  name_deep : (s m : Place) (x : Sym) → at name s ≡ Some (x, m) → name_of N x m ≡ Err deep → (z : Place) × PrimaryFront F s z
+  name_deep : (s m : Place) (x : Sym) → at name s ≡ Some (x, m) → name_of N x m ≡ Err deep → (z : Place) × PrimaryFront R F s z
   unfolding name_of
   name_deep s m x f e = name_or-deep s m x (at bracket m) f refl e
 
-  int_deep : (s m : Place) (n : ℕ) → int_at n m ≡ Err deep → (z : Place) × PrimaryFront F s z
+  int_deep : (s m : Place) (n : ℕ) → int_at n m ≡ Err deep → (z : Place) × PrimaryFront R F s z
   unfolding int_at
   int_deep s m n e = absurd (int_not_deep (fits n) n m e)
 
-  negative_deep : (s m : Place) → negative_of m ≡ Err deep → (z : Place) × PrimaryFront F s z
+  negative_deep : (s m : Place) → negative_of m ≡ Err deep → (z : Place) × PrimaryFront R F s z
   unfolding negative_of
   negative_deep s m e = absurd (negative_not_deep (at joined m) e)
 
-  begun_deep : (s : Place) (k : WordKind) (m : Place) (l : Option Tree) (c : Option Part) → next s ≡ Some (k, m) → construct_of k ≡ c → begun N l c m ≡ Err deep → (z : Place) × PrimaryFront F s z
+  begun_deep : (s : Place) (k : WordKind) (m : Place) (l : Option Tree) (c : Option Part) → next s ≡ Some (k, m) → construct_of k ≡ c → begun N l c m ≡ Err deep → (z : Place) × PrimaryFront R F s z
   begun_deep s k m (Some u) c f h e = absurd cc
   begun_deep s k m None (Some p) f h e = let d = nests.part p m e in (d.0, in_construct f h d.1)
   begun_deep s k m None None f h e = absurd cc
 
-  primary_at-deep : (s : Place) (k : WordKind) (m : Place) → next s ≡ Some (k, m) → primary_at N k m ≡ Err deep → (z : Place) × PrimaryFront F s z
+  primary_at-deep : (s : Place) (k : WordKind) (m : Place) → next s ≡ Some (k, m) → primary_at N k m ≡ Err deep → (z : Place) × PrimaryFront R F s z
   primary_at-deep s (kind.Int n) m f e = int_deep s m n e
   primary_at-deep s (kind.Name x b) m f e = name_deep s m x (next-name s m x b f) e
   primary_at-deep s kind.Minus m f e = negative_deep s m e
   primary_at-deep s k m f e = begun_deep s k m (literal_of k) (construct_of k) f refl e
 
-  primary_in-deep : (s : Place) (r : Option (WordKind × Place)) → next s ≡ r → primary_in N r ≡ Err deep → (z : Place) × PrimaryFront F s z
+  primary_in-deep : (s : Place) (r : Option (WordKind × Place)) → next s ≡ r → primary_in N r ≡ Err deep → (z : Place) × PrimaryFront R F s z
   primary_in-deep s None f e = absurd cc
   primary_in-deep s (Some k) f e = primary_at-deep s k.0 k.1 f e
 
-  primary_deep : IsDeep (primary_of N) (PrimaryFront F)
+  primary_deep : IsDeep (primary_of N) (PrimaryFront R F)
   unfolding primary_of
   primary_deep s e = primary_in-deep s (next s) refl e
 
-  tailed_deep : (x : Tail) (l : Tree) (n : Place) → tailed_of N x l n ≡ Err deep → (z : Place) × TailedFront F x n z
+  tailed_deep : (x : Tail) (l : Tree) (n : Place) → tailed_of N x l n ≡ Err deep → (z : Place) × TailedFront R F x n z
   unfolding tailed_of
-  tailed_deep (tails.Send x) l n e = absurd cc
-  tailed_deep (tails.Call x) l n e = nests.bracketed n (built_deep (λ q. send l x.0 (listed q)) (N.bracketed n) e)
+  tailed_deep (tails.Send x) l n e = blocked_deep (send l x.0 (listed [])) n e
+  tailed_deep (tails.Call x) l n e = call_deep (λ q. send l x.0 (listed q)) n e
   tailed_deep tails.Index l n e = nests.part parts.Index n (built_deep (index l) (N.part parts.Index n) e)
 
   postfix_deep : IsDeep (postfix_of N) (PostfixFront R F)
   unfolding postfix_of
   postfix_deep =
       from_deep (primary_of N) (trail_on tail (tailed_of N)) (Primary R) (PostfixFront R F) (primary_sound N R sounds)
-      (trail_deep tail (tailed_of N) (Primary R) (Tailed R) (tailed_sound N R sounds) (PrimaryFront F) (TailedFront F) tailed_deep (λ r f e. bind_deep r f e))
+      (trail_deep tail (tailed_of N) (Primary R) (Tailed R) (tailed_sound N R sounds) (PrimaryFront R F) (TailedFront R F) tailed_deep (λ r f e. bind_deep r f e))
       (λ s e. let d = primary_deep s e in (d.0, in_head d.1))
 
   bang_or-deep : (s : Place) (o : Option (Unit {0} × Place)) → at (word kind.Bang) s ≡ o → bang_or N s o ≡ Err deep → (z : Place) × BangFront R F s z
@@ -458,6 +489,22 @@ module _ (N : Readers) (R : Nested) (F : Fronts) (sounds : NestedSound N R) (nes
       across_deep (repeat until) loops (statements_of N) (expression_of N s) s (Expression R) (ExpressionFront R F) (StatementsFront R F) (λ a m g. expression_sound N R sounds s m a g) (λ g. expression_deep s g) statements_deep
       (closed_deep kind.End (across (repeat until) loops (statements_of N) (expression_of N s)) e)
 
+  left_deep : (s : Place) (xs : List Sym) (m : Place) (r : Answer Tree) → left_block s xs m r ≡ Err deep → r ≡ Err deep
+  left_deep s xs m (Ok x) e = absurd cc
+  left_deep s xs m (Err wrong) e = absurd cc
+  left_deep s xs m (Err deep) e = refl
+
+  block_or-deep : (s : Place) (o : Option (List Sym × Place)) → at parameters s ≡ o → block_or N s o ≡ Err deep → (z : Place) × BlockFront R F s z
+  block_or-deep s None f e = absurd cc
+  block_or-deep s (Some x) f e =
+      let body = closed kind.CloseBrace (statements_of N (entered x.0 x.1)) in
+      let d = statements_deep (entered x.0 x.1) (closed_deep kind.CloseBrace (statements_of N (entered x.0 x.1)) (left_deep s x.0 x.1 body e)) in
+      (d.0, in_body f d.1)
+
+  block_deep : IsDeep (block_of N) (BlockFront R F)
+  unfolding block_of
+  block_deep s e = block_or-deep s (at parameters s) refl e
+
   pub part_deep : (p : Part) → IsDeep (part_of N p) (PartFront R F p)
   part_deep parts.Group = group_deep
   part_deep parts.Array = array_deep
@@ -471,6 +518,7 @@ module _ (N : Readers) (R : Nested) (F : Fronts) (sounds : NestedSound N R) (nes
   part_deep parts.Not = negation_deep
   part_deep parts.Command = command_deep
   part_deep parts.Branch = argument_deep
+  part_deep parts.Block = block_deep
 
 pub deep_inside : (d : ℕ) → NestedDeep (readers_inside d) (fronts_inside d)
 unfolding readers_inside fronts_inside

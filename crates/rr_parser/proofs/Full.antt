@@ -1,7 +1,7 @@
 -- What is spelled is read, unless it nests too deep.
 use Rattle.std.proofs.Common.{◌≡◌, ℕ, zero, suc, ◌+◌, ◌*◌, ◌<◌, inl, inr, pos, Bool, true, false, cond, List, [], Option, Some, None, Ok, Err, refl, sym, ap, ◌∙◌, subst, arith}
 use Rattle.rr_base.specs.declared.name.Sym.{Sym}
-use Rattle.rr_tree.specs.Tree.{Tree, nil, truth, int, text, local, bare, call, negate, binary, sequence, choose, repeat, send, index, array, hash, pair, symbol, constant, field, global, itself, logical_not, listed}
+use Rattle.rr_tree.specs.Tree.{Tree, nil, truth, int, text, bare, call, with_block, negate, binary, sequence, choose, repeat, send, index, array, hash, pair, symbol, constant, field, global, itself, logical_not, listed}
 use Rattle.rr_parser.specs.declared.word.Tail.{Tail}
 use Rattle.rr_parser.specs.declared.word.Listed.{Listed}
 use Rattle.rr_parser.specs.declared.word.Listed.TheVariants as listings
@@ -13,20 +13,22 @@ use Rattle.rr_parser.specs.declared.word.Word.{Word}
 use Rattle.rr_parser.specs.Places.{is_kind, where_true, seen_before, placed, Place, word, at, next, skip, separators, start}
 use Rattle.rr_parser.specs.Grammar.Chains.{same, one_of, and_one}
 use Rattle.rr_parser.specs.Grammar.Nesting.{Nested}
-use Rattle.rr_parser.specs.Grammar.Names.{is_local, slot_of, name, bracket, begins_operands, command}
-use Rattle.rr_parser.specs.Grammar.Operands.{fits, fits_below, negated, joined, literal_of, construct_of, Primary, a_literal, a_negative, a_local, a_bare_call, a_call, a_construct, tail, Tailed, a_send, a_sent_call, an_index, Postfix, Bang, a_bang, no_bang, Minus, a_minus, no_minus}
+use Rattle.rr_parser.specs.Grammar.Names.{is_local, variable_of, local_tree, name, bracket, begins_operands, command}
+use Rattle.rr_parser.specs.Grammar.Operands.{fits, fits_below, negated, joined, literal_of, construct_of, brace, Blocked, no_block, a_block, Primary, a_literal, a_negative, a_local, a_bare_call, a_call, a_block_call, a_construct, tail, Tailed, a_send, a_sent_call, an_index, Postfix, Bang, a_bang, no_bang, Minus, a_minus, no_minus}
 use Rattle.rr_parser.specs.Grammar.Operators.{operator, connective, joined_by, Logical, Binary, Equality, a_comparison, a_pair, Ternary, no_question, a_question}
 use Rattle.rr_parser.specs.Grammar.Calls.{target, with_target, assigned_to, label, comma, closing, last, Assigned, an_assignment, no_assignment, Argument, Pair, by_label, by_arrow, Member, Members, Bracketed, no_members, some_members, Array, an_array, Hash, a_hash, Index, of_element, Commanded, by_arguments, by_command, Command, a_command, Phrase, by_name, an_operand, Value}
 use Rattle.rr_parser.specs.Grammar.Sequences.{Negation, a_negation, no_negation, Expression, modifier, modified, Statement, Rows, Statements, no_statements, some_statements, Group, a_group}
 use Rattle.rr_parser.specs.Grammar.Control.{thens, loops, elsif, chosen, unless_chosen, Branch, a_branch, Branches, Otherwise, no_else, an_else, Choice, a_choice, Unless, an_unless, Loop, a_loop}
+use Rattle.rr_parser.specs.Grammar.Blocks.{parameters, entered, leaving, block_tree, Block, of_statements}
 use Rattle.rr_parser.specs.Grammar.{PartOf, inside, outside, WordsSpell}
 use Rattle.rr_parser.specs.Reading.Answers.{◌>>=◌, wrong, deep, Answer, Parse, built, ended_by, closed, across}
 use Rattle.rr_parser.specs.Reading.Nesting.{Readers}
-use Rattle.rr_parser.specs.Reading.Operands.{call_of, bare_call, variable_or_call, name_or, name_of, int_at, negative_in, negative_of, primary_at, primary_in, primary_of, tailed_of, postfix_of, bang_or, bang_of, prefix_minus, minus_or, minus_of}
+use Rattle.rr_parser.specs.Reading.Operands.{call_of, bare_call, variable_or_call, block_behind, blocked_or, blocked_of, then_blocked, unbracketed_or, name_or, name_of, int_at, negative_in, negative_of, primary_at, primary_in, primary_of, tailed_of, postfix_of, bang_or, bang_of, prefix_minus, minus_or, minus_of}
 use Rattle.rr_parser.specs.Reading.Operators.{binary_on, binary_of, pair_or, equality_on, logical_on, logical_of, question_or, ternary_on, ternary_of}
 use Rattle.rr_parser.specs.Reading.Calls.{assigned_or, assigned_of, argument_of, pair_by, pair_of, member_of, another, members_of, bracketed_or, bracketed_of, array_of, hash_of, index_of, commanded_or, commanded_of, command_or, command_of, phrase_or, phrase_of, value_of}
 use Rattle.rr_parser.specs.Reading.Sequences.{negation_or, negation_of, expression_of, statement_of, ends, row, rows_of, sequence_of, statements_at, statements_of, group_of}
 use Rattle.rr_parser.specs.Reading.Control.{both, branch_of, branches_of, otherwise_or, otherwise_of, ended, choice_of, unless_of, loop_of}
+use Rattle.rr_parser.specs.Reading.Blocks.{left_block, block_or, block_of}
 use Rattle.rr_parser.specs.Reading.{part_of, readers_inside, readers_outside, whole_of, program_of}
 use Rattle.rr_parser.proofs.Told.{told_question, told_comma}
 use Rattle.rr_parser.proofs.Looks.{seen, none_unless, another-comma, comma-another, last-another, Steps-another, Steps-tail, by_next, name-next, other-word, next-prefix, separators-row, Steps-row}
@@ -120,24 +122,43 @@ module _ (N : Readers) (R : Nested) (D : Type 0) (shrinks : ReadersShrink N) (ne
   unfolding negative_of
   negative_full m z n e f = ap negative_in e ∙ ap (λ b. cond b (Ok (int (negated n), z)) (Err wrong)) f
 
-  plain_full : (x : Sym) (m : Place) → at bracket m ≡ None → name_of N x m ≡ variable_or_call x m
+  plain_full : (x : Sym) (m : Place) → at bracket m ≡ None → at brace m ≡ None → name_of N x m ≡ variable_or_call x m
   unfolding name_of
-  plain_full x m e = ap (name_or N x m) e
+  plain_full x m e f = ap (name_or N x m) e ∙ ap (unbracketed_or N x m) f
 
-  local_full : (x : Sym) (m : Place) → is_local x m ≡ true → variable_or_call x m ≡ Ok (local 0 (slot_of x m) x.0, m)
-  local_full x m e = ap (λ b. cond b (Ok (local 0 (slot_of x m) x.0, m)) (bare_call x m)) e
+  behind_full : (c : Tree) (m z : Place) (b : Tree) → R.part parts.Block m b z → Leads (block_behind N c m) (Ok (with_block c b, z)) D
+  behind_full c m z b h = leads_bind (N.part parts.Block m) (b, z) (λ q. Ok (with_block c q.0, q.1)) (nests.part parts.Block m z b h tt)
+
+  blocked_full : (c : Tree) (s z : Place) (t : Tree) → Blocked R c s t z → Leads (blocked_of N c s) (Ok (t, z)) D
+  unfolding blocked_of
+  blocked_full c s z t (no_block e) = inl (ap (blocked_or N c s) e)
+  blocked_full c s z t (a_block {m = m} {b = b} e h) = leads_eq (blocked_or N c s (at brace s)) (block_behind N c m) (Ok (t, z)) (ap (blocked_or N c s) e) (behind_full c m z b h)
+
+  arguments_full : (f : List Tree → Tree) (n o z : Place) (l : List Tree) (t : Tree) → R.bracketed n l o → Blocked R (f l) o t z → Leads (then_blocked N (built f (N.bracketed n))) (Ok (t, z)) D
+  arguments_full f n o z l t h b =
+      leads_trans (then_blocked N (built f (N.bracketed n))) (blocked_of N (f l) o) (Ok (t, z))
+      (leads_bind (built f (N.bracketed n)) (f l, o) (λ c. blocked_of N c.0 c.1) (leads_bind (N.bracketed n) (l, o) (λ q. Ok (f q.0, q.1)) (nests.bracketed n o l h tt)))
+      (blocked_full (f l) o z t b)
+
+  alone_full : (x : Sym) (m n z : Place) (u : Unit {0}) (b : Tree) → at bracket m ≡ None → at brace m ≡ Some (u, n) → R.part parts.Block n b z → Leads (name_of N x m) (Ok (with_block (call x.0 (listed [])) b, z)) D
+  unfolding name_of
+  alone_full x m n z u b e f h =
+      leads_eq (name_or N x m (at bracket m)) (block_behind N (call x.0 (listed [])) n) (Ok (with_block (call x.0 (listed [])) b, z)) (ap (name_or N x m) e ∙ ap (unbracketed_or N x m) f)
+      (behind_full (call x.0 (listed [])) n z b h)
+
+  local_full : (x : Sym) (m : Place) → is_local x m ≡ true → variable_or_call x m ≡ Ok (local_tree x (variable_of x m), m)
+  local_full x m e = ap (λ b. cond b (Ok (local_tree x (variable_of x m), m)) (bare_call x m)) e
 
   other_full : (x : Sym) (m : Place) → is_local x m ≡ false → variable_or_call x m ≡ bare_call x m
-  other_full x m e = ap (λ b. cond b (Ok (local 0 (slot_of x m) x.0, m)) (bare_call x m)) e
+  other_full x m e = ap (λ b. cond b (Ok (local_tree x (variable_of x m), m)) (bare_call x m)) e
 
   bare_full : (x : Sym) (m : Place) → begins_operands m.rest ≡ false → bare_call x m ≡ Ok (bare x.0, m)
   bare_full x m e = ap (λ b. cond b (Err wrong) (Ok (bare x.0, m))) e
 
-  call_full : (x : Sym) (m n z : Place) (u : Unit {0}) (l : List Tree) → at bracket m ≡ Some (u, n) → R.bracketed n l z → Leads (name_of N x m) (Ok (call x.0 (listed l), z)) D
+  call_full : (x : Sym) (m n o z : Place) (u : Unit {0}) (l : List Tree) (t : Tree) → at bracket m ≡ Some (u, n) → R.bracketed n l o → Blocked R (call x.0 (listed l)) o t z → Leads (name_of N x m) (Ok (t, z)) D
   unfolding name_of
-  call_full x m n z u l e h =
-      leads_eq (name_or N x m (at bracket m)) (call_of x (N.bracketed n)) (Ok (call x.0 (listed l), z)) (ap (name_or N x m) e)
-      (leads_bind (N.bracketed n) (l, z) (λ q. Ok (call x.0 (listed q.0), q.1)) (nests.bracketed n z l h tt))
+  call_full x m n o z u l t e h b =
+      leads_eq (name_or N x m (at bracket m)) (then_blocked N (call_of x (N.bracketed n))) (Ok (t, z)) (ap (name_or N x m) e) (arguments_full (λ q. call x.0 (listed q)) n o z l t h b)
 
   -- what a name is read as
   by_name_full : (s m : Place) (x : Sym) → at name s ≡ Some (x, m) → primary_of N s ≡ name_of N x m
@@ -151,17 +172,19 @@ module _ (N : Readers) (R : Nested) (D : Type 0) (shrinks : ReadersShrink N) (ne
   primary_full : IsFull (primary_of N) (Primary R) Anywhere D
   primary_full s z t (a_literal {k = k} e f) u = inl (by_kind_full s z k e ∙ literal_full k z t f)
   primary_full s z t (a_negative {m = m} {n = n} e f g) u = inl (by_kind_full s m kind.Minus e ∙ negative_full m z n f g)
-  primary_full s z t (a_local {x = x} e o f) u = inl (by_name_full s z x e ∙ plain_full x z o ∙ local_full x z f)
-  primary_full s z t (a_bare_call {x = x} e o f g) u = inl (by_name_full s z x e ∙ plain_full x z o ∙ other_full x z f ∙ bare_full x z g)
-  primary_full s z t (a_call {m = m} {n = n} {x = x} {u = v} {l = l} e f h) u =
-      leads_eq (primary_of N s) (name_of N x m) (Ok (t, z)) (by_name_full s m x e) (call_full x m n z v l f h)
+  primary_full s z t (a_local {x = x} e o b f) u = inl (by_name_full s z x e ∙ plain_full x z o b ∙ local_full x z f)
+  primary_full s z t (a_bare_call {x = x} e o b f g) u = inl (by_name_full s z x e ∙ plain_full x z o b ∙ other_full x z f ∙ bare_full x z g)
+  primary_full s z t (a_call {m = m} {n = n} {o = o} {x = x} {u = v} {l = l} e f h b) u =
+      leads_eq (primary_of N s) (name_of N x m) (Ok (t, z)) (by_name_full s m x e) (call_full x m n o z v l t f h b)
+  primary_full s z t (a_block_call {m = m} {n = n} {x = x} {u = v} {b = b} e f g h) u =
+      leads_eq (primary_of N s) (name_of N x m) (Ok (t, z)) (by_name_full s m x e) (alone_full x m n z v b f g h)
   primary_full s z t (a_construct {m = m} {k = k} {p = p} e f h) u =
       leads_eq (primary_of N s) (N.part p m) (Ok (t, z)) (by_kind_full s m k e ∙ construct_full k m p f) (nests.part p m z t h (construct_anywhere k p z f))
 
   tailed_full : (x : Tail) (l : Tree) (n z : Place) (t : Tree) → Tailed R x l n t z → Leads (tailed_of N x l n) (Ok (t, z)) D
   unfolding tailed_of
-  tailed_full x l n z t a_send = inl refl
-  tailed_full x l n z t (a_sent_call {x = y} {l = a} h) = leads_bind (N.bracketed n) (a, z) (λ q. Ok (send l y.0 (listed q.0), q.1)) (nests.bracketed n z a h tt)
+  tailed_full x l n z t (a_send {x = y} h) = blocked_full (send l y.0 (listed [])) n z t h
+  tailed_full x l n z t (a_sent_call {m = m} {x = y} {l = a} h b) = arguments_full (λ q. send l y.0 (listed q)) n m z a t h b
   tailed_full x l n z t (an_index {i = i} h) = leads_bind (N.part parts.Index n) (i, z) (λ q. Ok (index l q.0, q.1)) (nests.part parts.Index n z i h tt)
 
   pub postfix_full : IsFull (postfix_of N) (Postfix R) (Stops 0) D
@@ -417,6 +440,14 @@ module _ (N : Readers) (R : Nested) (D : Type 0) (shrinks : ReadersShrink N) (ne
       closed_full kind.End (across (repeat until) loops (statements_of N) (expression_of N s)) t o z refl
       (across_full (repeat until) loops (statements_of N) (expression_of N s) c m n o u b (expression_full s m c h (loops_stop m n u e)) e (statements_full n o b i (next_ends o z kind.End true f refl))) f
 
+  block_full : IsFull (block_of N) (Block R) Anywhere D
+  unfolding block_of
+  block_full s z t (of_statements {m = m} {n = n} {z = y} {xs = xs} {t = b} e h f) u =
+      let body = closed kind.CloseBrace (statements_of N (entered xs m)) in
+      leads_eq (block_or N s (at parameters s)) (left_block s xs m body) (Ok (block_tree xs m y b, leaving s y)) (ap (block_or N s) e)
+      (leads_bind body (b, y) (λ q. Ok (block_tree xs m q.1 q.0, leaving s q.1))
+      (closed_full kind.CloseBrace (statements_of N (entered xs m)) b n y refl (statements_full (entered xs m) n b h (next_ends n y kind.CloseBrace true f refl)) f))
+
   pub part_full : (p : Part) → IsFull (part_of N p) (PartOf R p) (PartStops p) D
   part_full parts.Group = group_full
   part_full parts.Array = array_full
@@ -430,6 +461,7 @@ module _ (N : Readers) (R : Nested) (D : Type 0) (shrinks : ReadersShrink N) (ne
   part_full parts.Not = negation_full
   part_full parts.Command = command_full
   part_full parts.Branch = argument_full
+  part_full parts.Block = block_full
 
 -- ---- all depths
 

@@ -12,3 +12,4 @@ pub mod Making
 pub mod Exact
 pub mod Lists
 pub mod Numbers
+pub mod Scopes

@@ -16,6 +16,7 @@ use Rattle.rr_parser.specs.Grammar.Names.{name_of_kind, name, bracket, begins_op
 use Rattle.rr_parser.specs.Grammar.Operands.{joined, square, called, sent, indexed, behind_dot, tail}
 use Rattle.rr_parser.specs.Grammar.Calls.{target_of_kind, sign_of_kind, sign, assigned, named, target_word, target, comma, closing, behind_comma, last}
 use Rattle.rr_parser.specs.Grammar.Control.{behind_word, then_or_separators, thens, either, loops}
+use Rattle.rr_parser.specs.Grammar.Blocks.{variable_of_kind, before_names, more_names, names_to, behind_bar, parameters}
 use Rattle.rr_parser.specs.Reading.Operands.{without_integer, no_integer, prefix_minus}
 use Rattle.rr_parser.specs.Reading.Calls.{unless_closing, another}
 use Rattle.rr_parser.specs.Reading.Sequences.{ends, before_row, row}
@@ -448,3 +449,48 @@ Steps-last k s m u e = let h = last-next k s m u e in omega (arith, next-left s 
 
 pub Steps-closing : (k : Listed) → Steps (closing k)
 Steps-closing k s m u e = let h = closing-next k s m u e in omega (arith, next-left s m h.0 h.1)
+
+-- ---- parameters
+
+same_rest : (xs ys : List Sym) (r q : List Word) → ◌≡◌ {A = Option (List Sym × List Word)} (Some (xs, r)) (Some (ys, q)) → r ≡ q
+same_rest xs ys r q e = let h : ◌≡◌ {A = List Sym × List Word} (xs, r) (ys, q) = cc in ap (λ (p : List Sym × List Word). p.1) h
+
+before-less : (o : Option Sym) (p : Option (List Sym × List Word)) (n : ℕ) → ((xs : List Sym) (r : List Word) → p ≡ Some (xs, r) → length r ≤ n) → (xs : List Sym) (r : List Word) → before_names o p ≡ Some (xs, r) → length r ≤ n
+before-less None p n h xs r e = absurd cc
+before-less (Some x) None n h xs r e = absurd cc
+before-less (Some x) (Some q) n h xs r e = omega (arith, h q.0 q.1 refl, ap length (same_rest (x ∷ q.0) xs q.1 r e))
+
+abbrev ending : Bool → List Word → Option (List Sym × List Word)
+ending b ws = cond b (Some ([], ws)) None
+
+ended-less : (k : WordKind) (v : Word) (b : Bool) (ws : List Word) (xs : List Sym) (r : List Word) → ending b ws ≡ Some (xs, r) → length r ≤ length ws
+ended-less k v true ws xs r e = omega (arith, ap length (same_rest [] xs ws r e))
+ended-less k v false ws xs r e = absurd cc
+
+one-less : (k : WordKind) (v : Word) (a b : Bool) (xs : List Sym) (r : List Word) → cond a None (ending b []) ≡ Some (xs, r) → length r ≤ 0
+one-less k v true b xs r e = absurd cc
+one-less k v false b xs r e = ended-less k v b [] xs r e
+
+two-less : (k : WordKind) (v w : Word) (a b : Bool) (ws : List Word) → ((xs : List Sym) (r : List Word) → more_names k ws ≡ Some (xs, r) → length r ≤ length ws)
+    → (xs : List Sym) (r : List Word) → cond a (before_names (variable_of_kind w.kind) (more_names k ws)) (ending b (w ∷ ws)) ≡ Some (xs, r) → length r ≤ suc (length ws)
+two-less k v w true b ws h xs r e = omega (arith, before-less (variable_of_kind w.kind) (more_names k ws) (length ws) h xs r e)
+two-less k v w false b ws h xs r e = ended-less k v b (w ∷ ws) xs r e
+
+more_names-less : (k : WordKind) (ws : List Word) (xs : List Sym) (r : List Word) → more_names k ws ≡ Some (xs, r) → length r ≤ length ws
+more_names-less k [] xs r e = absurd cc
+more_names-less k (v ∷ []) xs r e = omega (arith, one-less k v (is_kind v.kind kind.Comma) (is_kind v.kind k) xs r e)
+more_names-less k (v ∷ w ∷ ws) xs r e = omega (arith, two-less k v w (is_kind v.kind kind.Comma) (is_kind v.kind k) ws (λ ys q f. more_names-less k ws ys q f) xs r e)
+
+names_to-less : (k : WordKind) (ws : List Word) (xs : List Sym) (r : List Word) → names_to k ws ≡ Some (xs, r) → length r ≤ length ws
+names_to-less k [] xs r e = absurd cc
+names_to-less k (w ∷ ws) xs r e = omega (arith, before-less (variable_of_kind w.kind) (more_names k ws) (length ws) (λ ys q f. more_names-less k ws ys q f) xs r e)
+
+pub parameters-less : (s m : Place) (xs : List Sym) → at parameters s ≡ Some (xs, m) → left m ≤ left s
+parameters-less s m xs e = by_bar (word kind.Bar s.rest) refl e
+  where
+    by_bar : (o : Option (Unit {0} × List Word)) → word kind.Bar s.rest ≡ o → placed s.known (behind_bar s.rest o) ≡ Some (xs, m) → left m ≤ left s
+    by_bar None f g = omega (arith, ap left (some_place [] xs s m g))
+    by_bar (Some r) f g =
+        let n : Place = record { known = s.known; rest = r.1 } in
+        let p = placed_some s.known (names_to kind.Bar r.1) xs m g in
+        omega (arith, Steps-word kind.Bar s n r.0 (ap (placed s.known) f), names_to-less kind.Bar r.1 xs m.rest p.0)

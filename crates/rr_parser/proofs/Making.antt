@@ -1,13 +1,12 @@
 -- What the code made, step after step.
-use Rattle.std.proofs.Common.{◌≡◌, ℕ, zero, suc, ◌-◌, ◌<◌, ◌≤◌, ◌==◌, Bool, true, false, cond, List, [], ◌∷◌, ◌++◌, length, get_or, set, map, Option, Some, None, Result, Ok, Err, refl, sym, ap, ◌∙◌, subst, arith, length-append}
+use Rattle.std.proofs.Common.{◌≡◌, ℕ, zero, suc, ◌-◌, ◌<◌, ◌≤◌, ◌==◌, Bool, true, false, cond, List, [], ◌∷◌, ◌++◌, length, get_or, take, map, Option, Some, None, Result, Ok, Err, refl, sym, ap, ◌∙◌, subst, arith, length-append}
 use Rattle.std.specs.Prelude.{All, IfOk}
 use Rattle.std.proofs.lemmas.List.{map-append}
 use Rattle.std.proofs.lemmas.List.Elements.{All-append}
-use Rattle.std.proofs.Math.Dec.{eqb-suc-zero, eqb-zero-suc, eqb-suc-suc}
 use Rattle.rr_base.specs.declared.name.Sym.{Sym}
 use Rattle.rr_tree.specs.declared.node.BinaryOperator.{BinaryOperator}
 use Rattle.rr_tree.specs.declared.node.Node.{Node}
-use Rattle.rr_tree.specs.Tree.{Tree, nil, binary, sequence, listed, choose, repeat, send, index, pair, symbol, tree_at, HasPartsBefore, IsOrdered}
+use Rattle.rr_tree.specs.Tree.{Tree, nil, binary, sequence, listed, choose, repeat, call, send, with_block, block, index, pair, symbol, tree_at, HasPartsBefore, IsOrdered}
 use Rattle.rr_tree.specs.Nodes.{Extends, node_tree}
 use Rattle.rr_tree.proofs.Growth.{IsOrdered-put, tree_at-put, tree_at-kept, Extends-refl, Extends-trans, length-kept}
 use Rattle.std.specs.Borrow.{Bor}
@@ -35,7 +34,7 @@ use Rattle.rr_parser.specs.declared.word.WordKind.{WordKind}
 use Rattle.rr_parser.specs.declared.word.WordKind.TheVariants as kind
 use Rattle.rr_parser.specs.Places.{Known, Place, Look, placed, without_separators, word, at, skip}
 use Rattle.rr_parser.specs.Grammar.Chains.{same, one_of}
-use Rattle.rr_parser.specs.Grammar.Names.{with_local, command}
+use Rattle.rr_parser.specs.Grammar.Names.{with_local, bracket, command}
 use Rattle.rr_parser.specs.Grammar.Operators.{operator}
 use Rattle.rr_parser.specs.Grammar.Calls.{target, with_target, target_tree, operated, signed, assigned_to, label, closing, last}
 use Rattle.rr_parser.specs.Grammar.Control.{thens, loops, chosen, unless_chosen}
@@ -46,11 +45,15 @@ use Rattle.rr_parser.specs.Reading.Calls.{assigned_or, assigned_of, argument_of,
 use Rattle.rr_parser.specs.Reading.Sequences.{expression_of, ends, rows_of, sequence_of, statements_of}
 use Rattle.rr_parser.specs.Reading.Control.{both, branch_of, branches_of, otherwise_of, ended, choice_of, unless_of, loop_of}
 use Rattle.rr_parser.specs.Reading.{part_of, readers_inside, readers_outside, readers}
-use Rattle.rr_parser.specs.Meets.{View, nodes, pairs, lists, Made, Fails, Gives, Appends, Puts, Marks, Aims, known_of, place}
+use Rattle.rr_parser.specs.Meets.{View, nodes, pairs, lists, Made, Fails, Gives, Appends, Puts, Marks, Aims, Enters, Leaves, left_by, ReadsNames, known_of, place}
 use Rattle.rr_parser.specs.declared.variables.Variables.{Variables}
-use Rattle.rr_parser.specs.Variables.{slots_in, known_in}
-use Rattle.rr_parser.specs.Grammar.Operands.{tail}
-use Rattle.rr_parser.specs.Reading.Operands.{primary_of, tailed_of, postfix_of}
+use Rattle.rr_parser.specs.declared.variables.Variable.{Variable}
+use Rattle.rr_parser.specs.declared.variables.Scope.{Scope}
+use Rattle.rr_parser.specs.Variables.{known_in}
+use Rattle.rr_parser.specs.Grammar.Blocks.{inner, with_parameters, parameters, entered, leaving, left_to, block_tree}
+use Rattle.rr_parser.specs.Reading.Blocks.{left_block, block_or, block_of}
+use Rattle.rr_parser.specs.Grammar.Operands.{brace, tail}
+use Rattle.rr_parser.specs.Reading.Operands.{call_of, block_behind, blocked_or, blocked_of, then_blocked, unbracketed_or, variable_or_call, name_or, name_of, primary_of, tailed_of, postfix_of}
 use Rattle.rr_parser.proofs.Shrinking.{ReadersShrink}
 use Rattle.rr_parser.proofs.Trails.{trail_on-ends, trail_on-turn}
 use Rattle.rr_parser.proofs.Looks.{Steps, Steps-tail}
@@ -82,7 +85,7 @@ entry_ok old mid new x a i r lt p h =
     (ap (λ u. pair u (tree_at mid.nodes.items a)) p.tree ∙ ap (pair (symbol x)) (tree_at-kept old.nodes.items mid.nodes.items a p.kept lt)) h
 
 -- an assignment with an operator, whose target was put behind its right side
-pub operation_ok : (old mid new : Parser) (q : Sign) (o : Operation) (x : Target) (n a i : ℕ) (r : Result ℕ Storage) → q ≡ signs.With o → a < length old.nodes.items → Puts old mid (target_tree x n) i
+pub operation_ok : (old mid new : Parser) (q : Sign) (o : Operation) (x : Target) (n : Variable) (a i : ℕ) (r : Result ℕ Storage) → q ≡ signs.With o → a < length old.nodes.items → Puts old mid (target_tree x n) i
     → IfOk r (λ id. Puts mid new (operated o (tree_at mid.nodes.items i) (tree_at mid.nodes.items a)) id) → IfOk r (λ id. Puts old new (signed q x n (tree_at old.nodes.items a)) id)
 operation_ok old mid new q o x n a i r is lt p h =
     over_ok old mid new (operated o (tree_at mid.nodes.items i) (tree_at mid.nodes.items a)) (target_tree x n) (signed q x n (tree_at old.nodes.items a)) i r p
@@ -550,21 +553,21 @@ made_unless N old m1 m2 new c t e id words rest left after m k f p =
 -- ---- assignments
 
 -- the place where a name has become a local variable
-marked_place : (old mid : Parser) (x : Sym) (i : ℕ) (ws : List Word) → Marks old mid x i → place mid ws ≡ with_local x (place old ws)
+marked_place : (old mid : Parser) (x : Sym) (i : Variable) (ws : List Word) → Marks old mid x i → place mid ws ≡ with_local x (place old ws)
 marked_place old mid x i ws m = ap (λ (k : Known). record { known = k; rest = ws }) m.known
 
-aims_variable : (old mid : Parser) (x : Sym) (i : ℕ) → Marks old mid x i → Aims old mid (targets.Variable x) i
-aims_variable old mid x i m = record { nodes = m.nodes; known = λ ws. marked_place old mid x i ws m; slot = λ ws. sym m.slot }
+aims_variable : (old mid : Parser) (x : Sym) (i : Variable) → Marks old mid x i → Aims old mid (targets.Variable x) i
+aims_variable old mid x i m = record { nodes = m.nodes; known = λ ws. marked_place old mid x i ws m; seen = λ ws. sym m.seen }
 
-pub aims_marked : (old mid : Parser) (x : Sym) (t : Target) (r : Result ℕ Storage) → t ≡ targets.Variable x → IfOk r (Marks old mid x) → IfOk r (Aims old mid t)
+pub aims_marked : (old mid : Parser) (x : Sym) (t : Target) (r : Result Variable Storage) → t ≡ targets.Variable x → IfOk r (Marks old mid x) → IfOk r (Aims old mid t)
 aims_marked old mid x t (Ok i) is m = subst (λ (q : Target). Aims old mid q i) (sym is) (aims_variable old mid x i m)
 aims_marked old mid x t (Err d) is m = tt
 
-pub aims_field : (p : Parser) (x : Sym) → Aims p p (targets.Field x) 0
-aims_field p x = record { nodes = refl; known = λ ws. refl; slot = λ ws. refl }
+pub aims_field : (p : Parser) (x : Sym) → Aims p p (targets.Field x) (record { depth = 0; slot = 0 })
+aims_field p x = record { nodes = refl; known = λ ws. refl; seen = λ ws. refl }
 
-pub aims_global : (p : Parser) (x : Sym) → Aims p p (targets.Global x) 0
-aims_global p x = record { nodes = refl; known = λ ws. refl; slot = λ ws. refl }
+pub aims_global : (p : Parser) (x : Sym) → Aims p p (targets.Global x) (record { depth = 0; slot = 0 })
+aims_global p x = record { nodes = refl; known = λ ws. refl; seen = λ ws. refl }
 
 -- reading an assignment where the target is known
 abbrev assigning : Readers → Bool → Aim → Place → Answer Tree
@@ -578,17 +581,17 @@ pub reads_operand : (N : Readers) (b : Bool) (p : Parser) (ws : List Word) → t
 unfolding assigned_of
 reads_operand N b p ws e = ap (assigned_or N b (operand_of N b) (place p ws)) (unseen_at p target ws e)
 
-pub made_assignment : (N : Readers) (b : Bool) (old mid m2 new : Parser) (i a id : ℕ) (x : Aim) (words after rest : List Word) → Aims old mid x.target i → target words ≡ Some (x, after)
+pub made_assignment : (N : Readers) (b : Bool) (old mid m2 new : Parser) (i : Variable) (a id : ℕ) (x : Aim) (words after rest : List Word) → Aims old mid x.target i → target words ≡ Some (x, after)
     → Made nodes mid m2 a rest (N.value b (place mid after)) → Puts m2 new (signed x.sign x.target i (tree_at m2.nodes.items a)) id → Made nodes old new id rest (value_of N b (place old words))
 made_assignment N b old mid m2 new i a id x words after rest k e m p =
-    let made : Made nodes mid new id rest (assigning N b x (place mid after)) = made_over (assigned_to x (place mid after)) m p (ap (λ (n : ℕ). signed x.sign x.target n (tree_at m2.nodes.items a)) (sym (k.slot after))) in
+    let made : Made nodes mid new id rest (assigning N b x (place mid after)) = made_over (assigned_to x (place mid after)) m p (ap (λ (n : Variable). signed x.sign x.target n (tree_at m2.nodes.items a)) (sym (k.seen after))) in
     record {
       there = made.there;
       tree = reads_assignment N b (place old words) (place old after) x (seen_at old target words after x e) ∙ ap (assigning N b x) (sym (k.known after)) ∙ made.tree;
       kept = subst (λ (ns : List Node). Extends ns new.nodes.items) k.nodes made.kept;
     }
 
-pub fails_assignment : (N : Readers) (b : Bool) (old mid : Parser) (i : ℕ) (x : Aim) (words after : List Word) (d : Refusal) → Aims old mid x.target i → target words ≡ Some (x, after)
+pub fails_assignment : (N : Readers) (b : Bool) (old mid : Parser) (i : Variable) (x : Aim) (words after : List Word) (d : Refusal) → Aims old mid x.target i → target words ≡ Some (x, after)
     → Fails d (N.value b (place mid after)) → Fails d (value_of N b (place old words))
 fails_assignment N b old mid i x words after d k e h =
     fails_eq d (value_of N b (place old words)) (assigning N b x (place mid after))
@@ -643,14 +646,129 @@ made_element N old m1 new x l a id words rest is lt m p =
     made_eq (tailed_of N x (tree_at old.nodes.items l) (place old words)) (built (index (tree_at old.nodes.items l)) (N.part parts.Index (place old words))) (ap (λ (y : Tail). tailed_of N y (tree_at old.nodes.items l) (place old words)) is)
     (made_over (index (tree_at old.nodes.items l)) m p (ap (λ (u : Tree). index u (tree_at m1.nodes.items a)) (tree_at-kept old.nodes.items m1.nodes.items l m.kept lt)))
 
--- a call and its arguments
-pub made_send : (N : Readers) (old m1 new : Parser) (y : Tail) (l id : ℕ) (x : Sym) (es fs : List ℕ) (words rest : List Word) → y ≡ tails.Call x → fs ≡ es → l < length old.nodes.items → Made (lists nodes) old m1 es rest (N.bracketed (place old words))
-    → Puts m1 new (send (tree_at m1.nodes.items l) x.0 (listed (map (tree_at m1.nodes.items) fs))) id → Made nodes old new id rest (tailed_of N y (tree_at old.nodes.items l) (place old words))
+-- a call and its arguments, and what stands behind them
+pub gives_sent : (N : Readers) (old m1 m2 new : Parser) (y : Tail) (l id : ℕ) (x : Sym) (es fs : List ℕ) (words rest : List Word) (r : Result (ℕ × Bor (List Word)) Refusal) → y ≡ tails.Call x → fs ≡ es → l < length old.nodes.items
+    → Made (lists nodes) old m1 es rest (N.bracketed (place old words)) → Puts m1 m2 (send (tree_at m1.nodes.items l) x.0 (listed (map (tree_at m1.nodes.items) fs))) id
+    → Gives m2 new r (blocked_of N (tree_at m2.nodes.items id) (place m2 rest)) → Gives old new r (tailed_of N y (tree_at old.nodes.items l) (place old words))
 unfolding tailed_of
-made_send N old m1 new y l id x es fs words rest is same lt m p =
+gives_sent N old m1 m2 new y l id x es fs words rest r is same lt m p g =
     let reads : List Tree → Tree = λ q. send (tree_at old.nodes.items l) x.0 (listed q) in
-    made_eq (tailed_of N y (tree_at old.nodes.items l) (place old words)) (built reads (N.bracketed (place old words))) (ap (λ (z : Tail). tailed_of N z (tree_at old.nodes.items l) (place old words)) is)
-    (made_over reads m p (ap (λ (u : Tree). send u x.0 (listed (map (tree_at m1.nodes.items) fs))) (tree_at-kept old.nodes.items m1.nodes.items l m.kept lt) ∙ ap (λ (q : List ℕ). reads (map (tree_at m1.nodes.items) q)) same))
+    let made : Made nodes old m2 id rest (built reads (N.bracketed (place old words))) =
+    made_over reads m p (ap (λ (u : Tree). send u x.0 (listed (map (tree_at m1.nodes.items) fs))) (tree_at-kept old.nodes.items m1.nodes.items l m.kept lt) ∙ ap (λ (q : List ℕ). reads (map (tree_at m1.nodes.items) q)) same) in
+    subst (λ (z : Tail). Gives old new r (tailed_of N z (tree_at old.nodes.items l) (place old words))) (sym is)
+    (gives_from old m2 new id rest (built reads (N.bracketed (place old words))) (λ c s. blocked_of N c s) r made g)
+
+-- a call without arguments, and what stands behind it
+pub gives_send : (N : Readers) (old m1 new : Parser) (y : Tail) (l id : ℕ) (x : Sym) (words : List Word) (r : Result (ℕ × Bor (List Word)) Refusal) → y ≡ tails.Send x
+    → Puts old m1 (send (tree_at old.nodes.items l) x.0 (listed [])) id → Gives m1 new r (blocked_of N (tree_at m1.nodes.items id) (place m1 words)) → Gives old new r (tailed_of N y (tree_at old.nodes.items l) (place old words))
+unfolding tailed_of
+gives_send N old m1 new y l id x words r is p g =
+    let t = send (tree_at old.nodes.items l) x.0 (listed []) in
+    subst (λ (z : Tail). Gives old new r (tailed_of N z (tree_at old.nodes.items l) (place old words))) (sym is)
+    (gives_from old m1 new id words (Ok (t, place old words)) (λ c s. blocked_of N c s) r (made_put old old m1 id words t (Ok (t, place old words)) refl (Extends-refl old.nodes.items) p) g)
+
+-- a call by a name, and what stands behind its arguments
+pub gives_called : (N : Readers) (old m1 m2 new : Parser) (id : ℕ) (x : Sym) (es fs : List ℕ) (words after rest : List Word) (r : Result (ℕ × Bor (List Word)) Refusal) → fs ≡ es → bracket words ≡ Some (tt, after)
+    → Made (lists nodes) old m1 es rest (N.bracketed (place old after)) → Puts m1 m2 (call x.0 (listed (map (tree_at m1.nodes.items) fs))) id
+    → Gives m2 new r (blocked_of N (tree_at m2.nodes.items id) (place m2 rest)) → Gives old new r (name_of N x (place old words))
+unfolding name_of
+gives_called N old m1 m2 new id x es fs words after rest r same e m p g =
+    let made : Made nodes old m2 id rest (call_of x (N.bracketed (place old after))) = made_over (λ q. call x.0 (listed q)) m p (ap (λ (q : List ℕ). call x.0 (listed (map (tree_at m1.nodes.items) q))) same) in
+    subst (λ (o : Option (Unit {0} × Place)). Gives old new r (name_or N x (place old words) o)) (sym (seen_at old bracket words after tt e))
+    (gives_from old m2 new id rest (call_of x (N.bracketed (place old after))) (λ c s. blocked_of N c s) r made g)
+
+pub fails_called : (N : Readers) (old : Parser) (x : Sym) (words after : List Word) (d : Refusal) → bracket words ≡ Some (tt, after) → Fails d (N.bracketed (place old after)) → Fails d (name_of N x (place old words))
+unfolding name_of
+fails_called N old x words after d e h =
+    fails_eq d (name_of N x (place old words)) (then_blocked N (call_of x (N.bracketed (place old after)))) (ap (name_or N x (place old words)) (seen_at old bracket words after tt e))
+    (fails_bind d (call_of x (N.bracketed (place old after))) (λ c. blocked_of N c.0 c.1) (fails_bind d (N.bracketed (place old after)) (λ l. Ok (call x.0 (listed l.0), l.1)) h))
+
+-- a name without a bracket
+reads_unbracketed : (N : Readers) (old : Parser) (x : Sym) (words : List Word) → bracket words ≡ None → name_of N x (place old words) ≡ unbracketed_or N x (place old words) (at brace (place old words))
+unfolding name_of
+reads_unbracketed N old x words e = ap (name_or N x (place old words)) (unseen_at old bracket words e)
+
+-- a name and a block
+pub gives_alone : (N : Readers) (old m1 new : Parser) (id : ℕ) (x : Sym) (words after : List Word) (r : Result (ℕ × Bor (List Word)) Refusal) → bracket words ≡ None → brace words ≡ Some (tt, after)
+    → Puts old m1 (call x.0 (listed [])) id → Gives m1 new r (block_behind N (tree_at m1.nodes.items id) (place m1 after)) → Gives old new r (name_of N x (place old words))
+gives_alone N old m1 new id x words after r e f p g =
+    let t = call x.0 (listed []) in
+    subst (λ (q : Answer Tree). Gives old new r q) (sym (reads_unbracketed N old x words e ∙ ap (unbracketed_or N x (place old words)) (seen_at old brace words after tt f)))
+    (gives_from old m1 new id after (Ok (t, place old after)) (λ c s. block_behind N c s) r (made_put old old m1 id after t (Ok (t, place old after)) refl (Extends-refl old.nodes.items) p) g)
+
+-- a name alone
+pub gives_plain : (N : Readers) (old new : Parser) (x : Sym) (words : List Word) (r : Result (ℕ × Bor (List Word)) Refusal) → bracket words ≡ None → brace words ≡ None → Gives old new r (variable_or_call x (place old words)) → Gives old new r (name_of N x (place old words))
+gives_plain N old new x words r e f g =
+    subst (λ (q : Answer Tree). Gives old new r q) (sym (reads_unbracketed N old x words e ∙ ap (unbracketed_or N x (place old words)) (unseen_at old brace words f))) g
+
+-- ---- blocks
+
+pub gives_blocked : (N : Readers) (old new : Parser) (c : Tree) (words rest : List Word) (r : Result (ℕ × Bor (List Word)) Refusal) → brace words ≡ Some (tt, rest) → Gives old new r (block_behind N c (place old rest)) → Gives old new r (blocked_of N c (place old words))
+unfolding blocked_of
+gives_blocked N old new c words rest r e g = subst (λ (o : Option (Unit {0} × Place)). Gives old new r (blocked_or N c (place old words) o)) (sym (seen_at old brace words rest tt e)) g
+
+pub made_unblocked : (N : Readers) (old : Parser) (c : ℕ) (words : List Word) → c < length old.nodes.items → brace words ≡ None → Made nodes old old c words (blocked_of N (tree_at old.nodes.items c) (place old words))
+unfolding blocked_of
+made_unblocked N old c words lt e = record { there = lt; tree = ap (blocked_or N (tree_at old.nodes.items c) (place old words)) (unseen_at old brace words e); kept = Extends-refl old.nodes.items }
+
+pub made_behind : (N : Readers) (old m1 new : Parser) (c b id : ℕ) (words rest : List Word) → c < length old.nodes.items → Made nodes old m1 b rest (N.part parts.Block (place old words))
+    → Puts m1 new (with_block (tree_at m1.nodes.items c) (tree_at m1.nodes.items b)) id → Made nodes old new id rest (block_behind N (tree_at old.nodes.items c) (place old words))
+made_behind N old m1 new c b id words rest lt m p = made_over (with_block (tree_at old.nodes.items c)) m p (ap (λ (u : Tree). with_block u (tree_at m1.nodes.items b)) (tree_at-kept old.nodes.items m1.nodes.items c m.kept lt))
+
+module _ (N : Readers) (old s1 : Parser) (xs : List Sym) (k : Scope) (words rest : List Word) (e : parameters words ≡ Some (xs, rest)) (n : Enters old s1 xs k) where
+  entered_place : place s1 rest ≡ entered xs (place old rest)
+  entered_place = ap (λ (q : Known). record { known = q; rest = rest }) n.begins.known
+
+  reads_block : block_of N (place old words) ≡ left_block (place old words) xs (place old rest) (closed kind.CloseBrace (statements_of N (place s1 rest)))
+  unfolding block_of
+  reads_block =
+      ap (block_or N (place old words)) (seen_at old parameters words rest xs e)
+      ∙ ap (λ (q : Place). left_block (place old words) xs (place old rest) (closed kind.CloseBrace (statements_of N q))) (sym entered_place)
+
+  pub fails_block : (d : Refusal) → Fails d (statements_of N (place s1 rest)) → Fails d (block_of N (place old words))
+  fails_block d h =
+      let body = closed kind.CloseBrace (statements_of N (place s1 rest)) in
+      fails_eq d (block_of N (place old words)) (left_block (place old words) xs (place old rest) body) reads_block
+      (fails_bind d body (λ q. Ok (block_tree xs (place old rest) q.1 q.0, leaving (place old words) q.1)) (fails_bind d (statements_of N (place s1 rest)) (λ x. ended_by x.0 (at (word kind.CloseBrace) x.1)) h))
+
+  module _ (s2 : Parser) (t : ℕ) (left : List Word) (m : Made nodes s1 s2 t left (statements_of N (place s1 rest))) where
+    pub wrong_block : word kind.CloseBrace left ≡ None → block_of N (place old words) ≡ Err wrong
+    wrong_block c =
+        reads_block
+        ∙ ap (left_block (place old words) xs (place old rest)) (closed_wrong s2 kind.CloseBrace left (tree_at s2.nodes.items t) (statements_of N (place s1 rest)) m.tree c)
+
+    left_known : (s3 : Parser) → Leaves s2 s3 k → known_of s3 ≡ left_to (known_of old) (known_of s2)
+    left_known s3 l =
+        l.known
+        ∙ ap (λ (q : ℕ). record { locals = take q (known_of s2).locals; level = k.level; count = k.count; begun = (known_of s2).begun }) n.begins.locals
+        ∙ ap (λ (q : ℕ). record { locals = take (length (known_of old).locals) (known_of s2).locals; level = q; count = k.count; begun = (known_of s2).begun }) n.begins.level
+        ∙ ap (λ (q : ℕ). record { locals = take (length (known_of old).locals) (known_of s2).locals; level = (known_of old).level; count = q; begun = (known_of s2).begun }) n.begins.count
+
+    left_tree : (s3 : Parser) (size : ℕ) → Leaves s2 s3 k → size ≡ (known_of s2).count → (after : List Word)
+        → block_tree xs (place old rest) (place s2 after) (tree_at s2.nodes.items t) ≡ block k.number k.parameters size (tree_at s3.nodes.items t)
+    left_tree s3 size l is after =
+        ap (λ (q : Known). block q.begun (length xs) (known_of s2).count (tree_at s2.nodes.items t)) (sym n.begins.known)
+        ∙ ap (λ (q : ℕ). block q (length xs) (known_of s2).count (tree_at s2.nodes.items t)) (sym n.begins.number)
+        ∙ ap (λ (q : ℕ). block k.number q (known_of s2).count (tree_at s2.nodes.items t)) (sym n.begins.parameters)
+        ∙ ap (λ (q : ℕ). block k.number k.parameters q (tree_at s2.nodes.items t)) (sym is)
+        ∙ ap (λ (ns : List Node). block k.number k.parameters size (tree_at ns t)) (sym l.nodes)
+
+    pub made_block : (s3 new : Parser) (size id : ℕ) (after : List Word) → word kind.CloseBrace left ≡ Some (tt, after) → size ≡ (known_of s2).count → Leaves s2 s3 k
+        → Puts s3 new (block k.number k.parameters size (tree_at s3.nodes.items t)) id → Made nodes old new id after (block_of N (place old words))
+    made_block s3 new size id after c is l p =
+        made_put old s3 new id after (block k.number k.parameters size (tree_at s3.nodes.items t)) (block_of N (place old words))
+        (reads_block
+        ∙ ap (left_block (place old words) xs (place old rest)) (closed_tree s2 kind.CloseBrace left after (tree_at s2.nodes.items t) (statements_of N (place s1 rest)) m.tree c)
+        ∙ ap (λ (u : Tree). Ok (u, leaving (place old words) (place s2 after))) (left_tree s3 size l is after)
+        ∙ ap (λ (q : Known). Ok (block k.number k.parameters size (tree_at s3.nodes.items t), record { known = q; rest = after })) (sym (left_known s3 l)))
+        (subst (λ (ns : List Node). Extends old.nodes.items ns) (sym l.nodes) (subst (λ (ns : List Node). Extends ns s2.nodes.items) n.nodes m.kept)) p
+
+pub fails_parameters : (N : Readers) (old : Parser) (words : List Word) (d : Refusal) → ReadsNames (Err d) (parameters words) → Fails d (block_of N (place old words))
+unfolding block_of
+fails_parameters N old words (refusal.Storage s) h = tt
+fails_parameters N old words refusal.Nesting h = absurd h
+fails_parameters N old words (refusal.Unexpected n) h = ap (block_or N (place old words)) (unseen_at old parameters words h)
+fails_parameters N old words (refusal.Number n) h = absurd h
 
 -- a key, its arrow and its value
 pub made_arrow : (N : Readers) (old m1 m2 new : Parser) (a b id : ℕ) (words rest after left : List Word) → label words ≡ None → Made nodes old m1 a rest (argument_of N (place old words))
@@ -755,31 +873,3 @@ reads_statements N s e = ap (λ b. cond b (Ok (sequence (listed []), skip s)) (s
 pub ordered_pushed : (b : Bool) (ns new : List Node) (n : Node) → new ≡ cond b (ns ++ n ∷ []) ns → IsOrdered ns → HasPartsBefore (length ns) n → IsOrdered new
 ordered_pushed true ns new n e ordered h = subst IsOrdered (sym e) (IsOrdered-put ns n ordered h)
 ordered_pushed false ns new n e ordered h = subst IsOrdered (sym e) ordered
-
--- ---- names
-
-more_none : (ks : List (Option ℕ)) (y : ℕ) → slots_in (ks ++ None ∷ []) y ≡ slots_in ks y
-more_none [] zero = refl
-more_none [] (suc y) = refl
-more_none (k ∷ ks) zero = refl
-more_none (k ∷ ks) (suc y) = more_none ks y
-
-pub pushed_none : (ks new : List (Option ℕ)) (y : ℕ) → new ≡ ks ++ None ∷ [] → slots_in new y ≡ slots_in ks y
-pushed_none ks new y e = ap (λ (l : List (Option ℕ)). slots_in l y) e ∙ more_none ks y
-
--- a name gets a number
-set_some : (ks : List (Option ℕ)) (p n y : ℕ) → p < length ks → slots_in (set ks p (Some n)) y ≡ cond (y == p) (Some n) (slots_in ks y)
-set_some [] p n y lt = let never : ⊥ = omega arith in absurd never
-set_some (k ∷ ks) zero n zero lt = refl
-set_some (k ∷ ks) zero n (suc y) lt = sym (ap (λ b. cond b (Some n) (slots_in ks y)) (eqb-suc-zero y))
-set_some (k ∷ ks) (suc p) n zero lt = sym (ap (λ b. cond b (Some n) k) (eqb-zero-suc p))
-set_some (k ∷ ks) (suc p) n (suc y) lt = set_some ks p n y (omega arith) ∙ sym (ap (λ b. cond b (Some n) (slots_in ks y)) (eqb-suc-suc y p))
-
--- what is known where a name that is no variable has become one
-pub known_set : (old mid : List (Option ℕ)) (p n : ℕ) → p < length mid → ((y : ℕ) → slots_in mid y ≡ slots_in old y) → (y : ℕ) → slots_in (set mid p (Some n)) y ≡ cond (y == p) (Some n) (slots_in old y)
-known_set old mid p n lt same y = set_some mid p n y lt ∙ ap (cond (y == p) (Some n)) (same y)
-
-pub slot_set : (ks : List (Option ℕ)) (p n : ℕ) → p < length ks → slots_in (set ks p (Some n)) p ≡ Some n
-slot_set [] p n lt = let never : ⊥ = omega arith in absurd never
-slot_set (k ∷ ks) zero n lt = refl
-slot_set (k ∷ ks) (suc p) n lt = slot_set ks p n (omega arith)

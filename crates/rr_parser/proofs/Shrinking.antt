@@ -1,6 +1,6 @@
 -- What is spelled takes no words back, and so reading takes none back.
-use Rattle.std.proofs.Common.{ℕ, zero, suc, Bool, true, false, arith, ◌≤◌}
-use Rattle.rr_tree.specs.Tree.{binary}
+use Rattle.std.proofs.Common.{ℕ, zero, suc, [], Bool, true, false, arith, ◌≤◌}
+use Rattle.rr_tree.specs.Tree.{binary, call, send, listed}
 use Rattle.rr_parser.specs.declared.word.Tail.{Tail}
 use Rattle.rr_parser.specs.declared.word.Target.{Target}
 use Rattle.rr_parser.specs.declared.word.Listed.{Listed}
@@ -13,11 +13,12 @@ use Rattle.rr_tree.specs.Tree.{Tree}
 use Rattle.rr_parser.specs.Grammar.Chains.{same, one_of, and_one}
 use Rattle.rr_parser.specs.Grammar.Nesting.{Nested}
 use Rattle.rr_parser.specs.Grammar.Names.{name, bracket}
-use Rattle.rr_parser.specs.Grammar.Operands.{joined, Primary, a_literal, a_negative, a_local, a_bare_call, a_call, a_construct, tail, Tailed, a_send, a_sent_call, an_index, Postfix, Bang, a_bang, no_bang, Minus, a_minus, no_minus}
+use Rattle.rr_parser.specs.Grammar.Operands.{joined, brace, Blocked, no_block, a_block, Primary, a_literal, a_negative, a_local, a_bare_call, a_call, a_block_call, a_construct, tail, Tailed, a_send, a_sent_call, an_index, Postfix, Bang, a_bang, no_bang, Minus, a_minus, no_minus}
 use Rattle.rr_parser.specs.Grammar.Operators.{operator, connective, joined_by, Logical, Binary, Equality, a_comparison, a_pair, Ternary, no_question, a_question}
 use Rattle.rr_parser.specs.Grammar.Calls.{with_target, label, comma, Assigned, an_assignment, no_assignment, Argument, Pair, by_label, by_arrow, Member, Members, Bracketed, no_members, some_members, Array, an_array, Hash, a_hash, Index, of_element, Commanded, by_arguments, by_command, Command, a_command, Phrase, by_name, an_operand, Operand, Value}
 use Rattle.rr_parser.specs.Grammar.Sequences.{Negation, a_negation, no_negation, Expression, modifier, modified, Statement, Rows, Statements, no_statements, some_statements, Group, a_group}
 use Rattle.rr_parser.specs.Grammar.Control.{elsif, Branch, a_branch, Branches, Otherwise, no_else, an_else, Choice, a_choice, Unless, an_unless, Loop, a_loop}
+use Rattle.rr_parser.specs.Grammar.Blocks.{entered, Block, of_statements}
 use Rattle.rr_parser.specs.Grammar.{PartOf, inside, outside}
 use Rattle.rr_parser.specs.Reading.Nesting.{Readers}
 use Rattle.rr_parser.specs.Reading.Operators.{binary_of, logical_of}
@@ -25,7 +26,7 @@ use Rattle.rr_parser.specs.Reading.Calls.{argument_of, member_of}
 use Rattle.rr_parser.specs.Reading.Sequences.{negation_of, expression_of, statement_of}
 use Rattle.rr_parser.specs.Reading.Control.{branch_of}
 use Rattle.rr_parser.specs.Reading.{readers}
-use Rattle.rr_parser.proofs.Looks.{Steps, Steps-first_as, Steps-word, Steps-separators, Steps-thens, Steps-loops, Steps-target, Steps-tail, Steps-last, Steps-closing, command-next, next-left, left, left-without_separators}
+use Rattle.rr_parser.proofs.Looks.{Steps, Steps-first_as, Steps-word, Steps-separators, Steps-thens, Steps-loops, Steps-target, Steps-tail, Steps-last, Steps-closing, parameters-less, command-next, next-left, left, left-without_separators}
 use Rattle.rr_parser.specs.declared.word.Target.TheVariants as targets
 use Rattle.rr_parser.specs.Reading.Operands.{tailed_of}
 use Rattle.rr_parser.proofs.Trails.{trail_shrinking}
@@ -42,6 +43,9 @@ Steps-joined = Steps-first_as _
 
 pub Steps-name : Steps name
 Steps-name = Steps-first_as _
+
+pub Steps-brace : Steps brace
+Steps-brace = Steps-word kind.OpenBrace
 
 pub Steps-bracket : Steps bracket
 Steps-bracket = Steps-first_as _
@@ -65,17 +69,22 @@ pub Steps-elsif : Steps elsif
 Steps-elsif = Steps-word kind.Elsif
 
 module _ (R : Nested) (nests : NestedShrinking R) where
+  blocked_shrinking : (c : Tree) → IsShrinking (Blocked R c)
+  blocked_shrinking c s z t (no_block e) = omega arith
+  blocked_shrinking c s z t (a_block {m = m} {u = u} {b = b} e h) = omega (arith, Steps-brace s m u e, nests.part parts.Block m z b h)
+
   primary_shrinking : IsShrinking (Primary R)
   primary_shrinking s z t (a_literal {k = k} e f) = omega (arith, next-left s z k e)
   primary_shrinking s z t (a_negative {m = m} {n = n} e f g) = omega (arith, next-left s m kind.Minus e, Steps-joined m z n f)
-  primary_shrinking s z t (a_local {x = x} e f g) = omega (arith, Steps-name s z x e)
-  primary_shrinking s z t (a_bare_call {x = x} e f g h) = omega (arith, Steps-name s z x e)
-  primary_shrinking s z t (a_call {m = m} {n = n} {x = x} {u = u} {l = l} e f h) = omega (arith, Steps-name s m x e, Steps-bracket m n u f, nests.bracketed n z l h)
+  primary_shrinking s z t (a_local {x = x} e f b g) = omega (arith, Steps-name s z x e)
+  primary_shrinking s z t (a_bare_call {x = x} e f b g h) = omega (arith, Steps-name s z x e)
+  primary_shrinking s z t (a_call {m = m} {n = n} {o = o} {x = x} {u = u} {l = l} e f h b) = omega (arith, Steps-name s m x e, Steps-bracket m n u f, nests.bracketed n o l h, blocked_shrinking (call x.0 (listed l)) o z t b)
+  primary_shrinking s z t (a_block_call {m = m} {n = n} {x = x} {u = u} {b = b} e f g h) = omega (arith, Steps-name s m x e, Steps-brace m n u g, nests.part parts.Block n z b h)
   primary_shrinking s z t (a_construct {m = m} {k = k} {p = p} e f h) = omega (arith, next-left s m k e, nests.part p m z t h)
 
   tailed_shrinking : (x : Tail) (l : Tree) (n z : Place) (t : Tree) → Tailed R x l n t z → left z ≤ left n
-  tailed_shrinking x l n z t a_send = omega arith
-  tailed_shrinking x l n z t (a_sent_call {l = a} h) = nests.bracketed n z a h
+  tailed_shrinking x l n z t (a_send {x = y} h) = blocked_shrinking (send l y.0 (listed [])) n z t h
+  tailed_shrinking x l n z t (a_sent_call {m = m} {x = y} {l = a} h b) = omega (arith, nests.bracketed n m a h, blocked_shrinking (send l y.0 (listed a)) m z t b)
   tailed_shrinking x l n z t (an_index {i = i} h) = nests.part parts.Index n z i h
 
   postfix_shrinking : IsShrinking (Postfix R)
@@ -202,6 +211,9 @@ module _ (R : Nested) (nests : NestedShrinking R) where
   loop_shrinking until s z t (a_loop {m = m} {n = n} {o = o} {c = c} {t = b} {u = u} h e i f) =
       omega (arith, expression_shrinking s m c h, Steps-loops m n u e, statements_shrinking n o b i, next-left o z kind.End f)
 
+  block_shrinking : IsShrinking (Block R)
+  block_shrinking s z t (of_statements {m = m} {n = n} {z = y} {xs = xs} {t = b} e h f) = omega (arith, parameters-less s m xs e, statements_shrinking (entered xs m) n b h, next-left n y kind.CloseBrace f)
+
   part_shrinking : (p : Part) → IsShrinking (PartOf R p)
   part_shrinking parts.Group = group_shrinking
   part_shrinking parts.Array = array_shrinking
@@ -215,6 +227,7 @@ module _ (R : Nested) (nests : NestedShrinking R) where
   part_shrinking parts.Not = negation_shrinking
   part_shrinking parts.Command = command_shrinking
   part_shrinking parts.Branch = argument_shrinking
+  part_shrinking parts.Block = block_shrinking
 
 shrinking_inside : (d : ℕ) → NestedShrinking (inside d)
 unfolding inside

@@ -2,7 +2,7 @@
 use Rattle.std.proofs.Common.{◌≡◌, ℕ, zero, suc, pos, Bool, true, false, cond, List, [], ◌∷◌, Option, Some, None, Ok, Err, refl, sym, subst, ap}
 use Rattle.rr_base.specs.declared.name.Sym.{Sym}
 use Rattle.rr_tree.specs.declared.node.BinaryOperator.{BinaryOperator}
-use Rattle.rr_tree.specs.Tree.{Tree, nil, int, local, bare, call, negate, binary, sequence, choose, repeat, send, index, array, hash, pair, symbol, logical_not, listed}
+use Rattle.rr_tree.specs.Tree.{Tree, nil, int, bare, call, with_block, negate, binary, sequence, choose, repeat, send, index, array, hash, pair, symbol, logical_not, listed}
 use Rattle.rr_parser.specs.declared.word.Tail.{Tail}
 use Rattle.rr_parser.specs.declared.word.Tail.TheVariants as tails
 use Rattle.rr_parser.specs.declared.word.Aim.{Aim}
@@ -16,22 +16,24 @@ use Rattle.rr_parser.specs.declared.word.Word.{Word}
 use Rattle.rr_parser.specs.Places.{Place, word, at, next, skip, separators, start}
 use Rattle.rr_parser.specs.Grammar.Chains.{one, same, one_of, and_one}
 use Rattle.rr_parser.specs.Grammar.Nesting.{Nested}
-use Rattle.rr_parser.specs.Grammar.Names.{is_local, slot_of, name, bracket, begins_operands, command}
-use Rattle.rr_parser.specs.Grammar.Operands.{fits, fits_below, negated, joined, literal_of, construct_of, Primary, a_literal, a_negative, a_local, a_bare_call, a_call, a_construct, tail, Tailed, a_send, a_sent_call, an_index, Postfix, Bang, a_bang, no_bang, Minus, a_minus, no_minus}
+use Rattle.rr_parser.specs.Grammar.Names.{is_local, variable_of, local_tree, name, bracket, begins_operands, command}
+use Rattle.rr_parser.specs.Grammar.Operands.{fits, fits_below, negated, joined, literal_of, construct_of, brace, Blocked, no_block, a_block, Primary, a_literal, a_negative, a_local, a_bare_call, a_call, a_block_call, a_construct, tail, Tailed, a_send, a_sent_call, an_index, Postfix, Bang, a_bang, no_bang, Minus, a_minus, no_minus}
 use Rattle.rr_parser.specs.Grammar.Operators.{operator, Binary, Equality, a_comparison, a_pair, connective, joined_by, Logical, Ternary, no_question, a_question}
 use Rattle.rr_parser.specs.Grammar.Calls.{target, with_target, assigned_to, label, comma, closing, last, Assigned, an_assignment, no_assignment, Argument, Pair, by_label, by_arrow, Member, Members, Bracketed, no_members, some_members, Array, an_array, Hash, a_hash, Index, of_element, Commanded, by_arguments, by_command, Command, a_command, Phrase, by_name, an_operand, Operand, Value}
 use Rattle.rr_parser.specs.Grammar.Sequences.{Negation, a_negation, no_negation, Expression, modifier, modified, Statement, Rows, Statements, no_statements, some_statements, Group, a_group}
 use Rattle.rr_parser.specs.Grammar.Control.{thens, loops, elsif, chosen, unless_chosen, Branch, a_branch, Branches, Otherwise, no_else, an_else, Choice, a_choice, Unless, an_unless, Loop, a_loop}
+use Rattle.rr_parser.specs.Grammar.Blocks.{parameters, entered, leaving, block_tree, Block, of_statements}
 use Rattle.rr_parser.specs.Grammar.{PartOf, inside, outside, WordsSpell}
 use Rattle.rr_parser.specs.Reading.Answers.{wrong, Answer, Parse, built, closed, across, chain_on, trail_on, ended_by}
 use Rattle.rr_parser.specs.Reading.Nesting.{Readers}
-use Rattle.rr_parser.specs.Reading.Operands.{call_of, bare_call, name_or, name_of, int_at, negative_in, negative_of, begun, primary_at, primary_in, primary_of, tailed_of, postfix_of, bang_or, bang_of, prefix_minus, minus_or, minus_of}
+use Rattle.rr_parser.specs.Reading.Operands.{call_of, bare_call, block_behind, blocked_or, blocked_of, then_blocked, unbracketed_or, name_or, name_of, int_at, negative_in, negative_of, begun, primary_at, primary_in, primary_of, tailed_of, postfix_of, bang_or, bang_of, prefix_minus, minus_or, minus_of}
 use Rattle.rr_parser.specs.Reading.Operators.{binary_on, binary_of, pair_or, equality_on, logical_on, logical_of, question_or, ternary_on, ternary_of}
 use Rattle.rr_parser.specs.Reading.Calls.{assigned_or, assigned_of, argument_of, pair_by, pair_of, member_of, another, members_of, bracketed_or, bracketed_of, array_of, hash_of, index_of, commanded_or, commanded_of, command_or, command_of, phrase_or, phrase_of, operand_of, value_of}
 use Rattle.rr_parser.specs.Reading.Sequences.{negation_or, negation_of, expression_of, statement_of, ends, row, rows_of, sequence_of, statements_of, group_of}
 use Rattle.rr_parser.specs.Reading.Control.{both, branch_of, branches_of, otherwise_or, otherwise_of, choice_of, unless_of, loop_of}
+use Rattle.rr_parser.specs.Reading.Blocks.{left_block, block_or, block_of}
 use Rattle.rr_parser.specs.Reading.{part_of, readers_inside, readers_outside, readers, whole_of, program_of}
-use Rattle.rr_parser.proofs.Told.{told_close, told_else, told_end, told_bang, told_not, told_question, told_colon, told_arrow, told_close_square}
+use Rattle.rr_parser.proofs.Told.{told_close, told_else, told_end, told_bang, told_not, told_question, told_colon, told_arrow, told_close_square, told_close_brace}
 use Rattle.rr_parser.proofs.Looks.{word-next, another-comma, next-name, row-separators, prefix-next}
 use Rattle.rr_parser.proofs.Trails.{trail_sound}
 use Rattle.rr_parser.proofs.Chains.{bind_ok, built_ok, done, ok_place, ok_what, closed_ok, at_answer, across_ok, IsSound, IsSoundOn, from_sound, chain_on-sound, chain_sound}
@@ -67,23 +69,46 @@ module _ (N : Readers) (R : Nested) (nests : NestedSound N R) where
   unfolding negative_of
   negative_sound s m z t f e = negative_in-sound s m (at joined m) z t f refl e
 
-  bare_sound : (s m : Place) (x : Sym) (d : Bool) (z : Place) (t : Tree) → at name s ≡ Some (x, m) → at bracket m ≡ None → is_local x m ≡ false → begins_operands m.rest ≡ d
+  bare_sound : (s m : Place) (x : Sym) (d : Bool) (z : Place) (t : Tree) → at name s ≡ Some (x, m) → at bracket m ≡ None → at brace m ≡ None → is_local x m ≡ false → begins_operands m.rest ≡ d
       → cond d (Err wrong) (done (bare x.0) m) ≡ done t z → Primary R s t z
-  bare_sound s m x true z t f o l g e = absurd cc
-  bare_sound s m x false z t f o l g e = at_answer (Primary R s) (bare x.0) t m z e (a_bare_call f o l g)
+  bare_sound s m x true z t f o b l g e = absurd cc
+  bare_sound s m x false z t f o b l g e = at_answer (Primary R s) (bare x.0) t m z e (a_bare_call f o b l g)
 
-  plain_sound : (s m : Place) (x : Sym) (b : Bool) (z : Place) (t : Tree) → at name s ≡ Some (x, m) → at bracket m ≡ None → is_local x m ≡ b
-      → cond b (done (local 0 (slot_of x m) x.0) m) (bare_call x m) ≡ done t z → Primary R s t z
-  plain_sound s m x true z t f o l e = at_answer (Primary R s) (local 0 (slot_of x m) x.0) t m z e (a_local f o l)
-  plain_sound s m x false z t f o l e = bare_sound s m x (begins_operands m.rest) z t f o l refl e
+  plain_sound : (s m : Place) (x : Sym) (b : Bool) (z : Place) (t : Tree) → at name s ≡ Some (x, m) → at bracket m ≡ None → at brace m ≡ None → is_local x m ≡ b
+      → cond b (done (local_tree x (variable_of x m)) m) (bare_call x m) ≡ done t z → Primary R s t z
+  plain_sound s m x true z t f o b l e = at_answer (Primary R s) (local_tree x (variable_of x m)) t m z e (a_local f o b l)
+  plain_sound s m x false z t f o b l e = bare_sound s m x (begins_operands m.rest) z t f o b l refl e
 
-  call_sound : (s m n : Place) (x : Sym) (u : Unit {0}) (z : Place) (t : Tree) → at name s ≡ Some (x, m) → at bracket m ≡ Some (u, n) → call_of x (N.bracketed n) ≡ Ok (t, z) → Primary R s t z
+  blocked_or-sound : (c : Tree) (s : Place) (o : Option (Unit {0} × Place)) (z : Place) (t : Tree) → at brace s ≡ o → blocked_or N c s o ≡ Ok (t, z) → Blocked R c s t z
+  blocked_or-sound c s None z t f e = at_answer (Blocked R c s) c t s z e (no_block f)
+  blocked_or-sound c s (Some m) z t f e =
+      let b = built_ok (with_block c) (N.part parts.Block m.1) t z e in
+      subst (λ (q : Tree). Blocked R c s q z) (sym b.2) (a_block {u = m.0} f (nests.part parts.Block m.1 z b.0 b.1))
+
+  pub blocked_sound : (c : Tree) → IsSound (blocked_of N c) (Blocked R c)
+  unfolding blocked_of
+  blocked_sound c s z t e = blocked_or-sound c s (at brace s) z t refl e
+
+  -- arguments of a call, and its block
+  pub arguments_sound : (f : List Tree → Tree) (n z : Place) (t : Tree) → then_blocked N (built f (N.bracketed n)) ≡ Ok (t, z) → (l : List Tree) × (o : Place) × R.bracketed n l o × Blocked R (f l) o t z
+  arguments_sound f n z t e =
+      let c = bind_ok (built f (N.bracketed n)) (λ c. blocked_of N c.0 c.1) (t, z) e in
+      let b = built_ok f (N.bracketed n) c.0.0 c.0.1 c.1 in
+      (b.0, c.0.1, nests.bracketed n c.0.1 b.0 b.1, subst (λ (q : Tree). Blocked R q c.0.1 t z) b.2 (blocked_sound c.0.0 c.0.1 z t c.2))
+
+  call_sound : (s m n : Place) (x : Sym) (u : Unit {0}) (z : Place) (t : Tree) → at name s ≡ Some (x, m) → at bracket m ≡ Some (u, n) → then_blocked N (call_of x (N.bracketed n)) ≡ Ok (t, z) → Primary R s t z
   call_sound s m n x u z t f o e =
-      let b = built_ok (λ l. call x.0 (listed l)) (N.bracketed n) t z e in
-      subst (λ (q : Tree). Primary R s q z) (sym b.2) (a_call f o (nests.bracketed n z b.0 b.1))
+      let a = arguments_sound (λ l. call x.0 (listed l)) n z t e in
+      a_call {u = u} f o a.2 a.3
+
+  unbracketed_or-sound : (s m : Place) (x : Sym) (o : Option (Unit {0} × Place)) (z : Place) (t : Tree) → at name s ≡ Some (x, m) → at bracket m ≡ None → at brace m ≡ o → unbracketed_or N x m o ≡ Ok (t, z) → Primary R s t z
+  unbracketed_or-sound s m x None z t f g h e = plain_sound s m x (is_local x m) z t f g h refl e
+  unbracketed_or-sound s m x (Some n) z t f g h e =
+      let b = built_ok (with_block (call x.0 (listed []))) (N.part parts.Block n.1) t z e in
+      subst (λ (q : Tree). Primary R s q z) (sym b.2) (a_block_call {u = n.0} f g h (nests.part parts.Block n.1 z b.0 b.1))
 
   name_or-sound : (s m : Place) (x : Sym) (o : Option (Unit {0} × Place)) (z : Place) (t : Tree) → at name s ≡ Some (x, m) → at bracket m ≡ o → name_or N x m o ≡ Ok (t, z) → Primary R s t z
-  name_or-sound s m x None z t f g e = plain_sound s m x (is_local x m) z t f g refl e
+  name_or-sound s m x None z t f g e = unbracketed_or-sound s m x (at brace m) z t f g refl e
   name_or-sound s m x (Some b) z t f g e = call_sound s m b.1 x b.0 z t f g e
 
   name_sound : (s m : Place) (x : Sym) (z : Place) (t : Tree) → at name s ≡ Some (x, m) → name_of N x m ≡ Ok (t, z) → Primary R s t z
@@ -111,10 +136,8 @@ module _ (N : Readers) (R : Nested) (nests : NestedSound N R) where
 
   pub tailed_sound : (x : Tail) (l : Tree) (n z : Place) (t : Tree) → tailed_of N x l n ≡ Ok (t, z) → Tailed R x l n t z
   unfolding tailed_of
-  tailed_sound (tails.Send x) l n z t e = at_answer (Tailed R (tails.Send x) l n) (send l x.0 (listed [])) t n z e a_send
-  tailed_sound (tails.Call x) l n z t e =
-      let b = built_ok (λ q. send l x.0 (listed q)) (N.bracketed n) t z e in
-      subst (λ (q : Tree). Tailed R (tails.Call x) l n q z) (sym b.2) (a_sent_call (nests.bracketed n z b.0 b.1))
+  tailed_sound (tails.Send x) l n z t e = a_send (blocked_sound (send l x.0 (listed [])) n z t e)
+  tailed_sound (tails.Call x) l n z t e = let a = arguments_sound (λ q. send l x.0 (listed q)) n z t e in a_sent_call a.2 a.3
   tailed_sound tails.Index l n z t e =
       let b = built_ok (index l) (N.part parts.Index n) t z e in
       subst (λ (q : Tree). Tailed R tails.Index l n q z) (sym b.2) (an_index (nests.part parts.Index n z b.0 b.1))
@@ -381,6 +404,20 @@ module _ (N : Readers) (R : Nested) (nests : NestedSound N R) where
       let a = across_ok (repeat until) loops (statements_of N) (expression_of N s) d.0 t d.1 in
       subst (λ (q : Tree). Loop R until s q z) (sym a.tree) (a_loop {u = a.u} (expression_sound s a.m a.a a.former) a.seen (statements_sound a.n d.0 a.b a.latter) d.2)
 
+  left_sound : (s : Place) (xs : List Sym) (m z : Place) (t : Tree) → at parameters s ≡ Some (xs, m) → left_block s xs m (closed kind.CloseBrace (statements_of N (entered xs m))) ≡ Ok (t, z) → Block R s t z
+  left_sound s xs m z t f e =
+      let b = bind_ok (closed kind.CloseBrace (statements_of N (entered xs m))) (λ q. Ok (block_tree xs m q.1 q.0, leaving s q.1)) (t, z) e in
+      let c = closed_ok kind.CloseBrace told_close_brace (statements_of N (entered xs m)) b.0.1 b.0.0 b.1 in
+      at_answer (Block R s) (block_tree xs m b.0.1 b.0.0) t (leaving s b.0.1) z b.2 (of_statements f (statements_sound (entered xs m) c.0 b.0.0 c.1) c.2)
+
+  block_or-sound : (s : Place) (o : Option (List Sym × Place)) (z : Place) (t : Tree) → at parameters s ≡ o → block_or N s o ≡ Ok (t, z) → Block R s t z
+  block_or-sound s None z t f e = absurd cc
+  block_or-sound s (Some x) z t f e = left_sound s x.0 x.1 z t f e
+
+  block_sound : IsSound (block_of N) (Block R)
+  unfolding block_of
+  block_sound s z t e = block_or-sound s (at parameters s) z t refl e
+
   pub part_sound : (p : Part) → IsSound (part_of N p) (PartOf R p)
   part_sound parts.Group = group_sound
   part_sound parts.Array = array_sound
@@ -394,6 +431,7 @@ module _ (N : Readers) (R : Nested) (nests : NestedSound N R) where
   part_sound parts.Not = negation_sound
   part_sound parts.Command = command_sound
   part_sound parts.Branch = argument_sound
+  part_sound parts.Block = block_sound
 
 pub sound_inside : (d : ℕ) → NestedSound (readers_inside d) (inside d)
 unfolding readers_inside inside

@@ -22,14 +22,14 @@ use Rattle.rr_parser.specs.Places.{Known, Place, Look, first_as, seen_before, un
 use Rattle.rr_parser.specs.Grammar.Chains.{Chain, one, more, at_first, and_then, same}
 use Rattle.rr_parser.specs.Grammar.Nesting.{Nested}
 use Rattle.rr_parser.specs.Grammar.Names.{is_local, name, bracket, is_tight, begins_operand, begins_operands, begins_command, command}
-use Rattle.rr_parser.specs.Grammar.Operands.{joined, literal_of, construct_of, Primary, a_literal, a_negative, a_local, a_bare_call, a_call, a_construct, tail, Postfix, Bang, a_bang, no_bang, Minus, a_minus, no_minus}
+use Rattle.rr_parser.specs.Grammar.Operands.{joined, literal_of, construct_of, brace, Primary, a_literal, a_negative, a_local, a_bare_call, a_call, a_block_call, a_construct, tail, Postfix, Bang, a_bang, no_bang, Minus, a_minus, no_minus}
 use Rattle.rr_parser.specs.Grammar.Operators.{level_of, at_level, operator_of, operator, where_level, connective_of, connective, joined_by, Binary, a_comparison, a_pair, Logical, Ternary, no_question, a_question}
 use Rattle.rr_parser.specs.Grammar.Calls.{target, comma, Assigned, an_assignment, no_assignment, Argument, a_command, Phrase, by_name, an_operand, Value, closing, target_of_kind, label, Member, label_of_kind, last, by_label, by_arrow}
 use Rattle.rr_parser.specs.Grammar.Sequences.{Negation, a_negation, no_negation, Expression, modifier_of, modifier, Statement, modified}
 use Rattle.rr_parser.specs.Grammar.Control.{thens, loops, elsif}
 use Rattle.rr_parser.specs.Reading.Operands.{prefix_minus}
 use Rattle.rr_parser.specs.Reading.Sequences.{ends_at, ends, row}
-use Rattle.rr_parser.proofs.Told.{Told, told_comma, told_elsif}
+use Rattle.rr_parser.proofs.Told.{Told, told_comma, told_elsif, told_open_brace}
 use Rattle.rr_parser.proofs.Looks.{closes, ends_member, is_tail, closing-next, last-next, tail-next, seen, some_what, some_place, seen_as, none_unless, by_next, one_kind, one_place, word-next, other-word, name-next, next-name, separators-next, no_row, no_prefix, next-separators, thens-next, loops-next, target-next, command-next}
 
 -- How loosely a word goes on with what stands before it: what follows an operand first, then the operators, then the conditions, `?`, the sign of an
@@ -277,12 +277,21 @@ bracket_not_assign z n o u sign e f =
     let g : false ≡ true = ap (λ q. is_kind q kind.Open) (sym k) ∙ t in
     let never : ⊥ = cc in never
 
+brace_no_operands : (z n : Place) (u : Unit {0}) → at brace z ≡ Some (u, n) → begins_operands z.rest ≡ false
+brace_no_operands z n u e = by_next (λ q. begins_operands q.rest ≡ false) z n kind.OpenBrace (word-next kind.OpenBrace told_open_brace z n u e) (λ b. and_false b)
+
+brace_not_assign : (z n o : Place) (u : Unit {0}) (sign : Sign) → at brace z ≡ Some (u, n) → next z ≡ Some (kind.Assign sign, o) → ⊥
+brace_not_assign z n o u sign e f =
+    let k = one_kind z n o kind.OpenBrace (kind.Assign sign) (word-next kind.OpenBrace told_open_brace z n u e) f in
+    let never : ⊥ = cc in never
+
 pub primary_first : (R : Nested) (s z : Place) (t : Tree) → Primary R s t z → First s
 primary_first R s z t (a_literal {k = k} e f) = by_word e (literal_opens k t f)
 primary_first R s z t (a_negative e f g) = by_integer e f
-primary_first R s z t (a_local {x = x} e o f) = by_no_command e (local_no_command x z f)
-primary_first R s z t (a_bare_call {x = x} e o f g) = by_no_command e (bare_no_command x z g)
-primary_first R s z t (a_call {m = m} {n = n} {x = x} {u = u} e f h) = by_no_command e (bare_no_command x m (bracket_no_operands m n u f))
+primary_first R s z t (a_local {x = x} e o b f) = by_no_command e (local_no_command x z f)
+primary_first R s z t (a_bare_call {x = x} e o b f g) = by_no_command e (bare_no_command x z g)
+primary_first R s z t (a_call {m = m} {n = n} {x = x} {u = u} e f h b) = by_no_command e (bare_no_command x m (bracket_no_operands m n u f))
+primary_first R s z t (a_block_call {m = m} {n = n} {x = x} {u = u} e f g h) = by_no_command e (bare_no_command x m (brace_no_operands m n u g))
 primary_first R s z t (a_construct {k = k} {p = p} e f h) = by_word e (construct_opens k p f)
 
 open_no_bang : (k : WordKind) → opens k ≡ true → is_kind k kind.Bang ≡ false
@@ -292,9 +301,10 @@ open_no_bang _ e = refl
 primary_no_bang : (R : Nested) (s z : Place) (t : Tree) → Primary R s t z → at (word kind.Bang) s ≡ None
 primary_no_bang R s z t (a_literal {k = k} e f) = other-word kind.Bang k s z e (open_no_bang k (literal_opens k t f))
 primary_no_bang R s z t (a_negative {m = m} e f g) = other-word kind.Bang kind.Minus s m e refl
-primary_no_bang R s z t (a_local {x = x} e o f) = let h = name-next s z x e in other-word kind.Bang (kind.Name x h.0) s z h.1 refl
-primary_no_bang R s z t (a_bare_call {x = x} e o f g) = let h = name-next s z x e in other-word kind.Bang (kind.Name x h.0) s z h.1 refl
-primary_no_bang R s z t (a_call {m = m} {x = x} e f g) = let h = name-next s m x e in other-word kind.Bang (kind.Name x h.0) s m h.1 refl
+primary_no_bang R s z t (a_local {x = x} e o b f) = let h = name-next s z x e in other-word kind.Bang (kind.Name x h.0) s z h.1 refl
+primary_no_bang R s z t (a_bare_call {x = x} e o b f g) = let h = name-next s z x e in other-word kind.Bang (kind.Name x h.0) s z h.1 refl
+primary_no_bang R s z t (a_call {m = m} {x = x} e f g b) = let h = name-next s m x e in other-word kind.Bang (kind.Name x h.0) s m h.1 refl
+primary_no_bang R s z t (a_block_call {m = m} {x = x} e f g b) = let h = name-next s m x e in other-word kind.Bang (kind.Name x h.0) s m h.1 refl
 primary_no_bang R s z t (a_construct {m = m} {k = k} {p = p} e f h) = other-word kind.Bang k s m e (open_no_bang k (construct_opens k p f))
 
 open_no_prefix : (s m : Place) (k : WordKind) → next s ≡ Some (k, m) → opens k ≡ true → at prefix_minus s ≡ None
@@ -304,9 +314,10 @@ open_no_prefix s m k e f = by_next (λ q. at prefix_minus q ≡ None) s m k e (�
 primary_no_prefix : (R : Nested) (s z : Place) (t : Tree) → Primary R s t z → at prefix_minus s ≡ None
 primary_no_prefix R s z t (a_literal {k = k} e f) = open_no_prefix s z k e (literal_opens k t f)
 primary_no_prefix R s z t (a_negative {m = m} {n = n} e f g) = no_prefix s m e n z f
-primary_no_prefix R s z t (a_local {x = x} e o f) = let h = name-next s z x e in by_next (λ q. at prefix_minus q ≡ None) s z (kind.Name x h.0) h.1 (λ b. refl)
-primary_no_prefix R s z t (a_bare_call {x = x} e o f g) = let h = name-next s z x e in by_next (λ q. at prefix_minus q ≡ None) s z (kind.Name x h.0) h.1 (λ b. refl)
-primary_no_prefix R s z t (a_call {m = m} {x = x} e f g) = let h = name-next s m x e in by_next (λ q. at prefix_minus q ≡ None) s m (kind.Name x h.0) h.1 (λ b. refl)
+primary_no_prefix R s z t (a_local {x = x} e o b f) = let h = name-next s z x e in by_next (λ q. at prefix_minus q ≡ None) s z (kind.Name x h.0) h.1 (λ b. refl)
+primary_no_prefix R s z t (a_bare_call {x = x} e o b f g) = let h = name-next s z x e in by_next (λ q. at prefix_minus q ≡ None) s z (kind.Name x h.0) h.1 (λ b. refl)
+primary_no_prefix R s z t (a_call {m = m} {x = x} e f g b) = let h = name-next s m x e in by_next (λ q. at prefix_minus q ≡ None) s m (kind.Name x h.0) h.1 (λ b. refl)
+primary_no_prefix R s z t (a_block_call {m = m} {x = x} e f g b) = let h = name-next s m x e in by_next (λ q. at prefix_minus q ≡ None) s m (kind.Name x h.0) h.1 (λ b. refl)
 primary_no_prefix R s z t (a_construct {m = m} {k = k} {p = p} e f h) = open_no_prefix s m k e (construct_opens k p f)
 
 -- the first operand of a trail
@@ -547,9 +558,12 @@ module _ (R : Nested) (s m n : Place) (k : WordKind) (x : Target) (sign : Sign) 
   primary_stuck : (z : Place) (t : Tree) → Primary R s t z → Assigns z
   primary_stuck z t (a_literal {k = q} e f) = same_word q z e
   primary_stuck z t (a_negative {m = o} e f g) = absurd (no_word k kind.Minus is_target (one_kind s m o k kind.Minus here e) refl)
-  primary_stuck z t (a_local {x = y} e o f) = let h = name-next s z y e in same_word (kind.Name y h.0) z h.1
-  primary_stuck z t (a_bare_call {x = y} e o f g) = let h = name-next s z y e in same_word (kind.Name y h.0) z h.1
-  primary_stuck z t (a_call {m = o} {n = q} {x = y} {u = u} e f h) =
+  primary_stuck z t (a_local {x = y} e o b f) = let h = name-next s z y e in same_word (kind.Name y h.0) z h.1
+  primary_stuck z t (a_bare_call {x = y} e o b f g) = let h = name-next s z y e in same_word (kind.Name y h.0) z h.1
+  primary_stuck z t (a_block_call {m = o} {n = q} {x = y} {u = u} e f b h) =
+      let g = name-next s o y e in
+      absurd (brace_not_assign o q n u sign b (subst (λ v. next v ≡ Some (kind.Assign sign, n)) (one_place s m o k (kind.Name y g.0) here g.1) assigns))
+  primary_stuck z t (a_call {m = o} {n = q} {x = y} {u = u} e f h b) =
       let g = name-next s o y e in
       absurd (bracket_not_assign o q n u sign f (subst (λ v. next v ≡ Some (kind.Assign sign, n)) (one_place s m o k (kind.Name y g.0) here g.1) assigns))
   primary_stuck z t (a_construct {m = o} {k = q} {p = p} e f h) = absurd (no_construct k p is_target (ap construct_of (one_kind s m o k q here e) ∙ f))

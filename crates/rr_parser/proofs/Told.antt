@@ -76,6 +76,10 @@ pub told_close_brace : Told kind.CloseBrace
 told_close_brace kind.CloseBrace e = refl
 told_close_brace _ e = absurd (false≢true e)
 
+pub told_open_brace : Told kind.OpenBrace
+told_open_brace kind.OpenBrace e = refl
+told_open_brace _ e = absurd (false≢true e)
+
 pub told_open_square : Told kind.OpenSquare
 told_open_square kind.OpenSquare e = refl
 told_open_square _ e = absurd (false≢true e)

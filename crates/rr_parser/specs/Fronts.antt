@@ -16,11 +16,12 @@ use Rattle.rr_parser.specs.Words.{words_of}
 use Rattle.rr_parser.specs.Places.{Place, Look, word, at, next, skip, separators, start}
 use Rattle.rr_parser.specs.Grammar.Nesting.{Nested}
 use Rattle.rr_parser.specs.Grammar.Names.{name, bracket, command}
-use Rattle.rr_parser.specs.Grammar.Operands.{joined, construct_of, tail, Postfix}
+use Rattle.rr_parser.specs.Grammar.Operands.{joined, construct_of, brace, tail, Postfix}
 use Rattle.rr_parser.specs.Grammar.Operators.{operator, connective, Binary, Logical}
 use Rattle.rr_parser.specs.Grammar.Calls.{target, with_target, label, comma, Argument, Members}
 use Rattle.rr_parser.specs.Grammar.Sequences.{Expression, Statement, Rows, modifier}
 use Rattle.rr_parser.specs.Grammar.Control.{thens, loops, elsif, Branch, Branches}
+use Rattle.rr_parser.specs.Grammar.Blocks.{parameters, entered}
 use Rattle.rr_parser.specs.Grammar.{inside, outside}
 
 -- F s z: from s on, as many constructs as F tells are begun, and the innermost begins at z
@@ -44,17 +45,26 @@ pub data TrailFront {X : Type 0} (look : Look X) (T : Place → Tree → Place �
   in_head : {s z : Place} → F s z → TrailFront look T F G s z
   in_tail : {s m n z : Place} {l : Tree} {x : X} → T s l m → at look m ≡ Some (x, n) → G x n z → TrailFront look T F G s z
 
-pub data PrimaryFront (F : Fronts) : Place → Place → Type 0 where
-  in_construct : {s m z : Place} {k : WordKind} {p : Part} → next s ≡ Some (k, m) → construct_of k ≡ Some p → F.part p m z → PrimaryFront F s z
-  in_call : {s m n z : Place} {x : Sym} {u : Unit {0}} → at name s ≡ Some (x, m) → at bracket m ≡ Some (u, n) → F.bracketed n z → PrimaryFront F s z
+-- in the arguments of a call, or in its block
+abbrev pub CallFront : Nested → Fronts → Place → Place → Type 0
+CallFront N F = AcrossFront brace N.bracketed F.bracketed (F.part parts.Block)
 
-abbrev pub TailedFront : Fronts → Tail → Place → Place → Type 0
-TailedFront F (tails.Send x) s z = ⊥
-TailedFront F (tails.Call x) s z = F.bracketed s z
-TailedFront F tails.Index s z = F.part parts.Index s z
+-- in the block of a call
+pub data BlockedFront (F : Fronts) : Place → Place → Type 0 where
+  in_block : {s m z : Place} {u : Unit {0}} → at brace s ≡ Some (u, m) → F.part parts.Block m z → BlockedFront F s z
+
+pub data PrimaryFront (N : Nested) (F : Fronts) : Place → Place → Type 0 where
+  in_construct : {s m z : Place} {k : WordKind} {p : Part} → next s ≡ Some (k, m) → construct_of k ≡ Some p → F.part p m z → PrimaryFront N F s z
+  in_call : {s m n z : Place} {x : Sym} {u : Unit {0}} → at name s ≡ Some (x, m) → at bracket m ≡ Some (u, n) → CallFront N F n z → PrimaryFront N F s z
+  in_block_call : {s m z : Place} {x : Sym} → at name s ≡ Some (x, m) → at bracket m ≡ None → BlockedFront F m z → PrimaryFront N F s z
+
+abbrev pub TailedFront : Nested → Fronts → Tail → Place → Place → Type 0
+TailedFront N F (tails.Send x) s z = BlockedFront F s z
+TailedFront N F (tails.Call x) s z = CallFront N F s z
+TailedFront N F tails.Index s z = F.part parts.Index s z
 
 abbrev pub PostfixFront : Nested → Fronts → Place → Place → Type 0
-PostfixFront N F = TrailFront tail (Postfix N) (PrimaryFront F) (TailedFront F)
+PostfixFront N F = TrailFront tail (Postfix N) (PrimaryFront N F) (TailedFront N F)
 
 pub data BangFront (N : Nested) (F : Fronts) : Place → Place → Type 0 where
   in_bang : {s m z : Place} → next s ≡ Some (kind.Bang, m) → F.part parts.Bang m z → BangFront N F s z
@@ -148,6 +158,9 @@ EndedFront N F P G = AcrossFront (word kind.Else) P G (StatementsFront N F)
 abbrev pub LoopFront : Nested → Fronts → Place → Place → Type 0
 LoopFront N F = AcrossFront loops (Expression N) (ExpressionFront N F) (StatementsFront N F)
 
+pub data BlockFront (N : Nested) (F : Fronts) : Place → Place → Type 0 where
+  in_body : {s m z : Place} {xs : List Sym} → at parameters s ≡ Some (xs, m) → StatementsFront N F (entered xs m) z → BlockFront N F s z
+
 abbrev pub PartFront : Nested → Fronts → Part → Place → Place → Type 0
 PartFront N F parts.Group = StatementsFront N F
 PartFront N F parts.Choice = EndedFront N F (Branches N) (BranchesFront N F)
@@ -161,6 +174,7 @@ PartFront N F parts.Bang = BangFront N F
 PartFront N F parts.Not = NegationFront N F
 PartFront N F parts.Command = CommandFront N F
 PartFront N F parts.Branch = ArgumentFront N F
+PartFront N F parts.Block = BlockFront N F
 
 -- Inside the right side of an assignment so many constructs more are begun, and then one that has just begun.
 unfoldable pub fronts_inside : ℕ → Fronts

@@ -13,6 +13,7 @@ use Rattle.rr_parser.specs.Grammar.Operands.{Bang, Minus}
 use Rattle.rr_parser.specs.Grammar.Calls.{Argument, Array, Hash, Index, Bracketed, Command, Value}
 use Rattle.rr_parser.specs.Grammar.Sequences.{Negation, Statements, Group}
 use Rattle.rr_parser.specs.Grammar.Control.{Choice, Unless, Loop}
+use Rattle.rr_parser.specs.Grammar.Blocks.{Block}
 pub mod Chains
 pub mod Nesting
 pub mod Names
@@ -21,6 +22,7 @@ pub mod Operators
 pub mod Calls
 pub mod Sequences
 pub mod Control
+pub mod Blocks
 
 -- what each part is
 abbrev pub PartOf : Nested → Part → Place → Tree → Place → Type 0
@@ -36,6 +38,7 @@ PartOf N parts.Bang = Bang N
 PartOf N parts.Not = Negation N
 PartOf N parts.Command = Command N
 PartOf N parts.Branch = Argument N
+PartOf N parts.Block = Block N
 
 -- What nests no deeper than a number inside the right side of an assignment. There, each further right side counts.
 unfoldable pub inside : ℕ → Nested

@@ -1,5 +1,5 @@
 -- What the code owes to reading.
-use Rattle.std.specs.Prelude.{◌≡◌, ℕ, ◌<◌, List, [], ◌∷◌, ◌++◌, length, map, All, Vec, Option, Some, None, Result, Ok, Err}
+use Rattle.std.specs.Prelude.{◌≡◌, ℕ, ◌<◌, List, [], ◌∷◌, ◌++◌, length, take, map, All, Vec, Option, Some, None, Result, Ok, Err}
 use Rattle.std.specs.declared.alloc.Global.{Global}
 use Rattle.std.specs.Borrow.{Bor}
 use Rattle.rr_base.specs.declared.name.Sym.{Sym}
@@ -12,8 +12,11 @@ use Rattle.rr_parser.specs.declared.refusal.Refusal.TheVariants as refusal
 use Rattle.rr_parser.specs.declared.parser.Parser.{Parser}
 use Rattle.rr_parser.specs.Places.{Known, Place}
 use Rattle.rr_parser.specs.Variables.{known_in}
-use Rattle.rr_parser.specs.Grammar.Names.{or_zero, with_variable}
-use Rattle.rr_parser.specs.Grammar.Calls.{with_target, target_slot}
+use Rattle.rr_parser.specs.declared.variables.Variable.{Variable}
+use Rattle.rr_parser.specs.declared.variables.Scope.{Scope}
+use Rattle.rr_parser.specs.Grammar.Names.{find, seen_from, with_variable}
+use Rattle.rr_parser.specs.Grammar.Blocks.{inner, with_parameters}
+use Rattle.rr_parser.specs.Grammar.Calls.{with_target, target_variable}
 use Rattle.rr_parser.specs.declared.word.Target.{Target}
 use Rattle.rr_parser.specs.Reading.Answers.{Answer, Refused, wrong, deep}
 
@@ -81,17 +84,47 @@ pub record Puts (old new : Parser) (t : Tree) (id : ℕ) : Type 0 where
   pub kept : Extends old.nodes.items new.nodes.items
   pub known : new.known ≡ old.known
 
--- A name became a local variable, with this number.
-pub record Marks (old new : Parser) (x : Sym) (i : ℕ) : Type 0 where
+-- A name became a local variable, which is seen so.
+pub record Marks (old new : Parser) (x : Sym) (v : Variable) : Type 0 where
   pub nodes : new.nodes.items ≡ old.nodes.items
-  pub known : known_of new ≡ with_variable (known_of old) x.0 ((known_of old).slots x.0)
-  pub slot : i ≡ or_zero ((known_of new).slots x.0)
+  pub known : known_of new ≡ with_variable (known_of old) x (find x.0 (known_of old).locals)
+  pub seen : v ≡ seen_from (known_of new) (find x.0 (known_of new).locals)
 
--- A target became known, with this number where it is a local variable.
-pub record Aims (old new : Parser) (x : Target) (i : ℕ) : Type 0 where
+-- A target became known. Where it is a local variable it is seen so.
+pub record Aims (old new : Parser) (x : Target) (v : Variable) : Type 0 where
   pub nodes : new.nodes.items ≡ old.nodes.items
   pub known : (ws : List Word) → place new ws ≡ with_target x (place old ws)
-  pub slot : (ws : List Word) → target_slot x (place new ws) ≡ i
+  pub seen : (ws : List Word) → target_variable x (place new ws) ≡ v
+
+-- A scope with these parameters was begun, and the mark tells what was known before it.
+pub record Begins (old new : Known) (xs : List Sym) (m : Scope) : Type 0 where
+  pub known : new ≡ with_parameters xs (inner old)
+  pub number : m.number ≡ new.begun
+  pub parameters : m.parameters ≡ length xs
+  pub locals : m.locals ≡ length old.locals
+  pub level : m.level ≡ old.level
+  pub count : m.count ≡ old.count
+
+-- A scope with these parameters was begun, and no node was put.
+pub record Enters (old new : Parser) (xs : List Sym) (m : Scope) : Type 0 where
+  pub nodes : new.nodes.items ≡ old.nodes.items
+  pub begins : Begins (known_of old) (known_of new) xs m
+
+-- what is known behind a scope, by its mark
+abbrev pub left_by : Scope → Known → Known
+left_by m n = record { locals = take m.locals n.locals; level = m.level; count = m.count; begun = n.begun }
+
+-- A scope was left.
+pub record Leaves (old new : Parser) (m : Scope) : Type 0 where
+  pub nodes : new.nodes.items ≡ old.nodes.items
+  pub known : known_of new ≡ left_by m (known_of old)
+
+-- names that were read, and the words behind them
+abbrev pub ReadsNames : Result (Vec Sym Global × Bor (List Word)) Refusal → Option (List Sym × List Word) → Type 0
+ReadsNames (Ok x) read = read ≡ Some (x.0.items, x.1.now)
+ReadsNames (Err (refusal.Storage s)) read = Unit {0}
+ReadsNames (Err (refusal.Unexpected n)) read = read ≡ None
+ReadsNames (Err _) read = ⊥
 
 -- what was seen first, and the words behind it
 abbrev pub Sees : {A : Type 0} → Option (A × Bor (List Word)) → Option (A × List Word) → Type 0

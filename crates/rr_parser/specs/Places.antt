@@ -3,13 +3,16 @@ use Rattle.std.specs.Prelude.{ℕ, List, [], ◌∷◌, Bool, true, false, Optio
 use Rattle.rr_parser.specs.declared.word.WordKind.{WordKind}
 use Rattle.rr_parser.specs.declared.word.WordKind.TheVariants as kind
 use Rattle.rr_parser.specs.declared.word.Word.{Word}
+use Rattle.rr_parser.specs.declared.variables.Local.{Local}
 use Rattle.rr_parser.specs.contracts.word.WordKindPartialEq.TheImpl as kind_equality
 
--- what is known at a place: by the numbers of names, the local variables there, each with its own number; and how many
--- there are
+-- What is known at a place: the local variables, those of the scopes outside first, each with the level of its scope and its
+-- number there; at which level the place is; how many variables its own scope has; and how many scopes were begun.
 pub record Known : Type 0 where
-  pub slots : ℕ → Option ℕ
+  pub locals : List Local
+  pub level : ℕ
   pub count : ℕ
+  pub begun : ℕ
 
 -- what is known there, and the words that are left
 pub record Place : Type 0 where
@@ -70,7 +73,7 @@ abbrev pub next : Place → Option (WordKind × Place)
 next s = at any_word s
 
 abbrev pub start : List Word → Place
-start ws = record { known = record { slots = λ x. None; count = 0 }; rest = ws }
+start ws = record { known = record { locals = []; level = 0; count = 0; begun = 0 }; rest = ws }
 
 -- ---- separators
 

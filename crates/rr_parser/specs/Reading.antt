@@ -12,6 +12,7 @@ use Rattle.rr_parser.specs.Reading.Operands.{bang_of, minus_of}
 use Rattle.rr_parser.specs.Reading.Calls.{argument_of, bracketed_of, array_of, hash_of, index_of, command_of, value_of}
 use Rattle.rr_parser.specs.Reading.Sequences.{negation_of, statements_of, group_of}
 use Rattle.rr_parser.specs.Reading.Control.{choice_of, unless_of, loop_of}
+use Rattle.rr_parser.specs.Reading.Blocks.{block_of}
 pub mod Answers
 pub mod Nesting
 pub mod Operands
@@ -19,6 +20,7 @@ pub mod Operators
 pub mod Calls
 pub mod Sequences
 pub mod Control
+pub mod Blocks
 
 abbrev pub part_of : Readers → Part → Parse Tree
 part_of N parts.Group = group_of N
@@ -33,6 +35,7 @@ part_of N parts.Bang = bang_of N
 part_of N parts.Not = negation_of N
 part_of N parts.Command = command_of N
 part_of N parts.Branch = argument_of N
+part_of N parts.Block = block_of N
 
 unfoldable pub readers_inside : ℕ → Readers
 readers_inside zero = record { part = λ p s. Err deep; bracketed = λ s. Err deep; value = λ b s. Err deep }

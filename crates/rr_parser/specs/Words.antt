@@ -69,6 +69,7 @@ op_kind ops.NotEqual = kind.Operator op.NotEqual
 op_kind ops.And = kind.And
 op_kind ops.Or = kind.Or
 op_kind ops.Bang = kind.Bang
+op_kind ops.Bar = kind.Bar
 op_kind ops.Question = kind.Question
 op_kind ops.Colon = kind.Colon
 op_kind _ = kind.Other

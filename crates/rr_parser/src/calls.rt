@@ -28,9 +28,9 @@ impl Parser {
         let Some((aim, rest)) = target(words) else {
             return self.operand(commands, inside, depth, words);
         };
-        let slot = self.aim(aim.target)?;
+        let variable = self.aim(aim.target)?;
         let (value, rest) = self.right_side(commands, inside, depth, rest)?;
-        Ok((self.put_assignment(aim, slot, value)?, rest))
+        Ok((self.put_assignment(aim, variable, value)?, rest))
     }
 
     #[cycle(parser)]

@@ -1,6 +1,7 @@
 //! The trees of programs, read from their tokens.
 #![tactic(auto)]
 
+mod blocks;
 mod calls;
 mod control;
 mod look;

@@ -337,7 +337,8 @@ fn ends_at(kind: WordKind) -> bool
     ensures { result ≡ ends_at kind }
 {
     match kind {
-        WordKind::Close | WordKind::Elsif | WordKind::Else | WordKind::End => true,
+        WordKind::Close | WordKind::CloseBrace | WordKind::Elsif | WordKind::Else | WordKind::End =>
+            true,
         _ => false,
     }
 }

@@ -82,6 +82,7 @@ fn op_kind(op: Op) -> WordKind
         Op::And => WordKind::And,
         Op::Or => WordKind::Or,
         Op::Bang => WordKind::Bang,
+        Op::Bar => WordKind::Bar,
         Op::Question => WordKind::Question,
         Op::Colon => WordKind::Colon,
         _ => WordKind::Other,

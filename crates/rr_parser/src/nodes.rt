@@ -4,6 +4,7 @@ ghost use Rattle.std.specs.Prelude.{◌≡◌, ◌<◌, ◌≤◌, ◌++◌, len
 ghost use Rattle.rr_tree.specs.Tree.{Tree, tree_at, sequence, bare, call, send, array, hash, pair, symbol, listed, HasPartsBefore};
 ghost use Rattle.rr_tree.specs.Nodes.{node_tree, item};
 ghost use Rattle.rr_parser.specs.Grammar.Operators.{joined_by};
+ghost use Rattle.rr_parser.specs.Grammar.Names.{local_tree};
 ghost use Rattle.rr_parser.specs.Grammar.Calls.{target_tree, set_target, operated, signed};
 ghost use Rattle.rr_parser.specs.Grammar.Sequences.{modified};
 ghost use Rattle.rr_parser.specs.Grammar.Control.{chosen};
@@ -12,6 +13,7 @@ ghost use Rattle.rr_parser.specs.Reading.Operands.{int_at, negative_of};
 use crate::look::{INTEGERS, joined, negated};
 use crate::parser::{Parsed, Parser};
 use crate::refusal::{Refusal, Storage};
+use crate::variables::Variable;
 use crate::word::{Aim, Connective, Modifier, Operation, Sign, Target, Word};
 use rr_base::Sym;
 use rr_tree::{Node, NodeId};
@@ -171,16 +173,12 @@ impl Parser {
         self.put(Node::Pair(key, value))
     }
 
-    /// Puts a target as what reads it. A variable has this number.
-    fn put_target(&mut self, target: Target, slot: u32) -> Result<NodeId, Storage>
-        ensures { IfOk result (λ id. Puts self.old self.new (target_tree target slot) id) }
+    /// Puts a target as what reads it. A local variable is seen so.
+    fn put_target(&mut self, target: Target, variable: Variable) -> Result<NodeId, Storage>
+        ensures { IfOk result (λ id. Puts self.old self.new (target_tree target variable) id) }
     {
         match target {
-            Target::Variable(name) => self.put(Node::Local {
-                depth: 0,
-                slot,
-                name,
-            }),
+            Target::Variable(name) => self.put_local(name, variable),
             Target::Field(name) => self.put(Node::Field(name)),
             Target::Global(name) => self.put(Node::Global(name)),
         }
@@ -189,16 +187,16 @@ impl Parser {
     fn put_plain_assignment(
         &mut self,
         target: Target,
-        slot: u32,
+        variable: Variable,
         value: NodeId,
     ) -> Result<NodeId, Storage>
         requires { value < length self.old.nodes.items }
-        ensures { IfOk result (λ id. Puts self.old self.new (set_target target slot (tree_at self.old.nodes.items value)) id) }
+        ensures { IfOk result (λ id. Puts self.old self.new (set_target target variable (tree_at self.old.nodes.items value)) id) }
     {
         match target {
             Target::Variable(name) => self.put(Node::Assign {
-                depth: 0,
-                slot,
+                depth: variable.depth,
+                slot: variable.slot,
                 name,
                 value,
             }),
@@ -225,18 +223,33 @@ impl Parser {
         }
     }
 
-    /// Puts an assignment. A variable has this number.
-    pub fn put_assignment(&mut self, aim: Aim, slot: u32, value: NodeId) -> Result<NodeId, Storage>
+    /// Puts an assignment. A local variable is seen so.
+    pub fn put_assignment(
+        &mut self,
+        aim: Aim,
+        variable: Variable,
+        value: NodeId,
+    ) -> Result<NodeId, Storage>
         requires { value < length self.old.nodes.items }
-        ensures { IfOk result (λ id. Puts self.old self.new (signed aim.sign aim.target slot (tree_at self.old.nodes.items value)) id) }
+        ensures { IfOk result (λ id. Puts self.old self.new (signed aim.sign aim.target variable (tree_at self.old.nodes.items value)) id) }
     {
         match aim.sign {
-            Sign::Plain => self.put_plain_assignment(aim.target, slot, value),
+            Sign::Plain => self.put_plain_assignment(aim.target, variable, value),
             Sign::With(operation) => {
-                let target = self.put_target(aim.target, slot)?;
+                let target = self.put_target(aim.target, variable)?;
                 self.put_operation(operation, target, value)
             }
         }
+    }
+
+    pub fn put_local(&mut self, name: Sym, variable: Variable) -> Result<NodeId, Storage>
+        ensures { IfOk result (λ id. Puts self.old self.new (local_tree name variable) id) }
+    {
+        self.put(Node::Local {
+            depth: variable.depth,
+            slot: variable.slot,
+            name,
+        })
     }
 
     pub fn put_bare(&mut self, name: Sym) -> Result<NodeId, Storage>

@@ -2,7 +2,7 @@
 
 ghost use Rattle.std.specs.Prelude.{◌≡◌, ◌<◌, length};
 ghost use Rattle.rr_tree.specs.Tree.{tree_at};
-ghost use Rattle.rr_parser.specs.Reading.Operands.{primary_of, tailed_of, postfix_of, name_of, bang_of, minus_of};
+ghost use Rattle.rr_parser.specs.Reading.Operands.{primary_of, tailed_of, postfix_of, name_of, variable_or_call, block_behind, blocked_of, bang_of, minus_of};
 ghost use Rattle.rr_parser.specs.Reading.{readers};
 
 use crate::look::{begins_operands, behind, bracket, prefix_minus, tail};
@@ -68,10 +68,14 @@ impl Parser {
         ensures { Gives self.old self.new result (tailed_of (readers inside depth) tail (tree_at self.old.nodes.items operand) (place self.old words.now)) }
     {
         match tail {
-            Tail::Send(name) => Ok((self.put_send(operand, name, &[])?, words)),
+            Tail::Send(name) => {
+                let call = self.put_send(operand, name, &[])?;
+                self.blocked(call, inside, depth, words)
+            }
             Tail::Call(name) => {
                 let (items, rest) = self.inner_arguments(inside, depth, words)?;
-                Ok((self.put_send(operand, name, &items)?, rest))
+                let call = self.put_send(operand, name, &items)?;
+                self.blocked(call, inside, depth, rest)
             }
             Tail::Index => {
                 let (index, rest) = self.part(Part::Index, inside, depth, words)?;
@@ -123,19 +127,61 @@ impl Parser {
     {
         if let Some(rest) = bracket(words) {
             let (items, rest) = self.inner_arguments(inside, depth, rest)?;
-            return Ok((self.put_call(name, &items)?, rest));
+            let call = self.put_call(name, &items)?;
+            return self.blocked(call, inside, depth, rest);
         }
-        if let Some(slot) = self.known.slot(name) {
-            let node = Node::Local {
-                depth: 0,
-                slot,
-                name,
-            };
-            return Ok((self.put(node)?, words));
+        if let Some(rest) = behind(WordKind::OpenBrace, words) {
+            let call = self.put_call(name, &[])?;
+            return self.block_behind(call, inside, depth, rest);
+        }
+        self.variable_or_call(name, words)
+    }
+
+    /// A local variable, or a call without arguments.
+    fn variable_or_call<'w>(&mut self, name: Sym, words: &'w [Word]) -> Parsed<'w, NodeId>
+        ensures { Gives self.old self.new result (variable_or_call name (place self.old words.now)) }
+    {
+        if let Some(variable) = self.known.variable(name) {
+            return Ok((self.put_local(name, variable)?, words));
         }
         if begins_operands(words) {
             return Err(Refusal::Unexpected(words.len()));
         }
         Ok((self.put_bare(name)?, words))
+    }
+
+    /// A call, with the block that may stand behind it.
+    #[cycle(parser)]
+    #[tactic(auto, unfolding(crate::specs::Reading::Operands::blocked_of))]
+    fn blocked<'w>(
+        &mut self,
+        call: NodeId,
+        inside: bool,
+        depth: u32,
+        words: &'w [Word],
+    ) -> Parsed<'w, NodeId>
+        requires { call < length self.old.nodes.items }
+        ensures { Gives self.old self.new result (blocked_of (readers inside depth) (tree_at self.old.nodes.items call) (place self.old words.now)) }
+    {
+        match behind(WordKind::OpenBrace, words) {
+            Some(rest) => self.block_behind(call, inside, depth, rest),
+            None => Ok((call, words)),
+        }
+    }
+
+    /// A call with its block.
+    #[cycle(parser)]
+    fn block_behind<'w>(
+        &mut self,
+        call: NodeId,
+        inside: bool,
+        depth: u32,
+        words: &'w [Word],
+    ) -> Parsed<'w, NodeId>
+        requires { call < length self.old.nodes.items }
+        ensures { Gives self.old self.new result (block_behind (readers inside depth) (tree_at self.old.nodes.items call) (place self.old words.now)) }
+    {
+        let (block, rest) = self.part(Part::Block, inside, depth, words)?;
+        Ok((self.put(Node::WithBlock(call, block))?, rest))
     }
 }

@@ -8,7 +8,7 @@ ghost use Rattle.rr_parser.specs.Reading.{readers, part_of};
 
 use crate::look::{begins_operands, name};
 use crate::refusal::{Refusal, Storage};
-use crate::variables::Variables;
+use crate::variables::{Scope, Variable, Variables};
 use crate::word::{Listed, Part, Target, Word};
 use rr_base::Sym;
 use rr_tree::{Node, NodeId};
@@ -31,23 +31,37 @@ pub(crate) type Parsed<'w, T> = Result<(T, &'w [Word]), Refusal>;
 pub(crate) type ParsedList<'w> = Parsed<'w, Vec<NodeId>>;
 
 impl Parser {
-    ghost use Rattle.rr_parser.specs.Meets.{Gives, GivesList, Marks, Aims, Sees, place, known_of};
+    ghost use Rattle.rr_parser.specs.Meets.{Gives, GivesList, Marks, Aims, Enters, Leaves, Sees, place, known_of};
 
-    /// From here on the name is a local variable. Its number.
-    fn mark(&mut self, name: Sym) -> Result<u32, Storage>
+    /// From here on the name is a local variable.
+    fn mark(&mut self, name: Sym) -> Result<Variable, Storage>
         ensures { IfOk result (Marks self.old self.new name) }
     {
         self.known.mark(name)
     }
 
-    /// From here on the target is known. Its number, where it is a local variable.
-    pub fn aim(&mut self, target: Target) -> Result<u32, Storage>
+    /// From here on the target is known.
+    pub fn aim(&mut self, target: Target) -> Result<Variable, Storage>
         ensures { IfOk result (Aims self.old self.new target) }
     {
         match target {
             Target::Variable(name) => self.mark(name),
-            Target::Field(_) | Target::Global(_) => Ok(0),
+            Target::Field(_) | Target::Global(_) => Ok(Variable { depth: 0, slot: 0 }),
         }
+    }
+
+    /// Begins a scope.
+    pub fn enter(&mut self, parameters: &[Sym]) -> Result<Scope, Storage>
+        ensures { IfOk result (Enters self.old self.new parameters.now) }
+    {
+        self.known.begin(parameters)
+    }
+
+    /// Leaves a scope.
+    pub fn leave(&mut self, scope: Scope)
+        ensures { Leaves self.old self.new scope }
+    {
+        self.known.leave(scope);
     }
 
     /// The name that begins a command.
@@ -55,7 +69,7 @@ impl Parser {
         ensures { Sees result (command (known_of self.now) words.now) }
     {
         let (name, rest) = name(words)?;
-        if self.known.slot(name).is_none() && begins_operands(rest) {
+        if self.known.variable(name).is_none() && begins_operands(rest) {
             Some((name, rest))
         } else {
             None
@@ -103,6 +117,7 @@ impl Parser {
             Part::Not => self.negation(inside, depth, words),
             Part::Command => self.command(inside, depth, words),
             Part::Branch => self.value(false, inside, depth, words),
+            Part::Block => self.block(inside, depth, words),
         }
     }
 

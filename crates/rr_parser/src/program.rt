@@ -43,8 +43,10 @@ fn read_nodes(alloc: Global, words: &[Word], depth: u32) -> Result<Nodes, Refusa
         alloc,
         nodes: Vec::new(alloc),
         known: Variables {
-            slots: Vec::new(alloc),
+            locals: Vec::new(alloc),
+            level: 0,
             count: 0,
+            begun: 0,
         },
         sites: 0,
     };

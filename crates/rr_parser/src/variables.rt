@@ -1,60 +1,166 @@
-//! The local variables that are known at a place.
+//! The local variables that are known at a place, and the scopes that they belong to.
 
-ghost use Rattle.std.specs.Prelude.{◌≡◌, ◌<◌, ℕ, length, OnOk, IfOk};
-ghost use Rattle.rr_parser.specs.Grammar.Names.{or_zero, with_variable};
-ghost use Rattle.rr_parser.specs.Variables.{slots_in, known_in};
+ghost use Rattle.std.specs.Prelude.{◌≡◌, IfOk, IfSome, OnOk, is_some};
+ghost use Rattle.rr_parser.specs.Grammar.Names.{find, seen_from, with_variable};
+ghost use Rattle.rr_parser.specs.Grammar.Blocks.{inner, with_parameters};
+ghost use Rattle.rr_parser.specs.Variables.{known_in};
+ghost use Rattle.rr_parser.specs.Meets.{Begins, left_by};
 
 use crate::refusal::Storage;
 use rr_base::Sym;
 
-/// The local variables, each with its number.
-#[derive(Drop)]
-pub(crate) struct Variables {
-    /// By the numbers of names.
-    pub slots: Vec<Option<u32>>,
-    /// How many variables there are.
+/// A local variable: its name, the level of its scope, and its number there.
+#[derive(Clone, Copy, Debug, PartialEq, Eq, Drop)]
+pub(crate) struct Local {
+    pub name: Sym,
+    pub level: u32,
+    pub slot: u32,
+}
+
+/// A local variable as it is seen at a place: how many scopes outside it is, and its number there.
+#[derive(Clone, Copy, Debug, PartialEq, Eq, Drop)]
+pub(crate) struct Variable {
+    pub depth: u32,
+    pub slot: u32,
+}
+
+/// A scope that is open: its number, how many parameters it has, and what was known before it.
+#[derive(Clone, Copy, Debug, PartialEq, Eq, Drop)]
+pub(crate) struct Scope {
+    pub number: u32,
+    pub parameters: u32,
+    pub locals: usize,
+    pub level: u32,
     pub count: u32,
 }
 
+/// The local variables, those of the scopes outside first.
+#[derive(Drop)]
+pub(crate) struct Variables {
+    pub locals: Vec<Local>,
+    /// How many scopes are open around the present one.
+    pub level: u32,
+    /// How many variables the present scope has.
+    pub count: u32,
+    /// How many scopes were begun.
+    pub begun: u32,
+}
+
 impl Variables {
-    /// The number of a variable, where the name is one.
-    pub fn slot(&self, name: Sym) -> Option<u32>
-        ensures { result ≡ slots_in self.now.slots.items name.0 }
+    /// The innermost variable of this name.
+    fn find(&self, name: Sym) -> Option<Local>
+        ensures { result ≡ find name.0 self.now.locals.items }
     {
-        match self.slots.get(name.0 as usize) {
-            Some(slot) => *slot,
-            None => None,
+        let mut left = self.locals.len();
+        while left > 0 {
+            left -= 1;
+            let local = self.locals[left];
+            if local.name.0 == name.0 {
+                return Some(local);
+            }
+        }
+        None
+    }
+
+    fn seen(&self, local: Local) -> Variable
+        ensures { result ≡ seen_from (known_in self.now) (Some local) }
+    {
+        Variable {
+            depth: self.level.saturating_sub(local.level),
+            slot: local.slot,
         }
     }
 
-    /// Makes room for the number of a name.
-    fn make_room(&mut self, place: usize) -> Result<(), Storage>
-        ensures room { OnOk result (place < length self.new.slots.items) }
-        ensures slots { (y : ℕ) → slots_in self.new.slots.items y ≡ slots_in self.old.slots.items y }
-        ensures count { self.new.count ≡ self.old.count }
+    /// How the variable of this name is seen, where the name is one.
+    pub fn variable(&self, name: Sym) -> Option<Variable>
+        ensures is { is_some result ≡ is_some (find name.0 self.now.locals.items) }
+        ensures seen { IfSome result (λ v. v ≡ seen_from (known_in self.now) (find name.0 self.now.locals.items)) }
     {
-        while self.slots.len() <= place {
-            self.slots.push(None)?;
-        }
-        Ok(())
+        let local = self.find(name)?;
+        Some(self.seen(local))
     }
 
-    /// From here on the name is a local variable: it gets the next number, unless it has one already.
-    pub fn mark(&mut self, name: Sym) -> Result<u32, Storage>
-        ensures known { OnOk result (known_in self.new ≡ with_variable (known_in self.old) name.0 (slots_in self.old.slots.items name.0)) }
-        ensures slot { IfOk result (λ i. i ≡ or_zero (slots_in self.new.slots.items name.0)) }
+    /// From here on the name is a new variable of the present scope, and gets the next number.
+    fn add(&mut self, name: Sym) -> Result<Variable, Storage>
+        ensures known { OnOk result (known_in self.new ≡ with_variable (known_in self.old) name None) }
+        ensures seen { IfOk result (λ v. v ≡ seen_from (known_in self.new) (find name.0 self.new.locals.items)) }
     {
-        if let Some(slot) = self.slot(name) {
-            return Ok(slot);
-        }
         let slot = self.count;
         let Some(count) = slot.checked_add(1) else {
             return Err(Storage::Slots);
         };
-        let place = name.0 as usize;
-        self.make_room(place)?;
-        self.slots[place] = Some(slot);
+        self.locals.push(Local {
+            name,
+            level: self.level,
+            slot,
+        })?;
         self.count = count;
-        Ok(slot)
+        Ok(Variable { depth: 0, slot })
+    }
+
+    /// From here on the name is a local variable: it gets the next number, unless it is one already.
+    pub fn mark(&mut self, name: Sym) -> Result<Variable, Storage>
+        ensures known { OnOk result (known_in self.new ≡ with_variable (known_in self.old) name (find name.0 self.old.locals.items)) }
+        ensures seen { IfOk result (λ v. v ≡ seen_from (known_in self.new) (find name.0 self.new.locals.items)) }
+    {
+        match self.find(name) {
+            Some(local) => Ok(self.seen(local)),
+            None => self.add(name),
+        }
+    }
+
+    fn add_parameters(&mut self, names: &[Sym]) -> Result<(), Storage>
+        ensures { OnOk result (known_in self.new ≡ with_parameters names.now (known_in self.old)) }
+    {
+        for name in names {
+            self.add(*name)?;
+        }
+        Ok(())
+    }
+
+    /// A scope inside the present one, which has no variables yet.
+    fn go_inside(&mut self) -> Result<(), Storage>
+        ensures { OnOk result (known_in self.new ≡ inner (known_in self.old)) }
+    {
+        let Some(begun) = self.begun.checked_add(1) else {
+            return Err(Storage::Slots);
+        };
+        let Some(level) = self.level.checked_add(1) else {
+            return Err(Storage::Slots);
+        };
+        self.begun = begun;
+        self.level = level;
+        self.count = 0;
+        Ok(())
+    }
+
+    /// Begins a scope inside the present one.
+    pub fn begin(&mut self, parameters: &[Sym]) -> Result<Scope, Storage>
+        ensures { IfOk result (Begins (known_in self.old) (known_in self.new) parameters.now) }
+    {
+        let Ok(given) = u32::try_from(parameters.len()) else {
+            return Err(Storage::Slots);
+        };
+        let locals = self.locals.len();
+        let level = self.level;
+        let count = self.count;
+        self.go_inside()?;
+        self.add_parameters(parameters)?;
+        Ok(Scope {
+            number: self.begun,
+            parameters: given,
+            locals,
+            level,
+            count,
+        })
+    }
+
+    /// Leaves a scope.
+    pub fn leave(&mut self, scope: Scope)
+        ensures { known_in self.new ≡ left_by scope (known_in self.old) }
+    {
+        self.locals.truncate(scope.locals);
+        self.level = scope.level;
+        self.count = scope.count;
     }
 }

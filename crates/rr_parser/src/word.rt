@@ -95,6 +95,8 @@ pub(crate) enum Part {
     Command,
     /// One of the two operands between which is chosen.
     Branch,
+    /// The parameters and the statements of a block, with the brace behind them.
+    Block,
 }
 
 /// What a word is.
@@ -154,6 +156,8 @@ pub(crate) enum WordKind {
     Or,
     /// `!`.
     Bang,
+    /// `|`
+    Bar,
     /// `?` and `:` of a choice between two operands.
     Question,
     Colon,

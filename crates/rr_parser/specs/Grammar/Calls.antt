@@ -1,7 +1,7 @@
 -- Assignments, arguments and commands.
 use Rattle.std.specs.Prelude.{◌≡◌, ℕ, List, [], ◌∷◌, Bool, true, false, Option, Some, None}
 use Rattle.rr_base.specs.declared.name.Sym.{Sym}
-use Rattle.rr_tree.specs.Tree.{Tree, local, field, global, operator_assign, or_assign, and_assign, assign, set_field, set_global, symbol, array, hash, pair, call, listed}
+use Rattle.rr_tree.specs.Tree.{Tree, field, global, operator_assign, or_assign, and_assign, assign, set_field, set_global, symbol, array, hash, pair, call, listed}
 use Rattle.rr_parser.specs.declared.word.WordKind.TheVariants as kind
 use Rattle.rr_parser.specs.declared.word.Word.{Word}
 use Rattle.rr_parser.specs.declared.word.WordKind.{WordKind}
@@ -19,7 +19,8 @@ use Rattle.rr_parser.specs.declared.word.Part.TheVariants as parts
 use Rattle.rr_parser.specs.Places.{Place, Look, first_as, word, at, next}
 use Rattle.rr_parser.specs.Grammar.Chains.{Chain, one_of, and_one}
 use Rattle.rr_parser.specs.Grammar.Nesting.{Nested}
-use Rattle.rr_parser.specs.Grammar.Names.{slot_of, with_local, command}
+use Rattle.rr_parser.specs.declared.variables.Variable.{Variable}
+use Rattle.rr_parser.specs.Grammar.Names.{variable_of, local_tree, with_local, command}
 use Rattle.rr_parser.specs.Grammar.Operators.{Ternary}
 
 -- what is assigned to
@@ -58,16 +59,16 @@ with_target (targets.Variable x) s = with_local x s
 with_target (targets.Field x) s = s
 with_target (targets.Global x) s = s
 
--- the target as what reads it, where a variable has this number
-abbrev pub target_tree : Target → ℕ → Tree
-target_tree (targets.Variable x) i = local 0 i x.0
-target_tree (targets.Field x) i = field x.0
-target_tree (targets.Global x) i = global x.0
+-- the target as what reads it, where a local variable is seen so
+abbrev pub target_tree : Target → Variable → Tree
+target_tree (targets.Variable x) v = local_tree x v
+target_tree (targets.Field x) v = field x.0
+target_tree (targets.Global x) v = global x.0
 
-abbrev pub set_target : Target → ℕ → Tree → Tree
-set_target (targets.Variable x) i t = assign 0 i x.0 t
-set_target (targets.Field x) i t = set_field x.0 t
-set_target (targets.Global x) i t = set_global x.0 t
+abbrev pub set_target : Target → Variable → Tree → Tree
+set_target (targets.Variable x) v t = assign v.depth v.slot x.0 t
+set_target (targets.Field x) v t = set_field x.0 t
+set_target (targets.Global x) v t = set_global x.0 t
 
 -- an assignment with an operator, to what is read so
 abbrev pub operated : Operation → Tree → Tree → Tree
@@ -75,20 +76,20 @@ operated (operations.Binary o) x t = operator_assign o x t
 operated (operations.Connective connectives.Or) x t = or_assign x t
 operated (operations.Connective connectives.And) x t = and_assign x t
 
--- the tree of an assignment, where a variable has this number
-abbrev pub signed : Sign → Target → ℕ → Tree → Tree
-signed signs.Plain x i t = set_target x i t
-signed (signs.With o) x i t = operated o (target_tree x i) t
+-- the tree of an assignment, where a local variable is seen so
+abbrev pub signed : Sign → Target → Variable → Tree → Tree
+signed signs.Plain x v t = set_target x v t
+signed (signs.With o) x v t = operated o (target_tree x v) t
 
--- the number of a target that is a local variable
-abbrev pub target_slot : Target → Place → ℕ
-target_slot (targets.Variable x) s = slot_of x s
-target_slot (targets.Field x) s = 0
-target_slot (targets.Global x) s = 0
+-- how a target that is a local variable is seen
+abbrev pub target_variable : Target → Place → Variable
+target_variable (targets.Variable x) s = variable_of x s
+target_variable (targets.Field x) s = record { depth = 0; slot = 0 }
+target_variable (targets.Global x) s = record { depth = 0; slot = 0 }
 
 -- the tree of an assignment, at the place where the target is known
 abbrev pub assigned_to : Aim → Place → Tree → Tree
-assigned_to a s t = signed a.sign a.target (target_slot a.target s) t
+assigned_to a s t = signed a.sign a.target (target_variable a.target s) t
 
 abbrev pub comma : Look (Unit {0})
 comma = word kind.Comma

@@ -1,30 +1,48 @@
 -- What a name stands for, and what its neighbours say about it.
-use Rattle.std.specs.Prelude.{ℕ, ◌==◌, ◌+◌, List, [], ◌∷◌, Bool, true, false, not, ◌&&◌, Option, Some, None, is_some, if◌then◌else◌}
+use Rattle.std.specs.Prelude.{ℕ, ◌==◌, ◌+◌, ◌-◌, List, [], ◌∷◌, ◌++◌, Bool, true, false, not, ◌&&◌, Option, Some, None, is_some, if◌then◌else◌}
 use Rattle.rr_base.specs.declared.name.Sym.{Sym}
+use Rattle.rr_tree.specs.Tree.{Tree, local}
+use Rattle.rr_parser.specs.declared.variables.Local.{Local}
+use Rattle.rr_parser.specs.declared.variables.Variable.{Variable}
 use Rattle.rr_parser.specs.declared.word.WordKind.{WordKind}
 use Rattle.rr_parser.specs.declared.word.WordKind.TheVariants as kind
 use Rattle.rr_parser.specs.declared.word.Word.{Word}
 use Rattle.rr_parser.specs.Places.{Known, Place, Look, first_as, where_true, is_kind, tight_as}
 
+abbrev pub local_if : ℕ → Local → Option Local
+local_if x l = if l.name.0 == x then Some l else None
+
+abbrev pub later_or : Option Local → Option Local → Option Local
+later_or (Some l) o = Some l
+later_or None o = o
+
+-- the last of the variables with this name, which hides those before it
+abbrev pub find : ℕ → List Local → Option Local
+find x [] = None
+find x (l ∷ ls) = later_or (find x ls) (local_if x l)
+
 abbrev pub is_local : Sym → Place → Bool
-is_local x s = is_some (s.known.slots x.0)
+is_local x s = is_some (find x.0 s.known.locals)
 
-abbrev pub or_zero : Option ℕ → ℕ
-or_zero (Some n) = n
-or_zero None = 0
+-- how many scopes outside a variable is, and its number there
+abbrev pub seen_from : Known → Option Local → Variable
+seen_from k None = record { depth = 0; slot = 0 }
+seen_from k (Some l) = record { depth = k.level - l.level; slot = l.slot }
 
--- the number of a local variable
-abbrev pub slot_of : Sym → Place → ℕ
-slot_of x s = or_zero (s.known.slots x.0)
+abbrev pub variable_of : Sym → Place → Variable
+variable_of x s = seen_from s.known (find x.0 s.known.locals)
 
--- a name that is no variable yet becomes one and gets the next number
-abbrev pub with_variable : Known → ℕ → Option ℕ → Known
-with_variable k x (Some n) = k
-with_variable k x None = record { slots = λ y. if y == x then Some k.count else k.slots y; count = k.count + 1 }
+abbrev pub local_tree : Sym → Variable → Tree
+local_tree x v = local v.depth v.slot x.0
+
+-- a name that is no variable yet becomes one of the place's own scope and gets the next number there
+abbrev pub with_variable : Known → Sym → Option Local → Known
+with_variable k x (Some l) = k
+with_variable k x None = record { locals = k.locals ++ record { name = x; level = k.level; slot = k.count } ∷ []; level = k.level; count = k.count + 1; begun = k.begun }
 
 -- the same place, where the name is a local variable
 abbrev pub with_local : Sym → Place → Place
-with_local x s = record { known = with_variable s.known x.0 (s.known.slots x.0); rest = s.rest }
+with_local x s = record { known = with_variable s.known x (find x.0 s.known.locals); rest = s.rest }
 
 abbrev pub name_of_kind : WordKind → Option Sym
 name_of_kind (kind.Name x marked) = Some x

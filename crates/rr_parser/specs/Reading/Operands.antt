@@ -1,7 +1,7 @@
 -- Reading operands.
 use Rattle.std.specs.Prelude.{ℕ, pos, [], List, Option, Some, None, Ok, Err, if◌then◌else◌}
 use Rattle.rr_base.specs.declared.name.Sym.{Sym}
-use Rattle.rr_tree.specs.Tree.{Tree, int, local, bare, call, send, index, negate, logical_not, listed}
+use Rattle.rr_tree.specs.Tree.{Tree, int, bare, call, send, with_block, index, negate, logical_not, listed}
 use Rattle.rr_parser.specs.declared.word.WordKind.{WordKind}
 use Rattle.rr_parser.specs.declared.word.WordKind.TheVariants as kind
 use Rattle.rr_parser.specs.declared.word.Word.{Word}
@@ -10,9 +10,9 @@ use Rattle.rr_parser.specs.declared.word.Tail.TheVariants as tails
 use Rattle.rr_parser.specs.declared.word.Part.{Part}
 use Rattle.rr_parser.specs.declared.word.Part.TheVariants as parts
 use Rattle.rr_parser.specs.Places.{Place, Look, word, at, next}
-use Rattle.rr_parser.specs.Grammar.Names.{is_local, slot_of, bracket, begins_operands}
-use Rattle.rr_parser.specs.Grammar.Operands.{fits, fits_below, negated, joined, literal_of, construct_of, tail}
-use Rattle.rr_parser.specs.Reading.Answers.{wrong, Answer, Parse, built, from, trail_on}
+use Rattle.rr_parser.specs.Grammar.Names.{is_local, variable_of, local_tree, bracket, begins_operands}
+use Rattle.rr_parser.specs.Grammar.Operands.{fits, fits_below, negated, joined, literal_of, construct_of, brace, tail}
+use Rattle.rr_parser.specs.Reading.Answers.{◌>>=◌, wrong, Answer, Parse, built, from, trail_on}
 use Rattle.rr_parser.specs.Reading.Nesting.{Readers}
 
 abbrev pub call_of : Sym → Answer (List Tree) → Answer Tree
@@ -22,11 +22,30 @@ abbrev pub bare_call : Sym → Place → Answer Tree
 bare_call x m = if begins_operands m.rest then Err wrong else Ok (bare x.0, m)
 
 abbrev pub variable_or_call : Sym → Place → Answer Tree
-variable_or_call x m = if is_local x m then Ok (local 0 (slot_of x m) x.0, m) else bare_call x m
+variable_or_call x m = if is_local x m then Ok (local_tree x (variable_of x m), m) else bare_call x m
+
+-- a call with its block
+abbrev pub block_behind : Readers → Tree → Parse Tree
+block_behind N c s = built (with_block c) (N.part parts.Block s)
+
+abbrev pub blocked_or : Readers → Tree → Place → Option (Unit {0} × Place) → Answer Tree
+blocked_or N c s None = Ok (c, s)
+blocked_or N c s (Some b) = block_behind N c b.1
+
+unfoldable pub blocked_of : Readers → Tree → Parse Tree
+blocked_of N c s = blocked_or N c s (at brace s)
+
+-- what stands behind a call, with the call
+abbrev pub then_blocked : Readers → Answer Tree → Answer Tree
+then_blocked N r = r >>= λ c. blocked_of N c.0 c.1
+
+abbrev pub unbracketed_or : Readers → Sym → Place → Option (Unit {0} × Place) → Answer Tree
+unbracketed_or N x m None = variable_or_call x m
+unbracketed_or N x m (Some b) = block_behind N (call x.0 (listed [])) b.1
 
 abbrev pub name_or : Readers → Sym → Place → Option (Unit {0} × Place) → Answer Tree
-name_or N x m None = variable_or_call x m
-name_or N x m (Some b) = call_of x (N.bracketed b.1)
+name_or N x m None = unbracketed_or N x m (at brace m)
+name_or N x m (Some b) = then_blocked N (call_of x (N.bracketed b.1))
 
 unfoldable pub name_of : Readers → Sym → Parse Tree
 name_of N x m = name_or N x m (at bracket m)
@@ -60,8 +79,8 @@ unfoldable pub primary_of : Readers → Parse Tree
 primary_of N s = primary_in N (next s)
 
 unfoldable pub tailed_of : Readers → Tail → Tree → Parse Tree
-tailed_of N (tails.Send x) r s = Ok (send r x.0 (listed []), s)
-tailed_of N (tails.Call x) r s = built (λ l. send r x.0 (listed l)) (N.bracketed s)
+tailed_of N (tails.Send x) r s = blocked_of N (send r x.0 (listed [])) s
+tailed_of N (tails.Call x) r s = then_blocked N (built (λ l. send r x.0 (listed l)) (N.bracketed s))
 tailed_of N tails.Index r s = built (index r) (N.part parts.Index s)
 
 unfoldable pub postfix_of : Readers → Parse Tree

@@ -29,6 +29,7 @@ statement_of N = chain modifier same modified (expression_of N)
 -- what ends a list of statements comes
 abbrev pub ends_at : WordKind → Bool
 ends_at kind.Close = true
+ends_at kind.CloseBrace = true
 ends_at kind.Elsif = true
 ends_at kind.Else = true
 ends_at kind.End = true

@@ -14,7 +14,7 @@ use Rattle.rr_parser.specs.Reading.{readers}
 use Rattle.rr_parser.specs.Meets.{Gives, GivesList, nodes, pairs, lists, place}
 use Rattle.rr_parser.proofs.Looks.{Steps-row, Steps-another}
 use Rattle.rr_parser.proofs.Shrinking.{Steps-operator, Steps-connective, Steps-modifier, Steps-elsif, shrinks_nested}
-use Rattle.rr_parser.proofs.Making.{made_send, made_element, made_arrow, trail_fails, trail_smaller, trail_goes, trail_ends, stable_nodes, stable_pairs, goes_ends, goes_fails, goes_smaller, list_on, operators_on, nested_part, nested_bracketed, made_alternatives, made_pair, made_branch, made_loop, made_choice, made_unless, gives_outside}
+use Rattle.rr_parser.proofs.Making.{gives_sent, made_behind, made_element, made_arrow, trail_fails, trail_smaller, trail_goes, trail_ends, stable_nodes, stable_pairs, goes_ends, goes_fails, goes_smaller, list_on, operators_on, nested_part, nested_bracketed, made_alternatives, made_pair, made_branch, made_loop, made_choice, made_unless, gives_outside}
 use Rattle.rr_parser.proofs.parser.Parser.+parser.Goals as goal
 
 pub members-returns-in_err-next : goal.members-returns-in_err-next
@@ -193,10 +193,6 @@ postfix-loop-tail-preserved t c = trail_goes (readers c.args.inside c.args.depth
 pub postfix-returns : goal.postfix-returns
 postfix-returns t c = trail_ends (readers c.args.inside c.args.depth) (shrinks_nested c.args.inside c.args.depth) _ _ _ _ _ c.loop-tail.invariant c.in_default.ensures
 
-pub tailed-returns-in_ok-put_send-in-Call : goal.tailed-returns-in_ok-put_send-in-Call
-tailed-returns-in_ok-put_send-in-Call t c =
-    made_send (readers c.args.inside c.args.depth) c.args.self.now c.inner_arguments.new.self c.put_send-in-Call.new.self c.args.tail _ _ _ c.in_ok-items-in-Call.items.items c.deref.result.now _ _ c.in-Call.is c.deref.ensures.value c.requires c.in_ok-items-in-Call.ensures c.in_ok-put_send-in-Call.ensures
-
 pub tailed-returns-in_ok-put-in-Index : goal.tailed-returns-in_ok-put-in-Index
 tailed-returns-in_ok-put-in-Index t c =
     made_element (readers c.args.inside c.args.depth) c.args.self.now c.part.new.self c.put.new.self c.args.tail _ _ _ _ _ c.in-Index.is c.requires c.in_ok-index-in-Index.ensures c.in_ok-put-in-Index.ensures.puts
@@ -204,3 +200,11 @@ tailed-returns-in_ok-put-in-Index t c =
 pub pair-returns : goal.pair-returns
 pair-returns t c =
     made_arrow (readers c.args.inside c.args.depth) c.args.self.now c.value-2.new.self c.value-3.new.self c.put.new.self _ _ _ _ _ _ _ c.in_default.ensures c.in_ok-key.ensures c.in-Some-behind.ensures c.in_ok-value-2.ensures c.in_ok-put.ensures.puts
+
+pub block_behind-returns : goal.block_behind-returns
+block_behind-returns t c =
+    made_behind (readers c.args.inside c.args.depth) c.args.self.now c.part.new.self c.put.new.self _ _ _ _ _ c.requires c.in_ok-block.ensures c.in_ok-put.ensures.puts
+
+pub tailed-returns-in_ok-call-in-Call : goal.tailed-returns-in_ok-call-in-Call
+tailed-returns-in_ok-call-in-Call t c =
+    gives_sent (readers c.args.inside c.args.depth) c.args.self.now c.inner_arguments.new.self c.put_send-in-Call.new.self c.blocked-in-Call.new.self c.args.tail _ _ _ c.in_ok-items-in-Call.items.items c.deref.result.now _ _ c.blocked-in-Call.result c.in-Call.is c.deref.ensures.value c.requires c.in_ok-items-in-Call.ensures c.in_ok-call-in-Call.ensures c.blocked-in-Call.ensures

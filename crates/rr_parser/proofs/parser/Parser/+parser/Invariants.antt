@@ -26,97 +26,97 @@ abbrev pub decreases-right_side : goal.decreases-right_side
 decreases-right_side l = 128 * l.depth + cond l.inside 0 64 + 0
 
 abbrev pub decreases-name : goal.decreases-name
-decreases-name l = 128 * l.depth + cond l.inside 0 64 + 1
+decreases-name l = 128 * l.depth + cond l.inside 0 64 + 3
 
 abbrev pub decreases-alternatives : goal.decreases-alternatives
-decreases-alternatives l = 128 * l.depth + cond l.inside 0 64 + 1
+decreases-alternatives l = 128 * l.depth + cond l.inside 0 64 + 3
 
 abbrev pub decreases-primary : goal.decreases-primary
-decreases-primary l = 128 * l.depth + cond l.inside 0 64 + 2
+decreases-primary l = 128 * l.depth + cond l.inside 0 64 + 4
 
 abbrev pub decreases-bang : goal.decreases-bang
-decreases-bang l = 128 * l.depth + cond l.inside 0 64 + 4
+decreases-bang l = 128 * l.depth + cond l.inside 0 64 + 6
 
 abbrev pub decreases-minus : goal.decreases-minus
-decreases-minus l = 128 * l.depth + cond l.inside 0 64 + 5
+decreases-minus l = 128 * l.depth + cond l.inside 0 64 + 7
 
 abbrev pub decreases-equality_on : goal.decreases-equality_on
-decreases-equality_on l = 128 * l.depth + cond l.inside 0 64 + 14
+decreases-equality_on l = 128 * l.depth + cond l.inside 0 64 + 16
 
 abbrev pub decreases-ternary_on : goal.decreases-ternary_on
-decreases-ternary_on l = 128 * l.depth + cond l.inside 0 64 + 20
+decreases-ternary_on l = 128 * l.depth + cond l.inside 0 64 + 22
 
 abbrev pub decreases-ternary : goal.decreases-ternary
-decreases-ternary l = 128 * l.depth + cond l.inside 0 64 + 21
+decreases-ternary l = 128 * l.depth + cond l.inside 0 64 + 23
 
 abbrev pub decreases-commanded : goal.decreases-commanded
-decreases-commanded l = 128 * l.depth + cond l.inside 0 64 + 28
+decreases-commanded l = 128 * l.depth + cond l.inside 0 64 + 30
 
 abbrev pub decreases-bracketed : goal.decreases-bracketed
-decreases-bracketed l = 128 * l.depth + cond l.inside 0 64 + 27
+decreases-bracketed l = 128 * l.depth + cond l.inside 0 64 + 29
 
 abbrev pub decreases-phrase : goal.decreases-phrase
-decreases-phrase l = 128 * l.depth + cond l.inside 0 64 + 29
+decreases-phrase l = 128 * l.depth + cond l.inside 0 64 + 31
 
 abbrev pub decreases-command : goal.decreases-command
-decreases-command l = 128 * l.depth + cond l.inside 0 64 + 29
+decreases-command l = 128 * l.depth + cond l.inside 0 64 + 31
 
 abbrev pub decreases-negation : goal.decreases-negation
-decreases-negation l = 128 * l.depth + cond l.inside 0 64 + 32
+decreases-negation l = 128 * l.depth + cond l.inside 0 64 + 34
 
 abbrev pub decreases-expression : goal.decreases-expression
-decreases-expression l = 128 * l.depth + cond l.inside 0 64 + 33
+decreases-expression l = 128 * l.depth + cond l.inside 0 64 + 35
 
 abbrev pub decreases-statement : goal.decreases-statement
-decreases-statement l = 128 * l.depth + cond l.inside 0 64 + 34
+decreases-statement l = 128 * l.depth + cond l.inside 0 64 + 36
 
 abbrev pub decreases-rows : goal.decreases-rows
-decreases-rows l = 128 * l.depth + cond l.inside 0 64 + 35
+decreases-rows l = 128 * l.depth + cond l.inside 0 64 + 37
 
 abbrev pub decreases-statements : goal.decreases-statements
-decreases-statements l = 128 * l.depth + cond l.inside 0 64 + 36
+decreases-statements l = 128 * l.depth + cond l.inside 0 64 + 38
 
 abbrev pub decreases-group : goal.decreases-group
-decreases-group l = 128 * l.depth + cond l.inside 0 64 + 37
+decreases-group l = 128 * l.depth + cond l.inside 0 64 + 39
 
 abbrev pub decreases-otherwise : goal.decreases-otherwise
-decreases-otherwise l = 128 * l.depth + cond l.inside 0 64 + 37
+decreases-otherwise l = 128 * l.depth + cond l.inside 0 64 + 39
 
 abbrev pub decreases-branch : goal.decreases-branch
-decreases-branch l = 128 * l.depth + cond l.inside 0 64 + 37
+decreases-branch l = 128 * l.depth + cond l.inside 0 64 + 39
 
 abbrev pub decreases-repeat : goal.decreases-repeat
-decreases-repeat l = 128 * l.depth + cond l.inside 0 64 + 37
+decreases-repeat l = 128 * l.depth + cond l.inside 0 64 + 39
 
 abbrev pub decreases-branches : goal.decreases-branches
-decreases-branches l = 128 * l.depth + cond l.inside 0 64 + 38
+decreases-branches l = 128 * l.depth + cond l.inside 0 64 + 40
 
 abbrev pub decreases-choice : goal.decreases-choice
-decreases-choice l = 128 * l.depth + cond l.inside 0 64 + 39
+decreases-choice l = 128 * l.depth + cond l.inside 0 64 + 41
 
 abbrev pub decreases-unless : goal.decreases-unless
-decreases-unless l = 128 * l.depth + cond l.inside 0 64 + 39
+decreases-unless l = 128 * l.depth + cond l.inside 0 64 + 41
 
 abbrev pub decreases-part_within : goal.decreases-part_within
-decreases-part_within l = 128 * l.depth + cond l.inside 0 64 + 40
+decreases-part_within l = 128 * l.depth + cond l.inside 0 64 + 42
 
 abbrev pub decreases-binary_on : goal.decreases-binary_on
-decreases-binary_on l = 128 * l.depth + cond l.inside 0 64 + (2 * l.level + 6)
+decreases-binary_on l = 128 * l.depth + cond l.inside 0 64 + (2 * l.level + 8)
 
 abbrev pub decreases-binary : goal.decreases-binary
-decreases-binary l = 128 * l.depth + cond l.inside 0 64 + (2 * l.level + 7)
+decreases-binary l = 128 * l.depth + cond l.inside 0 64 + (2 * l.level + 9)
 
 abbrev pub decreases-logical_on : goal.decreases-logical_on
-decreases-logical_on l = 128 * l.depth + cond l.inside 0 64 + (2 * l.level + 15)
+decreases-logical_on l = 128 * l.depth + cond l.inside 0 64 + (2 * l.level + 17)
 
 abbrev pub decreases-logical : goal.decreases-logical
-decreases-logical l = 128 * l.depth + cond l.inside 0 64 + (2 * l.level + 16)
+decreases-logical l = 128 * l.depth + cond l.inside 0 64 + (2 * l.level + 18)
 
 abbrev pub decreases-operand : goal.decreases-operand
-decreases-operand l = 128 * l.depth + cond l.inside 0 64 + cond l.commands 30 22
+decreases-operand l = 128 * l.depth + cond l.inside 0 64 + cond l.commands 32 24
 
 abbrev pub decreases-value : goal.decreases-value
-decreases-value l = 128 * l.depth + cond l.inside 0 64 + cond l.commands 31 23
+decreases-value l = 128 * l.depth + cond l.inside 0 64 + cond l.commands 33 25
 
 abbrev pub invariant-members-loop-after : goal.invariant-members-loop-after
 invariant-members-loop-after l =
@@ -189,25 +189,34 @@ abbrev pub decreases-logical_on-loop-connective : goal.decreases-logical_on-loop
 decreases-logical_on-loop-connective l = length l.rest
 
 abbrev pub decreases-tailed : goal.decreases-tailed
-decreases-tailed l = 128 * l.depth + cond l.inside 0 64 + 1
+decreases-tailed l = 128 * l.depth + cond l.inside 0 64 + 3
 
 abbrev pub decreases-postfix : goal.decreases-postfix
-decreases-postfix l = 128 * l.depth + cond l.inside 0 64 + 3
+decreases-postfix l = 128 * l.depth + cond l.inside 0 64 + 5
 
 abbrev pub decreases-pair : goal.decreases-pair
-decreases-pair l = 128 * l.depth + cond l.inside 0 64 + 24
+decreases-pair l = 128 * l.depth + cond l.inside 0 64 + 26
 
 abbrev pub decreases-member : goal.decreases-member
-decreases-member l = 128 * l.depth + cond l.inside 0 64 + 25
+decreases-member l = 128 * l.depth + cond l.inside 0 64 + 27
 
 abbrev pub decreases-members : goal.decreases-members
-decreases-members l = 128 * l.depth + cond l.inside 0 64 + 26
+decreases-members l = 128 * l.depth + cond l.inside 0 64 + 28
 
 abbrev pub decreases-array : goal.decreases-array
-decreases-array l = 128 * l.depth + cond l.inside 0 64 + 28
+decreases-array l = 128 * l.depth + cond l.inside 0 64 + 30
 
 abbrev pub decreases-hash : goal.decreases-hash
-decreases-hash l = 128 * l.depth + cond l.inside 0 64 + 28
+decreases-hash l = 128 * l.depth + cond l.inside 0 64 + 30
 
 abbrev pub decreases-index : goal.decreases-index
-decreases-index l = 128 * l.depth + cond l.inside 0 64 + 28
+decreases-index l = 128 * l.depth + cond l.inside 0 64 + 30
+
+abbrev pub decreases-block_behind : goal.decreases-block_behind
+decreases-block_behind l = 128 * l.depth + cond l.inside 0 64 + 1
+
+abbrev pub decreases-blocked : goal.decreases-blocked
+decreases-blocked l = 128 * l.depth + cond l.inside 0 64 + 2
+
+abbrev pub decreases-block : goal.decreases-block
+decreases-block l = 128 * l.depth + cond l.inside 0 64 + 39

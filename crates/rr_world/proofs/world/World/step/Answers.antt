@@ -33,6 +33,84 @@ returns-in-None-place_of c =
           (λ names g e. no_close w names g c.args.step.now c.in-Close.to c.in-Close.is (λ k there. let le = c.in-None-place_of.ensures.none refl k there in omega (arith, le, many, c.len-in-Close.ensures)) e);
     }
 
+pub returns-in-Alloc : goal.returns-in-Alloc
+returns-in-Alloc c =
+    record {
+      step = subst (λ (a : Action). IsStep (record { who = c.args.step.now.who; action = a }) c.alloc.result c.args.self.now c.alloc.new.self) (sym c.in-Alloc.is) c.alloc.ensures;
+    }
+
+pub returns-in-Pack : goal.returns-in-Pack
+returns-in-Pack c =
+    record {
+      step = subst (λ (a : Action). IsStep (record { who = c.args.step.now.who; action = a }) c.pack.result c.args.self.now c.pack.new.self) (sym c.in-Pack.is) c.pack.ensures;
+    }
+
+pub returns-in-Detach : goal.returns-in-Detach
+returns-in-Detach c =
+    record {
+      step = subst (λ (a : Action). IsStep (record { who = c.args.step.now.who; action = a }) c.detach.result c.args.self.now c.detach.new.self) (sym c.in-Detach.is) c.detach.ensures;
+    }
+
+pub returns-in-PutBack : goal.returns-in-PutBack
+returns-in-PutBack c =
+    record {
+      step = subst (λ (a : Action). IsStep (record { who = c.args.step.now.who; action = a }) c.put_back.result c.args.self.now c.put_back.new.self) (sym c.in-PutBack.is) c.put_back.ensures;
+    }
+
+pub returns-in-Discard : goal.returns-in-Discard
+returns-in-Discard c =
+    record {
+      step = subst (λ (a : Action). IsStep (record { who = c.args.step.now.who; action = a }) c.discard.result c.args.self.now c.discard.new.self) (sym c.in-Discard.is) c.discard.ensures;
+    }
+
+pub returns-in-Accept : goal.returns-in-Accept
+returns-in-Accept c =
+    record {
+      step = subst (λ (a : Action). IsStep (record { who = c.args.step.now.who; action = a }) c.accept.result c.args.self.now c.accept.new.self) (sym c.in-Accept.is) c.accept.ensures;
+    }
+
+pub returns-in-Open : goal.returns-in-Open
+returns-in-Open c =
+    record {
+      step = subst (λ (a : Action). IsStep (record { who = c.args.step.now.who; action = a }) c.open.result c.args.self.now c.open.new.self) (sym c.in-Open.is) c.open.ensures;
+    }
+
+pub returns-in-Start : goal.returns-in-Start
+returns-in-Start c =
+    record {
+      step = subst (λ (a : Action). IsStep (record { who = c.args.step.now.who; action = a }) c.start.result c.args.self.now c.start.new.self) (sym c.in-Start.is) c.start.ensures;
+    }
+
+pub returns-in-Freeze : goal.returns-in-Freeze
+returns-in-Freeze c =
+    record {
+      step = subst (λ (a : Action). IsStep (record { who = c.args.step.now.who; action = a }) c.freeze.result c.args.self.now c.freeze.new.self) (sym c.in-Freeze.is) c.freeze.ensures;
+    }
+
+pub returns-in-Append : goal.returns-in-Append
+returns-in-Append c =
+    record {
+      step = subst (λ (a : Action). IsStep (record { who = c.args.step.now.who; action = a }) c.append.result c.args.self.now c.append.new.self) (sym c.in-Append.is) c.append.ensures;
+    }
+
+pub returns-in-Push : goal.returns-in-Push
+returns-in-Push c =
+    record {
+      step = subst (λ (a : Action). IsStep (record { who = c.args.step.now.who; action = a }) c.push.result c.args.self.now c.push.new.self) (sym c.in-Push.is) c.push.ensures;
+    }
+
+pub returns-in-Write : goal.returns-in-Write
+returns-in-Write c =
+    record {
+      step = subst (λ (a : Action). IsStep (record { who = c.args.step.now.who; action = a }) c.write.result c.args.self.now c.write.new.self) (sym c.in-Write.is) c.write.ensures;
+    }
+
+pub returns-in-SetField : goal.returns-in-SetField
+returns-in-SetField c =
+    record {
+      step = subst (λ (a : Action). IsStep (record { who = c.args.step.now.who; action = a }) c.set_field.result c.args.self.now c.set_field.new.self) (sym c.in-SetField.is) c.set_field.ensures;
+    }
+
 pub returns-in-Read : goal.returns-in-Read
 returns-in-Read c =
     record {
