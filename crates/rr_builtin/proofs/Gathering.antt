@@ -38,7 +38,7 @@ nils_push : (n : ℕ) → nils n ++ Plain Nil ∷ [] ≡ nils (suc n)
 nils_push zero = refl
 nils_push (suc n) = ap (λ vs. Plain Nil ∷ vs) (nils_push n)
 
-append_nil : {A : Type 0} (xs : List A) → xs ≡ xs ++ []
+pub append_nil : {A : Type 0} (xs : List A) → xs ≡ xs ++ []
 append_nil [] = refl
 append_nil (x ∷ xs) = ap (λ ys. x ∷ ys) (append_nil xs)
 

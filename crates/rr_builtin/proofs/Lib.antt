@@ -7,3 +7,4 @@ pub mod Performing
 pub mod Ancestors
 pub mod Gathering
 pub mod Arraying
+pub mod Keyed

@@ -55,6 +55,7 @@ names_are_one (Content content.Includes) = refl
 names_are_one (Content content.SetAt) = refl
 names_are_one (Content content.Keys) = refl
 names_are_one (Content content.Values) = refl
+names_are_one (Content content.HasKey) = refl
 names_are_one (Telling telling.Name) = refl
 names_are_one (Telling telling.Message) = refl
 names_are_one (Telling telling.Cause) = refl

@@ -20,7 +20,7 @@ truth_is : (a : Bool) → same_truth a a ≡ true
 truth_is true = refl
 truth_is false = refl
 
-immediates_are : (i j : Immediate) → same_immediate i j ≡ true → i ≡ j
+pub immediates_are : (i j : Immediate) → same_immediate i j ≡ true → i ≡ j
 immediates_are Nil Nil e = refl
 immediates_are (Truth a) (Truth b) e = ap Truth (truths_are a b e)
 immediates_are (Integer x) (Integer y) e = ap Integer ((Decides-int_eq x y).0 e)
@@ -29,7 +29,7 @@ immediates_are (ClassNo m) (ClassNo n) e = ap ClassNo (eqb-true m n e)
 immediates_are (RactorNo m) (RactorNo n) e = ap RactorNo (eqb-true m n e)
 immediates_are _ _ e = let no : ⊥ = cc in absurd no
 
-immediate_is : (i : Immediate) → same_immediate i i ≡ true
+pub immediate_is : (i : Immediate) → same_immediate i i ≡ true
 immediate_is Nil = refl
 immediate_is (Truth a) = truth_is a
 immediate_is (Integer x) = (Decides-int_eq x x).1 refl

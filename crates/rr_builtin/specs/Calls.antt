@@ -74,7 +74,7 @@ abbrev pub method_act : Program → Below → BuiltInMethod → Ref → Ref → 
 method_act p below (Operator op) v a b t = operator_act (names_of p) (kind_at t v) op v a t
 method_act p below (Number m) v a b t = number_act m v
 method_act p below (Object m) v a b t = object_act p below m v a t
-method_act p below (Content m) v a b t = content_act (kind_at t v) m v a b t
+method_act p below (Content m) v a b t = content_act below (kind_at t v) m v a b t
 method_act p below (Telling m) v a b t = telling_act (names_of p) below m v t
 
 -- what a call does: first it is asked whether the receiver was moved away, then whether it has the method, and then

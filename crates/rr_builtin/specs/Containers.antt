@@ -1,16 +1,17 @@
 -- The methods of arrays and hashes, and those of texts among them.
 use Rattle.std.specs.Prelude.{◌-◌}
-use Rattle.rr_space.specs.Tables.{Table}
+use Rattle.rr_space.specs.Tables.{Table, Below}
 use Rattle.rr_space.specs.Parts.{value_of}
 use Rattle.rr_space.specs.declared.kind.Kind.{Kind}
 use Rattle.rr_space.specs.declared.kind.Kind.TheVariants as kind
 use Rattle.rr_space.specs.declared.refer.Ref.{Ref}
 use Rattle.rr_builtin.specs.declared.method.ContentMethod.{ContentMethod}
-use Rattle.rr_builtin.specs.declared.method.ContentMethod.TheVariants.{Size, Length, IsEmpty, First, Last, At as AtMethod, SetAt, Append, Push, Pop, Shift, Keys, Values}
+use Rattle.rr_builtin.specs.declared.method.ContentMethod.TheVariants.{Size, Length, IsEmpty, First, Last, At as AtMethod, SetAt, Append, Push, Pop, Shift, Keys, Values, HasKey}
 use Rattle.rr_builtin.specs.Acts.{Act, Answers, MakesArray, Pushes, Gives, Lacks, element_at}
 use Rattle.rr_builtin.specs.Objects.{truth}
 use Rattle.rr_builtin.specs.Contents.{size_act, is_empty, indexed, unless_frozen, taken, popped, text_content}
 use Rattle.rr_builtin.specs.Arrays.{array_put}
+use Rattle.rr_builtin.specs.Hashes.{hash_read, hash_has}
 use Rattle.rr_builtin.specs.Elements.{count_at, names_of_hash, values_of_hash}
 
 -- a method of arrays
@@ -29,17 +30,19 @@ array_content SetAt v a b t = unless_frozen v t (array_put v a b t)
 array_content _ v a b t = Answers Lacks
 
 -- a method of hashes
-abbrev pub hash_content : ContentMethod → Ref → Table → Act
-hash_content Size v t = size_act kind.Hash v t
-hash_content Length v t = size_act kind.Hash v t
-hash_content IsEmpty v t = truth (is_empty kind.Hash t v)
-hash_content Keys v t = MakesArray (names_of_hash t v)
-hash_content Values v t = MakesArray (values_of_hash t v)
-hash_content _ v t = Answers Lacks
+abbrev pub hash_content : Below → ContentMethod → Ref → Ref → Table → Act
+hash_content below Size v a t = size_act kind.Hash v t
+hash_content below Length v a t = size_act kind.Hash v t
+hash_content below IsEmpty v a t = truth (is_empty kind.Hash t v)
+hash_content below AtMethod v a t = hash_read below v a t
+hash_content below HasKey v a t = hash_has below v a t
+hash_content below Keys v a t = MakesArray (names_of_hash t v)
+hash_content below Values v a t = MakesArray (values_of_hash t v)
+hash_content below _ v a t = Answers Lacks
 
 -- a method of texts, arrays and hashes, by the kind of the receiver
-abbrev pub content_act : Kind → ContentMethod → Ref → Ref → Ref → Table → Act
-content_act kind.Text m v a b t = text_content m v a t
-content_act kind.Array m v a b t = array_content m v a b t
-content_act kind.Hash m v a b t = hash_content m v t
-content_act _ m v a b t = Answers Lacks
+abbrev pub content_act : Below → Kind → ContentMethod → Ref → Ref → Ref → Table → Act
+content_act below kind.Text m v a b t = text_content m v a t
+content_act below kind.Array m v a b t = array_content m v a b t
+content_act below kind.Hash m v a b t = hash_content below m v a t
+content_act below _ m v a b t = Answers Lacks

@@ -7,7 +7,7 @@ use Rattle.rr_tree.specs.declared.node.BinaryOperator.TheVariants.{Add, Subtract
 use Rattle.rr_builtin.specs.declared.method.ObjectMethod.{ObjectMethod}
 use Rattle.rr_builtin.specs.declared.method.ObjectMethod.TheVariants.{IsA, KindOf, IsIdentical, Dup}
 use Rattle.rr_builtin.specs.declared.method.ContentMethod.{ContentMethod}
-use Rattle.rr_builtin.specs.declared.method.ContentMethod.TheVariants.{Size, Length, IsEmpty, First, Last, At, Append, Push, Pop, Shift, Includes, SetAt, Keys, Values}
+use Rattle.rr_builtin.specs.declared.method.ContentMethod.TheVariants.{Size, Length, IsEmpty, First, Last, At, Append, Push, Pop, Shift, Includes, SetAt, Keys, Values, HasKey}
 use Rattle.rr_builtin.specs.declared.method.TellingMethod.{TellingMethod}
 use Rattle.rr_builtin.specs.declared.method.TellingMethod.TheVariants as telling
 use Rattle.rr_builtin.specs.declared.method.BuiltInMethod.{BuiltInMethod}
@@ -92,13 +92,14 @@ has_content k IsEmpty = has_size k
 has_content k Append = is_appended k
 has_content k First = is_array_kind k
 has_content k Last = is_array_kind k
-has_content k At = is_appended k
+has_content k At = has_size k
 has_content k Push = is_array_kind k
 has_content k Pop = is_array_kind k
 has_content k Shift = is_array_kind k
 has_content k Includes = is_text k
 has_content k SetAt = is_array_kind k
 has_content k Keys = is_hash k
+has_content k HasKey = is_hash k
 has_content k Values = is_hash k
 
 abbrev pub is_class : Kind → Bool
@@ -145,6 +146,7 @@ content_count Append = 1
 content_count Push = 1
 content_count Includes = 1
 content_count SetAt = 2
+content_count HasKey = 1
 content_count _ = 0
 
 -- how many arguments the method takes

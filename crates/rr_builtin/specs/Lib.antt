@@ -13,5 +13,6 @@ pub mod Contents
 pub mod Kinds
 pub mod Arrays
 pub mod Elements
+pub mod Hashes
 pub mod Containers
 pub mod Calls

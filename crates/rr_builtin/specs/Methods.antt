@@ -65,6 +65,7 @@ content_name content.Includes = codes "include?"
 content_name content.SetAt = codes "[]="
 content_name content.Keys = codes "keys"
 content_name content.Values = codes "values"
+content_name content.HasKey = codes "key?"
 
 abbrev pub telling_name : TellingMethod → List ℕ
 telling_name telling.Name = codes "name"
@@ -93,7 +94,7 @@ object_methods = Object object.Class ∷ Object object.IsA ∷ Object object.Kin
 abbrev pub content_methods : List BuiltInMethod
 content_methods = Content content.Size ∷ Content content.Length ∷ Content content.IsEmpty ∷ Content content.First ∷ Content content.Last ∷ Content content.At
     ∷ Content content.Append ∷ Content content.Push ∷ Content content.Pop ∷ Content content.Shift ∷ Content content.Includes
-    ∷ Content content.SetAt ∷ Content content.Keys ∷ Content content.Values ∷ []
+    ∷ Content content.SetAt ∷ Content content.Keys ∷ Content content.Values ∷ Content content.HasKey ∷ []
 
 abbrev pub telling_methods : List BuiltInMethod
 telling_methods = Telling telling.Name ∷ Telling telling.Message ∷ Telling telling.Cause ∷ []

@@ -6,7 +6,7 @@ ghost use Rattle.rr_space.specs.Parts.{IsWithin, value_of};
 ghost use Rattle.rr_space.specs.Kinds.{kind_at};
 ghost use Rattle.rr_space.specs.Views.{text_at};
 ghost use Rattle.rr_space.specs.Labels.{triples_at};
-ghost use Rattle.rr_text.specs.Reads.{IsReadWith};
+ghost use Rattle.rr_text.specs.Reads.{IsAmong, IsReadWith};
 ghost use Rattle.rr_builtin.specs.Integers.{given};
 ghost use Rattle.rr_builtin.specs.Numbers.{number_given};
 ghost use Rattle.rr_builtin.specs.Acts.{Answers, Gives, Pushes, IsRefAmong, IsBuiltWithin, IsBuiltAmong, outcome_of, element_at};
@@ -19,6 +19,7 @@ use crate::arrays::{names, put_deed, values};
 use crate::built::Built;
 use crate::characters::{character_at, characters};
 use crate::deed::Deed;
+use crate::hashes::{hash_has, hash_read};
 use crate::integer::NumberProblem;
 use crate::method::ContentMethod;
 use crate::numbers::number_given;
@@ -306,8 +307,11 @@ fn hash_content(
     space: &Space,
     method: ContentMethod,
     hash: Ref,
+    argument: Ref,
 ) -> Result<Deed, Fault>
-    ensures act { IfOk result (λ deed. act_of deed ≡ hash_content method hash space.now) }
+    requires within { IsWithin (length space.now.slots) hash }
+    requires kind { kind_at space.now hash ≡ Kind.Hash }
+    ensures act { IfOk result (λ deed. (below : Below) → IsReadWith space.now below → IsAmong below hash → act_of deed ≡ hash_content below method hash argument space.now) }
     ensures fit { IfOk result (λ deed. IsFit space.now hash deed) }
     ensures among { IfOk result (λ deed. (below : Below) → IsReadWith space.now below → IsRefAmong below hash → IsDeedAmong below deed) }
     ensures fault { IfErr result (λ f. f ≡ Fault.Memory) }
@@ -316,6 +320,8 @@ fn hash_content(
         ContentMethod::Size => Ok(size_deed(space, Kind::Hash, hash)),
         ContentMethod::Length => Ok(size_deed(space, Kind::Hash, hash)),
         ContentMethod::IsEmpty => Ok(truth(is_empty(space, Kind::Hash, hash))),
+        ContentMethod::At => hash_read(alloc, space, hash, argument),
+        ContentMethod::HasKey => hash_has(alloc, space, hash, argument),
         ContentMethod::Keys => Ok(Deed::MakeArray(names(alloc, space, hash)?)),
         ContentMethod::Values => Ok(Deed::MakeArray(values(alloc, space, hash)?)),
         _ => Ok(Deed::Answer(Built::Missing)),
@@ -331,9 +337,11 @@ pub(crate) fn content_deed(
     argument: Ref,
     second: Ref,
 ) -> Result<Deed, Fault>
+    requires receiver { IsWithin (length space.now.slots) value }
     requires argument { IsWithin (length space.now.slots) argument }
     requires second { IsWithin (length space.now.slots) second }
-    ensures act { IfOk result (λ deed. act_of deed ≡ content_act (kind_at space.now value) method value argument second space.now) }
+    ensures act { IfOk result (λ deed. (below : Below) → IsReadWith space.now below → IsAmong below value
+        → act_of deed ≡ content_act below (kind_at space.now value) method value argument second space.now) }
     ensures fit { IfOk result (λ deed. IsFit space.now value deed) }
     ensures among { IfOk result (λ deed. (below : Below) → IsReadWith space.now below → IsRefAmong below value → IsRefAmong below argument → IsRefAmong below second → IsDeedAmong below deed) }
     ensures fault { IfErr result (λ f. f ≡ Fault.Memory) }
@@ -341,7 +349,7 @@ pub(crate) fn content_deed(
     match space.kind_of(value) {
         Kind::Text => text_content(alloc, space, method, value, argument),
         Kind::Array => array_content(alloc, space, method, value, argument, second),
-        Kind::Hash => hash_content(alloc, space, method, value),
+        Kind::Hash => hash_content(alloc, space, method, value, argument),
         _ => Ok(Deed::Answer(Built::Missing)),
     }
 }

@@ -149,7 +149,7 @@ fn has_content(kind: Kind, method: ContentMethod) -> bool
         ContentMethod::Append => is_appended(kind),
         ContentMethod::First => is_array_kind(kind),
         ContentMethod::Last => is_array_kind(kind),
-        ContentMethod::At => is_appended(kind),
+        ContentMethod::At => has_size(kind),
         ContentMethod::Push => is_array_kind(kind),
         ContentMethod::Pop => is_array_kind(kind),
         ContentMethod::Shift => is_array_kind(kind),
@@ -157,6 +157,7 @@ fn has_content(kind: Kind, method: ContentMethod) -> bool
         ContentMethod::SetAt => is_array_kind(kind),
         ContentMethod::Keys => is_hash(kind),
         ContentMethod::Values => is_hash(kind),
+        ContentMethod::HasKey => is_hash(kind),
     }
 }
 
@@ -241,6 +242,7 @@ fn content_count(method: ContentMethod) -> usize
         ContentMethod::Push => 1,
         ContentMethod::Includes => 1,
         ContentMethod::SetAt => 2,
+        ContentMethod::HasKey => 1,
         _ => 0,
     }
 }

@@ -9,6 +9,7 @@ mod classes;
 mod contents;
 mod deed;
 mod dividing;
+mod hashes;
 mod integer;
 mod kinds;
 mod method;

@@ -45,6 +45,7 @@ pub enum ContentMethod {
     SetAt,
     Keys,
     Values,
+    HasKey,
 }
 
 /// A method of classes or of exceptions, which tells something of them.

@@ -123,6 +123,8 @@ fn content_method_named(name: &[u8]) -> Option<BuiltInMethod>
         ContentMethod::Keys
     } else if name == b"values".as_slice() {
         ContentMethod::Values
+    } else if name == b"key?".as_slice() {
+        ContentMethod::HasKey
     } else {
         return None;
     };

@@ -1,0 +1,127 @@
+//! The pairs of hashes by their keys.
+
+ghost use Rattle.std.specs.Prelude.{◌≡◌, IfOk, IfErr, length, map};
+ghost use Rattle.std.specs.Option.{option_map};
+ghost use Rattle.rr_space.specs.Tables.{Below, graph_of, resolve};
+ghost use Rattle.rr_space.specs.Parts.{IsWithin};
+ghost use Rattle.rr_space.specs.Kinds.{kind_at};
+ghost use Rattle.rr_space.specs.Views.{key_of};
+ghost use Rattle.rr_text.specs.Reads.{IsAmong, IsReadWith};
+ghost use Rattle.rr_builtin.specs.Acts.{IsRefAmong, IsBuiltWithin, IsBuiltAmong, outcome_of};
+ghost use Rattle.rr_builtin.specs.Deeds.{act_of, IsFit, IsDeedAmong};
+ghost use Rattle.rr_builtin.specs.Elements.{names_of_hash};
+ghost use Rattle.rr_builtin.specs.Hashes.{place_among, key_in, pair_with, key_given, value_at, hash_read, hash_has};
+
+use crate::arrays::element;
+use crate::built::Built;
+use crate::contents::element_at;
+use crate::deed::Deed;
+use crate::objects::{is_text_kind, raise, truth};
+use crate::problem::Problem;
+use rr_base::Fault;
+use rr_space::{Key, Kind, Ref, Space};
+use std::alloc::Global;
+
+/// The key that an argument is: an immediate, or the bytes of a text.
+fn key_given(alloc: Global, space: &Space, argument: Ref) -> Result<Option<Key>, Fault>
+    ensures key { IfOk result (λ key. option_map key_of key ≡ key_given space.now argument) }
+    ensures fault { IfErr result (λ f. f ≡ Fault.Memory) }
+{
+    if is_text_kind(space.kind_of(argument)) {
+        let bytes = space.text_bytes(argument).to_vec(alloc)?;
+        return Ok(Some(Key::Text(bytes)));
+    }
+    space.key(alloc, argument)
+}
+
+/// The first pair of a hash whose key object is the key.
+fn pair_by_names(space: &Space, hash: Ref, key: &Key) -> Option<usize>
+    requires { IsWithin (length space.now.slots) hash }
+    ensures { (below : Below) → IsReadWith space.now below → IsAmong below hash
+        → result ≡ place_among (key_of key.now) (map (λ x. key_in (graph_of space.now.slots below) (resolve space.now.slots x)) (names_of_hash space.now hash)) }
+{
+    // No reference leads nowhere, as the clause of the number says.
+    let _count = space.len();
+    for pair in 0..space.arity(hash) / 2 {
+        if space.is_key(element(space, hash, 2 * pair), key) {
+            return Some(pair);
+        }
+    }
+    None
+}
+
+/// The pair of a hash that has the key.
+fn pair_with(space: &Space, hash: Ref, key: &Key) -> Option<usize>
+    requires within { IsWithin (length space.now.slots) hash }
+    requires kind { kind_at space.now hash ≡ Kind.Hash }
+    ensures { (below : Below) → IsReadWith space.now below → IsAmong below hash → result ≡ pair_with below space.now hash (key_of key.now) }
+{
+    // Each slot has its keys, as the clause of the number says.
+    let _count = space.len();
+    if space.can_freeze(hash) {
+        space.find(hash, key)
+    } else {
+        pair_by_names(space, hash, key)
+    }
+}
+
+/// The value of a pair, or nil.
+fn value_at(space: &Space, hash: Ref, pair: Option<usize>) -> Built
+    ensures is { outcome_of result ≡ value_at space.now hash pair }
+    ensures within { IsBuiltWithin (length space.now.slots) result }
+    ensures among { (below : Below) → IsReadWith space.now below → IsRefAmong below hash → IsBuiltAmong below result }
+{
+    match pair {
+        Some(pair) => {
+            if pair < space.arity(hash) / 2 {
+                element_at(space, hash, 2 * pair + 1)
+            } else {
+                Built::Value(Ref::Nil)
+            }
+        }
+        None => Built::Value(Ref::Nil),
+    }
+}
+
+/// `[]` of a hash.
+pub(crate) fn hash_read(
+    alloc: Global,
+    space: &Space,
+    hash: Ref,
+    argument: Ref,
+) -> Result<Deed, Fault>
+    requires within { IsWithin (length space.now.slots) hash }
+    requires kind { kind_at space.now hash ≡ Kind.Hash }
+    ensures act { IfOk result (λ deed. (below : Below) → IsReadWith space.now below → IsAmong below hash → act_of deed ≡ hash_read below hash argument space.now) }
+    ensures fit { IfOk result (λ deed. IsFit space.now hash deed) }
+    ensures among { IfOk result (λ deed. (below : Below) → IsReadWith space.now below → IsRefAmong below hash → IsDeedAmong below deed) }
+    ensures fault { IfErr result (λ f. f ≡ Fault.Memory) }
+{
+    match key_given(alloc, space, argument)? {
+        Some(key) => {
+            let pair = pair_with(space, hash, &key);
+            Ok(Deed::Answer(value_at(space, hash, pair)))
+        }
+        None => Ok(raise(Problem::WrongType(space.class_of(argument)))),
+    }
+}
+
+/// `key?`.
+pub(crate) fn hash_has(
+    alloc: Global,
+    space: &Space,
+    hash: Ref,
+    argument: Ref,
+) -> Result<Deed, Fault>
+    requires within { IsWithin (length space.now.slots) hash }
+    requires kind { kind_at space.now hash ≡ Kind.Hash }
+    ensures act { IfOk result (λ deed. (below : Below) → IsReadWith space.now below → IsAmong below hash → act_of deed ≡ hash_has below hash argument space.now) }
+    ensures fit { IfOk result (λ deed. IsFit space.now hash deed) }
+    ensures among { IfOk result (λ deed. (below : Below) → IsDeedAmong below deed) }
+    ensures fault { IfErr result (λ f. f ≡ Fault.Memory) }
+{
+    match key_given(alloc, space, argument)? {
+        Some(key) => Ok(truth(pair_with(space, hash, &key).is_some())),
+        None => Ok(raise(Problem::WrongType(space.class_of(argument)))),
+    }
+}
