@@ -113,6 +113,12 @@ puts f { 1 } -> Call { name: Sym(1), first: 0, count: 0, site: 0 }, Int(1), Item
 f { 1 }.b[0] -> Call { name: Sym(0), first: 0, count: 0, site: 0 }, Int(1), Item(1), Sequence { first: 2, count: 1 }, Block { scope: 1, parameters: 0, size: 0, body: 3 }, WithBlock(0, 4), Send { receiver: 5, name: Sym(1), first: 6, count: 0, site: 1 }, Int(0), Index(6, 7), Item(8), Sequence { first: 9, count: 1 }
 a.b(1) {^n|c|^n2^n} -> Bare { name: Sym(0), site: 0 }, Int(1), Item(1), Send { receiver: 0, name: Sym(1), first: 2, count: 1, site: 1 }, Int(2), Item(4), Sequence { first: 5, count: 1 }, Block { scope: 1, parameters: 1, size: 1, body: 6 }, WithBlock(3, 7), Item(8), Sequence { first: 9, count: 1 }
 x = 1; x { x } -> Int(1), Assign { depth: 0, slot: 0, name: Sym(0), value: 0 }, Call { name: Sym(0), first: 2, count: 0, site: 0 }, Local { depth: 1, slot: 0, name: Sym(0) }, Item(3), Sequence { first: 4, count: 1 }, Block { scope: 1, parameters: 0, size: 0, body: 5 }, WithBlock(2, 6), Item(1), Item(7), Sequence { first: 8, count: 2 }
+a << 1 << 2 -> Bare { name: Sym(0), site: 0 }, Int(1), Append(0, 1), Int(2), Append(2, 3), Item(4), Sequence { first: 5, count: 1 }
+a + 1 << 2 * 3 < 4 -> Bare { name: Sym(0), site: 0 }, Int(1), Binary(Add, 0, 1), Int(2), Int(3), Binary(Multiply, 3, 4), Append(2, 5), Int(4), Binary(Less, 6, 7), Item(8), Sequence { first: 9, count: 1 }
+1 << 2 == 3 << 4 -> Int(1), Int(2), Append(0, 1), Int(3), Int(4), Append(3, 4), Binary(Equal, 2, 5), Item(6), Sequence { first: 7, count: 1 }
+a <<^n1 -> Bare { name: Sym(0), site: 0 }, Int(1), Append(0, 1), Item(2), Sequence { first: 3, count: 1 }
+x <<= 1 -> Int(1), Local { depth: 0, slot: 0, name: Sym(0) }, AppendAssign(1, 0), Item(2), Sequence { first: 3, count: 1 }
+@a <<= b += 1 -> Int(1), Local { depth: 0, slot: 0, name: Sym(1) }, OperatorAssign(Add, 1, 0), Field(Sym(0)), AppendAssign(3, 2), Item(4), Sequence { first: 5, count: 1 }
 ";
 
 /// Sources that are refused.
@@ -184,6 +190,10 @@ f { } { } -> 1:7 unexpected token
 a[0] { } -> 1:6 unexpected token
 f { |a| ) } -> 1:9 unexpected token
 f { x = 1 }; x -1; f { |x| x -1 }; x = 2; x [1] -> 1:45 unexpected token
+a << -> 1:5 unexpected end
+1 < 2 << -> 1:9 unexpected end
+a << puts 1 -> 1:11 unexpected token
+1 <<= 2 -> 1:3 unexpected token
 ";
 
 fn check_rows(rt: &impl Abort, alloc: Global, rows: &str) -> Result<(), AllocError> {
@@ -269,6 +279,7 @@ a[b[0]] -> 2
 a.b(c.d(1)) -> 2
 a.b.c[0][1] -> 1
 f { 1 } -> 1
+1 << 2 << 3 -> 0
 f(1) { g { 2 } } -> 2
 a.b { [1] } -> 2
 ";

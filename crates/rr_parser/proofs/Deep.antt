@@ -1,8 +1,8 @@
 -- Reading is too deep only where the constructs that are begun pass the limit.
 use Rattle.std.proofs.Common.{◌≡◌, ℕ, zero, suc, pos, ◌⊎◌, inl, inr, Bool, true, false, cond, List, [], ◌∷◌, length, Option, Some, None, Result, Ok, Err, refl}
 use Rattle.rr_base.specs.declared.name.Sym.{Sym}
-use Rattle.rr_tree.specs.declared.node.BinaryOperator.{BinaryOperator}
-use Rattle.rr_tree.specs.Tree.{Tree, int, bare, call, with_block, negate, binary, sequence, choose, repeat, send, index, array, hash, pair, symbol, logical_not, listed}
+use Rattle.rr_parser.specs.declared.word.Infix.{Infix}
+use Rattle.rr_tree.specs.Tree.{Tree, int, bare, call, with_block, negate, sequence, choose, repeat, send, index, array, hash, pair, symbol, logical_not, listed}
 use Rattle.rr_parser.specs.declared.word.Tail.{Tail}
 use Rattle.rr_parser.specs.declared.word.Tail.TheVariants as tails
 use Rattle.rr_parser.specs.declared.word.Aim.{Aim}
@@ -18,7 +18,7 @@ use Rattle.rr_parser.specs.Grammar.Chains.{Chain, one, more, same, one_of, and_o
 use Rattle.rr_parser.specs.Grammar.Nesting.{Nested}
 use Rattle.rr_parser.specs.Grammar.Names.{is_local, variable_of, local_tree, name, bracket, begins_operands, command}
 use Rattle.rr_parser.specs.Grammar.Operands.{fits, fits_below, negated, joined, literal_of, construct_of, brace, tail, Primary, Tailed, Minus}
-use Rattle.rr_parser.specs.Grammar.Operators.{operator, connective, joined_by, Binary, Logical}
+use Rattle.rr_parser.specs.Grammar.Operators.{operator, infixed, connective, joined_by, Binary, Logical}
 use Rattle.rr_parser.specs.Grammar.Calls.{target, with_target, assigned_to, label, comma, closing, last, Argument, Member}
 use Rattle.rr_parser.specs.Grammar.Sequences.{Negation, Expression, modifier, modified, Statement}
 use Rattle.rr_parser.specs.Grammar.Control.{thens, loops, elsif, chosen, unless_chosen, Branch, Branches}
@@ -254,7 +254,7 @@ module _ (N : Readers) (R : Nested) (F : Fronts) (sounds : NestedSound N R) (nes
   binary_front (suc level) s z f = in_one (binary_front level s z f)
 
   logical_front : (level : ℕ) (s z : Place) → MinusFront R F s z → LogicalFront R F level s z
-  logical_front zero s z f = in_former (binary_front 3 s z f)
+  logical_front zero s z f = in_former (binary_front 4 s z f)
   logical_front (suc level) s z f = in_one (logical_front level s z f)
 
   front_first : (G : Place → Place → Type 0) → ((s z : Place) → MinusFront R F s z → G s z) → IsDeep (minus_of N) G
@@ -266,25 +266,25 @@ module _ (N : Readers) (R : Nested) (F : Fronts) (sounds : NestedSound N R) (nes
   binary_deep_on (suc level) s m l h e =
       let p = binary_of N level in
       let is_deep = from_deep (minus_of N) (binary_on N level) (Minus R) (BinaryFront R F level) (minus_sound N R sounds) (binary_deep_on level) (front_first (BinaryFront R F level) (binary_front level)) in
-      elim (bind_deep (binary_on N level l m) (λ x. chain_on (operator (suc level)) binary p x.0 x.1) e) [
+      elim (bind_deep (binary_on N level l m) (λ x. chain_on (operator (suc level)) infixed p x.0 x.1) e) [
         | inl g ↦ (let d = binary_deep_on level s m l h g in (d.0, in_one d.1))
-        | inr b ↦ on_deep (operator (suc level)) (operator (suc level)) same binary p (Binary R level) (BinaryFront R F level) (λ m n x e. e) (binary_sound N R sounds level) is_deep
+        | inr b ↦ on_deep (operator (suc level)) (operator (suc level)) same infixed p (Binary R level) (BinaryFront R F level) (λ m n x e. e) (binary_sound N R sounds level) is_deep
             s b.0.0 b.0.1 (one (binary_sound_on N R sounds level s m b.0.1 l b.0.0 h b.1)) b.2
       ]
 
   binary_deep : (level : ℕ) → IsDeep (binary_of N level) (BinaryFront R F level)
   binary_deep level = from_deep (minus_of N) (binary_on N level) (Minus R) (BinaryFront R F level) (minus_sound N R sounds) (binary_deep_on level) (front_first (BinaryFront R F level) (binary_front level))
 
-  pair_or-deep : (s m : Place) (l : Tree) (o : Option (BinaryOperator × Place)) → Binary R 3 s l m → at (operator 4) m ≡ o → pair_or N l m o ≡ Err deep → (z : Place) × EqualityFront R F s z
+  pair_or-deep : (s m : Place) (l : Tree) (o : Option (Infix × Place)) → Binary R 4 s l m → at (operator 5) m ≡ o → pair_or N l m o ≡ Err deep → (z : Place) × EqualityFront R F s z
   pair_or-deep s m l None h f e = absurd cc
-  pair_or-deep s m l (Some o) h f e = let d = binary_deep 3 o.1 (built_deep (binary o.0 l) (binary_of N 3 o.1) e) in (d.0, in_latter h f d.1)
+  pair_or-deep s m l (Some o) h f e = let d = binary_deep 4 o.1 (built_deep (infixed o.0 l) (binary_of N 4 o.1) e) in (d.0, in_latter h f d.1)
 
   equality_deep_on : IsDeepOn (equality_on N) (Minus R) (EqualityFront R F)
   unfolding equality_on
   equality_deep_on s m l h e =
-      elim (bind_deep (binary_on N 3 l m) (λ x. pair_or N x.0 x.1 (at (operator 4) x.1)) e) [
-        | inl g ↦ (let d = binary_deep_on 3 s m l h g in (d.0, in_former d.1))
-        | inr b ↦ pair_or-deep s b.0.1 b.0.0 (at (operator 4) b.0.1) (binary_sound_on N R sounds 3 s m b.0.1 l b.0.0 h b.1) refl b.2
+      elim (bind_deep (binary_on N 4 l m) (λ x. pair_or N x.0 x.1 (at (operator 5) x.1)) e) [
+        | inl g ↦ (let d = binary_deep_on 4 s m l h g in (d.0, in_former d.1))
+        | inr b ↦ pair_or-deep s b.0.1 b.0.0 (at (operator 5) b.0.1) (binary_sound_on N R sounds 4 s m b.0.1 l b.0.0 h b.1) refl b.2
       ]
 
   logical_deep_on : (level : ℕ) → IsDeepOn (logical_on N level) (Minus R) (LogicalFront R F level)

@@ -1,7 +1,7 @@
 -- What is spelled is read, unless it nests too deep.
 use Rattle.std.proofs.Common.{◌≡◌, ℕ, zero, suc, ◌+◌, ◌*◌, ◌<◌, inl, inr, pos, Bool, true, false, cond, List, [], Option, Some, None, Ok, Err, refl, sym, ap, ◌∙◌, subst, arith}
 use Rattle.rr_base.specs.declared.name.Sym.{Sym}
-use Rattle.rr_tree.specs.Tree.{Tree, nil, truth, int, text, bare, call, with_block, negate, binary, sequence, choose, repeat, send, index, array, hash, pair, symbol, constant, field, global, itself, logical_not, listed}
+use Rattle.rr_tree.specs.Tree.{Tree, nil, truth, int, text, bare, call, with_block, negate, sequence, choose, repeat, send, index, array, hash, pair, symbol, constant, field, global, itself, logical_not, listed}
 use Rattle.rr_parser.specs.declared.word.Tail.{Tail}
 use Rattle.rr_parser.specs.declared.word.Listed.{Listed}
 use Rattle.rr_parser.specs.declared.word.Listed.TheVariants as listings
@@ -15,7 +15,7 @@ use Rattle.rr_parser.specs.Grammar.Chains.{same, one_of, and_one}
 use Rattle.rr_parser.specs.Grammar.Nesting.{Nested}
 use Rattle.rr_parser.specs.Grammar.Names.{is_local, variable_of, local_tree, name, bracket, begins_operands, command}
 use Rattle.rr_parser.specs.Grammar.Operands.{fits, fits_below, negated, joined, literal_of, construct_of, brace, Blocked, no_block, a_block, Primary, a_literal, a_negative, a_local, a_bare_call, a_call, a_block_call, a_construct, tail, Tailed, a_send, a_sent_call, an_index, Postfix, Bang, a_bang, no_bang, Minus, a_minus, no_minus}
-use Rattle.rr_parser.specs.Grammar.Operators.{operator, connective, joined_by, Logical, Binary, Equality, a_comparison, a_pair, Ternary, no_question, a_question}
+use Rattle.rr_parser.specs.Grammar.Operators.{operator, infixed, connective, joined_by, Logical, Binary, Equality, a_comparison, a_pair, Ternary, no_question, a_question}
 use Rattle.rr_parser.specs.Grammar.Calls.{target, with_target, assigned_to, label, comma, closing, last, Assigned, an_assignment, no_assignment, Argument, Pair, by_label, by_arrow, Member, Members, Bracketed, no_members, some_members, Array, an_array, Hash, a_hash, Index, of_element, Commanded, by_arguments, by_command, Command, a_command, Phrase, by_name, an_operand, Value}
 use Rattle.rr_parser.specs.Grammar.Sequences.{Negation, a_negation, no_negation, Expression, modifier, modified, Statement, Rows, Statements, no_statements, some_statements, Group, a_group}
 use Rattle.rr_parser.specs.Grammar.Control.{thens, loops, elsif, chosen, unless_chosen, Branch, a_branch, Branches, Otherwise, no_else, an_else, Choice, a_choice, Unless, an_unless, Loop, a_loop}
@@ -209,30 +209,30 @@ module _ (N : Readers) (R : Nested) (D : Type 0) (shrinks : ReadersShrink N) (ne
 
   -- ---- operators
 
-  binary_full_on : (level : ℕ) → IsFullOn (Minus R) (Stops 0) (binary_on N level) (Binary R level) (Stops (4 * level)) D
+  binary_full_on : (level : ℕ) → IsFullOn (Minus R) (Stops 0) (binary_on N level) (Binary R level) (Stops (3 * level)) D
   unfolding binary_on
   binary_full_on zero s z t h stops = record { first = t; behind = z; spelled = h; stops = stops; leads = inl refl }
   binary_full_on (suc level) s z t c stops =
-      onward_full (operator (suc level)) binary (binary_of N level) (Binary R level) (Stops (4 * level)) D (Steps-operator (suc level)) (shrinks.binary level)
+      onward_full (operator (suc level)) infixed (binary_of N level) (Binary R level) (Stops (3 * level)) D (Steps-operator (suc level)) (shrinks.binary level)
       (λ m n x e. omega (arith, operator_strength (suc level) m n x e))
-      (from_full (minus_of N) (binary_on N level) (Minus R) (Stops 0) (Binary R level) (Stops (4 * level)) minus_full (binary_full_on level))
+      (from_full (minus_of N) (binary_on N level) (Minus R) (Stops 0) (Binary R level) (Stops (3 * level)) minus_full (binary_full_on level))
       (Minus R) (Stops 0) (binary_on N level) (binary_full_on level) s z t c (omega (arith, stops)) (no_operator_at (suc level) z stops)
 
-  pub binary_full : (level : ℕ) → IsFull (binary_of N level) (Binary R level) (Stops (4 * level)) D
-  binary_full level = from_full (minus_of N) (binary_on N level) (Minus R) (Stops 0) (Binary R level) (Stops (4 * level)) minus_full (binary_full_on level)
+  pub binary_full : (level : ℕ) → IsFull (binary_of N level) (Binary R level) (Stops (3 * level)) D
+  binary_full level = from_full (minus_of N) (binary_on N level) (Minus R) (Stops 0) (Binary R level) (Stops (3 * level)) minus_full (binary_full_on level)
 
-  equality_full_on : IsFullOn (Minus R) (Stops 0) (equality_on N) (Equality R) (Stops 16) D
+  equality_full_on : IsFullOn (Minus R) (Stops 0) (equality_on N) (Equality R) (Stops 15) D
   unfolding equality_on
   equality_full_on s z t (a_comparison h) stops =
-      onward_bind (binary_on N 3) (λ l. pair_or N l.0 l.1 (at (operator 4) l.1)) s t z (Ok (t, z)) (binary_full_on 3 s z t h (omega (arith, stops))) (inl (ap (pair_or N t z) (no_operator_at 4 z stops)))
+      onward_bind (binary_on N 4) (λ l. pair_or N l.0 l.1 (at (operator 5) l.1)) s t z (Ok (t, z)) (binary_full_on 4 s z t h (omega (arith, stops))) (inl (ap (pair_or N t z) (no_operator_at 5 z stops)))
   equality_full_on s z t (a_pair {m = m} {n = n} {l = l} {r = r} {o = o} h e g) stops =
-      onward_bind (binary_on N 3) (λ l. pair_or N l.0 l.1 (at (operator 4) l.1)) s l m (Ok (t, z)) (binary_full_on 3 s m l h (omega (arith, operator_strength 4 m n o e)))
-      (leads_eq (pair_or N l m (at (operator 4) m)) (built (binary o l) (binary_of N 3 n)) (Ok (t, z)) (ap (pair_or N l m) e)
-      (leads_bind (binary_of N 3 n) (r, z) (λ x. Ok (binary o l x.0, x.1)) (binary_full 3 n z r g (omega (arith, stops)))))
+      onward_bind (binary_on N 4) (λ l. pair_or N l.0 l.1 (at (operator 5) l.1)) s l m (Ok (t, z)) (binary_full_on 4 s m l h (omega (arith, operator_strength 5 m n o e)))
+      (leads_eq (pair_or N l m (at (operator 5) m)) (built (infixed o l) (binary_of N 4 n)) (Ok (t, z)) (ap (pair_or N l m) e)
+      (leads_bind (binary_of N 4 n) (r, z) (λ x. Ok (infixed o l x.0, x.1)) (binary_full 4 n z r g (omega (arith, stops)))))
 
   logical_full_on : (level : ℕ) → IsFullOn (Minus R) (Stops 0) (logical_on N level) (Logical R level) (Stops (16 + 4 * level)) D
   unfolding logical_on
-  logical_full_on zero s z t h stops = equality_full_on s z t h stops
+  logical_full_on zero s z t h stops = equality_full_on s z t h (omega (arith, stops))
   logical_full_on (suc level) s z t c stops =
       onward_full (connective (suc level)) joined_by (logical_of N level) (Logical R level) (Stops (16 + 4 * level)) D (Steps-connective (suc level)) (shrinks.logical level)
       (λ m n x e. omega (arith, connective_strength (suc level) m n x e))

@@ -4,9 +4,9 @@ use Rattle.std.specs.Prelude.{All, IfOk}
 use Rattle.std.proofs.lemmas.List.{map-append}
 use Rattle.std.proofs.lemmas.List.Elements.{All-append}
 use Rattle.rr_base.specs.declared.name.Sym.{Sym}
-use Rattle.rr_tree.specs.declared.node.BinaryOperator.{BinaryOperator}
+use Rattle.rr_parser.specs.declared.word.Infix.{Infix}
 use Rattle.rr_tree.specs.declared.node.Node.{Node}
-use Rattle.rr_tree.specs.Tree.{Tree, nil, binary, sequence, listed, choose, repeat, call, send, with_block, block, index, pair, symbol, tree_at, HasPartsBefore, IsOrdered}
+use Rattle.rr_tree.specs.Tree.{Tree, nil, sequence, listed, choose, repeat, call, send, with_block, block, index, pair, symbol, tree_at, HasPartsBefore, IsOrdered}
 use Rattle.rr_tree.specs.Nodes.{Extends, node_tree}
 use Rattle.rr_tree.proofs.Growth.{IsOrdered-put, tree_at-put, tree_at-kept, Extends-refl, Extends-trans, length-kept}
 use Rattle.std.specs.Borrow.{Bor}
@@ -35,7 +35,7 @@ use Rattle.rr_parser.specs.declared.word.WordKind.TheVariants as kind
 use Rattle.rr_parser.specs.Places.{Known, Place, Look, placed, without_separators, word, at, skip}
 use Rattle.rr_parser.specs.Grammar.Chains.{same, one_of}
 use Rattle.rr_parser.specs.Grammar.Names.{with_local, bracket, command}
-use Rattle.rr_parser.specs.Grammar.Operators.{operator}
+use Rattle.rr_parser.specs.Grammar.Operators.{operator, infixed}
 use Rattle.rr_parser.specs.Grammar.Calls.{target, with_target, target_tree, operated, signed, assigned_to, label, closing, last}
 use Rattle.rr_parser.specs.Grammar.Control.{thens, loops, chosen, unless_chosen}
 use Rattle.rr_parser.specs.Reading.Answers.{◌>>=◌, Refused, wrong, deep, Answer, Parse, built, ended_by, closed, from, on_seen, across, trail_on, chain, chain_on}
@@ -409,17 +409,17 @@ module _ {C : Type 0} (f : Tree → Tree → C) (look : Look (Unit {0})) (p : Pa
 -- ---- two parts
 
 -- both sides of an equality
-pub made_pair : (N : Readers) (old m1 m2 new : Parser) (l : Tree) (a b id : ℕ) (words rest after left : List Word) (o : BinaryOperator)
-    → Made nodes old m1 a rest (binary_on N 3 l (place old words)) → operator 4 rest ≡ Some (o, after)
-    → Made nodes m1 m2 b left (binary_of N 3 (place m1 after)) → Puts m2 new (binary o (tree_at m2.nodes.items a) (tree_at m2.nodes.items b)) id
+pub made_pair : (N : Readers) (old m1 m2 new : Parser) (l : Tree) (a b id : ℕ) (words rest after left : List Word) (o : Infix)
+    → Made nodes old m1 a rest (binary_on N 4 l (place old words)) → operator 5 rest ≡ Some (o, after)
+    → Made nodes m1 m2 b left (binary_of N 4 (place m1 after)) → Puts m2 new (infixed o (tree_at m2.nodes.items a) (tree_at m2.nodes.items b)) id
     → Made nodes old new id left (equality_on N l (place old words))
 unfolding equality_on
 made_pair N old m1 m2 new l a b id words rest after left o m e k p =
-    made_put old m2 new id left (binary o (tree_at m2.nodes.items a) (tree_at m2.nodes.items b)) (equality_on N l (place old words))
-    (ap (λ (q : Answer Tree). q >>= λ l. pair_or N l.0 l.1 (at (operator 4) l.1)) m.tree
-    ∙ ap (pair_or N (tree_at m1.nodes.items a) (place m1 rest)) (seen_at m1 (operator 4) rest after o e)
-    ∙ ap (built (binary o (tree_at m1.nodes.items a))) k.tree
-    ∙ ap (λ (u : Tree). Ok (binary o u (tree_at m2.nodes.items b), place m2 left)) (sym (tree_at-kept m1.nodes.items m2.nodes.items a k.kept m.there)))
+    made_put old m2 new id left (infixed o (tree_at m2.nodes.items a) (tree_at m2.nodes.items b)) (equality_on N l (place old words))
+    (ap (λ (q : Answer Tree). q >>= λ l. pair_or N l.0 l.1 (at (operator 5) l.1)) m.tree
+    ∙ ap (pair_or N (tree_at m1.nodes.items a) (place m1 rest)) (seen_at m1 (operator 5) rest after o e)
+    ∙ ap (built (infixed o (tree_at m1.nodes.items a))) k.tree
+    ∙ ap (λ (u : Tree). Ok (infixed o u (tree_at m2.nodes.items b), place m2 left)) (sym (tree_at-kept m1.nodes.items m2.nodes.items a k.kept m.there)))
     (Extends-trans old.nodes.items m1.nodes.items m2.nodes.items m.kept k.kept) p
 
 -- what is chosen between

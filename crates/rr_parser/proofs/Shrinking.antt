@@ -1,6 +1,6 @@
 -- What is spelled takes no words back, and so reading takes none back.
 use Rattle.std.proofs.Common.{ℕ, zero, suc, [], Bool, true, false, arith, ◌≤◌}
-use Rattle.rr_tree.specs.Tree.{binary, call, send, listed}
+use Rattle.rr_tree.specs.Tree.{call, send, listed}
 use Rattle.rr_parser.specs.declared.word.Tail.{Tail}
 use Rattle.rr_parser.specs.declared.word.Target.{Target}
 use Rattle.rr_parser.specs.declared.word.Listed.{Listed}
@@ -14,7 +14,7 @@ use Rattle.rr_parser.specs.Grammar.Chains.{same, one_of, and_one}
 use Rattle.rr_parser.specs.Grammar.Nesting.{Nested}
 use Rattle.rr_parser.specs.Grammar.Names.{name, bracket}
 use Rattle.rr_parser.specs.Grammar.Operands.{joined, brace, Blocked, no_block, a_block, Primary, a_literal, a_negative, a_local, a_bare_call, a_call, a_block_call, a_construct, tail, Tailed, a_send, a_sent_call, an_index, Postfix, Bang, a_bang, no_bang, Minus, a_minus, no_minus}
-use Rattle.rr_parser.specs.Grammar.Operators.{operator, connective, joined_by, Logical, Binary, Equality, a_comparison, a_pair, Ternary, no_question, a_question}
+use Rattle.rr_parser.specs.Grammar.Operators.{operator, infixed, connective, joined_by, Logical, Binary, Equality, a_comparison, a_pair, Ternary, no_question, a_question}
 use Rattle.rr_parser.specs.Grammar.Calls.{with_target, label, comma, Assigned, an_assignment, no_assignment, Argument, Pair, by_label, by_arrow, Member, Members, Bracketed, no_members, some_members, Array, an_array, Hash, a_hash, Index, of_element, Commanded, by_arguments, by_command, Command, a_command, Phrase, by_name, an_operand, Operand, Value}
 use Rattle.rr_parser.specs.Grammar.Sequences.{Negation, a_negation, no_negation, Expression, modifier, modified, Statement, Rows, Statements, no_statements, some_statements, Group, a_group}
 use Rattle.rr_parser.specs.Grammar.Control.{elsif, Branch, a_branch, Branches, Otherwise, no_else, an_else, Choice, a_choice, Unless, an_unless, Loop, a_loop}
@@ -100,11 +100,11 @@ module _ (R : Nested) (nests : NestedShrinking R) where
 
   binary_shrinking : (level : ℕ) → IsShrinking (Binary R level)
   binary_shrinking zero = minus_shrinking
-  binary_shrinking (suc level) = chain_shrinking (operator (suc level)) same binary (Binary R level) (Steps-operator (suc level)) (binary_shrinking level)
+  binary_shrinking (suc level) = chain_shrinking (operator (suc level)) same infixed (Binary R level) (Steps-operator (suc level)) (binary_shrinking level)
 
   equality_shrinking : IsShrinking (Equality R)
-  equality_shrinking s z t (a_comparison h) = binary_shrinking 3 s z t h
-  equality_shrinking s z t (a_pair {m = m} {n = n} {l = l} {r = r} {o = o} h e g) = omega (arith, binary_shrinking 3 s m l h, Steps-operator 4 m n o e, binary_shrinking 3 n z r g)
+  equality_shrinking s z t (a_comparison h) = binary_shrinking 4 s z t h
+  equality_shrinking s z t (a_pair {m = m} {n = n} {l = l} {r = r} {o = o} h e g) = omega (arith, binary_shrinking 4 s m l h, Steps-operator 5 m n o e, binary_shrinking 4 n z r g)
 
   logical_shrinking : (level : ℕ) → IsShrinking (Logical R level)
   logical_shrinking zero = equality_shrinking

@@ -1,8 +1,8 @@
 -- What is read is spelled.
 use Rattle.std.proofs.Common.{◌≡◌, ℕ, zero, suc, pos, Bool, true, false, cond, List, [], ◌∷◌, Option, Some, None, Ok, Err, refl, sym, subst, ap}
 use Rattle.rr_base.specs.declared.name.Sym.{Sym}
-use Rattle.rr_tree.specs.declared.node.BinaryOperator.{BinaryOperator}
-use Rattle.rr_tree.specs.Tree.{Tree, nil, int, bare, call, with_block, negate, binary, sequence, choose, repeat, send, index, array, hash, pair, symbol, logical_not, listed}
+use Rattle.rr_parser.specs.declared.word.Infix.{Infix}
+use Rattle.rr_tree.specs.Tree.{Tree, nil, int, bare, call, with_block, negate, sequence, choose, repeat, send, index, array, hash, pair, symbol, logical_not, listed}
 use Rattle.rr_parser.specs.declared.word.Tail.{Tail}
 use Rattle.rr_parser.specs.declared.word.Tail.TheVariants as tails
 use Rattle.rr_parser.specs.declared.word.Aim.{Aim}
@@ -18,7 +18,7 @@ use Rattle.rr_parser.specs.Grammar.Chains.{one, same, one_of, and_one}
 use Rattle.rr_parser.specs.Grammar.Nesting.{Nested}
 use Rattle.rr_parser.specs.Grammar.Names.{is_local, variable_of, local_tree, name, bracket, begins_operands, command}
 use Rattle.rr_parser.specs.Grammar.Operands.{fits, fits_below, negated, joined, literal_of, construct_of, brace, Blocked, no_block, a_block, Primary, a_literal, a_negative, a_local, a_bare_call, a_call, a_block_call, a_construct, tail, Tailed, a_send, a_sent_call, an_index, Postfix, Bang, a_bang, no_bang, Minus, a_minus, no_minus}
-use Rattle.rr_parser.specs.Grammar.Operators.{operator, Binary, Equality, a_comparison, a_pair, connective, joined_by, Logical, Ternary, no_question, a_question}
+use Rattle.rr_parser.specs.Grammar.Operators.{operator, infixed, Binary, Equality, a_comparison, a_pair, connective, joined_by, Logical, Ternary, no_question, a_question}
 use Rattle.rr_parser.specs.Grammar.Calls.{target, with_target, assigned_to, label, comma, closing, last, Assigned, an_assignment, no_assignment, Argument, Pair, by_label, by_arrow, Member, Members, Bracketed, no_members, some_members, Array, an_array, Hash, a_hash, Index, of_element, Commanded, by_arguments, by_command, Command, a_command, Phrase, by_name, an_operand, Operand, Value}
 use Rattle.rr_parser.specs.Grammar.Sequences.{Negation, a_negation, no_negation, Expression, modifier, modified, Statement, Rows, Statements, no_statements, some_statements, Group, a_group}
 use Rattle.rr_parser.specs.Grammar.Control.{thens, loops, elsif, chosen, unless_chosen, Branch, a_branch, Branches, Otherwise, no_else, an_else, Choice, a_choice, Unless, an_unless, Loop, a_loop}
@@ -175,23 +175,23 @@ module _ (N : Readers) (R : Nested) (nests : NestedSound N R) where
   binary_sound_on (suc level) s m z l t h e =
       let p = binary_of N level in
       let sound = from_sound (minus_of N) (binary_on N level) (Minus R) (Binary R level) minus_sound (binary_sound_on level) in
-      let b = bind_ok (binary_on N level l m) (λ x. chain_on (operator (suc level)) binary p x.0 x.1) (t, z) e in
-      chain_on-sound (operator (suc level)) (operator (suc level)) same binary p (Binary R level) (λ m n x e. e) sound s b.0.0 b.0.1 z t (one (binary_sound_on level s m b.0.1 l b.0.0 h b.1)) b.2
+      let b = bind_ok (binary_on N level l m) (λ x. chain_on (operator (suc level)) infixed p x.0 x.1) (t, z) e in
+      chain_on-sound (operator (suc level)) (operator (suc level)) same infixed p (Binary R level) (λ m n x e. e) sound s b.0.0 b.0.1 z t (one (binary_sound_on level s m b.0.1 l b.0.0 h b.1)) b.2
 
   pub binary_sound : (level : ℕ) → IsSound (binary_of N level) (Binary R level)
   binary_sound level = from_sound (minus_of N) (binary_on N level) (Minus R) (Binary R level) minus_sound (binary_sound_on level)
 
-  pair_or-sound : (s m : Place) (l : Tree) (o : Option (BinaryOperator × Place)) (z : Place) (t : Tree) → Binary R 3 s l m → at (operator 4) m ≡ o → pair_or N l m o ≡ Ok (t, z) → Equality R s t z
+  pair_or-sound : (s m : Place) (l : Tree) (o : Option (Infix × Place)) (z : Place) (t : Tree) → Binary R 4 s l m → at (operator 5) m ≡ o → pair_or N l m o ≡ Ok (t, z) → Equality R s t z
   pair_or-sound s m l None z t h f e = at_answer (Equality R s) l t m z e (a_comparison h)
   pair_or-sound s m l (Some o) z t h f e =
-      let b = built_ok (binary o.0 l) (binary_of N 3 o.1) t z e in
-      subst (λ (q : Tree). Equality R s q z) (sym b.2) (a_pair h f (binary_sound 3 o.1 z b.0 b.1))
+      let b = built_ok (infixed o.0 l) (binary_of N 4 o.1) t z e in
+      subst (λ (q : Tree). Equality R s q z) (sym b.2) (a_pair h f (binary_sound 4 o.1 z b.0 b.1))
 
   pub equality_sound_on : IsSoundOn (equality_on N) (Minus R) (Equality R)
   unfolding equality_on
   equality_sound_on s m z l t h e =
-      let b = bind_ok (binary_on N 3 l m) (λ x. pair_or N x.0 x.1 (at (operator 4) x.1)) (t, z) e in
-      pair_or-sound s b.0.1 b.0.0 (at (operator 4) b.0.1) z t (binary_sound_on 3 s m b.0.1 l b.0.0 h b.1) refl b.2
+      let b = bind_ok (binary_on N 4 l m) (λ x. pair_or N x.0 x.1 (at (operator 5) x.1)) (t, z) e in
+      pair_or-sound s b.0.1 b.0.0 (at (operator 5) b.0.1) z t (binary_sound_on 4 s m b.0.1 l b.0.0 h b.1) refl b.2
 
   pub logical_sound_on : (level : ℕ) → IsSoundOn (logical_on N level) (Minus R) (Logical R level)
   unfolding logical_on

@@ -2,9 +2,10 @@
 use Rattle.std.proofs.Common.{◌≡◌, ℕ, zero, suc, ◌+◌, ◌*◌, ◌<◌, ◌≤◌, inl, inr, Bool, true, false, cond, not, ◌&&◌, ◌==◌, List, [], ◌∷◌, Option, Some, None, refl, sym, ap, ◌∙◌, subst, arith}
 use Rattle.std.proofs.lemmas.Bool.Decides.{eqb_tells}
 use Rattle.rr_base.specs.declared.name.Sym.{Sym}
-use Rattle.rr_tree.specs.declared.node.BinaryOperator.{BinaryOperator}
+use Rattle.rr_parser.specs.declared.word.Infix.{Infix}
+use Rattle.rr_parser.specs.declared.word.Infix.TheVariants as infixes
 use Rattle.rr_tree.specs.declared.node.BinaryOperator.TheVariants as op
-use Rattle.rr_tree.specs.Tree.{Tree, binary}
+use Rattle.rr_tree.specs.Tree.{Tree}
 use Rattle.rr_parser.specs.declared.word.Connective.{Connective}
 use Rattle.rr_parser.specs.declared.word.Connective.TheVariants as connectives
 use Rattle.rr_parser.specs.declared.word.Modifier.{Modifier}
@@ -23,7 +24,7 @@ use Rattle.rr_parser.specs.Grammar.Chains.{Chain, one, more, at_first, and_then,
 use Rattle.rr_parser.specs.Grammar.Nesting.{Nested}
 use Rattle.rr_parser.specs.Grammar.Names.{is_local, name, bracket, is_tight, begins_operand, begins_operands, begins_command, command}
 use Rattle.rr_parser.specs.Grammar.Operands.{joined, literal_of, construct_of, brace, Primary, a_literal, a_negative, a_local, a_bare_call, a_call, a_block_call, a_construct, tail, Postfix, Bang, a_bang, no_bang, Minus, a_minus, no_minus}
-use Rattle.rr_parser.specs.Grammar.Operators.{level_of, at_level, operator_of, operator, where_level, connective_of, connective, joined_by, Binary, a_comparison, a_pair, Logical, Ternary, no_question, a_question}
+use Rattle.rr_parser.specs.Grammar.Operators.{level_of, at_level, operator_of, operator, infixed, where_level, connective_of, connective, joined_by, Binary, a_comparison, a_pair, Logical, Ternary, no_question, a_question}
 use Rattle.rr_parser.specs.Grammar.Calls.{target, comma, Assigned, an_assignment, no_assignment, Argument, a_command, Phrase, by_name, an_operand, Value, closing, target_of_kind, label, Member, label_of_kind, last, by_label, by_arrow}
 use Rattle.rr_parser.specs.Grammar.Sequences.{Negation, a_negation, no_negation, Expression, modifier_of, modifier, Statement, modified}
 use Rattle.rr_parser.specs.Grammar.Control.{thens, loops, elsif}
@@ -35,10 +36,10 @@ use Rattle.rr_parser.proofs.Looks.{closes, ends_member, is_tail, closing-next, l
 -- How loosely a word goes on with what stands before it: what follows an operand first, then the operators, then the conditions, `?`, the sign of an
 -- assignment, the comma, the words `and` and `or`, the modifiers, and last what goes on with nothing.
 abbrev pub strength : WordKind → ℕ
-strength (kind.Operator o) = 4 * level_of o
+strength (kind.Operator o) = 3 * level_of o
 strength kind.Dot = 0
 strength kind.OpenSquare = 0
-strength kind.Minus = 8
+strength kind.Minus = 6
 strength kind.And = 20
 strength kind.Or = 24
 strength kind.Question = 25
@@ -74,23 +75,23 @@ word_unseen k told s stops = none_unless (at (word k) s) (λ u z e. let never : 
 
 -- ---- operators
 
-no_operator : (b : Bool) (o x : BinaryOperator) → b ≡ false → cond b (Some o) None ≡ Some x → ⊥
+no_operator : (b : Bool) (o x : Infix) → b ≡ false → cond b (Some o) None ≡ Some x → ⊥
 no_operator true o x f e = let never : ⊥ = cc in never
 no_operator false o x f e = let never : ⊥ = cc in never
 
-at_level-is : (l : ℕ) (o x : BinaryOperator) → at_level l o ≡ Some x → level_of o ≡ l
+at_level-is : (l : ℕ) (o x : Infix) → at_level l o ≡ Some x → level_of o ≡ l
 at_level-is l o x e = elim (eqb_tells (level_of o) l) [ inl t ↦ t.1 | inr f ↦ absurd (no_operator (level_of o == l) o x f.0 e) ]
 
-operator_tells : (l : ℕ) (k : WordKind) (x : BinaryOperator) → operator_of l k ≡ Some x → strength k ≡ 4 * l
-operator_tells l (kind.Operator o) x e = ap (λ n. 4 * n) (at_level-is l o x e)
-operator_tells l kind.Minus x e = ap (λ n. 4 * n) (at_level-is l op.Subtract x e)
+operator_tells : (l : ℕ) (k : WordKind) (x : Infix) → operator_of l k ≡ Some x → strength k ≡ 3 * l
+operator_tells l (kind.Operator o) x e = ap (λ n. 3 * n) (at_level-is l o x e)
+operator_tells l kind.Minus x e = ap (λ n. 3 * n) (at_level-is l (infixes.Binary op.Subtract) x e)
 operator_tells l _ x e = absurd cc
 
-pub operator_strength : (l : ℕ) (s z : Place) (x : BinaryOperator) → at (operator l) s ≡ Some (x, z) → strength_in (next s) ≡ 4 * l
-operator_strength l = seen_strength (operator_of l) (4 * l) (operator_tells l)
+pub operator_strength : (l : ℕ) (s z : Place) (x : Infix) → at (operator l) s ≡ Some (x, z) → strength_in (next s) ≡ 3 * l
+operator_strength l = seen_strength (operator_of l) (3 * l) (operator_tells l)
 
-pub no_operator_at : (l : ℕ) (s : Place) → Stops (4 * l) s → at (operator l) s ≡ None
-no_operator_at l = unseen (operator_of l) (4 * l) (operator_tells l)
+pub no_operator_at : (l : ℕ) (s : Place) → Stops (3 * l) s → at (operator l) s ≡ None
+no_operator_at l = unseen (operator_of l) (3 * l) (operator_tells l)
 
 no_connective : (b : Bool) (o x : Connective) → b ≡ false → cond b (Some o) None ≡ Some x → ⊥
 no_connective true o x f e = let never : ⊥ = cc in never
@@ -340,12 +341,12 @@ minus_first R s z t (no_minus (no_bang h)) = let p = postfix_head R s z t h in p
 binary_first : (R : Nested) (level : ℕ) (s z : Place) (t : Tree) → Binary R level s t z → First s
 binary_first R zero s z t h = minus_first R s z t h
 binary_first R (suc level) s z t c =
-    let f = chain_first (operator (suc level)) same binary (Binary R level) s z t c in
+    let f = chain_first (operator (suc level)) same infixed (Binary R level) s z t c in
     binary_first R level s f.1 f.0 f.2
 
 logical_first : (R : Nested) (level : ℕ) (s z : Place) (t : Tree) → Logical R level s t z → First s
-logical_first R zero s z t (a_comparison h) = binary_first R 3 s z t h
-logical_first R zero s z t (a_pair {m = m} {l = l} h e g) = binary_first R 3 s m l h
+logical_first R zero s z t (a_comparison h) = binary_first R 4 s z t h
+logical_first R zero s z t (a_pair {m = m} {l = l} h e g) = binary_first R 4 s m l h
 logical_first R (suc level) s z t c =
     let f = chain_first (connective (suc level)) same joined_by (Logical R level) s z t c in
     logical_first R level s f.1 f.0 f.2
@@ -587,15 +588,15 @@ module _ (R : Nested) (s m n : Place) (k : WordKind) (x : Target) (sign : Sign) 
       let a = chain_stuck between w join P lt tells stuck o l c in
       let never : ⊥ = omega (arith, tells o q y e, a, lt) in absurd never
 
-  binary_stuck : (level : ℕ) → level ≤ 3 → (z : Place) (t : Tree) → Binary R level s t z → Assigns z
+  binary_stuck : (level : ℕ) → level ≤ 4 → (z : Place) (t : Tree) → Binary R level s t z → Assigns z
   binary_stuck zero le z t h = minus_stuck z t h
-  binary_stuck (suc level) le z t c = chain_stuck (operator (suc level)) (4 * suc level) binary (Binary R level) (omega (arith, le)) (operator_strength (suc level)) (binary_stuck level (omega (arith, le))) z t c
+  binary_stuck (suc level) le z t c = chain_stuck (operator (suc level)) (3 * suc level) infixed (Binary R level) (omega (arith, le)) (operator_strength (suc level)) (binary_stuck level (omega (arith, le))) z t c
 
   logical_stuck : (level : ℕ) → level ≤ 2 → (z : Place) (t : Tree) → Logical R level s t z → Assigns z
-  logical_stuck zero le z t (a_comparison h) = binary_stuck 3 (omega arith) z t h
+  logical_stuck zero le z t (a_comparison h) = binary_stuck 4 (omega arith) z t h
   logical_stuck zero le z t (a_pair {m = o} {n = q} {l = l} {o = b} h e g) =
-      let a = binary_stuck 3 (omega arith) o l h in
-      let never : ⊥ = omega (arith, operator_strength 4 o q b e, a) in absurd never
+      let a = binary_stuck 4 (omega arith) o l h in
+      let never : ⊥ = omega (arith, operator_strength 5 o q b e, a) in absurd never
   logical_stuck (suc level) le z t c =
       chain_stuck (connective (suc level)) (16 + 4 * suc level) joined_by (Logical R level) (omega (arith, le)) (connective_strength (suc level)) (logical_stuck level (omega (arith, le))) z t c
 

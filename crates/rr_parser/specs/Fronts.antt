@@ -79,7 +79,7 @@ BinaryFront N F zero = MinusFront N F
 BinaryFront N F (suc level) = ChainFront (operator (suc level)) (Binary N (suc level)) (BinaryFront N F level)
 
 abbrev pub EqualityFront : Nested → Fronts → Place → Place → Type 0
-EqualityFront N F = AcrossFront (operator 4) (Binary N 3) (BinaryFront N F 3) (BinaryFront N F 3)
+EqualityFront N F = AcrossFront (operator 5) (Binary N 4) (BinaryFront N F 4) (BinaryFront N F 4)
 
 abbrev pub LogicalFront : Nested → Fronts → ℕ → Place → Place → Type 0
 LogicalFront N F zero = EqualityFront N F

@@ -12,6 +12,7 @@ use Rattle.rr_lexer.specs.declared.kind.Token.{Token}
 use Rattle.rr_lexer.specs.Contents.{word_of, name_of, int_value_of, contents_of}
 use Rattle.rr_tree.specs.declared.node.BinaryOperator.TheVariants as op
 use Rattle.rr_parser.specs.declared.word.Connective.TheVariants as connectives
+use Rattle.rr_parser.specs.declared.word.Infix.TheVariants as infixes
 use Rattle.rr_parser.specs.declared.word.Operation.TheVariants as operations
 use Rattle.rr_parser.specs.declared.word.Sign.TheVariants as signs
 use Rattle.rr_parser.specs.declared.word.WordKind.{WordKind}
@@ -47,25 +48,27 @@ op_kind ops.Arrow = kind.Arrow
 op_kind ops.Comma = kind.Comma
 op_kind ops.Semicolon = kind.Separator
 op_kind ops.Assign = kind.Assign signs.Plain
-op_kind ops.PlusAssign = kind.Assign (signs.With (operations.Binary op.Add))
-op_kind ops.MinusAssign = kind.Assign (signs.With (operations.Binary op.Subtract))
-op_kind ops.StarAssign = kind.Assign (signs.With (operations.Binary op.Multiply))
-op_kind ops.SlashAssign = kind.Assign (signs.With (operations.Binary op.Divide))
-op_kind ops.PercentAssign = kind.Assign (signs.With (operations.Binary op.Remainder))
+op_kind ops.PlusAssign = kind.Assign (signs.With (operations.Infix (infixes.Binary op.Add)))
+op_kind ops.MinusAssign = kind.Assign (signs.With (operations.Infix (infixes.Binary op.Subtract)))
+op_kind ops.StarAssign = kind.Assign (signs.With (operations.Infix (infixes.Binary op.Multiply)))
+op_kind ops.SlashAssign = kind.Assign (signs.With (operations.Infix (infixes.Binary op.Divide)))
+op_kind ops.PercentAssign = kind.Assign (signs.With (operations.Infix (infixes.Binary op.Remainder)))
+op_kind ops.ShiftAssign = kind.Assign (signs.With (operations.Infix infixes.Append))
 op_kind ops.OrAssign = kind.Assign (signs.With (operations.Connective connectives.Or))
 op_kind ops.AndAssign = kind.Assign (signs.With (operations.Connective connectives.And))
 op_kind ops.Minus = kind.Minus
-op_kind ops.Plus = kind.Operator op.Add
-op_kind ops.Star = kind.Operator op.Multiply
-op_kind ops.Slash = kind.Operator op.Divide
-op_kind ops.Percent = kind.Operator op.Remainder
-op_kind ops.Less = kind.Operator op.Less
-op_kind ops.LessOrEqual = kind.Operator op.LessOrEqual
-op_kind ops.Greater = kind.Operator op.Greater
-op_kind ops.GreaterOrEqual = kind.Operator op.GreaterOrEqual
-op_kind ops.Compare = kind.Operator op.Compare
-op_kind ops.Equal = kind.Operator op.Equal
-op_kind ops.NotEqual = kind.Operator op.NotEqual
+op_kind ops.Plus = kind.Operator (infixes.Binary op.Add)
+op_kind ops.Star = kind.Operator (infixes.Binary op.Multiply)
+op_kind ops.Slash = kind.Operator (infixes.Binary op.Divide)
+op_kind ops.Percent = kind.Operator (infixes.Binary op.Remainder)
+op_kind ops.Less = kind.Operator (infixes.Binary op.Less)
+op_kind ops.LessOrEqual = kind.Operator (infixes.Binary op.LessOrEqual)
+op_kind ops.Greater = kind.Operator (infixes.Binary op.Greater)
+op_kind ops.GreaterOrEqual = kind.Operator (infixes.Binary op.GreaterOrEqual)
+op_kind ops.Compare = kind.Operator (infixes.Binary op.Compare)
+op_kind ops.Equal = kind.Operator (infixes.Binary op.Equal)
+op_kind ops.NotEqual = kind.Operator (infixes.Binary op.NotEqual)
+op_kind ops.Shift = kind.Operator infixes.Append
 op_kind ops.And = kind.And
 op_kind ops.Or = kind.Or
 op_kind ops.Bang = kind.Bang

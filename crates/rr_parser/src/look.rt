@@ -4,7 +4,7 @@ ghost use Rattle.std.specs.Prelude.{◌≡◌, ◌≤◌};
 ghost use Rattle.rr_parser.specs.Places.{word, without_separators, separators};
 ghost use Rattle.rr_parser.specs.Grammar.Names.{name, bracket, begins_operands, begins_operand, is_tight};
 ghost use Rattle.rr_parser.specs.Grammar.Operands.{negated, joined, square, sent, tail};
-ghost use Rattle.rr_parser.specs.Grammar.Operators.{level_of, operator_of, at_level, operator, connective_of, connective};
+ghost use Rattle.rr_parser.specs.Grammar.Operators.{level_of_binary, level_of, operator_of, at_level, operator, connective_of, connective};
 ghost use Rattle.rr_parser.specs.Grammar.Calls.{sign, target_word, target, label, closing, last};
 ghost use Rattle.rr_parser.specs.Grammar.Sequences.{modifier};
 ghost use Rattle.rr_parser.specs.Grammar.Control.{thens, loops};
@@ -13,7 +13,7 @@ ghost use Rattle.rr_parser.specs.Reading.Calls.{another};
 ghost use Rattle.rr_parser.specs.Reading.Sequences.{ends_at, ends, row};
 ghost use Rattle.rr_parser.specs.Meets.{Sees, SeesRest};
 
-use crate::word::{Aim, Connective, Listed, Modifier, Sign, Tail, Target, Word, WordKind};
+use crate::word::{Aim, Connective, Infix, Listed, Modifier, Sign, Tail, Target, Word, WordKind};
 use rr_base::Sym;
 use rr_tree::BinaryOperator;
 
@@ -31,9 +31,8 @@ pub(crate) fn negated(n: u64) -> i64
     }
 }
 
-/// The level of an operator. The tightest is 1, and 4 does not associate.
-pub(crate) fn level_of(operator: BinaryOperator) -> u8
-    ensures { result ≡ level_of operator }
+fn level_of_binary(operator: BinaryOperator) -> u8
+    ensures { result ≡ level_of_binary operator }
 {
     match operator {
         BinaryOperator::Multiply | BinaryOperator::Divide | BinaryOperator::Remainder => 1,
@@ -41,23 +40,33 @@ pub(crate) fn level_of(operator: BinaryOperator) -> u8
         BinaryOperator::Less
         | BinaryOperator::LessOrEqual
         | BinaryOperator::Greater
-        | BinaryOperator::GreaterOrEqual => 3,
-        BinaryOperator::Compare | BinaryOperator::Equal | BinaryOperator::NotEqual => 4,
+        | BinaryOperator::GreaterOrEqual => 4,
+        BinaryOperator::Compare | BinaryOperator::Equal | BinaryOperator::NotEqual => 5,
+    }
+}
+
+/// The level of an operator. The tightest is 1, and 5 does not associate.
+pub(crate) fn level_of(operator: Infix) -> u8
+    ensures { result ≡ level_of operator }
+{
+    match operator {
+        Infix::Binary(operator) => level_of_binary(operator),
+        Infix::Append => 3,
     }
 }
 
 /// The operator of a level that a word is.
-fn operator_of(level: u8, kind: WordKind) -> Option<BinaryOperator>
+fn operator_of(level: u8, kind: WordKind) -> Option<Infix>
     ensures { result ≡ operator_of level kind }
 {
     match kind {
         WordKind::Operator(operator) => at_level(level, operator),
-        WordKind::Minus => at_level(level, BinaryOperator::Subtract),
+        WordKind::Minus => at_level(level, Infix::Binary(BinaryOperator::Subtract)),
         _ => None,
     }
 }
 
-fn at_level(level: u8, operator: BinaryOperator) -> Option<BinaryOperator>
+fn at_level(level: u8, operator: Infix) -> Option<Infix>
     ensures { result ≡ at_level level operator }
 {
     if level_of(operator) == level {
@@ -78,7 +87,7 @@ pub(crate) fn behind(kind: WordKind, words: &[Word]) -> Option<&[Word]>
 }
 
 /// An operator of a level.
-pub(crate) fn operator(level: u8, words: &[Word]) -> Option<(BinaryOperator, &[Word])>
+pub(crate) fn operator(level: u8, words: &[Word]) -> Option<(Infix, &[Word])>
     ensures { Sees result (operator level words.now) }
 {
     let (word, rest) = words.split_first()?;

@@ -4,7 +4,7 @@ ghost use Rattle.std.specs.Prelude.{◌≡◌, ◌∷◌, [], ◌++◌, length, 
 ghost use Rattle.rr_parser.specs.Words.{keyword_kind, op_kind, is_marked, with_name, number_of, with_symbol, with_text, word_with, words_of, symbols_of, texts_of};
 
 use crate::refusal::Storage;
-use crate::word::{Connective, Operation, Sign, Word, WordKind};
+use crate::word::{Connective, Infix, Operation, Sign, Word, WordKind};
 use indexmap::IndexSet;
 use rr_base::Sym;
 use rr_lexer::{Keyword, Kind, Op, Token, int_value, name, text_contents};
@@ -56,29 +56,37 @@ fn op_kind(op: Op) -> WordKind
         Op::Comma => WordKind::Comma,
         Op::Semicolon => WordKind::Separator,
         Op::Assign => WordKind::Assign(Sign::Plain),
-        Op::PlusAssign => WordKind::Assign(Sign::With(Operation::Binary(BinaryOperator::Add))),
-        Op::MinusAssign => WordKind::Assign(Sign::With(Operation::Binary(
+        Op::PlusAssign => WordKind::Assign(Sign::With(Operation::Infix(Infix::Binary(
+            BinaryOperator::Add,
+        )))),
+        Op::MinusAssign => WordKind::Assign(Sign::With(Operation::Infix(Infix::Binary(
             BinaryOperator::Subtract,
-        ))),
-        Op::StarAssign => WordKind::Assign(Sign::With(Operation::Binary(BinaryOperator::Multiply))),
-        Op::SlashAssign => WordKind::Assign(Sign::With(Operation::Binary(BinaryOperator::Divide))),
-        Op::PercentAssign => WordKind::Assign(Sign::With(Operation::Binary(
+        )))),
+        Op::StarAssign => WordKind::Assign(Sign::With(Operation::Infix(Infix::Binary(
+            BinaryOperator::Multiply,
+        )))),
+        Op::SlashAssign => WordKind::Assign(Sign::With(Operation::Infix(Infix::Binary(
+            BinaryOperator::Divide,
+        )))),
+        Op::PercentAssign => WordKind::Assign(Sign::With(Operation::Infix(Infix::Binary(
             BinaryOperator::Remainder,
-        ))),
+        )))),
+        Op::ShiftAssign => WordKind::Assign(Sign::With(Operation::Infix(Infix::Append))),
         Op::OrAssign => WordKind::Assign(Sign::With(Operation::Connective(Connective::Or))),
         Op::AndAssign => WordKind::Assign(Sign::With(Operation::Connective(Connective::And))),
         Op::Minus => WordKind::Minus,
-        Op::Plus => WordKind::Operator(BinaryOperator::Add),
-        Op::Star => WordKind::Operator(BinaryOperator::Multiply),
-        Op::Slash => WordKind::Operator(BinaryOperator::Divide),
-        Op::Percent => WordKind::Operator(BinaryOperator::Remainder),
-        Op::Less => WordKind::Operator(BinaryOperator::Less),
-        Op::LessOrEqual => WordKind::Operator(BinaryOperator::LessOrEqual),
-        Op::Greater => WordKind::Operator(BinaryOperator::Greater),
-        Op::GreaterOrEqual => WordKind::Operator(BinaryOperator::GreaterOrEqual),
-        Op::Compare => WordKind::Operator(BinaryOperator::Compare),
-        Op::Equal => WordKind::Operator(BinaryOperator::Equal),
-        Op::NotEqual => WordKind::Operator(BinaryOperator::NotEqual),
+        Op::Plus => WordKind::Operator(Infix::Binary(BinaryOperator::Add)),
+        Op::Star => WordKind::Operator(Infix::Binary(BinaryOperator::Multiply)),
+        Op::Slash => WordKind::Operator(Infix::Binary(BinaryOperator::Divide)),
+        Op::Percent => WordKind::Operator(Infix::Binary(BinaryOperator::Remainder)),
+        Op::Less => WordKind::Operator(Infix::Binary(BinaryOperator::Less)),
+        Op::LessOrEqual => WordKind::Operator(Infix::Binary(BinaryOperator::LessOrEqual)),
+        Op::Greater => WordKind::Operator(Infix::Binary(BinaryOperator::Greater)),
+        Op::GreaterOrEqual => WordKind::Operator(Infix::Binary(BinaryOperator::GreaterOrEqual)),
+        Op::Compare => WordKind::Operator(Infix::Binary(BinaryOperator::Compare)),
+        Op::Equal => WordKind::Operator(Infix::Binary(BinaryOperator::Equal)),
+        Op::NotEqual => WordKind::Operator(Infix::Binary(BinaryOperator::NotEqual)),
+        Op::Shift => WordKind::Operator(Infix::Append),
         Op::And => WordKind::And,
         Op::Or => WordKind::Or,
         Op::Bang => WordKind::Bang,

@@ -3,7 +3,7 @@
 ghost use Rattle.std.specs.Prelude.{◌≡◌, ◌<◌, ◌≤◌, ◌++◌, length, map, All, IfOk, OnOk};
 ghost use Rattle.rr_tree.specs.Tree.{Tree, tree_at, sequence, bare, call, send, array, hash, pair, symbol, listed, HasPartsBefore};
 ghost use Rattle.rr_tree.specs.Nodes.{node_tree, item};
-ghost use Rattle.rr_parser.specs.Grammar.Operators.{joined_by};
+ghost use Rattle.rr_parser.specs.Grammar.Operators.{infixed, joined_by};
 ghost use Rattle.rr_parser.specs.Grammar.Names.{local_tree};
 ghost use Rattle.rr_parser.specs.Grammar.Calls.{target_tree, set_target, operated, signed};
 ghost use Rattle.rr_parser.specs.Grammar.Sequences.{modified};
@@ -14,7 +14,7 @@ use crate::look::{INTEGERS, joined, negated};
 use crate::parser::{Parsed, Parser};
 use crate::refusal::{Refusal, Storage};
 use crate::variables::Variable;
-use crate::word::{Aim, Connective, Modifier, Operation, Sign, Target, Word};
+use crate::word::{Aim, Connective, Infix, Modifier, Operation, Sign, Target, Word};
 use rr_base::Sym;
 use rr_tree::{Node, NodeId};
 
@@ -45,6 +45,23 @@ impl Parser {
         let id = self.nodes.len() as u32;
         self.nodes.push(node)?;
         Ok(id)
+    }
+
+    /// Puts an operator between two operands.
+    pub fn put_infix(
+        &mut self,
+        operator: Infix,
+        left: NodeId,
+        right: NodeId,
+    ) -> Result<NodeId, Storage>
+        requires left { left < length self.old.nodes.items }
+        requires right { right < length self.old.nodes.items }
+        ensures { IfOk result (λ id. Puts self.old self.new (infixed operator (tree_at self.old.nodes.items left) (tree_at self.old.nodes.items right)) id) }
+    {
+        match operator {
+            Infix::Binary(operator) => self.put(Node::Binary(operator, left, right)),
+            Infix::Append => self.put(Node::Append(left, right)),
+        }
     }
 
     /// Puts two conditions that are joined.
@@ -217,7 +234,10 @@ impl Parser {
         ensures { IfOk result (λ id. Puts self.old self.new (operated operation (tree_at self.old.nodes.items target) (tree_at self.old.nodes.items value)) id) }
     {
         match operation {
-            Operation::Binary(operator) => self.put(Node::OperatorAssign(operator, target, value)),
+            Operation::Infix(Infix::Binary(operator)) => {
+                self.put(Node::OperatorAssign(operator, target, value))
+            }
+            Operation::Infix(Infix::Append) => self.put(Node::AppendAssign(target, value)),
             Operation::Connective(Connective::Or) => self.put(Node::OrAssign(target, value)),
             Operation::Connective(Connective::And) => self.put(Node::AndAssign(target, value)),
         }

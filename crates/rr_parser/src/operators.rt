@@ -118,12 +118,12 @@ impl Parser {
         requires { left < length self.old.nodes.items }
         ensures { Gives self.old self.new result (equality_on (readers inside depth) (tree_at self.old.nodes.items left) (place self.old words.now)) }
     {
-        let (left, rest) = self.binary_on(3, left, inside, depth, words)?;
-        let Some((operator, after)) = operator(4, rest) else {
+        let (left, rest) = self.binary_on(4, left, inside, depth, words)?;
+        let Some((operator, after)) = operator(5, rest) else {
             return Ok((left, rest));
         };
-        let (right, rest) = self.binary(3, inside, depth, after)?;
-        Ok((self.put(Node::Binary(operator, left, right))?, rest))
+        let (right, rest) = self.binary(4, inside, depth, after)?;
+        Ok((self.put_infix(operator, left, right)?, rest))
     }
 
     #[cycle(parser)]
@@ -134,7 +134,7 @@ impl Parser {
         depth: u32,
         words: &'w [Word],
     ) -> Parsed<'w, NodeId>
-        requires { level ≤ 3 }
+        requires { level ≤ 4 }
         ensures { Gives self.old self.new result (binary_of (readers inside depth) level (place self.old words.now)) }
     {
         let (left, rest) = self.minus(inside, depth, words)?;
@@ -151,7 +151,7 @@ impl Parser {
         depth: u32,
         words: &'w [Word],
     ) -> Parsed<'w, NodeId>
-        requires level { level ≤ 3 }
+        requires level { level ≤ 4 }
         requires left { left < length self.old.nodes.items }
         ensures { Gives self.old self.new result (binary_on (readers inside depth) level (tree_at self.old.nodes.items left) (place self.old words.now)) }
     {
@@ -161,7 +161,7 @@ impl Parser {
         let (mut left, mut rest) = self.binary_on(level - 1, left, inside, depth, words)?;
         while let Some((operator, after)) = operator(level, rest) {
             let (right, after) = self.binary(level - 1, inside, depth, after)?;
-            left = self.put(Node::Binary(operator, left, right))?;
+            left = self.put_infix(operator, left, right)?;
             rest = after;
         }
         Ok((left, rest))

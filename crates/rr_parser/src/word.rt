@@ -29,10 +29,18 @@ pub(crate) enum Tail {
     Index,
 }
 
+/// What stands between two operands.
+#[derive(Clone, Copy, Debug, PartialEq, Eq, Drop)]
+pub(crate) enum Infix {
+    Binary(BinaryOperator),
+    /// `<<`
+    Append,
+}
+
 /// What stands before the `=` of an assignment with an operator.
 #[derive(Clone, Copy, Debug, PartialEq, Eq, Drop)]
 pub(crate) enum Operation {
-    Binary(BinaryOperator),
+    Infix(Infix),
     Connective(Connective),
 }
 
@@ -149,7 +157,7 @@ pub(crate) enum WordKind {
     /// A minus, before an operand or between two.
     Minus,
     /// An operator between two operands, other than the minus.
-    Operator(BinaryOperator),
+    Operator(Infix),
     /// `&&`.
     And,
     /// `||`.

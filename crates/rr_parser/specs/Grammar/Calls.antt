@@ -1,11 +1,12 @@
 -- Assignments, arguments and commands.
 use Rattle.std.specs.Prelude.{◌≡◌, ℕ, List, [], ◌∷◌, Bool, true, false, Option, Some, None}
 use Rattle.rr_base.specs.declared.name.Sym.{Sym}
-use Rattle.rr_tree.specs.Tree.{Tree, field, global, operator_assign, or_assign, and_assign, assign, set_field, set_global, symbol, array, hash, pair, call, listed}
+use Rattle.rr_tree.specs.Tree.{Tree, field, global, operator_assign, append_assign, or_assign, and_assign, assign, set_field, set_global, symbol, array, hash, pair, call, listed}
 use Rattle.rr_parser.specs.declared.word.WordKind.TheVariants as kind
 use Rattle.rr_parser.specs.declared.word.Word.{Word}
 use Rattle.rr_parser.specs.declared.word.WordKind.{WordKind}
 use Rattle.rr_parser.specs.declared.word.Connective.TheVariants as connectives
+use Rattle.rr_parser.specs.declared.word.Infix.TheVariants as infixes
 use Rattle.rr_parser.specs.declared.word.Operation.{Operation}
 use Rattle.rr_parser.specs.declared.word.Operation.TheVariants as operations
 use Rattle.rr_parser.specs.declared.word.Sign.{Sign}
@@ -72,7 +73,8 @@ set_target (targets.Global x) v t = set_global x.0 t
 
 -- an assignment with an operator, to what is read so
 abbrev pub operated : Operation → Tree → Tree → Tree
-operated (operations.Binary o) x t = operator_assign o x t
+operated (operations.Infix (infixes.Binary o)) x t = operator_assign o x t
+operated (operations.Infix infixes.Append) x t = append_assign x t
 operated (operations.Connective connectives.Or) x t = or_assign x t
 operated (operations.Connective connectives.And) x t = and_assign x t
 

@@ -2,7 +2,9 @@
 use Rattle.std.specs.Prelude.{◌≡◌, ℕ, zero, suc, ◌==◌, Option, Some, None, if◌then◌else◌}
 use Rattle.rr_tree.specs.declared.node.BinaryOperator.{BinaryOperator}
 use Rattle.rr_tree.specs.declared.node.BinaryOperator.TheVariants as op
-use Rattle.rr_tree.specs.Tree.{Tree, binary, logical_and, logical_or, choose}
+use Rattle.rr_tree.specs.Tree.{Tree, binary, append, logical_and, logical_or, choose}
+use Rattle.rr_parser.specs.declared.word.Infix.{Infix}
+use Rattle.rr_parser.specs.declared.word.Infix.TheVariants as infixes
 use Rattle.rr_parser.specs.declared.word.Connective.{Connective}
 use Rattle.rr_parser.specs.declared.word.Connective.TheVariants as connectives
 use Rattle.rr_parser.specs.declared.word.Part.TheVariants as parts
@@ -13,42 +15,50 @@ use Rattle.rr_parser.specs.Grammar.Chains.{Chain, same}
 use Rattle.rr_parser.specs.Grammar.Nesting.{Nested}
 use Rattle.rr_parser.specs.Grammar.Operands.{Minus}
 
--- the levels of operators, the tightest first; the last one does not associate
-abbrev pub level_of : BinaryOperator → ℕ
-level_of op.Multiply = 1
-level_of op.Divide = 1
-level_of op.Remainder = 1
-level_of op.Add = 2
-level_of op.Subtract = 2
-level_of op.Less = 3
-level_of op.LessOrEqual = 3
-level_of op.Greater = 3
-level_of op.GreaterOrEqual = 3
-level_of op.Compare = 4
-level_of op.Equal = 4
-level_of op.NotEqual = 4
+abbrev pub level_of_binary : BinaryOperator → ℕ
+level_of_binary op.Multiply = 1
+level_of_binary op.Divide = 1
+level_of_binary op.Remainder = 1
+level_of_binary op.Add = 2
+level_of_binary op.Subtract = 2
+level_of_binary op.Less = 4
+level_of_binary op.LessOrEqual = 4
+level_of_binary op.Greater = 4
+level_of_binary op.GreaterOrEqual = 4
+level_of_binary op.Compare = 5
+level_of_binary op.Equal = 5
+level_of_binary op.NotEqual = 5
 
-abbrev pub at_level : ℕ → BinaryOperator → Option BinaryOperator
+-- the levels of operators, the tightest first; the last one does not associate
+abbrev pub level_of : Infix → ℕ
+level_of (infixes.Binary o) = level_of_binary o
+level_of infixes.Append = 3
+
+abbrev pub at_level : ℕ → Infix → Option Infix
 at_level level o = if level_of o == level then Some o else None
 
 -- the operator of a level that a word is
-abbrev pub operator_of : ℕ → WordKind → Option BinaryOperator
+abbrev pub operator_of : ℕ → WordKind → Option Infix
 operator_of level (kind.Operator o) = at_level level o
-operator_of level kind.Minus = at_level level op.Subtract
+operator_of level kind.Minus = at_level level (infixes.Binary op.Subtract)
 operator_of level _ = None
 
 -- an operator of a level
-abbrev pub operator : ℕ → Look BinaryOperator
+abbrev pub operator : ℕ → Look Infix
 operator level = first_as (λ w. operator_of level w.kind)
 
--- products are level 1, sums level 2 and comparisons by order level 3
+abbrev pub infixed : Infix → Tree → Tree → Tree
+infixed (infixes.Binary o) l r = binary o l r
+infixed infixes.Append l r = append l r
+
+-- products are level 1, sums level 2, what is appended level 3 and comparisons by order level 4
 abbrev pub Binary : Nested → ℕ → Place → Tree → Place → Type 0
 Binary N zero = Minus N
-Binary N (suc level) = Chain (operator (suc level)) same binary (Binary N level)
+Binary N (suc level) = Chain (operator (suc level)) same infixed (Binary N level)
 
 pub data Equality (N : Nested) : Place → Tree → Place → Type 0 where
-  a_comparison : {s z : Place} {t : Tree} → Binary N 3 s t z → Equality N s t z
-  a_pair : {s m n z : Place} {l r : Tree} {o : BinaryOperator} → Binary N 3 s l m → at (operator 4) m ≡ Some (o, n) → Binary N 3 n r z → Equality N s (binary o l r) z
+  a_comparison : {s z : Place} {t : Tree} → Binary N 4 s t z → Equality N s t z
+  a_pair : {s m n z : Place} {l r : Tree} {o : Infix} → Binary N 4 s l m → at (operator 5) m ≡ Some (o, n) → Binary N 4 n r z → Equality N s (infixed o l r) z
 
 -- ---- conditions
 

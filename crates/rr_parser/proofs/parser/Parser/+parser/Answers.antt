@@ -1,8 +1,8 @@
 use Rattle.std.proofs.Common.{List, ◌-◌, sym, subst, arith}
 use Rattle.std.proofs.lemmas.Result.{err_from_is_err_and}
-use Rattle.rr_tree.specs.Tree.{Tree, binary}
+use Rattle.rr_tree.specs.Tree.{Tree}
 use Rattle.rr_parser.specs.Grammar.Chains.{and_one}
-use Rattle.rr_parser.specs.Grammar.Operators.{operator, connective, joined_by}
+use Rattle.rr_parser.specs.Grammar.Operators.{operator, infixed, connective, joined_by}
 use Rattle.rr_parser.specs.Grammar.Sequences.{modifier, modified}
 use Rattle.rr_parser.specs.Grammar.Control.{elsif}
 use Rattle.rr_parser.specs.Reading.Answers.{Parse}
@@ -105,22 +105,22 @@ expression-returns t c =
 pub binary_on-returns-in_err-right : goal.binary_on-returns-in_err-right
 binary_on-returns-in_err-right t c =
     let p = err_from_is_err_and c.from_residual-in_err-right.result c.from_residual-in_err-right.ensures.1 in
-    rw (p.1, p.2) (goes_fails nodes nodes (operator c.args.level) binary (binary_of (readers c.args.inside c.args.depth) (c.args.level - 1)) (Steps-operator c.args.level) ((shrinks_nested c.args.inside c.args.depth).binary (c.args.level - 1)) _ _ _ _ _ _ _ _ c.loop-operator.invariant.goes c.in-Some.ensures c.in_err-right.ensures)
+    rw (p.1, p.2) (goes_fails nodes nodes (operator c.args.level) infixed (binary_of (readers c.args.inside c.args.depth) (c.args.level - 1)) (Steps-operator c.args.level) ((shrinks_nested c.args.inside c.args.depth).binary (c.args.level - 1)) _ _ _ _ _ _ _ _ c.loop-operator.invariant.goes c.in-Some.ensures c.in_err-right.ensures)
 
 pub binary_on-loop-operator-smaller : goal.binary_on-loop-operator-smaller
 binary_on-loop-operator-smaller t c =
-    goes_smaller nodes nodes (operator c.args.level) binary (binary_of (readers c.args.inside c.args.depth) (c.args.level - 1)) (Steps-operator c.args.level) ((shrinks_nested c.args.inside c.args.depth).binary (c.args.level - 1)) _ _ _ _ _ _ _ c.in-Some.ensures c.in_ok-right.ensures
+    goes_smaller nodes nodes (operator c.args.level) infixed (binary_of (readers c.args.inside c.args.depth) (c.args.level - 1)) (Steps-operator c.args.level) ((shrinks_nested c.args.inside c.args.depth).binary (c.args.level - 1)) _ _ _ _ _ _ _ c.in-Some.ensures c.in_ok-right.ensures
 
 pub binary_on-loop-operator-preserved : goal.binary_on-loop-operator-preserved
 binary_on-loop-operator-preserved t c = record {
   above = c.loop-operator.invariant.above;
   at_most = c.loop-operator.invariant.at_most;
-  goes = operators_on (operator c.args.level) binary (binary_of (readers c.args.inside c.args.depth) (c.args.level - 1)) (Steps-operator c.args.level) ((shrinks_nested c.args.inside c.args.depth).binary (c.args.level - 1)) _ _ _ _ _ _ _ _ _ _ _ _ c.loop-operator.invariant.goes c.in-Some.ensures c.in_ok-right.ensures c.in_ok-left-2.ensures.puts;
+  goes = operators_on (operator c.args.level) infixed (binary_of (readers c.args.inside c.args.depth) (c.args.level - 1)) (Steps-operator c.args.level) ((shrinks_nested c.args.inside c.args.depth).binary (c.args.level - 1)) _ _ _ _ _ _ _ _ _ _ _ _ c.loop-operator.invariant.goes c.in-Some.ensures c.in_ok-right.ensures c.in_ok-left-2.ensures;
 }
 
 pub binary_on-returns : goal.binary_on-returns
 binary_on-returns t c =
-    goes_ends nodes nodes (operator c.args.level) binary (binary_of (readers c.args.inside c.args.depth) (c.args.level - 1)) (Steps-operator c.args.level) ((shrinks_nested c.args.inside c.args.depth).binary (c.args.level - 1)) _ _ _ _ _ c.loop-operator.invariant.goes c.in_default.ensures
+    goes_ends nodes nodes (operator c.args.level) infixed (binary_of (readers c.args.inside c.args.depth) (c.args.level - 1)) (Steps-operator c.args.level) ((shrinks_nested c.args.inside c.args.depth).binary (c.args.level - 1)) _ _ _ _ _ c.loop-operator.invariant.goes c.in_default.ensures
 
 pub logical_on-returns-in_err-right : goal.logical_on-returns-in_err-right
 logical_on-returns-in_err-right t c =
@@ -158,7 +158,7 @@ alternatives-returns t c =
 
 pub equality_on-returns : goal.equality_on-returns
 equality_on-returns t c =
-    made_pair (readers c.args.inside c.args.depth) c.args.self.now c.binary_on.new.self c.binary.new.self c.put.new.self _ _ _ _ _ _ _ _ _ c.in_ok-left.ensures c.in-Some.ensures c.in_ok-right.ensures c.in_ok-put.ensures.puts
+    made_pair (readers c.args.inside c.args.depth) c.args.self.now c.binary_on.new.self c.binary.new.self c.put_infix.new.self _ _ _ _ _ _ _ _ _ c.in_ok-left.ensures c.in-Some.ensures c.in_ok-right.ensures c.in_ok-put_infix.ensures
 
 pub branch-returns : goal.branch-returns
 branch-returns t c =

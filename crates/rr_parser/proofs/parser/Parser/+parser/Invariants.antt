@@ -1,7 +1,7 @@
 use Rattle.std.proofs.Common.{cond, ◌<◌, ◌≤◌, length, ◌+◌, ◌-◌, ◌*◌, map}
-use Rattle.rr_tree.specs.Tree.{tree_at, binary}
+use Rattle.rr_tree.specs.Tree.{tree_at}
 use Rattle.rr_parser.specs.Grammar.Chains.{and_one}
-use Rattle.rr_parser.specs.Grammar.Operators.{operator, connective, joined_by}
+use Rattle.rr_parser.specs.Grammar.Operators.{operator, infixed, connective, joined_by}
 use Rattle.rr_parser.specs.Grammar.Operands.{tail}
 use Rattle.rr_parser.specs.Grammar.Sequences.{modifier, modified}
 use Rattle.rr_parser.specs.Grammar.Control.{elsif}
@@ -41,64 +41,64 @@ abbrev pub decreases-minus : goal.decreases-minus
 decreases-minus l = 128 * l.depth + cond l.inside 0 64 + 7
 
 abbrev pub decreases-equality_on : goal.decreases-equality_on
-decreases-equality_on l = 128 * l.depth + cond l.inside 0 64 + 16
+decreases-equality_on l = 128 * l.depth + cond l.inside 0 64 + 18
 
 abbrev pub decreases-ternary_on : goal.decreases-ternary_on
-decreases-ternary_on l = 128 * l.depth + cond l.inside 0 64 + 22
+decreases-ternary_on l = 128 * l.depth + cond l.inside 0 64 + 24
 
 abbrev pub decreases-ternary : goal.decreases-ternary
-decreases-ternary l = 128 * l.depth + cond l.inside 0 64 + 23
+decreases-ternary l = 128 * l.depth + cond l.inside 0 64 + 25
 
 abbrev pub decreases-commanded : goal.decreases-commanded
-decreases-commanded l = 128 * l.depth + cond l.inside 0 64 + 30
+decreases-commanded l = 128 * l.depth + cond l.inside 0 64 + 32
 
 abbrev pub decreases-bracketed : goal.decreases-bracketed
-decreases-bracketed l = 128 * l.depth + cond l.inside 0 64 + 29
+decreases-bracketed l = 128 * l.depth + cond l.inside 0 64 + 31
 
 abbrev pub decreases-phrase : goal.decreases-phrase
-decreases-phrase l = 128 * l.depth + cond l.inside 0 64 + 31
+decreases-phrase l = 128 * l.depth + cond l.inside 0 64 + 33
 
 abbrev pub decreases-command : goal.decreases-command
-decreases-command l = 128 * l.depth + cond l.inside 0 64 + 31
+decreases-command l = 128 * l.depth + cond l.inside 0 64 + 33
 
 abbrev pub decreases-negation : goal.decreases-negation
-decreases-negation l = 128 * l.depth + cond l.inside 0 64 + 34
+decreases-negation l = 128 * l.depth + cond l.inside 0 64 + 36
 
 abbrev pub decreases-expression : goal.decreases-expression
-decreases-expression l = 128 * l.depth + cond l.inside 0 64 + 35
+decreases-expression l = 128 * l.depth + cond l.inside 0 64 + 37
 
 abbrev pub decreases-statement : goal.decreases-statement
-decreases-statement l = 128 * l.depth + cond l.inside 0 64 + 36
+decreases-statement l = 128 * l.depth + cond l.inside 0 64 + 38
 
 abbrev pub decreases-rows : goal.decreases-rows
-decreases-rows l = 128 * l.depth + cond l.inside 0 64 + 37
+decreases-rows l = 128 * l.depth + cond l.inside 0 64 + 39
 
 abbrev pub decreases-statements : goal.decreases-statements
-decreases-statements l = 128 * l.depth + cond l.inside 0 64 + 38
+decreases-statements l = 128 * l.depth + cond l.inside 0 64 + 40
 
 abbrev pub decreases-group : goal.decreases-group
-decreases-group l = 128 * l.depth + cond l.inside 0 64 + 39
+decreases-group l = 128 * l.depth + cond l.inside 0 64 + 41
 
 abbrev pub decreases-otherwise : goal.decreases-otherwise
-decreases-otherwise l = 128 * l.depth + cond l.inside 0 64 + 39
+decreases-otherwise l = 128 * l.depth + cond l.inside 0 64 + 41
 
 abbrev pub decreases-branch : goal.decreases-branch
-decreases-branch l = 128 * l.depth + cond l.inside 0 64 + 39
+decreases-branch l = 128 * l.depth + cond l.inside 0 64 + 41
 
 abbrev pub decreases-repeat : goal.decreases-repeat
-decreases-repeat l = 128 * l.depth + cond l.inside 0 64 + 39
+decreases-repeat l = 128 * l.depth + cond l.inside 0 64 + 41
 
 abbrev pub decreases-branches : goal.decreases-branches
-decreases-branches l = 128 * l.depth + cond l.inside 0 64 + 40
+decreases-branches l = 128 * l.depth + cond l.inside 0 64 + 42
 
 abbrev pub decreases-choice : goal.decreases-choice
-decreases-choice l = 128 * l.depth + cond l.inside 0 64 + 41
+decreases-choice l = 128 * l.depth + cond l.inside 0 64 + 43
 
 abbrev pub decreases-unless : goal.decreases-unless
-decreases-unless l = 128 * l.depth + cond l.inside 0 64 + 41
+decreases-unless l = 128 * l.depth + cond l.inside 0 64 + 43
 
 abbrev pub decreases-part_within : goal.decreases-part_within
-decreases-part_within l = 128 * l.depth + cond l.inside 0 64 + 42
+decreases-part_within l = 128 * l.depth + cond l.inside 0 64 + 44
 
 abbrev pub decreases-binary_on : goal.decreases-binary_on
 decreases-binary_on l = 128 * l.depth + cond l.inside 0 64 + (2 * l.level + 8)
@@ -107,16 +107,16 @@ abbrev pub decreases-binary : goal.decreases-binary
 decreases-binary l = 128 * l.depth + cond l.inside 0 64 + (2 * l.level + 9)
 
 abbrev pub decreases-logical_on : goal.decreases-logical_on
-decreases-logical_on l = 128 * l.depth + cond l.inside 0 64 + (2 * l.level + 17)
+decreases-logical_on l = 128 * l.depth + cond l.inside 0 64 + (2 * l.level + 19)
 
 abbrev pub decreases-logical : goal.decreases-logical
-decreases-logical l = 128 * l.depth + cond l.inside 0 64 + (2 * l.level + 18)
+decreases-logical l = 128 * l.depth + cond l.inside 0 64 + (2 * l.level + 20)
 
 abbrev pub decreases-operand : goal.decreases-operand
-decreases-operand l = 128 * l.depth + cond l.inside 0 64 + cond l.commands 32 24
+decreases-operand l = 128 * l.depth + cond l.inside 0 64 + cond l.commands 34 26
 
 abbrev pub decreases-value : goal.decreases-value
-decreases-value l = 128 * l.depth + cond l.inside 0 64 + cond l.commands 33 25
+decreases-value l = 128 * l.depth + cond l.inside 0 64 + cond l.commands 35 27
 
 abbrev pub invariant-members-loop-after : goal.invariant-members-loop-after
 invariant-members-loop-after l =
@@ -169,9 +169,9 @@ decreases-expression-loop-connective l = length l.rest
 abbrev pub invariant-binary_on-loop-operator : goal.invariant-binary_on-loop-operator
 invariant-binary_on-loop-operator l = record {
   above : 0 < l.level;
-  at_most : l.level ≤ 3;
+  at_most : l.level ≤ 4;
   goes : Goes nodes l.fn.self l.self l.left (binary_on (readers l.inside l.depth) l.level (tree_at l.fn.self.nodes.items l.fn.left) (place l.fn.self l.fn.words))
-      (chain_on (operator l.level) binary (binary_of (readers l.inside l.depth) (l.level - 1)) (tree_at l.self.nodes.items l.left) (place l.self l.rest));
+      (chain_on (operator l.level) infixed (binary_of (readers l.inside l.depth) (l.level - 1)) (tree_at l.self.nodes.items l.left) (place l.self l.rest));
 }
 
 abbrev pub decreases-binary_on-loop-operator : goal.decreases-binary_on-loop-operator
@@ -195,22 +195,22 @@ abbrev pub decreases-postfix : goal.decreases-postfix
 decreases-postfix l = 128 * l.depth + cond l.inside 0 64 + 5
 
 abbrev pub decreases-pair : goal.decreases-pair
-decreases-pair l = 128 * l.depth + cond l.inside 0 64 + 26
+decreases-pair l = 128 * l.depth + cond l.inside 0 64 + 28
 
 abbrev pub decreases-member : goal.decreases-member
-decreases-member l = 128 * l.depth + cond l.inside 0 64 + 27
+decreases-member l = 128 * l.depth + cond l.inside 0 64 + 29
 
 abbrev pub decreases-members : goal.decreases-members
-decreases-members l = 128 * l.depth + cond l.inside 0 64 + 28
+decreases-members l = 128 * l.depth + cond l.inside 0 64 + 30
 
 abbrev pub decreases-array : goal.decreases-array
-decreases-array l = 128 * l.depth + cond l.inside 0 64 + 30
+decreases-array l = 128 * l.depth + cond l.inside 0 64 + 32
 
 abbrev pub decreases-hash : goal.decreases-hash
-decreases-hash l = 128 * l.depth + cond l.inside 0 64 + 30
+decreases-hash l = 128 * l.depth + cond l.inside 0 64 + 32
 
 abbrev pub decreases-index : goal.decreases-index
-decreases-index l = 128 * l.depth + cond l.inside 0 64 + 30
+decreases-index l = 128 * l.depth + cond l.inside 0 64 + 32
 
 abbrev pub decreases-block_behind : goal.decreases-block_behind
 decreases-block_behind l = 128 * l.depth + cond l.inside 0 64 + 1
@@ -219,4 +219,4 @@ abbrev pub decreases-blocked : goal.decreases-blocked
 decreases-blocked l = 128 * l.depth + cond l.inside 0 64 + 2
 
 abbrev pub decreases-block : goal.decreases-block
-decreases-block l = 128 * l.depth + cond l.inside 0 64 + 39
+decreases-block l = 128 * l.depth + cond l.inside 0 64 + 41
