@@ -145,6 +145,32 @@ nil dup => nil | nil
 [1 []= 0 => wrong number of arguments (given 1, expected 2) (ArgumentError) | [1]
 7 []= 0 1 => undefined method '[]=' for an instance of Integer | 7
 [1 keys => undefined method 'keys' for an instance of Array | [1]
+{ []= 7 1 => 1 | {7 => 1}
+{ []= 'a 1 => 1 | {\"a\" => 1}
+{ []= *'a 1 => 1 | {\"a\" => 1}
+{ []= :b 1 => 1 | {b: 1}
+{ []= nil 1 => 1 | {nil => 1}
+{ []= true 1 => 1 | {true => 1}
+{ []= Integer 1 => 1 | {Integer => 1}
+{1:2,3:4 []= 1 5 => 5 | {1 => 5, 3 => 4}
+{1:2,3:4 []= 5 6 => 6 | {1 => 2, 3 => 4, 5 => 6}
+{ []= [1 2 => wrong type Array (TypeError) | {}
+{ []= error 2 => wrong type TypeError (TypeError) | {}
+*{ []= 1 2 => can't modify frozen Hash (FrozenError) | {}
+{ []= 1 => wrong number of arguments (given 1, expected 2) (ArgumentError) | {}
+{1:2,3:4 [] 3 => 4 | {1 => 2, 3 => 4}
+{1:2,3:4 [] 4 => nil | {1 => 2, 3 => 4}
+{1:2 [] '1 => nil | {1 => 2}
+{1:2 [] [1 => wrong type Array (TypeError) | {1 => 2}
+*{1:2 [] 1 => 2 | {1 => 2}
+{1:2,3:4 key? 3 => true | {1 => 2, 3 => 4}
+{1:2,3:4 key? 2 => false | {1 => 2, 3 => 4}
+{1:2,3:4 keys => [1, 3] | {1 => 2, 3 => 4}
+{1:2,3:4 values => [2, 4] | {1 => 2, 3 => 4}
+{ keys => [] | {}
+{1:2,3:4 size => 2 | {1 => 2, 3 => 4}
+{ empty? => true | {}
+{1:2 first => undefined method 'first' for an instance of Hash | {1 => 2}
 shell + 1 => moved object (Ractor::MovedError) | shell
 shell nil? => moved object (Ractor::MovedError) | shell
 nil == shell => false | nil";

@@ -4,7 +4,7 @@ ghost use Rattle.std.specs.Prelude.{length, IfOk};
 ghost use Rattle.rr_space.specs.Parts.{IsWithin};
 
 use rr_base::{ClassId, Sym};
-use rr_space::{Items, Kind, Node, Raised, Ref, Space};
+use rr_space::{Entries, Items, Key, Kind, Node, Raised, Ref, Space};
 use std::alloc::Global;
 use std::test::Fail;
 
@@ -53,6 +53,28 @@ fn array(alloc: Global, space: &mut Space, words: &str) -> Result<Ref, Fail> {
     Ok(array)
 }
 
+/// Sets an integer key of a hash.
+fn set(space: &mut Space, hash: Ref, key: i64, value: i64) -> Result<(), Fail> {
+    if space.can_write(hash) && space.kind_of(hash) == Kind::Hash {
+        return Ok(space.write_pair(hash, Key::Int(key), Ref::Int(key), Ref::Int(value))?);
+    }
+    Err(Fail::from("no hash that may be written"))
+}
+
+/// A hash of numbers, with colons between keys and values, and commas between pairs.
+fn hash(alloc: Global, space: &mut Space, words: &str) -> Result<Ref, Fail> {
+    let entries = Box::new(alloc, Entries::new(alloc))?;
+    let hash = space.alloc(Node::Hash(entries))?;
+    for word in words.split(',') {
+        if let Some((key, value)) = word.split_once(':') {
+            if let (Ok(key), Ok(value)) = (key.parse::<i64>(), value.parse::<i64>()) {
+                set(space, hash, key, value)?;
+            }
+        }
+    }
+    Ok(hash)
+}
+
 /// What is left of an object that was moved away.
 fn shell(alloc: Global, space: &mut Space) -> Result<Ref, Fail> {
     let value = text(alloc, space, "")?;
@@ -82,6 +104,9 @@ fn unfrozen(alloc: Global, space: &mut Space, word: &str) -> Result<Ref, Fail> {
     if let Some(rest) = word.strip_prefix("[") {
         return array(alloc, space, rest);
     }
+    if let Some(rest) = word.strip_prefix("{") {
+        return hash(alloc, space, rest);
+    }
     match word {
         "nil" => Ok(Ref::Nil),
         "true" => Ok(Ref::Truth(true)),
@@ -97,7 +122,7 @@ fn unfrozen(alloc: Global, space: &mut Space, word: &str) -> Result<Ref, Fail> {
     }
 }
 
-/// The value that a word spells: a number, `'` and the bytes of a text, `[` and the numbers of an array, `nil`, `true`,
+/// The value that a word spells: a number, `'` and the bytes of a text, `[` and the numbers of an array, `{` and those of a hash, `nil`, `true`,
 /// `false`, a symbol or a shell; frozen behind `*`.
 pub fn value(alloc: Global, space: &mut Space, word: &str) -> Result<Ref, Fail> {
     let Some(rest) = word.strip_prefix("*") else {

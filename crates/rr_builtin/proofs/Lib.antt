@@ -8,3 +8,4 @@ pub mod Ancestors
 pub mod Gathering
 pub mod Arraying
 pub mod Keyed
+pub mod Storing

@@ -1,14 +1,14 @@
 -- Acts on the objects of a space, and what they give and leave.
-use Rattle.std.specs.Prelude.{◌≡◌, ◌<◌, ◌⊎◌, ℕ, List, [], ◌∷◌, ◌++◌, length, map, remove, Result, Ok, Err, Option, Some, None, slice_get, slice_set, if◌then◌else◌, Contains, true, false, zero, suc, nat_lt, ◌-◌}
+use Rattle.std.specs.Prelude.{◌≡◌, ◌<◌, ◌⊎◌, ℕ, List, [], ◌∷◌, ◌++◌, length, map, remove, Result, Ok, Err, Option, Some, None, slice_get, slice_set, if◌then◌else◌, Contains, true, false, zero, suc, nat_lt, ◌-◌, ◌+◌, ◌*◌}
 use Rattle.rr_base.specs.declared.fault.Fault.{Fault}
 use Rattle.rr_base.specs.declared.fault.Fault.TheVariants.{Memory, Limit}
 use Rattle.rr_base.specs.declared.limits.LimitKind.TheVariants.{Slots}
 use Rattle.rr_base.specs.declared.name.TheConstants.ClassId.{ARRAY}
-use Rattle.rr_space.specs.Graph.{Value, Plain, At, Own, Nil, Label, Place, Object, array}
-use Rattle.rr_space.specs.Tables.{Table, Slot, Here, Led, Below, IsRestKept, below_hold}
-use Rattle.rr_space.specs.Lookups.{text_object}
+use Rattle.rr_space.specs.Graph.{Value, Plain, At, Own, Nil, Label, Place, KeyAt, ValueAt, Object, array}
+use Rattle.rr_space.specs.Tables.{Table, Slot, Here, Led, Below, HashKey, TextKey, IsRestKept, below_hold}
+use Rattle.rr_space.specs.Lookups.{text_object, frozen_text}
 use Rattle.rr_space.specs.Parts.{value_of, IsWithin}
-use Rattle.rr_space.specs.Views.{is_shell, placed_from}
+use Rattle.rr_space.specs.Views.{is_shell, placed_from, keys_at}
 use Rattle.rr_space.specs.Labels.{triples_at}
 use Rattle.rr_space.specs.declared.refer.Ref.{Ref}
 use Rattle.rr_space.specs.declared.refer.Ref.TheVariants.{Local, Shared}
@@ -41,6 +41,12 @@ pub data Act : Type 0 where
   MakesArray : (values : List Value) → Act
   -- a value is put under a place of the receiver, and given
   Puts : (place : ℕ) (value : Value) → Act
+  -- a pair of the receiver gets another value, which is given
+  SetsValue : (pair : ℕ) (value : Value) → Act
+  -- a pair comes behind those of the receiver, and its value is given
+  AddsPair : (name : Value) (key : HashKey) (value : Value) → Act
+  -- the same, with a new frozen text as the key object
+  AddsText : (bytes : List ℕ) (value : Value) → Act
 
 abbrev pub outcome_of : Built → Outcome
 outcome_of (built.Value r) = Gives (value_of r)
@@ -96,6 +102,39 @@ abbrev pub with_put : ℕ → Value → Object → Object
 with_put k x o =
     record o { triples = if nat_lt k (length o.triples) then slice_set o.triples k (Place k, x) else o.triples ++ placed_from (length o.triples) (nils (k - length o.triples) ++ x ∷ []) }
 
+-- a pair of a hash with another value
+abbrev pub with_value : ℕ → Value → Object → Object
+with_value i x o = record o { triples = slice_set o.triples (2 * i + 1) (ValueAt i, x) }
+
+-- one more pair, behind so many
+abbrev pub with_pair : ℕ → Value → Value → Object → Object
+with_pair k name x o = record o { triples = o.triples ++ (KeyAt k, name) ∷ (ValueAt k, x) ∷ [] }
+
+abbrev pub keys_with : HashKey → List (List HashKey) → ℕ → Option (List HashKey) → List (List HashKey)
+keys_with key keys n (Some ks) = slice_set keys n (ks ++ key ∷ [])
+keys_with key keys n None = keys
+
+-- a key behind those of the slot that a reference names
+abbrev pub with_key : HashKey → Ref → Table → Table
+with_key key (Local n) t = record t { keys = keys_with key t.keys n (slice_get t.keys n) }
+with_key key _ t = t
+
+abbrev pub count_keys : Option (List HashKey) → ℕ
+count_keys (Some ks) = length ks
+count_keys None = 0
+
+-- how many keys a hash of the space has
+abbrev pub key_count : Table → Ref → ℕ
+key_count t v = count_keys (keys_at t v)
+
+-- a pair behind those of a hash
+abbrev pub added : Value → HashKey → Value → Ref → Table → Table
+added name key x v t = with_key key v (changed (with_pair (key_count t v) name x) v t)
+
+-- a frozen text gets the next slot
+abbrev pub with_frozen : List ℕ → Table → Table
+with_frozen bytes t = record t { slots = t.slots ++ Here (frozen_text bytes) ∷ []; below = t.below ++ [] ∷ []; keys = t.keys ++ [] ∷ [] }
+
 abbrev pub part_value : Label × Value → Value
 part_value p = p.1
 
@@ -119,6 +158,9 @@ performed (Appends bytes) v t = (Gives (value_of v), changed (with_bytes bytes) 
 performed (Pushes x) v t = (Gives (value_of v), changed (with_element x) v t)
 performed (MakesArray values) v t = (Gives (At (Own (length t.slots))), with_array values t)
 performed (Puts k x) v t = (Gives x, changed (with_put k x) v t)
+performed (SetsValue i x) v t = (Gives x, changed (with_value i x) v t)
+performed (AddsPair name key x) v t = (Gives x, added name key x v t)
+performed (AddsText bytes x) v t = (Gives x, with_frozen bytes (added (At (Own (length t.slots))) (TextKey bytes) x v t))
 performed (Takes k) v t = (Gives (element_at t v k), changed (without_element k) v t)
 
 -- ---- When a call has done an act.

@@ -11,7 +11,7 @@ use Rattle.rr_builtin.specs.Acts.{Act, Answers, MakesArray, Pushes, Gives, Lacks
 use Rattle.rr_builtin.specs.Objects.{truth}
 use Rattle.rr_builtin.specs.Contents.{size_act, is_empty, indexed, unless_frozen, taken, popped, text_content}
 use Rattle.rr_builtin.specs.Arrays.{array_put}
-use Rattle.rr_builtin.specs.Hashes.{hash_read, hash_has}
+use Rattle.rr_builtin.specs.Hashes.{hash_read, hash_has, hash_put}
 use Rattle.rr_builtin.specs.Elements.{count_at, names_of_hash, values_of_hash}
 
 -- a method of arrays
@@ -30,19 +30,20 @@ array_content SetAt v a b t = unless_frozen v t (array_put v a b t)
 array_content _ v a b t = Answers Lacks
 
 -- a method of hashes
-abbrev pub hash_content : Below → ContentMethod → Ref → Ref → Table → Act
-hash_content below Size v a t = size_act kind.Hash v t
-hash_content below Length v a t = size_act kind.Hash v t
-hash_content below IsEmpty v a t = truth (is_empty kind.Hash t v)
-hash_content below AtMethod v a t = hash_read below v a t
-hash_content below HasKey v a t = hash_has below v a t
-hash_content below Keys v a t = MakesArray (names_of_hash t v)
-hash_content below Values v a t = MakesArray (values_of_hash t v)
-hash_content below _ v a t = Answers Lacks
+abbrev pub hash_content : Below → ContentMethod → Ref → Ref → Ref → Table → Act
+hash_content below Size v a b t = size_act kind.Hash v t
+hash_content below Length v a b t = size_act kind.Hash v t
+hash_content below IsEmpty v a b t = truth (is_empty kind.Hash t v)
+hash_content below AtMethod v a b t = hash_read below v a t
+hash_content below SetAt v a b t = hash_put below v a b t
+hash_content below HasKey v a b t = hash_has below v a t
+hash_content below Keys v a b t = MakesArray (names_of_hash t v)
+hash_content below Values v a b t = MakesArray (values_of_hash t v)
+hash_content below _ v a b t = Answers Lacks
 
 -- a method of texts, arrays and hashes, by the kind of the receiver
 abbrev pub content_act : Below → Kind → ContentMethod → Ref → Ref → Ref → Table → Act
 content_act below kind.Text m v a b t = text_content m v a t
 content_act below kind.Array m v a b t = array_content m v a b t
-content_act below kind.Hash m v a b t = hash_content below m v a t
+content_act below kind.Hash m v a b t = hash_content below m v a b t
 content_act below _ m v a b t = Answers Lacks

@@ -6,13 +6,14 @@ use Rattle.rr_base.specs.declared.name.ClassId.{ClassId}
 use Rattle.rr_space.specs.Graph.{Graph, Value, Plain, At, Nil}
 use Rattle.rr_space.specs.Tables.{Table, Below, HashKey, PlainKey, TextKey, graph_of, resolve}
 use Rattle.rr_space.specs.Parts.{value_of}
-use Rattle.rr_space.specs.Views.{object_at, keys_at}
+use Rattle.rr_space.specs.Views.{object_at, keys_at, frozen_at, text_at}
 use Rattle.rr_space.specs.Lookups.{key_of_object, key_of_frozen, key_of_plain}
 use Rattle.rr_space.specs.Kinds.{class_at}
 use Rattle.rr_space.specs.declared.refer.Ref.{Ref}
 use Rattle.rr_space.specs.declared.refer.Ref.TheVariants.{Local, Shared}
 use Rattle.rr_builtin.specs.declared.problem.Problem.TheVariants.{WrongType}
-use Rattle.rr_builtin.specs.Acts.{Act, Answers, Outcome, Gives, Raises, element_at}
+use Rattle.rr_builtin.specs.Acts.{Act, Answers, SetsValue, AddsPair, AddsText, Outcome, Gives, Raises, element_at}
+use Rattle.rr_builtin.specs.Contents.{unless_frozen}
 use Rattle.rr_builtin.specs.Elements.{names_of_hash}
 use Rattle.rr_builtin.specs.Objects.{same_immediate, truth}
 
@@ -63,6 +64,14 @@ value_at t v None = Gives (Plain Nil)
 
 abbrev pub hash_read : Below → Ref → Ref → Table → Act
 hash_read below v a t = keyed (key_given t a) (class_at t a) (λ key. Answers (value_at t v (pair_with below t v key)))
+
+-- a present key keeps its place and its key object; an unfrozen text is copied and frozen
+abbrev pub stored : HashKey → Option ℕ → Ref → Ref → Table → Act
+stored key (Some i) a x t = SetsValue i (value_of x)
+stored key None a x t = if frozen_at t a then AddsPair (value_of a) key (value_of x) else AddsText (text_at t a) (value_of x)
+
+abbrev pub hash_put : Below → Ref → Ref → Ref → Table → Act
+hash_put below v a x t = unless_frozen v t (keyed (key_given t a) (class_at t a) (λ key. stored key (pair_with below t v key) a x t))
 
 abbrev pub hash_has : Below → Ref → Ref → Table → Act
 hash_has below v a t = keyed (key_given t a) (class_at t a) (λ key. truth (is_some (pair_with below t v key)))

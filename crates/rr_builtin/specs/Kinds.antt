@@ -81,6 +81,11 @@ is_appended kind.Text = true
 is_appended kind.Array = true
 is_appended _ = false
 
+abbrev pub is_container : Kind → Bool
+is_container kind.Array = true
+is_container kind.Hash = true
+is_container _ = false
+
 abbrev pub is_hash : Kind → Bool
 is_hash kind.Hash = true
 is_hash _ = false
@@ -97,7 +102,7 @@ has_content k Push = is_array_kind k
 has_content k Pop = is_array_kind k
 has_content k Shift = is_array_kind k
 has_content k Includes = is_text k
-has_content k SetAt = is_array_kind k
+has_content k SetAt = is_container k
 has_content k Keys = is_hash k
 has_content k HasKey = is_hash k
 has_content k Values = is_hash k

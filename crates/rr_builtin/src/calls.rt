@@ -268,5 +268,5 @@ pub fn call(
         → Acts below (called program.now below receiver method arguments.now) space.old space.new result }
 {
     let deed = call_deed(alloc, space, program, receiver, method, arguments)?;
-    perform(space, receiver, deed)
+    perform(alloc, space, receiver, deed)
 }

@@ -19,7 +19,7 @@ use crate::arrays::{names, put_deed, values};
 use crate::built::Built;
 use crate::characters::{character_at, characters};
 use crate::deed::Deed;
-use crate::hashes::{hash_has, hash_read};
+use crate::hashes::{hash_has, hash_put, hash_read};
 use crate::integer::NumberProblem;
 use crate::method::ContentMethod;
 use crate::numbers::number_given;
@@ -308,12 +308,15 @@ fn hash_content(
     method: ContentMethod,
     hash: Ref,
     argument: Ref,
+    second: Ref,
 ) -> Result<Deed, Fault>
     requires within { IsWithin (length space.now.slots) hash }
+    requires argument { IsWithin (length space.now.slots) argument }
+    requires second { IsWithin (length space.now.slots) second }
     requires kind { kind_at space.now hash ≡ Kind.Hash }
-    ensures act { IfOk result (λ deed. (below : Below) → IsReadWith space.now below → IsAmong below hash → act_of deed ≡ hash_content below method hash argument space.now) }
+    ensures act { IfOk result (λ deed. (below : Below) → IsReadWith space.now below → IsAmong below hash → act_of deed ≡ hash_content below method hash argument second space.now) }
     ensures fit { IfOk result (λ deed. IsFit space.now hash deed) }
-    ensures among { IfOk result (λ deed. (below : Below) → IsReadWith space.now below → IsRefAmong below hash → IsDeedAmong below deed) }
+    ensures among { IfOk result (λ deed. (below : Below) → IsReadWith space.now below → IsRefAmong below hash → IsRefAmong below argument → IsRefAmong below second → IsDeedAmong below deed) }
     ensures fault { IfErr result (λ f. f ≡ Fault.Memory) }
 {
     match method {
@@ -321,6 +324,7 @@ fn hash_content(
         ContentMethod::Length => Ok(size_deed(space, Kind::Hash, hash)),
         ContentMethod::IsEmpty => Ok(truth(is_empty(space, Kind::Hash, hash))),
         ContentMethod::At => hash_read(alloc, space, hash, argument),
+        ContentMethod::SetAt => hash_put(alloc, space, hash, argument, second),
         ContentMethod::HasKey => hash_has(alloc, space, hash, argument),
         ContentMethod::Keys => Ok(Deed::MakeArray(names(alloc, space, hash)?)),
         ContentMethod::Values => Ok(Deed::MakeArray(values(alloc, space, hash)?)),
@@ -349,7 +353,7 @@ pub(crate) fn content_deed(
     match space.kind_of(value) {
         Kind::Text => text_content(alloc, space, method, value, argument),
         Kind::Array => array_content(alloc, space, method, value, argument, second),
-        Kind::Hash => hash_content(alloc, space, method, value, argument),
+        Kind::Hash => hash_content(alloc, space, method, value, argument, second),
         _ => Ok(Deed::Answer(Built::Missing)),
     }
 }

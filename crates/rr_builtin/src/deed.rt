@@ -1,20 +1,22 @@
 //! What is done with the receiver of a call.
 
-ghost use Rattle.std.specs.Prelude.{◌≡◌, ◌<◌, ◌≤◌, IsTrue, length, map, IfOk};
+ghost use Rattle.std.specs.Prelude.{◌≡◌, ◌<◌, ◌≤◌, IsTrue, length, map, List, Some, IfOk};
 ghost use Rattle.std.specs.List.{All};
-ghost use Rattle.rr_space.specs.Tables.{Below};
+ghost use Rattle.rr_space.specs.Tables.{Below, HashKey, TextKey};
 ghost use Rattle.rr_space.specs.Parts.{IsWithin};
 ghost use Rattle.rr_space.specs.Kinds.{kind_at};
 ghost use Rattle.rr_space.specs.Labels.{triples_at};
-ghost use Rattle.rr_space.specs.Views.{can_write_at};
+ghost use Rattle.rr_space.specs.Views.{can_write_at, keys_at, key_of, IsFirstAt};
+ghost use Rattle.rr_space.specs.Lookups.{key_at};
 ghost use Rattle.rr_text.specs.Reads.{IsReadWith};
-ghost use Rattle.rr_builtin.specs.Acts.{Acts, performed, froze, IsRefAmong, Answers, Makes, Freezes, Appends, Pushes, Takes, MakesArray, Puts, IsDone};
-ghost use Rattle.rr_builtin.specs.Deeds.{act_of, IsFit, IsDeedAmong, IsRefilled};
+ghost use Rattle.rr_builtin.specs.Acts.{Acts, performed, froze, IsRefAmong, Answers, Makes, Freezes, Appends, Pushes, Takes, MakesArray, Puts, SetsValue, AddsPair, AddsText, IsDone};
+ghost use Rattle.rr_builtin.specs.Deeds.{act_of, IsFit, IsDeedAmong, IsRefilled, IsWritableHash, LacksKey};
 ghost use Rattle.rr_space.specs.Parts.{value_of};
 
 use crate::built::Built;
 use rr_base::Fault;
-use rr_space::{Items, Kind, Node, Ref, Space};
+use rr_space::{Items, Key, Kind, Node, Ref, Space};
+use std::alloc::Global;
 
 /// What is done with the receiver of a call.
 #[derive(Drop)]
@@ -35,6 +37,12 @@ pub(crate) enum Deed {
     MakeArray(Vec<Ref>),
     /// A value is put in the place of an element of the receiver or right behind them, and given.
     Put(usize, Ref),
+    /// The pair of the receiver that has the key gets another value, which is given.
+    SetValue(Key, usize, Ref),
+    /// A pair with this key and key object comes behind those of the receiver, and its value is given.
+    AddPair(Key, Ref, Ref),
+    /// The same, with a new frozen text of these bytes as the key object.
+    AddText(Vec<u8>, Ref),
     /// The receiver gets these elements, so that under the place is the value, which is given.
     Refill(Vec<Ref>, usize, Ref),
 }
@@ -141,8 +149,70 @@ fn refill(space: &mut Space, array: Ref, items: Vec<Ref>, place: usize, value: R
     Built::Value(value)
 }
 
+/// Gives the pair of a hash, which may be written, that has the key another value.
+fn set_value(
+    space: &mut Space,
+    hash: Ref,
+    key: Key,
+    pair: usize,
+    value: Ref,
+) -> Result<Built, Fault>
+    requires hash { IsWritableHash space.old hash }
+    requires value { IsWithin (length space.old.slots) value }
+    requires first { (ks : List HashKey) → keys_at space.old hash ≡ Some ks → IsFirstAt ks (key_of key) pair }
+    ensures { (below : Below) → IsReadWith space.old below → IsRefAmong below value → Acts below (performed (SetsValue pair (value_of value)) hash) space.old space.new result }
+{
+    // The hash has its keys, as the clause of the number says.
+    let _count = space.len();
+    match space.write_pair(hash, key, Ref::Nil, value) {
+        Ok(()) => Ok(Built::Value(value)),
+        Err(fault) => Err(fault),
+    }
+}
+
+/// Puts a pair behind those of a hash, which may be written and has no such key.
+fn add_pair(space: &mut Space, hash: Ref, key: Key, name: Ref, value: Ref) -> Result<Built, Fault>
+    requires hash { IsWritableHash space.old hash }
+    requires value { IsWithin (length space.old.slots) value }
+    requires name { IsWithin (length space.old.slots) name }
+    requires named { key_at space.old name ≡ Some (key_of key) }
+    requires lacks { LacksKey space.old hash (key_of key) }
+    ensures { (below : Below) → IsReadWith space.old below → IsRefAmong below name → IsRefAmong below value → Acts below (performed (AddsPair (value_of name) (key_of key) (value_of value)) hash) space.old space.new result }
+{
+    let _count = space.len();
+    match space.write_pair(hash, key, name, value) {
+        Ok(()) => Ok(Built::Value(value)),
+        Err(fault) => Err(fault),
+    }
+}
+
+/// Puts a pair behind those of a hash, which may be written and has no such key, with a new frozen text as its key object.
+fn add_text(
+    alloc: Global,
+    space: &mut Space,
+    hash: Ref,
+    bytes: Vec<u8>,
+    value: Ref,
+) -> Result<Built, Fault>
+    requires hash { IsWritableHash space.old hash }
+    requires value { IsWithin (length space.old.slots) value }
+    requires lacks { LacksKey space.old hash (TextKey bytes.items) }
+    ensures { (below : Below) → IsReadWith space.old below → IsRefAmong below value → Acts below (performed (AddsText bytes.items (value_of value)) hash) space.old space.new result }
+{
+    let _count = space.len();
+    match space.write_text_pair(alloc, hash, bytes, value) {
+        Ok(()) => Ok(Built::Value(value)),
+        Err(fault) => Err(fault),
+    }
+}
+
 /// Does the deed. A refused growth leaves the objects as they were.
-pub(crate) fn perform(space: &mut Space, receiver: Ref, deed: Deed) -> Result<Built, Fault>
+pub(crate) fn perform(
+    alloc: Global,
+    space: &mut Space,
+    receiver: Ref,
+    deed: Deed,
+) -> Result<Built, Fault>
     requires within { IsWithin (length space.old.slots) receiver }
     requires fit { IsFit space.old receiver deed }
     ensures { (below : Below) → IsReadWith space.old below → IsRefAmong below receiver → IsDeedAmong below deed
@@ -161,5 +231,8 @@ pub(crate) fn perform(space: &mut Space, receiver: Ref, deed: Deed) -> Result<Bu
         Deed::MakeArray(items) => make_array(space, items),
         Deed::Put(place, value) => put(space, receiver, place, value),
         Deed::Refill(items, place, value) => Ok(refill(space, receiver, items, place, value)),
+        Deed::SetValue(key, pair, value) => set_value(space, receiver, key, pair, value),
+        Deed::AddPair(key, name, value) => add_pair(space, receiver, key, name, value),
+        Deed::AddText(bytes, value) => add_text(alloc, space, receiver, bytes, value),
     }
 }

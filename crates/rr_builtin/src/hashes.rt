@@ -1,16 +1,16 @@
 //! The pairs of hashes by their keys.
 
-ghost use Rattle.std.specs.Prelude.{◌≡◌, IfOk, IfErr, length, map};
+ghost use Rattle.std.specs.Prelude.{◌≡◌, List, None, Some, IfOk, IfErr, IfNone, IfSome, length, map};
 ghost use Rattle.std.specs.Option.{option_map};
-ghost use Rattle.rr_space.specs.Tables.{Below, graph_of, resolve};
+ghost use Rattle.rr_space.specs.Tables.{Below, HashKey, graph_of, resolve};
 ghost use Rattle.rr_space.specs.Parts.{IsWithin};
 ghost use Rattle.rr_space.specs.Kinds.{kind_at};
-ghost use Rattle.rr_space.specs.Views.{key_of};
+ghost use Rattle.rr_space.specs.Views.{key_of, keys_at, IsFirstAt};
 ghost use Rattle.rr_text.specs.Reads.{IsAmong, IsReadWith};
 ghost use Rattle.rr_builtin.specs.Acts.{IsRefAmong, IsBuiltWithin, IsBuiltAmong, outcome_of};
-ghost use Rattle.rr_builtin.specs.Deeds.{act_of, IsFit, IsDeedAmong};
+ghost use Rattle.rr_builtin.specs.Deeds.{act_of, IsFit, IsDeedAmong, IsWritableHash, LacksKey};
 ghost use Rattle.rr_builtin.specs.Elements.{names_of_hash};
-ghost use Rattle.rr_builtin.specs.Hashes.{place_among, key_in, pair_with, key_given, value_at, hash_read, hash_has};
+ghost use Rattle.rr_builtin.specs.Hashes.{place_among, key_in, pair_with, key_given, value_at, stored, hash_read, hash_has, hash_put};
 
 use crate::arrays::element;
 use crate::built::Built;
@@ -124,4 +124,71 @@ pub(crate) fn hash_has(
         Some(key) => Ok(truth(pair_with(space, hash, &key).is_some())),
         None => Ok(raise(Problem::WrongType(space.class_of(argument)))),
     }
+}
+
+/// A pair for a key that a hash lacks: an unfrozen text is copied and frozen.
+fn new_pair(
+    alloc: Global,
+    space: &Space,
+    hash: Ref,
+    key: Key,
+    name: Ref,
+    value: Ref,
+) -> Result<Deed, Fault>
+    requires hash { IsWritableHash space.now hash }
+    requires name { IsWithin (length space.now.slots) name }
+    requires value { IsWithin (length space.now.slots) value }
+    requires key { key_given space.now name ≡ Some (key_of key) }
+    requires lacks { LacksKey space.now hash (key_of key) }
+    ensures act { IfOk result (λ deed. act_of deed ≡ stored (key_of key) None name value space.now) }
+    ensures fit { IfOk result (λ deed. IsFit space.now hash deed) }
+    ensures among { IfOk result (λ deed. (below : Below) → IsRefAmong below name → IsRefAmong below value → IsDeedAmong below deed) }
+    ensures fault { IfErr result (λ f. f ≡ Fault.Memory) }
+{
+    if space.is_frozen(name) {
+        Ok(Deed::AddPair(key, name, value))
+    } else {
+        let bytes = space.text_bytes(name).to_vec(alloc)?;
+        Ok(Deed::AddText(bytes, value))
+    }
+}
+
+/// `[]=` of a hash.
+pub(crate) fn hash_put(
+    alloc: Global,
+    space: &Space,
+    hash: Ref,
+    argument: Ref,
+    value: Ref,
+) -> Result<Deed, Fault>
+    requires within { IsWithin (length space.now.slots) hash }
+    requires kind { kind_at space.now hash ≡ Kind.Hash }
+    requires argument { IsWithin (length space.now.slots) argument }
+    requires value { IsWithin (length space.now.slots) value }
+    ensures act { IfOk result (λ deed. (below : Below) → IsReadWith space.now below → IsAmong below hash → act_of deed ≡ hash_put below hash argument value space.now) }
+    ensures fit { IfOk result (λ deed. IsFit space.now hash deed) }
+    ensures among { IfOk result (λ deed. (below : Below) → IsRefAmong below argument → IsRefAmong below value → IsDeedAmong below deed) }
+    ensures fault { IfErr result (λ f. f ≡ Fault.Memory) }
+{
+    if !space.can_write(hash) {
+        return Ok(raise(Problem::Frozen(space.class_of(hash))));
+    }
+    match key_given(alloc, space, argument)? {
+        Some(key) => match own_pair(space, hash, &key) {
+            Some(pair) => Ok(Deed::SetValue(key, pair, value)),
+            None => new_pair(alloc, space, hash, key, argument, value),
+        },
+        None => Ok(raise(Problem::WrongType(space.class_of(argument)))),
+    }
+}
+
+/// The pair of a hash of the space, which may be written, that has the key.
+fn own_pair(space: &Space, hash: Ref, key: &Key) -> Option<usize>
+    requires hash { IsWritableHash space.now hash }
+    ensures is { (below : Below) → result ≡ pair_with below space.now hash (key_of key.now) }
+    ensures first { IfSome result (λ i. (ks : List HashKey) → keys_at space.now hash ≡ Some ks → IsFirstAt ks (key_of key.now) i) }
+    ensures lacks { IfNone result (LacksKey space.now hash (key_of key.now)) }
+{
+    let _count = space.len();
+    space.find(hash, key)
 }

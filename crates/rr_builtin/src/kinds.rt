@@ -1,7 +1,7 @@
 //! Which methods the values of a kind have, and how many arguments they take.
 
 ghost use Rattle.std.specs.Prelude.{◌≡◌};
-ghost use Rattle.rr_builtin.specs.Kinds.{is_shell_kind, is_integer_kind, is_array_kind, is_compared, is_added, has_order, has_operator, has_size, is_text, is_appended, is_joined, is_hash, is_copied, has_object, has_content, is_class, is_exception, has_telling, has, object_count, content_count, count_of};
+ghost use Rattle.rr_builtin.specs.Kinds.{is_shell_kind, is_integer_kind, is_array_kind, is_compared, is_added, has_order, has_operator, has_size, is_text, is_appended, is_joined, is_hash, is_container, is_copied, has_object, has_content, is_class, is_exception, has_telling, has, object_count, content_count, count_of};
 
 use crate::method::{BuiltInMethod, ContentMethod, ObjectMethod, TellingMethod};
 use rr_space::Kind;
@@ -130,6 +130,16 @@ fn is_appended(kind: Kind) -> bool
     }
 }
 
+fn is_container(kind: Kind) -> bool
+    ensures { result ≡ is_container kind }
+{
+    match kind {
+        Kind::Array => true,
+        Kind::Hash => true,
+        _ => false,
+    }
+}
+
 fn is_hash(kind: Kind) -> bool
     ensures { result ≡ is_hash kind }
 {
@@ -154,7 +164,7 @@ fn has_content(kind: Kind, method: ContentMethod) -> bool
         ContentMethod::Pop => is_array_kind(kind),
         ContentMethod::Shift => is_array_kind(kind),
         ContentMethod::Includes => is_text(kind),
-        ContentMethod::SetAt => is_array_kind(kind),
+        ContentMethod::SetAt => is_container(kind),
         ContentMethod::Keys => is_hash(kind),
         ContentMethod::Values => is_hash(kind),
         ContentMethod::HasKey => is_hash(kind),

@@ -36,3 +36,18 @@ pub returns-in-Refill : goal.returns-in-Refill
 returns-in-Refill c = λ below read receiver among.
     let parts = subst (λ (d : Deed). IsDeedAmong below d) c.in-Refill.is among in
     subst (λ (d : Deed). IsDone below (performed (act_of d) c.args.receiver c.args.space.now) c.args.space.now c.refill.new.space c.refill.result) (sym c.in-Refill.is) (c.refill.ensures below read parts.0 parts.1)
+
+pub returns-in-SetValue : goal.returns-in-SetValue
+returns-in-SetValue c = λ below read receiver among.
+    subst (λ (d : Deed). Acts below (performed (act_of d) c.args.receiver) c.args.space.now c.set_value.new.space c.set_value.result) (sym c.in-SetValue.is)
+    (c.set_value.ensures below read (subst (λ (d : Deed). IsDeedAmong below d) c.in-SetValue.is among))
+
+pub returns-in-AddPair : goal.returns-in-AddPair
+returns-in-AddPair c = λ below read receiver among.
+    let parts = subst (λ (d : Deed). IsDeedAmong below d) c.in-AddPair.is among in
+    subst (λ (d : Deed). Acts below (performed (act_of d) c.args.receiver) c.args.space.now c.add_pair.new.space c.add_pair.result) (sym c.in-AddPair.is) (c.add_pair.ensures below read parts.0 parts.1)
+
+pub returns-in-AddText : goal.returns-in-AddText
+returns-in-AddText c = λ below read receiver among.
+    subst (λ (d : Deed). Acts below (performed (act_of d) c.args.receiver) c.args.space.now c.add_text.new.space c.add_text.result) (sym c.in-AddText.is)
+    (c.add_text.ensures below read (subst (λ (d : Deed). IsDeedAmong below d) c.in-AddText.is among))
