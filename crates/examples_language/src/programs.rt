@@ -119,6 +119,18 @@ a + 1 << 2 * 3 < 4 -> Bare { name: Sym(0), site: 0 }, Int(1), Binary(Add, 0, 1),
 a <<^n1 -> Bare { name: Sym(0), site: 0 }, Int(1), Append(0, 1), Item(2), Sequence { first: 3, count: 1 }
 x <<= 1 -> Int(1), Local { depth: 0, slot: 0, name: Sym(0) }, AppendAssign(1, 0), Item(2), Sequence { first: 3, count: 1 }
 @a <<= b += 1 -> Int(1), Local { depth: 0, slot: 0, name: Sym(1) }, OperatorAssign(Add, 1, 0), Field(Sym(0)), AppendAssign(3, 2), Item(4), Sequence { first: 5, count: 1 }
+loop { break } -> Call { name: Sym(0), first: 0, count: 0, site: 0 }, Nil, Break(1), Item(2), Sequence { first: 3, count: 1 }, Block { scope: 1, parameters: 0, size: 0, body: 4 }, WithBlock(0, 5), Item(6), Sequence { first: 7, count: 1 }
+while 1; break 2; next; end -> Int(1), Int(2), Break(1), Nil, Next(3), Item(2), Item(4), Sequence { first: 5, count: 2 }, Loop { until: false, condition: 0, body: 7 }, Item(8), Sequence { first: 9, count: 1 }
+return 1, 2 -> Int(1), Int(2), Item(0), Item(1), Array { first: 2, count: 2 }, Return(4), Item(5), Sequence { first: 6, count: 1 }
+return(1) + 1 -> Int(1), Item(0), Sequence { first: 1, count: 1 }, Int(1), Binary(Add, 2, 3), Return(4), Item(5), Sequence { first: 6, count: 1 }
+return[1][0] -> Int(1), Item(0), Array { first: 1, count: 1 }, Int(0), Index(2, 3), Return(4), Item(5), Sequence { first: 6, count: 1 }
+return - 1 -> Int(1), Negate(0), Return(1), Item(2), Sequence { first: 3, count: 1 }
+return -1 -> Int(-1), Return(0), Item(1), Sequence { first: 2, count: 1 }
+return if 1 -> Nil, Return(0), Int(1), Nil, Choose(2, 1, 3), Item(4), Sequence { first: 5, count: 1 }
+return {a: 1} -> Int(1), Symbol(Sym(0)), Pair(1, 0), Item(2), Hash { first: 3, count: 1 }, Return(4), Item(5), Sequence { first: 6, count: 1 }
+1 && return -> Int(1), Nil, Return(1), And(0, 2), Item(3), Sequence { first: 4, count: 1 }
+return puts 1 -> Int(1), Item(0), Call { name: Sym(0), first: 1, count: 1, site: 0 }, Return(2), Item(3), Sequence { first: 4, count: 1 }
+x = return 1 -> Int(1), Return(0), Assign { depth: 0, slot: 0, name: Sym(0), value: 1 }, Item(2), Sequence { first: 3, count: 1 }
 ";
 
 /// Sources that are refused.
@@ -194,6 +206,13 @@ a << -> 1:5 unexpected end
 1 < 2 << -> 1:9 unexpected end
 a << puts 1 -> 1:11 unexpected token
 1 <<= 2 -> 1:3 unexpected token
+break -> 1:1 unexpected token
+next 1 -> 1:1 unexpected token
+while 1; end; break -> 1:15 unexpected token
+f { break }; next -> 1:14 unexpected token
+1 + return 2 -> 1:12 unexpected token
+return 1, -> 1:10 unexpected end
+return 1 2 -> 1:10 unexpected token
 ";
 
 fn check_rows(rt: &impl Abort, alloc: Global, rows: &str) -> Result<(), AllocError> {
@@ -280,6 +299,8 @@ a.b(c.d(1)) -> 2
 a.b.c[0][1] -> 1
 f { 1 } -> 1
 1 << 2 << 3 -> 0
+while 1 do break [1] end -> 2
+return puts 1 -> 1
 f(1) { g { 2 } } -> 2
 a.b { [1] } -> 2
 ";

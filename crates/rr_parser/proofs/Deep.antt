@@ -2,10 +2,12 @@
 use Rattle.std.proofs.Common.{◌≡◌, ℕ, zero, suc, pos, ◌⊎◌, inl, inr, Bool, true, false, cond, List, [], ◌∷◌, length, Option, Some, None, Result, Ok, Err, refl}
 use Rattle.rr_base.specs.declared.name.Sym.{Sym}
 use Rattle.rr_parser.specs.declared.word.Infix.{Infix}
-use Rattle.rr_tree.specs.Tree.{Tree, int, bare, call, with_block, negate, sequence, choose, repeat, send, index, array, hash, pair, symbol, logical_not, listed}
+use Rattle.rr_tree.specs.Tree.{Tree, nil, int, bare, call, with_block, negate, sequence, choose, repeat, send, index, array, hash, pair, symbol, logical_not, listed}
 use Rattle.rr_parser.specs.declared.word.Tail.{Tail}
 use Rattle.rr_parser.specs.declared.word.Tail.TheVariants as tails
 use Rattle.rr_parser.specs.declared.word.Aim.{Aim}
+use Rattle.rr_parser.specs.declared.word.Head.{Head}
+use Rattle.rr_parser.specs.declared.word.Jump.{Jump}
 use Rattle.rr_parser.specs.declared.word.Listed.{Listed}
 use Rattle.rr_parser.specs.declared.word.Listed.TheVariants as listings
 use Rattle.rr_parser.specs.declared.word.Part.{Part}
@@ -16,12 +18,12 @@ use Rattle.rr_parser.specs.declared.word.Word.{Word}
 use Rattle.rr_parser.specs.Places.{Place, Look, word, at, next, skip, separators, start}
 use Rattle.rr_parser.specs.Grammar.Chains.{Chain, one, more, same, one_of, and_one}
 use Rattle.rr_parser.specs.Grammar.Nesting.{Nested}
-use Rattle.rr_parser.specs.Grammar.Names.{is_local, variable_of, local_tree, name, bracket, begins_operands, command}
+use Rattle.rr_parser.specs.Grammar.Names.{is_local, variable_of, local_tree, is_allowed, jump_tree, begins_arguments, headed, name, bracket, begins_operands, command}
 use Rattle.rr_parser.specs.Grammar.Operands.{fits, fits_below, negated, joined, literal_of, construct_of, brace, tail, Primary, Tailed, Minus}
 use Rattle.rr_parser.specs.Grammar.Operators.{operator, infixed, connective, joined_by, Binary, Logical}
 use Rattle.rr_parser.specs.Grammar.Calls.{target, with_target, assigned_to, label, comma, closing, last, Argument, Member}
 use Rattle.rr_parser.specs.Grammar.Sequences.{Negation, Expression, modifier, modified, Statement}
-use Rattle.rr_parser.specs.Grammar.Control.{thens, loops, elsif, chosen, unless_chosen, Branch, Branches}
+use Rattle.rr_parser.specs.Grammar.Control.{thens, loops, elsif, chosen, unless_chosen, looping, outside_loop, Branch, Branches}
 use Rattle.rr_parser.specs.Grammar.Blocks.{parameters, entered, leaving, block_tree}
 use Rattle.rr_parser.specs.Grammar.{inside, outside}
 use Rattle.rr_parser.specs.Reading.Answers.{◌>>=◌, Refused, wrong, deep, Answer, Parse, built, ended_by, closed, from, on_seen, across, trail_on, turn, chain_from, chain_on, chain}
@@ -30,10 +32,10 @@ use Rattle.rr_parser.specs.Reading.Operands.{bare_call, block_behind, blocked_or
 use Rattle.rr_parser.specs.Reading.Operators.{binary_on, binary_of, pair_or, equality_on, logical_on, logical_of, question_or, ternary_on, ternary_of}
 use Rattle.rr_parser.specs.Reading.Calls.{assigned_or, assigned_of, argument_of, pair_by, pair_of, member_of, another, members_of, bracketed_or, bracketed_of, array_of, hash_of, index_of, commanded_or, commanded_of, command_or, command_of, phrase_or, phrase_of, operand_of, value_of}
 use Rattle.rr_parser.specs.Reading.Sequences.{negation_or, negation_of, expression_of, statement_of, ends, row, rows_of, sequence_of, statements_of, group_of}
-use Rattle.rr_parser.specs.Reading.Control.{both, branch_of, branches_of, otherwise_or, otherwise_of, ended, choice_of, unless_of, loop_of}
+use Rattle.rr_parser.specs.Reading.Control.{both, branch_of, branches_of, otherwise_or, otherwise_of, ended, choice_of, unless_of, loop_of, looped_of}
 use Rattle.rr_parser.specs.Reading.Blocks.{left_block, block_or, block_of}
 use Rattle.rr_parser.specs.Reading.{part_of, readers_inside, readers_outside, readers, whole_of, program_of}
-use Rattle.rr_parser.specs.Fronts.{Fronts, ChainFront, in_one, in_more, in_head, TailedFront, PostfixFront, PairFront, behind_label, in_entry, MemberFront, MembersFront, AcrossFront, in_former, in_latter, CallFront, BlockedFront, in_block, PrimaryFront, in_construct, in_call, in_block_call, BangFront, in_bang, behind_no_bang, MinusFront, in_minus, behind_no_minus, BinaryFront, EqualityFront, LogicalFront, TernaryFront, AssignedFront, in_value, in_operand, ArgumentFront, CommandedFront, in_arguments, in_argument_command, CommandFront, behind_name, PhraseFront, in_command, in_plain, OperandFront, ValueFront, NegationFront, in_negation, behind_no_negation, ExpressionFront, StatementFront, RowsFront, StatementsFront, BranchFront, BranchesFront, EndedFront, LoopFront, BlockFront, in_body, PartFront, fronts_inside, fronts_outside}
+use Rattle.rr_parser.specs.Fronts.{Fronts, ChainFront, in_one, in_more, in_head, TailedFront, PostfixFront, PairFront, behind_label, in_entry, MemberFront, MembersFront, AcrossFront, in_former, in_latter, CallFront, BlockedFront, in_block, PrimaryFront, in_construct, in_call, in_block_call, BangFront, in_bang, behind_no_bang, MinusFront, in_minus, behind_no_minus, BinaryFront, EqualityFront, LogicalFront, TernaryFront, AssignedFront, in_value, in_operand, ArgumentFront, CommandedFront, in_arguments, in_argument_command, CommandFront, behind_name, PhraseFront, in_command, in_plain, OperandFront, ValueFront, NegationFront, in_negation, behind_no_negation, ExpressionFront, StatementFront, RowsFront, StatementsFront, BranchFront, BranchesFront, EndedFront, LoopFront, LoopedFront, BlockFront, in_body, PartFront, fronts_inside, fronts_outside}
 use Rattle.rr_parser.proofs.Told.{told_bang, told_not}
 use Rattle.rr_parser.proofs.Looks.{word-next, another-comma, next-name, row-separators, prefix-next}
 use Rattle.rr_parser.proofs.Trails.{trail_deep}
@@ -140,6 +142,15 @@ plain_not_deep : (b : Bool) (x : Sym) (m : Place) → cond b (done (local_tree x
 plain_not_deep true x m e = let never : ⊥ = cc in never
 plain_not_deep false x m e = bare_not_deep (begins_operands m.rest) x m e
 
+-- what was read in a loop, at the place behind it
+abbrev past_loop : Place → Answer Tree → Answer Tree
+past_loop s r = r >>= λ x. Ok (x.0, outside_loop s x.1)
+
+jump_not_deep : (a b : Bool) (j : Jump) (m : Place) → cond a (cond b (Err wrong) (done (jump_tree j nil) m)) (Err wrong) ≡ Err deep → ⊥
+jump_not_deep true true j m e = let never : ⊥ = cc in never
+jump_not_deep true false j m e = let never : ⊥ = cc in never
+jump_not_deep false b j m e = let never : ⊥ = cc in never
+
 pub record NestedDeep (N : Readers) (F : Fronts) : Type 0 where
   pub part : (p : Part) → IsDeep (N.part p) (F.part p)
   pub bracketed : IsDeep N.bracketed F.bracketed
@@ -202,6 +213,7 @@ module _ (N : Readers) (R : Nested) (F : Fronts) (sounds : NestedSound N R) (nes
   primary_at-deep s (kind.Int n) m f e = int_deep s m n e
   primary_at-deep s (kind.Name x b) m f e = name_deep s m x (next-name s m x b f) e
   primary_at-deep s kind.Minus m f e = negative_deep s m e
+  primary_at-deep s (kind.Jump j) m f e = absurd (jump_not_deep (is_allowed j m.known) (begins_arguments m.rest) j m e)
   primary_at-deep s k m f e = begun_deep s k m (literal_of k) (construct_of k) f refl e
 
   primary_in-deep : (s : Place) (r : Option (WordKind × Place)) → next s ≡ r → primary_in N r ≡ Err deep → (z : Place) × PrimaryFront R F s z
@@ -376,7 +388,7 @@ module _ (N : Readers) (R : Nested) (F : Fronts) (sounds : NestedSound N R) (nes
   unfolding index_of
   index_deep s e = argument_deep s (closed_deep kind.CloseSquare (argument_of N s) e)
 
-  commanded_or-deep : (s : Place) (o : Option (Sym × Place)) → at (command s.known) s ≡ o → commanded_or N s o ≡ Err deep → (z : Place) × CommandedFront R F s z
+  commanded_or-deep : (s : Place) (o : Option (Head × Place)) → at (command s.known) s ≡ o → commanded_or N s o ≡ Err deep → (z : Place) × CommandedFront R F s z
   commanded_or-deep s None f e = let d = members_deep listings.Command s e in (d.0, in_arguments d.1)
   commanded_or-deep s (Some x) f e = let d = nests.part parts.Command s (built_deep one_of (N.part parts.Command s) e) in (d.0, in_argument_command f d.1)
 
@@ -384,10 +396,10 @@ module _ (N : Readers) (R : Nested) (F : Fronts) (sounds : NestedSound N R) (nes
   unfolding commanded_of
   commanded_deep s e = commanded_or-deep s (at (command s.known) s) refl e
 
-  called_deep : (s m : Place) (x : Sym) → at (command s.known) s ≡ Some (x, m) → built (λ l. call x.0 (listed l)) (commanded_of N m) ≡ Err deep → (z : Place) × CommandFront R F s z
-  called_deep s m x f e = let d = commanded_deep m (built_deep (λ l. call x.0 (listed l)) (commanded_of N m) e) in (d.0, behind_name f d.1)
+  called_deep : (s m : Place) (x : Head) → at (command s.known) s ≡ Some (x, m) → built (headed x) (commanded_of N m) ≡ Err deep → (z : Place) × CommandFront R F s z
+  called_deep s m x f e = let d = commanded_deep m (built_deep (headed x) (commanded_of N m) e) in (d.0, behind_name f d.1)
 
-  command_or-deep : (s : Place) (o : Option (Sym × Place)) → at (command s.known) s ≡ o → command_or N o ≡ Err deep → (z : Place) × CommandFront R F s z
+  command_or-deep : (s : Place) (o : Option (Head × Place)) → at (command s.known) s ≡ o → command_or N o ≡ Err deep → (z : Place) × CommandFront R F s z
   command_or-deep s None f e = absurd cc
   command_or-deep s (Some x) f e = called_deep s x.1 x.0 f e
 
@@ -395,7 +407,7 @@ module _ (N : Readers) (R : Nested) (F : Fronts) (sounds : NestedSound N R) (nes
   unfolding command_of
   command_deep s e = command_or-deep s (at (command s.known) s) refl e
 
-  phrase_or-deep : (s : Place) (o : Option (Sym × Place)) → at (command s.known) s ≡ o → phrase_or N s o ≡ Err deep → (z : Place) × PhraseFront R F s z
+  phrase_or-deep : (s : Place) (o : Option (Head × Place)) → at (command s.known) s ≡ o → phrase_or N s o ≡ Err deep → (z : Place) × PhraseFront R F s z
   phrase_or-deep s None f e = let d = ternary_deep s e in (d.0, in_plain d.1)
   phrase_or-deep s (Some x) f e = let d = called_deep s x.1 x.0 f e in (d.0, in_command d.1)
 
@@ -489,6 +501,14 @@ module _ (N : Readers) (R : Nested) (F : Fronts) (sounds : NestedSound N R) (nes
       across_deep (repeat until) loops (statements_of N) (expression_of N s) s (Expression R) (ExpressionFront R F) (StatementsFront R F) (λ a m g. expression_sound N R sounds s m a g) (λ g. expression_deep s g) statements_deep
       (closed_deep kind.End (across (repeat until) loops (statements_of N) (expression_of N s)) e)
 
+  outside_deep : (s : Place) (r : Answer Tree) → past_loop s r ≡ Err deep → r ≡ Err deep
+  outside_deep s (Ok x) e = absurd cc
+  outside_deep s (Err wrong) e = absurd cc
+  outside_deep s (Err deep) e = refl
+
+  looped_deep : (until : Bool) → IsDeep (looped_of N until) (LoopedFront R F)
+  looped_deep until s e = loop_deep until (looping s) (outside_deep s (loop_of N until (looping s)) e)
+
   left_deep : (s : Place) (xs : List Sym) (m : Place) (r : Answer Tree) → left_block s xs m r ≡ Err deep → r ≡ Err deep
   left_deep s xs m (Ok x) e = absurd cc
   left_deep s xs m (Err wrong) e = absurd cc
@@ -512,7 +532,7 @@ module _ (N : Readers) (R : Nested) (F : Fronts) (sounds : NestedSound N R) (nes
   part_deep parts.Index = index_deep
   part_deep parts.Choice = choice_deep
   part_deep parts.Unless = unless_deep
-  part_deep (parts.Loop until) = loop_deep until
+  part_deep (parts.Loop until) = looped_deep until
   part_deep parts.Minus = minus_deep
   part_deep parts.Bang = bang_deep
   part_deep parts.Not = negation_deep

@@ -3,6 +3,8 @@ use Rattle.std.proofs.Common.{◌≡◌, ℕ, zero, suc, ◌+◌, ◌*◌, ◌<�
 use Rattle.rr_base.specs.declared.name.Sym.{Sym}
 use Rattle.rr_tree.specs.Tree.{Tree, nil, truth, int, text, bare, call, with_block, negate, sequence, choose, repeat, send, index, array, hash, pair, symbol, constant, field, global, itself, logical_not, listed}
 use Rattle.rr_parser.specs.declared.word.Tail.{Tail}
+use Rattle.rr_parser.specs.declared.word.Head.{Head}
+use Rattle.rr_parser.specs.declared.word.Jump.{Jump}
 use Rattle.rr_parser.specs.declared.word.Listed.{Listed}
 use Rattle.rr_parser.specs.declared.word.Listed.TheVariants as listings
 use Rattle.rr_parser.specs.declared.word.Part.{Part}
@@ -13,21 +15,21 @@ use Rattle.rr_parser.specs.declared.word.Word.{Word}
 use Rattle.rr_parser.specs.Places.{is_kind, where_true, seen_before, placed, Place, word, at, next, skip, separators, start}
 use Rattle.rr_parser.specs.Grammar.Chains.{same, one_of, and_one}
 use Rattle.rr_parser.specs.Grammar.Nesting.{Nested}
-use Rattle.rr_parser.specs.Grammar.Names.{is_local, variable_of, local_tree, name, bracket, begins_operands, command}
-use Rattle.rr_parser.specs.Grammar.Operands.{fits, fits_below, negated, joined, literal_of, construct_of, brace, Blocked, no_block, a_block, Primary, a_literal, a_negative, a_local, a_bare_call, a_call, a_block_call, a_construct, tail, Tailed, a_send, a_sent_call, an_index, Postfix, Bang, a_bang, no_bang, Minus, a_minus, no_minus}
+use Rattle.rr_parser.specs.Grammar.Names.{is_local, variable_of, local_tree, is_allowed, jump_tree, begins_arguments, headed, name, bracket, begins_operands, command}
+use Rattle.rr_parser.specs.Grammar.Operands.{fits, fits_below, negated, joined, literal_of, construct_of, brace, Blocked, no_block, a_block, Primary, a_literal, a_negative, a_local, a_bare_call, a_call, a_block_call, a_jump, a_construct, tail, Tailed, a_send, a_sent_call, an_index, Postfix, Bang, a_bang, no_bang, Minus, a_minus, no_minus}
 use Rattle.rr_parser.specs.Grammar.Operators.{operator, infixed, connective, joined_by, Logical, Binary, Equality, a_comparison, a_pair, Ternary, no_question, a_question}
 use Rattle.rr_parser.specs.Grammar.Calls.{target, with_target, assigned_to, label, comma, closing, last, Assigned, an_assignment, no_assignment, Argument, Pair, by_label, by_arrow, Member, Members, Bracketed, no_members, some_members, Array, an_array, Hash, a_hash, Index, of_element, Commanded, by_arguments, by_command, Command, a_command, Phrase, by_name, an_operand, Value}
 use Rattle.rr_parser.specs.Grammar.Sequences.{Negation, a_negation, no_negation, Expression, modifier, modified, Statement, Rows, Statements, no_statements, some_statements, Group, a_group}
-use Rattle.rr_parser.specs.Grammar.Control.{thens, loops, elsif, chosen, unless_chosen, Branch, a_branch, Branches, Otherwise, no_else, an_else, Choice, a_choice, Unless, an_unless, Loop, a_loop}
+use Rattle.rr_parser.specs.Grammar.Control.{thens, loops, elsif, chosen, unless_chosen, Branch, a_branch, Branches, Otherwise, no_else, an_else, Choice, a_choice, Unless, an_unless, Loop, a_loop, looping, outside_loop, Looped, of_loop}
 use Rattle.rr_parser.specs.Grammar.Blocks.{parameters, entered, leaving, block_tree, Block, of_statements}
 use Rattle.rr_parser.specs.Grammar.{PartOf, inside, outside, WordsSpell}
 use Rattle.rr_parser.specs.Reading.Answers.{◌>>=◌, wrong, deep, Answer, Parse, built, ended_by, closed, across}
 use Rattle.rr_parser.specs.Reading.Nesting.{Readers}
-use Rattle.rr_parser.specs.Reading.Operands.{call_of, bare_call, variable_or_call, block_behind, blocked_or, blocked_of, then_blocked, unbracketed_or, name_or, name_of, int_at, negative_in, negative_of, primary_at, primary_in, primary_of, tailed_of, postfix_of, bang_or, bang_of, prefix_minus, minus_or, minus_of}
+use Rattle.rr_parser.specs.Reading.Operands.{call_of, bare_call, variable_or_call, block_behind, blocked_or, blocked_of, then_blocked, unbracketed_or, name_or, name_of, jump_at, int_at, negative_in, negative_of, primary_at, primary_in, primary_of, tailed_of, postfix_of, bang_or, bang_of, prefix_minus, minus_or, minus_of}
 use Rattle.rr_parser.specs.Reading.Operators.{binary_on, binary_of, pair_or, equality_on, logical_on, logical_of, question_or, ternary_on, ternary_of}
-use Rattle.rr_parser.specs.Reading.Calls.{assigned_or, assigned_of, argument_of, pair_by, pair_of, member_of, another, members_of, bracketed_or, bracketed_of, array_of, hash_of, index_of, commanded_or, commanded_of, command_or, command_of, phrase_or, phrase_of, value_of}
+use Rattle.rr_parser.specs.Reading.Calls.{assigned_or, assigned_of, argument_of, pair_by, pair_of, member_of, another, members_of, bracketed_or, bracketed_of, array_of, hash_of, index_of, commanded_or, commanded_of, headed_of, command_or, command_of, phrase_or, phrase_of, value_of}
 use Rattle.rr_parser.specs.Reading.Sequences.{negation_or, negation_of, expression_of, statement_of, ends, row, rows_of, sequence_of, statements_at, statements_of, group_of}
-use Rattle.rr_parser.specs.Reading.Control.{both, branch_of, branches_of, otherwise_or, otherwise_of, ended, choice_of, unless_of, loop_of}
+use Rattle.rr_parser.specs.Reading.Control.{both, branch_of, branches_of, otherwise_or, otherwise_of, ended, choice_of, unless_of, loop_of, looped_of}
 use Rattle.rr_parser.specs.Reading.Blocks.{left_block, block_or, block_of}
 use Rattle.rr_parser.specs.Reading.{part_of, readers_inside, readers_outside, whole_of, program_of}
 use Rattle.rr_parser.proofs.Told.{told_question, told_comma}
@@ -169,6 +171,11 @@ module _ (N : Readers) (R : Nested) (D : Type 0) (shrinks : ReadersShrink N) (ne
   unfolding primary_of
   by_kind_full s m k e = ap (primary_in N) e
 
+  jump_full : (j : Jump) (z : Place) → is_allowed j z.known ≡ true → begins_arguments z.rest ≡ false → jump_at j z ≡ done (jump_tree j nil) z
+  jump_full j z f g =
+      ap (λ b. cond b (cond (begins_arguments z.rest) (Err wrong) (done (jump_tree j nil) z)) (Err wrong)) f
+      ∙ ap (λ b. cond b (Err wrong) (done (jump_tree j nil) z)) g
+
   primary_full : IsFull (primary_of N) (Primary R) Anywhere D
   primary_full s z t (a_literal {k = k} e f) u = inl (by_kind_full s z k e ∙ literal_full k z t f)
   primary_full s z t (a_negative {m = m} {n = n} e f g) u = inl (by_kind_full s m kind.Minus e ∙ negative_full m z n f g)
@@ -178,6 +185,7 @@ module _ (N : Readers) (R : Nested) (D : Type 0) (shrinks : ReadersShrink N) (ne
       leads_eq (primary_of N s) (name_of N x m) (Ok (t, z)) (by_name_full s m x e) (call_full x m n o z v l t f h b)
   primary_full s z t (a_block_call {m = m} {n = n} {x = x} {u = v} {b = b} e f g h) u =
       leads_eq (primary_of N s) (name_of N x m) (Ok (t, z)) (by_name_full s m x e) (alone_full x m n z v b f g h)
+  primary_full s z t (a_jump {j = j} e f g) u = inl (by_kind_full s z (kind.Jump j) e ∙ jump_full j z f g)
   primary_full s z t (a_construct {m = m} {k = k} {p = p} e f h) u =
       leads_eq (primary_of N s) (N.part p m) (Ok (t, z)) (by_kind_full s m k e ∙ construct_full k m p f) (nests.part p m z t h (construct_anywhere k p z f))
 
@@ -332,18 +340,18 @@ module _ (N : Readers) (R : Nested) (D : Type 0) (shrinks : ReadersShrink N) (ne
       leads_eq (commanded_or N s (at (command s.known) s)) (built one_of (N.part parts.Command s)) (Ok (l, z)) (ap (commanded_or N s) e)
       (leads_bind (N.part parts.Command s) (t, z) (λ y. Ok (one_of y.0, y.1)) (nests.part parts.Command s z t h stops))
 
-  called_full : (s m z : Place) (x : Sym) (l : List Tree) → Commanded R m l z → Stops 27 z → Leads (call_of x (commanded_of N m)) (Ok (call x.0 (listed l), z)) D
-  called_full s m z x l h stops = leads_bind (commanded_of N m) (l, z) (λ q. Ok (call x.0 (listed q.0), q.1)) (commanded_full m z l h stops)
+  called_full : (s m z : Place) (x : Head) (l : List Tree) → Commanded R m l z → Stops 27 z → Leads (headed_of x (commanded_of N m)) (Ok (headed x l, z)) D
+  called_full s m z x l h stops = leads_bind (commanded_of N m) (l, z) (λ q. Ok (headed x q.0, q.1)) (commanded_full m z l h stops)
 
   pub command_full : IsFull (command_of N) (Command R) (Stops 27) D
   unfolding command_of
   command_full s z t (a_command {m = m} {x = x} {l = l} e h) stops =
-      leads_eq (command_or N (at (command s.known) s)) (call_of x (commanded_of N m)) (Ok (t, z)) (ap (command_or N) e) (called_full s m z x l h stops)
+      leads_eq (command_or N (at (command s.known) s)) (headed_of x (commanded_of N m)) (Ok (t, z)) (ap (command_or N) e) (called_full s m z x l h stops)
 
   phrase_full : IsFull (phrase_of N) (Phrase R) (Stops 27) D
   unfolding phrase_of
   phrase_full s z t (by_name (a_command {m = m} {x = x} {l = l} e h)) stops =
-      leads_eq (phrase_or N s (at (command s.known) s)) (call_of x (commanded_of N m)) (Ok (t, z)) (ap (phrase_or N s) e) (called_full s m z x l h stops)
+      leads_eq (phrase_or N s (at (command s.known) s)) (headed_of x (commanded_of N m)) (Ok (t, z)) (ap (phrase_or N s) e) (called_full s m z x l h stops)
   phrase_full s z t (an_operand h) stops =
       leads_eq (phrase_or N s (at (command s.known) s)) (ternary_of N s) (Ok (t, z)) (ap (phrase_or N s) (first_no_command s (ternary_first R s z t h))) (ternary_full s z t h (omega (arith, stops)))
 
@@ -440,6 +448,9 @@ module _ (N : Readers) (R : Nested) (D : Type 0) (shrinks : ReadersShrink N) (ne
       closed_full kind.End (across (repeat until) loops (statements_of N) (expression_of N s)) t o z refl
       (across_full (repeat until) loops (statements_of N) (expression_of N s) c m n o u b (expression_full s m c h (loops_stop m n u e)) e (statements_full n o b i (next_ends o z kind.End true f refl))) f
 
+  looped_full : (until : Bool) → IsFull (looped_of N until) (Looped R until) Anywhere D
+  looped_full until s z t (of_loop {z = y} h) u = leads_bind (loop_of N until (looping s)) (t, y) (λ x. Ok (x.0, outside_loop s x.1)) (loop_full until (looping s) y t h tt)
+
   block_full : IsFull (block_of N) (Block R) Anywhere D
   unfolding block_of
   block_full s z t (of_statements {m = m} {n = n} {z = y} {xs = xs} {t = b} e h f) u =
@@ -455,7 +466,7 @@ module _ (N : Readers) (R : Nested) (D : Type 0) (shrinks : ReadersShrink N) (ne
   part_full parts.Index = index_full
   part_full parts.Choice = choice_full
   part_full parts.Unless = unless_full
-  part_full (parts.Loop until) = loop_full until
+  part_full (parts.Loop until) = looped_full until
   part_full parts.Minus = minus_full
   part_full parts.Bang = bang_full
   part_full parts.Not = negation_full

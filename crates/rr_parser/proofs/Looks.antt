@@ -3,6 +3,7 @@ use Rattle.std.proofs.Common.{◌≡◌, ℕ, suc, ◌<◌, ◌≤◌, ◌⊎◌
 use Rattle.rr_base.specs.declared.name.Sym.{Sym}
 use Rattle.rr_parser.specs.declared.word.Tail.{Tail}
 use Rattle.rr_parser.specs.declared.word.Tail.TheVariants as tails
+use Rattle.rr_parser.specs.declared.word.Head.{Head}
 use Rattle.rr_parser.specs.declared.word.Sign.{Sign}
 use Rattle.rr_parser.specs.declared.word.Aim.{Aim}
 use Rattle.rr_parser.specs.declared.word.Target.{Target}
@@ -12,7 +13,7 @@ use Rattle.rr_parser.specs.declared.word.WordKind.{WordKind}
 use Rattle.rr_parser.specs.declared.word.WordKind.TheVariants as kind
 use Rattle.rr_parser.specs.declared.word.Word.{Word}
 use Rattle.rr_parser.specs.Places.{Known, Place, Look, seen_before, first_as, unless, where_true, is_kind, word, any_word, placed, at, next, without_separators, skip, behind_separators, separators}
-use Rattle.rr_parser.specs.Grammar.Names.{name_of_kind, name, bracket, begins_operands, begins_command, commanding, command}
+use Rattle.rr_parser.specs.Grammar.Names.{name_of_kind, name, bracket, begins_operands, head_of_kind, head, begins_head, commanding, command}
 use Rattle.rr_parser.specs.Grammar.Operands.{joined, square, called, sent, indexed, behind_dot, tail}
 use Rattle.rr_parser.specs.Grammar.Calls.{target_of_kind, sign_of_kind, sign, assigned, named, target_word, target, comma, closing, behind_comma, last}
 use Rattle.rr_parser.specs.Grammar.Control.{behind_word, then_or_separators, thens, either, loops}
@@ -253,21 +254,24 @@ target-next s z x e = by_name (target_word s.rest) refl e
         let w = seen_as (λ w. target_of_kind w.kind) s m y.0 (ap (placed s.known) g) in
         record { first = w.kind; m = m; here = w.here; told = w.told ∙ ap (λ (q : Target). Some q) t.0; sign = t.1 }
 
-pub command-next : (s z : Place) (x : Sym) → at (command s.known) s ≡ Some (x, z) → (at name s ≡ Some (x, z)) × (begins_command x z ≡ true)
-command-next s z x e = by_name (name s.rest) refl e
+pub head-next : (s z : Place) (x : Head) → at head s ≡ Some (x, z) → (k : WordKind) × (next s ≡ Some (k, z)) × (head_of_kind k ≡ Some x)
+head-next s z x e = let w = seen_as (λ w. head_of_kind w.kind) s z x e in (w.kind, w.here, w.told)
+
+pub command-next : (s z : Place) (x : Head) → at (command s.known) s ≡ Some (x, z) → (at head s ≡ Some (x, z)) × (begins_head x z ≡ true)
+command-next s z x e = by_name (head s.rest) refl e
   where
-    by_test : (y : Sym) (ws : List Word) (b : Bool) → begins_command y (record { known = s.known; rest = ws }) ≡ b → placed s.known (cond b (Some (y, ws)) None) ≡ Some (x, z)
-        → (y ≡ x) × (record { known = s.known; rest = ws } ≡ z) × (begins_command y (record { known = s.known; rest = ws }) ≡ true)
+    by_test : (y : Head) (ws : List Word) (b : Bool) → begins_head y (record { known = s.known; rest = ws }) ≡ b → placed s.known (cond b (Some (y, ws)) None) ≡ Some (x, z)
+        → (y ≡ x) × (record { known = s.known; rest = ws } ≡ z) × (begins_head y (record { known = s.known; rest = ws }) ≡ true)
     by_test y ws true g h = let m : Place = record { known = s.known; rest = ws } in (some_what y x m z h, some_place y x m z h, g)
     by_test y ws false g h = absurd cc
 
-    by_name : (o : Option (Sym × List Word)) → name s.rest ≡ o → placed s.known (commanding s.known o) ≡ Some (x, z) → (at name s ≡ Some (x, z)) × (begins_command x z ≡ true)
+    by_name : (o : Option (Head × List Word)) → head s.rest ≡ o → placed s.known (commanding s.known o) ≡ Some (x, z) → (at head s ≡ Some (x, z)) × (begins_head x z ≡ true)
     by_name None g h = absurd cc
     by_name (Some y) g h =
         let m : Place = record { known = s.known; rest = y.1 } in
-        let t = by_test y.0 y.1 (begins_command y.0 m) refl h in (
-          ap (placed s.known) g ∙ ap (λ (q : Sym). Some (q, m)) t.0 ∙ ap (λ (q : Place). Some (x, q)) t.1,
-          ap (λ (q : Place). begins_command x q) (sym t.1) ∙ ap (λ (q : Sym). begins_command q m) (sym t.0) ∙ t.2,
+        let t = by_test y.0 y.1 (begins_head y.0 m) refl h in (
+          ap (placed s.known) g ∙ ap (λ (q : Head). Some (q, m)) t.0 ∙ ap (λ (q : Place). Some (x, q)) t.1,
+          ap (λ (q : Place). begins_head x q) (sym t.1) ∙ ap (λ (q : Head). begins_head q m) (sym t.0) ∙ t.2,
         )
 
 -- the word `do`, or separators

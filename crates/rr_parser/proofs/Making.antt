@@ -6,7 +6,7 @@ use Rattle.std.proofs.lemmas.List.Elements.{All-append}
 use Rattle.rr_base.specs.declared.name.Sym.{Sym}
 use Rattle.rr_parser.specs.declared.word.Infix.{Infix}
 use Rattle.rr_tree.specs.declared.node.Node.{Node}
-use Rattle.rr_tree.specs.Tree.{Tree, nil, sequence, listed, choose, repeat, call, send, with_block, block, index, pair, symbol, tree_at, HasPartsBefore, IsOrdered}
+use Rattle.rr_tree.specs.Tree.{Tree, nil, sequence, array, listed, choose, repeat, call, send, with_block, block, index, pair, symbol, tree_at, HasPartsBefore, IsOrdered}
 use Rattle.rr_tree.specs.Nodes.{Extends, node_tree}
 use Rattle.rr_tree.proofs.Growth.{IsOrdered-put, tree_at-put, tree_at-kept, Extends-refl, Extends-trans, length-kept}
 use Rattle.std.specs.Borrow.{Bor}
@@ -17,6 +17,9 @@ use Rattle.rr_parser.specs.Grammar.Sequences.{modified}
 use Rattle.rr_parser.specs.declared.word.Tail.{Tail}
 use Rattle.rr_parser.specs.declared.word.Tail.TheVariants as tails
 use Rattle.rr_parser.specs.declared.word.Operation.{Operation}
+use Rattle.rr_parser.specs.declared.word.Head.{Head}
+use Rattle.rr_parser.specs.declared.word.Head.TheVariants as heads
+use Rattle.rr_parser.specs.declared.word.Jump.{Jump}
 use Rattle.rr_parser.specs.declared.word.Sign.{Sign}
 use Rattle.rr_parser.specs.declared.word.Sign.TheVariants as signs
 use Rattle.rr_parser.specs.declared.word.Aim.{Aim}
@@ -34,18 +37,18 @@ use Rattle.rr_parser.specs.declared.word.WordKind.{WordKind}
 use Rattle.rr_parser.specs.declared.word.WordKind.TheVariants as kind
 use Rattle.rr_parser.specs.Places.{Known, Place, Look, placed, without_separators, word, at, skip}
 use Rattle.rr_parser.specs.Grammar.Chains.{same, one_of}
-use Rattle.rr_parser.specs.Grammar.Names.{with_local, bracket, command}
+use Rattle.rr_parser.specs.Grammar.Names.{with_local, with_loop, jump_tree, jump_value, headed, bracket, command}
 use Rattle.rr_parser.specs.Grammar.Operators.{operator, infixed}
 use Rattle.rr_parser.specs.Grammar.Calls.{target, with_target, target_tree, operated, signed, assigned_to, label, closing, last}
-use Rattle.rr_parser.specs.Grammar.Control.{thens, loops, chosen, unless_chosen}
+use Rattle.rr_parser.specs.Grammar.Control.{thens, loops, chosen, unless_chosen, looping, outside_loop}
 use Rattle.rr_parser.specs.Reading.Answers.{◌>>=◌, Refused, wrong, deep, Answer, Parse, built, ended_by, closed, from, on_seen, across, trail_on, chain, chain_on}
 use Rattle.rr_parser.specs.Reading.Nesting.{Readers}
 use Rattle.rr_parser.specs.Reading.Operators.{binary_on, binary_of, pair_or, equality_on, logical_on, question_or, ternary_on}
 use Rattle.rr_parser.specs.Reading.Calls.{assigned_or, assigned_of, argument_of, pair_by, pair_of, members_of, bracketed_or, bracketed_of, commanded_or, commanded_of, operand_of, value_of}
 use Rattle.rr_parser.specs.Reading.Sequences.{expression_of, ends, rows_of, sequence_of, statements_of}
-use Rattle.rr_parser.specs.Reading.Control.{both, branch_of, branches_of, otherwise_of, ended, choice_of, unless_of, loop_of}
+use Rattle.rr_parser.specs.Reading.Control.{both, branch_of, branches_of, otherwise_of, ended, choice_of, unless_of, loop_of, looped_of}
 use Rattle.rr_parser.specs.Reading.{part_of, readers_inside, readers_outside, readers}
-use Rattle.rr_parser.specs.Meets.{View, nodes, pairs, lists, Made, Fails, Gives, Appends, Puts, Marks, Aims, Enters, Leaves, left_by, ReadsNames, known_of, place}
+use Rattle.rr_parser.specs.Meets.{View, nodes, pairs, lists, Made, Fails, Gives, Appends, Puts, Marks, Aims, Enters, Leaves, SetsLoop, left_by, ReadsNames, known_of, place}
 use Rattle.rr_parser.specs.declared.variables.Variables.{Variables}
 use Rattle.rr_parser.specs.declared.variables.Variable.{Variable}
 use Rattle.rr_parser.specs.declared.variables.Scope.{Scope}
@@ -740,9 +743,10 @@ module _ (N : Readers) (old s1 : Parser) (xs : List Sym) (k : Scope) (words rest
     left_known : (s3 : Parser) → Leaves s2 s3 k → known_of s3 ≡ left_to (known_of old) (known_of s2)
     left_known s3 l =
         l.known
-        ∙ ap (λ (q : ℕ). record { locals = take q (known_of s2).locals; level = k.level; count = k.count; begun = (known_of s2).begun }) n.begins.locals
-        ∙ ap (λ (q : ℕ). record { locals = take (length (known_of old).locals) (known_of s2).locals; level = q; count = k.count; begun = (known_of s2).begun }) n.begins.level
-        ∙ ap (λ (q : ℕ). record { locals = take (length (known_of old).locals) (known_of s2).locals; level = (known_of old).level; count = q; begun = (known_of s2).begun }) n.begins.count
+        ∙ ap (λ (q : ℕ). record { locals = take q (known_of s2).locals; level = k.level; count = k.count; begun = (known_of s2).begun; in_loop = k.in_loop }) n.begins.locals
+        ∙ ap (λ (q : ℕ). record { locals = take (length (known_of old).locals) (known_of s2).locals; level = q; count = k.count; begun = (known_of s2).begun; in_loop = k.in_loop }) n.begins.level
+        ∙ ap (λ (q : ℕ). record { locals = take (length (known_of old).locals) (known_of s2).locals; level = (known_of old).level; count = q; begun = (known_of s2).begun; in_loop = k.in_loop }) n.begins.count
+        ∙ ap (λ (q : Bool). record { locals = take (length (known_of old).locals) (known_of s2).locals; level = (known_of old).level; count = (known_of old).count; begun = (known_of s2).begun; in_loop = q }) n.begins.in_loop
 
     left_tree : (s3 : Parser) (size : ℕ) → Leaves s2 s3 k → size ≡ (known_of s2).count → (after : List Word)
         → block_tree xs (place old rest) (place s2 after) (tree_at s2.nodes.items t) ≡ block k.number k.parameters size (tree_at s3.nodes.items t)
@@ -842,7 +846,7 @@ empty_bracketed N k old es words after e is = record {
 }
 
 -- a command that is the only argument of another one
-pub made_argument_command : (N : Readers) (old new : Parser) (id : ℕ) (es : List ℕ) (x : Sym) (words after rest : List Word) → command (known_of old) words ≡ Some (x, after) → Made nodes old new id rest (N.part parts.Command (place old words)) → es ≡ id ∷ []
+pub made_argument_command : (N : Readers) (old new : Parser) (id : ℕ) (es : List ℕ) (x : Head) (words after rest : List Word) → command (known_of old) words ≡ Some (x, after) → Made nodes old new id rest (N.part parts.Command (place old words)) → es ≡ id ∷ []
     → Made (lists nodes) old new es rest (commanded_of N (place old words))
 unfolding commanded_of
 made_argument_command N old new id es x words after rest e m is = record {
@@ -873,3 +877,51 @@ reads_statements N s e = ap (λ b. cond b (Ok (sequence (listed []), skip s)) (s
 pub ordered_pushed : (b : Bool) (ns new : List Node) (n : Node) → new ≡ cond b (ns ++ n ∷ []) ns → IsOrdered ns → HasPartsBefore (length ns) n → IsOrdered new
 ordered_pushed true ns new n e ordered h = subst IsOrdered (sym e) (IsOrdered-put ns n ordered h)
 ordered_pushed false ns new n e ordered h = subst IsOrdered (sym e) ordered
+
+-- ---- jumps
+
+-- a loop, in which jumps may stand
+module _ (N : Readers) (until : Bool) (old s0 : Parser) (words : List Word) (b : SetsLoop old s0 true) where
+  reads_looped : looped_of N until (place old words) ≡ (loop_of N until (place s0 words) >>= λ x. Ok (x.0, outside_loop (place old words) x.1))
+  reads_looped = ap (λ (k : Known). loop_of N until (record { known = k; rest = words }) >>= λ x. Ok (x.0, outside_loop (place old words) x.1)) (sym b.known)
+
+  pub fails_looped : (d : Refusal) → Fails d (loop_of N until (place s0 words)) → Fails d (looped_of N until (place old words))
+  fails_looped d h =
+      fails_eq d (looped_of N until (place old words)) (loop_of N until (place s0 words) >>= λ x. Ok (x.0, outside_loop (place old words) x.1)) reads_looped
+      (fails_bind d (loop_of N until (place s0 words)) (λ x. Ok (x.0, outside_loop (place old words) x.1)) h)
+
+  pub made_looped : (m1 new : Parser) (id : ℕ) (rest : List Word) (was : Bool) → was ≡ (known_of old).in_loop → Made nodes s0 m1 id rest (loop_of N until (place s0 words)) → SetsLoop m1 new was
+      → Made nodes old new id rest (looped_of N until (place old words))
+  made_looped m1 new id rest was is m e = record {
+    there = subst (λ (ns : List Node). id < length ns) (sym e.nodes) m.there;
+    tree =
+        reads_looped
+        ∙ ap (λ (q : Answer Tree). q >>= λ x. Ok (x.0, outside_loop (place old words) x.1)) m.tree
+        ∙ ap (λ (q : Bool). Ok (tree_at m1.nodes.items id, record { known = with_loop q (known_of m1); rest = rest })) (sym is)
+        ∙ ap (λ (q : Known). Ok (tree_at m1.nodes.items id, record { known = q; rest = rest })) (sym e.known)
+        ∙ ap (λ (ns : List Node). Ok (tree_at ns id, place new rest)) (sym e.nodes);
+    kept = subst (λ (ns : List Node). Extends old.nodes.items ns) (sym e.nodes) (subst (λ (ns : List Node). Extends ns m1.nodes.items) b.nodes m.kept);
+  }
+
+pub value_none : (f : ℕ → Tree) (xs : List ℕ) → length xs ≡ 0 → jump_value (map f xs) ≡ nil
+value_none f [] e = refl
+value_none f (x ∷ xs) e = let never : ⊥ = omega (arith, e) in absurd never
+
+pub value_one : (f : ℕ → Tree) (xs : List ℕ) (d : ℕ) → length xs ≡ 1 → jump_value (map f xs) ≡ f (get_or xs 0 d)
+value_one f [] d e = let never : ⊥ = omega (arith, e) in absurd never
+value_one f (x ∷ []) d e = refl
+value_one f (x ∷ y ∷ xs) d e = let never : ⊥ = omega (arith, e) in absurd never
+
+pub value_more : (f : ℕ → Tree) (xs : List ℕ) → (length xs ≡ 0 → ⊥) → (length xs ≡ 1 → ⊥) → jump_value (map f xs) ≡ array (listed (map f xs))
+value_more f [] a b = absurd (a refl)
+value_more f (x ∷ []) a b = absurd (b refl)
+value_more f (x ∷ y ∷ xs) a b = refl
+
+-- a jump and its value
+pub jumped_ok : (old mid new : Parser) (j : Jump) (h : Head) (l : List Tree) (i : ℕ) (r : Result ℕ Storage) → h ≡ heads.Jump j → Puts old mid (jump_value l) i → IfOk r (λ id. Puts mid new (jump_tree j (tree_at mid.nodes.items i)) id)
+    → IfOk r (λ id. Puts old new (headed h l) id)
+jumped_ok old mid new j h l i r is p q =
+    over_ok old mid new (jump_tree j (tree_at mid.nodes.items i)) (jump_value l) (headed h l) i r p (ap (jump_tree j) p.tree ∙ ap (λ (x : Head). headed x l) (sym is)) q
+
+pub bare_jump_ok : (old mid new : Parser) (j : Jump) (i : ℕ) (r : Result ℕ Storage) → Puts old mid nil i → IfOk r (λ id. Puts mid new (jump_tree j (tree_at mid.nodes.items i)) id) → IfOk r (λ id. Puts old new (jump_tree j nil) id)
+bare_jump_ok old mid new j i r p q = over_ok old mid new (jump_tree j (tree_at mid.nodes.items i)) nil (jump_tree j nil) i r p (ap (jump_tree j) p.tree) q

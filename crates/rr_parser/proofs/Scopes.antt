@@ -40,10 +40,10 @@ find-added x ls level slot =
 no_depth : (n : ℕ) → n - n ≡ 0
 no_depth n = omega arith
 
-pub seen-added : (x : Sym) (ls new : List Local) (level slot count begun : ℕ) → new ≡ ls ++ record { name = x; level = level; slot = slot } ∷ []
-    → record { depth = 0; slot = slot } ≡ seen_from (record { locals = new; level = level; count = count; begun = begun }) (find x.0 new)
-seen-added x ls new level slot count begun e =
-    let k : Known = record { locals = new; level = level; count = count; begun = begun } in
+pub seen-added : (x : Sym) (ls new : List Local) (level slot count begun : ℕ) (in_loop : Bool) → new ≡ ls ++ record { name = x; level = level; slot = slot } ∷ []
+    → record { depth = 0; slot = slot } ≡ seen_from (record { locals = new; level = level; count = count; begun = begun; in_loop = in_loop }) (find x.0 new)
+seen-added x ls new level slot count begun in_loop e =
+    let k : Known = record { locals = new; level = level; count = count; begun = begun; in_loop = in_loop } in
     ap (λ (d : ℕ). record { depth = d; slot = slot }) (sym (no_depth level))
     ∙ sym (ap (seen_from k) (ap (find x.0) e ∙ find-added x ls level slot))
 

@@ -12,12 +12,12 @@ use Rattle.rr_parser.specs.Places.{Place, skip, separators}
 use Rattle.rr_tree.specs.Tree.{Tree}
 use Rattle.rr_parser.specs.Grammar.Chains.{same, one_of, and_one}
 use Rattle.rr_parser.specs.Grammar.Nesting.{Nested}
-use Rattle.rr_parser.specs.Grammar.Names.{name, bracket}
-use Rattle.rr_parser.specs.Grammar.Operands.{joined, brace, Blocked, no_block, a_block, Primary, a_literal, a_negative, a_local, a_bare_call, a_call, a_block_call, a_construct, tail, Tailed, a_send, a_sent_call, an_index, Postfix, Bang, a_bang, no_bang, Minus, a_minus, no_minus}
+use Rattle.rr_parser.specs.Grammar.Names.{name, head, bracket}
+use Rattle.rr_parser.specs.Grammar.Operands.{joined, brace, Blocked, no_block, a_block, Primary, a_literal, a_negative, a_local, a_bare_call, a_call, a_block_call, a_jump, a_construct, tail, Tailed, a_send, a_sent_call, an_index, Postfix, Bang, a_bang, no_bang, Minus, a_minus, no_minus}
 use Rattle.rr_parser.specs.Grammar.Operators.{operator, infixed, connective, joined_by, Logical, Binary, Equality, a_comparison, a_pair, Ternary, no_question, a_question}
 use Rattle.rr_parser.specs.Grammar.Calls.{with_target, label, comma, Assigned, an_assignment, no_assignment, Argument, Pair, by_label, by_arrow, Member, Members, Bracketed, no_members, some_members, Array, an_array, Hash, a_hash, Index, of_element, Commanded, by_arguments, by_command, Command, a_command, Phrase, by_name, an_operand, Operand, Value}
 use Rattle.rr_parser.specs.Grammar.Sequences.{Negation, a_negation, no_negation, Expression, modifier, modified, Statement, Rows, Statements, no_statements, some_statements, Group, a_group}
-use Rattle.rr_parser.specs.Grammar.Control.{elsif, Branch, a_branch, Branches, Otherwise, no_else, an_else, Choice, a_choice, Unless, an_unless, Loop, a_loop}
+use Rattle.rr_parser.specs.Grammar.Control.{elsif, Branch, a_branch, Branches, Otherwise, no_else, an_else, Choice, a_choice, Unless, an_unless, Loop, a_loop, looping, Looped, of_loop}
 use Rattle.rr_parser.specs.Grammar.Blocks.{entered, Block, of_statements}
 use Rattle.rr_parser.specs.Grammar.{PartOf, inside, outside}
 use Rattle.rr_parser.specs.Reading.Nesting.{Readers}
@@ -46,6 +46,9 @@ Steps-name = Steps-first_as _
 
 pub Steps-brace : Steps brace
 Steps-brace = Steps-word kind.OpenBrace
+
+pub Steps-head : Steps head
+Steps-head = Steps-first_as _
 
 pub Steps-bracket : Steps bracket
 Steps-bracket = Steps-first_as _
@@ -80,6 +83,7 @@ module _ (R : Nested) (nests : NestedShrinking R) where
   primary_shrinking s z t (a_bare_call {x = x} e f b g h) = omega (arith, Steps-name s z x e)
   primary_shrinking s z t (a_call {m = m} {n = n} {o = o} {x = x} {u = u} {l = l} e f h b) = omega (arith, Steps-name s m x e, Steps-bracket m n u f, nests.bracketed n o l h, blocked_shrinking (call x.0 (listed l)) o z t b)
   primary_shrinking s z t (a_block_call {m = m} {n = n} {x = x} {u = u} {b = b} e f g h) = omega (arith, Steps-name s m x e, Steps-brace m n u g, nests.part parts.Block n z b h)
+  primary_shrinking s z t (a_jump {j = j} e f g) = omega (arith, next-left s z (kind.Jump j) e)
   primary_shrinking s z t (a_construct {m = m} {k = k} {p = p} e f h) = omega (arith, next-left s m k e, nests.part p m z t h)
 
   tailed_shrinking : (x : Tail) (l : Tree) (n z : Place) (t : Tree) → Tailed R x l n t z → left z ≤ left n
@@ -158,7 +162,7 @@ module _ (R : Nested) (nests : NestedShrinking R) where
   commanded_shrinking s z l (by_command {t = t} e h) = nests.part parts.Command s z t h
 
   command_shrinking : IsShrinking (Command R)
-  command_shrinking s z t (a_command {m = m} {x = x} {l = l} e h) = omega (arith, Steps-name s m x (command-next s m x e).0, commanded_shrinking m z l h)
+  command_shrinking s z t (a_command {m = m} {x = x} {l = l} e h) = omega (arith, Steps-head s m x (command-next s m x e).0, commanded_shrinking m z l h)
 
   phrase_shrinking : IsShrinking (Phrase R)
   phrase_shrinking s z t (by_name h) = command_shrinking s z t h
@@ -211,6 +215,9 @@ module _ (R : Nested) (nests : NestedShrinking R) where
   loop_shrinking until s z t (a_loop {m = m} {n = n} {o = o} {c = c} {t = b} {u = u} h e i f) =
       omega (arith, expression_shrinking s m c h, Steps-loops m n u e, statements_shrinking n o b i, next-left o z kind.End f)
 
+  looped_shrinking : (until : Bool) → IsShrinking (Looped R until)
+  looped_shrinking until s z t (of_loop {z = y} h) = loop_shrinking until (looping s) y t h
+
   block_shrinking : IsShrinking (Block R)
   block_shrinking s z t (of_statements {m = m} {n = n} {z = y} {xs = xs} {t = b} e h f) = omega (arith, parameters-less s m xs e, statements_shrinking (entered xs m) n b h, next-left n y kind.CloseBrace f)
 
@@ -221,7 +228,7 @@ module _ (R : Nested) (nests : NestedShrinking R) where
   part_shrinking parts.Index = index_shrinking
   part_shrinking parts.Choice = choice_shrinking
   part_shrinking parts.Unless = unless_shrinking
-  part_shrinking (parts.Loop until) = loop_shrinking until
+  part_shrinking (parts.Loop until) = looped_shrinking until
   part_shrinking parts.Minus = minus_shrinking
   part_shrinking parts.Bang = bang_shrinking
   part_shrinking parts.Not = negation_shrinking

@@ -6,6 +6,8 @@ use Rattle.rr_tree.specs.Tree.{Tree, nil, int, bare, call, with_block, negate, s
 use Rattle.rr_parser.specs.declared.word.Tail.{Tail}
 use Rattle.rr_parser.specs.declared.word.Tail.TheVariants as tails
 use Rattle.rr_parser.specs.declared.word.Aim.{Aim}
+use Rattle.rr_parser.specs.declared.word.Head.{Head}
+use Rattle.rr_parser.specs.declared.word.Jump.{Jump}
 use Rattle.rr_parser.specs.declared.word.Listed.{Listed}
 use Rattle.rr_parser.specs.declared.word.Listed.TheVariants as listings
 use Rattle.rr_parser.specs.declared.word.Part.{Part}
@@ -16,21 +18,21 @@ use Rattle.rr_parser.specs.declared.word.Word.{Word}
 use Rattle.rr_parser.specs.Places.{Place, word, at, next, skip, separators, start}
 use Rattle.rr_parser.specs.Grammar.Chains.{one, same, one_of, and_one}
 use Rattle.rr_parser.specs.Grammar.Nesting.{Nested}
-use Rattle.rr_parser.specs.Grammar.Names.{is_local, variable_of, local_tree, name, bracket, begins_operands, command}
-use Rattle.rr_parser.specs.Grammar.Operands.{fits, fits_below, negated, joined, literal_of, construct_of, brace, Blocked, no_block, a_block, Primary, a_literal, a_negative, a_local, a_bare_call, a_call, a_block_call, a_construct, tail, Tailed, a_send, a_sent_call, an_index, Postfix, Bang, a_bang, no_bang, Minus, a_minus, no_minus}
+use Rattle.rr_parser.specs.Grammar.Names.{is_local, variable_of, local_tree, is_allowed, jump_tree, begins_arguments, headed, name, bracket, begins_operands, command}
+use Rattle.rr_parser.specs.Grammar.Operands.{fits, fits_below, negated, joined, literal_of, construct_of, brace, Blocked, no_block, a_block, Primary, a_literal, a_negative, a_local, a_bare_call, a_call, a_block_call, a_jump, a_construct, tail, Tailed, a_send, a_sent_call, an_index, Postfix, Bang, a_bang, no_bang, Minus, a_minus, no_minus}
 use Rattle.rr_parser.specs.Grammar.Operators.{operator, infixed, Binary, Equality, a_comparison, a_pair, connective, joined_by, Logical, Ternary, no_question, a_question}
 use Rattle.rr_parser.specs.Grammar.Calls.{target, with_target, assigned_to, label, comma, closing, last, Assigned, an_assignment, no_assignment, Argument, Pair, by_label, by_arrow, Member, Members, Bracketed, no_members, some_members, Array, an_array, Hash, a_hash, Index, of_element, Commanded, by_arguments, by_command, Command, a_command, Phrase, by_name, an_operand, Operand, Value}
 use Rattle.rr_parser.specs.Grammar.Sequences.{Negation, a_negation, no_negation, Expression, modifier, modified, Statement, Rows, Statements, no_statements, some_statements, Group, a_group}
-use Rattle.rr_parser.specs.Grammar.Control.{thens, loops, elsif, chosen, unless_chosen, Branch, a_branch, Branches, Otherwise, no_else, an_else, Choice, a_choice, Unless, an_unless, Loop, a_loop}
+use Rattle.rr_parser.specs.Grammar.Control.{thens, loops, elsif, chosen, unless_chosen, Branch, a_branch, Branches, Otherwise, no_else, an_else, Choice, a_choice, Unless, an_unless, Loop, a_loop, looping, outside_loop, Looped, of_loop}
 use Rattle.rr_parser.specs.Grammar.Blocks.{parameters, entered, leaving, block_tree, Block, of_statements}
 use Rattle.rr_parser.specs.Grammar.{PartOf, inside, outside, WordsSpell}
 use Rattle.rr_parser.specs.Reading.Answers.{wrong, Answer, Parse, built, closed, across, chain_on, trail_on, ended_by}
 use Rattle.rr_parser.specs.Reading.Nesting.{Readers}
 use Rattle.rr_parser.specs.Reading.Operands.{call_of, bare_call, block_behind, blocked_or, blocked_of, then_blocked, unbracketed_or, name_or, name_of, int_at, negative_in, negative_of, begun, primary_at, primary_in, primary_of, tailed_of, postfix_of, bang_or, bang_of, prefix_minus, minus_or, minus_of}
 use Rattle.rr_parser.specs.Reading.Operators.{binary_on, binary_of, pair_or, equality_on, logical_on, logical_of, question_or, ternary_on, ternary_of}
-use Rattle.rr_parser.specs.Reading.Calls.{assigned_or, assigned_of, argument_of, pair_by, pair_of, member_of, another, members_of, bracketed_or, bracketed_of, array_of, hash_of, index_of, commanded_or, commanded_of, command_or, command_of, phrase_or, phrase_of, operand_of, value_of}
+use Rattle.rr_parser.specs.Reading.Calls.{assigned_or, assigned_of, argument_of, pair_by, pair_of, member_of, another, members_of, bracketed_or, bracketed_of, array_of, hash_of, index_of, commanded_or, commanded_of, headed_of, command_or, command_of, phrase_or, phrase_of, operand_of, value_of}
 use Rattle.rr_parser.specs.Reading.Sequences.{negation_or, negation_of, expression_of, statement_of, ends, row, rows_of, sequence_of, statements_of, group_of}
-use Rattle.rr_parser.specs.Reading.Control.{both, branch_of, branches_of, otherwise_or, otherwise_of, choice_of, unless_of, loop_of}
+use Rattle.rr_parser.specs.Reading.Control.{both, branch_of, branches_of, otherwise_or, otherwise_of, choice_of, unless_of, loop_of, looped_of}
 use Rattle.rr_parser.specs.Reading.Blocks.{left_block, block_or, block_of}
 use Rattle.rr_parser.specs.Reading.{part_of, readers_inside, readers_outside, readers, whole_of, program_of}
 use Rattle.rr_parser.proofs.Told.{told_close, told_else, told_end, told_bang, told_not, told_question, told_colon, told_arrow, told_close_square, told_close_brace}
@@ -115,6 +117,12 @@ module _ (N : Readers) (R : Nested) (nests : NestedSound N R) where
   unfolding name_of
   name_sound s m x z t f e = name_or-sound s m x (at bracket m) z t f refl e
 
+  jump_test : (s m : Place) (j : Jump) (a b : Bool) (z : Place) (t : Tree) → next s ≡ Some (kind.Jump j, m) → is_allowed j m.known ≡ a → begins_arguments m.rest ≡ b
+      → cond a (cond b (Err wrong) (done (jump_tree j nil) m)) (Err wrong) ≡ done t z → Primary R s t z
+  jump_test s m j true true z t h f g e = absurd cc
+  jump_test s m j true false z t h f g e = at_answer (Primary R s) (jump_tree j nil) t m z e (a_jump h f g)
+  jump_test s m j false b z t h f g e = absurd cc
+
   begun_sound : (s : Place) (k : WordKind) (m : Place) (l : Option Tree) (c : Option Part) (z : Place) (t : Tree) → next s ≡ Some (k, m) → literal_of k ≡ l → construct_of k ≡ c → begun N l c m ≡ Ok (t, z) → Primary R s t z
   begun_sound s k m (Some u) c z t f g h e = at_answer (Primary R s) u t m z e (a_literal f g)
   begun_sound s k m None (Some p) z t f g h e = a_construct f h (nests.part p m z t e)
@@ -124,6 +132,7 @@ module _ (N : Readers) (R : Nested) (nests : NestedSound N R) where
   primary_at-sound s (kind.Int n) m z t f e = int_sound s m n z t f e
   primary_at-sound s (kind.Name x b) m z t f e = name_sound s m x z t (next-name s m x b f) e
   primary_at-sound s kind.Minus m z t f e = negative_sound s m z t f e
+  primary_at-sound s (kind.Jump j) m z t f e = jump_test s m j (is_allowed j m.known) (begins_arguments m.rest) z t f refl refl e
   primary_at-sound s k m z t f e = begun_sound s k m (literal_of k) (construct_of k) z t f refl refl e
 
   primary_in-sound : (s : Place) (r : Option (WordKind × Place)) (z : Place) (t : Tree) → next s ≡ r → primary_in N r ≡ Ok (t, z) → Primary R s t z
@@ -285,7 +294,7 @@ module _ (N : Readers) (R : Nested) (nests : NestedSound N R) where
   unfolding index_of
   index_sound s z t e = let c = closed_ok kind.CloseSquare told_close_square (argument_of N s) z t e in of_element (argument_sound s c.0 t c.1) c.2
 
-  commanded_or-sound : (s z : Place) (l : List Tree) (o : Option (Sym × Place)) → at (command s.known) s ≡ o → commanded_or N s o ≡ Ok (l, z) → Commanded R s l z
+  commanded_or-sound : (s z : Place) (l : List Tree) (o : Option (Head × Place)) → at (command s.known) s ≡ o → commanded_or N s o ≡ Ok (l, z) → Commanded R s l z
   commanded_or-sound s z l None f e = by_arguments (members_sound listings.Command s z l e)
   commanded_or-sound s z l (Some x) f e =
       let b = built_ok one_of (N.part parts.Command s) l z e in
@@ -295,12 +304,12 @@ module _ (N : Readers) (R : Nested) (nests : NestedSound N R) where
   unfolding commanded_of
   commanded_sound s z l e = commanded_or-sound s z l (at (command s.known) s) refl e
 
-  called_sound : (s : Place) (x : Sym × Place) (z : Place) (t : Tree) → at (command s.known) s ≡ Some (x.0, x.1) → call_of x.0 (commanded_of N x.1) ≡ Ok (t, z) → Command R s t z
+  called_sound : (s : Place) (x : Head × Place) (z : Place) (t : Tree) → at (command s.known) s ≡ Some (x.0, x.1) → headed_of x.0 (commanded_of N x.1) ≡ Ok (t, z) → Command R s t z
   called_sound s x z t f e =
-      let b = built_ok (λ l. call x.0.0 (listed l)) (commanded_of N x.1) t z e in
+      let b = built_ok (headed x.0) (commanded_of N x.1) t z e in
       subst (λ (q : Tree). Command R s q z) (sym b.2) (a_command f (commanded_sound x.1 z b.0 b.1))
 
-  command_or-sound : (s : Place) (o : Option (Sym × Place)) (z : Place) (t : Tree) → at (command s.known) s ≡ o → command_or N o ≡ Ok (t, z) → Command R s t z
+  command_or-sound : (s : Place) (o : Option (Head × Place)) (z : Place) (t : Tree) → at (command s.known) s ≡ o → command_or N o ≡ Ok (t, z) → Command R s t z
   command_or-sound s None z t f e = absurd cc
   command_or-sound s (Some x) z t f e = called_sound s x z t f e
 
@@ -308,7 +317,7 @@ module _ (N : Readers) (R : Nested) (nests : NestedSound N R) where
   unfolding command_of
   command_sound s z t e = command_or-sound s (at (command s.known) s) z t refl e
 
-  phrase_or-sound : (s : Place) (o : Option (Sym × Place)) (z : Place) (t : Tree) → at (command s.known) s ≡ o → phrase_or N s o ≡ Ok (t, z) → Phrase R s t z
+  phrase_or-sound : (s : Place) (o : Option (Head × Place)) (z : Place) (t : Tree) → at (command s.known) s ≡ o → phrase_or N s o ≡ Ok (t, z) → Phrase R s t z
   phrase_or-sound s None z t f e = an_operand (ternary_sound s z t e)
   phrase_or-sound s (Some x) z t f e = by_name (called_sound s x z t f e)
 
@@ -404,6 +413,11 @@ module _ (N : Readers) (R : Nested) (nests : NestedSound N R) where
       let a = across_ok (repeat until) loops (statements_of N) (expression_of N s) d.0 t d.1 in
       subst (λ (q : Tree). Loop R until s q z) (sym a.tree) (a_loop {u = a.u} (expression_sound s a.m a.a a.former) a.seen (statements_sound a.n d.0 a.b a.latter) d.2)
 
+  looped_sound : (until : Bool) → IsSound (looped_of N until) (Looped R until)
+  looped_sound until s z t e =
+      let b = bind_ok (loop_of N until (looping s)) (λ x. Ok (x.0, outside_loop s x.1)) (t, z) e in
+      at_answer (Looped R until s) b.0.0 t (outside_loop s b.0.1) z b.2 (of_loop (loop_sound until (looping s) b.0.1 b.0.0 b.1))
+
   left_sound : (s : Place) (xs : List Sym) (m z : Place) (t : Tree) → at parameters s ≡ Some (xs, m) → left_block s xs m (closed kind.CloseBrace (statements_of N (entered xs m))) ≡ Ok (t, z) → Block R s t z
   left_sound s xs m z t f e =
       let b = bind_ok (closed kind.CloseBrace (statements_of N (entered xs m))) (λ q. Ok (block_tree xs m q.1 q.0, leaving s q.1)) (t, z) e in
@@ -425,7 +439,7 @@ module _ (N : Readers) (R : Nested) (nests : NestedSound N R) where
   part_sound parts.Index = index_sound
   part_sound parts.Choice = choice_sound
   part_sound parts.Unless = unless_sound
-  part_sound (parts.Loop until) = loop_sound until
+  part_sound (parts.Loop until) = looped_sound until
   part_sound parts.Minus = minus_sound
   part_sound parts.Bang = bang_sound
   part_sound parts.Not = negation_sound

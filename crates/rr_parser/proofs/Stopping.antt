@@ -10,6 +10,9 @@ use Rattle.rr_parser.specs.declared.word.Connective.{Connective}
 use Rattle.rr_parser.specs.declared.word.Connective.TheVariants as connectives
 use Rattle.rr_parser.specs.declared.word.Modifier.{Modifier}
 use Rattle.rr_parser.specs.declared.word.Tail.{Tail}
+use Rattle.rr_parser.specs.declared.word.Head.{Head}
+use Rattle.rr_parser.specs.declared.word.Head.TheVariants as heads
+use Rattle.rr_parser.specs.declared.word.Jump.{Jump}
 use Rattle.rr_parser.specs.declared.word.Sign.{Sign}
 use Rattle.rr_parser.specs.declared.word.Aim.{Aim}
 use Rattle.rr_parser.specs.declared.word.Target.{Target}
@@ -22,8 +25,8 @@ use Rattle.rr_parser.specs.declared.word.Word.{Word}
 use Rattle.rr_parser.specs.Places.{Known, Place, Look, first_as, seen_before, unless, where_true, is_kind, placed, without_separators, word, at, next, skip, separators}
 use Rattle.rr_parser.specs.Grammar.Chains.{Chain, one, more, at_first, and_then, same}
 use Rattle.rr_parser.specs.Grammar.Nesting.{Nested}
-use Rattle.rr_parser.specs.Grammar.Names.{is_local, name, bracket, is_tight, begins_operand, begins_operands, begins_command, command}
-use Rattle.rr_parser.specs.Grammar.Operands.{joined, literal_of, construct_of, brace, Primary, a_literal, a_negative, a_local, a_bare_call, a_call, a_block_call, a_construct, tail, Postfix, Bang, a_bang, no_bang, Minus, a_minus, no_minus}
+use Rattle.rr_parser.specs.Grammar.Names.{is_local, name, bracket, is_tight, begins_operand, begins_operands, begins_command, is_allowed, head_of_kind, head, begins_head, command}
+use Rattle.rr_parser.specs.Grammar.Operands.{joined, literal_of, construct_of, brace, Primary, a_literal, a_negative, a_local, a_bare_call, a_call, a_block_call, a_jump, a_construct, tail, Postfix, Bang, a_bang, no_bang, Minus, a_minus, no_minus}
 use Rattle.rr_parser.specs.Grammar.Operators.{level_of, at_level, operator_of, operator, infixed, where_level, connective_of, connective, joined_by, Binary, a_comparison, a_pair, Logical, Ternary, no_question, a_question}
 use Rattle.rr_parser.specs.Grammar.Calls.{target, comma, Assigned, an_assignment, no_assignment, Argument, a_command, Phrase, by_name, an_operand, Value, closing, target_of_kind, label, Member, label_of_kind, last, by_label, by_arrow}
 use Rattle.rr_parser.specs.Grammar.Sequences.{Negation, a_negation, no_negation, Expression, modifier_of, modifier, Statement, modified}
@@ -31,7 +34,7 @@ use Rattle.rr_parser.specs.Grammar.Control.{thens, loops, elsif}
 use Rattle.rr_parser.specs.Reading.Operands.{prefix_minus}
 use Rattle.rr_parser.specs.Reading.Sequences.{ends_at, ends, row}
 use Rattle.rr_parser.proofs.Told.{Told, told_comma, told_elsif, told_open_brace}
-use Rattle.rr_parser.proofs.Looks.{closes, ends_member, is_tail, closing-next, last-next, tail-next, seen, some_what, some_place, seen_as, none_unless, by_next, one_kind, one_place, word-next, other-word, name-next, next-name, separators-next, no_row, no_prefix, next-separators, thens-next, loops-next, target-next, command-next}
+use Rattle.rr_parser.proofs.Looks.{closes, ends_member, is_tail, closing-next, last-next, tail-next, seen, some_what, some_place, seen_as, none_unless, by_next, one_kind, one_place, word-next, other-word, name-next, next-name, separators-next, no_row, no_prefix, next-separators, thens-next, loops-next, target-next, head-next, command-next}
 
 -- How loosely a word goes on with what stands before it: what follows an operand first, then the operators, then the conditions, `?`, the sign of an
 -- assignment, the comma, the words `and` and `or`, the modifiers, and last what goes on with nothing.
@@ -236,6 +239,7 @@ pub data First (s : Place) : Type 0 where
   by_word : {k : WordKind} {m : Place} → next s ≡ Some (k, m) → opens k ≡ true → First s
   by_integer : {m z : Place} {n : ℕ} → next s ≡ Some (kind.Minus, m) → at joined m ≡ Some (n, z) → First s
   by_no_command : {m : Place} {x : Sym} → at name s ≡ Some (x, m) → begins_command x m ≡ false → First s
+  by_jump : {m : Place} {j : Jump} → next s ≡ Some (kind.Jump j, m) → begins_head (heads.Jump j) m ≡ false → First s
   by_bang : {m : Place} → next s ≡ Some (kind.Bang, m) → First s
   by_prefix : {m : Place} → next s ≡ Some (kind.Minus, m) → First s
 
@@ -293,6 +297,7 @@ primary_first R s z t (a_local {x = x} e o b f) = by_no_command e (local_no_comm
 primary_first R s z t (a_bare_call {x = x} e o b f g) = by_no_command e (bare_no_command x z g)
 primary_first R s z t (a_call {m = m} {n = n} {x = x} {u = u} e f h b) = by_no_command e (bare_no_command x m (bracket_no_operands m n u f))
 primary_first R s z t (a_block_call {m = m} {n = n} {x = x} {u = u} e f g h) = by_no_command e (bare_no_command x m (brace_no_operands m n u g))
+primary_first R s z t (a_jump {j = j} e f g) = by_jump e (ap (λ b. is_allowed j z.known && b) g ∙ and_false (is_allowed j z.known))
 primary_first R s z t (a_construct {k = k} {p = p} e f h) = by_word e (construct_opens k p f)
 
 open_no_bang : (k : WordKind) → opens k ≡ true → is_kind k kind.Bang ≡ false
@@ -306,6 +311,7 @@ primary_no_bang R s z t (a_local {x = x} e o b f) = let h = name-next s z x e in
 primary_no_bang R s z t (a_bare_call {x = x} e o b f g) = let h = name-next s z x e in other-word kind.Bang (kind.Name x h.0) s z h.1 refl
 primary_no_bang R s z t (a_call {m = m} {x = x} e f g b) = let h = name-next s m x e in other-word kind.Bang (kind.Name x h.0) s m h.1 refl
 primary_no_bang R s z t (a_block_call {m = m} {x = x} e f g b) = let h = name-next s m x e in other-word kind.Bang (kind.Name x h.0) s m h.1 refl
+primary_no_bang R s z t (a_jump {j = j} e f g) = other-word kind.Bang (kind.Jump j) s z e refl
 primary_no_bang R s z t (a_construct {m = m} {k = k} {p = p} e f h) = other-word kind.Bang k s m e (open_no_bang k (construct_opens k p f))
 
 open_no_prefix : (s m : Place) (k : WordKind) → next s ≡ Some (k, m) → opens k ≡ true → at prefix_minus s ≡ None
@@ -319,6 +325,7 @@ primary_no_prefix R s z t (a_local {x = x} e o b f) = let h = name-next s z x e 
 primary_no_prefix R s z t (a_bare_call {x = x} e o b f g) = let h = name-next s z x e in by_next (λ q. at prefix_minus q ≡ None) s z (kind.Name x h.0) h.1 (λ b. refl)
 primary_no_prefix R s z t (a_call {m = m} {x = x} e f g b) = let h = name-next s m x e in by_next (λ q. at prefix_minus q ≡ None) s m (kind.Name x h.0) h.1 (λ b. refl)
 primary_no_prefix R s z t (a_block_call {m = m} {x = x} e f g b) = let h = name-next s m x e in by_next (λ q. at prefix_minus q ≡ None) s m (kind.Name x h.0) h.1 (λ b. refl)
+primary_no_prefix R s z t (a_jump {j = j} e f g) = by_next (λ q. at prefix_minus q ≡ None) s z (kind.Jump j) e (λ b. refl)
 primary_no_prefix R s z t (a_construct {m = m} {k = k} {p = p} e f h) = open_no_prefix s m k e (construct_opens k p f)
 
 -- the first operand of a trail
@@ -360,6 +367,7 @@ ternary_first R s z t (a_question {m = m} {c = c} h e f g i) = logical_first R 2
 -- a word that begins a value
 abbrev starts : WordKind → Bool
 starts (kind.Name x b) = true
+starts (kind.Jump j) = true
 starts kind.Minus = true
 starts kind.Bang = true
 starts k = opens k
@@ -372,6 +380,7 @@ pub record Starts (s : Place) : Type 0 where
 
 open_starts : (k : WordKind) → opens k ≡ true → starts k ≡ true
 open_starts (kind.Name x b) e = refl
+open_starts (kind.Jump j) e = refl
 open_starts kind.Minus e = refl
 open_starts kind.Bang e = refl
 open_starts k e = e
@@ -383,6 +392,7 @@ pub first_starts : (s : Place) → First s → Starts s
 first_starts s (by_word {k = k} {m = m} e f) = record { kind = k; behind = m; here = e; told = open_starts k f }
 first_starts s (by_integer {m = m} e f) = record { kind = kind.Minus; behind = m; here = e; told = refl }
 first_starts s (by_no_command {m = m} {x = x} e f) = name_starts s m x e
+first_starts s (by_jump {m = m} {j = j} e f) = record { kind = kind.Jump j; behind = m; here = e; told = refl }
 first_starts s (by_bang {m = m} e) = record { kind = kind.Bang; behind = m; here = e; told = refl }
 first_starts s (by_prefix {m = m} e) = record { kind = kind.Minus; behind = m; here = e; told = refl }
 
@@ -430,8 +440,16 @@ target_starts s z x e = let h = target-next s z x e in record { kind = h.first; 
     target_start (kind.Global y) x f = refl
     target_start _ x f = absurd cc
 
+head_starts : (s m : Place) (x : Head) → at head s ≡ Some (x, m) → Starts s
+head_starts s m x e = let h = head-next s m x e in record { kind = h.0; behind = m; here = h.1; told = head_start h.0 x h.2 }
+  where
+    head_start : (k : WordKind) (x : Head) → head_of_kind k ≡ Some x → starts k ≡ true
+    head_start (kind.Name y b) x f = refl
+    head_start (kind.Jump j) x f = refl
+    head_start _ x f = absurd cc
+
 pub phrase_starts : (R : Nested) (s z : Place) (t : Tree) → Phrase R s t z → Starts s
-phrase_starts R s z t (by_name (a_command {m = m} {x = x} e h)) = name_starts s m x (command-next s m x e).0
+phrase_starts R s z t (by_name (a_command {m = m} {x = x} e h)) = head_starts s m x (command-next s m x e).0
 phrase_starts R s z t (an_operand h) = first_starts s (ternary_first R s z t h)
 
 pub assigned_starts : (R : Nested) (commands : Bool) (Q : Place → Tree → Place → Type 0) → ((s z : Place) (t : Tree) → Q s t z → Starts s) → (s z : Place) (t : Tree) → Assigned R commands Q s t z → Starts s
@@ -508,18 +526,26 @@ statement_starts R s z t c =
 
 open_no_name : (s m : Place) (k : WordKind) → next s ≡ Some (k, m) → opens k ≡ true → at (command s.known) s ≡ None
 open_no_name s m (kind.Name x b) e f = absurd cc
+open_no_name s m (kind.Jump j) e f = absurd cc
 open_no_name s m k e f = by_next (λ q. at (command q.known) q ≡ None) s m k e (λ b. refl)
+
+-- what begins no command
+no_head : (s m : Place) (x : Head) → at head s ≡ Some (x, m) → begins_head x m ≡ false → at (command s.known) s ≡ None
+no_head s m x e f = none_unless (at (command s.known) s) (λ y n g.
+    let c = command-next s n y g in
+    let p : seen x m ≡ seen y n = sym e ∙ c.0 in
+    let h : false ≡ true = sym f ∙ ap (λ q. begins_head q m) (some_what x y m n p) ∙ ap (λ q. begins_head y q) (some_place x y m n p) ∙ c.1 in
+    let never : ⊥ = cc in never)
 
 pub first_no_command : (s : Place) → First s → at (command s.known) s ≡ None
 first_no_command s (by_word {k = k} {m = m} e f) = open_no_name s m k e f
 first_no_command s (by_integer {m = m} e f) = by_next (λ q. at (command q.known) q ≡ None) s m kind.Minus e (λ b. refl)
 first_no_command s (by_bang {m = m} e) = by_next (λ q. at (command q.known) q ≡ None) s m kind.Bang e (λ b. refl)
 first_no_command s (by_prefix {m = m} e) = by_next (λ q. at (command q.known) q ≡ None) s m kind.Minus e (λ b. refl)
-first_no_command s (by_no_command {m = m} {x = x} e f) = none_unless (at (command s.known) s) (λ y n g.
-    let c = command-next s n y g in
-    let p : seen x m ≡ seen y n = sym e ∙ c.0 in
-    let h : false ≡ true = sym f ∙ ap (λ q. begins_command q m) (some_what x y m n p) ∙ ap (λ q. begins_command y q) (some_place x y m n p) ∙ c.1 in
-    let never : ⊥ = cc in never)
+first_no_command s (by_jump {m = m} {j = j} e f) = no_head s m (heads.Jump j) (by_next (λ q. at head q ≡ Some (heads.Jump j, m)) s m (kind.Jump j) e (λ b. refl)) f
+first_no_command s (by_no_command {m = m} {x = x} e f) =
+    let h = name-next s m x e in
+    no_head s m (heads.Call x) (by_next (λ q. at head q ≡ Some (heads.Call x, m)) s m (kind.Name x h.0) h.1 (λ b. refl)) f
 
 -- ---- a name before the sign of an assignment
 
@@ -567,6 +593,7 @@ module _ (R : Nested) (s m n : Place) (k : WordKind) (x : Target) (sign : Sign) 
   primary_stuck z t (a_call {m = o} {n = q} {x = y} {u = u} e f h b) =
       let g = name-next s o y e in
       absurd (bracket_not_assign o q n u sign f (subst (λ v. next v ≡ Some (kind.Assign sign, n)) (one_place s m o k (kind.Name y g.0) here g.1) assigns))
+  primary_stuck z t (a_jump {j = j} e f g) = absurd (no_word k (kind.Jump j) is_target (one_kind s m z k (kind.Jump j) here e) refl)
   primary_stuck z t (a_construct {m = o} {k = q} {p = p} e f h) = absurd (no_construct k p is_target (ap construct_of (one_kind s m o k q here e) ∙ f))
 
   postfix_stuck : (z : Place) (t : Tree) → Postfix R s t z → Assigns z

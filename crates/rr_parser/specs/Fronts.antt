@@ -6,6 +6,7 @@ use Rattle.rr_lexer.specs.declared.kind.Token.{Token}
 use Rattle.rr_parser.specs.declared.word.Tail.{Tail}
 use Rattle.rr_parser.specs.declared.word.Tail.TheVariants as tails
 use Rattle.rr_parser.specs.declared.word.Aim.{Aim}
+use Rattle.rr_parser.specs.declared.word.Head.{Head}
 use Rattle.rr_parser.specs.declared.word.Listed.{Listed}
 use Rattle.rr_parser.specs.declared.word.Listed.TheVariants as listings
 use Rattle.rr_parser.specs.declared.word.Part.{Part}
@@ -20,7 +21,7 @@ use Rattle.rr_parser.specs.Grammar.Operands.{joined, construct_of, brace, tail, 
 use Rattle.rr_parser.specs.Grammar.Operators.{operator, connective, Binary, Logical}
 use Rattle.rr_parser.specs.Grammar.Calls.{target, with_target, label, comma, Argument, Members}
 use Rattle.rr_parser.specs.Grammar.Sequences.{Expression, Statement, Rows, modifier}
-use Rattle.rr_parser.specs.Grammar.Control.{thens, loops, elsif, Branch, Branches}
+use Rattle.rr_parser.specs.Grammar.Control.{thens, loops, elsif, looping, Branch, Branches}
 use Rattle.rr_parser.specs.Grammar.Blocks.{parameters, entered}
 use Rattle.rr_parser.specs.Grammar.{inside, outside}
 
@@ -113,10 +114,10 @@ MembersFront N F k = ChainFront comma (Members N k) (MemberFront N F k)
 
 pub data CommandedFront (N : Nested) (F : Fronts) : Place → Place → Type 0 where
   in_arguments : {s z : Place} → MembersFront N F listings.Command s z → CommandedFront N F s z
-  in_argument_command : {s m z : Place} {x : Sym} → at (command s.known) s ≡ Some (x, m) → F.part parts.Command s z → CommandedFront N F s z
+  in_argument_command : {s m z : Place} {x : Head} → at (command s.known) s ≡ Some (x, m) → F.part parts.Command s z → CommandedFront N F s z
 
 pub data CommandFront (N : Nested) (F : Fronts) : Place → Place → Type 0 where
-  behind_name : {s m z : Place} {x : Sym} → at (command s.known) s ≡ Some (x, m) → CommandedFront N F m z → CommandFront N F s z
+  behind_name : {s m z : Place} {x : Head} → at (command s.known) s ≡ Some (x, m) → CommandedFront N F m z → CommandFront N F s z
 
 pub data PhraseFront (N : Nested) (F : Fronts) : Place → Place → Type 0 where
   in_command : {s z : Place} → CommandFront N F s z → PhraseFront N F s z
@@ -158,6 +159,9 @@ EndedFront N F P G = AcrossFront (word kind.Else) P G (StatementsFront N F)
 abbrev pub LoopFront : Nested → Fronts → Place → Place → Type 0
 LoopFront N F = AcrossFront loops (Expression N) (ExpressionFront N F) (StatementsFront N F)
 
+abbrev pub LoopedFront : Nested → Fronts → Place → Place → Type 0
+LoopedFront N F s z = LoopFront N F (looping s) z
+
 pub data BlockFront (N : Nested) (F : Fronts) : Place → Place → Type 0 where
   in_body : {s m z : Place} {xs : List Sym} → at parameters s ≡ Some (xs, m) → StatementsFront N F (entered xs m) z → BlockFront N F s z
 
@@ -165,7 +169,7 @@ abbrev pub PartFront : Nested → Fronts → Part → Place → Place → Type 0
 PartFront N F parts.Group = StatementsFront N F
 PartFront N F parts.Choice = EndedFront N F (Branches N) (BranchesFront N F)
 PartFront N F parts.Unless = EndedFront N F (Branch N) (BranchFront N F)
-PartFront N F (parts.Loop until) = LoopFront N F
+PartFront N F (parts.Loop until) = LoopedFront N F
 PartFront N F parts.Array = MembersFront N F listings.Array
 PartFront N F parts.Hash = MembersFront N F listings.Hash
 PartFront N F parts.Index = ArgumentFront N F

@@ -12,7 +12,7 @@ use Rattle.rr_parser.specs.Grammar.Nesting.{Nested}
 use Rattle.rr_parser.specs.Grammar.Operands.{Bang, Minus}
 use Rattle.rr_parser.specs.Grammar.Calls.{Argument, Array, Hash, Index, Bracketed, Command, Value}
 use Rattle.rr_parser.specs.Grammar.Sequences.{Negation, Statements, Group}
-use Rattle.rr_parser.specs.Grammar.Control.{Choice, Unless, Loop}
+use Rattle.rr_parser.specs.Grammar.Control.{Choice, Unless, Looped}
 use Rattle.rr_parser.specs.Grammar.Blocks.{Block}
 pub mod Chains
 pub mod Nesting
@@ -32,7 +32,7 @@ PartOf N parts.Hash = Hash N
 PartOf N parts.Index = Index N
 PartOf N parts.Choice = Choice N
 PartOf N parts.Unless = Unless N
-PartOf N (parts.Loop until) = Loop N until
+PartOf N (parts.Loop until) = Looped N until
 PartOf N parts.Minus = Minus N
 PartOf N parts.Bang = Bang N
 PartOf N parts.Not = Negation N

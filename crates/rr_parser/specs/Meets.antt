@@ -1,5 +1,5 @@
 -- What the code owes to reading.
-use Rattle.std.specs.Prelude.{◌≡◌, ℕ, ◌<◌, List, [], ◌∷◌, ◌++◌, length, take, map, All, Vec, Option, Some, None, Result, Ok, Err}
+use Rattle.std.specs.Prelude.{◌≡◌, ℕ, ◌<◌, Bool, List, [], ◌∷◌, ◌++◌, length, take, map, All, Vec, Option, Some, None, Result, Ok, Err}
 use Rattle.std.specs.declared.alloc.Global.{Global}
 use Rattle.std.specs.Borrow.{Bor}
 use Rattle.rr_base.specs.declared.name.Sym.{Sym}
@@ -14,7 +14,7 @@ use Rattle.rr_parser.specs.Places.{Known, Place}
 use Rattle.rr_parser.specs.Variables.{known_in}
 use Rattle.rr_parser.specs.declared.variables.Variable.{Variable}
 use Rattle.rr_parser.specs.declared.variables.Scope.{Scope}
-use Rattle.rr_parser.specs.Grammar.Names.{find, seen_from, with_variable}
+use Rattle.rr_parser.specs.Grammar.Names.{find, seen_from, with_variable, with_loop}
 use Rattle.rr_parser.specs.Grammar.Blocks.{inner, with_parameters}
 use Rattle.rr_parser.specs.Grammar.Calls.{with_target, target_variable}
 use Rattle.rr_parser.specs.declared.word.Target.{Target}
@@ -104,6 +104,7 @@ pub record Begins (old new : Known) (xs : List Sym) (m : Scope) : Type 0 where
   pub locals : m.locals ≡ length old.locals
   pub level : m.level ≡ old.level
   pub count : m.count ≡ old.count
+  pub in_loop : m.in_loop ≡ old.in_loop
 
 -- A scope with these parameters was begun, and no node was put.
 pub record Enters (old new : Parser) (xs : List Sym) (m : Scope) : Type 0 where
@@ -112,12 +113,17 @@ pub record Enters (old new : Parser) (xs : List Sym) (m : Scope) : Type 0 where
 
 -- what is known behind a scope, by its mark
 abbrev pub left_by : Scope → Known → Known
-left_by m n = record { locals = take m.locals n.locals; level = m.level; count = m.count; begun = n.begun }
+left_by m n = record { locals = take m.locals n.locals; level = m.level; count = m.count; begun = n.begun; in_loop = m.in_loop }
 
 -- A scope was left.
 pub record Leaves (old new : Parser) (m : Scope) : Type 0 where
   pub nodes : new.nodes.items ≡ old.nodes.items
   pub known : known_of new ≡ left_by m (known_of old)
+
+-- From here on the place is in a loop, or not.
+pub record SetsLoop (old new : Parser) (b : Bool) : Type 0 where
+  pub nodes : new.nodes.items ≡ old.nodes.items
+  pub known : known_of new ≡ with_loop b (known_of old)
 
 -- names that were read, and the words behind them
 abbrev pub ReadsNames : Result (Vec Sym Global × Bor (List Word)) Refusal → Option (List Sym × List Word) → Type 0

@@ -11,7 +11,7 @@ use Rattle.rr_parser.specs.Reading.Nesting.{Readers}
 use Rattle.rr_parser.specs.Reading.Operands.{bang_of, minus_of}
 use Rattle.rr_parser.specs.Reading.Calls.{argument_of, bracketed_of, array_of, hash_of, index_of, command_of, value_of}
 use Rattle.rr_parser.specs.Reading.Sequences.{negation_of, statements_of, group_of}
-use Rattle.rr_parser.specs.Reading.Control.{choice_of, unless_of, loop_of}
+use Rattle.rr_parser.specs.Reading.Control.{choice_of, unless_of, looped_of}
 use Rattle.rr_parser.specs.Reading.Blocks.{block_of}
 pub mod Answers
 pub mod Nesting
@@ -29,7 +29,7 @@ part_of N parts.Hash = hash_of N
 part_of N parts.Index = index_of N
 part_of N parts.Choice = choice_of N
 part_of N parts.Unless = unless_of N
-part_of N (parts.Loop until) = loop_of N until
+part_of N (parts.Loop until) = looped_of N until
 part_of N parts.Minus = minus_of N
 part_of N parts.Bang = bang_of N
 part_of N parts.Not = negation_of N

@@ -13,6 +13,7 @@ use Rattle.rr_lexer.specs.Contents.{word_of, name_of, int_value_of, contents_of}
 use Rattle.rr_tree.specs.declared.node.BinaryOperator.TheVariants as op
 use Rattle.rr_parser.specs.declared.word.Connective.TheVariants as connectives
 use Rattle.rr_parser.specs.declared.word.Infix.TheVariants as infixes
+use Rattle.rr_parser.specs.declared.word.Jump.TheVariants as jumps
 use Rattle.rr_parser.specs.declared.word.Operation.TheVariants as operations
 use Rattle.rr_parser.specs.declared.word.Sign.TheVariants as signs
 use Rattle.rr_parser.specs.declared.word.WordKind.{WordKind}
@@ -29,6 +30,9 @@ keyword_kind keywords.Unless = kind.Unless
 keyword_kind keywords.While = kind.Loop false
 keyword_kind keywords.Until = kind.Loop true
 keyword_kind keywords.Do = kind.Do
+keyword_kind keywords.Break = kind.Jump jumps.Break
+keyword_kind keywords.Next = kind.Jump jumps.Next
+keyword_kind keywords.Return = kind.Jump jumps.Return
 keyword_kind keywords.And = kind.AndWord
 keyword_kind keywords.Or = kind.OrWord
 keyword_kind keywords.Not = kind.NotWord

@@ -56,11 +56,11 @@ impl Parser {
     fn phrase<'w>(&mut self, inside: bool, depth: u32, words: &'w [Word]) -> Parsed<'w, NodeId>
         ensures { Gives self.old self.new result (phrase_of (readers inside depth) (place self.old words.now)) }
     {
-        let Some((name, rest)) = self.command_name(words) else {
+        let Some((head, rest)) = self.command_head(words) else {
             return self.ternary(inside, depth, words);
         };
         let (items, rest) = self.commanded(inside, depth, rest)?;
-        Ok((self.put_call(name, &items)?, rest))
+        Ok((self.put_headed(head, &items)?, rest))
     }
 
     #[cycle(parser)]
@@ -68,11 +68,11 @@ impl Parser {
     pub fn command<'w>(&mut self, inside: bool, depth: u32, words: &'w [Word]) -> Parsed<'w, NodeId>
         ensures { Gives self.old self.new result (command_of (readers inside depth) (place self.old words.now)) }
     {
-        let Some((name, rest)) = self.command_name(words) else {
+        let Some((head, rest)) = self.command_head(words) else {
             return Err(Refusal::Unexpected(words.len()));
         };
         let (items, rest) = self.commanded(inside, depth, rest)?;
-        Ok((self.put_call(name, &items)?, rest))
+        Ok((self.put_headed(head, &items)?, rest))
     }
 
     /// What stands behind the name of a command.
@@ -81,7 +81,7 @@ impl Parser {
     fn commanded<'w>(&mut self, inside: bool, depth: u32, words: &'w [Word]) -> ParsedList<'w>
         ensures { GivesList self.old self.new result (commanded_of (readers inside depth) (place self.old words.now)) }
     {
-        if self.command_name(words).is_none() {
+        if self.command_head(words).is_none() {
             return self.members(Listed::Command, inside, depth, words);
         }
         let (command, rest) = self.part(Part::Command, inside, depth, words)?;

@@ -1,7 +1,7 @@
 //! Reading choices and loops.
 
 ghost use Rattle.std.specs.Prelude.{◌≡◌};
-ghost use Rattle.rr_parser.specs.Reading.Control.{branch_of, branches_of, otherwise_of, choice_of, unless_of, loop_of};
+ghost use Rattle.rr_parser.specs.Reading.Control.{branch_of, branches_of, otherwise_of, choice_of, unless_of, loop_of, looped_of};
 ghost use Rattle.rr_parser.specs.Reading.{readers};
 
 use crate::look::{behind, loops, thens};
@@ -39,9 +39,27 @@ impl Parser {
         }
     }
 
+    /// A loop, in which jumps may stand.
+    #[cycle(parser)]
+    pub fn looped<'w>(
+        &mut self,
+        until: bool,
+        inside: bool,
+        depth: u32,
+        words: &'w [Word],
+    ) -> Parsed<'w, NodeId>
+        ensures { Gives self.old self.new result (looped_of (readers inside depth) until (place self.old words.now)) }
+    {
+        let outside = self.known.in_loop;
+        self.set_loop(true);
+        let (node, rest) = self.repeat(until, inside, depth, words)?;
+        self.set_loop(outside);
+        Ok((node, rest))
+    }
+
     #[cycle(parser)]
     #[tactic(auto, unfolding(crate::specs::Reading::Control::loop_of))]
-    pub fn repeat<'w>(
+    fn repeat<'w>(
         &mut self,
         until: bool,
         inside: bool,

@@ -2,7 +2,7 @@
 
 ghost use Rattle.std.specs.Prelude.{◌≡◌, ◌≤◌};
 ghost use Rattle.rr_parser.specs.Places.{word, without_separators, separators};
-ghost use Rattle.rr_parser.specs.Grammar.Names.{name, bracket, begins_operands, begins_operand, is_tight};
+ghost use Rattle.rr_parser.specs.Grammar.Names.{name, head, begins_argument, begins_arguments, bracket, begins_operands, begins_operand, is_tight};
 ghost use Rattle.rr_parser.specs.Grammar.Operands.{negated, joined, square, sent, tail};
 ghost use Rattle.rr_parser.specs.Grammar.Operators.{level_of_binary, level_of, operator_of, at_level, operator, connective_of, connective};
 ghost use Rattle.rr_parser.specs.Grammar.Calls.{sign, target_word, target, label, closing, last};
@@ -13,7 +13,9 @@ ghost use Rattle.rr_parser.specs.Reading.Calls.{another};
 ghost use Rattle.rr_parser.specs.Reading.Sequences.{ends_at, ends, row};
 ghost use Rattle.rr_parser.specs.Meets.{Sees, SeesRest};
 
-use crate::word::{Aim, Connective, Infix, Listed, Modifier, Sign, Tail, Target, Word, WordKind};
+use crate::word::{
+    Aim, Connective, Head, Infix, Listed, Modifier, Sign, Tail, Target, Word, WordKind,
+};
 use rr_base::Sym;
 use rr_tree::BinaryOperator;
 
@@ -143,6 +145,18 @@ pub(crate) fn name(words: &[Word]) -> Option<(Sym, &[Word])>
             },
             rest @ ..,
         ] => Some((*name, rest)),
+        _ => None,
+    }
+}
+
+/// What may begin a command.
+pub(crate) fn head(words: &[Word]) -> Option<(Head, &[Word])>
+    ensures { Sees result (head words.now) }
+{
+    let (word, rest) = words.split_first()?;
+    match word.kind {
+        WordKind::Name(name, _) => Some((Head::Call(name), rest)),
+        WordKind::Jump(jump) => Some((Head::Jump(jump), rest)),
         _ => None,
     }
 }
@@ -423,6 +437,22 @@ fn begins_operand(kind: WordKind, tight: bool) -> bool
         | WordKind::OpenSquare => true,
         WordKind::Minus => tight,
         _ => false,
+    }
+}
+
+fn begins_argument(kind: WordKind) -> bool
+    ensures { result ≡ begins_argument kind }
+{
+    begins_operand(kind, true) || kind == WordKind::OpenBrace
+}
+
+/// Whether the value of a jump follows.
+pub(crate) fn begins_arguments(words: &[Word]) -> bool
+    ensures { result ≡ begins_arguments words.now }
+{
+    match words.first() {
+        Some(word) => begins_argument(word.kind),
+        None => false,
     }
 }
 

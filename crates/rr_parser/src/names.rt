@@ -4,7 +4,7 @@ ghost use Rattle.std.specs.Prelude.{◌≡◌, ◌∷◌, [], ◌++◌, length, 
 ghost use Rattle.rr_parser.specs.Words.{keyword_kind, op_kind, is_marked, with_name, number_of, with_symbol, with_text, word_with, words_of, symbols_of, texts_of};
 
 use crate::refusal::Storage;
-use crate::word::{Connective, Infix, Operation, Sign, Word, WordKind};
+use crate::word::{Connective, Infix, Jump, Operation, Sign, Word, WordKind};
 use indexmap::IndexSet;
 use rr_base::Sym;
 use rr_lexer::{Keyword, Kind, Op, Token, int_value, name, text_contents};
@@ -32,6 +32,9 @@ fn keyword_kind(keyword: Keyword) -> WordKind
         Keyword::While => WordKind::Loop { until: false },
         Keyword::Until => WordKind::Loop { until: true },
         Keyword::Do => WordKind::Do,
+        Keyword::Break => WordKind::Jump(Jump::Break),
+        Keyword::Next => WordKind::Jump(Jump::Next),
+        Keyword::Return => WordKind::Jump(Jump::Return),
         Keyword::And => WordKind::AndWord,
         Keyword::Or => WordKind::OrWord,
         Keyword::Not => WordKind::NotWord,

@@ -1,10 +1,10 @@
 //! The nodes that a parser puts.
 
 ghost use Rattle.std.specs.Prelude.{◌≡◌, ◌<◌, ◌≤◌, ◌++◌, length, map, All, IfOk, OnOk};
-ghost use Rattle.rr_tree.specs.Tree.{Tree, tree_at, sequence, bare, call, send, array, hash, pair, symbol, listed, HasPartsBefore};
+ghost use Rattle.rr_tree.specs.Tree.{Tree, nil, tree_at, sequence, bare, call, send, array, hash, pair, symbol, listed, HasPartsBefore};
 ghost use Rattle.rr_tree.specs.Nodes.{node_tree, item};
 ghost use Rattle.rr_parser.specs.Grammar.Operators.{infixed, joined_by};
-ghost use Rattle.rr_parser.specs.Grammar.Names.{local_tree};
+ghost use Rattle.rr_parser.specs.Grammar.Names.{local_tree, jump_tree, jump_value, headed};
 ghost use Rattle.rr_parser.specs.Grammar.Calls.{target_tree, set_target, operated, signed};
 ghost use Rattle.rr_parser.specs.Grammar.Sequences.{modified};
 ghost use Rattle.rr_parser.specs.Grammar.Control.{chosen};
@@ -14,7 +14,7 @@ use crate::look::{INTEGERS, joined, negated};
 use crate::parser::{Parsed, Parser};
 use crate::refusal::{Refusal, Storage};
 use crate::variables::Variable;
-use crate::word::{Aim, Connective, Infix, Modifier, Operation, Sign, Target, Word};
+use crate::word::{Aim, Connective, Head, Infix, Jump, Modifier, Operation, Sign, Target, Word};
 use rr_base::Sym;
 use rr_tree::{Node, NodeId};
 
@@ -142,6 +142,53 @@ impl Parser {
             count,
             site,
         })
+    }
+
+    fn put_jump(&mut self, jump: Jump, value: NodeId) -> Result<NodeId, Storage>
+        requires { value < length self.old.nodes.items }
+        ensures { IfOk result (λ id. Puts self.old self.new (jump_tree jump (tree_at self.old.nodes.items value)) id) }
+    {
+        match jump {
+            Jump::Break => self.put(Node::Break(value)),
+            Jump::Next => self.put(Node::Next(value)),
+            Jump::Return => self.put(Node::Return(value)),
+        }
+    }
+
+    /// Puts a jump without a value.
+    pub fn put_bare_jump(&mut self, jump: Jump) -> Result<NodeId, Storage>
+        ensures { IfOk result (λ id. Puts self.old self.new (jump_tree jump nil) id) }
+    {
+        let value = self.put(Node::Nil)?;
+        self.put_jump(jump, value)
+    }
+
+    /// Puts the value of a jump: the one that there is, or an array of them.
+    fn put_value(&mut self, items: &[NodeId]) -> Result<NodeId, Storage>
+        requires { All (λ i. i < length self.old.nodes.items) items.now }
+        ensures { IfOk result (λ id. Puts self.old self.new (jump_value (map (tree_at self.old.nodes.items) items.now)) id) }
+    {
+        if items.is_empty() {
+            return self.put(Node::Nil);
+        }
+        if items.len() == 1 {
+            return Ok(items[0]);
+        }
+        self.put_array(items)
+    }
+
+    /// Puts a command.
+    pub fn put_headed(&mut self, head: Head, items: &[NodeId]) -> Result<NodeId, Storage>
+        requires { All (λ i. i < length self.old.nodes.items) items.now }
+        ensures { IfOk result (λ id. Puts self.old self.new (headed head (map (tree_at self.old.nodes.items) items.now)) id) }
+    {
+        match head {
+            Head::Call(name) => self.put_call(name, items),
+            Head::Jump(jump) => {
+                let value = self.put_value(items)?;
+                self.put_jump(jump, value)
+            }
+        }
     }
 
     pub fn put_array(&mut self, items: &[NodeId]) -> Result<NodeId, Storage>

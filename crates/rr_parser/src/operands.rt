@@ -2,13 +2,13 @@
 
 ghost use Rattle.std.specs.Prelude.{◌≡◌, ◌<◌, length};
 ghost use Rattle.rr_tree.specs.Tree.{tree_at};
-ghost use Rattle.rr_parser.specs.Reading.Operands.{primary_of, tailed_of, postfix_of, name_of, variable_or_call, block_behind, blocked_of, bang_of, minus_of};
+ghost use Rattle.rr_parser.specs.Reading.Operands.{jump_at, primary_of, tailed_of, postfix_of, name_of, variable_or_call, block_behind, blocked_of, bang_of, minus_of};
 ghost use Rattle.rr_parser.specs.Reading.{readers};
 
-use crate::look::{begins_operands, behind, bracket, prefix_minus, tail};
+use crate::look::{begins_arguments, begins_operands, behind, bracket, prefix_minus, tail};
 use crate::parser::{Parsed, Parser};
 use crate::refusal::Refusal;
-use crate::word::{Part, Tail, Word, WordKind};
+use crate::word::{Jump, Part, Tail, Word, WordKind};
 use rr_base::Sym;
 use rr_tree::{Node, NodeId, Path};
 
@@ -103,6 +103,7 @@ impl Parser {
             WordKind::Global(name) => Ok((self.put(Node::Global(name))?, rest)),
             WordKind::Itself => Ok((self.put(Node::Itself)?, rest)),
             WordKind::Minus => self.negative(rest),
+            WordKind::Jump(jump) => self.jump(jump, rest),
             WordKind::Name(name, _) => self.name(inside, depth, name, rest),
             WordKind::Open => self.part(Part::Group, inside, depth, rest),
             WordKind::OpenSquare => self.part(Part::Array, inside, depth, rest),
@@ -135,6 +136,19 @@ impl Parser {
             return self.block_behind(call, inside, depth, rest);
         }
         self.variable_or_call(name, words)
+    }
+
+    /// A jump without a value.
+    fn jump<'w>(&mut self, jump: Jump, words: &'w [Word]) -> Parsed<'w, NodeId>
+        ensures { Gives self.old self.new result (jump_at jump (place self.old words.now)) }
+    {
+        if !self.allows(jump) {
+            return Err(Refusal::Unexpected(words.len().saturating_add(1)));
+        }
+        if begins_arguments(words) {
+            return Err(Refusal::Unexpected(words.len()));
+        }
+        Ok((self.put_bare_jump(jump)?, words))
     }
 
     /// A local variable, or a call without arguments.

@@ -3,13 +3,13 @@
 ghost use Rattle.std.specs.Prelude.{◌≡◌, IfOk};
 ghost use Rattle.rr_tree.specs.Tree.{IsOrdered};
 ghost use Rattle.rr_tree.specs.Order.{IsOrdered-prop};
-ghost use Rattle.rr_parser.specs.Grammar.Names.{command};
+ghost use Rattle.rr_parser.specs.Grammar.Names.{command, begins_head, is_allowed};
 ghost use Rattle.rr_parser.specs.Reading.{readers, part_of};
 
-use crate::look::{begins_operands, name};
+use crate::look::{begins_arguments, begins_operands, head};
 use crate::refusal::{Refusal, Storage};
 use crate::variables::{Scope, Variable, Variables};
-use crate::word::{Listed, Part, Target, Word};
+use crate::word::{Head, Jump, Listed, Part, Target, Word};
 use rr_base::Sym;
 use rr_tree::{Node, NodeId};
 use std::alloc::Global;
@@ -31,7 +31,7 @@ pub(crate) type Parsed<'w, T> = Result<(T, &'w [Word]), Refusal>;
 pub(crate) type ParsedList<'w> = Parsed<'w, Vec<NodeId>>;
 
 impl Parser {
-    ghost use Rattle.rr_parser.specs.Meets.{Gives, GivesList, Marks, Aims, Enters, Leaves, Sees, place, known_of};
+    ghost use Rattle.rr_parser.specs.Meets.{Gives, GivesList, Marks, Aims, Enters, Leaves, SetsLoop, Sees, place, known_of};
 
     /// From here on the name is a local variable.
     fn mark(&mut self, name: Sym) -> Result<Variable, Storage>
@@ -64,13 +64,40 @@ impl Parser {
         self.known.leave(scope);
     }
 
-    /// The name that begins a command.
-    pub fn command_name<'w>(&self, words: &'w [Word]) -> Option<(Sym, &'w [Word])>
+    /// From here on the place is in a loop, or not.
+    pub fn set_loop(&mut self, in_loop: bool)
+        ensures { SetsLoop self.old self.new in_loop }
+    {
+        self.known.set_loop(in_loop);
+    }
+
+    /// Whether a jump may stand there.
+    pub fn allows(&self, jump: Jump) -> bool
+        ensures { result ≡ is_allowed jump (known_of self.now) }
+    {
+        match jump {
+            Jump::Return => true,
+            Jump::Break | Jump::Next => self.known.in_loop,
+        }
+    }
+
+    /// Whether a command is begun by it, where these words stand behind it.
+    fn begins(&self, head: Head, words: &[Word]) -> bool
+        ensures { result ≡ begins_head head (place self.now words.now) }
+    {
+        match head {
+            Head::Call(name) => self.known.variable(name).is_none() && begins_operands(words),
+            Head::Jump(jump) => self.allows(jump) && begins_arguments(words),
+        }
+    }
+
+    /// What begins a command.
+    pub fn command_head<'w>(&self, words: &'w [Word]) -> Option<(Head, &'w [Word])>
         ensures { Sees result (command (known_of self.now) words.now) }
     {
-        let (name, rest) = name(words)?;
-        if self.known.variable(name).is_none() && begins_operands(rest) {
-            Some((name, rest))
+        let (head, rest) = head(words)?;
+        if self.begins(head, rest) {
+            Some((head, rest))
         } else {
             None
         }
@@ -111,7 +138,7 @@ impl Parser {
             Part::Index => self.index(inside, depth, words),
             Part::Choice => self.choice(inside, depth, words),
             Part::Unless => self.unless(inside, depth, words),
-            Part::Loop { until } => self.repeat(until, inside, depth, words),
+            Part::Loop { until } => self.looped(until, inside, depth, words),
             Part::Minus => self.minus(inside, depth, words),
             Part::Bang => self.bang(inside, depth, words),
             Part::Not => self.negation(inside, depth, words),

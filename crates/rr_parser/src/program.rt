@@ -47,6 +47,7 @@ fn read_nodes(alloc: Global, words: &[Word], depth: u32) -> Result<Nodes, Refusa
             level: 0,
             count: 0,
             begun: 0,
+            in_loop: false,
         },
         sites: 0,
     };

@@ -1,7 +1,7 @@
 //! The local variables that are known at a place, and the scopes that they belong to.
 
 ghost use Rattle.std.specs.Prelude.{◌≡◌, IfOk, IfSome, OnOk, is_some};
-ghost use Rattle.rr_parser.specs.Grammar.Names.{find, seen_from, with_variable};
+ghost use Rattle.rr_parser.specs.Grammar.Names.{find, seen_from, with_variable, with_loop};
 ghost use Rattle.rr_parser.specs.Grammar.Blocks.{inner, with_parameters};
 ghost use Rattle.rr_parser.specs.Variables.{known_in};
 ghost use Rattle.rr_parser.specs.Meets.{Begins, left_by};
@@ -32,6 +32,7 @@ pub(crate) struct Scope {
     pub locals: usize,
     pub level: u32,
     pub count: u32,
+    pub in_loop: bool,
 }
 
 /// The local variables, those of the scopes outside first.
@@ -44,6 +45,8 @@ pub(crate) struct Variables {
     pub count: u32,
     /// How many scopes were begun.
     pub begun: u32,
+    /// Whether the place is in a loop or a block.
+    pub in_loop: bool,
 }
 
 impl Variables {
@@ -131,6 +134,7 @@ impl Variables {
         self.begun = begun;
         self.level = level;
         self.count = 0;
+        self.in_loop = true;
         Ok(())
     }
 
@@ -144,6 +148,7 @@ impl Variables {
         let locals = self.locals.len();
         let level = self.level;
         let count = self.count;
+        let in_loop = self.in_loop;
         self.go_inside()?;
         self.add_parameters(parameters)?;
         Ok(Scope {
@@ -152,6 +157,7 @@ impl Variables {
             locals,
             level,
             count,
+            in_loop,
         })
     }
 
@@ -162,5 +168,13 @@ impl Variables {
         self.locals.truncate(scope.locals);
         self.level = scope.level;
         self.count = scope.count;
+        self.in_loop = scope.in_loop;
+    }
+
+    /// From here on the place is in a loop, or not.
+    pub fn set_loop(&mut self, in_loop: bool)
+        ensures { known_in self.new ≡ with_loop in_loop (known_in self.old) }
+    {
+        self.in_loop = in_loop;
     }
 }

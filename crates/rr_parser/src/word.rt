@@ -37,6 +37,21 @@ pub(crate) enum Infix {
     Append,
 }
 
+/// What leaves a loop, a block or a method.
+#[derive(Clone, Copy, Debug, PartialEq, Eq, Drop)]
+pub(crate) enum Jump {
+    Break,
+    Next,
+    Return,
+}
+
+/// What begins a command: the name of a call, or a jump.
+#[derive(Clone, Copy, Debug, PartialEq, Eq, Drop)]
+pub(crate) enum Head {
+    Call(Sym),
+    Jump(Jump),
+}
+
 /// What stands before the `=` of an assignment with an operator.
 #[derive(Clone, Copy, Debug, PartialEq, Eq, Drop)]
 pub(crate) enum Operation {
@@ -146,6 +161,7 @@ pub(crate) enum WordKind {
     /// `while`, or `until`.
     Loop { until: bool },
     Do,
+    Jump(Jump),
     Then,
     Elsif,
     Else,

@@ -1,7 +1,7 @@
 -- Assignments, arguments and commands.
 use Rattle.std.specs.Prelude.{◌≡◌, ℕ, List, [], ◌∷◌, Bool, true, false, Option, Some, None}
 use Rattle.rr_base.specs.declared.name.Sym.{Sym}
-use Rattle.rr_tree.specs.Tree.{Tree, field, global, operator_assign, append_assign, or_assign, and_assign, assign, set_field, set_global, symbol, array, hash, pair, call, listed}
+use Rattle.rr_tree.specs.Tree.{Tree, field, global, operator_assign, append_assign, or_assign, and_assign, assign, set_field, set_global, symbol, array, hash, pair, listed}
 use Rattle.rr_parser.specs.declared.word.WordKind.TheVariants as kind
 use Rattle.rr_parser.specs.declared.word.Word.{Word}
 use Rattle.rr_parser.specs.declared.word.WordKind.{WordKind}
@@ -9,6 +9,7 @@ use Rattle.rr_parser.specs.declared.word.Connective.TheVariants as connectives
 use Rattle.rr_parser.specs.declared.word.Infix.TheVariants as infixes
 use Rattle.rr_parser.specs.declared.word.Operation.{Operation}
 use Rattle.rr_parser.specs.declared.word.Operation.TheVariants as operations
+use Rattle.rr_parser.specs.declared.word.Head.{Head}
 use Rattle.rr_parser.specs.declared.word.Sign.{Sign}
 use Rattle.rr_parser.specs.declared.word.Sign.TheVariants as signs
 use Rattle.rr_parser.specs.declared.word.Aim.{Aim}
@@ -21,7 +22,7 @@ use Rattle.rr_parser.specs.Places.{Place, Look, first_as, word, at, next}
 use Rattle.rr_parser.specs.Grammar.Chains.{Chain, one_of, and_one}
 use Rattle.rr_parser.specs.Grammar.Nesting.{Nested}
 use Rattle.rr_parser.specs.declared.variables.Variable.{Variable}
-use Rattle.rr_parser.specs.Grammar.Names.{variable_of, local_tree, with_local, command}
+use Rattle.rr_parser.specs.Grammar.Names.{variable_of, local_tree, with_local, headed, command}
 use Rattle.rr_parser.specs.Grammar.Operators.{Ternary}
 
 -- what is assigned to
@@ -158,10 +159,10 @@ pub data Index (N : Nested) : Place → Tree → Place → Type 0 where
 -- what stands behind the name of a command: arguments, or a command
 pub data Commanded (N : Nested) : Place → List Tree → Place → Type 0 where
   by_arguments : {s z : Place} {l : List Tree} → Members N listings.Command s l z → Commanded N s l z
-  by_command : {s m z : Place} {x : Sym} {t : Tree} → at (command s.known) s ≡ Some (x, m) → N.part parts.Command s t z → Commanded N s (t ∷ []) z
+  by_command : {s m z : Place} {x : Head} {t : Tree} → at (command s.known) s ≡ Some (x, m) → N.part parts.Command s t z → Commanded N s (t ∷ []) z
 
 pub data Command (N : Nested) : Place → Tree → Place → Type 0 where
-  a_command : {s m z : Place} {x : Sym} {l : List Tree} → at (command s.known) s ≡ Some (x, m) → Commanded N m l z → Command N s (call x.0 (listed l)) z
+  a_command : {s m z : Place} {x : Head} {l : List Tree} → at (command s.known) s ≡ Some (x, m) → Commanded N m l z → Command N s (headed x l) z
 
 pub data Phrase (N : Nested) : Place → Tree → Place → Type 0 where
   by_name : {s z : Place} {t : Tree} → Command N s t z → Phrase N s t z

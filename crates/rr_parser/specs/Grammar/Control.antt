@@ -1,11 +1,12 @@
 -- Choices and loops.
-use Rattle.std.specs.Prelude.{◌≡◌, List, [], ◌∷◌, Bool, Option, Some, None}
+use Rattle.std.specs.Prelude.{◌≡◌, List, [], ◌∷◌, Bool, true, Option, Some, None}
 use Rattle.rr_tree.specs.Tree.{Tree, nil, choose, repeat}
 use Rattle.rr_parser.specs.declared.word.WordKind.TheVariants as kind
 use Rattle.rr_parser.specs.declared.word.Word.{Word}
 use Rattle.rr_parser.specs.Places.{Place, Look, word, at, next, separators}
 use Rattle.rr_parser.specs.Grammar.Chains.{Chain, one_of, and_one}
 use Rattle.rr_parser.specs.Grammar.Nesting.{Nested}
+use Rattle.rr_parser.specs.Grammar.Names.{with_loop}
 use Rattle.rr_parser.specs.Grammar.Sequences.{Expression, Statements}
 
 abbrev pub behind_word : List Word → Option (Unit {0} × List Word) → List Word
@@ -60,3 +61,14 @@ pub data Unless (N : Nested) : Place → Tree → Place → Type 0 where
 
 pub data Loop (N : Nested) (until : Bool) : Place → Tree → Place → Type 0 where
   a_loop : {s m n o z : Place} {c t : Tree} {u : Unit {0}} → Expression N s c m → at loops m ≡ Some (u, n) → Statements N n t o → next o ≡ Some (kind.End, z) → Loop N until s (repeat until c t) z
+
+abbrev pub looping : Place → Place
+looping s = record { known = with_loop true s.known; rest = s.rest }
+
+-- Behind a loop jumps may stand where they could before it.
+abbrev pub outside_loop : Place → Place → Place
+outside_loop s n = record { known = with_loop s.known.in_loop n.known; rest = n.rest }
+
+-- a loop, in which jumps may stand
+pub data Looped (N : Nested) (until : Bool) : Place → Tree → Place → Type 0 where
+  of_loop : {s z : Place} {t : Tree} → Loop N until (looping s) t z → Looped N until s t (outside_loop s z)

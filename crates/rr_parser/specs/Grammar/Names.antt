@@ -1,9 +1,13 @@
 -- What a name stands for, and what its neighbours say about it.
-use Rattle.std.specs.Prelude.{ℕ, ◌==◌, ◌+◌, ◌-◌, List, [], ◌∷◌, ◌++◌, Bool, true, false, not, ◌&&◌, Option, Some, None, is_some, if◌then◌else◌}
+use Rattle.std.specs.Prelude.{ℕ, ◌==◌, ◌+◌, ◌-◌, List, [], ◌∷◌, ◌++◌, Bool, true, false, not, ◌&&◌, ◌||◌, Option, Some, None, is_some, if◌then◌else◌}
 use Rattle.rr_base.specs.declared.name.Sym.{Sym}
-use Rattle.rr_tree.specs.Tree.{Tree, local}
+use Rattle.rr_tree.specs.Tree.{Tree, nil, local, call, array, break, next, return, listed}
 use Rattle.rr_parser.specs.declared.variables.Local.{Local}
 use Rattle.rr_parser.specs.declared.variables.Variable.{Variable}
+use Rattle.rr_parser.specs.declared.word.Head.{Head}
+use Rattle.rr_parser.specs.declared.word.Head.TheVariants as heads
+use Rattle.rr_parser.specs.declared.word.Jump.{Jump}
+use Rattle.rr_parser.specs.declared.word.Jump.TheVariants as jumps
 use Rattle.rr_parser.specs.declared.word.WordKind.{WordKind}
 use Rattle.rr_parser.specs.declared.word.WordKind.TheVariants as kind
 use Rattle.rr_parser.specs.declared.word.Word.{Word}
@@ -38,11 +42,15 @@ local_tree x v = local v.depth v.slot x.0
 -- a name that is no variable yet becomes one of the place's own scope and gets the next number there
 abbrev pub with_variable : Known → Sym → Option Local → Known
 with_variable k x (Some l) = k
-with_variable k x None = record { locals = k.locals ++ record { name = x; level = k.level; slot = k.count } ∷ []; level = k.level; count = k.count + 1; begun = k.begun }
+with_variable k x None = record { locals = k.locals ++ record { name = x; level = k.level; slot = k.count } ∷ []; level = k.level; count = k.count + 1; begun = k.begun; in_loop = k.in_loop }
 
 -- the same place, where the name is a local variable
 abbrev pub with_local : Sym → Place → Place
 with_local x s = record { known = with_variable s.known x (find x.0 s.known.locals); rest = s.rest }
+
+-- the same, in a loop or not
+abbrev pub with_loop : Bool → Known → Known
+with_loop b k = record { locals = k.locals; level = k.level; count = k.count; begun = k.begun; in_loop = b }
 
 abbrev pub name_of_kind : WordKind → Option Sym
 name_of_kind (kind.Name x marked) = Some x
@@ -88,10 +96,55 @@ begins_operands (w ∷ ws) = w.blank && begins_operand w.kind (is_tight ws)
 abbrev pub begins_command : Sym → Place → Bool
 begins_command x s = not (is_local x s) && begins_operands s.rest
 
-abbrev pub commanding : Known → Option (Sym × List Word) → Option (Sym × List Word)
-commanding known None = None
-commanding known (Some x) = if begins_command x.0 (record { known = known; rest = x.1 }) then Some (x.0, x.1) else None
+-- ---- jumps
 
--- the name that begins a command
-abbrev pub command : Known → Look Sym
-command known ws = commanding known (name ws)
+-- `break` and `next` stand in a loop or a block
+abbrev pub is_allowed : Jump → Known → Bool
+is_allowed jumps.Break k = k.in_loop
+is_allowed jumps.Next k = k.in_loop
+is_allowed jumps.Return k = true
+
+abbrev pub jump_tree : Jump → Tree → Tree
+jump_tree jumps.Break t = break t
+jump_tree jumps.Next t = next t
+jump_tree jumps.Return t = return t
+
+-- the value of a jump: several are an array
+abbrev pub jump_value : List Tree → Tree
+jump_value [] = nil
+jump_value (t ∷ []) = t
+jump_value (t ∷ u ∷ ts) = array (listed (t ∷ u ∷ ts))
+
+-- a word that begins the value of a jump, whether a blank stands before it or not
+abbrev pub begins_argument : WordKind → Bool
+begins_argument k = begins_operand k true || is_kind k kind.OpenBrace
+
+abbrev pub begins_arguments : List Word → Bool
+begins_arguments [] = false
+begins_arguments (w ∷ ws) = begins_argument w.kind
+
+-- ---- what begins a command
+
+abbrev pub head_of_kind : WordKind → Option Head
+head_of_kind (kind.Name x marked) = Some (heads.Call x)
+head_of_kind (kind.Jump j) = Some (heads.Jump j)
+head_of_kind _ = None
+
+abbrev pub head : Look Head
+head = first_as (λ w. head_of_kind w.kind)
+
+abbrev pub begins_head : Head → Place → Bool
+begins_head (heads.Call x) s = begins_command x s
+begins_head (heads.Jump j) s = is_allowed j s.known && begins_arguments s.rest
+
+abbrev pub headed : Head → List Tree → Tree
+headed (heads.Call x) l = call x.0 (listed l)
+headed (heads.Jump j) l = jump_tree j (jump_value l)
+
+abbrev pub commanding : Known → Option (Head × List Word) → Option (Head × List Word)
+commanding known None = None
+commanding known (Some x) = if begins_head x.0 (record { known = known; rest = x.1 }) then Some (x.0, x.1) else None
+
+-- the name or the jump that begins a command
+abbrev pub command : Known → Look Head
+command known ws = commanding known (head ws)

@@ -5,16 +5,16 @@ use Rattle.rr_tree.specs.Tree.{Tree, array, hash, symbol, pair, listed}
 use Rattle.rr_parser.specs.declared.word.Part.TheVariants as parts
 use Rattle.rr_parser.specs.declared.word.WordKind.TheVariants as kind
 use Rattle.rr_parser.specs.declared.word.Aim.{Aim}
+use Rattle.rr_parser.specs.declared.word.Head.{Head}
 use Rattle.rr_parser.specs.declared.word.Listed.{Listed}
 use Rattle.rr_parser.specs.declared.word.Listed.TheVariants as listings
 use Rattle.rr_parser.specs.declared.word.Word.{Word}
 use Rattle.rr_parser.specs.Places.{Place, Look, unless, word, at}
 use Rattle.rr_parser.specs.Grammar.Chains.{one_of, and_one}
-use Rattle.rr_parser.specs.Grammar.Names.{command}
+use Rattle.rr_parser.specs.Grammar.Names.{headed, command}
 use Rattle.rr_parser.specs.Grammar.Calls.{target, with_target, assigned_to, label, comma, closing, last}
 use Rattle.rr_parser.specs.Reading.Answers.{◌>>=◌, wrong, Answer, Parse, built, ended_by, closed, across, chain}
 use Rattle.rr_parser.specs.Reading.Nesting.{Readers}
-use Rattle.rr_parser.specs.Reading.Operands.{call_of}
 use Rattle.rr_parser.specs.Reading.Operators.{ternary_of}
 
 abbrev pub assigned_or : Readers → Bool → Parse Tree → Place → Option (Aim × Place) → Answer Tree
@@ -67,23 +67,26 @@ hash_of N s = built (λ l. hash (listed l)) (bracketed_of N listings.Hash s)
 unfoldable pub index_of : Readers → Parse Tree
 index_of N s = closed kind.CloseSquare (argument_of N s)
 
-abbrev pub commanded_or : Readers → Place → Option (Sym × Place) → Answer (List Tree)
+abbrev pub commanded_or : Readers → Place → Option (Head × Place) → Answer (List Tree)
 commanded_or N s None = members_of N listings.Command s
 commanded_or N s (Some x) = built one_of (N.part parts.Command s)
 
 unfoldable pub commanded_of : Readers → Parse (List Tree)
 commanded_of N s = commanded_or N s (at (command s.known) s)
 
-abbrev pub command_or : Readers → Option (Sym × Place) → Answer Tree
+abbrev pub headed_of : Head → Answer (List Tree) → Answer Tree
+headed_of x r = built (headed x) r
+
+abbrev pub command_or : Readers → Option (Head × Place) → Answer Tree
 command_or N None = Err wrong
-command_or N (Some x) = call_of x.0 (commanded_of N x.1)
+command_or N (Some x) = headed_of x.0 (commanded_of N x.1)
 
 unfoldable pub command_of : Readers → Parse Tree
 command_of N s = command_or N (at (command s.known) s)
 
-abbrev pub phrase_or : Readers → Place → Option (Sym × Place) → Answer Tree
+abbrev pub phrase_or : Readers → Place → Option (Head × Place) → Answer Tree
 phrase_or N s None = ternary_of N s
-phrase_or N s (Some x) = call_of x.0 (commanded_of N x.1)
+phrase_or N s (Some x) = headed_of x.0 (commanded_of N x.1)
 
 unfoldable pub phrase_of : Readers → Parse Tree
 phrase_of N s = phrase_or N s (at (command s.known) s)

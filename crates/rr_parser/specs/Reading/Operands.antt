@@ -1,16 +1,17 @@
 -- Reading operands.
 use Rattle.std.specs.Prelude.{ℕ, pos, [], List, Option, Some, None, Ok, Err, if◌then◌else◌}
 use Rattle.rr_base.specs.declared.name.Sym.{Sym}
-use Rattle.rr_tree.specs.Tree.{Tree, int, bare, call, send, with_block, index, negate, logical_not, listed}
+use Rattle.rr_tree.specs.Tree.{Tree, nil, int, bare, call, send, with_block, index, negate, logical_not, listed}
 use Rattle.rr_parser.specs.declared.word.WordKind.{WordKind}
 use Rattle.rr_parser.specs.declared.word.WordKind.TheVariants as kind
 use Rattle.rr_parser.specs.declared.word.Word.{Word}
 use Rattle.rr_parser.specs.declared.word.Tail.{Tail}
 use Rattle.rr_parser.specs.declared.word.Tail.TheVariants as tails
+use Rattle.rr_parser.specs.declared.word.Jump.{Jump}
 use Rattle.rr_parser.specs.declared.word.Part.{Part}
 use Rattle.rr_parser.specs.declared.word.Part.TheVariants as parts
 use Rattle.rr_parser.specs.Places.{Place, Look, word, at, next}
-use Rattle.rr_parser.specs.Grammar.Names.{is_local, variable_of, local_tree, bracket, begins_operands}
+use Rattle.rr_parser.specs.Grammar.Names.{is_local, variable_of, local_tree, is_allowed, jump_tree, begins_arguments, bracket, begins_operands}
 use Rattle.rr_parser.specs.Grammar.Operands.{fits, fits_below, negated, joined, literal_of, construct_of, brace, tail}
 use Rattle.rr_parser.specs.Reading.Answers.{◌>>=◌, wrong, Answer, Parse, built, from, trail_on}
 use Rattle.rr_parser.specs.Reading.Nesting.{Readers}
@@ -60,6 +61,9 @@ negative_in (Some n) = if fits_below n.0 then Ok (int (negated n.0), n.1) else E
 unfoldable pub negative_of : Parse Tree
 negative_of m = negative_in (at joined m)
 
+abbrev pub jump_at : Jump → Place → Answer Tree
+jump_at j m = if is_allowed j m.known then (if begins_arguments m.rest then Err wrong else Ok (jump_tree j nil, m)) else Err wrong
+
 abbrev pub begun : Readers → Option Tree → Option Part → Place → Answer Tree
 begun N (Some t) p m = Ok (t, m)
 begun N None (Some p) m = N.part p m
@@ -69,6 +73,7 @@ abbrev pub primary_at : Readers → WordKind → Place → Answer Tree
 primary_at N (kind.Int n) m = int_at n m
 primary_at N (kind.Name x marked) m = name_of N x m
 primary_at N kind.Minus m = negative_of m
+primary_at N (kind.Jump j) m = jump_at j m
 primary_at N k m = begun N (literal_of k) (construct_of k) m
 
 abbrev pub primary_in : Readers → Option (WordKind × Place) → Answer Tree

@@ -220,3 +220,6 @@ decreases-blocked l = 128 * l.depth + cond l.inside 0 64 + 2
 
 abbrev pub decreases-block : goal.decreases-block
 decreases-block l = 128 * l.depth + cond l.inside 0 64 + 41
+
+abbrev pub decreases-looped : goal.decreases-looped
+decreases-looped l = 128 * l.depth + cond l.inside 0 64 + 42
