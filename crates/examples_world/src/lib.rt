@@ -2,6 +2,8 @@
 #![tactic(auto)]
 
 #[cfg(test)]
+mod constants;
+#[cfg(test)]
 mod model;
 #[cfg(test)]
 mod model_steps;

@@ -63,6 +63,7 @@ fn a_closed_inbox_keeps_what_is_inside(rt: HostRuntime) -> Result<(), Fail> {
         by_main(Action::Accept),
     ];
     let replies = world.run_steps(rt.alloc(), &steps)?;
+    assert_eq!(rt; replies.len(), 6);
     assert!(rt; matches!(&replies[2], Reply::WasClosed(false)));
     assert!(rt; matches!(&replies[3], Reply::Done));
     assert!(rt; matches!(&replies[4], Reply::Done));
@@ -119,6 +120,7 @@ fn a_text_goes_to_another_ractor(rt: HostRuntime) -> Result<(), Fail> {
         by_other(Action::Append(Operand::Root(0), b'a')),
     ];
     let replies = world.run_steps(rt.alloc(), &steps)?;
+    assert_eq!(rt; replies.len(), 10);
     assert!(rt; matches!(&replies[1], Reply::NotEnabled));
     assert!(rt; matches!(&replies[2], Reply::Started(RactorNo(2))));
     assert!(rt;

@@ -7,6 +7,7 @@ use Rattle.rr_space.specs.Tables.{Slot, Below, joined}
 use Rattle.rr_space.specs.Readings.{Knows, Layout, Owner, Space, Hand, Mail, Shared}
 use Rattle.rr_space.proofs.Cases.{empty_is_read}
 use Rattle.rr_inbox.specs.Inboxes.{Inbox, new_inbox}
+use Rattle.rr_store.specs.Stores.{Store, constant_of}
 use Rattle.rr_inbox.specs.declared.entry.Entry.{Entry}
 use Rattle.rr_space.proofs.Sounds.{none_in}
 use Rattle.rr_world.specs.Views.{Member, Assembly}
@@ -64,6 +65,7 @@ new_is_read limits w N =
         tables = e.2;
         knows = record {
           ractors = λ k m at. only_main limits w N k m (ap (λ xs. slice_get xs k) (sym N.ractors) ∙ at);
+          store = λ n v here. absurd (none-some _ (sym (ap (λ (t : Store). constant_of t n) N.store) ∙ here));
           inboxes = λ c i x at has. absurd (no_mail limits.events c i x (ap (λ xs. slice_get xs c) (sym N.inboxes) ∙ at) has);
         };
         owned = λ k m at. main_owned limits w N k m (ap (λ xs. slice_get xs k) (sym N.ractors) ∙ at);

@@ -3,6 +3,7 @@ use Rattle.std.proofs.Common.{◌≡◌, ℕ, zero, suc, ◌<◌, List, [], ◌�
 use Rattle.std.proofs.lemmas.Option.{slice_get_read, slice_get_within, same_Some}
 use Rattle.std.specs.Prelude.{slice_set}
 use Rattle.rr_inbox.specs.Inboxes.{Inbox}
+use Rattle.rr_store.specs.Stores.{Store}
 use Rattle.rr_world.specs.Views.{Member, Channels, Assembly}
 use Rattle.rr_world.proofs.Lists.{set_at, set_back, set_twice}
 
@@ -23,8 +24,11 @@ set_again xs ys k x y same at is = set_in xs ys k x y same is ∙ set_back ys k 
 pub set_twice_again : {A : Type 0} (xs ys : List A) (k : ℕ) (z x y : A) → xs ≡ ys → slice_get ys k ≡ Some y → x ≡ y → slice_set (slice_set xs k z) k x ≡ ys
 set_twice_again xs ys k z x y same at is = set_twice xs k z x ∙ set_again xs ys k x y same at is
 
-abbrev pub channels : List Inbox → Channels
-channels is = record { inboxes = is }
+abbrev pub channels : Store → List Inbox → Channels
+channels store is = record { inboxes = is; store = store }
+
+pub channels_same : {s t : Store} {xs ys : List Inbox} → s ≡ t → xs ≡ ys → channels s xs ≡ channels t ys
+channels_same {s} {t} {xs} {ys} e f = ap (λ x. channels x xs) e ∙ ap (channels t) f
 
 abbrev pub assembly : List Member → Channels → Assembly
 assembly rs is = record { ractors = rs; channels = is }

@@ -11,6 +11,7 @@ use Rattle.rr_space.specs.declared.refer.Ref.{Ref}
 use Rattle.rr_space.proofs.Hands.{append_cases}
 use Rattle.rr_space.proofs.Sounds.{joined_back, joined_in, none_in, in_first}
 use Rattle.rr_inbox.specs.Inboxes.{Inbox}
+use Rattle.rr_store.specs.Stores.{constant_of}
 use Rattle.rr_inbox.specs.declared.entry.Entry.{Entry}
 use Rattle.rr_world.specs.Views.{Member, Channels, Assembly, with_inbox}
 use Rattle.rr_world.specs.Layouts.{layout, message_below, MemberKnows, IsKnowing, AreOwned, IsRead}
@@ -60,6 +61,7 @@ owned_set w w2 k m m2 at rs same all j x here = ⊎_elim
 pub knows_set : (w w2 : Assembly) (k : ℕ) (m2 : Member) → w2.ractors ≡ slice_set w.ractors k m2 → w2.channels ≡ w.channels → MemberKnows (layout w) m2 → IsKnowing w → IsKnowing w2
 knows_set w w2 k m2 rs is M K = record {
   ractors = λ j m at. member_on w w2 m (⊎_elim (λ same. subst (MemberKnows (layout w)) same M) (λ there. K.ractors j m there) (set_cases w.ractors k j m2 m (ap (λ xs. slice_get xs j) (sym rs) ∙ at)));
+  store = λ n v here. knows_on w w2 (below_ref v) (K.store n v (ap (λ (x : Channels). constant_of x.store n) (sym is) ∙ here));
   inboxes = λ c i e at has. knows_on w w2 (message_below e.message) (K.inboxes c i e (ap (λ (x : Channels). slice_get x.inboxes c) (sym is) ∙ at) has);
 }
 
@@ -68,6 +70,7 @@ pub knows_both : (w w2 : Assembly) (k c : ℕ) (m2 : Member) (i2 : Inbox) → w2
     → ((e : Entry) → Contains i2.inside e → Knows (message_below e.message) (layout w)) → IsKnowing w → IsKnowing w2
 knows_both w w2 k c m2 i2 rs is M I K = record {
   ractors = λ j m at. member_on w w2 m (⊎_elim (λ same. subst (MemberKnows (layout w)) same M) (λ there. K.ractors j m there) (set_cases w.ractors k j m2 m (ap (λ xs. slice_get xs j) (sym rs) ∙ at)));
+  store = λ n v here. knows_on w w2 (below_ref v) (K.store n v (ap (λ (x : Channels). constant_of x.store n) (sym is) ∙ here));
   inboxes = λ d i e at has. knows_on w w2 (message_below e.message) (⊎_elim
       (λ same. I e (subst (λ (x : Inbox). Contains x.inside e) (sym same) has))
       (λ there. K.inboxes d i e there has)
@@ -78,6 +81,7 @@ knows_both w w2 k c m2 i2 rs is M I K = record {
 pub knows_told : (w w2 : Assembly) (c : ℕ) (i i2 : Inbox) → slice_get w.channels.inboxes c ≡ Some i → i2.inside ≡ i.inside → w2.ractors ≡ w.ractors → w2.channels ≡ with_inbox w.channels c i2 → IsKnowing w → IsKnowing w2
 knows_told w w2 c i i2 box inside rs is K = record {
   ractors = λ j m at. member_on w w2 m (K.ractors j m (ap (λ xs. slice_get xs j) (sym rs) ∙ at));
+  store = λ n v here. knows_on w w2 (below_ref v) (K.store n v (ap (λ (x : Channels). constant_of x.store n) (sym is) ∙ here));
   inboxes = λ d x e at has. knows_on w w2 (message_below e.message) (⊎_elim
       (λ same. K.inboxes c i e box (subst (λ xs. Contains xs e) inside (subst (λ (y : Inbox). Contains y.inside e) (sym same) has)))
       (λ there. K.inboxes d x e there has)

@@ -28,3 +28,4 @@ pub mod Hands
 pub mod Tables
 pub mod Detaching
 pub mod Returning
+pub mod Storing

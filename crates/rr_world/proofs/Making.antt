@@ -31,7 +31,7 @@ use Rattle.rr_world.specs.declared.step.Operand.TheVariants as operand
 use Rattle.rr_world.specs.declared.step.Action.{Action}
 use Rattle.rr_world.specs.declared.step.Action.TheVariants.{Freeze, Append, Push, Write, SetField}
 use Rattle.rr_world.specs.declared.step.Reply.{Reply}
-use Rattle.rr_world.specs.declared.step.Reply.TheVariants.{NotEnabled, Done, Offered, Empty, EmptyAndClosed, WasClosed, Refused, Started}
+use Rattle.rr_world.specs.declared.step.Reply.TheVariants.{NotEnabled, Done, Offered, Empty, EmptyAndClosed, WasClosed, Refused, Started, OfMain}
 use Rattle.rr_world.proofs.Enabled.{actor_at, allowed}
 use Rattle.rr_world.proofs.Fields.{set_renamed, field_values}
 use Rattle.rr_world.proofs.Insides.{set_again, same_assembly}
@@ -260,6 +260,7 @@ frozen_by w w2 who k m m2 op Empty at rs is stands a = absurd a
 frozen_by w w2 who k m m2 op EmptyAndClosed at rs is stands a = absurd a
 frozen_by w w2 who k m m2 op (WasClosed b) at rs is stands a = absurd a
 frozen_by w w2 who k m m2 op (Started j) at rs is stands a = absurd a
+frozen_by w w2 who k m m2 op OfMain at rs is stands a = absurd a
 
 -- whatever an append answers
 pub appended_by : (w w2 : Assembly) (who : RactorNo) (k : ℕ) (m m2 : Member) (op : Operand) (byte : ℕ) (r : Reply) → slice_get w.ractors k ≡ Some m → w2.ractors ≡ slice_set w.ractors k m2 → w2.channels ≡ w.channels
@@ -279,6 +280,7 @@ appended_by w w2 who k m m2 op byte Empty at rs is stands a = absurd a
 appended_by w w2 who k m m2 op byte EmptyAndClosed at rs is stands a = absurd a
 appended_by w w2 who k m m2 op byte (WasClosed b) at rs is stands a = absurd a
 appended_by w w2 who k m m2 op byte (Started j) at rs is stands a = absurd a
+appended_by w w2 who k m m2 op byte OfMain at rs is stands a = absurd a
 
 -- whatever a push answers
 pub pushed_by : (w w2 : Assembly) (who : RactorNo) (k : ℕ) (m m2 : Member) (op value : Operand) (r : Reply) → slice_get w.ractors k ≡ Some m → w2.ractors ≡ slice_set w.ractors k m2 → w2.channels ≡ w.channels
@@ -318,6 +320,7 @@ pushed_by w w2 who k m m2 op value Empty at rs is stands a = absurd a
 pushed_by w w2 who k m m2 op value EmptyAndClosed at rs is stands a = absurd a
 pushed_by w w2 who k m m2 op value (WasClosed b) at rs is stands a = absurd a
 pushed_by w w2 who k m m2 op value (Started j) at rs is stands a = absurd a
+pushed_by w w2 who k m m2 op value OfMain at rs is stands a = absurd a
 
 -- whatever a write answers
 pub written_by : (w w2 : Assembly) (who : RactorNo) (k : ℕ) (m m2 : Member) (op : Operand) (i : ℕ) (value : Operand) (r : Reply) → slice_get w.ractors k ≡ Some m → w2.ractors ≡ slice_set w.ractors k m2 → w2.channels ≡ w.channels
@@ -349,6 +352,7 @@ written_by w w2 who k m m2 op i value Empty at rs is stands a = absurd a
 written_by w w2 who k m m2 op i value EmptyAndClosed at rs is stands a = absurd a
 written_by w w2 who k m m2 op i value (WasClosed b) at rs is stands a = absurd a
 written_by w w2 who k m m2 op i value (Started j) at rs is stands a = absurd a
+written_by w w2 who k m m2 op i value OfMain at rs is stands a = absurd a
 
 -- whatever setting a field answers
 pub set_by : (w w2 : Assembly) (who : RactorNo) (k : ℕ) (m m2 : Member) (op : Operand) (name : Sym) (value : Operand) (r : Reply) → slice_get w.ractors k ≡ Some m → w2.ractors ≡ slice_set w.ractors k m2 → w2.channels ≡ w.channels
@@ -388,3 +392,4 @@ set_by w w2 who k m m2 op name value Empty at rs is stands a = absurd a
 set_by w w2 who k m m2 op name value EmptyAndClosed at rs is stands a = absurd a
 set_by w w2 who k m m2 op name value (WasClosed b) at rs is stands a = absurd a
 set_by w w2 who k m m2 op name value (Started j) at rs is stands a = absurd a
+set_by w w2 who k m m2 op name value OfMain at rs is stands a = absurd a

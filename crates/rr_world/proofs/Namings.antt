@@ -1,6 +1,6 @@
 -- What new lists of names do to values, messages, ractors and inboxes.
 use Rattle.std.proofs.Common.{◌≡◌, ℕ, suc, ◌+◌, ◌<◌, List, [], ◌∷◌, ◌++◌, length, map, Bool, Option, Some, None, Contains, sym, ap, ◌∙◌, refl, arith}
-use Rattle.std.specs.Prelude.{slice_index}
+use Rattle.std.specs.Prelude.{slice_index, slice_set}
 use Rattle.std.specs.Option.{option_map}
 use Rattle.std.proofs.lemmas.List.{length-map}
 use Rattle.std.proofs.lemmas.Option.{slice_get_within}
@@ -20,8 +20,13 @@ use Rattle.rr_move.specs.declared.home.Home.{Home}
 use Rattle.rr_inbox.specs.Inboxes.{Inbox}
 use Rattle.rr_inbox.specs.declared.entry.Entry.{Entry}
 use Rattle.rr_world.specs.Views.{Member, Channels, AreAway, AreRootsWithin, with_inbox}
-use Rattle.rr_world.specs.States.{Parcel, Letter, Mailbox, Actor, Post, with_box}
-use Rattle.rr_world.specs.Readings.{value_in, root_in, parcel_in, shells_in, letter_in, mailbox_in, actor_in, post_in}
+use Rattle.rr_world.specs.States.{Parcel, Letter, Mailbox, Actor, Archive, Held, Post, with_box}
+use Rattle.rr_store.specs.Stores.{Store}
+use Rattle.rr_store.specs.declared.constant.ConstValue.{ConstValue}
+use Rattle.rr_store.specs.declared.constant.ConstValue.TheVariants.{Shareable}
+use Rattle.rr_store.specs.declared.constant.ConstValue.TheVariants as store
+use Rattle.rr_space.specs.Parts.{value_of}
+use Rattle.rr_world.specs.Readings.{value_in, root_in, parcel_in, shells_in, letter_in, mailbox_in, actor_in, post_in, public_value, constant_in, archive_in, each_from}
 use Rattle.rr_world.proofs.Lists.{each_same, each_set}
 
 -- clusters have the names that they had
@@ -97,17 +102,38 @@ pub mailbox_same : (names names2 : Naming) (c : ℕ) (i : Inbox) → ((e : Entry
 mailbox_same names names2 c i own shared =
     ap (λ ls. let b : Mailbox = record { inside = ls; closed = i.closed; next = i.next; history = i.history; limit = i.limit } in b) (letters_same names names2 c i.inside own shared)
 
+public_same : (names names2 : Naming) (v : Value) → KeepsShared names names2 → public_value names2 v ≡ public_value names v
+public_same names names2 (Plain i) shared = refl
+public_same names names2 (At (Own n)) shared = refl
+public_same names names2 (At (Published c p)) shared = ap (λ ns. At (Own (slice_index ns p))) (shared c)
+
+constant_same : (names names2 : Naming) (c : Option ConstValue) → KeepsShared names names2 → option_map (constant_in names2) c ≡ option_map (constant_in names) c
+constant_same names names2 None shared = refl
+constant_same names names2 (Some (Shareable v)) shared = ap (λ x. Some (Held x)) (public_same names names2 (value_of v) shared)
+constant_same names names2 (Some store.Own) shared = refl
+
+-- constants have the values that they had
+pub archive_same : (names names2 : Naming) (s : Store) → KeepsShared names names2 → archive_in names2 s ≡ archive_in names s
+archive_same names names2 s shared =
+    ap (λ cs. let a : Archive = record { constants = cs; history = s.history; limit = s.limit } in a)
+    (map_same (option_map (constant_in names2)) (option_map (constant_in names)) s.constants (λ c has. constant_same names names2 c shared))
+
+abbrev post_with : List Mailbox → Archive → Post
+post_with bs a = record { inboxes = bs; archive = a }
+
 -- what lies between ractors
 pub post_same : (names names2 : Naming) (x : Channels) → ((c u : ℕ) → names2 (Mail c u) ≡ names (Mail c u)) → KeepsShared names names2 → post_in names2 x ≡ post_in names x
 post_same names names2 x own shared =
-    ap (λ bs. let p : Post = record { inboxes = bs } in p) (each_same (mailbox_in names) (mailbox_in names2) 0 x.inboxes (λ j n i e at. mailbox_same names names2 n i (λ y has. own n y.ticket) shared))
+    ap (λ bs. post_with bs (archive_in names2 x.store)) (each_same (mailbox_in names) (mailbox_in names2) 0 x.inboxes (λ j n i e at. mailbox_same names names2 n i (λ y has. own n y.ticket) shared))
+    ∙ ap (post_with (each_from (mailbox_in names) 0 x.inboxes)) (archive_same names names2 x.store shared)
 
 -- and with another inbox in one's place
 pub post_set : (names names2 : Naming) (x : Channels) (c : ℕ) (i : Inbox) → ((d u : ℕ) → (d ≡ c → ⊥) → names2 (Mail d u) ≡ names (Mail d u)) → KeepsShared names names2
     → post_in names2 (with_inbox x c i) ≡ with_box (post_in names x) c (mailbox_in names2 c i)
 post_set names names2 x c i own shared =
-    ap (λ bs. let p : Post = record { inboxes = bs } in p)
+    ap (λ bs. post_with bs (archive_in names2 x.store))
     (each_set (mailbox_in names) (mailbox_in names2) 0 x.inboxes c c i (omega arith) (λ j n y differ e at. mailbox_same names names2 n y (λ z has. own n z.ticket (λ same. differ (omega arith))) shared))
+    ∙ ap (post_with (slice_set (each_from (mailbox_in names) 0 x.inboxes) c (mailbox_in names2 c i))) (archive_same names names2 x.store shared)
 
 -- ---- A table that went behind another's.
 

@@ -52,7 +52,7 @@ module _ (w w2 : Assembly) (who to : RactorNo) (k c : ℕ) (m : Member) (i i2 : 
     ractors = same.ractors;
     post = same.post
         ∙ ap (with_box (post_in names w.channels) c) (told_box names c i i2 [] t ∙ ap (λ es. box_with (map (letter_in names c) i.inside) i.closed i.next es i.limit) (append-nil i.history))
-        ∙ ap (λ bs. let q : Post = record { inboxes = bs } in q) (set_back (each_from (mailbox_in names) 0 w.channels.inboxes) c (mailbox_in names c i) (mailbox_at w names g c i box));
+        ∙ ap (λ bs. let q : Post = record (post_in names w.channels) { inboxes = bs } in q) (set_back (each_from (mailbox_in names) 0 w.channels.inboxes) c (mailbox_in names c i) (mailbox_at w names g c i box));
   }
 
   on_closed : (names : Naming) (g : Objects) → IsTold i i2 (event.Refused (size_of p) who ∷ [])

@@ -9,7 +9,7 @@ use Rattle.rr_space.specs.declared.refer.Ref.{Ref}
 use Rattle.rr_space.specs.declared.refer.Ref.TheVariants.{Nil, Truth, Int, Symbol, Class, Ractor, Local, Shared}
 use Rattle.rr_world.specs.Views.{AreRootsWithin}
 
-within_more : (k n : ℕ) (r : Ref) → k ≤ n → IsWithin k r → IsWithin n r
+pub within_more : (k n : ℕ) (r : Ref) → k ≤ n → IsWithin k r → IsWithin n r
 within_more k n Nil le w = w
 within_more k n (Truth x) le w = w
 within_more k n (Int x) le w = w

@@ -14,11 +14,13 @@ use Rattle.rr_space.specs.Steps.{Remakes, IsRemade, IsNamed}
 use Rattle.rr_space.proofs.Frames.{owner_cases}
 use Rattle.rr_space.proofs.Remaking.{remaking_is_a_step}
 use Rattle.rr_space.proofs.Sounds.{none_in}
+use Rattle.rr_space.specs.Parts.{below_ref}
 use Rattle.rr_inbox.specs.Inboxes.{Inbox, new_inbox}
+use Rattle.rr_store.specs.Stores.{constant_of}
 use Rattle.rr_world.specs.Views.{Member, Channels, Assembly}
 use Rattle.rr_world.specs.Layouts.{layout, space_slots, hand_slots, inbox_slots, message_slots, message_below, MemberKnows, IsKnowing, AreOwned, HaveInboxes, IsRead}
 use Rattle.rr_world.specs.States.{Actor, Post}
-use Rattle.rr_world.specs.Readings.{each_from, actor_in, shells_in, mailbox_in, parcel_in, root_in, post_in, state_in}
+use Rattle.rr_world.specs.Readings.{each_from, actor_in, archive_in, shells_in, mailbox_in, parcel_in, root_in, post_in, state_in}
 use Rattle.rr_world.specs.Cases.{StandsAt, IsStarted, new_actor, new_mailbox}
 use Rattle.rr_world.specs.Starting.{IsBegun}
 use Rattle.rr_world.specs.Runs.{IsStep}
@@ -27,7 +29,7 @@ use Rattle.rr_world.specs.declared.step.Reply.TheVariants.{Started, Refused}
 use Rattle.rr_world.proofs.Enabled.{actor_at}
 use Rattle.rr_world.proofs.Knowing.{knows_on, member_on}
 use Rattle.rr_world.proofs.Lists.{each_same}
-use Rattle.rr_world.proofs.Namings.{actor_same, same_actor, mailbox_same}
+use Rattle.rr_world.proofs.Namings.{actor_same, same_actor, archive_same, mailbox_same}
 use Rattle.rr_world.proofs.Staying.{stays, same_state}
 
 -- what stands in a list with one more
@@ -66,7 +68,7 @@ each_append : {A B : Type 0} (f : ℕ → A → B) (k n : ℕ) (xs : List A) (y 
 each_append f k n [] y e = ap (λ i. f i y ∷ []) (let w : k ≡ n = omega arith in w)
 each_append f k n (x ∷ xs) y e = ap (λ ys. f k x ∷ ys) (each_append f (k + 1) n xs y (omega arith))
 
-module _ (w w2 : Assembly) (limits : Limits) (m2 : Member) (A : IsBegun limits (length w.ractors + 1) m2) (rs : w2.ractors ≡ w.ractors ++ m2 ∷ []) (is : w2.channels ≡ record { inboxes = w.channels.inboxes ++ new_inbox limits.events ∷ [] }) where
+module _ (w w2 : Assembly) (limits : Limits) (m2 : Member) (A : IsBegun limits (length w.ractors + 1) m2) (rs : w2.ractors ≡ w.ractors ++ m2 ∷ []) (is : w2.channels ≡ record w.channels { inboxes = w.channels.inboxes ++ new_inbox limits.events ∷ [] }) where
   abbrev place : ℕ
   place = length w.ractors
 
@@ -146,7 +148,8 @@ module _ (w w2 : Assembly) (limits : Limits) (m2 : Member) (A : IsBegun limits (
           (N.rest (Hand i) (λ z. let y : ⊥ = cc in y)) kept_shared))
           ∙ ap (λ x. each_from (actor_in names) 0 w.ractors ++ x ∷ []) (new_one ∙ ap new_actor (sym same));
       post = ap (post_in names2) is
-          ∙ ap (λ bs. let q : Post = record { inboxes = bs } in q) (
+          ∙ ap (λ a. let q : Post = record { inboxes = each_from (mailbox_in names2) 0 (w.channels.inboxes ++ new_inbox limits.events ∷ []); archive = a } in q) (archive_same names names2 w.channels.store kept_shared)
+          ∙ ap (λ bs. let q : Post = record { inboxes = bs; archive = archive_in names w.channels.store } in q) (
           each_append (mailbox_in names2) 0 (length w.channels.inboxes) w.channels.inboxes (new_inbox limits.events) (omega arith)
           ∙ ap (λ xs. xs ++ mailbox_in names2 (length w.channels.inboxes) (new_inbox limits.events) ∷ []) (each_same (mailbox_in names) (mailbox_in names2) 0 w.channels.inboxes
           (λ j i x e at. mailbox_same names names2 i x (λ y has. N.rest (Mail i y.ticket) (λ z. let f : ⊥ = cc in f)) kept_shared))
@@ -166,6 +169,7 @@ module _ (w w2 : Assembly) (limits : Limits) (m2 : Member) (A : IsBegun limits (
   more_knows : IsKnowing w → IsKnowing w2
   more_knows K = record {
     ractors = λ j m at. member_on w w2 m (⊎_elim (λ old. K.ractors j m old) (λ new. subst (MemberKnows (layout w)) new.1 (begun_knows (layout w))) (last_cases w.ractors m2 j m (ap (λ xs. slice_get xs j) (sym rs) ∙ at)));
+    store = λ n v here. knows_on w w2 (below_ref v) (K.store n v (ap (λ (x : Channels). constant_of x.store n) (sym is) ∙ here));
     inboxes = λ c i e at has. knows_on w w2 (message_below e.message) (⊎_elim
         (λ old. K.inboxes c i e old has)
         (λ new. absurd (none_in e (subst (λ (x : Inbox). Contains x.inside e) (sym new.1) has)))

@@ -6,14 +6,18 @@ use Rattle.rr_base.specs.declared.fault.Fault.TheVariants as fault
 use Rattle.rr_base.specs.declared.limits.Limits.{Limits}
 use Rattle.rr_base.specs.declared.limits.LimitKind.TheVariants as kind
 use Rattle.rr_base.specs.declared.event.InboxEvent.TheVariants as event
-use Rattle.rr_space.specs.Graph.{Kind, Object, text, array, plain, shell, Label, Place, Field, KeyAt, ValueAt, Message, Cause, Ractor, Name, Own, Value, Plain, At, Nil, Truth, Integer, SymbolNo, ClassNo, RactorNo, Reaches, IsShareable, IsFreeOfShells}
+use Rattle.rr_space.specs.Graph.{Kind, Object, text, array, plain, shell, Label, Place, Field, KeyAt, ValueAt, Message, Cause, Ractor, Name, Own, Published, Value, Plain, At, Nil, Truth, Integer, SymbolNo, ClassNo, RactorNo, Reaches, IsShareable, IsFreeOfShells}
 use Rattle.rr_space.specs.Readings.{Space, Hand, Mail, Owned, Objects, IsShared, whole}
 use Rattle.rr_share.specs.Search.{LeadsToShell}
 use Rattle.rr_space.specs.Steps.{IsHandedOn, IsDropped, IsCopied, IsMoved, IsUndone, IsChange}
-use Rattle.rr_world.specs.States.{Parcel, Letter, Mailbox, Actor, State, IsSame, with_box}
+use Rattle.rr_world.specs.States.{Parcel, Letter, Mailbox, Actor, Archive, Constant, Held, State, IsSame, constant_at, with_box}
+use Rattle.rr_world.specs.States as constant
+use Rattle.rr_base.specs.declared.event.StoreEvent.{StoreEvent}
+use Rattle.rr_base.specs.declared.event.StoreEvent.TheVariants as store
+use Rattle.rr_base.specs.declared.name.Sym.{Sym}
 use Rattle.rr_world.specs.declared.step.Action.{Action}
 use Rattle.rr_space.specs.Labels.{label_of, IsFirstUnder}
-use Rattle.rr_world.specs.declared.step.Action.TheVariants.{Alloc, Pack, Discard, Offer, Accept, Open, Close, Freeze, Append, Push, Write, SetField, Read, Start, Detach, PutBack}
+use Rattle.rr_world.specs.declared.step.Action.TheVariants.{Alloc, Pack, Discard, Offer, Accept, Open, Close, Freeze, Append, Push, Write, SetField, Read, Start, Detach, PutBack, SetConst, SetOwn, GetConst}
 use Rattle.rr_base.specs.declared.name.TheConstants.ClassId.{ARRAY, STRING}
 use Rattle.rr_world.specs.declared.step.NewObject.{NewObject}
 use Rattle.rr_world.specs.declared.step.NewObject.TheVariants as new
@@ -21,7 +25,7 @@ use Rattle.rr_world.specs.declared.step.Operand.{Operand}
 use Rattle.rr_world.specs.declared.step.Operand.TheVariants as operand
 use Rattle.rr_world.specs.declared.step.Step.{Step}
 use Rattle.rr_world.specs.declared.step.Reply.{Reply}
-use Rattle.rr_world.specs.declared.step.Reply.TheVariants.{NotEnabled, Done, Offered, Empty, EmptyAndClosed, WasClosed, Refused, Started}
+use Rattle.rr_world.specs.declared.step.Reply.TheVariants.{NotEnabled, Done, Offered, Empty, EmptyAndClosed, WasClosed, Refused, Started, OfMain}
 
 -- ---- Which steps are enabled.
 
@@ -77,6 +81,12 @@ HasElement i o = IsOpen array o × (i < length o.triples)
 abbrev pub IsValue : Actor → Operand → Type 0
 IsValue a op = (x : Value) × (named_value a.roots op ≡ Some x)
 
+-- the value is an immediate or Shared
+abbrev pub IsPublicValue : Objects → Value → Type 0
+IsPublicValue g (Plain i) = Unit {0}
+IsPublicValue g (At (Own n)) = (y : Owned) × (g n ≡ Some y) × IsShared y.owner
+IsPublicValue g (At (Published c p)) = ⊥
+
 -- each shareable object that the value leads to is Shared
 abbrev pub AreShareablesShared : Objects → Value → Type 0
 AreShareablesShared g x = (n : ℕ) (y : Owned) → Reaches (whole g) x (Own n) → g n ≡ Some y → IsShareable (whole g) (At (Own n)) → IsShared y.owner
@@ -110,6 +120,9 @@ Allows s who a (Push op x) = MayChange s who a op (IsOpen array) × IsValue a x
 Allows s who a (Write op i x) = MayChange s who a op (HasElement i) × IsValue a x
 Allows s who a (SetField op name x) = MayChange s who a op (IsOpen plain) × IsValue a x
 Allows s who a Start = Unit {0}
+Allows s who a (SetConst name op) = (x : Value) × (named_value a.roots op ≡ Some x) × IsPublicValue s.objects x
+Allows s who a (SetOwn name) = Unit {0}
+Allows s who a (GetConst name) = Unit {0}
 Allows s who a (Read op l) = (n : ℕ) × (y : Owned) × (x : Value) × (named_value a.roots op ≡ Some (At (Own n))) × (s.objects n ≡ Some y) × Contains y.object.triples (label_of l, x)
 
 -- the ractor runs, and may do this now
@@ -209,7 +222,7 @@ pub record IsStarted (number : Number) (a : Actor) (s t : State) : Type 0 where
   pub next : StandsAt number (length s.ractors)
   pub objects : (n : ℕ) → t.objects n ≡ s.objects n
   pub ractors : t.ractors ≡ s.ractors ++ new_actor a.limits ∷ []
-  pub post : t.post ≡ record { inboxes = s.post.inboxes ++ new_mailbox a.limits ∷ [] }
+  pub post : t.post ≡ record s.post { inboxes = s.post.inboxes ++ new_mailbox a.limits ∷ [] }
 
 -- a refused start: a growth was refused, or there are as many ractors as may be; all is as it was
 abbrev pub IsStartRefused : Actor → Fault → State → State → Type 0
@@ -311,6 +324,52 @@ pub record IsClosedBy (who : Number) (c : ℕ) (b : Mailbox) (already : Bool) (s
   pub ractors : t.ractors ≡ s.ractors
   pub post : t.post ≡ with_box s.post c (record b { closed = true; history = b.history ++ cond b.closed [] (event.Closed who ∷ []) })
 
+-- the history of the store has room for another event
+abbrev pub HasStoreRoom : Archive → Type 0
+HasStoreRoom a = length a.history + 1 ≤ a.limit
+
+-- the main ractor is number 1
+abbrev pub IsMain : Number → Type 0
+IsMain who = who.0 ≡ 1
+
+-- set: the constant has this, all others stay, and the history tells of it
+pub record IsConstantSet (n : ℕ) (c : Constant) (e : StoreEvent Sym) (s t : State) : Type 0 where
+  pub room : HasStoreRoom s.post.archive
+  pub here : constant_at t.post.archive n ≡ Some c
+  pub others : (m : ℕ) → (m ≡ n → ⊥) → constant_at t.post.archive m ≡ constant_at s.post.archive m
+  pub history : t.post.archive.history ≡ s.post.archive.history ++ e ∷ []
+  pub limit : t.post.archive.limit ≡ s.post.archive.limit
+  pub inboxes : t.post.inboxes ≡ s.post.inboxes
+  pub objects : (m : ℕ) → t.objects m ≡ s.objects m
+  pub ractors : t.ractors ≡ s.ractors
+
+-- a refused set: the history had no room, or a growth was refused, or another than the main ractor set a value of its own; all is
+-- as it was
+abbrev pub IsSetRefused : Fault → State → State → Type 0
+IsSetRefused fault.HistoryFull s t = (HasStoreRoom s.post.archive → ⊥) × IsSame s t
+IsSetRefused fault.Memory s t = HasStoreRoom s.post.archive × IsSame s t
+IsSetRefused _ s t = ⊥
+
+abbrev pub IsSetOwnRefused : Number → Fault → State → State → Type 0
+IsSetOwnRefused who fault.HistoryFull s t = (HasStoreRoom s.post.archive → ⊥) × IsSame s t
+IsSetOwnRefused who fault.Memory s t = HasStoreRoom s.post.archive × IsSame s t
+IsSetOwnRefused who fault.NotShareable s t = HasStoreRoom s.post.archive × (IsMain who → ⊥) × IsSame s t
+IsSetOwnRefused who _ s t = ⊥
+
+-- get: the value of the constant joins the roots
+pub record IsGot (k : ℕ) (a : Actor) (n : ℕ) (x : Value) (s t : State) : Type 0 where
+  pub here : constant_at s.post.archive n ≡ Some (Held x)
+  pub objects : (m : ℕ) → t.objects m ≡ s.objects m
+  pub ractors : t.ractors ≡ slice_set s.ractors k (record a { roots = a.roots ++ x ∷ [] })
+  pub post : t.post ≡ s.post
+
+-- a refused get: the constant is the main ractor's own, or has nothing, or a growth was refused; all is as it was
+abbrev pub IsGetRefused : Number → Sym → Fault → State → State → Type 0
+IsGetRefused who name fault.NotMain s t = (constant_at s.post.archive name.0 ≡ Some constant.Own) × (IsMain who → ⊥) × IsSame s t
+IsGetRefused who name (fault.Unknown n) s t = (n ≡ name) × (constant_at s.post.archive name.0 ≡ None) × IsSame s t
+IsGetRefused who name fault.Memory s t = ((x : Value) × (constant_at s.post.archive name.0 ≡ Some (Held x))) × IsSame s t
+IsGetRefused who name _ s t = ⊥
+
 -- the inbox of this number, in a clause of its own
 abbrev pub InboxIs : State → Number → ℕ → Mailbox → Type 0
 InboxIs s to c b = StandsAt to c × (slice_get s.post.inboxes c ≡ Some b)
@@ -341,6 +400,13 @@ Effect who k a (Push op x) (Refused f) s t = IsMemoryRefused f s t
 Effect who k a (Write op i x) Done s t = (y : Value) × (named_value a.roots x ≡ Some y) × IsMade k a op (HasElement i) (written i y) s t
 Effect who k a (SetField op name x) Done s t = (y : Value) × (named_value a.roots x ≡ Some y) × IsMade k a op (IsOpen plain) (with_field name.0 y) s t
 Effect who k a (SetField op name x) (Refused f) s t = IsMemoryRefused f s t
+Effect who k a (SetConst name op) Done s t = (x : Value) × (named_value a.roots op ≡ Some x) × IsConstantSet name.0 (Held x) (store.Shared name who) s t
+Effect who k a (SetConst name op) (Refused f) s t = IsSetRefused f s t
+Effect who k a (SetOwn name) Done s t = IsMain who × IsConstantSet name.0 constant.Own (store.Own name who) s t
+Effect who k a (SetOwn name) (Refused f) s t = IsSetOwnRefused who f s t
+Effect who k a (GetConst name) Done s t = (x : Value) × IsGot k a name.0 x s t
+Effect who k a (GetConst name) OfMain s t = (constant_at s.post.archive name.0 ≡ Some constant.Own) × IsMain who × IsSame s t
+Effect who k a (GetConst name) (Refused f) s t = IsGetRefused who name f s t
 Effect who k a Start (Started number) s t = IsStarted number a s t
 Effect who k a Start (Refused f) s t = IsStartRefused a f s t
 Effect who k a (Read op l) Done s t = IsReadAs k a op (label_of l) s t

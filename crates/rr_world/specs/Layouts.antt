@@ -5,6 +5,9 @@ use Rattle.rr_space.specs.Tables.{Packed, Slot, Here, Below, joined}
 use Rattle.rr_space.specs.Readings.{Space, Hand, Mail, Shared, Layout, Knows, Naming, Objects, IsReading}
 use Rattle.rr_space.specs.Parts.{below_ref}
 use Rattle.rr_space.specs.declared.refer.Ref.{Ref}
+use Rattle.rr_base.specs.declared.name.Sym.{Sym}
+use Rattle.rr_store.specs.Stores.{constant_of}
+use Rattle.rr_store.specs.declared.constant.ConstValue.TheVariants.{Shareable}
 use Rattle.rr_inbox.specs.Inboxes.{Inbox}
 use Rattle.rr_inbox.specs.declared.entry.Entry.{Entry}
 use Rattle.rr_world.specs.Views.{Member, Assembly}
@@ -43,9 +46,10 @@ pub record MemberKnows (tables : Layout) (m : Member) : Type 0 where
   pub roots : (r : Ref) → Contains m.roots r → Knows (below_ref r) tables
   pub hand : (p : Packed) → m.hand ≡ Some p → Knows (message_below p) tables
 
--- the same of each ractor and of each message in an inbox
+-- the same of each ractor, of each constant and of each message in an inbox
 pub record IsKnowing (w : Assembly) : Type 0 where
   pub ractors : (k : ℕ) (m : Member) → slice_get w.ractors k ≡ Some m → MemberKnows (layout w) m
+  pub store : (n : Sym) (v : Ref) → constant_of w.channels.store n ≡ Some (Shareable v) → Knows (below_ref v) (layout w)
   pub inboxes : (c : ℕ) (i : Inbox) (e : Entry) → slice_get w.channels.inboxes c ≡ Some i → Contains i.inside e → Knows (message_below e.message) (layout w)
 
 -- each ractor's space has the ractor's number, so that its messages tell who sent them

@@ -10,3 +10,4 @@ pub mod Allocating
 pub mod Changing
 pub mod Starting
 pub mod Moving
+pub mod Getting

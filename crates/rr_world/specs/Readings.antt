@@ -1,17 +1,21 @@
 -- A World read as a state of the graph machine, under names.
 use Rattle.std.specs.Prelude.{ℕ, ◌+◌, List, [], ◌∷◌, length, map, slice_index}
 use Rattle.std.specs.Option.{option_map}
-use Rattle.rr_space.specs.Graph.{Value}
+use Rattle.rr_space.specs.Graph.{Value, Plain, At, Own, Published}
 use Rattle.rr_space.specs.Parts.{value_of}
 use Rattle.rr_space.specs.Tables.{Packed, renamed}
-use Rattle.rr_space.specs.Readings.{Owner, Space, Hand, Mail, Objects, Naming, name_in}
+use Rattle.rr_space.specs.Readings.{Owner, Space, Hand, Mail, Shared, Objects, Naming, name_in}
 use Rattle.rr_space.specs.declared.refer.Ref.{Ref}
 use Rattle.rr_copy.specs.Messages.{size_of}
 use Rattle.rr_move.specs.declared.home.Home.{Home}
 use Rattle.rr_inbox.specs.Inboxes.{Inbox}
 use Rattle.rr_inbox.specs.declared.entry.Entry.{Entry}
 use Rattle.rr_world.specs.Views.{Member, Channels, Assembly}
-use Rattle.rr_world.specs.States.{Parcel, Letter, Mailbox, Actor, Post, State}
+use Rattle.rr_world.specs.States.{Parcel, Letter, Mailbox, Actor, Archive, Constant, Held, Post, State}
+use Rattle.rr_world.specs.States as constant
+use Rattle.rr_store.specs.Stores.{Store}
+use Rattle.rr_store.specs.declared.constant.ConstValue.{ConstValue}
+use Rattle.rr_store.specs.declared.constant.ConstValue.TheVariants as store
 
 -- each element with its place, the first of them with k
 abbrev pub each_from : {A B : Type 0} → (ℕ → A → B) → ℕ → List A → List B
@@ -48,8 +52,21 @@ actor_in names k r = record {
   limits = r.limits;
 }
 
+-- a value of a constant: an immediate, or a place of a cluster
+abbrev pub public_value : Naming → Value → Value
+public_value names (Plain i) = Plain i
+public_value names (At (Own n)) = At (Own n)
+public_value names (At (Published c p)) = At (Own (slice_index (names (Shared c)) p))
+
+abbrev pub constant_in : Naming → ConstValue → Constant
+constant_in names (store.Shareable v) = Held (public_value names (value_of v))
+constant_in names store.Own = constant.Own
+
+abbrev pub archive_in : Naming → Store → Archive
+archive_in names s = record { constants = map (option_map (constant_in names)) s.constants; history = s.history; limit = s.limit }
+
 abbrev pub post_in : Naming → Channels → Post
-post_in names x = record { inboxes = each_from (mailbox_in names) 0 x.inboxes }
+post_in names x = record { inboxes = each_from (mailbox_in names) 0 x.inboxes; archive = archive_in names x.store }
 
 -- the state that a World is under a naming and a whole graph
 abbrev pub state_in : Assembly → Naming → Objects → State

@@ -1,5 +1,8 @@
 -- The state of the graph machine.
-use Rattle.std.specs.Prelude.{◌≡◌, ℕ, Bool, List, Option, slice_set}
+use Rattle.std.specs.Prelude.{◌≡◌, ℕ, Bool, List, Option, slice_get, slice_set}
+use Rattle.std.specs.Option.{option_and_then}
+use Rattle.rr_base.specs.declared.name.Sym.{Sym}
+use Rattle.rr_base.specs.declared.event.StoreEvent.{StoreEvent}
 use Rattle.rr_base.specs.declared.limits.Limits.{Limits}
 use Rattle.rr_base.specs.declared.event.InboxEvent.{InboxEvent}
 use Rattle.rr_space.specs.Graph.{Value}
@@ -38,9 +41,27 @@ pub record Actor : Type 0 where
   pub next : ℕ
   pub limits : Limits
 
--- what lies between ractors: their inboxes, by number
+-- what a constant has: a value that all ractors may have, or one that the main ractor keeps itself
+pub data Constant : Type 0 where
+  Held : (value : Value) → Constant
+  Own : Constant
+
+-- the store: what each constant has, by the number of its name, and what happened with its limit
+pub record Archive : Type 0 where
+  pub constants : List (Option Constant)
+  pub history : List (StoreEvent Sym)
+  pub limit : ℕ
+
+abbrev pub itself : Option Constant → Option Constant
+itself c = c
+
+abbrev pub constant_at : Archive → ℕ → Option Constant
+constant_at a n = option_and_then itself (slice_get a.constants n)
+
+-- what lies between ractors: their inboxes, by number, and the store
 pub record Post : Type 0 where
   pub inboxes : List Mailbox
+  pub archive : Archive
 
 -- the same, with another inbox in one's place
 abbrev pub with_box : Post → ℕ → Mailbox → Post

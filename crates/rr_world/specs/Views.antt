@@ -5,7 +5,9 @@ use Rattle.rr_space.specs.Tables.{Table, Packed, Slot, Here}
 use Rattle.rr_space.specs.Views.{emptied}
 use Rattle.rr_space.specs.Parts.{IsWithin}
 use Rattle.rr_space.specs.declared.refer.Ref.{Ref}
+use Rattle.rr_space.specs.declared.refer.Ref.TheVariants.{Nil, Truth, Int, Symbol, Class, Ractor, Local, Shared}
 use Rattle.rr_inbox.specs.Inboxes.{Inbox}
+use Rattle.rr_store.specs.Stores.{Store}
 use Rattle.rr_move.specs.declared.home.Home.{Home}
 use Rattle.rr_move.specs.declared.hand.Hand.{Hand}
 use Rattle.rr_move.specs.declared.hand.Hand.TheVariants.{Empty, Planned, Published, Message, Moved, Shown}
@@ -44,18 +46,30 @@ AreAway slots hand None = Unit {0}
 AreAway slots None (Some h) = ⊥
 AreAway slots (Some p) (Some h) = IsAway slots p h
 
--- what ractors hand messages on by: their inboxes, by number
+-- what lies between ractors: their inboxes, by number, and the store
 pub record Channels : Type 0 where
   pub inboxes : List Inbox
+  pub store : Store
 
--- the channels, with another inbox in one's place
+-- the same, with another inbox in one's place
 abbrev pub with_inbox : Channels → ℕ → Inbox → Channels
 with_inbox x c i = record x { inboxes = slice_set x.inboxes c i }
 
--- the ractors, by number, and their channels: number 1 stands first
+-- the ractors, by number, and what lies between them: number 1 stands first
 pub record Assembly : Type 0 where
   pub ractors : List Member
   pub channels : Channels
+
+-- the reference is no object
+abbrev pub IsImmediate : Ref → Type 0
+IsImmediate Nil = Unit {0}
+IsImmediate (Truth b) = Unit {0}
+IsImmediate (Int z) = Unit {0}
+IsImmediate (Symbol s) = Unit {0}
+IsImmediate (Class c) = Unit {0}
+IsImmediate (Ractor r) = Unit {0}
+IsImmediate (Local n) = ⊥
+IsImmediate (Shared place cluster) = ⊥
 
 -- each root leads to a slot of the space or to a place that its cluster has
 abbrev pub AreRootsWithin : ℕ → List Ref → Type 0

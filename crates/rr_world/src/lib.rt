@@ -2,6 +2,7 @@
 #![tactic(auto)]
 
 mod changing;
+mod constants;
 mod moving;
 mod packing;
 mod ractor;

@@ -9,7 +9,9 @@ ghost use Rattle.rr_world.specs.Allocating.{Allocs};
 ghost use Rattle.rr_world.specs.Cases.{new_object};
 ghost use Rattle.rr_world.specs.Opening.{Opened};
 ghost use Rattle.rr_world.specs.Packing.{Packs, named_ref};
-ghost use Rattle.rr_world.specs.Views.{AreAway, IsFree};
+ghost use Rattle.rr_world.specs.Views.{AreAway, IsFree, IsImmediate};
+ghost use Rattle.rr_world.specs.Getting.{Joins};
+ghost use Rattle.rr_space.specs.declared.refer.Ref.{Ref};
 ghost use Rattle.rr_move.specs.Homes.{IsHomeOf};
 
 use crate::packing::copy_of;
@@ -130,6 +132,32 @@ impl Ractor {
                 Some(self.roots[place])
             }
         }
+    }
+
+    /// The value that an operand names, where it is no object.
+    pub(crate) fn immediate(&self, operand: Operand) -> Option<Ref>
+        ensures some { IfSome result (λ value. (named_ref self.now.roots operand ≡ Some value) × IsImmediate value) }
+        ensures none { IfNone result ((value : Ref) → named_ref self.now.roots operand ≡ Some value → (IsImmediate value → ⊥) × IsWithin (length self.now.space.slots) value) }
+    {
+        let Some(value) = self.named(operand) else {
+            return None;
+        };
+        match value {
+            Ref::Local(_) | Ref::Shared(_, _) => None,
+            _ => Some(value),
+        }
+    }
+
+    /// A value that was got comes last in the roots.
+    pub(crate) fn join(&mut self, value: Ref) -> Reply
+        requires { IsWithin (length self.old.space.slots) value }
+        ensures { Joins value result self.old self.new }
+    {
+        if self.roots.reserve(1).is_err() {
+            return Reply::Refused(Fault::Memory);
+        }
+        self.roots.push_reserved(value);
+        Reply::Done
     }
 
     /// A new object in the space, which comes last in the roots.

@@ -62,6 +62,12 @@ pub enum Action {
     Detach(Operand),
     /// The moved message in the hand comes back into its home: the shells are again what left them.
     PutBack,
+    /// A constant is set to a value, which is an immediate or a published object.
+    SetConst(Sym, Operand),
+    /// A constant is set to a value that the main ractor keeps itself.
+    SetOwn(Sym),
+    /// The value of a constant comes last in the ractor's roots.
+    GetConst(Sym),
 }
 
 /// One step of a ractor.
@@ -90,4 +96,6 @@ pub enum Reply {
     Started(RactorNo),
     /// The step was refused.
     Refused(Fault),
+    /// The main ractor keeps the value of the constant itself, and this is the main ractor.
+    OfMain,
 }

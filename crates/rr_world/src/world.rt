@@ -12,15 +12,17 @@ use rr_base::{Fault, LimitKind, Limits, RactorNo, Sym};
 use rr_inbox::{Front, InboxState};
 use rr_move::shown_by_moving;
 use rr_space::Label;
+use rr_store::StoreState;
 use std::alloc::Global;
 use std::marker::Model;
 
-/// Ractors with their spaces, roots and hands, and apart from them their inboxes.
+/// Ractors with their spaces, roots and hands, and apart from them their inboxes and the store.
 #[derive(Drop)]
 pub struct World {
     // By their numbers, the main ractor, which is number 1, first.
-    ractors: Vec<Ractor>,
+    pub(crate) ractors: Vec<Ractor>,
     inboxes: Vec<InboxState>,
+    pub(crate) store: StoreState,
 }
 
 impl Model for World {
@@ -28,7 +30,7 @@ impl Model for World {
 
     ghost Value = { Assembly };
 
-    ghost view = { λ w. record { ractors = w.ractors.items; channels = record { inboxes = w.inboxes.items } } };
+    ghost view = { λ w. record { ractors = w.ractors.items; channels = record { inboxes = w.inboxes.items; store = w.store } } };
 }
 
 // The place of a ractor, or of its inbox, among so many.
@@ -53,7 +55,12 @@ impl World {
         let mut inboxes = Vec::new(alloc);
         ractors.push(Ractor::new(alloc, RactorNo(1), limits))?;
         inboxes.push(InboxState::new(alloc, limits.events)?)?;
-        Ok(World { ractors, inboxes })
+        let store = StoreState::new(alloc, limits.events);
+        Ok(World {
+            ractors,
+            inboxes,
+            store,
+        })
     }
 
     // A new object comes into the ractor's space.
@@ -297,6 +304,9 @@ impl World {
             Action::Accept => self.accept(who, place),
             Action::Open => self.open(who, place),
             Action::Start => self.start(alloc, who, place),
+            Action::SetConst(name, value) => self.set_const(who, place, name, value),
+            Action::SetOwn(name) => self.set_own(who, place, name),
+            Action::GetConst(name) => self.get_const(who, place, name),
             Action::Freeze(object) => self.freeze(who, place, object),
             Action::Append(text, byte) => self.append(who, place, text, byte),
             Action::Push(array, value) => self.push(who, place, array, value),

@@ -1,7 +1,7 @@
 use Rattle.std.proofs.Common.{◌≡◌, ◌++◌, ◌∷◌, [], List, length, inl, inr, sym, ap, ◌∙◌, refl, arith}
 use Rattle.rr_inbox.specs.Inboxes.{Inbox}
 use Rattle.rr_world.specs.Views.{Assembly, Member}
-use Rattle.rr_world.proofs.Insides.{channels, read_at, same_assembly}
+use Rattle.rr_world.proofs.Insides.{channels, channels_same, read_at, same_assembly}
 use Rattle.rr_world.proofs.Starting.{begun, start_refused}
 use Rattle.rr_world.proofs.world.World.start.Goals as goal
 
@@ -29,7 +29,7 @@ returns-then-is_err c =
     let is : c.self.inside.inboxes.items ≡ w.channels.inboxes = ap (λ (v : Assembly). v.channels.inboxes) c.self.view_is in
     start_refused w _ c.args.who c.args.place c.index.result.now _
     (read_at c.self.inside.ractors.items w.ractors c.args.place c.index.result.now vs c.requires.within c.index.ensures)
-    (same_assembly c.reserve.new.self.items w.ractors (channels c.self.inside.inboxes.items) w.channels (c.reserve.ensures.items ∙ vs) (ap channels is)) c.requires.stands (inl refl)
+    (same_assembly c.reserve.new.self.items w.ractors (channels c.self.inside.store c.self.inside.inboxes.items) w.channels (c.reserve.ensures.items ∙ vs) (channels_same (ap (λ (v : Assembly). v.channels.store) c.self.view_is) is)) c.requires.stands (inl refl)
 
 pub returns-then-is_err-2 : goal.returns-then-is_err-2
 returns-then-is_err-2 c =
@@ -38,7 +38,7 @@ returns-then-is_err-2 c =
     let is : c.self.inside.inboxes.items ≡ w.channels.inboxes = ap (λ (v : Assembly). v.channels.inboxes) c.self.view_is in
     start_refused w _ c.args.who c.args.place c.index.result.now _
     (read_at c.self.inside.ractors.items w.ractors c.args.place c.index.result.now vs c.requires.within c.index.ensures)
-    (same_assembly c.reserve.new.self.items w.ractors (channels c.reserve-2.new.self.items) w.channels (c.reserve.ensures.items ∙ vs) (ap channels (c.reserve-2.ensures.items ∙ is))) c.requires.stands (inl refl)
+    (same_assembly c.reserve.new.self.items w.ractors (channels c.self.inside.store c.reserve-2.new.self.items) w.channels (c.reserve.ensures.items ∙ vs) (channels_same (ap (λ (v : Assembly). v.channels.store) c.self.view_is) (c.reserve-2.ensures.items ∙ is))) c.requires.stands (inl refl)
 
 pub returns : goal.returns
 returns c =
@@ -50,7 +50,7 @@ returns c =
     begun w _ l c.new-2.result
     (record { owner = c.new-2.ensures.owner ∙ omega (arith, many, c.len-count.ensures); slots = c.new-2.ensures.slots; below = c.new-2.ensures.below; limit = c.new-2.ensures.limit; roots = c.new-2.ensures.roots; hand = c.new-2.ensures.hand; home = c.new-2.ensures.home; next = c.new-2.ensures.next; run = c.new-2.ensures.limits })
     (c.push_reserved.ensures.items ∙ ap (λ (rs : List Member). rs ++ c.new-2.result ∷ []) (c.reserve.ensures.items ∙ vs))
-    (ap channels (c.push_reserved-2.ensures.items ∙ ap (λ (bs : List Inbox). bs ++ c.in-Ok.inbox ∷ []) (c.reserve-2.ensures.items ∙ is) ∙ ap (λ (b : Inbox). w.channels.inboxes ++ b ∷ []) c.in-Ok.ensures.made))
+    (channels_same (ap (λ (v : Assembly). v.channels.store) c.self.view_is) (c.push_reserved-2.ensures.items ∙ ap (λ (bs : List Inbox). bs ++ c.in-Ok.inbox ∷ []) (c.reserve-2.ensures.items ∙ is) ∙ ap (λ (b : Inbox). w.channels.inboxes ++ b ∷ []) c.in-Ok.ensures.made))
     c.args.who _ c.args.place c.index.result.now
     (read_at c.self.inside.ractors.items w.ractors c.args.place c.index.result.now vs c.requires.within c.index.ensures)
     (sym c.limits-limits.ensures.is) c.requires.stands (omega (arith, many, c.len-count.ensures))

@@ -116,3 +116,21 @@ returns-in-Read c =
     record {
       step = subst (λ (a : Action). IsStep (record { who = c.args.step.now.who; action = a }) c.read.result c.args.self.now c.read.new.self) (sym c.in-Read.is) c.read.ensures;
     }
+
+pub returns-in-SetConst : goal.returns-in-SetConst
+returns-in-SetConst c =
+    record {
+      step = subst (λ (a : Action). IsStep (record { who = c.args.step.now.who; action = a }) c.set_const.result c.args.self.now c.set_const.new.self) (sym c.in-SetConst.is) c.set_const.ensures;
+    }
+
+pub returns-in-SetOwn : goal.returns-in-SetOwn
+returns-in-SetOwn c =
+    record {
+      step = subst (λ (a : Action). IsStep (record { who = c.args.step.now.who; action = a }) c.set_own.result c.args.self.now c.set_own.new.self) (sym c.in-SetOwn.is) c.set_own.ensures;
+    }
+
+pub returns-in-GetConst : goal.returns-in-GetConst
+returns-in-GetConst c =
+    record {
+      step = subst (λ (a : Action). IsStep (record { who = c.args.step.now.who; action = a }) c.get_const.result c.args.self.now c.get_const.new.self) (sym c.in-GetConst.is) c.get_const.ensures;
+    }
