@@ -15,7 +15,7 @@ use Rattle.rr_parser.specs.Fronts.{StatementsFront, fronts_outside}
 use Rattle.rr_parser.specs.Reading.Sequences.{statements_of}
 use Rattle.rr_parser.specs.Reading.{program_of, readers, whole_of}
 use Rattle.rr_parser.specs.Meets.{Fails}
-use Rattle.rr_parser.specs.declared.variables.Local.{Local}
+use Rattle.rr_parser.specs.declared.locals.Local.{Local}
 use Rattle.rr_parser.specs.Faults.{IsParseFault, IsFaultOf}
 use Rattle.rr_parser.proofs.Deep.{program_nests}
 use Rattle.rr_parser.proofs.Full.{program_wrong, program_deep}

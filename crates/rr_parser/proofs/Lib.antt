@@ -13,3 +13,4 @@ pub mod Exact
 pub mod Lists
 pub mod Numbers
 pub mod Scopes
+mod Indexing

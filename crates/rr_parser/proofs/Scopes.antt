@@ -5,7 +5,7 @@ use Rattle.std.proofs.Math.Seq.{take-suc}
 use Rattle.std.proofs.Math.Dec.{eqb-suc-suc}
 use Rattle.std.proofs.lemmas.Bool.{ne_eqb}
 use Rattle.rr_base.specs.declared.name.Sym.{Sym}
-use Rattle.rr_parser.specs.declared.variables.Local.{Local}
+use Rattle.rr_parser.specs.declared.locals.Local.{Local}
 use Rattle.rr_parser.specs.declared.variables.Variable.{Variable}
 use Rattle.rr_parser.specs.Grammar.Names.{local_if, later_or, find, seen_from, with_variable}
 use Rattle.rr_parser.specs.declared.word.WordKind.{WordKind}

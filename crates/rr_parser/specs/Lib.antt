@@ -2,6 +2,7 @@ pub mod Words
 pub mod Numbering
 pub mod Places
 pub mod Grammar
+pub mod Locals
 pub mod Reading
 pub mod Variables
 pub mod Meets

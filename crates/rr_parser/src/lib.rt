@@ -4,6 +4,7 @@
 mod blocks;
 mod calls;
 mod control;
+mod locals;
 mod look;
 mod names;
 mod nodes;

@@ -12,6 +12,7 @@ ghost use Rattle.rr_parser.specs.Reading.{program_of};
 ghost use Rattle.rr_parser.specs.Meets.{Fails};
 ghost use Rattle.rr_parser.specs.Faults.{IsParseFault, IsFaultOf, IsSyntax};
 
+use crate::locals::Locals;
 use crate::names::read_words;
 use crate::parser::Parser;
 use crate::refusal::{Refusal, Storage};
@@ -43,7 +44,7 @@ fn read_nodes(alloc: Global, words: &[Word], depth: u32) -> Result<Nodes, Refusa
         alloc,
         nodes: Vec::new(alloc),
         known: Variables {
-            locals: Vec::new(alloc),
+            locals: Locals::new(alloc),
             level: 0,
             count: 0,
             begun: 0,

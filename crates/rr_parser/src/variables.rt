@@ -6,16 +6,9 @@ ghost use Rattle.rr_parser.specs.Grammar.Blocks.{inner, with_parameters};
 ghost use Rattle.rr_parser.specs.Variables.{known_in};
 ghost use Rattle.rr_parser.specs.Meets.{Begins, left_by};
 
+use crate::locals::{Local, Locals};
 use crate::refusal::Storage;
 use rr_base::Sym;
-
-/// A local variable: its name, the level of its scope, and its number there.
-#[derive(Clone, Copy, Debug, PartialEq, Eq, Drop)]
-pub(crate) struct Local {
-    pub name: Sym,
-    pub level: u32,
-    pub slot: u32,
-}
 
 /// A local variable as it is seen at a place: how many scopes outside it is, and its number there.
 #[derive(Clone, Copy, Debug, PartialEq, Eq, Drop)]
@@ -38,7 +31,7 @@ pub(crate) struct Scope {
 /// The local variables, those of the scopes outside first.
 #[derive(Drop)]
 pub(crate) struct Variables {
-    pub locals: Vec<Local>,
+    pub locals: Locals,
     /// How many scopes are open around the present one.
     pub level: u32,
     /// How many variables the present scope has.
@@ -50,21 +43,6 @@ pub(crate) struct Variables {
 }
 
 impl Variables {
-    /// The innermost variable of this name.
-    fn find(&self, name: Sym) -> Option<Local>
-        ensures { result ≡ find name.0 self.now.locals.items }
-    {
-        let mut left = self.locals.len();
-        while left > 0 {
-            left -= 1;
-            let local = self.locals[left];
-            if local.name.0 == name.0 {
-                return Some(local);
-            }
-        }
-        None
-    }
-
     fn seen(&self, local: Local) -> Variable
         ensures { result ≡ seen_from (known_in self.now) (Some local) }
     {
@@ -76,17 +54,17 @@ impl Variables {
 
     /// How the variable of this name is seen, where the name is one.
     pub fn variable(&self, name: Sym) -> Option<Variable>
-        ensures is { is_some result ≡ is_some (find name.0 self.now.locals.items) }
-        ensures seen { IfSome result (λ v. v ≡ seen_from (known_in self.now) (find name.0 self.now.locals.items)) }
+        ensures is { is_some result ≡ is_some (find name.0 self.now.locals) }
+        ensures seen { IfSome result (λ v. v ≡ seen_from (known_in self.now) (find name.0 self.now.locals)) }
     {
-        let local = self.find(name)?;
+        let local = self.locals.find(name)?;
         Some(self.seen(local))
     }
 
     /// From here on the name is a new variable of the present scope, and gets the next number.
     fn add(&mut self, name: Sym) -> Result<Variable, Storage>
         ensures known { OnOk result (known_in self.new ≡ with_variable (known_in self.old) name None) }
-        ensures seen { IfOk result (λ v. v ≡ seen_from (known_in self.new) (find name.0 self.new.locals.items)) }
+        ensures seen { IfOk result (λ v. v ≡ seen_from (known_in self.new) (find name.0 self.new.locals)) }
     {
         let slot = self.count;
         let Some(count) = slot.checked_add(1) else {
@@ -103,10 +81,10 @@ impl Variables {
 
     /// From here on the name is a local variable: it gets the next number, unless it is one already.
     pub fn mark(&mut self, name: Sym) -> Result<Variable, Storage>
-        ensures known { OnOk result (known_in self.new ≡ with_variable (known_in self.old) name (find name.0 self.old.locals.items)) }
-        ensures seen { IfOk result (λ v. v ≡ seen_from (known_in self.new) (find name.0 self.new.locals.items)) }
+        ensures known { OnOk result (known_in self.new ≡ with_variable (known_in self.old) name (find name.0 self.old.locals)) }
+        ensures seen { IfOk result (λ v. v ≡ seen_from (known_in self.new) (find name.0 self.new.locals)) }
     {
-        match self.find(name) {
+        match self.locals.find(name) {
             Some(local) => Ok(self.seen(local)),
             None => self.add(name),
         }

@@ -2,7 +2,7 @@
 use Rattle.std.specs.Prelude.{ℕ, ◌==◌, ◌+◌, ◌-◌, List, [], ◌∷◌, ◌++◌, Bool, true, false, not, ◌&&◌, ◌||◌, Option, Some, None, is_some, if◌then◌else◌}
 use Rattle.rr_base.specs.declared.name.Sym.{Sym}
 use Rattle.rr_tree.specs.Tree.{Tree, nil, local, call, array, break, next, return, listed}
-use Rattle.rr_parser.specs.declared.variables.Local.{Local}
+use Rattle.rr_parser.specs.declared.locals.Local.{Local}
 use Rattle.rr_parser.specs.declared.variables.Variable.{Variable}
 use Rattle.rr_parser.specs.declared.word.Head.{Head}
 use Rattle.rr_parser.specs.declared.word.Head.TheVariants as heads
