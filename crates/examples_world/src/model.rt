@@ -85,6 +85,10 @@ pub enum Told {
     TooManySlots,
     TooManyRactors,
     HoldsShell,
+    NotShareable,
+    Unknown,
+    NotMain,
+    OfMain,
     Other,
 }
 
@@ -93,6 +97,10 @@ pub struct Model {
     pub objects: Vec<Object>,
     pub actors: Vec<Actor>,
     pub inboxes: Vec<Inbox>,
+    /// By the number of its name, whether a constant has a value that each ractor may read.
+    pub constants: Vec<Option<bool>>,
+    /// How many events the store's history has.
+    pub events: usize,
     pub limits: Limits,
 }
 
@@ -111,6 +119,10 @@ pub fn what_it_tells(reply: &Reply) -> Told {
         Reply::Refused(Fault::Limit(LimitKind::Slots)) => Told::TooManySlots,
         Reply::Refused(Fault::Limit(LimitKind::Ractors)) => Told::TooManyRactors,
         Reply::Refused(Fault::HoldsShell) => Told::HoldsShell,
+        Reply::Refused(Fault::NotShareable) => Told::NotShareable,
+        Reply::Refused(Fault::Unknown(_)) => Told::Unknown,
+        Reply::Refused(Fault::NotMain) => Told::NotMain,
+        Reply::OfMain => Told::OfMain,
         _ => Told::Other,
     }
 }
@@ -153,6 +165,8 @@ impl Model {
             objects: Vec::new(alloc),
             actors: Vec::new(alloc),
             inboxes: Vec::new(alloc),
+            constants: Vec::new(alloc),
+            events: 0,
             limits,
         };
         model.begin(alloc)?;
@@ -294,7 +308,7 @@ impl Model {
 }
 
 /// The kinds of answers, of which there are as many as this.
-pub const KINDS: usize = 13;
+pub const KINDS: usize = 17;
 
 impl Told {
     /// The number of its kind.
@@ -313,7 +327,11 @@ impl Told {
             Told::TooManySlots => 10,
             Told::TooManyRactors => 11,
             Told::HoldsShell => 12,
-            Told::Other => 13,
+            Told::NotShareable => 13,
+            Told::Unknown => 14,
+            Told::NotMain => 15,
+            Told::OfMain => 16,
+            Told::Other => 17,
         }
     }
 }

@@ -381,6 +381,38 @@ impl Model {
         Ok(Told::Started(count.saturating_add(1) as u32))
     }
 
+    /// A constant is set; `public` tells whether each ractor may read it.
+    fn set_constant(&mut self, who: usize, name: usize, public: bool) -> Result<Told, AllocError> {
+        if self.events >= self.limits.events as usize {
+            return Ok(Told::HistoryFull);
+        }
+        if !public && who != 0 {
+            return Ok(Told::NotShareable);
+        }
+        while self.constants.len() <= name {
+            self.constants.push(None)?;
+        }
+        if let Some(constant) = self.constants.get_mut(name) {
+            *constant = Some(public);
+        }
+        self.events = self.events.saturating_add(1);
+        Ok(Told::Done)
+    }
+
+    fn get_constant(&mut self, who: usize, name: usize) -> Result<Told, AllocError> {
+        match self.constants.get(name) {
+            Some(Some(true)) => {
+                if let Some(actor) = self.actors.get_mut(who) {
+                    actor.roots.push(Value::Plain)?;
+                }
+                Ok(Told::Done)
+            }
+            Some(Some(false)) if who == 0 => Ok(Told::OfMain),
+            Some(Some(false)) => Ok(Told::NotMain),
+            _ => Ok(Told::Unknown),
+        }
+    }
+
     /// What a step answers, and what it leaves.
     pub fn step(&mut self, alloc: Global, step: &Step) -> Result<Told, AllocError> {
         let count = self.actors.len();
@@ -423,6 +455,12 @@ impl Model {
                 None => Ok(Told::NotEnabled),
             },
             Action::Start => self.start(alloc),
+            Action::SetConst(name, value) => match self.named(who, value) {
+                Some(Value::Plain) => self.set_constant(who, name.0 as usize, true),
+                _ => Ok(Told::NotEnabled),
+            },
+            Action::SetOwn(name) => self.set_constant(who, name.0 as usize, false),
+            Action::GetConst(name) => self.get_constant(who, name.0 as usize),
         }
     }
 }

@@ -81,13 +81,23 @@ impl Dice {
         }
     }
 
+    /// A step on constants.
+    fn constant(&mut self) -> Action {
+        let name = Sym(self.below(3));
+        match self.below(6) {
+            0 => Action::SetConst(name, self.operand()),
+            1 => Action::SetOwn(name),
+            _ => Action::GetConst(name),
+        }
+    }
+
     /// A step on messages and inboxes.
     fn exchange(&mut self) -> Action {
         match self.below(16) {
             0 => Action::Discard,
             1 => Action::Start,
             2 => Action::Open,
-            3 if self.below(8) == 0 => Action::Close(self.ractor()),
+            3 if self.below(2) == 0 => Action::Close(self.ractor()),
             3 | 4 | 5 => Action::Open,
             6 | 7 | 8 => Action::Accept,
             9 | 10 | 11 => Action::Offer(self.ractor()),
@@ -99,8 +109,9 @@ impl Dice {
 
     fn step(&mut self) -> Step {
         let who = self.ractor();
-        let action = match self.below(2) {
-            0 => self.change(),
+        let action = match self.below(12) {
+            0 => self.constant(),
+            1 | 2 | 3 | 4 | 5 => self.change(),
             _ => self.exchange(),
         };
         Step { who, action }
