@@ -389,7 +389,8 @@ impl Model {
         if !public && who != 0 {
             return Ok(Told::NotShareable);
         }
-        while self.constants.len() <= name {
+        let missing = name.saturating_add(1).saturating_sub(self.constants.len());
+        for _ in 0..missing {
             self.constants.push(None)?;
         }
         if let Some(constant) = self.constants.get_mut(name) {
