@@ -3,6 +3,7 @@
 use crate::model::{
     Holder, Inbox, Kind, Mark, Model, Object, Parcel, Told, Value, first_under, mark_of, put,
 };
+use rr_base::Sym;
 use rr_world::{Action, NewObject, Operand, Step};
 use std::alloc::{AllocError, Global};
 
@@ -382,7 +383,8 @@ impl Model {
     }
 
     /// A constant is set; `public` tells whether each ractor may read it.
-    fn set_constant(&mut self, who: usize, name: usize, public: bool) -> Result<Told, AllocError> {
+    fn set_constant(&mut self, who: usize, name: Sym, public: bool) -> Result<Told, AllocError> {
+        let name = name.0 as usize;
         if self.events >= self.limits.events as usize {
             return Ok(Told::HistoryFull);
         }
@@ -400,8 +402,8 @@ impl Model {
         Ok(Told::Done)
     }
 
-    fn get_constant(&mut self, who: usize, name: usize) -> Result<Told, AllocError> {
-        match self.constants.get(name) {
+    fn get_constant(&mut self, who: usize, name: Sym) -> Result<Told, AllocError> {
+        match self.constants.get(name.0 as usize) {
             Some(Some(true)) => {
                 if let Some(actor) = self.actors.get_mut(who) {
                     actor.roots.push(Value::Plain)?;
@@ -457,11 +459,11 @@ impl Model {
             },
             Action::Start => self.start(alloc),
             Action::SetConst(name, value) => match self.named(who, value) {
-                Some(Value::Plain) => self.set_constant(who, name.0 as usize, true),
+                Some(Value::Plain) => self.set_constant(who, name, true),
                 _ => Ok(Told::NotEnabled),
             },
-            Action::SetOwn(name) => self.set_constant(who, name.0 as usize, false),
-            Action::GetConst(name) => self.get_constant(who, name.0 as usize),
+            Action::SetOwn(name) => self.set_constant(who, name, false),
+            Action::GetConst(name) => self.get_constant(who, name),
         }
     }
 }
