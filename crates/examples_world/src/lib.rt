@@ -4,6 +4,8 @@
 #[cfg(test)]
 mod constants;
 #[cfg(test)]
+mod ends;
+#[cfg(test)]
 mod model;
 #[cfg(test)]
 mod model_steps;

@@ -60,6 +60,8 @@ pub struct Actor {
     pub moved: bool,
     pub home: Vec<(usize, usize)>,
     pub slots: usize,
+    /// Whether it has not ended.
+    pub runs: bool,
 }
 
 #[derive(Drop)]
@@ -181,6 +183,7 @@ impl Model {
             moved: false,
             home: Vec::new(alloc),
             slots: 0,
+            runs: true,
         })?;
         self.inboxes.push(Inbox {
             inside: Vec::new(alloc),

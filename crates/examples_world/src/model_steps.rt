@@ -382,6 +382,24 @@ impl Model {
         Ok(Told::Started(count.saturating_add(1) as u32))
     }
 
+    /// All that a ractor and its hand hold goes.
+    fn end(&mut self, alloc: Global, who: usize) -> Told {
+        self.hand_on(Holder::Ractor(who), Holder::Nobody);
+        self.hand_on(Holder::Hand(who), Holder::Nobody);
+        self.take_in_hand(who, None, false);
+        if let Some(actor) = self.actors.get_mut(who) {
+            actor.roots = Vec::new(alloc);
+            actor.slots = 0;
+            actor.runs = false;
+        }
+        Told::Done
+    }
+
+    /// Whether a ractor has not ended.
+    fn runs(&self, who: usize) -> bool {
+        self.actors.get(who).is_some_and(|actor| actor.runs)
+    }
+
     /// A constant is set; `public` tells whether each ractor may read it.
     fn set_constant(&mut self, who: usize, name: Sym, public: bool) -> Result<Told, AllocError> {
         let name = name.0 as usize;
@@ -422,6 +440,9 @@ impl Model {
         let Some(who) = place_of(step.who.0, count) else {
             return Ok(Told::NotEnabled);
         };
+        if !self.runs(who) {
+            return Ok(Told::NotEnabled);
+        }
         match step.action {
             Action::Alloc(new) => self.alloc(alloc, who, new),
             Action::Freeze(operand) => Ok(self.freeze(who, operand)),
@@ -458,6 +479,7 @@ impl Model {
                 None => Ok(Told::NotEnabled),
             },
             Action::Start => self.start(alloc),
+            Action::End => Ok(self.end(alloc, who)),
             Action::SetConst(name, value) => match self.named(who, value) {
                 Some(Value::Plain) => self.set_constant(who, name, true),
                 _ => Ok(Told::NotEnabled),

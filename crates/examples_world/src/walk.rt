@@ -110,6 +110,7 @@ impl Dice {
     fn step(&mut self) -> Step {
         let who = self.ractor();
         let action = match self.below(12) {
+            0 if self.below(60) == 0 => Action::End,
             0 => self.constant(),
             1 | 2 | 3 | 4 | 5 => self.change(),
             _ => self.exchange(),

@@ -15,8 +15,9 @@ use Rattle.rr_world.specs.Views.{Member, Channels, Assembly, IsFree, with_inbox}
 use Rattle.rr_world.specs.Layouts.{layout, space_slots, hand_slots, inbox_slots, message_slots, mail_slots}
 use Rattle.rr_world.specs.States.{Actor, Parcel, with_box}
 use Rattle.rr_world.specs.Readings.{each_from, actor_in, mailbox_in, parcel_in, letter_in, post_in, state_in}
-use Rattle.rr_world.specs.Cases.{StandsAt, IsCase}
-use Rattle.rr_world.specs.Runs.{IsStep}
+use Rattle.rr_world.specs.Enabling.{StandsAt}
+use Rattle.rr_world.specs.Cases.{IsOutcome}
+use Rattle.rr_world.specs.Runs.{HasOutcome}
 use Rattle.rr_world.specs.declared.step.Action.TheVariants.{Accept}
 use Rattle.rr_world.specs.declared.step.Reply.TheVariants.{Done, Empty, EmptyAndClosed}
 use Rattle.rr_world.proofs.Lists.{eq_cases, set_at, set_off, seen_same, each_set}
@@ -67,7 +68,7 @@ module _ (w w2 : Assembly) (who : RactorNo) (k : ℕ) (m : Member) (i : Inbox) (
     unshared_b = λ d z. let n : ⊥ = cc in n;
   }
 
-  pub accepted : StandsAt who k → IsStep (record { who = who; action = Accept }) Done w w2
+  pub accepted : StandsAt who k → HasOutcome (record { who = who; action = Accept }) Done w w2
   accepted stands names bound g R =
       let q = hands_on (Mail k e.ticket) (Hand k) e.message.objects [] (layout w) (layout w2) names bound g goes R.tables in
       let names2 = q.0 in
@@ -116,7 +117,7 @@ module _ (w w2 : Assembly) (who : RactorNo) (k : ℕ) (m : Member) (i : Inbox) (
 
 -- nothing is inside
 pub nothing_open : (w : Assembly) (names : Naming) (g : Objects) (who : RactorNo) (k : ℕ) (m : Member) (i : Inbox) → slice_get w.ractors k ≡ Some m → slice_get w.channels.inboxes k ≡ Some i
-    → IsFree m → StandsAt who k → i.inside ≡ [] → i.closed ≡ false → IsCase (record { who = who; action = Accept }) Empty (state_in w names g) (state_in w names g)
+    → IsFree m → StandsAt who k → i.inside ≡ [] → i.closed ≡ false → IsOutcome (record { who = who; action = Accept }) Empty (state_in w names g) (state_in w names g)
 nothing_open w names g who k m i at box free_hand stands none unshut = (
   k,
   actor_in names k m,
@@ -127,7 +128,7 @@ nothing_open w names g who k m i at box free_hand stands none unshut = (
 )
 
 pub nothing_closed : (w : Assembly) (names : Naming) (g : Objects) (who : RactorNo) (k : ℕ) (m : Member) (i : Inbox) → slice_get w.ractors k ≡ Some m → slice_get w.channels.inboxes k ≡ Some i
-    → IsFree m → StandsAt who k → i.inside ≡ [] → i.closed ≡ true → IsCase (record { who = who; action = Accept }) EmptyAndClosed (state_in w names g) (state_in w names g)
+    → IsFree m → StandsAt who k → i.inside ≡ [] → i.closed ≡ true → IsOutcome (record { who = who; action = Accept }) EmptyAndClosed (state_in w names g) (state_in w names g)
 nothing_closed w names g who k m i at box free_hand stands none shut = (
   k,
   actor_in names k m,

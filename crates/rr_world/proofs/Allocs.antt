@@ -20,9 +20,10 @@ use Rattle.rr_space.proofs.Sounds.{joined_back, joined_in, none_in, in_first, ge
 use Rattle.rr_world.specs.Views.{Member, Channels, Assembly}
 use Rattle.rr_world.specs.Layouts.{layout, space_slots, hand_slots, inbox_slots, message_slots, MemberKnows, IsRead}
 use Rattle.rr_world.specs.Readings.{each_from, actor_in, shells_in, root_in, post_in, state_in, parcel_in}
-use Rattle.rr_world.specs.Cases.{StandsAt, new_object}
+use Rattle.rr_world.specs.Enabling.{StandsAt}
+use Rattle.rr_world.specs.ObjectCases.{new_object}
 use Rattle.rr_world.specs.Allocating.{IsAllocatedBy, Allocs}
-use Rattle.rr_world.specs.Runs.{IsStep}
+use Rattle.rr_world.specs.Runs.{HasOutcome}
 use Rattle.rr_world.specs.declared.step.NewObject.{NewObject}
 use Rattle.rr_world.specs.declared.step.NewObject.TheVariants.{Text, Array}
 use Rattle.rr_world.specs.declared.step.NewObject.TheVariants as new
@@ -219,7 +220,7 @@ module _ (w w2 : Assembly) (k : ℕ) (m m2 : Member) (kind : NewObject) (at : sl
           nothing zero b e is has = none_in e (subst (λ x. Contains x e) (sym (same_Some [] b is)) has)
           nothing (suc i) b e is has = none-some b is
 
-  pub allocated : (who : RactorNo) → StandsAt who k → IsStep (record { who = who; action = Alloc kind }) Done w w2
+  pub allocated : (who : RactorNo) → StandsAt who k → HasOutcome (record { who = who; action = Alloc kind }) Done w w2
   allocated who stands names bound g R =
       let q = remaking_is_a_step (Space k) 1 m.space.slots (m.space.slots ++ Here (new_object kind) ∷ []) (layout w) (layout w2) names bound g (remakes (R.tables.sound (Space k) m.space.slots was)) R.tables in
       let names2 = q.0 in
@@ -234,7 +235,7 @@ module _ (w w2 : Assembly) (k : ℕ) (m m2 : Member) (kind : NewObject) (at : sl
       let count : length m2.space.slots ≡ length m.space.slots + 1 = ap length A.slots ∙ size in
       let actor : actor_in names2 k m2 ≡ record (actor_in names k m) { roots = (actor_in names k m).roots ++ At (Own new) ∷ []; slots = (actor_in names k m).slots + 1 } =
       same_actor roots (ap (option_map (parcel_in names2 (Hand k))) A.hand ∙ hand_same names names2 (Hand k) m.hand (hands k) kept)
-      (ap (option_map (shells_in names2 k)) A.home ∙ home_stands names names2 k m.space.slots m.hand m.home A.away (stand names bound g R names2 q.1 q.2 N q.4)) count A.limit A.next A.limits in (
+      (ap (option_map (shells_in names2 k)) A.home ∙ home_stands names names2 k m.space.slots m.hand m.home A.away (stand names bound g R names2 q.1 q.2 N q.4)) count A.limit A.next A.limits A.runs in (
         names2,
         bound + 1,
         q.1,
@@ -262,7 +263,7 @@ module _ (w w2 : Assembly) (k : ℕ) (m m2 : Member) (kind : NewObject) (at : sl
 
 -- whatever an alloc answers
 pub allocated_by : (w w2 : Assembly) (who : RactorNo) (k : ℕ) (m m2 : Member) (kind : NewObject) (r : Reply) → slice_get w.ractors k ≡ Some m → w2.ractors ≡ slice_set w.ractors k m2 → w2.channels ≡ w.channels
-    → StandsAt who k → Allocs kind r m m2 → IsStep (record { who = who; action = Alloc kind }) r w w2
+    → StandsAt who k → Allocs kind r m m2 → HasOutcome (record { who = who; action = Alloc kind }) r w w2
 allocated_by w w2 who k m m2 kind Done at rs is stands A = allocated w w2 k m m2 kind at A rs is who stands
 allocated_by w w2 who k m m2 kind (Refused f) at rs is stands (why, same) =
     stays (record { who = who; action = Alloc kind }) (Refused f) w w2 (same_assembly w2.ractors w.ractors w2.channels w.channels (rs ∙ set_again w.ractors w.ractors k m2 m refl at same) is)

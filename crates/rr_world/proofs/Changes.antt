@@ -19,15 +19,16 @@ use Rattle.rr_move.specs.declared.home.Home.{Home}
 use Rattle.rr_move.specs.declared.hand.Hand.{Hand}
 use Rattle.rr_move.specs.declared.hand.Hand.TheVariants.{Empty, Planned, Published, Message, Moved, Shown}
 use Rattle.rr_world.specs.Views.{Member, AreAway, AreRootsWithin, HasAtMostAMessage}
-use Rattle.rr_world.specs.Cases.{IsNoShell, IsOpen, with_field}
+use Rattle.rr_world.specs.Enabling.{IsNoShell, IsOpen}
+use Rattle.rr_world.specs.ObjectCases.{with_field}
 use Rattle.rr_world.specs.Changing.{IsMadeOf, IsReadBy}
 use Rattle.rr_world.specs.Packing.{named_ref}
 use Rattle.rr_world.specs.declared.step.Operand.{Operand}
 use Rattle.rr_world.proofs.Fields.{field_cases}
 use Rattle.rr_world.proofs.Lists.{eq_cases, set_off}
 
-abbrev pub member : Table → List Ref → Hand → Limits → Member
-member space roots hand limits = record { space = space; roots = roots; hand = message_in hand; home = home_in hand; limits = limits }
+abbrev pub member : Table → List Ref → Hand → Limits → Bool → Member
+member space roots hand limits runs = record { space = space; roots = roots; hand = message_in hand; home = home_in hand; limits = limits; runs = runs }
 
 no_shell : (o : Object) → not (is_shell o.kind) ≡ true → IsNoShell o
 no_shell o holds is = let no : not (is_shell shell) ≡ true = subst (λ (k : Kind). not (is_shell k) ≡ true) is holds in cc
@@ -177,27 +178,27 @@ pub kept_known : (v : Ref) (a b : List Below) → b ≡ a → (e : ℕ × List O
 kept_known v a b same e has = inl (subst (λ x. Contains (joined x) e) same has)
 
 -- an object of the space is made another
-pub made : (op : Operand) (may : Object → Type 0) (change : Object → Object) (x v : Ref) (old : Member) (sp new : Table) (rs : List Ref) (hand : Hand) (limits : Limits) (n : ℕ) (o : Object)
-    → member sp rs hand limits ≡ old → named_ref old.roots op ≡ Some v → v ≡ ref.Local n → slice_get sp.slots n ≡ Some (Here o) → may o → new.slots ≡ slice_set sp.slots n (Here (change o))
+pub made : (op : Operand) (may : Object → Type 0) (change : Object → Object) (x v : Ref) (old : Member) (sp new : Table) (rs : List Ref) (hand : Hand) (limits : Limits) (runs : Bool) (n : ℕ) (o : Object)
+    → member sp rs hand limits runs ≡ old → named_ref old.roots op ≡ Some v → v ≡ ref.Local n → slice_get sp.slots n ≡ Some (Here o) → may o → new.slots ≡ slice_set sp.slots n (Here (change o))
     → ((e : ℕ × List Object) → Contains (joined new.below) e → Contains (joined sp.below) e ⊎ Contains (below_ref x) e) → new.limit ≡ sp.limit → new.owner ≡ sp.owner → new.next_message ≡ sp.next_message
-    → AreRootsWithin (length sp.slots) rs → AreAway sp.slots (message_in hand) (home_in hand) → IsWithin (length sp.slots) x → IsMadeOf op may change x old (member new rs hand limits)
-made op may change x v old sp new rs hand limits n o is named slot here holds slots below limit owner next within away value =
-    subst (λ (m : Member). IsMadeOf op may change x m (member new rs hand limits)) is (
+    → AreRootsWithin (length sp.slots) rs → AreAway sp.slots (message_in hand) (home_in hand) → IsWithin (length sp.slots) x → IsMadeOf op may change x old (member new rs hand limits runs)
+made op may change x v old sp new rs hand limits runs n o is named slot here holds slots below limit owner next within away value =
+    subst (λ (m : Member). IsMadeOf op may change x m (member new rs hand limits runs)) is (
       n,
       o,
       record { named = subst (λ (m : Member). named_ref m.roots op ≡ Some v) (sym is) named ∙ ap (λ r. Some r) slot; here = here },
       holds,
-      record { within = within; value = value; slots = slots; below = below; limit = limit; roots = refl; hand = refl; home = refl; away = away; next = next; owner = owner; limits = refl },
+      record { within = within; value = value; slots = slots; below = below; limit = limit; roots = refl; hand = refl; home = refl; away = away; next = next; owner = owner; limits = refl; runs = refl },
     )
 
-pub read_by : (op : Operand) (l : Label) (v r : Ref) (old : Member) (sp : Table) (rs all : List Ref) (hand : Hand) (limits : Limits) → member sp rs hand limits ≡ old → all ≡ rs ++ r ∷ [] → named_ref old.roots op ≡ Some v
-    → IsFirstUnder (triples_at sp v) l (value_of r) → IsWithin (length sp.slots) r → IsKnownFrom sp v r → AreRootsWithin (length sp.slots) rs → IsReadBy op l v r old (member sp all hand limits)
-read_by op l v r old sp rs all hand limits is more named first root known within =
-    subst (λ (m : Member). IsReadBy op l v r m (member sp all hand limits)) is (record {
+pub read_by : (op : Operand) (l : Label) (v r : Ref) (old : Member) (sp : Table) (rs all : List Ref) (hand : Hand) (limits : Limits) (runs : Bool) → member sp rs hand limits runs ≡ old → all ≡ rs ++ r ∷ [] → named_ref old.roots op ≡ Some v
+    → IsFirstUnder (triples_at sp v) l (value_of r) → IsWithin (length sp.slots) r → IsKnownFrom sp v r → AreRootsWithin (length sp.slots) rs → IsReadBy op l v r old (member sp all hand limits runs)
+read_by op l v r old sp rs all hand limits runs is more named first root known within =
+    subst (λ (m : Member). IsReadBy op l v r m (member sp all hand limits runs)) is (record {
       within = within;
       named = subst (λ (m : Member). named_ref m.roots op ≡ Some v) (sym is) named;
       first = first;
       root = root;
       known = known;
-      now_is = ap (λ xs. member sp xs hand limits) more;
+      now_is = ap (λ xs. member sp xs hand limits runs) more;
     })

@@ -22,9 +22,9 @@ use Rattle.rr_move.specs.declared.home.Detached.{Detached}
 use Rattle.rr_world.specs.Views.{Member, Assembly}
 use Rattle.rr_world.specs.Layouts.{layout, message_slots, message_below, MemberKnows, IsRead}
 use Rattle.rr_world.specs.Readings.{each_from, actor_in, shells_in, parcel_in, value_in, root_in, post_in, state_in}
-use Rattle.rr_world.specs.Cases.{StandsAt}
+use Rattle.rr_world.specs.Enabling.{StandsAt}
 use Rattle.rr_world.specs.Moving.{IsMovedBy, Detaches}
-use Rattle.rr_world.specs.Runs.{IsStep}
+use Rattle.rr_world.specs.Runs.{HasOutcome}
 use Rattle.rr_world.specs.declared.step.Operand.{Operand}
 use Rattle.rr_world.specs.declared.step.Action.TheVariants.{Detach}
 use Rattle.rr_world.specs.declared.step.Reply.{Reply}
@@ -98,7 +98,7 @@ module _ (w w2 : Assembly) (who : RactorNo) (k : ℕ) (m m2 : Member) (op : Oper
   home_within : (n : ℕ) → Contains d.home.slots n → n < length m.space.slots
   home_within n has = let lt = slice_get_within m2.space.slots n (Here emptied) (A.moved.emptied.slots.named n has) in omega (arith, lt, A.moved.emptied.slots.size)
 
-  pub detached : TakingOutIsAMove → StandsAt who k → IsStep (record { who = who; action = Detach op }) Done w w2
+  pub detached : TakingOutIsAMove → StandsAt who k → HasOutcome (record { who = who; action = Detach op }) Done w w2
   detached law stands names bound g R =
       let knows = known_named (layout w) m.roots op v (R.knows.ractors k m at).roots A.named in
       let q = law k (value_of v) d m.space m2.space (layout w) (layout w2) names bound g (takes names bound g R knows) R.tables in
@@ -116,7 +116,7 @@ module _ (w w2 : Assembly) (who : RactorNo) (k : ℕ) (m m2 : Member) (op : Oper
       ap (λ (x : Member). option_map (shells_in names2 k) x.home) A.now_is
       ∙ ap (λ (ns : List ℕ). Some ns) (map_same (slice_index (names2 (Space k))) (slice_index (names (Space k))) d.home.slots (λ n has. stand n (home_within n has))) in
       let actor : actor_in names2 k m2 ≡ record (actor_in names k m) { hand = Some (parcel_in names2 (Hand k) d.message); home = Some (shells_in names k d.home); next = (actor_in names k m).next + 1 } =
-      same_actor roots (ap (option_map (parcel_in names2 (Hand k))) held) home A.moved.emptied.slots.size A.moved.emptied.limit A.moved.next (ap (λ (x : Member). x.limits) A.now_is) in (
+      same_actor roots (ap (option_map (parcel_in names2 (Hand k))) held) home A.moved.emptied.slots.size A.moved.emptied.limit A.moved.next (ap (λ (x : Member). x.limits) A.now_is) (ap (λ (x : Member). x.runs) A.now_is) in (
         names2,
         q.1,
         q.2,
@@ -153,7 +153,7 @@ module _ (w w2 : Assembly) (who : RactorNo) (k : ℕ) (m m2 : Member) (op : Oper
 
 -- whatever a detach answers
 pub detached_by : TakingOutIsAMove → (w w2 : Assembly) (who : RactorNo) (k : ℕ) (m m2 : Member) (op : Operand) (r : Reply) → slice_get w.ractors k ≡ Some m → w2.ractors ≡ slice_set w.ractors k m2
-    → w2.channels ≡ w.channels → StandsAt who k → Detaches op r m m2 → IsStep (record { who = who; action = Detach op }) r w w2
+    → w2.channels ≡ w.channels → StandsAt who k → Detaches op r m m2 → HasOutcome (record { who = who; action = Detach op }) r w w2
 detached_by law w w2 who k m m2 op Done at rs is stands (v, d, A) = detached w w2 who k m m2 op v d at A rs is law stands
 detached_by law w w2 who k m m2 op NotEnabled at rs is stands (why, same) =
     stays_read (record { who = who; action = Detach op }) NotEnabled w w2 (same_assembly w2.ractors w.ractors w2.channels w.channels (rs ∙ set_again w.ractors w.ractors k m2 m refl at same) is)

@@ -11,8 +11,8 @@ use Rattle.rr_space.proofs.Drops.{dropping_is_a_step}
 use Rattle.rr_world.specs.Views.{Member, Channels, Assembly}
 use Rattle.rr_world.specs.Layouts.{layout, space_slots, hand_slots, inbox_slots}
 use Rattle.rr_world.specs.Readings.{each_from, actor_in, parcel_in, post_in}
-use Rattle.rr_world.specs.Cases.{StandsAt}
-use Rattle.rr_world.specs.Runs.{IsStep}
+use Rattle.rr_world.specs.Enabling.{StandsAt}
+use Rattle.rr_world.specs.Runs.{HasOutcome}
 use Rattle.rr_world.specs.declared.step.Action.TheVariants.{Discard}
 use Rattle.rr_world.specs.declared.step.Reply.TheVariants.{Done}
 use Rattle.rr_world.proofs.Lists.{set_at, set_off, seen_same, each_set}
@@ -36,7 +36,7 @@ module _ (w w2 : Assembly) (k : ℕ) (m : Member) (p : Packed) (at : slice_get w
     unshared = λ c e. let n : ⊥ = cc in n;
   }
 
-  pub discarded : (who : RactorNo) → StandsAt who k → IsStep (record { who = who; action = Discard }) Done w w2
+  pub discarded : (who : RactorNo) → StandsAt who k → HasOutcome (record { who = who; action = Discard }) Done w w2
   discarded who stands names bound g R =
       let q = dropping_is_a_step (Hand k) (layout w) (layout w2) names bound g gone R.tables in (
         names,

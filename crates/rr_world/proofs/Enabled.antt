@@ -9,7 +9,7 @@ use Rattle.rr_inbox.specs.Inboxes.{Inbox}
 use Rattle.rr_world.specs.Views.{Member, Assembly, IsFree}
 use Rattle.rr_world.specs.States.{Actor}
 use Rattle.rr_world.specs.Readings.{actor_in, shells_in, mailbox_in, parcel_in, state_in}
-use Rattle.rr_world.specs.Cases.{IsTested, StandsAt, HasInbox, Holds, IsFreeHand, Allows, IsEnabled}
+use Rattle.rr_world.specs.Enabling.{IsTested, StandsAt, HasInbox, Holds, IsFreeHand, Allows, IsPossible}
 use Rattle.rr_world.specs.declared.step.Action.TheVariants.{Offer, Close}
 use Rattle.rr_world.specs.declared.step.Step.{Step}
 use Rattle.rr_world.proofs.Lists.{each_at, each_back}
@@ -24,7 +24,7 @@ mailbox_at w names g c i at = each_at (mailbox_in names) 0 w.channels.inboxes c 
 
 -- what an enabled step needs, it needs of the ractor that stands there
 pub allowed : (w : Assembly) (names : Naming) (g : Objects) (step : Step) (k : ℕ) (m : Member) → StandsAt step.who k → slice_get w.ractors k ≡ Some m
-    → IsEnabled (state_in w names g) step → Allows (state_in w names g) step.who (actor_in names k m) step.action
+    → IsPossible (state_in w names g) step → Allows (state_in w names g) step.who (actor_in names k m) step.action
 allowed w names g step k m stands at (j, a, there, is, allows, tested) =
     let same : j ≡ k = omega (arith, stands, there) in
     let one : a ≡ actor_in names k m = same_Some a (actor_in names k m) (sym is ∙ ap (slice_get (state_in w names g).ractors) same ∙ actor_at w names g k m at) in
@@ -32,13 +32,13 @@ allowed w names g step k m stands at (j, a, there, is, allows, tested) =
 
 -- and so it is with what it tests
 pub tested_at : (w : Assembly) (names : Naming) (g : Objects) (step : Step) (k : ℕ) (m : Member) → StandsAt step.who k → slice_get w.ractors k ≡ Some m
-    → IsEnabled (state_in w names g) step → IsTested (state_in w names g) (actor_in names k m) step.action
+    → IsPossible (state_in w names g) step → IsTested (state_in w names g) (actor_in names k m) step.action
 tested_at w names g step k m stands at (j, a, there, is, allows, tested) =
     let same : j ≡ k = omega (arith, stands, there) in
     let one : a ≡ actor_in names k m = same_Some a (actor_in names k m) (sym is ∙ ap (slice_get (state_in w names g).ractors) same ∙ actor_at w names g k m at) in
     subst (λ (b : Actor). IsTested (state_in w names g) b step.action) one tested
 
-pub nobody : (w : Assembly) (names : Naming) (g : Objects) (step : Step) → ((k : ℕ) → StandsAt step.who k → length w.ractors ≤ k) → IsEnabled (state_in w names g) step → ⊥
+pub nobody : (w : Assembly) (names : Naming) (g : Objects) (step : Step) → ((k : ℕ) → StandsAt step.who k → length w.ractors ≤ k) → IsPossible (state_in w names g) step → ⊥
 nobody w names g step none (k, a, there, is, allows, tested) =
     let b = each_back (actor_in names) 0 w.ractors k k a (omega arith) is in
     let lt = slice_get_within w.ractors k b.0 b.1 in
@@ -69,11 +69,11 @@ pub free_back : (names : Naming) (k : ℕ) (m : Member) → IsFreeHand (actor_in
 free_back names k m is = record { hand = none_back (parcel_in names (Hand k)) m.hand is.0; home = none_back (shells_in names k) m.home is.1 }
 
 pub no_offer : (w : Assembly) (names : Naming) (g : Objects) (step : Step) (to : RactorNo) → step.action ≡ Offer to → ((k : ℕ) → StandsAt to k → length w.channels.inboxes ≤ k)
-    → IsEnabled (state_in w names g) step → ⊥
+    → IsPossible (state_in w names g) step → ⊥
 no_offer w names g step to is none (k, a, there, at, allows, tested) =
     no_inbox w names g to none (subst (λ x. Allows (state_in w names g) step.who a x) is allows).1
 
 pub no_close : (w : Assembly) (names : Naming) (g : Objects) (step : Step) (to : RactorNo) → step.action ≡ Close to → ((k : ℕ) → StandsAt to k → length w.channels.inboxes ≤ k)
-    → IsEnabled (state_in w names g) step → ⊥
+    → IsPossible (state_in w names g) step → ⊥
 no_close w names g step to is none (k, a, there, at, allows, tested) =
     no_inbox w names g to none (subst (λ x. Allows (state_in w names g) step.who a x) is allows)

@@ -6,7 +6,7 @@ use Rattle.rr_space.specs.Graph.{Name, Value, Label, Place, Field, KeyAt, ValueA
 use Rattle.rr_space.specs.Tables.{renamed, renamed_triple}
 use Rattle.rr_space.specs.Views.{IsFirstAt, label_part}
 use Rattle.rr_space.proofs.Sounds.{none_in, in_first}
-use Rattle.rr_world.specs.Cases.{is_field, set_in}
+use Rattle.rr_world.specs.ObjectCases.{is_field, set_in}
 
 later : {X : Type 0} (a : X) (xs : List X) (y : X) → Contains xs y → Contains (a ∷ xs) y
 later a xs y (n, lt, e) = (suc n, omega (arith, lt), e)

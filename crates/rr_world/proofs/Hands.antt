@@ -1,5 +1,5 @@
 -- What a ractor's hand has, as contracts see it.
-use Rattle.std.proofs.Common.{◌≡◌, List, length, Option, Some, sym, ap, ◌∙◌, subst}
+use Rattle.std.proofs.Common.{◌≡◌, Bool, List, length, Option, Some, sym, ap, ◌∙◌, subst}
 use Rattle.rr_base.specs.declared.limits.Limits.{Limits}
 use Rattle.rr_space.specs.Tables.{Table, Packed}
 use Rattle.rr_space.specs.Moves.{IsPutBack}
@@ -15,31 +15,31 @@ use Rattle.rr_world.specs.Packing.{named_ref}
 use Rattle.rr_world.specs.declared.step.Operand.{Operand}
 use Rattle.rr_world.proofs.Changes.{member}
 
-abbrev holding : Table → List Ref → Option Packed → Option Home → Limits → Member
-holding space roots hand home limits = record { space = space; roots = roots; hand = hand; home = home; limits = limits }
+abbrev holding : Table → List Ref → Option Packed → Option Home → Limits → Bool → Member
+holding space roots hand home limits runs = record { space = space; roots = roots; hand = hand; home = home; limits = limits; runs = runs }
 
-pub moved_by : (op : Operand) (v : Ref) (d : Detached) (old : Member) (sp new : Table) (rs : List Ref) (hand now : Hand) (limits : Limits) → member sp rs hand limits ≡ old → hand ≡ Empty
+pub moved_by : (op : Operand) (v : Ref) (d : Detached) (old : Member) (sp new : Table) (rs : List Ref) (hand now : Hand) (limits : Limits) (runs : Bool) → member sp rs hand limits runs ≡ old → hand ≡ Empty
     → named_ref old.roots op ≡ Some v → AreRootsWithin (length sp.slots) rs → IsMovedFrom sp v d new → message_in now ≡ Some d.message → home_in now ≡ Some d.home
-    → IsMovedBy op v d old (member new rs now limits)
-moved_by op v d old sp new rs hand now limits is empty named rooted moved held home =
-    subst (λ (m : Member). IsMovedBy op v d m (member new rs now limits)) is (record {
+    → IsMovedBy op v d old (member new rs now limits runs)
+moved_by op v d old sp new rs hand now limits runs is empty named rooted moved held home =
+    subst (λ (m : Member). IsMovedBy op v d m (member new rs now limits runs)) is (record {
       empty = record { hand = ap message_in empty; home = ap home_in empty };
       named = subst (λ (m : Member). named_ref m.roots op ≡ Some v) (sym is) named;
       rooted = rooted;
       moved = moved;
-      now_is = ap (λ h. holding new rs h (home_in now) limits) held ∙ ap (λ h. holding new rs (Some d.message) h limits) home;
+      now_is = ap (λ h. holding new rs h (home_in now) limits runs) held ∙ ap (λ h. holding new rs (Some d.message) h limits runs) home;
     })
 
-pub put_by : (d : Detached) (old : Member) (sp new : Table) (rs : List Ref) (hand now : Hand) (limits : Limits) → member sp rs hand limits ≡ old → hand ≡ Moved d → now ≡ Empty
-    → AreRootsWithin (length sp.slots) rs → AreAway sp.slots (message_in hand) (home_in hand) → IsPutBack d.home.slots d.message sp new → IsPutBackBy d old (member new rs now limits)
-put_by d old sp new rs hand now limits is was empty rooted away back =
+pub put_by : (d : Detached) (old : Member) (sp new : Table) (rs : List Ref) (hand now : Hand) (limits : Limits) (runs : Bool) → member sp rs hand limits runs ≡ old → hand ≡ Moved d → now ≡ Empty
+    → AreRootsWithin (length sp.slots) rs → AreAway sp.slots (message_in hand) (home_in hand) → IsPutBack d.home.slots d.message sp new → IsPutBackBy d old (member new rs now limits runs)
+put_by d old sp new rs hand now limits runs is was empty rooted away back =
     let gone : IsAway sp.slots d.message d.home = subst (λ (h : Hand). AreAway sp.slots (message_in h) (home_in h)) was away in
-    subst (λ (m : Member). IsPutBackBy d m (member new rs now limits)) is (record {
+    subst (λ (m : Member). IsPutBackBy d m (member new rs now limits runs)) is (record {
       held = ap message_in was;
       home = ap home_in was;
       rooted = rooted;
       shells = gone.shells;
       count = gone.count;
       back = back;
-      now_is = ap (λ (h : Hand). member new rs h limits) empty;
+      now_is = ap (λ (h : Hand). member new rs h limits runs) empty;
     })

@@ -29,3 +29,5 @@ pub mod Tables
 pub mod Detaching
 pub mod Returning
 pub mod Storing
+pub mod Running
+pub mod Ending

@@ -22,10 +22,12 @@ use Rattle.rr_space.proofs.Sounds.{none_in, in_first}
 use Rattle.rr_world.specs.Views.{Member, Assembly}
 use Rattle.rr_world.specs.Layouts.{layout, space_slots, IsRead}
 use Rattle.rr_world.specs.Readings.{root_in, value_in, actor_in, state_in}
-use Rattle.rr_world.specs.Cases.{StandsAt, IsOwn, MayChange, IsNoShell, IsOpen, HasElement, IsValue, IsMade, IsEnabled, IsCase, named_value, frozen, appended, pushed, written, with_field}
+use Rattle.rr_world.specs.Enabling.{StandsAt, IsOwn, MayChange, IsNoShell, IsOpen, HasElement, IsValue, IsPossible, named_value}
+use Rattle.rr_world.specs.ObjectCases.{IsMade, frozen, appended, pushed, written, with_field}
+use Rattle.rr_world.specs.Cases.{IsOutcome}
 use Rattle.rr_world.specs.Changing.{IsSlot, MayChangeSlot, IsMadeOf, IsNamedRef, HasRootsWithin, Freezes, Appends, Pushes, Writes, Sets}
 use Rattle.rr_world.specs.Packing.{named_ref}
-use Rattle.rr_world.specs.Runs.{IsStep}
+use Rattle.rr_world.specs.Runs.{HasOutcome}
 use Rattle.rr_world.specs.declared.step.Operand.{Operand}
 use Rattle.rr_world.specs.declared.step.Operand.TheVariants as operand
 use Rattle.rr_world.specs.declared.step.Action.{Action}
@@ -230,15 +232,15 @@ has_back names h i o (opened, lt) = (opened, omega (arith, lt, length-map o.trip
 
 -- nothing is changed
 pub unmade : (w w2 : Assembly) (who : RactorNo) (k : ℕ) (m m2 : Member) (action : Action) → slice_get w.ractors k ≡ Some m → w2.ractors ≡ slice_set w.ractors k m2 → w2.channels ≡ w.channels → m2 ≡ m
-    → ((names : Naming) (bound : ℕ) (g : Objects) → IsRead w names bound g → IsEnabled (state_in w names g) (record { who = who; action = action }) → ⊥) → IsStep (record { who = who; action = action }) NotEnabled w w2
+    → ((names : Naming) (bound : ℕ) (g : Objects) → IsRead w names bound g → IsPossible (state_in w names g) (record { who = who; action = action }) → ⊥) → HasOutcome (record { who = who; action = action }) NotEnabled w w2
 unmade w w2 who k m m2 action at rs is same never =
     stays_read (record { who = who; action = action }) NotEnabled w w2 (same_assembly w2.ractors w.ractors w2.channels w.channels (rs ∙ set_again w.ractors w.ractors k m2 m refl at same) is)
     (λ names bound g R. (never names bound g R, same_state (state_in w names g)))
 
 -- a growth was refused, and all is as it was
 pub unmade_for : (w w2 : Assembly) (who : RactorNo) (k : ℕ) (m m2 : Member) (action : Action) (f : Fault) → slice_get w.ractors k ≡ Some m → w2.ractors ≡ slice_set w.ractors k m2 → w2.channels ≡ w.channels → m2 ≡ m
-    → ((names : Naming) (bound : ℕ) (g : Objects) → IsRead w names bound g → IsCase (record { who = who; action = action }) (Refused f) (state_in w names g) (state_in w names g))
-    → IsStep (record { who = who; action = action }) (Refused f) w w2
+    → ((names : Naming) (bound : ℕ) (g : Objects) → IsRead w names bound g → IsOutcome (record { who = who; action = action }) (Refused f) (state_in w names g) (state_in w names g))
+    → HasOutcome (record { who = who; action = action }) (Refused f) w w2
 unmade_for w w2 who k m m2 action f at rs is same case =
     stays_read (record { who = who; action = action }) (Refused f) w w2 (same_assembly w2.ractors w.ractors w2.channels w.channels (rs ∙ set_again w.ractors w.ractors k m2 m refl at same) is) case
 
@@ -247,7 +249,7 @@ no_below tables = record { known = λ c os has. absurd (none_in (c, os) has) }
 
 -- whatever a freeze answers
 pub frozen_by : (w w2 : Assembly) (who : RactorNo) (k : ℕ) (m m2 : Member) (op : Operand) (r : Reply) → slice_get w.ractors k ≡ Some m → w2.ractors ≡ slice_set w.ractors k m2 → w2.channels ≡ w.channels
-    → StandsAt who k → Freezes op r m m2 → IsStep (record { who = who; action = Freeze op }) r w w2
+    → StandsAt who k → Freezes op r m m2 → HasOutcome (record { who = who; action = Freeze op }) r w w2
 frozen_by w w2 who k m m2 op Done at rs is stands a = λ names bound g R.
     let q = making w w2 k m m2 at rs is op IsNoShell frozen frozen ref.Nil a names bound g R (no_below (layout w)) tt (λ o whole. whole) (λ o whole shut. frozen_same o whole shut) (λ o l x has. inl (l, has)) (λ o. refl) in
     (q.0, q.1, q.2, q.3, (k, actor_in names k m, stands, actor_at w names g k m at, may_on w names bound g R k m at who op IsNoShell stands (λ o whole. whole) (a.0, a.1, a.2, a.3), q.4))
@@ -264,7 +266,7 @@ frozen_by w w2 who k m m2 op OfMain at rs is stands a = absurd a
 
 -- whatever an append answers
 pub appended_by : (w w2 : Assembly) (who : RactorNo) (k : ℕ) (m m2 : Member) (op : Operand) (byte : ℕ) (r : Reply) → slice_get w.ractors k ≡ Some m → w2.ractors ≡ slice_set w.ractors k m2 → w2.channels ≡ w.channels
-    → StandsAt who k → Appends op byte r m m2 → IsStep (record { who = who; action = Append op byte }) r w w2
+    → StandsAt who k → Appends op byte r m m2 → HasOutcome (record { who = who; action = Append op byte }) r w w2
 appended_by w w2 who k m m2 op byte Done at rs is stands a = λ names bound g R.
     let q = making w w2 k m m2 at rs is op (IsOpen text) (appended byte) (appended byte) ref.Nil a names bound g R (no_below (layout w)) tt (λ o whole. whole)
     (λ o opened shut. open_never text o (appended byte o) text_differs opened shut) (λ o l x has. inl (l, has)) (λ o. refl) in
@@ -284,7 +286,7 @@ appended_by w w2 who k m m2 op byte OfMain at rs is stands a = absurd a
 
 -- whatever a push answers
 pub pushed_by : (w w2 : Assembly) (who : RactorNo) (k : ℕ) (m m2 : Member) (op value : Operand) (r : Reply) → slice_get w.ractors k ≡ Some m → w2.ractors ≡ slice_set w.ractors k m2 → w2.channels ≡ w.channels
-    → StandsAt who k → Pushes op value r m m2 → IsStep (record { who = who; action = Push op value }) r w w2
+    → StandsAt who k → Pushes op value r m m2 → HasOutcome (record { who = who; action = Push op value }) r w w2
 pushed_by w w2 who k m m2 op value Done at rs is stands (v, is_named, a) = λ names bound g R.
     let q = making w w2 k m m2 at rs is op (IsOpen array) (pushed (value_of v)) (pushed (root_in names (Space k) v)) v a names bound g R
     (known_named (layout w) m.roots value v (R.knows.ractors k m at).roots is_named) (named_new g names (Space k) m.roots value v is_named) (λ o whole. whole)
@@ -324,7 +326,7 @@ pushed_by w w2 who k m m2 op value OfMain at rs is stands a = absurd a
 
 -- whatever a write answers
 pub written_by : (w w2 : Assembly) (who : RactorNo) (k : ℕ) (m m2 : Member) (op : Operand) (i : ℕ) (value : Operand) (r : Reply) → slice_get w.ractors k ≡ Some m → w2.ractors ≡ slice_set w.ractors k m2 → w2.channels ≡ w.channels
-    → StandsAt who k → Writes op i value r m m2 → IsStep (record { who = who; action = Write op i value }) r w w2
+    → StandsAt who k → Writes op i value r m m2 → HasOutcome (record { who = who; action = Write op i value }) r w w2
 written_by w w2 who k m m2 op i value Done at rs is stands (v, is_named, a) = λ names bound g R.
     let q = making w w2 k m m2 at rs is op (HasElement i) (written i (value_of v)) (written i (root_in names (Space k) v)) v a names bound g R
     (known_named (layout w) m.roots value v (R.knows.ractors k m at).roots is_named) (named_new g names (Space k) m.roots value v is_named) (λ o has. has_on names (Space k) i o has)
@@ -356,7 +358,7 @@ written_by w w2 who k m m2 op i value OfMain at rs is stands a = absurd a
 
 -- whatever setting a field answers
 pub set_by : (w w2 : Assembly) (who : RactorNo) (k : ℕ) (m m2 : Member) (op : Operand) (name : Sym) (value : Operand) (r : Reply) → slice_get w.ractors k ≡ Some m → w2.ractors ≡ slice_set w.ractors k m2 → w2.channels ≡ w.channels
-    → StandsAt who k → Sets op name.0 value r m m2 → IsStep (record { who = who; action = SetField op name value }) r w w2
+    → StandsAt who k → Sets op name.0 value r m m2 → HasOutcome (record { who = who; action = SetField op name value }) r w w2
 set_by w w2 who k m m2 op name value Done at rs is stands (v, is_named, a) = λ names bound g R.
     let q = making w w2 k m m2 at rs is op (IsOpen plain) (with_field name.0 (value_of v)) (with_field name.0 (root_in names (Space k) v)) v a names bound g R
     (known_named (layout w) m.roots value v (R.knows.ractors k m at).roots is_named) (named_new g names (Space k) m.roots value v is_named) (λ o whole. whole)

@@ -18,8 +18,8 @@ use Rattle.rr_world.specs.Views.{Member, Channels, Assembly, with_inbox}
 use Rattle.rr_world.specs.Layouts.{layout, space_slots, hand_slots, inbox_slots, message_slots, mail_slots, message_below}
 use Rattle.rr_world.specs.States.{Mailbox, with_box}
 use Rattle.rr_world.specs.Readings.{each_from, actor_in, mailbox_in, parcel_in, letter_in, post_in}
-use Rattle.rr_world.specs.Cases.{StandsAt}
-use Rattle.rr_world.specs.Runs.{IsStep}
+use Rattle.rr_world.specs.Enabling.{StandsAt}
+use Rattle.rr_world.specs.Runs.{HasOutcome}
 use Rattle.rr_world.specs.declared.step.Action.TheVariants.{Offer}
 use Rattle.rr_world.specs.declared.step.Reply.TheVariants.{Offered}
 use Rattle.rr_world.proofs.Lists.{eq_cases, set_at, set_off, seen_same, each_set}
@@ -83,7 +83,7 @@ module _ (w w2 : Assembly) (who : RactorNo) (k c : ℕ) (m : Member) (i i2 : Inb
     unshared_b = λ d e. let n : ⊥ = cc in n;
   }
 
-  pub offered : (to : RactorNo) → StandsAt who k → StandsAt to c → IsStep (record { who = who; action = Offer to }) (Offered i.next) w w2
+  pub offered : (to : RactorNo) → StandsAt who k → StandsAt to c → HasOutcome (record { who = who; action = Offer to }) (Offered i.next) w w2
   offered to stands there names bound g R =
       let q = hands_on (Hand k) (Mail c i.next) p.objects [] (layout w) (layout w2) names bound g goes R.tables in
       let names2 = q.0 in
@@ -144,5 +144,5 @@ module _ (w w2 : Assembly) (who : RactorNo) (k c : ℕ) (m : Member) (i i2 : Inb
         ),
       )
 
-  pub offered_under : (to : RactorNo) (t : ℕ) → t ≡ i.next → StandsAt who k → StandsAt to c → IsStep (record { who = who; action = Offer to }) (Offered t) w w2
-  offered_under to t same stands there = subst (λ u. IsStep (record { who = who; action = Offer to }) (Offered u) w w2) (sym same) (offered to stands there)
+  pub offered_under : (to : RactorNo) (t : ℕ) → t ≡ i.next → StandsAt who k → StandsAt to c → HasOutcome (record { who = who; action = Offer to }) (Offered t) w w2
+  offered_under to t same stands there = subst (λ u. HasOutcome (record { who = who; action = Offer to }) (Offered u) w w2) (sym same) (offered to stands there)

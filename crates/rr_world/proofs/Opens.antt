@@ -13,9 +13,9 @@ use Rattle.rr_space.proofs.Hands.{hands_on}
 use Rattle.rr_world.specs.Views.{Member, Channels, Assembly}
 use Rattle.rr_world.specs.Layouts.{layout, space_slots, hand_slots, inbox_slots, message_slots}
 use Rattle.rr_world.specs.Readings.{each_from, actor_in, shells_in, parcel_in, value_in, root_in, post_in, state_in}
-use Rattle.rr_world.specs.Cases.{StandsAt}
+use Rattle.rr_world.specs.Enabling.{StandsAt}
 use Rattle.rr_world.specs.Opening.{IsOpenedBy, Opened}
-use Rattle.rr_world.specs.Runs.{IsStep}
+use Rattle.rr_world.specs.Runs.{HasOutcome}
 use Rattle.rr_world.specs.declared.step.Action.TheVariants.{Open}
 use Rattle.rr_world.specs.declared.step.Reply.{Reply}
 use Rattle.rr_world.specs.declared.step.Reply.TheVariants.{NotEnabled, Done, Offered, Empty, EmptyAndClosed, WasClosed, Refused, Started, OfMain}
@@ -48,7 +48,7 @@ module _ (w w2 : Assembly) (k : ℕ) (m m2 : Member) (p : Packed) (root : Ref) (
     unshared_b = λ d e. let n : ⊥ = cc in n;
   }
 
-  pub opened : (who : RactorNo) → StandsAt who k → IsStep (record { who = who; action = Open }) Done w w2
+  pub opened : (who : RactorNo) → StandsAt who k → HasOutcome (record { who = who; action = Open }) Done w w2
   opened who stands names bound g R =
       let q = hands_on (Hand k) (Space k) p.objects m.space.slots (layout w) (layout w2) names bound g goes R.tables in
       let names2 = q.0 in
@@ -64,7 +64,7 @@ module _ (w w2 : Assembly) (k : ℕ) (m m2 : Member) (p : Packed) (root : Ref) (
       ap length O.opened.slots ∙ length-append m.space.slots (map (here_behind (length m.space.slots)) p.objects)
       ∙ ap (λ n. length m.space.slots + n) (length-map p.objects (here_behind (length m.space.slots))) in
       let actor : actor_in names2 k m2 ≡ record (actor_in names k m) { roots = (actor_in names k m).roots ++ (parcel_in names (Hand k) p).root ∷ []; hand = None; home = None; slots = (actor_in names k m).slots + (parcel_in names (Hand k) p).size } =
-      same_actor roots (ap (option_map (parcel_in names2 (Hand k))) O.hand) (ap (option_map (shells_in names2 k)) O.home) count O.opened.rest.limit O.opened.rest.next_message O.limits in (
+      same_actor roots (ap (option_map (parcel_in names2 (Hand k))) O.hand) (ap (option_map (shells_in names2 k)) O.home) count O.opened.rest.limit O.opened.rest.next_message O.limits O.runs in (
         names2,
         bound,
         q.1,
@@ -92,7 +92,7 @@ module _ (w w2 : Assembly) (k : ℕ) (m m2 : Member) (p : Packed) (root : Ref) (
 
 -- whatever opening answers
 pub opened_by : (w w2 : Assembly) (who : RactorNo) (k : ℕ) (m m2 : Member) (r : Reply) → slice_get w.ractors k ≡ Some m → w2.ractors ≡ slice_set w.ractors k m2 → w2.channels ≡ w.channels
-    → StandsAt who k → Opened r m m2 → IsStep (record { who = who; action = Open }) r w w2
+    → StandsAt who k → Opened r m m2 → HasOutcome (record { who = who; action = Open }) r w w2
 opened_by w w2 who k m m2 NotEnabled at rs is stands (none, same) =
     refused (record { who = who; action = Open }) w w2 (same_assembly w2.ractors w.ractors w2.channels w.channels (rs ∙ set_again w.ractors w.ractors k m2 m refl at same) is)
     (λ names g e. holds_not names k m none (allowed w names g (record { who = who; action = Open }) k m stands at e))

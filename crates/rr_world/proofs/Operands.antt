@@ -10,7 +10,7 @@ use Rattle.rr_space.proofs.Renaming.{contains_at}
 use Rattle.rr_space.proofs.Sounds.{none_in}
 use Rattle.rr_world.specs.Views.{AreRootsWithin}
 use Rattle.rr_world.specs.Readings.{root_in}
-use Rattle.rr_world.specs.Cases.{named_value}
+use Rattle.rr_world.specs.Enabling.{named_value}
 use Rattle.rr_world.specs.Packing.{named_ref}
 use Rattle.rr_world.specs.declared.step.Operand.{Operand}
 use Rattle.rr_world.specs.declared.step.Operand.TheVariants as operand

@@ -23,9 +23,9 @@ use Rattle.rr_copy.proofs.Shut.{message_is_shut}
 use Rattle.rr_world.specs.Views.{Member, Channels, Assembly, IsFree}
 use Rattle.rr_world.specs.Layouts.{layout, space_slots, hand_slots, inbox_slots, message_slots, message_below, IsRead}
 use Rattle.rr_world.specs.Readings.{each_from, actor_in, parcel_in, root_in, post_in, state_in}
-use Rattle.rr_world.specs.Cases.{StandsAt, IsFreeHand, IsValue, MayBePacked}
+use Rattle.rr_world.specs.Enabling.{StandsAt, IsFreeHand, IsValue, MayBePacked}
 use Rattle.rr_world.specs.Packing.{IsPackedFrom, MayNotPack, Packs, named_ref}
-use Rattle.rr_world.specs.Runs.{IsStep}
+use Rattle.rr_world.specs.Runs.{HasOutcome}
 use Rattle.rr_world.specs.declared.step.Operand.{Operand}
 use Rattle.rr_world.specs.declared.step.Action.TheVariants.{Pack}
 use Rattle.rr_world.specs.declared.step.Reply.TheVariants.{NotEnabled, Done, Offered, Empty, EmptyAndClosed, WasClosed, Refused, Started, OfMain}
@@ -177,7 +177,7 @@ module _ (w w2 : Assembly) (names : Naming) (bound : ℕ) (g : Objects) (R : IsR
 
 module _ (w w2 : Assembly) (who : RactorNo) (k : ℕ) (m : Member) (op : Operand) (v : Ref) (p : Packed) (at : slice_get w.ractors k ≡ Some m) (stands : StandsAt who k)
     (named : named_ref m.roots op ≡ Some v) (P : IsPackedFrom m.space v p) (empty : IsFree m) (rs : w2.ractors ≡ slice_set w.ractors k (record m { hand = Some p })) (is : w2.channels ≡ w.channels) where
-  pub packed : ((names : Naming) (bound : ℕ) (g : Objects) → IsRead w names bound g → Knows (below_ref v) (layout w)) → IsStep (record { who = who; action = Pack op }) Done w w2
+  pub packed : ((names : Naming) (bound : ℕ) (g : Objects) → IsRead w names bound g → Knows (below_ref v) (layout w)) → HasOutcome (record { who = who; action = Pack op }) Done w w2
   packed all names bound g R =
       let knows = all names bound g R in
       let q = remaking_is_a_step (Hand k) (length p.objects) [] (map Here p.objects) (layout w) (layout w2) names bound g (remakes w w2 names bound g R k m v p at P empty knows rs is) R.tables in
@@ -234,7 +234,7 @@ not_packed w names bound g k m op R at (inr (inr (v, named, N))) empty value tes
 
 -- whatever a pack answers
 pub packed_by : (w w2 : Assembly) (who : RactorNo) (k : ℕ) (m m2 : Member) (op : Operand) (r : Reply) → slice_get w.ractors k ≡ Some m → w2.ractors ≡ slice_set w.ractors k m2 → w2.channels ≡ w.channels
-    → StandsAt who k → Packs op r m m2 → IsStep (record { who = who; action = Pack op }) r w w2
+    → StandsAt who k → Packs op r m m2 → HasOutcome (record { who = who; action = Pack op }) r w w2
 packed_by w w2 who k m m2 op Done at rs is stands (v, p, empty, named, P, same) =
     packed w w2 who k m op v p at stands named P empty (rs ∙ ap (slice_set w.ractors k) same) is (λ names bound g R. known_named (layout w) m.roots op v (R.knows.ractors k m at).roots named)
 packed_by w w2 who k m m2 op NotEnabled at rs is stands (why, same) =

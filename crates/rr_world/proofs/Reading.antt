@@ -22,10 +22,11 @@ use Rattle.rr_world.specs.Views.{Member, Channels, Assembly}
 use Rattle.rr_world.specs.Layouts.{layout, space_slots, hand_slots, inbox_slots, MemberKnows, IsRead}
 use Rattle.rr_world.specs.States.{Actor}
 use Rattle.rr_world.specs.Readings.{each_from, actor_in, root_in, post_in, state_in}
-use Rattle.rr_world.specs.Cases.{StandsAt, IsReadAs, named_value}
+use Rattle.rr_world.specs.Enabling.{StandsAt, named_value}
+use Rattle.rr_world.specs.ObjectCases.{IsReadAs}
 use Rattle.rr_world.specs.Changing.{HasRootsWithin, HasUnder, IsReadBy, Reads}
 use Rattle.rr_world.specs.Packing.{named_ref}
-use Rattle.rr_world.specs.Runs.{IsStep}
+use Rattle.rr_world.specs.Runs.{HasOutcome}
 use Rattle.rr_world.specs.declared.step.Operand.{Operand}
 use Rattle.rr_world.specs.declared.step.Action.TheVariants.{Read}
 use Rattle.rr_world.specs.declared.step.Reply.{Reply}
@@ -145,7 +146,7 @@ module _ (w w2 : Assembly) (who : RactorNo) (k : ℕ) (m m2 : Member) (op : Oper
         post = ap (post_in names) is;
       }
 
-  read_done : IsStep (record { who = who; action = Read op label }) Done w w2
+  read_done : HasOutcome (record { who = who; action = Read op label }) Done w w2
   read_done names bound g R = (
     names,
     bound,
@@ -156,7 +157,7 @@ module _ (w w2 : Assembly) (who : RactorNo) (k : ℕ) (m m2 : Member) (op : Oper
 
 -- whatever a read answers
 pub read_of : (w w2 : Assembly) (who : RactorNo) (k : ℕ) (m m2 : Member) (op : Operand) (label : CodeLabel) (r : Reply) → slice_get w.ractors k ≡ Some m → w2.ractors ≡ slice_set w.ractors k m2
-    → w2.channels ≡ w.channels → StandsAt who k → Reads op (label_of label) r m m2 → IsStep (record { who = who; action = Read op label }) r w w2
+    → w2.channels ≡ w.channels → StandsAt who k → Reads op (label_of label) r m m2 → HasOutcome (record { who = who; action = Read op label }) r w w2
 read_of w w2 who k m m2 op label Done at rs is stands (v, r, A) = read_done w w2 who k m m2 op label v r at rs is stands A
 read_of w w2 who k m m2 op label NotEnabled at rs is stands a =
     unmade w w2 who k m m2 (Read op label) at rs is a.2 (λ names bound g R e.

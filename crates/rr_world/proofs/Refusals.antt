@@ -14,8 +14,9 @@ use Rattle.rr_inbox.specs.Answers.{Refusal}
 use Rattle.rr_world.specs.Views.{Member, Assembly, with_inbox}
 use Rattle.rr_world.specs.States.{Post, IsSame, with_box}
 use Rattle.rr_world.specs.Readings.{each_from, actor_in, mailbox_in, letter_in, parcel_in, post_in, state_in}
-use Rattle.rr_world.specs.Cases.{StandsAt, HasRoom}
-use Rattle.rr_world.specs.Runs.{IsStep}
+use Rattle.rr_world.specs.Enabling.{StandsAt}
+use Rattle.rr_world.specs.MessageCases.{HasRoom}
+use Rattle.rr_world.specs.Runs.{HasOutcome}
 use Rattle.rr_world.specs.declared.step.Action.TheVariants.{Offer, Close}
 use Rattle.rr_world.specs.declared.step.Reply.TheVariants.{Refused, WasClosed}
 use Rattle.rr_world.proofs.Lists.{set_back}
@@ -64,7 +65,7 @@ module _ (w w2 : Assembly) (who to : RactorNo) (k c : ℕ) (m : Member) (i i2 : 
     post = same.post ∙ ap (with_box (post_in names w.channels) c) (told_box names c i i2 (event.Refused (size_of p) who ∷ []) t);
   }
 
-  pub offer_refused : (f : Fault) (b : Packed) → IsTold i i2 (told_of_offer (Err (f, b)) who p) → Refusal f i → IsStep (record { who = who; action = Offer to }) (Refused f) w w2
+  pub offer_refused : (f : Fault) (b : Packed) → IsTold i i2 (told_of_offer (Err (f, b)) who p) → Refusal f i → HasOutcome (record { who = who; action = Offer to }) (Refused f) w w2
   offer_refused fault.HistoryFull b t why = told w w2 c i i2 box t.inside rs is (record { who = who; action = Offer to }) (Refused fault.HistoryFull)
       (λ names g same. (
         k,
@@ -111,7 +112,7 @@ shut_by i who = record i { closed = true; history = i.history ++ cond i.closed [
 
 pub closed_by : (w w2 : Assembly) (who to : RactorNo) (k c : ℕ) (m : Member) (i i2 : Inbox) (already : Bool) → slice_get w.ractors k ≡ Some m → slice_get w.channels.inboxes c ≡ Some i
     → w2.ractors ≡ w.ractors → w2.channels ≡ with_inbox w.channels c i2 → i2 ≡ shut_by i who → already ≡ i.closed → StandsAt who k → StandsAt to c
-    → IsStep (record { who = who; action = Close to }) (WasClosed already) w w2
+    → HasOutcome (record { who = who; action = Close to }) (WasClosed already) w w2
 closed_by w w2 who to k c m i i2 already at box rs is shut was stands there =
     told w w2 c i i2 box (ap (λ (x : Inbox). x.inside) shut) rs is (record { who = who; action = Close to }) (WasClosed already)
     (λ names g same. (

@@ -18,9 +18,9 @@ use Rattle.rr_move.specs.declared.home.Detached.{Detached}
 use Rattle.rr_world.specs.Views.{Member, Assembly}
 use Rattle.rr_world.specs.Layouts.{layout, message_slots, message_below, MemberKnows}
 use Rattle.rr_world.specs.Readings.{each_from, actor_in, shells_in, parcel_in, root_in, post_in}
-use Rattle.rr_world.specs.Cases.{StandsAt, HoldsMoved}
+use Rattle.rr_world.specs.Enabling.{StandsAt, HoldsMoved}
 use Rattle.rr_world.specs.Moving.{IsPutBackBy, PutsBackInto}
-use Rattle.rr_world.specs.Runs.{IsStep}
+use Rattle.rr_world.specs.Runs.{HasOutcome}
 use Rattle.rr_world.specs.declared.step.Action.TheVariants.{PutBack}
 use Rattle.rr_world.specs.declared.step.Reply.{Reply}
 use Rattle.rr_world.specs.declared.step.Reply.TheVariants.{NotEnabled, Done, Offered, Empty, EmptyAndClosed, WasClosed, Refused, Started, OfMain}
@@ -74,7 +74,7 @@ module _ (w w2 : Assembly) (who : RactorNo) (k : ℕ) (m m2 : Member) (d : Detac
     hand = λ p e. absurd (none-some p (sym gone ∙ e));
   }
 
-  pub returned : PuttingBackUndoes → StandsAt who k → IsStep (record { who = who; action = PutBack }) Done w w2
+  pub returned : PuttingBackUndoes → StandsAt who k → HasOutcome (record { who = who; action = PutBack }) Done w w2
   returned law stands names bound g R =
       let q = law k d m.space m2.space (layout w) (layout w2) names bound g puts R.tables in
       let names2 = q.0 in
@@ -88,7 +88,7 @@ module _ (w w2 : Assembly) (who : RactorNo) (k : ℕ) (m m2 : Member) (d : Detac
       ap (map (root_in names2 (Space k))) roots_are ∙ roots_keep (length m.space.slots) names names2 (Space k) m.roots A.rooted stand kept in
       let actor : actor_in names2 k m2 ≡ record (actor_in names k m) { hand = None; home = None } =
       same_actor roots (ap (option_map (parcel_in names2 (Hand k))) gone) (ap (λ (x : Member). option_map (shells_in names2 k) x.home) A.now_is) A.back.slots.size A.back.rest.limit A.back.rest.next_message
-      (ap (λ (x : Member). x.limits) A.now_is) in
+      (ap (λ (x : Member). x.limits) A.now_is) (ap (λ (x : Member). x.runs) A.now_is) in
       let hand = ap (option_map (parcel_in names (Hand k))) A.held in
       let home = ap (option_map (shells_in names k)) A.home in (
         names2,
@@ -131,7 +131,7 @@ held_back names k m (p, home, has, its) =
 
 -- whatever a put-back answers
 pub returned_by : PuttingBackUndoes → (w w2 : Assembly) (who : RactorNo) (k : ℕ) (m m2 : Member) (r : Reply) → slice_get w.ractors k ≡ Some m → w2.ractors ≡ slice_set w.ractors k m2
-    → w2.channels ≡ w.channels → StandsAt who k → PutsBackInto r m m2 → IsStep (record { who = who; action = PutBack }) r w w2
+    → w2.channels ≡ w.channels → StandsAt who k → PutsBackInto r m m2 → HasOutcome (record { who = who; action = PutBack }) r w w2
 returned_by law w w2 who k m m2 Done at rs is stands (d, A) = returned w w2 who k m m2 d at A rs is law stands
 returned_by law w w2 who k m m2 NotEnabled at rs is stands (never, same) =
     refused (record { who = who; action = PutBack }) w w2 (same_assembly w2.ractors w.ractors w2.channels w.channels (rs ∙ set_again w.ractors w.ractors k m2 m refl at same) is)

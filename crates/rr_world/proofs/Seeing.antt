@@ -18,7 +18,7 @@ use Rattle.rr_share.specs.Search.{LeadsToShell}
 use Rattle.rr_world.specs.Views.{Member, Assembly}
 use Rattle.rr_world.specs.Layouts.{layout, space_slots, IsRead}
 use Rattle.rr_world.specs.Readings.{value_in, root_in}
-use Rattle.rr_world.specs.Cases.{AreShareablesShared}
+use Rattle.rr_world.specs.Enabling.{AreShareablesShared}
 use Rattle.rr_world.proofs.Knowing.{none_known}
 
 there_end : (g : Graph) (f : Name → Name) (gs : Graph) → Embeds g f gs → (path : List Label) (v : Value) (n : Name) → There g v → Leads g v path (At n) → There g (At n)

@@ -21,9 +21,10 @@ use Rattle.rr_world.specs.Views.{Member, Channels, Assembly}
 use Rattle.rr_world.specs.Layouts.{layout, space_slots, hand_slots, inbox_slots, message_slots, message_below, MemberKnows, IsKnowing, AreOwned, HaveInboxes, IsRead}
 use Rattle.rr_world.specs.States.{Actor, Post}
 use Rattle.rr_world.specs.Readings.{each_from, actor_in, archive_in, shells_in, mailbox_in, parcel_in, root_in, post_in, state_in}
-use Rattle.rr_world.specs.Cases.{StandsAt, IsStarted, new_actor, new_mailbox}
+use Rattle.rr_world.specs.Enabling.{StandsAt}
+use Rattle.rr_world.specs.ObjectCases.{IsStarted, new_actor, new_mailbox}
 use Rattle.rr_world.specs.Starting.{IsBegun}
-use Rattle.rr_world.specs.Runs.{IsStep}
+use Rattle.rr_world.specs.Runs.{HasOutcome}
 use Rattle.rr_world.specs.declared.step.Action.TheVariants.{Start}
 use Rattle.rr_world.specs.declared.step.Reply.TheVariants.{Started, Refused}
 use Rattle.rr_world.proofs.Enabled.{actor_at}
@@ -68,6 +69,44 @@ each_append : {A B : Type 0} (f : ℕ → A → B) (k n : ℕ) (xs : List A) (y 
 each_append f k n [] y e = ap (λ i. f i y ∷ []) (let w : k ≡ n = omega arith in w)
 each_append f k n (x ∷ xs) y e = ap (λ ys. f k x ∷ ys) (each_append f (k + 1) n xs y (omega arith))
 
+-- a table that is made anew, empty, where there was none, leaves all objects
+pub remade_empty : (h : Owner) (old new : Layout) (names names2 : Naming) (bound bound2 : ℕ) (g g2 : Objects) → Remakes h 0 [] [] old new → old h ≡ None → IsReading old names bound g
+    → IsReading new names2 bound2 g2 → IsNamed h names names2 → IsRemade h [] [] names names2 g g2 → (j : ℕ) → g2 j ≡ g j
+remade_empty h old new names names2 bound bound2 g g2 E was R R2 N M j = by (g j) refl
+  where
+    none_new : (y : Owned) → g j ≡ None → g2 j ≡ Some y → ⊥
+    none_new y none e =
+        let st = R2.only j y e in
+        ⊎_elim
+        (λ mine.
+        let t_is : st.table ≡ [] = same_Some _ _ (sym st.is_table ∙ ap new mine ∙ E.now) in
+        none-some (Here st.raw) (ap (λ t. slice_get t st.place) (sym t_is) ∙ st.is_raw))
+        (λ other.
+        let before : old y.owner ≡ Some st.table = sym (E.rest y.owner other) ∙ st.is_table in
+        let there = (R.reads y.owner st.table before).here st.place st.raw st.is_raw in
+        let name_is = ap (λ ns. slice_index ns st.place) (sym (N.rest y.owner other)) ∙ st.is_name in
+        none-some _ (sym none ∙ ap g (sym name_is) ∙ there))
+        (owner_cases y.owner h)
+
+    by : (x : Option Owned) → g j ≡ x → g2 j ≡ g j
+    by (Some x) e = M.others j x e (λ mine. let st = R.only j x e in none-some st.table (sym was ∙ ap old (sym mine) ∙ st.is_table)) ∙ sym e
+    by None e = on (g2 j) refl ∙ sym e
+      where
+        on : (x : Option Owned) → g2 j ≡ x → g2 j ≡ None
+        on None q = q
+        on (Some y) q = absurd (none_new y e q)
+
+nothing_known : (tables : Layout) (b : Below) → b ≡ [] → Knows b tables
+nothing_known tables b none = record { known = λ c os has. absurd (none_in (c, os) (subst (λ x. Contains x (c, os)) none has)) }
+
+-- a ractor without objects, roots and message knows of no cluster
+pub bare_knows : (tables : Layout) (m : Member) → m.space.below ≡ [] → m.roots ≡ [] → m.hand ≡ None → MemberKnows tables m
+bare_knows tables m below roots hand = record {
+  space = nothing_known tables (joined m.space.below) (ap joined below);
+  roots = λ r has. absurd (none_in r (subst (λ xs. Contains xs r) roots has));
+  hand = λ p e. absurd (none-some p (sym hand ∙ e));
+}
+
 module _ (w w2 : Assembly) (limits : Limits) (m2 : Member) (A : IsBegun limits (length w.ractors + 1) m2) (rs : w2.ractors ≡ w.ractors ++ m2 ∷ []) (is : w2.channels ≡ record w.channels { inboxes = w.channels.inboxes ++ new_inbox limits.events ∷ [] }) where
   abbrev place : ℕ
   place = length w.ractors
@@ -108,34 +147,12 @@ module _ (w w2 : Assembly) (limits : Limits) (m2 : Member) (A : IsBegun limits (
     kept_shared : (c : ℕ) → names2 (Shared c) ≡ names (Shared c)
     kept_shared c = N.rest (Shared c) (λ e. space_apart c (sym e))
 
-    none_new : (j : ℕ) (y : Owned) → g j ≡ None → g2 j ≡ Some y → ⊥
-    none_new j y none e =
-        let st = after_reading.only j y e in
-        ⊎_elim
-        (λ mine.
-        let t_is : st.table ≡ [] = same_Some _ _ (sym st.is_table ∙ ap (layout w2) mine ∙ now) in
-        none-some (Here st.raw) (ap (λ t. slice_get t st.place) (sym t_is) ∙ st.is_raw))
-        (λ other.
-        let old : layout w y.owner ≡ Some st.table = sym (rest y.owner other) ∙ st.is_table in
-        let there = (R.tables.reads y.owner st.table old).here st.place st.raw st.is_raw in
-        let name_is = ap (λ ns. slice_index ns st.place) (sym (N.rest y.owner other)) ∙ st.is_name in
-        none-some _ (sym none ∙ ap g (sym name_is) ∙ there))
-        (owner_cases y.owner (Space place))
-
     objects : (j : ℕ) → g2 j ≡ g j
-    objects j = by (g j) refl
-      where
-        by : (x : Option Owned) → g j ≡ x → g2 j ≡ g j
-        by (Some x) e = M.others j x e (λ mine. let st = R.tables.only j x e in none-some st.table (sym was ∙ ap (layout w) (sym mine) ∙ st.is_table)) ∙ sym e
-        by None e = on (g2 j) refl ∙ sym e
-          where
-            on : (x : Option Owned) → g2 j ≡ x → g2 j ≡ None
-            on None q = q
-            on (Some y) q = absurd (none_new j y e q)
+    objects = remade_empty (Space place) (layout w) (layout w2) names names2 bound (bound + 0) g g2 remakes was R.tables after_reading N M
 
     new_one : actor_in names2 place m2 ≡ new_actor limits
     new_one = same_actor (ap (map (root_in names2 (Space place))) A.roots) (ap (option_map (parcel_in names2 (Hand place))) A.hand) (ap (option_map (shells_in names2 place)) A.home)
-        (ap length A.slots) A.limit A.next A.run
+        (ap length A.slots) A.limit A.next A.run A.runs
 
     started : (number : RactorNo) (a : Actor) → a.limits ≡ limits → StandsAt number place → IsStarted number a (state_in w names g) (state_in w2 names2 g2)
     started number a same stands = record {
@@ -156,19 +173,9 @@ module _ (w w2 : Assembly) (limits : Limits) (m2 : Member) (A : IsBegun limits (
           ∙ ap (λ (l : Limits). each_from (mailbox_in names) 0 w.channels.inboxes ++ new_mailbox l ∷ []) (sym same));
     }
 
-  nothing_known : (tables : Layout) (b : Below) → b ≡ [] → Knows b tables
-  nothing_known tables b none = record { known = λ c os has. absurd (none_in (c, os) (subst (λ x. Contains x (c, os)) none has)) }
-
-  begun_knows : (tables : Layout) → MemberKnows tables m2
-  begun_knows tables = record {
-    space = nothing_known tables (joined m2.space.below) (ap joined A.below);
-    roots = λ r has. absurd (none_in r (subst (λ xs. Contains xs r) A.roots has));
-    hand = λ p e. absurd (none-some p (sym A.hand ∙ e));
-  }
-
   more_knows : IsKnowing w → IsKnowing w2
   more_knows K = record {
-    ractors = λ j m at. member_on w w2 m (⊎_elim (λ old. K.ractors j m old) (λ new. subst (MemberKnows (layout w)) new.1 (begun_knows (layout w))) (last_cases w.ractors m2 j m (ap (λ xs. slice_get xs j) (sym rs) ∙ at)));
+    ractors = λ j m at. member_on w w2 m (⊎_elim (λ old. K.ractors j m old) (λ new. subst (MemberKnows (layout w)) new.1 (bare_knows (layout w) m2 A.below A.roots A.hand)) (last_cases w.ractors m2 j m (ap (λ xs. slice_get xs j) (sym rs) ∙ at)));
     store = λ n v here. knows_on w w2 (below_ref v) (K.store n v (ap (λ (x : Channels). constant_of x.store n) (sym is) ∙ here));
     inboxes = λ c i e at has. knows_on w w2 (message_below e.message) (⊎_elim
         (λ old. K.inboxes c i e old has)
@@ -188,7 +195,7 @@ module _ (w w2 : Assembly) (limits : Limits) (m2 : Member) (A : IsBegun limits (
 
   -- the ractor at k, whose limits these are, starts another
   pub begun : (who number : RactorNo) (k : ℕ) (m : Member) → slice_get w.ractors k ≡ Some m → m.limits ≡ limits → StandsAt who k → StandsAt number place
-      → IsStep (record { who = who; action = Start }) (Started number) w w2
+      → HasOutcome (record { who = who; action = Start }) (Started number) w w2
   begun who number k m at same stands next names bound g R =
       let q = remaking_is_a_step (Space place) 0 [] [] (layout w) (layout w2) names bound g remakes R.tables in (
         q.0,
@@ -200,7 +207,7 @@ module _ (w w2 : Assembly) (limits : Limits) (m2 : Member) (A : IsBegun limits (
 
 -- a refused start
 pub start_refused : (w w2 : Assembly) (who : RactorNo) (k : ℕ) (m : Member) (f : Fault) → slice_get w.ractors k ≡ Some m → w2 ≡ w → StandsAt who k
-    → (f ≡ fault.Memory) ⊎ ((f ≡ fault.Limit kind.Ractors) × (m.limits.ractors ≤ length w.ractors)) → IsStep (record { who = who; action = Start }) (Refused f) w w2
+    → (f ≡ fault.Memory) ⊎ ((f ≡ fault.Limit kind.Ractors) × (m.limits.ractors ≤ length w.ractors)) → HasOutcome (record { who = who; action = Start }) (Refused f) w w2
 start_refused w w2 who k m f at same stands why =
     stays (record { who = who; action = Start }) (Refused f) w w2 same
     (λ names g. (

@@ -5,8 +5,9 @@ use Rattle.rr_world.specs.Views.{Assembly}
 use Rattle.rr_world.specs.Layouts.{IsRead}
 use Rattle.rr_world.specs.States.{State, IsSame}
 use Rattle.rr_world.specs.Readings.{state_in}
-use Rattle.rr_world.specs.Cases.{IsCase, IsEnabled}
-use Rattle.rr_world.specs.Runs.{IsStep}
+use Rattle.rr_world.specs.Enabling.{IsPossible}
+use Rattle.rr_world.specs.Cases.{IsOutcome}
+use Rattle.rr_world.specs.Runs.{HasOutcome}
 use Rattle.rr_world.specs.declared.step.Step.{Step}
 use Rattle.rr_world.specs.declared.step.Reply.{Reply}
 use Rattle.rr_world.specs.declared.step.Reply.TheVariants.{NotEnabled}
@@ -15,17 +16,17 @@ pub same_state : (s : State) → IsSame s s
 same_state s = record { objects = λ n. refl; ractors = refl; post = refl }
 
 -- the World is as it was, and the case says so
-pub stays : (step : Step) (reply : Reply) (w w2 : Assembly) → w2 ≡ w → ((names : Naming) (g : Objects) → IsCase step reply (state_in w names g) (state_in w names g)) → IsStep step reply w w2
+pub stays : (step : Step) (reply : Reply) (w w2 : Assembly) → w2 ≡ w → ((names : Naming) (g : Objects) → IsOutcome step reply (state_in w names g) (state_in w names g)) → HasOutcome step reply w w2
 stays step reply w w2 same case names bound g R =
-    subst (λ (v : Assembly). (names2 : Naming) × (bound2 : ℕ) × (g2 : Objects) × IsRead v names2 bound2 g2 × IsCase step reply (state_in w names g) (state_in v names2 g2))
+    subst (λ (v : Assembly). (names2 : Naming) × (bound2 : ℕ) × (g2 : Objects) × IsRead v names2 bound2 g2 × IsOutcome step reply (state_in w names g) (state_in v names2 g2))
     (sym same) (names, bound, g, R, case names g)
 
-pub refused : (step : Step) (w w2 : Assembly) → w2 ≡ w → ((names : Naming) (g : Objects) → IsEnabled (state_in w names g) step → ⊥) → IsStep step NotEnabled w w2
+pub refused : (step : Step) (w w2 : Assembly) → w2 ≡ w → ((names : Naming) (g : Objects) → IsPossible (state_in w names g) step → ⊥) → HasOutcome step NotEnabled w w2
 refused step w w2 same not = stays step NotEnabled w w2 same (λ names g. (not names g, same_state (state_in w names g)))
 
 -- the same, where the case follows from the reading
-pub stays_read : (step : Step) (reply : Reply) (w w2 : Assembly) → w2 ≡ w → ((names : Naming) (bound : ℕ) (g : Objects) → IsRead w names bound g → IsCase step reply (state_in w names g) (state_in w names g))
-    → IsStep step reply w w2
+pub stays_read : (step : Step) (reply : Reply) (w w2 : Assembly) → w2 ≡ w → ((names : Naming) (bound : ℕ) (g : Objects) → IsRead w names bound g → IsOutcome step reply (state_in w names g) (state_in w names g))
+    → HasOutcome step reply w w2
 stays_read step reply w w2 same case names bound g R =
-    subst (λ (v : Assembly). (names2 : Naming) × (bound2 : ℕ) × (g2 : Objects) × IsRead v names2 bound2 g2 × IsCase step reply (state_in w names g) (state_in v names2 g2))
+    subst (λ (v : Assembly). (names2 : Naming) × (bound2 : ℕ) × (g2 : Objects) × IsRead v names2 bound2 g2 × IsOutcome step reply (state_in w names g) (state_in v names2 g2))
     (sym same) (names, bound, g, R, case names bound g R)

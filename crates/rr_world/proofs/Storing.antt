@@ -30,10 +30,11 @@ use Rattle.rr_world.specs.Views.{Member, Channels, Assembly, IsImmediate}
 use Rattle.rr_world.specs.Layouts.{layout, space_slots, hand_slots, inbox_slots, message_below, MemberKnows, IsKnowing, IsRead}
 use Rattle.rr_world.specs.States.{Actor, Held, constant_at, itself}
 use Rattle.rr_world.specs.Readings.{each_from, actor_in, mailbox_in, root_in, public_value, constant_in, archive_in, post_in, state_in}
-use Rattle.rr_world.specs.Cases.{IsSetRefused, IsSetOwnRefused, IsGetRefused, StandsAt, IsConstantSet, IsPublicValue, IsMain}
+use Rattle.rr_world.specs.Enabling.{StandsAt, IsPublicValue}
+use Rattle.rr_world.specs.ConstantCases.{IsSetRefused, IsSetOwnRefused, IsGetRefused, IsConstantSet, IsMain}
 use Rattle.rr_world.specs.Getting.{Joins}
 use Rattle.rr_world.specs.Packing.{named_ref}
-use Rattle.rr_world.specs.Runs.{IsStep}
+use Rattle.rr_world.specs.Runs.{HasOutcome}
 use Rattle.rr_world.specs.declared.step.Operand.{Operand}
 use Rattle.rr_world.specs.declared.step.Action.TheVariants.{SetConst, SetOwn, GetConst}
 use Rattle.rr_world.specs.declared.step.Reply.{Reply}
@@ -142,7 +143,7 @@ pub record IsStored (name : Sym) (c : ConstValue) (e : StoreEvent Sym) (s t : St
 -- a constant is set to an immediate
 pub constant_set : (w w2 : Assembly) (who : RactorNo) (k : ℕ) (m : Member) (name : Sym) (op : Operand) (v : Ref) → slice_get w.ractors k ≡ Some m → StandsAt who k → named_ref m.roots op ≡ Some v → IsImmediate v
     → w2.ractors ≡ w.ractors → w2.channels.inboxes ≡ w.channels.inboxes → IsStored name (Shareable v) (event.Shared name who) w.channels.store w2.channels.store
-    → IsStep (record { who = who; action = SetConst name op }) Done w w2
+    → HasOutcome (record { who = who; action = SetConst name op }) Done w w2
 constant_set w w2 who k m name op v at stands is_named plain rs boxes T names bound g R =
     let value = value_named names (Space k) m.roots op ∙ ap (option_map (root_in names (Space k))) is_named in
     let known = known_named (layout w) m.roots op v (R.knows.ractors k m at).roots is_named in (
@@ -173,7 +174,7 @@ space_at w k m at = ap (option_map space_slots) at
 
 -- the value is an object of the ractor's own, so that it is not set
 pub not_set : (w w2 : Assembly) (who : RactorNo) (k : ℕ) (m : Member) (name : Sym) (op : Operand) → slice_get w.ractors k ≡ Some m → StandsAt who k → w2 ≡ w
-    → ((v : Ref) → named_ref m.roots op ≡ Some v → (IsImmediate v → ⊥) × IsWithin (length m.space.slots) v) → IsStep (record { who = who; action = SetConst name op }) NotEnabled w w2
+    → ((v : Ref) → named_ref m.roots op ≡ Some v → (IsImmediate v → ⊥) × IsWithin (length m.space.slots) v) → HasOutcome (record { who = who; action = SetConst name op }) NotEnabled w w2
 not_set w w2 who k m name op at stands same none =
     stays_read (record { who = who; action = SetConst name op }) NotEnabled w w2 same (λ names bound g R. (
       λ e.
@@ -204,7 +205,7 @@ not_set w w2 who k m name op at stands same none =
 -- a constant is set to what the main ractor keeps
 pub own_set : (w w2 : Assembly) (who : RactorNo) (k : ℕ) (m : Member) (name : Sym) → slice_get w.ractors k ≡ Some m → StandsAt who k → IsMain who
     → w2.ractors ≡ w.ractors → w2.channels.inboxes ≡ w.channels.inboxes → IsStored name store.Own (event.Own name who) w.channels.store w2.channels.store
-    → IsStep (record { who = who; action = SetOwn name }) Done w w2
+    → HasOutcome (record { who = who; action = SetOwn name }) Done w w2
 own_set w w2 who k m name at stands main rs boxes T names bound g R = (
   names,
   bound,
@@ -215,7 +216,7 @@ own_set w w2 who k m name at stands main rs boxes T names bound g R = (
 
 -- a set that is refused
 pub set_refused : (w w2 : Assembly) (who : RactorNo) (k : ℕ) (m : Member) (name : Sym) (op : Operand) (v : Ref) (f : Fault) → slice_get w.ractors k ≡ Some m → StandsAt who k → named_ref m.roots op ≡ Some v
-    → IsImmediate v → w2 ≡ w → SetRefusal f w.channels.store who (Shareable v) → IsStep (record { who = who; action = SetConst name op }) (Refused f) w w2
+    → IsImmediate v → w2 ≡ w → SetRefusal f w.channels.store who (Shareable v) → HasOutcome (record { who = who; action = SetConst name op }) (Refused f) w w2
 set_refused w w2 who k m name op v f at stands is_named plain same why =
     stays (record { who = who; action = SetConst name op }) (Refused f) w w2 same (λ names g. (
       k,
@@ -244,7 +245,7 @@ set_refused w w2 who k m name op v f at stands is_named plain same why =
     refusal fault.NotMine y names g = absurd y
 
 pub own_refused : (w w2 : Assembly) (who : RactorNo) (k : ℕ) (m : Member) (name : Sym) (f : Fault) → slice_get w.ractors k ≡ Some m → StandsAt who k
-    → w2 ≡ w → SetRefusal f w.channels.store who store.Own → IsStep (record { who = who; action = SetOwn name }) (Refused f) w w2
+    → w2 ≡ w → SetRefusal f w.channels.store who store.Own → HasOutcome (record { who = who; action = SetOwn name }) (Refused f) w w2
 own_refused w w2 who k m name f at stands same why =
     stays (record { who = who; action = SetOwn name }) (Refused f) w w2 same (λ names g. (k, actor_in names k m, stands, actor_at w names g k m at, tt, refusal f why names g))
   where
@@ -291,7 +292,7 @@ module _ (w w2 : Assembly) (who : RactorNo) (k : ℕ) (m : Member) (name : Sym) 
         hand = K.hand;
       }
 
-  pub got : IsStep (record { who = who; action = GetConst name }) Done w w2
+  pub got : HasOutcome (record { who = who; action = GetConst name }) Done w w2
   got names bound g R = (
     names,
     bound,
@@ -320,10 +321,10 @@ module _ (w w2 : Assembly) (who : RactorNo) (k : ℕ) (m : Member) (name : Sym) 
 
 -- what a get answers where the constant has a value
 pub got_by : (w w2 : Assembly) (who : RactorNo) (k : ℕ) (m m2 : Member) (name : Sym) (v : Ref) (r : Reply) → slice_get w.ractors k ≡ Some m → StandsAt who k → constant_of w.channels.store name ≡ Some (Shareable v) → IsWithin 0 v
-    → w2.ractors ≡ slice_set w.ractors k m2 → w2.channels ≡ w.channels → Joins v r m m2 → IsStep (record { who = who; action = GetConst name }) r w w2
+    → w2.ractors ≡ slice_set w.ractors k m2 → w2.channels ≡ w.channels → Joins v r m m2 → HasOutcome (record { who = who; action = GetConst name }) r w w2
 got_by w w2 who k m m2 name v Done at stands here public rs is a = got w w2 who k m name v at stands here public (rs ∙ ap (slice_set w.ractors k) a) is
 got_by w w2 who k m m2 name v (Refused f) at stands here public rs is (memory, same) =
-    subst (λ (x : Fault). IsStep (record { who = who; action = GetConst name }) (Refused x) w w2) (sym memory)
+    subst (λ (x : Fault). HasOutcome (record { who = who; action = GetConst name }) (Refused x) w w2) (sym memory)
     (stays (record { who = who; action = GetConst name }) (Refused fault.Memory) w w2 (same_assembly w2.ractors w.ractors w2.channels w.channels (rs ∙ set_again w.ractors w.ractors k m2 m refl at same) is)
     (λ names g. (
       k,
@@ -343,13 +344,13 @@ got_by w w2 who k m m2 name v OfMain at stands here public rs is a = absurd a
 
 -- the main ractor keeps the value itself, and it is this one
 pub of_main : (w w2 : Assembly) (who : RactorNo) (k : ℕ) (m : Member) (name : Sym) → slice_get w.ractors k ≡ Some m → StandsAt who k → w2 ≡ w
-    → constant_of w.channels.store name ≡ Some store.Own → IsMain who → IsStep (record { who = who; action = GetConst name }) OfMain w w2
+    → constant_of w.channels.store name ≡ Some store.Own → IsMain who → HasOutcome (record { who = who; action = GetConst name }) OfMain w w2
 of_main w w2 who k m name at stands same here main =
     stays (record { who = who; action = GetConst name }) OfMain w w2 same
     (λ names g. (k, actor_in names k m, stands, actor_at w names g k m at, tt, (seen names w.channels.store name ∙ ap (option_map (constant_in names)) here, main, same_state (state_in w names g))))
 
 pub get_refused : (w w2 : Assembly) (who : RactorNo) (k : ℕ) (m : Member) (name : Sym) (f : Fault) → slice_get w.ractors k ≡ Some m → StandsAt who k
-    → w2 ≡ w → GetRefusal f w.channels.store who name → IsStep (record { who = who; action = GetConst name }) (Refused f) w w2
+    → w2 ≡ w → GetRefusal f w.channels.store who name → HasOutcome (record { who = who; action = GetConst name }) (Refused f) w w2
 get_refused w w2 who k m name f at stands same why =
     stays (record { who = who; action = GetConst name }) (Refused f) w w2 same (λ names g. (k, actor_in names k m, stands, actor_at w names g k m at, tt, refusal f why names g))
   where

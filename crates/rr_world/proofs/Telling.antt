@@ -8,8 +8,8 @@ use Rattle.rr_world.specs.Views.{Channels, Assembly, with_inbox}
 use Rattle.rr_world.specs.Layouts.{layout, space_slots, hand_slots, inbox_slots, mail_slots}
 use Rattle.rr_world.specs.States.{IsSame, with_box}
 use Rattle.rr_world.specs.Readings.{each_from, actor_in, mailbox_in, post_in, state_in}
-use Rattle.rr_world.specs.Cases.{IsCase}
-use Rattle.rr_world.specs.Runs.{IsStep}
+use Rattle.rr_world.specs.Cases.{IsOutcome}
+use Rattle.rr_world.specs.Runs.{HasOutcome}
 use Rattle.rr_world.specs.declared.step.Step.{Step}
 use Rattle.rr_world.specs.declared.step.Reply.{Reply}
 use Rattle.rr_world.proofs.Knowing.{knows_told}
@@ -27,7 +27,7 @@ module _ (w w2 : Assembly) (c : ℕ) (i i2 : Inbox) (box : slice_get w.channels.
   -- the objects, the ractors and the messages are as they were
   pub told : (step : Step) (reply : Reply)
       → ((names : Naming) (g : Objects) → IsSame (record (state_in w names g) { post = with_box (post_in names w.channels) c (mailbox_in names c i2) }) (state_in w2 names g)
-      → IsCase step reply (state_in w names g) (state_in w2 names g)) → IsStep step reply w w2
+      → IsOutcome step reply (state_in w names g) (state_in w2 names g)) → HasOutcome step reply w w2
   told step reply case names bound g R = (
     names,
     bound,

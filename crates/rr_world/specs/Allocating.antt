@@ -5,7 +5,7 @@ use Rattle.rr_base.specs.declared.limits.LimitKind.TheVariants.{Slots}
 use Rattle.rr_space.specs.Tables.{Here}
 use Rattle.rr_space.specs.declared.refer.Ref.TheVariants.{Local}
 use Rattle.rr_world.specs.Views.{Member, AreRootsWithin, AreAway}
-use Rattle.rr_world.specs.Cases.{new_object}
+use Rattle.rr_world.specs.ObjectCases.{new_object}
 use Rattle.rr_world.specs.declared.step.NewObject.{NewObject}
 use Rattle.rr_world.specs.declared.step.Reply.{Reply}
 use Rattle.rr_world.specs.declared.step.Reply.TheVariants.{Done, Refused}
@@ -23,6 +23,7 @@ pub record IsAllocatedBy (new : NewObject) (old now : Member) : Type 0 where
   pub next : now.space.next_message ≡ old.space.next_message
   pub owner : now.space.owner ≡ old.space.owner
   pub limits : now.limits ≡ old.limits
+  pub runs : now.runs ≡ old.runs
 
 abbrev pub Allocs : NewObject → Reply → Member → Member → Type 0
 Allocs new Done old now = IsAllocatedBy new old now

@@ -12,7 +12,8 @@ use Rattle.rr_space.specs.declared.kind.Kind.TheVariants as kinds
 use Rattle.rr_space.specs.declared.refer.Ref.{Ref}
 use Rattle.rr_space.specs.declared.refer.Ref.TheVariants.{Nil, Local}
 use Rattle.rr_world.specs.Views.{Member, AreRootsWithin, AreAway}
-use Rattle.rr_world.specs.Cases.{IsNoShell, IsOpen, HasElement, frozen, appended, pushed, written, with_field}
+use Rattle.rr_world.specs.Enabling.{IsNoShell, IsOpen, HasElement}
+use Rattle.rr_world.specs.ObjectCases.{frozen, appended, pushed, written, with_field}
 use Rattle.rr_world.specs.Packing.{named_ref}
 use Rattle.rr_world.specs.declared.step.Operand.{Operand}
 use Rattle.rr_world.specs.declared.step.Reply.{Reply}
@@ -40,6 +41,7 @@ pub record IsRewritten (n : ℕ) (p : Object) (v : Ref) (old now : Member) : Typ
   pub next : now.space.next_message ≡ old.space.next_message
   pub owner : now.space.owner ≡ old.space.owner
   pub limits : now.limits ≡ old.limits
+  pub runs : now.runs ≡ old.runs
 
 -- the object that the operand is, where it may be changed, is what the change makes of it
 abbrev pub IsMadeOf : Operand → (Object → Type 0) → (Object → Object) → Ref → Member → Member → Type 0

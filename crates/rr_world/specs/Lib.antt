@@ -2,6 +2,10 @@ pub mod Views
 pub mod Layouts
 pub mod States
 pub mod Readings
+pub mod Enabling
+pub mod ObjectCases
+pub mod MessageCases
+pub mod ConstantCases
 pub mod Cases
 pub mod Runs
 pub mod Opening

@@ -26,6 +26,7 @@ pub record IsOpenedBy (m : Packed) (root : Ref) (old new : Member) : Type 0 wher
   pub hand : new.hand ≡ None
   pub home : new.home ≡ None
   pub limits : new.limits ≡ old.limits
+  pub runs : new.runs ≡ old.runs
 
 abbrev pub Opened : Reply → Member → Member → Type 0
 Opened NotEnabled old new = (old.hand ≡ None) × (new ≡ old)

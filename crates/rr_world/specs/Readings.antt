@@ -50,6 +50,7 @@ actor_in names k r = record {
   limit = r.space.limit;
   next = r.space.next_message;
   limits = r.limits;
+  runs = r.runs;
 }
 
 -- a value of a constant: an immediate, or a place of a cluster

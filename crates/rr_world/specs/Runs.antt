@@ -1,5 +1,5 @@
 -- Runs of the graph machine, and what it is for a World to make one.
-use Rattle.std.specs.Prelude.{◌≡◌, ℕ, List, [], ◌∷◌, None}
+use Rattle.std.specs.Prelude.{◌≡◌, ℕ, true, List, [], ◌∷◌, None}
 use Rattle.rr_base.specs.declared.limits.Limits.{Limits}
 use Rattle.rr_space.specs.Readings.{Objects, Naming, IsApart}
 use Rattle.rr_inbox.specs.Inboxes.{new_inbox}
@@ -8,7 +8,7 @@ use Rattle.rr_world.specs.Views.{Member, Assembly}
 use Rattle.rr_world.specs.Layouts.{IsRead}
 use Rattle.rr_world.specs.States.{State}
 use Rattle.rr_world.specs.Readings.{state_in}
-use Rattle.rr_world.specs.Cases.{IsCase}
+use Rattle.rr_world.specs.Cases.{IsOutcome, IsCase}
 use Rattle.rr_world.specs.declared.step.Step.{Step}
 use Rattle.rr_world.specs.declared.step.Reply.{Reply}
 
@@ -18,6 +18,12 @@ Chain [] [] s t = s ≡ t
 Chain [] (r ∷ rs) s t = ⊥
 Chain (x ∷ xs) [] s t = ⊥
 Chain (x ∷ xs) (r ∷ rs) s t = (mid : State) × IsCase x r s mid × IsApart mid.objects × Chain xs rs mid t
+
+-- from each reading of the World before there is one after, and the reply is the outcome of the step, if the ractor runs
+abbrev pub HasOutcome : Step → Reply → Assembly → Assembly → Type 0
+HasOutcome step reply old new = (names : Naming) (bound : ℕ) (g : Objects) → IsRead old names bound g
+    → (names2 : Naming) × (bound2 : ℕ) × (g2 : Objects) × IsRead new names2 bound2 g2
+    × IsOutcome step reply (state_in old names g) (state_in new names2 g2)
 
 -- from each reading of the World before there is one after, and the two states and the reply are a step of the machine
 abbrev pub IsStep : Step → Reply → Assembly → Assembly → Type 0
@@ -48,5 +54,6 @@ pub record IsNew (limits : Limits) (w : Assembly) : Type 0 where
   pub home : main.home ≡ None
   pub next : main.space.next_message ≡ 1
   pub run : main.limits ≡ limits
+  pub runs : main.runs ≡ true
   pub inboxes : w.channels.inboxes ≡ new_inbox limits.events ∷ []
   pub store : w.channels.store ≡ new_store limits.events

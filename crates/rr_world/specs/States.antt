@@ -30,8 +30,8 @@ pub record Mailbox : Type 0 where
   pub limit : ℕ
 
 -- a ractor: the values that it holds, the message in its hand, the names of the shells that its objects left where it was moved,
--- in their order, the slots that the ractor has used, the most that it may use, the number of its next moved message, and the
--- limits of the run, which it hands on to those that it starts
+-- in their order, the slots that the ractor has used, the most that it may use, the number of its next moved message, the limits
+-- of the run, which it hands on to those that it starts, and whether it runs: it has not ended
 pub record Actor : Type 0 where
   pub roots : List Value
   pub hand : Option Parcel
@@ -40,6 +40,7 @@ pub record Actor : Type 0 where
   pub limit : ℕ
   pub next : ℕ
   pub limits : Limits
+  pub runs : Bool
 
 -- what a constant has: a value that all ractors may have, or one that the main ractor keeps itself
 pub data Constant : Type 0 where

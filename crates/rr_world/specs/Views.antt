@@ -1,5 +1,5 @@
 -- What contracts see of a World: plain lists.
-use Rattle.std.specs.Prelude.{◌≡◌, ℕ, List, [], ◌∷◌, length, Option, None, Some, Contains, slice_get, slice_set}
+use Rattle.std.specs.Prelude.{◌≡◌, ℕ, Bool, true, List, [], ◌∷◌, length, Option, None, Some, Contains, slice_get, slice_set}
 use Rattle.rr_base.specs.declared.limits.Limits.{Limits}
 use Rattle.rr_space.specs.Tables.{Table, Packed, Slot, Here}
 use Rattle.rr_space.specs.Views.{emptied}
@@ -12,14 +12,15 @@ use Rattle.rr_move.specs.declared.home.Home.{Home}
 use Rattle.rr_move.specs.declared.hand.Hand.{Hand}
 use Rattle.rr_move.specs.declared.hand.Hand.TheVariants.{Empty, Planned, Published, Message, Moved, Shown}
 
--- a ractor: its space, its roots, the message in its hand, the home of that message where it was moved out of the space, and
--- the limits of the run
+-- a ractor: its space, its roots, the message in its hand, the home of that message where it was moved out of the space, the
+-- limits of the run, and whether it runs: it has not ended
 pub record Member : Type 0 where
   pub space : Table
   pub roots : List Ref
   pub hand : Option Packed
   pub home : Option Home
   pub limits : Limits
+  pub runs : Bool
 
 -- nothing is in the hand
 pub record IsFree (m : Member) : Type 0 where
@@ -59,6 +60,10 @@ with_inbox x c i = record x { inboxes = slice_set x.inboxes c i }
 pub record Assembly : Type 0 where
   pub ractors : List Member
   pub channels : Channels
+
+-- the ractor at the place runs
+abbrev pub RunsAt : Assembly → ℕ → Type 0
+RunsAt w k = (m : Member) × (slice_get w.ractors k ≡ Some m) × (m.runs ≡ true)
 
 -- the reference is no object
 abbrev pub IsImmediate : Ref → Type 0

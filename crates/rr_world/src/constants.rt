@@ -1,8 +1,8 @@
 //! Steps on the constants of the store.
 
 ghost use Rattle.std.specs.Prelude.{◌<◌, length};
-ghost use Rattle.rr_world.specs.Cases.{StandsAt};
-ghost use Rattle.rr_world.specs.Runs.{IsStep};
+ghost use Rattle.rr_world.specs.Enabling.{StandsAt};
+ghost use Rattle.rr_world.specs.Runs.{HasOutcome};
 ghost use Rattle.rr_world.specs.declared.step.Action.TheVariants.{SetConst, SetOwn, GetConst};
 
 use crate::step::{Operand, Reply};
@@ -21,7 +21,7 @@ impl World {
     ) -> Reply
         requires stands { StandsAt who place }
         requires within { place < length self.old.ractors }
-        ensures { IsStep (record { who = who; action = SetConst name value }) result self.old self.new }
+        ensures { HasOutcome (record { who = who; action = SetConst name value }) result self.old self.new }
     {
         let Some(value) = self.ractors[place].immediate(value) else {
             return Reply::NotEnabled;
@@ -39,7 +39,7 @@ impl World {
     pub(crate) fn set_own(&mut self, who: RactorNo, place: usize, name: Sym) -> Reply
         requires stands { StandsAt who place }
         requires within { place < length self.old.ractors }
-        ensures { IsStep (record { who = who; action = SetOwn name }) result self.old self.new }
+        ensures { HasOutcome (record { who = who; action = SetOwn name }) result self.old self.new }
     {
         if let Err(fault) = self.store.set_const(who, name, ConstValue::Own) {
             return Reply::Refused(fault);
@@ -51,7 +51,7 @@ impl World {
     pub(crate) fn get_const(&mut self, who: RactorNo, place: usize, name: Sym) -> Reply
         requires stands { StandsAt who place }
         requires within { place < length self.old.ractors }
-        ensures { IsStep (record { who = who; action = GetConst name }) result self.old self.new }
+        ensures { HasOutcome (record { who = who; action = GetConst name }) result self.old self.new }
     {
         match self.store.get_const(who, name) {
             Ok(ConstValue::Shareable(value)) => self.ractors[place].join(value),

@@ -1,16 +1,17 @@
 //! A ractor: its space, the values that it holds, and its hand.
 
-ghost use Rattle.std.specs.Prelude.{◌≡◌, ◌≤◌, ◌↔◌, [], IsTrue, Some, None};
+ghost use Rattle.std.specs.Prelude.{◌≡◌, ◌≤◌, ◌↔◌, [], true, IsTrue, Some, None};
 ghost use Rattle.std.specs.Prelude.{length, IfSome, IfNone};
 ghost use Rattle.std.specs.Option.{ForSome};
 ghost use Rattle.rr_space.specs.Parts.{IsWithin};
 ghost use Rattle.rr_space.specs.Views.{AreFieldsDistinct, node_parts, object_of};
 ghost use Rattle.rr_world.specs.Allocating.{Allocs};
-ghost use Rattle.rr_world.specs.Cases.{new_object};
+ghost use Rattle.rr_world.specs.ObjectCases.{new_object};
 ghost use Rattle.rr_world.specs.Opening.{Opened};
 ghost use Rattle.rr_world.specs.Packing.{Packs, named_ref};
 ghost use Rattle.rr_world.specs.Views.{AreAway, IsFree, IsImmediate};
 ghost use Rattle.rr_world.specs.Getting.{Joins};
+ghost use Rattle.rr_world.specs.Starting.{IsOver};
 ghost use Rattle.rr_space.specs.declared.refer.Ref.{Ref};
 ghost use Rattle.rr_move.specs.Homes.{IsHomeOf};
 
@@ -30,6 +31,7 @@ pub(crate) struct Ractor {
     pub(crate) roots: Vec<Ref>,
     pub(crate) hand: Hand,
     limits: Limits,
+    runs: bool,
 }
 
 impl Model for Ractor {
@@ -39,7 +41,7 @@ impl Model for Ractor {
 
     ghost Value = { Member };
 
-    ghost view = { λ r. record { space = r.space; roots = r.roots.items; hand = message_in r.hand; home = home_in r.hand; limits = r.limits } };
+    ghost view = { λ r. record { space = r.space; roots = r.roots.items; hand = message_in r.hand; home = home_in r.hand; limits = r.limits; runs = r.runs } };
 
     ghost invariant = { λ r. AreRootsWithin (length r.space.slots) r.roots.items × (3 ≤ r.limits.events) × HasAtMostAMessage r.hand × AreAway r.space.slots (message_in r.hand) (home_in r.hand) };
 }
@@ -70,12 +72,14 @@ impl Ractor {
         ensures hand { result.hand ≡ None }
         ensures home { result.home ≡ None }
         ensures limits { result.limits ≡ limits }
+        ensures runs { result.runs ≡ true }
     {
         Ractor {
             space: Space::new(alloc, number, limits.slots),
             roots: Vec::new(alloc),
             hand: Hand::Empty,
             limits,
+            runs: true,
         }
     }
 
@@ -85,6 +89,23 @@ impl Ractor {
         ensures events { 3 ≤ result.events }
     {
         self.limits
+    }
+
+    /// Whether it has not ended.
+    pub(crate) fn runs(&self) -> bool
+        ensures { result ≡ self.now.runs }
+    {
+        self.runs
+    }
+
+    /// Ends it: its objects, its roots and what is in its hand go. Takes no memory.
+    pub(crate) fn end(&mut self, alloc: Global, number: RactorNo)
+        ensures { IsOver self.old.limits number.0 self.new }
+    {
+        self.space = Space::new(alloc, number, self.limits.slots);
+        self.roots = Vec::new(alloc);
+        self.hand = Hand::Empty;
+        self.runs = false;
     }
 
     /// Whether nothing is in the hand.

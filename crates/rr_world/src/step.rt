@@ -55,6 +55,8 @@ pub enum Action {
     SetField(Operand, Sym, Operand),
     /// A ractor starts, under the limits of the run, and its inbox with it.
     Start,
+    /// The ractor ends: its objects, its roots and what is in its hand go, and it makes no step any more. Its inbox stays.
+    End,
     /// What stands under the label in an object comes last in the ractor's roots. A field has the first of its name.
     Read(Operand, Label),
     /// What the value leads to is moved into the hand as a message, and is shells under its old names from then on. What a

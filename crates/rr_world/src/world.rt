@@ -1,10 +1,11 @@
 //! The World.
 
-ghost use Rattle.std.specs.Prelude.{◌≡◌, ◌+◌, ◌<◌, ◌≤◌, ℕ, length, None, IfSome, IfOk, IfErr};
-ghost use Rattle.rr_world.specs.Cases.{StandsAt};
-ghost use Rattle.rr_world.specs.Runs.{HasReading, IsNew, IsRun, IsStep};
+ghost use Rattle.std.specs.Prelude.{◌≡◌, ◌+◌, ◌<◌, ◌≤◌, ℕ, length, None, IfSome, IfNone, IfOk, IfErr};
+ghost use Rattle.rr_world.specs.Enabling.{StandsAt};
+ghost use Rattle.rr_world.specs.Runs.{HasReading, IsNew, IsRun, IsStep, HasOutcome};
+ghost use Rattle.rr_world.specs.Views.{RunsAt};
 ghost use Rattle.rr_world.specs.declared.step.Action.TheVariants.{Alloc, Pack, Discard, Offer, Accept, Open, Close};
-ghost use Rattle.rr_world.specs.declared.step.Action.TheVariants.{Freeze, Append, Push, Write, SetField, Start, Read, Detach, PutBack};
+ghost use Rattle.rr_world.specs.declared.step.Action.TheVariants.{Freeze, Append, Push, Write, SetField, Start, End, Read, Detach, PutBack};
 
 use crate::ractor::Ractor;
 use crate::step::{Action, NewObject, Operand, Reply, Step};
@@ -67,7 +68,7 @@ impl World {
     fn alloc(&mut self, alloc: Global, who: RactorNo, place: usize, new: NewObject) -> Reply
         requires stands { StandsAt who place }
         requires within { place < length self.old.ractors }
-        ensures { IsStep (record { who = who; action = Alloc new }) result self.old self.new }
+        ensures { HasOutcome (record { who = who; action = Alloc new }) result self.old self.new }
     {
         let ractor = &mut self.ractors[place];
         ractor.alloc(alloc, new)
@@ -77,7 +78,7 @@ impl World {
     fn pack(&mut self, alloc: Global, who: RactorNo, place: usize, value: Operand) -> Reply
         requires stands { StandsAt who place }
         requires within { place < length self.old.ractors }
-        ensures { IsStep (record { who = who; action = Pack value }) result self.old self.new }
+        ensures { HasOutcome (record { who = who; action = Pack value }) result self.old self.new }
     {
         let ractor = &mut self.ractors[place];
         ractor.pack(alloc, value)
@@ -87,7 +88,7 @@ impl World {
     fn detach(&mut self, alloc: Global, who: RactorNo, place: usize, value: Operand) -> Reply
         requires stands { StandsAt who place }
         requires within { place < length self.old.ractors }
-        ensures { IsStep (record { who = who; action = Detach value }) result self.old self.new }
+        ensures { HasOutcome (record { who = who; action = Detach value }) result self.old self.new }
     {
         // By the laws on moves this is one, in the whole graph.
         shown_by_moving();
@@ -99,7 +100,7 @@ impl World {
     fn put_back(&mut self, who: RactorNo, place: usize) -> Reply
         requires stands { StandsAt who place }
         requires within { place < length self.old.ractors }
-        ensures { IsStep (record { who = who; action = PutBack }) result self.old self.new }
+        ensures { HasOutcome (record { who = who; action = PutBack }) result self.old self.new }
     {
         // By the laws on moves this ends one, in the whole graph.
         shown_by_moving();
@@ -111,7 +112,7 @@ impl World {
     fn discard(&mut self, who: RactorNo, place: usize) -> Reply
         requires stands { StandsAt who place }
         requires within { place < length self.old.ractors }
-        ensures { IsStep (record { who = who; action = Discard }) result self.old self.new }
+        ensures { HasOutcome (record { who = who; action = Discard }) result self.old self.new }
     {
         let Some(_taken) = self.ractors[place].take() else {
             return Reply::NotEnabled;
@@ -125,7 +126,7 @@ impl World {
         requires within { place < length self.old.ractors }
         requires there { StandsAt to inbox }
         requires is_inbox { inbox < length self.old.channels.inboxes }
-        ensures { IsStep (record { who = who; action = Offer to }) result self.old self.new }
+        ensures { HasOutcome (record { who = who; action = Offer to }) result self.old self.new }
     {
         let Some((message, home)) = self.ractors[place].take() else {
             return Reply::NotEnabled;
@@ -145,7 +146,7 @@ impl World {
     fn accept(&mut self, who: RactorNo, place: usize) -> Reply
         requires stands { StandsAt who place }
         requires within { place < length self.old.ractors }
-        ensures { IsStep (record { who = who; action = Accept }) result self.old self.new }
+        ensures { HasOutcome (record { who = who; action = Accept }) result self.old self.new }
     {
         if place >= self.inboxes.len() {
             return Reply::NotEnabled;
@@ -169,7 +170,7 @@ impl World {
     fn open(&mut self, who: RactorNo, place: usize) -> Reply
         requires stands { StandsAt who place }
         requires within { place < length self.old.ractors }
-        ensures { IsStep (record { who = who; action = Open }) result self.old self.new }
+        ensures { HasOutcome (record { who = who; action = Open }) result self.old self.new }
     {
         let ractor = &mut self.ractors[place];
         ractor.open_held()
@@ -181,7 +182,7 @@ impl World {
         requires within { place < length self.old.ractors }
         requires there { StandsAt to inbox }
         requires is_inbox { inbox < length self.old.channels.inboxes }
-        ensures { IsStep (record { who = who; action = Close to }) result self.old self.new }
+        ensures { HasOutcome (record { who = who; action = Close to }) result self.old self.new }
     {
         Reply::WasClosed(self.inboxes[inbox].close(who))
     }
@@ -190,7 +191,7 @@ impl World {
     fn freeze(&mut self, who: RactorNo, place: usize, object: Operand) -> Reply
         requires stands { StandsAt who place }
         requires within { place < length self.old.ractors }
-        ensures { IsStep (record { who = who; action = Freeze object }) result self.old self.new }
+        ensures { HasOutcome (record { who = who; action = Freeze object }) result self.old self.new }
     {
         let ractor = &mut self.ractors[place];
         ractor.freeze(object)
@@ -200,7 +201,7 @@ impl World {
     fn append(&mut self, who: RactorNo, place: usize, text: Operand, byte: u8) -> Reply
         requires stands { StandsAt who place }
         requires within { place < length self.old.ractors }
-        ensures { IsStep (record { who = who; action = Append text byte }) result self.old self.new }
+        ensures { HasOutcome (record { who = who; action = Append text byte }) result self.old self.new }
     {
         let ractor = &mut self.ractors[place];
         ractor.append(text, byte)
@@ -210,7 +211,7 @@ impl World {
     fn push(&mut self, who: RactorNo, place: usize, array: Operand, value: Operand) -> Reply
         requires stands { StandsAt who place }
         requires within { place < length self.old.ractors }
-        ensures { IsStep (record { who = who; action = Push array value }) result self.old self.new }
+        ensures { HasOutcome (record { who = who; action = Push array value }) result self.old self.new }
     {
         let ractor = &mut self.ractors[place];
         ractor.push(array, value)
@@ -227,7 +228,7 @@ impl World {
     ) -> Reply
         requires stands { StandsAt who place }
         requires within { place < length self.old.ractors }
-        ensures { IsStep (record { who = who; action = Write array at value }) result self.old self.new }
+        ensures { HasOutcome (record { who = who; action = Write array at value }) result self.old self.new }
     {
         let ractor = &mut self.ractors[place];
         ractor.write(array, at, value)
@@ -244,7 +245,7 @@ impl World {
     ) -> Reply
         requires stands { StandsAt who place }
         requires within { place < length self.old.ractors }
-        ensures { IsStep (record { who = who; action = SetField object name value }) result self.old self.new }
+        ensures { HasOutcome (record { who = who; action = SetField object name value }) result self.old self.new }
     {
         let ractor = &mut self.ractors[place];
         ractor.set_field(object, name, value)
@@ -254,7 +255,7 @@ impl World {
     fn read(&mut self, who: RactorNo, place: usize, object: Operand, label: Label) -> Reply
         requires stands { StandsAt who place }
         requires within { place < length self.old.ractors }
-        ensures { IsStep (record { who = who; action = Read object label }) result self.old self.new }
+        ensures { HasOutcome (record { who = who; action = Read object label }) result self.old self.new }
     {
         let ractor = &mut self.ractors[place];
         ractor.read(object, label)
@@ -264,7 +265,7 @@ impl World {
     fn start(&mut self, alloc: Global, who: RactorNo, place: usize) -> Reply
         requires stands { StandsAt who place }
         requires within { place < length self.old.ractors }
-        ensures { IsStep (record { who = who; action = Start }) result self.old self.new }
+        ensures { HasOutcome (record { who = who; action = Start }) result self.old self.new }
     {
         let limits = self.ractors[place].limits();
         let count = self.ractors.len();
@@ -287,14 +288,37 @@ impl World {
         Reply::Started(number)
     }
 
-    /// Makes one step.
-    pub fn step(&mut self, alloc: Global, step: &Step) -> Reply
-        ensures step { IsStep step.now result self.old self.new }
+    // The ractor ends.
+    fn end(&mut self, alloc: Global, who: RactorNo, place: usize) -> Reply
+        requires stands { StandsAt who place }
+        requires within { place < length self.old.ractors }
+        ensures { HasOutcome (record { who = who; action = End }) result self.old self.new }
     {
-        let Step { who, action } = *step;
+        self.ractors[place].end(alloc, who);
+        Reply::Done
+    }
+
+    // The place of a ractor that runs.
+    fn running(&self, who: RactorNo) -> Option<usize>
+        ensures found { IfSome result (λ k. StandsAt who k × (k < length self.now.ractors) × RunsAt self.now k) }
+        ensures none { IfNone result ((k : ℕ) → StandsAt who k → RunsAt self.now k → ⊥) }
+    {
         let Some(place) = place_of(who, self.ractors.len()) else {
-            return Reply::NotEnabled;
+            return None;
         };
+        if self.ractors[place].runs() {
+            Some(place)
+        } else {
+            None
+        }
+    }
+
+    // A step of a ractor that runs.
+    fn make(&mut self, alloc: Global, who: RactorNo, place: usize, action: Action) -> Reply
+        requires stands { StandsAt who place }
+        requires within { place < length self.old.ractors }
+        ensures { HasOutcome (record { who = who; action = action }) result self.old self.new }
+    {
         match action {
             Action::Alloc(new) => self.alloc(alloc, who, place, new),
             Action::Pack(value) => self.pack(alloc, who, place, value),
@@ -304,6 +328,7 @@ impl World {
             Action::Accept => self.accept(who, place),
             Action::Open => self.open(who, place),
             Action::Start => self.start(alloc, who, place),
+            Action::End => self.end(alloc, who, place),
             Action::SetConst(name, value) => self.set_const(who, place, name, value),
             Action::SetOwn(name) => self.set_own(who, place, name),
             Action::GetConst(name) => self.get_const(who, place, name),
@@ -323,6 +348,16 @@ impl World {
                 Some(inbox) => self.close(who, place, to, inbox),
                 None => Reply::NotEnabled,
             },
+        }
+    }
+
+    /// Makes one step.
+    pub fn step(&mut self, alloc: Global, step: &Step) -> Reply
+        ensures step { IsStep step.now result self.old self.new }
+    {
+        match self.running(step.who) {
+            Some(place) => self.make(alloc, step.who, place, step.action),
+            None => Reply::NotEnabled,
         }
     }
 

@@ -12,7 +12,7 @@ returns-in-Ok-Some c =
     let moved : is_moved (c.in-Ok-Some.message, c.in-Ok-Some.home) = subst (λ (x : Option (Packed × Home)). IfSome x is_moved) c.in-Ok-Some.field-0-is c.in-Ok-Some.ensures.moved in (
       c.in-Some.value,
       moved.0,
-      moved_by c.args.operand c.in-Some.value moved.0 c.args.self.now c.self.inside.space c.moved_out.new.space c.self.inside.roots.items c.self.inside.hand c.of_message.result c.self.inside.limits
+      moved_by c.args.operand c.in-Some.value moved.0 c.args.self.now c.self.inside.space c.moved_out.new.space c.self.inside.roots.items c.self.inside.hand c.of_message.result c.self.inside.limits c.self.inside.runs
           c.self.view_is (c.if-not-is_empty.ensures.0 refl) (sym c.in-Some.ensures.is) c.self.invariant.0 moved.3
           (c.of_message.ensures.message ∙ ap (λ (p : Packed). Some p) moved.1)
           (c.of_message.ensures.home ∙ ap (λ (h : Home). Some h) moved.2),

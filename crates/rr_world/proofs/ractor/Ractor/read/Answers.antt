@@ -36,6 +36,6 @@ returns c =
     c.push_reserved.ensures.items ∙ ap (λ (rs : List Ref). rs ++ c.in-Some-read.found ∷ []) c.reserve.ensures.items in (
       c.in-Some.object,
       c.in-Some-read.found,
-      read_by c.args.object (label_of c.args.label) c.in-Some.object c.in-Some-read.found c.args.self.now c.self.inside.space c.self.inside.roots.items c.push_reserved.new.self.items c.self.inside.hand c.self.inside.limits
+      read_by c.args.object (label_of c.args.label) c.in-Some.object c.in-Some-read.found c.args.self.now c.self.inside.space c.self.inside.roots.items c.push_reserved.new.self.items c.self.inside.hand c.self.inside.limits c.self.inside.runs
           c.self.view_is pushed (sym c.in-Some.ensures.is) c.in-Some-read.ensures.first c.in-Some-read.ensures.within c.in-Some-read.ensures.known c.self.invariant.0,
     )

@@ -2,7 +2,8 @@ use Rattle.std.proofs.Common.{length, slice_get, sym, ap, subst, ◌∙◌}
 use Rattle.rr_space.specs.Graph.{plain}
 use Rattle.rr_space.specs.Parts.{value_of, IsWithin}
 use Rattle.rr_world.specs.Views.{Member}
-use Rattle.rr_world.specs.Cases.{IsOpen, with_field}
+use Rattle.rr_world.specs.Enabling.{IsOpen}
+use Rattle.rr_world.specs.ObjectCases.{with_field}
 use Rattle.rr_world.proofs.Changes.{field_set, open_plain, set_within, led_known, made, open_whole, set_away}
 use Rattle.rr_world.proofs.Making.{plain_differs}
 use Rattle.rr_world.proofs.ractor.Ractor.set_field.Goals as goal
@@ -24,7 +25,7 @@ returns c =
     let within = subst (λ (m : Member). IsWithin (length m.space.slots) c.in-Some.value) (sym c.self.view_is) c.in-Some.ensures.some.within in (
       c.in-Some.value,
       c.in-Some.ensures.some.value,
-      made c.args.object (IsOpen plain) (with_field c.args.name.0 (value_of c.in-Some.value)) c.in-Some.value c.in-Some.object c.args.self.now c.self.inside.space c.write_field.new.self c.self.inside.roots.items c.self.inside.hand c.self.inside.limits s.0 s.1
+      made c.args.object (IsOpen plain) (with_field c.args.name.0 (value_of c.in-Some.value)) c.in-Some.value c.in-Some.object c.args.self.now c.self.inside.space c.write_field.new.self c.self.inside.roots.items c.self.inside.hand c.self.inside.limits c.self.inside.runs s.0 s.1
           c.self.view_is c.in-Some.ensures.some.object s.2 here s.4 (field_set c.args.name.0 c.in-Some.value s.0 s.1 c.self.inside.space c.write_field.new.self (λ i first. (c.in_default-write_field.ensures.present s.0 i s.1 s.2 here first).1) (λ none. c.in_default-write_field.ensures.absent s.0 s.1 s.2 here none))
           (led_known c.in-Some.value s.0 c.self.inside.space.below c.write_field.new.self.below (c.in_default-write_field.ensures.below s.0 s.2)) c.write_field.ensures.rest.limit c.write_field.ensures.rest.owner c.write_field.ensures.rest.next_message c.self.invariant.0 c.self.invariant.3 within,
     )

@@ -2,7 +2,8 @@ use Rattle.std.proofs.Common.{◌<◌, length, slice_get, sym, ap, subst, ◌∙
 use Rattle.rr_space.specs.Graph.{array}
 use Rattle.rr_space.specs.Parts.{value_of, IsWithin}
 use Rattle.rr_world.specs.Views.{Member}
-use Rattle.rr_world.specs.Cases.{written, HasElement}
+use Rattle.rr_world.specs.Enabling.{HasElement}
+use Rattle.rr_world.specs.ObjectCases.{written}
 use Rattle.rr_world.proofs.Changes.{open_array, at_slot, set_within, led_known, made, open_whole, set_away}
 use Rattle.rr_world.proofs.Making.{array_differs}
 use Rattle.rr_world.proofs.ractor.Ractor.write.Goals as goal
@@ -25,7 +26,7 @@ returns c =
     let within = subst (λ (m : Member). IsWithin (length m.space.slots) c.in-Some.value) (sym c.self.view_is) c.in-Some.ensures.some.within in (
       c.in-Some.value,
       c.in-Some.ensures.some.value,
-      made c.args.array (HasElement c.args.place) (written c.args.place (value_of c.in-Some.value)) c.in-Some.value c.in-Some.array c.args.self.now c.self.inside.space c.write_element.new.self c.self.inside.roots.items c.self.inside.hand c.self.inside.limits s.0 s.1
+      made c.args.array (HasElement c.args.place) (written c.args.place (value_of c.in-Some.value)) c.in-Some.value c.in-Some.array c.args.self.now c.self.inside.space c.write_element.new.self c.self.inside.roots.items c.self.inside.hand c.self.inside.limits c.self.inside.runs s.0 s.1
           c.self.view_is c.in-Some.ensures.some.array s.2 here (s.4, inside) (c.write_element.ensures.slots s.0 s.1 s.2 here)
           (led_known c.in-Some.value s.0 c.self.inside.space.below c.write_element.new.self.below (c.write_element.ensures.below s.0 s.2)) c.write_element.ensures.rest.limit c.write_element.ensures.rest.owner c.write_element.ensures.rest.next_message c.self.invariant.0 c.self.invariant.3 within,
     )

@@ -18,6 +18,7 @@ returns-clause-made c = record {
   next = c.new.ensures.next;
   store = c.new-store.ensures;
   run = c.new.ensures.limits;
+  runs = c.new.ensures.runs;
   inboxes = c.in_ok-push-2.ensures.items ∙ ap (λ (xs : List Inbox). xs ++ c.in_ok-new.field-0 ∷ []) c.new-inboxes.ensures.items ∙ ap (λ (x : Inbox). x ∷ []) c.in_ok-new.ensures.made;
 }
 

@@ -10,7 +10,7 @@ use Rattle.rr_world.proofs.Refusals.{offer_refused}
 use Rattle.rr_world.proofs.Insides.{assembly, channels, channels_same, read_at, read_twice, read_set, set_in, set_again, set_twice_again, same_assembly}
 use Rattle.rr_world.proofs.Staying.{refused}
 use Rattle.rr_world.proofs.Enabled.{allowed, holds_not}
-use Rattle.rr_world.specs.Runs.{IsStep}
+use Rattle.rr_world.specs.Runs.{HasOutcome}
 use Rattle.rr_world.specs.declared.step.Reply.TheVariants.{Offered}
 use Rattle.std.specs.Prelude.{slice_set}
 use Rattle.rr_world.proofs.world.World.offer.Goals.{in-Some-1, in-None-1}
@@ -41,7 +41,7 @@ returns-in-Ok c =
     let one : c.index.result.now ≡ i = read_twice c.self.inside.inboxes.items c.args.inbox c.index.result.now i lt c.index.ensures c.index_mut-2.ensures.value in
     let made : Assembly = assembly (slice_set c.self.inside.ractors.items c.args.place c.take.new.self) (channels c.self.inside.store (slice_set c.self.inside.inboxes.items c.args.inbox c.offer.new.self)) in
     let is_made : c.match-home.self ≡ made = elim c.match-home.branch [ in-Some-1 z ↦ z.self-is | in-None-1 z ↦ z.self-is ] in
-    subst (λ (v : Assembly). IsStep (record { who = c.args.who; action = Offer c.args.to }) (Offered c.in-Ok.ticket) w v) (sym is_made)
+    subst (λ (v : Assembly). HasOutcome (record { who = c.args.who; action = Offer c.args.to }) (Offered c.in-Ok.ticket) w v) (sym is_made)
     (offered_under w made c.args.who c.args.place c.args.inbox m i c.offer.new.self c.in-Some.message
     (read_at c.self.inside.ractors.items w.ractors c.args.place m vs c.requires.within c.index_mut.ensures.value)
     (read_at c.self.inside.inboxes.items w.channels.inboxes c.args.inbox i is c.requires.is_inbox c.index_mut-2.ensures.value)

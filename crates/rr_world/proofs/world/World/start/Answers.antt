@@ -48,7 +48,7 @@ returns c =
     let many = ap length vs in
     let l = c.limits-limits.result in
     begun w _ l c.new-2.result
-    (record { owner = c.new-2.ensures.owner ∙ omega (arith, many, c.len-count.ensures); slots = c.new-2.ensures.slots; below = c.new-2.ensures.below; limit = c.new-2.ensures.limit; roots = c.new-2.ensures.roots; hand = c.new-2.ensures.hand; home = c.new-2.ensures.home; next = c.new-2.ensures.next; run = c.new-2.ensures.limits })
+    (record { owner = c.new-2.ensures.owner ∙ omega (arith, many, c.len-count.ensures); slots = c.new-2.ensures.slots; below = c.new-2.ensures.below; limit = c.new-2.ensures.limit; roots = c.new-2.ensures.roots; hand = c.new-2.ensures.hand; home = c.new-2.ensures.home; next = c.new-2.ensures.next; run = c.new-2.ensures.limits; runs = c.new-2.ensures.runs })
     (c.push_reserved.ensures.items ∙ ap (λ (rs : List Member). rs ++ c.new-2.result ∷ []) (c.reserve.ensures.items ∙ vs))
     (channels_same (ap (λ (v : Assembly). v.channels.store) c.self.view_is) (c.push_reserved-2.ensures.items ∙ ap (λ (bs : List Inbox). bs ++ c.in-Ok.inbox ∷ []) (c.reserve-2.ensures.items ∙ is) ∙ ap (λ (b : Inbox). w.channels.inboxes ++ b ∷ []) c.in-Ok.ensures.made))
     c.args.who _ c.args.place c.index.result.now

@@ -1,0 +1,122 @@
+-- Which steps are enabled.
+use Rattle.std.specs.Prelude.{◌≡◌, true, ℕ, ◌+◌, ◌<◌, ◌⊎◌, false, List, length, Contains, Option, Some, None, slice_get}
+use Rattle.rr_base.specs.declared.name.RactorNo.{RactorNo as Number}
+use Rattle.rr_space.specs.Graph.{Kind, Object, text, array, plain, shell, Own, Published, Value, Plain, At, Nil, Truth, Integer, SymbolNo, ClassNo, RactorNo, Reaches, IsShareable}
+use Rattle.rr_space.specs.Readings.{Space, Owned, Objects, IsShared, whole}
+use Rattle.rr_share.specs.Search.{LeadsToShell}
+use Rattle.rr_world.specs.States.{Parcel, Mailbox, Actor, State}
+use Rattle.rr_world.specs.declared.step.Action.{Action}
+use Rattle.rr_space.specs.Labels.{label_of}
+use Rattle.rr_world.specs.declared.step.Action.TheVariants.{Alloc, Pack, Discard, Offer, Accept, Open, Close, Freeze, Append, Push, Write, SetField, Read, Start, End, Detach, PutBack, SetConst, SetOwn, GetConst}
+use Rattle.rr_world.specs.declared.step.Operand.{Operand}
+use Rattle.rr_world.specs.declared.step.Operand.TheVariants as operand
+use Rattle.rr_world.specs.declared.step.Step.{Step}
+
+-- a ractor, or its inbox, has the place before its number
+abbrev pub StandsAt : Number → ℕ → Type 0
+StandsAt who k = who.0 ≡ k + 1
+
+-- there is such an inbox
+abbrev pub HasInbox : State → Number → Type 0
+HasInbox s to = (c : ℕ) × (b : Mailbox) × StandsAt to c × (slice_get s.post.inboxes c ≡ Some b)
+
+-- a message is in the hand
+abbrev pub Holds : Actor → Type 0
+Holds a = (p : Parcel) × (a.hand ≡ Some p)
+
+-- nothing is in the hand
+abbrev pub IsFreeHand : Actor → Type 0
+IsFreeHand a = (a.hand ≡ None) × (a.home ≡ None)
+
+-- a message is in the hand with its home, the shells that it left
+abbrev pub HoldsMoved : Actor → Type 0
+HoldsMoved a = (p : Parcel) × (home : List ℕ) × (a.hand ≡ Some p) × (a.home ≡ Some home)
+
+-- the value that an operand is, where the roots are these
+abbrev pub named_value : List Value → Operand → Option Value
+named_value roots operand.Nil = Some (Plain Nil)
+named_value roots (operand.Truth b) = Some (Plain (Truth b))
+named_value roots (operand.Int z) = Some (Plain (Integer z))
+named_value roots (operand.Symbol s) = Some (Plain (SymbolNo s.0))
+named_value roots (operand.Class c) = Some (Plain (ClassNo c.0))
+named_value roots (operand.Ractor r) = Some (Plain (RactorNo r.0))
+named_value roots (operand.Root n) = slice_get roots n
+
+-- the operand is an object of the ractor at k, under the name n
+pub record IsOwn (s : State) (k : ℕ) (a : Actor) (op : Operand) (n : ℕ) (o : Object) : Type 0 where
+  pub named : named_value a.roots op ≡ Some (At (Own n))
+  pub here : s.objects n ≡ Some (record { owner = Space k; object = o })
+
+-- it is an object of the ractor's own that a change may be made of
+abbrev pub MayChange : State → Number → Actor → Operand → (Object → Type 0) → Type 0
+MayChange s who a op may = (k : ℕ) × (n : ℕ) × (o : Object) × StandsAt who k × IsOwn s k a op n o × may o
+
+-- an object is no shell; it is of a kind and not frozen; it is such an array with an element at a place
+abbrev pub IsNoShell : Object → Type 0
+IsNoShell o = o.kind ≡ shell → ⊥
+
+abbrev pub IsOpen : Kind → Object → Type 0
+IsOpen kind o = (o.kind ≡ kind) × (o.frozen ≡ false)
+
+abbrev pub HasElement : ℕ → Object → Type 0
+HasElement i o = IsOpen array o × (i < length o.triples)
+
+abbrev pub IsValue : Actor → Operand → Type 0
+IsValue a op = (x : Value) × (named_value a.roots op ≡ Some x)
+
+-- the value is an immediate or Shared
+abbrev pub IsPublicValue : Objects → Value → Type 0
+IsPublicValue g (Plain i) = Unit {0}
+IsPublicValue g (At (Own n)) = (y : Owned) × (g n ≡ Some y) × IsShared y.owner
+IsPublicValue g (At (Published c p)) = ⊥
+
+-- each shareable object that the value leads to is Shared
+abbrev pub AreShareablesShared : Objects → Value → Type 0
+AreShareablesShared g x = (n : ℕ) (y : Owned) → Reaches (whole g) x (Own n) → g n ≡ Some y → IsShareable (whole g) (At (Own n)) → IsShared y.owner
+
+-- the value leads to a shell; or all that is shareable of it is Shared
+abbrev pub MayBePacked : State → Actor → Operand → Type 0
+MayBePacked s a op = (x : Value) → named_value a.roots op ≡ Some x → LeadsToShell (whole s.objects) x ⊎ AreShareablesShared s.objects x
+
+-- what a pack or a detach has to find out about its value; where it leads to a shell, the step is refused
+abbrev pub IsTested : State → Actor → Action → Type 0
+IsTested s a (Pack op) = MayBePacked s a op
+IsTested s a (Detach op) = MayBePacked s a op
+IsTested s a _ = Unit {0}
+
+-- pack and detach need an empty hand and a value; discard, offer and open need a message in the hand, put back one with its
+-- home, and accept an empty hand; channels that are named are there; freeze needs an object of its own that is no shell, append, push and write one of a kind that is not
+-- frozen, and read an object that has the label
+abbrev pub Allows : State → Number → Actor → Action → Type 0
+Allows s who a (Alloc new) = Unit {0}
+Allows s who a (Pack op) = IsFreeHand a × IsValue a op
+Allows s who a (Detach op) = IsFreeHand a × IsValue a op
+Allows s who a PutBack = HoldsMoved a
+Allows s who a Discard = Holds a
+Allows s who a (Offer to) = Holds a × HasInbox s to
+Allows s who a Accept = IsFreeHand a × HasInbox s who
+Allows s who a Open = Holds a
+Allows s who a (Close to) = HasInbox s to
+Allows s who a (Freeze op) = MayChange s who a op IsNoShell
+Allows s who a (Append op byte) = MayChange s who a op (IsOpen text)
+Allows s who a (Push op x) = MayChange s who a op (IsOpen array) × IsValue a x
+Allows s who a (Write op i x) = MayChange s who a op (HasElement i) × IsValue a x
+Allows s who a (SetField op name x) = MayChange s who a op (IsOpen plain) × IsValue a x
+Allows s who a Start = Unit {0}
+Allows s who a End = Unit {0}
+Allows s who a (SetConst name op) = (x : Value) × (named_value a.roots op ≡ Some x) × IsPublicValue s.objects x
+Allows s who a (SetOwn name) = Unit {0}
+Allows s who a (GetConst name) = Unit {0}
+Allows s who a (Read op l) = (n : ℕ) × (y : Owned) × (x : Value) × (named_value a.roots op ≡ Some (At (Own n))) × (s.objects n ≡ Some y) × Contains y.object.triples (label_of l, x)
+
+-- a ractor of this number has started, and not ended
+abbrev pub IsRunning : State → Number → Type 0
+IsRunning s who = (k : ℕ) × (a : Actor) × StandsAt who k × (slice_get s.ractors k ≡ Some a) × (a.runs ≡ true)
+
+-- the ractor may do this now, if it runs
+abbrev pub IsPossible : State → Step → Type 0
+IsPossible s step = (k : ℕ) × (a : Actor) × StandsAt step.who k × (slice_get s.ractors k ≡ Some a) × Allows s step.who a step.action × IsTested s a step.action
+
+-- the ractor runs, and may do this now
+abbrev pub IsEnabled : State → Step → Type 0
+IsEnabled s step = IsRunning s step.who × IsPossible s step

@@ -1,0 +1,130 @@
+-- The cases of the graph machine that change objects, and those in which a ractor starts or ends.
+use Rattle.std.specs.Prelude.{◌≡◌, ℕ, ◌+◌, ◌≤◌, ◌⊎◌, true, false, Bool, if◌then◌else◌, nat_eq, List, [], ◌∷◌, ◌++◌, length, Some, None, slice_set}
+use Rattle.rr_base.specs.declared.name.RactorNo.{RactorNo as Number}
+use Rattle.rr_base.specs.declared.fault.Fault.{Fault}
+use Rattle.rr_base.specs.declared.fault.Fault.TheVariants as fault
+use Rattle.rr_base.specs.declared.limits.Limits.{Limits}
+use Rattle.rr_base.specs.declared.limits.LimitKind.TheVariants as kind
+use Rattle.rr_space.specs.Graph.{Object, text, array, plain, Label, Place, Field, KeyAt, ValueAt, Message, Cause, Ractor, Own, Value, At}
+use Rattle.rr_space.specs.Readings.{Owner, Space, Hand, Owned}
+use Rattle.rr_space.specs.Steps.{IsChange}
+use Rattle.rr_world.specs.States.{Mailbox, Actor, State, IsSame}
+use Rattle.rr_space.specs.Labels.{IsFirstUnder}
+use Rattle.rr_base.specs.declared.name.TheConstants.ClassId.{ARRAY, STRING}
+use Rattle.rr_world.specs.declared.step.NewObject.{NewObject}
+use Rattle.rr_world.specs.declared.step.NewObject.TheVariants as new
+use Rattle.rr_world.specs.declared.step.Operand.{Operand}
+use Rattle.rr_world.specs.Enabling.{StandsAt, named_value, IsOwn}
+
+-- a new object: not frozen, without bytes and values
+abbrev pub new_object : NewObject → Object
+new_object new.Text = record { kind = text; class = STRING.0; bytes = []; frozen = false; triples = [] }
+new_object new.Array = record { kind = array; class = ARRAY.0; bytes = []; frozen = false; triples = [] }
+new_object (new.Object c) = record { kind = plain; class = c.0; bytes = []; frozen = false; triples = [] }
+
+-- alloc, a change by the ractor: one new object comes, last in the roots, and nothing else changes
+pub record IsAllocated (k : ℕ) (a : Actor) (new : NewObject) (s t : State) : Type 0 where
+  pub name : ℕ
+  pub fresh : s.objects name ≡ None
+  pub here : t.objects name ≡ Some (record { owner = Space k; object = new_object new })
+  pub others : (n : ℕ) → (n ≡ name → ⊥) → t.objects n ≡ s.objects n
+  pub objects : IsChange k a.roots s.objects t.objects
+  pub ractors : t.ractors ≡ slice_set s.ractors k (record a { roots = a.roots ++ At (Own name) ∷ []; slots = a.slots + 1 })
+  pub post : t.post ≡ s.post
+
+-- a refused alloc: a growth was refused, or the space is full; all is as it was
+abbrev pub IsAllocRefused : Actor → Fault → State → State → Type 0
+IsAllocRefused a f s t = ((f ≡ fault.Memory) ⊎ ((f ≡ fault.Limit kind.Slots) × (a.slots ≡ a.limit))) × IsSame s t
+
+-- freeze, append, push, write, set a field, changes by the ractor: its object under the name n, which was o, is p, and nothing else changes
+pub record IsChangedTo (k : ℕ) (a : Actor) (n : ℕ) (o p : Object) (s t : State) : Type 0 where
+  pub was : s.objects n ≡ Some (record { owner = Space k; object = o })
+  pub now : t.objects n ≡ Some (record { owner = Space k; object = p })
+  pub others : (m : ℕ) → (m ≡ n → ⊥) → t.objects m ≡ s.objects m
+  pub objects : IsChange k a.roots s.objects t.objects
+  pub ractors : t.ractors ≡ s.ractors
+  pub post : t.post ≡ s.post
+
+abbrev pub frozen : Object → Object
+frozen o = record o { frozen = true }
+
+abbrev pub appended : ℕ → Object → Object
+appended byte o = record o { bytes = o.bytes ++ byte ∷ [] }
+
+abbrev pub pushed : Value → Object → Object
+pushed x o = record o { triples = o.triples ++ (Place (length o.triples), x) ∷ [] }
+
+abbrev pub written : ℕ → Value → Object → Object
+written i x o = record o { triples = slice_set o.triples i (Place i, x) }
+
+-- the label is the field of this name
+abbrev pub is_field : ℕ → Label → Bool
+is_field x (Field y) = nat_eq x y
+is_field x (Place k) = false
+is_field x (KeyAt k) = false
+is_field x (ValueAt k) = false
+is_field x Message = false
+is_field x Cause = false
+is_field x Ractor = false
+
+-- a value in the place of the first that is in the field, or behind all
+abbrev pub set_in : ℕ → Value → List (Label × Value) → List (Label × Value)
+set_in x v [] = (Field x, v) ∷ []
+set_in x v (t ∷ ts) = if is_field x t.0 then (Field x, v) ∷ ts else t ∷ set_in x v ts
+
+abbrev pub with_field : ℕ → Value → Object → Object
+with_field x v o = record o { triples = set_in x v o.triples }
+
+-- the ractor's own object that the operand is, where it may be changed, is what the change makes of it
+abbrev pub IsMade : ℕ → Actor → Operand → (Object → Type 0) → (Object → Object) → State → State → Type 0
+IsMade k a op may change s t = (n : ℕ) × (o : Object) × IsOwn s k a op n o × may o × IsChangedTo k a n o (change o) s t
+
+-- a change for which a growth was refused: all is as it was
+abbrev pub IsMemoryRefused : Fault → State → State → Type 0
+IsMemoryRefused f s t = (f ≡ fault.Memory) × IsSame s t
+
+-- read: the first value under the label joins the roots, and the graph stays
+pub record IsReadAs (k : ℕ) (a : Actor) (op : Operand) (l : Label) (s t : State) : Type 0 where
+  pub name : ℕ
+  pub owned : Owned
+  pub value : Value
+  pub named : named_value a.roots op ≡ Some (At (Own name))
+  pub here : s.objects name ≡ Some owned
+  pub first : IsFirstUnder owned.object.triples l value
+  pub objects : (n : ℕ) → t.objects n ≡ s.objects n
+  pub ractors : t.ractors ≡ slice_set s.ractors k (record a { roots = a.roots ++ value ∷ [] })
+  pub post : t.post ≡ s.post
+
+-- a ractor without objects, and its inbox
+abbrev pub new_actor : Limits → Actor
+new_actor l = record { roots = []; hand = None; home = None; slots = 0; limit = l.slots; next = 1; limits = l; runs = true }
+
+abbrev pub new_mailbox : Limits → Mailbox
+new_mailbox l = record { inside = []; closed = false; next = 0; history = []; limit = l.events }
+
+-- start: a ractor without objects comes with the next number, and its inbox; the graph stays
+pub record IsStarted (number : Number) (a : Actor) (s t : State) : Type 0 where
+  pub next : StandsAt number (length s.ractors)
+  pub objects : (n : ℕ) → t.objects n ≡ s.objects n
+  pub ractors : t.ractors ≡ s.ractors ++ new_actor a.limits ∷ []
+  pub post : t.post ≡ record s.post { inboxes = s.post.inboxes ++ new_mailbox a.limits ∷ [] }
+
+-- a refused start: a growth was refused, or there are as many ractors as may be; all is as it was
+abbrev pub IsStartRefused : Actor → Fault → State → State → Type 0
+IsStartRefused a f s t = ((f ≡ fault.Memory) ⊎ ((f ≡ fault.Limit kind.Ractors) × (a.limits.ractors ≤ length s.ractors))) × IsSame s t
+
+-- a ractor that has ended is one without objects that does not run
+abbrev pub ended_actor : Limits → Actor
+ended_actor l = record (new_actor l) { runs = false }
+
+-- the owner is the ractor at k, or its hand
+abbrev pub IsHeldBy : ℕ → Owner → Type 0
+IsHeldBy k h = (h ≡ Space k) ⊎ (h ≡ Hand k)
+
+-- end: the objects of the ractor and of its hand vanish, and with them its roots; its channels stay
+pub record IsEnded (k : ℕ) (a : Actor) (s t : State) : Type 0 where
+  pub gone : (n : ℕ) (x : Owned) → s.objects n ≡ Some x → IsHeldBy k x.owner → t.objects n ≡ None
+  pub kept : (n : ℕ) (x : Owned) → s.objects n ≡ Some x → (IsHeldBy k x.owner → ⊥) → t.objects n ≡ Some x
+  pub none : (n : ℕ) → s.objects n ≡ None → t.objects n ≡ None
+  pub ractors : t.ractors ≡ slice_set s.ractors k (ended_actor a.limits)
+  pub post : t.post ≡ s.post
