@@ -56,6 +56,14 @@ fn missing(alloc: Global, program: &Program, receiver: Receiver) -> Result<Vec<u
     Ok(out)
 }
 
+/// What the message of a missing method calls a value.
+fn receiver_of(space: &Space, value: Ref) -> Receiver {
+    match value {
+        Ref::Class(class) => Receiver::Class(class),
+        _ => Receiver::Instance(space.class_of(value)),
+    }
+}
+
 /// Calls the method on the first value with those behind it.
 fn called(
     alloc: Global,
@@ -107,11 +115,7 @@ pub fn outcome(alloc: Global, line: &str) -> Result<Vec<u8>, Fail> {
     let mut out = match called(alloc, &mut space, &program, method, &values)? {
         Built::Value(value) => inspected(alloc, &space, &program, value)?,
         Built::Raised(problem) => raised(alloc, &program, problem)?,
-        Built::Missing => missing(
-            alloc,
-            &program,
-            Receiver::Instance(space.class_of(receiver)),
-        )?,
+        Built::Missing => missing(alloc, &program, receiver_of(&space, receiver))?,
     };
     out.extend_from_slice(b" | ")?;
     out.extend_from_slice(&inspected(alloc, &space, &program, receiver)?)?;

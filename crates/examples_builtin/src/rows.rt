@@ -171,6 +171,34 @@ nil dup => nil | nil
 {1:2,3:4 size => 2 | {1 => 2, 3 => 4}
 { empty? => true | {}
 {1:2 first => undefined method 'first' for an instance of Hash | {1 => 2}
+[1,2,3 sum => 6 | [1, 2, 3]
+[ sum => 0 | []
+[-5,2 sum => -3 | [-5, 2]
+[9223372036854775807,1 sum => integer out of 64 bits (RangeError) | [9223372036854775807, 1]
+[-9223372036854775808,-1 sum => integer out of 64 bits (RangeError) | [-9223372036854775808, -1]
+[9223372036854775807,1,-1 sum => 9223372036854775807 | [9223372036854775807, 1, -1]
+[1,'a,2 sum => wrong type String (TypeError) | [1, \"a\", 2]
+*[1,2 sum => 3 | [1, 2]
+[1 sum 2 => wrong number of arguments (given 1, expected 0) (ArgumentError) | [1]
+{1:2 sum => undefined method 'sum' for an instance of Hash | {1 => 2}
+{1:2,3:4 delete 1 => 2 | {3 => 4}
+{1:2,3:4 delete 3 => 4 | {1 => 2}
+{1:2,3:4,5:6 delete 3 => 4 | {1 => 2, 5 => 6}
+{1:2 delete 3 => nil | {1 => 2}
+{1:2 delete '1 => nil | {1 => 2}
+{1:2 delete [1 => wrong type Array (TypeError) | {1 => 2}
+*{1:2 delete 1 => can't modify frozen Hash (FrozenError) | {1 => 2}
+{1:2 delete => wrong number of arguments (given 0, expected 1) (ArgumentError) | {1 => 2}
+[1 delete 1 => undefined method 'delete' for an instance of Array | [1]
+Object new => #<Object> | Object
+Object new 1 => wrong number of arguments (given 1, expected 0) (ArgumentError) | Object
+TypeError new => #<TypeError: TypeError> | TypeError
+TypeError new 'a => #<TypeError: a> | TypeError
+TypeError new 'a 1 => wrong number of arguments (given 2, expected 0..1) (ArgumentError) | TypeError
+Integer new => undefined method 'new' for class Integer | Integer
+String new 'a => undefined method 'new' for class String | String
+7 new => undefined method 'new' for an instance of Integer | 7
+error new => undefined method 'new' for an instance of TypeError | #<TypeError: TypeError>
 shell + 1 => moved object (Ractor::MovedError) | shell
 shell nil? => moved object (Ractor::MovedError) | shell
 nil == shell => false | nil";

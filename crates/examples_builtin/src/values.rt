@@ -41,12 +41,24 @@ fn number(word: &str) -> Result<Ref, Fail> {
     }
 }
 
-/// An array of numbers, with commas between them.
+/// An element of an array: a number, or `'` and the bytes of a text.
+fn element(alloc: Global, space: &mut Space, word: &str) -> Result<Ref, Fail> {
+    match word.strip_prefix("'") {
+        Some(bytes) => text(alloc, space, bytes),
+        None => number(word),
+    }
+}
+
+/// An array of numbers and texts, with commas between them.
 fn array(alloc: Global, space: &mut Space, words: &str) -> Result<Ref, Fail> {
     let array = space.alloc(Node::Array(Items::new(alloc)))?;
     for word in words.split(',') {
-        if !word.is_empty() && space.can_write(array) && space.kind_of(array) == Kind::Array {
-            let item = own(space, number(word)?)?;
+        if word.is_empty() {
+            continue;
+        }
+        let item = element(alloc, space, word)?;
+        if space.can_write(array) && space.kind_of(array) == Kind::Array {
+            let item = own(space, item)?;
             space.push_element(array, item)?;
         }
     }
@@ -116,13 +128,14 @@ fn unfrozen(alloc: Global, space: &mut Space, word: &str) -> Result<Ref, Fail> {
         "Integer" => Ok(Ref::Class(ClassId::INTEGER)),
         "String" => Ok(Ref::Class(ClassId::STRING)),
         "Object" => Ok(Ref::Class(ClassId::OBJECT)),
+        "TypeError" => Ok(Ref::Class(ClassId::TYPE_ERROR)),
         ":b" => Ok(Ref::Symbol(Sym(1))),
         ":c" => Ok(Ref::Symbol(Sym(2))),
         _ => number(word),
     }
 }
 
-/// The value that a word spells: a number, `'` and the bytes of a text, `[` and the numbers of an array, `{` and those of a hash, `nil`, `true`,
+/// The value that a word spells: a number, `'` and the bytes of a text, `[` and the elements of an array, `{` and those of a hash, `nil`, `true`,
 /// `false`, a symbol or a shell; frozen behind `*`.
 pub fn value(alloc: Global, space: &mut Space, word: &str) -> Result<Ref, Fail> {
     let Some(rest) = word.strip_prefix("*") else {

@@ -10,8 +10,9 @@ use Rattle.rr_base.specs.declared.name.TheConstants.ClassId.{ARRAY}
 use Rattle.rr_space.specs.Graph.{Value, Plain, Nil, At, Own, Place, Object, array}
 use Rattle.rr_space.specs.Tables.{Table, Here, Below, joined, IsRestKept}
 use Rattle.rr_space.specs.Parts.{value_of, places_from, below_ref, below_parts, IsWithin}
-use Rattle.rr_space.specs.Views.{AllWithin, placed_from, object_of}
+use Rattle.rr_space.specs.Views.{AllWithin, placed_from, object_of, below_node, node_keys}
 use Rattle.rr_space.specs.Labels.{triples_at}
+use Rattle.rr_space.specs.declared.node.Node.{Node}
 use Rattle.rr_space.specs.declared.node.Node.TheVariants.{Array}
 use Rattle.rr_space.specs.declared.refer.Ref.{Ref}
 use Rattle.rr_space.specs.declared.refer.Ref.TheVariants.{Local}
@@ -21,7 +22,7 @@ use Rattle.rr_text.specs.Reads.{IsReadWith}
 use Rattle.rr_builtin.specs.declared.built.Built.TheVariants as built
 use Rattle.rr_builtin.proofs.Among.{among_of, none_in}
 use Rattle.rr_builtin.proofs.Performing.{placed_value}
-use Rattle.rr_builtin.specs.Acts.{Gives, with_array, with_put, nils, value_or_nil, element_at, IsRefAmong, IsDone}
+use Rattle.rr_builtin.specs.Acts.{Gives, with_array, with_object, with_put, nils, value_or_nil, element_at, IsRefAmong, IsDone}
 use Rattle.rr_builtin.specs.Elements.{listed}
 
 pub all_places : (k j : ℕ) (rs : List Ref) → All (IsWithin k) rs → AllWithin k (places_from j rs)
@@ -61,6 +62,23 @@ array_done below old new its r read name slots led keys rest among =
       keys = keys;
       rest = rest;
       read = read_more below old new (below_parts (places_from 0 its)) read led (parts_among below 0 its among);
+      within = subst (λ (x : Ref). IsWithin (length new.slots) x) (sym name) inside;
+      among = subst (λ (x : Ref). IsRefAmong below x) (sym name) tt;
+    }
+
+-- a new object
+pub object_done : (below : Below) (old new : Table) (node : Node) (r : Ref) → IsReadWith old below → r ≡ Local (length old.slots)
+    → new.slots ≡ old.slots ++ Here (object_of node) ∷ [] → new.below ≡ old.below ++ below_node node ∷ [] → new.keys ≡ old.keys ++ node_keys node ∷ [] → IsRestKept old new
+    → ((e : ℕ × List Object) → Contains (below_node node) e → Contains below e) → IsDone below (Gives (At (Own (length old.slots))), with_object (object_of node) (node_keys node) old) old new (built.Value r)
+object_done below old new node r read name slots led keys rest among =
+    let size : length new.slots ≡ length old.slots + 1 = ap length slots ∙ length-append old.slots (Here (object_of node) ∷ []) in
+    let inside : length old.slots < length new.slots = omega (arith, size) in
+    record {
+      outcome = ap (λ (x : Ref). Gives (value_of x)) name;
+      slots = slots;
+      keys = keys;
+      rest = rest;
+      read = read_more below old new (below_node node) read led among;
       within = subst (λ (x : Ref). IsWithin (length new.slots) x) (sym name) inside;
       among = subst (λ (x : Ref). IsRefAmong below x) (sym name) tt;
     }

@@ -9,3 +9,6 @@ pub mod Gathering
 pub mod Arraying
 pub mod Keyed
 pub mod Storing
+pub mod Classing
+pub mod Summing
+pub mod NoFields

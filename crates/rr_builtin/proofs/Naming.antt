@@ -8,7 +8,7 @@ use Rattle.rr_builtin.specs.declared.method.ObjectMethod.TheVariants as object
 use Rattle.rr_builtin.specs.declared.method.ContentMethod.TheVariants as content
 use Rattle.rr_builtin.specs.declared.method.TellingMethod.TheVariants as telling
 use Rattle.rr_builtin.specs.declared.method.BuiltInMethod.{BuiltInMethod}
-use Rattle.rr_builtin.specs.declared.method.BuiltInMethod.TheVariants.{Operator, Number, Object, Content, Telling}
+use Rattle.rr_builtin.specs.declared.method.BuiltInMethod.TheVariants.{Operator, Number, Object, Content, Telling, New}
 use Rattle.rr_builtin.specs.Methods.{method_name, method_named, named_among, or_else, operators, number_methods, object_methods, content_methods, telling_methods, NamesAreOne, NamesAreMet, TableIsByName}
 
 pub names_are_one : NamesAreOne
@@ -56,9 +56,12 @@ names_are_one (Content content.SetAt) = refl
 names_are_one (Content content.Keys) = refl
 names_are_one (Content content.Values) = refl
 names_are_one (Content content.HasKey) = refl
+names_are_one (Content content.Delete) = refl
+names_are_one (Content content.Sum) = refl
 names_are_one (Telling telling.Name) = refl
 names_are_one (Telling telling.Message) = refl
 names_are_one (Telling telling.Cause) = refl
+names_are_one New = refl
 
 -- a method that is taken only where a test holds
 taken : (b : Bool) (m n : BuiltInMethod) (rest : Option BuiltInMethod) (P : Type 0) → (b ≡ true → m ≡ n → P) → (rest ≡ Some n → P) → (if b then Some m else rest) ≡ Some n → P

@@ -1,5 +1,5 @@
 -- What writes leave is what the acts say.
-use Rattle.std.proofs.Common.{◌≡◌, ◌∙◌, ℕ, zero, suc, ◌+◌, ◌<◌, IsTrue, List, [], ◌∷◌, ◌++◌, length, length-append, map, remove, Contains, Option, Some, None, slice_get, slice_set, Result, Ok, Err, refl, sym, ap, subst, arith}
+use Rattle.std.proofs.Common.{◌≡◌, ◌∙◌, ℕ, zero, suc, ◌+◌, ◌*◌, ◌<◌, IsTrue, List, [], ◌∷◌, ◌++◌, length, length-append, map, remove, Contains, Option, Some, None, slice_get, slice_set, Result, Ok, Err, refl, sym, ap, subst, arith}
 use Rattle.std.proofs.Math.Logic.{⊎_elim}
 use Rattle.std.proofs.lemmas.Bool.Decides.{eqb_tells}
 use Rattle.std.proofs.lemmas.Option.{none-some, same_Some, slice_get_within}
@@ -10,7 +10,7 @@ use Rattle.rr_space.specs.Graph.{Value, At, Own, Object}
 use Rattle.rr_space.specs.Tables.{Table, Slot, Here, Led, Below, joined, IsRestKept}
 use Rattle.rr_space.specs.Lookups.{text_object}
 use Rattle.rr_space.specs.Parts.{value_of, IsWithin}
-use Rattle.rr_space.specs.Views.{is_open, can_write_at, placed_from, slot_object, IsLedAlso}
+use Rattle.rr_space.specs.Views.{is_open, can_write_at, placed_from, paired_from, slot_object, IsLedAlso}
 use Rattle.rr_space.specs.Labels.{triples_at, triples_of}
 use Rattle.rr_space.specs.declared.refer.Ref.{Ref}
 use Rattle.rr_space.specs.declared.refer.Ref.TheVariants.{Nil, Truth, Int, Symbol, Class, Ractor, Local, Shared}
@@ -19,7 +19,7 @@ use Rattle.rr_text.specs.Reads.{IsReadWith}
 use Rattle.rr_builtin.specs.declared.built.Built.{Built}
 use Rattle.rr_builtin.specs.declared.built.Built.TheVariants as built
 use Rattle.rr_builtin.proofs.Among.{none_in}
-use Rattle.rr_builtin.specs.Acts.{Outcome, Gives, with_text, changed, changed_slot, part_value, without_element, value_or_nil, element_at, IsRefAmong, IsDone, IsRefusal, Acts}
+use Rattle.rr_builtin.specs.Acts.{Outcome, Gives, with_text, changed, changed_slot, part_value, without_element, pairs_in, value_or_nil, element_at, IsRefAmong, IsDone, IsRefusal, Acts}
 
 -- ---- The table is read with the same clusters.
 
@@ -156,3 +156,14 @@ taken_is o vs k e = ap (λ (ws : List Value). record o { triples = placed_from 0
 pub acts_same : (below : Below) (a b : Table → Outcome × Table) (old new : Table) (r : Result Built Fault) → a old ≡ b old → Acts below a old new r → Acts below b old new r
 acts_same below a b old new (Ok x) e h = subst (λ (done : Outcome × Table). IsDone below done old new x) e h
 acts_same below a b old new (Err f) e h = (h.0, subst (λ (done : Outcome × Table). IsRefusal f old.limit (length done.1.slots)) e h.1)
+
+-- ---- A pair that is taken out.
+
+pub paired_pairs : (j : ℕ) (ps : List (Value × Value)) → pairs_in (paired_from j ps) ≡ ps
+paired_pairs j [] = refl
+paired_pairs j (p ∷ ps) = ap (λ qs. p ∷ qs) (paired_pairs (j + 1) ps)
+
+pub paired_value : (j : ℕ) (ps : List (Value × Value)) (i : ℕ) (p : Value × Value) → slice_get ps i ≡ Some p → value_or_nil (slice_get (paired_from j ps) (2 * i + 1)) ≡ p.1
+paired_value j [] i p e = absurd (none-some p e)
+paired_value j (q ∷ ps) zero p e = ap (λ r. r.1) (same_Some q p e)
+paired_value j (q ∷ ps) (suc i) p e = ap (λ k. value_or_nil (slice_get (paired_from j (q ∷ ps)) k)) (let z : 2 * suc i + 1 ≡ suc (suc (2 * i + 1)) = omega arith in z) ∙ paired_value (j + 1) ps i p e

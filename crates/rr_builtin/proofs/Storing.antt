@@ -1,5 +1,5 @@
 -- Pairs that are put into hashes.
-use Rattle.std.proofs.Common.{◌≡◌, ◌∙◌, ◌<◌, ◌+◌, ◌≤◌, ◌&&◌, ◌⊎◌, ⊎_elim, inl, inr, ℕ, suc, Bool, true, false, if◌then◌else◌, List, [], ◌∷◌, ◌++◌, length, length-append, length-set, get_or, Contains, Option, Some, None, MatchOption, IfSome, IfNone, slice_get, slice_set, refl, sym, ap, subst, arith}
+use Rattle.std.proofs.Common.{◌≡◌, ◌∙◌, ◌<◌, ◌+◌, ◌*◌, ◌≤◌, ◌&&◌, ◌⊎◌, ⊎_elim, inl, inr, ℕ, suc, Bool, true, false, if◌then◌else◌, List, [], ◌∷◌, ◌++◌, length, length-append, length-set, remove, get_or, Contains, Option, Some, None, MatchOption, IfSome, IfNone, slice_get, slice_set, refl, sym, ap, subst, arith}
 use Rattle.std.proofs.Math.Bool.{and-true}
 use Rattle.std.proofs.lemmas.Bool.{false≢true}
 use Rattle.std.proofs.lemmas.Option.{none-some, same_Some, slice_get-get_or, slice_get_within}
@@ -10,17 +10,17 @@ use Rattle.rr_space.specs.Graph.{Value, At, Own, Object}
 use Rattle.rr_space.specs.Tables.{Table, Here, Below, HashKey, TextKey, IsRestKept}
 use Rattle.rr_space.specs.Sound.{IsWell}
 use Rattle.rr_space.specs.Parts.{value_of, below_ref, bytes_of, is_frozen_object, IsWithin}
-use Rattle.rr_space.specs.Views.{keys_at, keys_here, frozen_at, object_at, text_at, IsLedAlso, IsFirstAt}
+use Rattle.rr_space.specs.Views.{paired_from, keys_at, keys_here, frozen_at, object_at, text_at, IsLedAlso, IsFirstAt}
 use Rattle.rr_space.specs.Lookups.{is_text, key_at, key_of_frozen, key_of_object, frozen_text}
 use Rattle.rr_space.specs.declared.refer.Ref.{Ref}
 use Rattle.rr_space.specs.declared.refer.Ref.TheVariants.{Nil, Truth, Int, Symbol, Class, Ractor, Local, Shared}
 use Rattle.rr_space.proofs.Within.{ref_later}
 use Rattle.rr_text.specs.Reads.{IsReadWith}
 use Rattle.rr_builtin.specs.declared.built.Built.TheVariants as built
-use Rattle.rr_builtin.specs.Acts.{Gives, with_pair, added, with_frozen, changed_slot, keys_with, count_keys, key_count, IsRefAmong, IsDone, IsRefusal}
+use Rattle.rr_builtin.specs.Acts.{Gives, with_pair, changed, pairs_in, without_pair, without_key, keys_without, element_at, value_or_nil, added, with_frozen, changed_slot, keys_with, count_keys, key_count, IsRefAmong, IsDone, IsRefusal}
 use Rattle.rr_builtin.specs.Hashes.{key_given}
 use Rattle.rr_builtin.proofs.Among.{among_of}
-use Rattle.rr_builtin.proofs.Performing.{IsWritable, read_led, read_grown}
+use Rattle.rr_builtin.proofs.Performing.{IsWritable, read_led, read_grown, triples_here, paired_pairs, paired_value}
 
 -- the keys of what may be written
 pub written_keys : (t : Table) (v : Ref) (w : IsWritable t v) → IsWell t → (ks : List HashKey) × (slice_get t.keys w.slot ≡ Some ks) × (keys_at t v ≡ Some ks)
@@ -88,6 +88,25 @@ pub text_refused : (name : Value) (key : HashKey) (x : Value) (bytes : List ℕ)
 text_refused name key x bytes t v w ks f kat why =
     let size = later_size name key x bytes t v w ks kat in
     ⊎_elim (λ q. let full : length t.slots ≡ t.limit = q.1 in inr (q.0, omega (arith, size, full))) (λ m. inl m) why
+
+-- a pair that is taken out
+pub pair_taken : (below : Below) (old new : Table) (i : ℕ) (v r : Ref) (w : IsWritable old v) (ks : List HashKey) (ps : List (Value × Value)) (p : Value × Value) → slice_get old.keys w.slot ≡ Some ks
+    → w.object.triples ≡ paired_from 0 ps → slice_get ps i ≡ Some p → p.1 ≡ value_of r
+    → new.slots ≡ slice_set old.slots w.slot (Here (record w.object { triples = paired_from 0 (remove ps i) })) → new.keys ≡ slice_set old.keys w.slot (remove ks i) → IsRestKept old new → IsReadWith new below
+    → IsWithin (length old.slots) r → IsRefAmong below r → IsDone below (Gives (element_at old v (2 * i + 1)), without_key i v (changed (without_pair i) v old)) old new (built.Value r)
+pair_taken below old new i v r w ks ps p at paired here is slots keys rest read within among =
+    let left : record w.object { triples = paired_from 0 (remove ps i) } ≡ without_pair i w.object = ap (λ qs. record w.object { triples = paired_from 0 (remove qs i) }) (sym (ap pairs_in paired ∙ paired_pairs 0 ps)) in
+    let value : element_at old v (2 * i + 1) ≡ p.1 = ap (λ ts. value_or_nil (slice_get ts (2 * i + 1))) (triples_here old v w ∙ paired) ∙ paired_value 0 ps i p here in
+    record {
+      outcome = ap Gives (sym (value ∙ is));
+      slots = slots ∙ ap (λ o. slice_set old.slots w.slot (Here o)) left
+          ∙ sym (ap (λ (x : Ref). (without_key i x (changed (without_pair i) x old)).slots) w.named ∙ ap (changed_slot (without_pair i) old.slots w.slot) w.here);
+      keys = keys ∙ sym (ap (λ (x : Ref). (without_key i x (changed (without_pair i) x old)).keys) w.named ∙ ap (keys_without i old.keys w.slot) at);
+      rest = rest;
+      read = read;
+      within = subst (λ (k : ℕ). IsWithin k r) (sym (ap length slots ∙ length-set old.slots w.slot (Here (record w.object { triples = paired_from 0 (remove ps i) })))) within;
+      among = among;
+    }
 
 -- ---- Key objects.
 

@@ -8,7 +8,7 @@ use Rattle.rr_space.specs.Graph.{Value, Plain, At, Own, Nil, Label, Place, KeyAt
 use Rattle.rr_space.specs.Tables.{Table, Slot, Here, Led, Below, HashKey, TextKey, IsRestKept, below_hold}
 use Rattle.rr_space.specs.Lookups.{text_object, frozen_text}
 use Rattle.rr_space.specs.Parts.{value_of, IsWithin}
-use Rattle.rr_space.specs.Views.{is_shell, placed_from, keys_at}
+use Rattle.rr_space.specs.Views.{is_shell, placed_from, paired_from, keys_at}
 use Rattle.rr_space.specs.Labels.{triples_at}
 use Rattle.rr_space.specs.declared.refer.Ref.{Ref}
 use Rattle.rr_space.specs.declared.refer.Ref.TheVariants.{Local, Shared}
@@ -47,6 +47,10 @@ pub data Act : Type 0 where
   AddsPair : (name : Value) (key : HashKey) (value : Value) → Act
   -- the same, with a new frozen text as the key object
   AddsText : (bytes : List ℕ) (value : Value) → Act
+  -- a pair is taken out of the receiver, and its value given
+  TakesPair : (pair : ℕ) → Act
+  -- a new object; of a hash with these keys
+  MakesObject : (object : Object) (keys : List HashKey) → Act
 
 abbrev pub outcome_of : Built → Outcome
 outcome_of (built.Value r) = Gives (value_of r)
@@ -66,6 +70,10 @@ array_object values = record { kind = array; class = ARRAY.0; bytes = []; frozen
 -- a new array gets the next slot
 abbrev pub with_array : List Value → Table → Table
 with_array values t = record t { slots = t.slots ++ Here (array_object values) ∷ []; below = t.below ++ [] ∷ []; keys = t.keys ++ [] ∷ [] }
+
+-- a new object gets the next slot
+abbrev pub with_object : Object → List HashKey → Table → Table
+with_object o keys t = record t { slots = t.slots ++ Here o ∷ []; below = t.below ++ [] ∷ []; keys = t.keys ++ keys ∷ [] }
 
 abbrev pub changed_slot : (Object → Object) → List Slot → ℕ → Option Slot → List Slot
 changed_slot f slots n (Some (Here o)) = slice_set slots n (Here (f o))
@@ -135,6 +143,25 @@ added name key x v t = with_key key v (changed (with_pair (key_count t v) name x
 abbrev pub with_frozen : List ℕ → Table → Table
 with_frozen bytes t = record t { slots = t.slots ++ Here (frozen_text bytes) ∷ []; below = t.below ++ [] ∷ []; keys = t.keys ++ [] ∷ [] }
 
+-- the keys and the values of a hash, pair by pair
+abbrev pub pairs_in : List (Label × Value) → List (Value × Value)
+pairs_in [] = []
+pairs_in (key ∷ []) = []
+pairs_in (key ∷ value ∷ ts) = (key.1, value.1) ∷ pairs_in ts
+
+-- a hash without a pair: later ones close up
+abbrev pub without_pair : ℕ → Object → Object
+without_pair i o = record o { triples = paired_from 0 (remove (pairs_in o.triples) i) }
+
+abbrev pub keys_without : ℕ → List (List HashKey) → ℕ → Option (List HashKey) → List (List HashKey)
+keys_without i keys n (Some ks) = slice_set keys n (remove ks i)
+keys_without i keys n None = keys
+
+-- the slot that a reference names without one of its keys
+abbrev pub without_key : ℕ → Ref → Table → Table
+without_key i (Local n) t = record t { keys = keys_without i t.keys n (slice_get t.keys n) }
+without_key i _ t = t
+
 abbrev pub part_value : Label × Value → Value
 part_value p = p.1
 
@@ -162,6 +189,8 @@ performed (SetsValue i x) v t = (Gives x, changed (with_value i x) v t)
 performed (AddsPair name key x) v t = (Gives x, added name key x v t)
 performed (AddsText bytes x) v t = (Gives x, with_frozen bytes (added (At (Own (length t.slots))) (TextKey bytes) x v t))
 performed (Takes k) v t = (Gives (element_at t v k), changed (without_element k) v t)
+performed (MakesObject o keys) v t = (Gives (At (Own (length t.slots))), with_object o keys t)
+performed (TakesPair i) v t = (Gives (element_at t v (2 * i + 1)), without_key i v (changed (without_pair i) v t))
 
 -- ---- When a call has done an act.
 

@@ -1,5 +1,5 @@
 -- What a call of a built-in method comes to.
-use Rattle.std.specs.Prelude.{ℕ, Bool, not, nat_eq, List, length, slice_index_or, if◌then◌else◌}
+use Rattle.std.specs.Prelude.{ℕ, Bool, not, ◌&&◌, ◌||◌, nat_lt, List, length, slice_index_or, if◌then◌else◌}
 use Rattle.std.specs.Cmp.Lexicographic.{slice_cmp}
 use Rattle.std.specs.Ordering.{nat_cmp}
 use Rattle.rr_space.specs.Graph.{Plain, Nil as NilValue}
@@ -19,14 +19,15 @@ use Rattle.rr_text.specs.Names.{names_of}
 use Rattle.rr_builtin.specs.declared.problem.Problem.TheVariants.{Moved, Count}
 use Rattle.rr_builtin.specs.declared.method.NumberMethod.{NumberMethod}
 use Rattle.rr_builtin.specs.declared.method.BuiltInMethod.{BuiltInMethod}
-use Rattle.rr_builtin.specs.declared.method.BuiltInMethod.TheVariants.{Operator, Number, Object, Content, Telling}
+use Rattle.rr_builtin.specs.declared.method.BuiltInMethod.TheVariants.{Operator, Number, Object, Content, Telling, New}
 use Rattle.rr_builtin.specs.Acts.{Act, Answers, Outcome, Gives, Raises, Lacks, outcome_of, element_at, performed}
 use Rattle.rr_builtin.specs.Numbers.{on_integer, number_answer}
 use Rattle.rr_builtin.specs.Objects.{equals, truth, told, printed_text, object_act}
 use Rattle.rr_builtin.specs.Texts.{text_operator, ordered}
 use Rattle.rr_builtin.specs.Containers.{content_act}
 use Rattle.rr_builtin.specs.Arrays.{array_sum}
-use Rattle.rr_builtin.specs.Kinds.{is_shell_kind, has, count_of}
+use Rattle.rr_builtin.specs.News.{may_make, takes_message, new_act}
+use Rattle.rr_builtin.specs.Kinds.{is_shell_kind, has, is_new, count_of}
 
 -- `==` and `!=` of values that are equal or not
 abbrev pub equality : BinaryOperator → Bool → Act
@@ -76,14 +77,26 @@ method_act p below (Number m) v a b t = number_act m v
 method_act p below (Object m) v a b t = object_act p below m v a t
 method_act p below (Content m) v a b t = content_act below (kind_at t v) m v a b t
 method_act p below (Telling m) v a b t = telling_act (names_of p) below m v t
+method_act p below New v a b t = new_act p v a
+
+-- whether a value of the kind has the method: `new` is not a method of each class
+abbrev pub responds : Program → Kind → Ref → BuiltInMethod → Bool
+responds p k v m = has k m && (not (is_new m) || may_make p v)
+
+-- how many arguments the method takes at most
+abbrev pub most_of : Program → Ref → BuiltInMethod → ℕ
+most_of p v m = if is_new m && takes_message p v then 1 else count_of m
+
+abbrev pub is_between : ℕ → ℕ → ℕ → Bool
+is_between least most n = not (nat_lt n least) && not (nat_lt most n)
 
 -- what a call does: first it is asked whether the receiver was moved away, then whether it has the method, and then
 -- whether the number of arguments is right
 abbrev pub call_act : Program → Below → Ref → BuiltInMethod → List Ref → Table → Act
 call_act p below v m args t =
     if is_shell_kind (kind_at t v) then Answers (Raises Moved) else
-    if has (kind_at t v) m then
-    (if nat_eq (length args) (count_of m) then method_act p below m v (slice_index_or args 0 Nil) (slice_index_or args 1 Nil) t else Answers (Raises (Count (length args) (count_of m) (count_of m))))
+    if responds p (kind_at t v) v m then
+    (if is_between (count_of m) (most_of p v m) (length args) then method_act p below m v (slice_index_or args 0 Nil) (slice_index_or args 1 Nil) t else Answers (Raises (Count (length args) (count_of m) (most_of p v m))))
     else Answers Lacks
 
 -- what a call comes to, and the table then

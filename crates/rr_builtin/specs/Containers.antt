@@ -6,28 +6,30 @@ use Rattle.rr_space.specs.declared.kind.Kind.{Kind}
 use Rattle.rr_space.specs.declared.kind.Kind.TheVariants as kind
 use Rattle.rr_space.specs.declared.refer.Ref.{Ref}
 use Rattle.rr_builtin.specs.declared.method.ContentMethod.{ContentMethod}
-use Rattle.rr_builtin.specs.declared.method.ContentMethod.TheVariants.{Size, Length, IsEmpty, First, Last, At as AtMethod, SetAt, Append, Push, Pop, Shift, Keys, Values, HasKey}
+use Rattle.rr_builtin.specs.declared.method.ContentMethod.TheVariants.{Size, Length, IsEmpty, First, Last, At as AtMethod, SetAt, Append, Push, Pop, Shift, Keys, Values, HasKey, Delete, Sum}
 use Rattle.rr_builtin.specs.Acts.{Act, Answers, MakesArray, Pushes, Gives, Lacks, element_at}
 use Rattle.rr_builtin.specs.Objects.{truth}
 use Rattle.rr_builtin.specs.Contents.{size_act, is_empty, indexed, unless_frozen, taken, popped, text_content}
 use Rattle.rr_builtin.specs.Arrays.{array_put}
-use Rattle.rr_builtin.specs.Hashes.{hash_read, hash_has, hash_put}
+use Rattle.rr_builtin.specs.Hashes.{hash_read, hash_has, hash_put, hash_delete}
+use Rattle.rr_builtin.specs.Sums.{sum_act}
 use Rattle.rr_builtin.specs.Elements.{count_at, names_of_hash, values_of_hash}
 
 -- a method of arrays
-abbrev pub array_content : ContentMethod → Ref → Ref → Ref → Table → Act
-array_content Size v a b t = size_act kind.Array v t
-array_content Length v a b t = size_act kind.Array v t
-array_content IsEmpty v a b t = truth (is_empty kind.Array t v)
-array_content First v a b t = Answers (Gives (element_at t v 0))
-array_content Last v a b t = Answers (Gives (element_at t v (count_at t v - 1)))
-array_content AtMethod v a b t = Answers (indexed v a t)
-array_content Append v a b t = unless_frozen v t (Pushes (value_of a))
-array_content Push v a b t = unless_frozen v t (Pushes (value_of a))
-array_content Pop v a b t = popped v t
-array_content Shift v a b t = taken v 0 t
-array_content SetAt v a b t = unless_frozen v t (array_put v a b t)
-array_content _ v a b t = Answers Lacks
+abbrev pub array_content : Below → ContentMethod → Ref → Ref → Ref → Table → Act
+array_content below Size v a b t = size_act kind.Array v t
+array_content below Length v a b t = size_act kind.Array v t
+array_content below IsEmpty v a b t = truth (is_empty kind.Array t v)
+array_content below First v a b t = Answers (Gives (element_at t v 0))
+array_content below Last v a b t = Answers (Gives (element_at t v (count_at t v - 1)))
+array_content below AtMethod v a b t = Answers (indexed v a t)
+array_content below Append v a b t = unless_frozen v t (Pushes (value_of a))
+array_content below Push v a b t = unless_frozen v t (Pushes (value_of a))
+array_content below Pop v a b t = popped v t
+array_content below Shift v a b t = taken v 0 t
+array_content below SetAt v a b t = unless_frozen v t (array_put v a b t)
+array_content below Sum v a b t = sum_act below v t
+array_content below _ v a b t = Answers Lacks
 
 -- a method of hashes
 abbrev pub hash_content : Below → ContentMethod → Ref → Ref → Ref → Table → Act
@@ -37,6 +39,7 @@ hash_content below IsEmpty v a b t = truth (is_empty kind.Hash t v)
 hash_content below AtMethod v a b t = hash_read below v a t
 hash_content below SetAt v a b t = hash_put below v a b t
 hash_content below HasKey v a b t = hash_has below v a t
+hash_content below Delete v a b t = hash_delete below v a t
 hash_content below Keys v a b t = MakesArray (names_of_hash t v)
 hash_content below Values v a b t = MakesArray (values_of_hash t v)
 hash_content below _ v a b t = Answers Lacks
@@ -44,6 +47,6 @@ hash_content below _ v a b t = Answers Lacks
 -- a method of texts, arrays and hashes, by the kind of the receiver
 abbrev pub content_act : Below → Kind → ContentMethod → Ref → Ref → Ref → Table → Act
 content_act below kind.Text m v a b t = text_content m v a t
-content_act below kind.Array m v a b t = array_content m v a b t
+content_act below kind.Array m v a b t = array_content below m v a b t
 content_act below kind.Hash m v a b t = hash_content below m v a b t
 content_act below _ m v a b t = Answers Lacks

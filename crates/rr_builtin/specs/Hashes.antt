@@ -12,7 +12,7 @@ use Rattle.rr_space.specs.Kinds.{class_at}
 use Rattle.rr_space.specs.declared.refer.Ref.{Ref}
 use Rattle.rr_space.specs.declared.refer.Ref.TheVariants.{Local, Shared}
 use Rattle.rr_builtin.specs.declared.problem.Problem.TheVariants.{WrongType}
-use Rattle.rr_builtin.specs.Acts.{Act, Answers, SetsValue, AddsPair, AddsText, Outcome, Gives, Raises, element_at}
+use Rattle.rr_builtin.specs.Acts.{Act, Answers, SetsValue, AddsPair, AddsText, TakesPair, Outcome, Gives, Raises, element_at}
 use Rattle.rr_builtin.specs.Contents.{unless_frozen}
 use Rattle.rr_builtin.specs.Elements.{names_of_hash}
 use Rattle.rr_builtin.specs.Objects.{same_immediate, truth}
@@ -72,6 +72,14 @@ stored key None a x t = if frozen_at t a then AddsPair (value_of a) key (value_o
 
 abbrev pub hash_put : Below → Ref → Ref → Ref → Table → Act
 hash_put below v a x t = unless_frozen v t (keyed (key_given t a) (class_at t a) (λ key. stored key (pair_with below t v key) a x t))
+
+-- a pair is taken out; nil where the key has none
+abbrev pub removed : Option ℕ → Act
+removed (Some i) = TakesPair i
+removed None = Answers (Gives (Plain Nil))
+
+abbrev pub hash_delete : Below → Ref → Ref → Table → Act
+hash_delete below v a t = unless_frozen v t (keyed (key_given t a) (class_at t a) (λ key. removed (pair_with below t v key)))
 
 abbrev pub hash_has : Below → Ref → Ref → Table → Act
 hash_has below v a t = keyed (key_given t a) (class_at t a) (λ key. truth (is_some (pair_with below t v key)))

@@ -7,11 +7,11 @@ use Rattle.rr_tree.specs.declared.node.BinaryOperator.TheVariants.{Add, Subtract
 use Rattle.rr_builtin.specs.declared.method.ObjectMethod.{ObjectMethod}
 use Rattle.rr_builtin.specs.declared.method.ObjectMethod.TheVariants.{IsA, KindOf, IsIdentical, Dup}
 use Rattle.rr_builtin.specs.declared.method.ContentMethod.{ContentMethod}
-use Rattle.rr_builtin.specs.declared.method.ContentMethod.TheVariants.{Size, Length, IsEmpty, First, Last, At, Append, Push, Pop, Shift, Includes, SetAt, Keys, Values, HasKey}
+use Rattle.rr_builtin.specs.declared.method.ContentMethod.TheVariants.{Size, Length, IsEmpty, First, Last, At, Append, Push, Pop, Shift, Includes, SetAt, Keys, Values, HasKey, Delete, Sum}
 use Rattle.rr_builtin.specs.declared.method.TellingMethod.{TellingMethod}
 use Rattle.rr_builtin.specs.declared.method.TellingMethod.TheVariants as telling
 use Rattle.rr_builtin.specs.declared.method.BuiltInMethod.{BuiltInMethod}
-use Rattle.rr_builtin.specs.declared.method.BuiltInMethod.TheVariants.{Operator, Number, Object, Content, Telling}
+use Rattle.rr_builtin.specs.declared.method.BuiltInMethod.TheVariants.{Operator, Number, Object, Content, Telling, New}
 
 abbrev pub is_shell_kind : Kind → Bool
 is_shell_kind kind.Shell = true
@@ -106,6 +106,8 @@ has_content k SetAt = is_container k
 has_content k Keys = is_hash k
 has_content k HasKey = is_hash k
 has_content k Values = is_hash k
+has_content k Delete = is_hash k
+has_content k Sum = is_array_kind k
 
 abbrev pub is_class : Kind → Bool
 is_class kind.Class = true
@@ -138,6 +140,7 @@ has k (Number m) = is_integer_kind k
 has k (Object m) = has_object k m
 has k (Content m) = has_content k m
 has k (Telling m) = has_telling k m
+has k New = is_class k
 
 abbrev pub object_count : ObjectMethod → ℕ
 object_count IsIdentical = 1
@@ -152,12 +155,22 @@ content_count Push = 1
 content_count Includes = 1
 content_count SetAt = 2
 content_count HasKey = 1
+content_count Delete = 1
 content_count _ = 0
 
--- how many arguments the method takes
+abbrev pub is_new : BuiltInMethod → Bool
+is_new (Operator op) = false
+is_new (Number m) = false
+is_new (Object m) = false
+is_new (Content m) = false
+is_new (Telling m) = false
+is_new New = true
+
+-- how many arguments the method takes at least
 abbrev pub count_of : BuiltInMethod → ℕ
 count_of (Operator op) = 1
 count_of (Number m) = 0
 count_of (Object m) = object_count m
 count_of (Content m) = content_count m
 count_of (Telling m) = 0
+count_of New = 0

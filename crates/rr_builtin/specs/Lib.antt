@@ -13,6 +13,9 @@ pub mod Contents
 pub mod Kinds
 pub mod Arrays
 pub mod Elements
+pub mod ValueClasses
+pub mod Sums
 pub mod Hashes
+pub mod News
 pub mod Containers
 pub mod Calls

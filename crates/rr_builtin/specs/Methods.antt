@@ -14,7 +14,7 @@ use Rattle.rr_builtin.specs.declared.method.ContentMethod.TheVariants as content
 use Rattle.rr_builtin.specs.declared.method.TellingMethod.{TellingMethod}
 use Rattle.rr_builtin.specs.declared.method.TellingMethod.TheVariants as telling
 use Rattle.rr_builtin.specs.declared.method.BuiltInMethod.{BuiltInMethod}
-use Rattle.rr_builtin.specs.declared.method.BuiltInMethod.TheVariants.{Operator, Number, Object, Content, Telling}
+use Rattle.rr_builtin.specs.declared.method.BuiltInMethod.TheVariants.{Operator, Number, Object, Content, Telling, New}
 
 abbrev pub operator_name : BinaryOperator → List ℕ
 operator_name operator.Add = codes "+"
@@ -66,6 +66,8 @@ content_name content.SetAt = codes "[]="
 content_name content.Keys = codes "keys"
 content_name content.Values = codes "values"
 content_name content.HasKey = codes "key?"
+content_name content.Delete = codes "delete"
+content_name content.Sum = codes "sum"
 
 abbrev pub telling_name : TellingMethod → List ℕ
 telling_name telling.Name = codes "name"
@@ -78,6 +80,7 @@ method_name (Number m) = number_name m
 method_name (Object m) = object_name m
 method_name (Content m) = content_name m
 method_name (Telling m) = telling_name m
+method_name New = codes "new"
 
 abbrev pub operators : List BuiltInMethod
 operators = Operator operator.Add ∷ Operator operator.Subtract ∷ Operator operator.Multiply ∷ Operator operator.Divide ∷ Operator operator.Remainder
@@ -94,10 +97,10 @@ object_methods = Object object.Class ∷ Object object.IsA ∷ Object object.Kin
 abbrev pub content_methods : List BuiltInMethod
 content_methods = Content content.Size ∷ Content content.Length ∷ Content content.IsEmpty ∷ Content content.First ∷ Content content.Last ∷ Content content.At
     ∷ Content content.Append ∷ Content content.Push ∷ Content content.Pop ∷ Content content.Shift ∷ Content content.Includes
-    ∷ Content content.SetAt ∷ Content content.Keys ∷ Content content.Values ∷ Content content.HasKey ∷ []
+    ∷ Content content.SetAt ∷ Content content.Keys ∷ Content content.Values ∷ Content content.HasKey ∷ Content content.Delete ∷ Content content.Sum ∷ []
 
 abbrev pub telling_methods : List BuiltInMethod
-telling_methods = Telling telling.Name ∷ Telling telling.Message ∷ Telling telling.Cause ∷ []
+telling_methods = Telling telling.Name ∷ Telling telling.Message ∷ Telling telling.Cause ∷ New ∷ []
 
 -- the first of these methods that has the name
 abbrev pub named_among : List ℕ → List BuiltInMethod → Option BuiltInMethod

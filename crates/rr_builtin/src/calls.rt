@@ -9,14 +9,15 @@ ghost use Rattle.rr_text.specs.Names.{names_of};
 ghost use Rattle.rr_text.specs.Reads.{IsAmong, IsReadWith};
 ghost use Rattle.rr_builtin.specs.Acts.{Acts, IsRefAmong, IsBuiltWithin, IsBuiltAmong, outcome_of};
 ghost use Rattle.rr_builtin.specs.Deeds.{act_of, IsFit, IsDeedAmong};
-ghost use Rattle.rr_builtin.specs.Calls.{equality, symbol_order, symbol_operator, plain_operator, array_operator, operator_act, number_act, telling_act, method_act, call_act, called};
+ghost use Rattle.rr_builtin.specs.Calls.{equality, symbol_order, symbol_operator, plain_operator, array_operator, operator_act, number_act, telling_act, method_act, responds, most_of, is_between, call_act, called};
 
 use crate::arrays::sum_of_arrays;
 use crate::built::Built;
 use crate::contents::{content_deed, element_at};
 use crate::deed::{Deed, perform};
-use crate::kinds::{count_of, has, is_shell_kind};
+use crate::kinds::{count_of, has, is_new, is_shell_kind};
 use crate::method::{BuiltInMethod, NumberMethod, TellingMethod};
+use crate::news::{may_make, new_deed, takes_message};
 use crate::numbers::{number_answer, on_integer};
 use crate::objects::{is_equal, object_deed, raise, told, truth};
 use crate::problem::Problem;
@@ -207,7 +208,32 @@ fn method_deed(
             alloc, space, method, receiver, argument, second,
         ),
         BuiltInMethod::Telling(method) => telling_deed(alloc, space, program, method, receiver),
+        BuiltInMethod::New => new_deed(alloc, space, program, receiver, argument),
     }
+}
+
+/// Whether a value of the kind has the method.
+fn responds(program: &Program, kind: Kind, value: Ref, method: BuiltInMethod) -> bool
+    ensures { result ≡ responds program.now kind value method }
+{
+    has(kind, method) && (!is_new(method) || may_make(program, value))
+}
+
+/// How many arguments the method takes at most.
+fn most_of(program: &Program, value: Ref, method: BuiltInMethod) -> usize
+    ensures { result ≡ most_of program.now value method }
+{
+    if is_new(method) && takes_message(program, value) {
+        1
+    } else {
+        count_of(method)
+    }
+}
+
+fn is_between(least: usize, most: usize, count: usize) -> bool
+    ensures { result ≡ is_between least most count }
+{
+    least <= count && count <= most
 }
 
 /// What a call does.
@@ -231,15 +257,16 @@ fn call_deed(
     if is_shell_kind(kind) {
         return Ok(raise(Problem::Moved));
     }
-    if !has(kind, method) {
+    if !responds(program, kind, receiver, method) {
         return Ok(Deed::Answer(Built::Missing));
     }
-    let expected = count_of(method);
-    if arguments.len() != expected {
+    let least = count_of(method);
+    let most = most_of(program, receiver, method);
+    if !is_between(least, most, arguments.len()) {
         return Ok(raise(Problem::Count {
             given: arguments.len(),
-            least: expected,
-            most: expected,
+            least,
+            most,
         }));
     }
     let argument = argument_at(arguments, 0);

@@ -19,12 +19,13 @@ use crate::arrays::{names, put_deed, values};
 use crate::built::Built;
 use crate::characters::{character_at, characters};
 use crate::deed::Deed;
-use crate::hashes::{hash_has, hash_put, hash_read};
+use crate::hashes::{hash_delete, hash_has, hash_put, hash_read};
 use crate::integer::NumberProblem;
 use crate::method::ContentMethod;
 use crate::numbers::number_given;
 use crate::objects::{is_text_kind, raise, truth};
 use crate::problem::Problem;
+use crate::sums::sum_deed;
 use memchr::memmem;
 use rr_base::Fault;
 use rr_space::{Kind, Ref, Space};
@@ -274,10 +275,11 @@ fn array_content(
     argument: Ref,
     second: Ref,
 ) -> Result<Deed, Fault>
+    requires within { IsWithin (length space.now.slots) array }
     requires kind { kind_at space.now array ≡ Kind.Array }
     requires argument { IsWithin (length space.now.slots) argument }
     requires second { IsWithin (length space.now.slots) second }
-    ensures act { IfOk result (λ deed. act_of deed ≡ array_content method array argument second space.now) }
+    ensures act { IfOk result (λ deed. (below : Below) → IsReadWith space.now below → IsAmong below array → act_of deed ≡ array_content below method array argument second space.now) }
     ensures fit { IfOk result (λ deed. IsFit space.now array deed) }
     ensures among { IfOk result (λ deed. (below : Below) → IsReadWith space.now below → IsRefAmong below array → IsRefAmong below argument → IsRefAmong below second → IsDeedAmong below deed) }
     ensures fault { IfErr result (λ f. f ≡ Fault.Memory) }
@@ -297,6 +299,7 @@ fn array_content(
         ContentMethod::Pop => Ok(pop_deed(space, array)),
         ContentMethod::Shift => Ok(shift_deed(space, array)),
         ContentMethod::SetAt => put_deed(alloc, space, array, argument, second),
+        ContentMethod::Sum => Ok(sum_deed(space, array)),
         _ => Ok(Deed::Answer(Built::Missing)),
     }
 }
@@ -326,6 +329,7 @@ fn hash_content(
         ContentMethod::At => hash_read(alloc, space, hash, argument),
         ContentMethod::SetAt => hash_put(alloc, space, hash, argument, second),
         ContentMethod::HasKey => hash_has(alloc, space, hash, argument),
+        ContentMethod::Delete => hash_delete(alloc, space, hash, argument),
         ContentMethod::Keys => Ok(Deed::MakeArray(names(alloc, space, hash)?)),
         ContentMethod::Values => Ok(Deed::MakeArray(values(alloc, space, hash)?)),
         _ => Ok(Deed::Answer(Built::Missing)),

@@ -9,11 +9,12 @@ ghost use Rattle.rr_space.specs.Labels.{triples_at};
 ghost use Rattle.rr_space.specs.Views.{can_write_at, keys_at, key_of, IsFirstAt};
 ghost use Rattle.rr_space.specs.Lookups.{key_at};
 ghost use Rattle.rr_text.specs.Reads.{IsReadWith};
-ghost use Rattle.rr_builtin.specs.Acts.{Acts, performed, froze, IsRefAmong, Answers, Makes, Freezes, Appends, Pushes, Takes, MakesArray, Puts, SetsValue, AddsPair, AddsText, IsDone};
-ghost use Rattle.rr_builtin.specs.Deeds.{act_of, IsFit, IsDeedAmong, IsRefilled, IsWritableHash, LacksKey};
+ghost use Rattle.rr_builtin.specs.Acts.{Acts, performed, froze, IsRefAmong, Answers, Makes, Freezes, Appends, Pushes, Takes, MakesArray, Puts, SetsValue, AddsPair, AddsText, TakesPair, MakesObject, IsDone};
+ghost use Rattle.rr_builtin.specs.Deeds.{act_of, IsFit, IsDeedAmong, IsRefilled, IsWritableHash, LacksKey, HasPair};
 ghost use Rattle.rr_space.specs.Parts.{value_of};
 
 use crate::built::Built;
+use crate::news::make_node;
 use rr_base::Fault;
 use rr_space::{Items, Key, Kind, Node, Ref, Space};
 use std::alloc::Global;
@@ -43,6 +44,10 @@ pub(crate) enum Deed {
     AddPair(Key, Ref, Ref),
     /// The same, with a new frozen text of these bytes as the key object.
     AddText(Vec<u8>, Ref),
+    /// A pair is taken out of the receiver, and its value given.
+    TakePair(usize),
+    /// A new object.
+    MakeNode(Node),
     /// The receiver gets these elements, so that under the place is the value, which is given.
     Refill(Vec<Ref>, usize, Ref),
 }
@@ -206,6 +211,19 @@ fn add_text(
     }
 }
 
+/// Takes a pair out of a hash, which may be written, and gives its value.
+fn take_pair(space: &mut Space, hash: Ref, pair: usize) -> Built
+    requires hash { IsWritableHash space.old hash }
+    requires pair { HasPair space.old hash pair }
+    ensures { (below : Below) → IsReadWith space.old below → IsDone below (performed (TakesPair pair) hash space.old) space.old space.new result }
+{
+    let _count = space.len();
+    match space.delete_pair(hash, pair) {
+        Some((_, value)) => Built::Value(value),
+        None => unreachable!(),
+    }
+}
+
 /// Does the deed. A refused growth leaves the objects as they were.
 pub(crate) fn perform(
     alloc: Global,
@@ -234,5 +252,7 @@ pub(crate) fn perform(
         Deed::SetValue(key, pair, value) => set_value(space, receiver, key, pair, value),
         Deed::AddPair(key, name, value) => add_pair(space, receiver, key, name, value),
         Deed::AddText(bytes, value) => add_text(alloc, space, receiver, bytes, value),
+        Deed::TakePair(pair) => Ok(take_pair(space, receiver, pair)),
+        Deed::MakeNode(node) => make_node(space, node),
     }
 }

@@ -8,9 +8,9 @@ ghost use Rattle.rr_space.specs.Kinds.{kind_at};
 ghost use Rattle.rr_space.specs.Views.{key_of, keys_at, IsFirstAt};
 ghost use Rattle.rr_text.specs.Reads.{IsAmong, IsReadWith};
 ghost use Rattle.rr_builtin.specs.Acts.{IsRefAmong, IsBuiltWithin, IsBuiltAmong, outcome_of};
-ghost use Rattle.rr_builtin.specs.Deeds.{act_of, IsFit, IsDeedAmong, IsWritableHash, LacksKey};
+ghost use Rattle.rr_builtin.specs.Deeds.{act_of, IsFit, IsDeedAmong, IsWritableHash, LacksKey, HasPair};
 ghost use Rattle.rr_builtin.specs.Elements.{names_of_hash};
-ghost use Rattle.rr_builtin.specs.Hashes.{place_among, key_in, pair_with, key_given, value_at, stored, hash_read, hash_has, hash_put};
+ghost use Rattle.rr_builtin.specs.Hashes.{place_among, key_in, pair_with, key_given, value_at, stored, hash_read, hash_has, hash_put, hash_delete};
 
 use crate::arrays::element;
 use crate::built::Built;
@@ -182,11 +182,38 @@ pub(crate) fn hash_put(
     }
 }
 
+/// `delete`.
+pub(crate) fn hash_delete(
+    alloc: Global,
+    space: &Space,
+    hash: Ref,
+    argument: Ref,
+) -> Result<Deed, Fault>
+    requires within { IsWithin (length space.now.slots) hash }
+    requires kind { kind_at space.now hash ≡ Kind.Hash }
+    ensures act { IfOk result (λ deed. (below : Below) → IsReadWith space.now below → IsAmong below hash → act_of deed ≡ hash_delete below hash argument space.now) }
+    ensures fit { IfOk result (λ deed. IsFit space.now hash deed) }
+    ensures among { IfOk result (λ deed. (below : Below) → IsDeedAmong below deed) }
+    ensures fault { IfErr result (λ f. f ≡ Fault.Memory) }
+{
+    if !space.can_write(hash) {
+        return Ok(raise(Problem::Frozen(space.class_of(hash))));
+    }
+    match key_given(alloc, space, argument)? {
+        Some(key) => match own_pair(space, hash, &key) {
+            Some(pair) => Ok(Deed::TakePair(pair)),
+            None => Ok(Deed::Answer(Built::Value(Ref::Nil))),
+        },
+        None => Ok(raise(Problem::WrongType(space.class_of(argument)))),
+    }
+}
+
 /// The pair of a hash of the space, which may be written, that has the key.
 fn own_pair(space: &Space, hash: Ref, key: &Key) -> Option<usize>
     requires hash { IsWritableHash space.now hash }
     ensures is { (below : Below) → result ≡ pair_with below space.now hash (key_of key.now) }
     ensures first { IfSome result (λ i. (ks : List HashKey) → keys_at space.now hash ≡ Some ks → IsFirstAt ks (key_of key.now) i) }
+    ensures inside { IfSome result (HasPair space.now hash) }
     ensures lacks { IfNone result (LacksKey space.now hash (key_of key.now)) }
 {
     let _count = space.len();

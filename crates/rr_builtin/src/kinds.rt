@@ -1,7 +1,7 @@
 //! Which methods the values of a kind have, and how many arguments they take.
 
 ghost use Rattle.std.specs.Prelude.{◌≡◌};
-ghost use Rattle.rr_builtin.specs.Kinds.{is_shell_kind, is_integer_kind, is_array_kind, is_compared, is_added, has_order, has_operator, has_size, is_text, is_appended, is_joined, is_hash, is_container, is_copied, has_object, has_content, is_class, is_exception, has_telling, has, object_count, content_count, count_of};
+ghost use Rattle.rr_builtin.specs.Kinds.{is_shell_kind, is_integer_kind, is_array_kind, is_compared, is_added, has_order, has_operator, has_size, is_text, is_appended, is_joined, is_hash, is_container, is_copied, has_object, has_content, is_class, is_exception, has_telling, has, object_count, content_count, is_new, count_of};
 
 use crate::method::{BuiltInMethod, ContentMethod, ObjectMethod, TellingMethod};
 use rr_space::Kind;
@@ -168,6 +168,8 @@ fn has_content(kind: Kind, method: ContentMethod) -> bool
         ContentMethod::Keys => is_hash(kind),
         ContentMethod::Values => is_hash(kind),
         ContentMethod::HasKey => is_hash(kind),
+        ContentMethod::Delete => is_hash(kind),
+        ContentMethod::Sum => is_array_kind(kind),
     }
 }
 
@@ -229,6 +231,7 @@ pub fn has(kind: Kind, method: BuiltInMethod) -> bool
         BuiltInMethod::Object(method) => has_object(kind, method),
         BuiltInMethod::Content(method) => has_content(kind, method),
         BuiltInMethod::Telling(method) => has_telling(kind, method),
+        BuiltInMethod::New => is_class(kind),
     }
 }
 
@@ -253,11 +256,25 @@ fn content_count(method: ContentMethod) -> usize
         ContentMethod::Includes => 1,
         ContentMethod::SetAt => 2,
         ContentMethod::HasKey => 1,
+        ContentMethod::Delete => 1,
         _ => 0,
     }
 }
 
-/// How many arguments the method takes.
+pub(crate) fn is_new(method: BuiltInMethod) -> bool
+    ensures { result ≡ is_new method }
+{
+    match method {
+        BuiltInMethod::Operator(_) => false,
+        BuiltInMethod::Number(_) => false,
+        BuiltInMethod::Object(_) => false,
+        BuiltInMethod::Content(_) => false,
+        BuiltInMethod::Telling(_) => false,
+        BuiltInMethod::New => true,
+    }
+}
+
+/// How many arguments the method takes at least.
 pub(crate) fn count_of(method: BuiltInMethod) -> usize
     ensures { result ≡ count_of method }
 {
@@ -267,5 +284,6 @@ pub(crate) fn count_of(method: BuiltInMethod) -> usize
         BuiltInMethod::Object(method) => object_count(method),
         BuiltInMethod::Content(method) => content_count(method),
         BuiltInMethod::Telling(_) => 0,
+        BuiltInMethod::New => 0,
     }
 }

@@ -14,9 +14,11 @@ mod integer;
 mod kinds;
 mod method;
 mod names;
+mod news;
 mod numbers;
 mod objects;
 mod problem;
+mod sums;
 mod texts;
 
 pub use built::Built;
@@ -31,6 +33,7 @@ pub use integer::{
 pub use kinds::has;
 pub use method::{BuiltInMethod, ContentMethod, NumberMethod, ObjectMethod, TellingMethod};
 pub use names::{Methods, methods_have_names};
+pub use news::make_hash;
 pub use numbers::{number_answer, on_integer};
 pub use objects::is_truthy;
 pub use problem::{Problem, Receiver, write_missing};

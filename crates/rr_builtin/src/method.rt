@@ -46,6 +46,8 @@ pub enum ContentMethod {
     Keys,
     Values,
     HasKey,
+    Delete,
+    Sum,
 }
 
 /// A method of classes or of exceptions, which tells something of them.
@@ -64,4 +66,6 @@ pub enum BuiltInMethod {
     Object(ObjectMethod),
     Content(ContentMethod),
     Telling(TellingMethod),
+    /// `new` of a class.
+    New,
 }

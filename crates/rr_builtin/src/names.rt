@@ -125,6 +125,10 @@ fn content_method_named(name: &[u8]) -> Option<BuiltInMethod>
         ContentMethod::Values
     } else if name == b"key?".as_slice() {
         ContentMethod::HasKey
+    } else if name == b"delete".as_slice() {
+        ContentMethod::Delete
+    } else if name == b"sum".as_slice() {
+        ContentMethod::Sum
     } else {
         return None;
     };
@@ -140,6 +144,8 @@ fn telling_method_named(name: &[u8]) -> Option<BuiltInMethod>
         TellingMethod::Message
     } else if name == b"cause".as_slice() {
         TellingMethod::Cause
+    } else if name == b"new".as_slice() {
+        return Some(BuiltInMethod::New);
     } else {
         return None;
     };

@@ -14,3 +14,6 @@ returns-in-Append-clause-among c = λ below read array argument second. c.push_d
 
 pub returns-in-Push-clause-among : goal.returns-in-Push-clause-among
 returns-in-Push-clause-among c = λ below read array argument second. c.push_deed-in-Push.ensures.among below argument
+
+pub returns-in-Sum-clause-among : goal.returns-in-Sum-clause-among
+returns-in-Sum-clause-among c = λ below read array argument second. c.sum_deed.ensures.among below

@@ -51,3 +51,12 @@ pub returns-in-AddText : goal.returns-in-AddText
 returns-in-AddText c = λ below read receiver among.
     subst (λ (d : Deed). Acts below (performed (act_of d) c.args.receiver) c.args.space.now c.add_text.new.space c.add_text.result) (sym c.in-AddText.is)
     (c.add_text.ensures below read (subst (λ (d : Deed). IsDeedAmong below d) c.in-AddText.is among))
+
+pub returns-in-TakePair : goal.returns-in-TakePair
+returns-in-TakePair c = λ below read receiver among.
+    subst (λ (d : Deed). IsDone below (performed (act_of d) c.args.receiver c.args.space.now) c.args.space.now c.take_pair.new.space c.take_pair.result) (sym c.in-TakePair.is) (c.take_pair.ensures below read)
+
+pub returns-in-MakeNode : goal.returns-in-MakeNode
+returns-in-MakeNode c = λ below read receiver among.
+    subst (λ (d : Deed). Acts below (performed (act_of d) c.args.receiver) c.args.space.now c.make_node.new.space c.make_node.result) (sym c.in-MakeNode.is)
+    (c.make_node.ensures below c.args.receiver read (subst (λ (d : Deed). IsDeedAmong below d) c.in-MakeNode.is among))
