@@ -12,6 +12,8 @@ mod model_steps;
 #[cfg(test)]
 mod moves;
 #[cfg(test)]
+mod ports;
+#[cfg(test)]
 mod steps;
 #[cfg(test)]
 mod walk;

@@ -99,6 +99,8 @@ pub struct Model {
     pub objects: Vec<Object>,
     pub actors: Vec<Actor>,
     pub inboxes: Vec<Inbox>,
+    /// Whether each port is closed.
+    pub shut_ports: Vec<bool>,
     /// By the number of its name, whether a constant has a value that each ractor may read.
     pub constants: Vec<Option<bool>>,
     /// How many events the store's history has.
@@ -167,6 +169,7 @@ impl Model {
             objects: Vec::new(alloc),
             actors: Vec::new(alloc),
             inboxes: Vec::new(alloc),
+            shut_ports: Vec::new(alloc),
             constants: Vec::new(alloc),
             events: 0,
             limits,
@@ -175,7 +178,7 @@ impl Model {
         Ok(model)
     }
 
-    /// A ractor without objects comes, and its inbox.
+    /// A ractor without objects comes, its inbox and its port.
     pub fn begin(&mut self, alloc: Global) -> Result<(), AllocError> {
         self.actors.push(Actor {
             roots: Vec::new(alloc),
@@ -191,6 +194,7 @@ impl Model {
             next: 0,
             events: 0,
         })?;
+        self.shut_ports.push(false)?;
         Ok(())
     }
 

@@ -373,6 +373,15 @@ impl Model {
         Told::WasClosed(already)
     }
 
+    fn close_port(&mut self, to: usize) -> Told {
+        let Some(shut) = self.shut_ports.get_mut(to) else {
+            return Told::NotEnabled;
+        };
+        let already = *shut;
+        *shut = true;
+        Told::WasClosed(already)
+    }
+
     fn start(&mut self, alloc: Global) -> Result<Told, AllocError> {
         let count = self.actors.len();
         if count >= self.limits.ractors as usize {
@@ -478,6 +487,10 @@ impl Model {
                 Some(to) => Ok(self.close(to)),
                 None => Ok(Told::NotEnabled),
             },
+            Action::ClosePort(to) => Ok(match place_of(to.0, count) {
+                Some(to) => self.close_port(to),
+                None => Told::NotEnabled,
+            }),
             Action::Start => self.start(alloc),
             Action::End => Ok(self.end(alloc, who)),
             Action::SetConst(name, value) => match self.named(who, value) {

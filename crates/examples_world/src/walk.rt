@@ -96,13 +96,14 @@ impl Dice {
         match self.below(16) {
             0 => Action::Discard,
             1 => Action::Start,
+            2 if self.below(4) == 0 => Action::ClosePort(self.ractor()),
             2 => Action::Open,
             3 if self.below(2) == 0 => Action::Close(self.ractor()),
             3 | 4 | 5 => Action::Open,
             6 | 7 | 8 => Action::Accept,
             9 | 10 | 11 => Action::Offer(self.ractor()),
             12 => Action::PutBack,
-            13 => Action::Detach(self.operand()),
+            13 | 14 => Action::Detach(self.operand()),
             _ => Action::Pack(self.operand()),
         }
     }
@@ -204,7 +205,7 @@ fn walk(
 #[test]
 fn the_world_answers_as_the_model_does(rt: HostRuntime) -> Result<(), Fail> {
     let mut seen = [false; KINDS];
-    for seed in 1..3 {
+    for seed in 1..4 {
         walk(&rt, rt.alloc(), seed, FEW_SLOTS, &mut seen)?;
         walk(&rt, rt.alloc(), seed, FEW_EVENTS, &mut seen)?;
     }

@@ -5,7 +5,7 @@ use Rattle.std.proofs.lemmas.Bool.{eqb-true}
 use Rattle.rr_space.specs.Graph.{Name, Own, Published, Value, Plain, At, Label, Object}
 use Rattle.rr_space.specs.Tables.{Slot, Here}
 use Rattle.rr_space.specs.Tables.{renamed, renamed_triple, renamed_object}
-use Rattle.rr_space.specs.Readings.{Owner, Space, Hand, Mail, Shared, owner_eq, Objects, Naming, Layout, name_in, named, HasPlace, IsInLayout, IsSound, Reads, IsReading}
+use Rattle.rr_space.specs.Readings.{Owner, Space, Hand, Mail, Shown, Shared, owner_eq, Objects, Naming, Layout, name_in, named, HasPlace, IsInLayout, IsSound, Reads, IsReading}
 
 pub owner_same : (a b : Owner) → owner_eq a b ≡ true → a ≡ b
 owner_same (Space r) (Space s) e = ap Space (eqb-true r s e)
@@ -15,24 +15,38 @@ owner_same (Mail c t) (Mail d u) e = both (nat_eq c d) refl
     both : (b : Bool) → nat_eq c d ≡ b → Mail c t ≡ Mail d u
     both true p = let q : nat_eq t u ≡ true = ap (λ b. b && nat_eq t u) (sym p) ∙ e in ap (λ k. Mail k t) (eqb-true c d p) ∙ ap (λ k. Mail d k) (eqb-true t u q)
     both false p = let q : false ≡ true = ap (λ b. b && nat_eq t u) (sym p) ∙ e in absurd cc
+owner_same (Shown c t) (Shown d u) e = both (nat_eq c d) refl
+  where
+    both : (b : Bool) → nat_eq c d ≡ b → Shown c t ≡ Shown d u
+    both true p = let q : nat_eq t u ≡ true = ap (λ b. b && nat_eq t u) (sym p) ∙ e in ap (λ k. Shown k t) (eqb-true c d p) ∙ ap (λ k. Shown d k) (eqb-true t u q)
+    both false p = let q : false ≡ true = ap (λ b. b && nat_eq t u) (sym p) ∙ e in absurd cc
 owner_same (Shared c) (Shared d) e = ap Shared (eqb-true c d e)
 owner_same (Space r) (Hand s) e = absurd cc
 owner_same (Space r) (Mail d u) e = absurd cc
+owner_same (Space r) (Shown d u) e = absurd cc
 owner_same (Space r) (Shared d) e = absurd cc
 owner_same (Hand r) (Space s) e = absurd cc
 owner_same (Hand r) (Mail d u) e = absurd cc
+owner_same (Hand r) (Shown d u) e = absurd cc
 owner_same (Hand r) (Shared d) e = absurd cc
 owner_same (Mail c t) (Space s) e = absurd cc
 owner_same (Mail c t) (Hand s) e = absurd cc
+owner_same (Mail c t) (Shown d u) e = absurd cc
 owner_same (Mail c t) (Shared d) e = absurd cc
+owner_same (Shown c t) (Space s) e = absurd cc
+owner_same (Shown c t) (Hand s) e = absurd cc
+owner_same (Shown c t) (Mail d u) e = absurd cc
+owner_same (Shown c t) (Shared d) e = absurd cc
 owner_same (Shared c) (Space s) e = absurd cc
 owner_same (Shared c) (Hand s) e = absurd cc
 owner_same (Shared c) (Mail d u) e = absurd cc
+owner_same (Shared c) (Shown d u) e = absurd cc
 
 pub owner_refl : (a : Owner) → owner_eq a a ≡ true
 owner_refl (Space r) = eq-eqb r r refl
 owner_refl (Hand r) = eq-eqb r r refl
 owner_refl (Mail c t) = ap (λ b. b && nat_eq t t) (eq-eqb c c refl) ∙ eq-eqb t t refl
+owner_refl (Shown c t) = ap (λ b. b && nat_eq t t) (eq-eqb c c refl) ∙ eq-eqb t t refl
 owner_refl (Shared c) = eq-eqb c c refl
 
 -- two owners are one, or not

@@ -4,29 +4,40 @@ use Rattle.std.specs.Option.{option_map}
 use Rattle.rr_space.specs.Graph.{Graph, Name, Own, Published, Value, Plain, At, Label, Object, Reaches, IsSolid}
 use Rattle.rr_space.specs.Tables.{Slot, Here, Led, renamed, renamed_object, Table, Below, joined, numbered_object, space_graph, Embeds, There}
 
+-- a ractor, its hand, a message in an inbox, a message in a port, or a cluster
 pub data Owner : Type 0 where
   Space : (ractor : ℕ) → Owner
   Hand : (ractor : ℕ) → Owner
   Mail : (channel ticket : ℕ) → Owner
+  Shown : (port ticket : ℕ) → Owner
   Shared : (number : ℕ) → Owner
 
 abbrev pub owner_eq : Owner → Owner → Bool
 owner_eq (Space r) (Space s) = nat_eq r s
 owner_eq (Hand r) (Hand s) = nat_eq r s
 owner_eq (Mail c t) (Mail d u) = nat_eq c d && nat_eq t u
+owner_eq (Shown c t) (Shown d u) = nat_eq c d && nat_eq t u
 owner_eq (Shared c) (Shared d) = nat_eq c d
 owner_eq (Space r) (Hand s) = false
 owner_eq (Space r) (Mail d u) = false
+owner_eq (Space r) (Shown d u) = false
 owner_eq (Space r) (Shared d) = false
 owner_eq (Hand r) (Space s) = false
 owner_eq (Hand r) (Mail d u) = false
+owner_eq (Hand r) (Shown d u) = false
 owner_eq (Hand r) (Shared d) = false
 owner_eq (Mail c t) (Space s) = false
 owner_eq (Mail c t) (Hand s) = false
+owner_eq (Mail c t) (Shown d u) = false
 owner_eq (Mail c t) (Shared d) = false
+owner_eq (Shown c t) (Space s) = false
+owner_eq (Shown c t) (Hand s) = false
+owner_eq (Shown c t) (Mail d u) = false
+owner_eq (Shown c t) (Shared d) = false
 owner_eq (Shared c) (Space s) = false
 owner_eq (Shared c) (Hand s) = false
 owner_eq (Shared c) (Mail d u) = false
+owner_eq (Shared c) (Shown d u) = false
 
 pub record Owned : Type 0 where
   pub owner : Owner

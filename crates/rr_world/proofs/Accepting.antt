@@ -5,14 +5,14 @@ use Rattle.std.specs.Option.{option_map, option_and_then}
 use Rattle.std.proofs.lemmas.Option.{slice_get_within}
 use Rattle.rr_base.specs.declared.name.RactorNo.{RactorNo}
 use Rattle.rr_base.specs.declared.event.InboxEvent.TheVariants as event
-use Rattle.rr_space.specs.Readings.{Owner, Space, Hand, Mail, Shared, Naming, Objects}
+use Rattle.rr_space.specs.Readings.{Owner, Space, Hand, Mail, Shown, Shared, Naming, Objects}
 use Rattle.rr_space.specs.Steps.{Goes}
 use Rattle.rr_space.proofs.Hands.{hands_on}
 use Rattle.rr_copy.specs.Messages.{size_of}
 use Rattle.rr_inbox.specs.Inboxes.{Inbox, IsTicketed}
 use Rattle.rr_inbox.specs.declared.entry.Entry.{Entry}
 use Rattle.rr_world.specs.Views.{Member, Channels, Assembly, IsFree, with_inbox}
-use Rattle.rr_world.specs.Layouts.{layout, space_slots, hand_slots, inbox_slots, message_slots, mail_slots}
+use Rattle.rr_world.specs.Layouts.{layout, space_slots, hand_slots, inbox_slots, port_slots, message_slots, mail_slots}
 use Rattle.rr_world.specs.States.{Actor, Parcel, with_box}
 use Rattle.rr_world.specs.Readings.{each_from, actor_in, mailbox_in, parcel_in, letter_in, post_in, state_in}
 use Rattle.rr_world.specs.Enabling.{StandsAt}
@@ -50,6 +50,7 @@ module _ (w w2 : Assembly) (who : RactorNo) (k : ℕ) (m : Member) (i : Inbox) (
 
       other : (d ≡ k → ⊥) → option_and_then (inbox_slots u) (slice_get (slice_set w.channels.inboxes k (less_first i who e es)) d) ≡ option_and_then (inbox_slots u) (slice_get w.channels.inboxes d)
       other z = ap (option_and_then (inbox_slots u)) (set_off w.channels.inboxes k d (less_first i who e es) z)
+  rest (Shown d u) q r = ap (λ (x : Channels). option_and_then (port_slots u) (slice_get x.ports d)) is
   rest (Shared d) q r = refl
 
   goes : Goes (Mail k e.ticket) (Hand k) e.message.objects [] (layout w) (layout w2)
@@ -108,7 +109,7 @@ module _ (w w2 : Assembly) (who : RactorNo) (k : ℕ) (m : Member) (i : Inbox) (
                   (λ j n x d z a. actor_same names names2 n x (spaces n) (N.rest (Hand n) (λ y. d (let f : n ≡ k = cc in omega arith))) kept)
                   ∙ ap (slice_set (each_from (actor_in names) 0 w.ractors) k) actor;
               post = ap (post_in names2) is
-                  ∙ post_set names names2 w.channels k (less_first i who e es) (λ d u z. mails d u) kept
+                  ∙ post_set names names2 w.channels k (less_first i who e es) (λ d u z. mails d u) (λ d u. N.rest (Shown d u) (λ z. let y : ⊥ = cc in y)) kept
                   ∙ ap (with_box (post_in names w.channels) k) (mailbox_same names names2 k (less_first i who e es) (λ y has. mails k y.ticket) kept);
             },
           ),

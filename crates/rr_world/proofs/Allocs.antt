@@ -9,7 +9,7 @@ use Rattle.rr_base.specs.declared.name.RactorNo.{RactorNo}
 use Rattle.rr_space.specs.Graph.{Own, Published, Value, Plain, At, Label, Object}
 use Rattle.rr_space.specs.Tables.{Slot, Here, Led, Below, joined}
 use Rattle.rr_space.specs.Parts.{below_ref}
-use Rattle.rr_space.specs.Readings.{Owner, Space, Hand, Mail, Shared, Owned, Objects, Naming, Layout, IsReading, IsSound, IsInLayout, Knows, named}
+use Rattle.rr_space.specs.Readings.{Owner, Space, Hand, Mail, Shown, Shared, Owned, Objects, Naming, Layout, IsReading, IsSound, IsInLayout, Knows, named}
 use Rattle.rr_space.specs.Steps.{Remakes, IsRemade, IsNamed, IsChange}
 use Rattle.rr_space.specs.declared.refer.Ref.{Ref}
 use Rattle.rr_space.specs.declared.refer.Ref.TheVariants.{Local}
@@ -18,7 +18,7 @@ use Rattle.rr_space.proofs.Hands.{append_cases, append_left, append_right}
 use Rattle.rr_space.proofs.Remaking.{remaking_is_a_step}
 use Rattle.rr_space.proofs.Sounds.{joined_back, joined_in, none_in, in_first, gets}
 use Rattle.rr_world.specs.Views.{Member, Channels, Assembly}
-use Rattle.rr_world.specs.Layouts.{layout, space_slots, hand_slots, inbox_slots, message_slots, MemberKnows, IsRead}
+use Rattle.rr_world.specs.Layouts.{layout, space_slots, hand_slots, inbox_slots, port_slots, message_slots, MemberKnows, IsRead}
 use Rattle.rr_world.specs.Readings.{each_from, actor_in, shells_in, root_in, post_in, state_in, parcel_in}
 use Rattle.rr_world.specs.Enabling.{StandsAt}
 use Rattle.rr_world.specs.ObjectCases.{new_object}
@@ -55,6 +55,7 @@ module _ (w w2 : Assembly) (k : ℕ) (m m2 : Member) (kind : NewObject) (at : sl
   rest (Space j) q = ap (λ xs. option_map space_slots (slice_get xs j)) rs ∙ ap (option_map space_slots) (set_off w.ractors k j m2 (λ e. q (ap Space e)))
   rest (Hand j) q = ap (λ xs. option_and_then hand_slots (slice_get xs j)) rs ∙ seen_same (option_and_then hand_slots) w.ractors k j m m2 at (ap (option_map message_slots) A.hand)
   rest (Mail d u) q = ap (λ (x : Channels). option_and_then (inbox_slots u) (slice_get x.inboxes d)) is
+  rest (Shown d u) q = ap (λ (x : Channels). option_and_then (port_slots u) (slice_get x.ports d)) is
   rest (Shared d) q = refl
 
   was : layout w (Space k) ≡ Some m.space.slots
@@ -228,6 +229,7 @@ module _ (w w2 : Assembly) (k : ℕ) (m m2 : Member) (kind : NewObject) (at : sl
       let kept : (c : ℕ) → names2 (Shared c) ≡ names (Shared c) = kept_shared names bound g R names2 q.1 q.2 N q.4 in
       let hands : (n : ℕ) → names2 (Hand n) ≡ names (Hand n) = λ n. N.rest (Hand n) (λ z. let y : ⊥ = cc in y) in
       let mails : (n u : ℕ) → names2 (Mail n u) ≡ names (Mail n u) = λ n u. N.rest (Mail n u) (λ z. let y : ⊥ = cc in y) in
+      let shows : (n u : ℕ) → names2 (Shown n u) ≡ names (Shown n u) = λ n u. N.rest (Shown n u) (λ z. let y : ⊥ = cc in y) in
       let new = name names bound g R names2 q.1 q.2 N q.4 in
       let roots : map (root_in names2 (Space k)) m2.roots ≡ map (root_in names (Space k)) m.roots ++ At (Own new) ∷ [] =
       ap (map (root_in names2 (Space k))) A.roots ∙ map-append (root_in names2 (Space k)) m.roots (Local (length m.space.slots) ∷ [])
@@ -256,7 +258,7 @@ module _ (w w2 : Assembly) (k : ℕ) (m m2 : Member) (kind : NewObject) (at : sl
                 ∙ each_set (actor_in names) (actor_in names2) 0 w.ractors k k m2 (omega arith)
                 (λ j n x d z a. actor_same names names2 n x (N.rest (Space n) (λ y. d (let f : n ≡ k = cc in omega arith))) (hands n) kept)
                 ∙ ap (slice_set (each_from (actor_in names) 0 w.ractors) k) actor;
-            post = ap (post_in names2) is ∙ post_same names names2 w.channels mails kept;
+            post = ap (post_in names2) is ∙ post_same names names2 w.channels mails shows kept;
           },
         ),
       )

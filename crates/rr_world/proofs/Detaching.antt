@@ -10,7 +10,7 @@ use Rattle.rr_space.specs.Graph.{Name, Own, Object}
 use Rattle.rr_space.specs.Moves.{IsSetAt}
 use Rattle.rr_space.specs.Tables.{Packed, Here, Below, joined, resolve}
 use Rattle.rr_space.specs.Parts.{value_of, below_ref}
-use Rattle.rr_space.specs.Readings.{Owner, Space, Hand, Mail, Shared, Objects, Naming, Knows, name_in}
+use Rattle.rr_space.specs.Readings.{Owner, Space, Hand, Mail, Shown, Shared, Objects, Naming, Knows, name_in}
 use Rattle.rr_space.specs.Steps.{IsMoved}
 use Rattle.rr_space.specs.Views.{emptied}
 use Rattle.rr_space.specs.declared.refer.Ref.{Ref}
@@ -106,6 +106,7 @@ module _ (w w2 : Assembly) (who : RactorNo) (k : ℕ) (m m2 : Member) (op : Oper
       let N = q.4 in
       let kept : (c : ℕ) → names2 (Shared c) ≡ names (Shared c) = λ c. N.rest (Shared c) (λ z. let y : ⊥ = cc in y) (λ z. let y : ⊥ = cc in y) in
       let mails : (c u : ℕ) → names2 (Mail c u) ≡ names (Mail c u) = λ c u. N.rest (Mail c u) (λ z. let y : ⊥ = cc in y) (λ z. let y : ⊥ = cc in y) in
+      let shows : (c u : ℕ) → names2 (Shown c u) ≡ names (Shown c u) = λ c u. N.rest (Shown c u) (λ z. let y : ⊥ = cc in y) (λ z. let y : ⊥ = cc in y) in
       let spaces : (n : ℕ) → (n ≡ k → ⊥) → names2 (Space n) ≡ names (Space n) = λ n differ. N.rest (Space n) (λ z. differ (let f : n ≡ k = cc in f)) (λ z. let y : ⊥ = cc in y) in
       let hands : (n : ℕ) → (n ≡ k → ⊥) → names2 (Hand n) ≡ names (Hand n) = λ n differ. N.rest (Hand n) (λ z. let y : ⊥ = cc in y) (λ z. differ (let f : n ≡ k = cc in f)) in
       let stand : (i : ℕ) → i < length m.space.slots → slice_index (names2 (Space k)) i ≡ slice_index (names (Space k)) i = λ i lt. let x = gets m.space.slots i lt in N.space i x.0 x.1 in
@@ -145,7 +146,7 @@ module _ (w w2 : Assembly) (who : RactorNo) (k : ℕ) (m m2 : Member) (op : Oper
                   ∙ each_set (actor_in names) (actor_in names2) 0 w.ractors k k m2 (omega arith)
                   (λ j n x e z a. actor_same names names2 n x (spaces n (λ f. e (omega arith))) (hands n (λ f. e (omega arith))) kept)
                   ∙ ap (slice_set (each_from (actor_in names) 0 w.ractors) k) actor;
-              post = ap (post_in names2) is ∙ post_same names names2 w.channels mails kept;
+              post = ap (post_in names2) is ∙ post_same names names2 w.channels mails shows kept;
             },
           ),
         ),

@@ -5,11 +5,11 @@ use Rattle.std.specs.Option.{option_map, option_and_then}
 use Rattle.std.proofs.lemmas.Option.{slice_get_within}
 use Rattle.rr_base.specs.declared.name.RactorNo.{RactorNo}
 use Rattle.rr_space.specs.Tables.{Packed}
-use Rattle.rr_space.specs.Readings.{Owner, Space, Hand, Mail, Shared}
+use Rattle.rr_space.specs.Readings.{Owner, Space, Hand, Mail, Shown, Shared}
 use Rattle.rr_space.specs.Steps.{Goneby}
 use Rattle.rr_space.proofs.Drops.{dropping_is_a_step}
 use Rattle.rr_world.specs.Views.{Member, Channels, Assembly}
-use Rattle.rr_world.specs.Layouts.{layout, space_slots, hand_slots, inbox_slots}
+use Rattle.rr_world.specs.Layouts.{layout, space_slots, hand_slots, inbox_slots, port_slots}
 use Rattle.rr_world.specs.Readings.{each_from, actor_in, parcel_in, post_in}
 use Rattle.rr_world.specs.Enabling.{StandsAt}
 use Rattle.rr_world.specs.Runs.{HasOutcome}
@@ -26,6 +26,7 @@ module _ (w w2 : Assembly) (k : ℕ) (m : Member) (p : Packed) (at : slice_get w
   rest (Space j) q = ap (λ xs. option_map space_slots (slice_get xs j)) rs ∙ seen_same (option_map space_slots) w.ractors k j m (record m { hand = None; home = None }) at refl
   rest (Hand j) q = ap (λ xs. option_and_then hand_slots (slice_get xs j)) rs ∙ ap (option_and_then hand_slots) (set_off w.ractors k j (record m { hand = None; home = None }) (λ e. q (ap Hand e)))
   rest (Mail d u) q = ap (λ (x : Channels). option_and_then (inbox_slots u) (slice_get x.inboxes d)) is
+  rest (Shown d u) q = ap (λ (x : Channels). option_and_then (port_slots u) (slice_get x.ports d)) is
   rest (Shared d) q = refl
 
   gone : Goneby (Hand k) (layout w) (layout w2)

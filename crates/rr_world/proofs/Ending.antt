@@ -5,13 +5,13 @@ use Rattle.std.specs.Option.{option_map, option_and_then}
 use Rattle.std.proofs.lemmas.Option.{none-some, slice_get_within}
 use Rattle.rr_base.specs.declared.name.RactorNo.{RactorNo}
 use Rattle.rr_space.specs.Tables.{Here, Led}
-use Rattle.rr_space.specs.Readings.{Owner, Space, Hand, Mail, Shared, owner_eq, Layout}
+use Rattle.rr_space.specs.Readings.{Owner, Space, Hand, Mail, Shown, Shared, owner_eq, Layout}
 use Rattle.rr_space.specs.Steps.{Goneby, Remakes}
 use Rattle.rr_space.proofs.Drops.{dropping_is_a_step}
 use Rattle.rr_space.proofs.Frames.{owner_same, owner_refl}
 use Rattle.rr_space.proofs.Remaking.{remaking_is_a_step}
 use Rattle.rr_world.specs.Views.{Member, Channels, Assembly}
-use Rattle.rr_world.specs.Layouts.{layout, space_slots, hand_slots, inbox_slots, message_slots}
+use Rattle.rr_world.specs.Layouts.{layout, space_slots, hand_slots, inbox_slots, port_slots, message_slots}
 use Rattle.rr_world.specs.Readings.{each_from, actor_in, parcel_in, root_in, shells_in, post_in}
 use Rattle.rr_world.specs.Enabling.{StandsAt}
 use Rattle.rr_world.specs.ObjectCases.{ended_actor}
@@ -77,6 +77,7 @@ module _ (w w2 : Assembly) (k : ℕ) (m m2 : Member) (at : slice_get w.ractors k
   stay (Space j) q r = ap (λ xs. option_map space_slots (slice_get xs j)) rs ∙ ap (option_map space_slots) (set_off w.ractors k j m2 (λ e. q (ap Space e)))
   stay (Hand j) q r = ap (λ xs. option_and_then hand_slots (slice_get xs j)) rs ∙ ap (option_and_then hand_slots) (set_off w.ractors k j m2 (λ e. r (ap Hand e)))
   stay (Mail d u) q r = ap (λ (x : Channels). option_and_then (inbox_slots u) (slice_get x.inboxes d)) is
+  stay (Shown d u) q r = ap (λ (x : Channels). option_and_then (port_slots u) (slice_get x.ports d)) is
   stay (Shared d) q r = refl
 
   no_hand : layout w2 (Hand k) ≡ None
@@ -115,6 +116,7 @@ module _ (w w2 : Assembly) (k : ℕ) (m m2 : Member) (at : slice_get w.ractors k
       let same : (j : ℕ) → q.1 j ≡ b.0 j = remade_empty (Space k) bare (layout w2) names names2 bound (bound + 0) b.0 q.1 remakes was b.1 q.2 N q.4 in
       let kept : (c : ℕ) → names2 (Shared c) ≡ names (Shared c) = λ c. N.rest (Shared c) (λ z. let y : ⊥ = cc in y) in
       let mails : (c u : ℕ) → names2 (Mail c u) ≡ names (Mail c u) = λ c u. N.rest (Mail c u) (λ z. let y : ⊥ = cc in y) in
+      let shows : (c u : ℕ) → names2 (Shown c u) ≡ names (Shown c u) = λ c u. N.rest (Shown c u) (λ z. let y : ⊥ = cc in y) in
       let hands : (n : ℕ) → names2 (Hand n) ≡ names (Hand n) = λ n. N.rest (Hand n) (λ z. let y : ⊥ = cc in y) in
       let actor : actor_in names2 k m2 ≡ ended_actor (actor_in names k m).limits =
       same_actor (ap (map (root_in names2 (Space k))) A.roots) (ap (option_map (parcel_in names2 (Hand k))) A.hand) (ap (option_map (shells_in names2 k)) A.home) (ap length A.slots) A.limit A.next A.run A.runs in (
@@ -139,7 +141,7 @@ module _ (w w2 : Assembly) (k : ℕ) (m m2 : Member) (at : slice_get w.ractors k
                 ∙ each_set (actor_in names) (actor_in names2) 0 w.ractors k k m2 (omega arith)
                 (λ j n x d z f. actor_same names names2 n x (N.rest (Space n) (λ y. d (let e : n ≡ k = cc in omega arith))) (hands n) kept)
                 ∙ ap (slice_set (each_from (actor_in names) 0 w.ractors) k) actor;
-            post = ap (post_in names2) is ∙ post_same names names2 w.channels mails kept;
+            post = ap (post_in names2) is ∙ post_same names names2 w.channels mails shows kept;
           },
         ),
       )

@@ -4,14 +4,15 @@ use Rattle.std.specs.Option.{option_map, option_and_then}
 use Rattle.std.proofs.lemmas.Option.{none-some, same_Some}
 use Rattle.rr_base.specs.declared.limits.Limits.{Limits}
 use Rattle.rr_space.specs.Tables.{Slot, Below, joined}
-use Rattle.rr_space.specs.Readings.{Knows, Layout, Owner, Space, Hand, Mail, Shared}
+use Rattle.rr_space.specs.Readings.{Knows, Layout, Owner, Space, Hand, Mail, Shown, Shared}
 use Rattle.rr_space.proofs.Cases.{empty_is_read}
 use Rattle.rr_inbox.specs.Inboxes.{Inbox, new_inbox}
+use Rattle.rr_port.specs.Ports.{Port, new_port}
 use Rattle.rr_store.specs.Stores.{Store, constant_of}
 use Rattle.rr_inbox.specs.declared.entry.Entry.{Entry}
 use Rattle.rr_space.proofs.Sounds.{none_in}
 use Rattle.rr_world.specs.Views.{Member, Assembly}
-use Rattle.rr_world.specs.Layouts.{MemberKnows, layout, space_slots, hand_slots, message_slots, inbox_slots}
+use Rattle.rr_world.specs.Layouts.{MemberKnows, layout, space_slots, hand_slots, message_slots, inbox_slots, port_inside, port_slots}
 use Rattle.rr_world.specs.Runs.{IsNew, HasReading}
 
 space_empty : (m : Member) (k : ℕ) (t : List Slot) → m.space.slots ≡ [] → option_map space_slots (slice_get (m ∷ []) k) ≡ Some t → t ≡ []
@@ -26,11 +27,16 @@ mail_empty : (limit c u : ℕ) (t : List Slot) → option_and_then (inbox_slots 
 mail_empty limit zero u t is = absurd (none-some t is)
 mail_empty limit (suc c) u t is = absurd (none-some t is)
 
+show_empty : (limit c u : ℕ) (t : List Slot) → option_and_then (port_slots u) (slice_get (new_port limit ∷ []) c) ≡ Some t → t ≡ []
+show_empty limit zero u t is = absurd (none-some t is)
+show_empty limit (suc c) u t is = absurd (none-some t is)
+
 all_empty : (limits : Limits) (w : Assembly) → IsNew limits w → (h : Owner) (t : List Slot) → layout w h ≡ Some t → t ≡ []
 unfolding layout
 all_empty limits w N (Space k) t is = space_empty N.main k t N.slots (ap (λ xs. option_map space_slots (slice_get xs k)) (sym N.ractors) ∙ is)
 all_empty limits w N (Hand k) t is = hand_empty N.main k t N.hand (ap (λ xs. option_and_then hand_slots (slice_get xs k)) (sym N.ractors) ∙ is)
 all_empty limits w N (Mail c u) t is = mail_empty limits.events c u t (ap (λ xs. option_and_then (inbox_slots u) (slice_get xs c)) (sym N.inboxes) ∙ is)
+all_empty limits w N (Shown c u) t is = show_empty limits.events c u t (ap (λ xs. option_and_then (port_slots u) (slice_get xs c)) (sym N.ports) ∙ is)
 all_empty limits w N (Shared c) t is = absurd (none-some t is)
 
 nothing_known : (tables : Layout) (b : Below) → b ≡ [] → Knows b tables
@@ -55,6 +61,10 @@ no_mail : (limit c : ℕ) (i : Inbox) (e : Entry) → slice_get (new_inbox limit
 no_mail limit zero i e is has = none_in e (subst (λ (x : Inbox). Contains x.inside e) (sym (same_Some (new_inbox limit) i is)) has)
 no_mail limit (suc c) i e is has = none-some i is
 
+no_show : (limit c : ℕ) (p : Port) (e : Entry) → slice_get (new_port limit ∷ []) c ≡ Some p → Contains (port_inside p) e → ⊥
+no_show limit zero p e is has = none_in e (subst (λ (x : Port). Contains (port_inside x) e) (sym (same_Some (new_port limit) p is)) has)
+no_show limit (suc c) p e is has = none-some p is
+
 pub new_is_read : (limits : Limits) (w : Assembly) → IsNew limits w → HasReading w
 new_is_read limits w N =
     let e = empty_is_read (layout w) (all_empty limits w N) in (
@@ -67,8 +77,10 @@ new_is_read limits w N =
           ractors = λ k m at. only_main limits w N k m (ap (λ xs. slice_get xs k) (sym N.ractors) ∙ at);
           store = λ n v here. absurd (none-some _ (sym (ap (λ (t : Store). constant_of t n) N.store) ∙ here));
           inboxes = λ c i x at has. absurd (no_mail limits.events c i x (ap (λ xs. slice_get xs c) (sym N.inboxes) ∙ at) has);
+          ports = λ c p x at has. absurd (no_show limits.events c p x (ap (λ xs. slice_get xs c) (sym N.ports) ∙ at) has);
         };
         owned = λ k m at. main_owned limits w N k m (ap (λ xs. slice_get xs k) (sym N.ractors) ∙ at);
         inboxes = ap length N.inboxes ∙ sym (ap length N.ractors);
+        ports = ap length N.ports ∙ sym (ap length N.ractors);
       },
     )

@@ -3,6 +3,7 @@ use Rattle.std.proofs.Common.{◌≡◌, ℕ, zero, suc, ◌<◌, List, [], ◌�
 use Rattle.std.proofs.lemmas.Option.{slice_get_read, slice_get_within, same_Some}
 use Rattle.std.specs.Prelude.{slice_set}
 use Rattle.rr_inbox.specs.Inboxes.{Inbox}
+use Rattle.rr_port.specs.Ports.{Port}
 use Rattle.rr_store.specs.Stores.{Store}
 use Rattle.rr_world.specs.Views.{Member, Channels, Assembly}
 use Rattle.rr_world.proofs.Lists.{set_at, set_back, set_twice}
@@ -24,11 +25,21 @@ set_again xs ys k x y same at is = set_in xs ys k x y same is ∙ set_back ys k 
 pub set_twice_again : {A : Type 0} (xs ys : List A) (k : ℕ) (z x y : A) → xs ≡ ys → slice_get ys k ≡ Some y → x ≡ y → slice_set (slice_set xs k z) k x ≡ ys
 set_twice_again xs ys k z x y same at is = set_twice xs k z x ∙ set_again xs ys k x y same at is
 
-abbrev pub channels : Store → List Inbox → Channels
-channels store is = record { inboxes = is; store = store }
+abbrev pub channels : Store × List Port → List Inbox → Channels
+channels sides is = record { inboxes = is; ports = sides.1; store = sides.0 }
 
-pub channels_same : {s t : Store} {xs ys : List Inbox} → s ≡ t → xs ≡ ys → channels s xs ≡ channels t ys
+-- what lies between ractors beside their inboxes
+abbrev pub aside : Assembly → Store × List Port
+aside w = (w.channels.store, w.channels.ports)
+
+pub sides_same : {s t : Store} {ps qs : List Port} → s ≡ t → ps ≡ qs → (let x : Store × List Port = (s, ps) in x) ≡ (t, qs)
+sides_same {s} {t} {ps} {qs} e f = ap (λ x. let y : Store × List Port = (x, ps) in y) e ∙ ap (λ x. let y : Store × List Port = (t, x) in y) f
+
+pub channels_same : {s t : Store × List Port} {xs ys : List Inbox} → s ≡ t → xs ≡ ys → channels s xs ≡ channels t ys
 channels_same {s} {t} {xs} {ys} e f = ap (λ x. channels x xs) e ∙ ap (channels t) f
+
+pub ports_put : {s t : Store} {xs ys : List Inbox} {ps qs : List Port} → s ≡ t → xs ≡ ys → ps ≡ qs → channels (s, ps) xs ≡ channels (t, qs) ys
+ports_put e f g = channels_same (sides_same e g) f
 
 abbrev pub assembly : List Member → Channels → Assembly
 assembly rs is = record { ractors = rs; channels = is }

@@ -63,6 +63,7 @@ knows_set w w2 k m2 rs is M K = record {
   ractors = λ j m at. member_on w w2 m (⊎_elim (λ same. subst (MemberKnows (layout w)) same M) (λ there. K.ractors j m there) (set_cases w.ractors k j m2 m (ap (λ xs. slice_get xs j) (sym rs) ∙ at)));
   store = λ n v here. knows_on w w2 (below_ref v) (K.store n v (ap (λ (x : Channels). constant_of x.store n) (sym is) ∙ here));
   inboxes = λ c i e at has. knows_on w w2 (message_below e.message) (K.inboxes c i e (ap (λ (x : Channels). slice_get x.inboxes c) (sym is) ∙ at) has);
+  ports = λ c p e at has. knows_on w w2 (message_below e.message) (K.ports c p e (ap (λ (x : Channels). slice_get x.ports c) (sym is) ∙ at) has);
 }
 
 -- one ractor and one inbox are others
@@ -75,6 +76,7 @@ knows_both w w2 k c m2 i2 rs is M I K = record {
       (λ same. I e (subst (λ (x : Inbox). Contains x.inside e) (sym same) has))
       (λ there. K.inboxes d i e there has)
       (set_cases w.channels.inboxes c d i2 i (ap (λ (x : Channels). slice_get x.inboxes d) (sym is) ∙ at)));
+  ports = λ c p e at has. knows_on w w2 (message_below e.message) (K.ports c p e (ap (λ (x : Channels). slice_get x.ports c) (sym is) ∙ at) has);
 }
 
 -- one inbox is another with the same messages
@@ -86,6 +88,7 @@ knows_told w w2 c i i2 box inside rs is K = record {
       (λ same. K.inboxes c i e box (subst (λ xs. Contains xs e) inside (subst (λ (y : Inbox). Contains y.inside e) (sym same) has)))
       (λ there. K.inboxes d x e there has)
       (set_cases w.channels.inboxes c d i2 x (ap (λ (x : Channels). slice_get x.inboxes d) (sym is) ∙ at)));
+  ports = λ c p e at has. knows_on w w2 (message_below e.message) (K.ports c p e (ap (λ (x : Channels). slice_get x.ports c) (sym is) ∙ at) has);
 }
 
 -- a reading of the World with one ractor in another's place
@@ -96,6 +99,7 @@ read_set w w2 k m m2 at rs is same M R tables = record {
   knows = knows_set w w2 k m2 rs is M R.knows;
   owned = owned_set w w2 k m m2 at rs same R.owned;
   inboxes = ap (λ (x : Channels). length x.inboxes) is ∙ R.inboxes ∙ sym (length-set w.ractors k m2) ∙ sym (ap length rs);
+  ports = ap (λ (x : Channels). length x.ports) is ∙ R.ports ∙ sym (length-set w.ractors k m2) ∙ sym (ap length rs);
 }
 
 -- and with one inbox in another's place
@@ -107,6 +111,7 @@ read_both w w2 k c m m2 i2 at rs is same M I R tables = record {
   knows = knows_both w w2 k c m2 i2 rs is M I R.knows;
   owned = owned_set w w2 k m m2 at rs same R.owned;
   inboxes = ap (λ (x : Channels). length x.inboxes) is ∙ length-set w.channels.inboxes c i2 ∙ R.inboxes ∙ sym (length-set w.ractors k m2) ∙ sym (ap length rs);
+  ports = ap (λ (x : Channels). length x.ports) is ∙ R.ports ∙ sym (length-set w.ractors k m2) ∙ sym (ap length rs);
 }
 
 -- with the hand empty, less is known

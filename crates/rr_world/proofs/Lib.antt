@@ -31,3 +31,4 @@ pub mod Returning
 pub mod Storing
 pub mod Running
 pub mod Ending
+pub mod PortTelling

@@ -1,6 +1,6 @@
 -- What new lists of names do to values, messages, ractors and inboxes.
 use Rattle.std.proofs.Common.{◌≡◌, ℕ, suc, ◌+◌, ◌<◌, List, [], ◌∷◌, ◌++◌, length, map, Bool, Option, Some, None, Contains, sym, ap, ◌∙◌, refl, arith}
-use Rattle.std.specs.Prelude.{slice_index, slice_set}
+use Rattle.std.specs.Prelude.{slice_index}
 use Rattle.std.specs.Option.{option_map}
 use Rattle.std.proofs.lemmas.List.{length-map}
 use Rattle.std.proofs.lemmas.Option.{slice_get_within}
@@ -10,7 +10,7 @@ use Rattle.rr_space.specs.Graph.{Own, Published, Value, Plain, At, Object}
 use Rattle.rr_space.specs.Tables.{Slot, Here, Packed, renamed, behind, here_behind}
 use Rattle.rr_space.specs.Views.{emptied}
 use Rattle.rr_space.specs.Parts.{IsWithin}
-use Rattle.rr_space.specs.Readings.{Owner, Space, Hand, Mail, Shared, Objects, Naming, Layout, IsReading}
+use Rattle.rr_space.specs.Readings.{Owner, Space, Hand, Mail, Shown, Shared, Objects, Naming, Layout, IsReading}
 use Rattle.rr_space.specs.Steps.{Goes, IsNamed, IsJoined}
 use Rattle.rr_space.specs.declared.refer.Ref.{Ref}
 use Rattle.rr_space.specs.declared.refer.Ref.TheVariants.{Nil, Truth, Int, Symbol, Class, Ractor, Local, Shared as SharedRef}
@@ -19,14 +19,18 @@ use Rattle.rr_copy.specs.Messages.{size_of}
 use Rattle.rr_move.specs.declared.home.Home.{Home}
 use Rattle.rr_inbox.specs.Inboxes.{Inbox}
 use Rattle.rr_inbox.specs.declared.entry.Entry.{Entry}
-use Rattle.rr_world.specs.Views.{Member, Channels, AreAway, AreRootsWithin, with_inbox}
-use Rattle.rr_world.specs.States.{Parcel, Letter, Mailbox, Actor, Archive, Held, Post, with_box}
+use Rattle.rr_port.specs.Lasts.{message_of, is_fault}
+use Rattle.rr_port.specs.Ports.{Port}
+use Rattle.rr_port.specs.declared.last.LastGiven.{LastGiven}
+use Rattle.rr_port.specs.declared.last.Shown.{Shown as ShownMessage}
+use Rattle.rr_world.specs.Views.{Member, Channels, AreAway, AreRootsWithin, with_inbox, with_port}
+use Rattle.rr_world.specs.States.{Parcel, Letter, Farewell, Showcase, Mailbox, Actor, Archive, Held, Post, with_box, with_case}
 use Rattle.rr_store.specs.Stores.{Store}
 use Rattle.rr_store.specs.declared.constant.ConstValue.{ConstValue}
 use Rattle.rr_store.specs.declared.constant.ConstValue.TheVariants.{Shareable}
 use Rattle.rr_store.specs.declared.constant.ConstValue.TheVariants as store
 use Rattle.rr_space.specs.Parts.{value_of}
-use Rattle.rr_world.specs.Readings.{value_in, root_in, parcel_in, shells_in, letter_in, mailbox_in, actor_in, post_in, public_value, constant_in, archive_in, each_from}
+use Rattle.rr_world.specs.Readings.{value_in, root_in, parcel_in, shells_in, letter_in, mailbox_in, shown_in, farewell_in, showcase_in, actor_in, post_in, public_value, constant_in, archive_in, each_from}
 use Rattle.rr_world.proofs.Lists.{each_same, each_set}
 
 -- clusters have the names that they had
@@ -118,22 +122,59 @@ archive_same names names2 s shared =
     ap (λ cs. let a : Archive = record { constants = cs; history = s.history; limit = s.limit } in a)
     (map_same (option_map (constant_in names2)) (option_map (constant_in names)) s.constants (λ c has. constant_same names names2 c shared))
 
-abbrev post_with : List Mailbox → Archive → Post
-post_with bs a = record { inboxes = bs; archive = a }
+abbrev pub case_with : Option Letter → Option Farewell → Port → Showcase
+case_with s l p = record { shown = s; last = l; given = p.given; closed = p.closed; next = p.next; history = p.history; limit = p.limit }
+
+shown_same : (names names2 : Naming) (c : ℕ) (x : Option ShownMessage) → ((u : ℕ) → names2 (Shown c u) ≡ names (Shown c u)) → KeepsShared names names2
+    → option_map (shown_in names2 c) x ≡ option_map (shown_in names c) x
+shown_same names names2 c None own shared = refl
+shown_same names names2 c (Some e) own shared = ap (λ p. Some (let l : Letter = record { ticket = e.ticket; parcel = p } in l)) (parcel_same names names2 (Shown c e.ticket) e.message (own e.ticket) shared)
+
+last_same : (names names2 : Naming) (c : ℕ) (x : Option LastGiven) → ((u : ℕ) → names2 (Shown c u) ≡ names (Shown c u)) → KeepsShared names names2
+    → option_map (farewell_in names2 c) x ≡ option_map (farewell_in names c) x
+last_same names names2 c None own shared = refl
+last_same names names2 c (Some l) own shared =
+    ap (λ p. Some (let f : Farewell = record { letter = record { ticket = l.ticket; parcel = p }; is_fault = is_fault l.last } in f))
+    (parcel_same names names2 (Shown c l.ticket) (message_of l.last) (own l.ticket) shared)
+
+pub showcase_same : (names names2 : Naming) (c : ℕ) (p : Port) → ((u : ℕ) → names2 (Shown c u) ≡ names (Shown c u)) → KeepsShared names names2
+    → showcase_in names2 c p ≡ showcase_in names c p
+showcase_same names names2 c p own shared =
+    ap (λ s. case_with s (option_map (farewell_in names2 c) p.last) p) (shown_same names names2 c p.shown own shared)
+    ∙ ap (λ l. case_with (option_map (shown_in names c) p.shown) l p) (last_same names names2 c p.last own shared)
+
+abbrev pub post_with : List Mailbox → List Showcase → Archive → Post
+post_with bs ps a = record { inboxes = bs; ports = ps; archive = a }
+
+pub same_post : {bs ds : List Mailbox} {ps qs : List Showcase} {a b : Archive} → bs ≡ ds → ps ≡ qs → a ≡ b → post_with bs ps a ≡ post_with ds qs b
+same_post {bs} {ds} {ps} {qs} {a} {b} e f g = ap (λ x. post_with x ps a) e ∙ ap (λ x. post_with ds x a) f ∙ ap (post_with ds qs) g
+
+-- the ports of a list
+pub ports_same : (names names2 : Naming) (ps : List Port) → ((c u : ℕ) → names2 (Shown c u) ≡ names (Shown c u)) → KeepsShared names names2
+    → each_from (showcase_in names2) 0 ps ≡ each_from (showcase_in names) 0 ps
+ports_same names names2 ps own shared = each_same (showcase_in names) (showcase_in names2) 0 ps (λ j n p e at. showcase_same names names2 n p (own n) shared)
 
 -- what lies between ractors
-pub post_same : (names names2 : Naming) (x : Channels) → ((c u : ℕ) → names2 (Mail c u) ≡ names (Mail c u)) → KeepsShared names names2 → post_in names2 x ≡ post_in names x
-post_same names names2 x own shared =
-    ap (λ bs. post_with bs (archive_in names2 x.store)) (each_same (mailbox_in names) (mailbox_in names2) 0 x.inboxes (λ j n i e at. mailbox_same names names2 n i (λ y has. own n y.ticket) shared))
-    ∙ ap (post_with (each_from (mailbox_in names) 0 x.inboxes)) (archive_same names names2 x.store shared)
+pub post_same : (names names2 : Naming) (x : Channels) → ((c u : ℕ) → names2 (Mail c u) ≡ names (Mail c u)) → ((c u : ℕ) → names2 (Shown c u) ≡ names (Shown c u)) → KeepsShared names names2
+    → post_in names2 x ≡ post_in names x
+post_same names names2 x own shows shared =
+    same_post (each_same (mailbox_in names) (mailbox_in names2) 0 x.inboxes (λ j n i e at. mailbox_same names names2 n i (λ y has. own n y.ticket) shared))
+    (ports_same names names2 x.ports shows shared) (archive_same names names2 x.store shared)
 
 -- and with another inbox in one's place
-pub post_set : (names names2 : Naming) (x : Channels) (c : ℕ) (i : Inbox) → ((d u : ℕ) → (d ≡ c → ⊥) → names2 (Mail d u) ≡ names (Mail d u)) → KeepsShared names names2
-    → post_in names2 (with_inbox x c i) ≡ with_box (post_in names x) c (mailbox_in names2 c i)
-post_set names names2 x c i own shared =
-    ap (λ bs. post_with bs (archive_in names2 x.store))
-    (each_set (mailbox_in names) (mailbox_in names2) 0 x.inboxes c c i (omega arith) (λ j n y differ e at. mailbox_same names names2 n y (λ z has. own n z.ticket (λ same. differ (omega arith))) shared))
-    ∙ ap (post_with (slice_set (each_from (mailbox_in names) 0 x.inboxes) c (mailbox_in names2 c i))) (archive_same names names2 x.store shared)
+pub post_set : (names names2 : Naming) (x : Channels) (c : ℕ) (i : Inbox) → ((d u : ℕ) → (d ≡ c → ⊥) → names2 (Mail d u) ≡ names (Mail d u)) → ((d u : ℕ) → names2 (Shown d u) ≡ names (Shown d u))
+    → KeepsShared names names2 → post_in names2 (with_inbox x c i) ≡ with_box (post_in names x) c (mailbox_in names2 c i)
+post_set names names2 x c i own shows shared =
+    same_post (each_set (mailbox_in names) (mailbox_in names2) 0 x.inboxes c c i (omega arith) (λ j n y differ e at. mailbox_same names names2 n y (λ z has. own n z.ticket (λ same. differ (omega arith))) shared))
+    (ports_same names names2 x.ports shows shared) (archive_same names names2 x.store shared)
+
+-- or another port
+pub post_shown : (names names2 : Naming) (x : Channels) (c : ℕ) (p : Port) → ((d u : ℕ) → names2 (Mail d u) ≡ names (Mail d u)) → ((d u : ℕ) → (d ≡ c → ⊥) → names2 (Shown d u) ≡ names (Shown d u))
+    → KeepsShared names names2 → post_in names2 (with_port x c p) ≡ with_case (post_in names x) c (showcase_in names2 c p)
+post_shown names names2 x c p own shows shared =
+    same_post (each_same (mailbox_in names) (mailbox_in names2) 0 x.inboxes (λ j n i e at. mailbox_same names names2 n i (λ y has. own n y.ticket) shared))
+    (each_set (showcase_in names) (showcase_in names2) 0 x.ports c c p (omega arith) (λ j n y differ e at. showcase_same names names2 n y (λ u. shows n u (λ same. differ (omega arith))) shared))
+    (archive_same names names2 x.store shared)
 
 -- ---- A table that went behind another's.
 

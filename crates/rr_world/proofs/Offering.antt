@@ -8,14 +8,14 @@ use Rattle.rr_base.specs.declared.name.RactorNo.{RactorNo}
 use Rattle.rr_base.specs.declared.event.InboxEvent.TheVariants as event
 use Rattle.rr_space.specs.Graph.{Object, Label, Value}
 use Rattle.rr_space.specs.Tables.{Packed, Here, here_behind, renamed_triple, behind}
-use Rattle.rr_space.specs.Readings.{Knows, Owner, Space, Hand, Mail, Shared}
+use Rattle.rr_space.specs.Readings.{Knows, Owner, Space, Hand, Mail, Shown, Shared}
 use Rattle.rr_space.specs.Steps.{Goes}
 use Rattle.rr_space.proofs.Hands.{hands_on}
 use Rattle.rr_copy.specs.Messages.{size_of}
 use Rattle.rr_inbox.specs.Inboxes.{Inbox, IsTicketed}
 use Rattle.rr_inbox.specs.declared.entry.Entry.{Entry}
 use Rattle.rr_world.specs.Views.{Member, Channels, Assembly, with_inbox}
-use Rattle.rr_world.specs.Layouts.{layout, space_slots, hand_slots, inbox_slots, message_slots, mail_slots, message_below}
+use Rattle.rr_world.specs.Layouts.{layout, space_slots, hand_slots, inbox_slots, port_slots, message_slots, mail_slots, message_below}
 use Rattle.rr_world.specs.States.{Mailbox, with_box}
 use Rattle.rr_world.specs.Readings.{each_from, actor_in, mailbox_in, parcel_in, letter_in, post_in}
 use Rattle.rr_world.specs.Enabling.{StandsAt}
@@ -66,6 +66,7 @@ module _ (w w2 : Assembly) (who : RactorNo) (k c : ℕ) (m : Member) (i i2 : Inb
 
       other : (d ≡ c → ⊥) → option_and_then (inbox_slots u) (slice_get (slice_set w.channels.inboxes c i2) d) ≡ option_and_then (inbox_slots u) (slice_get w.channels.inboxes d)
       other e = ap (option_and_then (inbox_slots u)) (set_off w.channels.inboxes c d i2 e)
+  rest (Shown d u) q r = ap (λ (x : Channels). option_and_then (port_slots u) (slice_get x.ports d)) is
   rest (Shared d) q r = refl
 
   goes : Goes (Hand k) (Mail c i.next) p.objects [] (layout w) (layout w2)
@@ -137,7 +138,7 @@ module _ (w w2 : Assembly) (who : RactorNo) (k c : ℕ) (m : Member) (i i2 : Inb
                   ∙ each_set (actor_in names) (actor_in names2) 0 w.ractors k k (record m { hand = None; home = None }) (omega arith) (λ j n x d e a. actor_same names names2 n x (spaces n) (hands n) kept)
                   ∙ ap (slice_set (each_from (actor_in names) 0 w.ractors) k) (actor_same names names2 k (record m { hand = None; home = None }) (spaces k) (hands k) kept);
               post = ap (post_in names2) is
-                  ∙ post_set names names2 w.channels c i2 (λ d u z. N.rest (Mail d u) (λ y. z (let f : d ≡ c = cc in f))) kept
+                  ∙ post_set names names2 w.channels c i2 (λ d u z. N.rest (Mail d u) (λ y. z (let f : d ≡ c = cc in f))) (λ d u. N.rest (Shown d u) (λ z. let y : ⊥ = cc in y)) kept
                   ∙ ap (with_box (post_in names w.channels) c) mailbox;
             },
           ),

@@ -6,12 +6,12 @@ use Rattle.std.proofs.lemmas.List.{map-append, length-map}
 use Rattle.std.proofs.lemmas.Option.{slice_get_within}
 use Rattle.rr_base.specs.declared.name.RactorNo.{RactorNo}
 use Rattle.rr_space.specs.Tables.{Packed, here_behind}
-use Rattle.rr_space.specs.Readings.{Owner, Space, Hand, Mail, Shared}
+use Rattle.rr_space.specs.Readings.{Owner, Space, Hand, Mail, Shown, Shared}
 use Rattle.rr_space.specs.Steps.{Goes}
 use Rattle.rr_space.specs.declared.refer.Ref.{Ref}
 use Rattle.rr_space.proofs.Hands.{hands_on}
 use Rattle.rr_world.specs.Views.{Member, Channels, Assembly}
-use Rattle.rr_world.specs.Layouts.{layout, space_slots, hand_slots, inbox_slots, message_slots}
+use Rattle.rr_world.specs.Layouts.{layout, space_slots, hand_slots, inbox_slots, port_slots, message_slots}
 use Rattle.rr_world.specs.Readings.{each_from, actor_in, shells_in, parcel_in, value_in, root_in, post_in, state_in}
 use Rattle.rr_world.specs.Enabling.{StandsAt}
 use Rattle.rr_world.specs.Opening.{IsOpenedBy, Opened}
@@ -33,6 +33,7 @@ module _ (w w2 : Assembly) (k : ℕ) (m m2 : Member) (p : Packed) (root : Ref) (
   rest (Space j) q r = ap (λ xs. option_map space_slots (slice_get xs j)) rs ∙ ap (option_map space_slots) (set_off w.ractors k j m2 (λ e. r (ap Space e)))
   rest (Hand j) q r = ap (λ xs. option_and_then hand_slots (slice_get xs j)) rs ∙ ap (option_and_then hand_slots) (set_off w.ractors k j m2 (λ e. q (ap Hand e)))
   rest (Mail d u) q r = ap (λ (x : Channels). option_and_then (inbox_slots u) (slice_get x.inboxes d)) is
+  rest (Shown d u) q r = ap (λ (x : Channels). option_and_then (port_slots u) (slice_get x.ports d)) is
   rest (Shared d) q r = refl
 
   goes : Goes (Hand k) (Space k) p.objects m.space.slots (layout w) (layout w2)
@@ -84,7 +85,7 @@ module _ (w w2 : Assembly) (k : ℕ) (m m2 : Member) (p : Packed) (root : Ref) (
                   ∙ each_set (actor_in names) (actor_in names2) 0 w.ractors k k m2 (omega arith)
                   (λ i n x d e a. actor_same names names2 n x (N.rest (Space n) (λ z. d (let y : n ≡ k = cc in omega arith))) (N.rest (Hand n) (λ z. let y : ⊥ = cc in y)) kept)
                   ∙ ap (slice_set (each_from (actor_in names) 0 w.ractors) k) actor;
-              post = ap (post_in names2) is ∙ post_same names names2 w.channels (λ c u. N.rest (Mail c u) (λ z. let f : ⊥ = cc in f)) kept;
+              post = ap (post_in names2) is ∙ post_same names names2 w.channels (λ c u. N.rest (Mail c u) (λ z. let f : ⊥ = cc in f)) (λ c u. N.rest (Shown c u) (λ z. let f : ⊥ = cc in f)) kept;
             },
           ),
         ),

@@ -10,7 +10,7 @@ use Rattle.rr_space.specs.Graph.{Own, Published, Value, Plain, At, Object, IsPar
 use Rattle.rr_space.specs.Tables.{Table, Packed, Here, Led, Below, Embeds, joined, message_graph, space_graph, resolve}
 use Rattle.rr_space.specs.Parts.{value_of, below_ref}
 use Rattle.rr_space.specs.Sound.{IsStanding}
-use Rattle.rr_space.specs.Readings.{Owner, Space, Hand, Mail, Shared, Owned, Objects, Naming, IsReading, IsSound, IsInLayout, Knows, whole, name_in}
+use Rattle.rr_space.specs.Readings.{Owner, Space, Hand, Mail, Shown, Shared, Owned, Objects, Naming, IsReading, IsSound, IsInLayout, Knows, whole, name_in}
 use Rattle.rr_space.specs.Steps.{Remakes, IsRemade, IsNamed, IsCopied}
 use Rattle.rr_space.specs.declared.refer.Ref.{Ref}
 use Rattle.rr_space.proofs.Frames.{owner_cases}
@@ -21,7 +21,7 @@ use Rattle.rr_space.proofs.Sounds.{gets, joined_in, sound_is_sealed}
 use Rattle.rr_space.proofs.Spaces.{spaces_are_inside, raw_of}
 use Rattle.rr_copy.proofs.Shut.{message_is_shut}
 use Rattle.rr_world.specs.Views.{Member, Channels, Assembly, IsFree}
-use Rattle.rr_world.specs.Layouts.{layout, space_slots, hand_slots, inbox_slots, message_slots, message_below, IsRead}
+use Rattle.rr_world.specs.Layouts.{layout, space_slots, hand_slots, inbox_slots, port_slots, message_slots, message_below, IsRead}
 use Rattle.rr_world.specs.Readings.{each_from, actor_in, parcel_in, root_in, post_in, state_in}
 use Rattle.rr_world.specs.Enabling.{StandsAt, IsFreeHand, IsValue, MayBePacked}
 use Rattle.rr_world.specs.Packing.{IsPackedFrom, MayNotPack, Packs, named_ref}
@@ -51,6 +51,7 @@ module _ (w w2 : Assembly) (names : Naming) (bound : ℕ) (g : Objects) (R : IsR
   rest (Space j) q = ap (λ xs. option_map space_slots (slice_get xs j)) rs ∙ seen_same (option_map space_slots) w.ractors k j m (record m { hand = Some p }) at refl
   rest (Hand j) q = ap (λ xs. option_and_then hand_slots (slice_get xs j)) rs ∙ ap (option_and_then hand_slots) (set_off w.ractors k j (record m { hand = Some p }) (λ e. q (ap Hand e)))
   rest (Mail d u) q = ap (λ (x : Channels). option_and_then (inbox_slots u) (slice_get x.inboxes d)) is
+  rest (Shown d u) q = ap (λ (x : Channels). option_and_then (port_slots u) (slice_get x.ports d)) is
   rest (Shared d) q = refl
 
   was : layout w (Hand k) ≡ None
@@ -213,7 +214,7 @@ module _ (w w2 : Assembly) (who : RactorNo) (k : ℕ) (m : Member) (op : Operand
                   ∙ each_set (actor_in names) (actor_in names2) 0 w.ractors k k (record m { hand = Some p }) (omega arith)
                   (λ j n x d z a. actor_same names names2 n x (spaces n) (N.rest (Hand n) (λ y. d (let f : n ≡ k = cc in omega arith))) kept)
                   ∙ ap (slice_set (each_from (actor_in names) 0 w.ractors) k) (handed names names2 k m p (spaces k) kept);
-              post = ap (post_in names2) is ∙ post_same names names2 w.channels (λ c u. N.rest (Mail c u) (λ z. let f : ⊥ = cc in f)) kept;
+              post = ap (post_in names2) is ∙ post_same names names2 w.channels (λ c u. N.rest (Mail c u) (λ z. let f : ⊥ = cc in f)) (λ c u. N.rest (Shown c u) (λ z. let f : ⊥ = cc in f)) kept;
             },
           ),
         ),

@@ -11,7 +11,7 @@ use Rattle.rr_space.specs.Labels.{label_of, triples_at, triples_of}
 use Rattle.rr_space.specs.Tables.{Slot, Here, Led, joined, renamed_triple}
 use Rattle.rr_space.specs.Views.{slot_object}
 use Rattle.rr_space.specs.Parts.{value_of, below_ref}
-use Rattle.rr_space.specs.Readings.{Owner, Space, Hand, Mail, Shared, Owned, Objects, Naming, Layout, Knows, named, name_in}
+use Rattle.rr_space.specs.Readings.{Owner, Space, Hand, Mail, Shown, Shared, Owned, Objects, Naming, Layout, Knows, named, name_in}
 use Rattle.rr_space.specs.declared.refer.Ref.{Ref}
 use Rattle.rr_space.specs.declared.refer.Ref.TheVariants as ref
 use Rattle.rr_space.specs.declared.label.Label.{Label as CodeLabel}
@@ -19,7 +19,7 @@ use Rattle.rr_space.proofs.Frames.{reading_same}
 use Rattle.rr_space.proofs.Renaming.{contains_at, map_at, mapped_at, contains_map, contains_map_back}
 use Rattle.rr_space.proofs.Sounds.{none_in, in_first}
 use Rattle.rr_world.specs.Views.{Member, Channels, Assembly}
-use Rattle.rr_world.specs.Layouts.{layout, space_slots, hand_slots, inbox_slots, MemberKnows, IsRead}
+use Rattle.rr_world.specs.Layouts.{layout, space_slots, hand_slots, inbox_slots, port_slots, MemberKnows, IsRead}
 use Rattle.rr_world.specs.States.{Actor}
 use Rattle.rr_world.specs.Readings.{each_from, actor_in, root_in, post_in, state_in}
 use Rattle.rr_world.specs.Enabling.{StandsAt, named_value}
@@ -102,6 +102,7 @@ module _ (w w2 : Assembly) (who : RactorNo) (k : ℕ) (m m2 : Member) (op : Oper
   same_tables (Space j) = ap (λ xs. option_map space_slots (slice_get xs j)) set ∙ seen_same (option_map space_slots) w.ractors k j m (with_root m r) at refl
   same_tables (Hand j) = ap (λ xs. option_and_then hand_slots (slice_get xs j)) set ∙ seen_same (option_and_then hand_slots) w.ractors k j m (with_root m r) at refl
   same_tables (Mail d u) = ap (λ (x : Channels). option_and_then (inbox_slots u) (slice_get x.inboxes d)) is
+  same_tables (Shown d u) = ap (λ (x : Channels). option_and_then (port_slots u) (slice_get x.ports d)) is
   same_tables (Shared d) = refl
 
   root_known : (tables : Layout) → MemberKnows tables m → MemberKnows tables (with_root m r)

@@ -6,7 +6,7 @@ use Rattle.std.proofs.lemmas.Option.{none-some, same_Some, slice_get_within}
 use Rattle.rr_space.specs.Graph.{Own, Published, Value, Plain, At, Label, Object, shell}
 use Rattle.rr_space.specs.Tables.{Slot, Here, Led, joined, renamed, renamed_triple}
 use Rattle.rr_space.specs.Parts.{value_of, below_ref, IsWithin}
-use Rattle.rr_space.specs.Readings.{Owner, Space, Hand, Mail, Shared, Owned, Objects, Naming, Layout, IsReading, IsSound, IsInLayout, Knows, named, name_in}
+use Rattle.rr_space.specs.Readings.{Owner, Space, Hand, Mail, Shown, Shared, Owned, Objects, Naming, Layout, IsReading, IsSound, IsInLayout, Knows, named, name_in}
 use Rattle.rr_space.specs.Steps.{Remakes, IsRemade, IsNamed, IsChange, IsNewValue}
 use Rattle.rr_space.specs.declared.refer.Ref.{Ref}
 use Rattle.rr_space.specs.declared.refer.Ref.TheVariants as ref
@@ -15,7 +15,7 @@ use Rattle.rr_space.proofs.Remaking.{remaking_is_a_step}
 use Rattle.rr_space.proofs.Renaming.{contains_map, contains_map_back}
 use Rattle.rr_space.proofs.Sounds.{gets}
 use Rattle.rr_world.specs.Views.{Member, Channels, Assembly}
-use Rattle.rr_world.specs.Layouts.{layout, space_slots, hand_slots, inbox_slots, message_slots, MemberKnows, IsRead}
+use Rattle.rr_world.specs.Layouts.{layout, space_slots, hand_slots, inbox_slots, port_slots, message_slots, MemberKnows, IsRead}
 use Rattle.rr_world.specs.Readings.{each_from, actor_in, shells_in, root_in, value_in, post_in, state_in, parcel_in}
 use Rattle.rr_world.specs.ObjectCases.{IsChangedTo}
 use Rattle.rr_world.specs.Changing.{IsRewritten}
@@ -37,6 +37,7 @@ module _ (w w2 : Assembly) (k n : ℕ) (m m2 : Member) (o p : Object) (v : Ref) 
   rest (Space j) q = ap (λ xs. option_map space_slots (slice_get xs j)) rs ∙ ap (option_map space_slots) (set_off w.ractors k j m2 (λ e. q (ap Space e)))
   rest (Hand j) q = ap (λ xs. option_and_then hand_slots (slice_get xs j)) rs ∙ seen_same (option_and_then hand_slots) w.ractors k j m m2 at (ap (option_map message_slots) A.hand)
   rest (Mail d u) q = ap (λ (x : Channels). option_and_then (inbox_slots u) (slice_get x.inboxes d)) is
+  rest (Shown d u) q = ap (λ (x : Channels). option_and_then (port_slots u) (slice_get x.ports d)) is
   rest (Shared d) q = refl
 
   was : layout w (Space k) ≡ Some m.space.slots
@@ -250,6 +251,7 @@ module _ (w w2 : Assembly) (k n : ℕ) (m m2 : Member) (o p : Object) (v : Ref) 
     changed_to shut rooted =
         let hands : (i : ℕ) → names2 (Hand i) ≡ names (Hand i) = λ i. N.rest (Hand i) (λ z. let y : ⊥ = cc in y) in
         let mails : (i u : ℕ) → names2 (Mail i u) ≡ names (Mail i u) = λ i u. N.rest (Mail i u) (λ z. let y : ⊥ = cc in y) in
+        let shows : (i u : ℕ) → names2 (Shown i u) ≡ names (Shown i u) = λ i u. N.rest (Shown i u) (λ z. let y : ⊥ = cc in y) in
         record {
           was = stood;
           now = stands;
@@ -260,7 +262,7 @@ module _ (w w2 : Assembly) (k n : ℕ) (m m2 : Member) (o p : Object) (v : Ref) 
               (λ j i x d z a. actor_same names names2 i x (N.rest (Space i) (λ y. d (let f : i ≡ k = cc in omega arith))) (hands i) kept_shared)
               ∙ ap (slice_set (each_from (actor_in names) 0 w.ractors) k) actor
               ∙ set_back (each_from (actor_in names) 0 w.ractors) k (actor_in names k m) (actor_at w names g k m at);
-          post = ap (post_in names2) is ∙ post_same names names2 w.channels mails kept_shared;
+          post = ap (post_in names2) is ∙ post_same names names2 w.channels mails shows kept_shared;
         }
 
   rewritten_knows : (tables : Layout) → Knows (below_ref v) tables → MemberKnows tables m → MemberKnows tables m2

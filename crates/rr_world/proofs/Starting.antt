@@ -9,20 +9,21 @@ use Rattle.rr_base.specs.declared.limits.LimitKind.TheVariants as kind
 use Rattle.rr_base.specs.declared.limits.Limits.{Limits}
 use Rattle.rr_base.specs.declared.name.RactorNo.{RactorNo}
 use Rattle.rr_space.specs.Tables.{Here, Led, Below, joined}
-use Rattle.rr_space.specs.Readings.{Owner, Space, Hand, Mail, Shared, Owned, Objects, Naming, Layout, IsReading, Knows}
+use Rattle.rr_space.specs.Readings.{Owner, Space, Hand, Mail, Shown, Shared, Owned, Objects, Naming, Layout, IsReading, Knows}
 use Rattle.rr_space.specs.Steps.{Remakes, IsRemade, IsNamed}
 use Rattle.rr_space.proofs.Frames.{owner_cases}
 use Rattle.rr_space.proofs.Remaking.{remaking_is_a_step}
 use Rattle.rr_space.proofs.Sounds.{none_in}
 use Rattle.rr_space.specs.Parts.{below_ref}
 use Rattle.rr_inbox.specs.Inboxes.{Inbox, new_inbox}
+use Rattle.rr_port.specs.Ports.{Port, new_port}
 use Rattle.rr_store.specs.Stores.{constant_of}
 use Rattle.rr_world.specs.Views.{Member, Channels, Assembly}
-use Rattle.rr_world.specs.Layouts.{layout, space_slots, hand_slots, inbox_slots, message_slots, message_below, MemberKnows, IsKnowing, AreOwned, HaveInboxes, IsRead}
-use Rattle.rr_world.specs.States.{Actor, Post}
-use Rattle.rr_world.specs.Readings.{each_from, actor_in, archive_in, shells_in, mailbox_in, parcel_in, root_in, post_in, state_in}
+use Rattle.rr_world.specs.Layouts.{layout, space_slots, hand_slots, inbox_slots, port_slots, port_inside, message_slots, message_below, MemberKnows, IsKnowing, AreOwned, HaveInboxes, HavePorts, IsRead}
+use Rattle.rr_world.specs.States.{Actor}
+use Rattle.rr_world.specs.Readings.{each_from, actor_in, shells_in, mailbox_in, showcase_in, parcel_in, root_in, post_in, state_in}
 use Rattle.rr_world.specs.Enabling.{StandsAt}
-use Rattle.rr_world.specs.ObjectCases.{IsStarted, new_actor, new_mailbox}
+use Rattle.rr_world.specs.ObjectCases.{IsStarted, new_actor, new_mailbox, new_showcase}
 use Rattle.rr_world.specs.Starting.{IsBegun}
 use Rattle.rr_world.specs.Runs.{HasOutcome}
 use Rattle.rr_world.specs.declared.step.Action.TheVariants.{Start}
@@ -30,7 +31,7 @@ use Rattle.rr_world.specs.declared.step.Reply.TheVariants.{Started, Refused}
 use Rattle.rr_world.proofs.Enabled.{actor_at}
 use Rattle.rr_world.proofs.Knowing.{knows_on, member_on}
 use Rattle.rr_world.proofs.Lists.{each_same}
-use Rattle.rr_world.proofs.Namings.{actor_same, same_actor, archive_same, mailbox_same}
+use Rattle.rr_world.proofs.Namings.{actor_same, same_actor, archive_same, mailbox_same, ports_same, same_post}
 use Rattle.rr_world.proofs.Staying.{stays, same_state}
 
 -- what stands in a list with one more
@@ -107,7 +108,7 @@ bare_knows tables m below roots hand = record {
   hand = λ p e. absurd (none-some p (sym hand ∙ e));
 }
 
-module _ (w w2 : Assembly) (limits : Limits) (m2 : Member) (A : IsBegun limits (length w.ractors + 1) m2) (rs : w2.ractors ≡ w.ractors ++ m2 ∷ []) (is : w2.channels ≡ record w.channels { inboxes = w.channels.inboxes ++ new_inbox limits.events ∷ [] }) where
+module _ (w w2 : Assembly) (limits : Limits) (m2 : Member) (A : IsBegun limits (length w.ractors + 1) m2) (rs : w2.ractors ≡ w.ractors ++ m2 ∷ []) (is : w2.channels ≡ record w.channels { inboxes = w.channels.inboxes ++ new_inbox limits.events ∷ []; ports = w.channels.ports ++ new_port limits.events ∷ [] }) where
   abbrev place : ℕ
   place = length w.ractors
 
@@ -116,6 +117,7 @@ module _ (w w2 : Assembly) (limits : Limits) (m2 : Member) (A : IsBegun limits (
   rest (Space j) q = ap (λ xs. option_map space_slots (slice_get xs j)) rs ∙ ap (option_map space_slots) (before_last w.ractors m2 j (λ e. q (ap Space e)))
   rest (Hand j) q = ap (λ xs. option_and_then hand_slots (slice_get xs j)) rs ∙ seen_more (option_and_then hand_slots) w.ractors m2 j refl (ap (option_map message_slots) A.hand)
   rest (Mail d u) q = ap (λ (x : Channels). option_and_then (inbox_slots u) (slice_get x.inboxes d)) is ∙ seen_more (option_and_then (inbox_slots u)) w.channels.inboxes (new_inbox limits.events) d refl refl
+  rest (Shown d u) q = ap (λ (x : Channels). option_and_then (port_slots u) (slice_get x.ports d)) is ∙ seen_more (option_and_then (port_slots u)) w.channels.ports (new_port limits.events) d refl refl
   rest (Shared d) q = refl
 
   was : layout w (Space place) ≡ None
@@ -165,12 +167,15 @@ module _ (w w2 : Assembly) (limits : Limits) (m2 : Member) (A : IsBegun limits (
           (N.rest (Hand i) (λ z. let y : ⊥ = cc in y)) kept_shared))
           ∙ ap (λ x. each_from (actor_in names) 0 w.ractors ++ x ∷ []) (new_one ∙ ap new_actor (sym same));
       post = ap (post_in names2) is
-          ∙ ap (λ a. let q : Post = record { inboxes = each_from (mailbox_in names2) 0 (w.channels.inboxes ++ new_inbox limits.events ∷ []); archive = a } in q) (archive_same names names2 w.channels.store kept_shared)
-          ∙ ap (λ bs. let q : Post = record { inboxes = bs; archive = archive_in names w.channels.store } in q) (
-          each_append (mailbox_in names2) 0 (length w.channels.inboxes) w.channels.inboxes (new_inbox limits.events) (omega arith)
+          ∙ same_post
+          (each_append (mailbox_in names2) 0 (length w.channels.inboxes) w.channels.inboxes (new_inbox limits.events) (omega arith)
           ∙ ap (λ xs. xs ++ mailbox_in names2 (length w.channels.inboxes) (new_inbox limits.events) ∷ []) (each_same (mailbox_in names) (mailbox_in names2) 0 w.channels.inboxes
           (λ j i x e at. mailbox_same names names2 i x (λ y has. N.rest (Mail i y.ticket) (λ z. let f : ⊥ = cc in f)) kept_shared))
-          ∙ ap (λ (l : Limits). each_from (mailbox_in names) 0 w.channels.inboxes ++ new_mailbox l ∷ []) (sym same));
+          ∙ ap (λ (l : Limits). each_from (mailbox_in names) 0 w.channels.inboxes ++ new_mailbox l ∷ []) (sym same))
+          (each_append (showcase_in names2) 0 (length w.channels.ports) w.channels.ports (new_port limits.events) (omega arith)
+          ∙ ap (λ xs. xs ++ showcase_in names2 (length w.channels.ports) (new_port limits.events) ∷ []) (ports_same names names2 w.channels.ports (λ c u. N.rest (Shown c u) (λ z. let f : ⊥ = cc in f)) kept_shared)
+          ∙ ap (λ (l : Limits). each_from (showcase_in names) 0 w.channels.ports ++ new_showcase l ∷ []) (sym same))
+          (archive_same names names2 w.channels.store kept_shared);
     }
 
   more_knows : IsKnowing w → IsKnowing w2
@@ -181,6 +186,10 @@ module _ (w w2 : Assembly) (limits : Limits) (m2 : Member) (A : IsBegun limits (
         (λ old. K.inboxes c i e old has)
         (λ new. absurd (none_in e (subst (λ (x : Inbox). Contains x.inside e) (sym new.1) has)))
         (last_cases w.channels.inboxes (new_inbox limits.events) c i (ap (λ (x : Channels). slice_get x.inboxes c) (sym is) ∙ at)));
+    ports = λ c p e at has. knows_on w w2 (message_below e.message) (⊎_elim
+        (λ old. K.ports c p e old has)
+        (λ new. absurd (none_in e (subst (λ (x : Port). Contains (port_inside x) e) (sym new.1) has)))
+        (last_cases w.channels.ports (new_port limits.events) c p (ap (λ (x : Channels). slice_get x.ports c) (sym is) ∙ at)));
   }
 
   more_owned : AreOwned w → AreOwned w2
@@ -193,6 +202,10 @@ module _ (w w2 : Assembly) (limits : Limits) (m2 : Member) (A : IsBegun limits (
   more_inboxes even = ap (λ (x : Channels). length x.inboxes) is ∙ length-append w.channels.inboxes (new_inbox limits.events ∷ []) ∙ ap (λ n. n + 1) even
       ∙ sym (length-append w.ractors (m2 ∷ [])) ∙ sym (ap length rs)
 
+  more_ports : HavePorts w → HavePorts w2
+  more_ports even = ap (λ (x : Channels). length x.ports) is ∙ length-append w.channels.ports (new_port limits.events ∷ []) ∙ ap (λ n. n + 1) even
+      ∙ sym (length-append w.ractors (m2 ∷ [])) ∙ sym (ap length rs)
+
   -- the ractor at k, whose limits these are, starts another
   pub begun : (who number : RactorNo) (k : ℕ) (m : Member) → slice_get w.ractors k ≡ Some m → m.limits ≡ limits → StandsAt who k → StandsAt number place
       → HasOutcome (record { who = who; action = Start }) (Started number) w w2
@@ -201,7 +214,7 @@ module _ (w w2 : Assembly) (limits : Limits) (m2 : Member) (A : IsBegun limits (
         q.0,
         bound + 0,
         q.1,
-        record { tables = q.2; knows = more_knows R.knows; owned = more_owned R.owned; inboxes = more_inboxes R.inboxes },
+        record { tables = q.2; knows = more_knows R.knows; owned = more_owned R.owned; inboxes = more_inboxes R.inboxes; ports = more_ports R.ports },
         (k, actor_in names k m, stands, actor_at w names g k m at, tt, started names bound g R q.0 q.1 q.2 q.3 q.4 number (actor_in names k m) same next),
       )
 

@@ -14,7 +14,7 @@ use Rattle.rr_base.specs.declared.event.StoreEvent.TheVariants as event
 use Rattle.rr_space.specs.Graph.{Own, At}
 use Rattle.rr_space.specs.Tables.{Slot, Here, Led}
 use Rattle.rr_space.specs.Parts.{value_of, below_ref, IsWithin}
-use Rattle.rr_space.specs.Readings.{Owner, Space, Hand, Mail, Shared, Owned, Objects, Naming, Knows, named}
+use Rattle.rr_space.specs.Readings.{Owner, Space, Hand, Mail, Shown, Shared, Owned, Objects, Naming, Knows, named}
 use Rattle.rr_space.specs.declared.refer.Ref.{Ref}
 use Rattle.rr_space.specs.declared.refer.Ref.TheVariants as ref
 use Rattle.rr_space.proofs.Frames.{reading_same}
@@ -27,9 +27,9 @@ use Rattle.rr_store.specs.declared.constant.ConstValue.{ConstValue}
 use Rattle.rr_store.specs.declared.constant.ConstValue.TheVariants.{Shareable}
 use Rattle.rr_store.specs.declared.constant.ConstValue.TheVariants as store
 use Rattle.rr_world.specs.Views.{Member, Channels, Assembly, IsImmediate}
-use Rattle.rr_world.specs.Layouts.{layout, space_slots, hand_slots, inbox_slots, message_below, MemberKnows, IsKnowing, IsRead}
+use Rattle.rr_world.specs.Layouts.{layout, space_slots, hand_slots, inbox_slots, port_slots, message_below, MemberKnows, IsKnowing, IsRead}
 use Rattle.rr_world.specs.States.{Actor, Held, constant_at, itself}
-use Rattle.rr_world.specs.Readings.{each_from, actor_in, mailbox_in, root_in, public_value, constant_in, archive_in, post_in, state_in}
+use Rattle.rr_world.specs.Readings.{each_from, actor_in, mailbox_in, showcase_in, root_in, public_value, constant_in, archive_in, post_in, state_in}
 use Rattle.rr_world.specs.Enabling.{StandsAt, IsPublicValue}
 use Rattle.rr_world.specs.ConstantCases.{IsSetRefused, IsSetOwnRefused, IsGetRefused, IsConstantSet, IsMain}
 use Rattle.rr_world.specs.Getting.{Joins}
@@ -89,12 +89,13 @@ public_root names h (ref.Ractor b) i = refl
 public_root names h (ref.Local n) i = absurd (omega (arith, i))
 public_root names h (ref.Shared p c) i = refl
 
-module _ (w w2 : Assembly) (name : Sym) (c : ConstValue) (rs : w2.ractors ≡ w.ractors) (boxes : w2.channels.inboxes ≡ w.channels.inboxes) (S : IsSet w.channels.store name c w2.channels.store) where
+module _ (w w2 : Assembly) (name : Sym) (c : ConstValue) (rs : w2.ractors ≡ w.ractors) (boxes : w2.channels.inboxes ≡ w.channels.inboxes) (ports : w2.channels.ports ≡ w.channels.ports) (S : IsSet w.channels.store name c w2.channels.store) where
   same_tables : (h : Owner) → layout w2 h ≡ layout w h
   unfolding layout
   same_tables (Space j) = ap (λ xs. option_map space_slots (slice_get xs j)) rs
   same_tables (Hand j) = ap (λ xs. option_and_then hand_slots (slice_get xs j)) rs
   same_tables (Mail d u) = ap (λ xs. option_and_then (inbox_slots u) (slice_get xs d)) boxes
+  same_tables (Shown d u) = ap (λ xs. option_and_then (port_slots u) (slice_get xs d)) ports
   same_tables (Shared d) = refl
 
   named_one : (n : Sym) → n.0 ≡ name.0 → n ≡ name
@@ -108,6 +109,7 @@ module _ (w w2 : Assembly) (name : Sym) (c : ConstValue) (rs : w2.ractors ≡ w.
         (λ other. K.store n v (sym (S.others n (λ e. other (ap (λ (s : Sym). s.0) e))) ∙ here))
         (eq_cases n.0 name.0));
     inboxes = λ d i e at has. knows_on w w2 (message_below e.message) (K.inboxes d i e (ap (λ xs. slice_get xs d) (sym boxes) ∙ at) has);
+    ports = λ d p e at has. knows_on w w2 (message_below e.message) (K.ports d p e (ap (λ xs. slice_get xs d) (sym ports) ∙ at) has);
   }
 
   set_read : (names : Naming) (bound : ℕ) (g : Objects) → ((v : Ref) → c ≡ Shareable v → Knows (below_ref v) (layout w)) → IsRead w names bound g → IsRead w2 names bound g
@@ -116,6 +118,7 @@ module _ (w w2 : Assembly) (name : Sym) (c : ConstValue) (rs : w2.ractors ≡ w.
     knows = set_knows known R.knows;
     owned = λ j m at. R.owned j m (ap (λ xs. slice_get xs j) (sym rs) ∙ at);
     inboxes = ap length boxes ∙ R.inboxes ∙ sym (ap length rs);
+    ports = ap length ports ∙ R.ports ∙ sym (ap length rs);
   }
 
   set_constant : (names : Naming) (g : Objects) (e : StoreEvent Sym) → HasEvent w.channels.store → w2.channels.store.history ≡ w.channels.store.history ++ e ∷ [] → w2.channels.store.limit ≡ w.channels.store.limit
@@ -129,6 +132,7 @@ module _ (w w2 : Assembly) (name : Sym) (c : ConstValue) (rs : w2.ractors ≡ w.
     history = history;
     limit = limit;
     inboxes = ap (each_from (mailbox_in names) 0) boxes;
+    ports = ap (each_from (showcase_in names) 0) ports;
     objects = λ n. refl;
     ractors = ap (each_from (actor_in names) 0) rs;
   }
@@ -142,15 +146,15 @@ pub record IsStored (name : Sym) (c : ConstValue) (e : StoreEvent Sym) (s t : St
 
 -- a constant is set to an immediate
 pub constant_set : (w w2 : Assembly) (who : RactorNo) (k : ℕ) (m : Member) (name : Sym) (op : Operand) (v : Ref) → slice_get w.ractors k ≡ Some m → StandsAt who k → named_ref m.roots op ≡ Some v → IsImmediate v
-    → w2.ractors ≡ w.ractors → w2.channels.inboxes ≡ w.channels.inboxes → IsStored name (Shareable v) (event.Shared name who) w.channels.store w2.channels.store
+    → w2.ractors ≡ w.ractors → w2.channels.inboxes ≡ w.channels.inboxes → w2.channels.ports ≡ w.channels.ports → IsStored name (Shareable v) (event.Shared name who) w.channels.store w2.channels.store
     → HasOutcome (record { who = who; action = SetConst name op }) Done w w2
-constant_set w w2 who k m name op v at stands is_named plain rs boxes T names bound g R =
+constant_set w w2 who k m name op v at stands is_named plain rs boxes ports T names bound g R =
     let value = value_named names (Space k) m.roots op ∙ ap (option_map (root_in names (Space k))) is_named in
     let known = known_named (layout w) m.roots op v (R.knows.ractors k m at).roots is_named in (
       names,
       bound,
       g,
-      set_read w w2 name (Shareable v) rs boxes T.set names bound g
+      set_read w w2 name (Shareable v) rs boxes ports T.set names bound g
           (λ x e. subst (λ (y : ConstValue). (z : Ref) → y ≡ Shareable z → Knows (below_ref z) (layout w)) refl
           (λ z q. subst (λ (r : Ref). Knows (below_ref r) (layout w)) (let same : v ≡ z = cc in same) known) x e) R,
       (
@@ -163,7 +167,7 @@ constant_set w w2 who k m name op v at stands is_named plain rs boxes T names bo
           root_in names (Space k) v,
           value,
           subst (λ x. IsConstantSet name.0 (Held x) (event.Shared name who) (state_in w names g) (state_in w2 names g)) (immediate_same names (Space k) v plain)
-              (set_constant w w2 name (Shareable v) rs boxes T.set names g (event.Shared name who) T.room T.history T.limit),
+              (set_constant w w2 name (Shareable v) rs boxes ports T.set names g (event.Shared name who) T.room T.history T.limit),
         ),
       ),
     )
@@ -204,14 +208,14 @@ not_set w w2 who k m name op at stands same none =
 
 -- a constant is set to what the main ractor keeps
 pub own_set : (w w2 : Assembly) (who : RactorNo) (k : ℕ) (m : Member) (name : Sym) → slice_get w.ractors k ≡ Some m → StandsAt who k → IsMain who
-    → w2.ractors ≡ w.ractors → w2.channels.inboxes ≡ w.channels.inboxes → IsStored name store.Own (event.Own name who) w.channels.store w2.channels.store
+    → w2.ractors ≡ w.ractors → w2.channels.inboxes ≡ w.channels.inboxes → w2.channels.ports ≡ w.channels.ports → IsStored name store.Own (event.Own name who) w.channels.store w2.channels.store
     → HasOutcome (record { who = who; action = SetOwn name }) Done w w2
-own_set w w2 who k m name at stands main rs boxes T names bound g R = (
+own_set w w2 who k m name at stands main rs boxes ports T names bound g R = (
   names,
   bound,
   g,
-  set_read w w2 name store.Own rs boxes T.set names bound g (λ v e. absurd (let z : ⊥ = cc in z)) R,
-  (k, actor_in names k m, stands, actor_at w names g k m at, tt, (main, set_constant w w2 name store.Own rs boxes T.set names g (event.Own name who) T.room T.history T.limit)),
+  set_read w w2 name store.Own rs boxes ports T.set names bound g (λ v e. absurd (let z : ⊥ = cc in z)) R,
+  (k, actor_in names k m, stands, actor_at w names g k m at, tt, (main, set_constant w w2 name store.Own rs boxes ports T.set names g (event.Own name who) T.room T.history T.limit)),
 )
 
 -- a set that is refused
@@ -278,6 +282,7 @@ module _ (w w2 : Assembly) (who : RactorNo) (k : ℕ) (m : Member) (name : Sym) 
   got_tables (Space j) = ap (λ xs. option_map space_slots (slice_get xs j)) rs ∙ seen_same (option_map space_slots) w.ractors k j m (joined_by m v) at refl
   got_tables (Hand j) = ap (λ xs. option_and_then hand_slots (slice_get xs j)) rs ∙ seen_same (option_and_then hand_slots) w.ractors k j m (joined_by m v) at refl
   got_tables (Mail d u) = ap (λ (x : Channels). option_and_then (inbox_slots u) (slice_get x.inboxes d)) is
+  got_tables (Shown d u) = ap (λ (x : Channels). option_and_then (port_slots u) (slice_get x.ports d)) is
   got_tables (Shared d) = refl
 
   got_knows : (names : Naming) (bound : ℕ) (g : Objects) → IsRead w names bound g → MemberKnows (layout w) (joined_by m v)

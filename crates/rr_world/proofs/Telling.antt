@@ -1,11 +1,11 @@
 -- An inbox changes beside its messages: it is closed, or its history tells of a refusal.
 use Rattle.std.proofs.Common.{◌≡◌, ℕ, length, length-set, Some, slice_get, sym, ap, ◌∙◌, refl}
 use Rattle.std.specs.Option.{option_map, option_and_then}
-use Rattle.rr_space.specs.Readings.{Owner, Space, Hand, Mail, Shared, Naming, Objects}
+use Rattle.rr_space.specs.Readings.{Owner, Space, Hand, Mail, Shown, Shared, Naming, Objects}
 use Rattle.rr_space.proofs.Frames.{reading_same}
 use Rattle.rr_inbox.specs.Inboxes.{Inbox}
 use Rattle.rr_world.specs.Views.{Channels, Assembly, with_inbox}
-use Rattle.rr_world.specs.Layouts.{layout, space_slots, hand_slots, inbox_slots, mail_slots}
+use Rattle.rr_world.specs.Layouts.{layout, space_slots, hand_slots, inbox_slots, port_slots, mail_slots}
 use Rattle.rr_world.specs.States.{IsSame, with_box}
 use Rattle.rr_world.specs.Readings.{each_from, actor_in, mailbox_in, post_in, state_in}
 use Rattle.rr_world.specs.Cases.{IsOutcome}
@@ -22,6 +22,7 @@ module _ (w w2 : Assembly) (c : ℕ) (i i2 : Inbox) (box : slice_get w.channels.
   tables (Space j) = ap (λ xs. option_map space_slots (slice_get xs j)) rs
   tables (Hand j) = ap (λ xs. option_and_then hand_slots (slice_get xs j)) rs
   tables (Mail d u) = ap (λ (x : Channels). option_and_then (inbox_slots u) (slice_get x.inboxes d)) is ∙ seen_same (option_and_then (inbox_slots u)) w.channels.inboxes c d i i2 box (ap (mail_slots u) inside)
+  tables (Shown d u) = ap (λ (x : Channels). option_and_then (port_slots u) (slice_get x.ports d)) is
   tables (Shared d) = refl
 
   -- the objects, the ractors and the messages are as they were
@@ -32,10 +33,10 @@ module _ (w w2 : Assembly) (c : ℕ) (i i2 : Inbox) (box : slice_get w.channels.
     names,
     bound,
     g,
-    record { tables = reading_same (layout w) (layout w2) names bound g tables R.tables; knows = knows_told w w2 c i i2 box inside rs is R.knows; owned = λ j m at. R.owned j m (ap (λ xs. slice_get xs j) (sym rs) ∙ at); inboxes = ap (λ (x : Channels). length x.inboxes) is ∙ length-set w.channels.inboxes c i2 ∙ R.inboxes ∙ sym (ap length rs) },
+    record { tables = reading_same (layout w) (layout w2) names bound g tables R.tables; knows = knows_told w w2 c i i2 box inside rs is R.knows; owned = λ j m at. R.owned j m (ap (λ xs. slice_get xs j) (sym rs) ∙ at); inboxes = ap (λ (x : Channels). length x.inboxes) is ∙ length-set w.channels.inboxes c i2 ∙ R.inboxes ∙ sym (ap length rs); ports = ap (λ (x : Channels). length x.ports) is ∙ R.ports ∙ sym (ap length rs) },
     case names g (record {
       objects = λ n. refl;
       ractors = ap (each_from (actor_in names) 0) rs;
-      post = ap (post_in names) is ∙ post_set names names w.channels c i2 (λ d u z. refl) (λ d. refl);
+      post = ap (post_in names) is ∙ post_set names names w.channels c i2 (λ d u z. refl) (λ d u. refl) (λ d. refl);
     }),
   )

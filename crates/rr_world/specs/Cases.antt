@@ -2,23 +2,28 @@
 use Rattle.std.specs.Prelude.{◌≡◌, ℕ, true, false, List, [], Some, slice_get}
 use Rattle.rr_base.specs.declared.name.RactorNo.{RactorNo as Number}
 use Rattle.rr_space.specs.Graph.{text, array, plain, Value}
-use Rattle.rr_world.specs.States.{Parcel, Letter, Mailbox, Actor, Held, State, IsSame, constant_at}
+use Rattle.rr_world.specs.States.{Parcel, Letter, Mailbox, Showcase, Actor, Held, State, IsSame, constant_at}
 use Rattle.rr_world.specs.States as constant
 use Rattle.rr_base.specs.declared.event.StoreEvent.TheVariants as store
 use Rattle.rr_world.specs.declared.step.Action.{Action}
 use Rattle.rr_space.specs.Labels.{label_of}
-use Rattle.rr_world.specs.declared.step.Action.TheVariants.{Alloc, Pack, Discard, Offer, Accept, Open, Close, Freeze, Append, Push, Write, SetField, Read, Start, End, Detach, PutBack, SetConst, SetOwn, GetConst}
+use Rattle.rr_world.specs.declared.step.Action.TheVariants.{Alloc, Pack, Discard, Offer, Accept, Open, Close, ClosePort, Freeze, Append, Push, Write, SetField, Read, Start, End, Detach, PutBack, SetConst, SetOwn, GetConst}
 use Rattle.rr_world.specs.declared.step.Step.{Step}
 use Rattle.rr_world.specs.declared.step.Reply.{Reply}
 use Rattle.rr_world.specs.declared.step.Reply.TheVariants.{NotEnabled, Done, Offered, Empty, EmptyAndClosed, WasClosed, Refused, Started, OfMain}
 use Rattle.rr_world.specs.Enabling.{StandsAt, IsRunning, IsPossible, named_value, IsNoShell, IsOpen, HasElement, Allows, IsEnabled}
 use Rattle.rr_world.specs.ObjectCases.{IsAllocated, IsAllocRefused, frozen, appended, pushed, written, with_field, IsMade, IsMemoryRefused, IsReadAs, IsStarted, IsEnded, IsStartRefused}
 use Rattle.rr_world.specs.MessageCases.{IsPacked, IsPackRefusedFor, IsDetached, IsDetachRefusedFor, IsReturned, IsDiscarded, IsOffered, IsOfferRefused, IsAccepted, IsOpenedAs, IsOpenRefused, IsClosedBy}
+use Rattle.rr_world.specs.PortCases.{IsPortClosedBy}
 use Rattle.rr_world.specs.ConstantCases.{IsMain, IsConstantSet, IsSetRefused, IsSetOwnRefused, IsGot, IsGetRefused}
 
 -- the inbox of this number, in a clause of its own
 abbrev pub InboxIs : State → Number → ℕ → Mailbox → Type 0
 InboxIs s to c b = StandsAt to c × (slice_get s.post.inboxes c ≡ Some b)
+
+-- the port of this number
+abbrev pub PortIs : State → Number → ℕ → Showcase → Type 0
+PortIs s to c b = StandsAt to c × (slice_get s.post.ports c ≡ Some b)
 
 -- what an action of the ractor a at k does under each reply
 abbrev pub Effect : Number → ℕ → Actor → Action → Reply → State → State → Type 0
@@ -38,6 +43,7 @@ Effect who k a Accept EmptyAndClosed s t = (b : Mailbox) × InboxIs s who k b ×
 Effect who k a Open Done s t = (p : Parcel) × (a.hand ≡ Some p) × IsOpenedAs k a p s t
 Effect who k a Open (Refused f) s t = (p : Parcel) × (a.hand ≡ Some p) × IsOpenRefused a p f s t
 Effect who k a (Close to) (WasClosed already) s t = (c : ℕ) × (b : Mailbox) × InboxIs s to c b × IsClosedBy who c b already s t
+Effect who k a (ClosePort to) (WasClosed already) s t = (c : ℕ) × (b : Showcase) × PortIs s to c b × IsPortClosedBy who c b already s t
 Effect who k a (Freeze op) Done s t = IsMade k a op IsNoShell frozen s t
 Effect who k a (Append op byte) Done s t = IsMade k a op (IsOpen text) (appended byte) s t
 Effect who k a (Append op byte) (Refused f) s t = IsMemoryRefused f s t

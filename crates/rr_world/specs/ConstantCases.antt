@@ -25,6 +25,7 @@ pub record IsConstantSet (n : ℕ) (c : Constant) (e : StoreEvent Sym) (s t : St
   pub history : t.post.archive.history ≡ s.post.archive.history ++ e ∷ []
   pub limit : t.post.archive.limit ≡ s.post.archive.limit
   pub inboxes : t.post.inboxes ≡ s.post.inboxes
+  pub ports : t.post.ports ≡ s.post.ports
   pub objects : (m : ℕ) → t.objects m ≡ s.objects m
   pub ractors : t.ractors ≡ s.ractors
 

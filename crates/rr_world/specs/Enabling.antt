@@ -4,10 +4,10 @@ use Rattle.rr_base.specs.declared.name.RactorNo.{RactorNo as Number}
 use Rattle.rr_space.specs.Graph.{Kind, Object, text, array, plain, shell, Own, Published, Value, Plain, At, Nil, Truth, Integer, SymbolNo, ClassNo, RactorNo, Reaches, IsShareable}
 use Rattle.rr_space.specs.Readings.{Space, Owned, Objects, IsShared, whole}
 use Rattle.rr_share.specs.Search.{LeadsToShell}
-use Rattle.rr_world.specs.States.{Parcel, Mailbox, Actor, State}
+use Rattle.rr_world.specs.States.{Parcel, Mailbox, Showcase, Actor, State}
 use Rattle.rr_world.specs.declared.step.Action.{Action}
 use Rattle.rr_space.specs.Labels.{label_of}
-use Rattle.rr_world.specs.declared.step.Action.TheVariants.{Alloc, Pack, Discard, Offer, Accept, Open, Close, Freeze, Append, Push, Write, SetField, Read, Start, End, Detach, PutBack, SetConst, SetOwn, GetConst}
+use Rattle.rr_world.specs.declared.step.Action.TheVariants.{Alloc, Pack, Discard, Offer, Accept, Open, Close, ClosePort, Freeze, Append, Push, Write, SetField, Read, Start, End, Detach, PutBack, SetConst, SetOwn, GetConst}
 use Rattle.rr_world.specs.declared.step.Operand.{Operand}
 use Rattle.rr_world.specs.declared.step.Operand.TheVariants as operand
 use Rattle.rr_world.specs.declared.step.Step.{Step}
@@ -19,6 +19,10 @@ StandsAt who k = who.0 ≡ k + 1
 -- there is such an inbox
 abbrev pub HasInbox : State → Number → Type 0
 HasInbox s to = (c : ℕ) × (b : Mailbox) × StandsAt to c × (slice_get s.post.inboxes c ≡ Some b)
+
+-- there is such a port
+abbrev pub HasPort : State → Number → Type 0
+HasPort s to = (c : ℕ) × (b : Showcase) × StandsAt to c × (slice_get s.post.ports c ≡ Some b)
 
 -- a message is in the hand
 abbrev pub Holds : Actor → Type 0
@@ -97,6 +101,7 @@ Allows s who a (Offer to) = Holds a × HasInbox s to
 Allows s who a Accept = IsFreeHand a × HasInbox s who
 Allows s who a Open = Holds a
 Allows s who a (Close to) = HasInbox s to
+Allows s who a (ClosePort to) = HasPort s to
 Allows s who a (Freeze op) = MayChange s who a op IsNoShell
 Allows s who a (Append op byte) = MayChange s who a op (IsOpen text)
 Allows s who a (Push op x) = MayChange s who a op (IsOpen array) × IsValue a x

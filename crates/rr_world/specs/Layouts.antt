@@ -2,7 +2,7 @@
 use Rattle.std.specs.Prelude.{◌≡◌, ◌+◌, ◌++◌, Contains, ℕ, List, [], ◌∷◌, length, map, Option, None, Some, slice_get, nat_eq, cond}
 use Rattle.std.specs.Option.{option_map, option_and_then}
 use Rattle.rr_space.specs.Tables.{Packed, Slot, Here, Below, joined}
-use Rattle.rr_space.specs.Readings.{Space, Hand, Mail, Shared, Layout, Knows, Naming, Objects, IsReading}
+use Rattle.rr_space.specs.Readings.{Space, Hand, Mail, Shown, Shared, Layout, Knows, Naming, Objects, IsReading}
 use Rattle.rr_space.specs.Parts.{below_ref}
 use Rattle.rr_space.specs.declared.refer.Ref.{Ref}
 use Rattle.rr_base.specs.declared.name.Sym.{Sym}
@@ -10,6 +10,10 @@ use Rattle.rr_store.specs.Stores.{constant_of}
 use Rattle.rr_store.specs.declared.constant.ConstValue.TheVariants.{Shareable}
 use Rattle.rr_inbox.specs.Inboxes.{Inbox}
 use Rattle.rr_inbox.specs.declared.entry.Entry.{Entry}
+use Rattle.rr_port.specs.Lasts.{message_of}
+use Rattle.rr_port.specs.Ports.{Port}
+use Rattle.rr_port.specs.declared.last.LastGiven.{LastGiven}
+use Rattle.rr_port.specs.declared.last.Shown.{Shown as ShownMessage}
 use Rattle.rr_world.specs.Views.{Member, Assembly}
 
 abbrev pub message_slots : Packed → List Slot
@@ -29,11 +33,27 @@ mail_slots t (e ∷ es) = cond (nat_eq t e.ticket) (Some (message_slots e.messag
 abbrev pub inbox_slots : ℕ → Inbox → Option (List Slot)
 inbox_slots t i = mail_slots t i.inside
 
--- a table for each space, for each message in a hand, and for each message in an inbox
+-- the messages in a port with their tickets: the shown one, and the last value or fault
+abbrev pub shown_inside : Option ShownMessage → List Entry
+shown_inside None = []
+shown_inside (Some e) = record { ticket = e.ticket; message = e.message } ∷ []
+
+abbrev pub last_inside : Option LastGiven → List Entry
+last_inside None = []
+last_inside (Some l) = record { ticket = l.ticket; message = message_of l.last } ∷ []
+
+abbrev pub port_inside : Port → List Entry
+port_inside p = shown_inside p.shown ++ last_inside p.last
+
+abbrev pub port_slots : ℕ → Port → Option (List Slot)
+port_slots t p = mail_slots t (port_inside p)
+
+-- a table for each space, for each message in a hand, and for each message in an inbox or a port
 unfoldable pub layout : Assembly → Layout
 layout w (Space k) = option_map space_slots (slice_get w.ractors k)
 layout w (Hand k) = option_and_then hand_slots (slice_get w.ractors k)
 layout w (Mail c t) = option_and_then (inbox_slots t) (slice_get w.channels.inboxes c)
+layout w (Shown c t) = option_and_then (port_slots t) (slice_get w.channels.ports c)
 layout w (Shared c) = None
 
 -- the clusters that a message leads to
@@ -46,11 +66,12 @@ pub record MemberKnows (tables : Layout) (m : Member) : Type 0 where
   pub roots : (r : Ref) → Contains m.roots r → Knows (below_ref r) tables
   pub hand : (p : Packed) → m.hand ≡ Some p → Knows (message_below p) tables
 
--- the same of each ractor, of each constant and of each message in an inbox
+-- the same of each ractor, of each constant and of each message in an inbox or a port
 pub record IsKnowing (w : Assembly) : Type 0 where
   pub ractors : (k : ℕ) (m : Member) → slice_get w.ractors k ≡ Some m → MemberKnows (layout w) m
   pub store : (n : Sym) (v : Ref) → constant_of w.channels.store n ≡ Some (Shareable v) → Knows (below_ref v) (layout w)
   pub inboxes : (c : ℕ) (i : Inbox) (e : Entry) → slice_get w.channels.inboxes c ≡ Some i → Contains i.inside e → Knows (message_below e.message) (layout w)
+  pub ports : (c : ℕ) (p : Port) (e : Entry) → slice_get w.channels.ports c ≡ Some p → Contains (port_inside p) e → Knows (message_below e.message) (layout w)
 
 -- each ractor's space has the ractor's number, so that its messages tell who sent them
 abbrev pub AreOwned : Assembly → Type 0
@@ -60,10 +81,16 @@ AreOwned w = (k : ℕ) (m : Member) → slice_get w.ractors k ≡ Some m → m.s
 abbrev pub HaveInboxes : Assembly → Type 0
 HaveInboxes w = length w.channels.inboxes ≡ length w.ractors
 
+-- and so it is with ports
+abbrev pub HavePorts : Assembly → Type 0
+HavePorts w = length w.channels.ports ≡ length w.ractors
+
 -- a reading of the World: its tables are read as a whole graph, what they know of clusters is what the store has, each
--- space is its ractor's, and there are as many inboxes as ractors
+-- space is its ractor's, and there are as many inboxes and ports as
+-- ractors
 pub record IsRead (w : Assembly) (names : Naming) (bound : ℕ) (g : Objects) : Type 0 where
   pub tables : IsReading (layout w) names bound g
   pub knows : IsKnowing w
   pub owned : AreOwned w
   pub inboxes : HaveInboxes w
+  pub ports : HavePorts w

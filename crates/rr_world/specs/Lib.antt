@@ -6,6 +6,7 @@ pub mod Enabling
 pub mod ObjectCases
 pub mod MessageCases
 pub mod ConstantCases
+pub mod PortCases
 pub mod Cases
 pub mod Runs
 pub mod Opening

@@ -8,7 +8,7 @@ use Rattle.rr_base.specs.declared.limits.LimitKind.TheVariants as kind
 use Rattle.rr_space.specs.Graph.{Object, text, array, plain, Label, Place, Field, KeyAt, ValueAt, Message, Cause, Ractor, Own, Value, At}
 use Rattle.rr_space.specs.Readings.{Owner, Space, Hand, Owned}
 use Rattle.rr_space.specs.Steps.{IsChange}
-use Rattle.rr_world.specs.States.{Mailbox, Actor, State, IsSame}
+use Rattle.rr_world.specs.States.{Mailbox, Showcase, Actor, State, IsSame}
 use Rattle.rr_space.specs.Labels.{IsFirstUnder}
 use Rattle.rr_base.specs.declared.name.TheConstants.ClassId.{ARRAY, STRING}
 use Rattle.rr_world.specs.declared.step.NewObject.{NewObject}
@@ -95,19 +95,22 @@ pub record IsReadAs (k : ℕ) (a : Actor) (op : Operand) (l : Label) (s t : Stat
   pub ractors : t.ractors ≡ slice_set s.ractors k (record a { roots = a.roots ++ value ∷ [] })
   pub post : t.post ≡ s.post
 
--- a ractor without objects, and its inbox
+-- a ractor without objects, its inbox, and its port
 abbrev pub new_actor : Limits → Actor
 new_actor l = record { roots = []; hand = None; home = None; slots = 0; limit = l.slots; next = 1; limits = l; runs = true }
 
 abbrev pub new_mailbox : Limits → Mailbox
 new_mailbox l = record { inside = []; closed = false; next = 0; history = []; limit = l.events }
 
--- start: a ractor without objects comes with the next number, and its inbox; the graph stays
+abbrev pub new_showcase : Limits → Showcase
+new_showcase l = record { shown = None; last = None; given = false; closed = false; next = 0; history = []; limit = l.events }
+
+-- start: a ractor without objects comes with the next number, and its inbox and its port; the graph stays
 pub record IsStarted (number : Number) (a : Actor) (s t : State) : Type 0 where
   pub next : StandsAt number (length s.ractors)
   pub objects : (n : ℕ) → t.objects n ≡ s.objects n
   pub ractors : t.ractors ≡ s.ractors ++ new_actor a.limits ∷ []
-  pub post : t.post ≡ record s.post { inboxes = s.post.inboxes ++ new_mailbox a.limits ∷ [] }
+  pub post : t.post ≡ record s.post { inboxes = s.post.inboxes ++ new_mailbox a.limits ∷ []; ports = s.post.ports ++ new_showcase a.limits ∷ [] }
 
 -- a refused start: a growth was refused, or there are as many ractors as may be; all is as it was
 abbrev pub IsStartRefused : Actor → Fault → State → State → Type 0

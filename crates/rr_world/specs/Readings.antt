@@ -4,14 +4,18 @@ use Rattle.std.specs.Option.{option_map}
 use Rattle.rr_space.specs.Graph.{Value, Plain, At, Own, Published}
 use Rattle.rr_space.specs.Parts.{value_of}
 use Rattle.rr_space.specs.Tables.{Packed, renamed}
-use Rattle.rr_space.specs.Readings.{Owner, Space, Hand, Mail, Shared, Objects, Naming, name_in}
+use Rattle.rr_space.specs.Readings.{Owner, Space, Hand, Mail, Shown, Shared, Objects, Naming, name_in}
 use Rattle.rr_space.specs.declared.refer.Ref.{Ref}
 use Rattle.rr_copy.specs.Messages.{size_of}
 use Rattle.rr_move.specs.declared.home.Home.{Home}
 use Rattle.rr_inbox.specs.Inboxes.{Inbox}
 use Rattle.rr_inbox.specs.declared.entry.Entry.{Entry}
+use Rattle.rr_port.specs.Lasts.{message_of, is_fault}
+use Rattle.rr_port.specs.Ports.{Port}
+use Rattle.rr_port.specs.declared.last.LastGiven.{LastGiven}
+use Rattle.rr_port.specs.declared.last.Shown.{Shown as ShownMessage}
 use Rattle.rr_world.specs.Views.{Member, Channels, Assembly}
-use Rattle.rr_world.specs.States.{Parcel, Letter, Mailbox, Actor, Archive, Constant, Held, Post, State}
+use Rattle.rr_world.specs.States.{Parcel, Letter, Farewell, Showcase, Mailbox, Actor, Archive, Constant, Held, Post, State}
 use Rattle.rr_world.specs.States as constant
 use Rattle.rr_store.specs.Stores.{Store}
 use Rattle.rr_store.specs.declared.constant.ConstValue.{ConstValue}
@@ -36,6 +40,23 @@ letter_in names c e = record { ticket = e.ticket; parcel = parcel_in names (Mail
 
 abbrev pub mailbox_in : Naming → ℕ → Inbox → Mailbox
 mailbox_in names c i = record { inside = map (letter_in names c) i.inside; closed = i.closed; next = i.next; history = i.history; limit = i.limit }
+
+abbrev pub shown_in : Naming → ℕ → ShownMessage → Letter
+shown_in names c e = record { ticket = e.ticket; parcel = parcel_in names (Shown c e.ticket) e.message }
+
+abbrev pub farewell_in : Naming → ℕ → LastGiven → Farewell
+farewell_in names c l = record { letter = record { ticket = l.ticket; parcel = parcel_in names (Shown c l.ticket) (message_of l.last) }; is_fault = is_fault l.last }
+
+abbrev pub showcase_in : Naming → ℕ → Port → Showcase
+showcase_in names c p = record {
+  shown = option_map (shown_in names c) p.shown;
+  last = option_map (farewell_in names c) p.last;
+  given = p.given;
+  closed = p.closed;
+  next = p.next;
+  history = p.history;
+  limit = p.limit;
+}
 
 -- the names of the slots of a home
 abbrev pub shells_in : Naming → ℕ → Home → List ℕ
@@ -67,7 +88,7 @@ abbrev pub archive_in : Naming → Store → Archive
 archive_in names s = record { constants = map (option_map (constant_in names)) s.constants; history = s.history; limit = s.limit }
 
 abbrev pub post_in : Naming → Channels → Post
-post_in names x = record { inboxes = each_from (mailbox_in names) 0 x.inboxes; archive = archive_in names x.store }
+post_in names x = record { inboxes = each_from (mailbox_in names) 0 x.inboxes; ports = each_from (showcase_in names) 0 x.ports; archive = archive_in names x.store }
 
 -- the state that a World is under a naming and a whole graph
 abbrev pub state_in : Assembly → Naming → Objects → State

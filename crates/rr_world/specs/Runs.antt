@@ -3,6 +3,7 @@ use Rattle.std.specs.Prelude.{◌≡◌, ℕ, true, List, [], ◌∷◌, None}
 use Rattle.rr_base.specs.declared.limits.Limits.{Limits}
 use Rattle.rr_space.specs.Readings.{Objects, Naming, IsApart}
 use Rattle.rr_inbox.specs.Inboxes.{new_inbox}
+use Rattle.rr_port.specs.Ports.{new_port}
 use Rattle.rr_store.specs.Stores.{new_store}
 use Rattle.rr_world.specs.Views.{Member, Assembly}
 use Rattle.rr_world.specs.Layouts.{IsRead}
@@ -41,7 +42,7 @@ IsRun steps replies old new = (names : Naming) (bound : ℕ) (g : Objects) → I
 abbrev pub HasReading : Assembly → Type 0
 HasReading w = (names : Naming) × (bound : ℕ) × (g : Objects) × IsRead w names bound g
 
--- one ractor without objects, roots and message, its inbox, empty, and a store without constants
+-- one ractor without objects, roots and message, its inbox and its port, empty, and a store without constants
 pub record IsNew (limits : Limits) (w : Assembly) : Type 0 where
   pub main : Member
   pub ractors : w.ractors ≡ main ∷ []
@@ -56,4 +57,5 @@ pub record IsNew (limits : Limits) (w : Assembly) : Type 0 where
   pub run : main.limits ≡ limits
   pub runs : main.runs ≡ true
   pub inboxes : w.channels.inboxes ≡ new_inbox limits.events ∷ []
+  pub ports : w.channels.ports ≡ new_port limits.events ∷ []
   pub store : w.channels.store ≡ new_store limits.events

@@ -5,6 +5,7 @@ use Rattle.rr_base.specs.declared.name.Sym.{Sym}
 use Rattle.rr_base.specs.declared.event.StoreEvent.{StoreEvent}
 use Rattle.rr_base.specs.declared.limits.Limits.{Limits}
 use Rattle.rr_base.specs.declared.event.InboxEvent.{InboxEvent}
+use Rattle.rr_base.specs.declared.event.PortEvent.{PortEvent}
 use Rattle.rr_space.specs.Graph.{Value}
 use Rattle.rr_space.specs.Readings.{Objects}
 
@@ -16,7 +17,7 @@ pub record Parcel : Type 0 where
   pub sender : ℕ
   pub sequence : ℕ
 
--- a message inside an inbox
+-- a message inside an inbox, or shown in a port
 pub record Letter : Type 0 where
   pub ticket : ℕ
   pub parcel : Parcel
@@ -27,6 +28,22 @@ pub record Mailbox : Type 0 where
   pub closed : Bool
   pub next : ℕ
   pub history : List InboxEvent
+  pub limit : ℕ
+
+-- a last value, or a last fault
+pub record Farewell : Type 0 where
+  pub letter : Letter
+  pub is_fault : Bool
+
+-- a port: the shown message, the last value or fault, whether one was given, a closed mark, the next ticket, and what happened
+-- with its limit
+pub record Showcase : Type 0 where
+  pub shown : Option Letter
+  pub last : Option Farewell
+  pub given : Bool
+  pub closed : Bool
+  pub next : ℕ
+  pub history : List PortEvent
   pub limit : ℕ
 
 -- a ractor: the values that it holds, the message in its hand, the names of the shells that its objects left where it was moved,
@@ -59,14 +76,19 @@ itself c = c
 abbrev pub constant_at : Archive → ℕ → Option Constant
 constant_at a n = option_and_then itself (slice_get a.constants n)
 
--- what lies between ractors: their inboxes, by number, and the store
+-- what lies between ractors: their inboxes and their ports, by number, and the store
 pub record Post : Type 0 where
   pub inboxes : List Mailbox
+  pub ports : List Showcase
   pub archive : Archive
 
 -- the same, with another inbox in one's place
 abbrev pub with_box : Post → ℕ → Mailbox → Post
 with_box p c b = record p { inboxes = slice_set p.inboxes c b }
+
+-- and with another port in one's place
+abbrev pub with_case : Post → ℕ → Showcase → Post
+with_case p c b = record p { ports = slice_set p.ports c b }
 
 -- objects with owners, ractors, and what lies between them; number 1 stands first
 pub record State : Type 0 where

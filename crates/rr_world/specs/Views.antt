@@ -7,6 +7,7 @@ use Rattle.rr_space.specs.Parts.{IsWithin}
 use Rattle.rr_space.specs.declared.refer.Ref.{Ref}
 use Rattle.rr_space.specs.declared.refer.Ref.TheVariants.{Nil, Truth, Int, Symbol, Class, Ractor, Local, Shared}
 use Rattle.rr_inbox.specs.Inboxes.{Inbox}
+use Rattle.rr_port.specs.Ports.{Port}
 use Rattle.rr_store.specs.Stores.{Store}
 use Rattle.rr_move.specs.declared.home.Home.{Home}
 use Rattle.rr_move.specs.declared.hand.Hand.{Hand}
@@ -47,14 +48,19 @@ AreAway slots hand None = Unit {0}
 AreAway slots None (Some h) = ⊥
 AreAway slots (Some p) (Some h) = IsAway slots p h
 
--- what lies between ractors: their inboxes, by number, and the store
+-- what lies between ractors: their inboxes and their ports, by number, and the store
 pub record Channels : Type 0 where
   pub inboxes : List Inbox
+  pub ports : List Port
   pub store : Store
 
 -- the same, with another inbox in one's place
 abbrev pub with_inbox : Channels → ℕ → Inbox → Channels
 with_inbox x c i = record x { inboxes = slice_set x.inboxes c i }
+
+-- and with another port in one's place
+abbrev pub with_port : Channels → ℕ → Port → Channels
+with_port x c p = record x { ports = slice_set x.ports c p }
 
 -- the ractors, by number, and what lies between them: number 1 stands first
 pub record Assembly : Type 0 where

@@ -5,6 +5,7 @@ mod changing;
 mod constants;
 mod moving;
 mod packing;
+mod ports;
 mod ractor;
 mod step;
 mod world;

@@ -42,6 +42,8 @@ pub enum Action {
     Open,
     /// A ractor's inbox is closed.
     Close(RactorNo),
+    /// A ractor's port is closed. What is inside stays.
+    ClosePort(RactorNo),
     /// The ractor's own object is frozen, and nothing that it leads to. A shell is not.
     Freeze(Operand),
     /// A byte comes behind those of the ractor's own text, which is not frozen.
@@ -53,9 +55,10 @@ pub enum Action {
     /// A value comes into a field of the ractor's own plain object, which is not frozen: in the place of what was there, or
     /// behind the others.
     SetField(Operand, Sym, Operand),
-    /// A ractor starts, under the limits of the run, and its inbox with it.
+    /// A ractor starts, under the limits of the run, and its inbox and its port with it.
     Start,
-    /// The ractor ends: its objects, its roots and what is in its hand go, and it makes no step any more. Its inbox stays.
+    /// The ractor ends: its objects, its roots and what is in its hand go, and it makes no step any more. Its inbox and its port
+    /// stay.
     End,
     /// What stands under the label in an object comes last in the ractor's roots. A field has the first of its name.
     Read(Operand, Label),
@@ -92,7 +95,7 @@ pub enum Reply {
     Empty,
     /// Nothing is in the inbox, which is closed.
     EmptyAndClosed,
-    /// The inbox is closed; whether it was closed before.
+    /// The inbox or the port is closed; whether it was closed before.
     WasClosed(bool),
     /// The ractor of this number was started.
     Started(RactorNo),

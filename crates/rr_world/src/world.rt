@@ -12,17 +12,19 @@ use crate::step::{Action, NewObject, Operand, Reply, Step};
 use rr_base::{Fault, LimitKind, Limits, RactorNo, Sym};
 use rr_inbox::{Front, InboxState};
 use rr_move::shown_by_moving;
+use rr_port::PortState;
 use rr_space::Label;
 use rr_store::StoreState;
 use std::alloc::Global;
 use std::marker::Model;
 
-/// Ractors with their spaces, roots and hands, and apart from them their inboxes and the store.
+/// Ractors with their spaces, roots and hands, and apart from them their inboxes, their ports and the store.
 #[derive(Drop)]
 pub struct World {
     // By their numbers, the main ractor, which is number 1, first.
     pub(crate) ractors: Vec<Ractor>,
     inboxes: Vec<InboxState>,
+    pub(crate) ports: Vec<PortState>,
     pub(crate) store: StoreState,
 }
 
@@ -31,10 +33,10 @@ impl Model for World {
 
     ghost Value = { Assembly };
 
-    ghost view = { λ w. record { ractors = w.ractors.items; channels = record { inboxes = w.inboxes.items; store = w.store } } };
+    ghost view = { λ w. record { ractors = w.ractors.items; channels = record { inboxes = w.inboxes.items; ports = w.ports.items; store = w.store } } };
 }
 
-// The place of a ractor, or of its inbox, among so many.
+// The place of a ractor, or of its inbox or port, among so many.
 fn place_of(number: RactorNo, count: usize) -> Option<usize>
     ensures found { IfSome result (λ k. StandsAt number k × (k < count)) }
     ensures none { result ≡ None → (k : ℕ) → StandsAt number k → count ≤ k }
@@ -44,7 +46,7 @@ fn place_of(number: RactorNo, count: usize) -> Option<usize>
 }
 
 impl World {
-    /// The main ractor, without objects, and its inbox, empty. `limits` gives the most slots of a space and the most events
+    /// The main ractor, without objects, and its inbox and its port, empty. `limits` gives the most slots of a space and the most events
     /// of a history, at least 3. `Memory` is the only fault.
     pub fn new(alloc: Global, limits: Limits) -> Result<World, Fault>
         requires { 3 ≤ limits.events }
@@ -54,12 +56,15 @@ impl World {
     {
         let mut ractors = Vec::new(alloc);
         let mut inboxes = Vec::new(alloc);
+        let mut ports = Vec::new(alloc);
         ractors.push(Ractor::new(alloc, RactorNo(1), limits))?;
         inboxes.push(InboxState::new(alloc, limits.events)?)?;
+        ports.push(PortState::new(alloc, limits.events)?)?;
         let store = StoreState::new(alloc, limits.events);
         Ok(World {
             ractors,
             inboxes,
+            ports,
             store,
         })
     }
@@ -261,7 +266,7 @@ impl World {
         ractor.read(object, label)
     }
 
-    // A ractor starts, and its inbox with it.
+    // A ractor starts, and its inbox and its port with it.
     fn start(&mut self, alloc: Global, who: RactorNo, place: usize) -> Reply
         requires stands { StandsAt who place }
         requires within { place < length self.old.ractors }
@@ -275,16 +280,23 @@ impl World {
         let Ok(inbox) = InboxState::new(alloc, limits.events) else {
             return Reply::Refused(Fault::Memory);
         };
+        let Ok(port) = PortState::new(alloc, limits.events) else {
+            return Reply::Refused(Fault::Memory);
+        };
         if self.ractors.reserve(1).is_err() {
             return Reply::Refused(Fault::Memory);
         }
         if self.inboxes.reserve(1).is_err() {
             return Reply::Refused(Fault::Memory);
         }
+        if self.ports.reserve(1).is_err() {
+            return Reply::Refused(Fault::Memory);
+        }
         let number = RactorNo(count as u16 + 1);
         self.ractors
             .push_reserved(Ractor::new(alloc, number, limits));
         self.inboxes.push_reserved(inbox);
+        self.ports.push_reserved(port);
         Reply::Started(number)
     }
 
@@ -346,6 +358,10 @@ impl World {
             },
             Action::Close(to) => match place_of(to, self.inboxes.len()) {
                 Some(inbox) => self.close(who, place, to, inbox),
+                None => Reply::NotEnabled,
+            },
+            Action::ClosePort(to) => match place_of(to, self.ports.len()) {
+                Some(port) => self.close_port(who, place, to, port),
                 None => Reply::NotEnabled,
             },
         }

@@ -8,7 +8,7 @@ use Rattle.rr_world.specs.Views.{Member, Assembly, IsFree}
 use Rattle.rr_world.specs.declared.step.Action.TheVariants.{Accept}
 use Rattle.rr_world.specs.declared.step.Reply.TheVariants.{Empty, EmptyAndClosed}
 use Rattle.rr_world.proofs.Accepting.{accepted, less_first, nothing_open, nothing_closed}
-use Rattle.rr_world.proofs.Insides.{channels_same, read_at, read_twice, set_in, set_again, same_assembly, some_at}
+use Rattle.rr_world.proofs.Insides.{aside, channels_same, read_at, read_twice, set_in, set_again, same_assembly, some_at}
 use Rattle.rr_world.proofs.Staying.{refused, stays}
 use Rattle.rr_world.proofs.Enabled.{allowed, no_inbox, free_back}
 use Rattle.rr_world.proofs.world.World.accept.Goals as goal
@@ -56,7 +56,7 @@ returns-in-Message c =
     t.2
     (set_in c.self.inside.ractors.items w.ractors c.args.place c.hold.new.self (record m { hand = Some t.0.message }) vs
     (c.hold.ensures ∙ ap (λ (x : Packed). let y : Member = record m { hand = Some x; home = None } in y) (sym t.1) ∙ ap (λ x. let y : Member = record m { hand = Some t.0.message; home = x } in y) (sym none.home)))
-    (channels_same (ap (λ (v : Assembly). v.channels.store) c.self.view_is) (set_in c.self.inside.inboxes.items w.channels.inboxes c.args.place c.accept.new.self (less_first i c.args.who t.0 c.accept.new.self.inside) is
+    (channels_same (ap aside c.self.view_is) (set_in c.self.inside.inboxes.items w.channels.inboxes c.args.place c.accept.new.self (less_first i c.args.who t.0 c.accept.new.self.inside) is
     (t.3 ∙ ap (λ (x : Packed). let y : Inbox = record i { inside = c.accept.new.self.inside; history = i.history ++ event.Accepted t.0.ticket (size_of x) c.args.who ∷ [] } in y) (sym t.1))))
     c.requires.stands
 
@@ -73,7 +73,7 @@ returns-in-Empty c =
     let within : c.args.place < length w.channels.inboxes = omega (arith, c.len.ensures, c.if-place-len.false, many) in
     let box : slice_get w.channels.inboxes c.args.place ≡ Some i = read_at c.self.inside.inboxes.items w.channels.inboxes c.args.place i is within c.index_mut.ensures.value in
     stays (record { who = c.args.who; action = Accept }) Empty w _
-    (same_assembly _ _ _ _ vs (channels_same (ap (λ (v : Assembly). v.channels.store) c.self.view_is) (set_again c.self.inside.inboxes.items w.channels.inboxes c.args.place c.accept.new.self i is box t.2)))
+    (same_assembly _ _ _ _ vs (channels_same (ap aside c.self.view_is) (set_again c.self.inside.inboxes.items w.channels.inboxes c.args.place c.accept.new.self i is box t.2)))
     (λ names g. nothing_open w names g c.args.who c.args.place m i at box (c.if-not-is_free.ensures.0 refl) c.requires.stands t.0 t.1)
 
 pub returns-in-EmptyAndClosed : goal.returns-in-EmptyAndClosed
@@ -89,5 +89,5 @@ returns-in-EmptyAndClosed c =
     let within : c.args.place < length w.channels.inboxes = omega (arith, c.len.ensures, c.if-place-len.false, many) in
     let box : slice_get w.channels.inboxes c.args.place ≡ Some i = read_at c.self.inside.inboxes.items w.channels.inboxes c.args.place i is within c.index_mut.ensures.value in
     stays (record { who = c.args.who; action = Accept }) EmptyAndClosed w _
-    (same_assembly _ _ _ _ vs (channels_same (ap (λ (v : Assembly). v.channels.store) c.self.view_is) (set_again c.self.inside.inboxes.items w.channels.inboxes c.args.place c.accept.new.self i is box t.2)))
+    (same_assembly _ _ _ _ vs (channels_same (ap aside c.self.view_is) (set_again c.self.inside.inboxes.items w.channels.inboxes c.args.place c.accept.new.self i is box t.2)))
     (λ names g. nothing_closed w names g c.args.who c.args.place m i at box (c.if-not-is_free.ensures.0 refl) c.requires.stands t.0 t.1)

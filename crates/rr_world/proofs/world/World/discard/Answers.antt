@@ -2,7 +2,7 @@ use Rattle.std.proofs.Common.{◌≡◌, ap, slice_get, Some, None}
 use Rattle.rr_world.specs.Views.{Assembly}
 use Rattle.rr_world.specs.declared.step.Action.TheVariants.{Discard}
 use Rattle.rr_world.proofs.Discarding.{discarded}
-use Rattle.rr_world.proofs.Insides.{channels_same, read_at, set_in, set_again, same_assembly}
+use Rattle.rr_world.proofs.Insides.{aside, channels_same, read_at, set_in, set_again, same_assembly}
 use Rattle.rr_world.proofs.Staying.{refused}
 use Rattle.rr_world.proofs.Enabled.{allowed, holds_not}
 use Rattle.rr_world.proofs.world.World.discard.Goals as goal
@@ -16,7 +16,7 @@ returns c =
     let at : slice_get w.ractors c.args.place ≡ Some m = read_at c.self.inside.ractors.items w.ractors c.args.place m vs c.requires.within c.index_mut.ensures.value in
     discarded w _ c.args.place m c.in-Some._taken.0 at c.in-Some.ensures.some.0
     (set_in c.self.inside.ractors.items w.ractors c.args.place c.take.new.self (record m { hand = None; home = None }) vs c.in-Some.ensures.some.2)
-    (channels_same (ap (λ (v : Assembly). v.channels.store) c.self.view_is) is) c.args.who c.requires.stands
+    (channels_same (ap aside c.self.view_is) is) c.args.who c.requires.stands
 
 pub returns-in_default : goal.returns-in_default
 returns-in_default c =
@@ -28,5 +28,5 @@ returns-in_default c =
     let none : m.hand ≡ None = c.in_default.ensures.none.0 in
     let same : c.take.new.self ≡ m = c.in_default.ensures.none.1 in
     refused (record { who = c.args.who; action = Discard }) w _
-    (same_assembly _ _ _ _ (set_again c.self.inside.ractors.items w.ractors c.args.place c.take.new.self m vs at same) (channels_same (ap (λ (v : Assembly). v.channels.store) c.self.view_is) is))
+    (same_assembly _ _ _ _ (set_again c.self.inside.ractors.items w.ractors c.args.place c.take.new.self m vs at same) (channels_same (ap aside c.self.view_is) is))
     (λ names g e. holds_not names c.args.place m none (allowed w names g (record { who = c.args.who; action = Discard }) c.args.place m c.requires.stands at e))

@@ -1,5 +1,6 @@
 use Rattle.std.proofs.Common.{◌++◌, ◌∷◌, [], List, ap, ◌∙◌}
 use Rattle.rr_inbox.specs.Inboxes.{Inbox}
+use Rattle.rr_port.specs.Ports.{Port}
 use Rattle.rr_world.specs.Views.{Member}
 use Rattle.rr_world.proofs.Fresh.{new_is_read}
 use Rattle.rr_world.proofs.world.World.new.Goals as goal
@@ -19,6 +20,7 @@ returns-clause-made c = record {
   store = c.new-store.ensures;
   run = c.new.ensures.limits;
   runs = c.new.ensures.runs;
+  ports = c.in_ok-push-3.ensures.items ∙ ap (λ (xs : List Port). xs ++ c.in_ok-new-2.field-0 ∷ []) c.new-ports.ensures.items ∙ ap (λ (x : Port). x ∷ []) c.in_ok-new-2.ensures.made;
   inboxes = c.in_ok-push-2.ensures.items ∙ ap (λ (xs : List Inbox). xs ++ c.in_ok-new.field-0 ∷ []) c.new-inboxes.ensures.items ∙ ap (λ (x : Inbox). x ∷ []) c.in_ok-new.ensures.made;
 }
 

@@ -7,7 +7,7 @@ use Rattle.rr_world.specs.Views.{Member, Assembly}
 use Rattle.rr_world.specs.declared.step.Action.TheVariants.{Offer}
 use Rattle.rr_world.proofs.Offering.{offered_under}
 use Rattle.rr_world.proofs.Refusals.{offer_refused}
-use Rattle.rr_world.proofs.Insides.{assembly, channels, channels_same, read_at, read_twice, read_set, set_in, set_again, set_twice_again, same_assembly}
+use Rattle.rr_world.proofs.Insides.{aside, assembly, channels, channels_same, read_at, read_twice, read_set, set_in, set_again, set_twice_again, same_assembly}
 use Rattle.rr_world.proofs.Staying.{refused}
 use Rattle.rr_world.proofs.Enabled.{allowed, holds_not}
 use Rattle.rr_world.specs.Runs.{HasOutcome}
@@ -26,7 +26,7 @@ returns-in_default c =
     let none : m.hand ≡ None = c.in_default.ensures.none.0 in
     let same : c.take.new.self ≡ m = c.in_default.ensures.none.1 in
     refused (record { who = c.args.who; action = Offer c.args.to }) w _
-    (same_assembly _ _ _ _ (set_again c.self.inside.ractors.items w.ractors c.args.place c.take.new.self m vs at same) (channels_same (ap (λ (v : Assembly). v.channels.store) c.self.view_is) is))
+    (same_assembly _ _ _ _ (set_again c.self.inside.ractors.items w.ractors c.args.place c.take.new.self m vs at same) (channels_same (ap aside c.self.view_is) is))
     (λ names g e. holds_not names c.args.place m none (allowed w names g (record { who = c.args.who; action = Offer c.args.to }) c.args.place m c.requires.stands at e).0)
 
 pub returns-in-Ok : goal.returns-in-Ok
@@ -39,7 +39,7 @@ returns-in-Ok c =
     let is : c.self.inside.inboxes.items ≡ w.channels.inboxes = ap (λ (v : Assembly). v.channels.inboxes) c.self.view_is in
     let lt : c.args.inbox < length c.self.inside.inboxes.items = omega (arith, ap length is, c.requires.is_inbox) in
     let one : c.index.result.now ≡ i = read_twice c.self.inside.inboxes.items c.args.inbox c.index.result.now i lt c.index.ensures c.index_mut-2.ensures.value in
-    let made : Assembly = assembly (slice_set c.self.inside.ractors.items c.args.place c.take.new.self) (channels c.self.inside.store (slice_set c.self.inside.inboxes.items c.args.inbox c.offer.new.self)) in
+    let made : Assembly = assembly (slice_set c.self.inside.ractors.items c.args.place c.take.new.self) (channels (c.self.inside.store, c.self.inside.ports.items) (slice_set c.self.inside.inboxes.items c.args.inbox c.offer.new.self)) in
     let is_made : c.match-home.self ≡ made = elim c.match-home.branch [ in-Some-1 z ↦ z.self-is | in-None-1 z ↦ z.self-is ] in
     subst (λ (v : Assembly). HasOutcome (record { who = c.args.who; action = Offer c.args.to }) (Offered c.in-Ok.ticket) w v) (sym is_made)
     (offered_under w made c.args.who c.args.place c.args.inbox m i c.offer.new.self c.in-Some.message
@@ -56,7 +56,7 @@ returns-in-Ok c =
       limit = d.limit;
     })
     (set_in c.self.inside.ractors.items w.ractors c.args.place c.take.new.self (record m { hand = None; home = None }) vs c.in-Some.ensures.some.2)
-    (channels_same (ap (λ (v : Assembly). v.channels.store) c.self.view_is) (set_in c.self.inside.inboxes.items w.channels.inboxes c.args.inbox c.offer.new.self c.offer.new.self is refl))
+    (channels_same (ap aside c.self.view_is) (set_in c.self.inside.inboxes.items w.channels.inboxes c.args.inbox c.offer.new.self c.offer.new.self is refl))
     c.args.to c.in-Ok.ticket d.ticket.0 c.requires.stands c.requires.there)
 
 pub returns-in-Err : goal.returns-in-Err
@@ -79,7 +79,7 @@ returns-in-Err c =
     (read_at c.self.inside.inboxes.items w.channels.inboxes c.args.inbox i is c.requires.is_inbox c.index_mut-2.ensures.value)
     held
     (set_twice_again c.self.inside.ractors.items w.ractors c.args.place c.take.new.self c.hold.new.self m vs at same)
-    (channels_same (ap (λ (v : Assembly). v.channels.store) c.self.view_is) (set_in c.self.inside.inboxes.items w.channels.inboxes c.args.inbox c.offer.new.self c.offer.new.self is refl))
+    (channels_same (ap aside c.self.view_is) (set_in c.self.inside.inboxes.items w.channels.inboxes c.args.inbox c.offer.new.self c.offer.new.self is refl))
     c.requires.stands c.requires.there c.in-Err.fault c.in-Err.message
     (record { inside = d.inside; closed = d.closed; next = d.next; history = d.history; limit = d.limit })
     d.fault

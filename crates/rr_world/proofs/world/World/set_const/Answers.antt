@@ -5,7 +5,7 @@ use Rattle.rr_store.specs.Answers.{SetRefusal}
 use Rattle.rr_store.specs.declared.constant.ConstValue.TheVariants.{Shareable}
 use Rattle.rr_world.specs.Views.{Assembly}
 use Rattle.rr_world.proofs.Storing.{IsStored, constant_set, not_set, set_refused}
-use Rattle.rr_world.proofs.Insides.{read_at, channels_same, same_assembly}
+use Rattle.rr_world.proofs.Insides.{sides_same, read_at, channels_same, same_assembly}
 use Rattle.rr_world.proofs.world.World.set_const.Goals as goal
 
 pub returns-in_default : goal.returns-in_default
@@ -23,7 +23,7 @@ returns-in-Err c =
     let st : c.self.inside.store ≡ w.channels.store = ap (λ (v : Assembly). v.channels.store) c.self.view_is in
     let at : slice_get w.ractors c.args.place ≡ Some c.index.result.now = read_at c.self.inside.ractors.items w.ractors c.args.place c.index.result.now vs c.requires.within c.index.ensures in
     set_refused w _ c.args.who c.args.place c.index.result.now c.args.name c.args.value c.in-Some.value c.in-Err.fault at c.requires.stands c.in-Some.ensures.some.0 c.in-Some.ensures.some.1
-    (same_assembly _ _ _ _ vs (channels_same (c.in-Err.ensures.refused.0 ∙ st) (ap (λ (v : Assembly). v.channels.inboxes) c.self.view_is)))
+    (same_assembly _ _ _ _ vs (channels_same (sides_same (c.in-Err.ensures.refused.0 ∙ st) (ap (λ (v : Assembly). v.channels.ports) c.self.view_is)) (ap (λ (v : Assembly). v.channels.inboxes) c.self.view_is)))
     (subst (λ (s : Store). SetRefusal c.in-Err.fault s c.args.who (Shareable c.in-Some.value)) st c.in-Err.ensures.refused.1)
 
 pub returns : goal.returns
@@ -34,6 +34,6 @@ returns c =
     let at : slice_get w.ractors c.args.place ≡ Some c.index.result.now = read_at c.self.inside.ractors.items w.ractors c.args.place c.index.result.now vs c.requires.within c.index.ensures in
     let d = c.in_default-set_const.ensures in
     constant_set w _ c.args.who c.args.place c.index.result.now c.args.name c.args.value c.in-Some.value at c.requires.stands c.in-Some.ensures.some.0 c.in-Some.ensures.some.1
-    vs (ap (λ (v : Assembly). v.channels.inboxes) c.self.view_is)
+    vs (ap (λ (v : Assembly). v.channels.inboxes) c.self.view_is) (ap (λ (v : Assembly). v.channels.ports) c.self.view_is)
     (subst (λ (s : Store). IsStored c.args.name (Shareable c.in-Some.value) (event.Shared c.args.name c.args.who) s c.set_const.new.self) st
     (record { set = d.set.0; room = d.set.1; history = d.history; limit = d.limit }))
