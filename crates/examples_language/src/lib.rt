@@ -6,6 +6,8 @@ mod contents;
 #[cfg(test)]
 mod line_rows;
 #[cfg(test)]
+mod methods;
+#[cfg(test)]
 mod programs;
 #[cfg(test)]
 mod table;

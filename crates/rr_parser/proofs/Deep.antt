@@ -1,5 +1,5 @@
 -- Reading is too deep only where the constructs that are begun pass the limit.
-use Rattle.std.proofs.Common.{◌≡◌, ℕ, zero, suc, pos, ◌⊎◌, inl, inr, Bool, true, false, cond, List, [], ◌∷◌, length, Option, Some, None, Result, Ok, Err, refl}
+use Rattle.std.proofs.Common.{◌≡◌, ℕ, zero, suc, pos, ◌⊎◌, inl, inr, Bool, true, false, cond, List, [], length, Option, Some, None, Result, Ok, Err, refl}
 use Rattle.rr_base.specs.declared.name.Sym.{Sym}
 use Rattle.rr_parser.specs.declared.word.Infix.{Infix}
 use Rattle.rr_tree.specs.Tree.{Tree, nil, int, bare, call, with_block, negate, sequence, choose, repeat, send, index, array, hash, pair, symbol, logical_not, listed}
@@ -8,34 +8,36 @@ use Rattle.rr_parser.specs.declared.word.Tail.TheVariants as tails
 use Rattle.rr_parser.specs.declared.word.Aim.{Aim}
 use Rattle.rr_parser.specs.declared.word.Head.{Head}
 use Rattle.rr_parser.specs.declared.word.Jump.{Jump}
+use Rattle.rr_parser.specs.declared.word.Passing.{Passing}
 use Rattle.rr_parser.specs.declared.word.Listed.{Listed}
 use Rattle.rr_parser.specs.declared.word.Listed.TheVariants as listings
 use Rattle.rr_parser.specs.declared.word.Part.{Part}
 use Rattle.rr_parser.specs.declared.word.Part.TheVariants as parts
 use Rattle.rr_parser.specs.declared.word.WordKind.{WordKind}
 use Rattle.rr_parser.specs.declared.word.WordKind.TheVariants as kind
-use Rattle.rr_parser.specs.declared.word.Word.{Word}
-use Rattle.rr_parser.specs.Places.{Place, Look, word, at, next, skip, separators, start}
+use Rattle.rr_parser.specs.Places.{Place, Look, word, at, next, skip, separators}
 use Rattle.rr_parser.specs.Grammar.Chains.{Chain, one, more, same, one_of, and_one}
 use Rattle.rr_parser.specs.Grammar.Nesting.{Nested}
-use Rattle.rr_parser.specs.Grammar.Names.{is_local, variable_of, local_tree, is_allowed, jump_tree, begins_arguments, headed, name, bracket, begins_operands, command}
+use Rattle.rr_parser.specs.Grammar.Names.{is_local, variable_of, local_tree, is_allowed, jump_tree, begins_arguments, passed, passed_bare, headed, name, bracket, begins_operands, command}
 use Rattle.rr_parser.specs.Grammar.Operands.{fits, fits_below, negated, joined, literal_of, construct_of, brace, tail, Primary, Tailed, Minus}
 use Rattle.rr_parser.specs.Grammar.Operators.{operator, infixed, connective, joined_by, Binary, Logical}
 use Rattle.rr_parser.specs.Grammar.Calls.{target, with_target, assigned_to, label, comma, closing, last, Argument, Member}
 use Rattle.rr_parser.specs.Grammar.Sequences.{Negation, Expression, modifier, modified, Statement}
 use Rattle.rr_parser.specs.Grammar.Control.{thens, loops, elsif, chosen, unless_chosen, looping, outside_loop, Branch, Branches}
-use Rattle.rr_parser.specs.Grammar.Blocks.{parameters, entered, leaving, block_tree}
+use Rattle.rr_parser.specs.Grammar.Blocks.{parameters, entered}
+use Rattle.rr_parser.specs.Grammar.Definitions.{formals, defined}
 use Rattle.rr_parser.specs.Grammar.{inside, outside}
 use Rattle.rr_parser.specs.Reading.Answers.{◌>>=◌, Refused, wrong, deep, Answer, Parse, built, ended_by, closed, from, on_seen, across, trail_on, turn, chain_from, chain_on, chain}
 use Rattle.rr_parser.specs.Reading.Nesting.{Readers}
-use Rattle.rr_parser.specs.Reading.Operands.{bare_call, block_behind, blocked_or, blocked_of, then_blocked, unbracketed_or, name_or, name_of, int_at, negative_in, negative_of, begun, primary_at, primary_in, primary_of, tailed_of, postfix_of, bang_or, bang_of, prefix_minus, minus_or, minus_of}
+use Rattle.rr_parser.specs.Reading.Operands.{bare_call, block_behind, blocked_or, blocked_of, then_blocked, unbracketed_or, name_or, name_of, passing_or, passing_of, int_at, negative_in, negative_of, begun, primary_at, primary_in, primary_of, tailed_of, postfix_of, bang_or, bang_of, prefix_minus, minus_or, minus_of}
 use Rattle.rr_parser.specs.Reading.Operators.{binary_on, binary_of, pair_or, equality_on, logical_on, logical_of, question_or, ternary_on, ternary_of}
 use Rattle.rr_parser.specs.Reading.Calls.{assigned_or, assigned_of, argument_of, pair_by, pair_of, member_of, another, members_of, bracketed_or, bracketed_of, array_of, hash_of, index_of, commanded_or, commanded_of, command_or, command_of, phrase_or, phrase_of, operand_of, value_of}
 use Rattle.rr_parser.specs.Reading.Sequences.{negation_or, negation_of, expression_of, statement_of, ends, row, rows_of, sequence_of, statements_of, group_of}
 use Rattle.rr_parser.specs.Reading.Control.{both, branch_of, branches_of, otherwise_or, otherwise_of, ended, choice_of, unless_of, loop_of, looped_of}
 use Rattle.rr_parser.specs.Reading.Blocks.{left_block, block_or, block_of}
-use Rattle.rr_parser.specs.Reading.{part_of, readers_inside, readers_outside, readers, whole_of, program_of}
-use Rattle.rr_parser.specs.Fronts.{Fronts, ChainFront, in_one, in_more, in_head, TailedFront, PostfixFront, PairFront, behind_label, in_entry, MemberFront, MembersFront, AcrossFront, in_former, in_latter, CallFront, BlockedFront, in_block, PrimaryFront, in_construct, in_call, in_block_call, BangFront, in_bang, behind_no_bang, MinusFront, in_minus, behind_no_minus, BinaryFront, EqualityFront, LogicalFront, TernaryFront, AssignedFront, in_value, in_operand, ArgumentFront, CommandedFront, in_arguments, in_argument_command, CommandFront, behind_name, PhraseFront, in_command, in_plain, OperandFront, ValueFront, NegationFront, in_negation, behind_no_negation, ExpressionFront, StatementFront, RowsFront, StatementsFront, BranchFront, BranchesFront, EndedFront, LoopFront, LoopedFront, BlockFront, in_body, PartFront, fronts_inside, fronts_outside}
+use Rattle.rr_parser.specs.Reading.Definitions.{left_method, method_or, definition_or, definition_of}
+use Rattle.rr_parser.specs.Reading.{part_of, readers_inside, readers_outside}
+use Rattle.rr_parser.specs.Fronts.{Fronts, ChainFront, in_one, in_more, in_head, TailedFront, PostfixFront, PairFront, behind_label, in_entry, MemberFront, MembersFront, AcrossFront, in_former, in_latter, CallFront, BlockedFront, in_block, PrimaryFront, in_construct, in_call, in_passing, in_block_call, BangFront, in_bang, behind_no_bang, MinusFront, in_minus, behind_no_minus, BinaryFront, EqualityFront, LogicalFront, TernaryFront, AssignedFront, in_value, in_operand, ArgumentFront, CommandedFront, in_arguments, in_argument_command, CommandFront, behind_name, PhraseFront, in_command, in_plain, OperandFront, ValueFront, NegationFront, in_negation, behind_no_negation, ExpressionFront, StatementFront, RowsFront, StatementsFront, BranchFront, BranchesFront, EndedFront, LoopFront, LoopedFront, BlockFront, in_body, DefinitionFront, in_method, PartFront, fronts_inside, fronts_outside}
 use Rattle.rr_parser.proofs.Told.{told_bang, told_not}
 use Rattle.rr_parser.proofs.Looks.{word-next, another-comma, next-name, row-separators, prefix-next}
 use Rattle.rr_parser.proofs.Trails.{trail_deep}
@@ -45,12 +47,12 @@ use Rattle.rr_parser.proofs.Sound.{NestedSound, primary_sound, tailed_sound, mem
 abbrev pub IsDeep : {A : Type 0} → Parse A → (Place → Place → Type 0) → Type 0
 IsDeep {A} p F = (s : Place) → p s ≡ Err deep → (z : Place) × F s z
 
-bind_deep : {A B : Type 0} (r : Result A Refused) (f : A → Result B Refused) → (r >>= f) ≡ Err deep → (r ≡ Err deep) ⊎ ((x : A) × (r ≡ Ok x) × (f x ≡ Err deep))
+pub bind_deep : {A B : Type 0} (r : Result A Refused) (f : A → Result B Refused) → (r >>= f) ≡ Err deep → (r ≡ Err deep) ⊎ ((x : A) × (r ≡ Ok x) × (f x ≡ Err deep))
 bind_deep (Ok x) f e = inr (x, refl, e)
 bind_deep (Err wrong) f e = absurd cc
 bind_deep (Err deep) f e = inl refl
 
-built_deep : {A B : Type 0} (f : A → B) (r : Answer A) → built f r ≡ Err deep → r ≡ Err deep
+pub built_deep : {A B : Type 0} (f : A → B) (r : Answer A) → built f r ≡ Err deep → r ≡ Err deep
 built_deep f (Ok x) e = absurd cc
 built_deep f (Err wrong) e = absurd cc
 built_deep f (Err deep) e = refl
@@ -151,6 +153,10 @@ jump_not_deep true true j m e = let never : ⊥ = cc in never
 jump_not_deep true false j m e = let never : ⊥ = cc in never
 jump_not_deep false b j m e = let never : ⊥ = cc in never
 
+passing_not_deep : (b : Bool) (p : Passing) (m : Place) → cond b (Err wrong) (done (passed_bare p) m) ≡ Err deep → ⊥
+passing_not_deep true p m e = let never : ⊥ = cc in never
+passing_not_deep false p m e = let never : ⊥ = cc in never
+
 pub record NestedDeep (N : Readers) (F : Fronts) : Type 0 where
   pub part : (p : Part) → IsDeep (N.part p) (F.part p)
   pub bracketed : IsDeep N.bracketed F.bracketed
@@ -204,6 +210,18 @@ module _ (N : Readers) (R : Nested) (F : Fronts) (sounds : NestedSound N R) (nes
   unfolding negative_of
   negative_deep s m e = absurd (negative_not_deep (at joined m) e)
 
+  passing_or-deep : (s m : Place) (p : Passing) (o : Option (Unit {0} × Place)) → next s ≡ Some (kind.Passing p, m) → at bracket m ≡ o → passing_or N p m o ≡ Err deep → (z : Place) × PrimaryFront R F s z
+  passing_or-deep s m p None f g e = absurd (passing_not_deep (begins_operands m.rest) p m e)
+  passing_or-deep s m p (Some n) f g e = let d = nests.bracketed n.1 (built_deep (λ l. passed p (listed l)) (N.bracketed n.1) e) in (d.0, in_passing {u = n.0} f g d.1)
+
+  passing_test : (s m : Place) (p : Passing) (b : Bool) → next s ≡ Some (kind.Passing p, m) → cond b (passing_or N p m (at bracket m)) (Err wrong) ≡ Err deep → (z : Place) × PrimaryFront R F s z
+  passing_test s m p true f e = passing_or-deep s m p (at bracket m) f refl e
+  passing_test s m p false f e = absurd cc
+
+  passing_deep : (s m : Place) (p : Passing) → next s ≡ Some (kind.Passing p, m) → passing_of N p m ≡ Err deep → (z : Place) × PrimaryFront R F s z
+  unfolding passing_of
+  passing_deep s m p f e = passing_test s m p m.known.in_method f e
+
   begun_deep : (s : Place) (k : WordKind) (m : Place) (l : Option Tree) (c : Option Part) → next s ≡ Some (k, m) → construct_of k ≡ c → begun N l c m ≡ Err deep → (z : Place) × PrimaryFront R F s z
   begun_deep s k m (Some u) c f h e = absurd cc
   begun_deep s k m None (Some p) f h e = let d = nests.part p m e in (d.0, in_construct f h d.1)
@@ -214,6 +232,7 @@ module _ (N : Readers) (R : Nested) (F : Fronts) (sounds : NestedSound N R) (nes
   primary_at-deep s (kind.Name x b) m f e = name_deep s m x (next-name s m x b f) e
   primary_at-deep s kind.Minus m f e = negative_deep s m e
   primary_at-deep s (kind.Jump j) m f e = absurd (jump_not_deep (is_allowed j m.known) (begins_arguments m.rest) j m e)
+  primary_at-deep s (kind.Passing p) m f e = passing_deep s m p f e
   primary_at-deep s k m f e = begun_deep s k m (literal_of k) (construct_of k) f refl e
 
   primary_in-deep : (s : Place) (r : Option (WordKind × Place)) → next s ≡ r → primary_in N r ≡ Err deep → (z : Place) × PrimaryFront R F s z
@@ -438,7 +457,7 @@ module _ (N : Readers) (R : Nested) (F : Fronts) (sounds : NestedSound N R) (nes
   unfolding expression_of
   expression_deep = chain_deep (connective 3) (connective 3) same joined_by (negation_of N) (Negation R) (NegationFront R F) (λ m n x e. e) (negation_sound N R sounds) negation_deep
 
-  statement_deep : IsDeep (statement_of N) (StatementFront R F)
+  pub statement_deep : IsDeep (statement_of N) (StatementFront R F)
   unfolding statement_of
   statement_deep = chain_deep modifier modifier same modified (expression_of N) (Expression R) (ExpressionFront R F) (λ m n x e. e) (expression_sound N R sounds) expression_deep
 
@@ -525,6 +544,26 @@ module _ (N : Readers) (R : Nested) (F : Fronts) (sounds : NestedSound N R) (nes
   unfolding block_of
   block_deep s e = block_or-deep s (at parameters s) refl e
 
+  left_method-deep : (s : Place) (x : Sym) (xs : List Sym) (n : Place) (r : Answer Tree) → left_method s x xs n r ≡ Err deep → r ≡ Err deep
+  left_method-deep s x xs n (Ok q) e = absurd cc
+  left_method-deep s x xs n (Err wrong) e = absurd cc
+  left_method-deep s x xs n (Err deep) e = refl
+
+  method_or-deep : (s m : Place) (x : Sym) (o : Option (List Sym × Place)) → at name s ≡ Some (x, m) → at formals m ≡ o → method_or N s x o ≡ Err deep → (z : Place) × DefinitionFront R F s z
+  method_or-deep s m x None f g e = absurd cc
+  method_or-deep s m x (Some n) f g e =
+      let body = closed kind.End (statements_of N (defined n.0 n.1)) in
+      let d = statements_deep (defined n.0 n.1) (closed_deep kind.End (statements_of N (defined n.0 n.1)) (left_method-deep s x n.0 n.1 body e)) in
+      (d.0, in_method f g d.1)
+
+  definition_or-deep : (s : Place) (o : Option (Sym × Place)) → at name s ≡ o → definition_or N s o ≡ Err deep → (z : Place) × DefinitionFront R F s z
+  definition_or-deep s None f e = absurd cc
+  definition_or-deep s (Some m) f e = method_or-deep s m.1 m.0 (at formals m.1) f refl e
+
+  definition_deep : IsDeep (definition_of N) (DefinitionFront R F)
+  unfolding definition_of
+  definition_deep s e = definition_or-deep s (at name s) refl e
+
   pub part_deep : (p : Part) → IsDeep (part_of N p) (PartFront R F p)
   part_deep parts.Group = group_deep
   part_deep parts.Array = array_deep
@@ -539,6 +578,7 @@ module _ (N : Readers) (R : Nested) (F : Fronts) (sounds : NestedSound N R) (nes
   part_deep parts.Command = command_deep
   part_deep parts.Branch = argument_deep
   part_deep parts.Block = block_deep
+  part_deep parts.Definition = definition_deep
 
 pub deep_inside : (d : ℕ) → NestedDeep (readers_inside d) (fronts_inside d)
 unfolding readers_inside fronts_inside
@@ -557,16 +597,3 @@ deep_outside (suc d) = record {
   bracketed = bracketed_deep (readers_outside d) (outside d) (fronts_outside d) (sound_outside d) (deep_outside d) listings.Call;
   value = value_deep (readers_inside (suc d)) (inside (suc d)) (fronts_inside (suc d)) (sound_inside (suc d)) (deep_inside (suc d));
 }
-
-whole_not_deep : (t : Tree) (ws : List Word) → whole_of t ws ≡ Err deep → ⊥
-whole_not_deep t [] e = let never : ⊥ = cc in never
-whole_not_deep t (w ∷ ws) e = let never : ⊥ = cc in never
-
--- where the words are too deep, more constructs than the number are begun at some place
-pub program_nests : (d : ℕ) (ws : List Word) → program_of d ws ≡ Err deep → (z : Place) × StatementsFront (outside d) (fronts_outside d) (start ws) z
-unfolding program_of
-program_nests d ws e =
-    elim (bind_deep (statements_of (readers false d) (start ws)) (λ r. whole_of r.0 r.1.rest) e) [
-      | inl g ↦ statements_deep (readers_outside d) (outside d) (fronts_outside d) (sound_outside d) (deep_outside d) (start ws) g
-      | inr b ↦ absurd (whole_not_deep b.0.0 b.0.1.rest b.2)
-    ]

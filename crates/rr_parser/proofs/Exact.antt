@@ -1,28 +1,27 @@
 -- From what is read to what is spelled.
-use Rattle.std.proofs.Common.{◌≡◌, ℕ, List, [], false, Option, Result, Err, sym, subst, ◌∙◌, arith}
+use Rattle.std.proofs.Common.{◌≡◌, ℕ, List, [], false, Result, Err, sym, subst, ◌∙◌, arith}
 use Rattle.rr_base.specs.declared.fault.Fault.{Fault}
 use Rattle.rr_base.specs.declared.fault.Fault.TheVariants as fault
 use Rattle.rr_base.specs.declared.fault.SyntaxKind.{SyntaxKind}
 use Rattle.rr_base.specs.declared.limits.LimitKind.TheVariants as limit
-use Rattle.rr_tree.specs.Tree.{Tree}
+use Rattle.rr_parser.specs.Grammar.Programs.{Main}
 use Rattle.rr_parser.specs.declared.word.Word.{Word}
 use Rattle.rr_parser.specs.declared.refusal.Refusal.{Refusal}
 use Rattle.rr_parser.specs.declared.refusal.Refusal.TheVariants as refusal
 use Rattle.rr_parser.specs.declared.refusal.Storage.TheVariants as storage
 use Rattle.rr_parser.specs.Places.{Place, start}
 use Rattle.rr_parser.specs.Grammar.{WordsSpell, outside}
-use Rattle.rr_parser.specs.Fronts.{StatementsFront, fronts_outside}
-use Rattle.rr_parser.specs.Reading.Sequences.{statements_of}
+use Rattle.rr_parser.specs.Fronts.{ProgramFront, fronts_outside}
+use Rattle.rr_parser.specs.Reading.Programs.{outline_of}
 use Rattle.rr_parser.specs.Reading.{program_of, readers, whole_of}
 use Rattle.rr_parser.specs.Meets.{Fails}
 use Rattle.rr_parser.specs.declared.locals.Local.{Local}
 use Rattle.rr_parser.specs.Faults.{IsParseFault, IsFaultOf}
-use Rattle.rr_parser.proofs.Deep.{program_nests}
-use Rattle.rr_parser.proofs.Full.{program_wrong, program_deep}
+use Rattle.rr_parser.proofs.Programs.{program_nests, program_wrong, program_deep}
 use Rattle.rr_parser.proofs.Making.{fails_bind}
 
 -- what refuses by a place spells nothing
-pub refused_spells : (d : ℕ) (ws : List Word) (e : Refusal) (f : Fault) (line column : ℕ) (kind : SyntaxKind) → Fails e (program_of d ws) → IsFaultOf e f → f ≡ fault.Syntax line column kind → (k : ℕ) (t : Tree) → WordsSpell k ws t → ⊥
+pub refused_spells : (d : ℕ) (ws : List Word) (e : Refusal) (f : Fault) (line column : ℕ) (kind : SyntaxKind) → Fails e (program_of d ws) → IsFaultOf e f → f ≡ fault.Syntax line column kind → (k : ℕ) (t : Main) → WordsSpell k ws t → ⊥
 refused_spells d ws (refusal.Storage storage.Memory) f line column kind h g is = let e = sym g ∙ is in absurd cc
 refused_spells d ws (refusal.Storage storage.Slots) f line column kind h g is = let e = sym g ∙ is in absurd cc
 refused_spells d ws refusal.Nesting f line column kind h g is = let e = sym g ∙ is in absurd cc
@@ -30,7 +29,7 @@ refused_spells d ws (refusal.Unexpected n) f line column kind h g is = program_w
 refused_spells d ws (refusal.Number n) f line column kind h g is = program_wrong d ws h
 
 -- what refuses by its nesting spells nothing within the limit
-pub deep_spells : (d : ℕ) (ws : List Word) (e : Refusal) (f : Fault) → Fails e (program_of d ws) → IsFaultOf e f → f ≡ fault.Limit limit.Nesting → (t : Tree) → WordsSpell d ws t → ⊥
+pub deep_spells : (d : ℕ) (ws : List Word) (e : Refusal) (f : Fault) → Fails e (program_of d ws) → IsFaultOf e f → f ≡ fault.Limit limit.Nesting → (t : Main) → WordsSpell d ws t → ⊥
 deep_spells d ws (refusal.Storage storage.Memory) f h g is = let e = sym g ∙ is in absurd cc
 deep_spells d ws (refusal.Storage storage.Slots) f h g is = let e = sym g ∙ is in absurd cc
 deep_spells d ws refusal.Nesting f h g is = λ t s. let lt = program_deep d d ws h t s in let never : ⊥ = omega arith in never
@@ -38,7 +37,7 @@ deep_spells d ws (refusal.Unexpected n) f h g is = let e = sym g.3 ∙ is in abs
 deep_spells d ws (refusal.Number n) f h g is = let e = sym g.3 ∙ is in absurd cc
 
 -- and more constructs than the limit are begun at some place
-pub deep_nests : (d : ℕ) (ws : List Word) (e : Refusal) (f : Fault) → Fails e (program_of d ws) → IsFaultOf e f → f ≡ fault.Limit limit.Nesting → (z : Place) × StatementsFront (outside d) (fronts_outside d) (start ws) z
+pub deep_nests : (d : ℕ) (ws : List Word) (e : Refusal) (f : Fault) → Fails e (program_of d ws) → IsFaultOf e f → f ≡ fault.Limit limit.Nesting → (z : Place) × ProgramFront (outside d) (fronts_outside d) (start ws) z
 deep_nests d ws (refusal.Storage storage.Memory) f h g is = let e = sym g ∙ is in absurd cc
 deep_nests d ws (refusal.Storage storage.Slots) f h g is = let e = sym g ∙ is in absurd cc
 deep_nests d ws refusal.Nesting f h g is = program_nests d ws h
@@ -56,11 +55,11 @@ parse_fault (refusal.Unexpected n) f g = no_fault f (fault.Syntax g.0 g.1 g.2) g
 parse_fault (refusal.Number n) f g = no_fault f (fault.Syntax g.0 g.1 g.2) g.3 tt
 
 -- what the statements of a program fail by
-pub fails_program : (d : ℕ) (ws : List Word) (locals : List Local) (e : Refusal) → locals ≡ [] → Fails e (statements_of (readers false d) (record { known = record { locals = locals; level = 0; count = 0; begun = 0; in_loop = false }; rest = ws })) → Fails e (program_of d ws)
+pub fails_program : (d : ℕ) (ws : List Word) (locals : List Local) (e : Refusal) → locals ≡ [] → Fails e (outline_of (readers false d) (record { known = record { locals = locals; level = 0; count = 0; begun = 0; in_loop = false; in_method = false }; rest = ws })) → Fails e (program_of d ws)
 unfolding program_of
 fails_program d ws locals e is h =
-    fails_bind e (statements_of (readers false d) (start ws)) (λ r. whole_of r.0 r.1.rest)
-    (subst (λ (k : List Local). Fails e (statements_of (readers false d) (record { known = record { locals = k; level = 0; count = 0; begun = 0; in_loop = false }; rest = ws }))) is h)
+    fails_bind e (outline_of (readers false d) (start ws)) (λ r. whole_of r.0 r.1.rest)
+    (subst (λ (k : List Local). Fails e (outline_of (readers false d) (record { known = record { locals = k; level = 0; count = 0; begun = 0; in_loop = false; in_method = false }; rest = ws }))) is h)
 
 pub same_fault : {A : Type 0} (f g : Fault) → ◌≡◌ {A = Result A Fault} (Err f) (Err g) → f ≡ g
 same_fault f g e = cc

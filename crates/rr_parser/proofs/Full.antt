@@ -5,33 +5,35 @@ use Rattle.rr_tree.specs.Tree.{Tree, nil, truth, int, text, bare, call, with_blo
 use Rattle.rr_parser.specs.declared.word.Tail.{Tail}
 use Rattle.rr_parser.specs.declared.word.Head.{Head}
 use Rattle.rr_parser.specs.declared.word.Jump.{Jump}
+use Rattle.rr_parser.specs.declared.word.Passing.{Passing}
 use Rattle.rr_parser.specs.declared.word.Listed.{Listed}
 use Rattle.rr_parser.specs.declared.word.Listed.TheVariants as listings
 use Rattle.rr_parser.specs.declared.word.Part.{Part}
 use Rattle.rr_parser.specs.declared.word.Part.TheVariants as parts
 use Rattle.rr_parser.specs.declared.word.WordKind.{WordKind}
 use Rattle.rr_parser.specs.declared.word.WordKind.TheVariants as kind
-use Rattle.rr_parser.specs.declared.word.Word.{Word}
-use Rattle.rr_parser.specs.Places.{is_kind, where_true, seen_before, placed, Place, word, at, next, skip, separators, start}
+use Rattle.rr_parser.specs.Places.{is_kind, where_true, seen_before, placed, Place, word, at, next, skip, separators}
 use Rattle.rr_parser.specs.Grammar.Chains.{same, one_of, and_one}
 use Rattle.rr_parser.specs.Grammar.Nesting.{Nested}
-use Rattle.rr_parser.specs.Grammar.Names.{is_local, variable_of, local_tree, is_allowed, jump_tree, begins_arguments, headed, name, bracket, begins_operands, command}
-use Rattle.rr_parser.specs.Grammar.Operands.{fits, fits_below, negated, joined, literal_of, construct_of, brace, Blocked, no_block, a_block, Primary, a_literal, a_negative, a_local, a_bare_call, a_call, a_block_call, a_jump, a_construct, tail, Tailed, a_send, a_sent_call, an_index, Postfix, Bang, a_bang, no_bang, Minus, a_minus, no_minus}
+use Rattle.rr_parser.specs.Grammar.Names.{is_local, variable_of, local_tree, is_allowed, jump_tree, begins_arguments, passed, passed_bare, headed, name, bracket, begins_operands, command}
+use Rattle.rr_parser.specs.Grammar.Operands.{fits, fits_below, negated, joined, literal_of, construct_of, brace, Blocked, no_block, a_block, Primary, a_literal, a_negative, a_local, a_bare_call, a_call, a_block_call, a_jump, a_passing, a_passing_call, a_construct, tail, Tailed, a_send, a_sent_call, an_index, Postfix, Bang, a_bang, no_bang, Minus, a_minus, no_minus}
 use Rattle.rr_parser.specs.Grammar.Operators.{operator, infixed, connective, joined_by, Logical, Binary, Equality, a_comparison, a_pair, Ternary, no_question, a_question}
 use Rattle.rr_parser.specs.Grammar.Calls.{target, with_target, assigned_to, label, comma, closing, last, Assigned, an_assignment, no_assignment, Argument, Pair, by_label, by_arrow, Member, Members, Bracketed, no_members, some_members, Array, an_array, Hash, a_hash, Index, of_element, Commanded, by_arguments, by_command, Command, a_command, Phrase, by_name, an_operand, Value}
 use Rattle.rr_parser.specs.Grammar.Sequences.{Negation, a_negation, no_negation, Expression, modifier, modified, Statement, Rows, Statements, no_statements, some_statements, Group, a_group}
 use Rattle.rr_parser.specs.Grammar.Control.{thens, loops, elsif, chosen, unless_chosen, Branch, a_branch, Branches, Otherwise, no_else, an_else, Choice, a_choice, Unless, an_unless, Loop, a_loop, looping, outside_loop, Looped, of_loop}
 use Rattle.rr_parser.specs.Grammar.Blocks.{parameters, entered, leaving, block_tree, Block, of_statements}
-use Rattle.rr_parser.specs.Grammar.{PartOf, inside, outside, WordsSpell}
-use Rattle.rr_parser.specs.Reading.Answers.{◌>>=◌, wrong, deep, Answer, Parse, built, ended_by, closed, across}
+use Rattle.rr_parser.specs.Grammar.Definitions.{defined, rejoining, method_tree, Definition, of_method}
+use Rattle.rr_parser.specs.Grammar.{PartOf, inside, outside}
+use Rattle.rr_parser.specs.Reading.Answers.{◌>>=◌, wrong, Answer, Parse, built, ended_by, closed, across}
 use Rattle.rr_parser.specs.Reading.Nesting.{Readers}
-use Rattle.rr_parser.specs.Reading.Operands.{call_of, bare_call, variable_or_call, block_behind, blocked_or, blocked_of, then_blocked, unbracketed_or, name_or, name_of, jump_at, int_at, negative_in, negative_of, primary_at, primary_in, primary_of, tailed_of, postfix_of, bang_or, bang_of, prefix_minus, minus_or, minus_of}
+use Rattle.rr_parser.specs.Reading.Operands.{call_of, bare_call, variable_or_call, block_behind, blocked_or, blocked_of, then_blocked, unbracketed_or, name_or, name_of, jump_at, passing_or, passing_of, int_at, negative_in, negative_of, primary_at, primary_in, primary_of, tailed_of, postfix_of, bang_or, bang_of, prefix_minus, minus_or, minus_of}
 use Rattle.rr_parser.specs.Reading.Operators.{binary_on, binary_of, pair_or, equality_on, logical_on, logical_of, question_or, ternary_on, ternary_of}
 use Rattle.rr_parser.specs.Reading.Calls.{assigned_or, assigned_of, argument_of, pair_by, pair_of, member_of, another, members_of, bracketed_or, bracketed_of, array_of, hash_of, index_of, commanded_or, commanded_of, headed_of, command_or, command_of, phrase_or, phrase_of, value_of}
 use Rattle.rr_parser.specs.Reading.Sequences.{negation_or, negation_of, expression_of, statement_of, ends, row, rows_of, sequence_of, statements_at, statements_of, group_of}
 use Rattle.rr_parser.specs.Reading.Control.{both, branch_of, branches_of, otherwise_or, otherwise_of, ended, choice_of, unless_of, loop_of, looped_of}
 use Rattle.rr_parser.specs.Reading.Blocks.{left_block, block_or, block_of}
-use Rattle.rr_parser.specs.Reading.{part_of, readers_inside, readers_outside, whole_of, program_of}
+use Rattle.rr_parser.specs.Reading.Definitions.{left_method, method_or, definition_or, definition_of}
+use Rattle.rr_parser.specs.Reading.{part_of, readers_inside, readers_outside}
 use Rattle.rr_parser.proofs.Told.{told_question, told_comma}
 use Rattle.rr_parser.proofs.Looks.{seen, none_unless, another-comma, comma-another, last-another, Steps-another, Steps-tail, by_next, name-next, other-word, next-prefix, separators-row, Steps-row}
 use Rattle.rr_parser.proofs.Shrinking.{ReadersShrink, shrinks_nested, Steps-operator, Steps-connective, Steps-modifier, Steps-elsif}
@@ -67,7 +69,7 @@ pub record NestedFull (N : Readers) (R : Nested) (D : Type 0) : Type 0 where
   pub value : (b : Bool) → IsFull (N.value b) (R.value b) (Stops (value_stop b)) D
 
 -- a word of this kind is seen
-word_here : (k : WordKind) (s z : Place) → next s ≡ Some (k, z) → is_kind k k ≡ true → at (word k) s ≡ Some (tt, z)
+pub word_here : (k : WordKind) (s z : Place) → next s ≡ Some (k, z) → is_kind k k ≡ true → at (word k) s ≡ Some (tt, z)
 word_here k s z e f = by_next (λ q. at (word k) q ≡ Some (tt, z)) s z k e (λ b. ap (λ t. placed z.known (seen_before (where_true t) z.rest)) f)
 
 closed_full : {A : Type 0} {D : Type 0} (k : WordKind) (r : Answer A) (t : A) (n z : Place) → is_kind k k ≡ true → Leads r (Ok (t, n)) D → next n ≡ Some (k, z) → Leads (closed k r) (Ok (t, z)) D
@@ -176,6 +178,20 @@ module _ (N : Readers) (R : Nested) (D : Type 0) (shrinks : ReadersShrink N) (ne
       ap (λ b. cond b (cond (begins_arguments z.rest) (Err wrong) (done (jump_tree j nil) z)) (Err wrong)) f
       ∙ ap (λ b. cond b (Err wrong) (done (jump_tree j nil) z)) g
 
+  passing_full : (p : Passing) (z : Place) → z.known.in_method ≡ true → at bracket z ≡ None → begins_operands z.rest ≡ false → passing_of N p z ≡ done (passed_bare p) z
+  unfolding passing_of
+  passing_full p z f g h =
+      ap (λ b. cond b (passing_or N p z (at bracket z)) (Err wrong)) f
+      ∙ ap (passing_or N p z) g
+      ∙ ap (λ b. cond b (Err wrong) (done (passed_bare p) z)) h
+
+  passing_call-full : (p : Passing) (m n z : Place) (u : Unit {0}) (l : List Tree) → m.known.in_method ≡ true → at bracket m ≡ Some (u, n) → R.bracketed n l z → Leads (passing_of N p m) (Ok (passed p (listed l), z)) D
+  unfolding passing_of
+  passing_call-full p m n z u l f g h =
+      leads_eq (passing_of N p m) (built (λ l. passed p (listed l)) (N.bracketed n)) (Ok (passed p (listed l), z))
+      (ap (λ b. cond b (passing_or N p m (at bracket m)) (Err wrong)) f ∙ ap (passing_or N p m) g)
+      (leads_bind (N.bracketed n) (l, z) (λ q. Ok (passed p (listed q.0), q.1)) (nests.bracketed n z l h tt))
+
   primary_full : IsFull (primary_of N) (Primary R) Anywhere D
   primary_full s z t (a_literal {k = k} e f) u = inl (by_kind_full s z k e ∙ literal_full k z t f)
   primary_full s z t (a_negative {m = m} {n = n} e f g) u = inl (by_kind_full s m kind.Minus e ∙ negative_full m z n f g)
@@ -186,6 +202,9 @@ module _ (N : Readers) (R : Nested) (D : Type 0) (shrinks : ReadersShrink N) (ne
   primary_full s z t (a_block_call {m = m} {n = n} {x = x} {u = v} {b = b} e f g h) u =
       leads_eq (primary_of N s) (name_of N x m) (Ok (t, z)) (by_name_full s m x e) (alone_full x m n z v b f g h)
   primary_full s z t (a_jump {j = j} e f g) u = inl (by_kind_full s z (kind.Jump j) e ∙ jump_full j z f g)
+  primary_full s z t (a_passing {p = p} e f g h) u = inl (by_kind_full s z (kind.Passing p) e ∙ passing_full p z f g h)
+  primary_full s z t (a_passing_call {m = m} {n = n} {p = p} {u = v} {l = l} e f g h) u =
+      leads_eq (primary_of N s) (passing_of N p m) (Ok (t, z)) (by_kind_full s m (kind.Passing p) e) (passing_call-full p m n z v l f g h)
   primary_full s z t (a_construct {m = m} {k = k} {p = p} e f h) u =
       leads_eq (primary_of N s) (N.part p m) (Ok (t, z)) (by_kind_full s m k e ∙ construct_full k m p f) (nests.part p m z t h (construct_anywhere k p z f))
 
@@ -459,6 +478,14 @@ module _ (N : Readers) (R : Nested) (D : Type 0) (shrinks : ReadersShrink N) (ne
       (leads_bind body (b, y) (λ q. Ok (block_tree xs m q.1 q.0, leaving s q.1))
       (closed_full kind.CloseBrace (statements_of N (entered xs m)) b n y refl (statements_full (entered xs m) n b h (next_ends n y kind.CloseBrace true f refl)) f))
 
+  definition_full : IsFull (definition_of N) (Definition R) Anywhere D
+  unfolding definition_of
+  definition_full s z t (of_method {m = m} {n = n} {o = o} {z = y} {x = x} {xs = xs} {t = b} e f h g) u =
+      let body = closed kind.End (statements_of N (defined xs n)) in
+      leads_eq (definition_or N s (at name s)) (left_method s x xs n body) (Ok (method_tree x xs n y b, rejoining s y)) (ap (definition_or N s) e ∙ ap (method_or N s x) f)
+      (leads_bind body (b, y) (λ q. Ok (method_tree x xs n q.1 q.0, rejoining s q.1))
+      (closed_full kind.End (statements_of N (defined xs n)) b o y refl (statements_full (defined xs n) o b h (next_ends o y kind.End true g refl)) g))
+
   pub part_full : (p : Part) → IsFull (part_of N p) (PartOf R p) (PartStops p) D
   part_full parts.Group = group_full
   part_full parts.Array = array_full
@@ -473,6 +500,7 @@ module _ (N : Readers) (R : Nested) (D : Type 0) (shrinks : ReadersShrink N) (ne
   part_full parts.Command = command_full
   part_full parts.Branch = argument_full
   part_full parts.Block = block_full
+  part_full parts.Definition = definition_full
 
 -- ---- all depths
 
@@ -511,28 +539,3 @@ full_outside (suc k) (suc d) =
       bracketed = full_map (bracketed_of (readers_outside k) listings.Call) (Bracketed (outside d) listings.Call) Anywhere deeper (bracketed_full (readers_outside k) (outside d) (k < d) j i listings.Call);
       value = inner_full (suc k) (suc d);
     }
-
--- what is spelled is read, unless it nests deeper than is read
-pub program_full : (k d : ℕ) (ws : List Word) (t : Tree) → WordsSpell d ws t → Leads (program_of k ws) (Ok t) (k < d)
-unfolding program_of
-program_full k d ws t h =
-    leads_trans (statements_of (readers_outside k) (start ws) >>= λ r. whole_of r.0 r.1.rest) (whole_of t h.0.rest) (Ok t)
-    (leads_bind (statements_of (readers_outside k) (start ws)) (t, h.0) (λ r. whole_of r.0 r.1.rest)
-    (statements_full (readers_outside k) (outside d) (k < d) (shrinks_nested false k) (full_outside k d) (start ws) h.0 t h.1 (ap ends h.2)))
-    (inl (ap (whole_of t) h.2))
-
--- where reading says that it is wrong, no tree is spelled
-pub program_wrong : (k : ℕ) (ws : List Word) → program_of k ws ≡ Err wrong → (d : ℕ) (t : Tree) → WordsSpell d ws t → ⊥
-program_wrong k ws e d t h = at_answer (program_full k d ws t h)
-  where
-    at_answer : Leads (program_of k ws) (Ok t) (k < d) → ⊥
-    at_answer (inl f) = let g = sym e ∙ f in let never : ⊥ = cc in never
-    at_answer (inr f) = let g = sym e ∙ f.0 in let never : ⊥ = cc in never
-
--- where it says that it is too deep, what is spelled is
-pub program_deep : (k d : ℕ) (ws : List Word) → program_of k ws ≡ Err deep → (t : Tree) → WordsSpell d ws t → k < d
-program_deep k d ws e t h = at_answer (program_full k d ws t h)
-  where
-    at_answer : Leads (program_of k ws) (Ok t) (k < d) → k < d
-    at_answer (inl f) = let g = sym e ∙ f in absurd cc
-    at_answer (inr f) = f.1

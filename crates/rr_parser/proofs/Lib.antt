@@ -13,4 +13,8 @@ pub mod Exact
 pub mod Lists
 pub mod Numbers
 pub mod Scopes
+pub mod Formals
+pub mod Programs
+pub mod Defining
+pub mod Outlines
 mod Indexing

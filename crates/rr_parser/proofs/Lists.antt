@@ -9,6 +9,8 @@ use Rattle.rr_tree.specs.Nodes.{Extends, item, trees_in}
 use Rattle.rr_tree.proofs.Growth.{trees_in-items, tree_at-kept, Extends-trans, length-kept}
 use Rattle.rr_parser.specs.declared.refusal.Storage.{Storage}
 use Rattle.rr_parser.specs.declared.parser.Parser.{Parser}
+use Rattle.rr_parser.specs.declared.word.Passing.{Passing}
+use Rattle.rr_parser.specs.Grammar.Names.{passed}
 use Rattle.rr_parser.specs.Grammar.Control.{chosen}
 use Rattle.rr_parser.specs.Meets.{pairs, Puts}
 use Rattle.rr_parser.proofs.Making.{chosen-append}
@@ -88,3 +90,10 @@ pub send_ok : (old mid new : Parser) (xs : List ℕ) (first count r : ℕ) (x : 
 send_ok old mid new xs first count r x o lt all e k a b p =
     list_ok old mid new xs first count (send (tree_at old.nodes.items r) x) o all e k a b
     (subst (λ (u : Tree). IfOk o (λ id. Puts mid new (send u x (listed (trees_in mid.nodes.items first count))) id)) (tree_at-kept old.nodes.items mid.nodes.items r (map item xs, e) lt) p)
+
+-- the node of what passes arguments on, which stand side by side before it
+pub passed_ok : (old mid new : Parser) (xs : List ℕ) (first count : ℕ) (p q : Passing) (r : Result ℕ Storage) → q ≡ p → All (λ i. i < length old.nodes.items) xs → mid.nodes.items ≡ old.nodes.items ++ map item xs → mid.known ≡ old.known
+    → first ≡ length old.nodes.items → count ≡ length xs → IfOk r (λ id. Puts mid new (passed p (listed (trees_in mid.nodes.items first count))) id) → IfOk r (λ id. Puts old new (passed q (listed (map (tree_at old.nodes.items) xs))) id)
+passed_ok old mid new xs first count p q r is all e k a b h =
+    list_ok old mid new xs first count (passed q) r all e k a b
+    (subst (λ (y : Passing). IfOk r (λ id. Puts mid new (passed y (listed (trees_in mid.nodes.items first count))) id)) (sym is) h)

@@ -142,7 +142,7 @@ next-name s z x b e = by_next (λ q. at name q ≡ Some (x, z)) s z (kind.Name x
 -- ---- several words
 
 -- behind words that were seen, more is seen
-placed_some : {X : Type 0} (known : Known) (o : Option (X × List Word)) (x : X) (z : Place) → placed known o ≡ Some (x, z) → (o ≡ Some (x, z.rest)) × (known ≡ z.known)
+pub placed_some : {X : Type 0} (known : Known) (o : Option (X × List Word)) (x : X) (z : Place) → placed known o ≡ Some (x, z) → (o ≡ Some (x, z.rest)) × (known ≡ z.known)
 placed_some known None x z e = absurd cc
 placed_some {X} known (Some p) x z e =
     let w = some_what p.0 x (record { known = known; rest = p.1 }) z e in
@@ -456,7 +456,7 @@ Steps-closing k s m u e = let h = closing-next k s m u e in omega (arith, next-l
 
 -- ---- parameters
 
-same_rest : (xs ys : List Sym) (r q : List Word) → ◌≡◌ {A = Option (List Sym × List Word)} (Some (xs, r)) (Some (ys, q)) → r ≡ q
+pub same_rest : (xs ys : List Sym) (r q : List Word) → ◌≡◌ {A = Option (List Sym × List Word)} (Some (xs, r)) (Some (ys, q)) → r ≡ q
 same_rest xs ys r q e = let h : ◌≡◌ {A = List Sym × List Word} (xs, r) (ys, q) = cc in ap (λ (p : List Sym × List Word). p.1) h
 
 before-less : (o : Option Sym) (p : Option (List Sym × List Word)) (n : ℕ) → ((xs : List Sym) (r : List Word) → p ≡ Some (xs, r) → length r ≤ n) → (xs : List Sym) (r : List Word) → before_names o p ≡ Some (xs, r) → length r ≤ n
@@ -485,7 +485,7 @@ more_names-less k [] xs r e = absurd cc
 more_names-less k (v ∷ []) xs r e = omega (arith, one-less k v (is_kind v.kind kind.Comma) (is_kind v.kind k) xs r e)
 more_names-less k (v ∷ w ∷ ws) xs r e = omega (arith, two-less k v w (is_kind v.kind kind.Comma) (is_kind v.kind k) ws (λ ys q f. more_names-less k ws ys q f) xs r e)
 
-names_to-less : (k : WordKind) (ws : List Word) (xs : List Sym) (r : List Word) → names_to k ws ≡ Some (xs, r) → length r ≤ length ws
+pub names_to-less : (k : WordKind) (ws : List Word) (xs : List Sym) (r : List Word) → names_to k ws ≡ Some (xs, r) → length r ≤ length ws
 names_to-less k [] xs r e = absurd cc
 names_to-less k (w ∷ ws) xs r e = omega (arith, before-less (variable_of_kind w.kind) (more_names k ws) (length ws) (λ ys q f. more_names-less k ws ys q f) xs r e)
 

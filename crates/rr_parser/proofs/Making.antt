@@ -1,5 +1,5 @@
 -- What the code made, step after step.
-use Rattle.std.proofs.Common.{◌≡◌, ℕ, zero, suc, ◌-◌, ◌<◌, ◌≤◌, ◌==◌, Bool, true, false, cond, List, [], ◌∷◌, ◌++◌, length, get_or, take, map, Option, Some, None, Result, Ok, Err, refl, sym, ap, ◌∙◌, subst, arith, length-append}
+use Rattle.std.proofs.Common.{◌≡◌, ℕ, zero, suc, ◌-◌, ◌<◌, ◌≤◌, Bool, true, false, cond, List, [], ◌∷◌, ◌++◌, length, get_or, take, map, Option, Some, None, Result, Ok, Err, refl, sym, ap, ◌∙◌, subst, arith, length-append}
 use Rattle.std.specs.Prelude.{All, IfOk}
 use Rattle.std.proofs.lemmas.List.{map-append}
 use Rattle.std.proofs.lemmas.List.Elements.{All-append}
@@ -40,7 +40,7 @@ use Rattle.rr_parser.specs.Grammar.Chains.{same, one_of}
 use Rattle.rr_parser.specs.Grammar.Names.{with_local, with_loop, jump_tree, jump_value, headed, bracket, command}
 use Rattle.rr_parser.specs.Grammar.Operators.{operator, infixed}
 use Rattle.rr_parser.specs.Grammar.Calls.{target, with_target, target_tree, operated, signed, assigned_to, label, closing, last}
-use Rattle.rr_parser.specs.Grammar.Control.{thens, loops, chosen, unless_chosen, looping, outside_loop}
+use Rattle.rr_parser.specs.Grammar.Control.{thens, loops, chosen, unless_chosen, outside_loop}
 use Rattle.rr_parser.specs.Reading.Answers.{◌>>=◌, Refused, wrong, deep, Answer, Parse, built, ended_by, closed, from, on_seen, across, trail_on, chain, chain_on}
 use Rattle.rr_parser.specs.Reading.Nesting.{Readers}
 use Rattle.rr_parser.specs.Reading.Operators.{binary_on, binary_of, pair_or, equality_on, logical_on, question_or, ternary_on}
@@ -48,12 +48,12 @@ use Rattle.rr_parser.specs.Reading.Calls.{assigned_or, assigned_of, argument_of,
 use Rattle.rr_parser.specs.Reading.Sequences.{expression_of, ends, rows_of, sequence_of, statements_of}
 use Rattle.rr_parser.specs.Reading.Control.{both, branch_of, branches_of, otherwise_of, ended, choice_of, unless_of, loop_of, looped_of}
 use Rattle.rr_parser.specs.Reading.{part_of, readers_inside, readers_outside, readers}
-use Rattle.rr_parser.specs.Meets.{View, nodes, pairs, lists, Made, Fails, Gives, Appends, Puts, Marks, Aims, Enters, Leaves, SetsLoop, left_by, ReadsNames, known_of, place}
+use Rattle.rr_parser.specs.Meets.{View, nodes, pairs, lists, Made, Fails, Gives, Appends, Puts, Marks, Aims, Enters, Leaves, SetsLoop, ReadsNames, known_of, place}
 use Rattle.rr_parser.specs.declared.variables.Variables.{Variables}
 use Rattle.rr_parser.specs.declared.variables.Variable.{Variable}
 use Rattle.rr_parser.specs.declared.variables.Scope.{Scope}
 use Rattle.rr_parser.specs.Variables.{known_in}
-use Rattle.rr_parser.specs.Grammar.Blocks.{inner, with_parameters, parameters, entered, leaving, left_to, block_tree}
+use Rattle.rr_parser.specs.Grammar.Blocks.{parameters, entered, leaving, left_to, block_tree}
 use Rattle.rr_parser.specs.Reading.Blocks.{left_block, block_or, block_of}
 use Rattle.rr_parser.specs.Grammar.Operands.{brace, tail}
 use Rattle.rr_parser.specs.Reading.Operands.{call_of, block_behind, blocked_or, blocked_of, then_blocked, unbracketed_or, variable_or_call, name_or, name_of, primary_of, tailed_of, postfix_of}
@@ -743,10 +743,10 @@ module _ (N : Readers) (old s1 : Parser) (xs : List Sym) (k : Scope) (words rest
     left_known : (s3 : Parser) → Leaves s2 s3 k → known_of s3 ≡ left_to (known_of old) (known_of s2)
     left_known s3 l =
         l.known
-        ∙ ap (λ (q : ℕ). record { locals = take q (known_of s2).locals; level = k.level; count = k.count; begun = (known_of s2).begun; in_loop = k.in_loop }) n.begins.locals
-        ∙ ap (λ (q : ℕ). record { locals = take (length (known_of old).locals) (known_of s2).locals; level = q; count = k.count; begun = (known_of s2).begun; in_loop = k.in_loop }) n.begins.level
-        ∙ ap (λ (q : ℕ). record { locals = take (length (known_of old).locals) (known_of s2).locals; level = (known_of old).level; count = q; begun = (known_of s2).begun; in_loop = k.in_loop }) n.begins.count
-        ∙ ap (λ (q : Bool). record { locals = take (length (known_of old).locals) (known_of s2).locals; level = (known_of old).level; count = (known_of old).count; begun = (known_of s2).begun; in_loop = q }) n.begins.in_loop
+        ∙ ap (λ (q : ℕ). record { locals = take q (known_of s2).locals; level = k.level; count = k.count; begun = (known_of s2).begun; in_loop = k.in_loop; in_method = (known_of s2).in_method }) n.begins.locals
+        ∙ ap (λ (q : ℕ). record { locals = take (length (known_of old).locals) (known_of s2).locals; level = q; count = k.count; begun = (known_of s2).begun; in_loop = k.in_loop; in_method = (known_of s2).in_method }) n.begins.level
+        ∙ ap (λ (q : ℕ). record { locals = take (length (known_of old).locals) (known_of s2).locals; level = (known_of old).level; count = q; begun = (known_of s2).begun; in_loop = k.in_loop; in_method = (known_of s2).in_method }) n.begins.count
+        ∙ ap (λ (q : Bool). record { locals = take (length (known_of old).locals) (known_of s2).locals; level = (known_of old).level; count = (known_of old).count; begun = (known_of s2).begun; in_loop = q; in_method = (known_of s2).in_method }) n.begins.in_loop
 
     left_tree : (s3 : Parser) (size : ℕ) → Leaves s2 s3 k → size ≡ (known_of s2).count → (after : List Word)
         → block_tree xs (place old rest) (place s2 after) (tree_at s2.nodes.items t) ≡ block k.number k.parameters size (tree_at s3.nodes.items t)

@@ -1,18 +1,17 @@
 -- Local variables by their names.
-use Rattle.std.proofs.Common.{◌≡◌, ℕ, zero, suc, ◌+◌, ◌-◌, ◌<◌, ◌≤◌, ◌==◌, Bool, true, false, cond, List, [], ◌∷◌, ◌++◌, length, get_or, slice_index_or, take, Option, Some, None, is_some, refl, sym, ap, ◌∙◌, subst, arith, append_assoc}
+use Rattle.std.proofs.Common.{◌≡◌, ℕ, zero, suc, ◌-◌, ◌<◌, ◌≤◌, ◌==◌, Bool, true, false, cond, List, [], ◌∷◌, ◌++◌, length, get_or, slice_index_or, take, Option, Some, None, refl, sym, ap, ◌∙◌, arith, append_assoc}
 use Rattle.std.proofs.lemmas.List.{append-nil}
 use Rattle.std.proofs.Math.Seq.{take-suc}
 use Rattle.std.proofs.Math.Dec.{eqb-suc-suc}
 use Rattle.std.proofs.lemmas.Bool.{ne_eqb}
 use Rattle.rr_base.specs.declared.name.Sym.{Sym}
 use Rattle.rr_parser.specs.declared.locals.Local.{Local}
-use Rattle.rr_parser.specs.declared.variables.Variable.{Variable}
-use Rattle.rr_parser.specs.Grammar.Names.{local_if, later_or, find, seen_from, with_variable}
+use Rattle.rr_parser.specs.Grammar.Names.{local_if, later_or, find, seen_from}
 use Rattle.rr_parser.specs.declared.word.WordKind.{WordKind}
 use Rattle.rr_parser.specs.declared.word.WordKind.TheVariants as kind
 use Rattle.rr_parser.specs.declared.word.Word.{Word}
 use Rattle.rr_parser.specs.Places.{Known, seen_before, where_true, is_kind, word}
-use Rattle.rr_parser.specs.Grammar.Blocks.{variable_of_kind, variable, before_names, no_more, more_names, names_to, inner, with_parameters}
+use Rattle.rr_parser.specs.Grammar.Blocks.{variable_of_kind, variable, before_names, no_more, more_names, names_to}
 
 later_or-later : (a b c : Option Local) → later_or (later_or a b) c ≡ later_or a (later_or b c)
 later_or-later None b c = refl
@@ -40,10 +39,10 @@ find-added x ls level slot =
 no_depth : (n : ℕ) → n - n ≡ 0
 no_depth n = omega arith
 
-pub seen-added : (x : Sym) (ls new : List Local) (level slot count begun : ℕ) (in_loop : Bool) → new ≡ ls ++ record { name = x; level = level; slot = slot } ∷ []
-    → record { depth = 0; slot = slot } ≡ seen_from (record { locals = new; level = level; count = count; begun = begun; in_loop = in_loop }) (find x.0 new)
-seen-added x ls new level slot count begun in_loop e =
-    let k : Known = record { locals = new; level = level; count = count; begun = begun; in_loop = in_loop } in
+pub seen-added : (x : Sym) (ls new : List Local) (level slot count begun : ℕ) (in_loop in_method : Bool) → new ≡ ls ++ record { name = x; level = level; slot = slot } ∷ []
+    → record { depth = 0; slot = slot } ≡ seen_from (record { locals = new; level = level; count = count; begun = begun; in_loop = in_loop; in_method = in_method }) (find x.0 new)
+seen-added x ls new level slot count begun in_loop in_method e =
+    let k : Known = record { locals = new; level = level; count = count; begun = begun; in_loop = in_loop; in_method = in_method } in
     ap (λ (d : ℕ). record { depth = d; slot = slot }) (sym (no_depth level))
     ∙ sym (ap (seen_from k) (ap (find x.0) e ∙ find-added x ls level slot))
 

@@ -13,12 +13,13 @@ use Rattle.rr_tree.specs.Tree.{Tree}
 use Rattle.rr_parser.specs.Grammar.Chains.{same, one_of, and_one}
 use Rattle.rr_parser.specs.Grammar.Nesting.{Nested}
 use Rattle.rr_parser.specs.Grammar.Names.{name, head, bracket}
-use Rattle.rr_parser.specs.Grammar.Operands.{joined, brace, Blocked, no_block, a_block, Primary, a_literal, a_negative, a_local, a_bare_call, a_call, a_block_call, a_jump, a_construct, tail, Tailed, a_send, a_sent_call, an_index, Postfix, Bang, a_bang, no_bang, Minus, a_minus, no_minus}
+use Rattle.rr_parser.specs.Grammar.Operands.{joined, brace, Blocked, no_block, a_block, Primary, a_literal, a_negative, a_local, a_bare_call, a_call, a_block_call, a_jump, a_passing, a_passing_call, a_construct, tail, Tailed, a_send, a_sent_call, an_index, Postfix, Bang, a_bang, no_bang, Minus, a_minus, no_minus}
 use Rattle.rr_parser.specs.Grammar.Operators.{operator, infixed, connective, joined_by, Logical, Binary, Equality, a_comparison, a_pair, Ternary, no_question, a_question}
 use Rattle.rr_parser.specs.Grammar.Calls.{with_target, label, comma, Assigned, an_assignment, no_assignment, Argument, Pair, by_label, by_arrow, Member, Members, Bracketed, no_members, some_members, Array, an_array, Hash, a_hash, Index, of_element, Commanded, by_arguments, by_command, Command, a_command, Phrase, by_name, an_operand, Operand, Value}
 use Rattle.rr_parser.specs.Grammar.Sequences.{Negation, a_negation, no_negation, Expression, modifier, modified, Statement, Rows, Statements, no_statements, some_statements, Group, a_group}
 use Rattle.rr_parser.specs.Grammar.Control.{elsif, Branch, a_branch, Branches, Otherwise, no_else, an_else, Choice, a_choice, Unless, an_unless, Loop, a_loop, looping, Looped, of_loop}
 use Rattle.rr_parser.specs.Grammar.Blocks.{entered, Block, of_statements}
+use Rattle.rr_parser.specs.Grammar.Definitions.{defined, Definition, of_method}
 use Rattle.rr_parser.specs.Grammar.{PartOf, inside, outside}
 use Rattle.rr_parser.specs.Reading.Nesting.{Readers}
 use Rattle.rr_parser.specs.Reading.Operators.{binary_of, logical_of}
@@ -31,12 +32,13 @@ use Rattle.rr_parser.specs.declared.word.Target.TheVariants as targets
 use Rattle.rr_parser.specs.Reading.Operands.{tailed_of}
 use Rattle.rr_parser.proofs.Trails.{trail_shrinking}
 use Rattle.rr_parser.proofs.Chains.{Shrinks, IsShrinking, shrinks_by, chain_shrinking}
+use Rattle.rr_parser.proofs.Formals.{formals-less}
 use Rattle.rr_parser.proofs.Sound.{nested, sound_nested, binary_sound, logical_sound, argument_sound, member_sound, tailed_sound, negation_sound, expression_sound, statement_sound, branch_sound}
 
-record NestedShrinking (R : Nested) : Type 0 where
-  part : (p : Part) → IsShrinking (R.part p)
-  bracketed : IsShrinking R.bracketed
-  value : (b : Bool) → IsShrinking (R.value b)
+pub record NestedShrinking (R : Nested) : Type 0 where
+  pub part : (p : Part) → IsShrinking (R.part p)
+  pub bracketed : IsShrinking R.bracketed
+  pub value : (b : Bool) → IsShrinking (R.value b)
 
 pub Steps-joined : Steps joined
 Steps-joined = Steps-first_as _
@@ -84,6 +86,8 @@ module _ (R : Nested) (nests : NestedShrinking R) where
   primary_shrinking s z t (a_call {m = m} {n = n} {o = o} {x = x} {u = u} {l = l} e f h b) = omega (arith, Steps-name s m x e, Steps-bracket m n u f, nests.bracketed n o l h, blocked_shrinking (call x.0 (listed l)) o z t b)
   primary_shrinking s z t (a_block_call {m = m} {n = n} {x = x} {u = u} {b = b} e f g h) = omega (arith, Steps-name s m x e, Steps-brace m n u g, nests.part parts.Block n z b h)
   primary_shrinking s z t (a_jump {j = j} e f g) = omega (arith, next-left s z (kind.Jump j) e)
+  primary_shrinking s z t (a_passing {p = p} e f g h) = omega (arith, next-left s z (kind.Passing p) e)
+  primary_shrinking s z t (a_passing_call {m = m} {n = n} {p = p} {u = u} {l = l} e f g h) = omega (arith, next-left s m (kind.Passing p) e, Steps-bracket m n u g, nests.bracketed n z l h)
   primary_shrinking s z t (a_construct {m = m} {k = k} {p = p} e f h) = omega (arith, next-left s m k e, nests.part p m z t h)
 
   tailed_shrinking : (x : Tail) (l : Tree) (n z : Place) (t : Tree) → Tailed R x l n t z → left z ≤ left n
@@ -182,7 +186,7 @@ module _ (R : Nested) (nests : NestedShrinking R) where
   expression_shrinking : IsShrinking (Expression R)
   expression_shrinking = chain_shrinking (connective 3) same joined_by (Negation R) (Steps-connective 3) negation_shrinking
 
-  statement_shrinking : IsShrinking (Statement R)
+  pub statement_shrinking : IsShrinking (Statement R)
   statement_shrinking = chain_shrinking modifier same modified (Expression R) Steps-modifier expression_shrinking
 
   rows_shrinking : IsShrinking (Rows R)
@@ -221,6 +225,10 @@ module _ (R : Nested) (nests : NestedShrinking R) where
   block_shrinking : IsShrinking (Block R)
   block_shrinking s z t (of_statements {m = m} {n = n} {z = y} {xs = xs} {t = b} e h f) = omega (arith, parameters-less s m xs e, statements_shrinking (entered xs m) n b h, next-left n y kind.CloseBrace f)
 
+  definition_shrinking : IsShrinking (Definition R)
+  definition_shrinking s z t (of_method {m = m} {n = n} {o = o} {z = y} {x = x} {xs = xs} {t = b} e f h g) =
+      omega (arith, Steps-name s m x e, formals-less m n xs f, statements_shrinking (defined xs n) o b h, next-left o y kind.End g)
+
   part_shrinking : (p : Part) → IsShrinking (PartOf R p)
   part_shrinking parts.Group = group_shrinking
   part_shrinking parts.Array = array_shrinking
@@ -235,6 +243,7 @@ module _ (R : Nested) (nests : NestedShrinking R) where
   part_shrinking parts.Command = command_shrinking
   part_shrinking parts.Branch = argument_shrinking
   part_shrinking parts.Block = block_shrinking
+  part_shrinking parts.Definition = definition_shrinking
 
 shrinking_inside : (d : ℕ) → NestedShrinking (inside d)
 unfolding inside
@@ -254,7 +263,7 @@ shrinking_outside (suc d) = record {
   value = value_shrinking (inside (suc d)) (shrinking_inside (suc d));
 }
 
-shrinking_nested : (b : Bool) (d : ℕ) → NestedShrinking (nested b d)
+pub shrinking_nested : (b : Bool) (d : ℕ) → NestedShrinking (nested b d)
 shrinking_nested true d = shrinking_inside d
 shrinking_nested false d = shrinking_outside d
 

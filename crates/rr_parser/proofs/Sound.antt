@@ -1,5 +1,5 @@
 -- What is read is spelled.
-use Rattle.std.proofs.Common.{◌≡◌, ℕ, zero, suc, pos, Bool, true, false, cond, List, [], ◌∷◌, Option, Some, None, Ok, Err, refl, sym, subst, ap}
+use Rattle.std.proofs.Common.{◌≡◌, ℕ, zero, suc, pos, Bool, true, false, cond, List, [], Option, Some, None, Ok, Err, refl, sym, subst, ap}
 use Rattle.rr_base.specs.declared.name.Sym.{Sym}
 use Rattle.rr_parser.specs.declared.word.Infix.{Infix}
 use Rattle.rr_tree.specs.Tree.{Tree, nil, int, bare, call, with_block, negate, sequence, choose, repeat, send, index, array, hash, pair, symbol, logical_not, listed}
@@ -8,33 +8,35 @@ use Rattle.rr_parser.specs.declared.word.Tail.TheVariants as tails
 use Rattle.rr_parser.specs.declared.word.Aim.{Aim}
 use Rattle.rr_parser.specs.declared.word.Head.{Head}
 use Rattle.rr_parser.specs.declared.word.Jump.{Jump}
+use Rattle.rr_parser.specs.declared.word.Passing.{Passing}
 use Rattle.rr_parser.specs.declared.word.Listed.{Listed}
 use Rattle.rr_parser.specs.declared.word.Listed.TheVariants as listings
 use Rattle.rr_parser.specs.declared.word.Part.{Part}
 use Rattle.rr_parser.specs.declared.word.Part.TheVariants as parts
 use Rattle.rr_parser.specs.declared.word.WordKind.{WordKind}
 use Rattle.rr_parser.specs.declared.word.WordKind.TheVariants as kind
-use Rattle.rr_parser.specs.declared.word.Word.{Word}
-use Rattle.rr_parser.specs.Places.{Place, word, at, next, skip, separators, start}
+use Rattle.rr_parser.specs.Places.{Place, word, at, next, skip, separators}
 use Rattle.rr_parser.specs.Grammar.Chains.{one, same, one_of, and_one}
 use Rattle.rr_parser.specs.Grammar.Nesting.{Nested}
-use Rattle.rr_parser.specs.Grammar.Names.{is_local, variable_of, local_tree, is_allowed, jump_tree, begins_arguments, headed, name, bracket, begins_operands, command}
-use Rattle.rr_parser.specs.Grammar.Operands.{fits, fits_below, negated, joined, literal_of, construct_of, brace, Blocked, no_block, a_block, Primary, a_literal, a_negative, a_local, a_bare_call, a_call, a_block_call, a_jump, a_construct, tail, Tailed, a_send, a_sent_call, an_index, Postfix, Bang, a_bang, no_bang, Minus, a_minus, no_minus}
+use Rattle.rr_parser.specs.Grammar.Names.{is_local, variable_of, local_tree, is_allowed, jump_tree, begins_arguments, passed, passed_bare, headed, name, bracket, begins_operands, command}
+use Rattle.rr_parser.specs.Grammar.Operands.{fits, fits_below, negated, joined, literal_of, construct_of, brace, Blocked, no_block, a_block, Primary, a_literal, a_negative, a_local, a_bare_call, a_call, a_block_call, a_jump, a_passing, a_passing_call, a_construct, tail, Tailed, a_send, a_sent_call, an_index, Postfix, Bang, a_bang, no_bang, Minus, a_minus, no_minus}
 use Rattle.rr_parser.specs.Grammar.Operators.{operator, infixed, Binary, Equality, a_comparison, a_pair, connective, joined_by, Logical, Ternary, no_question, a_question}
 use Rattle.rr_parser.specs.Grammar.Calls.{target, with_target, assigned_to, label, comma, closing, last, Assigned, an_assignment, no_assignment, Argument, Pair, by_label, by_arrow, Member, Members, Bracketed, no_members, some_members, Array, an_array, Hash, a_hash, Index, of_element, Commanded, by_arguments, by_command, Command, a_command, Phrase, by_name, an_operand, Operand, Value}
 use Rattle.rr_parser.specs.Grammar.Sequences.{Negation, a_negation, no_negation, Expression, modifier, modified, Statement, Rows, Statements, no_statements, some_statements, Group, a_group}
 use Rattle.rr_parser.specs.Grammar.Control.{thens, loops, elsif, chosen, unless_chosen, Branch, a_branch, Branches, Otherwise, no_else, an_else, Choice, a_choice, Unless, an_unless, Loop, a_loop, looping, outside_loop, Looped, of_loop}
 use Rattle.rr_parser.specs.Grammar.Blocks.{parameters, entered, leaving, block_tree, Block, of_statements}
-use Rattle.rr_parser.specs.Grammar.{PartOf, inside, outside, WordsSpell}
+use Rattle.rr_parser.specs.Grammar.Definitions.{formals, defined, rejoining, method_tree, Definition, of_method}
+use Rattle.rr_parser.specs.Grammar.{PartOf, inside, outside}
 use Rattle.rr_parser.specs.Reading.Answers.{wrong, Answer, Parse, built, closed, across, chain_on, trail_on, ended_by}
 use Rattle.rr_parser.specs.Reading.Nesting.{Readers}
-use Rattle.rr_parser.specs.Reading.Operands.{call_of, bare_call, block_behind, blocked_or, blocked_of, then_blocked, unbracketed_or, name_or, name_of, int_at, negative_in, negative_of, begun, primary_at, primary_in, primary_of, tailed_of, postfix_of, bang_or, bang_of, prefix_minus, minus_or, minus_of}
+use Rattle.rr_parser.specs.Reading.Operands.{call_of, bare_call, blocked_or, blocked_of, then_blocked, unbracketed_or, name_or, name_of, passing_or, passing_of, int_at, negative_in, negative_of, begun, primary_at, primary_in, primary_of, tailed_of, postfix_of, bang_or, bang_of, prefix_minus, minus_or, minus_of}
 use Rattle.rr_parser.specs.Reading.Operators.{binary_on, binary_of, pair_or, equality_on, logical_on, logical_of, question_or, ternary_on, ternary_of}
 use Rattle.rr_parser.specs.Reading.Calls.{assigned_or, assigned_of, argument_of, pair_by, pair_of, member_of, another, members_of, bracketed_or, bracketed_of, array_of, hash_of, index_of, commanded_or, commanded_of, headed_of, command_or, command_of, phrase_or, phrase_of, operand_of, value_of}
 use Rattle.rr_parser.specs.Reading.Sequences.{negation_or, negation_of, expression_of, statement_of, ends, row, rows_of, sequence_of, statements_of, group_of}
 use Rattle.rr_parser.specs.Reading.Control.{both, branch_of, branches_of, otherwise_or, otherwise_of, choice_of, unless_of, loop_of, looped_of}
 use Rattle.rr_parser.specs.Reading.Blocks.{left_block, block_or, block_of}
-use Rattle.rr_parser.specs.Reading.{part_of, readers_inside, readers_outside, readers, whole_of, program_of}
+use Rattle.rr_parser.specs.Reading.Definitions.{left_method, method_or, definition_or, definition_of}
+use Rattle.rr_parser.specs.Reading.{part_of, readers_inside, readers_outside, readers}
 use Rattle.rr_parser.proofs.Told.{told_close, told_else, told_end, told_bang, told_not, told_question, told_colon, told_arrow, told_close_square, told_close_brace}
 use Rattle.rr_parser.proofs.Looks.{word-next, another-comma, next-name, row-separators, prefix-next}
 use Rattle.rr_parser.proofs.Trails.{trail_sound}
@@ -123,6 +125,25 @@ module _ (N : Readers) (R : Nested) (nests : NestedSound N R) where
   jump_test s m j true false z t h f g e = at_answer (Primary R s) (jump_tree j nil) t m z e (a_jump h f g)
   jump_test s m j false b z t h f g e = absurd cc
 
+  passing_bare-sound : (s m : Place) (p : Passing) (b : Bool) (z : Place) (t : Tree) → next s ≡ Some (kind.Passing p, m) → m.known.in_method ≡ true → at bracket m ≡ None → begins_operands m.rest ≡ b
+      → cond b (Err wrong) (done (passed_bare p) m) ≡ done t z → Primary R s t z
+  passing_bare-sound s m p true z t f g h i e = absurd cc
+  passing_bare-sound s m p false z t f g h i e = at_answer (Primary R s) (passed_bare p) t m z e (a_passing f g h i)
+
+  passing_or-sound : (s m : Place) (p : Passing) (o : Option (Unit {0} × Place)) (z : Place) (t : Tree) → next s ≡ Some (kind.Passing p, m) → m.known.in_method ≡ true → at bracket m ≡ o → passing_or N p m o ≡ Ok (t, z) → Primary R s t z
+  passing_or-sound s m p None z t f g h e = passing_bare-sound s m p (begins_operands m.rest) z t f g h refl e
+  passing_or-sound s m p (Some n) z t f g h e =
+      let b = built_ok (λ l. passed p (listed l)) (N.bracketed n.1) t z e in
+      subst (λ (q : Tree). Primary R s q z) (sym b.2) (a_passing_call {u = n.0} f g h (nests.bracketed n.1 z b.0 b.1))
+
+  passing_test : (s m : Place) (p : Passing) (b : Bool) (z : Place) (t : Tree) → next s ≡ Some (kind.Passing p, m) → m.known.in_method ≡ b → cond b (passing_or N p m (at bracket m)) (Err wrong) ≡ done t z → Primary R s t z
+  passing_test s m p true z t f g e = passing_or-sound s m p (at bracket m) z t f g refl e
+  passing_test s m p false z t f g e = absurd cc
+
+  passing_sound : (s m : Place) (p : Passing) (z : Place) (t : Tree) → next s ≡ Some (kind.Passing p, m) → passing_of N p m ≡ Ok (t, z) → Primary R s t z
+  unfolding passing_of
+  passing_sound s m p z t f e = passing_test s m p m.known.in_method z t f refl e
+
   begun_sound : (s : Place) (k : WordKind) (m : Place) (l : Option Tree) (c : Option Part) (z : Place) (t : Tree) → next s ≡ Some (k, m) → literal_of k ≡ l → construct_of k ≡ c → begun N l c m ≡ Ok (t, z) → Primary R s t z
   begun_sound s k m (Some u) c z t f g h e = at_answer (Primary R s) u t m z e (a_literal f g)
   begun_sound s k m None (Some p) z t f g h e = a_construct f h (nests.part p m z t e)
@@ -133,6 +154,7 @@ module _ (N : Readers) (R : Nested) (nests : NestedSound N R) where
   primary_at-sound s (kind.Name x b) m z t f e = name_sound s m x z t (next-name s m x b f) e
   primary_at-sound s kind.Minus m z t f e = negative_sound s m z t f e
   primary_at-sound s (kind.Jump j) m z t f e = jump_test s m j (is_allowed j m.known) (begins_arguments m.rest) z t f refl refl e
+  primary_at-sound s (kind.Passing p) m z t f e = passing_sound s m p z t f e
   primary_at-sound s k m z t f e = begun_sound s k m (literal_of k) (construct_of k) z t f refl refl e
 
   primary_in-sound : (s : Place) (r : Option (WordKind × Place)) (z : Place) (t : Tree) → next s ≡ r → primary_in N r ≡ Ok (t, z) → Primary R s t z
@@ -432,6 +454,24 @@ module _ (N : Readers) (R : Nested) (nests : NestedSound N R) where
   unfolding block_of
   block_sound s z t e = block_or-sound s (at parameters s) z t refl e
 
+  left_method-sound : (s m : Place) (x : Sym) (xs : List Sym) (n z : Place) (t : Tree) → at name s ≡ Some (x, m) → at formals m ≡ Some (xs, n) → left_method s x xs n (closed kind.End (statements_of N (defined xs n))) ≡ Ok (t, z) → Definition R s t z
+  left_method-sound s m x xs n z t f g e =
+      let b = bind_ok (closed kind.End (statements_of N (defined xs n))) (λ q. Ok (method_tree x xs n q.1 q.0, rejoining s q.1)) (t, z) e in
+      let c = closed_ok kind.End told_end (statements_of N (defined xs n)) b.0.1 b.0.0 b.1 in
+      at_answer (Definition R s) (method_tree x xs n b.0.1 b.0.0) t (rejoining s b.0.1) z b.2 (of_method f g (statements_sound (defined xs n) c.0 b.0.0 c.1) c.2)
+
+  method_or-sound : (s m : Place) (x : Sym) (o : Option (List Sym × Place)) (z : Place) (t : Tree) → at name s ≡ Some (x, m) → at formals m ≡ o → method_or N s x o ≡ Ok (t, z) → Definition R s t z
+  method_or-sound s m x None z t f g e = absurd cc
+  method_or-sound s m x (Some n) z t f g e = left_method-sound s m x n.0 n.1 z t f g e
+
+  definition_or-sound : (s : Place) (o : Option (Sym × Place)) (z : Place) (t : Tree) → at name s ≡ o → definition_or N s o ≡ Ok (t, z) → Definition R s t z
+  definition_or-sound s None z t f e = absurd cc
+  definition_or-sound s (Some m) z t f e = method_or-sound s m.1 m.0 (at formals m.1) z t f refl e
+
+  definition_sound : IsSound (definition_of N) (Definition R)
+  unfolding definition_of
+  definition_sound s z t e = definition_or-sound s (at name s) z t refl e
+
   pub part_sound : (p : Part) → IsSound (part_of N p) (PartOf R p)
   part_sound parts.Group = group_sound
   part_sound parts.Array = array_sound
@@ -446,6 +486,7 @@ module _ (N : Readers) (R : Nested) (nests : NestedSound N R) where
   part_sound parts.Command = command_sound
   part_sound parts.Branch = argument_sound
   part_sound parts.Block = block_sound
+  part_sound parts.Definition = definition_sound
 
 pub sound_inside : (d : ℕ) → NestedSound (readers_inside d) (inside d)
 unfolding readers_inside inside
@@ -473,15 +514,3 @@ nested false d = outside d
 pub sound_nested : (b : Bool) (d : ℕ) → NestedSound (readers b d) (nested b d)
 sound_nested true d = sound_inside d
 sound_nested false d = sound_outside d
-
-whole_is : (t u : Tree) (ws : List Word) → whole_of t ws ≡ Ok u → (t ≡ u) × (ws ≡ [])
-whole_is t u [] e = (cc, refl)
-whole_is t u (w ∷ ws) e = absurd cc
-
--- what is read is spelled
-pub program_sound : (d : ℕ) (ws : List Word) (t : Tree) → program_of d ws ≡ Ok t → WordsSpell d ws t
-unfolding program_of
-program_sound d ws t e =
-    let b = bind_ok (statements_of (readers false d) (start ws)) (λ r. whole_of r.0 r.1.rest) t e in
-    let w = whole_is b.0.0 t b.0.1.rest b.2 in
-    (b.0.1, subst (λ (q : Tree). Statements (outside d) (start ws) q b.0.1) w.0 (statements_sound (readers false d) (outside d) (sound_outside d) (start ws) b.0.1 b.0.0 b.1), w.1)

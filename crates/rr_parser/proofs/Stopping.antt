@@ -13,6 +13,7 @@ use Rattle.rr_parser.specs.declared.word.Tail.{Tail}
 use Rattle.rr_parser.specs.declared.word.Head.{Head}
 use Rattle.rr_parser.specs.declared.word.Head.TheVariants as heads
 use Rattle.rr_parser.specs.declared.word.Jump.{Jump}
+use Rattle.rr_parser.specs.declared.word.Passing.{Passing}
 use Rattle.rr_parser.specs.declared.word.Sign.{Sign}
 use Rattle.rr_parser.specs.declared.word.Aim.{Aim}
 use Rattle.rr_parser.specs.declared.word.Target.{Target}
@@ -26,7 +27,7 @@ use Rattle.rr_parser.specs.Places.{Known, Place, Look, first_as, seen_before, un
 use Rattle.rr_parser.specs.Grammar.Chains.{Chain, one, more, at_first, and_then, same}
 use Rattle.rr_parser.specs.Grammar.Nesting.{Nested}
 use Rattle.rr_parser.specs.Grammar.Names.{is_local, name, bracket, is_tight, begins_operand, begins_operands, begins_command, is_allowed, head_of_kind, head, begins_head, command}
-use Rattle.rr_parser.specs.Grammar.Operands.{joined, literal_of, construct_of, brace, Primary, a_literal, a_negative, a_local, a_bare_call, a_call, a_block_call, a_jump, a_construct, tail, Postfix, Bang, a_bang, no_bang, Minus, a_minus, no_minus}
+use Rattle.rr_parser.specs.Grammar.Operands.{joined, literal_of, construct_of, brace, Primary, a_literal, a_negative, a_local, a_bare_call, a_call, a_block_call, a_jump, a_passing, a_passing_call, a_construct, tail, Postfix, Bang, a_bang, no_bang, Minus, a_minus, no_minus}
 use Rattle.rr_parser.specs.Grammar.Operators.{level_of, at_level, operator_of, operator, infixed, where_level, connective_of, connective, joined_by, Binary, a_comparison, a_pair, Logical, Ternary, no_question, a_question}
 use Rattle.rr_parser.specs.Grammar.Calls.{target, comma, Assigned, an_assignment, no_assignment, Argument, a_command, Phrase, by_name, an_operand, Value, closing, target_of_kind, label, Member, label_of_kind, last, by_label, by_arrow}
 use Rattle.rr_parser.specs.Grammar.Sequences.{Negation, a_negation, no_negation, Expression, modifier_of, modifier, Statement, modified}
@@ -240,6 +241,7 @@ pub data First (s : Place) : Type 0 where
   by_integer : {m z : Place} {n : ℕ} → next s ≡ Some (kind.Minus, m) → at joined m ≡ Some (n, z) → First s
   by_no_command : {m : Place} {x : Sym} → at name s ≡ Some (x, m) → begins_command x m ≡ false → First s
   by_jump : {m : Place} {j : Jump} → next s ≡ Some (kind.Jump j, m) → begins_head (heads.Jump j) m ≡ false → First s
+  by_passing : {m : Place} {p : Passing} → next s ≡ Some (kind.Passing p, m) → begins_head (heads.Passing p) m ≡ false → First s
   by_bang : {m : Place} → next s ≡ Some (kind.Bang, m) → First s
   by_prefix : {m : Place} → next s ≡ Some (kind.Minus, m) → First s
 
@@ -298,6 +300,8 @@ primary_first R s z t (a_bare_call {x = x} e o b f g) = by_no_command e (bare_no
 primary_first R s z t (a_call {m = m} {n = n} {x = x} {u = u} e f h b) = by_no_command e (bare_no_command x m (bracket_no_operands m n u f))
 primary_first R s z t (a_block_call {m = m} {n = n} {x = x} {u = u} e f g h) = by_no_command e (bare_no_command x m (brace_no_operands m n u g))
 primary_first R s z t (a_jump {j = j} e f g) = by_jump e (ap (λ b. is_allowed j z.known && b) g ∙ and_false (is_allowed j z.known))
+primary_first R s z t (a_passing {p = p} e f g h) = by_passing e (ap (λ b. z.known.in_method && b) h ∙ and_false z.known.in_method)
+primary_first R s z t (a_passing_call {m = m} {n = n} {p = p} {u = u} e f g h) = by_passing e (ap (λ b. m.known.in_method && b) (bracket_no_operands m n u g) ∙ and_false m.known.in_method)
 primary_first R s z t (a_construct {k = k} {p = p} e f h) = by_word e (construct_opens k p f)
 
 open_no_bang : (k : WordKind) → opens k ≡ true → is_kind k kind.Bang ≡ false
@@ -312,6 +316,8 @@ primary_no_bang R s z t (a_bare_call {x = x} e o b f g) = let h = name-next s z 
 primary_no_bang R s z t (a_call {m = m} {x = x} e f g b) = let h = name-next s m x e in other-word kind.Bang (kind.Name x h.0) s m h.1 refl
 primary_no_bang R s z t (a_block_call {m = m} {x = x} e f g b) = let h = name-next s m x e in other-word kind.Bang (kind.Name x h.0) s m h.1 refl
 primary_no_bang R s z t (a_jump {j = j} e f g) = other-word kind.Bang (kind.Jump j) s z e refl
+primary_no_bang R s z t (a_passing {p = p} e f g h) = other-word kind.Bang (kind.Passing p) s z e refl
+primary_no_bang R s z t (a_passing_call {m = m} {p = p} e f g h) = other-word kind.Bang (kind.Passing p) s m e refl
 primary_no_bang R s z t (a_construct {m = m} {k = k} {p = p} e f h) = other-word kind.Bang k s m e (open_no_bang k (construct_opens k p f))
 
 open_no_prefix : (s m : Place) (k : WordKind) → next s ≡ Some (k, m) → opens k ≡ true → at prefix_minus s ≡ None
@@ -326,6 +332,8 @@ primary_no_prefix R s z t (a_bare_call {x = x} e o b f g) = let h = name-next s 
 primary_no_prefix R s z t (a_call {m = m} {x = x} e f g b) = let h = name-next s m x e in by_next (λ q. at prefix_minus q ≡ None) s m (kind.Name x h.0) h.1 (λ b. refl)
 primary_no_prefix R s z t (a_block_call {m = m} {x = x} e f g b) = let h = name-next s m x e in by_next (λ q. at prefix_minus q ≡ None) s m (kind.Name x h.0) h.1 (λ b. refl)
 primary_no_prefix R s z t (a_jump {j = j} e f g) = by_next (λ q. at prefix_minus q ≡ None) s z (kind.Jump j) e (λ b. refl)
+primary_no_prefix R s z t (a_passing {p = p} e f g h) = by_next (λ q. at prefix_minus q ≡ None) s z (kind.Passing p) e (λ b. refl)
+primary_no_prefix R s z t (a_passing_call {m = m} {p = p} e f g h) = by_next (λ q. at prefix_minus q ≡ None) s m (kind.Passing p) e (λ b. refl)
 primary_no_prefix R s z t (a_construct {m = m} {k = k} {p = p} e f h) = open_no_prefix s m k e (construct_opens k p f)
 
 -- the first operand of a trail
@@ -368,6 +376,7 @@ ternary_first R s z t (a_question {m = m} {c = c} h e f g i) = logical_first R 2
 abbrev starts : WordKind → Bool
 starts (kind.Name x b) = true
 starts (kind.Jump j) = true
+starts (kind.Passing p) = true
 starts kind.Minus = true
 starts kind.Bang = true
 starts k = opens k
@@ -381,6 +390,7 @@ pub record Starts (s : Place) : Type 0 where
 open_starts : (k : WordKind) → opens k ≡ true → starts k ≡ true
 open_starts (kind.Name x b) e = refl
 open_starts (kind.Jump j) e = refl
+open_starts (kind.Passing p) e = refl
 open_starts kind.Minus e = refl
 open_starts kind.Bang e = refl
 open_starts k e = e
@@ -393,6 +403,7 @@ first_starts s (by_word {k = k} {m = m} e f) = record { kind = k; behind = m; he
 first_starts s (by_integer {m = m} e f) = record { kind = kind.Minus; behind = m; here = e; told = refl }
 first_starts s (by_no_command {m = m} {x = x} e f) = name_starts s m x e
 first_starts s (by_jump {m = m} {j = j} e f) = record { kind = kind.Jump j; behind = m; here = e; told = refl }
+first_starts s (by_passing {m = m} {p = p} e f) = record { kind = kind.Passing p; behind = m; here = e; told = refl }
 first_starts s (by_bang {m = m} e) = record { kind = kind.Bang; behind = m; here = e; told = refl }
 first_starts s (by_prefix {m = m} e) = record { kind = kind.Minus; behind = m; here = e; told = refl }
 
@@ -446,6 +457,7 @@ head_starts s m x e = let h = head-next s m x e in record { kind = h.0; behind =
     head_start : (k : WordKind) (x : Head) → head_of_kind k ≡ Some x → starts k ≡ true
     head_start (kind.Name y b) x f = refl
     head_start (kind.Jump j) x f = refl
+    head_start (kind.Passing p) x f = refl
     head_start _ x f = absurd cc
 
 pub phrase_starts : (R : Nested) (s z : Place) (t : Tree) → Phrase R s t z → Starts s
@@ -522,11 +534,27 @@ statement_starts R s z t c =
     let g = chain_first (connective 3) same joined_by (Negation R) s f.1 f.0 f.2 in
     negation_starts R s g.1 g.0 g.2
 
+-- a statement begins with no definition
+start_no_def : (k : WordKind) → starts k ≡ true → is_kind k kind.Def ≡ false
+start_no_def kind.Def e = absurd cc
+start_no_def _ e = refl
+
+negation_no_def : (R : Nested) (s z : Place) (t : Tree) → Negation R s t z → at (word kind.Def) s ≡ None
+negation_no_def R s z t (a_negation {m = m} e h) = other-word kind.Def kind.NotWord s m e refl
+negation_no_def R s z t (no_negation h) = let f = value_starts R s z t h in other-word kind.Def f.kind s f.behind f.here (start_no_def f.kind f.told)
+
+pub statement_no_def : (R : Nested) (s z : Place) (t : Tree) → Statement R s t z → at (word kind.Def) s ≡ None
+statement_no_def R s z t c =
+    let f = chain_first modifier same modified (Expression R) s z t c in
+    let g = chain_first (connective 3) same joined_by (Negation R) s f.1 f.0 f.2 in
+    negation_no_def R s g.1 g.0 g.2
+
 -- ---- a name that begins no command
 
 open_no_name : (s m : Place) (k : WordKind) → next s ≡ Some (k, m) → opens k ≡ true → at (command s.known) s ≡ None
 open_no_name s m (kind.Name x b) e f = absurd cc
 open_no_name s m (kind.Jump j) e f = absurd cc
+open_no_name s m (kind.Passing p) e f = absurd cc
 open_no_name s m k e f = by_next (λ q. at (command q.known) q ≡ None) s m k e (λ b. refl)
 
 -- what begins no command
@@ -543,6 +571,7 @@ first_no_command s (by_integer {m = m} e f) = by_next (λ q. at (command q.known
 first_no_command s (by_bang {m = m} e) = by_next (λ q. at (command q.known) q ≡ None) s m kind.Bang e (λ b. refl)
 first_no_command s (by_prefix {m = m} e) = by_next (λ q. at (command q.known) q ≡ None) s m kind.Minus e (λ b. refl)
 first_no_command s (by_jump {m = m} {j = j} e f) = no_head s m (heads.Jump j) (by_next (λ q. at head q ≡ Some (heads.Jump j, m)) s m (kind.Jump j) e (λ b. refl)) f
+first_no_command s (by_passing {m = m} {p = p} e f) = no_head s m (heads.Passing p) (by_next (λ q. at head q ≡ Some (heads.Passing p, m)) s m (kind.Passing p) e (λ b. refl)) f
 first_no_command s (by_no_command {m = m} {x = x} e f) =
     let h = name-next s m x e in
     no_head s m (heads.Call x) (by_next (λ q. at head q ≡ Some (heads.Call x, m)) s m (kind.Name x h.0) h.1 (λ b. refl)) f
@@ -594,6 +623,8 @@ module _ (R : Nested) (s m n : Place) (k : WordKind) (x : Target) (sign : Sign) 
       let g = name-next s o y e in
       absurd (bracket_not_assign o q n u sign f (subst (λ v. next v ≡ Some (kind.Assign sign, n)) (one_place s m o k (kind.Name y g.0) here g.1) assigns))
   primary_stuck z t (a_jump {j = j} e f g) = absurd (no_word k (kind.Jump j) is_target (one_kind s m z k (kind.Jump j) here e) refl)
+  primary_stuck z t (a_passing {p = p} e f g h) = absurd (no_word k (kind.Passing p) is_target (one_kind s m z k (kind.Passing p) here e) refl)
+  primary_stuck z t (a_passing_call {m = o} {p = p} e f g h) = absurd (no_word k (kind.Passing p) is_target (one_kind s m o k (kind.Passing p) here e) refl)
   primary_stuck z t (a_construct {m = o} {k = q} {p = p} e f h) = absurd (no_construct k p is_target (ap construct_of (one_kind s m o k q here e) ∙ f))
 
   postfix_stuck : (z : Place) (t : Tree) → Postfix R s t z → Assigns z

@@ -36,6 +36,10 @@ pub told_end : Told kind.End
 told_end kind.End e = refl
 told_end _ e = absurd (false≢true e)
 
+pub told_def : Told kind.Def
+told_def kind.Def e = refl
+told_def _ e = absurd (false≢true e)
+
 pub told_minus : Told kind.Minus
 told_minus kind.Minus h = refl
 told_minus _ e = absurd (false≢true e)

@@ -10,6 +10,7 @@ use Rattle.rr_parser.specs.declared.word.Head.{Head}
 use Rattle.rr_parser.specs.declared.word.Listed.{Listed}
 use Rattle.rr_parser.specs.declared.word.Listed.TheVariants as listings
 use Rattle.rr_parser.specs.declared.word.Part.{Part}
+use Rattle.rr_parser.specs.declared.word.Passing.{Passing}
 use Rattle.rr_parser.specs.declared.word.Part.TheVariants as parts
 use Rattle.rr_parser.specs.declared.word.WordKind.{WordKind}
 use Rattle.rr_parser.specs.declared.word.WordKind.TheVariants as kind
@@ -23,6 +24,8 @@ use Rattle.rr_parser.specs.Grammar.Calls.{target, with_target, label, comma, Arg
 use Rattle.rr_parser.specs.Grammar.Sequences.{Expression, Statement, Rows, modifier}
 use Rattle.rr_parser.specs.Grammar.Control.{thens, loops, elsif, looping, Branch, Branches}
 use Rattle.rr_parser.specs.Grammar.Blocks.{parameters, entered}
+use Rattle.rr_parser.specs.Grammar.Definitions.{formals, defined}
+use Rattle.rr_parser.specs.Grammar.Programs.{Entries}
 use Rattle.rr_parser.specs.Grammar.{inside, outside}
 
 -- F s z: from s on, as many constructs as F tells are begun, and the innermost begins at z
@@ -57,6 +60,7 @@ pub data BlockedFront (F : Fronts) : Place → Place → Type 0 where
 pub data PrimaryFront (N : Nested) (F : Fronts) : Place → Place → Type 0 where
   in_construct : {s m z : Place} {k : WordKind} {p : Part} → next s ≡ Some (k, m) → construct_of k ≡ Some p → F.part p m z → PrimaryFront N F s z
   in_call : {s m n z : Place} {x : Sym} {u : Unit {0}} → at name s ≡ Some (x, m) → at bracket m ≡ Some (u, n) → CallFront N F n z → PrimaryFront N F s z
+  in_passing : {s m n z : Place} {p : Passing} {u : Unit {0}} → next s ≡ Some (kind.Passing p, m) → at bracket m ≡ Some (u, n) → F.bracketed n z → PrimaryFront N F s z
   in_block_call : {s m z : Place} {x : Sym} → at name s ≡ Some (x, m) → at bracket m ≡ None → BlockedFront F m z → PrimaryFront N F s z
 
 abbrev pub TailedFront : Nested → Fronts → Tail → Place → Place → Type 0
@@ -165,6 +169,9 @@ LoopedFront N F s z = LoopFront N F (looping s) z
 pub data BlockFront (N : Nested) (F : Fronts) : Place → Place → Type 0 where
   in_body : {s m z : Place} {xs : List Sym} → at parameters s ≡ Some (xs, m) → StatementsFront N F (entered xs m) z → BlockFront N F s z
 
+pub data DefinitionFront (N : Nested) (F : Fronts) : Place → Place → Type 0 where
+  in_method : {s m n z : Place} {x : Sym} {xs : List Sym} → at name s ≡ Some (x, m) → at formals m ≡ Some (xs, n) → StatementsFront N F (defined xs n) z → DefinitionFront N F s z
+
 abbrev pub PartFront : Nested → Fronts → Part → Place → Place → Type 0
 PartFront N F parts.Group = StatementsFront N F
 PartFront N F parts.Choice = EndedFront N F (Branches N) (BranchesFront N F)
@@ -179,6 +186,7 @@ PartFront N F parts.Not = NegationFront N F
 PartFront N F parts.Command = CommandFront N F
 PartFront N F parts.Branch = ArgumentFront N F
 PartFront N F parts.Block = BlockFront N F
+PartFront N F parts.Definition = DefinitionFront N F
 
 -- Inside the right side of an assignment so many constructs more are begun, and then one that has just begun.
 unfoldable pub fronts_inside : ℕ → Fronts
@@ -190,6 +198,14 @@ unfoldable pub fronts_outside : ℕ → Fronts
 fronts_outside zero = record { part = λ p s z. s ≡ z; bracketed = λ s z. s ≡ z; value = ValueFront (inside zero) (fronts_inside zero) }
 fronts_outside (suc d) = record { part = PartFront (outside d) (fronts_outside d); bracketed = MembersFront (outside d) (fronts_outside d) listings.Call; value = ValueFront (inside (suc d)) (fronts_inside (suc d)) }
 
+-- in a row of a program
+pub data RowFront (N : Nested) (F : Fronts) : Place → Place → Type 0 where
+  in_definition : {s m z : Place} → next s ≡ Some (kind.Def, m) → F.part parts.Definition m z → RowFront N F s z
+  in_statement : {s z : Place} → StatementFront N F s z → RowFront N F s z
+
+abbrev pub ProgramFront : Nested → Fronts → Place → Place → Type 0
+ProgramFront N F s z = ChainFront separators (Entries N) (RowFront N F) (skip s) z
+
 -- from the first word on, more constructs than the number are begun at some place and not ended there
 abbrev pub NestsBeyond : ℕ → List ℕ → List Token → Type 0
-NestsBeyond d source tokens = (z : Place) × StatementsFront (outside d) (fronts_outside d) (start (words_of source tokens)) z
+NestsBeyond d source tokens = (z : Place) × ProgramFront (outside d) (fronts_outside d) (start (words_of source tokens)) z

@@ -11,9 +11,11 @@ use Rattle.rr_parser.specs.Places.{Place, start}
 use Rattle.rr_parser.specs.Grammar.Nesting.{Nested}
 use Rattle.rr_parser.specs.Grammar.Operands.{Bang, Minus}
 use Rattle.rr_parser.specs.Grammar.Calls.{Argument, Array, Hash, Index, Bracketed, Command, Value}
-use Rattle.rr_parser.specs.Grammar.Sequences.{Negation, Statements, Group}
+use Rattle.rr_parser.specs.Grammar.Sequences.{Negation, Group}
 use Rattle.rr_parser.specs.Grammar.Control.{Choice, Unless, Looped}
 use Rattle.rr_parser.specs.Grammar.Blocks.{Block}
+use Rattle.rr_parser.specs.Grammar.Definitions.{Definition}
+use Rattle.rr_parser.specs.Grammar.Programs.{Outline, Main, main_of, Program}
 pub mod Chains
 pub mod Nesting
 pub mod Names
@@ -23,6 +25,8 @@ pub mod Calls
 pub mod Sequences
 pub mod Control
 pub mod Blocks
+pub mod Definitions
+pub mod Programs
 
 -- what each part is
 abbrev pub PartOf : Nested → Part → Place → Tree → Place → Type 0
@@ -39,6 +43,7 @@ PartOf N parts.Not = Negation N
 PartOf N parts.Command = Command N
 PartOf N parts.Branch = Argument N
 PartOf N parts.Block = Block N
+PartOf N parts.Definition = Definition N
 
 -- What nests no deeper than a number inside the right side of an assignment. There, each further right side counts.
 unfoldable pub inside : ℕ → Nested
@@ -50,13 +55,18 @@ unfoldable pub outside : ℕ → Nested
 outside zero = record { part = λ p s t z. ⊥; bracketed = λ s l z. ⊥; value = Value (inside zero) }
 outside (suc d) = record { part = PartOf (outside d); bracketed = Bracketed (outside d) listings.Call; value = Value (inside (suc d)) }
 
--- the words spell the tree, with constructs nested no deeper than a number
-abbrev pub WordsSpell : ℕ → List Word → Tree → Type 0
-WordsSpell d ws t = (z : Place) × Statements (outside d) (start ws) t z × (z.rest ≡ [])
+-- the words spell a program, with constructs nested no deeper than a number
+abbrev pub WordsSpell : ℕ → List Word → Main → Type 0
+WordsSpell d ws t = (z : Place) × (o : Outline) × Program (outside d) (start ws) o z × (z.rest ≡ []) × (t ≡ main_of o)
 
--- the tokens of a source spell the tree, with constructs nested no deeper than a number
+-- The tokens of a source spell a program, with constructs nested no deeper than a number: its definitions, in their order, and the
+-- tree of its statements.
+abbrev pub SpellsProgram : ℕ → List ℕ → List Token → List Tree → Tree → Type 0
+SpellsProgram d source tokens definitions t = WordsSpell d (words_of source tokens) (definitions, t)
+
+-- the tokens of a source spell the tree of the statements
 abbrev pub SpellsWithin : ℕ → List ℕ → List Token → Tree → Type 0
-SpellsWithin d source tokens t = WordsSpell d (words_of source tokens) t
+SpellsWithin d source tokens t = (definitions : List Tree) × SpellsProgram d source tokens definitions t
 
 -- the same for some number
 abbrev pub Spells : List ℕ → List Token → Tree → Type 0

@@ -13,10 +13,17 @@ use Rattle.rr_parser.specs.declared.parser.Parser.{Parser}
 use Rattle.rr_parser.specs.Places.{Known, Place}
 use Rattle.rr_parser.specs.Variables.{known_in}
 use Rattle.rr_parser.specs.declared.variables.Variable.{Variable}
+use Rattle.rr_parser.specs.declared.variables.Variables.{Variables}
 use Rattle.rr_parser.specs.declared.variables.Scope.{Scope}
 use Rattle.rr_parser.specs.Grammar.Names.{find, seen_from, with_variable, with_loop}
 use Rattle.rr_parser.specs.Grammar.Blocks.{inner, with_parameters}
 use Rattle.rr_parser.specs.Grammar.Calls.{with_target, target_variable}
+use Rattle.rr_parser.specs.Grammar.Definitions.{apart, rejoined}
+use Rattle.rr_parser.specs.Grammar.Programs.{Entry, defines, does, Outline}
+use Rattle.rr_parser.specs.declared.definitions.Outside.{Outside}
+use Rattle.rr_parser.specs.declared.outline.Entry.{Entry as CodeEntry}
+use Rattle.rr_parser.specs.declared.outline.Entry.TheVariants as code_entry
+use Rattle.rr_parser.specs.declared.outline.Outline.{Outline as CodeOutline}
 use Rattle.rr_parser.specs.declared.word.Target.{Target}
 use Rattle.rr_parser.specs.Reading.Answers.{Answer, Refused, wrong, deep}
 
@@ -40,6 +47,14 @@ pairs = record { tree = λ ns p. (tree_at ns p.0, tree_at ns p.1); within = λ n
 
 abbrev pub lists : {E A : Type 0} → View E A → View (List E) (List A)
 lists v = record { tree = λ ns es. map (v.tree ns) es; within = λ n es. All (v.within n) es }
+
+abbrev pub entry_tree : List Node → CodeEntry → Entry
+entry_tree ns (code_entry.Definition i) = defines (tree_at ns i)
+entry_tree ns (code_entry.Statement i) = does (tree_at ns i)
+
+abbrev pub entry_within : ℕ → CodeEntry → Type 0
+entry_within n (code_entry.Definition i) = i < n
+entry_within n (code_entry.Statement i) = i < n
 
 -- What was made stands for what is read, and the nodes before it are as they were.
 pub record Made {E A : Type 0} (v : View E A) (old new : Parser) (e : E) (rest : List Word) (read : Answer A) : Type 0 where
@@ -70,6 +85,30 @@ GivesPair old new (Err e) read = Fails e read
 abbrev pub GivesPairs : Parser → Parser → Result (Vec (ℕ × ℕ) Global × Bor (List Word)) Refusal → Answer (List (Tree × Tree)) → Type 0
 GivesPairs old new (Ok x) read = Made (lists pairs) old new x.0.items x.1.now read
 GivesPairs old new (Err e) read = Fails e read
+
+-- a row of a program
+abbrev pub entries : View CodeEntry Entry
+entries = record { tree = entry_tree; within = entry_within }
+
+-- the definitions and the statements of a program
+abbrev pub outlines : View CodeOutline Outline
+outlines = record {
+  tree = λ ns o. (map (tree_at ns) o.definitions.items, map (tree_at ns) o.statements.items);
+  within = λ n o. All (λ i. i < n) o.definitions.items × All (λ i. i < n) o.statements.items;
+}
+
+abbrev pub GivesEntry : Parser → Parser → Result (CodeEntry × Bor (List Word)) Refusal → Answer Entry → Type 0
+GivesEntry old new (Ok x) read = Made entries old new x.0 x.1.now read
+GivesEntry old new (Err e) read = Fails e read
+
+-- one row more
+abbrev pub Adds : CodeOutline → CodeOutline → CodeEntry → Type 0
+Adds old new (code_entry.Definition i) = (new.definitions.items ≡ old.definitions.items ++ i ∷ []) × (new.statements.items ≡ old.statements.items)
+Adds old new (code_entry.Statement i) = (new.definitions.items ≡ old.definitions.items) × (new.statements.items ≡ old.statements.items ++ i ∷ [])
+
+abbrev pub GivesOutline : Parser → Parser → Result (CodeOutline × Bor (List Word)) Refusal → Answer Outline → Type 0
+GivesOutline old new (Ok x) read = Made outlines old new x.0 x.1.now read
+GivesOutline old new (Err e) read = Fails e read
 
 -- A node was put behind the others.
 pub record Appends (old new : Parser) (n : Node) (id : ℕ) : Type 0 where
@@ -113,7 +152,20 @@ pub record Enters (old new : Parser) (xs : List Sym) (m : Scope) : Type 0 where
 
 -- what is known behind a scope, by its mark
 abbrev pub left_by : Scope → Known → Known
-left_by m n = record { locals = take m.locals n.locals; level = m.level; count = m.count; begun = n.begun; in_loop = m.in_loop }
+left_by m n = record { locals = take m.locals n.locals; level = m.level; count = m.count; begun = n.begun; in_loop = m.in_loop; in_method = n.in_method }
+
+-- A method with these parameters was begun, and no node was put; the mark holds what was known before it.
+pub record Defines (old new : Parser) (xs : List Sym) (m : Outside) : Type 0 where
+  pub nodes : new.nodes.items ≡ old.nodes.items
+  pub known : known_of new ≡ with_parameters xs (apart (known_of old))
+  pub number : m.number ≡ (known_of new).begun
+  pub parameters : m.parameters ≡ length xs
+  pub outer : known_in m.variables ≡ known_of old
+
+-- A method was left, before which this was known.
+pub record Rejoins (old new : Parser) (v : Variables) : Type 0 where
+  pub nodes : new.nodes.items ≡ old.nodes.items
+  pub known : known_of new ≡ rejoined (known_in v) (known_of old)
 
 -- A scope was left.
 pub record Leaves (old new : Parser) (m : Scope) : Type 0 where

@@ -7,14 +7,15 @@ use Rattle.rr_parser.specs.declared.locals.Local.{Local}
 use Rattle.rr_parser.specs.contracts.word.WordKindPartialEq.TheImpl as kind_equality
 
 -- What is known at a place: the local variables, those of the scopes outside first, each with the level of its scope and its
--- number there; at which level the place is; how many variables its own scope has; how many scopes were begun; and whether it is
--- in a loop or a block.
+-- number there; at which level the place is; how many variables its own scope has; how many scopes were begun; whether it is
+-- in a loop or a block; and whether it is in a method.
 pub record Known : Type 0 where
   pub locals : List Local
   pub level : ℕ
   pub count : ℕ
   pub begun : ℕ
   pub in_loop : Bool
+  pub in_method : Bool
 
 -- what is known there, and the words that are left
 pub record Place : Type 0 where
@@ -75,7 +76,7 @@ abbrev pub next : Place → Option (WordKind × Place)
 next s = at any_word s
 
 abbrev pub start : List Word → Place
-start ws = record { known = record { locals = []; level = 0; count = 0; begun = 0; in_loop = false }; rest = ws }
+start ws = record { known = record { locals = []; level = 0; count = 0; begun = 0; in_loop = false; in_method = false }; rest = ws }
 
 -- ---- separators
 

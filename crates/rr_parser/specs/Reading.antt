@@ -10,9 +10,12 @@ use Rattle.rr_parser.specs.Reading.Answers.{◌>>=◌, Refused, wrong, deep, Par
 use Rattle.rr_parser.specs.Reading.Nesting.{Readers}
 use Rattle.rr_parser.specs.Reading.Operands.{bang_of, minus_of}
 use Rattle.rr_parser.specs.Reading.Calls.{argument_of, bracketed_of, array_of, hash_of, index_of, command_of, value_of}
-use Rattle.rr_parser.specs.Reading.Sequences.{negation_of, statements_of, group_of}
+use Rattle.rr_parser.specs.Reading.Sequences.{negation_of, group_of}
 use Rattle.rr_parser.specs.Reading.Control.{choice_of, unless_of, looped_of}
 use Rattle.rr_parser.specs.Reading.Blocks.{block_of}
+use Rattle.rr_parser.specs.Reading.Definitions.{definition_of}
+use Rattle.rr_parser.specs.Reading.Programs.{outline_of}
+use Rattle.rr_parser.specs.Grammar.Programs.{Outline, Main, main_of}
 pub mod Answers
 pub mod Nesting
 pub mod Operands
@@ -21,6 +24,8 @@ pub mod Calls
 pub mod Sequences
 pub mod Control
 pub mod Blocks
+pub mod Definitions
+pub mod Programs
 
 abbrev pub part_of : Readers → Part → Parse Tree
 part_of N parts.Group = group_of N
@@ -36,6 +41,7 @@ part_of N parts.Not = negation_of N
 part_of N parts.Command = command_of N
 part_of N parts.Branch = argument_of N
 part_of N parts.Block = block_of N
+part_of N parts.Definition = definition_of N
 
 unfoldable pub readers_inside : ℕ → Readers
 readers_inside zero = record { part = λ p s. Err deep; bracketed = λ s. Err deep; value = λ b s. Err deep }
@@ -50,10 +56,10 @@ abbrev pub readers : Bool → ℕ → Readers
 readers true d = readers_inside d
 readers false d = readers_outside d
 
-abbrev pub whole_of : Tree → List Word → Result Tree Refused
-whole_of t [] = Ok t
-whole_of t (w ∷ ws) = Err wrong
+abbrev pub whole_of : Outline → List Word → Result Main Refused
+whole_of o [] = Ok (main_of o)
+whole_of o (w ∷ ws) = Err wrong
 
--- the tree of all words
-unfoldable pub program_of : ℕ → List Word → Result Tree Refused
-program_of d ws = statements_of (readers false d) (start ws) >>= λ r. whole_of r.0 r.1.rest
+-- the definitions and the statements of all words
+unfoldable pub program_of : ℕ → List Word → Result Main Refused
+program_of d ws = outline_of (readers false d) (start ws) >>= λ r. whole_of r.0 r.1.rest

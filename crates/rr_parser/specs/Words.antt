@@ -15,6 +15,7 @@ use Rattle.rr_parser.specs.declared.word.Connective.TheVariants as connectives
 use Rattle.rr_parser.specs.declared.word.Infix.TheVariants as infixes
 use Rattle.rr_parser.specs.declared.word.Jump.TheVariants as jumps
 use Rattle.rr_parser.specs.declared.word.Operation.TheVariants as operations
+use Rattle.rr_parser.specs.declared.word.Passing.TheVariants as passings
 use Rattle.rr_parser.specs.declared.word.Sign.TheVariants as signs
 use Rattle.rr_parser.specs.declared.word.WordKind.{WordKind}
 use Rattle.rr_parser.specs.declared.word.WordKind.TheVariants as kind
@@ -33,6 +34,9 @@ keyword_kind keywords.Do = kind.Do
 keyword_kind keywords.Break = kind.Jump jumps.Break
 keyword_kind keywords.Next = kind.Jump jumps.Next
 keyword_kind keywords.Return = kind.Jump jumps.Return
+keyword_kind keywords.Yield = kind.Passing passings.Yield
+keyword_kind keywords.SuperWord = kind.Passing passings.Super
+keyword_kind keywords.Def = kind.Def
 keyword_kind keywords.And = kind.AndWord
 keyword_kind keywords.Or = kind.OrWord
 keyword_kind keywords.Not = kind.NotWord

@@ -34,7 +34,7 @@ fn variable(words: &[Word]) -> Option<(Sym, &[Word])>
 }
 
 /// Names with commas between them, up to a word of this kind.
-fn names_to<'w>(alloc: Global, end: WordKind, words: &'w [Word]) -> Parsed<'w, Vec<Sym>>
+pub(crate) fn names_to<'w>(alloc: Global, end: WordKind, words: &'w [Word]) -> Parsed<'w, Vec<Sym>>
     ensures { ReadsNames result (names_to end words.now) }
 {
     let mut names = Vec::new(alloc);

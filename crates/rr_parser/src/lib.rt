@@ -4,12 +4,14 @@
 mod blocks;
 mod calls;
 mod control;
+mod definitions;
 mod locals;
 mod look;
 mod names;
 mod nodes;
 mod operands;
 mod operators;
+mod outline;
 mod parser;
 mod program;
 mod refusal;

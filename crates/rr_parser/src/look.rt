@@ -157,6 +157,7 @@ pub(crate) fn head(words: &[Word]) -> Option<(Head, &[Word])>
     match word.kind {
         WordKind::Name(name, _) => Some((Head::Call(name), rest)),
         WordKind::Jump(jump) => Some((Head::Jump(jump), rest)),
+        WordKind::Passing(passing) => Some((Head::Passing(passing), rest)),
         _ => None,
     }
 }
@@ -432,6 +433,7 @@ fn begins_operand(kind: WordKind, tight: bool) -> bool
         | WordKind::Field(_)
         | WordKind::Global(_)
         | WordKind::Itself
+        | WordKind::Passing(_)
         | WordKind::Bang
         | WordKind::Open
         | WordKind::OpenSquare => true,

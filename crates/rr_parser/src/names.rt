@@ -4,7 +4,7 @@ ghost use Rattle.std.specs.Prelude.{◌≡◌, ◌∷◌, [], ◌++◌, length, 
 ghost use Rattle.rr_parser.specs.Words.{keyword_kind, op_kind, is_marked, with_name, number_of, with_symbol, with_text, word_with, words_of, symbols_of, texts_of};
 
 use crate::refusal::Storage;
-use crate::word::{Connective, Infix, Jump, Operation, Sign, Word, WordKind};
+use crate::word::{Connective, Infix, Jump, Operation, Passing, Sign, Word, WordKind};
 use indexmap::IndexSet;
 use rr_base::Sym;
 use rr_lexer::{Keyword, Kind, Op, Token, int_value, name, text_contents};
@@ -35,6 +35,9 @@ fn keyword_kind(keyword: Keyword) -> WordKind
         Keyword::Break => WordKind::Jump(Jump::Break),
         Keyword::Next => WordKind::Jump(Jump::Next),
         Keyword::Return => WordKind::Jump(Jump::Return),
+        Keyword::Yield => WordKind::Passing(Passing::Yield),
+        Keyword::SuperWord => WordKind::Passing(Passing::Super),
+        Keyword::Def => WordKind::Def,
         Keyword::And => WordKind::AndWord,
         Keyword::Or => WordKind::OrWord,
         Keyword::Not => WordKind::NotWord,
@@ -114,7 +117,8 @@ pub(crate) struct Numbering<'s> {
     pub texts: Vec<Vec<u8>>,
 }
 
-fn number(count: usize) -> Result<u32, Storage>
+/// A count as a number.
+pub(crate) fn number(count: usize) -> Result<u32, Storage>
     ensures { IfOk result (λ n. n ≡ count) }
 {
     match u32::try_from(count) {

@@ -4,7 +4,7 @@ ghost use Rattle.std.specs.Prelude.{◌≡◌, ◌<◌, ◌≤◌, ◌++◌, len
 ghost use Rattle.rr_tree.specs.Tree.{Tree, nil, tree_at, sequence, bare, call, send, array, hash, pair, symbol, listed, HasPartsBefore};
 ghost use Rattle.rr_tree.specs.Nodes.{node_tree, item};
 ghost use Rattle.rr_parser.specs.Grammar.Operators.{infixed, joined_by};
-ghost use Rattle.rr_parser.specs.Grammar.Names.{local_tree, jump_tree, jump_value, headed};
+ghost use Rattle.rr_parser.specs.Grammar.Names.{local_tree, jump_tree, jump_value, passed, passed_bare, headed};
 ghost use Rattle.rr_parser.specs.Grammar.Calls.{target_tree, set_target, operated, signed};
 ghost use Rattle.rr_parser.specs.Grammar.Sequences.{modified};
 ghost use Rattle.rr_parser.specs.Grammar.Control.{chosen};
@@ -14,7 +14,9 @@ use crate::look::{INTEGERS, joined, negated};
 use crate::parser::{Parsed, Parser};
 use crate::refusal::{Refusal, Storage};
 use crate::variables::Variable;
-use crate::word::{Aim, Connective, Head, Infix, Jump, Modifier, Operation, Sign, Target, Word};
+use crate::word::{
+    Aim, Connective, Head, Infix, Jump, Modifier, Operation, Passing, Sign, Target, Word,
+};
 use rr_base::Sym;
 use rr_tree::{Node, NodeId};
 
@@ -177,6 +179,28 @@ impl Parser {
         self.put_array(items)
     }
 
+    /// Puts what passes arguments on.
+    pub fn put_passed(&mut self, passing: Passing, items: &[NodeId]) -> Result<NodeId, Storage>
+        requires { All (λ i. i < length self.old.nodes.items) items.now }
+        ensures { IfOk result (λ id. Puts self.old self.new (passed passing (listed (map (tree_at self.old.nodes.items) items.now))) id) }
+    {
+        let (first, count) = self.put_items(items)?;
+        match passing {
+            Passing::Yield => self.put(Node::Yield { first, count }),
+            Passing::Super => self.put(Node::Super { first, count }),
+        }
+    }
+
+    /// Puts what passes arguments on, where neither arguments nor a bracket follow.
+    pub fn put_bare_passed(&mut self, passing: Passing) -> Result<NodeId, Storage>
+        ensures { IfOk result (λ id. Puts self.old self.new (passed_bare passing) id) }
+    {
+        match passing {
+            Passing::Yield => self.put_passed(Passing::Yield, &[]),
+            Passing::Super => self.put(Node::ForwardingSuper),
+        }
+    }
+
     /// Puts a command.
     pub fn put_headed(&mut self, head: Head, items: &[NodeId]) -> Result<NodeId, Storage>
         requires { All (λ i. i < length self.old.nodes.items) items.now }
@@ -188,6 +212,7 @@ impl Parser {
                 let value = self.put_value(items)?;
                 self.put_jump(jump, value)
             }
+            Head::Passing(passing) => self.put_passed(passing, items),
         }
     }
 

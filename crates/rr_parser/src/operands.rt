@@ -2,13 +2,13 @@
 
 ghost use Rattle.std.specs.Prelude.{◌≡◌, ◌<◌, length};
 ghost use Rattle.rr_tree.specs.Tree.{tree_at};
-ghost use Rattle.rr_parser.specs.Reading.Operands.{jump_at, primary_of, tailed_of, postfix_of, name_of, variable_or_call, block_behind, blocked_of, bang_of, minus_of};
+ghost use Rattle.rr_parser.specs.Reading.Operands.{jump_at, passing_of, primary_of, tailed_of, postfix_of, name_of, variable_or_call, block_behind, blocked_of, bang_of, minus_of};
 ghost use Rattle.rr_parser.specs.Reading.{readers};
 
 use crate::look::{begins_arguments, begins_operands, behind, bracket, prefix_minus, tail};
 use crate::parser::{Parsed, Parser};
 use crate::refusal::Refusal;
-use crate::word::{Jump, Part, Tail, Word, WordKind};
+use crate::word::{Jump, Part, Passing, Tail, Word, WordKind};
 use rr_base::Sym;
 use rr_tree::{Node, NodeId, Path};
 
@@ -104,6 +104,7 @@ impl Parser {
             WordKind::Itself => Ok((self.put(Node::Itself)?, rest)),
             WordKind::Minus => self.negative(rest),
             WordKind::Jump(jump) => self.jump(jump, rest),
+            WordKind::Passing(passing) => self.passing(passing, inside, depth, rest),
             WordKind::Name(name, _) => self.name(inside, depth, name, rest),
             WordKind::Open => self.part(Part::Group, inside, depth, rest),
             WordKind::OpenSquare => self.part(Part::Array, inside, depth, rest),
@@ -149,6 +150,31 @@ impl Parser {
             return Err(Refusal::Unexpected(words.len()));
         }
         Ok((self.put_bare_jump(jump)?, words))
+    }
+
+    /// What passes arguments on, which stand in brackets or are none.
+    #[cycle(parser)]
+    #[tactic(auto, unfolding(crate::specs::Reading::Operands::passing_of))]
+    fn passing<'w>(
+        &mut self,
+        passing: Passing,
+        inside: bool,
+        depth: u32,
+        words: &'w [Word],
+    ) -> Parsed<'w, NodeId>
+        ensures { Gives self.old self.new result (passing_of (readers inside depth) passing (place self.old words.now)) }
+    {
+        if !self.known.in_method {
+            return Err(Refusal::Unexpected(words.len().saturating_add(1)));
+        }
+        if let Some(rest) = bracket(words) {
+            let (items, rest) = self.inner_arguments(inside, depth, rest)?;
+            return Ok((self.put_passed(passing, &items)?, rest));
+        }
+        if begins_operands(words) {
+            return Err(Refusal::Unexpected(words.len()));
+        }
+        Ok((self.put_bare_passed(passing)?, words))
     }
 
     /// A local variable, or a call without arguments.

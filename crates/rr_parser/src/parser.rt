@@ -6,6 +6,7 @@ ghost use Rattle.rr_tree.specs.Order.{IsOrdered-prop};
 ghost use Rattle.rr_parser.specs.Grammar.Names.{command, begins_head, is_allowed};
 ghost use Rattle.rr_parser.specs.Reading.{readers, part_of};
 
+use crate::locals::Locals;
 use crate::look::{begins_arguments, begins_operands, head};
 use crate::refusal::{Refusal, Storage};
 use crate::variables::{Scope, Variable, Variables};
@@ -20,6 +21,8 @@ pub(crate) struct Parser {
     pub alloc: Global,
     pub nodes: Vec<Node>,
     pub known: Variables,
+    /// The table of local variables that the next method gets.
+    pub spare: Locals,
     /// How many calls are numbered.
     pub sites: u32,
     ghost ordered: { IsOrdered nodes.items } by { IsOrdered-prop nodes.items },
@@ -88,6 +91,7 @@ impl Parser {
         match head {
             Head::Call(name) => self.known.variable(name).is_none() && begins_operands(words),
             Head::Jump(jump) => self.allows(jump) && begins_arguments(words),
+            Head::Passing(_) => self.known.in_method && begins_operands(words),
         }
     }
 
@@ -145,6 +149,7 @@ impl Parser {
             Part::Command => self.command(inside, depth, words),
             Part::Branch => self.value(false, inside, depth, words),
             Part::Block => self.block(inside, depth, words),
+            Part::Definition => self.definition(inside, depth, words),
         }
     }
 

@@ -7,13 +7,14 @@ ghost use Rattle.rr_lexer.specs.Freezes.{freezes};
 ghost use Rattle.rr_tree.specs.Order.{IsOrdered-prop};
 ghost use Rattle.rr_parser.specs.Words.{words_of, symbols_of, texts_of};
 ghost use Rattle.rr_parser.specs.Fronts.{NestsBeyond};
-ghost use Rattle.rr_parser.specs.Grammar.{Spells, SpellsWithin};
+ghost use Rattle.rr_parser.specs.Grammar.{Spells, SpellsWithin, SpellsProgram};
 ghost use Rattle.rr_parser.specs.Reading.{program_of};
 ghost use Rattle.rr_parser.specs.Meets.{Fails};
 ghost use Rattle.rr_parser.specs.Faults.{IsParseFault, IsFaultOf, IsSyntax};
 
 use crate::locals::Locals;
 use crate::names::read_words;
+use crate::outline::Outline;
 use crate::parser::Parser;
 use crate::refusal::{Refusal, Storage};
 use crate::variables::Variables;
@@ -31,6 +32,7 @@ const NESTING: u32 = 200;
 struct Nodes {
     pub nodes: Vec<Node>,
     pub root: NodeId,
+    pub definitions: Vec<NodeId>,
     /// How many calls are numbered.
     pub sites: u32,
     ghost ordered: { IsOrdered nodes.items } by { IsOrdered-prop nodes.items },
@@ -38,7 +40,7 @@ struct Nodes {
 
 #[tactic(auto, unfolding(crate::specs::Reading::program_of))]
 fn read_nodes(alloc: Global, words: &[Word], depth: u32) -> Result<Nodes, Refusal>
-    ensures tree { MatchResult result (λ p. program_of depth words.now ≡ Ok (tree_at p.nodes.items p.root)) (λ e. Fails e (program_of depth words.now)) }
+    ensures tree { MatchResult result (λ p. program_of depth words.now ≡ Ok (map (tree_at p.nodes.items) p.definitions.items, tree_at p.nodes.items p.root)) (λ e. Fails e (program_of depth words.now)) }
 {
     let mut parser = Parser {
         alloc,
@@ -49,20 +51,33 @@ fn read_nodes(alloc: Global, words: &[Word], depth: u32) -> Result<Nodes, Refusa
             count: 0,
             begun: 0,
             in_loop: false,
+            in_method: false,
         },
+        spare: Locals::new(alloc),
         sites: 0,
     };
-    let (root, rest) = parser.statements(false, depth, words)?;
+    let (outline, rest) = parser.outline(depth, words)?;
     if !rest.is_empty() {
         return Err(Refusal::Unexpected(rest.len()));
     }
+    let Outline {
+        definitions,
+        statements,
+    } = outline;
+    let root = parser.put_sequence(&statements)?;
     let Parser {
         alloc: _,
         nodes,
         known: _,
+        spare: _,
         sites,
     } = parser;
-    Ok(Nodes { nodes, root, sites })
+    Ok(Nodes {
+        nodes,
+        root,
+        definitions,
+        sites,
+    })
 }
 
 /// The fault at the first of the tokens that are left, or behind the source.
@@ -98,20 +113,25 @@ pub(crate) fn read(
     tokens: &[Token],
     depth: u32,
 ) -> Result<Program, Refusal>
-    ensures tree { MatchResult result (λ p. program_of depth (words_of source.now tokens.now) ≡ Ok (tree_at p.nodes.items p.root)) (λ e. Fails e (program_of depth (words_of source.now tokens.now))) }
+    ensures tree { MatchResult result (λ p. program_of depth (words_of source.now tokens.now) ≡ Ok (map (tree_at p.nodes.items) p.definitions.items, tree_at p.nodes.items p.root)) (λ e. Fails e (program_of depth (words_of source.now tokens.now))) }
     ensures symbols { IfOk result (λ p. map (λ s. s.items) p.symbols.items ≡ symbols_of source.now tokens.now) }
     ensures texts { IfOk result (λ p. map (λ s. s.items) p.texts.items ≡ texts_of source.now tokens.now) }
     ensures freezes { IfOk result (λ p. p.freezes ≡ freezes source.now tokens.now) }
 {
     let words = read_words(alloc, source, tokens)?;
-    let Nodes { nodes, root, sites } = read_nodes(alloc, &words.words, depth)?;
+    let Nodes {
+        nodes,
+        root,
+        definitions,
+        sites,
+    } = read_nodes(alloc, &words.words, depth)?;
     Ok(Program {
         nodes,
         root,
         symbols: words.symbols,
         texts: words.texts,
         freezes: freezes_literals(source, tokens),
-        definitions: Vec::new(alloc),
+        definitions,
         classes: Vec::new(alloc),
         methods: Vec::new(alloc),
         scopes: Vec::new(alloc),
@@ -130,6 +150,8 @@ pub(crate) fn read(
 pub fn parse(alloc: Global, source: &[u8], tokens: &[Token]) -> Result<Program, Fault>
     // What is read is spelled so.
     ensures found { IfOk result (λ p. SpellsWithin 200 source.now tokens.now (tree_at p.nodes.items p.root)) }
+    // So are its definitions, which stand in their order.
+    ensures program { IfOk result (λ p. SpellsProgram 200 source.now tokens.now (map (tree_at p.nodes.items) p.definitions.items) (tree_at p.nodes.items p.root)) }
     ensures symbols { IfOk result (λ p. map (λ s. s.items) p.symbols.items ≡ symbols_of source.now tokens.now) }
     ensures texts { IfOk result (λ p. map (λ s. s.items) p.texts.items ≡ texts_of source.now tokens.now) }
     ensures freezes { IfOk result (λ p. p.freezes ≡ freezes source.now tokens.now) }

@@ -62,7 +62,12 @@ impl Parser {
 
     #[cycle(parser)]
     #[tactic(auto, unfolding(crate::specs::Reading::Sequences::statement_of, crate::specs::Reading::Answers::chain))]
-    fn statement<'w>(&mut self, inside: bool, depth: u32, words: &'w [Word]) -> Parsed<'w, NodeId>
+    pub fn statement<'w>(
+        &mut self,
+        inside: bool,
+        depth: u32,
+        words: &'w [Word],
+    ) -> Parsed<'w, NodeId>
         ensures { Gives self.old self.new result (statement_of (readers inside depth) (place self.old words.now)) }
     {
         let (mut statement, mut rest) = self.expression(inside, depth, words)?;

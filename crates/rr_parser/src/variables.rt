@@ -40,6 +40,8 @@ pub(crate) struct Variables {
     pub begun: u32,
     /// Whether the place is in a loop or a block.
     pub in_loop: bool,
+    /// Whether the place is in a method.
+    pub in_method: bool,
 }
 
 impl Variables {
@@ -90,7 +92,7 @@ impl Variables {
         }
     }
 
-    fn add_parameters(&mut self, names: &[Sym]) -> Result<(), Storage>
+    pub fn add_parameters(&mut self, names: &[Sym]) -> Result<(), Storage>
         ensures { OnOk result (known_in self.new ≡ with_parameters names.now (known_in self.old)) }
     {
         for name in names {

@@ -45,11 +45,19 @@ pub(crate) enum Jump {
     Return,
 }
 
-/// What begins a command: the name of a call, or a jump.
+/// What passes arguments on: to the block of the method, or to the method of the superclass.
+#[derive(Clone, Copy, Debug, PartialEq, Eq, Drop)]
+pub(crate) enum Passing {
+    Yield,
+    Super,
+}
+
+/// What begins a command: the name of a call, a jump, or what passes arguments on.
 #[derive(Clone, Copy, Debug, PartialEq, Eq, Drop)]
 pub(crate) enum Head {
     Call(Sym),
     Jump(Jump),
+    Passing(Passing),
 }
 
 /// What stands before the `=` of an assignment with an operator.
@@ -120,6 +128,8 @@ pub(crate) enum Part {
     Branch,
     /// The parameters and the statements of a block, with the brace behind them.
     Block,
+    /// What stands behind `def`, with its `end`.
+    Definition,
 }
 
 /// What a word is.
@@ -162,6 +172,9 @@ pub(crate) enum WordKind {
     Loop { until: bool },
     Do,
     Jump(Jump),
+    /// `yield`, or `super`.
+    Passing(Passing),
+    Def,
     Then,
     Elsif,
     Else,

@@ -1,5 +1,5 @@
 -- Blocks, and the scopes that they are.
-use Rattle.std.specs.Prelude.{◌≡◌, ℕ, ◌+◌, List, [], ◌∷◌, length, take, Bool, true, Option, Some, None, if◌then◌else◌}
+use Rattle.std.specs.Prelude.{◌≡◌, ◌+◌, List, [], ◌∷◌, length, take, true, Option, Some, None, if◌then◌else◌}
 use Rattle.rr_base.specs.declared.name.Sym.{Sym}
 use Rattle.rr_tree.specs.Tree.{Tree, block}
 use Rattle.rr_parser.specs.declared.word.WordKind.{WordKind}
@@ -53,7 +53,7 @@ with_parameters (x ∷ xs) k = with_parameters xs (with_variable k x None)
 
 -- a scope inside the present one, which has no variables yet, and in which jumps may stand
 abbrev pub inner : Known → Known
-inner k = record { locals = k.locals; level = k.level + 1; count = 0; begun = k.begun + 1; in_loop = true }
+inner k = record { locals = k.locals; level = k.level + 1; count = 0; begun = k.begun + 1; in_loop = true; in_method = k.in_method }
 
 -- the place as the first one of a scope with these parameters
 abbrev pub entered : List Sym → Place → Place
@@ -61,7 +61,7 @@ entered xs s = record { known = with_parameters xs (inner s.known); rest = s.res
 
 -- Behind a scope that was begun at s the variables are known that were known there.
 abbrev pub left_to : Known → Known → Known
-left_to k n = record { locals = take (length k.locals) n.locals; level = k.level; count = k.count; begun = n.begun; in_loop = k.in_loop }
+left_to k n = record { locals = take (length k.locals) n.locals; level = k.level; count = k.count; begun = n.begun; in_loop = k.in_loop; in_method = n.in_method }
 
 abbrev pub leaving : Place → Place → Place
 leaving s n = record { known = left_to s.known n.known; rest = n.rest }

@@ -1,5 +1,5 @@
 -- Assignments, arguments and commands.
-use Rattle.std.specs.Prelude.{◌≡◌, ℕ, List, [], ◌∷◌, Bool, true, false, Option, Some, None}
+use Rattle.std.specs.Prelude.{◌≡◌, List, [], ◌∷◌, Bool, true, false, Option, Some, None}
 use Rattle.rr_base.specs.declared.name.Sym.{Sym}
 use Rattle.rr_tree.specs.Tree.{Tree, field, global, operator_assign, append_assign, or_assign, and_assign, assign, set_field, set_global, symbol, array, hash, pair, listed}
 use Rattle.rr_parser.specs.declared.word.WordKind.TheVariants as kind

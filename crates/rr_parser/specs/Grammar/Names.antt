@@ -1,13 +1,15 @@
 -- What a name stands for, and what its neighbours say about it.
 use Rattle.std.specs.Prelude.{ℕ, ◌==◌, ◌+◌, ◌-◌, List, [], ◌∷◌, ◌++◌, Bool, true, false, not, ◌&&◌, ◌||◌, Option, Some, None, is_some, if◌then◌else◌}
 use Rattle.rr_base.specs.declared.name.Sym.{Sym}
-use Rattle.rr_tree.specs.Tree.{Tree, nil, local, call, array, break, next, return, listed}
+use Rattle.rr_tree.specs.Tree.{Tree, Trees, nil, local, call, array, yield, super, forwarding_super, break, next, return, listed}
 use Rattle.rr_parser.specs.declared.locals.Local.{Local}
 use Rattle.rr_parser.specs.declared.variables.Variable.{Variable}
 use Rattle.rr_parser.specs.declared.word.Head.{Head}
 use Rattle.rr_parser.specs.declared.word.Head.TheVariants as heads
 use Rattle.rr_parser.specs.declared.word.Jump.{Jump}
 use Rattle.rr_parser.specs.declared.word.Jump.TheVariants as jumps
+use Rattle.rr_parser.specs.declared.word.Passing.{Passing}
+use Rattle.rr_parser.specs.declared.word.Passing.TheVariants as passings
 use Rattle.rr_parser.specs.declared.word.WordKind.{WordKind}
 use Rattle.rr_parser.specs.declared.word.WordKind.TheVariants as kind
 use Rattle.rr_parser.specs.declared.word.Word.{Word}
@@ -42,7 +44,7 @@ local_tree x v = local v.depth v.slot x.0
 -- a name that is no variable yet becomes one of the place's own scope and gets the next number there
 abbrev pub with_variable : Known → Sym → Option Local → Known
 with_variable k x (Some l) = k
-with_variable k x None = record { locals = k.locals ++ record { name = x; level = k.level; slot = k.count } ∷ []; level = k.level; count = k.count + 1; begun = k.begun; in_loop = k.in_loop }
+with_variable k x None = record { locals = k.locals ++ record { name = x; level = k.level; slot = k.count } ∷ []; level = k.level; count = k.count + 1; begun = k.begun; in_loop = k.in_loop; in_method = k.in_method }
 
 -- the same place, where the name is a local variable
 abbrev pub with_local : Sym → Place → Place
@@ -50,7 +52,7 @@ with_local x s = record { known = with_variable s.known x (find x.0 s.known.loca
 
 -- the same, in a loop or not
 abbrev pub with_loop : Bool → Known → Known
-with_loop b k = record { locals = k.locals; level = k.level; count = k.count; begun = k.begun; in_loop = b }
+with_loop b k = record { locals = k.locals; level = k.level; count = k.count; begun = k.begun; in_loop = b; in_method = k.in_method }
 
 abbrev pub name_of_kind : WordKind → Option Sym
 name_of_kind (kind.Name x marked) = Some x
@@ -81,6 +83,7 @@ begins_operand (kind.Constant x) tight = true
 begins_operand (kind.Field x) tight = true
 begins_operand (kind.Global x) tight = true
 begins_operand kind.Itself tight = true
+begins_operand (kind.Passing p) tight = true
 begins_operand kind.Open tight = true
 begins_operand kind.OpenSquare tight = true
 begins_operand kind.Bang tight = true
@@ -123,11 +126,23 @@ abbrev pub begins_arguments : List Word → Bool
 begins_arguments [] = false
 begins_arguments (w ∷ ws) = begins_argument w.kind
 
+-- ---- what passes arguments on
+
+abbrev pub passed : Passing → Trees → Tree
+passed passings.Yield l = yield l
+passed passings.Super l = super l
+
+-- without arguments and without a bracket: `super` passes the present values of the parameters
+abbrev pub passed_bare : Passing → Tree
+passed_bare passings.Yield = yield (listed [])
+passed_bare passings.Super = forwarding_super
+
 -- ---- what begins a command
 
 abbrev pub head_of_kind : WordKind → Option Head
 head_of_kind (kind.Name x marked) = Some (heads.Call x)
 head_of_kind (kind.Jump j) = Some (heads.Jump j)
+head_of_kind (kind.Passing p) = Some (heads.Passing p)
 head_of_kind _ = None
 
 abbrev pub head : Look Head
@@ -136,15 +151,17 @@ head = first_as (λ w. head_of_kind w.kind)
 abbrev pub begins_head : Head → Place → Bool
 begins_head (heads.Call x) s = begins_command x s
 begins_head (heads.Jump j) s = is_allowed j s.known && begins_arguments s.rest
+begins_head (heads.Passing p) s = s.known.in_method && begins_operands s.rest
 
 abbrev pub headed : Head → List Tree → Tree
 headed (heads.Call x) l = call x.0 (listed l)
 headed (heads.Jump j) l = jump_tree j (jump_value l)
+headed (heads.Passing p) l = passed p (listed l)
 
 abbrev pub commanding : Known → Option (Head × List Word) → Option (Head × List Word)
 commanding known None = None
 commanding known (Some x) = if begins_head x.0 (record { known = known; rest = x.1 }) then Some (x.0, x.1) else None
 
--- the name or the jump that begins a command
+-- what begins a command
 abbrev pub command : Known → Look Head
 command known ws = commanding known (head ws)

@@ -1,10 +1,11 @@
 -- Operands.
 use Rattle.std.specs.Prelude.{◌≡◌, ℕ, zero, suc, ℤ, pos, negsuc, nat_lt, nat_le, List, Bool, true, false, Option, Some, None, if◌then◌else◌, []}
 use Rattle.rr_base.specs.declared.name.Sym.{Sym}
-use Rattle.rr_tree.specs.Tree.{Tree, nil, truth, int, text, local, bare, call, send, with_block, index, symbol, constant, field, global, itself, negate, logical_not, listed}
+use Rattle.rr_tree.specs.Tree.{Tree, nil, truth, int, text, bare, call, send, with_block, index, symbol, constant, field, global, itself, negate, logical_not, listed}
 use Rattle.rr_parser.specs.declared.word.WordKind.{WordKind}
 use Rattle.rr_parser.specs.declared.word.WordKind.TheVariants as kind
 use Rattle.rr_parser.specs.declared.word.Jump.{Jump}
+use Rattle.rr_parser.specs.declared.word.Passing.{Passing}
 use Rattle.rr_parser.specs.declared.word.Part.{Part}
 use Rattle.rr_parser.specs.declared.word.Part.TheVariants as parts
 use Rattle.rr_parser.specs.declared.word.Tail.{Tail}
@@ -14,7 +15,7 @@ use Rattle.rr_tree.specs.declared.node.Path.TheVariants as paths
 use Rattle.rr_parser.specs.Places.{Place, Look, where_true, is_kind, word, tight_as, at, next}
 use Rattle.rr_parser.specs.Grammar.Chains.{Trail}
 use Rattle.rr_parser.specs.Grammar.Nesting.{Nested}
-use Rattle.rr_parser.specs.Grammar.Names.{is_local, variable_of, local_tree, is_allowed, jump_tree, begins_arguments, name, bracket, begins_operands}
+use Rattle.rr_parser.specs.Grammar.Names.{is_local, variable_of, local_tree, is_allowed, jump_tree, begins_arguments, passed, passed_bare, name, bracket, begins_operands}
 
 -- ---- integers
 
@@ -83,6 +84,10 @@ pub data Primary (N : Nested) : Place → Tree → Place → Type 0 where
   a_block_call : {s m n z : Place} {x : Sym} {u : Unit {0}} {b : Tree} → at name s ≡ Some (x, m) → at bracket m ≡ None → at brace m ≡ Some (u, n) → N.part parts.Block n b z → Primary N s (with_block (call x.0 (listed [])) b) z
   -- a jump without a value
   a_jump : {s z : Place} {j : Jump} → next s ≡ Some (kind.Jump j, z) → is_allowed j z.known ≡ true → begins_arguments z.rest ≡ false → Primary N s (jump_tree j nil) z
+  -- `yield` or `super` alone, in a method
+  a_passing : {s z : Place} {p : Passing} → next s ≡ Some (kind.Passing p, z) → z.known.in_method ≡ true → at bracket z ≡ None → begins_operands z.rest ≡ false → Primary N s (passed_bare p) z
+  -- the same with arguments in brackets
+  a_passing_call : {s m n z : Place} {p : Passing} {u : Unit {0}} {l : List Tree} → next s ≡ Some (kind.Passing p, m) → m.known.in_method ≡ true → at bracket m ≡ Some (u, n) → N.bracketed n l z → Primary N s (passed p (listed l)) z
   a_construct : {s m z : Place} {k : WordKind} {p : Part} {t : Tree} → next s ≡ Some (k, m) → construct_of k ≡ Some p → N.part p m t z → Primary N s t z
 
 -- ---- what follows an operand

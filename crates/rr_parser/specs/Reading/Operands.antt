@@ -8,10 +8,11 @@ use Rattle.rr_parser.specs.declared.word.Word.{Word}
 use Rattle.rr_parser.specs.declared.word.Tail.{Tail}
 use Rattle.rr_parser.specs.declared.word.Tail.TheVariants as tails
 use Rattle.rr_parser.specs.declared.word.Jump.{Jump}
+use Rattle.rr_parser.specs.declared.word.Passing.{Passing}
 use Rattle.rr_parser.specs.declared.word.Part.{Part}
 use Rattle.rr_parser.specs.declared.word.Part.TheVariants as parts
 use Rattle.rr_parser.specs.Places.{Place, Look, word, at, next}
-use Rattle.rr_parser.specs.Grammar.Names.{is_local, variable_of, local_tree, is_allowed, jump_tree, begins_arguments, bracket, begins_operands}
+use Rattle.rr_parser.specs.Grammar.Names.{is_local, variable_of, local_tree, is_allowed, jump_tree, begins_arguments, passed, passed_bare, bracket, begins_operands}
 use Rattle.rr_parser.specs.Grammar.Operands.{fits, fits_below, negated, joined, literal_of, construct_of, brace, tail}
 use Rattle.rr_parser.specs.Reading.Answers.{◌>>=◌, wrong, Answer, Parse, built, from, trail_on}
 use Rattle.rr_parser.specs.Reading.Nesting.{Readers}
@@ -64,6 +65,16 @@ negative_of m = negative_in (at joined m)
 abbrev pub jump_at : Jump → Place → Answer Tree
 jump_at j m = if is_allowed j m.known then (if begins_arguments m.rest then Err wrong else Ok (jump_tree j nil, m)) else Err wrong
 
+abbrev pub passing_bare : Passing → Place → Answer Tree
+passing_bare p m = if begins_operands m.rest then Err wrong else Ok (passed_bare p, m)
+
+abbrev pub passing_or : Readers → Passing → Place → Option (Unit {0} × Place) → Answer Tree
+passing_or N p m None = passing_bare p m
+passing_or N p m (Some b) = built (λ l. passed p (listed l)) (N.bracketed b.1)
+
+unfoldable pub passing_of : Readers → Passing → Parse Tree
+passing_of N p m = if m.known.in_method then passing_or N p m (at bracket m) else Err wrong
+
 abbrev pub begun : Readers → Option Tree → Option Part → Place → Answer Tree
 begun N (Some t) p m = Ok (t, m)
 begun N None (Some p) m = N.part p m
@@ -74,6 +85,7 @@ primary_at N (kind.Int n) m = int_at n m
 primary_at N (kind.Name x marked) m = name_of N x m
 primary_at N kind.Minus m = negative_of m
 primary_at N (kind.Jump j) m = jump_at j m
+primary_at N (kind.Passing p) m = passing_of N p m
 primary_at N k m = begun N (literal_of k) (construct_of k) m
 
 abbrev pub primary_in : Readers → Option (WordKind × Place) → Answer Tree

@@ -223,3 +223,9 @@ decreases-block l = 128 * l.depth + cond l.inside 0 64 + 41
 
 abbrev pub decreases-looped : goal.decreases-looped
 decreases-looped l = 128 * l.depth + cond l.inside 0 64 + 42
+
+abbrev pub decreases-passing : goal.decreases-passing
+decreases-passing l = 128 * l.depth + cond l.inside 0 64 + 3
+
+abbrev pub decreases-definition : goal.decreases-definition
+decreases-definition l = 128 * l.depth + cond l.inside 0 64 + 41

@@ -1,0 +1,93 @@
+//! Reading the rows of a program: definitions and statements.
+
+ghost use Rattle.std.specs.Prelude.{◌≡◌, [], false, OnOk};
+ghost use Rattle.rr_parser.specs.Reading.Programs.{entry_of, entries_of, outline_of};
+ghost use Rattle.rr_parser.specs.Reading.{readers};
+ghost use Rattle.rr_parser.specs.Meets.{Adds};
+
+use crate::look::{behind, ends, row, without_separators};
+use crate::parser::{Parsed, Parser};
+use crate::refusal::Storage;
+use crate::word::{Part, Word, WordKind};
+use rr_tree::NodeId;
+use std::alloc::Global;
+
+/// A row of a program, by its node.
+#[derive(Clone, Copy, Debug, PartialEq, Eq, Drop)]
+pub(crate) enum Entry {
+    Definition(NodeId),
+    Statement(NodeId),
+}
+
+/// The rows of a program, by their nodes.
+#[derive(Drop)]
+pub(crate) struct Outline {
+    pub definitions: Vec<NodeId>,
+    pub statements: Vec<NodeId>,
+}
+
+impl Outline {
+    fn new(alloc: Global) -> Outline
+        ensures definitions { result.definitions.items ≡ [] }
+        ensures statements { result.statements.items ≡ [] }
+    {
+        Outline {
+            definitions: Vec::new(alloc),
+            statements: Vec::new(alloc),
+        }
+    }
+
+    fn push(&mut self, entry: Entry) -> Result<(), Storage>
+        ensures { OnOk result (Adds self.old self.new entry) }
+    {
+        match entry {
+            Entry::Definition(id) => self.definitions.push(id)?,
+            Entry::Statement(id) => self.statements.push(id)?,
+        }
+        Ok(())
+    }
+}
+
+impl Parser {
+    ghost use Rattle.rr_parser.specs.Meets.{GivesEntry, GivesOutline, place};
+
+    /// The rows of a program.
+    #[tactic(auto, unfolding(crate::specs::Reading::Programs::outline_of))]
+    pub fn outline<'w>(&mut self, depth: u32, words: &'w [Word]) -> Parsed<'w, Outline>
+        ensures { GivesOutline self.old self.new result (outline_of (readers false depth) (place self.old words.now)) }
+    {
+        let words = without_separators(words);
+        if ends(words) {
+            return Ok((Outline::new(self.alloc), words));
+        }
+        let (outline, rest) = self.entries(depth, words)?;
+        Ok((outline, without_separators(rest)))
+    }
+
+    #[tactic(auto, unfolding(crate::specs::Reading::Programs::entries_of, crate::specs::Reading::Answers::chain))]
+    fn entries<'w>(&mut self, depth: u32, words: &'w [Word]) -> Parsed<'w, Outline>
+        ensures { GivesOutline self.old self.new result (entries_of (readers false depth) (place self.old words.now)) }
+    {
+        let mut outline = Outline::new(self.alloc);
+        let (first, mut rest) = self.entry(depth, words)?;
+        outline.push(first)?;
+        while let Some(after) = row(rest) {
+            let (next, after) = self.entry(depth, after)?;
+            outline.push(next)?;
+            rest = after;
+        }
+        Ok((outline, rest))
+    }
+
+    #[tactic(auto, unfolding(crate::specs::Reading::Programs::entry_of))]
+    fn entry<'w>(&mut self, depth: u32, words: &'w [Word]) -> Parsed<'w, Entry>
+        ensures { GivesEntry self.old self.new result (entry_of (readers false depth) (place self.old words.now)) }
+    {
+        let Some(rest) = behind(WordKind::Def, words) else {
+            let (statement, rest) = self.statement(false, depth, words)?;
+            return Ok((Entry::Statement(statement), rest));
+        };
+        let (definition, rest) = self.part(Part::Definition, false, depth, rest)?;
+        Ok((Entry::Definition(definition), rest))
+    }
+}
