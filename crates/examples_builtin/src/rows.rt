@@ -199,6 +199,16 @@ Integer new => undefined method 'new' for class Integer | Integer
 String new 'a => undefined method 'new' for class String | String
 7 new => undefined method 'new' for an instance of Integer | 7
 error new => undefined method 'new' for an instance of TypeError | #<TypeError: TypeError>
+[3,1,2 sort => [1, 2, 3] | [3, 1, 2]
+[ sort => [] | []
+[-1,-9223372036854775808,9223372036854775807 sort => [-9223372036854775808, -1, 9223372036854775807] | [-1, -9223372036854775808, 9223372036854775807]
+[22,21,20,19,18,17,16,15,14,13,12,11,10,9,8,7,6,5,4,3,2,1 sort => [1, 2, 3, 4, 5, 6, 7, 8, 9, 10, 11, 12, 13, 14, 15, 16, 17, 18, 19, 20, 21, 22] | [22, 21, 20, 19, 18, 17, 16, 15, 14, 13, 12, 11, 10, 9, 8, 7, 6, 5, 4, 3, 2, 1]
+['b,'a,'ab sort => [\"a\", \"ab\", \"b\"] | [\"b\", \"a\", \"ab\"]
+[1,'a sort => comparison of Integer with String failed (ArgumentError) | [1, \"a\"]
+['a,'b,1 sort => comparison of String with Integer failed (ArgumentError) | [\"a\", \"b\", 1]
+*[2,1 sort => [1, 2] | [2, 1]
+[1 sort 1 => wrong number of arguments (given 1, expected 0) (ArgumentError) | [1]
+{1:2 sort => undefined method 'sort' for an instance of Hash | {1 => 2}
 shell + 1 => moved object (Ractor::MovedError) | shell
 shell nil? => moved object (Ractor::MovedError) | shell
 nil == shell => false | nil";

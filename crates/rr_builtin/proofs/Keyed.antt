@@ -1,17 +1,16 @@
 -- Keys of hashes, and which pair has one.
-use Rattle.std.proofs.Common.{◌≡◌, ◌∙◌, ◌<◌, ◌⊎◌, ⊎_elim, inl, inr, ℕ, zero, suc, ◌+◌, ◌*◌, Bool, true, false, not, if◌then◌else◌, nat_eq, IsTrue, List, [], ◌∷◌, ◌++◌, length, map, get_or, slice_get, length-append, ◌-◌, ◌&&◌, Contains, Option, Some, None, MatchOption, refl, sym, ap, subst, arith}
+use Rattle.std.proofs.Common.{◌≡◌, ◌∙◌, ◌<◌, ℕ, zero, suc, ◌+◌, ◌*◌, Bool, true, false, not, if◌then◌else◌, List, [], ◌∷◌, ◌++◌, length, map, get_or, slice_get, length-append, ◌-◌, ◌&&◌, Contains, Option, Some, None, MatchOption, refl, sym, ap, arith}
 use Rattle.std.specs.Option.{option_map}
 use Rattle.std.proofs.lemmas.Bool.{false≢true}
 use Rattle.std.proofs.lemmas.Option.{none-some, same_Some, slice_get-map, slice_get-get_or, slice_get_within}
 use Rattle.std.proofs.lemmas.Slice.Eq.{bytes_eq-Decides}
-use Rattle.rr_space.specs.Graph.{Graph, Value, Plain, At, Own, Published, Object, Kind, text, array, hash, plain, exception, shell}
+use Rattle.rr_space.specs.Graph.{Value, Published, Object, Kind, text, array, hash, plain, exception, shell}
 use Rattle.rr_space.specs.Tables.{Table, Slot, Here, Led, Below, HashKey, PlainKey, TextKey, graph_of, resolve, resolve_slot, resolve_object}
 use Rattle.rr_space.specs.Sound.{IsTableSound, IsWell}
 use Rattle.rr_space.specs.Parts.{value_of, bytes_of}
 use Rattle.rr_space.specs.Views.{object_at, keys_at, keys_here, slot_object, is_whole, is_shell, can_freeze_at, text_at, IsFirstAt}
 use Rattle.rr_space.specs.Lookups.{is_text, key_at, key_of_object, key_of_frozen}
 use Rattle.rr_space.specs.Kinds.{kind_at, kind_named, object_kind}
-use Rattle.rr_space.specs.declared.kind.Kind.{Kind as ValueKind}
 use Rattle.rr_space.specs.declared.kind.Kind.TheVariants as kind
 use Rattle.rr_space.specs.declared.refer.Ref.{Ref}
 use Rattle.rr_space.specs.declared.refer.Ref.TheVariants.{Nil, Truth, Int, Symbol, Class, Ractor, Local, Shared}

@@ -12,3 +12,6 @@ pub mod Storing
 pub mod Classing
 pub mod Summing
 pub mod NoFields
+pub mod Each
+pub mod Sorting
+pub mod Items

@@ -1,5 +1,5 @@
 -- Pairs that are put into hashes.
-use Rattle.std.proofs.Common.{◌≡◌, ◌∙◌, ◌<◌, ◌+◌, ◌*◌, ◌≤◌, ◌&&◌, ◌⊎◌, ⊎_elim, inl, inr, ℕ, suc, Bool, true, false, if◌then◌else◌, List, [], ◌∷◌, ◌++◌, length, length-append, length-set, remove, get_or, Contains, Option, Some, None, MatchOption, IfSome, IfNone, slice_get, slice_set, refl, sym, ap, subst, arith}
+use Rattle.std.proofs.Common.{◌≡◌, ◌∙◌, ◌+◌, ◌*◌, ◌&&◌, ◌⊎◌, ⊎_elim, inl, inr, ℕ, Bool, true, false, if◌then◌else◌, List, [], ◌∷◌, ◌++◌, length, length-append, length-set, remove, get_or, Contains, Option, Some, None, MatchOption, IfSome, IfNone, slice_get, slice_set, refl, sym, ap, subst, arith}
 use Rattle.std.proofs.Math.Bool.{and-true}
 use Rattle.std.proofs.lemmas.Bool.{false≢true}
 use Rattle.std.proofs.lemmas.Option.{none-some, same_Some, slice_get-get_or, slice_get_within}
@@ -10,7 +10,7 @@ use Rattle.rr_space.specs.Graph.{Value, At, Own, Object}
 use Rattle.rr_space.specs.Tables.{Table, Here, Below, HashKey, TextKey, IsRestKept}
 use Rattle.rr_space.specs.Sound.{IsWell}
 use Rattle.rr_space.specs.Parts.{value_of, below_ref, bytes_of, is_frozen_object, IsWithin}
-use Rattle.rr_space.specs.Views.{paired_from, keys_at, keys_here, frozen_at, object_at, text_at, IsLedAlso, IsFirstAt}
+use Rattle.rr_space.specs.Views.{paired_from, keys_at, keys_here, frozen_at, object_at, text_at, IsLedAlso}
 use Rattle.rr_space.specs.Lookups.{is_text, key_at, key_of_frozen, key_of_object, frozen_text}
 use Rattle.rr_space.specs.declared.refer.Ref.{Ref}
 use Rattle.rr_space.specs.declared.refer.Ref.TheVariants.{Nil, Truth, Int, Symbol, Class, Ractor, Local, Shared}

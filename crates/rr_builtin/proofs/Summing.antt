@@ -1,22 +1,22 @@
 -- Sums of integers that are added one by one.
-use Rattle.std.proofs.Common.{◌≡◌, ◌∙◌, ◌+◌, ◌-◌, ◌<◌, ℕ, zero, suc, ℤ, pos, ◌+ℤ◌, List, [], ◌∷◌, ◌++◌, Option, Some, None, Result, Ok, Err, refl, sym, ap, subst, arith}
+use Rattle.std.proofs.Common.{◌≡◌, ◌∙◌, ◌+◌, ◌-◌, ◌<◌, ℕ, suc, ℤ, pos, ◌+ℤ◌, List, [], ◌∷◌, ◌++◌, Option, Some, None, Result, Ok, Err, refl, ap, arith}
 use Rattle.std.proofs.lemmas.Int.{ints}
 use Rattle.rr_space.specs.Graph.{Value}
 use Rattle.rr_space.specs.Tables.{Table}
 use Rattle.rr_space.specs.declared.refer.Ref.{Ref}
 use Rattle.rr_builtin.specs.Acts.{element_at}
-use Rattle.rr_builtin.specs.Elements.{listed}
-use Rattle.rr_builtin.specs.Sums.{integer_of, integer_first, integers_of, total, totalled}
-use Rattle.rr_builtin.proofs.Gathering.{append_nil, append_three}
+use Rattle.rr_builtin.specs.Elements.{listed, first_as}
+use Rattle.rr_builtin.specs.Sums.{integer_of, integers_of, total, totalled}
+use Rattle.rr_builtin.proofs.Gathering.{listed_from}
 
 -- an integer before others that have a sum
-first_sum : (x : Value) (o : Option ℤ) (z w : ℤ) (r : Result (List ℤ) Value) → o ≡ Some z → totalled r ≡ Ok w → totalled (integer_first x o r) ≡ Ok (z +ℤ w)
+first_sum : (x : Value) (o : Option ℤ) (z w : ℤ) (r : Result (List ℤ) Value) → o ≡ Some z → totalled r ≡ Ok w → totalled (first_as x o r) ≡ Ok (z +ℤ w)
 first_sum x (Some y) z w (Ok zs) o e = let same : y ≡ z = cc in let is : total zs ≡ w = cc in ap (λ a. Ok (a +ℤ total zs)) same ∙ ap (λ a. Ok (z +ℤ a)) is
 first_sum x (Some y) z w (Err v) o e = let no : ⊥ = cc in absurd no
 first_sum x None z w r o e = let no : ⊥ = cc in absurd no
 
 -- an integer before others of which one is none
-first_other : (x : Value) (o : Option ℤ) (z : ℤ) (v : Value) (r : Result (List ℤ) Value) → o ≡ Some z → totalled r ≡ Err v → totalled (integer_first x o r) ≡ Err v
+first_other : (x : Value) (o : Option ℤ) (z : ℤ) (v : Value) (r : Result (List ℤ) Value) → o ≡ Some z → totalled r ≡ Err v → totalled (first_as x o r) ≡ Err v
 first_other x (Some y) z v (Ok zs) o e = let no : ⊥ = cc in absurd no
 first_other x (Some y) z v (Err u) o e = e
 first_other x None z v r o e = let no : ⊥ = cc in absurd no
@@ -29,7 +29,7 @@ record IsSumOf (o : Option ℤ) (r : Result (List ℤ) Value) (w : ℤ) : Type 0
   sum : totalled r ≡ Ok rest
   whole : first +ℤ rest ≡ w
 
-parts : (x : Value) (o : Option ℤ) (r : Result (List ℤ) Value) (w : ℤ) → totalled (integer_first x o r) ≡ Ok w → IsSumOf o r w
+parts : (x : Value) (o : Option ℤ) (r : Result (List ℤ) Value) (w : ℤ) → totalled (first_as x o r) ≡ Ok w → IsSumOf o r w
 parts x (Some z) (Ok zs) w e = record { first = z; rest = total zs; integer = refl; sum = refl; whole = (let is : z +ℤ total zs ≡ w = cc in is) }
 parts x (Some z) (Err v) w e = let no : ⊥ = cc in absurd no
 parts x None r w e = let no : ⊥ = cc in absurd no
@@ -45,17 +45,10 @@ sum_more (y ∷ xs) x z w e i =
     ∙ ap (λ a. Ok a) (let turned : p.first +ℤ (p.rest +ℤ z) ≡ w +ℤ z = omega (arith, ints, whole) in turned)
 
 sum_stops : (xs : List Value) (x : Value) (rest : List Value) (w : ℤ) → totalled (integers_of xs) ≡ Ok w → integer_of x ≡ None → totalled (integers_of ((xs ++ x ∷ []) ++ rest)) ≡ Err x
-sum_stops [] x rest w e i = ap (λ o. totalled (integer_first x o (integers_of rest))) i
+sum_stops [] x rest w e i = ap (λ o. totalled (first_as x o (integers_of rest))) i
 sum_stops (y ∷ xs) x rest w e i =
     let p = parts y (integer_of y) (integers_of xs) w e in
     first_other y (integer_of y) p.first x (integers_of ((xs ++ x ∷ []) ++ rest)) p.integer (sum_stops xs x rest p.rest p.sum i)
-
-pub listed_from : (t : Table) (v : Ref) (k m : ℕ) → (rest : List Value) × (listed t v (k + m) ≡ listed t v k ++ rest)
-listed_from t v k zero = ([], ap (listed t v) (let z : k + 0 ≡ k = omega arith in z) ∙ append_nil (listed t v k))
-listed_from t v k (suc m) =
-    let h = listed_from t v k m in
-    let x = element_at t v (k + m) in
-    (h.0 ++ x ∷ [], ap (listed t v) (let z : k + suc m ≡ suc (k + m) = omega arith in z) ∙ ap (λ xs. xs ++ x ∷ []) h.1 ∙ append_three (listed t v k) h.0 (x ∷ []))
 
 -- the first element that is no integer
 pub sum_other : (t : Table) (v : Ref) (k n : ℕ) (w : ℤ) → k < n → totalled (integers_of (listed t v k)) ≡ Ok w → integer_of (element_at t v k) ≡ None → totalled (integers_of (listed t v n)) ≡ Err (element_at t v k)

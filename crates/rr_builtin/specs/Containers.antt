@@ -6,13 +6,14 @@ use Rattle.rr_space.specs.declared.kind.Kind.{Kind}
 use Rattle.rr_space.specs.declared.kind.Kind.TheVariants as kind
 use Rattle.rr_space.specs.declared.refer.Ref.{Ref}
 use Rattle.rr_builtin.specs.declared.method.ContentMethod.{ContentMethod}
-use Rattle.rr_builtin.specs.declared.method.ContentMethod.TheVariants.{Size, Length, IsEmpty, First, Last, At as AtMethod, SetAt, Append, Push, Pop, Shift, Keys, Values, HasKey, Delete, Sum}
+use Rattle.rr_builtin.specs.declared.method.ContentMethod.TheVariants.{Size, Length, IsEmpty, First, Last, At as AtMethod, SetAt, Append, Push, Pop, Shift, Keys, Values, HasKey, Delete, Sum, Sort}
 use Rattle.rr_builtin.specs.Acts.{Act, Answers, MakesArray, Pushes, Gives, Lacks, element_at}
 use Rattle.rr_builtin.specs.Objects.{truth}
 use Rattle.rr_builtin.specs.Contents.{size_act, is_empty, indexed, unless_frozen, taken, popped, text_content}
 use Rattle.rr_builtin.specs.Arrays.{array_put}
 use Rattle.rr_builtin.specs.Hashes.{hash_read, hash_has, hash_put, hash_delete}
 use Rattle.rr_builtin.specs.Sums.{sum_act}
+use Rattle.rr_builtin.specs.Sorts.{sort_act}
 use Rattle.rr_builtin.specs.Elements.{count_at, names_of_hash, values_of_hash}
 
 -- a method of arrays
@@ -29,6 +30,7 @@ array_content below Pop v a b t = popped v t
 array_content below Shift v a b t = taken v 0 t
 array_content below SetAt v a b t = unless_frozen v t (array_put v a b t)
 array_content below Sum v a b t = sum_act below v t
+array_content below Sort v a b t = sort_act below v t
 array_content below _ v a b t = Answers Lacks
 
 -- a method of hashes

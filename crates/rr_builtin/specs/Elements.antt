@@ -1,5 +1,5 @@
 -- The values that arrays and hashes lead to, in order.
-use Rattle.std.specs.Prelude.{ℕ, zero, suc, ◌+◌, ◌*◌, ◌/◌, List, [], ◌∷◌, ◌++◌, length}
+use Rattle.std.specs.Prelude.{Option, Some, None, Result, Ok, Err, ℕ, zero, suc, ◌+◌, ◌*◌, ◌/◌, List, [], ◌∷◌, ◌++◌, length}
 use Rattle.rr_space.specs.Graph.{Value}
 use Rattle.rr_space.specs.Tables.{Table}
 use Rattle.rr_space.specs.Labels.{triples_at}
@@ -30,3 +30,13 @@ names_of_hash t v = halves t v 0 (count_at t v / 2)
 
 abbrev pub values_of_hash : Table → Ref → List Value
 values_of_hash t v = halves t v 1 (count_at t v / 2)
+
+abbrev pub first_as : {A : Type 0} → Value → Option A → Result (List A) Value → Result (List A) Value
+first_as x (Some y) (Ok ys) = Ok (y ∷ ys)
+first_as x (Some y) (Err z) = Err z
+first_as x None rest = Err x
+
+-- values as what each of them is, or the first of them that is none
+abbrev pub each_as : {A : Type 0} → (Value → Option A) → List Value → Result (List A) Value
+each_as f [] = Ok []
+each_as f (x ∷ xs) = first_as x (f x) (each_as f xs)

@@ -7,7 +7,7 @@ use Rattle.rr_tree.specs.declared.node.BinaryOperator.TheVariants.{Add, Subtract
 use Rattle.rr_builtin.specs.declared.method.ObjectMethod.{ObjectMethod}
 use Rattle.rr_builtin.specs.declared.method.ObjectMethod.TheVariants.{IsA, KindOf, IsIdentical, Dup}
 use Rattle.rr_builtin.specs.declared.method.ContentMethod.{ContentMethod}
-use Rattle.rr_builtin.specs.declared.method.ContentMethod.TheVariants.{Size, Length, IsEmpty, First, Last, At, Append, Push, Pop, Shift, Includes, SetAt, Keys, Values, HasKey, Delete, Sum}
+use Rattle.rr_builtin.specs.declared.method.ContentMethod.TheVariants.{Size, Length, IsEmpty, First, Last, At, Append, Push, Pop, Shift, Includes, SetAt, Keys, Values, HasKey, Delete, Sum, Sort}
 use Rattle.rr_builtin.specs.declared.method.TellingMethod.{TellingMethod}
 use Rattle.rr_builtin.specs.declared.method.TellingMethod.TheVariants as telling
 use Rattle.rr_builtin.specs.declared.method.BuiltInMethod.{BuiltInMethod}
@@ -71,9 +71,9 @@ has_size kind.Array = true
 has_size kind.Hash = true
 has_size _ = false
 
-abbrev pub is_text : Kind → Bool
-is_text kind.Text = true
-is_text _ = false
+abbrev pub is_text_kind : Kind → Bool
+is_text_kind kind.Text = true
+is_text_kind _ = false
 
 -- texts and arrays
 abbrev pub is_appended : Kind → Bool
@@ -101,13 +101,14 @@ has_content k At = has_size k
 has_content k Push = is_array_kind k
 has_content k Pop = is_array_kind k
 has_content k Shift = is_array_kind k
-has_content k Includes = is_text k
+has_content k Includes = is_text_kind k
 has_content k SetAt = is_container k
 has_content k Keys = is_hash k
 has_content k HasKey = is_hash k
 has_content k Values = is_hash k
 has_content k Delete = is_hash k
 has_content k Sum = is_array_kind k
+has_content k Sort = is_array_kind k
 
 abbrev pub is_class : Kind → Bool
 is_class kind.Class = true

@@ -15,6 +15,7 @@ pub mod Arrays
 pub mod Elements
 pub mod ValueClasses
 pub mod Sums
+pub mod Sorts
 pub mod Hashes
 pub mod News
 pub mod Containers

@@ -68,6 +68,7 @@ content_name content.Values = codes "values"
 content_name content.HasKey = codes "key?"
 content_name content.Delete = codes "delete"
 content_name content.Sum = codes "sum"
+content_name content.Sort = codes "sort"
 
 abbrev pub telling_name : TellingMethod → List ℕ
 telling_name telling.Name = codes "name"
@@ -97,7 +98,7 @@ object_methods = Object object.Class ∷ Object object.IsA ∷ Object object.Kin
 abbrev pub content_methods : List BuiltInMethod
 content_methods = Content content.Size ∷ Content content.Length ∷ Content content.IsEmpty ∷ Content content.First ∷ Content content.Last ∷ Content content.At
     ∷ Content content.Append ∷ Content content.Push ∷ Content content.Pop ∷ Content content.Shift ∷ Content content.Includes
-    ∷ Content content.SetAt ∷ Content content.Keys ∷ Content content.Values ∷ Content content.HasKey ∷ Content content.Delete ∷ Content content.Sum ∷ []
+    ∷ Content content.SetAt ∷ Content content.Keys ∷ Content content.Values ∷ Content content.HasKey ∷ Content content.Delete ∷ Content content.Sum ∷ Content content.Sort ∷ []
 
 abbrev pub telling_methods : List BuiltInMethod
 telling_methods = Telling telling.Name ∷ Telling telling.Message ∷ Telling telling.Cause ∷ New ∷ []

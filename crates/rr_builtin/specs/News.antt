@@ -1,5 +1,5 @@
 -- New objects: empty hashes, and what `new` of a class makes.
-use Rattle.std.specs.Prelude.{ℕ, Bool, true, false, not, ◌||◌, nat_eq, nat_lt, List, [], ◌∷◌}
+use Rattle.std.specs.Prelude.{ℕ, Bool, true, false, not, ◌||◌, nat_eq, nat_lt, [], ◌∷◌}
 use Rattle.rr_base.specs.declared.name.TheConstants.ClassId.{EXCEPTION, HASH, OBJECT}
 use Rattle.rr_space.specs.Graph.{Value, Plain, Nil, Object, hash, plain, exception, Message, Cause, Ractor}
 use Rattle.rr_space.specs.Parts.{value_of}

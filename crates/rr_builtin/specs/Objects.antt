@@ -19,6 +19,7 @@ use Rattle.rr_builtin.specs.declared.method.ObjectMethod.{ObjectMethod}
 use Rattle.rr_builtin.specs.declared.method.ObjectMethod.TheVariants.{Class, IsA, KindOf, IsNil, IsIdentical, Not, Freeze, IsFrozen, ToS, Inspect, Dup}
 use Rattle.rr_tree.specs.declared.program.Program.{Program}
 use Rattle.rr_text.specs.Names.{names_of}
+pub use Rattle.rr_builtin.specs.Kinds.{is_text_kind}
 use Rattle.rr_builtin.specs.Classes.{descends}
 use Rattle.rr_builtin.specs.Acts.{Act, Answers, Makes, MakesArray, Freezes, Gives, Raises}
 use Rattle.rr_builtin.specs.Elements.{elements_of}
@@ -74,10 +75,6 @@ told (Wrote s) = Makes s
 told Differs = Answers (Raises Moved)
 told Deep = Answers (Raises TooDeep)
 told Shell = Answers (Raises Moved)
-
-abbrev pub is_text_kind : Kind → Bool
-is_text_kind kind.Text = true
-is_text_kind _ = false
 
 -- a text is its own `to_s`
 abbrev pub spoken_act : Names → Below → Ref → Table → Act

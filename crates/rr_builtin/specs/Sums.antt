@@ -1,13 +1,13 @@
 -- The sum of the elements of an array.
 use Rattle.std.specs.Prelude.{ℕ, ℤ, pos, ◌+ℤ◌, ◌≤ℤ◌, ◌*◌, ◌^◌, List, [], ◌∷◌, Option, Some, None, Result, Ok, Err}
-use Rattle.rr_space.specs.Graph.{Value, Plain, At, Nil, Truth, Integer, SymbolNo, ClassNo, RactorNo}
+use Rattle.rr_space.specs.Graph.{Value, Plain, At, Integer}
 use Rattle.rr_space.specs.Tables.{Table, Below}
 use Rattle.rr_space.specs.declared.refer.Ref.{Ref}
 use Rattle.rr_builtin.specs.declared.problem.Problem.TheVariants.{WrongType}
 use Rattle.rr_builtin.specs.Integers.{given}
 use Rattle.rr_builtin.specs.Numbers.{number_given}
 use Rattle.rr_builtin.specs.Acts.{Act, Answers, Raises, outcome_of}
-use Rattle.rr_builtin.specs.Elements.{elements_of}
+use Rattle.rr_builtin.specs.Elements.{elements_of, each_as}
 use Rattle.rr_builtin.specs.ValueClasses.{class_of_value}
 
 -- the integer that a value is
@@ -16,15 +16,9 @@ integer_of (Plain (Integer z)) = Some z
 integer_of (Plain _) = None
 integer_of (At n) = None
 
-abbrev pub integer_first : Value → Option ℤ → Result (List ℤ) Value → Result (List ℤ) Value
-integer_first x (Some z) (Ok zs) = Ok (z ∷ zs)
-integer_first x (Some z) (Err y) = Err y
-integer_first x None rest = Err x
-
 -- values as integers, or the first of them that is none
 abbrev pub integers_of : List Value → Result (List ℤ) Value
-integers_of [] = Ok []
-integers_of (x ∷ xs) = integer_first x (integer_of x) (integers_of xs)
+integers_of xs = each_as integer_of xs
 
 abbrev pub total : List ℤ → ℤ
 total [] = pos 0

@@ -21,10 +21,12 @@ use crate::characters::{character_at, characters};
 use crate::deed::Deed;
 use crate::hashes::{hash_delete, hash_has, hash_put, hash_read};
 use crate::integer::NumberProblem;
+use crate::kinds::is_text_kind;
 use crate::method::ContentMethod;
 use crate::numbers::number_given;
-use crate::objects::{is_text_kind, raise, truth};
+use crate::objects::{raise, truth};
 use crate::problem::Problem;
+use crate::sorts::sort_deed;
 use crate::sums::sum_deed;
 use memchr::memmem;
 use rr_base::Fault;
@@ -300,6 +302,7 @@ fn array_content(
         ContentMethod::Shift => Ok(shift_deed(space, array)),
         ContentMethod::SetAt => put_deed(alloc, space, array, argument, second),
         ContentMethod::Sum => Ok(sum_deed(space, array)),
+        ContentMethod::Sort => sort_deed(alloc, space, array),
         _ => Ok(Deed::Answer(Built::Missing)),
     }
 }

@@ -1,7 +1,7 @@
 //! Which methods the values of a kind have, and how many arguments they take.
 
 ghost use Rattle.std.specs.Prelude.{◌≡◌};
-ghost use Rattle.rr_builtin.specs.Kinds.{is_shell_kind, is_integer_kind, is_array_kind, is_compared, is_added, has_order, has_operator, has_size, is_text, is_appended, is_joined, is_hash, is_container, is_copied, has_object, has_content, is_class, is_exception, has_telling, has, object_count, content_count, is_new, count_of};
+ghost use Rattle.rr_builtin.specs.Kinds.{is_shell_kind, is_integer_kind, is_array_kind, is_compared, is_added, has_order, has_operator, has_size, is_text_kind, is_appended, is_joined, is_hash, is_container, is_copied, has_object, has_content, is_class, is_exception, has_telling, has, object_count, content_count, is_new, count_of};
 
 use crate::method::{BuiltInMethod, ContentMethod, ObjectMethod, TellingMethod};
 use rr_space::Kind;
@@ -16,7 +16,7 @@ pub(crate) fn is_shell_kind(kind: Kind) -> bool
     }
 }
 
-fn is_integer_kind(kind: Kind) -> bool
+pub(crate) fn is_integer_kind(kind: Kind) -> bool
     ensures { result ≡ is_integer_kind kind }
 {
     match kind {
@@ -110,8 +110,8 @@ fn has_size(kind: Kind) -> bool
     }
 }
 
-fn is_text(kind: Kind) -> bool
-    ensures { result ≡ is_text kind }
+pub(crate) fn is_text_kind(kind: Kind) -> bool
+    ensures { result ≡ is_text_kind kind }
 {
     match kind {
         Kind::Text => true,
@@ -163,13 +163,14 @@ fn has_content(kind: Kind, method: ContentMethod) -> bool
         ContentMethod::Push => is_array_kind(kind),
         ContentMethod::Pop => is_array_kind(kind),
         ContentMethod::Shift => is_array_kind(kind),
-        ContentMethod::Includes => is_text(kind),
+        ContentMethod::Includes => is_text_kind(kind),
         ContentMethod::SetAt => is_container(kind),
         ContentMethod::Keys => is_hash(kind),
         ContentMethod::Values => is_hash(kind),
         ContentMethod::HasKey => is_hash(kind),
         ContentMethod::Delete => is_hash(kind),
         ContentMethod::Sum => is_array_kind(kind),
+        ContentMethod::Sort => is_array_kind(kind),
     }
 }
 

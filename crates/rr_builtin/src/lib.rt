@@ -18,6 +18,7 @@ mod news;
 mod numbers;
 mod objects;
 mod problem;
+mod sorts;
 mod sums;
 mod texts;
 

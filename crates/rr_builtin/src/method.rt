@@ -48,6 +48,7 @@ pub enum ContentMethod {
     HasKey,
     Delete,
     Sum,
+    Sort,
 }
 
 /// A method of classes or of exceptions, which tells something of them.

@@ -129,6 +129,8 @@ fn content_method_named(name: &[u8]) -> Option<BuiltInMethod>
         ContentMethod::Delete
     } else if name == b"sum".as_slice() {
         ContentMethod::Sum
+    } else if name == b"sort".as_slice() {
+        ContentMethod::Sort
     } else {
         return None;
     };

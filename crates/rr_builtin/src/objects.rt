@@ -9,12 +9,13 @@ ghost use Rattle.rr_text.specs.Ways.{way_of};
 ghost use Rattle.rr_text.specs.Reads.{IsAmong, IsReadWith};
 ghost use Rattle.rr_builtin.specs.Acts.{IsRefAmong, Answers, Raises};
 ghost use Rattle.rr_builtin.specs.Deeds.{act_of, IsFit, IsDeedAmong};
-ghost use Rattle.rr_builtin.specs.Objects.{identical, is_truthy, is_nil, is_text_kind, answers_frozen, told, printed_text, spoken_act, kind_of_act, copy_act, object_act, equals, truth};
+ghost use Rattle.rr_builtin.specs.Objects.{identical, is_truthy, is_nil, answers_frozen, told, printed_text, spoken_act, kind_of_act, copy_act, object_act, equals, truth};
 
 use crate::arrays::elements;
 use crate::built::Built;
 use crate::classes::descends;
 use crate::deed::Deed;
+use crate::kinds::is_text_kind;
 use crate::method::ObjectMethod;
 use crate::problem::Problem;
 use rr_base::Fault;
@@ -46,15 +47,6 @@ fn is_nil(value: Ref) -> bool
 {
     match value {
         Ref::Nil => true,
-        _ => false,
-    }
-}
-
-pub(crate) fn is_text_kind(kind: Kind) -> bool
-    ensures { result ≡ is_text_kind kind }
-{
-    match kind {
-        Kind::Text => true,
         _ => false,
     }
 }

@@ -29,7 +29,7 @@ fn fitted(number: i128) -> Result<i64, NumberProblem>
     }
 }
 
-fn integer_of(value: Ref) -> Option<i64>
+pub(crate) fn integer_of(value: Ref) -> Option<i64>
     ensures { result ≡ integer_of (value_of value) }
 {
     match value {

@@ -11,7 +11,8 @@ ghost use Rattle.rr_builtin.specs.Texts.{sum_act, product_act, order_number, is_
 
 use crate::built::Built;
 use crate::deed::Deed;
-use crate::objects::{is_equal, is_text_kind, raise, truth};
+use crate::kinds::is_text_kind;
+use crate::objects::{is_equal, raise, truth};
 use crate::problem::Problem;
 use rr_base::{ClassId, Fault};
 use rr_space::{Ref, Space};

@@ -1,4 +1,4 @@
-use Rattle.std.proofs.Common.{◌≡◌, refl, length}
+use Rattle.std.proofs.Common.{refl, length}
 use Rattle.rr_space.specs.Graph.{At, Own}
 use Rattle.rr_space.specs.Tables.{TextKey}
 use Rattle.rr_space.specs.Parts.{value_of}

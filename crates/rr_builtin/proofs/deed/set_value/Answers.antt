@@ -1,4 +1,4 @@
-use Rattle.std.proofs.Common.{◌≡◌, refl}
+use Rattle.std.proofs.Common.{refl}
 use Rattle.rr_space.specs.Parts.{value_of, below_ref}
 use Rattle.rr_space.specs.Views.{key_of}
 use Rattle.rr_builtin.specs.Acts.{with_value}

@@ -1,4 +1,4 @@
-use Rattle.std.proofs.Common.{◌≡◌, ◌∙◌, ◌+◌, ◌*◌, ◌/◌, ◌<◌, suc, sym, ap, subst, arith, length, None, Some, map, Option}
+use Rattle.std.proofs.Common.{◌≡◌, ◌∙◌, ◌+◌, ◌*◌, ◌/◌, ◌<◌, suc, sym, ap, subst, arith, length, Option}
 use Rattle.std.proofs.lemmas.Bool.{false≢true}
 use Rattle.rr_space.specs.Graph.{Value}
 use Rattle.rr_space.specs.Labels.{triples_at}
@@ -6,7 +6,7 @@ use Rattle.rr_space.specs.Tables.{HashKey, graph_of, resolve}
 use Rattle.rr_space.specs.Views.{key_of}
 use Rattle.rr_builtin.specs.Acts.{element_at}
 use Rattle.rr_builtin.specs.Elements.{halves}
-use Rattle.rr_builtin.specs.Hashes.{key_in, place_among}
+use Rattle.rr_builtin.specs.Hashes.{key_in}
 use Rattle.rr_builtin.proofs.Among.{of_among, among_of}
 use Rattle.rr_builtin.proofs.Keyed.{IsNoneOf, key_seen, found_half, none_half, none_pushed}
 use Rattle.rr_builtin.proofs.hashes.pair_by_names.Goals as goal

@@ -1,4 +1,4 @@
-use Rattle.std.proofs.Common.{◌≡◌, ◌∙◌, sym, ap, map}
+use Rattle.std.proofs.Common.{◌∙◌, sym, ap, map}
 use Rattle.rr_space.specs.Tables.{graph_of, resolve}
 use Rattle.rr_space.specs.Views.{key_of}
 use Rattle.rr_builtin.specs.Elements.{names_of_hash}

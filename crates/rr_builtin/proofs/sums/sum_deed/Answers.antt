@@ -1,4 +1,4 @@
-use Rattle.std.proofs.Common.{◌∙◌, ap, sym, refl}
+use Rattle.std.proofs.Common.{◌∙◌, ap, sym}
 use Rattle.rr_builtin.specs.declared.problem.Problem.TheVariants.{WrongType}
 use Rattle.rr_builtin.specs.Acts.{Answers, Raises}
 use Rattle.rr_builtin.specs.Sums.{summed}

@@ -1,6 +1,6 @@
 use Rattle.std.specs.Int.{w128}
 use Rattle.std.proofs.Math.Facts.{to_z-of_z}
-use Rattle.std.proofs.Common.{rules, to_z, of_z, ◌≡◌, ◌∙◌, ◌+◌, ◌<◌, ◌≤ℤ◌, ◌+ℤ◌, ℤ, pos, suc, Ok, Err, length, refl, sym, ap, subst, arith}
+use Rattle.std.proofs.Common.{rules, to_z, of_z, ◌≡◌, ◌∙◌, ◌+◌, ◌<◌, ◌+ℤ◌, suc, Ok, Err, length, refl, sym, ap, subst, arith}
 use Rattle.std.proofs.lemmas.Int.{ints}
 use Rattle.rr_space.specs.Labels.{triples_at}
 use Rattle.rr_builtin.specs.Acts.{element_at}
