@@ -9,6 +9,8 @@ pub mod Stopping
 pub mod Full
 pub mod Deep
 pub mod Making
+pub mod Choosing
+pub mod Calling
 pub mod Exact
 pub mod Lists
 pub mod Numbers

@@ -13,7 +13,7 @@ use Rattle.rr_parser.specs.declared.word.Passing.{Passing}
 use Rattle.rr_parser.specs.Grammar.Names.{passed}
 use Rattle.rr_parser.specs.Grammar.Control.{chosen}
 use Rattle.rr_parser.specs.Meets.{pairs, Puts}
-use Rattle.rr_parser.proofs.Making.{chosen-append}
+use Rattle.rr_parser.proofs.Choosing.{chosen-append}
 
 pub below_more_nodes : (i : ℕ) (old new xs : List Node) → new ≡ old ++ xs → i < length old → i < length new
 below_more_nodes i old new xs e lt = omega (arith, ap length e, length-append old xs)

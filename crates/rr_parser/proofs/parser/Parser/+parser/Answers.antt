@@ -14,7 +14,9 @@ use Rattle.rr_parser.specs.Reading.{readers}
 use Rattle.rr_parser.specs.Meets.{Gives, GivesList, nodes, pairs, lists, place}
 use Rattle.rr_parser.proofs.Looks.{Steps-row, Steps-another}
 use Rattle.rr_parser.proofs.Shrinking.{Steps-operator, Steps-connective, Steps-modifier, Steps-elsif, shrinks_nested}
-use Rattle.rr_parser.proofs.Making.{gives_sent, made_behind, made_element, made_arrow, trail_fails, trail_smaller, trail_goes, trail_ends, stable_nodes, stable_pairs, goes_ends, goes_fails, goes_smaller, list_on, operators_on, nested_part, nested_bracketed, made_alternatives, made_pair, made_branch, made_loop, made_choice, made_unless, gives_outside}
+use Rattle.rr_parser.proofs.Making.{stable_nodes, stable_pairs, goes_ends, goes_fails, goes_smaller, list_on, operators_on, nested_part, nested_bracketed, gives_outside}
+use Rattle.rr_parser.proofs.Choosing.{made_alternatives, made_pair, made_branch, made_loop, made_choice, made_unless}
+use Rattle.rr_parser.proofs.Calling.{gives_sent, made_behind, made_element, made_arrow, trail_fails, trail_smaller, trail_goes, trail_ends}
 use Rattle.rr_parser.proofs.parser.Parser.+parser.Goals as goal
 
 pub members-returns-in_err-next : goal.members-returns-in_err-next

@@ -1,6 +1,7 @@
 use Rattle.std.proofs.Common.{refl, ◌∙◌}
 use Rattle.std.specs.Prelude.{is_ok}
-use Rattle.rr_parser.proofs.Making.{puts_is, ordered_pushed}
+use Rattle.rr_parser.proofs.Making.{puts_is}
+use Rattle.rr_parser.proofs.Choosing.{ordered_pushed}
 use Rattle.rr_parser.proofs.parser.Parser.put.Goals as goal
 
 pub returns-clause-puts : goal.returns-clause-puts
