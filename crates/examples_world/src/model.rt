@@ -3,7 +3,7 @@
 
 use rr_base::{Fault, LimitKind, Limits};
 use rr_space::Label;
-use rr_world::{Operand, Reply};
+use rr_world::{LastKind, Operand, Reply};
 use std::alloc::{AllocError, Global};
 
 /// A value: an immediate, which no step tells from another, or an object by its name.
@@ -19,6 +19,7 @@ pub enum Holder {
     Ractor(usize),
     Hand(usize),
     Inbox(usize, u32),
+    Port(usize, u32),
     Nobody,
 }
 
@@ -72,6 +73,15 @@ pub struct Inbox {
     pub events: usize,
 }
 
+/// A port: a last value, or a last fault, with its ticket.
+#[derive(Drop)]
+pub struct Port {
+    pub last: Option<(u32, Parcel, bool)>,
+    pub given: bool,
+    pub closed: bool,
+    pub next: u32,
+}
+
 /// What a step answers.
 #[derive(Clone, Copy, Debug, PartialEq, Eq, Drop)]
 pub enum Told {
@@ -82,6 +92,7 @@ pub enum Told {
     EmptyAndClosed,
     WasClosed(bool),
     Started(u32),
+    GrabbedLast(bool),
     Closed,
     HistoryFull,
     TooManySlots,
@@ -99,8 +110,7 @@ pub struct Model {
     pub objects: Vec<Object>,
     pub actors: Vec<Actor>,
     pub inboxes: Vec<Inbox>,
-    /// Whether each port is closed.
-    pub shut_ports: Vec<bool>,
+    pub ports: Vec<Port>,
     /// By the number of its name, whether a constant has a value that each ractor may read.
     pub constants: Vec<Option<bool>>,
     /// How many events the store's history has.
@@ -118,6 +128,8 @@ pub fn what_it_tells(reply: &Reply) -> Told {
         Reply::EmptyAndClosed => Told::EmptyAndClosed,
         Reply::WasClosed(already) => Told::WasClosed(*already),
         Reply::Started(number) => Told::Started(u32::from(number.0)),
+        Reply::GrabbedLast(LastKind::Value) => Told::GrabbedLast(false),
+        Reply::GrabbedLast(LastKind::Fault) => Told::GrabbedLast(true),
         Reply::Refused(Fault::Closed) => Told::Closed,
         Reply::Refused(Fault::HistoryFull) => Told::HistoryFull,
         Reply::Refused(Fault::Limit(LimitKind::Slots)) => Told::TooManySlots,
@@ -169,7 +181,7 @@ impl Model {
             objects: Vec::new(alloc),
             actors: Vec::new(alloc),
             inboxes: Vec::new(alloc),
-            shut_ports: Vec::new(alloc),
+            ports: Vec::new(alloc),
             constants: Vec::new(alloc),
             events: 0,
             limits,
@@ -194,7 +206,12 @@ impl Model {
             next: 0,
             events: 0,
         })?;
-        self.shut_ports.push(false)?;
+        self.ports.push(Port {
+            last: None,
+            given: false,
+            closed: false,
+            next: 0,
+        })?;
         Ok(())
     }
 
@@ -315,7 +332,7 @@ impl Model {
 }
 
 /// The kinds of answers, of which there are as many as this.
-pub const KINDS: usize = 17;
+pub const KINDS: usize = 19;
 
 impl Told {
     /// The number of its kind.
@@ -338,7 +355,9 @@ impl Told {
             Told::Unknown => 14,
             Told::NotMain => 15,
             Told::OfMain => 16,
-            Told::Other => 17,
+            Told::GrabbedLast(false) => 17,
+            Told::GrabbedLast(true) => 18,
+            Told::Other => 19,
         }
     }
 }

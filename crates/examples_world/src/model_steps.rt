@@ -4,7 +4,7 @@ use crate::model::{
     Holder, Inbox, Kind, Mark, Model, Object, Parcel, Told, Value, first_under, mark_of, put,
 };
 use rr_base::Sym;
-use rr_world::{Action, NewObject, Operand, Step};
+use rr_world::{Action, LastKind, NewObject, Operand, Step};
 use std::alloc::{AllocError, Global};
 
 fn kind_of(new: NewObject) -> Kind {
@@ -374,12 +374,52 @@ impl Model {
     }
 
     fn close_port(&mut self, to: usize) -> Told {
-        let Some(shut) = self.shut_ports.get_mut(to) else {
+        let Some(port) = self.ports.get_mut(to) else {
             return Told::NotEnabled;
         };
-        let already = *shut;
-        *shut = true;
+        let already = port.closed;
+        port.closed = true;
         Told::WasClosed(already)
+    }
+
+    /// The message in the hand is the last of the ractor's own port.
+    fn show_last(&mut self, who: usize, is_fault: bool) -> Told {
+        let (Some(parcel), Some(port)) = (self.hand(who), self.ports.get_mut(who)) else {
+            return Told::NotEnabled;
+        };
+        if port.given {
+            return Told::NotEnabled;
+        }
+        port.given = true;
+        if port.closed {
+            return Told::Closed;
+        }
+        let ticket = port.next;
+        port.next = ticket.saturating_add(1);
+        port.closed = true;
+        port.last = Some((ticket, parcel, is_fault));
+        self.hand_on(Holder::Hand(who), Holder::Port(who, ticket));
+        self.take_in_hand(who, None, false);
+        Told::Offered(ticket)
+    }
+
+    fn grab(&mut self, who: usize, to: usize) -> Told {
+        if self.hand(who).is_some() {
+            return Told::NotEnabled;
+        }
+        let Some(port) = self.ports.get_mut(to) else {
+            return Told::NotEnabled;
+        };
+        match port.last {
+            Some((ticket, parcel, is_fault)) => {
+                port.last = None;
+                self.hand_on(Holder::Port(to, ticket), Holder::Hand(who));
+                self.take_in_hand(who, Some(parcel), false);
+                Told::GrabbedLast(is_fault)
+            }
+            None if port.closed => Told::EmptyAndClosed,
+            None => Told::Empty,
+        }
     }
 
     fn start(&mut self, alloc: Global) -> Result<Told, AllocError> {
@@ -489,6 +529,11 @@ impl Model {
             },
             Action::ClosePort(to) => Ok(match place_of(to.0, count) {
                 Some(to) => self.close_port(to),
+                None => Told::NotEnabled,
+            }),
+            Action::ShowLast(kind) => Ok(self.show_last(who, matches!(kind, LastKind::Fault))),
+            Action::Grab(to) => Ok(match place_of(to.0, count) {
+                Some(to) => self.grab(who, to),
                 None => Told::NotEnabled,
             }),
             Action::Start => self.start(alloc),

@@ -2,10 +2,10 @@
 
 ghost use Rattle.std.specs.Prelude.{◌≤◌};
 
-use crate::model::{Holder, KINDS, Model, Value, what_it_tells};
+use crate::model::{Holder, KINDS, Model, Port, Value, what_it_tells};
 use rr_base::{ClassId, Limits, RactorNo, Sym};
 use rr_space::Label;
-use rr_world::{Action, NewObject, Operand, Step, World};
+use rr_world::{Action, LastKind, NewObject, Operand, Step, World};
 use std::alloc::{AllocError, Global};
 use std::process::Abort;
 use std::test::Fail;
@@ -91,13 +91,22 @@ impl Dice {
         }
     }
 
+    /// A step on ports.
+    fn port(&mut self) -> Action {
+        match self.below(7) {
+            0 if self.below(5) == 0 => Action::ClosePort(self.ractor()),
+            0 | 1 => Action::ShowLast(LastKind::Value),
+            2 | 3 => Action::ShowLast(LastKind::Fault),
+            _ => Action::Grab(self.ractor()),
+        }
+    }
+
     /// A step on messages and inboxes.
     fn exchange(&mut self) -> Action {
-        match self.below(16) {
+        match self.below(17) {
             0 => Action::Discard,
             1 => Action::Start,
-            2 if self.below(4) == 0 => Action::ClosePort(self.ractor()),
-            2 => Action::Open,
+            2 | 16 => self.port(),
             3 if self.below(2) == 0 => Action::Close(self.ractor()),
             3 | 4 | 5 => Action::Open,
             6 | 7 | 8 => Action::Accept,
@@ -165,10 +174,26 @@ fn is_inbox_apart(model: &Model, alloc: Global, place: usize) -> Result<bool, Al
     Ok(true)
 }
 
+/// What the last message of a port leads to is its.
+fn is_port_apart(model: &Model, alloc: Global, place: usize) -> Result<bool, AllocError> {
+    match model.ports.get(place) {
+        Some(
+            Port {
+                last: Some((ticket, parcel, _)),
+                ..
+            },
+        ) => is_held_by(model, alloc, parcel.root, Holder::Port(place, *ticket)),
+        _ => Ok(true),
+    }
+}
+
 /// No two holders lead to one object: each leads to its own alone.
 fn are_apart(model: &Model, alloc: Global) -> Result<bool, AllocError> {
     for who in 0..model.actors.len() {
-        if !is_apart(model, alloc, who)? || !is_inbox_apart(model, alloc, who)? {
+        if !is_apart(model, alloc, who)?
+            || !is_inbox_apart(model, alloc, who)?
+            || !is_port_apart(model, alloc, who)?
+        {
             return Ok(false);
         }
     }
@@ -205,7 +230,7 @@ fn walk(
 #[test]
 fn the_world_answers_as_the_model_does(rt: HostRuntime) -> Result<(), Fail> {
     let mut seen = [false; KINDS];
-    for seed in 1..4 {
+    for seed in 1..7 {
         walk(&rt, rt.alloc(), seed, FEW_SLOTS, &mut seen)?;
         walk(&rt, rt.alloc(), seed, FEW_EVENTS, &mut seen)?;
     }

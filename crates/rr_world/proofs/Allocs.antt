@@ -29,7 +29,7 @@ use Rattle.rr_world.specs.declared.step.NewObject.TheVariants.{Text, Array}
 use Rattle.rr_world.specs.declared.step.NewObject.TheVariants as new
 use Rattle.rr_world.specs.declared.step.Action.TheVariants.{Alloc}
 use Rattle.rr_world.specs.declared.step.Reply.{Reply}
-use Rattle.rr_world.specs.declared.step.Reply.TheVariants.{NotEnabled, Done, Offered, Empty, EmptyAndClosed, WasClosed, Refused, Started, OfMain}
+use Rattle.rr_world.specs.declared.step.Reply.TheVariants.{NotEnabled, Done, Offered, Empty, EmptyAndClosed, WasClosed, Refused, Started, GrabbedLast, OfMain}
 use Rattle.rr_world.proofs.Lists.{eq_cases, set_at, set_off, seen_same, each_set}
 use Rattle.rr_world.proofs.Namings.{actor_same, same_actor, post_same, hand_same, home_stands}
 use Rattle.rr_world.proofs.Knowing.{read_set}
@@ -276,4 +276,5 @@ allocated_by w w2 who k m m2 kind Empty at rs is stands o = absurd o
 allocated_by w w2 who k m m2 kind EmptyAndClosed at rs is stands o = absurd o
 allocated_by w w2 who k m m2 kind (WasClosed b) at rs is stands o = absurd o
 allocated_by w w2 who k m m2 kind (Started j) at rs is stands o = absurd o
+allocated_by w w2 who k m m2 kind (GrabbedLast l) at rs is stands o = absurd o
 allocated_by w w2 who k m m2 kind OfMain at rs is stands o = absurd o

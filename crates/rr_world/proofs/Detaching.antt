@@ -28,7 +28,7 @@ use Rattle.rr_world.specs.Runs.{HasOutcome}
 use Rattle.rr_world.specs.declared.step.Operand.{Operand}
 use Rattle.rr_world.specs.declared.step.Action.TheVariants.{Detach}
 use Rattle.rr_world.specs.declared.step.Reply.{Reply}
-use Rattle.rr_world.specs.declared.step.Reply.TheVariants.{NotEnabled, Done, Offered, Empty, EmptyAndClosed, WasClosed, Refused, Started, OfMain}
+use Rattle.rr_world.specs.declared.step.Reply.TheVariants.{NotEnabled, Done, Offered, Empty, EmptyAndClosed, WasClosed, Refused, Started, GrabbedLast, OfMain}
 use Rattle.rr_world.proofs.Enabled.{actor_at, free, allowed, tested_at}
 use Rattle.rr_world.proofs.Insides.{set_again, same_assembly}
 use Rattle.rr_world.proofs.Knowing.{knows_either, read_set}
@@ -189,4 +189,5 @@ detached_by law w w2 who k m m2 op Empty at rs is stands o = absurd o
 detached_by law w w2 who k m m2 op EmptyAndClosed at rs is stands o = absurd o
 detached_by law w w2 who k m m2 op (WasClosed b) at rs is stands o = absurd o
 detached_by law w w2 who k m m2 op (Started j) at rs is stands o = absurd o
+detached_by law w w2 who k m m2 op (GrabbedLast l) at rs is stands o = absurd o
 detached_by law w w2 who k m m2 op OfMain at rs is stands o = absurd o

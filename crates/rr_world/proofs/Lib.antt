@@ -32,3 +32,6 @@ pub mod Storing
 pub mod Running
 pub mod Ending
 pub mod PortTelling
+pub mod PortInsides
+pub mod PortHands
+pub mod PortGoing

@@ -33,7 +33,7 @@ use Rattle.rr_world.specs.declared.step.Operand.TheVariants as operand
 use Rattle.rr_world.specs.declared.step.Action.{Action}
 use Rattle.rr_world.specs.declared.step.Action.TheVariants.{Freeze, Append, Push, Write, SetField}
 use Rattle.rr_world.specs.declared.step.Reply.{Reply}
-use Rattle.rr_world.specs.declared.step.Reply.TheVariants.{NotEnabled, Done, Offered, Empty, EmptyAndClosed, WasClosed, Refused, Started, OfMain}
+use Rattle.rr_world.specs.declared.step.Reply.TheVariants.{NotEnabled, Done, Offered, Empty, EmptyAndClosed, WasClosed, Refused, Started, GrabbedLast, OfMain}
 use Rattle.rr_world.proofs.Enabled.{actor_at, allowed}
 use Rattle.rr_world.proofs.Fields.{set_renamed, field_values}
 use Rattle.rr_world.proofs.Insides.{set_again, same_assembly}
@@ -262,6 +262,7 @@ frozen_by w w2 who k m m2 op Empty at rs is stands a = absurd a
 frozen_by w w2 who k m m2 op EmptyAndClosed at rs is stands a = absurd a
 frozen_by w w2 who k m m2 op (WasClosed b) at rs is stands a = absurd a
 frozen_by w w2 who k m m2 op (Started j) at rs is stands a = absurd a
+frozen_by w w2 who k m m2 op (GrabbedLast l) at rs is stands a = absurd a
 frozen_by w w2 who k m m2 op OfMain at rs is stands a = absurd a
 
 -- whatever an append answers
@@ -282,6 +283,7 @@ appended_by w w2 who k m m2 op byte Empty at rs is stands a = absurd a
 appended_by w w2 who k m m2 op byte EmptyAndClosed at rs is stands a = absurd a
 appended_by w w2 who k m m2 op byte (WasClosed b) at rs is stands a = absurd a
 appended_by w w2 who k m m2 op byte (Started j) at rs is stands a = absurd a
+appended_by w w2 who k m m2 op byte (GrabbedLast l) at rs is stands a = absurd a
 appended_by w w2 who k m m2 op byte OfMain at rs is stands a = absurd a
 
 -- whatever a push answers
@@ -322,6 +324,7 @@ pushed_by w w2 who k m m2 op value Empty at rs is stands a = absurd a
 pushed_by w w2 who k m m2 op value EmptyAndClosed at rs is stands a = absurd a
 pushed_by w w2 who k m m2 op value (WasClosed b) at rs is stands a = absurd a
 pushed_by w w2 who k m m2 op value (Started j) at rs is stands a = absurd a
+pushed_by w w2 who k m m2 op value (GrabbedLast l) at rs is stands a = absurd a
 pushed_by w w2 who k m m2 op value OfMain at rs is stands a = absurd a
 
 -- whatever a write answers
@@ -354,6 +357,7 @@ written_by w w2 who k m m2 op i value Empty at rs is stands a = absurd a
 written_by w w2 who k m m2 op i value EmptyAndClosed at rs is stands a = absurd a
 written_by w w2 who k m m2 op i value (WasClosed b) at rs is stands a = absurd a
 written_by w w2 who k m m2 op i value (Started j) at rs is stands a = absurd a
+written_by w w2 who k m m2 op i value (GrabbedLast l) at rs is stands a = absurd a
 written_by w w2 who k m m2 op i value OfMain at rs is stands a = absurd a
 
 -- whatever setting a field answers
@@ -394,4 +398,5 @@ set_by w w2 who k m m2 op name value Empty at rs is stands a = absurd a
 set_by w w2 who k m m2 op name value EmptyAndClosed at rs is stands a = absurd a
 set_by w w2 who k m m2 op name value (WasClosed b) at rs is stands a = absurd a
 set_by w w2 who k m m2 op name value (Started j) at rs is stands a = absurd a
+set_by w w2 who k m m2 op name value (GrabbedLast l) at rs is stands a = absurd a
 set_by w w2 who k m m2 op name value OfMain at rs is stands a = absurd a

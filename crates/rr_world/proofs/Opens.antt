@@ -18,7 +18,7 @@ use Rattle.rr_world.specs.Opening.{IsOpenedBy, Opened}
 use Rattle.rr_world.specs.Runs.{HasOutcome}
 use Rattle.rr_world.specs.declared.step.Action.TheVariants.{Open}
 use Rattle.rr_world.specs.declared.step.Reply.{Reply}
-use Rattle.rr_world.specs.declared.step.Reply.TheVariants.{NotEnabled, Done, Offered, Empty, EmptyAndClosed, WasClosed, Refused, Started, OfMain}
+use Rattle.rr_world.specs.declared.step.Reply.TheVariants.{NotEnabled, Done, Offered, Empty, EmptyAndClosed, WasClosed, Refused, Started, GrabbedLast, OfMain}
 use Rattle.rr_world.proofs.Lists.{set_at, set_off, each_set}
 use Rattle.rr_world.proofs.Namings.{actor_same, same_actor, post_same, value_moved, shared_kept, roots_stand}
 use Rattle.rr_world.proofs.Knowing.{read_set, opened_knows}
@@ -113,4 +113,5 @@ opened_by w w2 who k m m2 Empty at rs is stands o = absurd o
 opened_by w w2 who k m m2 EmptyAndClosed at rs is stands o = absurd o
 opened_by w w2 who k m m2 (WasClosed b) at rs is stands o = absurd o
 opened_by w w2 who k m m2 (Started j) at rs is stands o = absurd o
+opened_by w w2 who k m m2 (GrabbedLast l) at rs is stands o = absurd o
 opened_by w w2 who k m m2 OfMain at rs is stands o = absurd o

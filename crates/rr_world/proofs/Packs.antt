@@ -28,7 +28,7 @@ use Rattle.rr_world.specs.Packing.{IsPackedFrom, MayNotPack, Packs, named_ref}
 use Rattle.rr_world.specs.Runs.{HasOutcome}
 use Rattle.rr_world.specs.declared.step.Operand.{Operand}
 use Rattle.rr_world.specs.declared.step.Action.TheVariants.{Pack}
-use Rattle.rr_world.specs.declared.step.Reply.TheVariants.{NotEnabled, Done, Offered, Empty, EmptyAndClosed, WasClosed, Refused, Started, OfMain}
+use Rattle.rr_world.specs.declared.step.Reply.TheVariants.{NotEnabled, Done, Offered, Empty, EmptyAndClosed, WasClosed, Refused, Started, GrabbedLast, OfMain}
 use Rattle.rr_world.specs.declared.step.Reply.{Reply}
 use Rattle.rr_world.proofs.Lists.{set_at, set_off, seen_same, each_set}
 use Rattle.rr_world.proofs.Namings.{actor_same, post_same, handed}
@@ -266,4 +266,5 @@ packed_by w w2 who k m m2 op Empty at rs is stands o = absurd o
 packed_by w w2 who k m m2 op EmptyAndClosed at rs is stands o = absurd o
 packed_by w w2 who k m m2 op (WasClosed b) at rs is stands o = absurd o
 packed_by w w2 who k m m2 op (Started j) at rs is stands o = absurd o
+packed_by w w2 who k m m2 op (GrabbedLast l) at rs is stands o = absurd o
 packed_by w w2 who k m m2 op OfMain at rs is stands o = absurd o

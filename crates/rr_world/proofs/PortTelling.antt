@@ -29,7 +29,7 @@ pub showcase_at : (w : Assembly) (names : Naming) (g : Objects) (c : ℕ) (p : P
     → slice_get (state_in w names g).post.ports c ≡ Some (showcase_in names c p)
 showcase_at w names g c p at = each_at (showcase_in names) 0 w.channels.ports c c p (omega arith) at
 
-no_port : (w : Assembly) (names : Naming) (g : Objects) (to : RactorNo) → ((k : ℕ) → StandsAt to k → length w.channels.ports ≤ k) → HasPort (state_in w names g) to → ⊥
+pub no_port : (w : Assembly) (names : Naming) (g : Objects) (to : RactorNo) → ((k : ℕ) → StandsAt to k → length w.channels.ports ≤ k) → HasPort (state_in w names g) to → ⊥
 no_port w names g to none (c, b, there, is) =
     let x = each_back (showcase_in names) 0 w.channels.ports c c b (omega arith) is in
     let lt = slice_get_within w.channels.ports c x.0 x.1 in

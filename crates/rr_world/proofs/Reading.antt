@@ -30,7 +30,7 @@ use Rattle.rr_world.specs.Runs.{HasOutcome}
 use Rattle.rr_world.specs.declared.step.Operand.{Operand}
 use Rattle.rr_world.specs.declared.step.Action.TheVariants.{Read}
 use Rattle.rr_world.specs.declared.step.Reply.{Reply}
-use Rattle.rr_world.specs.declared.step.Reply.TheVariants.{NotEnabled, Done, Offered, Empty, EmptyAndClosed, WasClosed, Refused, Started, OfMain}
+use Rattle.rr_world.specs.declared.step.Reply.TheVariants.{NotEnabled, Done, Offered, Empty, EmptyAndClosed, WasClosed, Refused, Started, GrabbedLast, OfMain}
 use Rattle.rr_world.proofs.Changes.{at_slot}
 use Rattle.rr_world.proofs.Enabled.{actor_at, allowed}
 use Rattle.rr_world.proofs.Knowing.{no_clusters, none_known, knows_either, read_set}
@@ -171,4 +171,5 @@ read_of w w2 who k m m2 op label Empty at rs is stands a = absurd a
 read_of w w2 who k m m2 op label EmptyAndClosed at rs is stands a = absurd a
 read_of w w2 who k m m2 op label (WasClosed b) at rs is stands a = absurd a
 read_of w w2 who k m m2 op label (Started j) at rs is stands a = absurd a
+read_of w w2 who k m m2 op label (GrabbedLast l) at rs is stands a = absurd a
 read_of w w2 who k m m2 op label OfMain at rs is stands a = absurd a

@@ -23,7 +23,7 @@ use Rattle.rr_world.specs.Moving.{IsPutBackBy, PutsBackInto}
 use Rattle.rr_world.specs.Runs.{HasOutcome}
 use Rattle.rr_world.specs.declared.step.Action.TheVariants.{PutBack}
 use Rattle.rr_world.specs.declared.step.Reply.{Reply}
-use Rattle.rr_world.specs.declared.step.Reply.TheVariants.{NotEnabled, Done, Offered, Empty, EmptyAndClosed, WasClosed, Refused, Started, OfMain}
+use Rattle.rr_world.specs.declared.step.Reply.TheVariants.{NotEnabled, Done, Offered, Empty, EmptyAndClosed, WasClosed, Refused, Started, GrabbedLast, OfMain}
 use Rattle.rr_world.proofs.Enabled.{actor_at, allowed}
 use Rattle.rr_world.proofs.Insides.{set_again, same_assembly}
 use Rattle.rr_world.proofs.Knowing.{knows_either, read_set}
@@ -143,4 +143,5 @@ returned_by law w w2 who k m m2 Empty at rs is stands o = absurd o
 returned_by law w w2 who k m m2 EmptyAndClosed at rs is stands o = absurd o
 returned_by law w w2 who k m m2 (WasClosed b) at rs is stands o = absurd o
 returned_by law w w2 who k m m2 (Started j) at rs is stands o = absurd o
+returned_by law w w2 who k m m2 (GrabbedLast l) at rs is stands o = absurd o
 returned_by law w w2 who k m m2 OfMain at rs is stands o = absurd o

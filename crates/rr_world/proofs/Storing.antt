@@ -38,7 +38,7 @@ use Rattle.rr_world.specs.Runs.{HasOutcome}
 use Rattle.rr_world.specs.declared.step.Operand.{Operand}
 use Rattle.rr_world.specs.declared.step.Action.TheVariants.{SetConst, SetOwn, GetConst}
 use Rattle.rr_world.specs.declared.step.Reply.{Reply}
-use Rattle.rr_world.specs.declared.step.Reply.TheVariants.{NotEnabled, Done, Offered, Empty, EmptyAndClosed, WasClosed, Refused, Started, OfMain}
+use Rattle.rr_world.specs.declared.step.Reply.TheVariants.{NotEnabled, Done, Offered, Empty, EmptyAndClosed, WasClosed, Refused, Started, GrabbedLast, OfMain}
 use Rattle.rr_world.proofs.Enabled.{actor_at, allowed}
 use Rattle.rr_world.proofs.Insides.{set_again, same_assembly}
 use Rattle.rr_world.proofs.Knowing.{no_clusters, none_known, knows_on, member_on, read_set}
@@ -345,6 +345,7 @@ got_by w w2 who k m m2 name v Empty at stands here public rs is a = absurd a
 got_by w w2 who k m m2 name v EmptyAndClosed at stands here public rs is a = absurd a
 got_by w w2 who k m m2 name v (WasClosed b) at stands here public rs is a = absurd a
 got_by w w2 who k m m2 name v (Started j) at stands here public rs is a = absurd a
+got_by w w2 who k m m2 name v (GrabbedLast l) at stands here public rs is a = absurd a
 got_by w w2 who k m m2 name v OfMain at stands here public rs is a = absurd a
 
 -- the main ractor keeps the value itself, and it is this one

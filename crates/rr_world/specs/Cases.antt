@@ -1,20 +1,20 @@
 -- The cases of the graph machine, one after another.
-use Rattle.std.specs.Prelude.{◌≡◌, ℕ, true, false, List, [], Some, slice_get}
+use Rattle.std.specs.Prelude.{◌≡◌, ℕ, true, false, List, [], Some, None, slice_get}
 use Rattle.rr_base.specs.declared.name.RactorNo.{RactorNo as Number}
 use Rattle.rr_space.specs.Graph.{text, array, plain, Value}
-use Rattle.rr_world.specs.States.{Parcel, Letter, Mailbox, Showcase, Actor, Held, State, IsSame, constant_at}
+use Rattle.rr_world.specs.States.{Farewell, Parcel, Letter, Mailbox, Showcase, Actor, Held, State, IsSame, constant_at}
 use Rattle.rr_world.specs.States as constant
 use Rattle.rr_base.specs.declared.event.StoreEvent.TheVariants as store
 use Rattle.rr_world.specs.declared.step.Action.{Action}
 use Rattle.rr_space.specs.Labels.{label_of}
-use Rattle.rr_world.specs.declared.step.Action.TheVariants.{Alloc, Pack, Discard, Offer, Accept, Open, Close, ClosePort, Freeze, Append, Push, Write, SetField, Read, Start, End, Detach, PutBack, SetConst, SetOwn, GetConst}
+use Rattle.rr_world.specs.declared.step.Action.TheVariants.{Alloc, Pack, Discard, Offer, Accept, Open, Close, ClosePort, ShowLast, Grab, Freeze, Append, Push, Write, SetField, Read, Start, End, Detach, PutBack, SetConst, SetOwn, GetConst}
 use Rattle.rr_world.specs.declared.step.Step.{Step}
 use Rattle.rr_world.specs.declared.step.Reply.{Reply}
-use Rattle.rr_world.specs.declared.step.Reply.TheVariants.{NotEnabled, Done, Offered, Empty, EmptyAndClosed, WasClosed, Refused, Started, OfMain}
+use Rattle.rr_world.specs.declared.step.Reply.TheVariants.{NotEnabled, Done, Offered, Empty, EmptyAndClosed, WasClosed, Refused, Started, GrabbedLast, OfMain}
 use Rattle.rr_world.specs.Enabling.{StandsAt, IsRunning, IsPossible, named_value, IsNoShell, IsOpen, HasElement, Allows, IsEnabled}
 use Rattle.rr_world.specs.ObjectCases.{IsAllocated, IsAllocRefused, frozen, appended, pushed, written, with_field, IsMade, IsMemoryRefused, IsReadAs, IsStarted, IsEnded, IsStartRefused}
 use Rattle.rr_world.specs.MessageCases.{IsPacked, IsPackRefusedFor, IsDetached, IsDetachRefusedFor, IsReturned, IsDiscarded, IsOffered, IsOfferRefused, IsAccepted, IsOpenedAs, IsOpenRefused, IsClosedBy}
-use Rattle.rr_world.specs.PortCases.{IsPortClosedBy}
+use Rattle.rr_world.specs.PortCases.{IsPortClosedBy, IsLastLeft, IsLastRefused, IsGrabbed, is_of_fault, grabbed}
 use Rattle.rr_world.specs.ConstantCases.{IsMain, IsConstantSet, IsSetRefused, IsSetOwnRefused, IsGot, IsGetRefused}
 
 -- the inbox of this number, in a clause of its own
@@ -44,6 +44,14 @@ Effect who k a Open Done s t = (p : Parcel) × (a.hand ≡ Some p) × IsOpenedAs
 Effect who k a Open (Refused f) s t = (p : Parcel) × (a.hand ≡ Some p) × IsOpenRefused a p f s t
 Effect who k a (Close to) (WasClosed already) s t = (c : ℕ) × (b : Mailbox) × InboxIs s to c b × IsClosedBy who c b already s t
 Effect who k a (ClosePort to) (WasClosed already) s t = (c : ℕ) × (b : Showcase) × PortIs s to c b × IsPortClosedBy who c b already s t
+Effect who k a (ShowLast mark) (Offered n) s t = (b : Showcase) × (p : Parcel) × PortIs s who k b × (a.hand ≡ Some p) × IsLastLeft who mark k a p b n s t
+Effect who k a (ShowLast mark) (Refused f) s t = (b : Showcase) × (p : Parcel) × PortIs s who k b × (a.hand ≡ Some p) × IsLastRefused who k p b f s t
+Effect who k a (Grab to) Done s t = (c : ℕ) × (b : Showcase) × (e : Letter) × PortIs s to c b × (b.last ≡ None) × (b.closed ≡ false) × (b.shown ≡ Some e)
+    × IsGrabbed k c a e (grabbed (record b { shown = None }) e who) s t
+Effect who k a (Grab to) (GrabbedLast mark) s t = (c : ℕ) × (b : Showcase) × (l : Farewell) × PortIs s to c b × (b.last ≡ Some l) × (l.is_fault ≡ is_of_fault mark)
+    × IsGrabbed k c a l.letter (grabbed (record b { last = None }) l.letter who) s t
+Effect who k a (Grab to) Empty s t = (c : ℕ) × (b : Showcase) × PortIs s to c b × (b.last ≡ None) × (b.closed ≡ false) × (b.shown ≡ None) × IsSame s t
+Effect who k a (Grab to) EmptyAndClosed s t = (c : ℕ) × (b : Showcase) × PortIs s to c b × (b.last ≡ None) × (b.closed ≡ true) × IsSame s t
 Effect who k a (Freeze op) Done s t = IsMade k a op IsNoShell frozen s t
 Effect who k a (Append op byte) Done s t = IsMade k a op (IsOpen text) (appended byte) s t
 Effect who k a (Append op byte) (Refused f) s t = IsMemoryRefused f s t

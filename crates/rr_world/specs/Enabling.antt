@@ -7,7 +7,7 @@ use Rattle.rr_share.specs.Search.{LeadsToShell}
 use Rattle.rr_world.specs.States.{Parcel, Mailbox, Showcase, Actor, State}
 use Rattle.rr_world.specs.declared.step.Action.{Action}
 use Rattle.rr_space.specs.Labels.{label_of}
-use Rattle.rr_world.specs.declared.step.Action.TheVariants.{Alloc, Pack, Discard, Offer, Accept, Open, Close, ClosePort, Freeze, Append, Push, Write, SetField, Read, Start, End, Detach, PutBack, SetConst, SetOwn, GetConst}
+use Rattle.rr_world.specs.declared.step.Action.TheVariants.{Alloc, Pack, Discard, Offer, Accept, Open, Close, ClosePort, ShowLast, Grab, Freeze, Append, Push, Write, SetField, Read, Start, End, Detach, PutBack, SetConst, SetOwn, GetConst}
 use Rattle.rr_world.specs.declared.step.Operand.{Operand}
 use Rattle.rr_world.specs.declared.step.Operand.TheVariants as operand
 use Rattle.rr_world.specs.declared.step.Step.{Step}
@@ -23,6 +23,10 @@ HasInbox s to = (c : ℕ) × (b : Mailbox) × StandsAt to c × (slice_get s.post
 -- there is such a port
 abbrev pub HasPort : State → Number → Type 0
 HasPort s to = (c : ℕ) × (b : Showcase) × StandsAt to c × (slice_get s.post.ports c ≡ Some b)
+
+-- its own port has been given no last value or fault
+abbrev pub MayLeave : State → Number → Type 0
+MayLeave s who = (c : ℕ) × (b : Showcase) × StandsAt who c × (slice_get s.post.ports c ≡ Some b) × (b.given ≡ false)
 
 -- a message is in the hand
 abbrev pub Holds : Actor → Type 0
@@ -102,6 +106,8 @@ Allows s who a Accept = IsFreeHand a × HasInbox s who
 Allows s who a Open = Holds a
 Allows s who a (Close to) = HasInbox s to
 Allows s who a (ClosePort to) = HasPort s to
+Allows s who a (ShowLast kind) = Holds a × MayLeave s who
+Allows s who a (Grab to) = IsFreeHand a × HasPort s to
 Allows s who a (Freeze op) = MayChange s who a op IsNoShell
 Allows s who a (Append op byte) = MayChange s who a op (IsOpen text)
 Allows s who a (Push op x) = MayChange s who a op (IsOpen array) × IsValue a x

@@ -7,6 +7,7 @@ pub mod ObjectCases
 pub mod MessageCases
 pub mod ConstantCases
 pub mod PortCases
+pub mod Leaving
 pub mod Cases
 pub mod Runs
 pub mod Opening

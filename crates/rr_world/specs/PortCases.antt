@@ -1,8 +1,15 @@
 -- The cases of the graph machine on ports.
-use Rattle.std.specs.Prelude.{◌≡◌, ℕ, true, Bool, cond, [], ◌∷◌, ◌++◌}
+use Rattle.std.specs.Prelude.{◌≡◌, ℕ, ◌+◌, true, false, Bool, cond, [], ◌∷◌, ◌++◌, Some, None, slice_set}
 use Rattle.rr_base.specs.declared.name.RactorNo.{RactorNo as Number}
+use Rattle.rr_base.specs.declared.fault.Fault.{Fault}
+use Rattle.rr_base.specs.declared.fault.Fault.TheVariants as fault
+use Rattle.rr_base.specs.declared.event.PortEvent.{PortEvent}
 use Rattle.rr_base.specs.declared.event.PortEvent.TheVariants as event
-use Rattle.rr_world.specs.States.{Showcase, State, with_case}
+use Rattle.rr_space.specs.Readings.{Hand, Shown}
+use Rattle.rr_space.specs.Steps.{IsHandedOn}
+use Rattle.rr_world.specs.States.{Parcel, Letter, Showcase, Actor, State, IsSame, with_case}
+use Rattle.rr_world.specs.declared.step.LastKind.{LastKind}
+use Rattle.rr_world.specs.declared.step.LastKind.TheVariants as kind
 
 -- close: whether it was closed; now it is, and what is inside stays. Only the first close leaves an event
 pub record IsPortClosedBy (who : Number) (c : ℕ) (b : Showcase) (already : Bool) (s t : State) : Type 0 where
@@ -10,3 +17,43 @@ pub record IsPortClosedBy (who : Number) (c : ℕ) (b : Showcase) (already : Boo
   pub objects : (n : ℕ) → t.objects n ≡ s.objects n
   pub ractors : t.ractors ≡ s.ractors
   pub post : t.post ≡ with_case s.post c (record b { closed = true; history = b.history ++ cond b.closed [] (event.Closed who ∷ []) })
+
+abbrev pub is_of_fault : LastKind → Bool
+is_of_fault kind.Value = false
+is_of_fault kind.Fault = true
+
+-- what the history tells of a last value or fault
+abbrev pub told_of : LastKind → ℕ → ℕ → Number → PortEvent
+told_of kind.Value t size who = event.Last t size who
+told_of kind.Fault t size who = event.Fault t size who
+
+-- show last, Ok: it was open; the last value or fault stands under the next ticket and counts as given, the port is closed, and
+-- the owner of its objects turns from hand to message; a home goes
+pub record IsLastLeft (who : Number) (mark : LastKind) (k : ℕ) (a : Actor) (p : Parcel) (b : Showcase) (t : ℕ) (old new : State) : Type 0 where
+  pub unshut : b.closed ≡ false
+  pub ticket : t ≡ b.next
+  pub objects : IsHandedOn (Hand k) (Shown k t) old.objects new.objects
+  pub ractors : new.ractors ≡ slice_set old.ractors k (record a { hand = None; home = None })
+  pub post : new.post ≡ with_case old.post k (record b {
+    last = Some (record { letter = record { ticket = t; parcel = p }; is_fault = is_of_fault mark });
+    given = true;
+    closed = true;
+    next = b.next + 1;
+    history = b.history ++ told_of mark t p.size who ∷ [];
+  })
+
+-- a refused last value or fault: the port was closed; it counts as given, and the history tells of it
+abbrev pub IsLastRefused : Number → ℕ → Parcel → Showcase → Fault → State → State → Type 0
+IsLastRefused who k p b fault.Closed s t = (b.closed ≡ true)
+    × IsSame (record s { post = with_case s.post k (record b { given = true; history = b.history ++ event.Late p.size who ∷ [] }) }) t
+IsLastRefused who k p b _ s t = ⊥
+
+-- grab: what the port at c had is gone from it, and the owner turns from message to hand
+pub record IsGrabbed (k c : ℕ) (a : Actor) (e : Letter) (now : Showcase) (s t : State) : Type 0 where
+  pub objects : IsHandedOn (Shown c e.ticket) (Hand k) s.objects t.objects
+  pub ractors : t.ractors ≡ slice_set s.ractors k (record a { hand = Some e.parcel })
+  pub post : t.post ≡ with_case s.post c now
+
+-- the same, with another event
+abbrev pub grabbed : Showcase → Letter → Number → Showcase
+grabbed b e who = record b { history = b.history ++ event.Grabbed e.ticket e.parcel.size who ∷ [] }

@@ -11,5 +11,5 @@ mod step;
 mod world;
 
 pub use rr_space::Label;
-pub use step::{Action, NewObject, Operand, Reply, Step};
+pub use step::{Action, LastKind, NewObject, Operand, Reply, Step};
 pub use world::World;

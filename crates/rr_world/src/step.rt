@@ -24,6 +24,13 @@ pub enum NewObject {
     Object(ClassId),
 }
 
+/// What a ractor leaves at its end: the value of its block, or the exception that ended it.
+#[derive(Clone, Copy, Drop)]
+pub enum LastKind {
+    Value,
+    Fault,
+}
+
 /// What a ractor does in one step.
 #[derive(Clone, Copy, Drop)]
 pub enum Action {
@@ -44,6 +51,12 @@ pub enum Action {
     Close(RactorNo),
     /// A ractor's port is closed. What is inside stays.
     ClosePort(RactorNo),
+    /// The message in the hand is left in the ractor's own port as its last value or fault, and the port is closed. None
+    /// may have been left before.
+    ShowLast(LastKind),
+    /// What a ractor's port has comes into the hand, which has to be empty: the last value or fault, or else what is shown
+    /// in the open port.
+    Grab(RactorNo),
     /// The ractor's own object is frozen, and nothing that it leads to. A shell is not.
     Freeze(Operand),
     /// A byte comes behind those of the ractor's own text, which is not frozen.
@@ -89,11 +102,13 @@ pub enum Reply {
     NotEnabled,
     /// The step was made.
     Done,
-    /// The message was offered under this ticket.
+    /// The message was offered, or left, under this ticket.
     Offered(Ticket),
-    /// Nothing is in the inbox, which is open.
+    /// A last value or fault came into the hand.
+    GrabbedLast(LastKind),
+    /// Nothing is in the inbox or shown in the port, which is open.
     Empty,
-    /// Nothing is in the inbox, which is closed.
+    /// Nothing is in the inbox, or can be taken out of the port, which is closed.
     EmptyAndClosed,
     /// The inbox or the port is closed; whether it was closed before.
     WasClosed(bool),

@@ -37,7 +37,7 @@ impl Model for World {
 }
 
 // The place of a ractor, or of its inbox or port, among so many.
-fn place_of(number: RactorNo, count: usize) -> Option<usize>
+pub(crate) fn place_of(number: RactorNo, count: usize) -> Option<usize>
     ensures found { IfSome result (λ k. StandsAt number k × (k < count)) }
     ensures none { result ≡ None → (k : ℕ) → StandsAt number k → count ≤ k }
 {
@@ -360,10 +360,9 @@ impl World {
                 Some(inbox) => self.close(who, place, to, inbox),
                 None => Reply::NotEnabled,
             },
-            Action::ClosePort(to) => match place_of(to, self.ports.len()) {
-                Some(port) => self.close_port(who, place, to, port),
-                None => Reply::NotEnabled,
-            },
+            Action::ShowLast(kind) => self.show_last(who, place, kind),
+            Action::Grab(to) => self.grab(who, place, to),
+            Action::ClosePort(to) => self.close_port(who, place, to),
         }
     }
 

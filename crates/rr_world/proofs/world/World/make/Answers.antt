@@ -3,7 +3,6 @@ use Rattle.rr_world.specs.Views.{Assembly}
 use Rattle.rr_world.specs.Runs.{HasOutcome}
 use Rattle.rr_world.specs.declared.step.Action.{Action}
 use Rattle.rr_world.proofs.Enabled.{no_offer, no_close}
-use Rattle.rr_world.proofs.PortTelling.{no_port_closed}
 use Rattle.rr_world.proofs.Staying.{refused}
 use Rattle.rr_world.proofs.world.World.make.Goals as goal
 
@@ -93,9 +92,14 @@ pub returns-in-End : goal.returns-in-End
 returns-in-End c =
     subst (λ (a : Action). HasOutcome (record { who = c.args.who; action = a }) c.end.result c.args.self.now c.end.new.self) (sym c.in-End.is) c.end.ensures
 
-pub returns-in-None-place_of-2 : goal.returns-in-None-place_of-2
-returns-in-None-place_of-2 c =
-    let w = c.args.self.now in
-    let many = ap length (ap (λ (v : Assembly). v.channels.ports) c.self-in-ClosePort.view_is) in
-    refused (record { who = c.args.who; action = c.args.action }) w w refl
-    (λ names g e. no_port_closed w names g (record { who = c.args.who; action = c.args.action }) c.in-ClosePort.to c.in-ClosePort.is (λ k there. let le = c.in-None-place_of-2.ensures.none refl k there in omega (arith, le, many, c.len-in-ClosePort.ensures)) e)
+pub returns-in-ShowLast : goal.returns-in-ShowLast
+returns-in-ShowLast c =
+    subst (λ (a : Action). HasOutcome (record { who = c.args.who; action = a }) c.show_last.result c.args.self.now c.show_last.new.self) (sym c.in-ShowLast.is) c.show_last.ensures
+
+pub returns-in-Grab : goal.returns-in-Grab
+returns-in-Grab c =
+    subst (λ (a : Action). HasOutcome (record { who = c.args.who; action = a }) c.grab.result c.args.self.now c.grab.new.self) (sym c.in-Grab.is) c.grab.ensures
+
+pub returns-in-ClosePort : goal.returns-in-ClosePort
+returns-in-ClosePort c =
+    subst (λ (a : Action). HasOutcome (record { who = c.args.who; action = a }) c.close_port.result c.args.self.now c.close_port.new.self) (sym c.in-ClosePort.is) c.close_port.ensures

@@ -1,0 +1,13 @@
+use Rattle.std.proofs.Common.{length, ap, refl, arith}
+use Rattle.rr_world.specs.Views.{Assembly}
+use Rattle.rr_world.specs.declared.step.Action.TheVariants.{Grab}
+use Rattle.rr_world.proofs.PortGoing.{no_port_grabbed}
+use Rattle.rr_world.proofs.Staying.{refused}
+use Rattle.rr_world.proofs.world.World.grab.Goals as goal
+
+pub returns-in-None : goal.returns-in-None
+returns-in-None c =
+    let w = c.args.self.now in
+    let many = ap length (ap (λ (v : Assembly). v.channels.ports) c.self.view_is) in
+    refused (record { who = c.args.who; action = Grab c.args.to }) w w refl
+    (λ names g e. no_port_grabbed w names g (record { who = c.args.who; action = Grab c.args.to }) c.args.to refl (λ k there. let le = c.in-None.ensures.none refl k there in omega (arith, le, many, c.len.ensures)) e)
