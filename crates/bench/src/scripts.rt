@@ -1,7 +1,7 @@
 //! A script's tokens, tree and steps.
 
 use rr_base::{Fault, RactorNo};
-use rr_eval::{Answer, Machine, Turn};
+use rr_eval::{Machine, Response, Turn};
 use rr_lexer::lex;
 use rr_parser::parse;
 use rr_space::{Ref, Space};
@@ -22,7 +22,7 @@ fn steps_of(alloc: Global, program: &Program) -> Result<u64, Fault> {
     for _turn in 0..u64::MAX {
         match machine.turn(program, &mut space, 1)? {
             Turn::More => steps = steps.wrapping_add(1),
-            Turn::Ask(_) => machine.answer(Answer::Gave(Ref::Nil)),
+            Turn::Ask(_) => machine.answer(Response::Gives(Ref::Nil)),
             Turn::Done(_) | Turn::Raised(_) | Turn::StepLimit => break,
         }
     }
@@ -35,7 +35,7 @@ fn run_once(alloc: Global, program: &Program) -> Result<(), Fault> {
     for _turn in 0..STEPS {
         match machine.turn(program, &mut space, 1_000_000)? {
             Turn::More => {}
-            Turn::Ask(_) => machine.answer(Answer::Gave(Ref::Nil)),
+            Turn::Ask(_) => machine.answer(Response::Gives(Ref::Nil)),
             Turn::Done(_) | Turn::Raised(_) | Turn::StepLimit => break,
         }
     }

@@ -1,8 +1,9 @@
 -- An evaluation does not depend on its depth, as long as that is at least the number of steps.
-use Rattle.std.proofs.Common.{◌≡◌, ℕ, zero, suc, ◌≤◌, ap, ◌∙◌, arith, refl, Option, Some, None}
+use Rattle.std.proofs.Common.{◌≡◌, ℕ, zero, suc, ◌≤◌, ap, ◌∙◌, arith, refl, [], ◌∷◌, ◌++◌, Option, Some, None}
 use Rattle.rr_tree.specs.Tree.{Tree}
 use Rattle.rr_eval.specs.declared.problem.Answer.{Answer}
-use Rattle.rr_eval.specs.Script.{State, Script, Ret, Go, See, Do, Ask, Asked, Reply, World, Outcome, Ended, Spent, Waits, Evaluation, run, after, taken, asks}
+use Rattle.rr_eval.specs.declared.problem.Response.{Response}
+use Rattle.rr_eval.specs.Script.{State, Script, Ret, Go, See, Do, Ask, Reply, World, Outcome, Ended, Spent, Waits, Evaluation, run, after, taken}
 use Rattle.rr_eval.specs.Rules.{Context, rule, eval, meaning}
 
 -- no more than n steps are left
@@ -25,19 +26,20 @@ within_after n (Ended a s m) next w h = within_more m n w (next a s m) (h a s m 
 within_after n (Spent s) next w h = tt
 within_after n (Waits s) next w h = tt
 
-taken_falls : (r : Option Reply) (s : State) (n : ℕ) → Within n (taken r s n)
-taken_falls None s n = tt
-taken_falls (Some r) s n = omega arith
+taken_falls : (n : ℕ) (r : Option Reply) (s : State) (next : Response → State → Outcome) → ((a : Response) (u : State) → Within n (next a u)) → Within n (taken r s next)
+taken_falls n None s next h = tt
+taken_falls n (Some r) s next h = h r.response (record s { memory = record s.memory { table = r.table } })
 
-asks_falls : (w : World) (q : Asked) (s : State) (n : ℕ) → Within n (asks w q s n)
-asks_falls w q s n = taken_falls (w s.asked q s.memory.table) _ n
+taken_agrees : (r : Option Reply) (s : State) (f g : Response → State → Outcome) → ((a : Response) (u : State) → f a u ≡ g a u) → taken r s f ≡ taken r s g
+taken_agrees None s f g h = refl
+taken_agrees (Some r) s f g h = h r.response (record s { memory = record s.memory { table = r.table } })
 
 run_falls : (w : World) (go : Evaluation) → Falls go → (p : Script) (s : State) (n : ℕ) → Within n (run w go p s n)
 run_falls w go h (Ret a) s n = omega arith
 run_falls w go h (Go tree next) s n = within_after n (go tree s n) (λ a. run w go (next a)) (h tree s n) (λ a s' m le. run_falls w go h (next a) s' m)
 run_falls w go h (See look) s n = run_falls w go h (look s.memory) s n
 run_falls w go h (Do act next) s n = run_falls w go h next (record s { memory = act s.memory }) n
-run_falls w go h (Ask q next) s n = within_after n (asks w q s n) (λ a. run w go (next a)) (asks_falls w q s n) (λ a s' m le. run_falls w go h (next a) s' m)
+run_falls w go h (Ask q next) s n = taken_falls n (w s.asked q s.memory.table) (record s { asked = s.asked ++ q ∷ [] }) (λ r u. run w go (next r) u n) (λ r u. run_falls w go h (next r) u n)
 
 eval_falls : (c : Context) (w : World) (depth : ℕ) → Falls (eval c w depth)
 eval_falls c w zero tree s n = tt
@@ -63,7 +65,7 @@ run_agrees w n f g fall h (Go tree next) s m le =
 run_agrees w n f g fall h (See look) s m le = run_agrees w n f g fall h (look s.memory) s m le
 run_agrees w n f g fall h (Do act next) s m le = run_agrees w n f g fall h next (record s { memory = act s.memory }) m le
 run_agrees w n f g fall h (Ask q next) s m le =
-    after_agrees n (asks w q s m) (λ a. run w f (next a)) (λ a. run w g (next a)) (within_more m n le (asks w q s m) (asks_falls w q s m)) (λ a s' k le'. run_agrees w n f g fall h (next a) s' k le')
+    taken_agrees (w s.asked q s.memory.table) (record s { asked = s.asked ++ q ∷ [] }) (λ r u. run w f (next r) u m) (λ r u. run w g (next r) u m) (λ r u. run_agrees w n f g fall h (next r) u m le)
 
 -- two depths that suffice agree
 depths_agree : (c : Context) (w : World) (d e n : ℕ) → n ≤ d → n ≤ e → Agree n (eval c w d) (eval c w e)

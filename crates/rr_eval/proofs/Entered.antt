@@ -6,9 +6,10 @@ use Rattle.rr_space.specs.declared.refer.Ref.TheVariants.{Int}
 use Rattle.rr_tree.specs.Tree.{Tree, int, local, tree_at}
 use Rattle.rr_tree.specs.declared.node.BinaryOperator.{BinaryOperator}
 use Rattle.rr_tree.specs.declared.node.Node.TheVariants.{Binary}
-use Rattle.rr_eval.specs.declared.problem.Answer.{Answer}
 use Rattle.rr_eval.specs.declared.problem.Answer.TheVariants.{Gave}
-use Rattle.rr_eval.specs.Operators.{on_integers, operate}
+use Rattle.rr_eval.specs.declared.problem.Response.{Response}
+use Rattle.rr_eval.specs.declared.problem.Response.TheVariants.{Gives, Throws, Fails}
+use Rattle.rr_eval.specs.Operators.{integers}
 use Rattle.rr_tree.specs.declared.node.Node.{Node}
 use Rattle.rr_tree.specs.declared.program.Program.{Program}
 use Rattle.rr_eval.specs.declared.frame.Frame.{Frame}
@@ -17,10 +18,10 @@ use Rattle.rr_eval.specs.declared.frame.Control.TheVariants.{Enter}
 use Rattle.rr_eval.specs.View.{View}
 use Rattle.rr_eval.specs.Script.{State, Script, World, Spent, Ended, Waits, run, after, taken}
 use Rattle.rr_eval.specs.Requests.{Course, asking}
-use Rattle.rr_eval.specs.Rules.{Context, rule, meaning, on_value, with_value, settled, on_table}
+use Rattle.rr_eval.specs.Rules.{Context, rule, meaning, on_value, with_value, settled, operation}
 use Rattle.rr_eval.specs.Nodes.{evaluated_tree}
-use Rattle.rr_eval.specs.Frames.{Code, resumed, unwind, outcome_of, below_of}
-use Rattle.rr_eval.specs.Turns.{context_of, code_of, state_of, remaining, after_script, Replied, leaf_value}
+use Rattle.rr_eval.specs.Frames.{Code, runs_in, resumed, start, unwind, outcome_of, below_of}
+use Rattle.rr_eval.specs.Turns.{context_of, code_of, state_of, remaining, after_script, control_of, Replied, leaf_value}
 use Rattle.rr_eval.proofs.Depth.{meaning_rule}
 
 pub entered : (p : Program) (m : View) (t : Table) (here n : ℕ) (node : Node) (script : Script) → m.control ≡ Enter here → m.left ≡ suc n → tree_at p.nodes.items here ≡ evaluated_tree p.nodes.items node → script ≡ rule (context_of p) (evaluated_tree p.nodes.items node) → (h : Course) → remaining p m t h ≡ after_script p m t script h n
@@ -40,11 +41,18 @@ unwind_waits c [] held s = refl
 unwind_waits c (f ∷ fs) held s = unwind_waits c fs (below_of f held) s
 
 -- what a reply does
-pub replied : (p : Program) (m : View) (a : Answer) → Replied p m a
+settled_start : (p : Program) (w : World) (r : Response) (s : State) (n : ℕ) → runs_in (code_of p w) (settled (context_of p) r) s n ≡ start (code_of p w) (control_of r) s n
+settled_start p w (Gives v) s n = refl
+settled_start p w (Throws e) s n = refl
+settled_start p w (Fails e) s n = refl
+
+pub replied : (p : Program) (m : View) (a : Response) → Replied p m a
 replied p m a = record {
-  goes = λ t u q h e. ap (λ r. unwind (code_of p h.world) (reverse m.frames) m.held (taken r (state_of m t (asking q h)) m.left)) e;
+  goes = λ t u q h e.
+      ap (λ r. unwind (code_of p h.world) (reverse m.frames) m.held (taken r (state_of m t (asking q h)) (λ x v. runs_in (code_of p h.world) (settled (context_of p) x) v m.left))) e
+      ∙ ap (unwind (code_of p h.world) (reverse m.frames) m.held) (settled_start p h.world a (state_of m u (asking q h)) m.left);
   none = λ t q h e.
-      ap (λ r. unwind (code_of p h.world) (reverse m.frames) m.held (taken r (state_of m t (asking q h)) m.left)) e
+      ap (λ r. unwind (code_of p h.world) (reverse m.frames) m.held (taken r (state_of m t (asking q h)) (λ x v. runs_in (code_of p h.world) (settled (context_of p) x) v m.left))) e
       ∙ unwind_waits (code_of p h.world) (reverse m.frames) m.held (state_of m t (asking q h));
 }
 
@@ -65,20 +73,20 @@ leaf : (c : Context) (w : World) (tree : Tree) (s : State) (n : ℕ) (v : Ref) �
 leaf c w tree s n v e = meaning_rule c w tree s n ∙ leaf_of c w tree s n v e
 
 -- an operator on two leaves that are integers
-pub leaves : (p : Program) (m : View) (t : Table) (here n a b : ℕ) (op : BinaryOperator) (x y : ℤ) → m.control ≡ Enter here → m.left ≡ suc (suc (suc n)) → tree_at p.nodes.items here ≡ evaluated_tree p.nodes.items (Binary op a b) → leaf_value (tree_at p.nodes.items a) m.vars ≡ Some (Int x) → leaf_value (tree_at p.nodes.items b) m.vars ≡ Some (Int y) → (h : Course) → remaining p m t h ≡ after_script p m t (settled (context_of p) (on_integers op x y)) h n
+pub leaves : (p : Program) (m : View) (t : Table) (here n a b : ℕ) (op : BinaryOperator) (x y : ℤ) → m.control ≡ Enter here → m.left ≡ suc (suc (suc n)) → tree_at p.nodes.items here ≡ evaluated_tree p.nodes.items (Binary op a b) → leaf_value (tree_at p.nodes.items a) m.vars ≡ Some (Int x) → leaf_value (tree_at p.nodes.items b) m.vars ≡ Some (Int y) → (h : Course) → remaining p m t h ≡ after_script p m t (settled (context_of p) (integers op x y)) h n
 leaves p m t here n a b op x y at left there first second h =
     let c = context_of p in
     let ns = p.nodes.items in
     let s = state_of m t h in
     entered p m t here (suc (suc n)) (Binary op a b) (rule c (evaluated_tree ns (Binary op a b))) at left there refl h
     ∙ ap (unwind (code_of p h.world) (reverse m.frames) m.held)
-    (ap (λ o. after o (λ r. run h.world (meaning c h.world) (on_value (λ v. with_value (tree_at ns b) (λ w. on_table c (operate op v w))) r))) (leaf c h.world (tree_at ns a) s (suc n) (Int x) first)
-    ∙ ap (λ o. after o (λ r. run h.world (meaning c h.world) (on_value (λ w. on_table c (operate op (Int x) w)) r))) (leaf c h.world (tree_at ns b) s n (Int y) second))
+    (ap (λ o. after o (λ r. run h.world (meaning c h.world) (on_value (λ v. with_value (tree_at ns b) (operation c op v)) r))) (leaf c h.world (tree_at ns a) s (suc n) (Int x) first)
+    ∙ ap (λ o. after o (λ r. run h.world (meaning c h.world) (on_value (operation c op (Int x)) r))) (leaf c h.world (tree_at ns b) s n (Int y) second))
 
 -- an operator on an integer and a right operand that is a leaf
-pub leaf_right : (p : Program) (m : View) (t : Table) (n b : ℕ) (op : BinaryOperator) (x y : ℤ) → m.left ≡ suc n → leaf_value (tree_at p.nodes.items b) m.vars ≡ Some (Int y) → (h : Course) → after_script p m t (resumed (code_of p h.world) (Left op b) [] (Gave (Int x))) h m.left ≡ after_script p m t (settled (context_of p) (on_integers op x y)) h n
+pub leaf_right : (p : Program) (m : View) (t : Table) (n b : ℕ) (op : BinaryOperator) (x y : ℤ) → m.left ≡ suc n → leaf_value (tree_at p.nodes.items b) m.vars ≡ Some (Int y) → (h : Course) → after_script p m t (resumed (code_of p h.world) (Left op b) [] (Gave (Int x))) h m.left ≡ after_script p m t (settled (context_of p) (integers op x y)) h n
 leaf_right p m t n b op x y left there h =
     let c = context_of p in
     let ns = p.nodes.items in
     ap (after_script p m t (resumed (code_of p h.world) (Left op b) [] (Gave (Int x))) h) left
-    ∙ ap (λ o. unwind (code_of p h.world) (reverse m.frames) m.held (after o (λ r. run h.world (meaning c h.world) (on_value (λ w. on_table c (operate op (Int x) w)) r)))) (leaf c h.world (tree_at ns b) (state_of m t h) n (Int y) there)
+    ∙ ap (λ o. unwind (code_of p h.world) (reverse m.frames) m.held (after o (λ r. run h.world (meaning c h.world) (on_value (operation c op (Int x)) r)))) (leaf c h.world (tree_at ns b) (state_of m t h) n (Int y) there)

@@ -14,3 +14,4 @@ pub mod Telling
 pub mod Replies
 pub mod Serving
 pub mod Reading
+pub mod Calling

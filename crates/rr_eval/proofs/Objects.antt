@@ -1,5 +1,5 @@
 -- An evaluation takes no object away.
-use Rattle.std.proofs.Common.{if◌then◌else◌, ◌≤◌, ℕ, zero, suc, Bool, arith, List, [], ◌∷◌, ◌++◌, length, length-append, reverse, Option, Some, None, true, false}
+use Rattle.std.proofs.Common.{◌≡◌, ap, sym, subst, if◌then◌else◌, ◌≤◌, ℕ, zero, suc, Bool, arith, List, [], ◌∷◌, ◌++◌, length, length-append, reverse, Option, Some, None, true, false}
 use Rattle.rr_base.specs.Classes.{class_id}
 use Rattle.rr_base.specs.declared.name.ClassId.{ClassId}
 use Rattle.rr_space.specs.Tables.{Table, Here}
@@ -7,27 +7,31 @@ use Rattle.rr_space.specs.Lookups.{text_object}
 use Rattle.rr_space.specs.declared.refer.Ref.{Ref}
 use Rattle.rr_space.specs.declared.refer.Ref.TheVariants.{Int, Local}
 use Rattle.rr_space.specs.declared.refer.Ref.TheVariants as refs
-use Rattle.rr_eval.specs.Values.{is_truthy, goes_on}
-use Rattle.rr_tree.specs.Tree.{tree_at, Tree, nil, truth, int, text, local, bare, call, logical_and, logical_or, logical_not, negate, binary, assign, choose, repeat, sequence}
+use Rattle.rr_builtin.specs.Objects.{is_truthy}
+use Rattle.rr_eval.specs.Values.{goes_on}
+use Rattle.rr_tree.specs.Tree.{tree_at, Tree, nil, truth, int, text, symbol, class_named, send, index, append, local, bare, call, logical_and, logical_or, logical_not, negate, binary, assign, choose, repeat, sequence}
 use Rattle.rr_tree.specs.declared.node.BinaryOperator.{BinaryOperator}
-use Rattle.rr_tree.specs.declared.node.BinaryOperator.TheVariants.{Add, Equal, NotEqual}
 use Rattle.rr_tree.specs.declared.program.Program.{Program}
 use Rattle.rr_eval.specs.declared.problem.Answer.{Answer}
 use Rattle.rr_eval.specs.declared.problem.Answer.TheVariants.{Gave, Raised}
-use Rattle.rr_eval.specs.declared.problem.Worked.{Worked}
-use Rattle.rr_eval.specs.declared.problem.Worked.TheVariants.{Works, Fails}
+use Rattle.rr_eval.specs.declared.call.Callee.TheVariants as callees
+use Rattle.rr_eval.specs.declared.call.Target.{Target}
+use Rattle.rr_eval.specs.declared.call.Target.TheVariants.{Puts, Call}
+use Rattle.rr_eval.specs.declared.problem.Response.{Response}
+use Rattle.rr_eval.specs.declared.problem.Response.TheVariants.{Gives, Throws, Fails}
 use Rattle.rr_eval.specs.declared.problem.Problem.{Problem}
 use Rattle.rr_eval.specs.declared.problem.Problem.TheVariants.{MissingName, NotHere}
 use Rattle.rr_eval.specs.declared.frame.Frame.{Frame}
 use Rattle.rr_eval.specs.declared.frame.Frame.TheVariants.{Not, Negation, And, Or, Left, Right, Store, Branch, Condition, Body, Rest, Argument}
-use Rattle.rr_eval.specs.Script.{Memory, State, Script, Ret, Go, See, Do, Ask, Asked, Reply, World, Outcome, Ended, Spent, Waits, Evaluation, run, after, taken, asks, objects_of}
-use Rattle.rr_eval.specs.Requests.{Course, Adds, AddsTo}
+use Rattle.rr_eval.specs.Script.{Memory, State, Script, Ret, Go, See, Do, Ask, Asked, Reply, World, Outcome, Ended, Spent, Waits, Evaluation, run, after, taken, objects_of}
+use Rattle.rr_eval.specs.Requests.{Course, Adds, AddsTo, asking}
 use Rattle.rr_base.specs.declared.fault.Fault.{Fault}
 use Rattle.rr_eval.specs.View.{View}
 use Rattle.rr_eval.specs.Acts.{Passes}
-use Rattle.rr_eval.specs.Turns.{context_of, code_of, state_of, after_script}
-use Rattle.rr_eval.specs.Operators.{make, with_text, joined, on_object, operate, negated}
-use Rattle.rr_eval.specs.Rules.{Context, items, throw, raise, settled, on_value, with_value, on_table, statements, values, put, is_puts, bare_rule, call_rule, rule, eval}
+use Rattle.rr_eval.specs.Turns.{context_of, code_of, state_of, after_script, asking_then}
+use Rattle.rr_builtin.specs.Acts.{with_text}
+use Rattle.rr_eval.specs.Operators.{make, integers, opposite}
+use Rattle.rr_eval.specs.Rules.{Context, items, throw, raise, settled, on_value, with_value, on_table, operation, negation, statements, values, finish, is_puts, bare_rule, call_rule, rule, eval}
 use Rattle.rr_tree.specs.Nodes.{trees_before}
 use Rattle.rr_eval.specs.Messages.{message, exception_class}
 use Rattle.rr_eval.specs.Exceptions.{exception_object, with_exception}
@@ -40,31 +44,13 @@ count t = length t.slots
 make_keeps : (bytes : List ℕ) (t : Table) → count t ≤ count (make bytes t).1
 make_keeps bytes t = omega (arith, length-append t.slots (Here (text_object bytes) ∷ []))
 
-joined_keeps : (a : List ℕ) (b : Option (List ℕ)) (w : Ref) (t : Table) → count t ≤ count (joined a b w t).1
-joined_keeps a (Some b) w t = make_keeps (a ++ b) t
-joined_keeps a None w t = omega arith
-
-on_object_keeps : (op : BinaryOperator) (bytes : Option (List ℕ)) (v w : Ref) (t : Table) → count t ≤ count (on_object op bytes v w t).1
-on_object_keeps Equal bytes v w t = omega arith
-on_object_keeps NotEqual bytes v w t = omega arith
-on_object_keeps Add (Some bytes) v w t = joined_keeps bytes _ w t
-on_object_keeps op bytes v w t = omega arith
-
-operate_keeps : (op : BinaryOperator) (v w : Ref) (t : Table) → count t ≤ count (operate op v w t).1
-operate_keeps op (Int x) w t = omega arith
-operate_keeps op v w t = on_object_keeps op _ v w t
-
-negated_keeps : (v : Ref) (t : Table) → count t ≤ count (negated v t).1
-negated_keeps (Int x) t = omega arith
-negated_keeps v t = omega arith
-
 -- a script whose acts take no object away
 abbrev Keeps : Script → Type 0
 Keeps (Ret a) = Unit {0}
 Keeps (Go tree next) = (a : Answer) → Keeps (next a)
 Keeps (See look) = (m : Memory) → Keeps (look m)
 Keeps (Do act next) = ((m : Memory) → count m.table ≤ count (act m).table) × Keeps next
-Keeps (Ask q next) = (a : Answer) → Keeps (next a)
+Keeps (Ask q next) = (r : Response) → Keeps (next r)
 
 on_value_keeps : (next : Ref → Script) → ((v : Ref) → Keeps (next v)) → (a : Answer) → Keeps (on_value next a)
 on_value_keeps next h (Gave v) = h v
@@ -79,24 +65,32 @@ raise_keeps class message = λ m. (λ k. exception_keeps class message k.table, 
 throw_keeps : (c : Context) (e : Problem) → Keeps (throw c e)
 throw_keeps c e = λ m. (λ k. make_keeps (message c e) k.table, raise_keeps (class_id (exception_class e)) (Local (length m.table.slots)))
 
-settled_keeps : (c : Context) (r : Worked) → Keeps (settled c r)
-settled_keeps c (Works v) = tt
+settled_keeps : (c : Context) (r : Response) → Keeps (settled c r)
+settled_keeps c (Gives v) = tt
+settled_keeps c (Throws e) = tt
 settled_keeps c (Fails e) = throw_keeps c e
 
-operates : (c : Context) (op : BinaryOperator) (v w : Ref) → Keeps (on_table c (operate op v w))
-operates c op v w = λ m. (λ k. operate_keeps op v w k.table, settled_keeps c _)
+operates : (c : Context) (op : BinaryOperator) (v w : Ref) → Keeps (operation c op v w)
+operates c op (Int x) (Int y) = settled_keeps c (integers op x y)
+operates c op v w = settled_keeps c
 
-negates : (c : Context) (v : Ref) → Keeps (on_table c (negated v))
-negates c v = λ m. (λ k. negated_keeps v k.table, settled_keeps c _)
+negates : (c : Context) (v : Ref) → Keeps (negation c v)
+negates c (Int x) = settled_keeps c (opposite x)
+negates c v = settled_keeps c
+
+finish_keeps : (c : Context) (target : Target) (vs : List Ref) → Keeps (finish c target vs)
+finish_keeps c Puts vs = λ m. settled_keeps c
+finish_keeps c (Call callee) [] = tt
+finish_keeps c (Call callee) (v ∷ vs) = settled_keeps c
 
 statements_keep : (ts : List Tree) → Keeps (statements ts)
 statements_keep [] = tt
 statements_keep (t ∷ []) = λ a. tt
 statements_keep (t ∷ u ∷ ts) = on_value_keeps (λ v. statements (u ∷ ts)) (λ v. statements_keep (u ∷ ts))
 
-values_keep : (ts : List Tree) (stand : List Ref) → Keeps (values ts stand put)
-values_keep [] stand = λ m a. tt
-values_keep (t ∷ ts) stand = on_value_keeps (λ v. values ts (stand ++ v ∷ []) put) (λ v. values_keep ts (stand ++ v ∷ []))
+values_keep : (c : Context) (target : Target) (ts : List Tree) (stand : List Ref) → Keeps (values ts stand (finish c target))
+values_keep c target [] stand = finish_keeps c target stand
+values_keep c target (t ∷ ts) stand = on_value_keeps (λ v. values ts (stand ++ v ∷ []) (finish c target)) (λ v. values_keep c target ts (stand ++ v ∷ []))
 
 if_keeps : (b : Bool) (p q : Script) → Keeps p → Keeps q → Keeps (if b then p else q)
 if_keeps true p q kept other = kept
@@ -107,17 +101,22 @@ round_keeps true body loop = on_value_keeps _ (λ w. λ a. tt)
 round_keeps false body loop = tt
 
 bare_keeps : (c : Context) (b : Bool) (x : ℕ) → Keeps (bare_rule c b x)
-bare_keeps c true x = λ m a. tt
+bare_keeps c true x = λ m. settled_keeps c
 bare_keeps c false x = throw_keeps c (MissingName (record { 0 = x }))
 
 call_keeps : (c : Context) (b : Bool) (ts : List Tree) → Keeps (call_rule c b ts)
-call_keeps c true ts = values_keep ts []
+call_keeps c true ts = values_keep c Puts ts []
 call_keeps c false ts = throw_keeps c NotHere
 
 rule_keeps : (c : Context) (tree : Tree) → Keeps (rule c tree)
 rule_keeps c nil = tt
 rule_keeps c (truth b) = tt
 rule_keeps c (int z) = tt
+rule_keeps c (symbol x) = tt
+rule_keeps c (class_named k) = tt
+rule_keeps c (send a x list) = values_keep c (Call (callees.Name (record { 0 = x }))) (a ∷ items list) []
+rule_keeps c (index a b) = values_keep c (Call callees.Index) (a ∷ b ∷ []) []
+rule_keeps c (append a b) = values_keep c (Call callees.Append) (a ∷ b ∷ []) []
 rule_keeps c (text i) = λ m. (λ k. make_keeps _ k.table, tt)
 rule_keeps c (local depth slot x) = λ m. tt
 rule_keeps c (bare x) = bare_keeps c (is_puts c x) x
@@ -145,7 +144,7 @@ resumed_keeps c (Branch b d) stand = on_value_keeps _ (λ v. λ a. tt)
 resumed_keeps c (Condition until body loop) stand = on_value_keeps _ (λ v. round_keeps (goes_on until v) (tree_at c.nodes body) (tree_at c.nodes loop))
 resumed_keeps c (Body loop) stand = on_value_keeps _ (λ w. λ a. tt)
 resumed_keeps c (Rest end more) stand = on_value_keeps _ (λ v. statements_keep (trees_before c.nodes end more))
-resumed_keeps c (Argument end more base) stand = on_value_keeps _ (λ v. values_keep (trees_before c.nodes end more) (stand ++ v ∷ []))
+resumed_keeps c (Argument target end more base) stand = on_value_keeps _ (λ v. values_keep c.context target (trees_before c.nodes end more) (stand ++ v ∷ []))
 
 -- an evaluation that takes no object away
 abbrev KeepsAll : Evaluation → Type 0
@@ -158,12 +157,12 @@ after_keeps k (Ended a s n) next le h =
 after_keeps k (Spent s) next le h = le
 after_keeps k (Waits s) next le h = le
 
-taken_keeps : (r : Option Reply) (s : State) (n : ℕ) → AddsTo s.memory.table r → count s.memory.table ≤ objects_of (taken r s n)
-taken_keeps None s n adds = omega arith
-taken_keeps (Some r) s n adds = adds
-
-asks_keeps : (w : World) → Adds w → (q : Asked) (s : State) (n : ℕ) → count s.memory.table ≤ objects_of (asks w q s n)
-asks_keeps w adds q s n = taken_keeps (w s.asked q s.memory.table) (record s { asked = s.asked ++ q ∷ [] }) n (adds s.asked q s.memory.table)
+taken_keeps : (r : Option Reply) (s : State) (next : Response → State → Outcome) → AddsTo s.memory.table r
+    → ((a : Response) (u : State) → count u.memory.table ≤ objects_of (next a u)) → count s.memory.table ≤ objects_of (taken r s next)
+taken_keeps None s next adds h = omega arith
+taken_keeps (Some r) s next adds h =
+    let more = h r.response (record s { memory = record s.memory { table = r.table } }) in
+    omega arith
 
 run_keeps : (w : World) → Adds w → (go : Evaluation) → KeepsAll go → (p : Script) → Keeps p → (s : State) (n : ℕ) → count s.memory.table ≤ objects_of (run w go p s n)
 run_keeps w adds go h (Ret a) keeps s n = omega arith
@@ -173,7 +172,8 @@ run_keeps w adds go h (Do act next) keeps s n =
     let first = keeps.0 s.memory in
     let more = run_keeps w adds go h next keeps.1 (record s { memory = act s.memory }) n in
     omega arith
-run_keeps w adds go h (Ask q next) keeps s n = after_keeps (count s.memory.table) (asks w q s n) (λ a. run w go (next a)) (asks_keeps w adds q s n) (λ a s' m. run_keeps w adds go h (next a) (keeps a) s' m)
+run_keeps w adds go h (Ask q next) keeps s n =
+    taken_keeps (w s.asked q s.memory.table) (record s { asked = s.asked ++ q ∷ [] }) (λ r u. run w go (next r) u n) (adds s.asked q s.memory.table) (λ r u. run_keeps w adds go h (next r) (keeps r) u n)
 
 eval_keeps : (c : Context) (w : World) → Adds w → (depth : ℕ) → KeepsAll (eval c w depth)
 eval_keeps c w adds zero t s n = omega arith
@@ -197,7 +197,7 @@ script_keeps p m t script h n adds keeps =
     unwind_keeps (count t) c adds (reverse m.frames) m.held (runs_in c script (state_of m t h) n) (run_keeps h.world adds (means c) (meaning_keeps c adds) script keeps (state_of m t h) n)
 
 -- an act that would pass the limit of slots, and what comes after it
-pub act_passes : (p : Program) (m : View) (t : Table) (act : Table → Worked × Table) (f : Fault) (h : Course) (n : ℕ) → Adds h.world → Passes f t.limit (length (act t).1.slots) → Passes f t.limit (objects_of (after_script p m t (on_table (context_of p) act) h n))
+pub act_passes : (p : Program) (m : View) (t : Table) (act : Table → Response × Table) (f : Fault) (h : Course) (n : ℕ) → Adds h.world → Passes f t.limit (length (act t).1.slots) → Passes f t.limit (objects_of (after_script p m t (on_table (context_of p) act) h n))
 act_passes p m t act f h n adds passes = λ is.
     let more = passes is in
     let kept = script_keeps p m (act t).1 (settled (context_of p) (act t).0) h n adds (settled_keeps (context_of p) (act t).0) in
@@ -217,3 +217,12 @@ raise_passes p m t class message f h n adds passes = λ is.
     let made = with_exception class message t in
     let kept = script_keeps p m made (Ret (Raised (Local (length t.slots)))) h n adds tt in
     omega arith
+
+-- the objects that a reply leaves
+pub asking_keeps : (p : Program) (m : View) (t : Table) (q : Asked) (h : Course) (r : Reply) → Adds h.world → h.world h.asked q t ≡ Some r → count r.table ≤ objects_of (asking_then p m t q h)
+asking_keeps p m t q h r adds e =
+    let c = code_of p h.world in
+    let next = λ (x : Response) (v : State). runs_in c (settled (context_of p) x) v m.left in
+    let same : asking_then p m t q h ≡ after_script p m r.table (settled (context_of p) r.response) (asking q h) m.left = ap (λ o. unwind c (reverse m.frames) m.held (taken o (state_of m t (asking q h)) next)) e in
+    let kept = script_keeps p m r.table (settled (context_of p) r.response) (asking q h) m.left adds (settled_keeps (context_of p) r.response) in
+    subst (λ o. count r.table ≤ objects_of o) (sym same) kept

@@ -1,20 +1,21 @@
 -- An evaluation prints behind what was printed before.
-use Rattle.std.proofs.Common.{◌≡◌, ℕ, zero, suc, ◌∙◌, sym, ap, refl, subst, List, [], ◌∷◌, ◌++◌, append_assoc, reverse, Option, Some, None}
+use Rattle.std.proofs.Common.{◌≡◌, ℕ, zero, suc, ◌∙◌, sym, ap, List, [], ◌∷◌, ◌++◌, append_assoc, reverse, Option, Some, None}
 use Rattle.std.proofs.lemmas.List.{append-nil}
 use Rattle.rr_space.specs.Tables.{Table}
 use Rattle.rr_space.specs.declared.refer.Ref.{Ref}
 use Rattle.rr_tree.specs.Tree.{Tree, tree_at}
 use Rattle.rr_tree.specs.declared.program.Program.{Program}
 use Rattle.rr_eval.specs.declared.problem.Answer.{Answer}
+use Rattle.rr_eval.specs.declared.problem.Response.{Response}
 use Rattle.rr_eval.specs.declared.frame.Frame.{Frame}
 use Rattle.rr_eval.specs.declared.frame.Control.{Control}
 use Rattle.rr_eval.specs.declared.frame.Control.TheVariants.{Enter, Give, Throw, Raise}
-use Rattle.rr_eval.specs.Script.{State, Script, Ret, Go, See, Do, Ask, Asked, Reply, World, Outcome, Ended, Spent, Waits, Evaluation, run, after, taken, asks}
-use Rattle.rr_eval.specs.Rules.{Context, throw, raise, rule, eval}
+use Rattle.rr_eval.specs.Script.{State, Script, Ret, Go, See, Do, Ask, Asked, Reply, World, Outcome, Ended, Spent, Waits, Evaluation, run, after, taken}
+use Rattle.rr_eval.specs.Rules.{Context, throw, raise, settled, rule, eval}
 use Rattle.rr_eval.specs.Requests.{Course}
 use Rattle.rr_eval.specs.Frames.{Code, means, runs_in, resumed, stand_of, below_of, unwind, start}
 use Rattle.rr_eval.specs.View.{View}
-use Rattle.rr_eval.specs.Turns.{code_of, remaining, asking_then, state_of}
+use Rattle.rr_eval.specs.Turns.{context_of, code_of, remaining, asking_then, state_of}
 use Rattle.rr_eval.specs.Written.{IsBeginning}
 use Rattle.rr_eval.specs.Runs.{piece_asked, text_asked, text_of}
 use Rattle.rr_eval.proofs.Bytes.{beginning-trans}
@@ -36,21 +37,23 @@ after_grows x (Ended a s n) next b h = beginning-trans x (text_asked s.asked) (t
 after_grows x (Spent s) next b h = b
 after_grows x (Waits s) next b h = b
 
-taken_prints : (r : Option Reply) (s : State) (n : ℕ) → text_asked s.asked ≡ text_of (taken r s n)
-taken_prints None s n = refl
-taken_prints (Some r) s n = refl
+taken_grows : (x : List ℕ) (r : Option Reply) (s : State) (next : Response → State → Outcome) → IsBeginning x (text_asked s.asked)
+    → ((a : Response) (u : State) → IsBeginning (text_asked u.asked) (text_of (next a u))) → IsBeginning x (text_of (taken r s next))
+taken_grows x None s next b h = b
+taken_grows x (Some r) s next b h =
+    let u = record s { memory = record s.memory { table = r.table } } in
+    beginning-trans x (text_asked s.asked) (text_of (next r.response u)) b (h r.response u)
 
-asks_grows : (w : World) (q : Asked) (s : State) (n : ℕ) → IsBeginning (text_asked s.asked) (text_of (asks w q s n))
-asks_grows w q s n =
-    let more = record s { asked = s.asked ++ q ∷ [] } in
-    (piece_asked q, sym (taken_prints (w s.asked q s.memory.table) more n) ∙ text-push s.asked q)
+more_grows : (qs : List Asked) (q : Asked) → IsBeginning (text_asked qs) (text_asked (qs ++ q ∷ []))
+more_grows qs q = (piece_asked q, text-push qs q)
 
 run_grows : (w : World) (go : Evaluation) → Grows go → (p : Script) (s : State) (n : ℕ) → IsBeginning (text_asked s.asked) (text_of (run w go p s n))
 run_grows w go h (Ret a) s n = beginning-refl (text_asked s.asked)
 run_grows w go h (Go t next) s n = after_grows (text_asked s.asked) (go t s n) (λ a. run w go (next a)) (h t s n) (λ a s' m. run_grows w go h (next a) s' m)
 run_grows w go h (See look) s n = run_grows w go h (look s.memory) s n
 run_grows w go h (Do act next) s n = run_grows w go h next (record s { memory = act s.memory }) n
-run_grows w go h (Ask q next) s n = after_grows (text_asked s.asked) (asks w q s n) (λ a. run w go (next a)) (asks_grows w q s n) (λ a s' m. run_grows w go h (next a) s' m)
+run_grows w go h (Ask q next) s n =
+    taken_grows (text_asked s.asked) (w s.asked q s.memory.table) (record s { asked = s.asked ++ q ∷ [] }) (λ r u. run w go (next r) u n) (more_grows s.asked q) (λ r u. run_grows w go h (next r) u n)
 
 eval_grows : (c : Context) (w : World) (depth : ℕ) → Grows (eval c w depth)
 eval_grows c w zero t s n = beginning-refl (text_asked s.asked)
@@ -79,6 +82,8 @@ remaining_grows p m t h = unwind_grows (text_asked h.asked) (code_of p h.world) 
 -- a request is printed first
 pub asking_grows : (p : Program) (m : View) (t : Table) (q : Asked) (h : Course) → IsBeginning (text_asked (h.asked ++ q ∷ [])) (text_of (asking_then p m t q h))
 asking_grows p m t q h =
+    let c = code_of p h.world in
     let more = record (state_of m t h) { asked = h.asked ++ q ∷ [] } in
-    let o = asks h.world q (state_of m t h) m.left in
-    unwind_grows (text_asked more.asked) (code_of p h.world) (reverse m.frames) m.held o (subst (IsBeginning (text_asked more.asked)) (taken_prints (h.world h.asked q t) more m.left) (beginning-refl (text_asked more.asked)))
+    let next = λ (r : Response) (u : State). runs_in c (settled (context_of p) r) u m.left in
+    unwind_grows (text_asked more.asked) c (reverse m.frames) m.held (taken (h.world h.asked q t) more next)
+    (taken_grows (text_asked more.asked) (h.world h.asked q t) more next (beginning-refl (text_asked more.asked)) (λ r u. run_grows h.world (means c) (meaning_grows c) (settled (context_of p) r) u m.left))

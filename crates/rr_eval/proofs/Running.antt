@@ -1,23 +1,21 @@
 -- What is still to be run, and what was written so far.
-use Rattle.std.proofs.Common.{replicate, length, ◌≡◌, ◌≤◌, ℕ, ◌∙◌, sym, ap, subst, refl, List, [], ◌∷◌, ◌++◌, Some, arith}
+use Rattle.std.proofs.Common.{replicate, length, ◌≡◌, ◌≤◌, ℕ, ◌∙◌, sym, ap, subst, refl, List, [], ◌∷◌, ◌++◌, Some}
 use Rattle.std.proofs.lemmas.List.{length-map}
 use Rattle.std.proofs.KnownBytes.{Appends-nil}
 use Rattle.rr_space.specs.Tables.{Table}
 use Rattle.rr_space.specs.declared.refer.Ref.{Ref}
 use Rattle.rr_space.specs.declared.refer.Ref.TheVariants.{Nil}
 use Rattle.rr_tree.specs.declared.program.Program.{Program}
-use Rattle.rr_eval.specs.declared.problem.Answer.{Answer}
+use Rattle.rr_eval.specs.declared.problem.Response.{Response}
 use Rattle.rr_eval.specs.declared.problem.Answer.TheVariants.{Gave, Raised}
-use Rattle.rr_eval.specs.Script.{Asked, Prints, World, Outcome, Ended, Spent, objects_of}
-use Rattle.rr_eval.specs.declared.request.Request.{Request}
-use Rattle.rr_eval.specs.declared.request.Request.TheVariants as requests
-use Rattle.rr_eval.specs.Requests.{Course, Adds, asked_of}
+use Rattle.rr_eval.specs.Script.{Asked, World, Outcome, Ended, Spent, objects_of}
+use Rattle.rr_eval.specs.Requests.{Course}
 use Rattle.rr_eval.specs.Exceptions.{IsTold}
 use Rattle.rr_eval.specs.Rules.{start_state}
 use Rattle.rr_eval.specs.View.{View}
 use Rattle.rr_eval.specs.Turns.{context_of, remaining, asking_then, answered, state_of}
 use Rattle.rr_eval.specs.Written.{Written, IsBeginning, WritesAll, WritesBeginning, FallsShort}
-use Rattle.rr_eval.specs.Runs.{text_of, text_asked, piece_asked, alone, no_objects, IsRaised, IsDone, IsSpent}
+use Rattle.rr_eval.specs.Runs.{text_of, text_asked, piece_asked, no_objects, IsRaised, IsDone, IsSpent}
 use Rattle.rr_eval.proofs.Bytes.{writes_both, falls_short_after, falls_short_longer, writes_beginning}
 use Rattle.rr_eval.proofs.Entered.{replied}
 use Rattle.rr_eval.proofs.Printed.{text-push, remaining_grows, asking_grows}
@@ -41,12 +39,17 @@ pub running_on : (w : World) (p : Program) (m n : View) (t u : Table) (all : Out
 running_on w p m n t u all old now r e = record { asked = r.asked; same = r.same ∙ e (in_world w r.asked); wrote = r.wrote }
 
 -- a request was served, and its piece written whole
-pub running_more : (w : World) (p : Program) (m n : View) (t u v : Table) (all : Outcome) (old now new : Written) (q : Asked) (a : Answer) → IsRunning w p m t all old now → ((h : Course) → remaining p m t h ≡ asking_then p n u q h) → ((asked : List Asked) → w asked q u ≡ Some (record { answer = a; table = v })) → WritesAll now new (piece_asked q) → IsRunning w p (answered n a) v all old new
+pub running_more : (w : World) (p : Program) (m n : View) (t u v : Table) (all : Outcome) (old now new : Written) (q : Asked) (a : Response) → IsRunning w p m t all old now → ((h : Course) → remaining p m t h ≡ asking_then p n u q h) → ((asked : List Asked) → w asked q u ≡ Some (record { response = a; table = v })) → WritesAll now new (piece_asked q) → IsRunning w p (answered n a) v all old new
 running_more w p m n t u v all old now new q a r e reply written = record {
   asked = r.asked ++ q ∷ [];
   same = r.same ∙ e (in_world w r.asked) ∙ (replied p n a).goes u v q (in_world w r.asked) (reply r.asked);
   wrote = subst (WritesAll old new) (sym (text-push r.asked q)) (writes_both old now new (text_asked r.asked) (piece_asked q) r.wrote written);
 }
+
+-- a request was served that prints nothing
+pub running_called : (w : World) (p : Program) (m n : View) (t u v : Table) (all : Outcome) (old now : Written) (q : Asked) (a : Response) → IsRunning w p m t all old now → ((h : Course) → remaining p m t h ≡ asking_then p n u q h) → ((asked : List Asked) → w asked q u ≡ Some (record { response = a; table = v })) → piece_asked q ≡ [] → IsRunning w p (answered n a) v all old now
+running_called w p m n t u v all old now q a r e reply none =
+    running_more w p m n t u v all old now now q a r e reply (subst (WritesAll now now) (sym none) (record { wrote = Appends-nil now.bytes; failed = refl }))
 
 -- a piece could not be written whole
 pub running_failed : (w : World) (p : Program) (m n : View) (t u : Table) (all : Outcome) (old now new : Written) (q : Asked) → IsRunning w p m t all old now → ((h : Course) → remaining p m t h ≡ asking_then p n u q h) → FallsShort now new (piece_asked q) → FallsShort old new (text_of all)
@@ -81,14 +84,6 @@ running_spent w p m n t u all old now r ends =
 pub running_fits : (w : World) (p : Program) (m : View) (t : Table) (all : Outcome) (old now : Written) (slots : ℕ) → IsRunning w p m t all old now → (o : Course → Outcome) → ((h : Course) → remaining p m t h ≡ o h) → ((h : Course) → objects_of (o h) ≤ slots) → objects_of all ≤ slots
 running_fits w p m t all old now slots r o ends fits =
     subst (λ (x : Outcome). objects_of x ≤ slots) (sym (r.same ∙ ends (in_world w r.asked))) (fits (in_world w r.asked))
-
--- a script that runs alone takes no object away
-pub alone_adds : Adds alone
-alone_adds asked (Prints piece) t = omega arith
-
--- the reply to each of its requests is nil
-pub alone_replies : (asked : List Asked) (q : Request) (t : Table) → alone asked (asked_of q) t ≡ Some (record { answer = Gave Nil; table = t })
-alone_replies asked (requests.Print piece) t = refl
 
 -- a script begins with no object
 pub first_table : (t : Table) (slots : ℕ) → t.slots ≡ [] → t.below ≡ [] → t.keys ≡ [] → t.limit ≡ slots → t.owner ≡ 1 → t.next_message ≡ 1 → no_objects slots ≡ t

@@ -8,7 +8,8 @@ use Rattle.rr_eval.specs.declared.frame.Frame.{Frame}
 use Rattle.rr_eval.specs.declared.frame.Frame.TheVariants.{Left, Argument}
 use Rattle.rr_eval.specs.declared.frame.Control.TheVariants.{Enter, Give}
 use Rattle.rr_eval.specs.Script.{State, Ret, Go, Outcome, Ended, Spent, Waits, after}
-use Rattle.rr_eval.specs.Rules.{values, put}
+use Rattle.rr_eval.specs.Rules.{values, finish}
+use Rattle.rr_eval.specs.declared.call.Target.{Target}
 use Rattle.rr_tree.specs.Nodes.{trees_before}
 use Rattle.rr_eval.specs.Frames.{Code, means, runs_in, IsNew, resumed, stand_of, below_of, unwind, Nested, base_of, outcome_of}
 
@@ -28,10 +29,10 @@ rest_push c fs f held o = ap (λ l. unwind c l held o) (reverse-append fs (f ∷
 
 -- a new frame over a request
 pub asking_frame : (c : Code) (fs : List Frame) (f : Frame) (held : List Ref) (o : Outcome) → IsNew f (length held) → unwind c (reverse fs) held (after o (λ a. runs_in c (resumed c f [] a))) ≡ unwind c (reverse (fs ++ f ∷ [])) held o
-asking_frame c fs (Argument e k b) held o new =
-    ap (λ h. unwind c (reverse fs) h (after o (λ a. runs_in c (resumed c (Argument e k b) [] a)))) (sym (take_all b held (omega arith)))
-    ∙ ap (λ h. unwind c (reverse fs) (take b held) (after o (λ a. runs_in c (resumed c (Argument e k b) h a)))) (sym (drop_all b held (omega arith)))
-    ∙ sym (rest_push c fs (Argument e k b) held o)
+asking_frame c fs (Argument target e k b) held o new =
+    ap (λ h. unwind c (reverse fs) h (after o (λ a. runs_in c (resumed c (Argument target e k b) [] a)))) (sym (take_all b held (omega arith)))
+    ∙ ap (λ h. unwind c (reverse fs) (take b held) (after o (λ a. runs_in c (resumed c (Argument target e k b) h a)))) (sym (drop_all b held (omega arith)))
+    ∙ sym (rest_push c fs (Argument target e k b) held o)
 asking_frame c fs (Left op b) held o new = sym (rest_push c fs (Left op b) held o)
 asking_frame c fs f held o new = sym (rest_push c fs f held o)
 
@@ -51,15 +52,15 @@ pub nested_pop : (fs : List Frame) (f : Frame) (held : List Ref) → Nested (rev
 nested_pop fs f held nested = subst (λ l. Nested l held) (reverse-append fs (f ∷ [])) nested
 
 pub nested_new : (fs : List Frame) (f : Frame) (held : List Ref) → IsNew f (length held) → Nested (reverse fs) held → Nested (reverse (fs ++ f ∷ [])) held
-nested_new fs (Argument e k b) held new nested = nested_push fs (Argument e k b) held (omega arith) (subst (λ h. Nested (reverse fs) h) (sym (take_all b held (omega arith))) nested)
+nested_new fs (Argument target e k b) held new nested = nested_push fs (Argument target e k b) held (omega arith) (subst (λ h. Nested (reverse fs) h) (sym (take_all b held (omega arith))) nested)
 nested_new fs (Left op b) held new nested = nested_push fs (Left op b) held (omega arith) nested
 nested_new fs f held new nested = nested_push fs f held (omega arith) nested
 
 -- the value of an argument is kept, and the next one is evaluated
-pub kept : (c : Code) (fs : List Frame) (end count place base : ℕ) (held : List Ref) (v : Ref) (s : State) (n : ℕ) → 0 < count → place ≡ end - count → base ≤ length held → unwind c (reverse fs) (take base held) (runs_in c (values (trees_before c.nodes end count) (drop base held ++ v ∷ []) put) s n) ≡ outcome_of c (fs ++ Argument end (count - 1) base ∷ []) (held ++ v ∷ []) (Enter place) s n
-kept c fs end zero place base held v s n h at le = absurd (omega arith)
-kept c fs end (suc more) place base held v s n h at le =
-    let f = Argument end more base in
+pub kept : (c : Code) (fs : List Frame) (target : Target) (end count place base : ℕ) (held : List Ref) (v : Ref) (s : State) (n : ℕ) → 0 < count → place ≡ end - count → base ≤ length held → unwind c (reverse fs) (take base held) (runs_in c (values (trees_before c.nodes end count) (drop base held ++ v ∷ []) (finish c.context target)) s n) ≡ outcome_of c (fs ++ Argument target end (count - 1) base ∷ []) (held ++ v ∷ []) (Enter place) s n
+kept c fs target end zero place base held v s n h at le = absurd (omega arith)
+kept c fs target end (suc more) place base held v s n h at le =
+    let f = Argument target end more base in
     let k : suc more - 1 ≡ more = omega arith in
     let below = take-append-le base held (v ∷ []) le in
     let stand = drop-append-le base held (v ∷ []) le in
@@ -68,4 +69,4 @@ kept c fs end (suc more) place base held v s n h at le =
     ∙ ap (λ h. unwind c (reverse fs) h (after o (λ a. runs_in c (resumed c f (drop base held ++ v ∷ []) a)))) (sym below)
     ∙ ap (λ h. unwind c (reverse fs) (take base (held ++ v ∷ [])) (after o (λ a. runs_in c (resumed c f h a)))) (sym stand)
     ∙ sym (rest_push c fs f (held ++ v ∷ []) o)
-    ∙ ap (λ m. unwind c (reverse (fs ++ Argument end m base ∷ [])) (held ++ v ∷ []) o) (sym k)
+    ∙ ap (λ m. unwind c (reverse (fs ++ Argument target end m base ∷ [])) (held ++ v ∷ []) o) (sym k)

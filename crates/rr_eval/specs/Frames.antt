@@ -11,9 +11,9 @@ use Rattle.rr_eval.specs.declared.frame.Frame.TheVariants.{Not, Negation, And, O
 use Rattle.rr_eval.specs.declared.frame.Control.{Control}
 use Rattle.rr_eval.specs.declared.frame.Control.TheVariants.{Enter, Give, Throw, Raise}
 use Rattle.rr_eval.specs.Script.{State, Script, Ret, Go, World, Evaluation, Outcome, Ended, run, after}
-use Rattle.rr_eval.specs.Values.{is_truthy, goes_on}
-use Rattle.rr_eval.specs.Operators.{operate, negated}
-use Rattle.rr_eval.specs.Rules.{Context, throw, raise, on_value, with_value, on_table, write, statements, values, put, meaning}
+use Rattle.rr_builtin.specs.Objects.{is_truthy}
+use Rattle.rr_eval.specs.Values.{goes_on}
+use Rattle.rr_eval.specs.Rules.{Context, throw, raise, on_value, with_value, operation, negation, write, statements, values, finish, meaning}
 use Rattle.rr_tree.specs.Nodes.{trees_before}
 
 -- a program: its nodes, what its trees refer to, and the environment that it runs in
@@ -34,28 +34,28 @@ abbrev pub resumed : Code → Frame → List Ref → Answer → Script
 resumed c Not stand = on_value (λ v. Ret (Gave (Truth (not (is_truthy v)))))
 resumed c (And b) stand = on_value (λ v. if is_truthy v then Go (tree_at c.nodes b) Ret else Ret (Gave v))
 resumed c (Or b) stand = on_value (λ v. if is_truthy v then Ret (Gave v) else Go (tree_at c.nodes b) Ret)
-resumed c Negation stand = on_value (λ v. on_table c.context (negated v))
-resumed c (Left op b) stand = on_value (λ v. with_value (tree_at c.nodes b) (λ w. on_table c.context (operate op v w)))
-resumed c (Right op v) stand = on_value (λ w. on_table c.context (operate op v w))
+resumed c Negation stand = on_value (negation c.context)
+resumed c (Left op b) stand = on_value (λ v. with_value (tree_at c.nodes b) (operation c.context op v))
+resumed c (Right op v) stand = on_value (operation c.context op v)
 resumed c (Store x) stand = on_value (λ v. write x v)
 resumed c (Branch b d) stand = on_value (λ v. Go (if is_truthy v then tree_at c.nodes b else tree_at c.nodes d) Ret)
 resumed c (Condition until body loop) stand = on_value (λ v. if goes_on until v then with_value (tree_at c.nodes body) (λ w. Go (tree_at c.nodes loop) Ret) else Ret (Gave Nil))
 resumed c (Body loop) stand = on_value (λ w. Go (tree_at c.nodes loop) Ret)
 resumed c (Rest end count) stand = on_value (λ v. statements (trees_before c.nodes end count))
-resumed c (Argument end count base) stand = on_value (λ v. values (trees_before c.nodes end count) (stand ++ v ∷ []) put)
+resumed c (Argument target end count base) stand = on_value (λ v. values (trees_before c.nodes end count) (stand ++ v ∷ []) (finish c.context target))
 
 -- the values that stand for a frame, and those below
 abbrev pub stand_of : Frame → List Ref → List Ref
-stand_of (Argument end count base) held = drop base held
+stand_of (Argument target end count base) held = drop base held
 stand_of _ held = []
 
 abbrev pub below_of : Frame → List Ref → List Ref
-below_of (Argument end count base) held = take base held
+below_of (Argument target end count base) held = take base held
 below_of _ held = held
 
 -- a new frame has no values yet
 abbrev pub IsNew : Frame → ℕ → Type 0
-IsNew (Argument end count base) n = base ≡ n
+IsNew (Argument target end count base) n = base ≡ n
 IsNew _ n = Unit {0}
 
 -- what the frames, the topmost first, do with an outcome
@@ -65,7 +65,7 @@ unwind c (f ∷ fs) held o = unwind c fs (below_of f held) (after o (λ a. runs_
 
 -- where a frame's values begin
 abbrev pub base_of : Frame → ℕ
-base_of (Argument end count base) = base
+base_of (Argument target end count base) = base
 base_of _ = 0
 
 -- each frame's values begin within those that its upper frames leave
@@ -77,7 +77,7 @@ Nested (f ∷ fs) held = (base_of f ≤ length held) × Nested fs (below_of f he
 abbrev pub IsRareFrame : Frame → Type 0
 IsRareFrame Negation = Unit {0}
 IsRareFrame (Right op w) = Unit {0}
-IsRareFrame (Argument end count base) = Unit {0}
+IsRareFrame (Argument target end count base) = Unit {0}
 IsRareFrame _ = ⊥
 
 -- what comes first

@@ -1,7 +1,7 @@
 -- The tree of a node, by the numbers of its parts.
 use Rattle.std.specs.Prelude.{◌+◌, ◌<◌, ◌^◌, Bool, true, false, List}
 use Rattle.rr_tree.specs.Nodes.{node_tree, trees_before}
-use Rattle.rr_tree.specs.Tree.{Tree, sequence, call, listed}
+use Rattle.rr_tree.specs.Tree.{Tree, sequence, call, send, listed, tree_at}
 use Rattle.rr_tree.specs.declared.node.Node.{Node}
 use Rattle.rr_tree.specs.declared.node.Node.TheVariants as node
 
@@ -9,13 +9,17 @@ use Rattle.rr_tree.specs.declared.node.Node.TheVariants as node
 abbrev pub evaluated_tree : List Node → Node → Tree
 evaluated_tree ns (node.Sequence first count) = sequence (listed (trees_before ns (first + count) count))
 evaluated_tree ns (node.Call x first count site) = call x.0 (listed (trees_before ns (first + count) count))
+evaluated_tree ns (node.Send a x first count site) = send (tree_at ns a) x.0 (listed (trees_before ns (first + count) count))
 evaluated_tree ns n = node_tree ns n
 
--- a node that is evaluated: no item of a list, and its own list ends at a number
+-- a node that is evaluated: no item of a list, and its own list, or its last part, ends at a number
 abbrev pub IsEvaluated : Node → Type 0
 IsEvaluated (node.Item a) = ⊥
 IsEvaluated (node.Sequence first count) = first + count < 2 ^ 32
 IsEvaluated (node.Call x first count site) = first + count < 2 ^ 32
+IsEvaluated (node.Send a x first count site) = first + count < 2 ^ 32
+IsEvaluated (node.Index a b) = b + 1 < 2 ^ 32
+IsEvaluated (node.Append a b) = b + 1 < 2 ^ 32
 IsEvaluated _ = Unit {0}
 
 -- a node whose evaluation needs the objects, the program's names or memory
@@ -31,9 +35,14 @@ is_unknown node.Nil = false
 is_unknown (node.Truth b) = false
 is_unknown (node.Int z) = false
 is_unknown (node.Text i) = false
+is_unknown (node.Symbol x) = false
+is_unknown (node.Class k) = false
 is_unknown (node.Local depth slot x) = false
 is_unknown (node.Bare x site) = false
 is_unknown (node.Call x first count site) = false
+is_unknown (node.Send a x first count site) = false
+is_unknown (node.Index a b) = false
+is_unknown (node.Append a b) = false
 is_unknown (node.And a b) = false
 is_unknown (node.Or a b) = false
 is_unknown (node.Not a) = false

@@ -1,12 +1,22 @@
 -- Requests, and the environment that replies.
 use Rattle.std.specs.Prelude.{List, [], ◌∷◌, ◌++◌, ◌≤◌, length, Option, Some, None}
 use Rattle.rr_space.specs.Tables.{Table}
+use Rattle.rr_space.specs.declared.refer.Ref.{Ref}
 use Rattle.rr_eval.specs.declared.request.Request.{Request}
 use Rattle.rr_eval.specs.declared.request.Request.TheVariants as requests
-use Rattle.rr_eval.specs.Script.{Asked, Prints, Reply, World}
+use Rattle.rr_eval.specs.declared.call.Arguments.{Arguments}
+use Rattle.rr_eval.specs.declared.call.Arguments.TheVariants.{Without, One, Two, Many}
+use Rattle.rr_eval.specs.Script.{Asked, Prints, Calls, Reply, World}
+
+abbrev pub arguments_of : Arguments → List Ref
+arguments_of Without = []
+arguments_of (One a) = a ∷ []
+arguments_of (Two a b) = a ∷ b ∷ []
+arguments_of (Many values) = values.items
 
 abbrev pub asked_of : Request → Asked
 asked_of (requests.Print piece) = Prints piece.items
+asked_of (requests.Call call) = Calls call.receiver call.callee (arguments_of call.arguments)
 
 -- what was asked so far, and the environment
 pub record Course : Type 0 where

@@ -5,17 +5,25 @@ use Rattle.rr_base.specs.Classes.{class_id}
 use Rattle.rr_base.specs.declared.name.ClassId.{ClassId}
 use Rattle.rr_space.specs.Tables.{Table}
 use Rattle.rr_space.specs.declared.refer.Ref.{Ref}
-use Rattle.rr_space.specs.declared.refer.Ref.TheVariants.{Nil, Truth, Int, Local}
-use Rattle.rr_tree.specs.Tree.{Tree, Trees, nil, truth, int, text, local, bare, call, logical_and, logical_or, logical_not, negate, binary, assign, choose, repeat, sequence, empty, then_one}
+use Rattle.rr_space.specs.declared.refer.Ref.TheVariants.{Nil, Truth, Int, Symbol, Class, Local}
+use Rattle.rr_tree.specs.Tree.{Tree, Trees, nil, truth, int, text, symbol, class_named, local, bare, call, send, index, append, logical_and, logical_or, logical_not, negate, binary, assign, choose, repeat, sequence, empty, then_one}
+use Rattle.rr_tree.specs.declared.node.BinaryOperator.{BinaryOperator}
+use Rattle.rr_text.specs.Names.{names_of}
+use Rattle.rr_builtin.specs.Acts.{with_text}
+use Rattle.rr_builtin.specs.Objects.{is_truthy}
+use Rattle.rr_eval.specs.declared.call.Callee.{Callee}
+use Rattle.rr_eval.specs.declared.call.Callee.TheVariants as callees
+use Rattle.rr_eval.specs.declared.call.Target.{Target}
+use Rattle.rr_eval.specs.declared.call.Target.TheVariants.{Puts, Call}
 use Rattle.rr_eval.specs.declared.problem.Answer.{Answer}
 use Rattle.rr_eval.specs.declared.problem.Answer.TheVariants.{Gave, Raised}
-use Rattle.rr_eval.specs.declared.problem.Worked.{Worked}
-use Rattle.rr_eval.specs.declared.problem.Worked.TheVariants.{Works, Fails}
+use Rattle.rr_eval.specs.declared.problem.Response.{Response}
+use Rattle.rr_eval.specs.declared.problem.Response.TheVariants.{Gives, Throws, Fails}
 use Rattle.rr_eval.specs.declared.problem.Problem.{Problem}
 use Rattle.rr_eval.specs.declared.problem.Problem.TheVariants.{MissingName, NotHere}
-use Rattle.rr_eval.specs.Script.{State, Script, Ret, Go, See, Do, Ask, Prints, World, Spent, Evaluation, run}
-use Rattle.rr_eval.specs.Values.{is_truthy, goes_on, piece_of}
-use Rattle.rr_eval.specs.Operators.{make, with_text, operate, negated}
+use Rattle.rr_eval.specs.Script.{State, Script, Ret, Go, See, Do, Ask, Prints, Calls, World, Spent, Evaluation, run}
+use Rattle.rr_eval.specs.Values.{goes_on, piece_of}
+use Rattle.rr_eval.specs.Operators.{make, integers, opposite}
 use Rattle.rr_eval.specs.Messages.{message, exception_class}
 use Rattle.rr_eval.specs.Exceptions.{with_exception}
 pub use Rattle.rr_eval.specs.Context.{Context}
@@ -50,13 +58,28 @@ raise class message = See (λ m. Do (λ k. record k { table = with_exception cla
 abbrev pub throw : Context → Problem → Script
 throw c e = See (λ m. Do (λ k. record k { table = with_text (message c e) k.table }) (raise (class_id (exception_class e)) (Local (length m.table.slots))))
 
--- the value of an operation, or its exception
-abbrev pub settled : Context → Worked → Script
-settled c (Works v) = Ret (Gave v)
+-- what an operation or a request came to: its value, or its exception
+abbrev pub settled : Context → Response → Script
+settled c (Gives v) = Ret (Gave v)
+settled c (Throws e) = Ret (Raised e)
 settled c (Fails e) = throw c e
 
+-- asks for a call of a method
+abbrev pub send_to : Context → Callee → Ref → List Ref → Script
+send_to c callee receiver arguments = Ask (Calls receiver callee arguments) (settled c)
+
+-- an operator: of two integers here, and any other as a call
+abbrev pub operation : Context → BinaryOperator → Ref → Ref → Script
+operation c op (Int x) (Int y) = settled c (integers op x y)
+operation c op v w = send_to c (callees.Operator op) v (w ∷ [])
+
+-- unary minus
+abbrev pub negation : Context → Ref → Script
+negation c (Int x) = settled c (opposite x)
+negation c v = send_to c callees.Opposite v []
+
 -- an operation on the objects
-abbrev pub on_table : Context → (Table → Worked × Table) → Script
+abbrev pub on_table : Context → (Table → Response × Table) → Script
 on_table c act = See (λ m. Do (λ k. record k { table = (act k.table).1 }) (settled c (act m.table).0))
 
 -- statements, one after the other; the last one's answer
@@ -71,8 +94,14 @@ values [] stand next = next stand
 values (t ∷ ts) stand next = with_value t (λ v. values ts (stand ++ v ∷ []) next)
 
 -- prints the lines of values
-abbrev pub put : List Ref → Script
-put vs = See (λ m. Ask (Prints (piece_of m.table vs)) Ret)
+abbrev pub put : Context → List Ref → Script
+put c vs = See (λ m. Ask (Prints (piece_of (names_of c.program) m.table vs)) (settled c))
+
+-- what is done with values: they are printed, or the first of them is sent the others
+abbrev pub finish : Context → Target → List Ref → Script
+finish c Puts vs = put c vs
+finish c (Call callee) [] = Ret (Gave Nil)
+finish c (Call callee) (v ∷ vs) = send_to c callee v vs
 
 -- a name is `puts`
 abbrev pub is_puts : Context → ℕ → Bool
@@ -84,12 +113,12 @@ not_here c = throw c NotHere
 
 -- a bare name: `puts` or not
 abbrev pub bare_rule : Context → Bool → ℕ → Script
-bare_rule c true x = put []
+bare_rule c true x = put c []
 bare_rule c false x = throw c (MissingName (record { 0 = x }))
 
 -- a call with arguments: of `puts` or not
 abbrev pub call_rule : Context → Bool → List Tree → Script
-call_rule c true ts = values ts [] put
+call_rule c true ts = values ts [] (finish c Puts)
 call_rule c false ts = not_here c
 
 -- The rule of each kind of tree. No block or method is evaluated yet, so each variable is one of the program's own scope.
@@ -97,6 +126,8 @@ abbrev pub rule : Context → Tree → Script
 rule c nil = Ret (Gave Nil)
 rule c (truth b) = Ret (Gave (Truth b))
 rule c (int z) = Ret (Gave (Int z))
+rule c (symbol x) = Ret (Gave (Symbol (record { 0 = x })))
+rule c (class_named k) = Ret (Gave (Class k))
 rule c (text i) = on_table c (make (slice_index_or c.texts i []))
 rule c (local depth slot x) = read slot
 rule c (bare x) = bare_rule c (is_puts c x) x
@@ -104,8 +135,11 @@ rule c (call x list) = call_rule c (is_puts c x) (items list)
 rule c (logical_and a b) = with_value a (λ v. if is_truthy v then Go b Ret else Ret (Gave v))
 rule c (logical_or a b) = with_value a (λ v. if is_truthy v then Ret (Gave v) else Go b Ret)
 rule c (logical_not a) = with_value a (λ v. Ret (Gave (Truth (not (is_truthy v)))))
-rule c (negate a) = with_value a (λ v. on_table c (negated v))
-rule c (binary op a b) = with_value a (λ v. with_value b (λ w. on_table c (operate op v w)))
+rule c (send a x list) = values (a ∷ items list) [] (finish c (Call (callees.Name (record { 0 = x }))))
+rule c (index a b) = values (a ∷ b ∷ []) [] (finish c (Call callees.Index))
+rule c (append a b) = values (a ∷ b ∷ []) [] (finish c (Call callees.Append))
+rule c (negate a) = with_value a (negation c)
+rule c (binary op a b) = with_value a (λ v. with_value b (operation c op v))
 rule c (assign depth slot x a) = with_value a (λ v. write slot v)
 rule c (choose a b d) = with_value a (λ v. Go (if is_truthy v then b else d) Ret)
 -- each turn of a loop evaluates the loop again

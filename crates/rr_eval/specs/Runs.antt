@@ -19,9 +19,11 @@ use Rattle.rr_space.specs.declared.refer.Ref.TheVariants.{Nil}
 use Rattle.rr_tree.specs.Tree.{Tree, tree_at}
 use Rattle.rr_tree.specs.declared.program.Program.{Program}
 use Rattle.rr_eval.specs.declared.problem.Answer.TheVariants.{Gave, Raised}
+use Rattle.rr_eval.specs.declared.problem.Response.TheVariants.{Gives}
 use Rattle.rr_eval.specs.declared.run.Outcome.{Outcome as RunOutcome}
 use Rattle.rr_eval.specs.declared.run.Outcome.TheVariants as outcomes
-use Rattle.rr_eval.specs.Script.{Asked, Prints, World, Outcome, Ended, Spent, Waits, objects_of}
+use Rattle.rr_eval.specs.Calls.{call_reply}
+use Rattle.rr_eval.specs.Script.{Asked, Prints, Calls, World, Outcome, Ended, Spent, Waits, objects_of}
 use Rattle.rr_eval.specs.Rules.{Context, meaning, start_state}
 use Rattle.rr_eval.specs.Exceptions.{IsTold}
 use Rattle.rr_eval.specs.Written.{Written, WritesAll, WritesBeginning, FallsShort}
@@ -31,6 +33,7 @@ use Rattle.rr_eval.specs.Acts.{IsRefusal, Passes}
 -- what a request prints
 abbrev pub piece_asked : Asked → List ℕ
 piece_asked (Prints piece) = piece
+piece_asked (Calls receiver callee arguments) = []
 
 -- what requests printed
 abbrev pub text_asked : List Asked → List ℕ
@@ -42,9 +45,11 @@ text_of (Ended a s n) = text_asked s.asked
 text_of (Spent s) = text_asked s.asked
 text_of (Waits s) = text_asked s.asked
 
--- the environment of a script that runs alone: what is to be printed is printed, and the reply is nil
-abbrev pub alone : World
-alone asked (Prints piece) t = Some (record { answer = Gave Nil; table = t })
+-- the environment of a script that runs alone: what is to be printed is printed, to which the reply is nil, and a method
+-- that is called does what it does where nothing is published
+abbrev pub alone : Context → World
+alone c asked (Prints piece) t = Some (record { response = Gives Nil; table = t })
+alone c asked (Calls receiver callee arguments) t = Some (call_reply c receiver callee arguments t)
 
 -- it ended with a value; it raised an exception, of which this is told; it ran out of steps
 abbrev pub IsDone : Outcome → Type 0
@@ -126,7 +131,7 @@ no_objects slots = record { slots = []; below = []; keys = []; limit = slots; ow
 
 -- what a script that runs alone does within limits
 abbrev pub script_meaning : Context → Tree → Limits → Outcome
-script_meaning c tree within = meaning c alone tree (start_state c (no_objects within.slots)) within.steps
+script_meaning c tree within = meaning c (alone c) tree (start_state c (no_objects within.slots)) within.steps
 
 -- what a program does
 abbrev pub program_meaning : Program → Limits → Outcome
@@ -140,11 +145,12 @@ pub record Run : Type 0 where
   pub after : Written
   pub ended : Result RunOutcome Fault
 
--- The source was read, and what it spells was run.
+-- The source was read, and what it spells was run. The classes of the program are those that its parser found.
 pub record RunsScript (r : Run) (outcome : RunOutcome) : Type 0 where
   pub context : Context
   pub tree : Tree
   pub script : IsScript r.source context tree
+  pub own : context ≡ context_of context.program
   pub leaves : Leaves r.before r.after (script_meaning context tree r.limits) outcome
   pub within : WithinSlots r.limits.slots (script_meaning context tree r.limits) outcome
 

@@ -3,20 +3,23 @@ use Rattle.std.specs.Prelude.{ℕ, List, [], ◌∷◌, ◌++◌, length, Option
 use Rattle.rr_space.specs.Tables.{Table}
 use Rattle.rr_space.specs.declared.refer.Ref.{Ref}
 use Rattle.rr_tree.specs.Tree.{Tree}
+use Rattle.rr_eval.specs.declared.call.Callee.{Callee}
 use Rattle.rr_eval.specs.declared.problem.Answer.{Answer}
+use Rattle.rr_eval.specs.declared.problem.Response.{Response}
 
 -- the variables by their numbers, and the objects
 pub record Memory : Type 0 where
   pub vars : List Ref
   pub table : Table
 
--- what a rule asks of the environment: to print a piece
+-- what a rule asks of the environment: to print a piece; to call a method of a receiver
 pub data Asked : Type 0 where
   Prints : List ℕ → Asked
+  Calls : (receiver : Ref) (callee : Callee) (arguments : List Ref) → Asked
 
--- what the environment answers, and the objects then
+-- what the environment responds, and the objects then
 pub record Reply : Type 0 where
-  pub answer : Answer
+  pub response : Response
   pub table : Table
 
 -- the environment: what it answers to a request, after what was asked before, where these objects are; it may leave a
@@ -36,7 +39,7 @@ pub data Script : Type 0 where
   Go : Tree → (Answer → Script) → Script
   See : (Memory → Script) → Script
   Do : (Memory → Memory) → Script → Script
-  Ask : Asked → (Answer → Script) → Script
+  Ask : Asked → (Response → Script) → Script
 
 -- how an evaluation ends: with an answer, the state and the steps that are left; out of steps; or with a request that has
 -- no reply
@@ -57,14 +60,14 @@ after (Ended a s n) next = next a s n
 after (Spent s) next = Spent s
 after (Waits s) next = Waits s
 
--- what a reply does
-abbrev pub taken : Option Reply → State → ℕ → Outcome
-taken None s n = Waits s
-taken (Some r) s n = Ended r.answer (record s { memory = record s.memory { table = r.table } }) n
+-- goes on with a reply
+abbrev pub taken : Option Reply → State → (Response → State → Outcome) → Outcome
+taken None s next = Waits s
+taken (Some r) s next = next r.response (record s { memory = record s.memory { table = r.table } })
 
--- what a request does
-abbrev pub asks : World → Asked → State → ℕ → Outcome
-asks w q s n = taken (w s.asked q s.memory.table) (record s { asked = s.asked ++ q ∷ [] }) n
+-- goes on with the reply to a request
+abbrev pub asks : World → Asked → State → (Response → State → Outcome) → Outcome
+asks w q s next = taken (w s.asked q s.memory.table) (record s { asked = s.asked ++ q ∷ [] }) next
 
 -- what trees do in a state, with so many steps to spend
 abbrev pub Evaluation : Type 0
@@ -76,4 +79,4 @@ run w go (Ret a) s n = Ended a s n
 run w go (Go tree next) s n = after (go tree s n) (λ a. run w go (next a))
 run w go (See look) s n = run w go (look s.memory) s n
 run w go (Do act next) s n = run w go next (record s { memory = act s.memory }) n
-run w go (Ask q next) s n = after (asks w q s n) (λ a. run w go (next a))
+run w go (Ask q next) s n = asks w q s (λ r u. run w go (next r) u n)

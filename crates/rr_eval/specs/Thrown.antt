@@ -8,7 +8,7 @@ use Rattle.rr_eval.specs.declared.problem.Problem.{Problem}
 use Rattle.rr_eval.specs.Context.{Context}
 use Rattle.rr_eval.specs.Exceptions.{with_exception}
 use Rattle.rr_eval.specs.Messages.{message, exception_class}
-use Rattle.rr_eval.specs.Operators.{with_text}
+use Rattle.rr_builtin.specs.Acts.{with_text}
 
 -- the objects with the message and the exception of a problem
 abbrev pub thrown : Context → Problem → Table → Table

@@ -15,9 +15,11 @@ use Rattle.rr_eval.specs.declared.engine.Turn.{Turn}
 use Rattle.rr_eval.specs.declared.engine.Turn.TheVariants as turns
 use Rattle.rr_eval.specs.Acts.{IsRefusal}
 use Rattle.rr_eval.specs.declared.request.Request.{Request}
-use Rattle.rr_eval.specs.Script.{State, Script, World, Asked, Outcome, Ended, Spent, Waits, asks}
+use Rattle.rr_eval.specs.declared.problem.Response.{Response}
+use Rattle.rr_eval.specs.declared.problem.Response.TheVariants as response
+use Rattle.rr_eval.specs.Script.{State, Script, Ask, World, Asked, Outcome, Ended, Spent, Waits}
 use Rattle.rr_eval.specs.Requests.{Course, asked_of, asking}
-use Rattle.rr_eval.specs.Rules.{Context}
+use Rattle.rr_eval.specs.Rules.{Context, settled}
 use Rattle.rr_eval.specs.Frames.{Code, runs_in, outcome_of, resumed, unwind, Nested, below_of, stand_of}
 use Rattle.rr_eval.specs.View.{View}
 
@@ -26,7 +28,7 @@ contents vs = map (λ v. v.items) vs
 
 -- the names and the text literals of a program
 abbrev pub context_of : Program → Context
-context_of p = record { symbols = contents p.symbols.items; texts = contents p.texts.items }
+context_of p = record { symbols = contents p.symbols.items; texts = contents p.texts.items; program = p }
 
 abbrev pub code_of : Program → World → Code
 code_of p w = record { nodes = p.nodes.items; context = context_of p; world = w }
@@ -45,7 +47,7 @@ remaining p m t h = remaining_with p m t h m.left
 
 -- what is still to be done with n steps, where the machine asks and goes on with the reply
 abbrev pub asking_with : Program → View → Table → Asked → Course → ℕ → Outcome
-asking_with p m t q h n = unwind (code_of p h.world) (reverse m.frames) m.held (asks h.world q (state_of m t h) n)
+asking_with p m t q h n = unwind (code_of p h.world) (reverse m.frames) m.held (runs_in (code_of p h.world) (Ask q (settled (context_of p))) (state_of m t h) n)
 
 -- the same with the steps that are left
 abbrev pub asking_then : Program → View → Table → Asked → Course → Outcome
@@ -56,9 +58,15 @@ abbrev pub continuing : Program → View → Table → Option Request → Course
 continuing p m t None h n = remaining_with p m t h n
 continuing p m t (Some q) h n = asking_with p m t (asked_of q) h n
 
--- the machine goes on with an answer
-abbrev pub answered : View → Answer → View
-answered m a = record m { control = Give a }
+-- what comes after a response
+abbrev pub control_of : Response → Control
+control_of (response.Gives v) = Give (Gave v)
+control_of (response.Throws e) = Give (Raised e)
+control_of (response.Fails e) = Throw e
+
+-- the machine goes on with a response
+abbrev pub answered : View → Response → View
+answered m r = record m { control = control_of r }
 
 -- what the frames do after a script, with n steps
 abbrev pub after_script : Program → View → Table → Script → Course → ℕ → Outcome
@@ -100,9 +108,9 @@ Turned p old t budget (Ok turns.StepLimit) new u = (old.left ≤ budget) × (new
 -- a growth was refused, and the next turn goes on from there
 Turned p old t budget (Err f) new u = IsRefusal f × (old.left ≤ new.left + budget) × ((h : Course) → remaining p old t h ≡ remaining p new u h)
 
--- What a reply does, with the objects then: the machine goes on with its answer. Without a reply all ends there.
-pub record Replied (p : Program) (m : View) (answer : Answer) : Type 0 where
-  pub goes : (t u : Table) (q : Asked) (h : Course) → h.world h.asked q t ≡ Some (record { answer = answer; table = u }) → asking_then p m t q h ≡ remaining p (answered m answer) u (asking q h)
+-- What a reply does, with the objects then: the machine goes on with its response. Without a reply all ends there.
+pub record Replied (p : Program) (m : View) (response : Response) : Type 0 where
+  pub goes : (t u : Table) (q : Asked) (h : Course) → h.world h.asked q t ≡ Some (record { response = response; table = u }) → asking_then p m t q h ≡ remaining p (answered m response) u (asking q h)
   pub none : (t : Table) (q : Asked) (h : Course) → h.world h.asked q t ≡ None → asking_then p m t q h ≡ Waits (state_of m t (asking q h))
 
 -- a bound on what can be done without a step
@@ -115,10 +123,10 @@ waits (Throw e) = 4
 abbrev pub size : View → ℕ
 size m = 3 * length m.frames + waits m.control
 
--- the same where the machine may have asked: the reply gives an answer
+-- the same where the machine may have asked: the reply gives a response
 abbrev pub sized : Option Request → View → ℕ
 sized None m = size m
-sized (Some q) m = 3 * length m.frames + 2
+sized (Some q) m = 3 * length m.frames + 4
 
 -- what falls from turn to turn, and over each reply
 abbrev pub power : View → ℕ

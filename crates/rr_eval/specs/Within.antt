@@ -1,56 +1,120 @@
 -- Each reference that the machine holds leads somewhere.
-use Rattle.std.specs.Prelude.{ℕ}
+use Rattle.std.specs.Prelude.{ℕ, ◌<◌, length, List, Option, Some, None, Contains}
 use Rattle.std.specs.List.{All}
-use Rattle.rr_space.specs.Parts.{IsWithin}
+use Rattle.rr_space.specs.Graph.{Object}
+use Rattle.rr_space.specs.Sound.{IsHold}
+use Rattle.rr_space.specs.Tables.{Below, Table, Whole, below_hold}
+use Rattle.rr_space.specs.declared.refer.Ref.{Ref}
+use Rattle.rr_space.specs.declared.refer.Ref.TheVariants.{Local, Shared}
+use Rattle.rr_text.specs.Reads.{IsReadWith}
+use Rattle.rr_eval.specs.declared.call.Call.{Call}
 use Rattle.rr_eval.specs.declared.problem.Answer.{Answer}
 use Rattle.rr_eval.specs.declared.problem.Answer.TheVariants.{Gave, Raised}
-use Rattle.rr_eval.specs.declared.problem.Worked.{Worked}
-use Rattle.rr_eval.specs.declared.problem.Worked.TheVariants.{Works, Fails}
+use Rattle.rr_eval.specs.declared.problem.Response.{Response}
+use Rattle.rr_eval.specs.declared.problem.Response.TheVariants.{Gives, Throws, Fails}
 use Rattle.rr_eval.specs.declared.frame.Frame.{Frame}
 use Rattle.rr_eval.specs.declared.frame.Frame.TheVariants.{Right}
 use Rattle.rr_eval.specs.declared.frame.Control.{Control}
 use Rattle.rr_eval.specs.declared.frame.Control.TheVariants.{Give, Raise}
+use Rattle.rr_eval.specs.declared.request.Request.{Request}
+use Rattle.rr_eval.specs.declared.request.Request.TheVariants as requests
 use Rattle.rr_eval.specs.declared.engine.Turn.{Turn}
 use Rattle.rr_eval.specs.declared.engine.Turn.TheVariants as turns
 use Rattle.rr_eval.specs.declared.environment.Ending.{Ending}
 use Rattle.rr_eval.specs.declared.environment.Ending.TheVariants as endings
+use Rattle.rr_eval.specs.Requests.{arguments_of}
 use Rattle.rr_eval.specs.View.{View}
 
-abbrev pub IsAnswerWithin : ℕ → Answer → Type 0
-IsAnswerWithin k (Gave v) = IsWithin k v
-IsAnswerWithin k (Raised e) = IsWithin k e
+-- how far references may lead: to so many slots, and to these clusters, or to any
+pub record Reach : Type 0 where
+  pub slots : ℕ
+  pub clusters : Option Below
 
-abbrev pub IsWorkedWithin : ℕ → Worked → Type 0
-IsWorkedWithin k (Works v) = IsWithin k v
-IsWorkedWithin k (Fails e) = Unit {0}
+abbrev pub reach : ℕ → Option Below → Reach
+reach k clusters = record { slots = k; clusters = clusters }
 
-abbrev pub IsFrameWithin : ℕ → Frame → Type 0
-IsFrameWithin k (Right op v) = IsWithin k v
-IsFrameWithin k _ = Unit {0}
+-- each cluster that a hold leads to is one of these
+abbrev pub IsHeldAmong : Option Below → Whole → Type 0
+IsHeldAmong None c = Unit {0}
+IsHeldAmong (Some below) c = (e : ℕ × List Object) → Contains (below_hold c) e → Contains below e
 
-abbrev pub IsControlWithin : ℕ → Control → Type 0
-IsControlWithin k (Give a) = IsAnswerWithin k a
-IsControlWithin k (Raise class message) = IsWithin k message
-IsControlWithin k _ = Unit {0}
+-- the reference is an immediate, a slot there, or a place that its cluster has, and that cluster and those below it are there
+abbrev pub IsReached : Reach → Ref → Type 0
+IsReached k (Local n) = n < k.slots
+IsReached k (Shared p c) = IsHold p c.now × IsHeldAmong k.clusters c.now
+IsReached k _ = Unit {0}
 
--- the value or the exception that a turn, or a run, ends with
-abbrev pub IsTurnWithin : ℕ → Turn → Type 0
-IsTurnWithin k (turns.Done v) = IsWithin k v
-IsTurnWithin k (turns.Raised e) = IsWithin k e
-IsTurnWithin k _ = Unit {0}
+abbrev pub IsAnswerReached : Reach → Answer → Type 0
+IsAnswerReached k (Gave v) = IsReached k v
+IsAnswerReached k (Raised e) = IsReached k e
 
-abbrev pub IsEndingWithin : ℕ → Ending → Type 0
-IsEndingWithin k (endings.Done v) = IsWithin k v
-IsEndingWithin k (endings.Raised e) = IsWithin k e
-IsEndingWithin k _ = Unit {0}
+abbrev pub IsResponseReached : Reach → Response → Type 0
+IsResponseReached k (Gives v) = IsReached k v
+IsResponseReached k (Throws e) = IsReached k e
+IsResponseReached k (Fails e) = Unit {0}
 
--- each reference is an immediate, a slot below k, or a place that its cluster has
-pub record RefsWithin (k : ℕ) (m : View) : Type 0 where
-  pub control : IsControlWithin k m.control
-  pub frames : All (IsFrameWithin k) m.frames
-  pub held : All (IsWithin k) m.held
-  pub vars : All (IsWithin k) m.vars
+abbrev pub IsFrameReached : Reach → Frame → Type 0
+IsFrameReached k (Right op v) = IsReached k v
+IsFrameReached k _ = Unit {0}
+
+abbrev pub IsControlReached : Reach → Control → Type 0
+IsControlReached k (Give a) = IsAnswerReached k a
+IsControlReached k (Raise class message) = IsReached k message
+IsControlReached k _ = Unit {0}
+
+-- the receiver and the arguments of a call
+pub record IsCallReached (k : Reach) (call : Call) : Type 0 where
+  pub receiver : IsReached k call.receiver
+  pub arguments : All (IsReached k) (arguments_of call.arguments)
+
+abbrev pub IsRequestReached : Reach → Request → Type 0
+IsRequestReached k (requests.Print piece) = Unit {0}
+IsRequestReached k (requests.Call call) = IsCallReached k call
+
+abbrev pub IsAskedReached : Reach → Option Request → Type 0
+IsAskedReached k None = Unit {0}
+IsAskedReached k (Some q) = IsRequestReached k q
+
+-- what a turn, or a run, ends with
+abbrev pub IsTurnReached : Reach → Turn → Type 0
+IsTurnReached k (turns.Ask q) = IsRequestReached k q
+IsTurnReached k (turns.Done v) = IsReached k v
+IsTurnReached k (turns.Raised e) = IsReached k e
+IsTurnReached k _ = Unit {0}
+
+abbrev pub IsEndingReached : Reach → Ending → Type 0
+IsEndingReached k (endings.Done v) = IsReached k v
+IsEndingReached k (endings.Raised e) = IsReached k e
+IsEndingReached k _ = Unit {0}
+
+-- each reference that is held is reached
+pub record RefsReached (k : Reach) (m : View) : Type 0 where
+  pub control : IsControlReached k m.control
+  pub frames : All (IsFrameReached k) m.frames
+  pub held : All (IsReached k) m.held
+  pub vars : All (IsReached k) m.vars
 
 -- the same, as one fact
-unfoldable pub AreWithin : ℕ → View → Type 0
-AreWithin k m = RefsWithin k m
+unfoldable pub AreReached : Reach → View → Type 0
+AreReached k m = RefsReached k m
+
+-- what held references lead to is reached afterwards, where it was reached before
+abbrev pub KeepsReach : View → Table → View → Table → Type 0
+KeepsReach m t n u = (clusters : Option Below) → AreReached (reach (length t.slots) clusters) m → AreReached (reach (length u.slots) clusters) n
+
+-- the clusters with which the table was read are enough afterwards
+abbrev pub KeepsRead : View → Table → Table → Type 0
+KeepsRead m t u = (below : Below) → IsReadWith t below → AreReached (reach (length t.slots) (Some below)) m → IsReadWith u below
+
+-- each reference is an immediate, a slot below k, or a place that its cluster has
+abbrev pub AreWithin : ℕ → View → Type 0
+AreWithin k m = AreReached (reach k None) m
+
+abbrev pub IsResponseWithin : ℕ → Response → Type 0
+IsResponseWithin k r = IsResponseReached (reach k None) r
+
+abbrev pub IsTurnWithin : ℕ → Turn → Type 0
+IsTurnWithin k turn = IsTurnReached (reach k None) turn
+
+abbrev pub IsEndingWithin : ℕ → Ending → Type 0
+IsEndingWithin k ending = IsEndingReached (reach k None) ending

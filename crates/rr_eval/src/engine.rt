@@ -1,9 +1,9 @@
 //! The machine: a stack of frames, each of which waits for the answer of a part.
 
-ghost use Rattle.std.specs.Prelude.{◌≡◌, ◌+◌, ◌*◌, ◌<◌, ◌≤◌, ℕ, List, [], ◌∷◌, ◌++◌, length, reverse, slice_index_or, vec_capacity, Some, IfOk, IfErr, IfSome, IsTrue, IsFalse, OnOk, MatchOption};
+ghost use Rattle.std.specs.Prelude.{◌≡◌, ◌+◌, ◌*◌, ◌<◌, ◌≤◌, ℕ, List, [], ◌∷◌, ◌++◌, length, reverse, slice_index_or, vec_capacity, Option, Some, IfOk, IfErr, IfSome, IsTrue, IsFalse, OnOk, MatchOption};
 ghost use Rattle.rr_base.specs.declared.fault.Fault.{Fault};
 ghost use Rattle.rr_space.specs.declared.refer.Ref.{Ref};
-ghost use Rattle.rr_space.specs.Tables.{Table};
+ghost use Rattle.rr_space.specs.Tables.{Table, Below};
 ghost use Rattle.rr_tree.specs.declared.node.Node.{Node};
 ghost use Rattle.rr_tree.specs.declared.program.Program.{Program};
 ghost use Rattle.rr_tree.specs.Tree.{tree_at};
@@ -15,8 +15,7 @@ ghost use Rattle.rr_eval.specs.Frames.{below_of, base_of, Nested};
 ghost use Rattle.rr_eval.specs.Nodes.{evaluated_tree, IsEvaluated, IsRareNode};
 ghost use Rattle.rr_eval.specs.Turns.{context_of, state_of, remaining, remaining_with, after_script, after_answer, continuing, IsNested, Stands, leaf_value, Turned, size, sized, power, Falls};
 ghost use Rattle.rr_eval.specs.Views.{view_of};
-ghost use Rattle.rr_eval.specs.Within.{AreWithin, IsAnswerWithin, IsFrameWithin, IsTurnWithin};
-ghost use Rattle.rr_space.specs.Views.{IsWithin};
+ghost use Rattle.rr_eval.specs.Within.{Reach, reach, IsReached, IsAnswerReached, IsFrameReached, IsAskedReached, IsTurnReached, AreReached, AreWithin, KeepsReach, KeepsRead};
 ghost use Rattle.std.specs.List.{All};
 
 use crate::frame::{Control, Frame};
@@ -75,7 +74,7 @@ impl Engine {
     #[inline(always)]
     pub fn variable(&self, slot: u32) -> Ref
         ensures value { result ≡ slice_index_or self.now.vars.items slot Ref.Nil }
-        ensures within { (k : ℕ) → All (IsWithin k) self.now.vars.items → IsWithin k result }
+        ensures within { (k : Reach) → All (IsReached k) self.now.vars.items → IsReached k result }
     {
         match self.vars.get(slot as usize) {
             Some(value) => *value,
@@ -114,7 +113,7 @@ impl Engine {
         requires nested { IsNested (view_of self.old) }
         ensures goes { IsTrue result → (t : Table) (h : Course) → remaining program.now (view_of self.old) t h ≡ remaining program.now (view_of self.new) t h }
         ensures nested { IsNested (view_of self.new) }
-        ensures within { (k : ℕ) → AreWithin k (view_of self.old) → AreWithin k (view_of self.new) }
+        ensures within { (k : Reach) → AreReached k (view_of self.old) → AreReached k (view_of self.new) }
         ensures left { IsTrue result → self.new.left + 3 ≡ self.old.left }
         ensures size { IsTrue result → size (view_of self.new) ≤ size (view_of self.old) + 4 }
         ensures not { IsFalse result → self.new ≡ self.old }
@@ -141,7 +140,7 @@ impl Engine {
         requires nested { IsNested (view_of self.old) }
         ensures goes { IsTrue result → (t : Table) (h : Course) → remaining program.now (view_of self.old) t h ≡ remaining program.now (view_of self.new) t h }
         ensures nested { IsNested (view_of self.new) }
-        ensures within { (k : ℕ) → AreWithin k (view_of self.old) → AreWithin k (view_of self.new) }
+        ensures within { (k : Reach) → AreReached k (view_of self.old) → AreReached k (view_of self.new) }
         ensures left { IsTrue result → stop ≤ self.new.left }
         ensures spends { IsTrue result → self.new.left < self.old.left }
         ensures falls { IsTrue result → power (view_of self.new) + self.old.left ≤ power (view_of self.old) + self.new.left }
@@ -168,7 +167,7 @@ impl Engine {
         requires nested { IsNested (view_of self.old) }
         ensures goes { IsTrue result → (t : Table) (h : Course) → remaining program.now (view_of self.old) t h ≡ remaining program.now (view_of self.new) t h }
         ensures nested { IsNested (view_of self.new) }
-        ensures within { (k : ℕ) → AreWithin k (view_of self.old) → AreWithin k (view_of self.new) }
+        ensures within { (k : Reach) → AreReached k (view_of self.old) → AreReached k (view_of self.new) }
         ensures left { IsTrue result → self.new.left + 1 ≡ self.old.left }
         ensures size { IsTrue result → size (view_of self.new) ≤ size (view_of self.old) + 4 }
         ensures same { IsFalse result → self.new ≡ self.old }
@@ -199,7 +198,9 @@ impl Engine {
         requires within { AreWithin (length space.old.slots) (view_of self.old) }
         ensures goes { IfOk result (λ q. (h : Course) → remaining program.now (view_of self.old) space.old h ≡ continuing program.now (view_of self.new) space.new q h self.new.left) }
         ensures nested { IsNested (view_of self.new) }
-        ensures within { AreWithin (length space.new.slots) (view_of self.new) }
+        ensures within { KeepsReach (view_of self.old) space.old (view_of self.new) space.new }
+        ensures read { KeepsRead (view_of self.old) space.old space.new }
+        ensures asks { (k : Reach) → IfOk result (IsAskedReached k) }
         ensures left { OnOk result (self.new.left + 1 ≡ self.old.left) }
         ensures size { IfOk result (λ q. sized q (view_of self.new) ≤ size (view_of self.old) + 4) }
         ensures err { IfErr result (λ f. Stands (view_of self.old) (view_of self.new) space.old space.new f) }
@@ -217,16 +218,16 @@ impl Engine {
     }
 
     /// Takes the topmost frame off the stack, where there is one.
-    #[tactic(auto, unfolding(crate::specs::Within::AreWithin))]
+    #[tactic(auto, unfolding(crate::specs::Within::AreReached))]
     #[inline(always)]
     fn pop_frame(&mut self, answer: Answer) -> Option<Frame>
         requires control { self.old.control ≡ Control.Give answer }
         requires nested { IsNested (view_of self.old) }
         ensures goes { (p : Program) (t : Table) (h : Course) → MatchOption result (remaining p (view_of self.old) t h ≡ Ended answer (state_of (view_of self.new) t h) self.new.left) (λ f. remaining p (view_of self.old) t h ≡ after_answer p (view_of self.new) t f answer h self.new.left) }
         ensures nested { MatchOption result (IsNested (view_of self.new)) (λ f. Nested (reverse self.new.frames.items) (below_of f self.new.held.items)) }
-        ensures within { (k : ℕ) → AreWithin k (view_of self.old) → AreWithin k (view_of self.new) }
-        ensures frame { (k : ℕ) → AreWithin k (view_of self.old) → IfSome result (IsFrameWithin k) }
-        ensures given { (k : ℕ) → AreWithin k (view_of self.old) → IsAnswerWithin k answer }
+        ensures within { (k : Reach) → AreReached k (view_of self.old) → AreReached k (view_of self.new) }
+        ensures frame { (k : Reach) → AreReached k (view_of self.old) → IfSome result (IsFrameReached k) }
+        ensures given { (k : Reach) → AreReached k (view_of self.old) → IsAnswerReached k answer }
         ensures base { IfSome result (λ f. base_of f ≤ length self.new.held.items) }
         ensures room { IfSome result (λ _. length self.new.frames.items < vec_capacity self.new.frames) }
         ensures size { IfSome result (λ _. size (view_of self.old) ≡ 3 * length self.new.frames.items + 5) }
@@ -237,12 +238,12 @@ impl Engine {
     }
 
     /// Makes room for one more frame.
-    #[tactic(auto, unfolding(crate::specs::Within::AreWithin))]
+    #[tactic(auto, unfolding(crate::specs::Within::AreReached))]
     #[inline(always)]
     fn make_room(&mut self) -> Result<(), Fault>
         requires nested { IsNested (view_of self.old) }
         ensures nested { IsNested (view_of self.new) }
-        ensures within { (k : ℕ) → AreWithin k (view_of self.old) → AreWithin k (view_of self.new) }
+        ensures within { (k : Reach) → AreReached k (view_of self.old) → AreReached k (view_of self.new) }
         ensures room { OnOk result (length self.new.frames.items < vec_capacity self.new.frames) }
         ensures control { self.new.control ≡ self.old.control }
         ensures left { self.new.left ≡ self.old.left }
@@ -260,8 +261,9 @@ impl Engine {
         requires nested { IsNested (view_of self.old) }
         requires within { AreWithin (length space.old.slots) (view_of self.old) }
         ensures nested { IsNested (view_of self.new) }
-        ensures within { AreWithin (length space.new.slots) (view_of self.new) }
-        ensures ends_within { IfOk result (IsTurnWithin (length space.new.slots)) }
+        ensures within { KeepsReach (view_of self.old) space.old (view_of self.new) space.new }
+        ensures read { KeepsRead (view_of self.old) space.old space.new }
+        ensures ends_within { (clusters : Option Below) → AreReached (reach (length space.old.slots) clusters) (view_of self.old) → IfOk result (IsTurnReached (reach (length space.new.slots) clusters)) }
         ensures turned { Turned program.now (view_of self.old) space.old budget result (view_of self.new) space.new }
         ensures falls { 0 < budget → Falls (view_of self.old) result (view_of self.new) }
         ensures limit { space.new.limit ≡ space.old.limit }
@@ -276,7 +278,7 @@ impl Engine {
                         return Ok(Turn::Done(value));
                     };
                     if !self.resume(program, frame, value, stop)
-                        && let Some(request) = self.resume_rare(space, frame, value)?
+                        && let Some(request) = self.resume_rare(program, space, frame, value)?
                     {
                         return Ok(Turn::Ask(request));
                     }

@@ -4,12 +4,12 @@ ghost use Rattle.std.specs.Prelude.{◌≡◌, ◌≤◌, List, length, None, If
 ghost use Rattle.rr_space.specs.Tables.{Table};
 ghost use Rattle.rr_eval.specs.Script.{Asked, Reply};
 ghost use Rattle.rr_eval.specs.Requests.{Course, asked_of};
-ghost use Rattle.rr_eval.specs.Within.{AreWithin, IsAnswerWithin, IsEndingWithin};
+ghost use Rattle.rr_eval.specs.Within.{AreWithin, IsResponseWithin, IsEndingWithin};
 ghost use Rattle.rr_eval.specs.Served.{Exchange, Gives, Ran, course_after, world_of};
 
 use crate::engine::Turn;
 use crate::machine::Machine;
-use crate::problem::Answer;
+use crate::problem::Response;
 use crate::request::Request;
 use rr_base::Fault;
 use rr_space::{Ref, Space};
@@ -20,11 +20,11 @@ pub trait Environment {
     // It may go from one state to another by serving a request, made over these objects, with this reply.
     ghost leads: { Self → Asked → Table → Reply → Self → Type 0 };
 
-    /// Serves a request, and answers with a value or an exception, which lies within the space. It may change the space, and
+    /// Serves a request, a call of a method too, and responds with a value or an exception, which lies within the space. It may change the space, and
     /// on a fault it does not.
-    fn serve(&mut self, request: Request, space: &mut Space) -> Result<Answer, Fault>
-        ensures leads { IfOk result (λ a. leads self.old (asked_of request) space.old (record { answer = a; table = space.new }) self.new) }
-        ensures within { IfOk result (IsAnswerWithin (length space.new.slots)) }
+    fn serve(&mut self, request: Request, space: &mut Space) -> Result<Response, Fault>
+        ensures leads { IfOk result (λ r. leads self.old (asked_of request) space.old (record { response = r; table = space.new }) self.new) }
+        ensures within { IfOk result (IsResponseWithin (length space.new.slots)) }
         ensures grows { length space.old.slots ≤ length space.new.slots }
         ensures limit { space.new.limit ≡ space.old.limit }
         ensures kept { OnErr result (space.new ≡ space.old) };
@@ -62,7 +62,7 @@ pub fn run_in<E: Environment>(
         match machine.turn(program, space, BUDGET)? {
             Turn::More => {}
             Turn::Ask(request) => match environment.serve(request, space) {
-                Ok(answer) => machine.answer(answer),
+                Ok(response) => machine.answer(response),
                 Err(fault) => return Ok(Ending::Unserved(fault)),
             },
             Turn::Done(value) => return Ok(Ending::Done(value)),

@@ -1,7 +1,10 @@
 //! Exceptions as objects.
 
 ghost use Rattle.std.specs.Prelude.{◌≡◌, [], length, IfOk, IfErr};
-ghost use Rattle.rr_space.specs.Views.{IsWithin};
+ghost use Rattle.rr_space.specs.Tables.{Below};
+ghost use Rattle.rr_space.specs.Parts.{IsWithin};
+ghost use Rattle.rr_text.specs.Reads.{IsReadWith};
+ghost use Rattle.rr_builtin.specs.Acts.{IsRefAmong};
 ghost use Rattle.rr_eval.specs.Acts.{IsRefusal, Passes};
 ghost use Rattle.rr_eval.specs.Changes.{Changes};
 ghost use Rattle.rr_eval.specs.Exceptions.{with_exception, HasMessage, IsTold};
@@ -18,11 +21,8 @@ pub fn exception_class(problem: Problem) -> BuiltInClass
     ensures { result ≡ exception_class problem }
 {
     match problem {
-        Problem::OutOfRange => BuiltInClass::RangeError,
-        Problem::DividedByZero => BuiltInClass::ZeroDivisionError,
-        Problem::WrongType(_) => BuiltInClass::TypeError,
-        Problem::Incomparable(_, _) => BuiltInClass::ArgumentError,
-        Problem::MissingOperator(_, _) | Problem::MissingMinus(_) => BuiltInClass::NoMethodError,
+        Problem::BuiltIn(problem) => problem.class(),
+        Problem::MissingMethod(_, _) => BuiltInClass::NoMethodError,
         Problem::MissingName(_) => BuiltInClass::NameError,
         Problem::NotHere => BuiltInClass::RuntimeError,
     }
@@ -54,6 +54,7 @@ pub fn make_exception(
     requires { IsWithin (length space.old.slots) message }
     ensures name { IfOk result (λ exception. exception ≡ Ref.Local (length space.old.slots)) }
     ensures made { IfOk result (λ _. space.new ≡ with_exception class message space.old) }
+    ensures read { (below : Below) → IsReadWith space.old below → IsRefAmong below message → IsReadWith space.new below }
     ensures kept { IfErr result (λ _. space.new ≡ space.old) }
     ensures refused { IfErr result IsRefusal }
     ensures limit { space.new.limit ≡ space.old.limit }

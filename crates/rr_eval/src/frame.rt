@@ -1,5 +1,6 @@
 //! What the machine has still to do.
 
+use crate::call::Target;
 use crate::problem::{Answer, Problem};
 use rr_base::ClassId;
 use rr_space::Ref;
@@ -30,9 +31,9 @@ pub enum Frame {
     Body(NodeId),
     /// Statements: the number behind the last one, and how many are still to be evaluated.
     Rest(NodeId, u32),
-    /// Arguments of `puts`: the number behind the last one, how many are still to be evaluated, and where the values of
-    /// the others begin.
-    Argument(NodeId, u32, usize),
+    /// Values for a target: the number behind the last part, how many parts are still to be evaluated, and where the values
+    /// of the others begin.
+    Argument(Target, NodeId, u32, usize),
 }
 
 /// What comes next.

@@ -1,6 +1,7 @@
 //! The meaning of scripts: rules on trees, and the machine that meets them.
 #![tactic(auto)]
 
+mod call;
 mod counted;
 mod engine;
 mod environment;
@@ -17,13 +18,15 @@ mod problem;
 mod request;
 mod resume;
 mod run;
+mod serve;
 mod throw;
 mod value;
 
+pub use call::{Arguments, Call, Callee};
 pub use counted::Counted;
 pub use engine::Turn;
 pub use environment::{Ending, Environment, replies_hold, run_in};
 pub use machine::{Machine, exceptions_hold, rules_hold};
-pub use problem::{Answer, Problem, ValueClass};
+pub use problem::{Problem, Response};
 pub use request::Request;
 pub use run::{Outcome, run_source, run_source_within};

@@ -1,9 +1,9 @@
 //! The machine as its callers see it.
 
-ghost use Rattle.std.specs.Prelude.{◌≡◌, ◌<◌, ℕ, List, length, replicate, IfOk, IfErr, suc};
+ghost use Rattle.std.specs.Prelude.{◌≡◌, ◌<◌, ℕ, List, length, Option, replicate, IfOk, IfErr, suc};
 ghost use Rattle.rr_base.specs.declared.fault.Fault.{Fault};
 ghost use Rattle.rr_space.specs.declared.refer.Ref.{Ref};
-ghost use Rattle.rr_space.specs.Tables.{Table};
+ghost use Rattle.rr_space.specs.Tables.{Table, Below};
 ghost use Rattle.rr_tree.specs.declared.program.Program.{Program};
 ghost use Rattle.rr_tree.specs.Tree.{Tree, tree_at, listed};
 ghost use Rattle.rr_eval.specs.Acts.{Passes};
@@ -15,12 +15,12 @@ ghost use Rattle.rr_eval.specs.Thrown.{thrown, thrown_at, report};
 ghost use Rattle.rr_eval.specs.declared.problem.Problem.{Problem};
 ghost use Rattle.rr_eval.specs.declared.problem.Answer.{Answer};
 ghost use Rattle.rr_eval.specs.Changes.{Changes};
-ghost use Rattle.rr_eval.specs.Within.{AreWithin, IsAnswerWithin, IsTurnWithin};
+ghost use Rattle.rr_eval.specs.Within.{Reach, reach, AreReached, AreWithin, IsResponseReached, IsTurnReached, IsTurnWithin, KeepsReach, KeepsRead};
 ghost use Rattle.rr_eval.specs.Turns.{context_of, remaining, answered, Turned, Replied, Falls};
 
 use crate::engine::{Engine, Turn};
 use crate::frame::Control;
-use crate::problem::Answer;
+use crate::problem::Response;
 use rr_base::Fault;
 use rr_space::{Ref, Space};
 use rr_tree::Program;
@@ -62,10 +62,10 @@ fn unset(alloc: Global, count: usize) -> Result<Vec<Ref>, AllocError>
 
 impl Machine {
     /// A machine that has the whole program still to do, with `steps` steps to spend. The only fault is `Memory`.
-    #[tactic(auto, unfolding(crate::specs::Within::AreWithin))]
+    #[tactic(auto, unfolding(crate::specs::Within::AreReached))]
     pub fn new(alloc: Global, program: &Program, steps: u64) -> Result<Machine, Fault>
         ensures left { IfOk result (λ m. m.left ≡ steps) }
-        ensures within { IfOk result (λ m. (k : ℕ) → AreWithin k m) }
+        ensures within { IfOk result (λ m. (k : Reach) → AreReached k m) }
         ensures whole { IfOk result (λ m. (t : Table) (h : Course) → remaining program.now m t h ≡ meaning (context_of program.now) h.world (tree_at program.now.nodes.items program.now.root) (record { memory = record { vars = replicate (length program.now.symbols.items) Ref.Nil; table = t }; asked = h.asked }) steps) }
         ensures fault { IfErr result (λ f. f ≡ Fault.Memory) }
     {
@@ -90,6 +90,10 @@ impl Machine {
         requires within { AreWithin (length space.old.slots) self.old }
         ensures within { AreWithin (length space.new.slots) self.new }
         ensures ends_within { IfOk result (IsTurnWithin (length space.new.slots)) }
+        // With the clusters that the space and the machine lead to, which are the same afterwards.
+        ensures reach { KeepsReach self.old space.old self.new space.new }
+        ensures ends_reach { (clusters : Option Below) → AreReached (reach (length space.old.slots) clusters) self.old → IfOk result (IsTurnReached (reach (length space.new.slots) clusters)) }
+        ensures read { KeepsRead self.old space.old space.new }
         ensures turned { Turned program.now self.old space.old budget result self.new space.new }
         ensures falls { 0 < budget → Falls self.old result self.new }
         ensures limit { space.new.limit ≡ space.old.limit }
@@ -101,13 +105,12 @@ impl Machine {
 
     /// Goes on with what the environment replied to the request of the last turn. The environment may have changed the
     /// space before.
-    #[tactic(auto, unfolding(crate::specs::Within::AreWithin))]
-    pub fn answer(&mut self, answer: Answer)
-        ensures goes { self.new ≡ answered self.old answer }
-        ensures within { (k : ℕ) → AreWithin k self.old → IsAnswerWithin k answer → AreWithin k self.new }
-        ensures replied { (p : Program) → Replied p self.old answer }
+    pub fn answer(&mut self, response: Response)
+        ensures goes { self.new ≡ answered self.old response }
+        ensures within { (k : Reach) → AreReached k self.old → IsResponseReached k response → AreReached k self.new }
+        ensures replied { (p : Program) → Replied p self.old response }
     {
-        self.engine.control = Control::Give(answer);
+        self.engine.settle(response);
     }
 }
 

@@ -12,14 +12,15 @@ ghost use Rattle.rr_eval.specs.Script.{Go, objects_of};
 ghost use Rattle.rr_eval.specs.Requests.{Course, Adds};
 ghost use Rattle.rr_eval.specs.Changes.{Changes};
 ghost use Rattle.rr_eval.specs.Operators.{make};
-ghost use Rattle.rr_eval.specs.Rules.{rule, statements, values, on_table, put, is_puts, bare_rule, call_rule};
+ghost use Rattle.rr_eval.specs.Rules.{rule, statements, values, on_table, put, finish, is_puts, bare_rule, call_rule};
 ghost use Rattle.rr_tree.specs.Nodes.{trees_before};
 ghost use Rattle.rr_eval.specs.Nodes.{evaluated_tree, IsEvaluated, IsRareNode, is_unknown};
 ghost use Rattle.rr_eval.specs.Frames.{resumed, IsNew};
 ghost use Rattle.rr_eval.specs.Turns.{context_of, code_of, IsNested, after_script, remaining_with, continuing, Stands, size, sized};
 ghost use Rattle.rr_eval.specs.Views.{view_of};
-ghost use Rattle.rr_eval.specs.Within.{AreWithin, IsFrameWithin};
+ghost use Rattle.rr_eval.specs.Within.{Reach, AreReached, AreWithin, IsFrameReached, IsAskedReached, KeepsReach, KeepsRead};
 
+use crate::call::{Callee, Target};
 use crate::engine::{Engine, push_within};
 use crate::frame::{Control, Frame};
 use crate::operator::make;
@@ -58,7 +59,7 @@ impl Engine {
     }
 
     /// Puts a frame over a part that is evaluated next.
-    #[tactic(auto, unfolding(crate::specs::Within::AreWithin))]
+    #[tactic(auto, unfolding(crate::specs::Within::AreReached))]
     #[inline(always)]
     pub fn enter_above(&mut self, frame: Frame, part: NodeId)
         requires room { length self.old.frames.items < vec_capacity self.old.frames }
@@ -66,7 +67,7 @@ impl Engine {
         requires nested { IsNested (view_of self.old) }
         ensures goes { (p : Program) (t : Table) (h : Course) (n : ℕ) → after_script p (view_of self.old) t (Go (tree_at p.nodes.items part) (resumed (code_of p h.world) frame [])) h n ≡ remaining_with p (view_of self.new) t h n }
         ensures nested { IsNested (view_of self.new) }
-        ensures within { (k : ℕ) → AreWithin k (view_of self.old) → IsFrameWithin k frame → AreWithin k (view_of self.new) }
+        ensures within { (k : Reach) → AreReached k (view_of self.old) → IsFrameReached k frame → AreReached k (view_of self.new) }
         ensures left { self.new.left ≡ self.old.left }
         ensures size { size (view_of self.new) ≤ 3 * length self.old.frames.items + 4 }
     {
@@ -75,14 +76,14 @@ impl Engine {
     }
 
     /// Begins with the last `count` statements before `end`.
-    #[tactic(auto, unfolding(crate::specs::Within::AreWithin))]
+    #[tactic(auto, unfolding(crate::specs::Within::AreReached))]
     #[inline(always)]
     pub fn begin(&mut self, end: NodeId, count: u32)
         requires room { length self.old.frames.items < vec_capacity self.old.frames }
         requires nested { IsNested (view_of self.old) }
         ensures goes { (p : Program) (t : Table) (h : Course) (n : ℕ) → after_script p (view_of self.old) t (statements (trees_before p.nodes.items end count)) h n ≡ remaining_with p (view_of self.new) t h n }
         ensures nested { IsNested (view_of self.new) }
-        ensures within { (k : ℕ) → AreWithin k (view_of self.old) → AreWithin k (view_of self.new) }
+        ensures within { (k : Reach) → AreReached k (view_of self.old) → AreReached k (view_of self.new) }
         ensures left { self.new.left ≡ self.old.left }
         ensures size { size (view_of self.new) ≤ 3 * length self.old.frames.items + 4 }
     {
@@ -91,6 +92,22 @@ impl Engine {
             1 => self.control = Control::Enter(end.saturating_sub(1)),
             _ => self.enter_above(Frame::Rest(end, count - 1), end.saturating_sub(count)),
         }
+    }
+
+    /// Evaluates the receiver of a call, and then its arguments, the last `count` parts before `end`.
+    #[tactic(auto, unfolding(crate::specs::Within::AreReached))]
+    #[inline(always)]
+    fn open_send(&mut self, callee: Callee, receiver: NodeId, end: NodeId, count: u32)
+        requires room { length self.old.frames.items < vec_capacity self.old.frames }
+        requires nested { IsNested (view_of self.old) }
+        ensures goes { (p : Program) (t : Table) (h : Course) (n : ℕ) → after_script p (view_of self.old) t (values (tree_at p.nodes.items receiver ∷ trees_before p.nodes.items end count) [] (finish (context_of p) (Target.Call callee))) h n ≡ remaining_with p (view_of self.new) t h n }
+        ensures nested { IsNested (view_of self.new) }
+        ensures within { (k : Reach) → AreReached k (view_of self.old) → AreReached k (view_of self.new) }
+        ensures left { self.new.left ≡ self.old.left }
+        ensures size { size (view_of self.new) ≤ 3 * length self.old.frames.items + 4 }
+    {
+        let frame = Frame::Argument(Target::Call(callee), end, count, self.held.len());
+        self.enter_above(frame, receiver);
     }
 
     /// Evaluates a text literal: a new text.
@@ -105,8 +122,10 @@ impl Engine {
         requires within { AreWithin (length space.old.slots) (view_of self.old) }
         ensures goes { IfOk result (λ q. (h : Course) (n : ℕ) → after_script program.now (view_of self.old) space.old (on_table (context_of program.now) (make (slice_index_or (context_of program.now).texts i []))) h n ≡ continuing program.now (view_of self.new) space.new q h n) }
         ensures nested { IsNested (view_of self.new) }
-        ensures within { AreWithin (length space.new.slots) (view_of self.new) }
+        ensures within { KeepsReach (view_of self.old) space.old (view_of self.new) space.new }
+        ensures read { KeepsRead (view_of self.old) space.old space.new }
         ensures left { self.new.left ≡ self.old.left }
+        ensures asks { (k : Reach) → IfOk result (IsAskedReached k) }
         ensures err { IfErr result (λ f. Stands (view_of self.old) (view_of self.new) space.old space.new f) }
         ensures size { IfOk result (λ q. sized q (view_of self.new) ≤ 3 * length self.old.frames.items + 4) }
         ensures limit { space.new.limit ≡ space.old.limit }
@@ -124,14 +143,15 @@ impl Engine {
     }
 
     /// Prints a line end.
-    #[tactic(auto, unfolding(crate::specs::Within::AreWithin))]
+    #[tactic(auto, unfolding(crate::specs::Within::AreReached))]
     #[inline(never)]
     fn open_empty_puts(&mut self) -> Result<Option<Request>, Fault>
         requires nested { IsNested (view_of self.old) }
-        ensures goes { IfOk result (λ q. (p : Program) (t : Table) (h : Course) (n : ℕ) → after_script p (view_of self.old) t (put []) h n ≡ continuing p (view_of self.new) t q h n) }
+        ensures goes { IfOk result (λ q. (p : Program) (t : Table) (h : Course) (n : ℕ) → after_script p (view_of self.old) t (put (context_of p) []) h n ≡ continuing p (view_of self.new) t q h n) }
         ensures nested { IsNested (view_of self.new) }
-        ensures within { (k : ℕ) → AreWithin k (view_of self.old) → AreWithin k (view_of self.new) }
+        ensures within { (k : Reach) → AreReached k (view_of self.old) → AreReached k (view_of self.new) }
         ensures left { self.new.left ≡ self.old.left }
+        ensures asks { (k : Reach) → IfOk result (IsAskedReached k) }
         ensures err { (t : Table) → IfErr result (λ f. Stands (view_of self.old) (view_of self.new) t t f) }
         ensures size { IfOk result (λ q. sized q (view_of self.new) ≤ 3 * length self.old.frames.items + 4) }
         ensures fault { IfErr result (λ f. f ≡ Fault.Memory) }
@@ -144,10 +164,11 @@ impl Engine {
     fn open_puts(&mut self, first: NodeId, count: u32) -> Result<Option<Request>, Fault>
         requires small { first + count < 2 ^ 32 }
         requires nested { IsNested (view_of self.old) }
-        ensures goes { IfOk result (λ q. (p : Program) (t : Table) (h : Course) (n : ℕ) → after_script p (view_of self.old) t (values (trees_before p.nodes.items (first + count) count) [] put) h n ≡ continuing p (view_of self.new) t q h n) }
+        ensures goes { IfOk result (λ q. (p : Program) (t : Table) (h : Course) (n : ℕ) → after_script p (view_of self.old) t (values (trees_before p.nodes.items (first + count) count) [] (finish (context_of p) Target.Puts)) h n ≡ continuing p (view_of self.new) t q h n) }
         ensures nested { IsNested (view_of self.new) }
-        ensures within { (k : ℕ) → AreWithin k (view_of self.old) → AreWithin k (view_of self.new) }
+        ensures within { (k : Reach) → AreReached k (view_of self.old) → AreReached k (view_of self.new) }
         ensures left { self.new.left ≡ self.old.left }
+        ensures asks { (k : Reach) → IfOk result (IsAskedReached k) }
         ensures err { (t : Table) → IfErr result (λ f. Stands (view_of self.old) (view_of self.new) t t f) }
         ensures size { IfOk result (λ q. sized q (view_of self.new) ≤ 3 * length self.old.frames.items + 4) }
         ensures fault { IfErr result (λ f. f ≡ Fault.Memory) }
@@ -156,7 +177,12 @@ impl Engine {
             0 => self.open_empty_puts(),
             _ => {
                 self.frames.reserve(1)?;
-                let frame = Frame::Argument(first + count, count - 1, self.held.len());
+                let frame = Frame::Argument(
+                    Target::Puts,
+                    first + count,
+                    count - 1,
+                    self.held.len(),
+                );
                 self.enter_above(frame, first);
                 Ok(None)
             }
@@ -164,7 +190,7 @@ impl Engine {
     }
 
     /// Evaluates a call with arguments, of which only `puts` is served.
-    #[tactic(auto, unfolding(crate::specs::Within::AreWithin))]
+    #[tactic(auto, unfolding(crate::specs::Within::AreReached))]
     fn open_call(
         &mut self,
         program: &Program,
@@ -176,8 +202,9 @@ impl Engine {
         requires nested { IsNested (view_of self.old) }
         ensures goes { IfOk result (λ q. (t : Table) (h : Course) (n : ℕ) → after_script program.now (view_of self.old) t (call_rule (context_of program.now) (is_puts (context_of program.now) name.0) (trees_before program.now.nodes.items (first + count) count)) h n ≡ continuing program.now (view_of self.new) t q h n) }
         ensures nested { IsNested (view_of self.new) }
-        ensures within { (k : ℕ) → AreWithin k (view_of self.old) → AreWithin k (view_of self.new) }
+        ensures within { (k : Reach) → AreReached k (view_of self.old) → AreReached k (view_of self.new) }
         ensures left { self.new.left ≡ self.old.left }
+        ensures asks { (k : Reach) → IfOk result (IsAskedReached k) }
         ensures err { (t : Table) → IfErr result (λ f. Stands (view_of self.old) (view_of self.new) t t f) }
         ensures size { IfOk result (λ q. sized q (view_of self.new) ≤ 3 * length self.old.frames.items + 4) }
         ensures fault { IfErr result (λ f. f ≡ Fault.Memory) }
@@ -190,13 +217,14 @@ impl Engine {
     }
 
     /// Evaluates a bare name, which is `puts` or missing.
-    #[tactic(auto, unfolding(crate::specs::Within::AreWithin))]
+    #[tactic(auto, unfolding(crate::specs::Within::AreReached))]
     fn open_bare(&mut self, program: &Program, name: Sym) -> Result<Option<Request>, Fault>
         requires nested { IsNested (view_of self.old) }
         ensures goes { IfOk result (λ q. (t : Table) (h : Course) (n : ℕ) → after_script program.now (view_of self.old) t (bare_rule (context_of program.now) (is_puts (context_of program.now) name.0) name.0) h n ≡ continuing program.now (view_of self.new) t q h n) }
         ensures nested { IsNested (view_of self.new) }
-        ensures within { (k : ℕ) → AreWithin k (view_of self.old) → AreWithin k (view_of self.new) }
+        ensures within { (k : Reach) → AreReached k (view_of self.old) → AreReached k (view_of self.new) }
         ensures left { self.new.left ≡ self.old.left }
+        ensures asks { (k : Reach) → IfOk result (IsAskedReached k) }
         ensures err { (t : Table) → IfErr result (λ f. Stands (view_of self.old) (view_of self.new) t t f) }
         ensures size { IfOk result (λ q. sized q (view_of self.new) ≤ 3 * length self.old.frames.items + 4) }
         ensures fault { IfErr result (λ f. f ≡ Fault.Memory) }
@@ -209,13 +237,13 @@ impl Engine {
     }
 
     /// Does what a node does that is not evaluated yet.
-    #[tactic(auto, unfolding(crate::specs::Within::AreWithin))]
+    #[tactic(auto, unfolding(crate::specs::Within::AreReached))]
     fn open_unknown(&mut self, node: Node)
         requires unknown { is_unknown node ≡ true }
         requires nested { IsNested (view_of self.old) }
         ensures goes { (p : Program) (t : Table) (h : Course) (n : ℕ) → after_script p (view_of self.old) t (rule (context_of p) (evaluated_tree p.nodes.items node)) h n ≡ remaining_with p (view_of self.new) t h n }
         ensures nested { IsNested (view_of self.new) }
-        ensures within { (k : ℕ) → AreWithin k (view_of self.old) → AreWithin k (view_of self.new) }
+        ensures within { (k : Reach) → AreReached k (view_of self.old) → AreReached k (view_of self.new) }
         ensures left { self.new.left ≡ self.old.left }
         ensures size { size (view_of self.new) ≤ 3 * length self.old.frames.items + 4 }
     {
@@ -235,8 +263,10 @@ impl Engine {
         requires within { AreWithin (length space.old.slots) (view_of self.old) }
         ensures goes { IfOk result (λ q. (h : Course) (n : ℕ) → after_script program.now (view_of self.old) space.old (rule (context_of program.now) (evaluated_tree program.now.nodes.items node)) h n ≡ continuing program.now (view_of self.new) space.new q h n) }
         ensures nested { IsNested (view_of self.new) }
-        ensures within { AreWithin (length space.new.slots) (view_of self.new) }
+        ensures within { KeepsReach (view_of self.old) space.old (view_of self.new) space.new }
+        ensures read { KeepsRead (view_of self.old) space.old space.new }
         ensures left { self.new.left ≡ self.old.left }
+        ensures asks { (k : Reach) → IfOk result (IsAskedReached k) }
         ensures err { IfErr result (λ f. Stands (view_of self.old) (view_of self.new) space.old space.new f) }
         ensures size { IfOk result (λ q. sized q (view_of self.new) ≤ 3 * length self.old.frames.items + 4) }
         ensures limit { space.new.limit ≡ space.old.limit }
@@ -257,7 +287,7 @@ impl Engine {
     }
 
     /// Does what a node does first, unless that needs the objects or memory.
-    #[tactic(auto, unfolding(crate::specs::Within::AreWithin))]
+    #[tactic(auto, unfolding(crate::specs::Within::AreReached))]
     #[inline(always)]
     pub fn open(&mut self, program: &Program, here: NodeId, node: Node) -> bool
         requires tree { tree_at program.now.nodes.items here ≡ evaluated_tree program.now.nodes.items node }
@@ -266,7 +296,7 @@ impl Engine {
         requires nested { IsNested (view_of self.old) }
         ensures goes { IsTrue result → (t : Table) (h : Course) (n : ℕ) → after_script program.now (view_of self.old) t (rule (context_of program.now) (evaluated_tree program.now.nodes.items node)) h n ≡ remaining_with program.now (view_of self.new) t h n }
         ensures nested { IsNested (view_of self.new) }
-        ensures within { (k : ℕ) → AreWithin k (view_of self.old) → AreWithin k (view_of self.new) }
+        ensures within { (k : Reach) → AreReached k (view_of self.old) → AreReached k (view_of self.new) }
         ensures left { self.new.left ≡ self.old.left }
         ensures size { size (view_of self.new) ≤ 3 * length self.old.frames.items + 4 }
         ensures same { IsFalse result → self.new ≡ self.old }
@@ -274,6 +304,8 @@ impl Engine {
     {
         match node {
             Node::Nil => self.answer(Answer::Gave(Ref::Nil)),
+            Node::Symbol(symbol) => self.answer(Answer::Gave(Ref::Symbol(symbol))),
+            Node::Class(class) => self.answer(Answer::Gave(Ref::Class(class))),
             Node::Truth(truth) => self.answer(Answer::Gave(Ref::Truth(truth))),
             Node::Int(z) => self.answer(Answer::Gave(Ref::Int(z))),
             Node::Local { slot, .. } => self.answer(Answer::Gave(self.variable(slot))),
@@ -282,6 +314,15 @@ impl Engine {
             Node::Not(a) => self.enter_above(Frame::Not, a),
             Node::Negate(a) => self.enter_above(Frame::Negation, a),
             Node::Binary(op, a, b) => self.enter_above(Frame::Left(op, b), a),
+            Node::Send {
+                receiver,
+                name,
+                first,
+                count,
+                ..
+            } => self.open_send(Callee::Name(name), receiver, first + count, count),
+            Node::Index(a, b) => self.open_send(Callee::Index, a, b + 1, 1),
+            Node::Append(a, b) => self.open_send(Callee::Append, a, b + 1, 1),
             Node::Assign { slot, value, .. } => self.enter_above(Frame::Store(slot), value),
             Node::Choose(a, b, d) => self.enter_above(Frame::Branch(b, d), a),
             Node::Loop {

@@ -1,87 +1,89 @@
-//! The operators.
+//! The operators of integers, and new texts.
 
-ghost use Rattle.std.specs.Prelude.{◌≡◌, ◌+ℤ◌, ◌-ℤ◌, ◌*ℤ◌, neg_ℤ, pos, ℕ, ◌++◌, length, IfOk, IfErr};
+ghost use Rattle.std.specs.Prelude.{◌≡◌, ◌+ℤ◌, ◌-ℤ◌, ◌*ℤ◌, length, Option, IfOk, IfErr};
+ghost use Rattle.rr_space.specs.Tables.{Below};
+ghost use Rattle.rr_text.specs.Reads.{IsReadWith};
+ghost use Rattle.rr_builtin.specs.Acts.{with_text};
+ghost use Rattle.rr_builtin.specs.Integers.{given, quotient_of, remainder_of, order_of};
+ghost use Rattle.rr_builtin.specs.Numbers.{number_given};
 ghost use Rattle.rr_eval.specs.Acts.{Acts, IsRefusal, Passes};
 ghost use Rattle.rr_eval.specs.Changes.{Changes};
-ghost use Rattle.rr_eval.specs.Within.{IsWorkedWithin};
-ghost use Rattle.rr_space.specs.Views.{IsWithin};
-ghost use Rattle.rr_eval.specs.Values.{text_of};
-ghost use Rattle.rr_eval.specs.Operators.{number, order_of, on_integers, on_other, on_integer, with_text, make, on_object, operate, negated};
+ghost use Rattle.rr_eval.specs.Within.{Reach, reach, IsResponseReached};
+ghost use Rattle.rr_eval.specs.Operators.{settled_number, integers, opposite, make};
 
-use crate::problem::{Problem, ValueClass, Worked};
-use crate::value::{class_of, is_same, text_of};
+use crate::problem::{Problem, Response};
 use rr_base::Fault;
-use rr_builtin::{floor_div, floor_mod};
+use rr_builtin::{Problem as BuiltInProblem, floor_div, floor_mod};
 use rr_space::{Node, Ref, Space};
 use rr_tree::BinaryOperator;
-use std::alloc::{AllocError, Global};
 
 #[inline(always)]
-fn sum(x: i64, y: i64) -> Worked
-    ensures does { result ≡ number (x +ℤ y) }
-    ensures within { (k : ℕ) → IsWorkedWithin k result }
+fn sum(x: i64, y: i64) -> Response
+    ensures does { result ≡ settled_number (number_given (given (x +ℤ y))) }
+    ensures within { (k : Reach) → IsResponseReached k result }
 {
     match x.checked_add(y) {
-        Some(z) => Worked::Works(Ref::Int(z)),
-        None => Worked::Fails(Problem::OutOfRange),
+        Some(z) => Response::Gives(Ref::Int(z)),
+        None => Response::Fails(Problem::BuiltIn(BuiltInProblem::OutOfRange)),
     }
 }
 
 #[inline(always)]
-fn difference(x: i64, y: i64) -> Worked
-    ensures does { result ≡ number (x -ℤ y) }
-    ensures within { (k : ℕ) → IsWorkedWithin k result }
+fn difference(x: i64, y: i64) -> Response
+    ensures does { result ≡ settled_number (number_given (given (x -ℤ y))) }
+    ensures within { (k : Reach) → IsResponseReached k result }
 {
     match x.checked_sub(y) {
-        Some(z) => Worked::Works(Ref::Int(z)),
-        None => Worked::Fails(Problem::OutOfRange),
+        Some(z) => Response::Gives(Ref::Int(z)),
+        None => Response::Fails(Problem::BuiltIn(BuiltInProblem::OutOfRange)),
     }
 }
 
 #[inline(always)]
-fn product(x: i64, y: i64) -> Worked
-    ensures does { result ≡ number (x *ℤ y) }
-    ensures within { (k : ℕ) → IsWorkedWithin k result }
+fn product(x: i64, y: i64) -> Response
+    ensures does { result ≡ settled_number (number_given (given (x *ℤ y))) }
+    ensures within { (k : Reach) → IsResponseReached k result }
 {
     match x.checked_mul(y) {
-        Some(z) => Worked::Works(Ref::Int(z)),
-        None => Worked::Fails(Problem::OutOfRange),
+        Some(z) => Response::Gives(Ref::Int(z)),
+        None => Response::Fails(Problem::BuiltIn(BuiltInProblem::OutOfRange)),
     }
 }
 
-fn opposite(x: i64) -> Worked
-    ensures does { result ≡ number (neg_ℤ x) }
-    ensures within { (k : ℕ) → IsWorkedWithin k result }
+/// Unary minus.
+pub fn opposite(x: i64) -> Response
+    ensures does { result ≡ opposite x }
+    ensures within { (k : Reach) → IsResponseReached k result }
 {
     match x.checked_neg() {
-        Some(z) => Worked::Works(Ref::Int(z)),
-        None => Worked::Fails(Problem::OutOfRange),
+        Some(z) => Response::Gives(Ref::Int(z)),
+        None => Response::Fails(Problem::BuiltIn(BuiltInProblem::OutOfRange)),
     }
 }
 
 #[inline(always)]
-fn quotient(x: i64, y: i64) -> Worked
-    ensures does { result ≡ on_integers BinaryOperator.Divide x y }
-    ensures within { (k : ℕ) → IsWorkedWithin k result }
+fn quotient(x: i64, y: i64) -> Response
+    ensures does { result ≡ settled_number (number_given (quotient_of x y)) }
+    ensures within { (k : Reach) → IsResponseReached k result }
 {
     if y == 0 {
-        return Worked::Fails(Problem::DividedByZero);
+        return Response::Fails(Problem::BuiltIn(BuiltInProblem::DividedByZero));
     }
     match floor_div(x, y) {
-        Some(z) => Worked::Works(Ref::Int(z)),
-        None => Worked::Fails(Problem::OutOfRange),
+        Some(z) => Response::Gives(Ref::Int(z)),
+        None => Response::Fails(Problem::BuiltIn(BuiltInProblem::OutOfRange)),
     }
 }
 
 #[inline(always)]
-fn remainder(x: i64, y: i64) -> Worked
-    ensures does { result ≡ on_integers BinaryOperator.Remainder x y }
-    ensures within { (k : ℕ) → IsWorkedWithin k result }
+fn remainder(x: i64, y: i64) -> Response
+    ensures does { result ≡ settled_number (number_given (remainder_of x y)) }
+    ensures within { (k : Reach) → IsResponseReached k result }
 {
     if y == 0 {
-        return Worked::Fails(Problem::DividedByZero);
+        return Response::Fails(Problem::BuiltIn(BuiltInProblem::DividedByZero));
     }
-    Worked::Works(Ref::Int(floor_mod(x, y)))
+    Response::Gives(Ref::Int(floor_mod(x, y)))
 }
 
 #[inline(always)]
@@ -98,18 +100,18 @@ fn order_of(x: i64, y: i64) -> i64
 }
 
 #[inline(always)]
-fn truth(holds: bool) -> Worked
-    ensures does { result ≡ Worked.Works (Ref.Truth holds) }
-    ensures within { (k : ℕ) → IsWorkedWithin k result }
+fn truth(holds: bool) -> Response
+    ensures does { result ≡ Response.Gives (Ref.Truth holds) }
+    ensures within { (k : Reach) → IsResponseReached k result }
 {
-    Worked::Works(Ref::Truth(holds))
+    Response::Gives(Ref::Truth(holds))
 }
 
 /// An operator on two integers.
 #[inline(always)]
-pub fn on_integers(op: BinaryOperator, x: i64, y: i64) -> Worked
-    ensures does { result ≡ on_integers op x y }
-    ensures within { (k : ℕ) → IsWorkedWithin k result }
+pub fn on_integers(op: BinaryOperator, x: i64, y: i64) -> Response
+    ensures does { result ≡ integers op x y }
+    ensures within { (k : Reach) → IsResponseReached k result }
 {
     match op {
         BinaryOperator::Add => sum(x, y),
@@ -121,37 +123,9 @@ pub fn on_integers(op: BinaryOperator, x: i64, y: i64) -> Worked
         BinaryOperator::LessOrEqual => truth(x <= y),
         BinaryOperator::Greater => truth(x > y),
         BinaryOperator::GreaterOrEqual => truth(x >= y),
-        BinaryOperator::Compare => Worked::Works(Ref::Int(order_of(x, y))),
+        BinaryOperator::Compare => Response::Gives(Ref::Int(order_of(x, y))),
         BinaryOperator::Equal => truth(x == y),
         BinaryOperator::NotEqual => truth(x != y),
-    }
-}
-
-fn on_other(op: BinaryOperator, class: ValueClass) -> Worked
-    ensures does { result ≡ on_other op class }
-    ensures within { (k : ℕ) → IsWorkedWithin k result }
-{
-    match op {
-        BinaryOperator::Equal => truth(false),
-        BinaryOperator::NotEqual => truth(true),
-        BinaryOperator::Compare => Worked::Works(Ref::Nil),
-        BinaryOperator::Less
-        | BinaryOperator::LessOrEqual
-        | BinaryOperator::Greater
-        | BinaryOperator::GreaterOrEqual => {
-            Worked::Fails(Problem::Incomparable(ValueClass::Integer, class))
-        }
-        _ => Worked::Fails(Problem::WrongType(class)),
-    }
-}
-
-fn on_integer(space: &Space, op: BinaryOperator, x: i64, right: Ref) -> Worked
-    ensures does { result ≡ on_integer op x right space.now }
-    ensures within { (k : ℕ) → IsWorkedWithin k result }
-{
-    match right {
-        Ref::Int(y) => on_integers(op, x, y),
-        _ => on_other(op, class_of(space, right)),
     }
 }
 
@@ -159,6 +133,7 @@ fn on_integer(space: &Space, op: BinaryOperator, x: i64, right: Ref) -> Worked
 pub fn make_text(space: &mut Space, bytes: Vec<u8>) -> Result<Ref, Fault>
     ensures name { IfOk result (λ text. text ≡ Ref.Local (length space.old.slots)) }
     ensures made { IfOk result (λ _. space.new ≡ with_text bytes.items space.old) }
+    ensures read { (below : Below) → IsReadWith space.old below → IsReadWith space.new below }
     ensures kept { IfErr result (λ _. space.new ≡ space.old) }
     ensures refused { IfErr result IsRefusal }
     ensures limit { space.new.limit ≡ space.old.limit }
@@ -172,84 +147,16 @@ pub fn make_text(space: &mut Space, bytes: Vec<u8>) -> Result<Ref, Fault>
 }
 
 /// Makes a new text, as an operation.
-pub fn make(space: &mut Space, bytes: Vec<u8>) -> Result<Worked, Fault>
+pub fn make(space: &mut Space, bytes: Vec<u8>) -> Result<Response, Fault>
     ensures acts { Acts (make bytes.items) space.old space.new result }
-    ensures within { IfOk result (IsWorkedWithin (length space.new.slots)) }
+    ensures within { (below : Option Below) → IfOk result (IsResponseReached (reach (length space.new.slots) below)) }
+    ensures read { (below : Below) → IsReadWith space.old below → IsReadWith space.new below }
     ensures limit { space.new.limit ≡ space.old.limit }
     ensures changed { Changes space.old space.new }
     ensures full { IfErr result (λ f. Passes f space.old.limit (length (make bytes.items space.old).1.slots)) }
 {
     match make_text(space, bytes) {
-        Ok(text) => Ok(Worked::Works(text)),
+        Ok(text) => Ok(Response::Gives(text)),
         Err(fault) => Err(fault),
-    }
-}
-
-/// Both texts, the first before the second.
-fn joined(alloc: Global, first: &[u8], second: &[u8]) -> Result<Vec<u8>, AllocError>
-    ensures { IfOk result (λ text. text.items ≡ first.now ++ second.now) }
-{
-    let mut text = Vec::with_capacity(alloc, first.len().saturating_add(second.len()))?;
-    text.extend_from_slice(first)?;
-    text.extend_from_slice(second)?;
-    Ok(text)
-}
-
-#[tactic(auto, using(crate::proofs::Changing::changes_none))]
-fn on_object(
-    alloc: Global,
-    space: &mut Space,
-    op: BinaryOperator,
-    left: Ref,
-    right: Ref,
-) -> Result<Worked, Fault>
-    ensures acts { Acts (λ t. on_object op (text_of t left) left right t) space.old space.new result }
-    ensures within { IfOk result (IsWorkedWithin (length space.new.slots)) }
-    ensures limit { space.new.limit ≡ space.old.limit }
-    ensures changed { Changes space.old space.new }
-    ensures full { IfErr result (λ f. Passes f space.old.limit (length (on_object op (text_of space.old left) left right space.old).1.slots)) }
-{
-    match (op, text_of(space, left)) {
-        (BinaryOperator::Equal, _) => Ok(truth(is_same(space, left, right))),
-        (BinaryOperator::NotEqual, _) => Ok(truth(!is_same(space, left, right))),
-        (BinaryOperator::Add, Some(first)) => match text_of(space, right) {
-            Some(second) => {
-                let text = joined(alloc, first, second)?;
-                make(space, text)
-            }
-            None => Ok(Worked::Fails(Problem::WrongType(class_of(space, right)))),
-        },
-        _ => Ok(Worked::Fails(Problem::MissingOperator(op, class_of(space, left)))),
-    }
-}
-
-/// An operator on two values. A refused growth leaves the objects as they were.
-pub fn operate(
-    alloc: Global,
-    space: &mut Space,
-    op: BinaryOperator,
-    left: Ref,
-    right: Ref,
-) -> Result<Worked, Fault>
-    ensures acts { Acts (operate op left right) space.old space.new result }
-    ensures within { IfOk result (IsWorkedWithin (length space.new.slots)) }
-    ensures limit { space.new.limit ≡ space.old.limit }
-    ensures changed { Changes space.old space.new }
-    ensures full { IfErr result (λ f. Passes f space.old.limit (length (operate op left right space.old).1.slots)) }
-{
-    match left {
-        Ref::Int(x) => Ok(on_integer(space, op, x, right)),
-        _ => on_object(alloc, space, op, left, right),
-    }
-}
-
-/// Unary minus.
-pub fn negated(space: &Space, value: Ref) -> Worked
-    ensures does { (result, space.now) ≡ negated value space.now }
-    ensures within { (k : ℕ) → IsWorkedWithin k result }
-{
-    match value {
-        Ref::Int(x) => opposite(x),
-        _ => Worked::Fails(Problem::MissingMinus(class_of(space, value))),
     }
 }

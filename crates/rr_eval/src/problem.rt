@@ -1,35 +1,17 @@
 //! How an evaluation ends, and what an exception says.
 
+use crate::call::Callee;
 use rr_base::Sym;
+use rr_builtin::{Problem as BuiltInProblem, Receiver};
 use rr_space::Ref;
-use rr_tree::BinaryOperator;
-
-/// The class of a value, as far as messages name it.
-#[derive(Clone, Copy)]
-pub enum ValueClass {
-    Integer,
-    String,
-    Nil,
-    True,
-    False,
-    Object,
-}
 
 /// Why an evaluation raised an exception.
 #[derive(Clone, Copy)]
 pub enum Problem {
-    /// RangeError: the result is no integer of 64 bits.
-    OutOfRange,
-    /// ZeroDivisionError.
-    DividedByZero,
-    /// TypeError: an operand of this class does not go with the receiver.
-    WrongType(ValueClass),
-    /// ArgumentError: values of these classes have no order.
-    Incomparable(ValueClass, ValueClass),
-    /// NoMethodError: values of this class have no such operator.
-    MissingOperator(BinaryOperator, ValueClass),
-    /// NoMethodError: values of this class have no unary minus.
-    MissingMinus(ValueClass),
+    /// A built-in method raised it.
+    BuiltIn(BuiltInProblem),
+    /// NoMethodError: the receiver has no such method.
+    MissingMethod(Callee, Receiver),
     /// NameError: a bare name that is no variable.
     MissingName(Sym),
     /// RuntimeError: what is not evaluated yet.
@@ -44,9 +26,12 @@ pub enum Answer {
     Raised(Ref),
 }
 
-/// What an operation comes to: a value, or why it raises an exception, which is made then.
+/// What an operation or a request comes to.
 #[derive(Clone, Copy)]
-pub enum Worked {
-    Works(Ref),
+pub enum Response {
+    Gives(Ref),
+    /// An exception that was made.
+    Throws(Ref),
+    /// Why it raises an exception, which the machine makes then.
     Fails(Problem),
 }

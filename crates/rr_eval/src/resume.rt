@@ -7,28 +7,28 @@ ghost use Rattle.rr_tree.specs.declared.program.Program.{Program};
 ghost use Rattle.rr_eval.specs.declared.problem.Answer.{Answer};
 ghost use Rattle.rr_eval.specs.declared.frame.Control.{Control};
 ghost use Rattle.rr_eval.specs.declared.frame.Frame.{Frame};
-ghost use Rattle.rr_eval.specs.Acts.{IsRefusal, Passes};
-ghost use Rattle.rr_eval.specs.Operators.{operate};
-ghost use Rattle.rr_eval.specs.Rules.{on_table, put};
-ghost use Rattle.rr_eval.specs.Script.{objects_of};
-ghost use Rattle.rr_eval.specs.Requests.{Course, Adds};
-ghost use Rattle.rr_eval.specs.Changes.{Changes};
+ghost use Rattle.rr_eval.specs.Context.{Context};
+ghost use Rattle.rr_eval.specs.Rules.{operation, negation, finish, send_to};
+ghost use Rattle.rr_eval.specs.Requests.{Course, arguments_of};
 ghost use Rattle.rr_eval.specs.Frames.{resumed, runs_in, below_of, base_of, stand_of, unwind, Nested, IsRareFrame};
 ghost use Rattle.rr_eval.specs.Turns.{context_of, code_of, state_of, remaining, IsNested, after_script, after_answer, remaining_with, continuing, Stands, size, sized};
+ghost use Rattle.std.specs.List.{All};
 ghost use Rattle.rr_eval.specs.Views.{view_of};
-ghost use Rattle.rr_eval.specs.Within.{AreWithin, IsFrameWithin};
-ghost use Rattle.rr_space.specs.Views.{IsWithin};
+ghost use Rattle.rr_eval.specs.Within.{Reach, IsReached, IsFrameReached, IsCallReached, IsAskedReached, AreReached};
 
+use crate::call::{Arguments, Call, Callee, Target};
 use crate::engine::{Engine, push_within};
 use crate::frame::{Control, Frame};
-use crate::operator::{negated, on_integers, operate};
-use crate::print::piece_of;
+use crate::operator::{on_integers, opposite};
+use crate::print::{piece_of, standing};
 use crate::problem::Answer;
 use crate::request::Request;
-use crate::value::{goes_on, is_truthy};
+use crate::value::goes_on;
 use rr_base::Fault;
+use rr_builtin::is_truthy;
 use rr_space::{Ref, Space};
 use rr_tree::{BinaryOperator, NodeId, Program};
+use std::alloc::{AllocError, Global};
 
 /// Puts a value in the place of another, where there is one.
 #[inline(always)]
@@ -46,7 +46,7 @@ fn clear(held: &mut Vec<Ref>, frame: Frame)
     ensures { held.new.items ≡ below_of frame held.old.items }
 {
     match frame {
-        Frame::Argument(_, _, base) => held.truncate(base),
+        Frame::Argument(_, _, _, base) => held.truncate(base),
         _ => (),
     }
 }
@@ -57,6 +57,43 @@ fn set_variable(vars: &mut Vec<Ref>, slot: u32, value: Ref)
     ensures { vars.new.items ≡ slice_set vars.old.items slot value }
 {
     set_at(vars, slot as usize, value);
+}
+
+/// These values and one more, as the arguments of a call.
+fn arguments_of(alloc: Global, values: &[Ref], last: Ref) -> Result<Arguments, AllocError>
+    ensures are { IfOk result (λ arguments. arguments_of arguments ≡ values.now ++ last ∷ []) }
+{
+    match values {
+        [] => Ok(Arguments::One(last)),
+        [first] => Ok(Arguments::Two(*first, last)),
+        _ => {
+            let mut all = Vec::from_slice(alloc, values)?;
+            all.push(last)?;
+            Ok(Arguments::Many(all))
+        }
+    }
+}
+
+/// A call of the first of these values and of one more, with the others as its arguments.
+fn call_of(alloc: Global, stand: &[Ref], callee: Callee, last: Ref) -> Result<Call, AllocError>
+    ensures call { IfOk result (λ call. (c : Context) → finish c (Target.Call callee) (stand.now ++ last ∷ []) ≡ send_to c call.callee call.receiver (arguments_of call.arguments)) }
+    ensures within { (k : Reach) → All (IsReached k) stand.now → IsReached k last → IfOk result (IsCallReached k) }
+{
+    match stand {
+        [] => Ok(Call {
+            receiver: last,
+            callee,
+            arguments: Arguments::Without,
+        }),
+        [receiver, others @ ..] => {
+            let arguments = arguments_of(alloc, others, last)?;
+            Ok(Call {
+                receiver: *receiver,
+                callee,
+                arguments,
+            })
+        }
+    }
 }
 
 impl Engine {
@@ -75,7 +112,7 @@ impl Engine {
         requires within { stop ≤ self.old.left }
         ensures goes { IsTrue result → (t : Table) (h : Course) → after_answer program.now (view_of self.old) t (Frame.Left op b) (Answer.Gave left) h self.old.left ≡ remaining program.now (view_of self.new) t h }
         ensures nested { IsNested (view_of self.new) }
-        ensures within { (k : ℕ) → AreWithin k (view_of self.old) → AreWithin k (view_of self.new) }
+        ensures within { (k : Reach) → AreReached k (view_of self.old) → AreReached k (view_of self.new) }
         ensures left { stop ≤ self.new.left }
         ensures kept { self.new.left ≤ self.old.left }
         ensures size { IsTrue result → size (view_of self.new) ≤ 3 * length self.old.frames.items + 4 }
@@ -96,9 +133,9 @@ impl Engine {
     #[inline(always)]
     fn operate_integers(&mut self, op: BinaryOperator, left: Ref, right: Ref) -> bool
         requires nested { IsNested (view_of self.old) }
-        ensures goes { IsTrue result → (p : Program) (t : Table) (h : Course) (n : ℕ) → after_script p (view_of self.old) t (on_table (context_of p) (operate op left right)) h n ≡ remaining_with p (view_of self.new) t h n }
+        ensures goes { IsTrue result → (p : Program) (t : Table) (h : Course) (n : ℕ) → after_script p (view_of self.old) t (operation (context_of p) op left right) h n ≡ remaining_with p (view_of self.new) t h n }
         ensures nested { IsNested (view_of self.new) }
-        ensures within { (k : ℕ) → AreWithin k (view_of self.old) → AreWithin k (view_of self.new) }
+        ensures within { (k : Reach) → AreReached k (view_of self.old) → AreReached k (view_of self.new) }
         ensures left { self.new.left ≡ self.old.left }
         ensures size { IsTrue result → size (view_of self.new) ≤ 3 * length self.old.frames.items + 4 }
         ensures same { IsFalse result → self.new ≡ self.old }
@@ -113,14 +150,14 @@ impl Engine {
     }
 
     /// Goes on with the body of a loop, or behind the loop, by the value of its condition.
-    #[tactic(auto, unfolding(crate::specs::Within::AreWithin))]
+    #[tactic(auto, unfolding(crate::specs::Within::AreReached))]
     #[inline(always)]
     fn go_round(&mut self, until: bool, body: NodeId, place: NodeId, condition: Ref)
         requires room { length self.old.frames.items < vec_capacity self.old.frames }
         requires nested { IsNested (view_of self.old) }
         ensures goes { (p : Program) (t : Table) (h : Course) (n : ℕ) → after_script p (view_of self.old) t (resumed (code_of p h.world) (Frame.Condition until body place) [] (Answer.Gave condition)) h n ≡ remaining_with p (view_of self.new) t h n }
         ensures nested { IsNested (view_of self.new) }
-        ensures within { (k : ℕ) → AreWithin k (view_of self.old) → AreWithin k (view_of self.new) }
+        ensures within { (k : Reach) → AreReached k (view_of self.old) → AreReached k (view_of self.new) }
         ensures left { self.new.left ≡ self.old.left }
         ensures size { size (view_of self.new) ≤ 3 * length self.old.frames.items + 4 }
     {
@@ -132,7 +169,7 @@ impl Engine {
     }
 
     /// Does what a frame, which is taken off the stack, does with a value, unless that needs the objects or memory.
-    #[tactic(auto, unfolding(crate::specs::Within::AreWithin))]
+    #[tactic(auto, unfolding(crate::specs::Within::AreReached))]
     #[inline(always)]
     pub fn resume(&mut self, program: &Program, frame: Frame, value: Ref, stop: u64) -> bool
         requires room { length self.old.frames.items < vec_capacity self.old.frames }
@@ -141,7 +178,7 @@ impl Engine {
         requires within { stop ≤ self.old.left }
         ensures goes { IsTrue result → (t : Table) (h : Course) → after_answer program.now (view_of self.old) t frame (Answer.Gave value) h self.old.left ≡ remaining program.now (view_of self.new) t h }
         ensures nested { IsTrue result → IsNested (view_of self.new) }
-        ensures within { (k : ℕ) → AreWithin k (view_of self.old) → IsFrameWithin k frame → IsWithin k value → AreWithin k (view_of self.new) }
+        ensures within { (k : Reach) → AreReached k (view_of self.old) → IsFrameReached k frame → IsReached k value → AreReached k (view_of self.new) }
         ensures left { stop ≤ self.new.left }
         ensures kept { self.new.left ≤ self.old.left }
         ensures size { IsTrue result → size (view_of self.new) ≤ 3 * length self.old.frames.items + 4 }
@@ -197,45 +234,61 @@ impl Engine {
                 self.begin(end, count);
                 true
             }
-            Frame::Negation | Frame::Argument(_, _, _) => false,
+            Frame::Negation | Frame::Argument(_, _, _, _) => false,
         }
     }
 
-    /// Does what an operator does with two values.
-    fn operate(
-        &mut self,
-        space: &mut Space,
-        op: BinaryOperator,
-        left: Ref,
-        right: Ref,
-    ) -> Result<Option<Request>, Fault>
+    /// Does what an operator does with two values: with integers here, and with others as a call.
+    fn operate(&mut self, op: BinaryOperator, left: Ref, right: Ref) -> Option<Request>
         requires nested { IsNested (view_of self.old) }
-        requires room { length self.old.frames.items < vec_capacity self.old.frames }
-        requires within { AreWithin (length space.old.slots) (view_of self.old) }
-        ensures goes { IfOk result (λ q. (p : Program) (h : Course) (n : ℕ) → after_script p (view_of self.old) space.old (on_table (context_of p) (operate op left right)) h n ≡ continuing p (view_of self.new) space.new q h n) }
+        ensures goes { (p : Program) (t : Table) (h : Course) (n : ℕ) → after_script p (view_of self.old) t (operation (context_of p) op left right) h n ≡ continuing p (view_of self.new) t result h n }
         ensures nested { IsNested (view_of self.new) }
-        ensures within { AreWithin (length space.new.slots) (view_of self.new) }
+        ensures within { (k : Reach) → AreReached k (view_of self.old) → AreReached k (view_of self.new) }
+        ensures asks { (k : Reach) → IsReached k left → IsReached k right → IsAskedReached k result }
         ensures left { self.new.left ≡ self.old.left }
-        ensures err { IfErr result (λ f. Stands (view_of self.old) (view_of self.new) space.old space.new f) }
-        ensures size { IfOk result (λ q. sized q (view_of self.new) ≤ 3 * length self.old.frames.items + 4) }
-        ensures room { IfErr result (λ _. length self.new.frames.items < vec_capacity self.new.frames) }
-        ensures limit { space.new.limit ≡ space.old.limit }
-        ensures changed { Changes space.old space.new }
-        ensures full { IfErr result (λ f. (p : Program) (h : Course) (n : ℕ) → Adds h.world → Passes f space.old.limit (objects_of (after_script p (view_of self.old) space.old (on_table (context_of p) (operate op left right)) h n))) }
+        ensures size { sized result (view_of self.new) ≤ 3 * length self.old.frames.items + 4 }
     {
-        match operate(self.alloc, space, op, left, right) {
-            Ok(what) => {
-                self.settle(what);
-                Ok(None)
+        match (left, right) {
+            (Ref::Int(x), Ref::Int(y)) => {
+                self.settle(on_integers(op, x, y));
+                None
             }
-            Err(fault) => Err(fault),
+            _ => Some(Request::Call(Call {
+                receiver: left,
+                callee: Callee::Operator(op),
+                arguments: Arguments::One(right),
+            })),
+        }
+    }
+
+    /// Does what unary minus does with a value.
+    fn negate(&mut self, value: Ref) -> Option<Request>
+        requires nested { IsNested (view_of self.old) }
+        ensures goes { (p : Program) (t : Table) (h : Course) (n : ℕ) → after_script p (view_of self.old) t (negation (context_of p) value) h n ≡ continuing p (view_of self.new) t result h n }
+        ensures nested { IsNested (view_of self.new) }
+        ensures within { (k : Reach) → AreReached k (view_of self.old) → AreReached k (view_of self.new) }
+        ensures asks { (k : Reach) → IsReached k value → IsAskedReached k result }
+        ensures left { self.new.left ≡ self.old.left }
+        ensures size { sized result (view_of self.new) ≤ 3 * length self.old.frames.items + 4 }
+    {
+        match value {
+            Ref::Int(x) => {
+                self.settle(opposite(x));
+                None
+            }
+            _ => Some(Request::Call(Call {
+                receiver: value,
+                callee: Callee::Opposite,
+                arguments: Arguments::Without,
+            })),
         }
     }
 
     /// Keeps the value of an argument and evaluates the next one.
-    #[tactic(auto, unfolding(crate::specs::Within::AreWithin))]
+    #[tactic(auto, unfolding(crate::specs::Within::AreReached))]
     fn keep(
         &mut self,
+        target: Target,
         end: NodeId,
         count: u32,
         base: usize,
@@ -245,9 +298,10 @@ impl Engine {
         requires some { 0 < count }
         requires base { base ≤ length self.old.held.items }
         requires nested { Nested (reverse self.old.frames.items) (take base self.old.held.items) }
-        ensures goes { IfOk result (λ q. (p : Program) (t : Table) (h : Course) (n : ℕ) → after_answer p (view_of self.old) t (Frame.Argument end count base) (Answer.Gave value) h n ≡ continuing p (view_of self.new) t q h n) }
+        ensures goes { IfOk result (λ q. (p : Program) (t : Table) (h : Course) (n : ℕ) → after_answer p (view_of self.old) t (Frame.Argument target end count base) (Answer.Gave value) h n ≡ continuing p (view_of self.new) t q h n) }
         ensures nested { OnOk result (IsNested (view_of self.new)) }
-        ensures within { (k : ℕ) → AreWithin k (view_of self.old) → IsWithin k value → AreWithin k (view_of self.new) }
+        ensures within { (k : Reach) → AreReached k (view_of self.old) → IsReached k value → AreReached k (view_of self.new) }
+        ensures asks { (k : Reach) → IfOk result (IsAskedReached k) }
         ensures left { self.new.left ≡ self.old.left }
         ensures err { (t : Table) → IfErr result (λ f. Stands (view_of self.old) (view_of self.new) t t f) }
         ensures size { IfOk result (λ q. sized q (view_of self.new) ≤ 3 * length self.old.frames.items + 4) }
@@ -255,35 +309,96 @@ impl Engine {
         ensures fault { IfErr result (λ f. f ≡ Fault.Memory) }
     {
         self.held.push(value)?;
-        push_within(&mut self.frames, Frame::Argument(end, count - 1, base));
+        push_within(
+            &mut self.frames,
+            Frame::Argument(target, end, count - 1, base),
+        );
         self.control = Control::Enter(end.saturating_sub(count));
         Ok(None)
     }
 
     /// Prints the values that stand for a frame, and one more.
-    #[tactic(auto, unfolding(crate::specs::Within::AreWithin))]
-    fn print(&mut self, space: &Space, frame: Frame, value: Ref) -> Result<Option<Request>, Fault>
+    #[tactic(auto, unfolding(crate::specs::Within::AreReached))]
+    fn print(
+        &mut self,
+        program: &Program,
+        space: &Space,
+        frame: Frame,
+        value: Ref,
+    ) -> Result<Option<Request>, Fault>
         requires room { length self.old.frames.items < vec_capacity self.old.frames }
         requires base { base_of frame ≤ length self.old.held.items }
         requires nested { Nested (reverse self.old.frames.items) (below_of frame self.old.held.items) }
-        ensures goes { IfOk result (λ q. (p : Program) (h : Course) (n : ℕ) → unwind (code_of p h.world) (reverse self.old.frames.items) (below_of frame self.old.held.items) (runs_in (code_of p h.world) (put (stand_of frame self.old.held.items ++ value ∷ [])) (state_of (view_of self.old) space.now h) n) ≡ continuing p (view_of self.new) space.now q h n) }
+        ensures goes { IfOk result (λ q. (h : Course) (n : ℕ) → unwind (code_of program.now h.world) (reverse self.old.frames.items) (below_of frame self.old.held.items) (runs_in (code_of program.now h.world) (finish (context_of program.now) Target.Puts (stand_of frame self.old.held.items ++ value ∷ [])) (state_of (view_of self.old) space.now h) n) ≡ continuing program.now (view_of self.new) space.now q h n) }
         ensures nested { OnOk result (IsNested (view_of self.new)) }
-        ensures within { (k : ℕ) → AreWithin k (view_of self.old) → AreWithin k (view_of self.new) }
+        ensures within { (k : Reach) → AreReached k (view_of self.old) → AreReached k (view_of self.new) }
+        ensures asks { (k : Reach) → AreReached k (view_of self.old) → IfOk result (IsAskedReached k) }
         ensures left { self.new.left ≡ self.old.left }
         ensures err { (t : Table) → IfErr result (λ f. Stands (view_of self.old) (view_of self.new) t t f) }
         ensures size { IfOk result (λ q. sized q (view_of self.new) ≤ 3 * length self.old.frames.items + 4) }
         ensures room { IfErr result (λ _. length self.new.frames.items < vec_capacity self.new.frames) }
         ensures fault { IfErr result (λ f. f ≡ Fault.Memory) }
     {
-        let piece = piece_of(self.alloc, space, &self.held, frame, value)?;
+        let piece = piece_of(self.alloc, program, space, &self.held, frame, value)?;
         clear(&mut self.held, frame);
         Ok(Some(Request::Print(piece)))
     }
 
-    /// Goes on with the arguments of `puts`.
-    fn resume_puts(
+    /// Calls a method of the first of the values that stand for a frame and of one more, with the others.
+    #[tactic(auto, unfolding(crate::specs::Within::AreReached))]
+    fn send(&mut self, callee: Callee, frame: Frame, value: Ref) -> Result<Option<Request>, Fault>
+        requires room { length self.old.frames.items < vec_capacity self.old.frames }
+        requires base { base_of frame ≤ length self.old.held.items }
+        requires nested { Nested (reverse self.old.frames.items) (below_of frame self.old.held.items) }
+        ensures goes { IfOk result (λ q. (p : Program) (t : Table) (h : Course) (n : ℕ) → unwind (code_of p h.world) (reverse self.old.frames.items) (below_of frame self.old.held.items) (runs_in (code_of p h.world) (finish (context_of p) (Target.Call callee) (stand_of frame self.old.held.items ++ value ∷ [])) (state_of (view_of self.old) t h) n) ≡ continuing p (view_of self.new) t q h n) }
+        ensures nested { OnOk result (IsNested (view_of self.new)) }
+        ensures within { (k : Reach) → AreReached k (view_of self.old) → AreReached k (view_of self.new) }
+        ensures asks { (k : Reach) → AreReached k (view_of self.old) → IsReached k value → IfOk result (IsAskedReached k) }
+        ensures left { self.new.left ≡ self.old.left }
+        ensures err { (t : Table) → IfErr result (λ f. Stands (view_of self.old) (view_of self.new) t t f) }
+        ensures size { IfOk result (λ q. sized q (view_of self.new) ≤ 3 * length self.old.frames.items + 4) }
+        ensures room { IfErr result (λ _. length self.new.frames.items < vec_capacity self.new.frames) }
+        ensures fault { IfErr result (λ f. f ≡ Fault.Memory) }
+    {
+        let call = call_of(self.alloc, standing(&self.held, frame), callee, value)?;
+        clear(&mut self.held, frame);
+        Ok(Some(Request::Call(call)))
+    }
+
+    /// Does what is done with the values that stand for a frame and with one more.
+    fn finish(
         &mut self,
+        program: &Program,
         space: &Space,
+        target: Target,
+        frame: Frame,
+        value: Ref,
+    ) -> Result<Option<Request>, Fault>
+        requires room { length self.old.frames.items < vec_capacity self.old.frames }
+        requires base { base_of frame ≤ length self.old.held.items }
+        requires nested { Nested (reverse self.old.frames.items) (below_of frame self.old.held.items) }
+        ensures goes { IfOk result (λ q. (h : Course) (n : ℕ) → unwind (code_of program.now h.world) (reverse self.old.frames.items) (below_of frame self.old.held.items) (runs_in (code_of program.now h.world) (finish (context_of program.now) target (stand_of frame self.old.held.items ++ value ∷ [])) (state_of (view_of self.old) space.now h) n) ≡ continuing program.now (view_of self.new) space.now q h n) }
+        ensures nested { OnOk result (IsNested (view_of self.new)) }
+        ensures within { (k : Reach) → AreReached k (view_of self.old) → AreReached k (view_of self.new) }
+        ensures asks { (k : Reach) → AreReached k (view_of self.old) → IsReached k value → IfOk result (IsAskedReached k) }
+        ensures left { self.new.left ≡ self.old.left }
+        ensures err { (t : Table) → IfErr result (λ f. Stands (view_of self.old) (view_of self.new) t t f) }
+        ensures size { IfOk result (λ q. sized q (view_of self.new) ≤ 3 * length self.old.frames.items + 4) }
+        ensures room { IfErr result (λ _. length self.new.frames.items < vec_capacity self.new.frames) }
+        ensures fault { IfErr result (λ f. f ≡ Fault.Memory) }
+    {
+        match target {
+            Target::Puts => self.print(program, space, frame, value),
+            Target::Call(callee) => self.send(callee, frame, value),
+        }
+    }
+
+    /// Goes on with the values for a target.
+    fn resume_values(
+        &mut self,
+        program: &Program,
+        space: &Space,
+        target: Target,
         end: NodeId,
         count: u32,
         base: usize,
@@ -292,9 +407,10 @@ impl Engine {
         requires room { length self.old.frames.items < vec_capacity self.old.frames }
         requires base { base ≤ length self.old.held.items }
         requires nested { Nested (reverse self.old.frames.items) (take base self.old.held.items) }
-        ensures goes { IfOk result (λ q. (p : Program) (h : Course) (n : ℕ) → after_answer p (view_of self.old) space.now (Frame.Argument end count base) (Answer.Gave value) h n ≡ continuing p (view_of self.new) space.now q h n) }
+        ensures goes { IfOk result (λ q. (h : Course) (n : ℕ) → after_answer program.now (view_of self.old) space.now (Frame.Argument target end count base) (Answer.Gave value) h n ≡ continuing program.now (view_of self.new) space.now q h n) }
         ensures nested { OnOk result (IsNested (view_of self.new)) }
-        ensures within { (k : ℕ) → AreWithin k (view_of self.old) → IsWithin k value → AreWithin k (view_of self.new) }
+        ensures within { (k : Reach) → AreReached k (view_of self.old) → IsReached k value → AreReached k (view_of self.new) }
+        ensures asks { (k : Reach) → AreReached k (view_of self.old) → IsReached k value → IfOk result (IsAskedReached k) }
         ensures left { self.new.left ≡ self.old.left }
         ensures err { (t : Table) → IfErr result (λ f. Stands (view_of self.old) (view_of self.new) t t f) }
         ensures size { IfOk result (λ q. sized q (view_of self.new) ≤ 3 * length self.old.frames.items + 4) }
@@ -302,15 +418,22 @@ impl Engine {
         ensures fault { IfErr result (λ f. f ≡ Fault.Memory) }
     {
         match count {
-            0 => self.print(space, Frame::Argument(end, 0, base), value),
-            _ => self.keep(end, count, base, value),
+            0 => self.finish(
+                program,
+                space,
+                target,
+                Frame::Argument(target, end, 0, base),
+                value,
+            ),
+            _ => self.keep(target, end, count, base, value),
         }
     }
 
     /// Does what a frame does with a value, where that needs the objects or memory.
     fn resume_value(
         &mut self,
-        space: &mut Space,
+        program: &Program,
+        space: &Space,
         frame: Frame,
         value: Ref,
     ) -> Result<Option<Request>, Fault>
@@ -318,38 +441,34 @@ impl Engine {
         requires base { base_of frame ≤ length self.old.held.items }
         requires nested { Nested (reverse self.old.frames.items) (below_of frame self.old.held.items) }
         requires rare { IsRareFrame frame }
-        requires within { AreWithin (length space.old.slots) (view_of self.old) }
-        requires held { IsFrameWithin (length space.old.slots) frame }
-        requires value { IsWithin (length space.old.slots) value }
-        ensures goes { IfOk result (λ q. (p : Program) (h : Course) (n : ℕ) → after_answer p (view_of self.old) space.old frame (Answer.Gave value) h n ≡ continuing p (view_of self.new) space.new q h n) }
+        ensures goes { IfOk result (λ q. (h : Course) (n : ℕ) → after_answer program.now (view_of self.old) space.now frame (Answer.Gave value) h n ≡ continuing program.now (view_of self.new) space.now q h n) }
         ensures nested { OnOk result (IsNested (view_of self.new)) }
-        ensures within { AreWithin (length space.new.slots) (view_of self.new) }
+        ensures within { (k : Reach) → AreReached k (view_of self.old) → IsFrameReached k frame → IsReached k value → AreReached k (view_of self.new) }
+        ensures asks { (k : Reach) → AreReached k (view_of self.old) → IsFrameReached k frame → IsReached k value → IfOk result (IsAskedReached k) }
         ensures left { self.new.left ≡ self.old.left }
-        ensures err { IfErr result (λ f. Stands (view_of self.old) (view_of self.new) space.old space.new f) }
+        ensures err { IfErr result (λ f. Stands (view_of self.old) (view_of self.new) space.now space.now f) }
         ensures size { IfOk result (λ q. sized q (view_of self.new) ≤ 3 * length self.old.frames.items + 4) }
         ensures room { IfErr result (λ _. length self.new.frames.items < vec_capacity self.new.frames) }
-        ensures limit { space.new.limit ≡ space.old.limit }
-        ensures changed { Changes space.old space.new }
-        ensures full { IfErr result (λ f. (p : Program) (h : Course) (n : ℕ) → Adds h.world → Passes f space.old.limit (objects_of (after_answer p (view_of self.old) space.old frame (Answer.Gave value) h n))) }
+        ensures fault { IfErr result (λ f. f ≡ Fault.Memory) }
     {
         match frame {
-            Frame::Negation => {
-                self.settle(negated(space, value));
-                Ok(None)
+            Frame::Negation => Ok(self.negate(value)),
+            Frame::Right(op, left) => Ok(self.operate(op, left, value)),
+            Frame::Argument(target, end, count, base) => {
+                self.resume_values(program, space, target, end, count, base, value)
             }
-            Frame::Right(op, left) => self.operate(space, op, left, value),
-            Frame::Argument(end, count, base) => self.resume_puts(space, end, count, base, value),
             _ => unreachable!(),
         }
     }
 
     /// Does what a frame, which is taken off the stack, does with a value, where that needs the objects or memory. A
     /// refused growth puts the frame back.
-    #[tactic(auto, unfolding(crate::specs::Within::AreWithin))]
+    #[tactic(auto, unfolding(crate::specs::Within::AreReached))]
     #[inline(never)]
     pub fn resume_rare(
         &mut self,
-        space: &mut Space,
+        program: &Program,
+        space: &Space,
         frame: Frame,
         value: Ref,
     ) -> Result<Option<Request>, Fault>
@@ -358,21 +477,16 @@ impl Engine {
         requires base { base_of frame ≤ length self.old.held.items }
         requires nested { Nested (reverse self.old.frames.items) (below_of frame self.old.held.items) }
         requires rare { IsRareFrame frame }
-        requires within { AreWithin (length space.old.slots) (view_of self.old) }
-        requires held { IsFrameWithin (length space.old.slots) frame }
-        requires value { IsWithin (length space.old.slots) value }
-        ensures goes { IfOk result (λ q. (p : Program) (h : Course) → after_answer p (view_of self.old) space.old frame (Answer.Gave value) h self.old.left ≡ continuing p (view_of self.new) space.new q h self.new.left) }
+        ensures goes { IfOk result (λ q. (h : Course) → after_answer program.now (view_of self.old) space.now frame (Answer.Gave value) h self.old.left ≡ continuing program.now (view_of self.new) space.now q h self.new.left) }
         ensures nested { IsNested (view_of self.new) }
-        ensures within { AreWithin (length space.new.slots) (view_of self.new) }
+        ensures within { (k : Reach) → AreReached k (view_of self.old) → IsFrameReached k frame → IsReached k value → AreReached k (view_of self.new) }
+        ensures asks { (k : Reach) → AreReached k (view_of self.old) → IsFrameReached k frame → IsReached k value → IfOk result (IsAskedReached k) }
         ensures left { self.new.left ≡ self.old.left }
         ensures size { IfOk result (λ q. sized q (view_of self.new) ≤ 3 * length self.old.frames.items + 4) }
-        ensures fault { IfErr result IsRefusal }
-        ensures back { IfErr result (λ _. (p : Program) (h : Course) → after_answer p (view_of self.old) space.old frame (Answer.Gave value) h self.old.left ≡ remaining p (view_of self.new) space.new h) }
-        ensures limit { space.new.limit ≡ space.old.limit }
-        ensures changed { Changes space.old space.new }
-        ensures full { IfErr result (λ f. (p : Program) (h : Course) → Adds h.world → Passes f space.old.limit (objects_of (after_answer p (view_of self.old) space.old frame (Answer.Gave value) h self.old.left))) }
+        ensures fault { IfErr result (λ f. f ≡ Fault.Memory) }
+        ensures back { IfErr result (λ _. (h : Course) → after_answer program.now (view_of self.old) space.now frame (Answer.Gave value) h self.old.left ≡ remaining program.now (view_of self.new) space.now h) }
     {
-        match self.resume_value(space, frame, value) {
+        match self.resume_value(program, space, frame, value) {
             Ok(request) => Ok(request),
             Err(fault) => {
                 push_within(&mut self.frames, frame);
@@ -382,7 +496,7 @@ impl Engine {
     }
 
     /// Passes an exception through a frame, which is taken off the stack.
-    #[tactic(auto, unfolding(crate::specs::Within::AreWithin))]
+    #[tactic(auto, unfolding(crate::specs::Within::AreReached))]
     #[inline(never)]
     pub fn pass(&mut self, frame: Frame, exception: Ref)
         requires control { self.old.control ≡ Control.Give (Answer.Raised exception) }
@@ -390,7 +504,7 @@ impl Engine {
         requires nested { Nested (reverse self.old.frames.items) (below_of frame self.old.held.items) }
         ensures goes { (p : Program) (t : Table) (h : Course) → after_answer p (view_of self.old) t frame (Answer.Raised exception) h self.old.left ≡ remaining p (view_of self.new) t h }
         ensures nested { IsNested (view_of self.new) }
-        ensures within { (k : ℕ) → AreWithin k (view_of self.old) → AreWithin k (view_of self.new) }
+        ensures within { (k : Reach) → AreReached k (view_of self.old) → AreReached k (view_of self.new) }
         ensures left { self.new.left ≡ self.old.left }
         ensures size { size (view_of self.new) ≡ 3 * length self.old.frames.items + 2 }
     {

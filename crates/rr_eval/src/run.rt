@@ -3,18 +3,19 @@
 ghost use Rattle.std.specs.Prelude.{◌≡◌, ◌+◌, ◌<◌, ◌≤◌, ◌^◌, length};
 ghost use Rattle.rr_lexer.specs.Tokens.{AreTokensOf};
 ghost use Rattle.rr_eval.specs.Counted.{failures, counted};
-ghost use Rattle.rr_eval.specs.Requests.{asked_of};
-ghost use Rattle.rr_eval.specs.Written.{Puts, written_to};
-ghost use Rattle.rr_eval.specs.Runs.{Reads, piece_asked, Leaves, WithinSlots, Meets, program_meaning};
+ghost use Rattle.rr_eval.specs.Written.{written_to};
+ghost use Rattle.rr_eval.specs.Runs.{Reads, Leaves, WithinSlots, Meets, program_meaning};
 
 use crate::counted::Counted;
 use crate::engine::Turn;
 use crate::exception::report;
 use crate::machine::Machine;
 use crate::output::{Output, put};
-use crate::problem::Answer;
+use crate::problem::Response;
 use crate::request::Request;
+use crate::serve::serve_call;
 use rr_base::{Fault, Limits, RactorNo};
+use rr_builtin::Methods;
 use rr_lexer::{Token, lex, tokens_are_one};
 use rr_parser::parse;
 use rr_space::{Ref, Space};
@@ -69,16 +70,6 @@ fn objects_fit(space: &Space)
     let _count = space.len();
 }
 
-/// Does what a script that runs alone asks for, to which the reply is nil, and answers whether it could.
-fn serve<O: Output>(output: &mut O, request: Request) -> bool
-    requires { O.failures output.old + 1 < 2 ^ 64 }
-    ensures { Puts (written_to O.contents O.failures output.old) (written_to O.contents O.failures output.new) (piece_asked (asked_of request)) result }
-{
-    match request {
-        Request::Print(piece) => put(output, piece.as_slice()),
-    }
-}
-
 /// Runs a program on the main ractor.
 fn run_program<O: Output>(
     alloc: Global,
@@ -91,6 +82,9 @@ fn run_program<O: Output>(
     ensures slots { WithinSlots limits.slots (program_meaning program.now limits) result }
 {
     let mut space = Space::new(alloc, RactorNo(1), limits.slots);
+    let Ok(methods) = Methods::of(alloc, program) else {
+        return Outcome::Stopped(Fault::Memory);
+    };
     let mut machine = match Machine::new(alloc, program, limits.steps) {
         Ok(machine) => machine,
         Err(fault) => return Outcome::Stopped(fault),
@@ -98,11 +92,17 @@ fn run_program<O: Output>(
     loop {
         match machine.turn(program, &mut space, BUDGET) {
             Ok(Turn::More) => {}
-            Ok(Turn::Ask(request)) => {
-                if !serve(output, request) {
+            Ok(Turn::Ask(Request::Print(piece))) => {
+                if !put(output, piece.as_slice()) {
                     return Outcome::OutputFailed;
                 }
-                machine.answer(Answer::Gave(Ref::Nil));
+                machine.answer(Response::Gives(Ref::Nil));
+            }
+            Ok(Turn::Ask(Request::Call(call))) => {
+                match serve_call(alloc, &mut space, program, &methods, &call) {
+                    Ok(response) => machine.answer(response),
+                    Err(fault) => return Outcome::Stopped(fault),
+                }
             }
             Ok(Turn::Done(_)) => {
                 objects_fit(&space);

@@ -9,41 +9,43 @@ ghost use Rattle.rr_eval.specs.Script.{objects_of};
 ghost use Rattle.rr_eval.specs.Requests.{Course, Adds};
 ghost use Rattle.rr_eval.specs.Changes.{Changes};
 ghost use Rattle.rr_eval.specs.Rules.{settled};
-ghost use Rattle.rr_eval.specs.Turns.{context_of, remaining, remaining_with, after_script, IsNested, Stands, size};
+ghost use Rattle.rr_eval.specs.Turns.{context_of, remaining, remaining_with, after_script, answered, IsNested, Stands, size};
 ghost use Rattle.rr_eval.specs.Views.{view_of};
-ghost use Rattle.rr_eval.specs.Within.{AreWithin, IsWorkedWithin};
+ghost use Rattle.rr_eval.specs.Within.{Reach, AreReached, AreWithin, IsResponseReached, KeepsReach, KeepsRead};
 
 use crate::engine::Engine;
 use crate::exception::{exception_class, make_exception};
 use crate::frame::Control;
 use crate::message::message;
 use crate::operator::make_text;
-use crate::problem::{Answer, Problem, Worked};
+use crate::problem::{Answer, Problem, Response};
 use rr_base::{ClassId, Fault};
 use rr_space::{Ref, Space};
 use rr_tree::Program;
 
 impl Engine {
     /// Goes on with what an operation came to.
-    #[tactic(auto, unfolding(crate::specs::Within::AreWithin))]
+    #[tactic(auto, unfolding(crate::specs::Within::AreReached))]
     #[inline(always)]
-    pub fn settle(&mut self, what: Worked)
+    pub fn settle(&mut self, what: Response)
         requires nested { IsNested (view_of self.old) }
         ensures goes { (p : Program) (t : Table) (h : Course) (n : ℕ) → after_script p (view_of self.old) t (settled (context_of p) what) h n ≡ remaining_with p (view_of self.new) t h n }
         ensures nested { IsNested (view_of self.new) }
-        ensures within { (k : ℕ) → AreWithin k (view_of self.old) → IsWorkedWithin k what → AreWithin k (view_of self.new) }
+        ensures within { (k : Reach) → AreReached k (view_of self.old) → IsResponseReached k what → AreReached k (view_of self.new) }
         ensures left { self.new.left ≡ self.old.left }
         ensures frames { self.new.frames ≡ self.old.frames }
+        ensures answered { view_of self.new ≡ answered (view_of self.old) what }
         ensures size { size (view_of self.new) ≤ 3 * length self.old.frames.items + 4 }
     {
         match what {
-            Worked::Works(value) => self.control = Control::Give(Answer::Gave(value)),
-            Worked::Fails(problem) => self.control = Control::Throw(problem),
+            Response::Gives(value) => self.control = Control::Give(Answer::Gave(value)),
+            Response::Throws(exception) => self.control = Control::Give(Answer::Raised(exception)),
+            Response::Fails(problem) => self.control = Control::Throw(problem),
         }
     }
 
     /// Makes the message of an exception. A refused growth leaves all as it is.
-    #[tactic(auto, unfolding(crate::specs::Within::AreWithin))]
+    #[tactic(auto, unfolding(crate::specs::Within::AreReached))]
     #[inline(never)]
     pub fn throw(
         &mut self,
@@ -56,7 +58,8 @@ impl Engine {
         requires within { AreWithin (length space.old.slots) (view_of self.old) }
         ensures goes { OnOk result ((h : Course) → remaining program.now (view_of self.old) space.old h ≡ remaining program.now (view_of self.new) space.new h) }
         ensures nested { IsNested (view_of self.new) }
-        ensures within { AreWithin (length space.new.slots) (view_of self.new) }
+        ensures within { KeepsReach (view_of self.old) space.old (view_of self.new) space.new }
+        ensures read { KeepsRead (view_of self.old) space.old space.new }
         ensures left { self.new.left ≡ self.old.left }
         ensures size { OnOk result (size (view_of self.new) < size (view_of self.old)) }
         ensures err { IfErr result (λ f. Stands (view_of self.old) (view_of self.new) space.old space.new f) }
@@ -75,7 +78,7 @@ impl Engine {
     }
 
     /// Makes an exception, whose message is there, and raises it. A refused growth leaves all as it is.
-    #[tactic(auto, unfolding(crate::specs::Within::AreWithin))]
+    #[tactic(auto, unfolding(crate::specs::Within::AreReached))]
     #[inline(never)]
     pub fn raise(&mut self, space: &mut Space, class: ClassId, message: Ref) -> Result<(), Fault>
         requires control { self.old.control ≡ Control.Raise class message }
@@ -83,7 +86,8 @@ impl Engine {
         requires within { AreWithin (length space.old.slots) (view_of self.old) }
         ensures goes { OnOk result ((p : Program) (h : Course) → remaining p (view_of self.old) space.old h ≡ remaining p (view_of self.new) space.new h) }
         ensures nested { IsNested (view_of self.new) }
-        ensures within { AreWithin (length space.new.slots) (view_of self.new) }
+        ensures within { KeepsReach (view_of self.old) space.old (view_of self.new) space.new }
+        ensures read { KeepsRead (view_of self.old) space.old space.new }
         ensures left { self.new.left ≡ self.old.left }
         ensures size { OnOk result (size (view_of self.new) < size (view_of self.old)) }
         ensures err { IfErr result (λ f. Stands (view_of self.old) (view_of self.new) space.old space.new f) }

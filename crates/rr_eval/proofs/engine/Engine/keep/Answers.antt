@@ -13,8 +13,8 @@ returns-clause-goes c p t h n =
     let m = view_of c.args.self.now in
     let s = state_of m t h in
     let place = c.saturating_sub.result in
-    let frames = m.frames ++ Argument c.args.end (c.args.count - 1) c.args.base ∷ [] in
+    let frames = m.frames ++ Argument c.args.target c.args.end (c.args.count - 1) c.args.base ∷ [] in
     let pushed : c.push_within.new.items.items ≡ frames = c.push_within.ensures in
-    kept (code_of p h.world) m.frames c.args.end c.args.count place c.args.base m.held c.args.value s n c.requires.some c.saturating_sub.ensures c.requires.base
+    kept (code_of p h.world) m.frames c.args.target c.args.end c.args.count place c.args.base m.held c.args.value s n c.requires.some c.saturating_sub.ensures c.requires.base
     ∙ ap (λ held. outcome_of (code_of p h.world) frames held (Enter place) s n) (sym c.in_ok-push.ensures.items)
     ∙ ap (λ fs. outcome_of (code_of p h.world) fs c.push.new.self.items (Enter place) s n) (sym pushed)

@@ -8,7 +8,7 @@ use Rattle.rr_eval.specs.Values.{goes_on}
 use Rattle.rr_eval.specs.Rules.{rule, with_value}
 use Rattle.rr_eval.specs.Nodes.{evaluated_tree}
 use Rattle.rr_eval.specs.Turns.{context_of, after_script}
-use Rattle.rr_eval.proofs.Lists.{sequence_rule}
+use Rattle.rr_eval.proofs.Lists.{sequence_rule, send_is}
 use Rattle.rr_eval.specs.Views.{view_of}
 use Rattle.rr_eval.proofs.engine.Engine.open.Goals as goal
 
@@ -31,6 +31,13 @@ returns-in-Loop-clause-goes c = λ _ t h n.
     ap (λ x. after_script p m t (rule (context_of p) (evaluated_tree ns x)) h n) c.in-Loop.is
     ∙ ap (λ loop. after_script p m t (with_value a (λ v. if goes_on until v then with_value b (λ w. Go loop Ret) else Ret (Gave Nil))) h n) (sym there)
     ∙ c.enter_above-in-Loop.ensures.goes p t h n
+
+pub returns-in-Send-clause-goes : goal.returns-in-Send-clause-goes
+returns-in-Send-clause-goes c = λ _ t h n.
+    let p = c.args.program.now in
+    let ns = p.nodes.items in
+    let script = ap (λ x. rule (context_of p) (evaluated_tree ns x)) c.in-Send.is ∙ sym (send_is ns (context_of p) c.in-Send.receiver c.in-Send.name c.in-Send.first c.in-Send.count c.in-Send.site) in
+    ap (λ r. after_script p (view_of c.args.self.now) t r h n) script ∙ c.open_send.ensures.goes p t h n
 
 pub returns-in-And-clause-within : goal.returns-in-And-clause-within
 returns-in-And-clause-within c k h = c.enter_above.ensures.within k h tt

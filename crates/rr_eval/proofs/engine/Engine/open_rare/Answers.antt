@@ -11,6 +11,7 @@ use Rattle.rr_eval.specs.Nodes.{evaluated_tree}
 use Rattle.rr_eval.specs.Turns.{context_of, after_script, continuing}
 use Rattle.rr_eval.specs.View.{View}
 use Rattle.rr_eval.specs.Views.{view_of}
+use Rattle.rr_eval.specs.Within.{reach}
 use Rattle.rr_eval.proofs.Lists.{call_is}
 use Rattle.std.proofs.Common.{length}
 use Rattle.rr_eval.proofs.engine.Engine.open_rare.Goals as goal
@@ -29,7 +30,7 @@ returns-in-Call-clause-goes c =
     (call_is ns (context_of p) c.in-Call.name c.in-Call.first c.in-Call.count c.in-Call.site ∙ ap (λ x. rule (context_of p) (evaluated_tree ns x)) (sym c.in-Call.is)) c.open_call.ensures.goes
 
 pub returns-in-Bare-clause-within : goal.returns-in-Bare-clause-within
-returns-in-Bare-clause-within c = c.open_bare.ensures.within (length c.args.space.now.slots) c.requires.within
+returns-in-Bare-clause-within c cs = c.open_bare.ensures.within (reach (length c.args.space.now.slots) cs)
 
 pub returns-in-Call-clause-within : goal.returns-in-Call-clause-within
-returns-in-Call-clause-within c = c.open_call.ensures.within (length c.args.space.now.slots) c.requires.within
+returns-in-Call-clause-within c cs = c.open_call.ensures.within (reach (length c.args.space.now.slots) cs)

@@ -2,7 +2,7 @@
 use Rattle.std.proofs.Common.{◌≡◌, suc, ◌-◌, sym, ap, ◌∙◌, arith, rules, w64, to_z, of_z}
 use Rattle.rr_eval.specs.declared.problem.Answer.TheVariants.{Gave}
 use Rattle.rr_eval.specs.declared.frame.Frame.TheVariants.{Left}
-use Rattle.rr_eval.specs.Operators.{on_integers}
+use Rattle.rr_eval.specs.Operators.{integers}
 use Rattle.rr_eval.specs.Rules.{settled}
 use Rattle.rr_eval.specs.Turns.{context_of, after_script, remaining_with, after_answer}
 use Rattle.rr_eval.proofs.Entered.{leaf_right}
@@ -18,7 +18,7 @@ returns-clause-goes c = λ _ t h.
     let y = c.in-Some.y in
     let fx : to_z w64 (of_z w64 x) ≡ x = search rules in
     let fy : to_z w64 (of_z w64 y) ≡ y = search rules in
-    let given = c.on_integers.ensures.does ∙ ap (λ z. on_integers c.args.op z (to_z w64 (of_z w64 y))) fx ∙ ap (on_integers c.args.op x) fy in
+    let given = c.on_integers.ensures.does ∙ ap (λ z. integers c.args.op z (to_z w64 (of_z w64 y))) fx ∙ ap (integers c.args.op x) fy in
     let some : m.left ≡ suc (m.left - 1) = omega arith in
     ap (λ v. after_answer p m t (Left c.args.op c.args.b) (Gave v) h m.left) c.in-Int.is
     ∙ leaf_right p m t (m.left - 1) c.args.b c.args.op x y some c.in-Some.ensures h

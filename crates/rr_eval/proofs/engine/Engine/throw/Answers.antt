@@ -2,7 +2,7 @@
 use Rattle.std.proofs.Common.{◌≡◌, subst, sym, ap, length}
 use Rattle.rr_eval.specs.Acts.{Passes}
 use Rattle.rr_eval.specs.Script.{objects_of}
-use Rattle.rr_eval.specs.Operators.{with_text}
+use Rattle.rr_builtin.specs.Acts.{with_text}
 use Rattle.rr_eval.specs.Rules.{throw}
 use Rattle.rr_eval.specs.Frames.{outcome_of}
 use Rattle.rr_eval.specs.Turns.{context_of, code_of, state_of, remaining, after_script}
@@ -19,3 +19,6 @@ returns-in-Err-clause-full c h adds =
     let passes = subst (λ bytes. Passes f t.limit (length (with_text bytes t).slots)) c.in_ok-text.ensures c.in-Err.ensures.full in
     let at : remaining p m t h ≡ after_script p m t (throw (context_of p) c.args.problem) h m.left = ap (λ k. outcome_of (code_of p h.world) m.frames m.held k (state_of m t h) m.left) c.requires.control in
     subst (λ o. Passes f t.limit (objects_of o)) (sym at) (throw_passes p m t c.args.problem f h m.left adds passes)
+
+pub returns-in-Ok-clause-read : goal.returns-in-Ok-clause-read
+returns-in-Ok-clause-read c below read reached = c.in-Ok.ensures.read below read

@@ -3,7 +3,7 @@ use Rattle.std.proofs.Common.{◌≡◌, ◌+◌, ◌≤◌, length}
 use Rattle.rr_eval.specs.Requests.{Course}
 use Rattle.rr_eval.specs.Changes.{Changes}
 use Rattle.rr_eval.specs.Turns.{remaining, IsNested, power}
-use Rattle.rr_eval.specs.Within.{AreWithin}
+use Rattle.rr_eval.specs.Within.{AreWithin, KeepsReach, KeepsRead}
 use Rattle.rr_eval.specs.Views.{view_of}
 use Rattle.rr_eval.proofs.engine.Engine.turn.Given as goal
 
@@ -11,6 +11,8 @@ abbrev pub invariant-loop-self : goal.invariant-loop-self
 invariant-loop-self l = record {
   nested : IsNested (view_of l.self);
   refs : AreWithin (length l.space.slots) (view_of l.self);
+  reaches : KeepsReach (view_of l.fn.self) l.fn.space (view_of l.self) l.space;
+  reads : KeepsRead (view_of l.fn.self) l.fn.space l.space;
   within : l.stop ≤ l.self.left;
   falls : l.self.left ≤ l.fn.self.left;
   fell : power (view_of l.self) + l.fn.self.left ≤ power (view_of l.fn.self) + l.self.left;

@@ -1,6 +1,6 @@
 -- Both operands take one step each.
 use Rattle.std.proofs.Common.{◌≡◌, suc, ◌-◌, sym, ap, ◌∙◌, arith, rules, w64, to_z, of_z}
-use Rattle.rr_eval.specs.Operators.{on_integers}
+use Rattle.rr_eval.specs.Operators.{integers}
 use Rattle.rr_eval.specs.Rules.{settled}
 use Rattle.rr_eval.specs.Turns.{context_of, after_script, remaining_with}
 use Rattle.rr_eval.proofs.Entered.{leaves}
@@ -16,7 +16,7 @@ returns-in-Some-Some-clause-goes c = λ _ t h.
     let y = c.in-Some-Some.y in
     let fx : to_z w64 (of_z w64 x) ≡ x = search rules in
     let fy : to_z w64 (of_z w64 y) ≡ y = search rules in
-    let given = c.on_integers.ensures.does ∙ ap (λ z. on_integers c.args.op z (to_z w64 (of_z w64 y))) fx ∙ ap (on_integers c.args.op x) fy in
+    let given = c.on_integers.ensures.does ∙ ap (λ z. integers c.args.op z (to_z w64 (of_z w64 y))) fx ∙ ap (integers c.args.op x) fy in
     let some : m.left ≡ suc (suc (suc (m.left - 3))) = omega arith in
     leaves p m t c.args.here (m.left - 3) c.args.a c.args.b c.args.op x y c.requires.control some c.requires.node c.in-Some-Some.ensures c.in-Some-Some.ensures' h
     ∙ ap (λ r. after_script p m t (settled (context_of p) r) h (m.left - 3)) (sym given)

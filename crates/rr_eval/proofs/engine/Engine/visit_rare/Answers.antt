@@ -30,4 +30,4 @@ returns-in-Err-clause-full c h adds =
     subst (λ o. Passes c.in-Err.fault t.limit (objects_of o)) (sym same) (c.in-Err.ensures.full h (m.left - 1) adds)
 
 pub returns-in-Ok-clause-within : goal.returns-in-Ok-clause-within
-returns-in-Ok-clause-within c = with_left _ (view_of c.open_rare.new.self) _ c.in-Ok.ensures.within
+returns-in-Ok-clause-within c cs h = with_left _ (view_of c.open_rare.new.self) _ (c.in-Ok.ensures.within cs h)

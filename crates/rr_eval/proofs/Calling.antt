@@ -1,0 +1,180 @@
+-- What a call leaves where nothing is published.
+use Rattle.std.proofs.Common.{◌≡◌, ◌∙◌, ◌≤◌, ℕ, ap, sym, refl, subst, arith, replicate, List, [], ◌∷◌, length, length-append, length-set, Contains, Option, Some, None, slice_get, slice_set, Result, true, false, Bool, if◌then◌else◌}
+use Rattle.rr_base.specs.declared.fault.Fault.{Fault}
+use Rattle.rr_space.specs.Graph.{Object, Value, At, Own}
+use Rattle.rr_space.specs.Lookups.{text_object, frozen_text}
+use Rattle.rr_space.specs.Parts.{value_of}
+use Rattle.rr_space.specs.Sound.{IsWell}
+use Rattle.rr_space.specs.Tables.{Table, Slot, Here, Led, Below, HashKey, TextKey, IsRestKept, joined}
+use Rattle.rr_space.specs.Views.{is_shell}
+use Rattle.rr_space.specs.declared.refer.Ref.{Ref}
+use Rattle.rr_space.specs.declared.refer.Ref.TheVariants as refs
+use Rattle.std.specs.List.{All}
+use Rattle.std.proofs.lemmas.List.Elements.{All-weaker}
+use Rattle.rr_text.specs.Reads.{IsReadWith, IsAmong}
+use Rattle.rr_builtin.proofs.Among.{among_of, none_in}
+use Rattle.rr_eval.specs.declared.call.Call.{Call}
+use Rattle.rr_builtin.specs.Acts.{Act, Answers, Makes, Freezes, Appends, Pushes, Takes, MakesArray, Puts, SetsValue, AddsPair, AddsText, TakesPair, MakesObject, Outcome, outcome_of, performed, changed, changed_slot, froze, froze_slot, added, with_key, without_key, without_pair, array_object, with_pair, key_count, IsRefAmong, IsBuiltWithin, IsBuiltAmong, IsDone, Acts}
+use Rattle.rr_builtin.specs.Calls.{call_act}
+use Rattle.rr_builtin.specs.declared.method.BuiltInMethod.{BuiltInMethod}
+use Rattle.rr_builtin.specs.declared.built.Built.{Built}
+use Rattle.rr_builtin.specs.declared.built.Built.TheVariants as built
+use Rattle.rr_eval.specs.declared.call.Callee.{Callee}
+use Rattle.rr_eval.specs.declared.problem.Problem.{Problem}
+use Rattle.rr_eval.specs.declared.problem.Problem.TheVariants.{MissingMethod}
+use Rattle.rr_eval.specs.declared.problem.Response.{Response}
+use Rattle.rr_eval.specs.declared.problem.Response.TheVariants as response
+use Rattle.rr_eval.specs.Context.{Context}
+use Rattle.rr_eval.specs.Callees.{method_of}
+use Rattle.rr_eval.specs.Calls.{sent, unpublished, reply_of}
+use Rattle.rr_eval.specs.Responses.{ref_of, receiver_of, response_from, response_of}
+use Rattle.rr_eval.specs.Requests.{Adds, arguments_of}
+use Rattle.rr_eval.specs.Runs.{alone}
+use Rattle.rr_eval.specs.Script.{Prints, Calls}
+use Rattle.rr_eval.specs.Within.{reach, IsReached, IsCallReached, IsResponseReached}
+use Rattle.rr_eval.proofs.Holding.{ref_reached, ref_among}
+
+-- no slot leads to a cluster
+no_cluster : (bs : List Below) → ((e : ℕ × List Object) → Contains (joined bs) e → Contains [] e) → bs ≡ replicate (length bs) []
+no_cluster [] h = refl
+no_cluster ([] ∷ bs) h = ap (λ l. [] ∷ l) (no_cluster bs h)
+no_cluster ((e ∷ b) ∷ bs) h =
+    let there = (h e (0, omega arith, refl)).1 in
+    absurd (omega arith)
+
+-- the table that is left is the only one with these slots and keys
+pub one_table : (t u w : Table) → u.slots ≡ w.slots → u.keys ≡ w.keys → IsRestKept t u → IsReadWith u [] → IsWell u → unpublished t w ≡ u
+one_table t u w slots keys rest read well =
+    let below : u.below ≡ replicate (length w.slots) [] = no_cluster u.below read.all ∙ ap (λ n. replicate n []) (well.sound.count ∙ ap length slots) in
+    ap (λ x. record { slots = x; below = replicate (length w.slots) []; keys = w.keys; limit = t.limit; owner = t.owner; next_message = t.next_message }) (sym slots)
+    ∙ ap (λ x. record { slots = u.slots; below = x; keys = w.keys; limit = t.limit; owner = t.owner; next_message = t.next_message }) (sym below)
+    ∙ ap (λ x. record { slots = u.slots; below = u.below; keys = x; limit = t.limit; owner = t.owner; next_message = t.next_message }) (sym keys)
+    ∙ ap (λ x. record { slots = u.slots; below = u.below; keys = u.keys; limit = x; owner = t.owner; next_message = t.next_message }) (sym rest.limit)
+    ∙ ap (λ x. record { slots = u.slots; below = u.below; keys = u.keys; limit = u.limit; owner = x; next_message = t.next_message }) (sym rest.owner)
+    ∙ ap (λ x. record { slots = u.slots; below = u.below; keys = u.keys; limit = u.limit; owner = u.owner; next_message = x }) (sym rest.next_message)
+
+-- a value that is not published has one reference
+one_ref : (r : Ref) → IsRefAmong [] r → ref_of (value_of r) ≡ r
+one_ref refs.Nil among = refl
+one_ref (refs.Truth b) among = refl
+one_ref (refs.Int z) among = refl
+one_ref (refs.Symbol s) among = refl
+one_ref (refs.Class c) among = refl
+one_ref (refs.Ractor r) among = refl
+one_ref (refs.Local n) among = refl
+one_ref (refs.Shared p c) among =
+    let there = (among _ (0, omega arith, refl)).1 in
+    absurd (omega arith)
+
+one_response : (missing : Problem) (b : Built) → IsBuiltAmong [] b → response_of missing (outcome_of b) ≡ response_from missing b
+one_response missing (built.Value r) among = ap response.Gives (one_ref r among)
+one_response missing (built.Raised p) among = refl
+one_response missing built.Missing among = refl
+
+pub response_reached : (k : ℕ) (missing : Problem) (b : Built) → IsBuiltWithin k b → IsBuiltAmong [] b → IsResponseReached (reach k (Some [])) (response_from missing b)
+response_reached k missing (built.Value r) within among = ref_reached k [] r within among
+response_reached k missing (built.Raised p) within among = tt
+response_reached k missing built.Missing within among = tt
+
+-- the reply is the only one
+pub one_reply : (callee : Callee) (v : Ref) (t u : Table) (done : Outcome × Table) (b : Built) → IsDone [] done t u b → IsWell u
+    → reply_of callee v t done ≡ record { response = response_from (MissingMethod callee (receiver_of t v)) b; table = u }
+one_reply callee v t u done b is well =
+    let missing = MissingMethod callee (receiver_of t v) in
+    let first : response_of missing done.0 ≡ response_from missing b = ap (response_of missing) (sym is.outcome) ∙ one_response missing b is.among in
+    ap (λ (r : Response). record { response = r; table = unpublished t done.1 }) first
+    ∙ ap (λ (x : Table). record { response = response_from missing b; table = x }) (one_table t u done.1 is.slots is.keys is.rest is.read well)
+
+-- where nothing is published, the clusters are none
+pub call_acts : (p : Context) (call : Call) (t u : Table) (m : Option BuiltInMethod) (r : Result Built Fault)
+    → ((below : Below) → IsReadWith t below → IsAmong below call.receiver → All (IsRefAmong below) (arguments_of call.arguments) → Acts below (sent p below call.receiver m (arguments_of call.arguments)) t u r)
+    → IsReadWith t [] → IsCallReached (reach (length t.slots) (Some [])) call → m ≡ method_of p call.callee
+    → Acts [] (sent p [] call.receiver (method_of p call.callee) (arguments_of call.arguments)) t u r
+call_acts p call t u m r acts read reached is =
+    let k = length t.slots in
+    let args = arguments_of call.arguments in
+    let receiver = among_of [] call.receiver (ref_among k [] call.receiver reached.receiver) in
+    let arguments = All-weaker (IsReached (reach k (Some []))) (IsRefAmong []) (ref_among k []) args reached.arguments in
+    subst (λ (x : Option BuiltInMethod). Acts [] (sent p [] call.receiver x args) t u r) is (acts [] read receiver arguments)
+
+-- a call takes no object away
+abbrev count : Table → ℕ
+count t = length t.slots
+
+changed_slots : (f : Object → Object) (slots : List Slot) (n : ℕ) (s : Option Slot) → length slots ≤ length (changed_slot f slots n s)
+changed_slots f slots n (Some (Here o)) = omega (arith, length-set slots n (Here (f o)))
+changed_slots f slots n (Some (Led c p)) = omega arith
+changed_slots f slots n None = omega arith
+
+changed_adds : (f : Object → Object) (v : Ref) (t : Table) → count t ≤ count (changed f v t)
+changed_adds f (refs.Local n) t = changed_slots f t.slots n (slice_get t.slots n)
+changed_adds f _ t = omega arith
+
+frozen_here : (slots : List Slot) (n : ℕ) (o : Object) (shell : Bool) → length slots ≤ length (if shell then slots else slice_set slots n (Here (record o { frozen = true })))
+frozen_here slots n o true = omega arith
+frozen_here slots n o false = omega (arith, length-set slots n (Here (record o { frozen = true })))
+
+froze_slots : (slots : List Slot) (n : ℕ) (s : Option Slot) → length slots ≤ length (froze_slot slots n s)
+froze_slots slots n (Some (Here o)) = frozen_here slots n o (is_shell o.kind)
+froze_slots slots n (Some (Led c p)) = omega arith
+froze_slots slots n None = omega arith
+
+froze_adds : (v : Ref) (t : Table) → count t ≤ count (froze v t)
+froze_adds (refs.Local n) t = froze_slots t.slots n (slice_get t.slots n)
+froze_adds _ t = omega arith
+
+with_key_adds : (key : HashKey) (v : Ref) (t : Table) → count t ≤ count (with_key key v t)
+with_key_adds key (refs.Local n) t = omega arith
+with_key_adds key _ t = omega arith
+
+without_key_adds : (i : ℕ) (v : Ref) (t : Table) → count t ≤ count (without_key i v t)
+without_key_adds i (refs.Local n) t = omega arith
+without_key_adds i _ t = omega arith
+
+taken_adds : (i : ℕ) (v : Ref) (t : Table) → count t ≤ count (without_key i v (changed (without_pair i) v t))
+taken_adds i v t =
+    let u = changed (without_pair i) v t in
+    let first = changed_adds (without_pair i) v t in
+    let second = without_key_adds i v u in
+    omega arith
+
+added_adds : (name : Value) (key : HashKey) (x : Value) (v : Ref) (t : Table) → count t ≤ count (added name key x v t)
+added_adds name key x v t =
+    let u = changed (with_pair (key_count t v) name x) v t in
+    let first = changed_adds (with_pair (key_count t v) name x) v t in
+    let second = with_key_adds key v u in
+    omega arith
+
+act_adds : (act : Act) (v : Ref) (t : Table) → count t ≤ count (performed act v t).1
+act_adds (Answers o) v t = omega arith
+act_adds (Makes bytes) v t = omega (arith, length-append t.slots (Here (text_object bytes) ∷ []))
+act_adds Freezes v t = froze_adds v t
+act_adds (Appends bytes) v t = changed_adds _ v t
+act_adds (Pushes x) v t = changed_adds _ v t
+act_adds (MakesArray values) v t = omega (arith, length-append t.slots (Here (array_object values) ∷ []))
+act_adds (Puts k x) v t = changed_adds _ v t
+act_adds (SetsValue i x) v t = changed_adds _ v t
+act_adds (AddsPair name key x) v t = added_adds name key x v t
+act_adds (AddsText bytes x) v t =
+    let u = added (At (Own (length t.slots))) (TextKey bytes) x v t in
+    let first = added_adds (At (Own (length t.slots))) (TextKey bytes) x v t in
+    omega (arith, length-append u.slots (Here (frozen_text bytes) ∷ []))
+act_adds (Takes k) v t = changed_adds _ v t
+act_adds (TakesPair i) v t = taken_adds i v t
+act_adds (MakesObject o keys) v t = omega (arith, length-append t.slots (Here o ∷ []))
+
+pub sent_adds : (c : Context) (below : Below) (v : Ref) (m : Option BuiltInMethod) (args : List Ref) (t : Table) → count t ≤ count (sent c below v m args t).1
+sent_adds c below v None args t = omega arith
+sent_adds c below v (Some m) args t = act_adds (call_act c.program below v m args t) v t
+
+-- a script that runs alone takes no object away
+pub alone_adds : (c : Context) → Adds (alone c)
+alone_adds c asked (Prints piece) t = omega arith
+alone_adds c asked (Calls v callee args) t = sent_adds c [] v (method_of c callee) args t
+
+-- a space without objects leads to no cluster
+pub none_read : (t : Table) → t.below ≡ [] → IsReadWith t []
+none_read t e = record {
+  one = λ c os ps first second. none_in (c, os) first;
+  all = λ x has. subst (λ (bs : List Below). Contains (joined bs) x) e has;
+}

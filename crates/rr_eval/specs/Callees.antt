@@ -1,0 +1,25 @@
+-- What a script calls: its name, and the built-in method of that name.
+use Rattle.std.specs.Prelude.{ℕ, List, [], codes, Option, Some, slice_index_or}
+use Rattle.rr_builtin.specs.Methods.{operator_name, method_named}
+use Rattle.rr_builtin.specs.declared.method.BuiltInMethod.{BuiltInMethod}
+use Rattle.rr_builtin.specs.declared.method.BuiltInMethod.TheVariants as methods
+use Rattle.rr_builtin.specs.declared.method.NumberMethod.TheVariants as number
+use Rattle.rr_builtin.specs.declared.method.ContentMethod.TheVariants as content
+use Rattle.rr_eval.specs.declared.call.Callee.{Callee}
+use Rattle.rr_eval.specs.declared.call.Callee.TheVariants as callees
+use Rattle.rr_eval.specs.Context.{Context}
+
+abbrev pub callee_name : Context → Callee → List ℕ
+callee_name c (callees.Operator op) = operator_name op
+callee_name c callees.Opposite = codes "-@"
+callee_name c callees.Index = codes "[]"
+callee_name c callees.Append = codes "<<"
+callee_name c (callees.Name x) = slice_index_or c.symbols x.0 []
+
+-- the built-in method, where there is one
+abbrev pub method_of : Context → Callee → Option BuiltInMethod
+method_of c (callees.Operator op) = Some (methods.Operator op)
+method_of c callees.Opposite = Some (methods.Number number.Opposite)
+method_of c callees.Index = Some (methods.Content content.At)
+method_of c callees.Append = Some (methods.Content content.Append)
+method_of c (callees.Name x) = method_named (slice_index_or c.symbols x.0 [])

@@ -1,0 +1,32 @@
+-- The reply to a call of a method where nothing is published.
+use Rattle.std.specs.Prelude.{List, [], length, replicate, Option, Some, None, if◌then◌else◌}
+use Rattle.rr_space.specs.Kinds.{kind_at}
+use Rattle.rr_space.specs.Tables.{Table, Below}
+use Rattle.rr_space.specs.declared.refer.Ref.{Ref}
+use Rattle.rr_builtin.specs.Acts.{Outcome, Raises, Lacks}
+use Rattle.rr_builtin.specs.Calls.{called}
+use Rattle.rr_builtin.specs.Kinds.{is_shell_kind}
+use Rattle.rr_builtin.specs.declared.method.BuiltInMethod.{BuiltInMethod}
+use Rattle.rr_builtin.specs.declared.problem.Problem.TheVariants.{Moved}
+use Rattle.rr_eval.specs.declared.call.Callee.{Callee}
+use Rattle.rr_eval.specs.declared.problem.Problem.TheVariants.{MissingMethod}
+use Rattle.rr_eval.specs.Callees.{method_of}
+use Rattle.rr_eval.specs.Context.{Context}
+use Rattle.rr_eval.specs.Responses.{receiver_of, response_of}
+use Rattle.rr_eval.specs.Script.{Reply}
+
+-- what a call comes to, and the table then, where no built-in method has the name, or one has it
+abbrev pub sent : Context → Below → Ref → Option BuiltInMethod → List Ref → Table → Outcome × Table
+sent c below v None args t = (if is_shell_kind (kind_at t v) then Raises Moved else Lacks, t)
+sent c below v (Some m) args t = called c.program below v m args t
+
+-- the table with these slots and keys, where nothing is published, so that no slot leads to a cluster
+abbrev pub unpublished : Table → Table → Table
+unpublished t u = record t { slots = u.slots; below = replicate (length u.slots) []; keys = u.keys }
+
+abbrev pub reply_of : Callee → Ref → Table → Outcome × Table → Reply
+reply_of callee v t done = record { response = response_of (MissingMethod callee (receiver_of t v)) done.0; table = unpublished t done.1 }
+
+-- where nothing is published, the clusters that anything leads to are none
+abbrev pub call_reply : Context → Ref → Callee → List Ref → Table → Reply
+call_reply c v callee args t = reply_of callee v t (sent c [] v (method_of c callee) args t)

@@ -1,0 +1,161 @@
+//! Calls of methods, as an environment serves them.
+
+ghost use Rattle.std.specs.Prelude.{◌≡◌, ◌≤◌, [], length, map, Some, Ok, Err, Result, if◌then◌else◌, IfOk, IfErr};
+ghost use Rattle.std.specs.List.{All};
+ghost use Rattle.rr_space.specs.Parts.{IsWithin};
+ghost use Rattle.rr_space.specs.Tables.{Below};
+ghost use Rattle.rr_text.specs.Reads.{IsAmong, IsReadWith};
+ghost use Rattle.rr_space.specs.Kinds.{kind_at};
+ghost use Rattle.rr_builtin.specs.Acts.{Acts, IsRefAmong, Raises, Lacks};
+ghost use Rattle.rr_builtin.specs.Kinds.{is_shell_kind};
+ghost use Rattle.rr_builtin.specs.Methods.{method_named};
+ghost use Rattle.rr_eval.specs.Acts.{IsRefusal, Passes};
+ghost use Rattle.rr_eval.specs.Callees.{method_of};
+ghost use Rattle.rr_eval.specs.Calls.{sent, call_reply};
+ghost use Rattle.rr_eval.specs.Requests.{arguments_of};
+ghost use Rattle.rr_eval.specs.Responses.{receiver_of, response_from};
+ghost use Rattle.rr_eval.specs.Turns.{context_of};
+ghost use Rattle.rr_eval.specs.Within.{reach, IsCallReached, IsResponseReached};
+
+use crate::call::{Arguments, Call, Callee};
+use crate::problem::{Problem, Response};
+use rr_base::Fault;
+use rr_builtin::{
+    Built, BuiltInMethod, ContentMethod, Methods, NumberMethod, Problem as BuiltInProblem,
+    Receiver, call, methods_have_names,
+};
+use rr_space::{Kind, Ref, Space};
+use rr_tree::Program;
+use std::alloc::Global;
+
+/// The built-in method that is called; none where no method has the name.
+fn method_of(program: &Program, methods: &Methods, callee: Callee) -> Option<BuiltInMethod>
+    requires { methods.now ≡ map (λ s. method_named s.items) program.now.symbols.items }
+    ensures { result ≡ method_of (context_of program.now) callee }
+{
+    methods_have_names();
+    match callee {
+        Callee::Operator(op) => Some(BuiltInMethod::Operator(op)),
+        Callee::Opposite => Some(BuiltInMethod::Number(NumberMethod::Opposite)),
+        Callee::Index => Some(BuiltInMethod::Content(ContentMethod::At)),
+        Callee::Append => Some(BuiltInMethod::Content(ContentMethod::Append)),
+        Callee::Name(name) => methods.find(name),
+    }
+}
+
+/// What a message calls a receiver that has no such method.
+fn receiver_of(space: &Space, receiver: Ref) -> Receiver
+    ensures { result ≡ receiver_of space.now receiver }
+{
+    match receiver {
+        Ref::Nil => Receiver::Nil,
+        Ref::Truth(truth) => Receiver::Truth(truth),
+        Ref::Class(class) => Receiver::Class(class),
+        _ => Receiver::Instance(space.class_of(receiver)),
+    }
+}
+
+/// What a call that no built-in method answers comes to.
+fn unknown(space: &Space, receiver: Ref) -> Built
+    ensures { (below : Below) → IsReadWith space.now below → Acts below (λ t. (if is_shell_kind (kind_at t receiver) then Raises BuiltInProblem.Moved else Lacks, t)) space.now space.now (Ok result) }
+{
+    match space.kind_of(receiver) {
+        Kind::Shell => Built::Raised(BuiltInProblem::Moved),
+        _ => Built::Missing,
+    }
+}
+
+/// Calls a method, where there is one. A refused growth leaves the objects as they were.
+fn send(
+    alloc: Global,
+    space: &mut Space,
+    program: &Program,
+    receiver: Ref,
+    method: Option<BuiltInMethod>,
+    arguments: &[Ref],
+) -> Result<Built, Fault>
+    requires receiver { IsWithin (length space.old.slots) receiver }
+    requires arguments { All (IsWithin (length space.old.slots)) arguments.now }
+    ensures { (below : Below) → IsReadWith space.old below → IsAmong below receiver → All (IsRefAmong below) arguments.now
+        → Acts below (sent (context_of program.now) below receiver method arguments.now) space.old space.new result }
+{
+    match method {
+        Some(method) => call(alloc, space, program, receiver, method, arguments),
+        None => Ok(unknown(space, receiver)),
+    }
+}
+
+/// Calls a method with these arguments.
+fn send_with(
+    alloc: Global,
+    space: &mut Space,
+    program: &Program,
+    receiver: Ref,
+    method: Option<BuiltInMethod>,
+    arguments: &Arguments,
+) -> Result<Built, Fault>
+    requires receiver { IsWithin (length space.old.slots) receiver }
+    requires arguments { All (IsWithin (length space.old.slots)) (arguments_of arguments.now) }
+    ensures { (below : Below) → IsReadWith space.old below → IsAmong below receiver → All (IsRefAmong below) (arguments_of arguments.now)
+        → Acts below (sent (context_of program.now) below receiver method (arguments_of arguments.now)) space.old space.new result }
+{
+    match arguments {
+        Arguments::Without => send(alloc, space, program, receiver, method, &[]),
+        Arguments::One(first) => send(alloc, space, program, receiver, method, &[*first]),
+        Arguments::Two(first, second) => {
+            send(alloc, space, program, receiver, method, &[*first, *second])
+        }
+        Arguments::Many(values) => {
+            send(alloc, space, program, receiver, method, values.as_slice())
+        }
+    }
+}
+
+/// What is responded to a call.
+fn response_from(missing: Problem, built: Built) -> Response
+    ensures { result ≡ response_from missing built }
+{
+    match built {
+        Built::Value(value) => Response::Gives(value),
+        Built::Raised(problem) => Response::Fails(Problem::BuiltIn(problem)),
+        Built::Missing => Response::Fails(missing),
+    }
+}
+
+/// Serves a call where nothing is published. A refused growth leaves the objects as they were.
+pub fn serve_call(
+    alloc: Global,
+    space: &mut Space,
+    program: &Program,
+    methods: &Methods,
+    call: &Call,
+) -> Result<Response, Fault>
+    requires methods { methods.now ≡ map (λ s. method_named s.items) program.now.symbols.items }
+    requires read { IsReadWith space.old [] }
+    requires reached { IsCallReached (reach (length space.old.slots) (Some [])) call.now }
+    ensures reply { IfOk result (λ r. call_reply (context_of program.now) call.now.receiver call.now.callee (arguments_of call.now.arguments) space.old ≡ record { response = r; table = space.new }) }
+    ensures read { IsReadWith space.new [] }
+    ensures reached { IfOk result (IsResponseReached (reach (length space.new.slots) (Some []))) }
+    ensures grows { length space.old.slots ≤ length space.new.slots }
+    ensures limit { space.new.limit ≡ space.old.limit }
+    ensures refused { IfErr result IsRefusal }
+    ensures full { IfErr result (λ f. Passes f space.old.limit (length (call_reply (context_of program.now) call.now.receiver call.now.callee (arguments_of call.now.arguments) space.old).table.slots)) }
+{
+    let _before = space.len();
+    let method = method_of(program, methods, call.callee);
+    let missing = Problem::MissingMethod(call.callee, receiver_of(space, call.receiver));
+    match send_with(
+        alloc,
+        space,
+        program,
+        call.receiver,
+        method,
+        &call.arguments,
+    ) {
+        Ok(built) => {
+            let _after = space.len();
+            Ok(response_from(missing, built))
+        }
+        Err(fault) => Err(fault),
+    }
+}
