@@ -8,6 +8,7 @@ mod moves;
 mod objects;
 mod scripts;
 mod tokens;
+mod world;
 
 use std::{env, io};
 
@@ -20,6 +21,7 @@ fn main(rt: HostRuntime) -> io::Result<()> {
         "tokens" => tokens::measure(&rt, file),
         "inbox" => channels::measure_inbox(&rt),
         "text" => channels::measure_text(&rt),
+        "world" => world::measure(&rt),
         _ => measure_objects(&rt, name),
     }
 }
@@ -42,5 +44,6 @@ fn explain(rt: &HostRuntime) -> io::Result<()> {
     )?;
     println!(rt; "moves: a million arrays and a hundred mebibytes of texts, moved")?;
     println!(rt; "inbox: a million integers offered and accepted")?;
-    println!(rt; "text: a text of a mebibyte, packed and opened, beside one copy of its bytes")
+    println!(rt; "text: a text of a mebibyte, packed and opened, beside one copy of its bytes")?;
+    println!(rt; "world: a million steps of two hundred ractors")
 }
