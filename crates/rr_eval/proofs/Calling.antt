@@ -14,7 +14,7 @@ use Rattle.std.proofs.lemmas.List.Elements.{All-weaker}
 use Rattle.rr_text.specs.Reads.{IsReadWith, IsAmong}
 use Rattle.rr_builtin.proofs.Among.{among_of, none_in}
 use Rattle.rr_eval.specs.declared.call.Call.{Call}
-use Rattle.rr_builtin.specs.Acts.{Act, Answers, Makes, Freezes, Appends, Pushes, Takes, MakesArray, Puts, SetsValue, AddsPair, AddsText, TakesPair, MakesObject, Outcome, outcome_of, performed, changed, changed_slot, froze, froze_slot, added, with_key, without_key, without_pair, array_object, with_pair, key_count, IsRefAmong, IsBuiltWithin, IsBuiltAmong, IsDone, Acts}
+use Rattle.rr_builtin.specs.Acts.{Act, Answers, Makes, Freezes, Appends, Pushes, Takes, MakesArray, Puts, SetsValue, AddsPair, AddsText, TakesPair, MakesObject, Outcome, outcome_of, performed, changed, changed_slot, froze, froze_slot, added, with_key, array_object, with_pair, key_count, IsRefAmong, IsBuiltWithin, IsBuiltAmong, IsDone, Acts}
 use Rattle.rr_builtin.specs.Calls.{call_act}
 use Rattle.rr_builtin.specs.declared.method.BuiltInMethod.{BuiltInMethod}
 use Rattle.rr_builtin.specs.declared.built.Built.{Built}
@@ -127,23 +127,16 @@ with_key_adds : (key : HashKey) (v : Ref) (t : Table) → count t ≤ count (wit
 with_key_adds key (refs.Local n) t = omega arith
 with_key_adds key _ t = omega arith
 
-without_key_adds : (i : ℕ) (v : Ref) (t : Table) → count t ≤ count (without_key i v t)
-without_key_adds i (refs.Local n) t = omega arith
-without_key_adds i _ t = omega arith
-
-taken_adds : (i : ℕ) (v : Ref) (t : Table) → count t ≤ count (without_key i v (changed (without_pair i) v t))
-taken_adds i v t =
-    let u = changed (without_pair i) v t in
-    let first = changed_adds (without_pair i) v t in
-    let second = without_key_adds i v u in
-    omega arith
-
 added_adds : (name : Value) (key : HashKey) (x : Value) (v : Ref) (t : Table) → count t ≤ count (added name key x v t)
 added_adds name key x v t =
     let u = changed (with_pair (key_count t v) name x) v t in
     let first = changed_adds (with_pair (key_count t v) name x) v t in
     let second = with_key_adds key v u in
     omega arith
+
+without_key_adds : (i : ℕ) (v : Ref) (t : Table) → count t ≤ count (without_key i v t)
+without_key_adds i (refs.Local n) t = omega arith
+without_key_adds i _ t = omega arith
 
 act_adds : (act : Act) (v : Ref) (t : Table) → count t ≤ count (performed act v t).1
 act_adds (Answers o) v t = omega arith
@@ -160,7 +153,11 @@ act_adds (AddsText bytes x) v t =
     let first = added_adds (At (Own (length t.slots))) (TextKey bytes) x v t in
     omega (arith, length-append u.slots (Here (frozen_text bytes) ∷ []))
 act_adds (Takes k) v t = changed_adds _ v t
-act_adds (TakesPair i) v t = taken_adds i v t
+act_adds (TakesPair i) v t =
+    let u = changed (without_pair i) v t in
+    let first = changed_adds (without_pair i) v t in
+    let second = without_key_adds i v u in
+    omega arith
 act_adds (MakesObject o keys) v t = omega (arith, length-append t.slots (Here o ∷ []))
 
 pub sent_adds : (c : Context) (below : Below) (v : Ref) (m : Option BuiltInMethod) (args : List Ref) (t : Table) → count t ≤ count (sent c below v m args t).1

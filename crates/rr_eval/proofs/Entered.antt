@@ -18,10 +18,10 @@ use Rattle.rr_eval.specs.declared.frame.Control.TheVariants.{Enter}
 use Rattle.rr_eval.specs.View.{View}
 use Rattle.rr_eval.specs.Script.{State, Script, World, Spent, Ended, Waits, run, after, taken}
 use Rattle.rr_eval.specs.Requests.{Course, asking}
-use Rattle.rr_eval.specs.Rules.{Context, rule, meaning, on_value, with_value, settled, operation}
+use Rattle.rr_eval.specs.Rules.{Context, rule, meaning, on_value, with_value, settled, operation, begun}
 use Rattle.rr_eval.specs.Nodes.{evaluated_tree}
 use Rattle.rr_eval.specs.Frames.{Code, runs_in, resumed, start, unwind, outcome_of, below_of}
-use Rattle.rr_eval.specs.Turns.{context_of, code_of, state_of, remaining, after_script, control_of, Replied, leaf_value}
+use Rattle.rr_eval.specs.Turns.{context_of, code_of, state_of, remaining, after_script, control_of, first_control, Replied, leaf_value}
 use Rattle.rr_eval.proofs.Depth.{meaning_rule}
 
 pub entered : (p : Program) (m : View) (t : Table) (here n : ℕ) (node : Node) (script : Script) → m.control ≡ Enter here → m.left ≡ suc n → tree_at p.nodes.items here ≡ evaluated_tree p.nodes.items node → script ≡ rule (context_of p) (evaluated_tree p.nodes.items node) → (h : Course) → remaining p m t h ≡ after_script p m t script h n
@@ -90,3 +90,8 @@ leaf_right p m t n b op x y left there h =
     let ns = p.nodes.items in
     ap (after_script p m t (resumed (code_of p h.world) (Left op b) [] (Gave (Int x))) h) left
     ∙ ap (λ o. unwind (code_of p h.world) (reverse m.frames) m.held (after o (λ r. run h.world (meaning c h.world) (on_value (operation c op (Int x)) r)))) (leaf c h.world (tree_at ns b) (state_of m t h) n (Int y) there)
+
+-- what a program does first
+pub first_start : (p : Program) (w : World) (ds : List ℕ) (root : ℕ) (s : State) (n : ℕ) → start (code_of p w) (first_control ds root) s n ≡ begun (context_of p) w ds (tree_at p.nodes.items root) s n
+first_start p w [] root s n = refl
+first_start p w (d ∷ ds) root s n = refl

@@ -157,6 +157,11 @@ eval c w (suc depth) t s (suc n) = run w (eval c w depth) (rule c t) s n
 abbrev pub meaning : Context → World → Evaluation
 meaning c w t s n = eval c w n t s n
 
+-- what a program does: what its statements do, where it defines nothing, since no definition is evaluated yet
+abbrev pub begun : Context → World → List ℕ → Evaluation
+begun c w [] t s n = meaning c w t s n
+begun c w (definition ∷ more) t s n = run w (meaning c w) (not_here c) s n
+
 -- a script begins with its variables unset, with no object, and with nothing asked
 abbrev pub start_state : Context → Table → State
 start_state c table = record { memory = record { vars = replicate (length c.symbols) Nil; table = table }; asked = [] }

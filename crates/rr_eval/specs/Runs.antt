@@ -24,7 +24,7 @@ use Rattle.rr_eval.specs.declared.run.Outcome.{Outcome as RunOutcome}
 use Rattle.rr_eval.specs.declared.run.Outcome.TheVariants as outcomes
 use Rattle.rr_eval.specs.Calls.{call_reply}
 use Rattle.rr_eval.specs.Script.{Asked, Prints, Calls, World, Outcome, Ended, Spent, Waits, objects_of}
-use Rattle.rr_eval.specs.Rules.{Context, meaning, start_state}
+use Rattle.rr_eval.specs.Rules.{Context, begun, start_state}
 use Rattle.rr_eval.specs.Exceptions.{IsTold}
 use Rattle.rr_eval.specs.Written.{Written, WritesAll, WritesBeginning, FallsShort}
 use Rattle.rr_eval.specs.Turns.{context_of}
@@ -131,7 +131,7 @@ no_objects slots = record { slots = []; below = []; keys = []; limit = slots; ow
 
 -- what a script that runs alone does within limits
 abbrev pub script_meaning : Context → Tree → Limits → Outcome
-script_meaning c tree within = meaning c (alone c) tree (start_state c (no_objects within.slots)) within.steps
+script_meaning c tree within = begun c (alone c) c.program.definitions.items tree (start_state c (no_objects within.slots)) within.steps
 
 -- what a program does
 abbrev pub program_meaning : Program → Limits → Outcome

@@ -1,5 +1,5 @@
 -- What the machine has still to do, and what a turn does of it.
-use Rattle.std.specs.Prelude.{◌≡◌, ◌+◌, ◌*◌, ◌<◌, ◌≤◌, length, map, ℕ, Option, Some, None, Vec, Result, Ok, Err, List, reverse, slice_index_or}
+use Rattle.std.specs.Prelude.{◌≡◌, ◌+◌, ◌*◌, ◌<◌, ◌≤◌, length, map, ℕ, Option, Some, None, Vec, Result, Ok, Err, List, reverse, slice_index_or, [], ◌∷◌}
 use Rattle.rr_base.specs.declared.fault.Fault.{Fault}
 use Rattle.rr_space.specs.Tables.{Table}
 use Rattle.rr_space.specs.declared.refer.Ref.{Ref}
@@ -15,6 +15,7 @@ use Rattle.rr_eval.specs.declared.engine.Turn.{Turn}
 use Rattle.rr_eval.specs.declared.engine.Turn.TheVariants as turns
 use Rattle.rr_eval.specs.Acts.{IsRefusal}
 use Rattle.rr_eval.specs.declared.request.Request.{Request}
+use Rattle.rr_eval.specs.declared.problem.Problem.TheVariants.{NotHere}
 use Rattle.rr_eval.specs.declared.problem.Response.{Response}
 use Rattle.rr_eval.specs.declared.problem.Response.TheVariants as response
 use Rattle.rr_eval.specs.Script.{State, Script, Ask, World, Asked, Outcome, Ended, Spent, Waits}
@@ -63,6 +64,11 @@ abbrev pub control_of : Response → Control
 control_of (response.Gives v) = Give (Gave v)
 control_of (response.Throws e) = Give (Raised e)
 control_of (response.Fails e) = Throw e
+
+-- what comes first: the statements from a node on, where nothing is defined
+abbrev pub first_control : List ℕ → ℕ → Control
+first_control [] root = Enter root
+first_control (definition ∷ more) root = Throw NotHere
 
 -- the machine goes on with a response
 abbrev pub answered : View → Response → View

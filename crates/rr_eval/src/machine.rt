@@ -8,19 +8,19 @@ ghost use Rattle.rr_tree.specs.declared.program.Program.{Program};
 ghost use Rattle.rr_tree.specs.Tree.{Tree, tree_at, listed};
 ghost use Rattle.rr_eval.specs.Acts.{Passes};
 ghost use Rattle.rr_eval.specs.Script.{State, World, Evaluation, run, Ended, Spent, objects_of};
-ghost use Rattle.rr_eval.specs.Rules.{Context, rule, throw, meaning, items};
+ghost use Rattle.rr_eval.specs.Rules.{Context, rule, throw, meaning, begun, items};
 ghost use Rattle.rr_eval.specs.Requests.{Course, Adds};
 ghost use Rattle.rr_eval.specs.Exceptions.{IsTold};
 ghost use Rattle.rr_eval.specs.Thrown.{thrown, thrown_at, report};
 ghost use Rattle.rr_eval.specs.declared.problem.Problem.{Problem};
 ghost use Rattle.rr_eval.specs.declared.problem.Answer.{Answer};
 ghost use Rattle.rr_eval.specs.Changes.{Changes};
-ghost use Rattle.rr_eval.specs.Within.{Reach, reach, AreReached, AreWithin, IsResponseReached, IsTurnReached, IsTurnWithin, KeepsReach, KeepsRead};
-ghost use Rattle.rr_eval.specs.Turns.{context_of, remaining, answered, Turned, Replied, Falls};
+ghost use Rattle.rr_eval.specs.Within.{Reach, reach, AreReached, AreWithin, IsControlReached, IsResponseReached, IsTurnReached, IsTurnWithin, KeepsReach, KeepsRead};
+ghost use Rattle.rr_eval.specs.Turns.{context_of, first_control, remaining, answered, Turned, Replied, Falls};
 
 use crate::engine::{Engine, Turn};
 use crate::frame::Control;
-use crate::problem::Response;
+use crate::problem::{Problem, Response};
 use rr_base::Fault;
 use rr_space::{Ref, Space};
 use rr_tree::Program;
@@ -60,17 +60,30 @@ fn unset(alloc: Global, count: usize) -> Result<Vec<Ref>, AllocError>
     Ok(vars)
 }
 
+/// What comes first: the statements of a program, where it defines nothing.
+fn first_control(program: &Program) -> Control
+    ensures is { result ≡ first_control program.now.definitions.items program.now.root }
+    ensures within { (k : Reach) → IsControlReached k result }
+{
+    match program.definitions.as_slice() {
+        [] => Control::Enter(program.root),
+        _ => Control::Throw(Problem::NotHere),
+    }
+}
+
 impl Machine {
     /// A machine that has the whole program still to do, with `steps` steps to spend. The only fault is `Memory`.
+    ///
+    /// No definition is evaluated yet: a program that has one raises RuntimeError at once.
     #[tactic(auto, unfolding(crate::specs::Within::AreReached))]
     pub fn new(alloc: Global, program: &Program, steps: u64) -> Result<Machine, Fault>
         ensures left { IfOk result (λ m. m.left ≡ steps) }
         ensures within { IfOk result (λ m. (k : Reach) → AreReached k m) }
-        ensures whole { IfOk result (λ m. (t : Table) (h : Course) → remaining program.now m t h ≡ meaning (context_of program.now) h.world (tree_at program.now.nodes.items program.now.root) (record { memory = record { vars = replicate (length program.now.symbols.items) Ref.Nil; table = t }; asked = h.asked }) steps) }
+        ensures whole { IfOk result (λ m. (t : Table) (h : Course) → remaining program.now m t h ≡ begun (context_of program.now) h.world program.now.definitions.items (tree_at program.now.nodes.items program.now.root) (record { memory = record { vars = replicate (length program.now.symbols.items) Ref.Nil; table = t }; asked = h.asked }) steps) }
         ensures fault { IfErr result (λ f. f ≡ Fault.Memory) }
     {
         let engine = Engine {
-            control: Control::Enter(program.root),
+            control: first_control(program),
             frames: Vec::new(alloc),
             held: Vec::new(alloc),
             vars: unset(alloc, program.symbols.len())?,

@@ -7,7 +7,7 @@ use Rattle.rr_eval.specs.declared.request.Request.TheVariants as requests
 use Rattle.rr_eval.specs.Acts.{Passes}
 use Rattle.rr_eval.specs.Script.{objects_of}
 use Rattle.rr_eval.specs.Turns.{context_of, remaining}
-use Rattle.rr_eval.specs.Rules.{meaning}
+use Rattle.rr_eval.specs.Rules.{begun}
 use Rattle.rr_eval.specs.Runs.{alone}
 use Rattle.rr_eval.specs.Requests.{asked_of}
 use Rattle.rr_eval.specs.Within.{reach}
@@ -31,7 +31,7 @@ loop-piece-init g c =
       reached = c.in-Ok-new.ensures.within (reach (length c.new-space.result.slots) (Some []));
       read = none_read c.new-space.result made.below;
       limit = made.limit;
-      running = running_first w p c.in-Ok-new.machine c.new-space.result _ _ (ap (λ s. meaning (context_of p) w (tree_at p.nodes.items p.root) s c.args.limits.steps) begins ∙ sym whole);
+      running = running_first w p c.in-Ok-new.machine c.new-space.result _ _ (ap (λ s. begun (context_of p) w p.definitions.items (tree_at p.nodes.items p.root) s c.args.limits.steps) begins ∙ sym whole);
     }
 
 pub loop-piece-preserved-in-Ok-More : goal.loop-piece-preserved-in-Ok-More
