@@ -8,6 +8,10 @@ mod ends;
 #[cfg(test)]
 mod model;
 #[cfg(test)]
+mod model_constants;
+#[cfg(test)]
+mod model_ports;
+#[cfg(test)]
 mod model_steps;
 #[cfg(test)]
 mod moves;

@@ -3,7 +3,6 @@
 use crate::model::{
     Holder, Inbox, Kind, Mark, Model, Object, Parcel, Told, Value, first_under, mark_of, put,
 };
-use rr_base::Sym;
 use rr_world::{Action, LastKind, NewObject, Operand, Step};
 use std::alloc::{AllocError, Global};
 
@@ -274,12 +273,12 @@ impl Model {
         Ok(Told::Done)
     }
 
-    fn hand(&self, who: usize) -> Option<Parcel> {
+    pub fn hand(&self, who: usize) -> Option<Parcel> {
         self.actors.get(who)?.hand
     }
 
     /// What is in the hand is this, which was moved or not; a home stays with what was moved alone.
-    fn take_in_hand(&mut self, who: usize, hand: Option<Parcel>, moved: bool) {
+    pub fn take_in_hand(&mut self, who: usize, hand: Option<Parcel>, moved: bool) {
         if let Some(actor) = self.actors.get_mut(who) {
             actor.hand = hand;
             actor.moved = moved;
@@ -373,55 +372,6 @@ impl Model {
         Told::WasClosed(already)
     }
 
-    fn close_port(&mut self, to: usize) -> Told {
-        let Some(port) = self.ports.get_mut(to) else {
-            return Told::NotEnabled;
-        };
-        let already = port.closed;
-        port.closed = true;
-        Told::WasClosed(already)
-    }
-
-    /// The message in the hand is the last of the ractor's own port.
-    fn show_last(&mut self, who: usize, is_fault: bool) -> Told {
-        let (Some(parcel), Some(port)) = (self.hand(who), self.ports.get_mut(who)) else {
-            return Told::NotEnabled;
-        };
-        if port.given {
-            return Told::NotEnabled;
-        }
-        port.given = true;
-        if port.closed {
-            return Told::Closed;
-        }
-        let ticket = port.next;
-        port.next = ticket.saturating_add(1);
-        port.closed = true;
-        port.last = Some((ticket, parcel, is_fault));
-        self.hand_on(Holder::Hand(who), Holder::Port(who, ticket));
-        self.take_in_hand(who, None, false);
-        Told::Offered(ticket)
-    }
-
-    fn grab(&mut self, who: usize, to: usize) -> Told {
-        if self.hand(who).is_some() {
-            return Told::NotEnabled;
-        }
-        let Some(port) = self.ports.get_mut(to) else {
-            return Told::NotEnabled;
-        };
-        match port.last {
-            Some((ticket, parcel, is_fault)) => {
-                port.last = None;
-                self.hand_on(Holder::Port(to, ticket), Holder::Hand(who));
-                self.take_in_hand(who, Some(parcel), false);
-                Told::GrabbedLast(is_fault)
-            }
-            None if port.closed => Told::EmptyAndClosed,
-            None => Told::Empty,
-        }
-    }
-
     fn start(&mut self, alloc: Global) -> Result<Told, AllocError> {
         let count = self.actors.len();
         if count >= self.limits.ractors as usize {
@@ -447,40 +397,6 @@ impl Model {
     /// Whether a ractor has not ended.
     fn runs(&self, who: usize) -> bool {
         self.actors.get(who).is_some_and(|actor| actor.runs)
-    }
-
-    /// A constant is set; `public` tells whether each ractor may read it.
-    fn set_constant(&mut self, who: usize, name: Sym, public: bool) -> Result<Told, AllocError> {
-        let name = name.0 as usize;
-        if self.events >= self.limits.events as usize {
-            return Ok(Told::HistoryFull);
-        }
-        if !public && who != 0 {
-            return Ok(Told::NotShareable);
-        }
-        let missing = name.saturating_add(1).saturating_sub(self.constants.len());
-        for _ in 0..missing {
-            self.constants.push(None)?;
-        }
-        if let Some(constant) = self.constants.get_mut(name) {
-            *constant = Some(public);
-        }
-        self.events = self.events.saturating_add(1);
-        Ok(Told::Done)
-    }
-
-    fn get_constant(&mut self, who: usize, name: Sym) -> Result<Told, AllocError> {
-        match self.constants.get(name.0 as usize) {
-            Some(Some(true)) => {
-                if let Some(actor) = self.actors.get_mut(who) {
-                    actor.roots.push(Value::Plain)?;
-                }
-                Ok(Told::Done)
-            }
-            Some(Some(false)) if who == 0 => Ok(Told::OfMain),
-            Some(Some(false)) => Ok(Told::NotMain),
-            _ => Ok(Told::Unknown),
-        }
     }
 
     /// What a step answers, and what it leaves.
