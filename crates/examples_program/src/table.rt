@@ -46,7 +46,7 @@ pub fn script_of(alloc: Global, line: &str) -> Result<(&str, Vec<u8>, &str), Fai
     Ok((name, field(alloc, script)?, rest))
 }
 
-fn check_row(rt: &impl Abort, alloc: Global, line: &str) -> Result<(), Fail> {
+pub fn check_row(rt: &impl Abort, alloc: Global, line: &str) -> Result<(), Fail> {
     let (name, script, rest) = script_of(alloc, line)?;
     let (output, told) = rest.split_once("|").ok_or("a row without an ending")?;
     let left = run_script(alloc, script.as_slice());

@@ -14,7 +14,7 @@ use Rattle.std.proofs.lemmas.List.Elements.{All-weaker}
 use Rattle.rr_text.specs.Reads.{IsReadWith, IsAmong}
 use Rattle.rr_builtin.proofs.Among.{among_of, none_in}
 use Rattle.rr_eval.specs.declared.call.Call.{Call}
-use Rattle.rr_builtin.specs.Acts.{Act, Answers, Makes, Freezes, Appends, Pushes, Takes, MakesArray, Puts, SetsValue, AddsPair, AddsText, TakesPair, MakesObject, Outcome, outcome_of, performed, changed, changed_slot, froze, froze_slot, added, with_key, array_object, with_pair, key_count, IsRefAmong, IsBuiltWithin, IsBuiltAmong, IsDone, Acts}
+use Rattle.rr_builtin.specs.Acts.{Act, Answers, Makes, Freezes, Appends, Pushes, Takes, MakesArray, Puts, SetsValue, AddsPair, AddsText, TakesPair, MakesObject, Outcome, outcome_of, performed, changed, changed_slot, froze, froze_slot, added, with_key, array_object, with_pair, without_pair, without_key, key_count, IsRefAmong, IsBuiltWithin, IsBuiltAmong, IsDone, Acts}
 use Rattle.rr_builtin.specs.Calls.{call_act}
 use Rattle.rr_builtin.specs.declared.method.BuiltInMethod.{BuiltInMethod}
 use Rattle.rr_builtin.specs.declared.built.Built.{Built}

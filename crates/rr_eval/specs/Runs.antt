@@ -1,5 +1,5 @@
 -- What a run of a source leaves.
-use Rattle.std.specs.Prelude.{◌≡◌, ◌≤◌, ◌⊎◌, ℕ, List, [], length, Some, Result, Ok, Err, MatchResult}
+use Rattle.std.specs.Prelude.{◌≡◌, ◌≤◌, ◌⊎◌, ℕ, List, [], length, Some, Result, Ok, Err, MatchResult, map}
 use Rattle.std.specs.List.{flat_map}
 use Rattle.std.specs.Io.KnownBytes.{Keeps}
 use Rattle.rr_base.specs.declared.fault.Fault.{Fault}
@@ -11,7 +11,7 @@ use Rattle.rr_lexer.specs.declared.kind.Token.{Token}
 use Rattle.rr_lexer.specs.Encoding.{refused_from}
 use Rattle.rr_lexer.specs.Lines.{joined}
 use Rattle.rr_lexer.specs.Tokens.{AreTokensOf, Faults, Spelled}
-use Rattle.rr_parser.specs.Grammar.{Spells, SpellsWithin}
+use Rattle.rr_parser.specs.Grammar.{Spells, SpellsWithin, SpellsProgram}
 use Rattle.rr_parser.specs.Fronts.{NestsBeyond}
 use Rattle.rr_parser.specs.Words.{symbols_of, texts_of}
 use Rattle.rr_space.specs.Tables.{Table}
@@ -81,11 +81,11 @@ WithinSlots slots o outcomes.StepLimit = objects_of o ≤ slots
 WithinSlots slots o outcomes.OutputFailed = Unit {0}
 WithinSlots slots o (outcomes.Stopped fault) = Passes fault slots (objects_of o)
 
--- The grammar gives this tree to the bytes, with these names and texts.
+-- The grammar gives these definitions and this tree to the bytes, with these names and texts.
 pub record IsScript (source : List ℕ) (c : Context) (tree : Tree) : Type 0 where
   pub tokens : List Token
   pub lexed : AreTokensOf source tokens
-  pub spelled : SpellsWithin DEFAULT.nesting source tokens tree
+  pub spelled : SpellsProgram DEFAULT.nesting source tokens (map (tree_at c.program.nodes.items) c.program.definitions.items) tree
   pub symbols : c.symbols ≡ symbols_of source tokens
   pub texts : c.texts ≡ texts_of source tokens
 
