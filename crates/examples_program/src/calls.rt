@@ -15,6 +15,8 @@ texts behind a text|a = \"x\"; a << \"y\" << \"z\"; puts a^n|xyz^n|
 a text is changed for all names|a = \"x\"; b = a; b << \"y\"; puts a, a.equal?(b)^n|xy^ntrue^n|
 only a text behind a text|\"a\" << 1^n||wrong type Integer (TypeError)
 a frozen text|a = \"x\".freeze; puts a.frozen?; a << \"y\"^n|true^n|can't modify frozen String (FrozenError)
+a frozen literal|# frozen_string_literal: true^na = \"x\"; puts a.frozen?, a.size; a << \"y\"^n|true^n1^n|can't modify frozen String (FrozenError)
+a copy of a frozen literal|# frozen_string_literal: true^na = \"x\".dup; a << \"y\"; puts a, a.frozen?, (\"a\" + \"b\").frozen?^n|xy^nfalse^nfalse^n|
 a copy is not frozen|a = \"x\".freeze; b = a.dup; b << \"y\"; puts a, b, b.frozen?^n|x^nxy^nfalse^n|
 freezing answers the receiver|puts \"abc\".freeze.size^n|3^n|
 texts compare by bytes|puts \"a\" < \"b\", \"b\" <= \"a\", \"a\" <=> \"b\", \"a\" <=> \"a\", \"b\" <=> \"a\", \"a\" > \"Z\"^n|true^nfalse^n-1^n0^n1^ntrue^n|

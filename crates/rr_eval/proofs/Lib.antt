@@ -15,3 +15,4 @@ pub mod Replies
 pub mod Serving
 pub mod Reading
 pub mod Calling
+pub mod Literals

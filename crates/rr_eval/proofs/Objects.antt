@@ -3,7 +3,7 @@ use Rattle.std.proofs.Common.{◌≡◌, ap, sym, subst, if◌then◌else◌, �
 use Rattle.rr_base.specs.Classes.{class_id}
 use Rattle.rr_base.specs.declared.name.ClassId.{ClassId}
 use Rattle.rr_space.specs.Tables.{Table, Here}
-use Rattle.rr_space.specs.Lookups.{text_object}
+use Rattle.rr_space.specs.Lookups.{text_object, frozen_text}
 use Rattle.rr_space.specs.declared.refer.Ref.{Ref}
 use Rattle.rr_space.specs.declared.refer.Ref.TheVariants.{Int, Local}
 use Rattle.rr_space.specs.declared.refer.Ref.TheVariants as refs
@@ -41,8 +41,9 @@ use Rattle.rr_eval.specs.Frames.{Code, means, runs_in, resumed, stand_of, below_
 abbrev count : Table → ℕ
 count t = length t.slots
 
-make_keeps : (bytes : List ℕ) (t : Table) → count t ≤ count (make bytes t).1
-make_keeps bytes t = omega (arith, length-append t.slots (Here (text_object bytes) ∷ []))
+make_keeps : (frozen : Bool) (bytes : List ℕ) (t : Table) → count t ≤ count (make frozen bytes t).1
+make_keeps true bytes t = omega (arith, length-append t.slots (Here (frozen_text bytes) ∷ []))
+make_keeps false bytes t = omega (arith, length-append t.slots (Here (text_object bytes) ∷ []))
 
 -- a script whose acts take no object away
 abbrev Keeps : Script → Type 0
@@ -63,7 +64,7 @@ raise_keeps : (class : ClassId) (message : Ref) → Keeps (raise class message)
 raise_keeps class message = λ m. (λ k. exception_keeps class message k.table, tt)
 
 throw_keeps : (c : Context) (e : Problem) → Keeps (throw c e)
-throw_keeps c e = λ m. (λ k. make_keeps (message c e) k.table, raise_keeps (class_id (exception_class e)) (Local (length m.table.slots)))
+throw_keeps c e = λ m. (λ k. make_keeps false (message c e) k.table, raise_keeps (class_id (exception_class e)) (Local (length m.table.slots)))
 
 settled_keeps : (c : Context) (r : Response) → Keeps (settled c r)
 settled_keeps c (Gives v) = tt
@@ -117,7 +118,7 @@ rule_keeps c (class_named k) = tt
 rule_keeps c (send a x list) = values_keep c (Call (callees.Name (record { 0 = x }))) (a ∷ items list) []
 rule_keeps c (index a b) = values_keep c (Call callees.Index) (a ∷ b ∷ []) []
 rule_keeps c (append a b) = values_keep c (Call callees.Append) (a ∷ b ∷ []) []
-rule_keeps c (text i) = λ m. (λ k. make_keeps _ k.table, tt)
+rule_keeps c (text i) = λ m. (λ k. make_keeps c.program.freezes _ k.table, tt)
 rule_keeps c (local depth slot x) = λ m. tt
 rule_keeps c (bare x) = bare_keeps c (is_puts c x) x
 rule_keeps c (call x list) = call_keeps c (is_puts c x) (items list)

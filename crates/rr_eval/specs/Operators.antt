@@ -1,9 +1,9 @@
 -- The operators of integers, which the rules have of their own, and new texts.
-use Rattle.std.specs.Prelude.{ℕ, ℤ, List, length}
+use Rattle.std.specs.Prelude.{ℕ, ℤ, Bool, true, false, List, length}
 use Rattle.rr_space.specs.Tables.{Table}
 use Rattle.rr_space.specs.declared.refer.Ref.TheVariants.{Local}
 use Rattle.rr_tree.specs.declared.node.BinaryOperator.{BinaryOperator}
-use Rattle.rr_builtin.specs.Acts.{with_text}
+use Rattle.rr_builtin.specs.Acts.{with_text, with_frozen}
 use Rattle.rr_builtin.specs.Numbers.{on_integers, number_answer}
 use Rattle.rr_builtin.specs.declared.built.Built.{Built}
 use Rattle.rr_builtin.specs.declared.method.NumberMethod.TheVariants.{Opposite}
@@ -24,6 +24,10 @@ integers op x y = settled_number (on_integers op x y)
 abbrev pub opposite : ℤ → Response
 opposite x = settled_number (number_answer Opposite x)
 
--- a new text gets the next number
-abbrev pub make : List ℕ → Table → Response × Table
-make bytes t = (Gives (Local (length t.slots)), with_text bytes t)
+-- a new text, frozen or not, gets the next number
+abbrev pub with_literal : Bool → List ℕ → Table → Table
+with_literal true bytes t = with_frozen bytes t
+with_literal false bytes t = with_text bytes t
+
+abbrev pub make : Bool → List ℕ → Table → Response × Table
+make frozen bytes t = (Gives (Local (length t.slots)), with_literal frozen bytes t)

@@ -128,7 +128,7 @@ rule c (truth b) = Ret (Gave (Truth b))
 rule c (int z) = Ret (Gave (Int z))
 rule c (symbol x) = Ret (Gave (Symbol (record { 0 = x })))
 rule c (class_named k) = Ret (Gave (Class k))
-rule c (text i) = on_table c (make (slice_index_or c.texts i []))
+rule c (text i) = on_table c (make c.program.freezes (slice_index_or c.texts i []))
 rule c (local depth slot x) = read slot
 rule c (bare x) = bare_rule c (is_puts c x) x
 rule c (call x list) = call_rule c (is_puts c x) (items list)

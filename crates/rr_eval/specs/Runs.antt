@@ -9,6 +9,7 @@ use Rattle.rr_base.specs.declared.limits.LimitKind.TheVariants as limits
 use Rattle.rr_base.specs.declared.limits.TheConstants.Limits.{DEFAULT}
 use Rattle.rr_lexer.specs.declared.kind.Token.{Token}
 use Rattle.rr_lexer.specs.Encoding.{refused_from}
+use Rattle.rr_lexer.specs.Freezes.{freezes}
 use Rattle.rr_lexer.specs.Lines.{joined}
 use Rattle.rr_lexer.specs.Tokens.{AreTokensOf, Faults, Spelled}
 use Rattle.rr_parser.specs.Grammar.{Spells, SpellsWithin, SpellsProgram}
@@ -81,13 +82,14 @@ WithinSlots slots o outcomes.StepLimit = objects_of o ≤ slots
 WithinSlots slots o outcomes.OutputFailed = Unit {0}
 WithinSlots slots o (outcomes.Stopped fault) = Passes fault slots (objects_of o)
 
--- The grammar gives these definitions and this tree to the bytes, with these names and texts.
+-- The grammar gives these definitions and this tree to the bytes, with these names and texts; a comment may freeze the texts.
 pub record IsScript (source : List ℕ) (c : Context) (tree : Tree) : Type 0 where
   pub tokens : List Token
   pub lexed : AreTokensOf source tokens
   pub spelled : SpellsProgram DEFAULT.nesting source tokens (map (tree_at c.program.nodes.items) c.program.definitions.items) tree
   pub symbols : c.symbols ≡ symbols_of source tokens
   pub texts : c.texts ≡ texts_of source tokens
+  pub freezes : c.program.freezes ≡ freezes source tokens
 
 -- These tokens spell the bytes, however many bytes there are.
 pub record SpellBytes (source : List ℕ) (tokens : List Token) : Type 0 where

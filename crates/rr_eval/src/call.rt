@@ -1,8 +1,16 @@
 //! What a script calls, and with what.
 
+ghost use Rattle.std.specs.Prelude.{◌≡◌, ◌++◌, ◌∷◌, [], IfOk};
+ghost use Rattle.std.specs.List.{All};
+ghost use Rattle.rr_eval.specs.Context.{Context};
+ghost use Rattle.rr_eval.specs.Requests.{arguments_of};
+ghost use Rattle.rr_eval.specs.Rules.{finish, send_to};
+ghost use Rattle.rr_eval.specs.Within.{Reach, IsReached, IsCallReached};
+
 use rr_base::Sym;
 use rr_space::Ref;
 use rr_tree::BinaryOperator;
+use std::alloc::{AllocError, Global};
 
 /// What is called.
 #[derive(Clone, Copy)]
@@ -42,4 +50,41 @@ pub struct Call {
     pub receiver: Ref,
     pub callee: Callee,
     pub arguments: Arguments,
+}
+
+/// These values and one more, as the arguments of a call.
+fn arguments_of(alloc: Global, values: &[Ref], last: Ref) -> Result<Arguments, AllocError>
+    ensures are { IfOk result (λ arguments. arguments_of arguments ≡ values.now ++ last ∷ []) }
+{
+    match values {
+        [] => Ok(Arguments::One(last)),
+        [first] => Ok(Arguments::Two(*first, last)),
+        _ => {
+            let mut all = Vec::from_slice(alloc, values)?;
+            all.push(last)?;
+            Ok(Arguments::Many(all))
+        }
+    }
+}
+
+/// A call of the first of these values and of one more, with the others as its arguments.
+pub fn call_of(alloc: Global, stand: &[Ref], callee: Callee, last: Ref) -> Result<Call, AllocError>
+    ensures call { IfOk result (λ call. (c : Context) → finish c (Target.Call callee) (stand.now ++ last ∷ []) ≡ send_to c call.callee call.receiver (arguments_of call.arguments)) }
+    ensures within { (k : Reach) → All (IsReached k) stand.now → IsReached k last → IfOk result (IsCallReached k) }
+{
+    match stand {
+        [] => Ok(Call {
+            receiver: last,
+            callee,
+            arguments: Arguments::Without,
+        }),
+        [receiver, others @ ..] => {
+            let arguments = arguments_of(alloc, others, last)?;
+            Ok(Call {
+                receiver: *receiver,
+                callee,
+                arguments,
+            })
+        }
+    }
 }

@@ -110,7 +110,7 @@ impl Engine {
         self.enter_above(frame, receiver);
     }
 
-    /// Evaluates a text literal: a new text.
+    /// Evaluates a text literal: a new text, which a comment at the head of the program may freeze.
     #[inline(never)]
     fn open_text(
         &mut self,
@@ -120,7 +120,7 @@ impl Engine {
     ) -> Result<Option<Request>, Fault>
         requires nested { IsNested (view_of self.old) }
         requires within { AreWithin (length space.old.slots) (view_of self.old) }
-        ensures goes { IfOk result (λ q. (h : Course) (n : ℕ) → after_script program.now (view_of self.old) space.old (on_table (context_of program.now) (make (slice_index_or (context_of program.now).texts i []))) h n ≡ continuing program.now (view_of self.new) space.new q h n) }
+        ensures goes { IfOk result (λ q. (h : Course) (n : ℕ) → after_script program.now (view_of self.old) space.old (on_table (context_of program.now) (make program.now.freezes (slice_index_or (context_of program.now).texts i []))) h n ≡ continuing program.now (view_of self.new) space.new q h n) }
         ensures nested { IsNested (view_of self.new) }
         ensures within { KeepsReach (view_of self.old) space.old (view_of self.new) space.new }
         ensures read { KeepsRead (view_of self.old) space.old space.new }
@@ -130,10 +130,10 @@ impl Engine {
         ensures size { IfOk result (λ q. sized q (view_of self.new) ≤ 3 * length self.old.frames.items + 4) }
         ensures limit { space.new.limit ≡ space.old.limit }
         ensures changed { Changes space.old space.new }
-        ensures full { IfErr result (λ f. (h : Course) (n : ℕ) → Adds h.world → Passes f space.old.limit (objects_of (after_script program.now (view_of self.old) space.old (on_table (context_of program.now) (make (slice_index_or (context_of program.now).texts i []))) h n))) }
+        ensures full { IfErr result (λ f. (h : Course) (n : ℕ) → Adds h.world → Passes f space.old.limit (objects_of (after_script program.now (view_of self.old) space.old (on_table (context_of program.now) (make program.now.freezes (slice_index_or (context_of program.now).texts i []))) h n))) }
     {
         let text = literal(self.alloc, program, i)?;
-        match make(space, text) {
+        match make(space, program.freezes, text) {
             Ok(what) => {
                 self.settle(what);
                 Ok(None)

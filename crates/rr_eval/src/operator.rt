@@ -3,13 +3,13 @@
 ghost use Rattle.std.specs.Prelude.{◌≡◌, ◌+ℤ◌, ◌-ℤ◌, ◌*ℤ◌, length, Option, IfOk, IfErr};
 ghost use Rattle.rr_space.specs.Tables.{Below};
 ghost use Rattle.rr_text.specs.Reads.{IsReadWith};
-ghost use Rattle.rr_builtin.specs.Acts.{with_text};
+ghost use Rattle.rr_builtin.specs.Acts.{with_text, with_frozen};
 ghost use Rattle.rr_builtin.specs.Integers.{given, quotient_of, remainder_of, order_of};
 ghost use Rattle.rr_builtin.specs.Numbers.{number_given};
 ghost use Rattle.rr_eval.specs.Acts.{Acts, IsRefusal, Passes};
 ghost use Rattle.rr_eval.specs.Changes.{Changes};
 ghost use Rattle.rr_eval.specs.Within.{Reach, reach, IsResponseReached};
-ghost use Rattle.rr_eval.specs.Operators.{settled_number, integers, opposite, make};
+ghost use Rattle.rr_eval.specs.Operators.{settled_number, integers, opposite, with_literal, make};
 
 use crate::problem::{Problem, Response};
 use rr_base::Fault;
@@ -146,16 +146,53 @@ pub fn make_text(space: &mut Space, bytes: Vec<u8>) -> Result<Ref, Fault>
     }
 }
 
-/// Makes a new text, as an operation.
-pub fn make(space: &mut Space, bytes: Vec<u8>) -> Result<Response, Fault>
-    ensures acts { Acts (make bytes.items) space.old space.new result }
+/// Makes a new frozen text. A refused growth leaves the objects as they were.
+fn make_frozen(space: &mut Space, bytes: Vec<u8>) -> Result<Ref, Fault>
+    ensures name { IfOk result (λ text. text ≡ Ref.Local (length space.old.slots)) }
+    ensures made { IfOk result (λ _. space.new ≡ with_frozen bytes.items space.old) }
+    ensures read { (below : Below) → IsReadWith space.old below → IsReadWith space.new below }
+    ensures kept { IfErr result (λ _. space.new ≡ space.old) }
+    ensures refused { IfErr result IsRefusal }
+    ensures limit { space.new.limit ≡ space.old.limit }
+    ensures changed { Changes space.old space.new }
+    ensures full { IfErr result (λ f. Passes f space.old.limit (length (with_frozen bytes.items space.old).slots)) }
+{
+    match make_text(space, bytes) {
+        Ok(text) => {
+            space.freeze(text);
+            Ok(text)
+        }
+        Err(fault) => Err(fault),
+    }
+}
+
+/// Makes the text of a literal. A refused growth leaves the objects as they were.
+fn make_literal(space: &mut Space, frozen: bool, bytes: Vec<u8>) -> Result<Ref, Fault>
+    ensures name { IfOk result (λ text. text ≡ Ref.Local (length space.old.slots)) }
+    ensures made { IfOk result (λ _. space.new ≡ with_literal frozen bytes.items space.old) }
+    ensures read { (below : Below) → IsReadWith space.old below → IsReadWith space.new below }
+    ensures kept { IfErr result (λ _. space.new ≡ space.old) }
+    ensures refused { IfErr result IsRefusal }
+    ensures limit { space.new.limit ≡ space.old.limit }
+    ensures changed { Changes space.old space.new }
+    ensures full { IfErr result (λ f. Passes f space.old.limit (length (with_literal frozen bytes.items space.old).slots)) }
+{
+    match frozen {
+        true => make_frozen(space, bytes),
+        false => make_text(space, bytes),
+    }
+}
+
+/// Makes the text of a literal, frozen or not, as an operation.
+pub fn make(space: &mut Space, frozen: bool, bytes: Vec<u8>) -> Result<Response, Fault>
+    ensures acts { Acts (make frozen bytes.items) space.old space.new result }
     ensures within { (below : Option Below) → IfOk result (IsResponseReached (reach (length space.new.slots) below)) }
     ensures read { (below : Below) → IsReadWith space.old below → IsReadWith space.new below }
     ensures limit { space.new.limit ≡ space.old.limit }
     ensures changed { Changes space.old space.new }
-    ensures full { IfErr result (λ f. Passes f space.old.limit (length (make bytes.items space.old).1.slots)) }
+    ensures full { IfErr result (λ f. Passes f space.old.limit (length (make frozen bytes.items space.old).1.slots)) }
 {
-    match make_text(space, bytes) {
+    match make_literal(space, frozen, bytes) {
         Ok(text) => Ok(Response::Gives(text)),
         Err(fault) => Err(fault),
     }

@@ -16,7 +16,7 @@ ghost use Rattle.std.specs.List.{All};
 ghost use Rattle.rr_eval.specs.Views.{view_of};
 ghost use Rattle.rr_eval.specs.Within.{Reach, IsReached, IsFrameReached, IsCallReached, IsAskedReached, AreReached};
 
-use crate::call::{Arguments, Call, Callee, Target};
+use crate::call::{Arguments, Call, Callee, Target, call_of};
 use crate::engine::{Engine, push_within};
 use crate::frame::{Control, Frame};
 use crate::operator::{on_integers, opposite};
@@ -28,7 +28,6 @@ use rr_base::Fault;
 use rr_builtin::is_truthy;
 use rr_space::{Ref, Space};
 use rr_tree::{BinaryOperator, NodeId, Program};
-use std::alloc::{AllocError, Global};
 
 /// Puts a value in the place of another, where there is one.
 #[inline(always)]
@@ -57,43 +56,6 @@ fn set_variable(vars: &mut Vec<Ref>, slot: u32, value: Ref)
     ensures { vars.new.items ≡ slice_set vars.old.items slot value }
 {
     set_at(vars, slot as usize, value);
-}
-
-/// These values and one more, as the arguments of a call.
-fn arguments_of(alloc: Global, values: &[Ref], last: Ref) -> Result<Arguments, AllocError>
-    ensures are { IfOk result (λ arguments. arguments_of arguments ≡ values.now ++ last ∷ []) }
-{
-    match values {
-        [] => Ok(Arguments::One(last)),
-        [first] => Ok(Arguments::Two(*first, last)),
-        _ => {
-            let mut all = Vec::from_slice(alloc, values)?;
-            all.push(last)?;
-            Ok(Arguments::Many(all))
-        }
-    }
-}
-
-/// A call of the first of these values and of one more, with the others as its arguments.
-fn call_of(alloc: Global, stand: &[Ref], callee: Callee, last: Ref) -> Result<Call, AllocError>
-    ensures call { IfOk result (λ call. (c : Context) → finish c (Target.Call callee) (stand.now ++ last ∷ []) ≡ send_to c call.callee call.receiver (arguments_of call.arguments)) }
-    ensures within { (k : Reach) → All (IsReached k) stand.now → IsReached k last → IfOk result (IsCallReached k) }
-{
-    match stand {
-        [] => Ok(Call {
-            receiver: last,
-            callee,
-            arguments: Arguments::Without,
-        }),
-        [receiver, others @ ..] => {
-            let arguments = arguments_of(alloc, others, last)?;
-            Ok(Call {
-                receiver: *receiver,
-                callee,
-                arguments,
-            })
-        }
-    }
 }
 
 impl Engine {

@@ -13,8 +13,8 @@ returns-in-Err-clause-full c h n adds =
     let p = c.args.program.now in
     let t = c.args.space.now in
     let f = c.in-Err.fault in
-    let passes = subst (λ bytes. Passes f t.limit (length (make bytes t).1.slots)) c.in_ok-text.ensures c.in-Err.ensures.full in
-    act_passes p (view_of c.args.self.now) t (make (slice_index_or (context_of p).texts c.args.i [])) f h n adds passes
+    let passes = subst (λ bytes. Passes f t.limit (length (make p.freezes bytes t).1.slots)) c.in_ok-text.ensures c.in-Err.ensures.full in
+    act_passes p (view_of c.args.self.now) t (make p.freezes (slice_index_or (context_of p).texts c.args.i [])) f h n adds passes
 
 pub returns-in-Ok-clause-within : goal.returns-in-Ok-clause-within
 returns-in-Ok-clause-within c cs h =
