@@ -218,9 +218,9 @@ same_list (x ∷ xs) (y ∷ ys) size same = ap (λ z. z ∷ xs) (same 0) ∙ ap 
 -- a table that went to an owner who had nothing has the list of names that it had
 pub names_moved : {old new : Layout} {a b : Owner} {os : List Object} {names names2 : Naming} {bound bound2 : ℕ} {g g2 : Objects} → Goes a b os [] old new → IsReading old names bound g
     → IsReading new names2 bound2 g2 → IsJoined old a b os [] names names2 → names2 b ≡ names a
-names_moved {old} {new} {a} {b} {os} {names} {names2} G R R2 J =
+names_moved {old} {new} {a} {b} {os} {names} {names2} G R S J =
     same_list (names2 b) (names a)
-    ((R2.reads b ([] ++ map (here_behind 0) os) G.come).size ∙ length-map os (here_behind 0) ∙ sym (length-map os Here) ∙ sym (R.reads a (map Here os) G.from).size)
+    ((S.reads b ([] ++ map (here_behind 0) os) G.come).size ∙ length-map os (here_behind 0) ∙ sym (length-map os Here) ∙ sym (R.reads a (map Here os) G.from).size)
     (λ i. ap (slice_index (names2 b)) (let e : i ≡ 0 + i = omega arith in e) ∙ J.come i)
 
 -- and its message is what it was

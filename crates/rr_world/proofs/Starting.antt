@@ -73,11 +73,11 @@ each_append f k n (x ∷ xs) y e = ap (λ ys. f k x ∷ ys) (each_append f (k + 
 -- a table that is made anew, empty, where there was none, leaves all objects
 pub remade_empty : (h : Owner) (old new : Layout) (names names2 : Naming) (bound bound2 : ℕ) (g g2 : Objects) → Remakes h 0 [] [] old new → old h ≡ None → IsReading old names bound g
     → IsReading new names2 bound2 g2 → IsNamed h names names2 → IsRemade h [] [] names names2 g g2 → (j : ℕ) → g2 j ≡ g j
-remade_empty h old new names names2 bound bound2 g g2 E was R R2 N M j = by (g j) refl
+remade_empty h old new names names2 bound bound2 g g2 E was R S N M j = by (g j) refl
   where
     none_new : (y : Owned) → g j ≡ None → g2 j ≡ Some y → ⊥
     none_new y none e =
-        let st = R2.only j y e in
+        let st = S.only j y e in
         ⊎_elim
         (λ mine.
         let t_is : st.table ≡ [] = same_Some _ _ (sym st.is_table ∙ ap new mine ∙ E.now) in
