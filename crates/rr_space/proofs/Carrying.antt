@@ -27,7 +27,7 @@ use Rattle.rr_space.proofs.Listing.{place_first}
 use Rattle.rr_space.proofs.Entering.{Entries}
 use Rattle.rr_space.proofs.Parting.{held_within}
 use Rattle.rr_space.proofs.Placing.{table_of, stands, count_is}
-use Rattle.rr_space.proofs.Resolving.{below_joined}
+use Rattle.rr_space.proofs.Sounds.{joined_in}
 
 -- one more of each list
 pub more_at : {X : Type 0} (R : X → X → Type 0) (xs ys : List X) (i : ℕ) (x y : X) → slice_get xs i ≡ Some x → AllZip R (take i xs) ys → R x y → AllZip R (take (i + 1) xs) (ys ++ y ∷ [])
@@ -176,7 +176,7 @@ module _ (t : Table) (names : List ℕ) (n : ℕ) (node copy : Node) (frozen : B
         same o p e = cc
 
     pub copy_below : slice_get t.below n ≡ Some (below_node node) → (e : ℕ × List Object) → Contains (below_node copy) e → Contains (joined t.below) e
-    copy_below at e has = ⊎_elim (λ w. w) (λ w. below_joined t.below n (below_node node) e at w) (copied_below t names (node_parts node) (node_parts copy) parts e has)
+    copy_below at e has = ⊎_elim (λ w. w) (λ w. joined_in t.below n (below_node node) e at w) (copied_below t names (node_parts node) (node_parts copy) parts e has)
 
 -- what stands in the slot of a whole object is that object
 pub not_whole : (h : Held) → IsTrue (is_whole (Some (slot_of h))) → ((frozen : Bool) (node : Node) → h ≡ Whole frozen node → ⊥) → ⊥

@@ -19,7 +19,7 @@ zip_at R (x ∷ xs) [] i a z e = absurd z
 zip_at R (x ∷ xs) (y ∷ ys) zero a z e = (y, refl, subst (λ t. R t y) (same_Some x a e) z.0)
 zip_at R (x ∷ xs) (y ∷ ys) (suc i) a z e = zip_at R xs ys i a z.1 e
 
-zip_back : {A B : Type 0} (R : A → B → Type 0) (xs : List A) (ys : List B) (i : ℕ) (b : B) → AllZip R xs ys → slice_get ys i ≡ Some b → (a : A) × (slice_get xs i ≡ Some a) × R a b
+pub zip_back : {A B : Type 0} (R : A → B → Type 0) (xs : List A) (ys : List B) (i : ℕ) (b : B) → AllZip R xs ys → slice_get ys i ≡ Some b → (a : A) × (slice_get xs i ≡ Some a) × R a b
 zip_back R [] [] i b z e = absurd (none-some b e)
 zip_back R [] (y ∷ ys) i b z e = absurd z
 zip_back R (x ∷ xs) [] i b z e = absurd z

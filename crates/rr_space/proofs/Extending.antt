@@ -20,7 +20,7 @@ use Rattle.rr_space.proofs.Placing.{table_of}
 use Rattle.rr_space.proofs.Removing.{values_placed}
 use Rattle.rr_space.proofs.Within.{ref_later}
 
-get_front : {A : Type 0} (xs ys : List A) (n : ℕ) → n < length xs → slice_get (xs ++ ys) n ≡ slice_get xs n
+pub get_front : {A : Type 0} (xs ys : List A) (n : ℕ) → n < length xs → slice_get (xs ++ ys) n ≡ slice_get xs n
 get_front [] ys n lt = absurd (let w : ⊥ = omega (arith, lt) in w)
 get_front (x ∷ xs) ys zero lt = refl
 get_front (x ∷ xs) ys (suc n) lt = get_front xs ys n (omega (arith, lt))

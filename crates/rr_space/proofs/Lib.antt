@@ -44,3 +44,5 @@ pub mod Renumbered
 pub mod Taking
 pub mod Labelling
 pub mod Paging
+pub mod KeyObjects
+pub mod KeyCopies

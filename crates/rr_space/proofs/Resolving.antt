@@ -1,9 +1,8 @@
 -- References whose forwards are followed.
-use Rattle.std.proofs.Common.{◌≡◌, ℕ, zero, suc, ◌≤◌, List, [], ◌∷◌, length, slice_get, Some, Contains, sym, ap, ◌∙◌, subst}
-use Rattle.std.proofs.lemmas.List.Elements.{Contains-append_left, Contains-append_right}
-use Rattle.std.proofs.lemmas.Option.{same_Some, none-some, slice_get_past}
-use Rattle.rr_space.specs.Graph.{At, Object}
-use Rattle.rr_space.specs.Tables.{Below, Table, joined, resolve, resolve_slot, end_of}
+use Rattle.std.proofs.Common.{◌≡◌, ℕ, ◌≤◌, length, sym, ap, ◌∙◌}
+use Rattle.std.proofs.lemmas.Option.{slice_get_past}
+use Rattle.rr_space.specs.Graph.{At}
+use Rattle.rr_space.specs.Tables.{Table, resolve, resolve_slot, end_of}
 use Rattle.rr_space.specs.Parts.{value_of}
 use Rattle.rr_space.specs.Views.{StandsAt, slot_of}
 use Rattle.rr_space.specs.declared.refer.Ref.{Ref}
@@ -18,9 +17,3 @@ resolved_here t n v h is s = ap (λ x. resolve t.slots (value_of x)) is ∙ ap (
 pub resolved_past : (t : Table) (n : ℕ) (v : Ref) → v ≡ Local n → length t.slots ≤ n → resolve t.slots (value_of v) ≡ value_of v
 resolved_past t n v is past =
     ap (λ x. resolve t.slots (value_of x)) is ∙ ap (λ x. At (resolve_slot x n)) (slice_get_past t.slots n past) ∙ sym (ap value_of is)
-
--- the clusters of one slot are among those of the table
-pub below_joined : (bs : List Below) (n : ℕ) (b : Below) (e : ℕ × List Object) → slice_get bs n ≡ Some b → Contains b e → Contains (joined bs) e
-below_joined [] n b e at has = absurd (none-some b at)
-below_joined (x ∷ bs) zero b e at has = Contains-append_left x (joined bs) e (subst (λ y. Contains y e) (sym (same_Some x b at)) has)
-below_joined (x ∷ bs) (suc n) b e at has = Contains-append_right x (joined bs) e (below_joined bs n b e at has)

@@ -93,17 +93,25 @@ SameValue P (At (Own n)) (At (Published c p)) = ⊥
 SameValue P (At (Published c p)) (At (Own m)) = ⊥
 SameValue P (At (Published c p)) (At (Published d q)) = (c ≡ d) × (p ≡ q)
 
--- one label, and the same value under it
-abbrev pub SameTriple : (ℕ → ℕ → Type 0) → Label × Value → Label × Value → Type 0
-SameTriple P s t = (s.0 ≡ t.0) × SameValue P s.1 t.1
+-- one label, and values under it of which the relation holds
+abbrev pub SameTripleBy : (Value → Value → Type 0) → Label × Value → Label × Value → Type 0
+SameTripleBy Same s t = (s.0 ≡ t.0) × Same s.1 t.1
 
--- equal kind, class, contents, frozen flag and labels, with the same values under the labels
-pub record Matches (P : ℕ → ℕ → Type 0) (o p : Object) : Type 0 where
+-- equal kind, class, contents, frozen flag and labels, with values under the labels of which the relation holds
+pub record MatchesBy (Same : Value → Value → Type 0) (o p : Object) : Type 0 where
   pub kind : o.kind ≡ p.kind
   pub class : o.class ≡ p.class
   pub bytes : o.bytes ≡ p.bytes
   pub frozen : o.frozen ≡ p.frozen
-  pub triples : AllZip (SameTriple P) o.triples p.triples
+  pub triples : AllZip (SameTripleBy Same) o.triples p.triples
+
+-- one label, and the same value under it
+abbrev pub SameTriple : (ℕ → ℕ → Type 0) → Label × Value → Label × Value → Type 0
+SameTriple P = SameTripleBy (SameValue P)
+
+-- the objects are the same, but for the names of a pair
+abbrev pub Matches : (ℕ → ℕ → Type 0) → Object → Object → Type 0
+Matches P = MatchesBy (SameValue P)
 
 -- P pairs the part of v in g with the part of w in h, one to one, and paired objects match
 pub record Alike (g : Graph) (v : Value) (h : Graph) (w : Value) (P : ℕ → ℕ → Type 0) : Type 0 where
@@ -130,14 +138,11 @@ SameIn g P (At n) (Plain q) = ⊥
 SameIn g P (At n) (At m) = P n m ⊎ ((n ≡ m) × IsShareable g (At n))
 
 abbrev pub SameTripleIn : Graph → (Name → Name → Type 0) → Label × Value → Label × Value → Type 0
-SameTripleIn g P s t = (s.0 ≡ t.0) × SameIn g P s.1 t.1
+SameTripleIn g P = SameTripleBy (SameIn g P)
 
-pub record MatchesIn (g : Graph) (P : Name → Name → Type 0) (o p : Object) : Type 0 where
-  pub kind : o.kind ≡ p.kind
-  pub class : o.class ≡ p.class
-  pub bytes : o.bytes ≡ p.bytes
-  pub frozen : o.frozen ≡ p.frozen
-  pub triples : AllZip (SameTripleIn g P) o.triples p.triples
+-- the objects are the same, but for the names of a pair
+abbrev pub MatchesIn : Graph → (Name → Name → Type 0) → Object → Object → Type 0
+MatchesIn g P = MatchesBy (SameIn g P)
 
 -- P pairs the part of v in g with the part of w in h, one to one, and paired objects match
 pub record IsAlike (g : Graph) (v : Value) (h : Graph) (w : Value) (P : Name → Name → Type 0) : Type 0 where

@@ -15,4 +15,5 @@ pub mod Places
 pub mod Moves
 pub mod Steps
 pub mod Laws
+pub mod KeyObjects
 pub mod Examples

@@ -6,6 +6,7 @@ ghost use Rattle.rr_space.specs.Laws.{CopiesAreAlikeInTheWhole, EmptyIsRead};
 ghost use Rattle.rr_space.specs.Readings.{SpacesAreInside};
 ghost use Rattle.rr_space.specs.Laws.{ClosedStaysInside, FrozenIsShareable, PromotedIsPart, EmptiedIsNotShareable};
 ghost use Rattle.rr_space.specs.Examples.{Examples};
+ghost use Rattle.rr_space.specs.KeyObjects.{KeyIsNamed, OtherIsWritten, ValueIsWritten, PairIsAdded, TextPairIsAdded, PairIsTaken, ObjectIsFrozen, ObjectIsMade, ObjectsArrive, ObjectIsForwarded, ObjectIsEmptied, ObjectIsPutBack, CopiesAreNamed};
 ghost use Rattle.rr_space.specs.Readings.{ReadingsAreApart, RootsAreLocal};
 ghost use Rattle.rr_space.specs.Laws.{MarksDecide};
 ghost use Rattle.rr_space.specs.Moves.{ForwardedIsExact, KeepingAddsUp, PromotingKeeps, OpeningKeeps, PuttingBackKeeps};
@@ -107,4 +108,21 @@ pub fn shown_by_changes()
     ensures frozen { FrozenIsShareable }
     ensures promoted { PromotedIsPart }
     ensures emptied { EmptiedIsNotShareable }
+{}
+
+/// Each key of a hash is the key that its key object is: each call that writes keeps that so.
+pub fn shown_by_keys()
+    ensures key { KeyIsNamed }
+    ensures written { OtherIsWritten }
+    ensures value { ValueIsWritten }
+    ensures pair { PairIsAdded }
+    ensures text_pair { TextPairIsAdded }
+    ensures taken { PairIsTaken }
+    ensures frozen { ObjectIsFrozen }
+    ensures made { ObjectIsMade }
+    ensures arrive { ObjectsArrive }
+    ensures forwarded { ObjectIsForwarded }
+    ensures emptied { ObjectIsEmptied }
+    ensures put_back { ObjectIsPutBack }
+    ensures copied { CopiesAreNamed }
 {}

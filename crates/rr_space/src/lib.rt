@@ -33,9 +33,9 @@ pub use kind::Kind;
 pub use label::Label;
 pub use laws::{
     shown_by_cases, shown_by_changes, shown_by_copying, shown_by_dropping, shown_by_effects,
-    shown_by_embedding, shown_by_examples, shown_by_handing_on, shown_by_keeping, shown_by_leaves,
-    shown_by_marks, shown_by_publishing, shown_by_reading, shown_by_remaking, shown_by_soundness,
-    shown_by_spaces,
+    shown_by_embedding, shown_by_examples, shown_by_handing_on, shown_by_keeping, shown_by_keys,
+    shown_by_leaves, shown_by_marks, shown_by_publishing, shown_by_reading, shown_by_remaking,
+    shown_by_soundness, shown_by_spaces,
 };
 pub use node::{Entries, Key, Node};
 pub use published::Published;

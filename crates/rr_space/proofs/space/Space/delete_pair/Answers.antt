@@ -11,7 +11,7 @@ use Rattle.rr_space.proofs.Standing.{mid_size, kind_of_node, on_some, on_none, s
 use Rattle.std.proofs.lemmas.List.Elements.{Contains-append_left, Contains-append_right}
 use Rattle.rr_space.specs.Parts.{below_ref}
 use Rattle.rr_space.proofs.Knowing.{if_some}
-use Rattle.rr_space.proofs.Resolving.{below_joined}
+use Rattle.rr_space.proofs.Sounds.{joined_in}
 use Rattle.rr_space.proofs.space.Space.delete_pair.Goals as goal
 
 pub put-requires-clause-within : goal.put-requires-clause-within
@@ -86,7 +86,7 @@ returns-in-Whole-clause-none c =
 pub returns-in-Whole-clause-known : goal.returns-in-Whole-clause-known
 returns-in-Whole-clause-known c =
     let t = c.args.self.now in
-    let known : (e : ℕ × List Object) → Contains (below_node c.in-Whole.node) e → Contains (joined t.below) e = λ e h. below_joined t.below c.in-Local.slot (below_node c.in-Whole.node) e c.in-Whole.ensures.stood.below h in
+    let known : (e : ℕ × List Object) → Contains (below_node c.in-Whole.node) e → Contains (joined t.below) e = λ e h. joined_in t.below c.in-Local.slot (below_node c.in-Whole.node) e c.in-Whole.ensures.stood.below h in
     if_some c.without_pair-changed.result.1 _ _
     (λ p inside. (
       λ e has. known e (inside e (Contains-append_left (below_ref p.0) (below_ref p.1) e has)),

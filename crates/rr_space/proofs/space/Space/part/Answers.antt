@@ -12,7 +12,7 @@ use Rattle.rr_space.proofs.Parting.{triples_here, hold_first, held_within}
 use Rattle.rr_space.proofs.Placing.{stands}
 use Rattle.rr_space.proofs.Within.{part_within}
 use Rattle.rr_space.proofs.Knowing.{if_some, part_below}
-use Rattle.rr_space.proofs.Resolving.{below_joined}
+use Rattle.rr_space.proofs.Sounds.{joined_in}
 use Rattle.rr_space.proofs.space.Space.part.Goals as goal
 
 pub returns-in-Whole-clause-within : goal.returns-in-Whole-clause-within
@@ -60,7 +60,7 @@ returns-in-Whole-clause-known c =
     let lt : n < length hs = omega (arith, c.if-slot-len.false, c.len.ensures, c.self.inside.slots.ok) in
     let at = slice_get_read hs (length hs) n c.index.result.now refl lt c.index.ensures ∙ ap Some c.in-Whole.is in
     let s = stands hs c.self.inside.limit c.self.inside.owner.0 c.self.inside.next_message t n h c.self.view_is at in
-    if_some c.part.result _ _ (λ p inside e has. inl (below_joined t.below n (below_node c.in-Whole.node) e s.below (inside e has)))
+    if_some c.part.result _ _ (λ p inside e has. inl (joined_in t.below n (below_node c.in-Whole.node) e s.below (inside e has)))
     (part_below (node_parts c.in-Whole.node) c.args.k c.part.result c.part.ensures)
 
 pub returns-in-Forward-clause-known : goal.returns-in-Forward-clause-known
@@ -72,7 +72,7 @@ returns-in-Forward-clause-known c =
     let lt : n < length hs = omega (arith, c.if-slot-len.false, c.len.ensures, c.self.inside.slots.ok) in
     let at = slice_get_read hs (length hs) n c.index.result.now refl lt c.index.ensures ∙ ap Some c.in-Forward.is in
     let s = stands hs c.self.inside.limit c.self.inside.owner.0 c.self.inside.next_message t n h c.self.view_is at in
-    if_some c.part_outside.result _ _ (λ p inside e has. inl (below_joined t.below n (below_hold c.in-Forward.cluster.now) e s.below (inside e has))) c.part_outside.ensures.below
+    if_some c.part_outside.result _ _ (λ p inside e has. inl (joined_in t.below n (below_hold c.in-Forward.cluster.now) e s.below (inside e has))) c.part_outside.ensures.below
 
 pub returns-in-Shared-clause-known : goal.returns-in-Shared-clause-known
 returns-in-Shared-clause-known c =

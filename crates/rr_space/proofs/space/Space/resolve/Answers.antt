@@ -4,7 +4,8 @@ use Rattle.rr_space.specs.Tables.{below_hold}
 use Rattle.rr_space.specs.declared.node.Held.TheVariants.{Forward}
 use Rattle.rr_space.proofs.Parting.{held_within}
 use Rattle.rr_space.proofs.Placing.{stands}
-use Rattle.rr_space.proofs.Resolving.{resolved_here, below_joined}
+use Rattle.rr_space.proofs.Resolving.{resolved_here}
+use Rattle.rr_space.proofs.Sounds.{joined_in}
 use Rattle.rr_space.proofs.space.Space.resolve.Goals as goal
 
 pub returns-in-Forward : goal.returns-in-Forward
@@ -19,5 +20,5 @@ returns-in-Forward c =
     record {
       value = sym (resolved_here t n c.args.value h c.in-Local.is s);
       within = λ _. held_within hs c.self.inside.limit c.self.inside.owner.0 c.self.inside.next_message t n h c.self.view_is c.self.invariant.1 at;
-      below = λ e has. inl (below_joined t.below n (below_hold c.in-Forward.cluster.now) e s.below has);
+      below = λ e has. inl (joined_in t.below n (below_hold c.in-Forward.cluster.now) e s.below has);
     }

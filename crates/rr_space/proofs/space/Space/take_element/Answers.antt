@@ -13,7 +13,7 @@ use Rattle.rr_space.proofs.Writing.{triples_is}
 use Rattle.rr_space.proofs.Removing.{array_parts, array_values, values_placed}
 use Rattle.rr_space.proofs.Standing.{bare, mid_size, kind_of_node, on_some, on_none, some_within, of_object, of_place, slots_are, keys_same, led_also, put_same}
 use Rattle.rr_space.proofs.Knowing.{if_some}
-use Rattle.rr_space.proofs.Resolving.{below_joined}
+use Rattle.rr_space.proofs.Sounds.{joined_in}
 use Rattle.rr_space.proofs.space.Space.take_element.Goals as goal
 
 pub put-requires-clause-within : goal.put-requires-clause-within
@@ -105,5 +105,5 @@ returns-in-Whole-clause-none c =
 pub returns-in-Whole-clause-known : goal.returns-in-Whole-clause-known
 returns-in-Whole-clause-known c =
     let t = c.args.self.now in
-    if_some c.without_element-changed.result.1 _ _ (λ r inside e has. below_joined t.below c.in-Local.slot (below_node c.in-Whole.node) e c.in-Whole.ensures.stood.below (inside e has))
+    if_some c.without_element-changed.result.1 _ _ (λ r inside e has. joined_in t.below c.in-Local.slot (below_node c.in-Whole.node) e c.in-Whole.ensures.stood.below (inside e has))
     c.without_element-changed.ensures.below_taken
