@@ -1,7 +1,7 @@
 //! Books and shares.
 
 ghost use Rattle.std.specs.Prelude.{◌≡◌, ◌+◌, ◌≤◌, ◌<◌, ◌^◌, ◌↔◌, ◌++◌, ◌∷◌, [], length, slice_get, slice_set, IfOk, IsTrue, MatchResult, vec_len};
-ghost use Rattle.rr_ledger.specs.Books.{BookView, ShareView, no_numbers, delivered_more, refused_more, taken_more, totals, total, out_row, back_row, IsRow, HasRoom, share_with, book_with, book_counts, MayTake, AllBack};
+ghost use Rattle.rr_ledger.specs.Books.{BookView, ShareView, no_numbers, delivered_more, refused_more, taken_more, totals, total, out_row, back_row, IsRow, HasRoom, share_with, book_with, book_counts, MayTake, AllBack, Agrees};
 
 use super::numbers::{Numbers, Row};
 use rr_base::{Channel, Fault};
@@ -114,10 +114,9 @@ impl Book {
         ensures book { self.new ≡ book_counts self.old share.old (delivered_more share.old.numbers size) }
         ensures row { IsRow self.new share.new }
     {
-        self.sum = self.sum.delivered_more(size);
+        let sum = self.sum.delivered_more(size);
         let numbers = share.numbers.delivered_more(size);
-        self.rows[share.place] = Row::out(numbers);
-        share.numbers = numbers;
+        self.count(share, sum, numbers);
     }
 
     /// Counts a message of this size as refused: it went back with a fault.
@@ -128,10 +127,9 @@ impl Book {
         ensures book { self.new ≡ book_counts self.old share.old (refused_more share.old.numbers size) }
         ensures row { IsRow self.new share.new }
     {
-        self.sum = self.sum.refused_more(size);
+        let sum = self.sum.refused_more(size);
         let numbers = share.numbers.refused_more(size);
-        self.rows[share.place] = Row::out(numbers);
-        share.numbers = numbers;
+        self.count(share, sum, numbers);
     }
 
     /// Counts a message of this size as taken: it left the channel.
@@ -142,8 +140,20 @@ impl Book {
         ensures book { self.new ≡ book_counts self.old share.old (taken_more share.old.numbers size) }
         ensures row { IsRow self.new share.new }
     {
-        self.sum = self.sum.taken_more(size);
+        let sum = self.sum.taken_more(size);
         let numbers = share.numbers.taken_more(size);
+        self.count(share, sum, numbers);
+    }
+
+    /// Puts other numbers into a share and its row, and their sum beside the rows.
+    fn count(&mut self, share: &mut Share, sum: Numbers, numbers: Numbers)
+        requires is_row { IsRow self.old share.old }
+        requires agrees { Agrees sum (slice_set self.old.rows share.old.place (out_row numbers)) self.old.limit }
+        ensures share { share.new ≡ share_with share.old numbers }
+        ensures book { self.new ≡ book_counts self.old share.old numbers }
+        ensures row { IsRow self.new share.new }
+    {
+        self.sum = sum;
         self.rows[share.place] = Row::out(numbers);
         share.numbers = numbers;
     }
