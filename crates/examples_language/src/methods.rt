@@ -57,6 +57,7 @@ def f; g { yield }; end -> Call { name: Sym(1), first: 0, count: 0, site: 0 }, Y
 def f; puts yield; end -> Yield { first: 0, count: 0 }, Item(0), Call { name: Sym(1), first: 1, count: 1, site: 0 }, Item(2), Sequence { first: 3, count: 1 }, Method { name: Sym(0), scope: 1, parameters: 0, size: 0, body: 4 }, Sequence { first: 6, count: 0 } | 5
 def f; puts yield 1; end -> Int(1), Item(0), Yield { first: 1, count: 1 }, Item(2), Call { name: Sym(1), first: 3, count: 1, site: 0 }, Item(4), Sequence { first: 5, count: 1 }, Method { name: Sym(0), scope: 1, parameters: 0, size: 0, body: 6 }, Sequence { first: 8, count: 0 } | 7
 def f; yield[0]; yield(1).b; end -> Yield { first: 0, count: 0 }, Int(0), Index(0, 1), Int(1), Item(3), Yield { first: 4, count: 1 }, Send { receiver: 5, name: Sym(1), first: 6, count: 0, site: 0 }, Item(2), Item(6), Sequence { first: 7, count: 2 }, Method { name: Sym(0), scope: 1, parameters: 0, size: 0, body: 9 }, Sequence { first: 11, count: 0 } | 10
+def g; yield f 1 do end; end -> Int(1), Item(0), Call { name: Sym(1), first: 1, count: 1, site: 0 }, Sequence { first: 3, count: 0 }, Block { scope: 2, parameters: 0, size: 0, body: 3 }, WithBlock(2, 4), Item(5), Yield { first: 6, count: 1 }, Item(7), Sequence { first: 8, count: 1 }, Method { name: Sym(0), scope: 1, parameters: 0, size: 0, body: 9 }, Sequence { first: 11, count: 0 } | 10
 def f; return 1; end -> Int(1), Return(0), Item(1), Sequence { first: 2, count: 1 }, Method { name: Sym(0), scope: 1, parameters: 0, size: 0, body: 3 }, Sequence { first: 5, count: 0 } | 4
 while 1; break; end; def f; end -> Int(1), Nil, Break(1), Item(2), Sequence { first: 3, count: 1 }, Loop { until: false, condition: 0, body: 4 }, Sequence { first: 6, count: 0 }, Method { name: Sym(0), scope: 1, parameters: 0, size: 0, body: 6 }, Item(5), Sequence { first: 8, count: 1 } | 7
 ";
@@ -89,6 +90,8 @@ def f; yield 1 2; end -> 1:16 unexpected token
 def f; 1 + yield 2; end -> 1:18 unexpected token
 def f; yield { 1 }; end -> 1:14 unexpected token
 def f; super() { 1 }; end -> 1:16 unexpected token
+def f; yield 1 do end; end -> 1:16 unexpected token
+def f; super 1 do end; end -> 1:16 unexpected token
 def f; yield = 1; end -> 1:14 unexpected token
 ";
 

@@ -131,6 +131,27 @@ return {a: 1} -> Int(1), Symbol(Sym(0)), Pair(1, 0), Item(2), Hash { first: 3, c
 1 && return -> Int(1), Nil, Return(1), And(0, 2), Item(3), Sequence { first: 4, count: 1 }
 return puts 1 -> Int(1), Item(0), Call { name: Sym(0), first: 1, count: 1, site: 0 }, Return(2), Item(3), Sequence { first: 4, count: 1 }
 x = return 1 -> Int(1), Return(0), Assign { depth: 0, slot: 0, name: Sym(0), value: 1 }, Item(2), Sequence { first: 3, count: 1 }
+f do end -> Call { name: Sym(0), first: 0, count: 0, site: 0 }, Sequence { first: 1, count: 0 }, Block { scope: 1, parameters: 0, size: 0, body: 1 }, WithBlock(0, 2), Item(3), Sequence { first: 4, count: 1 }
+f do^n1^nend -> Call { name: Sym(0), first: 0, count: 0, site: 0 }, Int(1), Item(1), Sequence { first: 2, count: 1 }, Block { scope: 1, parameters: 0, size: 0, body: 3 }, WithBlock(0, 4), Item(5), Sequence { first: 6, count: 1 }
+f 1 do 2 end -> Int(1), Item(0), Call { name: Sym(0), first: 1, count: 1, site: 0 }, Int(2), Item(3), Sequence { first: 4, count: 1 }, Block { scope: 1, parameters: 0, size: 0, body: 5 }, WithBlock(2, 6), Item(7), Sequence { first: 8, count: 1 }
+f do |a, b| g { a } end -> Call { name: Sym(0), first: 0, count: 0, site: 0 }, Call { name: Sym(3), first: 1, count: 0, site: 1 }, Local { depth: 1, slot: 0, name: Sym(1) }, Item(2), Sequence { first: 3, count: 1 }, Block { scope: 2, parameters: 0, size: 0, body: 4 }, WithBlock(1, 5), Item(6), Sequence { first: 7, count: 1 }, Block { scope: 1, parameters: 2, size: 2, body: 8 }, WithBlock(0, 9), Item(10), Sequence { first: 11, count: 1 }
+f do break end -> Call { name: Sym(0), first: 0, count: 0, site: 0 }, Nil, Break(1), Item(2), Sequence { first: 3, count: 1 }, Block { scope: 1, parameters: 0, size: 0, body: 4 }, WithBlock(0, 5), Item(6), Sequence { first: 7, count: 1 }
+a b 1 do end -> Int(1), Item(0), Call { name: Sym(1), first: 1, count: 1, site: 0 }, Item(2), Call { name: Sym(0), first: 3, count: 1, site: 1 }, Sequence { first: 5, count: 0 }, Block { scope: 1, parameters: 0, size: 0, body: 5 }, WithBlock(4, 6), Item(7), Sequence { first: 8, count: 1 }
+a b do end -> Bare { name: Sym(1), site: 0 }, Item(0), Call { name: Sym(0), first: 1, count: 1, site: 1 }, Sequence { first: 3, count: 0 }, Block { scope: 1, parameters: 0, size: 0, body: 3 }, WithBlock(2, 4), Item(5), Sequence { first: 6, count: 1 }
+a b { } do end -> Call { name: Sym(1), first: 0, count: 0, site: 0 }, Sequence { first: 1, count: 0 }, Block { scope: 1, parameters: 0, size: 0, body: 1 }, WithBlock(0, 2), Item(3), Call { name: Sym(0), first: 4, count: 1, site: 1 }, Sequence { first: 6, count: 0 }, Block { scope: 2, parameters: 0, size: 0, body: 6 }, WithBlock(5, 7), Item(8), Sequence { first: 9, count: 1 }
+a (b do end) -> Call { name: Sym(1), first: 0, count: 0, site: 0 }, Sequence { first: 1, count: 0 }, Block { scope: 1, parameters: 0, size: 0, body: 1 }, WithBlock(0, 2), Item(3), Sequence { first: 4, count: 1 }, Item(5), Call { name: Sym(0), first: 6, count: 1, site: 1 }, Item(7), Sequence { first: 8, count: 1 }
+a(b do end) -> Call { name: Sym(1), first: 0, count: 0, site: 0 }, Sequence { first: 1, count: 0 }, Block { scope: 1, parameters: 0, size: 0, body: 1 }, WithBlock(0, 2), Item(3), Call { name: Sym(0), first: 4, count: 1, site: 1 }, Item(5), Sequence { first: 6, count: 1 }
+a [b do end] -> Call { name: Sym(1), first: 0, count: 0, site: 0 }, Sequence { first: 1, count: 0 }, Block { scope: 1, parameters: 0, size: 0, body: 1 }, WithBlock(0, 2), Item(3), Array { first: 4, count: 1 }, Item(5), Call { name: Sym(0), first: 6, count: 1, site: 1 }, Item(7), Sequence { first: 8, count: 1 }
+while f do 1 end -> Bare { name: Sym(0), site: 0 }, Int(1), Item(1), Sequence { first: 2, count: 1 }, Loop { until: false, condition: 0, body: 3 }, Item(4), Sequence { first: 5, count: 1 }
+while f g do 1 end -> Bare { name: Sym(1), site: 0 }, Item(0), Call { name: Sym(0), first: 1, count: 1, site: 1 }, Int(1), Item(3), Sequence { first: 4, count: 1 }, Loop { until: false, condition: 2, body: 5 }, Item(6), Sequence { first: 7, count: 1 }
+while (f do end) do 1 end -> Call { name: Sym(0), first: 0, count: 0, site: 0 }, Sequence { first: 1, count: 0 }, Block { scope: 1, parameters: 0, size: 0, body: 1 }, WithBlock(0, 2), Item(3), Sequence { first: 4, count: 1 }, Int(1), Item(6), Sequence { first: 7, count: 1 }, Loop { until: false, condition: 5, body: 8 }, Item(9), Sequence { first: 10, count: 1 }
+while f; g do end; end -> Bare { name: Sym(0), site: 0 }, Call { name: Sym(1), first: 1, count: 0, site: 1 }, Sequence { first: 2, count: 0 }, Block { scope: 1, parameters: 0, size: 0, body: 2 }, WithBlock(1, 3), Item(4), Sequence { first: 5, count: 1 }, Loop { until: false, condition: 0, body: 6 }, Item(7), Sequence { first: 8, count: 1 }
+a.b do |x| x end -> Bare { name: Sym(0), site: 0 }, Send { receiver: 0, name: Sym(1), first: 1, count: 0, site: 1 }, Local { depth: 0, slot: 0, name: Sym(2) }, Item(2), Sequence { first: 3, count: 1 }, Block { scope: 1, parameters: 1, size: 1, body: 4 }, WithBlock(1, 5), Item(6), Sequence { first: 7, count: 1 }
+a.b(1) do end.c -> Bare { name: Sym(0), site: 0 }, Int(1), Item(1), Send { receiver: 0, name: Sym(1), first: 2, count: 1, site: 1 }, Sequence { first: 4, count: 0 }, Block { scope: 1, parameters: 0, size: 0, body: 4 }, WithBlock(3, 5), Send { receiver: 6, name: Sym(2), first: 7, count: 0, site: 2 }, Item(7), Sequence { first: 8, count: 1 }
+puts a.b do end -> Bare { name: Sym(1), site: 0 }, Send { receiver: 0, name: Sym(2), first: 1, count: 0, site: 1 }, Item(1), Call { name: Sym(0), first: 2, count: 1, site: 2 }, Sequence { first: 4, count: 0 }, Block { scope: 1, parameters: 0, size: 0, body: 4 }, WithBlock(3, 5), Item(6), Sequence { first: 7, count: 1 }
+x = f 1 do end -> Int(1), Item(0), Call { name: Sym(1), first: 1, count: 1, site: 0 }, Sequence { first: 3, count: 0 }, Block { scope: 1, parameters: 0, size: 0, body: 3 }, WithBlock(2, 4), Assign { depth: 0, slot: 0, name: Sym(0), value: 5 }, Item(6), Sequence { first: 7, count: 1 }
+return f 1 do end -> Int(1), Item(0), Call { name: Sym(0), first: 1, count: 1, site: 0 }, Sequence { first: 3, count: 0 }, Block { scope: 1, parameters: 0, size: 0, body: 3 }, WithBlock(2, 4), Return(5), Item(6), Sequence { first: 7, count: 1 }
+1 if f do end -> Int(1), Call { name: Sym(0), first: 1, count: 0, site: 0 }, Sequence { first: 2, count: 0 }, Block { scope: 1, parameters: 0, size: 0, body: 2 }, WithBlock(1, 3), Nil, Choose(4, 0, 5), Item(6), Sequence { first: 7, count: 1 }
 ";
 
 /// Sources that are refused.
@@ -213,6 +234,19 @@ f { break }; next -> 1:14 unexpected token
 1 + return 2 -> 1:12 unexpected token
 return 1, -> 1:10 unexpected end
 return 1 2 -> 1:10 unexpected token
+f 1 { } -> 1:5 unexpected token
+1 do end -> 1:3 unexpected token
+f do -> 1:5 unexpected end
+f do end end -> 1:10 unexpected token
+f do } -> 1:6 unexpected token
+f { end -> 1:5 unexpected token
+while f do do end -> 1:12 unexpected token
+f do |a end -> 1:9 unexpected token
+a b 1 do end do end -> 1:14 unexpected token
+f 1 do end.c -> 1:11 unexpected token
+x = 1 do end -> 1:7 unexpected token
+return 1 do end -> 1:10 unexpected token
+f do break; end; break -> 1:18 unexpected token
 ";
 
 fn check_rows(rt: &impl Abort, alloc: Global, rows: &str) -> Result<(), AllocError> {
@@ -303,6 +337,11 @@ while 1 do break [1] end -> 2
 return puts 1 -> 1
 f(1) { g { 2 } } -> 2
 a.b { [1] } -> 2
+f do 1 end -> 1
+f 1 do g { 2 } end -> 2
+a b 1 do [1] end -> 2
+f do g do 1 end end -> 2
+while f do g do 1 end end -> 2
 ";
 
 #[test]

@@ -10,6 +10,9 @@ use Rattle.std.specs.Borrow.{Bor}
 use Rattle.rr_parser.specs.declared.refusal.Storage.{Storage}
 use Rattle.rr_parser.specs.declared.word.Tail.{Tail}
 use Rattle.rr_parser.specs.declared.word.Tail.TheVariants as tails
+use Rattle.rr_parser.specs.declared.word.Behind.{Behind}
+use Rattle.rr_parser.specs.declared.word.Behind.TheVariants as behinds
+use Rattle.rr_parser.specs.declared.word.Fence.{Fence}
 use Rattle.rr_parser.specs.declared.word.Head.{Head}
 use Rattle.rr_parser.specs.declared.word.Aim.{Aim}
 use Rattle.rr_parser.specs.declared.word.Target.{Target}
@@ -23,18 +26,19 @@ use Rattle.rr_parser.specs.declared.parser.Parser.{Parser}
 use Rattle.rr_parser.specs.declared.word.WordKind.TheVariants as kind
 use Rattle.rr_parser.specs.Places.{Known, Place, placed, word, at}
 use Rattle.rr_parser.specs.Grammar.Chains.{same, one_of}
-use Rattle.rr_parser.specs.Grammar.Names.{with_local, bracket, command}
+use Rattle.rr_parser.specs.Grammar.Names.{with_local, headed, bracket, command}
 use Rattle.rr_parser.specs.Grammar.Calls.{target, with_target, signed, assigned_to, label, closing, last}
-use Rattle.rr_parser.specs.Reading.Answers.{◌>>=◌, wrong, Answer, Parse, built, ended_by, closed, across, trail_on}
+use Rattle.rr_parser.specs.Reading.Answers.{◌>>=◌, wrong, Answer, Parse, built, ended_by, closed, across, taking_of, trail_on}
 use Rattle.rr_parser.specs.Reading.Nesting.{Readers}
-use Rattle.rr_parser.specs.Reading.Calls.{assigned_or, assigned_of, argument_of, pair_by, pair_of, members_of, bracketed_or, bracketed_of, commanded_or, commanded_of, operand_of, value_of}
+use Rattle.rr_parser.specs.Reading.Calls.{assigned_or, assigned_of, argument_of, pair_by, pair_of, members_of, bracketed_or, bracketed_of, commanded_or, commanded_of, arguments_of, headed_of, operand_of, value_of}
 use Rattle.rr_parser.specs.Reading.Sequences.{statements_of}
-use Rattle.rr_parser.specs.Meets.{nodes, lists, Made, Fails, Gives, Puts, Marks, Aims, Enters, Leaves, ReadsNames, known_of, place}
+use Rattle.rr_parser.specs.Meets.{View, nodes, lists, Made, Fails, Gives, Puts, Marks, Aims, Enters, Leaves, SetsDo, ReadsNames, known_of, place}
 use Rattle.rr_parser.specs.declared.variables.Variable.{Variable}
 use Rattle.rr_parser.specs.declared.variables.Scope.{Scope}
 use Rattle.rr_parser.specs.Grammar.Blocks.{parameters, entered, leaving, left_to, block_tree}
 use Rattle.rr_parser.specs.Reading.Blocks.{left_block, block_or, block_of}
-use Rattle.rr_parser.specs.Grammar.Operands.{brace, tail}
+use Rattle.rr_parser.specs.Grammar.Operands.{tail}
+use Rattle.rr_parser.specs.Grammar.Fences.{with_do, taking_as, opening, opened, fence_end}
 use Rattle.rr_parser.specs.Reading.Operands.{call_of, block_behind, blocked_or, blocked_of, then_blocked, unbracketed_or, variable_or_call, name_or, name_of, primary_of, tailed_of, postfix_of}
 use Rattle.rr_parser.proofs.Shrinking.{ReadersShrink}
 use Rattle.rr_parser.proofs.Trails.{trail_on-ends, trail_on-turn}
@@ -140,101 +144,141 @@ made_element N old m1 new x l a id words rest is lt m p =
 -- a call and its arguments, and what stands behind them
 pub gives_sent : (N : Readers) (old m1 m2 new : Parser) (y : Tail) (l id : ℕ) (x : Sym) (es fs : List ℕ) (words rest : List Word) (r : Result (ℕ × Bor (List Word)) Refusal) → y ≡ tails.Call x → fs ≡ es → l < length old.nodes.items
     → Made (lists nodes) old m1 es rest (N.bracketed (place old words)) → Puts m1 m2 (send (tree_at m1.nodes.items l) x.0 (listed (map (tree_at m1.nodes.items) fs))) id
-    → Gives m2 new r (blocked_of N (tree_at m2.nodes.items id) (place m2 rest)) → Gives old new r (tailed_of N y (tree_at old.nodes.items l) (place old words))
+    → Gives m2 new r (blocked_of N behinds.Call (tree_at m2.nodes.items id) (place m2 rest)) → Gives old new r (tailed_of N y (tree_at old.nodes.items l) (place old words))
 unfolding tailed_of
 gives_sent N old m1 m2 new y l id x es fs words rest r is same lt m p g =
     let reads : List Tree → Tree = λ q. send (tree_at old.nodes.items l) x.0 (listed q) in
     let made : Made nodes old m2 id rest (built reads (N.bracketed (place old words))) =
     made_over reads m p (ap (λ (u : Tree). send u x.0 (listed (map (tree_at m1.nodes.items) fs))) (tree_at-kept old.nodes.items m1.nodes.items l m.kept lt) ∙ ap (λ (q : List ℕ). reads (map (tree_at m1.nodes.items) q)) same) in
     subst (λ (z : Tail). Gives old new r (tailed_of N z (tree_at old.nodes.items l) (place old words))) (sym is)
-    (gives_from old m2 new id rest (built reads (N.bracketed (place old words))) (λ c s. blocked_of N c s) r made g)
+    (gives_from old m2 new id rest (built reads (N.bracketed (place old words))) (λ c s. blocked_of N behinds.Call c s) r made g)
 
 -- a call without arguments, and what stands behind it
 pub gives_send : (N : Readers) (old m1 new : Parser) (y : Tail) (l id : ℕ) (x : Sym) (words : List Word) (r : Result (ℕ × Bor (List Word)) Refusal) → y ≡ tails.Send x
-    → Puts old m1 (send (tree_at old.nodes.items l) x.0 (listed [])) id → Gives m1 new r (blocked_of N (tree_at m1.nodes.items id) (place m1 words)) → Gives old new r (tailed_of N y (tree_at old.nodes.items l) (place old words))
+    → Puts old m1 (send (tree_at old.nodes.items l) x.0 (listed [])) id → Gives m1 new r (blocked_of N behinds.Call (tree_at m1.nodes.items id) (place m1 words)) → Gives old new r (tailed_of N y (tree_at old.nodes.items l) (place old words))
 unfolding tailed_of
 gives_send N old m1 new y l id x words r is p g =
     let t = send (tree_at old.nodes.items l) x.0 (listed []) in
     subst (λ (z : Tail). Gives old new r (tailed_of N z (tree_at old.nodes.items l) (place old words))) (sym is)
-    (gives_from old m1 new id words (Ok (t, place old words)) (λ c s. blocked_of N c s) r (made_put old old m1 id words t (Ok (t, place old words)) refl (Extends-refl old.nodes.items) p) g)
+    (gives_from old m1 new id words (Ok (t, place old words)) (λ c s. blocked_of N behinds.Call c s) r (made_put old old m1 id words t (Ok (t, place old words)) refl (Extends-refl old.nodes.items) p) g)
 
 -- a call by a name, and what stands behind its arguments
 pub gives_called : (N : Readers) (old m1 m2 new : Parser) (id : ℕ) (x : Sym) (es fs : List ℕ) (words after rest : List Word) (r : Result (ℕ × Bor (List Word)) Refusal) → fs ≡ es → bracket words ≡ Some (tt, after)
     → Made (lists nodes) old m1 es rest (N.bracketed (place old after)) → Puts m1 m2 (call x.0 (listed (map (tree_at m1.nodes.items) fs))) id
-    → Gives m2 new r (blocked_of N (tree_at m2.nodes.items id) (place m2 rest)) → Gives old new r (name_of N x (place old words))
+    → Gives m2 new r (blocked_of N behinds.Call (tree_at m2.nodes.items id) (place m2 rest)) → Gives old new r (name_of N x (place old words))
 unfolding name_of
 gives_called N old m1 m2 new id x es fs words after rest r same e m p g =
     let made : Made nodes old m2 id rest (call_of x (N.bracketed (place old after))) = made_over (λ q. call x.0 (listed q)) m p (ap (λ (q : List ℕ). call x.0 (listed (map (tree_at m1.nodes.items) q))) same) in
     subst (λ (o : Option (Unit {0} × Place)). Gives old new r (name_or N x (place old words) o)) (sym (seen_at old bracket words after tt e))
-    (gives_from old m2 new id rest (call_of x (N.bracketed (place old after))) (λ c s. blocked_of N c s) r made g)
+    (gives_from old m2 new id rest (call_of x (N.bracketed (place old after))) (λ c s. blocked_of N behinds.Call c s) r made g)
 
 pub fails_called : (N : Readers) (old : Parser) (x : Sym) (words after : List Word) (d : Refusal) → bracket words ≡ Some (tt, after) → Fails d (N.bracketed (place old after)) → Fails d (name_of N x (place old words))
 unfolding name_of
 fails_called N old x words after d e h =
-    fails_eq d (name_of N x (place old words)) (then_blocked N (call_of x (N.bracketed (place old after)))) (ap (name_or N x (place old words)) (seen_at old bracket words after tt e))
-    (fails_bind d (call_of x (N.bracketed (place old after))) (λ c. blocked_of N c.0 c.1) (fails_bind d (N.bracketed (place old after)) (λ l. Ok (call x.0 (listed l.0), l.1)) h))
+    fails_eq d (name_of N x (place old words)) (then_blocked N behinds.Call (call_of x (N.bracketed (place old after)))) (ap (name_or N x (place old words)) (seen_at old bracket words after tt e))
+    (fails_bind d (call_of x (N.bracketed (place old after))) (λ c. blocked_of N behinds.Call c.0 c.1) (fails_bind d (N.bracketed (place old after)) (λ l. Ok (call x.0 (listed l.0), l.1)) h))
 
 -- a name without a bracket
-reads_unbracketed : (N : Readers) (old : Parser) (x : Sym) (words : List Word) → bracket words ≡ None → name_of N x (place old words) ≡ unbracketed_or N x (place old words) (at brace (place old words))
+reads_unbracketed : (N : Readers) (old : Parser) (x : Sym) (words : List Word) → bracket words ≡ None → name_of N x (place old words) ≡ unbracketed_or N x (place old words) (opened behinds.Call (place old words))
 unfolding name_of
 reads_unbracketed N old x words e = ap (name_or N x (place old words)) (unseen_at old bracket words e)
 
 -- a name and a block
-pub gives_alone : (N : Readers) (old m1 new : Parser) (id : ℕ) (x : Sym) (words after : List Word) (r : Result (ℕ × Bor (List Word)) Refusal) → bracket words ≡ None → brace words ≡ Some (tt, after)
-    → Puts old m1 (call x.0 (listed [])) id → Gives m1 new r (block_behind N (tree_at m1.nodes.items id) (place m1 after)) → Gives old new r (name_of N x (place old words))
-gives_alone N old m1 new id x words after r e f p g =
+pub gives_alone : (N : Readers) (old m1 new : Parser) (id : ℕ) (x : Sym) (words after : List Word) (k : Fence) (r : Result (ℕ × Bor (List Word)) Refusal) → bracket words ≡ None → opening behinds.Call old.known.takes_do words ≡ Some (k, after)
+    → Puts old m1 (call x.0 (listed [])) id → Gives m1 new r (block_behind N k (tree_at m1.nodes.items id) (place m1 after)) → Gives old new r (name_of N x (place old words))
+gives_alone N old m1 new id x words after k r e f p g =
     let t = call x.0 (listed []) in
-    subst (λ (q : Answer Tree). Gives old new r q) (sym (reads_unbracketed N old x words e ∙ ap (unbracketed_or N x (place old words)) (seen_at old brace words after tt f)))
-    (gives_from old m1 new id after (Ok (t, place old after)) (λ c s. block_behind N c s) r (made_put old old m1 id after t (Ok (t, place old after)) refl (Extends-refl old.nodes.items) p) g)
+    subst (λ (q : Answer Tree). Gives old new r q) (sym (reads_unbracketed N old x words e ∙ ap (unbracketed_or N x (place old words)) (seen_at old (opening behinds.Call old.known.takes_do) words after k f)))
+    (gives_from old m1 new id after (Ok (t, place old after)) (λ c s. block_behind N k c s) r (made_put old old m1 id after t (Ok (t, place old after)) refl (Extends-refl old.nodes.items) p) g)
 
 -- a name alone
-pub gives_plain : (N : Readers) (old new : Parser) (x : Sym) (words : List Word) (r : Result (ℕ × Bor (List Word)) Refusal) → bracket words ≡ None → brace words ≡ None → Gives old new r (variable_or_call x (place old words)) → Gives old new r (name_of N x (place old words))
+pub gives_plain : (N : Readers) (old new : Parser) (x : Sym) (words : List Word) (r : Result (ℕ × Bor (List Word)) Refusal) → bracket words ≡ None → opening behinds.Call old.known.takes_do words ≡ None → Gives old new r (variable_or_call x (place old words)) → Gives old new r (name_of N x (place old words))
 gives_plain N old new x words r e f g =
-    subst (λ (q : Answer Tree). Gives old new r q) (sym (reads_unbracketed N old x words e ∙ ap (unbracketed_or N x (place old words)) (unseen_at old brace words f))) g
+    subst (λ (q : Answer Tree). Gives old new r q) (sym (reads_unbracketed N old x words e ∙ ap (unbracketed_or N x (place old words)) (unseen_at old (opening behinds.Call old.known.takes_do) words f))) g
 
 -- ---- blocks
 
-pub gives_blocked : (N : Readers) (old new : Parser) (c : Tree) (words rest : List Word) (r : Result (ℕ × Bor (List Word)) Refusal) → brace words ≡ Some (tt, rest) → Gives old new r (block_behind N c (place old rest)) → Gives old new r (blocked_of N c (place old words))
+pub gives_blocked : (N : Readers) (old new : Parser) (q : Behind) (c : Tree) (words rest : List Word) (k : Fence) (r : Result (ℕ × Bor (List Word)) Refusal) → opening q old.known.takes_do words ≡ Some (k, rest)
+    → Gives old new r (block_behind N k c (place old rest)) → Gives old new r (blocked_of N q c (place old words))
 unfolding blocked_of
-gives_blocked N old new c words rest r e g = subst (λ (o : Option (Unit {0} × Place)). Gives old new r (blocked_or N c (place old words) o)) (sym (seen_at old brace words rest tt e)) g
+gives_blocked N old new q c words rest k r e g = subst (λ (o : Option (Fence × Place)). Gives old new r (blocked_or N c (place old words) o)) (sym (seen_at old (opening q old.known.takes_do) words rest k e)) g
 
-pub made_unblocked : (N : Readers) (old : Parser) (c : ℕ) (words : List Word) → c < length old.nodes.items → brace words ≡ None → Made nodes old old c words (blocked_of N (tree_at old.nodes.items c) (place old words))
+pub made_unblocked : (N : Readers) (old : Parser) (q : Behind) (c : ℕ) (words : List Word) → c < length old.nodes.items → opening q old.known.takes_do words ≡ None → Made nodes old old c words (blocked_of N q (tree_at old.nodes.items c) (place old words))
 unfolding blocked_of
-made_unblocked N old c words lt e = record { there = lt; tree = ap (blocked_or N (tree_at old.nodes.items c) (place old words)) (unseen_at old brace words e); kept = Extends-refl old.nodes.items }
+made_unblocked N old q c words lt e = record { there = lt; tree = ap (blocked_or N (tree_at old.nodes.items c) (place old words)) (unseen_at old (opening q old.known.takes_do) words e); kept = Extends-refl old.nodes.items }
 
-pub made_behind : (N : Readers) (old m1 new : Parser) (c b id : ℕ) (words rest : List Word) → c < length old.nodes.items → Made nodes old m1 b rest (N.part parts.Block (place old words))
-    → Puts m1 new (with_block (tree_at m1.nodes.items c) (tree_at m1.nodes.items b)) id → Made nodes old new id rest (block_behind N (tree_at old.nodes.items c) (place old words))
-made_behind N old m1 new c b id words rest lt m p = made_over (with_block (tree_at old.nodes.items c)) m p (ap (λ (u : Tree). with_block u (tree_at m1.nodes.items b)) (tree_at-kept old.nodes.items m1.nodes.items c m.kept lt))
+pub made_behind : (N : Readers) (old m1 new : Parser) (k : Fence) (c b id : ℕ) (words rest : List Word) → c < length old.nodes.items → Made nodes old m1 b rest (N.part (parts.Block k) (place old words))
+    → Puts m1 new (with_block (tree_at m1.nodes.items c) (tree_at m1.nodes.items b)) id → Made nodes old new id rest (block_behind N k (tree_at old.nodes.items c) (place old words))
+made_behind N old m1 new k c b id words rest lt m p = made_over (with_block (tree_at old.nodes.items c)) m p (ap (λ (u : Tree). with_block u (tree_at m1.nodes.items b)) (tree_at-kept old.nodes.items m1.nodes.items c m.kept lt))
 
-module _ (N : Readers) (old s1 : Parser) (xs : List Sym) (k : Scope) (words rest : List Word) (e : parameters words ≡ Some (xs, rest)) (n : Enters old s1 xs k) where
+-- a command: its arguments, and what stands behind them
+pub gives_headed : (N : Readers) (old m1 m2 new : Parser) (id : ℕ) (x : Head) (es fs : List ℕ) (words rest : List Word) (r : Result (ℕ × Bor (List Word)) Refusal) → fs ≡ es
+    → Made (lists nodes) old m1 es rest (arguments_of N x (place old words)) → Puts m1 m2 (headed x (map (tree_at m1.nodes.items) fs)) id
+    → Gives m2 new r (blocked_of N (behinds.Command x) (tree_at m2.nodes.items id) (place m2 rest)) → Gives old new r (headed_of N x (place old words))
+unfolding headed_of
+gives_headed N old m1 m2 new id x es fs words rest r same m p g =
+    let made : Made nodes old m2 id rest (built (headed x) (arguments_of N x (place old words))) = made_over (headed x) m p (ap (λ (q : List ℕ). headed x (map (tree_at m1.nodes.items) q)) same) in
+    gives_from old m2 new id rest (built (headed x) (arguments_of N x (place old words))) (λ c s. blocked_of N (behinds.Command x) c s) r made g
+
+pub fails_headed : (N : Readers) (old : Parser) (x : Head) (words : List Word) (d : Refusal) → Fails d (arguments_of N x (place old words)) → Fails d (headed_of N x (place old words))
+unfolding headed_of
+fails_headed N old x words d h =
+    fails_bind d (built (headed x) (arguments_of N x (place old words))) (λ c. blocked_of N (behinds.Command x) c.0 c.1)
+    (fails_bind d (arguments_of N x (place old words)) (λ l. Ok (headed x l.0, l.1)) h)
+
+-- ---- where calls take the word `do`, or not
+
+module _ {A : Type 0} (p : Parse A) (b : Bool) (old s0 : Parser) (words : List Word) (set : SetsDo old s0 b) where
+  reads_taking : taking_of b p (place old words) ≡ (p (place s0 words) >>= λ x. Ok (x.0, taking_as (place old words) x.1))
+  reads_taking = ap (λ (k : Known). p (record { known = k; rest = words }) >>= λ x. Ok (x.0, taking_as (place old words) x.1)) (sym set.known)
+
+  pub fails_taking : (d : Refusal) → Fails d (p (place s0 words)) → Fails d (taking_of b p (place old words))
+  fails_taking d h =
+      fails_eq d (taking_of b p (place old words)) (p (place s0 words) >>= λ x. Ok (x.0, taking_as (place old words) x.1)) reads_taking
+      (fails_bind d (p (place s0 words)) (λ x. Ok (x.0, taking_as (place old words) x.1)) h)
+
+  pub made_taking : {E : Type 0} (v : View E A) (m1 new : Parser) (e : E) (rest : List Word) (was : Bool) → was ≡ (known_of old).takes_do → Made v s0 m1 e rest (p (place s0 words)) → SetsDo m1 new was
+      → Made v old new e rest (taking_of b p (place old words))
+  made_taking v m1 new e rest was is m back = record {
+    there = subst (λ (ns : List Node). v.within (length ns) e) (sym back.nodes) m.there;
+    tree =
+        reads_taking
+        ∙ ap (λ (q : Answer A). q >>= λ x. Ok (x.0, taking_as (place old words) x.1)) m.tree
+        ∙ ap (λ (q : Bool). Ok (v.tree m1.nodes.items e, record { known = with_do q (known_of m1); rest = rest })) (sym is)
+        ∙ ap (λ (k : Known). Ok (v.tree m1.nodes.items e, record { known = k; rest = rest })) (sym back.known)
+        ∙ ap (λ (ns : List Node). Ok (v.tree ns e, place new rest)) (sym back.nodes);
+    kept = subst (λ (ns : List Node). Extends ns new.nodes.items) set.nodes (subst (λ (ns : List Node). Extends s0.nodes.items ns) (sym back.nodes) m.kept);
+  }
+
+module _ (N : Readers) (fence : Fence) (old s1 : Parser) (xs : List Sym) (k : Scope) (words rest : List Word) (e : parameters words ≡ Some (xs, rest)) (n : Enters old s1 xs k) where
   entered_place : place s1 rest ≡ entered xs (place old rest)
   entered_place = ap (λ (q : Known). record { known = q; rest = rest }) n.begins.known
 
-  reads_block : block_of N (place old words) ≡ left_block (place old words) xs (place old rest) (closed kind.CloseBrace (statements_of N (place s1 rest)))
+  reads_block : block_of N fence (place old words) ≡ left_block (place old words) xs (place old rest) (closed (fence_end fence) (statements_of N (place s1 rest)))
   unfolding block_of
   reads_block =
-      ap (block_or N (place old words)) (seen_at old parameters words rest xs e)
-      ∙ ap (λ (q : Place). left_block (place old words) xs (place old rest) (closed kind.CloseBrace (statements_of N q))) (sym entered_place)
+      ap (block_or N fence (place old words)) (seen_at old parameters words rest xs e)
+      ∙ ap (λ (q : Place). left_block (place old words) xs (place old rest) (closed (fence_end fence) (statements_of N q))) (sym entered_place)
 
-  pub fails_block : (d : Refusal) → Fails d (statements_of N (place s1 rest)) → Fails d (block_of N (place old words))
+  pub fails_block : (d : Refusal) → Fails d (statements_of N (place s1 rest)) → Fails d (block_of N fence (place old words))
   fails_block d h =
-      let body = closed kind.CloseBrace (statements_of N (place s1 rest)) in
-      fails_eq d (block_of N (place old words)) (left_block (place old words) xs (place old rest) body) reads_block
-      (fails_bind d body (λ q. Ok (block_tree xs (place old rest) q.1 q.0, leaving (place old words) q.1)) (fails_bind d (statements_of N (place s1 rest)) (λ x. ended_by x.0 (at (word kind.CloseBrace) x.1)) h))
+      let body = closed (fence_end fence) (statements_of N (place s1 rest)) in
+      fails_eq d (block_of N fence (place old words)) (left_block (place old words) xs (place old rest) body) reads_block
+      (fails_bind d body (λ q. Ok (block_tree xs (place old rest) q.1 q.0, leaving (place old words) q.1)) (fails_bind d (statements_of N (place s1 rest)) (λ x. ended_by x.0 (at (word (fence_end fence)) x.1)) h))
 
   module _ (s2 : Parser) (t : ℕ) (left : List Word) (m : Made nodes s1 s2 t left (statements_of N (place s1 rest))) where
-    pub wrong_block : word kind.CloseBrace left ≡ None → block_of N (place old words) ≡ Err wrong
+    pub wrong_block : word (fence_end fence) left ≡ None → block_of N fence (place old words) ≡ Err wrong
     wrong_block c =
         reads_block
-        ∙ ap (left_block (place old words) xs (place old rest)) (closed_wrong s2 kind.CloseBrace left (tree_at s2.nodes.items t) (statements_of N (place s1 rest)) m.tree c)
+        ∙ ap (left_block (place old words) xs (place old rest)) (closed_wrong s2 (fence_end fence) left (tree_at s2.nodes.items t) (statements_of N (place s1 rest)) m.tree c)
 
     left_known : (s3 : Parser) → Leaves s2 s3 k → known_of s3 ≡ left_to (known_of old) (known_of s2)
     left_known s3 l =
         l.known
-        ∙ ap (λ (q : ℕ). record { locals = take q (known_of s2).locals; level = k.level; count = k.count; begun = (known_of s2).begun; in_loop = k.in_loop; in_method = (known_of s2).in_method }) n.begins.locals
-        ∙ ap (λ (q : ℕ). record { locals = take (length (known_of old).locals) (known_of s2).locals; level = q; count = k.count; begun = (known_of s2).begun; in_loop = k.in_loop; in_method = (known_of s2).in_method }) n.begins.level
-        ∙ ap (λ (q : ℕ). record { locals = take (length (known_of old).locals) (known_of s2).locals; level = (known_of old).level; count = q; begun = (known_of s2).begun; in_loop = k.in_loop; in_method = (known_of s2).in_method }) n.begins.count
-        ∙ ap (λ (q : Bool). record { locals = take (length (known_of old).locals) (known_of s2).locals; level = (known_of old).level; count = (known_of old).count; begun = (known_of s2).begun; in_loop = q; in_method = (known_of s2).in_method }) n.begins.in_loop
+        ∙ ap (λ (q : ℕ). record { locals = take q (known_of s2).locals; level = k.level; count = k.count; begun = (known_of s2).begun; in_loop = k.in_loop; in_method = (known_of s2).in_method; takes_do = (known_of s2).takes_do }) n.begins.locals
+        ∙ ap (λ (q : ℕ). record { locals = take (length (known_of old).locals) (known_of s2).locals; level = q; count = k.count; begun = (known_of s2).begun; in_loop = k.in_loop; in_method = (known_of s2).in_method; takes_do = (known_of s2).takes_do }) n.begins.level
+        ∙ ap (λ (q : ℕ). record { locals = take (length (known_of old).locals) (known_of s2).locals; level = (known_of old).level; count = q; begun = (known_of s2).begun; in_loop = k.in_loop; in_method = (known_of s2).in_method; takes_do = (known_of s2).takes_do }) n.begins.count
+        ∙ ap (λ (q : Bool). record { locals = take (length (known_of old).locals) (known_of s2).locals; level = (known_of old).level; count = (known_of old).count; begun = (known_of s2).begun; in_loop = q; in_method = (known_of s2).in_method; takes_do = (known_of s2).takes_do }) n.begins.in_loop
 
     left_tree : (s3 : Parser) (size : ℕ) → Leaves s2 s3 k → size ≡ (known_of s2).count → (after : List Word)
         → block_tree xs (place old rest) (place s2 after) (tree_at s2.nodes.items t) ≡ block k.number k.parameters size (tree_at s3.nodes.items t)
@@ -245,22 +289,22 @@ module _ (N : Readers) (old s1 : Parser) (xs : List Sym) (k : Scope) (words rest
         ∙ ap (λ (q : ℕ). block k.number k.parameters q (tree_at s2.nodes.items t)) (sym is)
         ∙ ap (λ (ns : List Node). block k.number k.parameters size (tree_at ns t)) (sym l.nodes)
 
-    pub made_block : (s3 new : Parser) (size id : ℕ) (after : List Word) → word kind.CloseBrace left ≡ Some (tt, after) → size ≡ (known_of s2).count → Leaves s2 s3 k
-        → Puts s3 new (block k.number k.parameters size (tree_at s3.nodes.items t)) id → Made nodes old new id after (block_of N (place old words))
+    pub made_block : (s3 new : Parser) (size id : ℕ) (after : List Word) → word (fence_end fence) left ≡ Some (tt, after) → size ≡ (known_of s2).count → Leaves s2 s3 k
+        → Puts s3 new (block k.number k.parameters size (tree_at s3.nodes.items t)) id → Made nodes old new id after (block_of N fence (place old words))
     made_block s3 new size id after c is l p =
-        made_put old s3 new id after (block k.number k.parameters size (tree_at s3.nodes.items t)) (block_of N (place old words))
+        made_put old s3 new id after (block k.number k.parameters size (tree_at s3.nodes.items t)) (block_of N fence (place old words))
         (reads_block
-        ∙ ap (left_block (place old words) xs (place old rest)) (closed_tree s2 kind.CloseBrace left after (tree_at s2.nodes.items t) (statements_of N (place s1 rest)) m.tree c)
+        ∙ ap (left_block (place old words) xs (place old rest)) (closed_tree s2 (fence_end fence) left after (tree_at s2.nodes.items t) (statements_of N (place s1 rest)) m.tree c)
         ∙ ap (λ (u : Tree). Ok (u, leaving (place old words) (place s2 after))) (left_tree s3 size l is after)
         ∙ ap (λ (q : Known). Ok (block k.number k.parameters size (tree_at s3.nodes.items t), record { known = q; rest = after })) (sym (left_known s3 l)))
         (subst (λ (ns : List Node). Extends old.nodes.items ns) (sym l.nodes) (subst (λ (ns : List Node). Extends ns s2.nodes.items) n.nodes m.kept)) p
 
-pub fails_parameters : (N : Readers) (old : Parser) (words : List Word) (d : Refusal) → ReadsNames (Err d) (parameters words) → Fails d (block_of N (place old words))
+pub fails_parameters : (N : Readers) (fence : Fence) (old : Parser) (words : List Word) (d : Refusal) → ReadsNames (Err d) (parameters words) → Fails d (block_of N fence (place old words))
 unfolding block_of
-fails_parameters N old words (refusal.Storage s) h = tt
-fails_parameters N old words refusal.Nesting h = absurd h
-fails_parameters N old words (refusal.Unexpected n) h = ap (block_or N (place old words)) (unseen_at old parameters words h)
-fails_parameters N old words (refusal.Number n) h = absurd h
+fails_parameters N fence old words (refusal.Storage s) h = tt
+fails_parameters N fence old words refusal.Nesting h = absurd h
+fails_parameters N fence old words (refusal.Unexpected n) h = ap (block_or N fence (place old words)) (unseen_at old parameters words h)
+fails_parameters N fence old words (refusal.Number n) h = absurd h
 
 -- a key, its arrow and its value
 pub made_arrow : (N : Readers) (old m1 m2 new : Parser) (a b id : ℕ) (words rest after left : List Word) → label words ≡ None → Made nodes old m1 a rest (argument_of N (place old words))

@@ -21,7 +21,7 @@ use Rattle.rr_parser.specs.Places.{Known, Place, without_separators, word, at, s
 use Rattle.rr_parser.specs.Grammar.Names.{with_loop, jump_tree, jump_value, headed}
 use Rattle.rr_parser.specs.Grammar.Operators.{operator, infixed}
 use Rattle.rr_parser.specs.Grammar.Control.{thens, loops, chosen, unless_chosen, outside_loop}
-use Rattle.rr_parser.specs.Reading.Answers.{◌>>=◌, wrong, Answer, built, ended_by, closed, across}
+use Rattle.rr_parser.specs.Reading.Answers.{◌>>=◌, wrong, Answer, built, ended_by, closed, across, taking_of}
 use Rattle.rr_parser.specs.Reading.Nesting.{Readers}
 use Rattle.rr_parser.specs.Reading.Operators.{binary_on, binary_of, pair_or, equality_on, logical_on, question_or, ternary_on}
 use Rattle.rr_parser.specs.Reading.Sequences.{expression_of, ends, rows_of, sequence_of, statements_of}
@@ -88,35 +88,35 @@ made_branch N old m1 m2 c t words rest after left m e k = record {
 }
 
 -- what is done as long as a condition holds
-pub made_loop : (N : Readers) (until : Bool) (old m1 m2 new : Parser) (c t id : ℕ) (words rest after left behind : List Word) → Made nodes old m1 c rest (expression_of N (place old words))
+pub made_loop : (N : Readers) (until : Bool) (old m1 m2 new : Parser) (c t id : ℕ) (words rest after left behind : List Word) → Made nodes old m1 c rest (taking_of false (expression_of N) (place old words))
     → loops rest ≡ Some (tt, after) → Made nodes m1 m2 t left (statements_of N (place m1 after)) → word kind.End left ≡ Some (tt, behind)
     → Puts m2 new (repeat until (tree_at m2.nodes.items c) (tree_at m2.nodes.items t)) id → Made nodes old new id behind (loop_of N until (place old words))
 unfolding loop_of
 made_loop N until old m1 m2 new c t id words rest after left behind m e k f p =
-    let read = across (repeat until) loops (statements_of N) (expression_of N (place old words)) in
+    let read = across (repeat until) loops (statements_of N) (taking_of false (expression_of N) (place old words)) in
     made_put old m2 new id behind (repeat until (tree_at m2.nodes.items c) (tree_at m2.nodes.items t)) (closed kind.End read)
     (closed_tree m2 kind.End left behind (repeat until (tree_at m2.nodes.items c) (tree_at m2.nodes.items t)) read
-    (across_tree (repeat until) loops (statements_of N) old m1 c rest (expression_of N (place old words)) m m2 t after left e k) f)
+    (across_tree (repeat until) loops (statements_of N) old m1 c rest (taking_of false (expression_of N) (place old words)) m m2 t after left e k) f)
     (Extends-trans old.nodes.items m1.nodes.items m2.nodes.items m.kept k.kept) p
 
-pub wrong_loop : (N : Readers) (until : Bool) (old m1 m2 : Parser) (c t : ℕ) (words rest after left : List Word) → Made nodes old m1 c rest (expression_of N (place old words))
+pub wrong_loop : (N : Readers) (until : Bool) (old m1 m2 : Parser) (c t : ℕ) (words rest after left : List Word) → Made nodes old m1 c rest (taking_of false (expression_of N) (place old words))
     → loops rest ≡ Some (tt, after) → Made nodes m1 m2 t left (statements_of N (place m1 after)) → word kind.End left ≡ None → loop_of N until (place old words) ≡ Err wrong
 unfolding loop_of
 wrong_loop N until old m1 m2 c t words rest after left m e k f =
-    let read = across (repeat until) loops (statements_of N) (expression_of N (place old words)) in
+    let read = across (repeat until) loops (statements_of N) (taking_of false (expression_of N) (place old words)) in
     closed_wrong m2 kind.End left (repeat until (tree_at m2.nodes.items c) (tree_at m2.nodes.items t)) read
-    (across_tree (repeat until) loops (statements_of N) old m1 c rest (expression_of N (place old words)) m m2 t after left e k) f
+    (across_tree (repeat until) loops (statements_of N) old m1 c rest (taking_of false (expression_of N) (place old words)) m m2 t after left e k) f
 
-pub unbegun_loop : (N : Readers) (until : Bool) (old m1 : Parser) (c : ℕ) (words rest : List Word) → Made nodes old m1 c rest (expression_of N (place old words)) → loops rest ≡ None → loop_of N until (place old words) ≡ Err wrong
+pub unbegun_loop : (N : Readers) (until : Bool) (old m1 : Parser) (c : ℕ) (words rest : List Word) → Made nodes old m1 c rest (taking_of false (expression_of N) (place old words)) → loops rest ≡ None → loop_of N until (place old words) ≡ Err wrong
 unfolding loop_of
-unbegun_loop N until old m1 c words rest m e = ap (closed kind.End) (across_wrong (repeat until) loops (statements_of N) old m1 c rest (expression_of N (place old words)) m e)
+unbegun_loop N until old m1 c words rest m e = ap (closed kind.End) (across_wrong (repeat until) loops (statements_of N) old m1 c rest (taking_of false (expression_of N) (place old words)) m e)
 
-pub fails_loop : (N : Readers) (until : Bool) (old m1 : Parser) (c : ℕ) (words rest after : List Word) (d : Refusal) → Made nodes old m1 c rest (expression_of N (place old words))
+pub fails_loop : (N : Readers) (until : Bool) (old m1 : Parser) (c : ℕ) (words rest after : List Word) (d : Refusal) → Made nodes old m1 c rest (taking_of false (expression_of N) (place old words))
     → loops rest ≡ Some (tt, after) → Fails d (statements_of N (place m1 after)) → Fails d (loop_of N until (place old words))
 unfolding loop_of
 fails_loop N until old m1 c words rest after d m e h =
-    let read = across (repeat until) loops (statements_of N) (expression_of N (place old words)) in
-    fails_bind d read (λ x. ended_by x.0 (at (word kind.End) x.1)) (across_fails (repeat until) loops (statements_of N) old m1 c rest (expression_of N (place old words)) m after d e h)
+    let read = across (repeat until) loops (statements_of N) (taking_of false (expression_of N) (place old words)) in
+    fails_bind d read (λ x. ended_by x.0 (at (word kind.End) x.1)) (across_fails (repeat until) loops (statements_of N) old m1 c rest (taking_of false (expression_of N) (place old words)) m after d e h)
 
 -- ---- what is done otherwise
 

@@ -15,34 +15,38 @@ use Rattle.rr_parser.specs.declared.word.Part.{Part}
 use Rattle.rr_parser.specs.declared.word.Part.TheVariants as parts
 use Rattle.rr_parser.specs.declared.word.WordKind.{WordKind}
 use Rattle.rr_parser.specs.declared.word.WordKind.TheVariants as kind
+use Rattle.rr_parser.specs.declared.word.Behind.{Behind}
+use Rattle.rr_parser.specs.declared.word.Behind.TheVariants as behinds
+use Rattle.rr_parser.specs.declared.word.Fence.{Fence}
+use Rattle.rr_parser.specs.Grammar.Fences.{Taking, taking, taking_as, within_head, fence_end, opened}
 use Rattle.rr_parser.specs.Places.{Place, Look, word, at, next, skip, separators}
 use Rattle.rr_parser.specs.Grammar.Chains.{Chain, one, more, same, one_of, and_one}
 use Rattle.rr_parser.specs.Grammar.Nesting.{Nested}
 use Rattle.rr_parser.specs.Grammar.Names.{is_local, variable_of, local_tree, is_allowed, jump_tree, begins_arguments, passed, passed_bare, headed, name, bracket, begins_operands, command}
-use Rattle.rr_parser.specs.Grammar.Operands.{fits, fits_below, negated, joined, literal_of, construct_of, brace, tail, Primary, Tailed, Minus}
+use Rattle.rr_parser.specs.Grammar.Operands.{fits, fits_below, negated, joined, literal_of, construct_of, tail, Primary, Tailed, Minus}
 use Rattle.rr_parser.specs.Grammar.Operators.{operator, infixed, connective, joined_by, Binary, Logical}
-use Rattle.rr_parser.specs.Grammar.Calls.{target, with_target, assigned_to, label, comma, closing, last, Argument, Member}
+use Rattle.rr_parser.specs.Grammar.Calls.{target, with_target, assigned_to, label, comma, closing, last, Argument, Member, Commanded}
 use Rattle.rr_parser.specs.Grammar.Sequences.{Negation, Expression, modifier, modified, Statement}
 use Rattle.rr_parser.specs.Grammar.Control.{thens, loops, elsif, chosen, unless_chosen, looping, outside_loop, Branch, Branches}
 use Rattle.rr_parser.specs.Grammar.Blocks.{parameters, entered}
 use Rattle.rr_parser.specs.Grammar.Definitions.{formals, defined}
-use Rattle.rr_parser.specs.Grammar.{inside, outside}
-use Rattle.rr_parser.specs.Reading.Answers.{◌>>=◌, Refused, wrong, deep, Answer, Parse, built, ended_by, closed, from, on_seen, across, trail_on, turn, chain_from, chain_on, chain}
+use Rattle.rr_parser.specs.Grammar.{is_enclosed, inside, outside}
+use Rattle.rr_parser.specs.Reading.Answers.{◌>>=◌, Refused, wrong, deep, Answer, Parse, built, ended_by, closed, from, on_seen, across, taking_of, enclosed_of, trail_on, turn, chain_from, chain_on, chain}
 use Rattle.rr_parser.specs.Reading.Nesting.{Readers}
 use Rattle.rr_parser.specs.Reading.Operands.{bare_call, block_behind, blocked_or, blocked_of, then_blocked, unbracketed_or, name_or, name_of, passing_or, passing_of, int_at, negative_in, negative_of, begun, primary_at, primary_in, primary_of, tailed_of, postfix_of, bang_or, bang_of, prefix_minus, minus_or, minus_of}
 use Rattle.rr_parser.specs.Reading.Operators.{binary_on, binary_of, pair_or, equality_on, logical_on, logical_of, question_or, ternary_on, ternary_of}
-use Rattle.rr_parser.specs.Reading.Calls.{assigned_or, assigned_of, argument_of, pair_by, pair_of, member_of, another, members_of, bracketed_or, bracketed_of, array_of, hash_of, index_of, commanded_or, commanded_of, command_or, command_of, phrase_or, phrase_of, operand_of, value_of}
+use Rattle.rr_parser.specs.Reading.Calls.{assigned_or, assigned_of, argument_of, pair_by, pair_of, member_of, another, members_of, bracketed_or, bracketed_of, array_of, hash_of, index_of, commanded_or, commanded_of, headed_of, command_or, command_of, phrase_or, phrase_of, operand_of, value_of}
 use Rattle.rr_parser.specs.Reading.Sequences.{negation_or, negation_of, expression_of, statement_of, ends, row, rows_of, sequence_of, statements_of, group_of}
 use Rattle.rr_parser.specs.Reading.Control.{both, branch_of, branches_of, otherwise_or, otherwise_of, ended, choice_of, unless_of, loop_of, looped_of}
 use Rattle.rr_parser.specs.Reading.Blocks.{left_block, block_or, block_of}
 use Rattle.rr_parser.specs.Reading.Definitions.{left_method, method_or, definition_or, definition_of}
-use Rattle.rr_parser.specs.Reading.{part_of, readers_inside, readers_outside}
-use Rattle.rr_parser.specs.Fronts.{Fronts, ChainFront, in_one, in_more, in_head, TailedFront, PostfixFront, PairFront, behind_label, in_entry, MemberFront, MembersFront, AcrossFront, in_former, in_latter, CallFront, BlockedFront, in_block, PrimaryFront, in_construct, in_call, in_passing, in_block_call, BangFront, in_bang, behind_no_bang, MinusFront, in_minus, behind_no_minus, BinaryFront, EqualityFront, LogicalFront, TernaryFront, AssignedFront, in_value, in_operand, ArgumentFront, CommandedFront, in_arguments, in_argument_command, CommandFront, behind_name, PhraseFront, in_command, in_plain, OperandFront, ValueFront, NegationFront, in_negation, behind_no_negation, ExpressionFront, StatementFront, RowsFront, StatementsFront, BranchFront, BranchesFront, EndedFront, LoopFront, LoopedFront, BlockFront, in_body, DefinitionFront, in_method, PartFront, fronts_inside, fronts_outside}
+use Rattle.rr_parser.specs.Reading.{form_of, part_of, readers_inside, readers_outside}
+use Rattle.rr_parser.specs.Fronts.{Fronts, ChainFront, in_one, in_more, in_head, TailedFront, PostfixFront, PairFront, behind_label, in_entry, MemberFront, MembersFront, AcrossFront, in_former, in_latter, TakingFront, EnclosedFront, CallFront, BlockedFront, in_block, PassedFront, in_passed, in_its_block, PrimaryFront, in_construct, in_call, in_passing, in_block_call, BangFront, in_bang, behind_no_bang, MinusFront, in_minus, behind_no_minus, BinaryFront, EqualityFront, LogicalFront, TernaryFront, AssignedFront, in_value, in_operand, ArgumentFront, CommandedFront, in_arguments, in_argument_command, CommandFront, behind_name, PhraseFront, in_command, in_plain, OperandFront, ValueFront, NegationFront, in_negation, behind_no_negation, ExpressionFront, StatementFront, RowsFront, StatementsFront, BranchFront, BranchesFront, EndedFront, LoopFront, LoopedFront, BlockFront, in_body, DefinitionFront, in_method, FormFront, PartFront, fronts_inside, fronts_outside}
 use Rattle.rr_parser.proofs.Told.{told_bang, told_not}
 use Rattle.rr_parser.proofs.Looks.{word-next, another-comma, next-name, row-separators, prefix-next}
 use Rattle.rr_parser.proofs.Trails.{trail_deep}
 use Rattle.rr_parser.proofs.Chains.{done, built_ok, IsSound}
-use Rattle.rr_parser.proofs.Sound.{NestedSound, primary_sound, tailed_sound, member_sound, minus_sound, binary_sound_on, binary_sound, logical_sound_on, logical_sound, argument_sound, negation_sound, expression_sound, statement_sound, branch_sound, branches_sound, sound_inside, sound_outside}
+use Rattle.rr_parser.proofs.Sound.{NestedSound, taking_sound, primary_sound, tailed_sound, member_sound, minus_sound, binary_sound_on, binary_sound, logical_sound_on, logical_sound, argument_sound, commanded_sound, negation_sound, expression_sound, statement_sound, branch_sound, branches_sound, sound_inside, sound_outside}
 
 abbrev pub IsDeep : {A : Type 0} → Parse A → (Place → Place → Type 0) → Type 0
 IsDeep {A} p F = (s : Place) → p s ≡ Err deep → (z : Place) × F s z
@@ -162,38 +166,55 @@ pub record NestedDeep (N : Readers) (F : Fronts) : Type 0 where
   pub bracketed : IsDeep N.bracketed F.bracketed
   pub value : (b : Bool) → IsDeep (N.value b) (F.value b)
 
+abbrev taken_back : {A : Type 0} → Place → Answer A → Answer A
+taken_back s r = r >>= λ x. Ok (x.0, taking_as s x.1)
+
+taken_deep : {A : Type 0} (s : Place) (r : Answer A) → taken_back s r ≡ Err deep → r ≡ Err deep
+taken_deep s (Ok x) e = absurd cc
+taken_deep s (Err wrong) e = absurd cc
+taken_deep s (Err deep) e = refl
+
+taking_deep : {A : Type 0} (b : Bool) (p : Parse A) (F : Place → Place → Type 0) → IsDeep p F → IsDeep (taking_of b p) (TakingFront b F)
+taking_deep b p F first s e = first (taking b s) (taken_deep s (p (taking b s)) e)
+
+enclosed_deep : {A : Type 0} (b : Bool) (p : Parse A) (F : Place → Place → Type 0) → IsDeep p F → IsDeep (enclosed_of b p) (EnclosedFront b F)
+enclosed_deep true p F first = taking_deep true p F first
+enclosed_deep false p F first = first
+
 module _ (N : Readers) (R : Nested) (F : Fronts) (sounds : NestedSound N R) (nests : NestedDeep N F) where
-  behind_deep : (c : Tree) (s : Place) → block_behind N c s ≡ Err deep → (z : Place) × F.part parts.Block s z
-  behind_deep c s e = nests.part parts.Block s (built_deep (with_block c) (N.part parts.Block s) e)
+  behind_deep : (k : Fence) (c : Tree) (s : Place) → block_behind N k c s ≡ Err deep → (z : Place) × F.part (parts.Block k) s z
+  behind_deep k c s e = nests.part (parts.Block k) s (built_deep (with_block c) (N.part (parts.Block k) s) e)
 
-  blocked_or-deep : (c : Tree) (s : Place) (o : Option (Unit {0} × Place)) → at brace s ≡ o → blocked_or N c s o ≡ Err deep → (z : Place) × BlockedFront F s z
-  blocked_or-deep c s None f e = absurd cc
-  blocked_or-deep c s (Some m) f e = let d = behind_deep c m.1 e in (d.0, in_block {u = m.0} f d.1)
+  blocked_or-deep : (q : Behind) (c : Tree) (s : Place) (o : Option (Fence × Place)) → opened q s ≡ o → blocked_or N c s o ≡ Err deep → (z : Place) × BlockedFront F q s z
+  blocked_or-deep q c s None f e = absurd cc
+  blocked_or-deep q c s (Some m) f e = let d = behind_deep m.0 c m.1 e in (d.0, in_block f d.1)
 
-  blocked_deep : (c : Tree) (s : Place) → blocked_of N c s ≡ Err deep → (z : Place) × BlockedFront F s z
+  blocked_deep : (q : Behind) (c : Tree) (s : Place) → blocked_of N q c s ≡ Err deep → (z : Place) × BlockedFront F q s z
   unfolding blocked_of
-  blocked_deep c s e = blocked_or-deep c s (at brace s) refl e
+  blocked_deep q c s e = blocked_or-deep q c s (opened q s) refl e
 
-  behind_arguments : (n o z : Place) (l : List Tree) → R.bracketed n l o → BlockedFront F o z → CallFront R F n z
-  behind_arguments n o z l h (in_block {u = u} e f) = in_latter {x = u} h e f
-
-  call_deep : (f : List Tree → Tree) (n : Place) → then_blocked N (built f (N.bracketed n)) ≡ Err deep → (z : Place) × CallFront R F n z
-  call_deep f n e =
-      elim (bind_deep (built f (N.bracketed n)) (λ c. blocked_of N c.0 c.1) e) [
-        | inl g ↦ (let d = nests.bracketed n (built_deep f (N.bracketed n) g) in (d.0, in_former d.1))
+  -- arguments, and the block behind them
+  passed_deep : (q : Behind) (f : List Tree → Tree) (p : Parse (List Tree)) (P : Place → List Tree → Place → Type 0) (G : Place → Place → Type 0) → IsSound p P → IsDeep p G
+      → (n : Place) → then_blocked N q (built f (p n)) ≡ Err deep → (z : Place) × PassedFront F q P G n z
+  passed_deep q f p P G sound first n e =
+      elim (bind_deep (built f (p n)) (λ c. blocked_of N q c.0 c.1) e) [
+        | inl g ↦ (let d = first n (built_deep f (p n) g) in (d.0, in_passed d.1))
         | inr b ↦ (
-            let k = built_ok f (N.bracketed n) b.0.0 b.0.1 b.1 in
-            let d = blocked_deep b.0.0 b.0.1 b.2 in
-            (d.0, behind_arguments n b.0.1 d.0 k.0 (sounds.bracketed n b.0.1 k.0 k.1) d.1)
+            let k = built_ok f (p n) b.0.0 b.0.1 b.1 in
+            let d = blocked_deep q b.0.0 b.0.1 b.2 in
+            (d.0, in_its_block (sound n b.0.1 k.0 k.1) d.1)
             )
       ]
 
-  unbracketed_or-deep : (s m : Place) (x : Sym) (o : Option (Unit {0} × Place)) → at name s ≡ Some (x, m) → at bracket m ≡ None → at brace m ≡ o → unbracketed_or N x m o ≡ Err deep → (z : Place) × PrimaryFront R F s z
+  call_deep : (f : List Tree → Tree) (n : Place) → then_blocked N behinds.Call (built f (N.bracketed n)) ≡ Err deep → (z : Place) × CallFront R F n z
+  call_deep f n e = passed_deep behinds.Call f N.bracketed R.bracketed F.bracketed sounds.bracketed nests.bracketed n e
+
+  unbracketed_or-deep : (s m : Place) (x : Sym) (o : Option (Fence × Place)) → at name s ≡ Some (x, m) → at bracket m ≡ None → opened behinds.Call m ≡ o → unbracketed_or N x m o ≡ Err deep → (z : Place) × PrimaryFront R F s z
   unbracketed_or-deep s m x None f g h e = absurd (plain_not_deep (is_local x m) x m e)
-  unbracketed_or-deep s m x (Some b) f g h e = let d = behind_deep (call x.0 (listed [])) b.1 e in (d.0, in_block_call f g (in_block {u = b.0} h d.1))
+  unbracketed_or-deep s m x (Some b) f g h e = let d = behind_deep b.0 (call x.0 (listed [])) b.1 e in (d.0, in_block_call f g (in_block h d.1))
 
   name_or-deep : (s m : Place) (x : Sym) (o : Option (Unit {0} × Place)) → at name s ≡ Some (x, m) → at bracket m ≡ o → name_or N x m o ≡ Err deep → (z : Place) × PrimaryFront R F s z
-  name_or-deep s m x None f g e = unbracketed_or-deep s m x (at brace m) f g refl e
+  name_or-deep s m x None f g e = unbracketed_or-deep s m x (opened behinds.Call m) f g refl e
   name_or-deep s m x (Some b) f g e =
       let d = call_deep (λ l. call x.0 (listed l)) b.1 e in
       (d.0, in_call {u = b.0} f g d.1)
@@ -245,7 +266,7 @@ module _ (N : Readers) (R : Nested) (F : Fronts) (sounds : NestedSound N R) (nes
 
   tailed_deep : (x : Tail) (l : Tree) (n : Place) → tailed_of N x l n ≡ Err deep → (z : Place) × TailedFront R F x n z
   unfolding tailed_of
-  tailed_deep (tails.Send x) l n e = blocked_deep (send l x.0 (listed [])) n e
+  tailed_deep (tails.Send x) l n e = blocked_deep behinds.Call (send l x.0 (listed [])) n e
   tailed_deep (tails.Call x) l n e = call_deep (λ q. send l x.0 (listed q)) n e
   tailed_deep tails.Index l n e = nests.part parts.Index n (built_deep (index l) (N.part parts.Index n) e)
 
@@ -415,8 +436,13 @@ module _ (N : Readers) (R : Nested) (F : Fronts) (sounds : NestedSound N R) (nes
   unfolding commanded_of
   commanded_deep s e = commanded_or-deep s (at (command s.known) s) refl e
 
-  called_deep : (s m : Place) (x : Head) → at (command s.known) s ≡ Some (x, m) → built (headed x) (commanded_of N m) ≡ Err deep → (z : Place) × CommandFront R F s z
-  called_deep s m x f e = let d = commanded_deep m (built_deep (headed x) (commanded_of N m) e) in (d.0, behind_name f d.1)
+  called_deep : (s m : Place) (x : Head) → at (command s.known) s ≡ Some (x, m) → headed_of N x m ≡ Err deep → (z : Place) × CommandFront R F s z
+  unfolding headed_of
+  called_deep s m x f e =
+      let b = within_head x m.known.takes_do in
+      let d = passed_deep (behinds.Command x) (headed x) (taking_of b (commanded_of N)) (Taking b (Commanded R)) (TakingFront b (CommandedFront R F))
+      (taking_sound b (commanded_of N) (Commanded R) (commanded_sound N R sounds)) (taking_deep b (commanded_of N) (CommandedFront R F) commanded_deep) m e in
+      (d.0, behind_name f d.1)
 
   command_or-deep : (s : Place) (o : Option (Head × Place)) → at (command s.known) s ≡ o → command_or N o ≡ Err deep → (z : Place) × CommandFront R F s z
   command_or-deep s None f e = absurd cc
@@ -517,8 +543,9 @@ module _ (N : Readers) (R : Nested) (F : Fronts) (sounds : NestedSound N R) (nes
   loop_deep : (until : Bool) → IsDeep (loop_of N until) (LoopFront R F)
   unfolding loop_of
   loop_deep until s e =
-      across_deep (repeat until) loops (statements_of N) (expression_of N s) s (Expression R) (ExpressionFront R F) (StatementsFront R F) (λ a m g. expression_sound N R sounds s m a g) (λ g. expression_deep s g) statements_deep
-      (closed_deep kind.End (across (repeat until) loops (statements_of N) (expression_of N s)) e)
+      across_deep (repeat until) loops (statements_of N) (taking_of false (expression_of N) s) s (Taking false (Expression R)) (TakingFront false (ExpressionFront R F)) (StatementsFront R F)
+      (λ a m g. taking_sound false (expression_of N) (Expression R) (expression_sound N R sounds) s m a g) (λ g. taking_deep false (expression_of N) (ExpressionFront R F) expression_deep s g) statements_deep
+      (closed_deep kind.End (across (repeat until) loops (statements_of N) (taking_of false (expression_of N) s)) e)
 
   outside_deep : (s : Place) (r : Answer Tree) → past_loop s r ≡ Err deep → r ≡ Err deep
   outside_deep s (Ok x) e = absurd cc
@@ -533,16 +560,16 @@ module _ (N : Readers) (R : Nested) (F : Fronts) (sounds : NestedSound N R) (nes
   left_deep s xs m (Err wrong) e = absurd cc
   left_deep s xs m (Err deep) e = refl
 
-  block_or-deep : (s : Place) (o : Option (List Sym × Place)) → at parameters s ≡ o → block_or N s o ≡ Err deep → (z : Place) × BlockFront R F s z
-  block_or-deep s None f e = absurd cc
-  block_or-deep s (Some x) f e =
-      let body = closed kind.CloseBrace (statements_of N (entered x.0 x.1)) in
-      let d = statements_deep (entered x.0 x.1) (closed_deep kind.CloseBrace (statements_of N (entered x.0 x.1)) (left_deep s x.0 x.1 body e)) in
+  block_or-deep : (k : Fence) (s : Place) (o : Option (List Sym × Place)) → at parameters s ≡ o → block_or N k s o ≡ Err deep → (z : Place) × BlockFront R F s z
+  block_or-deep k s None f e = absurd cc
+  block_or-deep k s (Some x) f e =
+      let body = closed (fence_end k) (statements_of N (entered x.0 x.1)) in
+      let d = statements_deep (entered x.0 x.1) (closed_deep (fence_end k) (statements_of N (entered x.0 x.1)) (left_deep s x.0 x.1 body e)) in
       (d.0, in_body f d.1)
 
-  block_deep : IsDeep (block_of N) (BlockFront R F)
+  block_deep : (k : Fence) → IsDeep (block_of N k) (BlockFront R F)
   unfolding block_of
-  block_deep s e = block_or-deep s (at parameters s) refl e
+  block_deep k s e = block_or-deep k s (at parameters s) refl e
 
   left_method-deep : (s : Place) (x : Sym) (xs : List Sym) (n : Place) (r : Answer Tree) → left_method s x xs n r ≡ Err deep → r ≡ Err deep
   left_method-deep s x xs n (Ok q) e = absurd cc
@@ -564,28 +591,31 @@ module _ (N : Readers) (R : Nested) (F : Fronts) (sounds : NestedSound N R) (nes
   unfolding definition_of
   definition_deep s e = definition_or-deep s (at name s) refl e
 
+  form_deep : (p : Part) → IsDeep (form_of N p) (FormFront R F p)
+  form_deep parts.Group = group_deep
+  form_deep parts.Array = array_deep
+  form_deep parts.Hash = hash_deep
+  form_deep parts.Index = index_deep
+  form_deep parts.Choice = choice_deep
+  form_deep parts.Unless = unless_deep
+  form_deep (parts.Loop until) = looped_deep until
+  form_deep parts.Minus = minus_deep
+  form_deep parts.Bang = bang_deep
+  form_deep parts.Not = negation_deep
+  form_deep parts.Command = command_deep
+  form_deep parts.Branch = argument_deep
+  form_deep (parts.Block k) = block_deep k
+  form_deep parts.Definition = definition_deep
+
   pub part_deep : (p : Part) → IsDeep (part_of N p) (PartFront R F p)
-  part_deep parts.Group = group_deep
-  part_deep parts.Array = array_deep
-  part_deep parts.Hash = hash_deep
-  part_deep parts.Index = index_deep
-  part_deep parts.Choice = choice_deep
-  part_deep parts.Unless = unless_deep
-  part_deep (parts.Loop until) = looped_deep until
-  part_deep parts.Minus = minus_deep
-  part_deep parts.Bang = bang_deep
-  part_deep parts.Not = negation_deep
-  part_deep parts.Command = command_deep
-  part_deep parts.Branch = argument_deep
-  part_deep parts.Block = block_deep
-  part_deep parts.Definition = definition_deep
+  part_deep p = enclosed_deep (is_enclosed p) (form_of N p) (FormFront R F p) (form_deep p)
 
 pub deep_inside : (d : ℕ) → NestedDeep (readers_inside d) (fronts_inside d)
 unfolding readers_inside fronts_inside
 deep_inside zero = record { part = λ p s e. (s, refl); bracketed = λ s e. (s, refl); value = λ b s e. (s, refl) }
 deep_inside (suc d) = record {
   part = part_deep (readers_inside d) (inside d) (fronts_inside d) (sound_inside d) (deep_inside d);
-  bracketed = bracketed_deep (readers_inside d) (inside d) (fronts_inside d) (sound_inside d) (deep_inside d) listings.Call;
+  bracketed = taking_deep true (bracketed_of (readers_inside d) listings.Call) (MembersFront (inside d) (fronts_inside d) listings.Call) (bracketed_deep (readers_inside d) (inside d) (fronts_inside d) (sound_inside d) (deep_inside d) listings.Call);
   value = value_deep (readers_inside d) (inside d) (fronts_inside d) (sound_inside d) (deep_inside d);
 }
 
@@ -594,6 +624,6 @@ unfolding readers_outside fronts_outside
 deep_outside zero = record { part = λ p s e. (s, refl); bracketed = λ s e. (s, refl); value = value_deep (readers_inside zero) (inside zero) (fronts_inside zero) (sound_inside zero) (deep_inside zero) }
 deep_outside (suc d) = record {
   part = part_deep (readers_outside d) (outside d) (fronts_outside d) (sound_outside d) (deep_outside d);
-  bracketed = bracketed_deep (readers_outside d) (outside d) (fronts_outside d) (sound_outside d) (deep_outside d) listings.Call;
+  bracketed = taking_deep true (bracketed_of (readers_outside d) listings.Call) (MembersFront (outside d) (fronts_outside d) listings.Call) (bracketed_deep (readers_outside d) (outside d) (fronts_outside d) (sound_outside d) (deep_outside d) listings.Call);
   value = value_deep (readers_inside (suc d)) (inside (suc d)) (fronts_inside (suc d)) (sound_inside (suc d)) (deep_inside (suc d));
 }

@@ -31,12 +31,12 @@ use Rattle.rr_parser.proofs.Making.{made_over, made_eq, made_put, fails_eq, fail
 
 -- what a method knows first
 pub entered_apart : (old : Known) (set grown : Variables) (xs : List Sym) (locals : List Local) (begun : ℕ) → known_in grown ≡ with_parameters xs (known_in set)
-    → set ≡ record { locals = locals; level = 0; count = 0; begun = begun; in_loop = false; in_method = true } → locals ≡ [] → begun ≡ old.begun + 1 → known_in grown ≡ with_parameters xs (apart old)
+    → set ≡ record { locals = locals; level = 0; count = 0; begun = begun; in_loop = false; in_method = true; takes_do = true } → locals ≡ [] → begun ≡ old.begun + 1 → known_in grown ≡ with_parameters xs (apart old)
 entered_apart old set grown xs locals begun e f g h =
     e
     ∙ ap (λ (v : Variables). with_parameters xs (known_in v)) f
-    ∙ ap (λ (ls : List Local). with_parameters xs (record { locals = ls; level = 0; count = 0; begun = begun; in_loop = false; in_method = true })) g
-    ∙ ap (λ (n : ℕ). with_parameters xs (record { locals = []; level = 0; count = 0; begun = n; in_loop = false; in_method = true })) h
+    ∙ ap (λ (ls : List Local). with_parameters xs (record { locals = ls; level = 0; count = 0; begun = begun; in_loop = false; in_method = true; takes_do = true })) g
+    ∙ ap (λ (n : ℕ). with_parameters xs (record { locals = []; level = 0; count = 0; begun = n; in_loop = false; in_method = true; takes_do = true })) h
 
 module _ (N : Readers) (old s1 : Parser) (x : Sym) (xs : List Sym) (k : Outside) (words after rest : List Word) (e : name words ≡ Some (x, after)) (f : formals after ≡ Some (xs, rest)) (n : Defines old s1 xs k) where
   defined_place : place s1 rest ≡ defined xs (place old rest)

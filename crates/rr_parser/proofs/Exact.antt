@@ -1,5 +1,5 @@
 -- From what is read to what is spelled.
-use Rattle.std.proofs.Common.{◌≡◌, ℕ, List, [], false, Result, Err, sym, subst, ◌∙◌, arith}
+use Rattle.std.proofs.Common.{◌≡◌, ℕ, List, [], true, false, Result, Err, sym, subst, ◌∙◌, arith}
 use Rattle.rr_base.specs.declared.fault.Fault.{Fault}
 use Rattle.rr_base.specs.declared.fault.Fault.TheVariants as fault
 use Rattle.rr_base.specs.declared.fault.SyntaxKind.{SyntaxKind}
@@ -55,11 +55,11 @@ parse_fault (refusal.Unexpected n) f g = no_fault f (fault.Syntax g.0 g.1 g.2) g
 parse_fault (refusal.Number n) f g = no_fault f (fault.Syntax g.0 g.1 g.2) g.3 tt
 
 -- what the statements of a program fail by
-pub fails_program : (d : ℕ) (ws : List Word) (locals : List Local) (e : Refusal) → locals ≡ [] → Fails e (outline_of (readers false d) (record { known = record { locals = locals; level = 0; count = 0; begun = 0; in_loop = false; in_method = false }; rest = ws })) → Fails e (program_of d ws)
+pub fails_program : (d : ℕ) (ws : List Word) (locals : List Local) (e : Refusal) → locals ≡ [] → Fails e (outline_of (readers false d) (record { known = record { locals = locals; level = 0; count = 0; begun = 0; in_loop = false; in_method = false; takes_do = true }; rest = ws })) → Fails e (program_of d ws)
 unfolding program_of
 fails_program d ws locals e is h =
     fails_bind e (outline_of (readers false d) (start ws)) (λ r. whole_of r.0 r.1.rest)
-    (subst (λ (k : List Local). Fails e (outline_of (readers false d) (record { known = record { locals = k; level = 0; count = 0; begun = 0; in_loop = false; in_method = false }; rest = ws }))) is h)
+    (subst (λ (k : List Local). Fails e (outline_of (readers false d) (record { known = record { locals = k; level = 0; count = 0; begun = 0; in_loop = false; in_method = false; takes_do = true }; rest = ws }))) is h)
 
 pub same_fault : {A : Type 0} (f g : Fault) → ◌≡◌ {A = Result A Fault} (Err f) (Err g) → f ≡ g
 same_fault f g e = cc

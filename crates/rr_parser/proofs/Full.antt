@@ -12,24 +12,29 @@ use Rattle.rr_parser.specs.declared.word.Part.{Part}
 use Rattle.rr_parser.specs.declared.word.Part.TheVariants as parts
 use Rattle.rr_parser.specs.declared.word.WordKind.{WordKind}
 use Rattle.rr_parser.specs.declared.word.WordKind.TheVariants as kind
+use Rattle.rr_parser.specs.declared.word.Behind.{Behind}
+use Rattle.rr_parser.specs.declared.word.Behind.TheVariants as behinds
+use Rattle.rr_parser.specs.declared.word.Fence.{Fence}
+use Rattle.rr_parser.specs.declared.word.Fence.TheVariants as fences
+use Rattle.rr_parser.specs.Grammar.Fences.{Taking, taken, taking, taking_as, within_head, fence_end, opened}
 use Rattle.rr_parser.specs.Places.{is_kind, where_true, seen_before, placed, Place, word, at, next, skip, separators}
 use Rattle.rr_parser.specs.Grammar.Chains.{same, one_of, and_one}
 use Rattle.rr_parser.specs.Grammar.Nesting.{Nested}
 use Rattle.rr_parser.specs.Grammar.Names.{is_local, variable_of, local_tree, is_allowed, jump_tree, begins_arguments, passed, passed_bare, headed, name, bracket, begins_operands, command}
-use Rattle.rr_parser.specs.Grammar.Operands.{fits, fits_below, negated, joined, literal_of, construct_of, brace, Blocked, no_block, a_block, Primary, a_literal, a_negative, a_local, a_bare_call, a_call, a_block_call, a_jump, a_passing, a_passing_call, a_construct, tail, Tailed, a_send, a_sent_call, an_index, Postfix, Bang, a_bang, no_bang, Minus, a_minus, no_minus}
+use Rattle.rr_parser.specs.Grammar.Operands.{fits, fits_below, negated, joined, literal_of, construct_of, Blocked, no_block, a_block, Primary, a_literal, a_negative, a_local, a_bare_call, a_call, a_block_call, a_jump, a_passing, a_passing_call, a_construct, tail, Tailed, a_send, a_sent_call, an_index, Postfix, Bang, a_bang, no_bang, Minus, a_minus, no_minus}
 use Rattle.rr_parser.specs.Grammar.Operators.{operator, infixed, connective, joined_by, Logical, Binary, Equality, a_comparison, a_pair, Ternary, no_question, a_question}
-use Rattle.rr_parser.specs.Grammar.Calls.{target, with_target, assigned_to, label, comma, closing, last, Assigned, an_assignment, no_assignment, Argument, Pair, by_label, by_arrow, Member, Members, Bracketed, no_members, some_members, Array, an_array, Hash, a_hash, Index, of_element, Commanded, by_arguments, by_command, Command, a_command, Phrase, by_name, an_operand, Value}
+use Rattle.rr_parser.specs.Grammar.Calls.{target, with_target, assigned_to, label, comma, closing, last, Assigned, an_assignment, no_assignment, Argument, Pair, by_label, by_arrow, Member, Members, Bracketed, no_members, some_members, Array, an_array, Hash, a_hash, Index, of_element, Commanded, Arguments, by_arguments, by_command, Command, a_command, Phrase, by_name, an_operand, Value}
 use Rattle.rr_parser.specs.Grammar.Sequences.{Negation, a_negation, no_negation, Expression, modifier, modified, Statement, Rows, Statements, no_statements, some_statements, Group, a_group}
 use Rattle.rr_parser.specs.Grammar.Control.{thens, loops, elsif, chosen, unless_chosen, Branch, a_branch, Branches, Otherwise, no_else, an_else, Choice, a_choice, Unless, an_unless, Loop, a_loop, looping, outside_loop, Looped, of_loop}
 use Rattle.rr_parser.specs.Grammar.Blocks.{parameters, entered, leaving, block_tree, Block, of_statements}
 use Rattle.rr_parser.specs.Grammar.Definitions.{defined, rejoining, method_tree, Definition, of_method}
 use Rattle.rr_parser.specs.Grammar.{PartOf, inside, outside}
-use Rattle.rr_parser.specs.Reading.Answers.{◌>>=◌, wrong, Answer, Parse, built, ended_by, closed, across}
+use Rattle.rr_parser.specs.Reading.Answers.{◌>>=◌, wrong, Answer, Parse, built, ended_by, closed, across, taking_of}
 use Rattle.rr_parser.specs.Reading.Nesting.{Readers}
 use Rattle.rr_parser.specs.Reading.Operands.{call_of, bare_call, variable_or_call, block_behind, blocked_or, blocked_of, then_blocked, unbracketed_or, name_or, name_of, jump_at, passing_or, passing_of, int_at, negative_in, negative_of, primary_at, primary_in, primary_of, tailed_of, postfix_of, bang_or, bang_of, prefix_minus, minus_or, minus_of}
 use Rattle.rr_parser.specs.Reading.Operators.{binary_on, binary_of, pair_or, equality_on, logical_on, logical_of, question_or, ternary_on, ternary_of}
-use Rattle.rr_parser.specs.Reading.Calls.{assigned_or, assigned_of, argument_of, pair_by, pair_of, member_of, another, members_of, bracketed_or, bracketed_of, array_of, hash_of, index_of, commanded_or, commanded_of, headed_of, command_or, command_of, phrase_or, phrase_of, value_of}
-use Rattle.rr_parser.specs.Reading.Sequences.{negation_or, negation_of, expression_of, statement_of, ends, row, rows_of, sequence_of, statements_at, statements_of, group_of}
+use Rattle.rr_parser.specs.Reading.Calls.{assigned_or, assigned_of, argument_of, pair_by, pair_of, member_of, another, members_of, bracketed_or, bracketed_of, array_of, hash_of, index_of, commanded_or, commanded_of, arguments_of, headed_of, command_or, command_of, phrase_or, phrase_of, value_of}
+use Rattle.rr_parser.specs.Reading.Sequences.{negation_or, negation_of, expression_of, statement_of, ends_at, ends, row, rows_of, sequence_of, statements_at, statements_of, group_of}
 use Rattle.rr_parser.specs.Reading.Control.{both, branch_of, branches_of, otherwise_or, otherwise_of, ended, choice_of, unless_of, loop_of, looped_of}
 use Rattle.rr_parser.specs.Reading.Blocks.{left_block, block_or, block_of}
 use Rattle.rr_parser.specs.Reading.Definitions.{left_method, method_or, definition_or, definition_of}
@@ -41,7 +46,7 @@ use Rattle.rr_tree.specs.declared.node.Path.TheVariants as paths
 use Rattle.rr_parser.proofs.Trails.{trail_full}
 use Rattle.rr_parser.proofs.Chains.{done}
 use Rattle.rr_parser.proofs.Leading.{Leads, leads_bind, leads_trans, leads_eq, leads_map, IsFull, chain_full, IsFullOn, from_full, onward_bind, onward_full, across_full}
-use Rattle.rr_parser.proofs.Stopping.{Stops, stops_by, word_unseen, operator_strength, no_operator_at, connective_strength, no_connective_at, modifier_strength, no_modifier_at, comma_strength, separators_stop, thens_stop, loops_stop, ends_behind, next_ends, chain_first, postfix_no_bang, no_tail_at, member_no_closing, starts_no_label, last_stops, bang_no_prefix, ternary_first, first_no_command, argument_starts, value_starts, starts_no_not, statement_starts, target_no_command, ternary_no_target, phrase_no_target, AtEnd, elsif_ends}
+use Rattle.rr_parser.proofs.Stopping.{Stops, stops_by, word_unseen, operator_strength, no_operator_at, connective_strength, no_connective_at, modifier_strength, no_modifier_at, comma_strength, separators_stop, thens_stop, loops_stop, ends_behind, next_ends, chain_first, postfix_no_bang, no_tail_at, member_no_closing, starts_no_label, last_stops, bang_no_prefix, ternary_first, first_no_command, argument_starts, value_starts, starts_no_not, statement_starts, target_no_command, ternary_no_target, phrase_no_target, opened_stops, taking_stops, AtEnd, elsif_ends}
 
 abbrev pub Anywhere : Place → Type 0
 Anywhere z = Unit {0}
@@ -75,6 +80,21 @@ word_here k s z e f = by_next (λ q. at (word k) q ≡ Some (tt, z)) s z k e (λ
 closed_full : {A : Type 0} {D : Type 0} (k : WordKind) (r : Answer A) (t : A) (n z : Place) → is_kind k k ≡ true → Leads r (Ok (t, n)) D → next n ≡ Some (k, z) → Leads (closed k r) (Ok (t, z)) D
 closed_full k r t n z same_kind h e =
     leads_trans (closed k r) (ended_by t (at (word k) n)) (Ok (t, z)) (leads_bind r (t, n) (λ x. ended_by x.0 (at (word k) x.1)) h) (inl (ap (ended_by t) (word_here k n z e same_kind)))
+
+-- what is read where calls take the word `do`, or not
+taking_full : {A : Type 0} {D : Type 0} (b : Bool) (p : Parse A) (P : Place → A → Place → Type 0) (S : Place → Type 0) → ((a : Bool) (z : Place) → S (taking a z) → S z) → IsFull p P S D → IsFull (taking_of b p) (Taking b P) S D
+taking_full b p P S stays full s z t (taken {z = y} h) stops = leads_bind (p (taking b s)) (t, y) (λ x. Ok (x.0, taking_as s x.1)) (full (taking b s) y t h (stays s.known.takes_do y stops))
+
+enclosed_full : {A : Type 0} {D : Type 0} (p : Parse A) (P : Place → A → Place → Type 0) → IsFull p P Anywhere D → IsFull (taking_of true p) (Taking true P) Anywhere D
+enclosed_full p P full = taking_full true p P Anywhere (λ a z u. u) full
+
+same_fence : (k : Fence) → is_kind (fence_end k) (fence_end k) ≡ true
+same_fence fences.Brace = refl
+same_fence fences.Do = refl
+
+fence_ends : (k : Fence) → ends_at (fence_end k) ≡ true
+fence_ends fences.Brace = refl
+fence_ends fences.Do = refl
 
 module _ (N : Readers) (R : Nested) (D : Type 0) (shrinks : ReadersShrink N) (nests : NestedFull N R D) where
   same_tree : (t u : Tree) → ◌≡◌ {A = Option Tree} (Some t) (Some u) → t ≡ u
@@ -126,29 +146,33 @@ module _ (N : Readers) (R : Nested) (D : Type 0) (shrinks : ReadersShrink N) (ne
   unfolding negative_of
   negative_full m z n e f = ap negative_in e ∙ ap (λ b. cond b (Ok (int (negated n), z)) (Err wrong)) f
 
-  plain_full : (x : Sym) (m : Place) → at bracket m ≡ None → at brace m ≡ None → name_of N x m ≡ variable_or_call x m
+  plain_full : (x : Sym) (m : Place) → at bracket m ≡ None → opened behinds.Call m ≡ None → name_of N x m ≡ variable_or_call x m
   unfolding name_of
   plain_full x m e f = ap (name_or N x m) e ∙ ap (unbracketed_or N x m) f
 
-  behind_full : (c : Tree) (m z : Place) (b : Tree) → R.part parts.Block m b z → Leads (block_behind N c m) (Ok (with_block c b, z)) D
-  behind_full c m z b h = leads_bind (N.part parts.Block m) (b, z) (λ q. Ok (with_block c q.0, q.1)) (nests.part parts.Block m z b h tt)
+  behind_full : (f : Fence) (c : Tree) (m z : Place) (b : Tree) → R.part (parts.Block f) m b z → Leads (block_behind N f c m) (Ok (with_block c b, z)) D
+  behind_full f c m z b h = leads_bind (N.part (parts.Block f) m) (b, z) (λ q. Ok (with_block c q.0, q.1)) (nests.part (parts.Block f) m z b h tt)
 
-  blocked_full : (c : Tree) (s z : Place) (t : Tree) → Blocked R c s t z → Leads (blocked_of N c s) (Ok (t, z)) D
+  blocked_full : (q : Behind) (c : Tree) (s z : Place) (t : Tree) → Blocked R q c s t z → Leads (blocked_of N q c s) (Ok (t, z)) D
   unfolding blocked_of
-  blocked_full c s z t (no_block e) = inl (ap (blocked_or N c s) e)
-  blocked_full c s z t (a_block {m = m} {b = b} e h) = leads_eq (blocked_or N c s (at brace s)) (block_behind N c m) (Ok (t, z)) (ap (blocked_or N c s) e) (behind_full c m z b h)
+  blocked_full q c s z t (no_block e) = inl (ap (blocked_or N c s) e)
+  blocked_full q c s z t (a_block {m = m} {f = f} {b = b} e h) = leads_eq (blocked_or N c s (opened q s)) (block_behind N f c m) (Ok (t, z)) (ap (blocked_or N c s) e) (behind_full f c m z b h)
 
-  arguments_full : (f : List Tree → Tree) (n o z : Place) (l : List Tree) (t : Tree) → R.bracketed n l o → Blocked R (f l) o t z → Leads (then_blocked N (built f (N.bracketed n))) (Ok (t, z)) D
-  arguments_full f n o z l t h b =
-      leads_trans (then_blocked N (built f (N.bracketed n))) (blocked_of N (f l) o) (Ok (t, z))
-      (leads_bind (built f (N.bracketed n)) (f l, o) (λ c. blocked_of N c.0 c.1) (leads_bind (N.bracketed n) (l, o) (λ q. Ok (f q.0, q.1)) (nests.bracketed n o l h tt)))
-      (blocked_full (f l) o z t b)
+  -- arguments, and the block behind them
+  passed_full : (q : Behind) (f : List Tree → Tree) (r : Answer (List Tree)) (o z : Place) (l : List Tree) (t : Tree) → Leads r (Ok (l, o)) D → Blocked R q (f l) o t z → Leads (then_blocked N q (built f r)) (Ok (t, z)) D
+  passed_full q f r o z l t h b =
+      leads_trans (then_blocked N q (built f r)) (blocked_of N q (f l) o) (Ok (t, z))
+      (leads_bind (built f r) (f l, o) (λ c. blocked_of N q c.0 c.1) (leads_bind r (l, o) (λ v. Ok (f v.0, v.1)) h))
+      (blocked_full q (f l) o z t b)
 
-  alone_full : (x : Sym) (m n z : Place) (u : Unit {0}) (b : Tree) → at bracket m ≡ None → at brace m ≡ Some (u, n) → R.part parts.Block n b z → Leads (name_of N x m) (Ok (with_block (call x.0 (listed [])) b, z)) D
+  arguments_full : (f : List Tree → Tree) (n o z : Place) (l : List Tree) (t : Tree) → R.bracketed n l o → Blocked R behinds.Call (f l) o t z → Leads (then_blocked N behinds.Call (built f (N.bracketed n))) (Ok (t, z)) D
+  arguments_full f n o z l t h b = passed_full behinds.Call f (N.bracketed n) o z l t (nests.bracketed n o l h tt) b
+
+  alone_full : (x : Sym) (m n z : Place) (k : Fence) (b : Tree) → at bracket m ≡ None → opened behinds.Call m ≡ Some (k, n) → R.part (parts.Block k) n b z → Leads (name_of N x m) (Ok (with_block (call x.0 (listed [])) b, z)) D
   unfolding name_of
-  alone_full x m n z u b e f h =
-      leads_eq (name_or N x m (at bracket m)) (block_behind N (call x.0 (listed [])) n) (Ok (with_block (call x.0 (listed [])) b, z)) (ap (name_or N x m) e ∙ ap (unbracketed_or N x m) f)
-      (behind_full (call x.0 (listed [])) n z b h)
+  alone_full x m n z k b e f h =
+      leads_eq (name_or N x m (at bracket m)) (block_behind N k (call x.0 (listed [])) n) (Ok (with_block (call x.0 (listed [])) b, z)) (ap (name_or N x m) e ∙ ap (unbracketed_or N x m) f)
+      (behind_full k (call x.0 (listed [])) n z b h)
 
   local_full : (x : Sym) (m : Place) → is_local x m ≡ true → variable_or_call x m ≡ Ok (local_tree x (variable_of x m), m)
   local_full x m e = ap (λ b. cond b (Ok (local_tree x (variable_of x m), m)) (bare_call x m)) e
@@ -159,10 +183,10 @@ module _ (N : Readers) (R : Nested) (D : Type 0) (shrinks : ReadersShrink N) (ne
   bare_full : (x : Sym) (m : Place) → begins_operands m.rest ≡ false → bare_call x m ≡ Ok (bare x.0, m)
   bare_full x m e = ap (λ b. cond b (Err wrong) (Ok (bare x.0, m))) e
 
-  call_full : (x : Sym) (m n o z : Place) (u : Unit {0}) (l : List Tree) (t : Tree) → at bracket m ≡ Some (u, n) → R.bracketed n l o → Blocked R (call x.0 (listed l)) o t z → Leads (name_of N x m) (Ok (t, z)) D
+  call_full : (x : Sym) (m n o z : Place) (u : Unit {0}) (l : List Tree) (t : Tree) → at bracket m ≡ Some (u, n) → R.bracketed n l o → Blocked R behinds.Call (call x.0 (listed l)) o t z → Leads (name_of N x m) (Ok (t, z)) D
   unfolding name_of
   call_full x m n o z u l t e h b =
-      leads_eq (name_or N x m (at bracket m)) (then_blocked N (call_of x (N.bracketed n))) (Ok (t, z)) (ap (name_or N x m) e) (arguments_full (λ q. call x.0 (listed q)) n o z l t h b)
+      leads_eq (name_or N x m (at bracket m)) (then_blocked N behinds.Call (call_of x (N.bracketed n))) (Ok (t, z)) (ap (name_or N x m) e) (arguments_full (λ q. call x.0 (listed q)) n o z l t h b)
 
   -- what a name is read as
   by_name_full : (s m : Place) (x : Sym) → at name s ≡ Some (x, m) → primary_of N s ≡ name_of N x m
@@ -199,7 +223,7 @@ module _ (N : Readers) (R : Nested) (D : Type 0) (shrinks : ReadersShrink N) (ne
   primary_full s z t (a_bare_call {x = x} e o b f g) u = inl (by_name_full s z x e ∙ plain_full x z o b ∙ other_full x z f ∙ bare_full x z g)
   primary_full s z t (a_call {m = m} {n = n} {o = o} {x = x} {u = v} {l = l} e f h b) u =
       leads_eq (primary_of N s) (name_of N x m) (Ok (t, z)) (by_name_full s m x e) (call_full x m n o z v l t f h b)
-  primary_full s z t (a_block_call {m = m} {n = n} {x = x} {u = v} {b = b} e f g h) u =
+  primary_full s z t (a_block_call {m = m} {n = n} {x = x} {f = v} {b = b} e f g h) u =
       leads_eq (primary_of N s) (name_of N x m) (Ok (t, z)) (by_name_full s m x e) (alone_full x m n z v b f g h)
   primary_full s z t (a_jump {j = j} e f g) u = inl (by_kind_full s z (kind.Jump j) e ∙ jump_full j z f g)
   primary_full s z t (a_passing {p = p} e f g h) u = inl (by_kind_full s z (kind.Passing p) e ∙ passing_full p z f g h)
@@ -210,7 +234,7 @@ module _ (N : Readers) (R : Nested) (D : Type 0) (shrinks : ReadersShrink N) (ne
 
   tailed_full : (x : Tail) (l : Tree) (n z : Place) (t : Tree) → Tailed R x l n t z → Leads (tailed_of N x l n) (Ok (t, z)) D
   unfolding tailed_of
-  tailed_full x l n z t (a_send {x = y} h) = blocked_full (send l y.0 (listed [])) n z t h
+  tailed_full x l n z t (a_send {x = y} h) = blocked_full behinds.Call (send l y.0 (listed [])) n z t h
   tailed_full x l n z t (a_sent_call {m = m} {x = y} {l = a} h b) = arguments_full (λ q. send l y.0 (listed q)) n m z a t h b
   tailed_full x l n z t (an_index {i = i} h) = leads_bind (N.part parts.Index n) (i, z) (λ q. Ok (index l q.0, q.1)) (nests.part parts.Index n z i h tt)
 
@@ -359,18 +383,26 @@ module _ (N : Readers) (R : Nested) (D : Type 0) (shrinks : ReadersShrink N) (ne
       leads_eq (commanded_or N s (at (command s.known) s)) (built one_of (N.part parts.Command s)) (Ok (l, z)) (ap (commanded_or N s) e)
       (leads_bind (N.part parts.Command s) (t, z) (λ y. Ok (one_of y.0, y.1)) (nests.part parts.Command s z t h stops))
 
-  called_full : (s m z : Place) (x : Head) (l : List Tree) → Commanded R m l z → Stops 27 z → Leads (headed_of x (commanded_of N m)) (Ok (headed x l, z)) D
-  called_full s m z x l h stops = leads_bind (commanded_of N m) (l, z) (λ q. Ok (headed x q.0, q.1)) (commanded_full m z l h stops)
+  -- what stands behind the arguments stops them
+  blocked_stops : (q : Behind) (c : Tree) (n z : Place) (t : Tree) → Blocked R q c n t z → Stops 27 z → Stops 27 n
+  blocked_stops q c n z t (no_block e) stops = stops
+  blocked_stops q c n z t (a_block {m = m} {f = f} e h) stops = omega (arith, opened_stops q n m f e)
+
+  called_full : (m n z : Place) (x : Head) (l : List Tree) (t : Tree) → Arguments R x m l n → Blocked R (behinds.Command x) (headed x l) n t z → Stops 27 z → Leads (headed_of N x m) (Ok (t, z)) D
+  unfolding headed_of
+  called_full m n z x l t h b stops =
+      passed_full (behinds.Command x) (headed x) (arguments_of N x m) n z l t
+      (taking_full (within_head x m.known.takes_do) (commanded_of N) (Commanded R) (Stops 27) (λ a y. taking_stops 27 a y) commanded_full m n l h (blocked_stops (behinds.Command x) (headed x l) n z t b stops)) b
 
   pub command_full : IsFull (command_of N) (Command R) (Stops 27) D
   unfolding command_of
-  command_full s z t (a_command {m = m} {x = x} {l = l} e h) stops =
-      leads_eq (command_or N (at (command s.known) s)) (headed_of x (commanded_of N m)) (Ok (t, z)) (ap (command_or N) e) (called_full s m z x l h stops)
+  command_full s z t (a_command {m = m} {n = n} {x = x} {l = l} e h b) stops =
+      leads_eq (command_or N (at (command s.known) s)) (headed_of N x m) (Ok (t, z)) (ap (command_or N) e) (called_full m n z x l t h b stops)
 
   phrase_full : IsFull (phrase_of N) (Phrase R) (Stops 27) D
   unfolding phrase_of
-  phrase_full s z t (by_name (a_command {m = m} {x = x} {l = l} e h)) stops =
-      leads_eq (phrase_or N s (at (command s.known) s)) (headed_of x (commanded_of N m)) (Ok (t, z)) (ap (phrase_or N s) e) (called_full s m z x l h stops)
+  phrase_full s z t (by_name (a_command {m = m} {n = n} {x = x} {l = l} e h b)) stops =
+      leads_eq (phrase_or N s (at (command s.known) s)) (headed_of N x m) (Ok (t, z)) (ap (phrase_or N s) e) (called_full m n z x l t h b stops)
   phrase_full s z t (an_operand h) stops =
       leads_eq (phrase_or N s (at (command s.known) s)) (ternary_of N s) (Ok (t, z)) (ap (phrase_or N s) (first_no_command s (ternary_first R s z t h))) (ternary_full s z t h (omega (arith, stops)))
 
@@ -464,19 +496,20 @@ module _ (N : Readers) (R : Nested) (D : Type 0) (shrinks : ReadersShrink N) (ne
   pub loop_full : (until : Bool) → IsFull (loop_of N until) (Loop R until) Anywhere D
   unfolding loop_of
   loop_full until s z t (a_loop {m = m} {n = n} {o = o} {c = c} {t = b} {u = u} h e i f) v =
-      closed_full kind.End (across (repeat until) loops (statements_of N) (expression_of N s)) t o z refl
-      (across_full (repeat until) loops (statements_of N) (expression_of N s) c m n o u b (expression_full s m c h (loops_stop m n u e)) e (statements_full n o b i (next_ends o z kind.End true f refl))) f
+      closed_full kind.End (across (repeat until) loops (statements_of N) (taking_of false (expression_of N) s)) t o z refl
+      (across_full (repeat until) loops (statements_of N) (taking_of false (expression_of N) s) c m n o u b
+      (taking_full false (expression_of N) (Expression R) (Stops 28) (λ a y. taking_stops 28 a y) expression_full s m c h (loops_stop m n u e)) e (statements_full n o b i (next_ends o z kind.End true f refl))) f
 
   looped_full : (until : Bool) → IsFull (looped_of N until) (Looped R until) Anywhere D
   looped_full until s z t (of_loop {z = y} h) u = leads_bind (loop_of N until (looping s)) (t, y) (λ x. Ok (x.0, outside_loop s x.1)) (loop_full until (looping s) y t h tt)
 
-  block_full : IsFull (block_of N) (Block R) Anywhere D
+  block_full : (k : Fence) → IsFull (block_of N k) (Block R k) Anywhere D
   unfolding block_of
-  block_full s z t (of_statements {m = m} {n = n} {z = y} {xs = xs} {t = b} e h f) u =
-      let body = closed kind.CloseBrace (statements_of N (entered xs m)) in
-      leads_eq (block_or N s (at parameters s)) (left_block s xs m body) (Ok (block_tree xs m y b, leaving s y)) (ap (block_or N s) e)
+  block_full k s z t (of_statements {m = m} {n = n} {z = y} {xs = xs} {t = b} e h f) u =
+      let body = closed (fence_end k) (statements_of N (entered xs m)) in
+      leads_eq (block_or N k s (at parameters s)) (left_block s xs m body) (Ok (block_tree xs m y b, leaving s y)) (ap (block_or N k s) e)
       (leads_bind body (b, y) (λ q. Ok (block_tree xs m q.1 q.0, leaving s q.1))
-      (closed_full kind.CloseBrace (statements_of N (entered xs m)) b n y refl (statements_full (entered xs m) n b h (next_ends n y kind.CloseBrace true f refl)) f))
+      (closed_full (fence_end k) (statements_of N (entered xs m)) b n y (same_fence k) (statements_full (entered xs m) n b h (next_ends n y (fence_end k) true f (fence_ends k))) f))
 
   definition_full : IsFull (definition_of N) (Definition R) Anywhere D
   unfolding definition_of
@@ -487,20 +520,20 @@ module _ (N : Readers) (R : Nested) (D : Type 0) (shrinks : ReadersShrink N) (ne
       (closed_full kind.End (statements_of N (defined xs n)) b o y refl (statements_full (defined xs n) o b h (next_ends o y kind.End true g refl)) g))
 
   pub part_full : (p : Part) → IsFull (part_of N p) (PartOf R p) (PartStops p) D
-  part_full parts.Group = group_full
-  part_full parts.Array = array_full
-  part_full parts.Hash = hash_full
-  part_full parts.Index = index_full
-  part_full parts.Choice = choice_full
-  part_full parts.Unless = unless_full
-  part_full (parts.Loop until) = looped_full until
+  part_full parts.Group = enclosed_full (group_of N) (Group R) group_full
+  part_full parts.Array = enclosed_full (array_of N) (Array R) array_full
+  part_full parts.Hash = enclosed_full (hash_of N) (Hash R) hash_full
+  part_full parts.Index = enclosed_full (index_of N) (Index R) index_full
+  part_full parts.Choice = enclosed_full (choice_of N) (Choice R) choice_full
+  part_full parts.Unless = enclosed_full (unless_of N) (Unless R) unless_full
+  part_full (parts.Loop until) = enclosed_full (looped_of N until) (Looped R until) (looped_full until)
   part_full parts.Minus = minus_full
   part_full parts.Bang = bang_full
   part_full parts.Not = negation_full
   part_full parts.Command = command_full
   part_full parts.Branch = argument_full
-  part_full parts.Block = block_full
-  part_full parts.Definition = definition_full
+  part_full (parts.Block k) = enclosed_full (block_of N k) (Block R k) (block_full k)
+  part_full parts.Definition = enclosed_full (definition_of N) (Definition R) definition_full
 
 -- ---- all depths
 
@@ -518,7 +551,7 @@ full_inside (suc k) (suc d) =
     let deeper : k < d → suc k < suc d = λ (lt : k < d). omega arith in
     record {
       part = λ p. full_map (part_of (readers_inside k) p) (PartOf (inside d) p) (PartStops p) deeper (part_full (readers_inside k) (inside d) (k < d) j i p);
-      bracketed = full_map (bracketed_of (readers_inside k) listings.Call) (Bracketed (inside d) listings.Call) Anywhere deeper (bracketed_full (readers_inside k) (inside d) (k < d) j i listings.Call);
+      bracketed = full_map (taking_of true (bracketed_of (readers_inside k) listings.Call)) (Taking true (Bracketed (inside d) listings.Call)) Anywhere deeper (enclosed_full (bracketed_of (readers_inside k) listings.Call) (Bracketed (inside d) listings.Call) (bracketed_full (readers_inside k) (inside d) (k < d) j i listings.Call));
       value = λ b. full_map (value_of (readers_inside k) b) (Value (inside d) b) (Stops (value_stop b)) deeper (value_full (readers_inside k) (inside d) (k < d) j i b);
     }
 
@@ -536,6 +569,6 @@ full_outside (suc k) (suc d) =
     let deeper : k < d → suc k < suc d = λ (lt : k < d). omega arith in
     record {
       part = λ p. full_map (part_of (readers_outside k) p) (PartOf (outside d) p) (PartStops p) deeper (part_full (readers_outside k) (outside d) (k < d) j i p);
-      bracketed = full_map (bracketed_of (readers_outside k) listings.Call) (Bracketed (outside d) listings.Call) Anywhere deeper (bracketed_full (readers_outside k) (outside d) (k < d) j i listings.Call);
+      bracketed = full_map (taking_of true (bracketed_of (readers_outside k) listings.Call)) (Taking true (Bracketed (outside d) listings.Call)) Anywhere deeper (enclosed_full (bracketed_of (readers_outside k) listings.Call) (Bracketed (outside d) listings.Call) (bracketed_full (readers_outside k) (outside d) (k < d) j i listings.Call));
       value = inner_full (suc k) (suc d);
     }

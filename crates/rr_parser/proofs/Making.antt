@@ -26,7 +26,7 @@ use Rattle.rr_parser.specs.declared.word.WordKind.{WordKind}
 use Rattle.rr_parser.specs.Places.{Place, Look, placed, without_separators, word, at}
 use Rattle.rr_parser.specs.Grammar.Chains.{same, one_of}
 use Rattle.rr_parser.specs.Grammar.Calls.{target_tree, operated, signed}
-use Rattle.rr_parser.specs.Reading.Answers.{◌>>=◌, Refused, wrong, deep, Answer, Parse, built, ended_by, closed, from, on_seen, across, chain, chain_on}
+use Rattle.rr_parser.specs.Reading.Answers.{◌>>=◌, Refused, wrong, deep, Answer, Parse, built, ended_by, closed, from, on_seen, across, taking_of, chain, chain_on}
 use Rattle.rr_parser.specs.Reading.Calls.{bracketed_of, value_of}
 use Rattle.rr_parser.specs.Reading.Sequences.{sequence_of}
 use Rattle.rr_parser.specs.Reading.{part_of, readers_inside, readers_outside, readers}
@@ -294,14 +294,14 @@ none_part-zero false p s = refl
 pub none_part : (b : Bool) (d : ℕ) (p : Part) (s : Place) → d ≡ 0 → (readers b d).part p s ≡ Err deep
 none_part b d p s e = ap (λ (k : ℕ). (readers b k).part p s) e ∙ none_part-zero b p s
 
-at_bracketed : (b : Bool) (d : ℕ) → (readers b (suc d)).bracketed ≡ bracketed_of (readers b d) listings.Call
+at_bracketed : (b : Bool) (d : ℕ) → (readers b (suc d)).bracketed ≡ taking_of true (bracketed_of (readers b d) listings.Call)
 unfolding readers_inside readers_outside
 at_bracketed true d = refl
 at_bracketed false d = refl
 
-pub nested_bracketed : (b : Bool) (d : ℕ) → 0 < d → (readers b d).bracketed ≡ bracketed_of (readers b (d - 1)) listings.Call
+pub nested_bracketed : (b : Bool) (d : ℕ) → 0 < d → (readers b d).bracketed ≡ taking_of true (bracketed_of (readers b (d - 1)) listings.Call)
 nested_bracketed b zero lt = let never : ⊥ = omega arith in absurd never
-nested_bracketed b (suc d) lt = let e : d ≡ suc d - 1 = omega arith in at_bracketed b d ∙ ap (λ (k : ℕ). bracketed_of (readers b k) listings.Call) e
+nested_bracketed b (suc d) lt = let e : d ≡ suc d - 1 = omega arith in at_bracketed b d ∙ ap (λ (k : ℕ). taking_of true (bracketed_of (readers b k) listings.Call)) e
 
 none_bracketed-zero : (b : Bool) (s : Place) → (readers b 0).bracketed s ≡ Err deep
 unfolding readers_inside readers_outside

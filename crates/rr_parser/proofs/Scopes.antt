@@ -39,10 +39,10 @@ find-added x ls level slot =
 no_depth : (n : ℕ) → n - n ≡ 0
 no_depth n = omega arith
 
-pub seen-added : (x : Sym) (ls new : List Local) (level slot count begun : ℕ) (in_loop in_method : Bool) → new ≡ ls ++ record { name = x; level = level; slot = slot } ∷ []
-    → record { depth = 0; slot = slot } ≡ seen_from (record { locals = new; level = level; count = count; begun = begun; in_loop = in_loop; in_method = in_method }) (find x.0 new)
-seen-added x ls new level slot count begun in_loop in_method e =
-    let k : Known = record { locals = new; level = level; count = count; begun = begun; in_loop = in_loop; in_method = in_method } in
+pub seen-added : (x : Sym) (ls new : List Local) (level slot count begun : ℕ) (in_loop in_method takes_do : Bool) → new ≡ ls ++ record { name = x; level = level; slot = slot } ∷ []
+    → record { depth = 0; slot = slot } ≡ seen_from (record { locals = new; level = level; count = count; begun = begun; in_loop = in_loop; in_method = in_method; takes_do = takes_do }) (find x.0 new)
+seen-added x ls new level slot count begun in_loop in_method takes_do e =
+    let k : Known = record { locals = new; level = level; count = count; begun = begun; in_loop = in_loop; in_method = in_method; takes_do = takes_do } in
     ap (λ (d : ℕ). record { depth = d; slot = slot }) (sym (no_depth level))
     ∙ sym (ap (seen_from k) (ap (find x.0) e ∙ find-added x ls level slot))
 

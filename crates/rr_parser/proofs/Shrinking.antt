@@ -8,19 +8,23 @@ use Rattle.rr_parser.specs.declared.word.Listed.TheVariants as listings
 use Rattle.rr_parser.specs.declared.word.Part.{Part}
 use Rattle.rr_parser.specs.declared.word.Part.TheVariants as parts
 use Rattle.rr_parser.specs.declared.word.WordKind.TheVariants as kind
+use Rattle.rr_parser.specs.declared.word.Behind.{Behind}
+use Rattle.rr_parser.specs.declared.word.Behind.TheVariants as behinds
+use Rattle.rr_parser.specs.declared.word.Fence.{Fence}
+use Rattle.rr_parser.specs.Grammar.Fences.{Taking, taken, taking, within_head, opening, fence_end}
 use Rattle.rr_parser.specs.Places.{Place, skip, separators}
 use Rattle.rr_tree.specs.Tree.{Tree}
 use Rattle.rr_parser.specs.Grammar.Chains.{same, one_of, and_one}
 use Rattle.rr_parser.specs.Grammar.Nesting.{Nested}
-use Rattle.rr_parser.specs.Grammar.Names.{name, head, bracket}
-use Rattle.rr_parser.specs.Grammar.Operands.{joined, brace, Blocked, no_block, a_block, Primary, a_literal, a_negative, a_local, a_bare_call, a_call, a_block_call, a_jump, a_passing, a_passing_call, a_construct, tail, Tailed, a_send, a_sent_call, an_index, Postfix, Bang, a_bang, no_bang, Minus, a_minus, no_minus}
+use Rattle.rr_parser.specs.Grammar.Names.{headed, name, head, bracket}
+use Rattle.rr_parser.specs.Grammar.Operands.{joined, Blocked, no_block, a_block, Primary, a_literal, a_negative, a_local, a_bare_call, a_call, a_block_call, a_jump, a_passing, a_passing_call, a_construct, tail, Tailed, a_send, a_sent_call, an_index, Postfix, Bang, a_bang, no_bang, Minus, a_minus, no_minus}
 use Rattle.rr_parser.specs.Grammar.Operators.{operator, infixed, connective, joined_by, Logical, Binary, Equality, a_comparison, a_pair, Ternary, no_question, a_question}
 use Rattle.rr_parser.specs.Grammar.Calls.{with_target, label, comma, Assigned, an_assignment, no_assignment, Argument, Pair, by_label, by_arrow, Member, Members, Bracketed, no_members, some_members, Array, an_array, Hash, a_hash, Index, of_element, Commanded, by_arguments, by_command, Command, a_command, Phrase, by_name, an_operand, Operand, Value}
 use Rattle.rr_parser.specs.Grammar.Sequences.{Negation, a_negation, no_negation, Expression, modifier, modified, Statement, Rows, Statements, no_statements, some_statements, Group, a_group}
 use Rattle.rr_parser.specs.Grammar.Control.{elsif, Branch, a_branch, Branches, Otherwise, no_else, an_else, Choice, a_choice, Unless, an_unless, Loop, a_loop, looping, Looped, of_loop}
 use Rattle.rr_parser.specs.Grammar.Blocks.{entered, Block, of_statements}
 use Rattle.rr_parser.specs.Grammar.Definitions.{defined, Definition, of_method}
-use Rattle.rr_parser.specs.Grammar.{PartOf, inside, outside}
+use Rattle.rr_parser.specs.Grammar.{FormOf, is_enclosed, Enclosed, PartOf, inside, outside}
 use Rattle.rr_parser.specs.Reading.Nesting.{Readers}
 use Rattle.rr_parser.specs.Reading.Operators.{binary_of, logical_of}
 use Rattle.rr_parser.specs.Reading.Calls.{argument_of, member_of}
@@ -46,8 +50,8 @@ Steps-joined = Steps-first_as _
 pub Steps-name : Steps name
 Steps-name = Steps-first_as _
 
-pub Steps-brace : Steps brace
-Steps-brace = Steps-word kind.OpenBrace
+pub Steps-opening : (q : Behind) (b : Bool) → Steps (opening q b)
+Steps-opening q b = Steps-first_as _
 
 pub Steps-head : Steps head
 Steps-head = Steps-first_as _
@@ -73,26 +77,33 @@ Steps-comma = Steps-word kind.Comma
 pub Steps-elsif : Steps elsif
 Steps-elsif = Steps-word kind.Elsif
 
+taking_shrinking : {A : Type 0} (b : Bool) (P : Place → A → Place → Type 0) → IsShrinking P → IsShrinking (Taking b P)
+taking_shrinking b P smaller s z t (taken {z = y} h) = smaller (taking b s) y t h
+
+enclosed_shrinking : {A : Type 0} (b : Bool) (P : Place → A → Place → Type 0) → IsShrinking P → IsShrinking (Enclosed b P)
+enclosed_shrinking true P smaller = taking_shrinking true P smaller
+enclosed_shrinking false P smaller = smaller
+
 module _ (R : Nested) (nests : NestedShrinking R) where
-  blocked_shrinking : (c : Tree) → IsShrinking (Blocked R c)
-  blocked_shrinking c s z t (no_block e) = omega arith
-  blocked_shrinking c s z t (a_block {m = m} {u = u} {b = b} e h) = omega (arith, Steps-brace s m u e, nests.part parts.Block m z b h)
+  blocked_shrinking : (q : Behind) (c : Tree) → IsShrinking (Blocked R q c)
+  blocked_shrinking q c s z t (no_block e) = omega arith
+  blocked_shrinking q c s z t (a_block {m = m} {f = f} {b = b} e h) = omega (arith, Steps-opening q s.known.takes_do s m f e, nests.part (parts.Block f) m z b h)
 
   primary_shrinking : IsShrinking (Primary R)
   primary_shrinking s z t (a_literal {k = k} e f) = omega (arith, next-left s z k e)
   primary_shrinking s z t (a_negative {m = m} {n = n} e f g) = omega (arith, next-left s m kind.Minus e, Steps-joined m z n f)
   primary_shrinking s z t (a_local {x = x} e f b g) = omega (arith, Steps-name s z x e)
   primary_shrinking s z t (a_bare_call {x = x} e f b g h) = omega (arith, Steps-name s z x e)
-  primary_shrinking s z t (a_call {m = m} {n = n} {o = o} {x = x} {u = u} {l = l} e f h b) = omega (arith, Steps-name s m x e, Steps-bracket m n u f, nests.bracketed n o l h, blocked_shrinking (call x.0 (listed l)) o z t b)
-  primary_shrinking s z t (a_block_call {m = m} {n = n} {x = x} {u = u} {b = b} e f g h) = omega (arith, Steps-name s m x e, Steps-brace m n u g, nests.part parts.Block n z b h)
+  primary_shrinking s z t (a_call {m = m} {n = n} {o = o} {x = x} {u = u} {l = l} e f h b) = omega (arith, Steps-name s m x e, Steps-bracket m n u f, nests.bracketed n o l h, blocked_shrinking behinds.Call (call x.0 (listed l)) o z t b)
+  primary_shrinking s z t (a_block_call {m = m} {n = n} {x = x} {f = k} {b = b} e f g h) = omega (arith, Steps-name s m x e, Steps-opening behinds.Call m.known.takes_do m n k g, nests.part (parts.Block k) n z b h)
   primary_shrinking s z t (a_jump {j = j} e f g) = omega (arith, next-left s z (kind.Jump j) e)
   primary_shrinking s z t (a_passing {p = p} e f g h) = omega (arith, next-left s z (kind.Passing p) e)
   primary_shrinking s z t (a_passing_call {m = m} {n = n} {p = p} {u = u} {l = l} e f g h) = omega (arith, next-left s m (kind.Passing p) e, Steps-bracket m n u g, nests.bracketed n z l h)
   primary_shrinking s z t (a_construct {m = m} {k = k} {p = p} e f h) = omega (arith, next-left s m k e, nests.part p m z t h)
 
   tailed_shrinking : (x : Tail) (l : Tree) (n z : Place) (t : Tree) → Tailed R x l n t z → left z ≤ left n
-  tailed_shrinking x l n z t (a_send {x = y} h) = blocked_shrinking (send l y.0 (listed [])) n z t h
-  tailed_shrinking x l n z t (a_sent_call {m = m} {x = y} {l = a} h b) = omega (arith, nests.bracketed n m a h, blocked_shrinking (send l y.0 (listed a)) m z t b)
+  tailed_shrinking x l n z t (a_send {x = y} h) = blocked_shrinking behinds.Call (send l y.0 (listed [])) n z t h
+  tailed_shrinking x l n z t (a_sent_call {m = m} {x = y} {l = a} h b) = omega (arith, nests.bracketed n m a h, blocked_shrinking behinds.Call (send l y.0 (listed a)) m z t b)
   tailed_shrinking x l n z t (an_index {i = i} h) = nests.part parts.Index n z i h
 
   postfix_shrinking : IsShrinking (Postfix R)
@@ -166,7 +177,8 @@ module _ (R : Nested) (nests : NestedShrinking R) where
   commanded_shrinking s z l (by_command {t = t} e h) = nests.part parts.Command s z t h
 
   command_shrinking : IsShrinking (Command R)
-  command_shrinking s z t (a_command {m = m} {x = x} {l = l} e h) = omega (arith, Steps-head s m x (command-next s m x e).0, commanded_shrinking m z l h)
+  command_shrinking s z t (a_command {m = m} {n = n} {x = x} {l = l} e h b) =
+      omega (arith, Steps-head s m x (command-next s m x e).0, taking_shrinking (within_head x m.known.takes_do) (Commanded R) commanded_shrinking m n l h, blocked_shrinking (behinds.Command x) (headed x l) n z t b)
 
   phrase_shrinking : IsShrinking (Phrase R)
   phrase_shrinking s z t (by_name h) = command_shrinking s z t h
@@ -217,40 +229,43 @@ module _ (R : Nested) (nests : NestedShrinking R) where
 
   loop_shrinking : (until : Bool) → IsShrinking (Loop R until)
   loop_shrinking until s z t (a_loop {m = m} {n = n} {o = o} {c = c} {t = b} {u = u} h e i f) =
-      omega (arith, expression_shrinking s m c h, Steps-loops m n u e, statements_shrinking n o b i, next-left o z kind.End f)
+      omega (arith, taking_shrinking false (Expression R) expression_shrinking s m c h, Steps-loops m n u e, statements_shrinking n o b i, next-left o z kind.End f)
 
   looped_shrinking : (until : Bool) → IsShrinking (Looped R until)
   looped_shrinking until s z t (of_loop {z = y} h) = loop_shrinking until (looping s) y t h
 
-  block_shrinking : IsShrinking (Block R)
-  block_shrinking s z t (of_statements {m = m} {n = n} {z = y} {xs = xs} {t = b} e h f) = omega (arith, parameters-less s m xs e, statements_shrinking (entered xs m) n b h, next-left n y kind.CloseBrace f)
+  block_shrinking : (k : Fence) → IsShrinking (Block R k)
+  block_shrinking k s z t (of_statements {m = m} {n = n} {z = y} {xs = xs} {t = b} e h f) = omega (arith, parameters-less s m xs e, statements_shrinking (entered xs m) n b h, next-left n y (fence_end k) f)
 
   definition_shrinking : IsShrinking (Definition R)
   definition_shrinking s z t (of_method {m = m} {n = n} {o = o} {z = y} {x = x} {xs = xs} {t = b} e f h g) =
       omega (arith, Steps-name s m x e, formals-less m n xs f, statements_shrinking (defined xs n) o b h, next-left o y kind.End g)
 
+  form_shrinking : (p : Part) → IsShrinking (FormOf R p)
+  form_shrinking parts.Group = group_shrinking
+  form_shrinking parts.Array = array_shrinking
+  form_shrinking parts.Hash = hash_shrinking
+  form_shrinking parts.Index = index_shrinking
+  form_shrinking parts.Choice = choice_shrinking
+  form_shrinking parts.Unless = unless_shrinking
+  form_shrinking (parts.Loop until) = looped_shrinking until
+  form_shrinking parts.Minus = minus_shrinking
+  form_shrinking parts.Bang = bang_shrinking
+  form_shrinking parts.Not = negation_shrinking
+  form_shrinking parts.Command = command_shrinking
+  form_shrinking parts.Branch = argument_shrinking
+  form_shrinking (parts.Block k) = block_shrinking k
+  form_shrinking parts.Definition = definition_shrinking
+
   part_shrinking : (p : Part) → IsShrinking (PartOf R p)
-  part_shrinking parts.Group = group_shrinking
-  part_shrinking parts.Array = array_shrinking
-  part_shrinking parts.Hash = hash_shrinking
-  part_shrinking parts.Index = index_shrinking
-  part_shrinking parts.Choice = choice_shrinking
-  part_shrinking parts.Unless = unless_shrinking
-  part_shrinking (parts.Loop until) = looped_shrinking until
-  part_shrinking parts.Minus = minus_shrinking
-  part_shrinking parts.Bang = bang_shrinking
-  part_shrinking parts.Not = negation_shrinking
-  part_shrinking parts.Command = command_shrinking
-  part_shrinking parts.Branch = argument_shrinking
-  part_shrinking parts.Block = block_shrinking
-  part_shrinking parts.Definition = definition_shrinking
+  part_shrinking p = enclosed_shrinking (is_enclosed p) (FormOf R p) (form_shrinking p)
 
 shrinking_inside : (d : ℕ) → NestedShrinking (inside d)
 unfolding inside
 shrinking_inside zero = record { part = λ p s z t h. absurd h; bracketed = λ s z t h. absurd h; value = λ b s z t h. absurd h }
 shrinking_inside (suc d) = record {
   part = part_shrinking (inside d) (shrinking_inside d);
-  bracketed = bracketed_shrinking (inside d) (shrinking_inside d) listings.Call;
+  bracketed = taking_shrinking true (Bracketed (inside d) listings.Call) (bracketed_shrinking (inside d) (shrinking_inside d) listings.Call);
   value = value_shrinking (inside d) (shrinking_inside d);
 }
 
@@ -259,7 +274,7 @@ unfolding outside
 shrinking_outside zero = record { part = λ p s z t h. absurd h; bracketed = λ s z t h. absurd h; value = value_shrinking (inside zero) (shrinking_inside zero) }
 shrinking_outside (suc d) = record {
   part = part_shrinking (outside d) (shrinking_outside d);
-  bracketed = bracketed_shrinking (outside d) (shrinking_outside d) listings.Call;
+  bracketed = taking_shrinking true (Bracketed (outside d) listings.Call) (bracketed_shrinking (outside d) (shrinking_outside d) listings.Call);
   value = value_shrinking (inside (suc d)) (shrinking_inside (suc d));
 }
 

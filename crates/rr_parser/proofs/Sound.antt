@@ -6,6 +6,9 @@ use Rattle.rr_tree.specs.Tree.{Tree, nil, int, bare, call, with_block, negate, s
 use Rattle.rr_parser.specs.declared.word.Tail.{Tail}
 use Rattle.rr_parser.specs.declared.word.Tail.TheVariants as tails
 use Rattle.rr_parser.specs.declared.word.Aim.{Aim}
+use Rattle.rr_parser.specs.declared.word.Behind.{Behind}
+use Rattle.rr_parser.specs.declared.word.Behind.TheVariants as behinds
+use Rattle.rr_parser.specs.declared.word.Fence.{Fence}
 use Rattle.rr_parser.specs.declared.word.Head.{Head}
 use Rattle.rr_parser.specs.declared.word.Jump.{Jump}
 use Rattle.rr_parser.specs.declared.word.Passing.{Passing}
@@ -19,25 +22,26 @@ use Rattle.rr_parser.specs.Places.{Place, word, at, next, skip, separators}
 use Rattle.rr_parser.specs.Grammar.Chains.{one, same, one_of, and_one}
 use Rattle.rr_parser.specs.Grammar.Nesting.{Nested}
 use Rattle.rr_parser.specs.Grammar.Names.{is_local, variable_of, local_tree, is_allowed, jump_tree, begins_arguments, passed, passed_bare, headed, name, bracket, begins_operands, command}
-use Rattle.rr_parser.specs.Grammar.Operands.{fits, fits_below, negated, joined, literal_of, construct_of, brace, Blocked, no_block, a_block, Primary, a_literal, a_negative, a_local, a_bare_call, a_call, a_block_call, a_jump, a_passing, a_passing_call, a_construct, tail, Tailed, a_send, a_sent_call, an_index, Postfix, Bang, a_bang, no_bang, Minus, a_minus, no_minus}
+use Rattle.rr_parser.specs.Grammar.Operands.{fits, fits_below, negated, joined, literal_of, construct_of, Blocked, no_block, a_block, Primary, a_literal, a_negative, a_local, a_bare_call, a_call, a_block_call, a_jump, a_passing, a_passing_call, a_construct, tail, Tailed, a_send, a_sent_call, an_index, Postfix, Bang, a_bang, no_bang, Minus, a_minus, no_minus}
 use Rattle.rr_parser.specs.Grammar.Operators.{operator, infixed, Binary, Equality, a_comparison, a_pair, connective, joined_by, Logical, Ternary, no_question, a_question}
 use Rattle.rr_parser.specs.Grammar.Calls.{target, with_target, assigned_to, label, comma, closing, last, Assigned, an_assignment, no_assignment, Argument, Pair, by_label, by_arrow, Member, Members, Bracketed, no_members, some_members, Array, an_array, Hash, a_hash, Index, of_element, Commanded, by_arguments, by_command, Command, a_command, Phrase, by_name, an_operand, Operand, Value}
 use Rattle.rr_parser.specs.Grammar.Sequences.{Negation, a_negation, no_negation, Expression, modifier, modified, Statement, Rows, Statements, no_statements, some_statements, Group, a_group}
 use Rattle.rr_parser.specs.Grammar.Control.{thens, loops, elsif, chosen, unless_chosen, Branch, a_branch, Branches, Otherwise, no_else, an_else, Choice, a_choice, Unless, an_unless, Loop, a_loop, looping, outside_loop, Looped, of_loop}
 use Rattle.rr_parser.specs.Grammar.Blocks.{parameters, entered, leaving, block_tree, Block, of_statements}
 use Rattle.rr_parser.specs.Grammar.Definitions.{formals, defined, rejoining, method_tree, Definition, of_method}
-use Rattle.rr_parser.specs.Grammar.{PartOf, inside, outside}
-use Rattle.rr_parser.specs.Reading.Answers.{wrong, Answer, Parse, built, closed, across, chain_on, trail_on, ended_by}
+use Rattle.rr_parser.specs.Grammar.Fences.{Taking, taken, taking, taking_as, within_head, fence_end, opened}
+use Rattle.rr_parser.specs.Grammar.{FormOf, is_enclosed, Enclosed, PartOf, inside, outside}
+use Rattle.rr_parser.specs.Reading.Answers.{wrong, Answer, Parse, built, closed, across, taking_of, enclosed_of, chain_on, trail_on, ended_by}
 use Rattle.rr_parser.specs.Reading.Nesting.{Readers}
 use Rattle.rr_parser.specs.Reading.Operands.{call_of, bare_call, blocked_or, blocked_of, then_blocked, unbracketed_or, name_or, name_of, passing_or, passing_of, int_at, negative_in, negative_of, begun, primary_at, primary_in, primary_of, tailed_of, postfix_of, bang_or, bang_of, prefix_minus, minus_or, minus_of}
 use Rattle.rr_parser.specs.Reading.Operators.{binary_on, binary_of, pair_or, equality_on, logical_on, logical_of, question_or, ternary_on, ternary_of}
-use Rattle.rr_parser.specs.Reading.Calls.{assigned_or, assigned_of, argument_of, pair_by, pair_of, member_of, another, members_of, bracketed_or, bracketed_of, array_of, hash_of, index_of, commanded_or, commanded_of, headed_of, command_or, command_of, phrase_or, phrase_of, operand_of, value_of}
+use Rattle.rr_parser.specs.Reading.Calls.{assigned_or, assigned_of, argument_of, pair_by, pair_of, member_of, another, members_of, bracketed_or, bracketed_of, array_of, hash_of, index_of, commanded_or, commanded_of, arguments_of, headed_of, command_or, command_of, phrase_or, phrase_of, operand_of, value_of}
 use Rattle.rr_parser.specs.Reading.Sequences.{negation_or, negation_of, expression_of, statement_of, ends, row, rows_of, sequence_of, statements_of, group_of}
 use Rattle.rr_parser.specs.Reading.Control.{both, branch_of, branches_of, otherwise_or, otherwise_of, choice_of, unless_of, loop_of, looped_of}
 use Rattle.rr_parser.specs.Reading.Blocks.{left_block, block_or, block_of}
 use Rattle.rr_parser.specs.Reading.Definitions.{left_method, method_or, definition_or, definition_of}
-use Rattle.rr_parser.specs.Reading.{part_of, readers_inside, readers_outside, readers}
-use Rattle.rr_parser.proofs.Told.{told_close, told_else, told_end, told_bang, told_not, told_question, told_colon, told_arrow, told_close_square, told_close_brace}
+use Rattle.rr_parser.specs.Reading.{form_of, part_of, readers_inside, readers_outside, readers}
+use Rattle.rr_parser.proofs.Told.{told_close, told_else, told_end, told_bang, told_not, told_question, told_colon, told_arrow, told_close_square, told_fence}
 use Rattle.rr_parser.proofs.Looks.{word-next, another-comma, next-name, row-separators, prefix-next}
 use Rattle.rr_parser.proofs.Trails.{trail_sound}
 use Rattle.rr_parser.proofs.Chains.{bind_ok, built_ok, done, ok_place, ok_what, closed_ok, at_answer, across_ok, IsSound, IsSoundOn, from_sound, chain_on-sound, chain_sound}
@@ -51,6 +55,16 @@ pub record NestedSound (N : Readers) (R : Nested) : Type 0 where
 sequence_ok : (r : Answer (List Tree)) (z : Place) (t : Tree) → sequence_of r ≡ Ok (t, z) → (l : List Tree) × (m : Place) × (r ≡ Ok (l, m)) × (sequence (listed l) ≡ t) × (skip m ≡ z)
 sequence_ok (Ok x) z t e = (x.0, x.1, refl, ok_what (sequence (listed x.0)) t (skip x.1) z e, ok_place (sequence (listed x.0)) t (skip x.1) z e)
 sequence_ok (Err d) z t e = absurd cc
+
+-- the same, where calls take the word `do`, or not
+pub taking_sound : {A : Type 0} (b : Bool) (p : Parse A) (P : Place → A → Place → Type 0) → IsSound p P → IsSound (taking_of b p) (Taking b P)
+taking_sound b p P sound s z t e =
+    let c = bind_ok (p (taking b s)) (λ x. Ok (x.0, taking_as s x.1)) (t, z) e in
+    at_answer (Taking b P s) c.0.0 t (taking_as s c.0.1) z c.2 (taken (sound (taking b s) c.0.1 c.0.0 c.1))
+
+enclosed_sound : {A : Type 0} (b : Bool) (p : Parse A) (P : Place → A → Place → Type 0) → IsSound p P → IsSound (enclosed_of b p) (Enclosed b P)
+enclosed_sound true p P sound = taking_sound true p P sound
+enclosed_sound false p P sound = sound
 
 module _ (N : Readers) (R : Nested) (nests : NestedSound N R) where
   fits_sound : (s m : Place) (n : ℕ) (b : Bool) (z : Place) (t : Tree) → next s ≡ Some (kind.Int n, m) → fits n ≡ b → cond b (done (int (pos n)) m) (Err wrong) ≡ done t z → Primary R s t z
@@ -73,46 +87,46 @@ module _ (N : Readers) (R : Nested) (nests : NestedSound N R) where
   unfolding negative_of
   negative_sound s m z t f e = negative_in-sound s m (at joined m) z t f refl e
 
-  bare_sound : (s m : Place) (x : Sym) (d : Bool) (z : Place) (t : Tree) → at name s ≡ Some (x, m) → at bracket m ≡ None → at brace m ≡ None → is_local x m ≡ false → begins_operands m.rest ≡ d
+  bare_sound : (s m : Place) (x : Sym) (d : Bool) (z : Place) (t : Tree) → at name s ≡ Some (x, m) → at bracket m ≡ None → opened behinds.Call m ≡ None → is_local x m ≡ false → begins_operands m.rest ≡ d
       → cond d (Err wrong) (done (bare x.0) m) ≡ done t z → Primary R s t z
   bare_sound s m x true z t f o b l g e = absurd cc
   bare_sound s m x false z t f o b l g e = at_answer (Primary R s) (bare x.0) t m z e (a_bare_call f o b l g)
 
-  plain_sound : (s m : Place) (x : Sym) (b : Bool) (z : Place) (t : Tree) → at name s ≡ Some (x, m) → at bracket m ≡ None → at brace m ≡ None → is_local x m ≡ b
+  plain_sound : (s m : Place) (x : Sym) (b : Bool) (z : Place) (t : Tree) → at name s ≡ Some (x, m) → at bracket m ≡ None → opened behinds.Call m ≡ None → is_local x m ≡ b
       → cond b (done (local_tree x (variable_of x m)) m) (bare_call x m) ≡ done t z → Primary R s t z
   plain_sound s m x true z t f o b l e = at_answer (Primary R s) (local_tree x (variable_of x m)) t m z e (a_local f o b l)
   plain_sound s m x false z t f o b l e = bare_sound s m x (begins_operands m.rest) z t f o b l refl e
 
-  blocked_or-sound : (c : Tree) (s : Place) (o : Option (Unit {0} × Place)) (z : Place) (t : Tree) → at brace s ≡ o → blocked_or N c s o ≡ Ok (t, z) → Blocked R c s t z
-  blocked_or-sound c s None z t f e = at_answer (Blocked R c s) c t s z e (no_block f)
-  blocked_or-sound c s (Some m) z t f e =
-      let b = built_ok (with_block c) (N.part parts.Block m.1) t z e in
-      subst (λ (q : Tree). Blocked R c s q z) (sym b.2) (a_block {u = m.0} f (nests.part parts.Block m.1 z b.0 b.1))
+  blocked_or-sound : (q : Behind) (c : Tree) (s : Place) (o : Option (Fence × Place)) (z : Place) (t : Tree) → opened q s ≡ o → blocked_or N c s o ≡ Ok (t, z) → Blocked R q c s t z
+  blocked_or-sound q c s None z t f e = at_answer (Blocked R q c s) c t s z e (no_block f)
+  blocked_or-sound q c s (Some m) z t f e =
+      let b = built_ok (with_block c) (N.part (parts.Block m.0) m.1) t z e in
+      subst (λ (v : Tree). Blocked R q c s v z) (sym b.2) (a_block f (nests.part (parts.Block m.0) m.1 z b.0 b.1))
 
-  pub blocked_sound : (c : Tree) → IsSound (blocked_of N c) (Blocked R c)
+  pub blocked_sound : (q : Behind) (c : Tree) → IsSound (blocked_of N q c) (Blocked R q c)
   unfolding blocked_of
-  blocked_sound c s z t e = blocked_or-sound c s (at brace s) z t refl e
+  blocked_sound q c s z t e = blocked_or-sound q c s (opened q s) z t refl e
 
   -- arguments of a call, and its block
-  pub arguments_sound : (f : List Tree → Tree) (n z : Place) (t : Tree) → then_blocked N (built f (N.bracketed n)) ≡ Ok (t, z) → (l : List Tree) × (o : Place) × R.bracketed n l o × Blocked R (f l) o t z
+  pub arguments_sound : (f : List Tree → Tree) (n z : Place) (t : Tree) → then_blocked N behinds.Call (built f (N.bracketed n)) ≡ Ok (t, z) → (l : List Tree) × (o : Place) × R.bracketed n l o × Blocked R behinds.Call (f l) o t z
   arguments_sound f n z t e =
-      let c = bind_ok (built f (N.bracketed n)) (λ c. blocked_of N c.0 c.1) (t, z) e in
+      let c = bind_ok (built f (N.bracketed n)) (λ c. blocked_of N behinds.Call c.0 c.1) (t, z) e in
       let b = built_ok f (N.bracketed n) c.0.0 c.0.1 c.1 in
-      (b.0, c.0.1, nests.bracketed n c.0.1 b.0 b.1, subst (λ (q : Tree). Blocked R q c.0.1 t z) b.2 (blocked_sound c.0.0 c.0.1 z t c.2))
+      (b.0, c.0.1, nests.bracketed n c.0.1 b.0 b.1, subst (λ (q : Tree). Blocked R behinds.Call q c.0.1 t z) b.2 (blocked_sound behinds.Call c.0.0 c.0.1 z t c.2))
 
-  call_sound : (s m n : Place) (x : Sym) (u : Unit {0}) (z : Place) (t : Tree) → at name s ≡ Some (x, m) → at bracket m ≡ Some (u, n) → then_blocked N (call_of x (N.bracketed n)) ≡ Ok (t, z) → Primary R s t z
+  call_sound : (s m n : Place) (x : Sym) (u : Unit {0}) (z : Place) (t : Tree) → at name s ≡ Some (x, m) → at bracket m ≡ Some (u, n) → then_blocked N behinds.Call (call_of x (N.bracketed n)) ≡ Ok (t, z) → Primary R s t z
   call_sound s m n x u z t f o e =
       let a = arguments_sound (λ l. call x.0 (listed l)) n z t e in
       a_call {u = u} f o a.2 a.3
 
-  unbracketed_or-sound : (s m : Place) (x : Sym) (o : Option (Unit {0} × Place)) (z : Place) (t : Tree) → at name s ≡ Some (x, m) → at bracket m ≡ None → at brace m ≡ o → unbracketed_or N x m o ≡ Ok (t, z) → Primary R s t z
+  unbracketed_or-sound : (s m : Place) (x : Sym) (o : Option (Fence × Place)) (z : Place) (t : Tree) → at name s ≡ Some (x, m) → at bracket m ≡ None → opened behinds.Call m ≡ o → unbracketed_or N x m o ≡ Ok (t, z) → Primary R s t z
   unbracketed_or-sound s m x None z t f g h e = plain_sound s m x (is_local x m) z t f g h refl e
   unbracketed_or-sound s m x (Some n) z t f g h e =
-      let b = built_ok (with_block (call x.0 (listed []))) (N.part parts.Block n.1) t z e in
-      subst (λ (q : Tree). Primary R s q z) (sym b.2) (a_block_call {u = n.0} f g h (nests.part parts.Block n.1 z b.0 b.1))
+      let b = built_ok (with_block (call x.0 (listed []))) (N.part (parts.Block n.0) n.1) t z e in
+      subst (λ (q : Tree). Primary R s q z) (sym b.2) (a_block_call f g h (nests.part (parts.Block n.0) n.1 z b.0 b.1))
 
   name_or-sound : (s m : Place) (x : Sym) (o : Option (Unit {0} × Place)) (z : Place) (t : Tree) → at name s ≡ Some (x, m) → at bracket m ≡ o → name_or N x m o ≡ Ok (t, z) → Primary R s t z
-  name_or-sound s m x None z t f g e = unbracketed_or-sound s m x (at brace m) z t f g refl e
+  name_or-sound s m x None z t f g e = unbracketed_or-sound s m x (opened behinds.Call m) z t f g refl e
   name_or-sound s m x (Some b) z t f g e = call_sound s m b.1 x b.0 z t f g e
 
   name_sound : (s m : Place) (x : Sym) (z : Place) (t : Tree) → at name s ≡ Some (x, m) → name_of N x m ≡ Ok (t, z) → Primary R s t z
@@ -167,7 +181,7 @@ module _ (N : Readers) (R : Nested) (nests : NestedSound N R) where
 
   pub tailed_sound : (x : Tail) (l : Tree) (n z : Place) (t : Tree) → tailed_of N x l n ≡ Ok (t, z) → Tailed R x l n t z
   unfolding tailed_of
-  tailed_sound (tails.Send x) l n z t e = a_send (blocked_sound (send l x.0 (listed [])) n z t e)
+  tailed_sound (tails.Send x) l n z t e = a_send (blocked_sound behinds.Call (send l x.0 (listed [])) n z t e)
   tailed_sound (tails.Call x) l n z t e = let a = arguments_sound (λ q. send l x.0 (listed q)) n z t e in a_sent_call a.2 a.3
   tailed_sound tails.Index l n z t e =
       let b = built_ok (index l) (N.part parts.Index n) t z e in
@@ -326,10 +340,13 @@ module _ (N : Readers) (R : Nested) (nests : NestedSound N R) where
   unfolding commanded_of
   commanded_sound s z l e = commanded_or-sound s z l (at (command s.known) s) refl e
 
-  called_sound : (s : Place) (x : Head × Place) (z : Place) (t : Tree) → at (command s.known) s ≡ Some (x.0, x.1) → headed_of x.0 (commanded_of N x.1) ≡ Ok (t, z) → Command R s t z
+  called_sound : (s : Place) (x : Head × Place) (z : Place) (t : Tree) → at (command s.known) s ≡ Some (x.0, x.1) → headed_of N x.0 x.1 ≡ Ok (t, z) → Command R s t z
+  unfolding headed_of
   called_sound s x z t f e =
-      let b = built_ok (headed x.0) (commanded_of N x.1) t z e in
-      subst (λ (q : Tree). Command R s q z) (sym b.2) (a_command f (commanded_sound x.1 z b.0 b.1))
+      let c = bind_ok (built (headed x.0) (arguments_of N x.0 x.1)) (λ c. blocked_of N (behinds.Command x.0) c.0 c.1) (t, z) e in
+      let b = built_ok (headed x.0) (arguments_of N x.0 x.1) c.0.0 c.0.1 c.1 in
+      a_command f (taking_sound (within_head x.0 x.1.known.takes_do) (commanded_of N) (Commanded R) commanded_sound x.1 c.0.1 b.0 b.1)
+      (subst (λ (q : Tree). Blocked R (behinds.Command x.0) q c.0.1 t z) b.2 (blocked_sound (behinds.Command x.0) c.0.0 c.0.1 z t c.2))
 
   command_or-sound : (s : Place) (o : Option (Head × Place)) (z : Place) (t : Tree) → at (command s.known) s ≡ o → command_or N o ≡ Ok (t, z) → Command R s t z
   command_or-sound s None z t f e = absurd cc
@@ -431,28 +448,28 @@ module _ (N : Readers) (R : Nested) (nests : NestedSound N R) where
   pub loop_sound : (until : Bool) → IsSound (loop_of N until) (Loop R until)
   unfolding loop_of
   loop_sound until s z t e =
-      let d = closed_ok kind.End told_end (across (repeat until) loops (statements_of N) (expression_of N s)) z t e in
-      let a = across_ok (repeat until) loops (statements_of N) (expression_of N s) d.0 t d.1 in
-      subst (λ (q : Tree). Loop R until s q z) (sym a.tree) (a_loop {u = a.u} (expression_sound s a.m a.a a.former) a.seen (statements_sound a.n d.0 a.b a.latter) d.2)
+      let d = closed_ok kind.End told_end (across (repeat until) loops (statements_of N) (taking_of false (expression_of N) s)) z t e in
+      let a = across_ok (repeat until) loops (statements_of N) (taking_of false (expression_of N) s) d.0 t d.1 in
+      subst (λ (q : Tree). Loop R until s q z) (sym a.tree) (a_loop {u = a.u} (taking_sound false (expression_of N) (Expression R) expression_sound s a.m a.a a.former) a.seen (statements_sound a.n d.0 a.b a.latter) d.2)
 
   looped_sound : (until : Bool) → IsSound (looped_of N until) (Looped R until)
   looped_sound until s z t e =
       let b = bind_ok (loop_of N until (looping s)) (λ x. Ok (x.0, outside_loop s x.1)) (t, z) e in
       at_answer (Looped R until s) b.0.0 t (outside_loop s b.0.1) z b.2 (of_loop (loop_sound until (looping s) b.0.1 b.0.0 b.1))
 
-  left_sound : (s : Place) (xs : List Sym) (m z : Place) (t : Tree) → at parameters s ≡ Some (xs, m) → left_block s xs m (closed kind.CloseBrace (statements_of N (entered xs m))) ≡ Ok (t, z) → Block R s t z
-  left_sound s xs m z t f e =
-      let b = bind_ok (closed kind.CloseBrace (statements_of N (entered xs m))) (λ q. Ok (block_tree xs m q.1 q.0, leaving s q.1)) (t, z) e in
-      let c = closed_ok kind.CloseBrace told_close_brace (statements_of N (entered xs m)) b.0.1 b.0.0 b.1 in
-      at_answer (Block R s) (block_tree xs m b.0.1 b.0.0) t (leaving s b.0.1) z b.2 (of_statements f (statements_sound (entered xs m) c.0 b.0.0 c.1) c.2)
+  left_sound : (k : Fence) (s : Place) (xs : List Sym) (m z : Place) (t : Tree) → at parameters s ≡ Some (xs, m) → left_block s xs m (closed (fence_end k) (statements_of N (entered xs m))) ≡ Ok (t, z) → Block R k s t z
+  left_sound k s xs m z t f e =
+      let b = bind_ok (closed (fence_end k) (statements_of N (entered xs m))) (λ q. Ok (block_tree xs m q.1 q.0, leaving s q.1)) (t, z) e in
+      let c = closed_ok (fence_end k) (told_fence k) (statements_of N (entered xs m)) b.0.1 b.0.0 b.1 in
+      at_answer (Block R k s) (block_tree xs m b.0.1 b.0.0) t (leaving s b.0.1) z b.2 (of_statements f (statements_sound (entered xs m) c.0 b.0.0 c.1) c.2)
 
-  block_or-sound : (s : Place) (o : Option (List Sym × Place)) (z : Place) (t : Tree) → at parameters s ≡ o → block_or N s o ≡ Ok (t, z) → Block R s t z
-  block_or-sound s None z t f e = absurd cc
-  block_or-sound s (Some x) z t f e = left_sound s x.0 x.1 z t f e
+  block_or-sound : (k : Fence) (s : Place) (o : Option (List Sym × Place)) (z : Place) (t : Tree) → at parameters s ≡ o → block_or N k s o ≡ Ok (t, z) → Block R k s t z
+  block_or-sound k s None z t f e = absurd cc
+  block_or-sound k s (Some x) z t f e = left_sound k s x.0 x.1 z t f e
 
-  block_sound : IsSound (block_of N) (Block R)
+  block_sound : (k : Fence) → IsSound (block_of N k) (Block R k)
   unfolding block_of
-  block_sound s z t e = block_or-sound s (at parameters s) z t refl e
+  block_sound k s z t e = block_or-sound k s (at parameters s) z t refl e
 
   left_method-sound : (s m : Place) (x : Sym) (xs : List Sym) (n z : Place) (t : Tree) → at name s ≡ Some (x, m) → at formals m ≡ Some (xs, n) → left_method s x xs n (closed kind.End (statements_of N (defined xs n))) ≡ Ok (t, z) → Definition R s t z
   left_method-sound s m x xs n z t f g e =
@@ -472,28 +489,31 @@ module _ (N : Readers) (R : Nested) (nests : NestedSound N R) where
   unfolding definition_of
   definition_sound s z t e = definition_or-sound s (at name s) z t refl e
 
+  form_sound : (p : Part) → IsSound (form_of N p) (FormOf R p)
+  form_sound parts.Group = group_sound
+  form_sound parts.Array = array_sound
+  form_sound parts.Hash = hash_sound
+  form_sound parts.Index = index_sound
+  form_sound parts.Choice = choice_sound
+  form_sound parts.Unless = unless_sound
+  form_sound (parts.Loop until) = looped_sound until
+  form_sound parts.Minus = minus_sound
+  form_sound parts.Bang = bang_sound
+  form_sound parts.Not = negation_sound
+  form_sound parts.Command = command_sound
+  form_sound parts.Branch = argument_sound
+  form_sound (parts.Block k) = block_sound k
+  form_sound parts.Definition = definition_sound
+
   pub part_sound : (p : Part) → IsSound (part_of N p) (PartOf R p)
-  part_sound parts.Group = group_sound
-  part_sound parts.Array = array_sound
-  part_sound parts.Hash = hash_sound
-  part_sound parts.Index = index_sound
-  part_sound parts.Choice = choice_sound
-  part_sound parts.Unless = unless_sound
-  part_sound (parts.Loop until) = looped_sound until
-  part_sound parts.Minus = minus_sound
-  part_sound parts.Bang = bang_sound
-  part_sound parts.Not = negation_sound
-  part_sound parts.Command = command_sound
-  part_sound parts.Branch = argument_sound
-  part_sound parts.Block = block_sound
-  part_sound parts.Definition = definition_sound
+  part_sound p = enclosed_sound (is_enclosed p) (form_of N p) (FormOf R p) (form_sound p)
 
 pub sound_inside : (d : ℕ) → NestedSound (readers_inside d) (inside d)
 unfolding readers_inside inside
 sound_inside zero = record { part = λ p s z t e. absurd cc; bracketed = λ s z t e. absurd cc; value = λ b s z t e. absurd cc }
 sound_inside (suc d) = record {
   part = part_sound (readers_inside d) (inside d) (sound_inside d);
-  bracketed = bracketed_sound (readers_inside d) (inside d) (sound_inside d) listings.Call;
+  bracketed = taking_sound true (bracketed_of (readers_inside d) listings.Call) (Bracketed (inside d) listings.Call) (bracketed_sound (readers_inside d) (inside d) (sound_inside d) listings.Call);
   value = value_sound (readers_inside d) (inside d) (sound_inside d);
 }
 
@@ -502,7 +522,7 @@ unfolding readers_outside outside
 sound_outside zero = record { part = λ p s z t e. absurd cc; bracketed = λ s z t e. absurd cc; value = value_sound (readers_inside zero) (inside zero) (sound_inside zero) }
 sound_outside (suc d) = record {
   part = part_sound (readers_outside d) (outside d) (sound_outside d);
-  bracketed = bracketed_sound (readers_outside d) (outside d) (sound_outside d) listings.Call;
+  bracketed = taking_sound true (bracketed_of (readers_outside d) listings.Call) (Bracketed (outside d) listings.Call) (bracketed_sound (readers_outside d) (outside d) (sound_outside d) listings.Call);
   value = value_sound (readers_inside (suc d)) (inside (suc d)) (sound_inside (suc d));
 }
 

@@ -23,18 +23,22 @@ use Rattle.rr_parser.specs.declared.word.Part.{Part}
 use Rattle.rr_parser.specs.declared.word.WordKind.{WordKind}
 use Rattle.rr_parser.specs.declared.word.WordKind.TheVariants as kind
 use Rattle.rr_parser.specs.declared.word.Word.{Word}
+use Rattle.rr_parser.specs.declared.word.Behind.{Behind}
+use Rattle.rr_parser.specs.declared.word.Behind.TheVariants as behinds
+use Rattle.rr_parser.specs.declared.word.Fence.{Fence}
+use Rattle.rr_parser.specs.Grammar.Fences.{with_do, taking, fence_of, opened}
 use Rattle.rr_parser.specs.Places.{Known, Place, Look, first_as, seen_before, unless, where_true, is_kind, placed, without_separators, word, at, next, skip, separators}
 use Rattle.rr_parser.specs.Grammar.Chains.{Chain, one, more, at_first, and_then, same}
 use Rattle.rr_parser.specs.Grammar.Nesting.{Nested}
 use Rattle.rr_parser.specs.Grammar.Names.{is_local, name, bracket, is_tight, begins_operand, begins_operands, begins_command, is_allowed, head_of_kind, head, begins_head, command}
-use Rattle.rr_parser.specs.Grammar.Operands.{joined, literal_of, construct_of, brace, Primary, a_literal, a_negative, a_local, a_bare_call, a_call, a_block_call, a_jump, a_passing, a_passing_call, a_construct, tail, Postfix, Bang, a_bang, no_bang, Minus, a_minus, no_minus}
+use Rattle.rr_parser.specs.Grammar.Operands.{joined, literal_of, construct_of, Primary, a_literal, a_negative, a_local, a_bare_call, a_call, a_block_call, a_jump, a_passing, a_passing_call, a_construct, tail, Postfix, Bang, a_bang, no_bang, Minus, a_minus, no_minus}
 use Rattle.rr_parser.specs.Grammar.Operators.{level_of, at_level, operator_of, operator, infixed, where_level, connective_of, connective, joined_by, Binary, a_comparison, a_pair, Logical, Ternary, no_question, a_question}
 use Rattle.rr_parser.specs.Grammar.Calls.{target, comma, Assigned, an_assignment, no_assignment, Argument, a_command, Phrase, by_name, an_operand, Value, closing, target_of_kind, label, Member, label_of_kind, last, by_label, by_arrow}
 use Rattle.rr_parser.specs.Grammar.Sequences.{Negation, a_negation, no_negation, Expression, modifier_of, modifier, Statement, modified}
 use Rattle.rr_parser.specs.Grammar.Control.{thens, loops, elsif}
 use Rattle.rr_parser.specs.Reading.Operands.{prefix_minus}
 use Rattle.rr_parser.specs.Reading.Sequences.{ends_at, ends, row}
-use Rattle.rr_parser.proofs.Told.{Told, told_comma, told_elsif, told_open_brace}
+use Rattle.rr_parser.proofs.Told.{Told, told_comma, told_elsif}
 use Rattle.rr_parser.proofs.Looks.{closes, ends_member, is_tail, closing-next, last-next, tail-next, seen, some_what, some_place, seen_as, none_unless, by_next, one_kind, one_place, word-next, other-word, name-next, next-name, separators-next, no_row, no_prefix, next-separators, thens-next, loops-next, target-next, head-next, command-next}
 
 -- How loosely a word goes on with what stands before it: what follows an operand first, then the operators, then the conditions, `?`, the sign of an
@@ -284,13 +288,58 @@ bracket_not_assign z n o u sign e f =
     let g : false ≡ true = ap (λ q. is_kind q kind.Open) (sym k) ∙ t in
     let never : ⊥ = cc in never
 
-brace_no_operands : (z n : Place) (u : Unit {0}) → at brace z ≡ Some (u, n) → begins_operands z.rest ≡ false
-brace_no_operands z n u e = by_next (λ q. begins_operands q.rest ≡ false) z n kind.OpenBrace (word-next kind.OpenBrace told_open_brace z n u e) (λ b. and_false b)
+-- a word that begins a block
+abbrev opens_block : WordKind → Bool
+opens_block kind.OpenBrace = true
+opens_block kind.Do = true
+opens_block _ = false
 
-brace_not_assign : (z n o : Place) (u : Unit {0}) (sign : Sign) → at brace z ≡ Some (u, n) → next z ≡ Some (kind.Assign sign, o) → ⊥
-brace_not_assign z n o u sign e f =
-    let k = one_kind z n o kind.OpenBrace (kind.Assign sign) (word-next kind.OpenBrace told_open_brace z n u e) f in
+fence_opens : (q : Behind) (b : Bool) (k : WordKind) (f : Fence) → fence_of q b k ≡ Some f → opens_block k ≡ true
+fence_opens q b kind.OpenBrace f e = refl
+fence_opens q b kind.Do f e = refl
+fence_opens q b _ f e = absurd cc
+
+pub record OpensBlock (s n : Place) : Type 0 where
+  pub kind : WordKind
+  pub here : next s ≡ Some (kind, n)
+  pub told : opens_block kind ≡ true
+
+opened_next : (q : Behind) (s n : Place) (f : Fence) → opened q s ≡ Some (f, n) → OpensBlock s n
+opened_next q s n f e =
+    let w = seen_as (λ w. fence_of q s.known.takes_do w.kind) s n f e in
+    record { kind = w.kind; here = w.here; told = fence_opens q s.known.takes_do w.kind f w.told }
+
+-- a block begins behind what nothing goes on with
+pub opened_stops : (q : Behind) (s n : Place) (f : Fence) → opened q s ≡ Some (f, n) → Stops 29 s
+opened_stops q s n f e = let o = opened_next q s n f e in stops_by o.kind 29 s n o.here (loose o.kind o.told)
+  where
+    loose : (k : WordKind) → opens_block k ≡ true → 29 < strength k
+    loose kind.OpenBrace g = omega arith
+    loose kind.Do g = omega arith
+    loose _ g = absurd cc
+
+brace_no_operands : (z n : Place) (f : Fence) → opened behinds.Call z ≡ Some (f, n) → begins_operands z.rest ≡ false
+brace_no_operands z n f e = let o = opened_next behinds.Call z n f e in by_next (λ q. begins_operands q.rest ≡ false) z n o.kind o.here (λ b. by_kind o.kind o.told b n.rest)
+  where
+    by_kind : (k : WordKind) → opens_block k ≡ true → (b : Bool) (ws : List Word) → (b && begins_operand k (is_tight ws)) ≡ false
+    by_kind kind.OpenBrace g b ws = and_false b
+    by_kind kind.Do g b ws = and_false b
+    by_kind _ g b ws = absurd cc
+
+brace_not_assign : (z n o : Place) (f : Fence) (sign : Sign) → opened behinds.Call z ≡ Some (f, n) → next z ≡ Some (kind.Assign sign, o) → ⊥
+brace_not_assign z n o f sign e g =
+    let b = opened_next behinds.Call z n f e in
+    let k = one_kind z n o b.kind (kind.Assign sign) b.here g in
+    let h : true ≡ false = sym b.told ∙ ap opens_block k in
     let never : ⊥ = cc in never
+
+-- what is known of `do` stops nothing
+same_strength : (k j : Known) (ws : List Word) → strength_in (next (record { known = k; rest = ws })) ≡ strength_in (next (record { known = j; rest = ws }))
+same_strength k j [] = refl
+same_strength k j (w ∷ ws) = refl
+
+pub taking_stops : (n : ℕ) (b : Bool) (z : Place) → Stops n (taking b z) → Stops n z
+taking_stops n b z stops = subst (λ (q : ℕ). n < q) (same_strength (with_do b z.known) z.known z.rest) stops
 
 pub primary_first : (R : Nested) (s z : Place) (t : Tree) → Primary R s t z → First s
 primary_first R s z t (a_literal {k = k} e f) = by_word e (literal_opens k t f)
@@ -298,7 +347,7 @@ primary_first R s z t (a_negative e f g) = by_integer e f
 primary_first R s z t (a_local {x = x} e o b f) = by_no_command e (local_no_command x z f)
 primary_first R s z t (a_bare_call {x = x} e o b f g) = by_no_command e (bare_no_command x z g)
 primary_first R s z t (a_call {m = m} {n = n} {x = x} {u = u} e f h b) = by_no_command e (bare_no_command x m (bracket_no_operands m n u f))
-primary_first R s z t (a_block_call {m = m} {n = n} {x = x} {u = u} e f g h) = by_no_command e (bare_no_command x m (brace_no_operands m n u g))
+primary_first R s z t (a_block_call {m = m} {n = n} {x = x} {f = k} e f g h) = by_no_command e (bare_no_command x m (brace_no_operands m n k g))
 primary_first R s z t (a_jump {j = j} e f g) = by_jump e (ap (λ b. is_allowed j z.known && b) g ∙ and_false (is_allowed j z.known))
 primary_first R s z t (a_passing {p = p} e f g h) = by_passing e (ap (λ b. z.known.in_method && b) h ∙ and_false z.known.in_method)
 primary_first R s z t (a_passing_call {m = m} {n = n} {p = p} {u = u} e f g h) = by_passing e (ap (λ b. m.known.in_method && b) (bracket_no_operands m n u g) ∙ and_false m.known.in_method)
@@ -461,7 +510,7 @@ head_starts s m x e = let h = head-next s m x e in record { kind = h.0; behind =
     head_start _ x f = absurd cc
 
 pub phrase_starts : (R : Nested) (s z : Place) (t : Tree) → Phrase R s t z → Starts s
-phrase_starts R s z t (by_name (a_command {m = m} {x = x} e h)) = head_starts s m x (command-next s m x e).0
+phrase_starts R s z t (by_name (a_command {m = m} {x = x} e h b)) = head_starts s m x (command-next s m x e).0
 phrase_starts R s z t (an_operand h) = first_starts s (ternary_first R s z t h)
 
 pub assigned_starts : (R : Nested) (commands : Bool) (Q : Place → Tree → Place → Type 0) → ((s z : Place) (t : Tree) → Q s t z → Starts s) → (s z : Place) (t : Tree) → Assigned R commands Q s t z → Starts s
@@ -616,7 +665,7 @@ module _ (R : Nested) (s m n : Place) (k : WordKind) (x : Target) (sign : Sign) 
   primary_stuck z t (a_negative {m = o} e f g) = absurd (no_word k kind.Minus is_target (one_kind s m o k kind.Minus here e) refl)
   primary_stuck z t (a_local {x = y} e o b f) = let h = name-next s z y e in same_word (kind.Name y h.0) z h.1
   primary_stuck z t (a_bare_call {x = y} e o b f g) = let h = name-next s z y e in same_word (kind.Name y h.0) z h.1
-  primary_stuck z t (a_block_call {m = o} {n = q} {x = y} {u = u} e f b h) =
+  primary_stuck z t (a_block_call {m = o} {n = q} {x = y} {f = u} e f b h) =
       let g = name-next s o y e in
       absurd (brace_not_assign o q n u sign b (subst (λ v. next v ≡ Some (kind.Assign sign, n)) (one_place s m o k (kind.Name y g.0) here g.1) assigns))
   primary_stuck z t (a_call {m = o} {n = q} {x = y} {u = u} e f h b) =
@@ -671,7 +720,7 @@ ternary_no_target R s z t h stops = none_unless (at target s) (λ x n e.
 
 pub phrase_no_target : (R : Nested) (s z : Place) (t : Tree) → Phrase R s t z → Stops 27 z → at target s ≡ None
 phrase_no_target R s z t (an_operand h) stops = ternary_no_target R s z t h (omega (arith, stops))
-phrase_no_target R s z t (by_name (a_command {m = m} {x = x} e h)) stops = none_unless (at target s) (λ y n f.
+phrase_no_target R s z t (by_name (a_command {m = m} {x = x} e h b)) stops = none_unless (at target s) (λ y n f.
     let g : seen x m ≡ None = sym e ∙ target_no_command s n y f in
     let never : ⊥ = cc in never)
 

@@ -3,7 +3,10 @@ use Rattle.std.proofs.Common.{◌≡◌, true, refl}
 use Rattle.std.proofs.lemmas.Bool.{false≢true}
 use Rattle.rr_parser.specs.declared.word.WordKind.{WordKind}
 use Rattle.rr_parser.specs.declared.word.WordKind.TheVariants as kind
+use Rattle.rr_parser.specs.declared.word.Fence.{Fence}
+use Rattle.rr_parser.specs.declared.word.Fence.TheVariants as fences
 use Rattle.rr_parser.specs.Places.{is_kind}
+use Rattle.rr_parser.specs.Grammar.Fences.{fence_end}
 
 abbrev pub Told : WordKind → Type 0
 Told k = (q : WordKind) → is_kind q k ≡ true → q ≡ k
@@ -80,10 +83,10 @@ pub told_close_brace : Told kind.CloseBrace
 told_close_brace kind.CloseBrace e = refl
 told_close_brace _ e = absurd (false≢true e)
 
-pub told_open_brace : Told kind.OpenBrace
-told_open_brace kind.OpenBrace e = refl
-told_open_brace _ e = absurd (false≢true e)
-
 pub told_open_square : Told kind.OpenSquare
 told_open_square kind.OpenSquare e = refl
 told_open_square _ e = absurd (false≢true e)
+
+pub told_fence : (f : Fence) → Told (fence_end f)
+told_fence fences.Brace = told_close_brace
+told_fence fences.Do = told_end

@@ -6,6 +6,9 @@ use Rattle.rr_lexer.specs.declared.kind.Token.{Token}
 use Rattle.rr_parser.specs.declared.word.Tail.{Tail}
 use Rattle.rr_parser.specs.declared.word.Tail.TheVariants as tails
 use Rattle.rr_parser.specs.declared.word.Aim.{Aim}
+use Rattle.rr_parser.specs.declared.word.Behind.{Behind}
+use Rattle.rr_parser.specs.declared.word.Behind.TheVariants as behinds
+use Rattle.rr_parser.specs.declared.word.Fence.{Fence}
 use Rattle.rr_parser.specs.declared.word.Head.{Head}
 use Rattle.rr_parser.specs.declared.word.Listed.{Listed}
 use Rattle.rr_parser.specs.declared.word.Listed.TheVariants as listings
@@ -17,16 +20,17 @@ use Rattle.rr_parser.specs.declared.word.WordKind.TheVariants as kind
 use Rattle.rr_parser.specs.Words.{words_of}
 use Rattle.rr_parser.specs.Places.{Place, Look, word, at, next, skip, separators, start}
 use Rattle.rr_parser.specs.Grammar.Nesting.{Nested}
+use Rattle.rr_parser.specs.Grammar.Fences.{taking, Taking, within_head, opened}
 use Rattle.rr_parser.specs.Grammar.Names.{name, bracket, command}
-use Rattle.rr_parser.specs.Grammar.Operands.{joined, construct_of, brace, tail, Postfix}
+use Rattle.rr_parser.specs.Grammar.Operands.{joined, construct_of, tail, Postfix}
 use Rattle.rr_parser.specs.Grammar.Operators.{operator, connective, Binary, Logical}
-use Rattle.rr_parser.specs.Grammar.Calls.{target, with_target, label, comma, Argument, Members}
+use Rattle.rr_parser.specs.Grammar.Calls.{target, with_target, label, comma, Argument, Members, Commanded}
 use Rattle.rr_parser.specs.Grammar.Sequences.{Expression, Statement, Rows, modifier}
 use Rattle.rr_parser.specs.Grammar.Control.{thens, loops, elsif, looping, Branch, Branches}
 use Rattle.rr_parser.specs.Grammar.Blocks.{parameters, entered}
 use Rattle.rr_parser.specs.Grammar.Definitions.{formals, defined}
 use Rattle.rr_parser.specs.Grammar.Programs.{Entries}
-use Rattle.rr_parser.specs.Grammar.{inside, outside}
+use Rattle.rr_parser.specs.Grammar.{inside, outside, is_enclosed}
 
 -- F s z: from s on, as many constructs as F tells are begun, and the innermost begins at z
 pub record Fronts : Type 1 where
@@ -49,22 +53,34 @@ pub data TrailFront {X : Type 0} (look : Look X) (T : Place → Tree → Place �
   in_head : {s z : Place} → F s z → TrailFront look T F G s z
   in_tail : {s m n z : Place} {l : Tree} {x : X} → T s l m → at look m ≡ Some (x, n) → G x n z → TrailFront look T F G s z
 
--- in the arguments of a call, or in its block
-abbrev pub CallFront : Nested → Fronts → Place → Place → Type 0
-CallFront N F = AcrossFront brace N.bracketed F.bracketed (F.part parts.Block)
+-- in what is read where calls take the word `do`, or not
+abbrev pub TakingFront : Bool → (Place → Place → Type 0) → Place → Place → Type 0
+TakingFront b F s z = F (taking b s) z
 
--- in the block of a call
-pub data BlockedFront (F : Fronts) : Place → Place → Type 0 where
-  in_block : {s m z : Place} {u : Unit {0}} → at brace s ≡ Some (u, m) → F.part parts.Block m z → BlockedFront F s z
+abbrev pub EnclosedFront : Bool → (Place → Place → Type 0) → Place → Place → Type 0
+EnclosedFront true F = TakingFront true F
+EnclosedFront false F = F
+
+-- in the block of a call or of a command
+pub data BlockedFront (F : Fronts) (q : Behind) : Place → Place → Type 0 where
+  in_block : {s m z : Place} {f : Fence} → opened q s ≡ Some (f, m) → F.part (parts.Block f) m z → BlockedFront F q s z
+
+-- in the arguments, which P spells, or in the block
+pub data PassedFront {A : Type 0} (F : Fronts) (q : Behind) (P : Place → A → Place → Type 0) (G : Place → Place → Type 0) : Place → Place → Type 0 where
+  in_passed : {s z : Place} → G s z → PassedFront F q P G s z
+  in_its_block : {s m z : Place} {a : A} → P s a m → BlockedFront F q m z → PassedFront F q P G s z
+
+abbrev pub CallFront : Nested → Fronts → Place → Place → Type 0
+CallFront N F = PassedFront F behinds.Call N.bracketed F.bracketed
 
 pub data PrimaryFront (N : Nested) (F : Fronts) : Place → Place → Type 0 where
   in_construct : {s m z : Place} {k : WordKind} {p : Part} → next s ≡ Some (k, m) → construct_of k ≡ Some p → F.part p m z → PrimaryFront N F s z
   in_call : {s m n z : Place} {x : Sym} {u : Unit {0}} → at name s ≡ Some (x, m) → at bracket m ≡ Some (u, n) → CallFront N F n z → PrimaryFront N F s z
   in_passing : {s m n z : Place} {p : Passing} {u : Unit {0}} → next s ≡ Some (kind.Passing p, m) → at bracket m ≡ Some (u, n) → F.bracketed n z → PrimaryFront N F s z
-  in_block_call : {s m z : Place} {x : Sym} → at name s ≡ Some (x, m) → at bracket m ≡ None → BlockedFront F m z → PrimaryFront N F s z
+  in_block_call : {s m z : Place} {x : Sym} → at name s ≡ Some (x, m) → at bracket m ≡ None → BlockedFront F behinds.Call m z → PrimaryFront N F s z
 
 abbrev pub TailedFront : Nested → Fronts → Tail → Place → Place → Type 0
-TailedFront N F (tails.Send x) s z = BlockedFront F s z
+TailedFront N F (tails.Send x) s z = BlockedFront F behinds.Call s z
 TailedFront N F (tails.Call x) s z = CallFront N F s z
 TailedFront N F tails.Index s z = F.part parts.Index s z
 
@@ -120,8 +136,11 @@ pub data CommandedFront (N : Nested) (F : Fronts) : Place → Place → Type 0 w
   in_arguments : {s z : Place} → MembersFront N F listings.Command s z → CommandedFront N F s z
   in_argument_command : {s m z : Place} {x : Head} → at (command s.known) s ≡ Some (x, m) → F.part parts.Command s z → CommandedFront N F s z
 
+abbrev pub HeadedFront : Nested → Fronts → Head → Place → Place → Type 0
+HeadedFront N F x m = PassedFront F (behinds.Command x) (Taking (within_head x m.known.takes_do) (Commanded N)) (TakingFront (within_head x m.known.takes_do) (CommandedFront N F)) m
+
 pub data CommandFront (N : Nested) (F : Fronts) : Place → Place → Type 0 where
-  behind_name : {s m z : Place} {x : Head} → at (command s.known) s ≡ Some (x, m) → CommandedFront N F m z → CommandFront N F s z
+  behind_name : {s m z : Place} {x : Head} → at (command s.known) s ≡ Some (x, m) → HeadedFront N F x m z → CommandFront N F s z
 
 pub data PhraseFront (N : Nested) (F : Fronts) : Place → Place → Type 0 where
   in_command : {s z : Place} → CommandFront N F s z → PhraseFront N F s z
@@ -161,7 +180,7 @@ abbrev pub EndedFront : {A : Type 0} → Nested → Fronts → (Place → A → 
 EndedFront N F P G = AcrossFront (word kind.Else) P G (StatementsFront N F)
 
 abbrev pub LoopFront : Nested → Fronts → Place → Place → Type 0
-LoopFront N F = AcrossFront loops (Expression N) (ExpressionFront N F) (StatementsFront N F)
+LoopFront N F = AcrossFront loops (Taking false (Expression N)) (TakingFront false (ExpressionFront N F)) (StatementsFront N F)
 
 abbrev pub LoopedFront : Nested → Fronts → Place → Place → Type 0
 LoopedFront N F s z = LoopFront N F (looping s) z
@@ -172,31 +191,35 @@ pub data BlockFront (N : Nested) (F : Fronts) : Place → Place → Type 0 where
 pub data DefinitionFront (N : Nested) (F : Fronts) : Place → Place → Type 0 where
   in_method : {s m n z : Place} {x : Sym} {xs : List Sym} → at name s ≡ Some (x, m) → at formals m ≡ Some (xs, n) → StatementsFront N F (defined xs n) z → DefinitionFront N F s z
 
+-- in a part, without its own say about `do`
+abbrev pub FormFront : Nested → Fronts → Part → Place → Place → Type 0
+FormFront N F parts.Group = StatementsFront N F
+FormFront N F parts.Choice = EndedFront N F (Branches N) (BranchesFront N F)
+FormFront N F parts.Unless = EndedFront N F (Branch N) (BranchFront N F)
+FormFront N F (parts.Loop until) = LoopedFront N F
+FormFront N F parts.Array = MembersFront N F listings.Array
+FormFront N F parts.Hash = MembersFront N F listings.Hash
+FormFront N F parts.Index = ArgumentFront N F
+FormFront N F parts.Minus = MinusFront N F
+FormFront N F parts.Bang = BangFront N F
+FormFront N F parts.Not = NegationFront N F
+FormFront N F parts.Command = CommandFront N F
+FormFront N F parts.Branch = ArgumentFront N F
+FormFront N F (parts.Block f) = BlockFront N F
+FormFront N F parts.Definition = DefinitionFront N F
+
 abbrev pub PartFront : Nested → Fronts → Part → Place → Place → Type 0
-PartFront N F parts.Group = StatementsFront N F
-PartFront N F parts.Choice = EndedFront N F (Branches N) (BranchesFront N F)
-PartFront N F parts.Unless = EndedFront N F (Branch N) (BranchFront N F)
-PartFront N F (parts.Loop until) = LoopedFront N F
-PartFront N F parts.Array = MembersFront N F listings.Array
-PartFront N F parts.Hash = MembersFront N F listings.Hash
-PartFront N F parts.Index = ArgumentFront N F
-PartFront N F parts.Minus = MinusFront N F
-PartFront N F parts.Bang = BangFront N F
-PartFront N F parts.Not = NegationFront N F
-PartFront N F parts.Command = CommandFront N F
-PartFront N F parts.Branch = ArgumentFront N F
-PartFront N F parts.Block = BlockFront N F
-PartFront N F parts.Definition = DefinitionFront N F
+PartFront N F p = EnclosedFront (is_enclosed p) (FormFront N F p)
 
 -- Inside the right side of an assignment so many constructs more are begun, and then one that has just begun.
 unfoldable pub fronts_inside : ℕ → Fronts
 fronts_inside zero = record { part = λ p s z. s ≡ z; bracketed = λ s z. s ≡ z; value = λ b s z. s ≡ z }
-fronts_inside (suc d) = record { part = PartFront (inside d) (fronts_inside d); bracketed = MembersFront (inside d) (fronts_inside d) listings.Call; value = ValueFront (inside d) (fronts_inside d) }
+fronts_inside (suc d) = record { part = PartFront (inside d) (fronts_inside d); bracketed = TakingFront true (MembersFront (inside d) (fronts_inside d) listings.Call); value = ValueFront (inside d) (fronts_inside d) }
 
 -- The same outside of all right sides. A right side there does not count.
 unfoldable pub fronts_outside : ℕ → Fronts
 fronts_outside zero = record { part = λ p s z. s ≡ z; bracketed = λ s z. s ≡ z; value = ValueFront (inside zero) (fronts_inside zero) }
-fronts_outside (suc d) = record { part = PartFront (outside d) (fronts_outside d); bracketed = MembersFront (outside d) (fronts_outside d) listings.Call; value = ValueFront (inside (suc d)) (fronts_inside (suc d)) }
+fronts_outside (suc d) = record { part = PartFront (outside d) (fronts_outside d); bracketed = TakingFront true (MembersFront (outside d) (fronts_outside d) listings.Call); value = ValueFront (inside (suc d)) (fronts_inside (suc d)) }
 
 -- in a row of a program
 pub data RowFront (N : Nested) (F : Fronts) : Place → Place → Type 0 where

@@ -1,5 +1,5 @@
 -- The grammar: a relation between the place before a construct, its tree, and the place behind it.
-use Rattle.std.specs.Prelude.{◌≡◌, ℕ, zero, suc, false, List, []}
+use Rattle.std.specs.Prelude.{◌≡◌, ℕ, zero, suc, Bool, true, false, List, []}
 use Rattle.rr_tree.specs.Tree.{Tree}
 use Rattle.rr_lexer.specs.declared.kind.Token.{Token}
 use Rattle.rr_parser.specs.declared.word.Part.{Part}
@@ -9,6 +9,7 @@ use Rattle.rr_parser.specs.declared.word.Word.{Word}
 use Rattle.rr_parser.specs.Words.{words_of}
 use Rattle.rr_parser.specs.Places.{Place, start}
 use Rattle.rr_parser.specs.Grammar.Nesting.{Nested}
+use Rattle.rr_parser.specs.Grammar.Fences.{Taking}
 use Rattle.rr_parser.specs.Grammar.Operands.{Bang, Minus}
 use Rattle.rr_parser.specs.Grammar.Calls.{Argument, Array, Hash, Index, Bracketed, Command, Value}
 use Rattle.rr_parser.specs.Grammar.Sequences.{Negation, Group}
@@ -18,6 +19,7 @@ use Rattle.rr_parser.specs.Grammar.Definitions.{Definition}
 use Rattle.rr_parser.specs.Grammar.Programs.{Outline, Main, main_of, Program}
 pub mod Chains
 pub mod Nesting
+pub mod Fences
 pub mod Names
 pub mod Operands
 pub mod Operators
@@ -28,32 +30,49 @@ pub mod Blocks
 pub mod Definitions
 pub mod Programs
 
+-- what each part is, without its own say about `do`
+abbrev pub FormOf : Nested → Part → Place → Tree → Place → Type 0
+FormOf N parts.Group = Group N
+FormOf N parts.Array = Array N
+FormOf N parts.Hash = Hash N
+FormOf N parts.Index = Index N
+FormOf N parts.Choice = Choice N
+FormOf N parts.Unless = Unless N
+FormOf N (parts.Loop until) = Looped N until
+FormOf N parts.Minus = Minus N
+FormOf N parts.Bang = Bang N
+FormOf N parts.Not = Negation N
+FormOf N parts.Command = Command N
+FormOf N parts.Branch = Argument N
+FormOf N (parts.Block f) = Block N f
+FormOf N parts.Definition = Definition N
+
+-- what ends with a word of its own, so that calls in it take the word `do`
+abbrev pub is_enclosed : Part → Bool
+is_enclosed parts.Minus = false
+is_enclosed parts.Bang = false
+is_enclosed parts.Not = false
+is_enclosed parts.Command = false
+is_enclosed parts.Branch = false
+is_enclosed _ = true
+
+abbrev pub Enclosed : {A : Type 0} → Bool → (Place → A → Place → Type 0) → Place → A → Place → Type 0
+Enclosed true P = Taking true P
+Enclosed false P = P
+
 -- what each part is
 abbrev pub PartOf : Nested → Part → Place → Tree → Place → Type 0
-PartOf N parts.Group = Group N
-PartOf N parts.Array = Array N
-PartOf N parts.Hash = Hash N
-PartOf N parts.Index = Index N
-PartOf N parts.Choice = Choice N
-PartOf N parts.Unless = Unless N
-PartOf N (parts.Loop until) = Looped N until
-PartOf N parts.Minus = Minus N
-PartOf N parts.Bang = Bang N
-PartOf N parts.Not = Negation N
-PartOf N parts.Command = Command N
-PartOf N parts.Branch = Argument N
-PartOf N parts.Block = Block N
-PartOf N parts.Definition = Definition N
+PartOf N p = Enclosed (is_enclosed p) (FormOf N p)
 
 -- What nests no deeper than a number inside the right side of an assignment. There, each further right side counts.
 unfoldable pub inside : ℕ → Nested
 inside zero = record { part = λ p s t z. ⊥; bracketed = λ s l z. ⊥; value = λ b s t z. ⊥ }
-inside (suc d) = record { part = PartOf (inside d); bracketed = Bracketed (inside d) listings.Call; value = Value (inside d) }
+inside (suc d) = record { part = PartOf (inside d); bracketed = Taking true (Bracketed (inside d) listings.Call); value = Value (inside d) }
 
 -- The same outside of all right sides. A right side there does not count.
 unfoldable pub outside : ℕ → Nested
 outside zero = record { part = λ p s t z. ⊥; bracketed = λ s l z. ⊥; value = Value (inside zero) }
-outside (suc d) = record { part = PartOf (outside d); bracketed = Bracketed (outside d) listings.Call; value = Value (inside (suc d)) }
+outside (suc d) = record { part = PartOf (outside d); bracketed = Taking true (Bracketed (outside d) listings.Call); value = Value (inside (suc d)) }
 
 -- the words spell a program, with constructs nested no deeper than a number
 abbrev pub WordsSpell : ℕ → List Word → Main → Type 0

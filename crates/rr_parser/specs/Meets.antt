@@ -16,6 +16,7 @@ use Rattle.rr_parser.specs.declared.variables.Variable.{Variable}
 use Rattle.rr_parser.specs.declared.variables.Variables.{Variables}
 use Rattle.rr_parser.specs.declared.variables.Scope.{Scope}
 use Rattle.rr_parser.specs.Grammar.Names.{find, seen_from, with_variable, with_loop}
+use Rattle.rr_parser.specs.Grammar.Fences.{with_do}
 use Rattle.rr_parser.specs.Grammar.Blocks.{inner, with_parameters}
 use Rattle.rr_parser.specs.Grammar.Calls.{with_target, target_variable}
 use Rattle.rr_parser.specs.Grammar.Definitions.{apart, rejoined}
@@ -152,7 +153,7 @@ pub record Enters (old new : Parser) (xs : List Sym) (m : Scope) : Type 0 where
 
 -- what is known behind a scope, by its mark
 abbrev pub left_by : Scope → Known → Known
-left_by m n = record { locals = take m.locals n.locals; level = m.level; count = m.count; begun = n.begun; in_loop = m.in_loop; in_method = n.in_method }
+left_by m n = record { locals = take m.locals n.locals; level = m.level; count = m.count; begun = n.begun; in_loop = m.in_loop; in_method = n.in_method; takes_do = n.takes_do }
 
 -- A method with these parameters was begun, and no node was put; the mark holds what was known before it.
 pub record Defines (old new : Parser) (xs : List Sym) (m : Outside) : Type 0 where
@@ -171,6 +172,11 @@ pub record Rejoins (old new : Parser) (v : Variables) : Type 0 where
 pub record Leaves (old new : Parser) (m : Scope) : Type 0 where
   pub nodes : new.nodes.items ≡ old.nodes.items
   pub known : known_of new ≡ left_by m (known_of old)
+
+-- From here on calls take the word `do`, or not.
+pub record SetsDo (old new : Parser) (b : Bool) : Type 0 where
+  pub nodes : new.nodes.items ≡ old.nodes.items
+  pub known : known_of new ≡ with_do b (known_of old)
 
 -- From here on the place is in a loop, or not.
 pub record SetsLoop (old new : Parser) (b : Bool) : Type 0 where

@@ -8,7 +8,7 @@ use Rattle.rr_parser.specs.contracts.word.WordKindPartialEq.TheImpl as kind_equa
 
 -- What is known at a place: the local variables, those of the scopes outside first, each with the level of its scope and its
 -- number there; at which level the place is; how many variables its own scope has; how many scopes were begun; whether it is
--- in a loop or a block; and whether it is in a method.
+-- in a loop or a block; whether it is in a method; and whether a call takes a block that begins with the word `do`.
 pub record Known : Type 0 where
   pub locals : List Local
   pub level : ℕ
@@ -16,6 +16,7 @@ pub record Known : Type 0 where
   pub begun : ℕ
   pub in_loop : Bool
   pub in_method : Bool
+  pub takes_do : Bool
 
 -- what is known there, and the words that are left
 pub record Place : Type 0 where
@@ -76,7 +77,7 @@ abbrev pub next : Place → Option (WordKind × Place)
 next s = at any_word s
 
 abbrev pub start : List Word → Place
-start ws = record { known = record { locals = []; level = 0; count = 0; begun = 0; in_loop = false; in_method = false }; rest = ws }
+start ws = record { known = record { locals = []; level = 0; count = 0; begun = 0; in_loop = false; in_method = false; takes_do = true }; rest = ws }
 
 -- ---- separators
 

@@ -6,10 +6,11 @@ ghost use Rattle.rr_parser.specs.Reading.Blocks.{block_of};
 ghost use Rattle.rr_parser.specs.Reading.{readers};
 ghost use Rattle.rr_parser.specs.Meets.{ReadsNames, Sees};
 
+use crate::fences::fence_end;
 use crate::look::behind;
 use crate::parser::{Parsed, Parser};
 use crate::refusal::Refusal;
-use crate::word::{Word, WordKind};
+use crate::word::{Fence, Word, WordKind};
 use rr_base::Sym;
 use rr_tree::{Node, NodeId};
 use std::alloc::Global;
@@ -68,16 +69,22 @@ fn parameters<'w>(alloc: Global, words: &'w [Word]) -> Parsed<'w, Vec<Sym>>
 impl Parser {
     ghost use Rattle.rr_parser.specs.Meets.{Gives, place};
 
-    /// A block, behind its brace.
+    /// A block, behind the word that begins it.
     #[cycle(parser)]
     #[tactic(auto, unfolding(crate::specs::Reading::Blocks::block_of))]
-    pub fn block<'w>(&mut self, inside: bool, depth: u32, words: &'w [Word]) -> Parsed<'w, NodeId>
-        ensures { Gives self.old self.new result (block_of (readers inside depth) (place self.old words.now)) }
+    pub fn block<'w>(
+        &mut self,
+        fence: Fence,
+        inside: bool,
+        depth: u32,
+        words: &'w [Word],
+    ) -> Parsed<'w, NodeId>
+        ensures { Gives self.old self.new result (block_of (readers inside depth) fence (place self.old words.now)) }
     {
         let (parameters, rest) = parameters(self.alloc, words)?;
         let scope = self.enter(&parameters)?;
         let (body, rest) = self.statements(inside, depth, rest)?;
-        let Some(rest) = behind(WordKind::CloseBrace, rest) else {
+        let Some(rest) = behind(fence_end(fence), rest) else {
             return Err(Refusal::Unexpected(rest.len()));
         };
         let size = self.known.count;

@@ -1,13 +1,14 @@
 //! Reading assignments, arguments and commands.
 
 ghost use Rattle.std.specs.Prelude.{◌≡◌};
-ghost use Rattle.rr_parser.specs.Reading.Calls.{pair_of, member_of, members_of, bracketed_of, array_of, hash_of, index_of, commanded_of, command_of, phrase_of, operand_of, value_of};
+ghost use Rattle.rr_parser.specs.Reading.Calls.{pair_of, member_of, members_of, bracketed_of, array_of, hash_of, index_of, commanded_of, arguments_of, headed_of, command_of, phrase_of, operand_of, value_of};
 ghost use Rattle.rr_parser.specs.Reading.{readers};
 
+use crate::fences::within_head;
 use crate::look::{another, behind, closing, label, last, target};
 use crate::parser::{Parsed, ParsedList, Parser};
 use crate::refusal::Refusal;
-use crate::word::{Listed, Part, Word, WordKind};
+use crate::word::{Behind, Head, Listed, Part, Word, WordKind};
 use rr_tree::{Node, NodeId};
 
 impl Parser {
@@ -59,8 +60,7 @@ impl Parser {
         let Some((head, rest)) = self.command_head(words) else {
             return self.ternary(inside, depth, words);
         };
-        let (items, rest) = self.commanded(inside, depth, rest)?;
-        Ok((self.put_headed(head, &items)?, rest))
+        self.headed(head, inside, depth, rest)
     }
 
     #[cycle(parser)]
@@ -71,8 +71,42 @@ impl Parser {
         let Some((head, rest)) = self.command_head(words) else {
             return Err(Refusal::Unexpected(words.len()));
         };
-        let (items, rest) = self.commanded(inside, depth, rest)?;
-        Ok((self.put_headed(head, &items)?, rest))
+        self.headed(head, inside, depth, rest)
+    }
+
+    /// A command from behind its first word on, with the block that may stand behind it.
+    #[cycle(parser)]
+    #[tactic(auto, unfolding(crate::specs::Reading::Calls::headed_of))]
+    fn headed<'w>(
+        &mut self,
+        head: Head,
+        inside: bool,
+        depth: u32,
+        words: &'w [Word],
+    ) -> Parsed<'w, NodeId>
+        ensures { Gives self.old self.new result (headed_of (readers inside depth) head (place self.old words.now)) }
+    {
+        let (items, rest) = self.arguments(head, inside, depth, words)?;
+        let command = self.put_headed(head, &items)?;
+        self.blocked(Behind::Command(head), command, inside, depth, rest)
+    }
+
+    /// The arguments of a command: where it is a call, none in them takes the word `do`.
+    #[cycle(parser)]
+    fn arguments<'w>(
+        &mut self,
+        head: Head,
+        inside: bool,
+        depth: u32,
+        words: &'w [Word],
+    ) -> ParsedList<'w>
+        ensures { GivesList self.old self.new result (arguments_of (readers inside depth) head (place self.old words.now)) }
+    {
+        let outside = self.known.takes_do;
+        self.set_do(within_head(head, outside));
+        let (items, rest) = self.commanded(inside, depth, words)?;
+        self.set_do(outside);
+        Ok((items, rest))
     }
 
     /// What stands behind the name of a command.

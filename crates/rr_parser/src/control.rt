@@ -1,6 +1,8 @@
 //! Reading choices and loops.
 
-ghost use Rattle.std.specs.Prelude.{◌≡◌};
+ghost use Rattle.std.specs.Prelude.{◌≡◌, false};
+ghost use Rattle.rr_parser.specs.Reading.Answers.{taking_of};
+ghost use Rattle.rr_parser.specs.Reading.Sequences.{expression_of};
 ghost use Rattle.rr_parser.specs.Reading.Control.{branch_of, branches_of, otherwise_of, choice_of, unless_of, loop_of, looped_of};
 ghost use Rattle.rr_parser.specs.Reading.{readers};
 
@@ -57,6 +59,18 @@ impl Parser {
         Ok((node, rest))
     }
 
+    /// The condition of a loop: the word `do` behind it is the loop's.
+    #[cycle(parser)]
+    fn condition<'w>(&mut self, inside: bool, depth: u32, words: &'w [Word]) -> Parsed<'w, NodeId>
+        ensures { Gives self.old self.new result (taking_of false (expression_of (readers inside depth)) (place self.old words.now)) }
+    {
+        let outside = self.known.takes_do;
+        self.set_do(false);
+        let (condition, rest) = self.expression(inside, depth, words)?;
+        self.set_do(outside);
+        Ok((condition, rest))
+    }
+
     #[cycle(parser)]
     #[tactic(auto, unfolding(crate::specs::Reading::Control::loop_of))]
     fn repeat<'w>(
@@ -68,7 +82,7 @@ impl Parser {
     ) -> Parsed<'w, NodeId>
         ensures { Gives self.old self.new result (loop_of (readers inside depth) until (place self.old words.now)) }
     {
-        let (condition, rest) = self.expression(inside, depth, words)?;
+        let (condition, rest) = self.condition(inside, depth, words)?;
         let Some(after) = loops(rest) else {
             return Err(Refusal::Unexpected(rest.len()));
         };

@@ -71,6 +71,7 @@ impl Parser {
             begun,
             in_loop: false,
             in_method: true,
+            takes_do: true,
         };
         let variables = mem::replace(&mut self.known, inner);
         self.known.add_parameters(parameters)?;

@@ -5,6 +5,7 @@ mod blocks;
 mod calls;
 mod control;
 mod definitions;
+mod fences;
 mod locals;
 mod look;
 mod names;

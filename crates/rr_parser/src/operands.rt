@@ -5,10 +5,11 @@ ghost use Rattle.rr_tree.specs.Tree.{tree_at};
 ghost use Rattle.rr_parser.specs.Reading.Operands.{jump_at, passing_of, primary_of, tailed_of, postfix_of, name_of, variable_or_call, block_behind, blocked_of, bang_of, minus_of};
 ghost use Rattle.rr_parser.specs.Reading.{readers};
 
+use crate::fences::opening;
 use crate::look::{begins_arguments, begins_operands, behind, bracket, prefix_minus, tail};
 use crate::parser::{Parsed, Parser};
 use crate::refusal::Refusal;
-use crate::word::{Jump, Part, Passing, Tail, Word, WordKind};
+use crate::word::{Behind, Fence, Jump, Part, Passing, Tail, Word, WordKind};
 use rr_base::Sym;
 use rr_tree::{Node, NodeId, Path};
 
@@ -70,12 +71,12 @@ impl Parser {
         match tail {
             Tail::Send(name) => {
                 let call = self.put_send(operand, name, &[])?;
-                self.blocked(call, inside, depth, words)
+                self.blocked(Behind::Call, call, inside, depth, words)
             }
             Tail::Call(name) => {
                 let (items, rest) = self.inner_arguments(inside, depth, words)?;
                 let call = self.put_send(operand, name, &items)?;
-                self.blocked(call, inside, depth, rest)
+                self.blocked(Behind::Call, call, inside, depth, rest)
             }
             Tail::Index => {
                 let (index, rest) = self.part(Part::Index, inside, depth, words)?;
@@ -130,11 +131,11 @@ impl Parser {
         if let Some(rest) = bracket(words) {
             let (items, rest) = self.inner_arguments(inside, depth, rest)?;
             let call = self.put_call(name, &items)?;
-            return self.blocked(call, inside, depth, rest);
+            return self.blocked(Behind::Call, call, inside, depth, rest);
         }
-        if let Some(rest) = behind(WordKind::OpenBrace, words) {
+        if let Some((fence, rest)) = opening(Behind::Call, self.known.takes_do, words) {
             let call = self.put_call(name, &[])?;
-            return self.block_behind(call, inside, depth, rest);
+            return self.block_behind(fence, call, inside, depth, rest);
         }
         self.variable_or_call(name, words)
     }
@@ -190,21 +191,22 @@ impl Parser {
         Ok((self.put_bare(name)?, words))
     }
 
-    /// A call, with the block that may stand behind it.
+    /// A call or a command, with the block that may stand behind it.
     #[cycle(parser)]
     #[tactic(auto, unfolding(crate::specs::Reading::Operands::blocked_of))]
-    fn blocked<'w>(
+    pub fn blocked<'w>(
         &mut self,
+        behind: Behind,
         call: NodeId,
         inside: bool,
         depth: u32,
         words: &'w [Word],
     ) -> Parsed<'w, NodeId>
         requires { call < length self.old.nodes.items }
-        ensures { Gives self.old self.new result (blocked_of (readers inside depth) (tree_at self.old.nodes.items call) (place self.old words.now)) }
+        ensures { Gives self.old self.new result (blocked_of (readers inside depth) behind (tree_at self.old.nodes.items call) (place self.old words.now)) }
     {
-        match behind(WordKind::OpenBrace, words) {
-            Some(rest) => self.block_behind(call, inside, depth, rest),
+        match opening(behind, self.known.takes_do, words) {
+            Some((fence, rest)) => self.block_behind(fence, call, inside, depth, rest),
             None => Ok((call, words)),
         }
     }
@@ -213,15 +215,16 @@ impl Parser {
     #[cycle(parser)]
     fn block_behind<'w>(
         &mut self,
+        fence: Fence,
         call: NodeId,
         inside: bool,
         depth: u32,
         words: &'w [Word],
     ) -> Parsed<'w, NodeId>
         requires { call < length self.old.nodes.items }
-        ensures { Gives self.old self.new result (block_behind (readers inside depth) (tree_at self.old.nodes.items call) (place self.old words.now)) }
+        ensures { Gives self.old self.new result (block_behind (readers inside depth) fence (tree_at self.old.nodes.items call) (place self.old words.now)) }
     {
-        let (block, rest) = self.part(Part::Block, inside, depth, words)?;
+        let (block, rest) = self.part(Part::Block(fence), inside, depth, words)?;
         Ok((self.put(Node::WithBlock(call, block))?, rest))
     }
 }

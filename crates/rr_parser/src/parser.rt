@@ -1,11 +1,15 @@
 //! Reading trees from words, from left to right.
 
-ghost use Rattle.std.specs.Prelude.{◌≡◌, IfOk};
+ghost use Rattle.std.specs.Prelude.{◌≡◌, true, IfOk};
 ghost use Rattle.rr_tree.specs.Tree.{IsOrdered};
 ghost use Rattle.rr_tree.specs.Order.{IsOrdered-prop};
 ghost use Rattle.rr_parser.specs.Grammar.Names.{command, begins_head, is_allowed};
-ghost use Rattle.rr_parser.specs.Reading.{readers, part_of};
+ghost use Rattle.rr_parser.specs.declared.word.Listed.TheVariants.{Call};
+ghost use Rattle.rr_parser.specs.Reading.Answers.{taking_of};
+ghost use Rattle.rr_parser.specs.Reading.Calls.{bracketed_of};
+ghost use Rattle.rr_parser.specs.Reading.{readers, form_of, part_of};
 
+use crate::fences::is_enclosed;
 use crate::locals::Locals;
 use crate::look::{begins_arguments, begins_operands, head};
 use crate::refusal::{Refusal, Storage};
@@ -34,7 +38,7 @@ pub(crate) type Parsed<'w, T> = Result<(T, &'w [Word]), Refusal>;
 pub(crate) type ParsedList<'w> = Parsed<'w, Vec<NodeId>>;
 
 impl Parser {
-    ghost use Rattle.rr_parser.specs.Meets.{Gives, GivesList, Marks, Aims, Enters, Leaves, SetsLoop, Sees, place, known_of};
+    ghost use Rattle.rr_parser.specs.Meets.{Gives, GivesList, Marks, Aims, Enters, Leaves, SetsLoop, SetsDo, Sees, place, known_of};
 
     /// From here on the name is a local variable.
     fn mark(&mut self, name: Sym) -> Result<Variable, Storage>
@@ -72,6 +76,13 @@ impl Parser {
         ensures { SetsLoop self.old self.new in_loop }
     {
         self.known.set_loop(in_loop);
+    }
+
+    /// From here on calls take the word `do`, or not.
+    pub fn set_do(&mut self, takes_do: bool)
+        ensures { SetsDo self.old self.new takes_do }
+    {
+        self.known.set_do(takes_do);
     }
 
     /// Whether a jump may stand there.
@@ -125,6 +136,7 @@ impl Parser {
         self.part_within(part, inside, depth - 1, words)
     }
 
+    /// A part: calls in it take the word `do` where it ends with a word of its own.
     #[cycle(parser)]
     fn part_within<'w>(
         &mut self,
@@ -134,6 +146,26 @@ impl Parser {
         words: &'w [Word],
     ) -> Parsed<'w, NodeId>
         ensures { Gives self.old self.new result (part_of (readers inside depth) part (place self.old words.now)) }
+    {
+        if !is_enclosed(part) {
+            return self.form(part, inside, depth, words);
+        }
+        let outside = self.known.takes_do;
+        self.set_do(true);
+        let (node, rest) = self.form(part, inside, depth, words)?;
+        self.set_do(outside);
+        Ok((node, rest))
+    }
+
+    #[cycle(parser)]
+    fn form<'w>(
+        &mut self,
+        part: Part,
+        inside: bool,
+        depth: u32,
+        words: &'w [Word],
+    ) -> Parsed<'w, NodeId>
+        ensures { Gives self.old self.new result (form_of (readers inside depth) part (place self.old words.now)) }
     {
         match part {
             Part::Group => self.group(inside, depth, words),
@@ -148,7 +180,7 @@ impl Parser {
             Part::Not => self.negation(inside, depth, words),
             Part::Command => self.command(inside, depth, words),
             Part::Branch => self.value(false, inside, depth, words),
-            Part::Block => self.block(inside, depth, words),
+            Part::Block(fence) => self.block(fence, inside, depth, words),
             Part::Definition => self.definition(inside, depth, words),
         }
     }
@@ -167,7 +199,19 @@ impl Parser {
         if depth == 0 {
             return Err(Refusal::Nesting);
         }
-        self.bracketed(Listed::Call, inside, depth - 1, words)
+        self.call_arguments(inside, depth - 1, words)
+    }
+
+    /// The same where one construct more is open.
+    #[cycle(parser)]
+    fn call_arguments<'w>(&mut self, inside: bool, depth: u32, words: &'w [Word]) -> ParsedList<'w>
+        ensures { GivesList self.old self.new result (taking_of true (bracketed_of (readers inside depth) Call) (place self.old words.now)) }
+    {
+        let outside = self.known.takes_do;
+        self.set_do(true);
+        let (items, rest) = self.bracketed(Listed::Call, inside, depth, words)?;
+        self.set_do(outside);
+        Ok((items, rest))
     }
 
     /// The right side of an assignment.

@@ -52,6 +52,7 @@ fn read_nodes(alloc: Global, words: &[Word], depth: u32) -> Result<Nodes, Refusa
             begun: 0,
             in_loop: false,
             in_method: false,
+            takes_do: true,
         },
         spare: Locals::new(alloc),
         sites: 0,

@@ -2,6 +2,7 @@
 
 ghost use Rattle.std.specs.Prelude.{◌≡◌, IfOk, IfSome, OnOk, is_some};
 ghost use Rattle.rr_parser.specs.Grammar.Names.{find, seen_from, with_variable, with_loop};
+ghost use Rattle.rr_parser.specs.Grammar.Fences.{with_do};
 ghost use Rattle.rr_parser.specs.Grammar.Blocks.{inner, with_parameters};
 ghost use Rattle.rr_parser.specs.Variables.{known_in};
 ghost use Rattle.rr_parser.specs.Meets.{Begins, left_by};
@@ -42,6 +43,8 @@ pub(crate) struct Variables {
     pub in_loop: bool,
     /// Whether the place is in a method.
     pub in_method: bool,
+    /// Whether a call takes a block that begins with the word `do`.
+    pub takes_do: bool,
 }
 
 impl Variables {
@@ -156,5 +159,12 @@ impl Variables {
         ensures { known_in self.new ≡ with_loop in_loop (known_in self.old) }
     {
         self.in_loop = in_loop;
+    }
+
+    /// From here on calls take the word `do`, or not.
+    pub fn set_do(&mut self, takes_do: bool)
+        ensures { known_in self.new ≡ with_do takes_do (known_in self.old) }
+    {
+        self.takes_do = takes_do;
     }
 }

@@ -60,6 +60,20 @@ pub(crate) enum Head {
     Passing(Passing),
 }
 
+/// What a block stands behind: a call, whose arguments stand in brackets or are none, or a command.
+#[derive(Clone, Copy, Debug, PartialEq, Eq, Drop)]
+pub(crate) enum Behind {
+    Call,
+    Command(Head),
+}
+
+/// What a block stands between: braces, or `do` and `end`.
+#[derive(Clone, Copy, Debug, PartialEq, Eq, Drop)]
+pub(crate) enum Fence {
+    Brace,
+    Do,
+}
+
 /// What stands before the `=` of an assignment with an operator.
 #[derive(Clone, Copy, Debug, PartialEq, Eq, Drop)]
 pub(crate) enum Operation {
@@ -126,8 +140,8 @@ pub(crate) enum Part {
     Command,
     /// One of the two operands between which is chosen.
     Branch,
-    /// The parameters and the statements of a block, with the brace behind them.
-    Block,
+    /// The parameters and the statements of a block, with the word that ends it.
+    Block(Fence),
     /// What stands behind `def`, with its `end`.
     Definition,
 }

@@ -2,11 +2,13 @@
 use Rattle.std.specs.Prelude.{◌≡◌, ◌+◌, List, [], ◌∷◌, length, take, true, Option, Some, None, if◌then◌else◌}
 use Rattle.rr_base.specs.declared.name.Sym.{Sym}
 use Rattle.rr_tree.specs.Tree.{Tree, block}
+use Rattle.rr_parser.specs.declared.word.Fence.{Fence}
 use Rattle.rr_parser.specs.declared.word.WordKind.{WordKind}
 use Rattle.rr_parser.specs.declared.word.WordKind.TheVariants as kind
 use Rattle.rr_parser.specs.declared.word.Word.{Word}
 use Rattle.rr_parser.specs.Places.{Known, Place, Look, first_as, is_kind, word, at, next}
 use Rattle.rr_parser.specs.Grammar.Nesting.{Nested}
+use Rattle.rr_parser.specs.Grammar.Fences.{fence_end}
 use Rattle.rr_parser.specs.Grammar.Names.{with_variable}
 use Rattle.rr_parser.specs.Grammar.Sequences.{Statements}
 
@@ -53,7 +55,7 @@ with_parameters (x ∷ xs) k = with_parameters xs (with_variable k x None)
 
 -- a scope inside the present one, which has no variables yet, and in which jumps may stand
 abbrev pub inner : Known → Known
-inner k = record { locals = k.locals; level = k.level + 1; count = 0; begun = k.begun + 1; in_loop = true; in_method = k.in_method }
+inner k = record { locals = k.locals; level = k.level + 1; count = 0; begun = k.begun + 1; in_loop = true; in_method = k.in_method; takes_do = k.takes_do }
 
 -- the place as the first one of a scope with these parameters
 abbrev pub entered : List Sym → Place → Place
@@ -61,7 +63,7 @@ entered xs s = record { known = with_parameters xs (inner s.known); rest = s.res
 
 -- Behind a scope that was begun at s the variables are known that were known there.
 abbrev pub left_to : Known → Known → Known
-left_to k n = record { locals = take (length k.locals) n.locals; level = k.level; count = k.count; begun = n.begun; in_loop = k.in_loop; in_method = n.in_method }
+left_to k n = record { locals = take (length k.locals) n.locals; level = k.level; count = k.count; begun = n.begun; in_loop = k.in_loop; in_method = n.in_method; takes_do = n.takes_do }
 
 abbrev pub leaving : Place → Place → Place
 leaving s n = record { known = left_to s.known n.known; rest = n.rest }
@@ -70,5 +72,5 @@ leaving s n = record { known = left_to s.known n.known; rest = n.rest }
 abbrev pub block_tree : List Sym → Place → Place → Tree → Tree
 block_tree xs m n t = block (entered xs m).known.begun (length xs) n.known.count t
 
-pub data Block (N : Nested) : Place → Tree → Place → Type 0 where
-  of_statements : {s m n z : Place} {xs : List Sym} {t : Tree} → at parameters s ≡ Some (xs, m) → Statements N (entered xs m) t n → next n ≡ Some (kind.CloseBrace, z) → Block N s (block_tree xs m z t) (leaving s z)
+pub data Block (N : Nested) (f : Fence) : Place → Tree → Place → Type 0 where
+  of_statements : {s m n z : Place} {xs : List Sym} {t : Tree} → at parameters s ≡ Some (xs, m) → Statements N (entered xs m) t n → next n ≡ Some (fence_end f, z) → Block N f s (block_tree xs m z t) (leaving s z)

@@ -9,6 +9,7 @@ use Rattle.rr_parser.specs.declared.word.Connective.TheVariants as connectives
 use Rattle.rr_parser.specs.declared.word.Infix.TheVariants as infixes
 use Rattle.rr_parser.specs.declared.word.Operation.{Operation}
 use Rattle.rr_parser.specs.declared.word.Operation.TheVariants as operations
+use Rattle.rr_parser.specs.declared.word.Behind.TheVariants as behinds
 use Rattle.rr_parser.specs.declared.word.Head.{Head}
 use Rattle.rr_parser.specs.declared.word.Sign.{Sign}
 use Rattle.rr_parser.specs.declared.word.Sign.TheVariants as signs
@@ -21,8 +22,10 @@ use Rattle.rr_parser.specs.declared.word.Part.TheVariants as parts
 use Rattle.rr_parser.specs.Places.{Place, Look, first_as, word, at, next}
 use Rattle.rr_parser.specs.Grammar.Chains.{Chain, one_of, and_one}
 use Rattle.rr_parser.specs.Grammar.Nesting.{Nested}
+use Rattle.rr_parser.specs.Grammar.Fences.{Taking, within_head}
 use Rattle.rr_parser.specs.declared.variables.Variable.{Variable}
 use Rattle.rr_parser.specs.Grammar.Names.{variable_of, local_tree, with_local, headed, command}
+use Rattle.rr_parser.specs.Grammar.Operands.{Blocked}
 use Rattle.rr_parser.specs.Grammar.Operators.{Ternary}
 
 -- what is assigned to
@@ -161,8 +164,12 @@ pub data Commanded (N : Nested) : Place → List Tree → Place → Type 0 where
   by_arguments : {s z : Place} {l : List Tree} → Members N listings.Command s l z → Commanded N s l z
   by_command : {s m z : Place} {x : Head} {t : Tree} → at (command s.known) s ≡ Some (x, m) → N.part parts.Command s t z → Commanded N s (t ∷ []) z
 
+-- the same, where the command gets a `do` block and no call in it does
+abbrev pub Arguments : Nested → Head → Place → List Tree → Place → Type 0
+Arguments N x m = Taking (within_head x m.known.takes_do) (Commanded N) m
+
 pub data Command (N : Nested) : Place → Tree → Place → Type 0 where
-  a_command : {s m z : Place} {x : Head} {l : List Tree} → at (command s.known) s ≡ Some (x, m) → Commanded N m l z → Command N s (headed x l) z
+  a_command : {s m n z : Place} {x : Head} {l : List Tree} {t : Tree} → at (command s.known) s ≡ Some (x, m) → Arguments N x m l n → Blocked N (behinds.Command x) (headed x l) n t z → Command N s t z
 
 pub data Phrase (N : Nested) : Place → Tree → Place → Type 0 where
   by_name : {s z : Place} {t : Tree} → Command N s t z → Phrase N s t z

@@ -1,11 +1,12 @@
 -- Choices and loops.
-use Rattle.std.specs.Prelude.{◌≡◌, List, [], ◌∷◌, Bool, true, Option, Some, None}
+use Rattle.std.specs.Prelude.{◌≡◌, List, [], ◌∷◌, Bool, true, false, Option, Some, None}
 use Rattle.rr_tree.specs.Tree.{Tree, nil, choose, repeat}
 use Rattle.rr_parser.specs.declared.word.WordKind.TheVariants as kind
 use Rattle.rr_parser.specs.declared.word.Word.{Word}
 use Rattle.rr_parser.specs.Places.{Place, Look, word, at, next, separators}
 use Rattle.rr_parser.specs.Grammar.Chains.{Chain, one_of, and_one}
 use Rattle.rr_parser.specs.Grammar.Nesting.{Nested}
+use Rattle.rr_parser.specs.Grammar.Fences.{Taking}
 use Rattle.rr_parser.specs.Grammar.Names.{with_loop}
 use Rattle.rr_parser.specs.Grammar.Sequences.{Expression, Statements}
 
@@ -59,8 +60,9 @@ unless_chosen b e = choose b.0 e b.1
 pub data Unless (N : Nested) : Place → Tree → Place → Type 0 where
   an_unless : {s m n z : Place} {b : Tree × Tree} {e : Tree} → Branch N s b m → Otherwise N m e n → next n ≡ Some (kind.End, z) → Unless N s (unless_chosen b e) z
 
+-- The word `do` behind its condition is the loop's.
 pub data Loop (N : Nested) (until : Bool) : Place → Tree → Place → Type 0 where
-  a_loop : {s m n o z : Place} {c t : Tree} {u : Unit {0}} → Expression N s c m → at loops m ≡ Some (u, n) → Statements N n t o → next o ≡ Some (kind.End, z) → Loop N until s (repeat until c t) z
+  a_loop : {s m n o z : Place} {c t : Tree} {u : Unit {0}} → Taking false (Expression N) s c m → at loops m ≡ Some (u, n) → Statements N n t o → next o ≡ Some (kind.End, z) → Loop N until s (repeat until c t) z
 
 abbrev pub looping : Place → Place
 looping s = record { known = with_loop true s.known; rest = s.rest }

@@ -37,7 +37,7 @@ formals ws = behind_bracket ws (word kind.Open ws)
 
 -- the scope of a method, which sees no variables outside and has none yet, and in which no jump but `return` may stand
 abbrev pub apart : Known → Known
-apart k = record { locals = []; level = 0; count = 0; begun = k.begun + 1; in_loop = false; in_method = true }
+apart k = record { locals = []; level = 0; count = 0; begun = k.begun + 1; in_loop = false; in_method = true; takes_do = true }
 
 -- the place as the first one of a method with these parameters
 abbrev pub defined : List Sym → Place → Place
@@ -45,7 +45,7 @@ defined xs s = record { known = with_parameters xs (apart s.known); rest = s.res
 
 -- Behind a method that was begun at s all is known that was known there.
 abbrev pub rejoined : Known → Known → Known
-rejoined k n = record { locals = k.locals; level = k.level; count = k.count; begun = n.begun; in_loop = k.in_loop; in_method = k.in_method }
+rejoined k n = record { locals = k.locals; level = k.level; count = k.count; begun = n.begun; in_loop = k.in_loop; in_method = k.in_method; takes_do = k.takes_do }
 
 abbrev pub rejoining : Place → Place → Place
 rejoining s n = record { known = rejoined s.known n.known; rest = n.rest }

@@ -44,7 +44,7 @@ local_tree x v = local v.depth v.slot x.0
 -- a name that is no variable yet becomes one of the place's own scope and gets the next number there
 abbrev pub with_variable : Known → Sym → Option Local → Known
 with_variable k x (Some l) = k
-with_variable k x None = record { locals = k.locals ++ record { name = x; level = k.level; slot = k.count } ∷ []; level = k.level; count = k.count + 1; begun = k.begun; in_loop = k.in_loop; in_method = k.in_method }
+with_variable k x None = record { locals = k.locals ++ record { name = x; level = k.level; slot = k.count } ∷ []; level = k.level; count = k.count + 1; begun = k.begun; in_loop = k.in_loop; in_method = k.in_method; takes_do = k.takes_do }
 
 -- the same place, where the name is a local variable
 abbrev pub with_local : Sym → Place → Place
@@ -52,7 +52,7 @@ with_local x s = record { known = with_variable s.known x (find x.0 s.known.loca
 
 -- the same, in a loop or not
 abbrev pub with_loop : Bool → Known → Known
-with_loop b k = record { locals = k.locals; level = k.level; count = k.count; begun = k.begun; in_loop = b; in_method = k.in_method }
+with_loop b k = record { locals = k.locals; level = k.level; count = k.count; begun = k.begun; in_loop = b; in_method = k.in_method; takes_do = k.takes_do }
 
 abbrev pub name_of_kind : WordKind → Option Sym
 name_of_kind (kind.Name x marked) = Some x

@@ -11,10 +11,14 @@ use Rattle.rr_parser.specs.declared.word.Part.TheVariants as parts
 use Rattle.rr_parser.specs.declared.word.Tail.{Tail}
 use Rattle.rr_parser.specs.declared.word.Tail.TheVariants as tails
 use Rattle.rr_parser.specs.declared.word.Word.{Word}
+use Rattle.rr_parser.specs.declared.word.Behind.{Behind}
+use Rattle.rr_parser.specs.declared.word.Behind.TheVariants as behinds
+use Rattle.rr_parser.specs.declared.word.Fence.{Fence}
 use Rattle.rr_tree.specs.declared.node.Path.TheVariants as paths
 use Rattle.rr_parser.specs.Places.{Place, Look, where_true, is_kind, word, tight_as, at, next}
 use Rattle.rr_parser.specs.Grammar.Chains.{Trail}
 use Rattle.rr_parser.specs.Grammar.Nesting.{Nested}
+use Rattle.rr_parser.specs.Grammar.Fences.{opened}
 use Rattle.rr_parser.specs.Grammar.Names.{is_local, variable_of, local_tree, is_allowed, jump_tree, begins_arguments, passed, passed_bare, name, bracket, begins_operands}
 
 -- ---- integers
@@ -64,24 +68,21 @@ construct_of kind.Unless = Some parts.Unless
 construct_of (kind.Loop until) = Some (parts.Loop until)
 construct_of _ = None
 
-abbrev pub brace : Look (Unit {0})
-brace = word kind.OpenBrace
-
--- a call, with the block that stands behind it
-pub data Blocked (N : Nested) (c : Tree) : Place → Tree → Place → Type 0 where
-  no_block : {s : Place} → at brace s ≡ None → Blocked N c s c s
-  a_block : {s m z : Place} {u : Unit {0}} {b : Tree} → at brace s ≡ Some (u, m) → N.part parts.Block m b z → Blocked N c s (with_block c b) z
+-- a call or a command, with the block that stands behind it
+pub data Blocked (N : Nested) (q : Behind) (c : Tree) : Place → Tree → Place → Type 0 where
+  no_block : {s : Place} → opened q s ≡ None → Blocked N q c s c s
+  a_block : {s m z : Place} {f : Fence} {b : Tree} → opened q s ≡ Some (f, m) → N.part (parts.Block f) m b z → Blocked N q c s (with_block c b) z
 
 pub data Primary (N : Nested) : Place → Tree → Place → Type 0 where
   a_literal : {s z : Place} {k : WordKind} {t : Tree} → next s ≡ Some (k, z) → literal_of k ≡ Some t → Primary N s t z
   a_negative : {s m z : Place} {n : ℕ} → next s ≡ Some (kind.Minus, m) → at joined m ≡ Some (n, z) → fits_below n ≡ true → Primary N s (int (negated n)) z
-  a_local : {s z : Place} {x : Sym} → at name s ≡ Some (x, z) → at bracket z ≡ None → at brace z ≡ None → is_local x z ≡ true → Primary N s (local_tree x (variable_of x z)) z
+  a_local : {s z : Place} {x : Sym} → at name s ≡ Some (x, z) → at bracket z ≡ None → opened behinds.Call z ≡ None → is_local x z ≡ true → Primary N s (local_tree x (variable_of x z)) z
   -- a call with no arguments
-  a_bare_call : {s z : Place} {x : Sym} → at name s ≡ Some (x, z) → at bracket z ≡ None → at brace z ≡ None → is_local x z ≡ false → begins_operands z.rest ≡ false → Primary N s (bare x.0) z
+  a_bare_call : {s z : Place} {x : Sym} → at name s ≡ Some (x, z) → at bracket z ≡ None → opened behinds.Call z ≡ None → is_local x z ≡ false → begins_operands z.rest ≡ false → Primary N s (bare x.0) z
   -- a call with arguments in brackets
-  a_call : {s m n o z : Place} {x : Sym} {u : Unit {0}} {l : List Tree} {t : Tree} → at name s ≡ Some (x, m) → at bracket m ≡ Some (u, n) → N.bracketed n l o → Blocked N (call x.0 (listed l)) o t z → Primary N s t z
+  a_call : {s m n o z : Place} {x : Sym} {u : Unit {0}} {l : List Tree} {t : Tree} → at name s ≡ Some (x, m) → at bracket m ≡ Some (u, n) → N.bracketed n l o → Blocked N behinds.Call (call x.0 (listed l)) o t z → Primary N s t z
   -- a call with a block alone
-  a_block_call : {s m n z : Place} {x : Sym} {u : Unit {0}} {b : Tree} → at name s ≡ Some (x, m) → at bracket m ≡ None → at brace m ≡ Some (u, n) → N.part parts.Block n b z → Primary N s (with_block (call x.0 (listed [])) b) z
+  a_block_call : {s m n z : Place} {x : Sym} {f : Fence} {b : Tree} → at name s ≡ Some (x, m) → at bracket m ≡ None → opened behinds.Call m ≡ Some (f, n) → N.part (parts.Block f) n b z → Primary N s (with_block (call x.0 (listed [])) b) z
   -- a jump without a value
   a_jump : {s z : Place} {j : Jump} → next s ≡ Some (kind.Jump j, z) → is_allowed j z.known ≡ true → begins_arguments z.rest ≡ false → Primary N s (jump_tree j nil) z
   -- `yield` or `super` alone, in a method
@@ -117,8 +118,8 @@ tail ws = behind_dot ws (word kind.Dot ws)
 
 -- what an operand and what follows it make
 pub data Tailed (N : Nested) : Tail → Tree → Place → Tree → Place → Type 0 where
-  a_send : {s z : Place} {x : Sym} {r t : Tree} → Blocked N (send r x.0 (listed [])) s t z → Tailed N (tails.Send x) r s t z
-  a_sent_call : {s m z : Place} {x : Sym} {r t : Tree} {l : List Tree} → N.bracketed s l m → Blocked N (send r x.0 (listed l)) m t z → Tailed N (tails.Call x) r s t z
+  a_send : {s z : Place} {x : Sym} {r t : Tree} → Blocked N behinds.Call (send r x.0 (listed [])) s t z → Tailed N (tails.Send x) r s t z
+  a_sent_call : {s m z : Place} {x : Sym} {r t : Tree} {l : List Tree} → N.bracketed s l m → Blocked N behinds.Call (send r x.0 (listed l)) m t z → Tailed N (tails.Call x) r s t z
   an_index : {s z : Place} {r i : Tree} → N.part parts.Index s i z → Tailed N tails.Index r s (index r i) z
 
 abbrev pub Postfix : Nested → Place → Tree → Place → Type 0

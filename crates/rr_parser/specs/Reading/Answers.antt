@@ -1,8 +1,9 @@
 -- What reading answers, and reading one thing after another.
-use Rattle.std.specs.Prelude.{ℕ, zero, suc, length, Option, Some, None, Result, Ok, Err}
+use Rattle.std.specs.Prelude.{ℕ, zero, suc, length, Bool, true, false, Option, Some, None, Result, Ok, Err}
 use Rattle.rr_tree.specs.Tree.{Tree}
 use Rattle.rr_parser.specs.declared.word.WordKind.{WordKind}
 use Rattle.rr_parser.specs.Places.{Place, Look, word, at}
+use Rattle.rr_parser.specs.Grammar.Fences.{taking, taking_as}
 
 -- why nothing is read: no tree is spelled, or it nests too deep
 pub data Refused : Type 0 where
@@ -44,6 +45,14 @@ on_seen f p (Some x) = built f (p x.1)
 -- what was read, what is seen behind it, and what p reads there
 abbrev pub across : {A B C : Type 0} → (A → B → C) → Look (Unit {0}) → Parse B → Answer A → Answer C
 across f look p r = r >>= λ a. on_seen (f a.0) p (at look a.1)
+
+-- what p reads where calls take the word `do`, or not
+abbrev pub taking_of : {A : Type 0} → Bool → Parse A → Parse A
+taking_of b p s = p (taking b s) >>= λ x. Ok (x.0, taking_as s x.1)
+
+abbrev pub enclosed_of : {A : Type 0} → Bool → Parse A → Parse A
+enclosed_of true p = taking_of true p
+enclosed_of false p = p
 
 -- ---- chains
 

@@ -5,6 +5,7 @@ use Rattle.rr_tree.specs.Tree.{Tree, array, hash, symbol, pair, listed}
 use Rattle.rr_parser.specs.declared.word.Part.TheVariants as parts
 use Rattle.rr_parser.specs.declared.word.WordKind.TheVariants as kind
 use Rattle.rr_parser.specs.declared.word.Aim.{Aim}
+use Rattle.rr_parser.specs.declared.word.Behind.TheVariants as behinds
 use Rattle.rr_parser.specs.declared.word.Head.{Head}
 use Rattle.rr_parser.specs.declared.word.Listed.{Listed}
 use Rattle.rr_parser.specs.declared.word.Listed.TheVariants as listings
@@ -12,9 +13,11 @@ use Rattle.rr_parser.specs.declared.word.Word.{Word}
 use Rattle.rr_parser.specs.Places.{Place, Look, unless, word, at}
 use Rattle.rr_parser.specs.Grammar.Chains.{one_of, and_one}
 use Rattle.rr_parser.specs.Grammar.Names.{headed, command}
+use Rattle.rr_parser.specs.Grammar.Fences.{within_head}
 use Rattle.rr_parser.specs.Grammar.Calls.{target, with_target, assigned_to, label, comma, closing, last}
-use Rattle.rr_parser.specs.Reading.Answers.{◌>>=◌, wrong, Answer, Parse, built, ended_by, closed, across, chain}
+use Rattle.rr_parser.specs.Reading.Answers.{◌>>=◌, wrong, Answer, Parse, built, ended_by, closed, across, taking_of, chain}
 use Rattle.rr_parser.specs.Reading.Nesting.{Readers}
+use Rattle.rr_parser.specs.Reading.Operands.{then_blocked}
 use Rattle.rr_parser.specs.Reading.Operators.{ternary_of}
 
 abbrev pub assigned_or : Readers → Bool → Parse Tree → Place → Option (Aim × Place) → Answer Tree
@@ -74,19 +77,23 @@ commanded_or N s (Some x) = built one_of (N.part parts.Command s)
 unfoldable pub commanded_of : Readers → Parse (List Tree)
 commanded_of N s = commanded_or N s (at (command s.known) s)
 
-abbrev pub headed_of : Head → Answer (List Tree) → Answer Tree
-headed_of x r = built (headed x) r
+abbrev pub arguments_of : Readers → Head → Parse (List Tree)
+arguments_of N x m = taking_of (within_head x m.known.takes_do) (commanded_of N) m
+
+-- what stands behind the beginning of a command
+unfoldable pub headed_of : Readers → Head → Parse Tree
+headed_of N x m = then_blocked N (behinds.Command x) (built (headed x) (arguments_of N x m))
 
 abbrev pub command_or : Readers → Option (Head × Place) → Answer Tree
 command_or N None = Err wrong
-command_or N (Some x) = headed_of x.0 (commanded_of N x.1)
+command_or N (Some x) = headed_of N x.0 x.1
 
 unfoldable pub command_of : Readers → Parse Tree
 command_of N s = command_or N (at (command s.known) s)
 
 abbrev pub phrase_or : Readers → Place → Option (Head × Place) → Answer Tree
 phrase_or N s None = ternary_of N s
-phrase_or N s (Some x) = headed_of x.0 (commanded_of N x.1)
+phrase_or N s (Some x) = headed_of N x.0 x.1
 
 unfoldable pub phrase_of : Readers → Parse Tree
 phrase_of N s = phrase_or N s (at (command s.known) s)

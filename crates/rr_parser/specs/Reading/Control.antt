@@ -1,11 +1,11 @@
 -- Reading choices and loops.
-use Rattle.std.specs.Prelude.{List, Bool, Option, Some, None, Ok}
+use Rattle.std.specs.Prelude.{List, Bool, false, Option, Some, None, Ok}
 use Rattle.rr_tree.specs.Tree.{Tree, nil, repeat}
 use Rattle.rr_parser.specs.declared.word.WordKind.TheVariants as kind
 use Rattle.rr_parser.specs.Places.{Place, word, at}
 use Rattle.rr_parser.specs.Grammar.Chains.{one_of, and_one}
 use Rattle.rr_parser.specs.Grammar.Control.{thens, loops, elsif, chosen, unless_chosen, looping, outside_loop}
-use Rattle.rr_parser.specs.Reading.Answers.{◌>>=◌, Answer, Parse, built, closed, across, chain}
+use Rattle.rr_parser.specs.Reading.Answers.{◌>>=◌, Answer, Parse, built, closed, across, taking_of, chain}
 use Rattle.rr_parser.specs.Reading.Nesting.{Readers}
 use Rattle.rr_parser.specs.Reading.Sequences.{expression_of, statements_of}
 
@@ -36,7 +36,7 @@ unfoldable pub unless_of : Readers → Parse Tree
 unless_of N s = ended N unless_chosen (branch_of N s)
 
 unfoldable pub loop_of : Readers → Bool → Parse Tree
-loop_of N until s = closed kind.End (across (repeat until) loops (statements_of N) (expression_of N s))
+loop_of N until s = closed kind.End (across (repeat until) loops (statements_of N) (taking_of false (expression_of N) s))
 
 abbrev pub looped_of : Readers → Bool → Parse Tree
 looped_of N until s = loop_of N until (looping s) >>= λ x. Ok (x.0, outside_loop s x.1)

@@ -5,6 +5,9 @@ use Rattle.rr_tree.specs.Tree.{Tree, nil, int, bare, call, send, with_block, ind
 use Rattle.rr_parser.specs.declared.word.WordKind.{WordKind}
 use Rattle.rr_parser.specs.declared.word.WordKind.TheVariants as kind
 use Rattle.rr_parser.specs.declared.word.Word.{Word}
+use Rattle.rr_parser.specs.declared.word.Behind.{Behind}
+use Rattle.rr_parser.specs.declared.word.Behind.TheVariants as behinds
+use Rattle.rr_parser.specs.declared.word.Fence.{Fence}
 use Rattle.rr_parser.specs.declared.word.Tail.{Tail}
 use Rattle.rr_parser.specs.declared.word.Tail.TheVariants as tails
 use Rattle.rr_parser.specs.declared.word.Jump.{Jump}
@@ -13,7 +16,8 @@ use Rattle.rr_parser.specs.declared.word.Part.{Part}
 use Rattle.rr_parser.specs.declared.word.Part.TheVariants as parts
 use Rattle.rr_parser.specs.Places.{Place, Look, word, at, next}
 use Rattle.rr_parser.specs.Grammar.Names.{is_local, variable_of, local_tree, is_allowed, jump_tree, begins_arguments, passed, passed_bare, bracket, begins_operands}
-use Rattle.rr_parser.specs.Grammar.Operands.{fits, fits_below, negated, joined, literal_of, construct_of, brace, tail}
+use Rattle.rr_parser.specs.Grammar.Fences.{opened}
+use Rattle.rr_parser.specs.Grammar.Operands.{fits, fits_below, negated, joined, literal_of, construct_of, tail}
 use Rattle.rr_parser.specs.Reading.Answers.{◌>>=◌, wrong, Answer, Parse, built, from, trail_on}
 use Rattle.rr_parser.specs.Reading.Nesting.{Readers}
 
@@ -27,27 +31,27 @@ abbrev pub variable_or_call : Sym → Place → Answer Tree
 variable_or_call x m = if is_local x m then Ok (local_tree x (variable_of x m), m) else bare_call x m
 
 -- a call with its block
-abbrev pub block_behind : Readers → Tree → Parse Tree
-block_behind N c s = built (with_block c) (N.part parts.Block s)
+abbrev pub block_behind : Readers → Fence → Tree → Parse Tree
+block_behind N f c s = built (with_block c) (N.part (parts.Block f) s)
 
-abbrev pub blocked_or : Readers → Tree → Place → Option (Unit {0} × Place) → Answer Tree
+abbrev pub blocked_or : Readers → Tree → Place → Option (Fence × Place) → Answer Tree
 blocked_or N c s None = Ok (c, s)
-blocked_or N c s (Some b) = block_behind N c b.1
+blocked_or N c s (Some b) = block_behind N b.0 c b.1
 
-unfoldable pub blocked_of : Readers → Tree → Parse Tree
-blocked_of N c s = blocked_or N c s (at brace s)
+unfoldable pub blocked_of : Readers → Behind → Tree → Parse Tree
+blocked_of N q c s = blocked_or N c s (opened q s)
 
--- what stands behind a call, with the call
-abbrev pub then_blocked : Readers → Answer Tree → Answer Tree
-then_blocked N r = r >>= λ c. blocked_of N c.0 c.1
+-- what stands behind a call or a command, with the call
+abbrev pub then_blocked : Readers → Behind → Answer Tree → Answer Tree
+then_blocked N q r = r >>= λ c. blocked_of N q c.0 c.1
 
-abbrev pub unbracketed_or : Readers → Sym → Place → Option (Unit {0} × Place) → Answer Tree
+abbrev pub unbracketed_or : Readers → Sym → Place → Option (Fence × Place) → Answer Tree
 unbracketed_or N x m None = variable_or_call x m
-unbracketed_or N x m (Some b) = block_behind N (call x.0 (listed [])) b.1
+unbracketed_or N x m (Some b) = block_behind N b.0 (call x.0 (listed [])) b.1
 
 abbrev pub name_or : Readers → Sym → Place → Option (Unit {0} × Place) → Answer Tree
-name_or N x m None = unbracketed_or N x m (at brace m)
-name_or N x m (Some b) = then_blocked N (call_of x (N.bracketed b.1))
+name_or N x m None = unbracketed_or N x m (opened behinds.Call m)
+name_or N x m (Some b) = then_blocked N behinds.Call (call_of x (N.bracketed b.1))
 
 unfoldable pub name_of : Readers → Sym → Parse Tree
 name_of N x m = name_or N x m (at bracket m)
@@ -96,8 +100,8 @@ unfoldable pub primary_of : Readers → Parse Tree
 primary_of N s = primary_in N (next s)
 
 unfoldable pub tailed_of : Readers → Tail → Tree → Parse Tree
-tailed_of N (tails.Send x) r s = blocked_of N (send r x.0 (listed [])) s
-tailed_of N (tails.Call x) r s = then_blocked N (built (λ l. send r x.0 (listed l)) (N.bracketed s))
+tailed_of N (tails.Send x) r s = blocked_of N behinds.Call (send r x.0 (listed [])) s
+tailed_of N (tails.Call x) r s = then_blocked N behinds.Call (built (λ l. send r x.0 (listed l)) (N.bracketed s))
 tailed_of N tails.Index r s = built (index r) (N.part parts.Index s)
 
 unfoldable pub postfix_of : Readers → Parse Tree

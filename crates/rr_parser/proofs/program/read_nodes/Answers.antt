@@ -3,7 +3,7 @@ use Rattle.rr_parser.proofs.Exact.{fails_program}
 use Rattle.rr_parser.proofs.program.read_nodes.Goals as goal
 use Rattle.rr_parser.proofs.Outlines.{none_left, made_program}
 use Rattle.rr_parser.specs.declared.locals.Local.{Local}
-use Rattle.std.proofs.Common.{List, false, ap}
+use Rattle.std.proofs.Common.{List, true, false, ap}
 
 pub returns-in_err-outline : goal.returns-in_err-outline
 returns-in_err-outline c =
@@ -14,6 +14,6 @@ pub returns : goal.returns
 returns c = record {
   tree =
       made_program c.args.depth c.args.words.now _ _ _ _ _ _ _ c.deref.ensures.value
-      (ap (λ (ls : List Local). record { known = record { locals = ls; level = 0; count = 0; begun = 0; in_loop = false; in_method = false }; rest = c.args.words.now }) c.new-2.ensures)
+      (ap (λ (ls : List Local). record { known = record { locals = ls; level = 0; count = 0; begun = 0; in_loop = false; in_method = false; takes_do = true }; rest = c.args.words.now }) c.new-2.ensures)
       c.in_ok-outline.ensures (none_left _ c.if-not-is_empty.ensures) c.in_ok-root.ensures;
 }

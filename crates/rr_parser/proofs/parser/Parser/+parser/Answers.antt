@@ -16,7 +16,7 @@ use Rattle.rr_parser.proofs.Looks.{Steps-row, Steps-another}
 use Rattle.rr_parser.proofs.Shrinking.{Steps-operator, Steps-connective, Steps-modifier, Steps-elsif, shrinks_nested}
 use Rattle.rr_parser.proofs.Making.{stable_nodes, stable_pairs, goes_ends, goes_fails, goes_smaller, list_on, operators_on, nested_part, nested_bracketed, gives_outside}
 use Rattle.rr_parser.proofs.Choosing.{made_alternatives, made_pair, made_branch, made_loop, made_choice, made_unless}
-use Rattle.rr_parser.proofs.Calling.{gives_sent, made_behind, made_element, made_arrow, trail_fails, trail_smaller, trail_goes, trail_ends}
+use Rattle.rr_parser.proofs.Calling.{gives_sent, gives_headed, made_behind, made_element, made_arrow, trail_fails, trail_smaller, trail_goes, trail_ends}
 use Rattle.rr_parser.proofs.parser.Parser.+parser.Goals as goal
 
 pub members-returns-in_err-next : goal.members-returns-in_err-next
@@ -151,8 +151,8 @@ part-returns t c =
 
 pub inner_arguments-returns : goal.inner_arguments-returns
 inner_arguments-returns t c =
-    subst (λ (p : Parse (List Tree)). GivesList c.args.self.now c.bracketed.new.self c.bracketed.result (p (place c.args.self.now c.args.words.now)))
-    (sym (nested_bracketed c.args.inside c.args.depth (omega arith))) c.bracketed.ensures
+    subst (λ (p : Parse (List Tree)). GivesList c.args.self.now c.call_arguments.new.self c.call_arguments.result (p (place c.args.self.now c.args.words.now)))
+    (sym (nested_bracketed c.args.inside c.args.depth (omega arith))) c.call_arguments.ensures
 
 pub alternatives-returns : goal.alternatives-returns
 alternatives-returns t c =
@@ -176,7 +176,7 @@ unless-returns-in_ok-put-in-Some t c =
 
 pub repeat-returns : goal.repeat-returns
 repeat-returns t c =
-    made_loop (readers c.args.inside c.args.depth) c.args.until c.args.self.now c.expression.new.self c.statements.new.self c.put.new.self _ _ _ _ _ _ _ _ c.in_ok-condition.ensures c.in-Some.ensures c.in_ok-body.ensures c.in-Some-behind.ensures c.in_ok-put.ensures.puts
+    made_loop (readers c.args.inside c.args.depth) c.args.until c.args.self.now c.condition.new.self c.statements.new.self c.put.new.self _ _ _ _ _ _ _ _ c.in_ok-condition.ensures c.in-Some.ensures c.in_ok-body.ensures c.in-Some-behind.ensures c.in_ok-put.ensures.puts
 
 pub right_side-returns-then-not-inside : goal.right_side-returns-then-not-inside
 right_side-returns-then-not-inside t c = gives_outside c.args.self.now c.value.new.self c.value.result c.args.inside c.args.depth c.args.commands _ c.if-not-inside.true c.value.ensures
@@ -205,8 +205,13 @@ pair-returns t c =
 
 pub block_behind-returns : goal.block_behind-returns
 block_behind-returns t c =
-    made_behind (readers c.args.inside c.args.depth) c.args.self.now c.part.new.self c.put.new.self _ _ _ _ _ c.requires c.in_ok-block.ensures c.in_ok-put.ensures.puts
+    made_behind (readers c.args.inside c.args.depth) c.args.self.now c.part.new.self c.put.new.self _ _ _ _ _ _ c.requires c.in_ok-block.ensures c.in_ok-put.ensures.puts
 
 pub tailed-returns-in_ok-call-in-Call : goal.tailed-returns-in_ok-call-in-Call
 tailed-returns-in_ok-call-in-Call t c =
     gives_sent (readers c.args.inside c.args.depth) c.args.self.now c.inner_arguments.new.self c.put_send-in-Call.new.self c.blocked-in-Call.new.self c.args.tail _ _ _ c.in_ok-items-in-Call.items.items c.deref.result.now _ _ c.blocked-in-Call.result c.in-Call.is c.deref.ensures.value c.requires c.in_ok-items-in-Call.ensures c.in_ok-call-in-Call.ensures c.blocked-in-Call.ensures
+
+pub headed-returns : goal.headed-returns
+headed-returns t c =
+    gives_headed (readers c.args.inside c.args.depth) c.args.self.now c.arguments.new.self c.put_headed.new.self c.blocked.new.self _ c.args.head c.in_ok-items.items.items c.deref.result.now _ _ c.blocked.result c.deref.ensures.value c.in_ok-items.ensures
+    c.in_ok-command.ensures c.blocked.ensures

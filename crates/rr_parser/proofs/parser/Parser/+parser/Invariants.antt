@@ -56,49 +56,49 @@ abbrev pub decreases-bracketed : goal.decreases-bracketed
 decreases-bracketed l = 128 * l.depth + cond l.inside 0 64 + 31
 
 abbrev pub decreases-phrase : goal.decreases-phrase
-decreases-phrase l = 128 * l.depth + cond l.inside 0 64 + 33
+decreases-phrase l = 128 * l.depth + cond l.inside 0 64 + 35
 
 abbrev pub decreases-command : goal.decreases-command
-decreases-command l = 128 * l.depth + cond l.inside 0 64 + 33
+decreases-command l = 128 * l.depth + cond l.inside 0 64 + 35
 
 abbrev pub decreases-negation : goal.decreases-negation
-decreases-negation l = 128 * l.depth + cond l.inside 0 64 + 36
+decreases-negation l = 128 * l.depth + cond l.inside 0 64 + 38
 
 abbrev pub decreases-expression : goal.decreases-expression
-decreases-expression l = 128 * l.depth + cond l.inside 0 64 + 37
+decreases-expression l = 128 * l.depth + cond l.inside 0 64 + 39
 
 abbrev pub decreases-statement : goal.decreases-statement
-decreases-statement l = 128 * l.depth + cond l.inside 0 64 + 38
+decreases-statement l = 128 * l.depth + cond l.inside 0 64 + 40
 
 abbrev pub decreases-rows : goal.decreases-rows
-decreases-rows l = 128 * l.depth + cond l.inside 0 64 + 39
+decreases-rows l = 128 * l.depth + cond l.inside 0 64 + 41
 
 abbrev pub decreases-statements : goal.decreases-statements
-decreases-statements l = 128 * l.depth + cond l.inside 0 64 + 40
+decreases-statements l = 128 * l.depth + cond l.inside 0 64 + 42
 
 abbrev pub decreases-group : goal.decreases-group
-decreases-group l = 128 * l.depth + cond l.inside 0 64 + 41
+decreases-group l = 128 * l.depth + cond l.inside 0 64 + 43
 
 abbrev pub decreases-otherwise : goal.decreases-otherwise
-decreases-otherwise l = 128 * l.depth + cond l.inside 0 64 + 41
+decreases-otherwise l = 128 * l.depth + cond l.inside 0 64 + 43
 
 abbrev pub decreases-branch : goal.decreases-branch
-decreases-branch l = 128 * l.depth + cond l.inside 0 64 + 41
+decreases-branch l = 128 * l.depth + cond l.inside 0 64 + 43
 
 abbrev pub decreases-repeat : goal.decreases-repeat
-decreases-repeat l = 128 * l.depth + cond l.inside 0 64 + 41
+decreases-repeat l = 128 * l.depth + cond l.inside 0 64 + 43
 
 abbrev pub decreases-branches : goal.decreases-branches
-decreases-branches l = 128 * l.depth + cond l.inside 0 64 + 42
+decreases-branches l = 128 * l.depth + cond l.inside 0 64 + 44
 
 abbrev pub decreases-choice : goal.decreases-choice
-decreases-choice l = 128 * l.depth + cond l.inside 0 64 + 43
+decreases-choice l = 128 * l.depth + cond l.inside 0 64 + 45
 
 abbrev pub decreases-unless : goal.decreases-unless
-decreases-unless l = 128 * l.depth + cond l.inside 0 64 + 43
+decreases-unless l = 128 * l.depth + cond l.inside 0 64 + 45
 
 abbrev pub decreases-part_within : goal.decreases-part_within
-decreases-part_within l = 128 * l.depth + cond l.inside 0 64 + 44
+decreases-part_within l = 128 * l.depth + cond l.inside 0 64 + 47
 
 abbrev pub decreases-binary_on : goal.decreases-binary_on
 decreases-binary_on l = 128 * l.depth + cond l.inside 0 64 + (2 * l.level + 8)
@@ -113,10 +113,25 @@ abbrev pub decreases-logical : goal.decreases-logical
 decreases-logical l = 128 * l.depth + cond l.inside 0 64 + (2 * l.level + 20)
 
 abbrev pub decreases-operand : goal.decreases-operand
-decreases-operand l = 128 * l.depth + cond l.inside 0 64 + cond l.commands 34 26
+decreases-operand l = 128 * l.depth + cond l.inside 0 64 + cond l.commands 36 26
 
 abbrev pub decreases-value : goal.decreases-value
-decreases-value l = 128 * l.depth + cond l.inside 0 64 + cond l.commands 35 27
+decreases-value l = 128 * l.depth + cond l.inside 0 64 + cond l.commands 37 27
+
+abbrev pub decreases-headed : goal.decreases-headed
+decreases-headed l = 128 * l.depth + cond l.inside 0 64 + 34
+
+abbrev pub decreases-arguments : goal.decreases-arguments
+decreases-arguments l = 128 * l.depth + cond l.inside 0 64 + 33
+
+abbrev pub decreases-condition : goal.decreases-condition
+decreases-condition l = 128 * l.depth + cond l.inside 0 64 + 40
+
+abbrev pub decreases-form : goal.decreases-form
+decreases-form l = 128 * l.depth + cond l.inside 0 64 + 46
+
+abbrev pub decreases-call_arguments : goal.decreases-call_arguments
+decreases-call_arguments l = 128 * l.depth + cond l.inside 0 64 + 32
 
 abbrev pub invariant-members-loop-after : goal.invariant-members-loop-after
 invariant-members-loop-after l =
@@ -219,13 +234,13 @@ abbrev pub decreases-blocked : goal.decreases-blocked
 decreases-blocked l = 128 * l.depth + cond l.inside 0 64 + 2
 
 abbrev pub decreases-block : goal.decreases-block
-decreases-block l = 128 * l.depth + cond l.inside 0 64 + 41
+decreases-block l = 128 * l.depth + cond l.inside 0 64 + 43
 
 abbrev pub decreases-looped : goal.decreases-looped
-decreases-looped l = 128 * l.depth + cond l.inside 0 64 + 42
+decreases-looped l = 128 * l.depth + cond l.inside 0 64 + 44
 
 abbrev pub decreases-passing : goal.decreases-passing
 decreases-passing l = 128 * l.depth + cond l.inside 0 64 + 3
 
 abbrev pub decreases-definition : goal.decreases-definition
-decreases-definition l = 128 * l.depth + cond l.inside 0 64 + 41
+decreases-definition l = 128 * l.depth + cond l.inside 0 64 + 43
