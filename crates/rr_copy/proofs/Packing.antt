@@ -26,7 +26,8 @@ use Rattle.rr_share.proofs.Searching.{none_in}
 use Rattle.rr_copy.specs.Contents.{packed_of, IsMessage, IsCarriedFrom}
 use Rattle.rr_copy.proofs.Contained.{ref_inside, message_at, message_sealed}
 use Rattle.rr_share.proofs.Places.{none_distinct, one_place}
-use Rattle.rr_share.proofs.Zips.{zip_at, zip_back, zip_length}
+use Rattle.rr_share.proofs.Zips.{zip_length}
+use Rattle.rr_space.proofs.Zips.{zip_at, zip_back}
 use Rattle.rr_copy.proofs.Pairings.{paired_objects_alike}
 
 -- slots without repeats, each of which is there, are at most as many as there are

@@ -15,7 +15,7 @@ use Rattle.rr_space.proofs.Frames.{owner_cases, owner_same, owner_refl, object_s
 use Rattle.rr_space.proofs.Inside.{alike_inside}
 use Rattle.rr_space.proofs.Remaking.{remaking_is_a_step}
 use Rattle.rr_space.proofs.Renaming.{contains_at, mapped_at, map_at}
-use Rattle.rr_space.proofs.Shares.{has_cases}
+use Rattle.rr_space.proofs.Keeping.{list_has}
 use Rattle.rr_space.proofs.Sounds.{gets, raw_in, sound_is_sealed, sound_is_shut, joined_in}
 use Rattle.rr_space.proofs.Spaces.{spaces_are_inside}
 use Rattle.rr_share.proofs.Searching.{at_contains}
@@ -159,9 +159,9 @@ module _ (r : ℕ) (v : Value) (d : Detached) (was now : Table) (old new : Layou
   now_sound : IsSound mid now.slots
   now_sound = record {
     within = λ i o l x at has. ⊎_elim (λ w. absurd (gone i o l x at has w))
-        (λ no. inside x ((R.sound (Space r) was.slots T.space).within i o l x (sym (T.emptied.slots.others i no) ∙ at) has)) (has_cases d.home.slots i);
+        (λ no. inside x ((R.sound (Space r) was.slots T.space).within i o l x (sym (T.emptied.slots.others i no) ∙ at) has)) (list_has d.home.slots i);
     led = λ i c p at. ⊎_elim (λ w. absurd (here_led emptied c p (same_Some (Here emptied) (Led c p) (sym (T.emptied.slots.named i w) ∙ at))))
-        (λ no. place_mid c p ((R.sound (Space r) was.slots T.space).led i c p (sym (T.emptied.slots.others i no) ∙ at))) (has_cases d.home.slots i);
+        (λ no. place_mid c p ((R.sound (Space r) was.slots T.space).led i c p (sym (T.emptied.slots.others i no) ∙ at))) (list_has d.home.slots i);
   }
 
   shelled : Remakes (Space r) 0 was.slots now.slots mid new
@@ -171,8 +171,8 @@ module _ (r : ℕ) (v : Value) (d : Detached) (was now : Table) (old new : Layou
     rest = λ h differ. by_hand h differ (owner_cases h (Hand r));
     unshared = λ c e. shared_space c r (sym e);
     size = let s = T.emptied.slots.size in omega (arith, s);
-    kept_here = λ i o at. ⊎_elim (λ has. (emptied, T.emptied.slots.named i has)) (λ no. (o, T.emptied.slots.others i no ∙ at)) (has_cases d.home.slots i);
-    kept_led = λ i c p at. ⊎_elim (λ has. absurd (not_mine i c p has at)) (λ no. T.emptied.slots.others i no ∙ at) (has_cases d.home.slots i);
+    kept_here = λ i o at. ⊎_elim (λ has. (emptied, T.emptied.slots.named i has)) (λ no. (o, T.emptied.slots.others i no ∙ at)) (list_has d.home.slots i);
+    kept_led = λ i c p at. ⊎_elim (λ has. absurd (not_mine i c p has at)) (λ no. T.emptied.slots.others i no ∙ at) (list_has d.home.slots i);
     fresh_here = λ i c p at. let lt = slice_get_within now.slots i (Led c p) at in let s = T.emptied.slots.size in omega (arith, lt, s);
     sound = now_sound;
   }

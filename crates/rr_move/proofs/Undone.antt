@@ -7,14 +7,14 @@ use Rattle.std.proofs.lemmas.Option.{same_Some, slice_get_within, slice_get-get_
 use Rattle.rr_space.specs.Graph.{Name, Own, Published, Value, Plain, At, Label, Object, IsAt}
 use Rattle.rr_space.specs.Tables.{Slot, Here, Led, Table, renamed, renamed_triple, renamed_object}
 use Rattle.rr_space.specs.Readings.{Owner, Space, Hand, Shared, owner_eq, Owned, Objects, Naming, Layout, HasPlace, IsInLayout, IsSound, IsReading, name_in, named}
-use Rattle.rr_space.specs.Steps.{Remakes, IsRemade, IsNamed, IsDropped, IsUndone, name_beside, old_name}
+use Rattle.rr_space.specs.Steps.{Remakes, IsRemade, IsNamed, IsDropped, name_beside, old_name}
 use Rattle.rr_space.specs.Moves.{home_name, here_home}
 use Rattle.rr_space.specs.Views.{emptied}
 use Rattle.rr_space.proofs.Drops.{dropping_is_a_step}
 use Rattle.rr_space.proofs.Frames.{owner_cases, owner_same, owner_refl, object_same}
 use Rattle.rr_space.proofs.Remaking.{remaking_is_a_step}
 use Rattle.rr_space.proofs.Renaming.{contains_at, at_contains, mapped_at, map_at, contains_map, contains_map_back}
-use Rattle.rr_space.proofs.Shares.{has_cases}
+use Rattle.rr_space.proofs.Keeping.{list_has}
 use Rattle.rr_space.proofs.Sounds.{gets}
 use Rattle.rr_move.specs.Laws.{PutsBack, PuttingBackUndoes}
 use Rattle.rr_move.specs.declared.home.Detached.{Detached}
@@ -127,11 +127,11 @@ module _ (r : ℕ) (d : Detached) (now new : Table) (old after : Layout) (names 
     within = λ i o l x at has. ⊎_elim
         (λ w. let b = returned i w in returned_inside b.0 o b.1 l x b.2 (same_here (renamed_object (home_name slots) b.1) o (same_Some (here_home slots b.1) (Here o) (sym b.3 ∙ at))) has)
         (λ out. inside x ((R.sound (Space r) now.slots P.space).within i o l x (sym (P.back.slots.others i out) ∙ at) has))
-        (has_cases slots i);
+        (list_has slots i);
     led = λ i c p at. ⊎_elim
         (λ w. let b = returned i w in absurd (here_led (renamed_object (home_name slots) b.1) c p (same_Some (here_home slots b.1) (Led c p) (sym b.3 ∙ at))))
         (λ out. place_mid c p ((R.sound (Space r) now.slots P.space).led i c p (sym (P.back.slots.others i out) ∙ at)))
-        (has_cases slots i);
+        (list_has slots i);
   }
 
   after_mid : (h : Owner) → (h ≡ Space r → ⊥) → ((h ≡ Hand r) ⊎ (h ≡ Hand r → ⊥)) → after h ≡ mid h
@@ -145,8 +145,8 @@ module _ (r : ℕ) (d : Detached) (now new : Table) (old after : Layout) (names 
     rest = λ h differ. after_mid h differ (owner_cases h (Hand r));
     unshared = λ c e. shared_space c r (sym e);
     size = let s = P.back.slots.size in omega (arith, s);
-    kept_here = λ i o at. ⊎_elim (λ w. let b = returned i w in (renamed_object (home_name slots) b.1, b.3)) (λ out. (o, P.back.slots.others i out ∙ at)) (has_cases slots i);
-    kept_led = λ i c p at. ⊎_elim (λ w. absurd (shell_led i c p w at)) (λ out. P.back.slots.others i out ∙ at) (has_cases slots i);
+    kept_here = λ i o at. ⊎_elim (λ w. let b = returned i w in (renamed_object (home_name slots) b.1, b.3)) (λ out. (o, P.back.slots.others i out ∙ at)) (list_has slots i);
+    kept_led = λ i c p at. ⊎_elim (λ w. absurd (shell_led i c p w at)) (λ out. P.back.slots.others i out ∙ at) (list_has slots i);
     fresh_here = λ i c p at. let lt = slice_get_within new.slots i (Led c p) at in let s = P.back.slots.size in omega (arith, lt, s);
     sound = new_sound;
   }

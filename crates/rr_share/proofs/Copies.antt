@@ -20,7 +20,8 @@ use Rattle.rr_share.specs.Plans.{IsSealedFrom}
 use Rattle.rr_share.proofs.Searching.{contains_at, none_in}
 use Rattle.rr_share.proofs.Places.{one_place}
 use Rattle.rr_share.proofs.Solids.{graph_here}
-use Rattle.rr_share.proofs.Zips.{zip_at, zip_length}
+use Rattle.rr_share.proofs.Zips.{zip_length}
+use Rattle.rr_space.proofs.Zips.{zip_at}
 
 pub take_next : {A : Type 0} (xs ys : List A) (k : ℕ) (x : A) → slice_get xs k ≡ Some x → ys ≡ take k xs → ys ++ x ∷ [] ≡ take (k + 1) xs
 take_next xs ys k x at is =

@@ -1,30 +1,12 @@
 -- Two graphs in which paired objects match, published objects being leaves, are alike.
-use Rattle.std.proofs.Common.{◌≡◌, ℕ, zero, suc, List, [], ◌∷◌, slice_get, Some, Contains, sym, ap, ◌∙◌, subst, refl}
-use Rattle.std.proofs.lemmas.Option.{slice_get_within, get_or_from_slice_get, slice_get-get_or, same_Some, none-some}
-use Rattle.std.specs.List.{AllZip}
+use Rattle.std.proofs.Common.{◌≡◌, ℕ, List, [], ◌∷◌, Some, Contains, sym, ◌∙◌, subst, refl}
+use Rattle.std.proofs.lemmas.Option.{same_Some}
 use Rattle.rr_space.specs.Graph.{Graph, Name, Own, Published, Value, Plain, At, Label, Object, Leads, Reaches, IsSolid, IsShareable, IsPart}
 use Rattle.rr_space.specs.Graph.{SameValue, SameTriple, Matches, Alike, IsAt}
 use Rattle.rr_space.specs.Tables.{IsSealed, IsPublished}
 use Rattle.rr_space.specs.Laws.{CopiesAreAlike}
-
-contains_at : {X : Type 0} (xs : List X) (i : ℕ) (x : X) → slice_get xs i ≡ Some x → Contains xs x
-contains_at xs i x e = (i, slice_get_within xs i x e, get_or_from_slice_get xs i x x e)
-
-at_contains : {X : Type 0} (xs : List X) (x : X) → Contains xs x → (i : ℕ) × (slice_get xs i ≡ Some x)
-at_contains xs x (i, lt, e) = (i, slice_get-get_or xs i x lt ∙ ap Some e)
-
-zip_at : {A B : Type 0} (R : A → B → Type 0) (xs : List A) (ys : List B) (i : ℕ) (a : A) → AllZip R xs ys → slice_get xs i ≡ Some a → (b : B) × (slice_get ys i ≡ Some b) × R a b
-zip_at R [] ys i a z e = absurd (none-some a e)
-zip_at R (x ∷ xs) [] i a z e = absurd z
-zip_at R (x ∷ xs) (y ∷ ys) zero a z e = (y, refl, subst (λ t. R t y) (same_Some x a e) z.0)
-zip_at R (x ∷ xs) (y ∷ ys) (suc i) a z e = zip_at R xs ys i a z.1 e
-
-pub zip_back : {A B : Type 0} (R : A → B → Type 0) (xs : List A) (ys : List B) (i : ℕ) (b : B) → AllZip R xs ys → slice_get ys i ≡ Some b → (a : A) × (slice_get xs i ≡ Some a) × R a b
-zip_back R [] [] i b z e = absurd (none-some b e)
-zip_back R [] (y ∷ ys) i b z e = absurd z
-zip_back R (x ∷ xs) [] i b z e = absurd z
-zip_back R (x ∷ xs) (y ∷ ys) zero b z e = (x, refl, subst (λ t. R x t) (same_Some y b e) z.0)
-zip_back R (x ∷ xs) (y ∷ ys) (suc i) b z e = zip_back R xs ys i b z.1 e
+use Rattle.rr_space.proofs.Renaming.{contains_at, at_contains}
+use Rattle.rr_space.proofs.Zips.{zip_at, zip_back}
 
 -- no path leads from a published object to a slot
 stays_out : (g : Graph) → IsSealed g → (path : List Label) (x : Value) (n : ℕ) → IsPublished x → Leads g x path (At (Own n)) → ⊥

@@ -9,7 +9,7 @@ use Rattle.rr_space.specs.Lookups.{key_of_frozen, is_text, frozen_text, IsOneEac
 use Rattle.rr_space.specs.Views.{slot_object}
 use Rattle.rr_space.specs.KeyObjects.{slot_key, value_key, HasKey, AreKeysNamed, KeyIsNamed, TextPairIsAdded, ObjectsArrive, CopiesAreNamed}
 use Rattle.rr_space.specs.declared.refer.Ref.TheVariants.{Nil, Truth, Int, Symbol, Class, Ractor, Local, Shared}
-use Rattle.rr_space.proofs.Copies.{zip_back}
+use Rattle.rr_space.proofs.Zips.{zip_back}
 use Rattle.rr_space.proofs.Extending.{get_front, get_seam}
 use Rattle.rr_space.proofs.KeyObjects.{append_keeps, steps, object_is_made, pair_is_added}
 use Rattle.rr_space.proofs.Renaming.{mapped_at, map_at}

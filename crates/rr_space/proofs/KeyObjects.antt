@@ -7,10 +7,7 @@ use Rattle.rr_space.specs.Lookups.{key_of_frozen, is_text}
 use Rattle.rr_space.specs.Views.{emptied, paired_from}
 use Rattle.rr_space.specs.KeyObjects.{slot_key, value_key, HasKey, AreKeysNamed, OtherIsWritten, ValueIsWritten, PairIsAdded, PairIsTaken, ObjectIsFrozen, ObjectIsMade, ObjectIsForwarded, ObjectIsEmptied, ObjectIsPutBack}
 use Rattle.rr_space.proofs.Extending.{get_front, get_seam}
-use Rattle.rr_space.proofs.Keeping.{set_same, set_other}
-
-nat_cases : (a b : ℕ) → (a ≡ b) ⊎ (a ≡ b → ⊥)
-nat_cases a b = grind arith
+use Rattle.rr_space.proofs.Keeping.{set_same, set_other, nat_cases}
 
 last_cases : (a b : ℕ) → a < b + 1 → (a < b) ⊎ (a ≡ b)
 last_cases a b lt = grind arith

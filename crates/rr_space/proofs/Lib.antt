@@ -1,5 +1,6 @@
 pub mod Within
 pub mod Leaves
+pub mod Zips
 pub mod Copies
 pub mod Examples
 pub mod Changes

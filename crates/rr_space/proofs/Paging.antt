@@ -4,7 +4,7 @@ use Rattle.std.proofs.lemmas.List.{get_or-replicate, length-append, length-repli
 use Rattle.std.proofs.lemmas.Option.{none-some, same_Some, slice_get_within, get_or_from_slice_get}
 use Rattle.rr_space.specs.Places.{in_part, place_in, place_of, ArePaged, ArePlaced, Extends, HasPlaces}
 use Rattle.rr_space.proofs.Hands.{append_cases, append_left}
-use Rattle.rr_space.proofs.Keeping.{set_same, set_other}
+use Rattle.rr_space.proofs.Keeping.{set_same, set_other, nat_cases}
 use Rattle.rr_space.proofs.Renaming.{contains_at}
 use Rattle.std.specs.List.{list_any, IsDistinct}
 use Rattle.std.proofs.lemmas.Bool.{eqb-true}
@@ -99,9 +99,6 @@ module _ (pages places places2 : List ℕ) (paged : ArePaged pages places) (more
   set_cases : (p n : ℕ) → slice_get (slice_set pages page number) p ≡ Some n → ((p ≡ page) × (n ≡ number)) ⊎ (slice_get pages p ≡ Some n)
   set_cases p n at = by (let z : (p ≡ page) ⊎ (p ≡ page → ⊥) = nat_cases p page in z)
     where
-      nat_cases : (a b : ℕ) → (a ≡ b) ⊎ (a ≡ b → ⊥)
-      nat_cases a b = grind arith
-
       by : (p ≡ page) ⊎ (p ≡ page → ⊥) → ((p ≡ page) × (n ≡ number)) ⊎ (slice_get pages p ≡ Some n)
       by (inl e) = inl (e, sym (same_Some number n (sym (set_same pages page number (slice_get_within pages page 0 none)) ∙ ap (slice_get (slice_set pages page number)) (sym e) ∙ at)))
       by (inr differ) = inr (sym (set_other pages page p number (λ e. differ (sym e))) ∙ at)

@@ -1,5 +1,5 @@
 -- What is published keeps its names, and only its owner turns.
-use Rattle.std.proofs.Common.{◌≡◌, ℕ, zero, suc, ◌<◌, ◌⊎◌, ⊎_elim, inl, inr, Bool, true, false, nat_eq, eq-eqb, List, [], ◌∷◌, length, map, slice_get, Option, Some, None, get_or, Contains, sym, ap, ◌∙◌, subst, refl, arith, cond}
+use Rattle.std.proofs.Common.{◌≡◌, ℕ, zero, suc, ◌<◌, ⊎_elim, Bool, true, false, nat_eq, eq-eqb, List, [], ◌∷◌, length, map, slice_get, Option, Some, None, get_or, Contains, sym, ap, ◌∙◌, subst, refl, arith, cond}
 use Rattle.std.specs.Prelude.{slice_index}
 use Rattle.std.specs.List.{AllZip}
 use Rattle.std.specs.Option.{option_map}
@@ -15,6 +15,7 @@ use Rattle.rr_space.specs.Steps.{IsPublished, Publishes, IsNamed, PublishingIsTu
 use Rattle.rr_space.proofs.Renaming.{mapped_at, map_at, contains_at, at_contains, contains_map, contains_map_back}
 use Rattle.rr_space.proofs.Frames.{owner_cases, object_same, reads_kept, sound_kept}
 use Rattle.rr_space.proofs.Hands.{set_names, names_of_set, names_of_others, some_back}
+use Rattle.rr_space.proofs.Keeping.{list_has}
 
 abbrev pub has : List ℕ → ℕ → Bool
 has [] n = false
@@ -39,13 +40,6 @@ has_on (x ∷ xs) n (suc i, lt, e) = by (nat_eq n x) refl (has_on xs n (i, omega
     by : (v : Bool) → nat_eq n x ≡ v → has xs n ≡ true → has (x ∷ xs) n ≡ true
     by true p more = ap (λ v. cond v true (has xs n)) p
     by false p more = ap (λ v. cond v true (has xs n)) p ∙ more
-
-pub has_cases : (xs : List ℕ) (n : ℕ) → (Contains xs n) ⊎ (Contains xs n → ⊥)
-has_cases xs n = by (has xs n) refl
-  where
-    by : (v : Bool) → has xs n ≡ v → (Contains xs n) ⊎ (Contains xs n → ⊥)
-    by true p = inl (has_back xs n p)
-    by false p = inr (λ q. let z : true ≡ false = sym (has_on xs n q) ∙ p in cc)
 
 abbrev pub shared_by : ℕ → Owned → Owned
 shared_by c x = record { owner = Shared c; object = x.object }
@@ -196,7 +190,7 @@ module _ (r c : ℕ) (places : List ℕ) (s s2 : List Slot) (os : List Object) (
           ap (λ l. slice_index l i) own ∙ sym (place_name i q.0 q.1) ∙ ap (λ k. slice_index ((set_names names (Shared c) (map (slice_index (names (Space r))) places)) (Shared c)) k) same_p ∙ ap (λ k. slice_index ((set_names names (Shared c) (map (slice_index (names (Space r))) places)) (Shared k)) p) same_c)
           (λ h. let was = sym (P.others i h) ∙ at in let there = (R.sound (Space r) s P.space).led i d p was in
           ap (λ l. slice_index l i) own ∙ rs.led i d p was ∙ ap (λ l. slice_index l p) (sym (kept d there.0 there.2)))
-          (has_cases places i)
+          (list_has places i)
 
   -- a place of the cluster: its slot, its object before, its object now
   pub record Placed (j : ℕ) (p : Object) : Type 0 where
@@ -240,7 +234,7 @@ module _ (r c : ℕ) (places : List ℕ) (s s2 : List Slot) (os : List Object) (
         let lt2 : q.0 < length os = let w = P.count in omega arith in
         subst (λ k. HasPlace new k p) same_c (subst (λ k. HasPlace new c k) same_p (place q.0 lt2)))
         (λ h. places_kept d p ((R.sound (Space r) s P.space).led i d p (sym (P.others i h) ∙ at)))
-        (has_cases places i);
+        (list_has places i);
   }
     where
       by : (x : Value) → IsInLayout old s x → IsInLayout new s2 x
@@ -333,13 +327,13 @@ module _ (r c : ℕ) (places : List ℕ) (s s2 : List Slot) (os : List Object) (
   only_by n y e = ⊎_elim
       (λ h. let q = some_back (shared_by c) (g n) y (sym (published_in c (map (slice_index (names (Space r))) places) g n h) ∙ e) in only_in n q.0 y h q.1 q.2)
       (λ h. only_out n y h (sym (published_out c (map (slice_index (names (Space r))) places) g n h) ∙ e))
-      (has_cases (map (slice_index (names (Space r))) places) n)
+      (list_has (map (slice_index (names (Space r))) places) n)
 
   bounded_by : (n : ℕ) (y : Owned) → published c (map (slice_index (names (Space r))) places) g n ≡ Some y → n < bound
   bounded_by n y e = ⊎_elim
       (λ h. let q = some_back (shared_by c) (g n) y (sym (published_in c (map (slice_index (names (Space r))) places) g n h) ∙ e) in R.bounded n q.0 q.1)
       (λ h. R.bounded n y (sym (published_out c (map (slice_index (names (Space r))) places) g n h) ∙ e))
-      (has_cases (map (slice_index (names (Space r))) places) n)
+      (list_has (map (slice_index (names (Space r))) places) n)
 
   pub turning : (names2 : Naming) × (g2 : Objects) × IsReading new names2 bound g2 × IsNamed (Shared c) names names2 × IsPublished c (map (slice_index (names (Space r))) places) g g2
   turning = (
