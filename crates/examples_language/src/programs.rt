@@ -151,6 +151,13 @@ a.b(1) do end.c -> Bare { name: Sym(0), site: 0 }, Int(1), Item(1), Send { recei
 puts a.b do end -> Bare { name: Sym(1), site: 0 }, Send { receiver: 0, name: Sym(2), first: 1, count: 0, site: 1 }, Item(1), Call { name: Sym(0), first: 2, count: 1, site: 2 }, Sequence { first: 4, count: 0 }, Block { scope: 1, parameters: 0, size: 0, body: 4 }, WithBlock(3, 5), Item(6), Sequence { first: 7, count: 1 }
 x = f 1 do end -> Int(1), Item(0), Call { name: Sym(1), first: 1, count: 1, site: 0 }, Sequence { first: 3, count: 0 }, Block { scope: 1, parameters: 0, size: 0, body: 3 }, WithBlock(2, 4), Assign { depth: 0, slot: 0, name: Sym(0), value: 5 }, Item(6), Sequence { first: 7, count: 1 }
 return f 1 do end -> Int(1), Item(0), Call { name: Sym(0), first: 1, count: 1, site: 0 }, Sequence { first: 3, count: 0 }, Block { scope: 1, parameters: 0, size: 0, body: 3 }, WithBlock(2, 4), Return(5), Item(6), Sequence { first: 7, count: 1 }
+Ractor -> Constant(Plain(Sym(0))), Item(0), Sequence { first: 1, count: 1 }
+Ractor::Port -> Constant(Ractor(Sym(1))), Item(0), Sequence { first: 1, count: 1 }
+Ractor::Ractor -> Constant(Ractor(Sym(0))), Item(0), Sequence { first: 1, count: 1 }
+Ractor::Port.new -> Constant(Ractor(Sym(1))), Send { receiver: 0, name: Sym(2), first: 1, count: 0, site: 0 }, Item(1), Sequence { first: 2, count: 1 }
+puts Ractor::Port, Ractor -> Constant(Ractor(Sym(2))), Constant(Plain(Sym(1))), Item(0), Item(1), Call { name: Sym(0), first: 2, count: 2, site: 0 }, Item(4), Sequence { first: 5, count: 1 }
+Ractor.new { 1 } -> Constant(Plain(Sym(0))), Send { receiver: 0, name: Sym(1), first: 1, count: 0, site: 0 }, Int(1), Item(2), Sequence { first: 3, count: 1 }, Block { scope: 1, parameters: 0, size: 0, body: 4 }, WithBlock(1, 5), Item(6), Sequence { first: 7, count: 1 }
+Ractor.new do 1 end -> Constant(Plain(Sym(0))), Send { receiver: 0, name: Sym(1), first: 1, count: 0, site: 0 }, Int(1), Item(2), Sequence { first: 3, count: 1 }, Block { scope: 1, parameters: 0, size: 0, body: 4 }, WithBlock(1, 5), Item(6), Sequence { first: 7, count: 1 }
 1 if f do end -> Int(1), Call { name: Sym(0), first: 1, count: 0, site: 0 }, Sequence { first: 2, count: 0 }, Block { scope: 1, parameters: 0, size: 0, body: 2 }, WithBlock(1, 3), Nil, Choose(4, 0, 5), Item(6), Sequence { first: 7, count: 1 }
 ";
 
@@ -247,6 +254,13 @@ f 1 do end.c -> 1:11 unexpected token
 x = 1 do end -> 1:7 unexpected token
 return 1 do end -> 1:10 unexpected token
 f do break; end; break -> 1:18 unexpected token
+A::B -> 1:2 unexpected token
+Ractor::b -> 1:7 unexpected token
+Ractor:: -> 1:7 unexpected token
+Ractor::Port::A -> 1:13 unexpected token
+Ractor ::Port -> 1:8 unexpected token
+Ractor:: Port -> 1:7 unexpected token
+Ractors::Port -> 1:8 unexpected token
 ";
 
 fn check_rows(rt: &impl Abort, alloc: Global, rows: &str) -> Result<(), AllocError> {

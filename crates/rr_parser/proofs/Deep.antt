@@ -23,7 +23,7 @@ use Rattle.rr_parser.specs.Places.{Place, Look, word, at, next, skip, separators
 use Rattle.rr_parser.specs.Grammar.Chains.{Chain, one, more, same, one_of, and_one}
 use Rattle.rr_parser.specs.Grammar.Nesting.{Nested}
 use Rattle.rr_parser.specs.Grammar.Names.{is_local, variable_of, local_tree, is_allowed, jump_tree, begins_arguments, passed, passed_bare, headed, name, bracket, begins_operands, command}
-use Rattle.rr_parser.specs.Grammar.Operands.{fits, fits_below, negated, joined, literal_of, construct_of, tail, Primary, Tailed, Minus}
+use Rattle.rr_parser.specs.Grammar.Operands.{fits, fits_below, negated, joined, literal_of, inner_constant, construct_of, tail, Primary, Tailed, Minus}
 use Rattle.rr_parser.specs.Grammar.Operators.{operator, infixed, connective, joined_by, Binary, Logical}
 use Rattle.rr_parser.specs.Grammar.Calls.{target, with_target, assigned_to, label, comma, closing, last, Argument, Member, Commanded}
 use Rattle.rr_parser.specs.Grammar.Sequences.{Negation, Expression, modifier, modified, Statement}
@@ -33,7 +33,7 @@ use Rattle.rr_parser.specs.Grammar.Definitions.{formals, defined}
 use Rattle.rr_parser.specs.Grammar.{is_enclosed, inside, outside}
 use Rattle.rr_parser.specs.Reading.Answers.{◌>>=◌, Refused, wrong, deep, Answer, Parse, built, ended_by, closed, from, on_seen, across, taking_of, enclosed_of, trail_on, turn, chain_from, chain_on, chain}
 use Rattle.rr_parser.specs.Reading.Nesting.{Readers}
-use Rattle.rr_parser.specs.Reading.Operands.{bare_call, block_behind, blocked_or, blocked_of, then_blocked, unbracketed_or, name_or, name_of, passing_or, passing_of, int_at, negative_in, negative_of, begun, primary_at, primary_in, primary_of, tailed_of, postfix_of, bang_or, bang_of, prefix_minus, minus_or, minus_of}
+use Rattle.rr_parser.specs.Reading.Operands.{bare_call, block_behind, blocked_or, blocked_of, then_blocked, unbracketed_or, name_or, name_of, passing_or, passing_of, constant_or, constant_at, int_at, negative_in, negative_of, begun, primary_at, primary_in, primary_of, tailed_of, postfix_of, bang_or, bang_of, prefix_minus, minus_or, minus_of}
 use Rattle.rr_parser.specs.Reading.Operators.{binary_on, binary_of, pair_or, equality_on, logical_on, logical_of, question_or, ternary_on, ternary_of}
 use Rattle.rr_parser.specs.Reading.Calls.{assigned_or, assigned_of, argument_of, pair_by, pair_of, member_of, another, members_of, bracketed_or, bracketed_of, array_of, hash_of, index_of, commanded_or, commanded_of, headed_of, command_or, command_of, phrase_or, phrase_of, operand_of, value_of}
 use Rattle.rr_parser.specs.Reading.Sequences.{negation_or, negation_of, expression_of, statement_of, ends, row, rows_of, sequence_of, statements_of, group_of}
@@ -140,6 +140,10 @@ negative_not_deep : (o : Option (ℕ × Place)) → negative_in o ≡ Err deep �
 negative_not_deep None e = let never : ⊥ = cc in never
 negative_not_deep (Some n) e = below_not_deep (fits_below n.0) n.0 n.1 e
 
+constant_not_deep : (x : Sym) (m : Place) (o : Option (Sym × Place)) → constant_or x m o ≡ Err deep → ⊥
+constant_not_deep x m None e = let never : ⊥ = cc in never
+constant_not_deep x m (Some y) e = let never : ⊥ = cc in never
+
 bare_not_deep : (b : Bool) (x : Sym) (m : Place) → cond b (Err wrong) (done (bare x.0) m) ≡ Err deep → ⊥
 bare_not_deep true x m e = let never : ⊥ = cc in never
 bare_not_deep false x m e = let never : ⊥ = cc in never
@@ -227,6 +231,10 @@ module _ (N : Readers) (R : Nested) (F : Fronts) (sounds : NestedSound N R) (nes
   unfolding int_at
   int_deep s m n e = absurd (int_not_deep (fits n) n m e)
 
+  constant_deep : (s m : Place) (x : Sym) (outer : Bool) → constant_at x outer m ≡ Err deep → (z : Place) × PrimaryFront R F s z
+  unfolding constant_at
+  constant_deep s m x outer e = absurd (constant_not_deep x m (at (inner_constant outer) m) e)
+
   negative_deep : (s m : Place) → negative_of m ≡ Err deep → (z : Place) × PrimaryFront R F s z
   unfolding negative_of
   negative_deep s m e = absurd (negative_not_deep (at joined m) e)
@@ -251,6 +259,7 @@ module _ (N : Readers) (R : Nested) (F : Fronts) (sounds : NestedSound N R) (nes
   primary_at-deep : (s : Place) (k : WordKind) (m : Place) → next s ≡ Some (k, m) → primary_at N k m ≡ Err deep → (z : Place) × PrimaryFront R F s z
   primary_at-deep s (kind.Int n) m f e = int_deep s m n e
   primary_at-deep s (kind.Name x b) m f e = name_deep s m x (next-name s m x b f) e
+  primary_at-deep s (kind.Constant x outer) m f e = constant_deep s m x outer e
   primary_at-deep s kind.Minus m f e = negative_deep s m e
   primary_at-deep s (kind.Jump j) m f e = absurd (jump_not_deep (is_allowed j m.known) (begins_arguments m.rest) j m e)
   primary_at-deep s (kind.Passing p) m f e = passing_deep s m p f e

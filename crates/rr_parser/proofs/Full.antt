@@ -21,7 +21,7 @@ use Rattle.rr_parser.specs.Places.{is_kind, where_true, seen_before, placed, Pla
 use Rattle.rr_parser.specs.Grammar.Chains.{same, one_of, and_one}
 use Rattle.rr_parser.specs.Grammar.Nesting.{Nested}
 use Rattle.rr_parser.specs.Grammar.Names.{is_local, variable_of, local_tree, is_allowed, jump_tree, begins_arguments, passed, passed_bare, headed, name, bracket, begins_operands, command}
-use Rattle.rr_parser.specs.Grammar.Operands.{fits, fits_below, negated, joined, literal_of, construct_of, Blocked, no_block, a_block, Primary, a_literal, a_negative, a_local, a_bare_call, a_call, a_block_call, a_jump, a_passing, a_passing_call, a_construct, tail, Tailed, a_send, a_sent_call, an_index, Postfix, Bang, a_bang, no_bang, Minus, a_minus, no_minus}
+use Rattle.rr_parser.specs.Grammar.Operands.{fits, fits_below, negated, joined, literal_of, inner_constant, construct_of, Blocked, no_block, a_block, Primary, a_literal, a_constant, a_path, a_negative, a_local, a_bare_call, a_call, a_block_call, a_jump, a_passing, a_passing_call, a_construct, tail, Tailed, a_send, a_sent_call, an_index, Postfix, Bang, a_bang, no_bang, Minus, a_minus, no_minus}
 use Rattle.rr_parser.specs.Grammar.Operators.{operator, infixed, connective, joined_by, Logical, Binary, Equality, a_comparison, a_pair, Ternary, no_question, a_question}
 use Rattle.rr_parser.specs.Grammar.Calls.{target, with_target, assigned_to, label, comma, closing, last, Assigned, an_assignment, no_assignment, Argument, Pair, by_label, by_arrow, Member, Members, Bracketed, no_members, some_members, Array, an_array, Hash, a_hash, Index, of_element, Commanded, Arguments, by_arguments, by_command, Command, a_command, Phrase, by_name, an_operand, Value}
 use Rattle.rr_parser.specs.Grammar.Sequences.{Negation, a_negation, no_negation, Expression, modifier, modified, Statement, Rows, Statements, no_statements, some_statements, Group, a_group}
@@ -31,7 +31,7 @@ use Rattle.rr_parser.specs.Grammar.Definitions.{defined, rejoining, method_tree,
 use Rattle.rr_parser.specs.Grammar.{PartOf, inside, outside}
 use Rattle.rr_parser.specs.Reading.Answers.{◌>>=◌, wrong, Answer, Parse, built, ended_by, closed, across, taking_of}
 use Rattle.rr_parser.specs.Reading.Nesting.{Readers}
-use Rattle.rr_parser.specs.Reading.Operands.{call_of, bare_call, variable_or_call, block_behind, blocked_or, blocked_of, then_blocked, unbracketed_or, name_or, name_of, jump_at, passing_or, passing_of, int_at, negative_in, negative_of, primary_at, primary_in, primary_of, tailed_of, postfix_of, bang_or, bang_of, prefix_minus, minus_or, minus_of}
+use Rattle.rr_parser.specs.Reading.Operands.{call_of, bare_call, variable_or_call, block_behind, blocked_or, blocked_of, then_blocked, unbracketed_or, name_or, name_of, jump_at, passing_or, passing_of, constant_or, constant_at, int_at, negative_in, negative_of, primary_at, primary_in, primary_of, tailed_of, postfix_of, bang_or, bang_of, prefix_minus, minus_or, minus_of}
 use Rattle.rr_parser.specs.Reading.Operators.{binary_on, binary_of, pair_or, equality_on, logical_on, logical_of, question_or, ternary_on, ternary_of}
 use Rattle.rr_parser.specs.Reading.Calls.{assigned_or, assigned_of, argument_of, pair_by, pair_of, member_of, another, members_of, bracketed_or, bracketed_of, array_of, hash_of, index_of, commanded_or, commanded_of, arguments_of, headed_of, command_or, command_of, phrase_or, phrase_of, value_of}
 use Rattle.rr_parser.specs.Reading.Sequences.{negation_or, negation_of, expression_of, statement_of, ends_at, ends, row, rows_of, sequence_of, statements_at, statements_of, group_of}
@@ -117,7 +117,6 @@ module _ (N : Readers) (R : Nested) (D : Type 0) (shrinks : ReadersShrink N) (ne
   literal_full kind.Nil z t f = reads nil t z f
   literal_full (kind.Truth b) z t f = reads (truth b) t z f
   literal_full (kind.Symbol x) z t f = reads (symbol x.0) t z f
-  literal_full (kind.Constant x) z t f = reads (constant (paths.Plain x)) t z f
   literal_full (kind.Field x) z t f = reads (field x.0) t z f
   literal_full (kind.Global x) z t f = reads (global x.0) t z f
   literal_full kind.Itself z t f = reads itself t z f
@@ -141,6 +140,14 @@ module _ (N : Readers) (R : Nested) (D : Type 0) (shrinks : ReadersShrink N) (ne
   construct_anywhere kind.Unless p z f = subst (λ q. PartStops q z) (same_part parts.Unless p f) tt
   construct_anywhere (kind.Loop until) p z f = subst (λ q. PartStops q z) (same_part (parts.Loop until) p f) tt
   construct_anywhere _ p z f = absurd cc
+
+  plain_constant_full : (x : Sym) (outer : Bool) (z : Place) → at (inner_constant outer) z ≡ None → constant_at x outer z ≡ done (constant (paths.Plain x)) z
+  unfolding constant_at
+  plain_constant_full x outer z f = ap (constant_or x z) f
+
+  path_full : (x y : Sym) (outer : Bool) (m z : Place) → at (inner_constant outer) m ≡ Some (y, z) → constant_at x outer m ≡ done (constant (paths.Ractor y)) z
+  unfolding constant_at
+  path_full x y outer m z f = ap (constant_or x m) f
 
   negative_full : (m z : Place) (n : ℕ) → at joined m ≡ Some (n, z) → fits_below n ≡ true → negative_of m ≡ Ok (int (negated n), z)
   unfolding negative_of
@@ -218,6 +225,8 @@ module _ (N : Readers) (R : Nested) (D : Type 0) (shrinks : ReadersShrink N) (ne
 
   primary_full : IsFull (primary_of N) (Primary R) Anywhere D
   primary_full s z t (a_literal {k = k} e f) u = inl (by_kind_full s z k e ∙ literal_full k z t f)
+  primary_full s z t (a_constant {x = x} {outer = outer} e f) u = inl (by_kind_full s z (kind.Constant x outer) e ∙ plain_constant_full x outer z f)
+  primary_full s z t (a_path {m = m} {x = x} {y = y} {outer = outer} e f) u = inl (by_kind_full s m (kind.Constant x outer) e ∙ path_full x y outer m z f)
   primary_full s z t (a_negative {m = m} {n = n} e f g) u = inl (by_kind_full s m kind.Minus e ∙ negative_full m z n f g)
   primary_full s z t (a_local {x = x} e o b f) u = inl (by_name_full s z x e ∙ plain_full x z o b ∙ local_full x z f)
   primary_full s z t (a_bare_call {x = x} e o b f g) u = inl (by_name_full s z x e ∙ plain_full x z o b ∙ other_full x z f ∙ bare_full x z g)

@@ -1,5 +1,5 @@
 -- What is spelled takes no words back, and so reading takes none back.
-use Rattle.std.proofs.Common.{ℕ, zero, suc, [], Bool, true, false, arith, ◌≤◌}
+use Rattle.std.proofs.Common.{◌≡◌, ℕ, zero, suc, List, [], Bool, true, false, Option, Some, None, refl, ap, arith, ◌<◌, ◌≤◌}
 use Rattle.rr_tree.specs.Tree.{call, send, listed}
 use Rattle.rr_parser.specs.declared.word.Tail.{Tail}
 use Rattle.rr_parser.specs.declared.word.Target.{Target}
@@ -12,12 +12,14 @@ use Rattle.rr_parser.specs.declared.word.Behind.{Behind}
 use Rattle.rr_parser.specs.declared.word.Behind.TheVariants as behinds
 use Rattle.rr_parser.specs.declared.word.Fence.{Fence}
 use Rattle.rr_parser.specs.Grammar.Fences.{Taking, taken, taking, within_head, opening, fence_end}
-use Rattle.rr_parser.specs.Places.{Place, skip, separators}
+use Rattle.rr_base.specs.declared.name.Sym.{Sym}
+use Rattle.rr_parser.specs.Places.{Place, placed, skip, separators}
+use Rattle.rr_parser.specs.declared.word.Word.{Word}
 use Rattle.rr_tree.specs.Tree.{Tree}
 use Rattle.rr_parser.specs.Grammar.Chains.{same, one_of, and_one}
 use Rattle.rr_parser.specs.Grammar.Nesting.{Nested}
 use Rattle.rr_parser.specs.Grammar.Names.{headed, name, head, bracket}
-use Rattle.rr_parser.specs.Grammar.Operands.{joined, Blocked, no_block, a_block, Primary, a_literal, a_negative, a_local, a_bare_call, a_call, a_block_call, a_jump, a_passing, a_passing_call, a_construct, tail, Tailed, a_send, a_sent_call, an_index, Postfix, Bang, a_bang, no_bang, Minus, a_minus, no_minus}
+use Rattle.rr_parser.specs.Grammar.Operands.{scope_sign, tight_constant, behind_sign, inner_constant, joined, Blocked, no_block, a_block, Primary, a_literal, a_constant, a_path, a_negative, a_local, a_bare_call, a_call, a_block_call, a_jump, a_passing, a_passing_call, a_construct, tail, Tailed, a_send, a_sent_call, an_index, Postfix, Bang, a_bang, no_bang, Minus, a_minus, no_minus}
 use Rattle.rr_parser.specs.Grammar.Operators.{operator, infixed, connective, joined_by, Logical, Binary, Equality, a_comparison, a_pair, Ternary, no_question, a_question}
 use Rattle.rr_parser.specs.Grammar.Calls.{with_target, label, comma, Assigned, an_assignment, no_assignment, Argument, Pair, by_label, by_arrow, Member, Members, Bracketed, no_members, some_members, Array, an_array, Hash, a_hash, Index, of_element, Commanded, by_arguments, by_command, Command, a_command, Phrase, by_name, an_operand, Operand, Value}
 use Rattle.rr_parser.specs.Grammar.Sequences.{Negation, a_negation, no_negation, Expression, modifier, modified, Statement, Rows, Statements, no_statements, some_statements, Group, a_group}
@@ -46,6 +48,22 @@ pub record NestedShrinking (R : Nested) : Type 0 where
 
 pub Steps-joined : Steps joined
 Steps-joined = Steps-first_as _
+
+Steps-scope_sign : Steps scope_sign
+Steps-scope_sign = Steps-first_as _
+
+Steps-tight_constant : Steps tight_constant
+Steps-tight_constant = Steps-first_as _
+
+inner_steps : (s z : Place) (x : Sym) (o : Option (Unit {0} × List Word)) → scope_sign s.rest ≡ o → placed s.known (behind_sign o) ≡ Some (x, z) → left z < left s
+inner_steps s z x None g e = absurd cc
+inner_steps s z x (Some r) g e =
+    let m : Place = record { known = s.known; rest = r.1 } in
+    omega (arith, Steps-scope_sign s m r.0 (ap (placed s.known) g), Steps-tight_constant m z x e)
+
+Steps-inner_constant : (b : Bool) → Steps (inner_constant b)
+Steps-inner_constant false s z x e = absurd cc
+Steps-inner_constant true s z x e = inner_steps s z x (scope_sign s.rest) refl e
 
 pub Steps-name : Steps name
 Steps-name = Steps-first_as _
@@ -91,6 +109,8 @@ module _ (R : Nested) (nests : NestedShrinking R) where
 
   primary_shrinking : IsShrinking (Primary R)
   primary_shrinking s z t (a_literal {k = k} e f) = omega (arith, next-left s z k e)
+  primary_shrinking s z t (a_constant {x = x} {outer = outer} e f) = omega (arith, next-left s z (kind.Constant x outer) e)
+  primary_shrinking s z t (a_path {m = m} {x = x} {y = y} {outer = outer} e f) = omega (arith, next-left s m (kind.Constant x outer) e, Steps-inner_constant outer m z y f)
   primary_shrinking s z t (a_negative {m = m} {n = n} e f g) = omega (arith, next-left s m kind.Minus e, Steps-joined m z n f)
   primary_shrinking s z t (a_local {x = x} e f b g) = omega (arith, Steps-name s z x e)
   primary_shrinking s z t (a_bare_call {x = x} e f b g h) = omega (arith, Steps-name s z x e)

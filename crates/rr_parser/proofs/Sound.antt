@@ -2,7 +2,8 @@
 use Rattle.std.proofs.Common.{◌≡◌, ℕ, zero, suc, pos, Bool, true, false, cond, List, [], Option, Some, None, Ok, Err, refl, sym, subst, ap}
 use Rattle.rr_base.specs.declared.name.Sym.{Sym}
 use Rattle.rr_parser.specs.declared.word.Infix.{Infix}
-use Rattle.rr_tree.specs.Tree.{Tree, nil, int, bare, call, with_block, negate, sequence, choose, repeat, send, index, array, hash, pair, symbol, logical_not, listed}
+use Rattle.rr_tree.specs.Tree.{Tree, nil, int, bare, call, with_block, negate, sequence, choose, repeat, send, index, array, hash, pair, symbol, constant, logical_not, listed}
+use Rattle.rr_tree.specs.declared.node.Path.TheVariants as paths
 use Rattle.rr_parser.specs.declared.word.Tail.{Tail}
 use Rattle.rr_parser.specs.declared.word.Tail.TheVariants as tails
 use Rattle.rr_parser.specs.declared.word.Aim.{Aim}
@@ -22,7 +23,7 @@ use Rattle.rr_parser.specs.Places.{Place, word, at, next, skip, separators}
 use Rattle.rr_parser.specs.Grammar.Chains.{one, same, one_of, and_one}
 use Rattle.rr_parser.specs.Grammar.Nesting.{Nested}
 use Rattle.rr_parser.specs.Grammar.Names.{is_local, variable_of, local_tree, is_allowed, jump_tree, begins_arguments, passed, passed_bare, headed, name, bracket, begins_operands, command}
-use Rattle.rr_parser.specs.Grammar.Operands.{fits, fits_below, negated, joined, literal_of, construct_of, Blocked, no_block, a_block, Primary, a_literal, a_negative, a_local, a_bare_call, a_call, a_block_call, a_jump, a_passing, a_passing_call, a_construct, tail, Tailed, a_send, a_sent_call, an_index, Postfix, Bang, a_bang, no_bang, Minus, a_minus, no_minus}
+use Rattle.rr_parser.specs.Grammar.Operands.{fits, fits_below, negated, joined, literal_of, inner_constant, construct_of, Blocked, no_block, a_block, Primary, a_literal, a_constant, a_path, a_negative, a_local, a_bare_call, a_call, a_block_call, a_jump, a_passing, a_passing_call, a_construct, tail, Tailed, a_send, a_sent_call, an_index, Postfix, Bang, a_bang, no_bang, Minus, a_minus, no_minus}
 use Rattle.rr_parser.specs.Grammar.Operators.{operator, infixed, Binary, Equality, a_comparison, a_pair, connective, joined_by, Logical, Ternary, no_question, a_question}
 use Rattle.rr_parser.specs.Grammar.Calls.{target, with_target, assigned_to, label, comma, closing, last, Assigned, an_assignment, no_assignment, Argument, Pair, by_label, by_arrow, Member, Members, Bracketed, no_members, some_members, Array, an_array, Hash, a_hash, Index, of_element, Commanded, by_arguments, by_command, Command, a_command, Phrase, by_name, an_operand, Operand, Value}
 use Rattle.rr_parser.specs.Grammar.Sequences.{Negation, a_negation, no_negation, Expression, modifier, modified, Statement, Rows, Statements, no_statements, some_statements, Group, a_group}
@@ -33,7 +34,7 @@ use Rattle.rr_parser.specs.Grammar.Fences.{Taking, taken, taking, taking_as, wit
 use Rattle.rr_parser.specs.Grammar.{FormOf, is_enclosed, Enclosed, PartOf, inside, outside}
 use Rattle.rr_parser.specs.Reading.Answers.{wrong, Answer, Parse, built, closed, across, taking_of, enclosed_of, chain_on, trail_on, ended_by}
 use Rattle.rr_parser.specs.Reading.Nesting.{Readers}
-use Rattle.rr_parser.specs.Reading.Operands.{call_of, bare_call, blocked_or, blocked_of, then_blocked, unbracketed_or, name_or, name_of, passing_or, passing_of, int_at, negative_in, negative_of, begun, primary_at, primary_in, primary_of, tailed_of, postfix_of, bang_or, bang_of, prefix_minus, minus_or, minus_of}
+use Rattle.rr_parser.specs.Reading.Operands.{call_of, bare_call, blocked_or, blocked_of, then_blocked, unbracketed_or, name_or, name_of, passing_or, passing_of, constant_or, constant_at, int_at, negative_in, negative_of, begun, primary_at, primary_in, primary_of, tailed_of, postfix_of, bang_or, bang_of, prefix_minus, minus_or, minus_of}
 use Rattle.rr_parser.specs.Reading.Operators.{binary_on, binary_of, pair_or, equality_on, logical_on, logical_of, question_or, ternary_on, ternary_of}
 use Rattle.rr_parser.specs.Reading.Calls.{assigned_or, assigned_of, argument_of, pair_by, pair_of, member_of, another, members_of, bracketed_or, bracketed_of, array_of, hash_of, index_of, commanded_or, commanded_of, arguments_of, headed_of, command_or, command_of, phrase_or, phrase_of, operand_of, value_of}
 use Rattle.rr_parser.specs.Reading.Sequences.{negation_or, negation_of, expression_of, statement_of, ends, row, rows_of, sequence_of, statements_of, group_of}
@@ -86,6 +87,14 @@ module _ (N : Readers) (R : Nested) (nests : NestedSound N R) where
   negative_sound : (s m z : Place) (t : Tree) → next s ≡ Some (kind.Minus, m) → negative_of m ≡ Ok (t, z) → Primary R s t z
   unfolding negative_of
   negative_sound s m z t f e = negative_in-sound s m (at joined m) z t f refl e
+
+  constant_or-sound : (s m : Place) (x : Sym) (outer : Bool) (o : Option (Sym × Place)) (z : Place) (t : Tree) → next s ≡ Some (kind.Constant x outer, m) → at (inner_constant outer) m ≡ o → constant_or x m o ≡ Ok (t, z) → Primary R s t z
+  constant_or-sound s m x outer None z t f g e = at_answer (Primary R s) (constant (paths.Plain x)) t m z e (a_constant f g)
+  constant_or-sound s m x outer (Some y) z t f g e = at_answer (Primary R s) (constant (paths.Ractor y.0)) t y.1 z e (a_path f g)
+
+  constant_sound : (s m : Place) (x : Sym) (outer : Bool) (z : Place) (t : Tree) → next s ≡ Some (kind.Constant x outer, m) → constant_at x outer m ≡ Ok (t, z) → Primary R s t z
+  unfolding constant_at
+  constant_sound s m x outer z t f e = constant_or-sound s m x outer (at (inner_constant outer) m) z t f refl e
 
   bare_sound : (s m : Place) (x : Sym) (d : Bool) (z : Place) (t : Tree) → at name s ≡ Some (x, m) → at bracket m ≡ None → opened behinds.Call m ≡ None → is_local x m ≡ false → begins_operands m.rest ≡ d
       → cond d (Err wrong) (done (bare x.0) m) ≡ done t z → Primary R s t z
@@ -166,6 +175,7 @@ module _ (N : Readers) (R : Nested) (nests : NestedSound N R) where
   primary_at-sound : (s : Place) (k : WordKind) (m z : Place) (t : Tree) → next s ≡ Some (k, m) → primary_at N k m ≡ Ok (t, z) → Primary R s t z
   primary_at-sound s (kind.Int n) m z t f e = int_sound s m n z t f e
   primary_at-sound s (kind.Name x b) m z t f e = name_sound s m x z t (next-name s m x b f) e
+  primary_at-sound s (kind.Constant x outer) m z t f e = constant_sound s m x outer z t f e
   primary_at-sound s kind.Minus m z t f e = negative_sound s m z t f e
   primary_at-sound s (kind.Jump j) m z t f e = jump_test s m j (is_allowed j m.known) (begins_arguments m.rest) z t f refl refl e
   primary_at-sound s (kind.Passing p) m z t f e = passing_sound s m p z t f e

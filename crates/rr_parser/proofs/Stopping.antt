@@ -31,7 +31,7 @@ use Rattle.rr_parser.specs.Places.{Known, Place, Look, first_as, seen_before, un
 use Rattle.rr_parser.specs.Grammar.Chains.{Chain, one, more, at_first, and_then, same}
 use Rattle.rr_parser.specs.Grammar.Nesting.{Nested}
 use Rattle.rr_parser.specs.Grammar.Names.{is_local, name, bracket, is_tight, begins_operand, begins_operands, begins_command, is_allowed, head_of_kind, head, begins_head, command}
-use Rattle.rr_parser.specs.Grammar.Operands.{joined, literal_of, construct_of, Primary, a_literal, a_negative, a_local, a_bare_call, a_call, a_block_call, a_jump, a_passing, a_passing_call, a_construct, tail, Postfix, Bang, a_bang, no_bang, Minus, a_minus, no_minus}
+use Rattle.rr_parser.specs.Grammar.Operands.{joined, literal_of, construct_of, Primary, a_literal, a_constant, a_path, a_negative, a_local, a_bare_call, a_call, a_block_call, a_jump, a_passing, a_passing_call, a_construct, tail, Postfix, Bang, a_bang, no_bang, Minus, a_minus, no_minus}
 use Rattle.rr_parser.specs.Grammar.Operators.{level_of, at_level, operator_of, operator, infixed, where_level, connective_of, connective, joined_by, Binary, a_comparison, a_pair, Logical, Ternary, no_question, a_question}
 use Rattle.rr_parser.specs.Grammar.Calls.{target, comma, Assigned, an_assignment, no_assignment, Argument, a_command, Phrase, by_name, an_operand, Value, closing, target_of_kind, label, Member, label_of_kind, last, by_label, by_arrow}
 use Rattle.rr_parser.specs.Grammar.Sequences.{Negation, a_negation, no_negation, Expression, modifier_of, modifier, Statement, modified}
@@ -206,7 +206,7 @@ opens (kind.Text i) = true
 opens kind.Nil = true
 opens (kind.Truth b) = true
 opens (kind.Symbol x) = true
-opens (kind.Constant x) = true
+opens (kind.Constant x outer) = true
 opens (kind.Field x) = true
 opens (kind.Global x) = true
 opens kind.Itself = true
@@ -224,7 +224,6 @@ literal_opens (kind.Text i) t e = refl
 literal_opens kind.Nil t e = refl
 literal_opens (kind.Truth b) t e = refl
 literal_opens (kind.Symbol x) t e = refl
-literal_opens (kind.Constant x) t e = refl
 literal_opens (kind.Field x) t e = refl
 literal_opens (kind.Global x) t e = refl
 literal_opens kind.Itself t e = refl
@@ -343,6 +342,8 @@ taking_stops n b z stops = subst (λ (q : ℕ). n < q) (same_strength (with_do b
 
 pub primary_first : (R : Nested) (s z : Place) (t : Tree) → Primary R s t z → First s
 primary_first R s z t (a_literal {k = k} e f) = by_word e (literal_opens k t f)
+primary_first R s z t (a_constant e f) = by_word e refl
+primary_first R s z t (a_path e f) = by_word e refl
 primary_first R s z t (a_negative e f g) = by_integer e f
 primary_first R s z t (a_local {x = x} e o b f) = by_no_command e (local_no_command x z f)
 primary_first R s z t (a_bare_call {x = x} e o b f g) = by_no_command e (bare_no_command x z g)
@@ -359,6 +360,8 @@ open_no_bang _ e = refl
 
 primary_no_bang : (R : Nested) (s z : Place) (t : Tree) → Primary R s t z → at (word kind.Bang) s ≡ None
 primary_no_bang R s z t (a_literal {k = k} e f) = other-word kind.Bang k s z e (open_no_bang k (literal_opens k t f))
+primary_no_bang R s z t (a_constant {x = x} {outer = outer} e f) = other-word kind.Bang (kind.Constant x outer) s z e refl
+primary_no_bang R s z t (a_path {m = m} {x = x} {outer = outer} e f) = other-word kind.Bang (kind.Constant x outer) s m e refl
 primary_no_bang R s z t (a_negative {m = m} e f g) = other-word kind.Bang kind.Minus s m e refl
 primary_no_bang R s z t (a_local {x = x} e o b f) = let h = name-next s z x e in other-word kind.Bang (kind.Name x h.0) s z h.1 refl
 primary_no_bang R s z t (a_bare_call {x = x} e o b f g) = let h = name-next s z x e in other-word kind.Bang (kind.Name x h.0) s z h.1 refl
@@ -375,6 +378,8 @@ open_no_prefix s m k e f = by_next (λ q. at prefix_minus q ≡ None) s m k e (�
 
 primary_no_prefix : (R : Nested) (s z : Place) (t : Tree) → Primary R s t z → at prefix_minus s ≡ None
 primary_no_prefix R s z t (a_literal {k = k} e f) = open_no_prefix s z k e (literal_opens k t f)
+primary_no_prefix R s z t (a_constant {x = x} {outer = outer} e f) = open_no_prefix s z (kind.Constant x outer) e refl
+primary_no_prefix R s z t (a_path {m = m} {x = x} {outer = outer} e f) = open_no_prefix s m (kind.Constant x outer) e refl
 primary_no_prefix R s z t (a_negative {m = m} {n = n} e f g) = no_prefix s m e n z f
 primary_no_prefix R s z t (a_local {x = x} e o b f) = let h = name-next s z x e in by_next (λ q. at prefix_minus q ≡ None) s z (kind.Name x h.0) h.1 (λ b. refl)
 primary_no_prefix R s z t (a_bare_call {x = x} e o b f g) = let h = name-next s z x e in by_next (λ q. at prefix_minus q ≡ None) s z (kind.Name x h.0) h.1 (λ b. refl)
@@ -662,6 +667,8 @@ module _ (R : Nested) (s m n : Place) (k : WordKind) (x : Target) (sign : Sign) 
 
   primary_stuck : (z : Place) (t : Tree) → Primary R s t z → Assigns z
   primary_stuck z t (a_literal {k = q} e f) = same_word q z e
+  primary_stuck z t (a_constant {x = y} {outer = outer} e f) = same_word (kind.Constant y outer) z e
+  primary_stuck z t (a_path {m = o} {x = y} {outer = outer} e f) = absurd (no_word k (kind.Constant y outer) is_target (one_kind s m o k (kind.Constant y outer) here e) refl)
   primary_stuck z t (a_negative {m = o} e f g) = absurd (no_word k kind.Minus is_target (one_kind s m o k kind.Minus here e) refl)
   primary_stuck z t (a_local {x = y} e o b f) = let h = name-next s z y e in same_word (kind.Name y h.0) z h.1
   primary_stuck z t (a_bare_call {x = y} e o b f g) = let h = name-next s z y e in same_word (kind.Name y h.0) z h.1

@@ -1,5 +1,5 @@
 -- Words from tokens, with names and texts by number.
-use Rattle.std.specs.Prelude.{ℕ, ◌-◌, ◌==◌, ◌||◌, Bool, List, [], ◌∷◌, ◌++◌, true, false, Option, Some, None, length, fold, bytes_eq, slice_index, if◌then◌else◌}
+use Rattle.std.specs.Prelude.{ℕ, ◌-◌, ◌==◌, ◌||◌, Bool, List, [], ◌∷◌, ◌++◌, true, false, Option, Some, None, length, fold, bytes_eq, codes, slice_index, if◌then◌else◌}
 use Rattle.std.specs.List.{list_any, position_or_len}
 use Rattle.rr_base.specs.declared.name.Sym.{Sym}
 use Rattle.rr_lexer.specs.declared.kind.Kind.{Kind}
@@ -52,6 +52,7 @@ op_kind ops.Close = kind.Close
 op_kind ops.OpenSquare = kind.OpenSquare
 op_kind ops.CloseSquare = kind.CloseSquare
 op_kind ops.Dot = kind.Dot
+op_kind ops.Path = kind.Path
 op_kind ops.Arrow = kind.Arrow
 op_kind ops.Comma = kind.Comma
 op_kind ops.Semicolon = kind.Separator
@@ -83,7 +84,6 @@ op_kind ops.Bang = kind.Bang
 op_kind ops.Bar = kind.Bar
 op_kind ops.Question = kind.Question
 op_kind ops.Colon = kind.Colon
-op_kind _ = kind.Other
 
 -- the names, where one more comes: a name that is there already is not added
 abbrev pub with_name : List (List ℕ) → List ℕ → List (List ℕ)
@@ -128,10 +128,14 @@ number_of names name = record { 0 = position_or_len (bytes_eq name) names }
 abbrev pub is_marked : List ℕ → Bool
 is_marked name = let last = slice_index name (length name - 1) in last == 63 || last == 33
 
+-- the constant that has constants of its own
+abbrev pub is_ractor : List ℕ → Bool
+is_ractor name = bytes_eq name (codes "Ractor")
+
 -- what a token is as a word, behind these names and so many texts
 abbrev pub word_kind : List ℕ → List (List ℕ) → ℕ → Token → Kind → WordKind
 word_kind source names texts token kinds.Name = kind.Name (number_of names (token_name source token kinds.Name)) (is_marked (token_name source token kinds.Name))
-word_kind source names texts token kinds.Constant = kind.Constant (number_of names (token_name source token kinds.Constant))
+word_kind source names texts token kinds.Constant = kind.Constant (number_of names (token_name source token kinds.Constant)) (is_ractor (token_name source token kinds.Constant))
 word_kind source names texts token kinds.InstanceVariable = kind.Field (number_of names (token_name source token kinds.InstanceVariable))
 word_kind source names texts token kinds.GlobalVariable = kind.Global (number_of names (token_name source token kinds.GlobalVariable))
 word_kind source names texts token kinds.Symbol = kind.Symbol (number_of names (token_name source token kinds.Symbol))

@@ -3,6 +3,7 @@
 
 mod blocks;
 mod calls;
+mod constants;
 mod control;
 mod definitions;
 mod fences;

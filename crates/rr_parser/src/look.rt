@@ -429,7 +429,7 @@ fn begins_operand(kind: WordKind, tight: bool) -> bool
         | WordKind::Nil
         | WordKind::Truth(_)
         | WordKind::Symbol(_)
-        | WordKind::Constant(_)
+        | WordKind::Constant(_, _)
         | WordKind::Field(_)
         | WordKind::Global(_)
         | WordKind::Itself

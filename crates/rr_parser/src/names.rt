@@ -1,7 +1,7 @@
 //! Words from tokens: each name and each text gets its number.
 
 ghost use Rattle.std.specs.Prelude.{◌≡◌, ◌∷◌, [], ◌++◌, length, map, IfOk, OnOk};
-ghost use Rattle.rr_parser.specs.Words.{keyword_kind, op_kind, is_marked, with_name, number_of, with_symbol, with_text, word_with, words_of, symbols_of, texts_of};
+ghost use Rattle.rr_parser.specs.Words.{keyword_kind, op_kind, is_marked, is_ractor, with_name, number_of, with_symbol, with_text, word_with, words_of, symbols_of, texts_of};
 
 use crate::refusal::Storage;
 use crate::word::{Connective, Infix, Jump, Operation, Passing, Sign, Word, WordKind};
@@ -58,6 +58,7 @@ fn op_kind(op: Op) -> WordKind
         Op::OpenSquare => WordKind::OpenSquare,
         Op::CloseSquare => WordKind::CloseSquare,
         Op::Dot => WordKind::Dot,
+        Op::Path => WordKind::Path,
         Op::Arrow => WordKind::Arrow,
         Op::Comma => WordKind::Comma,
         Op::Semicolon => WordKind::Separator,
@@ -99,7 +100,6 @@ fn op_kind(op: Op) -> WordKind
         Op::Bar => WordKind::Bar,
         Op::Question => WordKind::Question,
         Op::Colon => WordKind::Colon,
-        _ => WordKind::Other,
     }
 }
 
@@ -108,6 +108,13 @@ fn is_marked(name: &[u8]) -> bool
     ensures { result ≡ is_marked name.now }
 {
     matches!(name.last(), Some(b'?' | b'!'))
+}
+
+/// Whether a constant is the class of ractors, which has constants of its own.
+fn is_ractor(name: &[u8]) -> bool
+    ensures { result ≡ is_ractor name.now }
+{
+    name == b"Ractor".as_slice()
 }
 
 /// The names and the texts that have come, each with its number.
@@ -160,7 +167,10 @@ impl<'s> Numbering<'s> {
                 let name = name(source, token);
                 WordKind::Name(self.name(name)?, is_marked(name))
             }
-            Kind::Constant => WordKind::Constant(self.name(name(source, token))?),
+            Kind::Constant => {
+                let name = name(source, token);
+                WordKind::Constant(self.name(name)?, is_ractor(name))
+            }
             Kind::InstanceVariable => WordKind::Field(self.name(name(source, token))?),
             Kind::GlobalVariable => WordKind::Global(self.name(name(source, token))?),
             Kind::Symbol => WordKind::Symbol(self.name(name(source, token))?),

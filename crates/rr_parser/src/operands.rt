@@ -11,7 +11,7 @@ use crate::parser::{Parsed, Parser};
 use crate::refusal::Refusal;
 use crate::word::{Behind, Fence, Jump, Part, Passing, Tail, Word, WordKind};
 use rr_base::Sym;
-use rr_tree::{Node, NodeId, Path};
+use rr_tree::{Node, NodeId};
 
 impl Parser {
     ghost use Rattle.rr_parser.specs.Meets.{Gives, place};
@@ -99,7 +99,7 @@ impl Parser {
             WordKind::Nil => Ok((self.put(Node::Nil)?, rest)),
             WordKind::Truth(truth) => Ok((self.put(Node::Truth(truth))?, rest)),
             WordKind::Symbol(name) => Ok((self.put(Node::Symbol(name))?, rest)),
-            WordKind::Constant(name) => { Ok((self.put(Node::Constant(Path::Plain(name)))?, rest)) }
+            WordKind::Constant(name, outer) => self.constant(name, outer, rest),
             WordKind::Field(name) => Ok((self.put(Node::Field(name))?, rest)),
             WordKind::Global(name) => Ok((self.put(Node::Global(name))?, rest)),
             WordKind::Itself => Ok((self.put(Node::Itself)?, rest)),

@@ -161,7 +161,8 @@ pub(crate) enum WordKind {
     Symbol(Sym),
     /// `name:`, the key of a pair.
     Label(Sym),
-    Constant(Sym),
+    /// A constant, and whether it is `Ractor`, behind which another one may stand.
+    Constant(Sym, bool),
     /// An instance variable.
     Field(Sym),
     Global(Sym),
@@ -175,6 +176,8 @@ pub(crate) enum WordKind {
     CloseBrace,
     Comma,
     Dot,
+    /// `::`
+    Path,
     /// `=>`
     Arrow,
     Assign(Sign),

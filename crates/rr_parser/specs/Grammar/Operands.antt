@@ -52,11 +52,31 @@ literal_of (kind.Text i) = Some (text i)
 literal_of kind.Nil = Some nil
 literal_of (kind.Truth b) = Some (truth b)
 literal_of (kind.Symbol x) = Some (symbol x.0)
-literal_of (kind.Constant x) = Some (constant (paths.Plain x))
 literal_of (kind.Field x) = Some (field x.0)
 literal_of (kind.Global x) = Some (global x.0)
 literal_of kind.Itself = Some itself
 literal_of _ = None
+
+abbrev pub constant_of_kind : WordKind → Option Sym
+constant_of_kind (kind.Constant x outer) = Some x
+constant_of_kind _ = None
+
+-- `::` with no blank before it
+abbrev pub scope_sign : Look (Unit {0})
+scope_sign = tight_as (λ k. where_true (is_kind k kind.Path))
+
+-- a constant with no blank before it
+abbrev pub tight_constant : Look Sym
+tight_constant = tight_as constant_of_kind
+
+abbrev pub behind_sign : Option (Unit {0} × List Word) → Option (Sym × List Word)
+behind_sign None = None
+behind_sign (Some r) = tight_constant r.1
+
+-- `::` and a constant, directly behind a constant that has others
+abbrev pub inner_constant : Bool → Look Sym
+inner_constant false ws = None
+inner_constant true ws = behind_sign (scope_sign ws)
 
 -- the construct that a word begins
 abbrev pub construct_of : WordKind → Option Part
@@ -75,6 +95,8 @@ pub data Blocked (N : Nested) (q : Behind) (c : Tree) : Place → Tree → Place
 
 pub data Primary (N : Nested) : Place → Tree → Place → Type 0 where
   a_literal : {s z : Place} {k : WordKind} {t : Tree} → next s ≡ Some (k, z) → literal_of k ≡ Some t → Primary N s t z
+  a_constant : {s z : Place} {x : Sym} {outer : Bool} → next s ≡ Some (kind.Constant x outer, z) → at (inner_constant outer) z ≡ None → Primary N s (constant (paths.Plain x)) z
+  a_path : {s m z : Place} {x y : Sym} {outer : Bool} → next s ≡ Some (kind.Constant x outer, m) → at (inner_constant outer) m ≡ Some (y, z) → Primary N s (constant (paths.Ractor y)) z
   a_negative : {s m z : Place} {n : ℕ} → next s ≡ Some (kind.Minus, m) → at joined m ≡ Some (n, z) → fits_below n ≡ true → Primary N s (int (negated n)) z
   a_local : {s z : Place} {x : Sym} → at name s ≡ Some (x, z) → at bracket z ≡ None → opened behinds.Call z ≡ None → is_local x z ≡ true → Primary N s (local_tree x (variable_of x z)) z
   -- a call with no arguments

@@ -1,7 +1,7 @@
 -- Reading operands.
-use Rattle.std.specs.Prelude.{ℕ, pos, [], List, Option, Some, None, Ok, Err, if◌then◌else◌}
+use Rattle.std.specs.Prelude.{ℕ, Bool, pos, [], List, Option, Some, None, Ok, Err, if◌then◌else◌}
 use Rattle.rr_base.specs.declared.name.Sym.{Sym}
-use Rattle.rr_tree.specs.Tree.{Tree, nil, int, bare, call, send, with_block, index, negate, logical_not, listed}
+use Rattle.rr_tree.specs.Tree.{Tree, nil, int, bare, call, send, with_block, index, constant, negate, logical_not, listed}
 use Rattle.rr_parser.specs.declared.word.WordKind.{WordKind}
 use Rattle.rr_parser.specs.declared.word.WordKind.TheVariants as kind
 use Rattle.rr_parser.specs.declared.word.Word.{Word}
@@ -14,10 +14,11 @@ use Rattle.rr_parser.specs.declared.word.Jump.{Jump}
 use Rattle.rr_parser.specs.declared.word.Passing.{Passing}
 use Rattle.rr_parser.specs.declared.word.Part.{Part}
 use Rattle.rr_parser.specs.declared.word.Part.TheVariants as parts
+use Rattle.rr_tree.specs.declared.node.Path.TheVariants as paths
 use Rattle.rr_parser.specs.Places.{Place, Look, word, at, next}
 use Rattle.rr_parser.specs.Grammar.Names.{is_local, variable_of, local_tree, is_allowed, jump_tree, begins_arguments, passed, passed_bare, bracket, begins_operands}
 use Rattle.rr_parser.specs.Grammar.Fences.{opened}
-use Rattle.rr_parser.specs.Grammar.Operands.{fits, fits_below, negated, joined, literal_of, construct_of, tail}
+use Rattle.rr_parser.specs.Grammar.Operands.{fits, fits_below, negated, joined, literal_of, inner_constant, construct_of, tail}
 use Rattle.rr_parser.specs.Reading.Answers.{◌>>=◌, wrong, Answer, Parse, built, from, trail_on}
 use Rattle.rr_parser.specs.Reading.Nesting.{Readers}
 
@@ -66,6 +67,13 @@ negative_in (Some n) = if fits_below n.0 then Ok (int (negated n.0), n.1) else E
 unfoldable pub negative_of : Parse Tree
 negative_of m = negative_in (at joined m)
 
+abbrev pub constant_or : Sym → Place → Option (Sym × Place) → Answer Tree
+constant_or x m None = Ok (constant (paths.Plain x), m)
+constant_or x m (Some y) = Ok (constant (paths.Ractor y.0), y.1)
+
+unfoldable pub constant_at : Sym → Bool → Parse Tree
+constant_at x outer m = constant_or x m (at (inner_constant outer) m)
+
 abbrev pub jump_at : Jump → Place → Answer Tree
 jump_at j m = if is_allowed j m.known then (if begins_arguments m.rest then Err wrong else Ok (jump_tree j nil, m)) else Err wrong
 
@@ -87,6 +95,7 @@ begun N None None m = Err wrong
 abbrev pub primary_at : Readers → WordKind → Place → Answer Tree
 primary_at N (kind.Int n) m = int_at n m
 primary_at N (kind.Name x marked) m = name_of N x m
+primary_at N (kind.Constant x outer) m = constant_at x outer m
 primary_at N kind.Minus m = negative_of m
 primary_at N (kind.Jump j) m = jump_at j m
 primary_at N (kind.Passing p) m = passing_of N p m
