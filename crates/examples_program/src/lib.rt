@@ -6,6 +6,8 @@ mod broken;
 #[cfg(test)]
 mod calls;
 #[cfg(test)]
+mod containers;
+#[cfg(test)]
 mod large;
 #[cfg(test)]
 mod limits;

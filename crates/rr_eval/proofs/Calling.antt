@@ -1,5 +1,5 @@
 -- What a call leaves where nothing is published.
-use Rattle.std.proofs.Common.{◌≡◌, ◌∙◌, ◌≤◌, ℕ, ap, sym, refl, subst, arith, replicate, List, [], ◌∷◌, length, length-append, length-set, Contains, Option, Some, None, slice_get, slice_set, Result, true, false, Bool, if◌then◌else◌}
+use Rattle.std.proofs.Common.{◌≡◌, ◌∙◌, ◌≤◌, ℕ, ap, map, sym, refl, subst, arith, replicate, List, [], ◌∷◌, length, length-append, length-set, Contains, Option, Some, None, slice_get, slice_set, Result, true, false, Bool, if◌then◌else◌}
 use Rattle.rr_base.specs.declared.fault.Fault.{Fault}
 use Rattle.rr_space.specs.Graph.{Object, Value, At, Own}
 use Rattle.rr_space.specs.Lookups.{text_object, frozen_text}
@@ -26,11 +26,17 @@ use Rattle.rr_eval.specs.declared.problem.Response.{Response}
 use Rattle.rr_eval.specs.declared.problem.Response.TheVariants as response
 use Rattle.rr_eval.specs.Context.{Context}
 use Rattle.rr_eval.specs.Callees.{method_of}
-use Rattle.rr_eval.specs.Calls.{sent, unpublished, reply_of}
+use Rattle.rr_eval.specs.Calls.{sent, unpublished, reply_with, reply_of}
+use Rattle.rr_eval.specs.Tasks.{task_reply, array_reply, inspected_reply, given_by, unless_lacking, lack_of, texts_of}
 use Rattle.rr_eval.specs.Responses.{ref_of, receiver_of, response_from, response_of}
 use Rattle.rr_eval.specs.Requests.{Adds, arguments_of}
 use Rattle.rr_eval.specs.Runs.{alone}
-use Rattle.rr_eval.specs.Script.{Prints, Calls}
+use Rattle.rr_eval.specs.Script.{Does, Calls, Reply}
+use Rattle.rr_eval.specs.declared.call.Task.{Task}
+use Rattle.rr_eval.specs.declared.call.Task.TheVariants.{Puts as PutsTask, Inspect, Print, MakeArray}
+use Rattle.rr_builtin.specs.declared.problem.Problem.{Problem as BuiltInProblem}
+use Rattle.rr_text.specs.Forms.{Names}
+use Rattle.rr_text.specs.Names.{names_of}
 use Rattle.rr_eval.specs.Within.{reach, IsReached, IsCallReached, IsResponseReached}
 use Rattle.rr_eval.proofs.Holding.{ref_reached, ref_among}
 
@@ -77,10 +83,9 @@ response_reached k missing (built.Raised p) within among = tt
 response_reached k missing built.Missing within among = tt
 
 -- the reply is the only one
-pub one_reply : (callee : Callee) (v : Ref) (t u : Table) (done : Outcome × Table) (b : Built) → IsDone [] done t u b → IsWell u
-    → reply_of callee v t done ≡ record { response = response_from (MissingMethod callee (receiver_of t v)) b; table = u }
-one_reply callee v t u done b is well =
-    let missing = MissingMethod callee (receiver_of t v) in
+pub one_reply : (missing : Problem) (t u : Table) (done : Outcome × Table) (b : Built) → IsDone [] done t u b → IsWell u
+    → reply_with missing t done ≡ record { response = response_from missing b; table = u }
+one_reply missing t u done b is well =
     let first : response_of missing done.0 ≡ response_from missing b = ap (response_of missing) (sym is.outcome) ∙ one_response missing b is.among in
     ap (λ (r : Response). record { response = r; table = unpublished t done.1 }) first
     ∙ ap (λ (x : Table). record { response = response_from missing b; table = x }) (one_table t u done.1 is.slots is.keys is.rest is.read well)
@@ -164,9 +169,30 @@ pub sent_adds : (c : Context) (below : Below) (v : Ref) (m : Option BuiltInMetho
 sent_adds c below v None args t = omega arith
 sent_adds c below v (Some m) args t = act_adds (call_act c.program below v m args t) v t
 
+pub array_adds : (vs : List Ref) (t : Table) → count t ≤ count (array_reply vs t).table
+array_adds vs t = act_adds (MakesArray (map value_of vs)) refs.Nil t
+
+inspected_adds : (vs : List Ref) (t : Table) → count t ≤ count (inspected_reply vs t).table
+inspected_adds [] t = omega arith
+inspected_adds (v ∷ []) t = omega arith
+inspected_adds (v ∷ w ∷ vs) t = array_adds (v ∷ w ∷ vs) t
+
+given_adds : (task : Task) (vs : List Ref) (t : Table) → count t ≤ count (given_by task vs t).table
+given_adds MakeArray vs t = array_adds vs t
+given_adds Inspect vs t = inspected_adds vs t
+given_adds PutsTask vs t = omega arith
+given_adds Print vs t = omega arith
+
+lacking_adds : (lack : Option BuiltInProblem) (t : Table) (reply : Reply) → count t ≤ count reply.table → count t ≤ count (unless_lacking lack t reply).table
+lacking_adds None t reply le = le
+lacking_adds (Some problem) t reply le = omega arith
+
+task_adds : (task : Task) (names : Names) (vs : List Ref) (t : Table) → count t ≤ count (task_reply task names vs t).table
+task_adds task names vs t = lacking_adds (lack_of (texts_of task names t vs)) t (given_by task vs t) (given_adds task vs t)
+
 -- a script that runs alone takes no object away
 pub alone_adds : (c : Context) → Adds (alone c)
-alone_adds c asked (Prints piece) t = omega arith
+alone_adds c asked (Does task vs u) t = task_adds task (names_of c.program) vs t
 alone_adds c asked (Calls v callee args) t = sent_adds c [] v (method_of c callee) args t
 
 -- a space without objects leads to no cluster

@@ -15,4 +15,5 @@ pub mod Replies
 pub mod Serving
 pub mod Reading
 pub mod Calling
+pub mod Replying
 pub mod Literals

@@ -9,8 +9,10 @@ use Rattle.rr_base.specs.declared.name.Sym.{Sym}
 use Rattle.rr_eval.specs.declared.frame.Frame.TheVariants.{Argument}
 use Rattle.rr_eval.specs.Script.{Go}
 use Rattle.rr_eval.specs.declared.call.Callee.TheVariants as callees
-use Rattle.rr_eval.specs.declared.call.Target.TheVariants.{Puts, Call as CallTarget}
-use Rattle.rr_eval.specs.Rules.{Context, rule, statements, values, on_value, finish, is_puts, call_rule, not_here}
+use Rattle.rr_eval.specs.declared.call.Target.TheVariants.{Do, Call as CallTarget}
+use Rattle.rr_eval.specs.declared.call.Task.{Task}
+use Rattle.rr_eval.specs.declared.call.Task.TheVariants.{MakeArray}
+use Rattle.rr_eval.specs.Rules.{Context, rule, statements, values, on_value, finish, printing, call_rule, not_here}
 use Rattle.rr_eval.specs.Nodes.{evaluated_tree, is_unknown}
 use Rattle.rr_eval.specs.Frames.{Code, resumed}
 use Rattle.rr_eval.proofs.Trees.{items_listed}
@@ -28,15 +30,18 @@ pub sequence_rule : (ns : List Node) (c : Context) (first count : ℕ) → state
 sequence_rule ns c first count = ap statements (sym (items_listed (trees_before ns (first + count) count)))
 
 -- the first of several arguments
-pub puts_from : (c : Code) (first count held : ℕ) → 1 ≤ count → Go (tree_at c.nodes first) (resumed c (Argument Puts (first + count) (count - 1) held) []) ≡ values (trees_before c.nodes (first + count) count) [] (finish c.context Puts)
-puts_from c first zero held h = absurd (omega arith)
-puts_from c first (suc more) held h =
+pub values_from : (c : Code) (task : Task) (first count held : ℕ) → 1 ≤ count → Go (tree_at c.nodes first) (resumed c (Argument (Do task) (first + count) (count - 1) held) []) ≡ values (trees_before c.nodes (first + count) count) [] (finish c.context (Do task))
+values_from c task first zero held h = absurd (omega arith)
+values_from c task first (suc more) held h =
     let k : suc more - 1 ≡ more = omega arith in
     let e : first ≡ first + suc more - suc more = omega arith in
-    ap (λ m. Go (tree_at c.nodes first) (resumed c (Argument Puts (first + suc more) m held) [])) k ∙ ap (λ p. Go (tree_at c.nodes p) (resumed c (Argument Puts (first + suc more) more held) [])) e
+    ap (λ m. Go (tree_at c.nodes first) (resumed c (Argument (Do task) (first + suc more) m held) [])) k ∙ ap (λ p. Go (tree_at c.nodes p) (resumed c (Argument (Do task) (first + suc more) more held) [])) e
 
-pub call_is : (ns : List Node) (c : Context) (x : Sym) (first count site : ℕ) → call_rule c (is_puts c x.0) (trees_before ns (first + count) count) ≡ rule c (evaluated_tree ns (Call x first count site))
-call_is ns c x first count site = ap (call_rule c (is_puts c x.0)) (sym (items_listed (trees_before ns (first + count) count)))
+pub call_is : (ns : List Node) (c : Context) (x : Sym) (first count site : ℕ) → call_rule c (printing c x.0) (trees_before ns (first + count) count) ≡ rule c (evaluated_tree ns (Call x first count site))
+call_is ns c x first count site = ap (call_rule c (printing c x.0)) (sym (items_listed (trees_before ns (first + count) count)))
+
+pub array_is : (ns : List Node) (c : Context) (first count : ℕ) → values (trees_before ns (first + count) count) [] (finish c (Do MakeArray)) ≡ rule c (evaluated_tree ns (nodes.Array first count))
+array_is ns c first count = ap (λ ts. values ts [] (finish c (Do MakeArray))) (sym (items_listed (trees_before ns (first + count) count)))
 
 pub send_is : (ns : List Node) (c : Context) (a : ℕ) (x : Sym) (first count site : ℕ)
     → values (tree_at ns a ∷ trees_before ns (first + count) count) [] (finish c (CallTarget (callees.Name x))) ≡ rule c (evaluated_tree ns (Send a x first count site))
@@ -50,6 +55,7 @@ unknown_rule ns c (nodes.Int z) e = absurd cc
 unknown_rule ns c (nodes.Text i) e = absurd cc
 unknown_rule ns c (nodes.Symbol x) e = absurd cc
 unknown_rule ns c (nodes.Class k) e = absurd cc
+unknown_rule ns c (nodes.Array first count) e = absurd cc
 unknown_rule ns c (nodes.Local depth slot x) e = absurd cc
 unknown_rule ns c (nodes.Bare x site) e = absurd cc
 unknown_rule ns c (nodes.Call x first count site) e = absurd cc

@@ -9,14 +9,16 @@ use Rattle.rr_space.specs.declared.refer.Ref.TheVariants.{Int, Local}
 use Rattle.rr_space.specs.declared.refer.Ref.TheVariants as refs
 use Rattle.rr_builtin.specs.Objects.{is_truthy}
 use Rattle.rr_eval.specs.Values.{goes_on}
-use Rattle.rr_tree.specs.Tree.{tree_at, Tree, nil, truth, int, text, symbol, class_named, send, index, append, local, bare, call, logical_and, logical_or, logical_not, negate, binary, assign, choose, repeat, sequence}
+use Rattle.rr_tree.specs.Tree.{tree_at, Tree, nil, truth, int, text, symbol, class_named, array, send, index, append, local, bare, call, logical_and, logical_or, logical_not, negate, binary, assign, choose, repeat, sequence}
 use Rattle.rr_tree.specs.declared.node.BinaryOperator.{BinaryOperator}
 use Rattle.rr_tree.specs.declared.program.Program.{Program}
 use Rattle.rr_eval.specs.declared.problem.Answer.{Answer}
 use Rattle.rr_eval.specs.declared.problem.Answer.TheVariants.{Gave, Raised}
 use Rattle.rr_eval.specs.declared.call.Callee.TheVariants as callees
 use Rattle.rr_eval.specs.declared.call.Target.{Target}
-use Rattle.rr_eval.specs.declared.call.Target.TheVariants.{Puts, Call}
+use Rattle.rr_eval.specs.declared.call.Target.TheVariants.{Do as DoTarget, Call}
+use Rattle.rr_eval.specs.declared.call.Task.{Task}
+use Rattle.rr_eval.specs.declared.call.Task.TheVariants.{MakeArray}
 use Rattle.rr_eval.specs.declared.problem.Response.{Response}
 use Rattle.rr_eval.specs.declared.problem.Response.TheVariants.{Gives, Throws, Fails}
 use Rattle.rr_eval.specs.declared.problem.Problem.{Problem}
@@ -31,7 +33,7 @@ use Rattle.rr_eval.specs.Acts.{Passes}
 use Rattle.rr_eval.specs.Turns.{context_of, code_of, state_of, after_script, asking_then}
 use Rattle.rr_builtin.specs.Acts.{with_text}
 use Rattle.rr_eval.specs.Operators.{make, integers, opposite}
-use Rattle.rr_eval.specs.Rules.{Context, items, throw, raise, settled, on_value, with_value, on_table, operation, negation, statements, values, finish, is_puts, bare_rule, call_rule, rule, eval}
+use Rattle.rr_eval.specs.Rules.{Context, items, throw, raise, settled, on_value, with_value, on_table, operation, negation, statements, values, finish, printing, bare_rule, call_rule, rule, eval}
 use Rattle.rr_tree.specs.Nodes.{trees_before}
 use Rattle.rr_eval.specs.Messages.{message, exception_class}
 use Rattle.rr_eval.specs.Exceptions.{exception_object, with_exception}
@@ -80,7 +82,7 @@ negates c (Int x) = settled_keeps c (opposite x)
 negates c v = settled_keeps c
 
 finish_keeps : (c : Context) (target : Target) (vs : List Ref) → Keeps (finish c target vs)
-finish_keeps c Puts vs = λ m. settled_keeps c
+finish_keeps c (DoTarget task) vs = λ m. settled_keeps c
 finish_keeps c (Call callee) [] = tt
 finish_keeps c (Call callee) (v ∷ vs) = settled_keeps c
 
@@ -101,13 +103,13 @@ round_keeps : (b : Bool) (body loop : Tree) → Keeps (if b then with_value body
 round_keeps true body loop = on_value_keeps _ (λ w. λ a. tt)
 round_keeps false body loop = tt
 
-bare_keeps : (c : Context) (b : Bool) (x : ℕ) → Keeps (bare_rule c b x)
-bare_keeps c true x = λ m. settled_keeps c
-bare_keeps c false x = throw_keeps c (MissingName (record { 0 = x }))
+bare_keeps : (c : Context) (task : Option Task) (x : ℕ) → Keeps (bare_rule c task x)
+bare_keeps c (Some task) x = finish_keeps c (DoTarget task) []
+bare_keeps c None x = throw_keeps c (MissingName (record { 0 = x }))
 
-call_keeps : (c : Context) (b : Bool) (ts : List Tree) → Keeps (call_rule c b ts)
-call_keeps c true ts = values_keep c Puts ts []
-call_keeps c false ts = throw_keeps c NotHere
+call_keeps : (c : Context) (task : Option Task) (ts : List Tree) → Keeps (call_rule c task ts)
+call_keeps c (Some task) ts = values_keep c (DoTarget task) ts []
+call_keeps c None ts = throw_keeps c NotHere
 
 rule_keeps : (c : Context) (tree : Tree) → Keeps (rule c tree)
 rule_keeps c nil = tt
@@ -118,10 +120,11 @@ rule_keeps c (class_named k) = tt
 rule_keeps c (send a x list) = values_keep c (Call (callees.Name (record { 0 = x }))) (a ∷ items list) []
 rule_keeps c (index a b) = values_keep c (Call callees.Index) (a ∷ b ∷ []) []
 rule_keeps c (append a b) = values_keep c (Call callees.Append) (a ∷ b ∷ []) []
+rule_keeps c (array list) = values_keep c (DoTarget MakeArray) (items list) []
 rule_keeps c (text i) = λ m. (λ k. make_keeps c.program.freezes _ k.table, tt)
 rule_keeps c (local depth slot x) = λ m. tt
-rule_keeps c (bare x) = bare_keeps c (is_puts c x) x
-rule_keeps c (call x list) = call_keeps c (is_puts c x) (items list)
+rule_keeps c (bare x) = bare_keeps c (printing c x) x
+rule_keeps c (call x list) = call_keeps c (printing c x) (items list)
 rule_keeps c (logical_and a b) = on_value_keeps _ (λ v. if_keeps (is_truthy v) (Go b Ret) (Ret (Gave v)) (λ a'. tt) tt)
 rule_keeps c (logical_or a b) = on_value_keeps _ (λ v. if_keeps (is_truthy v) (Ret (Gave v)) (Go b Ret) tt (λ a'. tt))
 rule_keeps c (logical_not a) = on_value_keeps _ (λ v. tt)

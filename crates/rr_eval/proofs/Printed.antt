@@ -20,70 +20,72 @@ use Rattle.rr_eval.specs.Written.{IsBeginning}
 use Rattle.rr_eval.specs.Runs.{piece_asked, text_asked, text_of}
 use Rattle.rr_eval.proofs.Bytes.{beginning-trans}
 
--- one request more
-pub text-push : (qs : List Asked) (q : Asked) → text_asked (qs ++ q ∷ []) ≡ text_asked qs ++ piece_asked q
-text-push [] q = append-nil (piece_asked q)
-text-push (r ∷ qs) q = ap (λ l. piece_asked r ++ l) (text-push qs q) ∙ sym (append_assoc (piece_asked r) (text_asked qs) (piece_asked q))
-
 pub beginning-refl : (a : List ℕ) → IsBeginning a a
 beginning-refl a = ([], sym (append-nil a))
 
--- the evaluation prints behind what was printed
-abbrev Grows : Evaluation → Type 0
-Grows go = (t : Tree) (s : State) (n : ℕ) → IsBeginning (text_asked s.asked) (text_of (go t s n))
+-- where scripts run that refer to this
+module _ (own : Context) where
+  -- one request more
+  pub text-push : (qs : List Asked) (q : Asked) → text_asked own (qs ++ q ∷ []) ≡ text_asked own qs ++ piece_asked own q
+  text-push [] q = append-nil (piece_asked own q)
+  text-push (r ∷ qs) q = ap (λ l. piece_asked own r ++ l) (text-push qs q) ∙ sym (append_assoc (piece_asked own r) (text_asked own qs) (piece_asked own q))
 
-after_grows : (x : List ℕ) (o : Outcome) (next : Answer → State → ℕ → Outcome) → IsBeginning x (text_of o) → ((a : Answer) (s : State) (n : ℕ) → IsBeginning (text_asked s.asked) (text_of (next a s n))) → IsBeginning x (text_of (after o next))
-after_grows x (Ended a s n) next b h = beginning-trans x (text_asked s.asked) (text_of (next a s n)) b (h a s n)
-after_grows x (Spent s) next b h = b
-after_grows x (Waits s) next b h = b
+  -- the evaluation prints behind what was printed
+  abbrev Grows : Evaluation → Type 0
+  Grows go = (t : Tree) (s : State) (n : ℕ) → IsBeginning (text_asked own s.asked) (text_of own (go t s n))
 
-taken_grows : (x : List ℕ) (r : Option Reply) (s : State) (next : Response → State → Outcome) → IsBeginning x (text_asked s.asked)
-    → ((a : Response) (u : State) → IsBeginning (text_asked u.asked) (text_of (next a u))) → IsBeginning x (text_of (taken r s next))
-taken_grows x None s next b h = b
-taken_grows x (Some r) s next b h =
-    let u = record s { memory = record s.memory { table = r.table } } in
-    beginning-trans x (text_asked s.asked) (text_of (next r.response u)) b (h r.response u)
+  after_grows : (x : List ℕ) (o : Outcome) (next : Answer → State → ℕ → Outcome) → IsBeginning x (text_of own o) → ((a : Answer) (s : State) (n : ℕ) → IsBeginning (text_asked own s.asked) (text_of own (next a s n))) → IsBeginning x (text_of own (after o next))
+  after_grows x (Ended a s n) next b h = beginning-trans x (text_asked own s.asked) (text_of own (next a s n)) b (h a s n)
+  after_grows x (Spent s) next b h = b
+  after_grows x (Waits s) next b h = b
 
-more_grows : (qs : List Asked) (q : Asked) → IsBeginning (text_asked qs) (text_asked (qs ++ q ∷ []))
-more_grows qs q = (piece_asked q, text-push qs q)
+  taken_grows : (x : List ℕ) (r : Option Reply) (s : State) (next : Response → State → Outcome) → IsBeginning x (text_asked own s.asked)
+      → ((a : Response) (u : State) → IsBeginning (text_asked own u.asked) (text_of own (next a u))) → IsBeginning x (text_of own (taken r s next))
+  taken_grows x None s next b h = b
+  taken_grows x (Some r) s next b h =
+      let u = record s { memory = record s.memory { table = r.table } } in
+      beginning-trans x (text_asked own s.asked) (text_of own (next r.response u)) b (h r.response u)
 
-run_grows : (w : World) (go : Evaluation) → Grows go → (p : Script) (s : State) (n : ℕ) → IsBeginning (text_asked s.asked) (text_of (run w go p s n))
-run_grows w go h (Ret a) s n = beginning-refl (text_asked s.asked)
-run_grows w go h (Go t next) s n = after_grows (text_asked s.asked) (go t s n) (λ a. run w go (next a)) (h t s n) (λ a s' m. run_grows w go h (next a) s' m)
-run_grows w go h (See look) s n = run_grows w go h (look s.memory) s n
-run_grows w go h (Do act next) s n = run_grows w go h next (record s { memory = act s.memory }) n
-run_grows w go h (Ask q next) s n =
-    taken_grows (text_asked s.asked) (w s.asked q s.memory.table) (record s { asked = s.asked ++ q ∷ [] }) (λ r u. run w go (next r) u n) (more_grows s.asked q) (λ r u. run_grows w go h (next r) u n)
+  more_grows : (qs : List Asked) (q : Asked) → IsBeginning (text_asked own qs) (text_asked own (qs ++ q ∷ []))
+  more_grows qs q = (piece_asked own q, text-push qs q)
 
-eval_grows : (c : Context) (w : World) (depth : ℕ) → Grows (eval c w depth)
-eval_grows c w zero t s n = beginning-refl (text_asked s.asked)
-eval_grows c w (suc depth) t s zero = beginning-refl (text_asked s.asked)
-eval_grows c w (suc depth) t s (suc n) = run_grows w (eval c w depth) (eval_grows c w depth) (rule c t) s n
+  run_grows : (w : World) (go : Evaluation) → Grows go → (p : Script) (s : State) (n : ℕ) → IsBeginning (text_asked own s.asked) (text_of own (run w go p s n))
+  run_grows w go h (Ret a) s n = beginning-refl (text_asked own s.asked)
+  run_grows w go h (Go t next) s n = after_grows (text_asked own s.asked) (go t s n) (λ a. run w go (next a)) (h t s n) (λ a s' m. run_grows w go h (next a) s' m)
+  run_grows w go h (See look) s n = run_grows w go h (look s.memory) s n
+  run_grows w go h (Do act next) s n = run_grows w go h next (record s { memory = act s.memory }) n
+  run_grows w go h (Ask q next) s n =
+      taken_grows (text_asked own s.asked) (w s.asked q s.memory.table) (record s { asked = s.asked ++ q ∷ [] }) (λ r u. run w go (next r) u n) (more_grows s.asked q) (λ r u. run_grows w go h (next r) u n)
 
-meaning_grows : (c : Code) → Grows (means c)
-meaning_grows c t s n = eval_grows c.context c.world n t s n
+  eval_grows : (c : Context) (w : World) (depth : ℕ) → Grows (eval c w depth)
+  eval_grows c w zero t s n = beginning-refl (text_asked own s.asked)
+  eval_grows c w (suc depth) t s zero = beginning-refl (text_asked own s.asked)
+  eval_grows c w (suc depth) t s (suc n) = run_grows w (eval c w depth) (eval_grows c w depth) (rule c t) s n
 
-unwind_grows : (x : List ℕ) (c : Code) (fs : List Frame) (held : List Ref) (o : Outcome) → IsBeginning x (text_of o) → IsBeginning x (text_of (unwind c fs held o))
-unwind_grows x c [] held o b = b
-unwind_grows x c (f ∷ fs) held o b =
-    let next = λ (a : Answer). runs_in c (resumed c f (stand_of f held) a) in
-    unwind_grows x c fs (below_of f held) (after o next) (after_grows x o next b (λ a s n. run_grows c.world (means c) (meaning_grows c) (resumed c f (stand_of f held) a) s n))
+  meaning_grows : (c : Code) → Grows (means c)
+  meaning_grows c t s n = eval_grows c.context c.world n t s n
 
-start_grows : (c : Code) (k : Control) (s : State) (n : ℕ) → IsBeginning (text_asked s.asked) (text_of (start c k s n))
-start_grows c (Enter part) s n = meaning_grows c (tree_at c.nodes part) s n
-start_grows c (Give a) s n = beginning-refl (text_asked s.asked)
-start_grows c (Throw e) s n = run_grows c.world (means c) (meaning_grows c) (throw c.context e) s n
-start_grows c (Raise class message) s n = run_grows c.world (means c) (meaning_grows c) (raise class message) s n
+  unwind_grows : (x : List ℕ) (c : Code) (fs : List Frame) (held : List Ref) (o : Outcome) → IsBeginning x (text_of own o) → IsBeginning x (text_of own (unwind c fs held o))
+  unwind_grows x c [] held o b = b
+  unwind_grows x c (f ∷ fs) held o b =
+      let next = λ (a : Answer). runs_in c (resumed c f (stand_of f held) a) in
+      unwind_grows x c fs (below_of f held) (after o next) (after_grows x o next b (λ a s n. run_grows c.world (means c) (meaning_grows c) (resumed c f (stand_of f held) a) s n))
 
--- what is still to be done prints behind what was printed
-pub remaining_grows : (p : Program) (m : View) (t : Table) (h : Course) → IsBeginning (text_asked h.asked) (text_of (remaining p m t h))
-remaining_grows p m t h = unwind_grows (text_asked h.asked) (code_of p h.world) (reverse m.frames) m.held (start (code_of p h.world) m.control (state_of m t h) m.left) (start_grows (code_of p h.world) m.control (state_of m t h) m.left)
+  start_grows : (c : Code) (k : Control) (s : State) (n : ℕ) → IsBeginning (text_asked own s.asked) (text_of own (start c k s n))
+  start_grows c (Enter part) s n = meaning_grows c (tree_at c.nodes part) s n
+  start_grows c (Give a) s n = beginning-refl (text_asked own s.asked)
+  start_grows c (Throw e) s n = run_grows c.world (means c) (meaning_grows c) (throw c.context e) s n
+  start_grows c (Raise class message) s n = run_grows c.world (means c) (meaning_grows c) (raise class message) s n
 
--- a request is printed first
-pub asking_grows : (p : Program) (m : View) (t : Table) (q : Asked) (h : Course) → IsBeginning (text_asked (h.asked ++ q ∷ [])) (text_of (asking_then p m t q h))
-asking_grows p m t q h =
-    let c = code_of p h.world in
-    let more = record (state_of m t h) { asked = h.asked ++ q ∷ [] } in
-    let next = λ (r : Response) (u : State). runs_in c (settled (context_of p) r) u m.left in
-    unwind_grows (text_asked more.asked) c (reverse m.frames) m.held (taken (h.world h.asked q t) more next)
-    (taken_grows (text_asked more.asked) (h.world h.asked q t) more next (beginning-refl (text_asked more.asked)) (λ r u. run_grows h.world (means c) (meaning_grows c) (settled (context_of p) r) u m.left))
+  -- what is still to be done prints behind what was printed
+  pub remaining_grows : (p : Program) (m : View) (t : Table) (h : Course) → IsBeginning (text_asked own h.asked) (text_of own (remaining p m t h))
+  remaining_grows p m t h = unwind_grows (text_asked own h.asked) (code_of p h.world) (reverse m.frames) m.held (start (code_of p h.world) m.control (state_of m t h) m.left) (start_grows (code_of p h.world) m.control (state_of m t h) m.left)
+
+  -- a request is printed first
+  pub asking_grows : (p : Program) (m : View) (t : Table) (q : Asked) (h : Course) → IsBeginning (text_asked own (h.asked ++ q ∷ [])) (text_of own (asking_then p m t q h))
+  asking_grows p m t q h =
+      let c = code_of p h.world in
+      let more = record (state_of m t h) { asked = h.asked ++ q ∷ [] } in
+      let next = λ (r : Response) (u : State). runs_in c (settled (context_of p) r) u m.left in
+      unwind_grows (text_asked own more.asked) c (reverse m.frames) m.held (taken (h.world h.asked q t) more next)
+      (taken_grows (text_asked own more.asked) (h.world h.asked q t) more next (beginning-refl (text_asked own more.asked)) (λ r u. run_grows h.world (means c) (meaning_grows c) (settled (context_of p) r) u m.left))

@@ -28,7 +28,7 @@ in_world w asked = record { asked = asked; world = w }
 pub record IsRunning (w : World) (p : Program) (m : View) (t : Table) (all : Outcome) (old now : Written) : Type 0 where
   pub asked : List Asked
   pub same : all ≡ remaining p m t (in_world w asked)
-  pub wrote : WritesAll old now (text_asked asked)
+  pub wrote : WritesAll old now (text_asked (context_of p) asked)
 
 -- at first
 pub running_first : (w : World) (p : Program) (m : View) (t : Table) (all : Outcome) (old : Written) → all ≡ remaining p m t (in_world w []) → IsRunning w p m t all old old
@@ -39,46 +39,46 @@ pub running_on : (w : World) (p : Program) (m n : View) (t u : Table) (all : Out
 running_on w p m n t u all old now r e = record { asked = r.asked; same = r.same ∙ e (in_world w r.asked); wrote = r.wrote }
 
 -- a request was served, and its piece written whole
-pub running_more : (w : World) (p : Program) (m n : View) (t u v : Table) (all : Outcome) (old now new : Written) (q : Asked) (a : Response) → IsRunning w p m t all old now → ((h : Course) → remaining p m t h ≡ asking_then p n u q h) → ((asked : List Asked) → w asked q u ≡ Some (record { response = a; table = v })) → WritesAll now new (piece_asked q) → IsRunning w p (answered n a) v all old new
+pub running_more : (w : World) (p : Program) (m n : View) (t u v : Table) (all : Outcome) (old now new : Written) (q : Asked) (a : Response) → IsRunning w p m t all old now → ((h : Course) → remaining p m t h ≡ asking_then p n u q h) → ((asked : List Asked) → w asked q u ≡ Some (record { response = a; table = v })) → WritesAll now new (piece_asked (context_of p) q) → IsRunning w p (answered n a) v all old new
 running_more w p m n t u v all old now new q a r e reply written = record {
   asked = r.asked ++ q ∷ [];
   same = r.same ∙ e (in_world w r.asked) ∙ (replied p n a).goes u v q (in_world w r.asked) (reply r.asked);
-  wrote = subst (WritesAll old new) (sym (text-push r.asked q)) (writes_both old now new (text_asked r.asked) (piece_asked q) r.wrote written);
+  wrote = subst (WritesAll old new) (sym (text-push (context_of p) r.asked q)) (writes_both old now new (text_asked (context_of p) r.asked) (piece_asked (context_of p) q) r.wrote written);
 }
 
 -- a request was served that prints nothing
-pub running_called : (w : World) (p : Program) (m n : View) (t u v : Table) (all : Outcome) (old now : Written) (q : Asked) (a : Response) → IsRunning w p m t all old now → ((h : Course) → remaining p m t h ≡ asking_then p n u q h) → ((asked : List Asked) → w asked q u ≡ Some (record { response = a; table = v })) → piece_asked q ≡ [] → IsRunning w p (answered n a) v all old now
+pub running_called : (w : World) (p : Program) (m n : View) (t u v : Table) (all : Outcome) (old now : Written) (q : Asked) (a : Response) → IsRunning w p m t all old now → ((h : Course) → remaining p m t h ≡ asking_then p n u q h) → ((asked : List Asked) → w asked q u ≡ Some (record { response = a; table = v })) → piece_asked (context_of p) q ≡ [] → IsRunning w p (answered n a) v all old now
 running_called w p m n t u v all old now q a r e reply none =
     running_more w p m n t u v all old now now q a r e reply (subst (WritesAll now now) (sym none) (record { wrote = Appends-nil now.bytes; failed = refl }))
 
 -- a piece could not be written whole
-pub running_failed : (w : World) (p : Program) (m n : View) (t u : Table) (all : Outcome) (old now new : Written) (q : Asked) → IsRunning w p m t all old now → ((h : Course) → remaining p m t h ≡ asking_then p n u q h) → FallsShort now new (piece_asked q) → FallsShort old new (text_of all)
+pub running_failed : (w : World) (p : Program) (m n : View) (t u : Table) (all : Outcome) (old now new : Written) (q : Asked) → IsRunning w p m t all old now → ((h : Course) → remaining p m t h ≡ asking_then p n u q h) → FallsShort now new (piece_asked (context_of p) q) → FallsShort old new (text_of (context_of p) all)
 running_failed w p m n t u all old now new q r e written =
     let h = in_world w r.asked in
     let more = r.asked ++ q ∷ [] in
-    let short = falls_short_after old now new (text_asked r.asked) (piece_asked q) r.wrote written in
-    let begins = subst (IsBeginning (text_asked more)) (sym (ap text_of (r.same ∙ e h))) (asking_grows p n u q h) in
-    falls_short_longer old new (text_asked r.asked ++ piece_asked q) (text_of all) short (subst (λ l. IsBeginning l (text_of all)) (text-push r.asked q) begins)
+    let short = falls_short_after old now new (text_asked (context_of p) r.asked) (piece_asked (context_of p) q) r.wrote written in
+    let begins = subst (IsBeginning (text_asked (context_of p) more)) (sym (ap (text_of (context_of p)) (r.same ∙ e h))) (asking_grows (context_of p) p n u q h) in
+    falls_short_longer old new (text_asked (context_of p) r.asked ++ piece_asked (context_of p) q) (text_of (context_of p) all) short (subst (λ l. IsBeginning l (text_of (context_of p) all)) (text-push (context_of p) r.asked q) begins)
 
 -- nothing more was printed
-pub running_stopped : (w : World) (p : Program) (m : View) (t : Table) (all : Outcome) (old now : Written) → IsRunning w p m t all old now → WritesBeginning old now (text_of all)
+pub running_stopped : (w : World) (p : Program) (m : View) (t : Table) (all : Outcome) (old now : Written) → IsRunning w p m t all old now → WritesBeginning old now (text_of (context_of p) all)
 running_stopped w p m t all old now r =
-    writes_beginning old now (text_asked r.asked) (text_of all) r.wrote (subst (IsBeginning (text_asked r.asked)) (sym (ap text_of r.same)) (remaining_grows p m t (in_world w r.asked)))
+    writes_beginning old now (text_asked (context_of p) r.asked) (text_of (context_of p) all) r.wrote (subst (IsBeginning (text_asked (context_of p) r.asked)) (sym (ap (text_of (context_of p)) r.same)) (remaining_grows (context_of p) p m t (in_world w r.asked)))
 
 -- all ended with an exception, of which this is told
 pub running_raised : (w : World) (p : Program) (m n : View) (t u : Table) (all : Outcome) (old now : Written) (v : Ref) (told : List ℕ) → IsRunning w p m t all old now → ((h : Course) → remaining p m t h ≡ Ended (Raised v) (state_of n u h) n.left) → IsTold u v told
-    → IsRaised all told × WritesAll old now (text_of all)
+    → IsRaised all told × WritesAll old now (text_of (context_of p) all)
 running_raised w p m n t u all old now v told r ends is =
-    subst (λ (o : Outcome). IsRaised o told × WritesAll old now (text_of o)) (sym (r.same ∙ ends (in_world w r.asked))) (is, r.wrote)
+    subst (λ (o : Outcome). IsRaised o told × WritesAll old now (text_of (context_of p) o)) (sym (r.same ∙ ends (in_world w r.asked))) (is, r.wrote)
 
 -- all ended with a value; all is out of steps
-pub running_done : (w : World) (p : Program) (m n : View) (t u : Table) (all : Outcome) (old now : Written) (v : Ref) → IsRunning w p m t all old now → ((h : Course) → remaining p m t h ≡ Ended (Gave v) (state_of n u h) n.left) → IsDone all × WritesAll old now (text_of all)
+pub running_done : (w : World) (p : Program) (m n : View) (t u : Table) (all : Outcome) (old now : Written) (v : Ref) → IsRunning w p m t all old now → ((h : Course) → remaining p m t h ≡ Ended (Gave v) (state_of n u h) n.left) → IsDone all × WritesAll old now (text_of (context_of p) all)
 running_done w p m n t u all old now v r ends =
-    subst (λ (o : Outcome). IsDone o × WritesAll old now (text_of o)) (sym (r.same ∙ ends (in_world w r.asked))) (tt, r.wrote)
+    subst (λ (o : Outcome). IsDone o × WritesAll old now (text_of (context_of p) o)) (sym (r.same ∙ ends (in_world w r.asked))) (tt, r.wrote)
 
-pub running_spent : (w : World) (p : Program) (m n : View) (t u : Table) (all : Outcome) (old now : Written) → IsRunning w p m t all old now → ((h : Course) → remaining p m t h ≡ Spent (state_of n u h)) → IsSpent all × WritesAll old now (text_of all)
+pub running_spent : (w : World) (p : Program) (m n : View) (t u : Table) (all : Outcome) (old now : Written) → IsRunning w p m t all old now → ((h : Course) → remaining p m t h ≡ Spent (state_of n u h)) → IsSpent all × WritesAll old now (text_of (context_of p) all)
 running_spent w p m n t u all old now r ends =
-    subst (λ (o : Outcome). IsSpent o × WritesAll old now (text_of o)) (sym (r.same ∙ ends (in_world w r.asked))) (tt, r.wrote)
+    subst (λ (o : Outcome). IsSpent o × WritesAll old now (text_of (context_of p) o)) (sym (r.same ∙ ends (in_world w r.asked))) (tt, r.wrote)
 
 -- no more objects than there may be
 pub running_fits : (w : World) (p : Program) (m : View) (t : Table) (all : Outcome) (old now : Written) (slots : ℕ) → IsRunning w p m t all old now → (o : Course → Outcome) → ((h : Course) → remaining p m t h ≡ o h) → ((h : Course) → objects_of (o h) ≤ slots) → objects_of all ≤ slots

@@ -10,6 +10,10 @@ use Rattle.rr_eval.specs.declared.frame.Control.TheVariants.{Enter, Give}
 use Rattle.rr_eval.specs.Script.{State, Ret, Go, Outcome, Ended, Spent, Waits, after}
 use Rattle.rr_eval.specs.Rules.{values, finish}
 use Rattle.rr_eval.specs.declared.call.Target.{Target}
+use Rattle.rr_eval.specs.View.{View}
+use Rattle.rr_eval.specs.Turns.{Stands}
+use Rattle.rr_space.specs.Tables.{Table}
+use Rattle.rr_base.specs.declared.fault.Fault.{Fault}
 use Rattle.rr_tree.specs.Nodes.{trees_before}
 use Rattle.rr_eval.specs.Frames.{Code, means, runs_in, IsNew, resumed, stand_of, below_of, unwind, Nested, base_of, outcome_of}
 
@@ -70,3 +74,13 @@ kept c fs target end (suc more) place base held v s n h at le =
     ∙ ap (λ h. unwind c (reverse fs) (take base (held ++ v ∷ [])) (after o (λ a. runs_in c (resumed c f h a)))) (sym stand)
     ∙ sym (rest_push c fs f (held ++ v ∷ []) o)
     ∙ ap (λ m. unwind c (reverse (fs ++ Argument target end m base ∷ [])) (held ++ v ∷ []) o) (sym k)
+
+-- a frame that is put back, where all else stands
+pub frame_back : (m n : View) (t : Table) (f : Frame) (fault : Fault) (fs : List Frame) → Stands m n t t fault → fs ≡ n.frames ++ f ∷ [] → record m { frames = m.frames ++ f ∷ [] } ≡ record n { frames = fs }
+frame_back m n t f fault fs is e =
+    ap (λ x. record { control = m.control; frames = x ++ f ∷ []; held = m.held; vars = m.vars; left = m.left }) (sym is.frames)
+    ∙ ap (λ x. record { control = m.control; frames = x; held = m.held; vars = m.vars; left = m.left }) (sym e)
+    ∙ ap (λ x. record { control = x; frames = fs; held = m.held; vars = m.vars; left = m.left }) (sym is.control)
+    ∙ ap (λ x. record { control = n.control; frames = fs; held = x; vars = m.vars; left = m.left }) (sym is.held)
+    ∙ ap (λ x. record { control = n.control; frames = fs; held = n.held; vars = x; left = m.left }) (sym is.vars)
+    ∙ ap (λ x. record { control = n.control; frames = fs; held = n.held; vars = n.vars; left = x }) (sym is.left)

@@ -9,6 +9,7 @@ use Rattle.rr_builtin.specs.Kinds.{is_shell_kind}
 use Rattle.rr_builtin.specs.declared.method.BuiltInMethod.{BuiltInMethod}
 use Rattle.rr_builtin.specs.declared.problem.Problem.TheVariants.{Moved}
 use Rattle.rr_eval.specs.declared.call.Callee.{Callee}
+use Rattle.rr_eval.specs.declared.problem.Problem.{Problem}
 use Rattle.rr_eval.specs.declared.problem.Problem.TheVariants.{MissingMethod}
 use Rattle.rr_eval.specs.Callees.{method_of}
 use Rattle.rr_eval.specs.Context.{Context}
@@ -24,8 +25,12 @@ sent c below v (Some m) args t = called c.program below v m args t
 abbrev pub unpublished : Table → Table → Table
 unpublished t u = record t { slots = u.slots; below = replicate (length u.slots) []; keys = u.keys }
 
+-- what is replied, where `missing` is the problem of a method that the receiver lacks
+abbrev pub reply_with : Problem → Table → Outcome × Table → Reply
+reply_with missing t done = record { response = response_of missing done.0; table = unpublished t done.1 }
+
 abbrev pub reply_of : Callee → Ref → Table → Outcome × Table → Reply
-reply_of callee v t done = record { response = response_of (MissingMethod callee (receiver_of t v)) done.0; table = unpublished t done.1 }
+reply_of callee v t done = reply_with (MissingMethod callee (receiver_of t v)) t done
 
 -- where nothing is published, the clusters that anything leads to are none
 abbrev pub call_reply : Context → Ref → Callee → List Ref → Table → Reply

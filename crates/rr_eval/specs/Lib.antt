@@ -11,12 +11,14 @@ pub mod Exceptions
 pub mod Thrown
 pub mod Requests
 pub mod Calls
+pub mod Tasks
 pub mod Rules
 pub mod Nodes
 pub mod Frames
 pub mod View
 pub mod Views
 pub mod Within
+pub mod Serves
 pub mod Turns
 pub mod Served
 pub mod Written

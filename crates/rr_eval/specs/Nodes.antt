@@ -1,13 +1,14 @@
 -- The tree of a node, by the numbers of its parts.
 use Rattle.std.specs.Prelude.{◌+◌, ◌<◌, ◌^◌, Bool, true, false, List}
 use Rattle.rr_tree.specs.Nodes.{node_tree, trees_before}
-use Rattle.rr_tree.specs.Tree.{Tree, sequence, call, send, listed, tree_at}
+use Rattle.rr_tree.specs.Tree.{Tree, sequence, array, call, send, listed, tree_at}
 use Rattle.rr_tree.specs.declared.node.Node.{Node}
 use Rattle.rr_tree.specs.declared.node.Node.TheVariants as node
 
 -- the tree of a node that is evaluated; nil stands for the items of a list past the table
 abbrev pub evaluated_tree : List Node → Node → Tree
 evaluated_tree ns (node.Sequence first count) = sequence (listed (trees_before ns (first + count) count))
+evaluated_tree ns (node.Array first count) = array (listed (trees_before ns (first + count) count))
 evaluated_tree ns (node.Call x first count site) = call x.0 (listed (trees_before ns (first + count) count))
 evaluated_tree ns (node.Send a x first count site) = send (tree_at ns a) x.0 (listed (trees_before ns (first + count) count))
 evaluated_tree ns n = node_tree ns n
@@ -16,6 +17,7 @@ evaluated_tree ns n = node_tree ns n
 abbrev pub IsEvaluated : Node → Type 0
 IsEvaluated (node.Item a) = ⊥
 IsEvaluated (node.Sequence first count) = first + count < 2 ^ 32
+IsEvaluated (node.Array first count) = first + count < 2 ^ 32
 IsEvaluated (node.Call x first count site) = first + count < 2 ^ 32
 IsEvaluated (node.Send a x first count site) = first + count < 2 ^ 32
 IsEvaluated (node.Index a b) = b + 1 < 2 ^ 32
@@ -25,6 +27,7 @@ IsEvaluated _ = Unit {0}
 -- a node whose evaluation needs the objects, the program's names or memory
 abbrev pub IsRareNode : Node → Type 0
 IsRareNode (node.Text i) = Unit {0}
+IsRareNode (node.Array first count) = Unit {0}
 IsRareNode (node.Bare x site) = Unit {0}
 IsRareNode (node.Call x first count site) = Unit {0}
 IsRareNode _ = ⊥
@@ -37,6 +40,7 @@ is_unknown (node.Int z) = false
 is_unknown (node.Text i) = false
 is_unknown (node.Symbol x) = false
 is_unknown (node.Class k) = false
+is_unknown (node.Array first count) = false
 is_unknown (node.Local depth slot x) = false
 is_unknown (node.Bare x site) = false
 is_unknown (node.Call x first count site) = false

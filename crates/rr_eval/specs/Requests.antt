@@ -6,7 +6,7 @@ use Rattle.rr_eval.specs.declared.request.Request.{Request}
 use Rattle.rr_eval.specs.declared.request.Request.TheVariants as requests
 use Rattle.rr_eval.specs.declared.call.Arguments.{Arguments}
 use Rattle.rr_eval.specs.declared.call.Arguments.TheVariants.{Without, One, Two, Many}
-use Rattle.rr_eval.specs.Script.{Asked, Prints, Calls, Reply, World}
+use Rattle.rr_eval.specs.Script.{Asked, Does, Calls, Reply, World}
 
 abbrev pub arguments_of : Arguments → List Ref
 arguments_of Without = []
@@ -14,9 +14,10 @@ arguments_of (One a) = a ∷ []
 arguments_of (Two a b) = a ∷ b ∷ []
 arguments_of (Many values) = values.items
 
-abbrev pub asked_of : Request → Asked
-asked_of (requests.Print piece) = Prints piece.items
-asked_of (requests.Call call) = Calls call.receiver call.callee (arguments_of call.arguments)
+-- what is asked, with the objects then
+abbrev pub asked_of : Table → Request → Asked
+asked_of t (requests.Do task values) = Does task (arguments_of values) t
+asked_of t (requests.Call call) = Calls call.receiver call.callee (arguments_of call.arguments)
 
 -- what was asked so far, and the environment
 pub record Course : Type 0 where

@@ -1,31 +1,32 @@
 -- The rules of the language, each on a whole tree.
-use Rattle.std.specs.Prelude.{ℕ, zero, suc, Bool, true, false, not, List, [], ◌∷◌, ◌++◌, if◌then◌else◌, slice_index_or, slice_set, length, replicate, codes}
-use Rattle.std.specs.Str.{bytes_eq}
+use Rattle.std.specs.Prelude.{ℕ, zero, suc, Bool, true, false, not, List, [], ◌∷◌, ◌++◌, if◌then◌else◌, slice_index_or, slice_set, length, replicate, Option, Some, None}
 use Rattle.rr_base.specs.Classes.{class_id}
 use Rattle.rr_base.specs.declared.name.ClassId.{ClassId}
 use Rattle.rr_space.specs.Tables.{Table}
 use Rattle.rr_space.specs.declared.refer.Ref.{Ref}
 use Rattle.rr_space.specs.declared.refer.Ref.TheVariants.{Nil, Truth, Int, Symbol, Class, Local}
-use Rattle.rr_tree.specs.Tree.{Tree, Trees, nil, truth, int, text, symbol, class_named, local, bare, call, send, index, append, logical_and, logical_or, logical_not, negate, binary, assign, choose, repeat, sequence, empty, then_one}
+use Rattle.rr_tree.specs.Tree.{Tree, Trees, nil, truth, int, text, symbol, class_named, array, local, bare, call, send, index, append, logical_and, logical_or, logical_not, negate, binary, assign, choose, repeat, sequence, empty, then_one}
 use Rattle.rr_tree.specs.declared.node.BinaryOperator.{BinaryOperator}
-use Rattle.rr_text.specs.Names.{names_of}
 use Rattle.rr_builtin.specs.Acts.{with_text}
 use Rattle.rr_builtin.specs.Objects.{is_truthy}
 use Rattle.rr_eval.specs.declared.call.Callee.{Callee}
 use Rattle.rr_eval.specs.declared.call.Callee.TheVariants as callees
 use Rattle.rr_eval.specs.declared.call.Target.{Target}
-use Rattle.rr_eval.specs.declared.call.Target.TheVariants.{Puts, Call}
+use Rattle.rr_eval.specs.declared.call.Target.TheVariants.{Do as DoTarget, Call}
+use Rattle.rr_eval.specs.declared.call.Task.{Task}
+use Rattle.rr_eval.specs.declared.call.Task.TheVariants.{MakeArray}
 use Rattle.rr_eval.specs.declared.problem.Answer.{Answer}
 use Rattle.rr_eval.specs.declared.problem.Answer.TheVariants.{Gave, Raised}
 use Rattle.rr_eval.specs.declared.problem.Response.{Response}
 use Rattle.rr_eval.specs.declared.problem.Response.TheVariants.{Gives, Throws, Fails}
 use Rattle.rr_eval.specs.declared.problem.Problem.{Problem}
 use Rattle.rr_eval.specs.declared.problem.Problem.TheVariants.{MissingName, NotHere}
-use Rattle.rr_eval.specs.Script.{State, Script, Ret, Go, See, Do, Ask, Prints, Calls, World, Spent, Evaluation, run}
-use Rattle.rr_eval.specs.Values.{goes_on, piece_of}
+use Rattle.rr_eval.specs.Script.{State, Script, Ret, Go, See, Do, Ask, Does, Calls, World, Spent, Evaluation, run}
+use Rattle.rr_eval.specs.Values.{goes_on}
 use Rattle.rr_eval.specs.Operators.{make, integers, opposite}
 use Rattle.rr_eval.specs.Messages.{message, exception_class}
 use Rattle.rr_eval.specs.Exceptions.{with_exception}
+use Rattle.rr_eval.specs.Tasks.{task_named}
 pub use Rattle.rr_eval.specs.Context.{Context}
 
 -- the trees of a list
@@ -93,33 +94,29 @@ abbrev pub values : List Tree → List Ref → (List Ref → Script) → Script
 values [] stand next = next stand
 values (t ∷ ts) stand next = with_value t (λ v. values ts (stand ++ v ∷ []) next)
 
--- prints the lines of values
-abbrev pub put : Context → List Ref → Script
-put c vs = See (λ m. Ask (Prints (piece_of (names_of c.program) m.table vs)) (settled c))
-
--- what is done with values: they are printed, or the first of them is sent the others
+-- what is done with values: they are printed or put into an array, or the first of them is sent the others
 abbrev pub finish : Context → Target → List Ref → Script
-finish c Puts vs = put c vs
+finish c (DoTarget task) vs = See (λ m. Ask (Does task vs m.table) (settled c))
 finish c (Call callee) [] = Ret (Gave Nil)
 finish c (Call callee) (v ∷ vs) = send_to c callee v vs
 
--- a name is `puts`
-abbrev pub is_puts : Context → ℕ → Bool
-is_puts c x = bytes_eq (slice_index_or c.symbols x []) (codes "puts")
+-- what a name prints by: `puts`, `p` and `print`
+abbrev pub printing : Context → ℕ → Option Task
+printing c x = task_named (slice_index_or c.symbols x [])
 
 -- what is not evaluated yet
 abbrev pub not_here : Context → Script
 not_here c = throw c NotHere
 
--- a bare name: `puts` or not
-abbrev pub bare_rule : Context → Bool → ℕ → Script
-bare_rule c true x = put c []
-bare_rule c false x = throw c (MissingName (record { 0 = x }))
+-- a bare name: one that prints or not
+abbrev pub bare_rule : Context → Option Task → ℕ → Script
+bare_rule c (Some task) x = finish c (DoTarget task) []
+bare_rule c None x = throw c (MissingName (record { 0 = x }))
 
--- a call with arguments: of `puts` or not
-abbrev pub call_rule : Context → Bool → List Tree → Script
-call_rule c true ts = values ts [] (finish c Puts)
-call_rule c false ts = not_here c
+-- a call with arguments: of a name that prints or not
+abbrev pub call_rule : Context → Option Task → List Tree → Script
+call_rule c (Some task) ts = values ts [] (finish c (DoTarget task))
+call_rule c None ts = not_here c
 
 -- The rule of each kind of tree. No block or method is evaluated yet, so each variable is one of the program's own scope.
 abbrev pub rule : Context → Tree → Script
@@ -129,9 +126,10 @@ rule c (int z) = Ret (Gave (Int z))
 rule c (symbol x) = Ret (Gave (Symbol (record { 0 = x })))
 rule c (class_named k) = Ret (Gave (Class k))
 rule c (text i) = on_table c (make c.program.freezes (slice_index_or c.texts i []))
+rule c (array list) = values (items list) [] (finish c (DoTarget MakeArray))
 rule c (local depth slot x) = read slot
-rule c (bare x) = bare_rule c (is_puts c x) x
-rule c (call x list) = call_rule c (is_puts c x) (items list)
+rule c (bare x) = bare_rule c (printing c x) x
+rule c (call x list) = call_rule c (printing c x) (items list)
 rule c (logical_and a b) = with_value a (λ v. if is_truthy v then Go b Ret else Ret (Gave v))
 rule c (logical_or a b) = with_value a (λ v. if is_truthy v then Ret (Gave v) else Go b Ret)
 rule c (logical_not a) = with_value a (λ v. Ret (Gave (Truth (not (is_truthy v)))))

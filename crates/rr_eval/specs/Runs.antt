@@ -16,15 +16,15 @@ use Rattle.rr_parser.specs.Grammar.{Spells, SpellsWithin, SpellsProgram}
 use Rattle.rr_parser.specs.Fronts.{NestsBeyond}
 use Rattle.rr_parser.specs.Words.{symbols_of, texts_of}
 use Rattle.rr_space.specs.Tables.{Table}
-use Rattle.rr_space.specs.declared.refer.Ref.TheVariants.{Nil}
 use Rattle.rr_tree.specs.Tree.{Tree, tree_at}
 use Rattle.rr_tree.specs.declared.program.Program.{Program}
 use Rattle.rr_eval.specs.declared.problem.Answer.TheVariants.{Gave, Raised}
-use Rattle.rr_eval.specs.declared.problem.Response.TheVariants.{Gives}
 use Rattle.rr_eval.specs.declared.run.Outcome.{Outcome as RunOutcome}
 use Rattle.rr_eval.specs.declared.run.Outcome.TheVariants as outcomes
 use Rattle.rr_eval.specs.Calls.{call_reply}
-use Rattle.rr_eval.specs.Script.{Asked, Prints, Calls, World, Outcome, Ended, Spent, Waits, objects_of}
+use Rattle.rr_eval.specs.Tasks.{piece_of, task_reply}
+use Rattle.rr_text.specs.Names.{names_of}
+use Rattle.rr_eval.specs.Script.{Asked, Does, Calls, Reply, World, Outcome, Ended, Spent, Waits, objects_of}
 use Rattle.rr_eval.specs.Rules.{Context, begun, start_state}
 use Rattle.rr_eval.specs.Exceptions.{IsTold}
 use Rattle.rr_eval.specs.Written.{Written, WritesAll, WritesBeginning, FallsShort}
@@ -32,25 +32,28 @@ use Rattle.rr_eval.specs.Turns.{context_of}
 use Rattle.rr_eval.specs.Acts.{IsRefusal, Passes}
 
 -- what a request prints
-abbrev pub piece_asked : Asked → List ℕ
-piece_asked (Prints piece) = piece
-piece_asked (Calls receiver callee arguments) = []
+abbrev pub piece_asked : Context → Asked → List ℕ
+piece_asked c (Does task vs t) = piece_of task (names_of c.program) t vs
+piece_asked c (Calls receiver callee arguments) = []
 
 -- what requests printed
-abbrev pub text_asked : List Asked → List ℕ
-text_asked asked = flat_map piece_asked asked
+abbrev pub text_asked : Context → List Asked → List ℕ
+text_asked c asked = flat_map (piece_asked c) asked
 
 -- what an evaluation printed
-abbrev pub text_of : Outcome → List ℕ
-text_of (Ended a s n) = text_asked s.asked
-text_of (Spent s) = text_asked s.asked
-text_of (Waits s) = text_asked s.asked
+abbrev pub text_of : Context → Outcome → List ℕ
+text_of c (Ended a s n) = text_asked c s.asked
+text_of c (Spent s) = text_asked c s.asked
+text_of c (Waits s) = text_asked c s.asked
 
--- the environment of a script that runs alone: what is to be printed is printed, to which the reply is nil, and a method
--- that is called does what it does where nothing is published
+-- what a script that runs alone is replied: nothing is published
+abbrev pub reply_to : Context → Asked → Table → Reply
+reply_to c (Does task vs u) t = task_reply task (names_of c.program) vs t
+reply_to c (Calls receiver callee arguments) t = call_reply c receiver callee arguments t
+
+-- the environment of a script that runs alone: what is to be printed is printed, and a method that is called does what it does
 abbrev pub alone : Context → World
-alone c asked (Prints piece) t = Some (record { response = Gives Nil; table = t })
-alone c asked (Calls receiver callee arguments) t = Some (call_reply c receiver callee arguments t)
+alone c asked q t = Some (reply_to c q t)
 
 -- it ended with a value; it raised an exception, of which this is told; it ran out of steps
 abbrev pub IsDone : Outcome → Type 0
@@ -66,12 +69,12 @@ IsSpent (Spent s) = Unit {0}
 IsSpent _ = ⊥
 
 -- What a run leaves of what a program means.
-abbrev pub Leaves : Written → Written → Outcome → RunOutcome → Type 0
-Leaves old new o outcomes.Done = IsDone o × WritesAll old new (text_of o)
-Leaves old new o (outcomes.Raised told) = IsRaised o told.items × WritesAll old new (text_of o)
-Leaves old new o outcomes.StepLimit = IsSpent o × WritesAll old new (text_of o)
-Leaves old new o outcomes.OutputFailed = FallsShort old new (text_of o)
-Leaves old new o (outcomes.Stopped fault) = IsRefusal fault × WritesBeginning old new (text_of o)
+abbrev pub Leaves : Context → Written → Written → Outcome → RunOutcome → Type 0
+Leaves c old new o outcomes.Done = IsDone o × WritesAll old new (text_of c o)
+Leaves c old new o (outcomes.Raised told) = IsRaised o told.items × WritesAll old new (text_of c o)
+Leaves c old new o outcomes.StepLimit = IsSpent o × WritesAll old new (text_of c o)
+Leaves c old new o outcomes.OutputFailed = FallsShort old new (text_of c o)
+Leaves c old new o (outcomes.Stopped fault) = IsRefusal fault × WritesBeginning old new (text_of c o)
 
 -- A run that comes to its end makes no more objects than there may be, and it stops at the limit of slots only where
 -- more are made.
@@ -153,7 +156,7 @@ pub record RunsScript (r : Run) (outcome : RunOutcome) : Type 0 where
   pub tree : Tree
   pub script : IsScript r.source context tree
   pub own : context ≡ context_of context.program
-  pub leaves : Leaves r.before r.after (script_meaning context tree r.limits) outcome
+  pub leaves : Leaves context r.before r.after (script_meaning context tree r.limits) outcome
   pub within : WithinSlots r.limits.slots (script_meaning context tree r.limits) outcome
 
 -- The source was not read, and nothing was written.

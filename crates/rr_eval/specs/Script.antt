@@ -4,6 +4,7 @@ use Rattle.rr_space.specs.Tables.{Table}
 use Rattle.rr_space.specs.declared.refer.Ref.{Ref}
 use Rattle.rr_tree.specs.Tree.{Tree}
 use Rattle.rr_eval.specs.declared.call.Callee.{Callee}
+use Rattle.rr_eval.specs.declared.call.Task.{Task}
 use Rattle.rr_eval.specs.declared.problem.Answer.{Answer}
 use Rattle.rr_eval.specs.declared.problem.Response.{Response}
 
@@ -12,9 +13,9 @@ pub record Memory : Type 0 where
   pub vars : List Ref
   pub table : Table
 
--- what a rule asks of the environment: to print a piece; to call a method of a receiver
+-- what a rule asks of the environment: to do something with values, with the objects then; to call a method of a receiver
 pub data Asked : Type 0 where
-  Prints : List ℕ → Asked
+  Does : (task : Task) (values : List Ref) (table : Table) → Asked
   Calls : (receiver : Ref) (callee : Callee) (arguments : List Ref) → Asked
 
 -- what the environment responds, and the objects then

@@ -57,7 +57,7 @@ asking_then p m t q h = asking_with p m t q h m.left
 -- what is still to be done with n steps, where the machine may ask first
 abbrev pub continuing : Program → View → Table → Option Request → Course → ℕ → Outcome
 continuing p m t None h n = remaining_with p m t h n
-continuing p m t (Some q) h n = asking_with p m t (asked_of q) h n
+continuing p m t (Some q) h n = asking_with p m t (asked_of t q) h n
 
 -- what comes after a response
 abbrev pub control_of : Response → Control
@@ -107,7 +107,7 @@ leaf_value _ vars = None
 abbrev pub Turned : Program → View → Table → ℕ → Result Turn Fault → View → Table → Type 0
 -- each step was spent
 Turned p old t budget (Ok turns.More) new u = (new.left + budget ≡ old.left) × ((h : Course) → remaining p old t h ≡ remaining p new u h)
-Turned p old t budget (Ok (turns.Ask q)) new u = (old.left ≤ new.left + budget) × ((h : Course) → remaining p old t h ≡ asking_then p new u (asked_of q) h)
+Turned p old t budget (Ok (turns.Ask q)) new u = (old.left ≤ new.left + budget) × ((h : Course) → remaining p old t h ≡ asking_then p new u (asked_of u q) h)
 Turned p old t budget (Ok (turns.Done v)) new u = (old.left ≤ new.left + budget) × ((h : Course) → remaining p old t h ≡ Ended (Gave v) (state_of new u h) new.left)
 Turned p old t budget (Ok (turns.Raised e)) new u = (old.left ≤ new.left + budget) × ((h : Course) → remaining p old t h ≡ Ended (Raised e) (state_of new u h) new.left)
 Turned p old t budget (Ok turns.StepLimit) new u = (old.left ≤ budget) × (new.left ≡ 0) × ((h : Course) → remaining p old t h ≡ Spent (state_of new u h))

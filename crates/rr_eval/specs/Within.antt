@@ -68,7 +68,7 @@ pub record IsCallReached (k : Reach) (call : Call) : Type 0 where
   pub arguments : All (IsReached k) (arguments_of call.arguments)
 
 abbrev pub IsRequestReached : Reach → Request → Type 0
-IsRequestReached k (requests.Print piece) = Unit {0}
+IsRequestReached k (requests.Do task values) = All (IsReached k) (arguments_of values)
 IsRequestReached k (requests.Call call) = IsCallReached k call
 
 abbrev pub IsAskedReached : Reach → Option Request → Type 0

@@ -26,16 +26,28 @@ pub enum Callee {
     Name(Sym),
 }
 
+/// What an environment does with values.
+#[derive(Clone, Copy)]
+pub enum Task {
+    /// `puts`: each is printed on a line of its own, as `to_s` answers it.
+    Puts,
+    /// `p`: each is printed on a line of its own, as `inspect` answers it.
+    Inspect,
+    /// `print`: they are printed one after the other, as `to_s` answers them.
+    Print,
+    /// They become the elements of a new array.
+    MakeArray,
+}
+
 /// What is done with values that were evaluated from left to right.
 #[derive(Clone, Copy)]
 pub enum Target {
-    /// They are printed.
-    Puts,
+    Do(Task),
     /// The first of them is the receiver of a call, and the others are its arguments.
     Call(Callee),
 }
 
-/// The arguments of a call. No more than two of them take no memory.
+/// Values, as the arguments of a call. No more than two of them take no memory.
 #[derive(Drop)]
 pub enum Arguments {
     Without,
@@ -52,9 +64,10 @@ pub struct Call {
     pub arguments: Arguments,
 }
 
-/// These values and one more, as the arguments of a call.
-fn arguments_of(alloc: Global, values: &[Ref], last: Ref) -> Result<Arguments, AllocError>
+/// These values and one more.
+pub fn arguments_of(alloc: Global, values: &[Ref], last: Ref) -> Result<Arguments, AllocError>
     ensures are { IfOk result (λ arguments. arguments_of arguments ≡ values.now ++ last ∷ []) }
+    ensures within { (k : Reach) → All (IsReached k) values.now → IsReached k last → IfOk result (λ arguments. All (IsReached k) (arguments_of arguments)) }
 {
     match values {
         [] => Ok(Arguments::One(last)),

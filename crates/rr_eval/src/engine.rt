@@ -278,7 +278,7 @@ impl Engine {
                         return Ok(Turn::Done(value));
                     };
                     if !self.resume(program, frame, value, stop)
-                        && let Some(request) = self.resume_rare(program, space, frame, value)?
+                        && let Some(request) = self.resume_rare(frame, value)?
                     {
                         return Ok(Turn::Ask(request));
                     }

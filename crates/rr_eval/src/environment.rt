@@ -23,7 +23,7 @@ pub trait Environment {
     /// Serves a request, a call of a method too, and responds with a value or an exception, which lies within the space. It may change the space, and
     /// on a fault it does not.
     fn serve(&mut self, request: Request, space: &mut Space) -> Result<Response, Fault>
-        ensures leads { IfOk result (λ r. leads self.old (asked_of request) space.old (record { response = r; table = space.new }) self.new) }
+        ensures leads { IfOk result (λ r. leads self.old (asked_of space.old request) space.old (record { response = r; table = space.new }) self.new) }
         ensures within { IfOk result (IsResponseWithin (length space.new.slots)) }
         ensures grows { length space.old.slots ≤ length space.new.slots }
         ensures limit { space.new.limit ≡ space.old.limit }

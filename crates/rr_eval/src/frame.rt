@@ -1,5 +1,10 @@
 //! What the machine has still to do.
 
+ghost use Rattle.std.specs.Prelude.{◌≡◌, ◌≤◌, length};
+ghost use Rattle.std.specs.List.{All};
+ghost use Rattle.rr_eval.specs.Frames.{base_of, stand_of};
+ghost use Rattle.rr_eval.specs.Within.{Reach, IsReached};
+
 use crate::call::Target;
 use crate::problem::{Answer, Problem};
 use rr_base::ClassId;
@@ -45,4 +50,16 @@ pub enum Control {
     Throw(Problem),
     /// An exception of a class, with the message that was made for it, which is made and raised.
     Raise(ClassId, Ref),
+}
+
+/// The values that stand for a frame.
+pub fn standing(held: &Vec<Ref>, frame: Frame) -> &[Ref]
+    requires { base_of frame ≤ length held.now.items }
+    ensures is { result.now ≡ stand_of frame held.now.items }
+    ensures within { (k : Reach) → All (IsReached k) held.now.items → All (IsReached k) result.now }
+{
+    match frame {
+        Frame::Argument(_, _, _, base) => &held[base..],
+        _ => &[],
+    }
 }

@@ -22,7 +22,7 @@ mod serve;
 mod throw;
 mod value;
 
-pub use call::{Arguments, Call, Callee};
+pub use call::{Arguments, Call, Callee, Task};
 pub use counted::Counted;
 pub use engine::Turn;
 pub use environment::{Ending, Environment, replies_hold, run_in};

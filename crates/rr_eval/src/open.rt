@@ -12,7 +12,7 @@ ghost use Rattle.rr_eval.specs.Script.{Go, objects_of};
 ghost use Rattle.rr_eval.specs.Requests.{Course, Adds};
 ghost use Rattle.rr_eval.specs.Changes.{Changes};
 ghost use Rattle.rr_eval.specs.Operators.{make};
-ghost use Rattle.rr_eval.specs.Rules.{rule, statements, values, on_table, put, finish, is_puts, bare_rule, call_rule};
+ghost use Rattle.rr_eval.specs.Rules.{rule, statements, values, on_table, finish, printing, bare_rule, call_rule};
 ghost use Rattle.rr_tree.specs.Nodes.{trees_before};
 ghost use Rattle.rr_eval.specs.Nodes.{evaluated_tree, IsEvaluated, IsRareNode, is_unknown};
 ghost use Rattle.rr_eval.specs.Frames.{resumed, IsNew};
@@ -20,11 +20,10 @@ ghost use Rattle.rr_eval.specs.Turns.{context_of, code_of, IsNested, after_scrip
 ghost use Rattle.rr_eval.specs.Views.{view_of};
 ghost use Rattle.rr_eval.specs.Within.{Reach, AreReached, AreWithin, IsFrameReached, IsAskedReached, KeepsReach, KeepsRead};
 
-use crate::call::{Callee, Target};
+use crate::call::{Arguments, Callee, Target, Task};
 use crate::engine::{Engine, push_within};
 use crate::frame::{Control, Frame};
 use crate::operator::make;
-use crate::print::empty_piece;
 use crate::problem::{Answer, Problem};
 use crate::request::Request;
 use rr_base::{Fault, Sym};
@@ -42,11 +41,20 @@ fn literal(alloc: Global, program: &Program, i: u32) -> Result<Vec<u8>, AllocErr
     }
 }
 
-/// Whether a name is `puts`.
-fn is_puts(program: &Program, name: Sym) -> bool
-    ensures { result ≡ is_puts (context_of program.now) name.0 }
+/// What a name prints by: `puts`, `p` and `print`.
+fn printing(program: &Program, name: Sym) -> Option<Task>
+    ensures { result ≡ printing (context_of program.now) name.0 }
 {
-    program.symbol_bytes(name) == b"puts".as_slice()
+    let bytes = program.symbol_bytes(name);
+    if bytes == b"puts".as_slice() {
+        Some(Task::Puts)
+    } else if bytes == b"p".as_slice() {
+        Some(Task::Inspect)
+    } else if bytes == b"print".as_slice() {
+        Some(Task::Print)
+    } else {
+        None
+    }
 }
 
 impl Engine {
@@ -142,29 +150,16 @@ impl Engine {
         }
     }
 
-    /// Prints a line end.
-    #[tactic(auto, unfolding(crate::specs::Within::AreReached))]
-    #[inline(never)]
-    fn open_empty_puts(&mut self) -> Result<Option<Request>, Fault>
-        requires nested { IsNested (view_of self.old) }
-        ensures goes { IfOk result (λ q. (p : Program) (t : Table) (h : Course) (n : ℕ) → after_script p (view_of self.old) t (put (context_of p) []) h n ≡ continuing p (view_of self.new) t q h n) }
-        ensures nested { IsNested (view_of self.new) }
-        ensures within { (k : Reach) → AreReached k (view_of self.old) → AreReached k (view_of self.new) }
-        ensures left { self.new.left ≡ self.old.left }
-        ensures asks { (k : Reach) → IfOk result (IsAskedReached k) }
-        ensures err { (t : Table) → IfErr result (λ f. Stands (view_of self.old) (view_of self.new) t t f) }
-        ensures size { IfOk result (λ q. sized q (view_of self.new) ≤ 3 * length self.old.frames.items + 4) }
-        ensures fault { IfErr result (λ f. f ≡ Fault.Memory) }
-    {
-        let piece = empty_piece(self.alloc)?;
-        Ok(Some(Request::Print(piece)))
-    }
-
-    /// Evaluates `puts` with arguments.
-    fn open_puts(&mut self, first: NodeId, count: u32) -> Result<Option<Request>, Fault>
+    /// Evaluates values, the last `count` parts before `first + count`, with which a task is done.
+    fn open_values(
+        &mut self,
+        task: Task,
+        first: NodeId,
+        count: u32,
+    ) -> Result<Option<Request>, Fault>
         requires small { first + count < 2 ^ 32 }
         requires nested { IsNested (view_of self.old) }
-        ensures goes { IfOk result (λ q. (p : Program) (t : Table) (h : Course) (n : ℕ) → after_script p (view_of self.old) t (values (trees_before p.nodes.items (first + count) count) [] (finish (context_of p) Target.Puts)) h n ≡ continuing p (view_of self.new) t q h n) }
+        ensures goes { IfOk result (λ q. (p : Program) (t : Table) (h : Course) (n : ℕ) → after_script p (view_of self.old) t (values (trees_before p.nodes.items (first + count) count) [] (finish (context_of p) (Target.Do task))) h n ≡ continuing p (view_of self.new) t q h n) }
         ensures nested { IsNested (view_of self.new) }
         ensures within { (k : Reach) → AreReached k (view_of self.old) → AreReached k (view_of self.new) }
         ensures left { self.new.left ≡ self.old.left }
@@ -174,11 +169,11 @@ impl Engine {
         ensures fault { IfErr result (λ f. f ≡ Fault.Memory) }
     {
         match count {
-            0 => self.open_empty_puts(),
+            0 => Ok(Some(Request::Do(task, Arguments::Without))),
             _ => {
                 self.frames.reserve(1)?;
                 let frame = Frame::Argument(
-                    Target::Puts,
+                    Target::Do(task),
                     first + count,
                     count - 1,
                     self.held.len(),
@@ -189,7 +184,7 @@ impl Engine {
         }
     }
 
-    /// Evaluates a call with arguments, of which only `puts` is served.
+    /// Evaluates a call with arguments: of a name that prints, or not.
     #[tactic(auto, unfolding(crate::specs::Within::AreReached))]
     fn open_call(
         &mut self,
@@ -200,7 +195,7 @@ impl Engine {
     ) -> Result<Option<Request>, Fault>
         requires small { first + count < 2 ^ 32 }
         requires nested { IsNested (view_of self.old) }
-        ensures goes { IfOk result (λ q. (t : Table) (h : Course) (n : ℕ) → after_script program.now (view_of self.old) t (call_rule (context_of program.now) (is_puts (context_of program.now) name.0) (trees_before program.now.nodes.items (first + count) count)) h n ≡ continuing program.now (view_of self.new) t q h n) }
+        ensures goes { IfOk result (λ q. (t : Table) (h : Course) (n : ℕ) → after_script program.now (view_of self.old) t (call_rule (context_of program.now) (printing (context_of program.now) name.0) (trees_before program.now.nodes.items (first + count) count)) h n ≡ continuing program.now (view_of self.new) t q h n) }
         ensures nested { IsNested (view_of self.new) }
         ensures within { (k : Reach) → AreReached k (view_of self.old) → AreReached k (view_of self.new) }
         ensures left { self.new.left ≡ self.old.left }
@@ -209,18 +204,20 @@ impl Engine {
         ensures size { IfOk result (λ q. sized q (view_of self.new) ≤ 3 * length self.old.frames.items + 4) }
         ensures fault { IfErr result (λ f. f ≡ Fault.Memory) }
     {
-        if is_puts(program, name) {
-            return self.open_puts(first, count);
+        match printing(program, name) {
+            Some(task) => self.open_values(task, first, count),
+            None => {
+                self.control = Control::Throw(Problem::NotHere);
+                Ok(None)
+            }
         }
-        self.control = Control::Throw(Problem::NotHere);
-        Ok(None)
     }
 
-    /// Evaluates a bare name, which is `puts` or missing.
+    /// Evaluates a bare name, which prints or is missing.
     #[tactic(auto, unfolding(crate::specs::Within::AreReached))]
     fn open_bare(&mut self, program: &Program, name: Sym) -> Result<Option<Request>, Fault>
         requires nested { IsNested (view_of self.old) }
-        ensures goes { IfOk result (λ q. (t : Table) (h : Course) (n : ℕ) → after_script program.now (view_of self.old) t (bare_rule (context_of program.now) (is_puts (context_of program.now) name.0) name.0) h n ≡ continuing program.now (view_of self.new) t q h n) }
+        ensures goes { IfOk result (λ q. (t : Table) (h : Course) (n : ℕ) → after_script program.now (view_of self.old) t (bare_rule (context_of program.now) (printing (context_of program.now) name.0) name.0) h n ≡ continuing program.now (view_of self.new) t q h n) }
         ensures nested { IsNested (view_of self.new) }
         ensures within { (k : Reach) → AreReached k (view_of self.old) → AreReached k (view_of self.new) }
         ensures left { self.new.left ≡ self.old.left }
@@ -229,11 +226,13 @@ impl Engine {
         ensures size { IfOk result (λ q. sized q (view_of self.new) ≤ 3 * length self.old.frames.items + 4) }
         ensures fault { IfErr result (λ f. f ≡ Fault.Memory) }
     {
-        if is_puts(program, name) {
-            return self.open_empty_puts();
+        match printing(program, name) {
+            Some(task) => Ok(Some(Request::Do(task, Arguments::Without))),
+            None => {
+                self.control = Control::Throw(Problem::MissingName(name));
+                Ok(None)
+            }
         }
-        self.control = Control::Throw(Problem::MissingName(name));
-        Ok(None)
     }
 
     /// Does what a node does that is not evaluated yet.
@@ -275,6 +274,7 @@ impl Engine {
     {
         match node {
             Node::Text(i) => self.open_text(program, space, i),
+            Node::Array { first, count } => self.open_values(Task::MakeArray, first, count),
             Node::Bare { name, .. } => self.open_bare(program, name),
             Node::Call {
                 name,
@@ -332,7 +332,9 @@ impl Engine {
             } => self.enter_above(Frame::Condition(until, body, here), condition),
             Node::Sequence { first, count } => self.begin(first + count, count),
             Node::Item(_) => unreachable!(),
-            Node::Text(_) | Node::Bare { .. } | Node::Call { .. } => return false,
+            Node::Text(_) | Node::Array { .. } | Node::Bare { .. } | Node::Call { .. } => {
+                return false;
+            }
             _ => self.open_unknown(node),
         }
         true

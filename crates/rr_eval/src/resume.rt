@@ -16,17 +16,16 @@ ghost use Rattle.std.specs.List.{All};
 ghost use Rattle.rr_eval.specs.Views.{view_of};
 ghost use Rattle.rr_eval.specs.Within.{Reach, IsReached, IsFrameReached, IsCallReached, IsAskedReached, AreReached};
 
-use crate::call::{Arguments, Call, Callee, Target, call_of};
+use crate::call::{Arguments, Call, Callee, Target, Task, arguments_of, call_of};
 use crate::engine::{Engine, push_within};
-use crate::frame::{Control, Frame};
+use crate::frame::{Control, Frame, standing};
 use crate::operator::{on_integers, opposite};
-use crate::print::{piece_of, standing};
 use crate::problem::Answer;
 use crate::request::Request;
 use crate::value::goes_on;
 use rr_base::Fault;
 use rr_builtin::is_truthy;
-use rr_space::{Ref, Space};
+use rr_space::Ref;
 use rr_tree::{BinaryOperator, NodeId, Program};
 
 /// Puts a value in the place of another, where there is one.
@@ -279,31 +278,25 @@ impl Engine {
         Ok(None)
     }
 
-    /// Prints the values that stand for a frame, and one more.
+    /// Asks for a task with the values that stand for a frame, and with one more.
     #[tactic(auto, unfolding(crate::specs::Within::AreReached))]
-    fn print(
-        &mut self,
-        program: &Program,
-        space: &Space,
-        frame: Frame,
-        value: Ref,
-    ) -> Result<Option<Request>, Fault>
+    fn ask(&mut self, task: Task, frame: Frame, value: Ref) -> Result<Option<Request>, Fault>
         requires room { length self.old.frames.items < vec_capacity self.old.frames }
         requires base { base_of frame ≤ length self.old.held.items }
         requires nested { Nested (reverse self.old.frames.items) (below_of frame self.old.held.items) }
-        ensures goes { IfOk result (λ q. (h : Course) (n : ℕ) → unwind (code_of program.now h.world) (reverse self.old.frames.items) (below_of frame self.old.held.items) (runs_in (code_of program.now h.world) (finish (context_of program.now) Target.Puts (stand_of frame self.old.held.items ++ value ∷ [])) (state_of (view_of self.old) space.now h) n) ≡ continuing program.now (view_of self.new) space.now q h n) }
+        ensures goes { IfOk result (λ q. (p : Program) (t : Table) (h : Course) (n : ℕ) → unwind (code_of p h.world) (reverse self.old.frames.items) (below_of frame self.old.held.items) (runs_in (code_of p h.world) (finish (context_of p) (Target.Do task) (stand_of frame self.old.held.items ++ value ∷ [])) (state_of (view_of self.old) t h) n) ≡ continuing p (view_of self.new) t q h n) }
         ensures nested { OnOk result (IsNested (view_of self.new)) }
         ensures within { (k : Reach) → AreReached k (view_of self.old) → AreReached k (view_of self.new) }
-        ensures asks { (k : Reach) → AreReached k (view_of self.old) → IfOk result (IsAskedReached k) }
+        ensures asks { (k : Reach) → AreReached k (view_of self.old) → IsReached k value → IfOk result (IsAskedReached k) }
         ensures left { self.new.left ≡ self.old.left }
         ensures err { (t : Table) → IfErr result (λ f. Stands (view_of self.old) (view_of self.new) t t f) }
         ensures size { IfOk result (λ q. sized q (view_of self.new) ≤ 3 * length self.old.frames.items + 4) }
         ensures room { IfErr result (λ _. length self.new.frames.items < vec_capacity self.new.frames) }
         ensures fault { IfErr result (λ f. f ≡ Fault.Memory) }
     {
-        let piece = piece_of(self.alloc, program, space, &self.held, frame, value)?;
+        let values = arguments_of(self.alloc, standing(&self.held, frame), value)?;
         clear(&mut self.held, frame);
-        Ok(Some(Request::Print(piece)))
+        Ok(Some(Request::Do(task, values)))
     }
 
     /// Calls a method of the first of the values that stand for a frame and of one more, with the others.
@@ -328,18 +321,11 @@ impl Engine {
     }
 
     /// Does what is done with the values that stand for a frame and with one more.
-    fn finish(
-        &mut self,
-        program: &Program,
-        space: &Space,
-        target: Target,
-        frame: Frame,
-        value: Ref,
-    ) -> Result<Option<Request>, Fault>
+    fn finish(&mut self, target: Target, frame: Frame, value: Ref) -> Result<Option<Request>, Fault>
         requires room { length self.old.frames.items < vec_capacity self.old.frames }
         requires base { base_of frame ≤ length self.old.held.items }
         requires nested { Nested (reverse self.old.frames.items) (below_of frame self.old.held.items) }
-        ensures goes { IfOk result (λ q. (h : Course) (n : ℕ) → unwind (code_of program.now h.world) (reverse self.old.frames.items) (below_of frame self.old.held.items) (runs_in (code_of program.now h.world) (finish (context_of program.now) target (stand_of frame self.old.held.items ++ value ∷ [])) (state_of (view_of self.old) space.now h) n) ≡ continuing program.now (view_of self.new) space.now q h n) }
+        ensures goes { IfOk result (λ q. (p : Program) (t : Table) (h : Course) (n : ℕ) → unwind (code_of p h.world) (reverse self.old.frames.items) (below_of frame self.old.held.items) (runs_in (code_of p h.world) (finish (context_of p) target (stand_of frame self.old.held.items ++ value ∷ [])) (state_of (view_of self.old) t h) n) ≡ continuing p (view_of self.new) t q h n) }
         ensures nested { OnOk result (IsNested (view_of self.new)) }
         ensures within { (k : Reach) → AreReached k (view_of self.old) → AreReached k (view_of self.new) }
         ensures asks { (k : Reach) → AreReached k (view_of self.old) → IsReached k value → IfOk result (IsAskedReached k) }
@@ -350,7 +336,7 @@ impl Engine {
         ensures fault { IfErr result (λ f. f ≡ Fault.Memory) }
     {
         match target {
-            Target::Puts => self.print(program, space, frame, value),
+            Target::Do(task) => self.ask(task, frame, value),
             Target::Call(callee) => self.send(callee, frame, value),
         }
     }
@@ -358,8 +344,6 @@ impl Engine {
     /// Goes on with the values for a target.
     fn resume_values(
         &mut self,
-        program: &Program,
-        space: &Space,
         target: Target,
         end: NodeId,
         count: u32,
@@ -369,7 +353,7 @@ impl Engine {
         requires room { length self.old.frames.items < vec_capacity self.old.frames }
         requires base { base ≤ length self.old.held.items }
         requires nested { Nested (reverse self.old.frames.items) (take base self.old.held.items) }
-        ensures goes { IfOk result (λ q. (h : Course) (n : ℕ) → after_answer program.now (view_of self.old) space.now (Frame.Argument target end count base) (Answer.Gave value) h n ≡ continuing program.now (view_of self.new) space.now q h n) }
+        ensures goes { IfOk result (λ q. (p : Program) (t : Table) (h : Course) (n : ℕ) → after_answer p (view_of self.old) t (Frame.Argument target end count base) (Answer.Gave value) h n ≡ continuing p (view_of self.new) t q h n) }
         ensures nested { OnOk result (IsNested (view_of self.new)) }
         ensures within { (k : Reach) → AreReached k (view_of self.old) → IsReached k value → AreReached k (view_of self.new) }
         ensures asks { (k : Reach) → AreReached k (view_of self.old) → IsReached k value → IfOk result (IsAskedReached k) }
@@ -380,35 +364,23 @@ impl Engine {
         ensures fault { IfErr result (λ f. f ≡ Fault.Memory) }
     {
         match count {
-            0 => self.finish(
-                program,
-                space,
-                target,
-                Frame::Argument(target, end, 0, base),
-                value,
-            ),
+            0 => self.finish(target, Frame::Argument(target, end, 0, base), value),
             _ => self.keep(target, end, count, base, value),
         }
     }
 
     /// Does what a frame does with a value, where that needs the objects or memory.
-    fn resume_value(
-        &mut self,
-        program: &Program,
-        space: &Space,
-        frame: Frame,
-        value: Ref,
-    ) -> Result<Option<Request>, Fault>
+    fn resume_value(&mut self, frame: Frame, value: Ref) -> Result<Option<Request>, Fault>
         requires room { length self.old.frames.items < vec_capacity self.old.frames }
         requires base { base_of frame ≤ length self.old.held.items }
         requires nested { Nested (reverse self.old.frames.items) (below_of frame self.old.held.items) }
         requires rare { IsRareFrame frame }
-        ensures goes { IfOk result (λ q. (h : Course) (n : ℕ) → after_answer program.now (view_of self.old) space.now frame (Answer.Gave value) h n ≡ continuing program.now (view_of self.new) space.now q h n) }
+        ensures goes { IfOk result (λ q. (p : Program) (t : Table) (h : Course) (n : ℕ) → after_answer p (view_of self.old) t frame (Answer.Gave value) h n ≡ continuing p (view_of self.new) t q h n) }
         ensures nested { OnOk result (IsNested (view_of self.new)) }
         ensures within { (k : Reach) → AreReached k (view_of self.old) → IsFrameReached k frame → IsReached k value → AreReached k (view_of self.new) }
         ensures asks { (k : Reach) → AreReached k (view_of self.old) → IsFrameReached k frame → IsReached k value → IfOk result (IsAskedReached k) }
         ensures left { self.new.left ≡ self.old.left }
-        ensures err { IfErr result (λ f. Stands (view_of self.old) (view_of self.new) space.now space.now f) }
+        ensures err { (t : Table) → IfErr result (λ f. Stands (view_of self.old) (view_of self.new) t t f) }
         ensures size { IfOk result (λ q. sized q (view_of self.new) ≤ 3 * length self.old.frames.items + 4) }
         ensures room { IfErr result (λ _. length self.new.frames.items < vec_capacity self.new.frames) }
         ensures fault { IfErr result (λ f. f ≡ Fault.Memory) }
@@ -417,7 +389,7 @@ impl Engine {
             Frame::Negation => Ok(self.negate(value)),
             Frame::Right(op, left) => Ok(self.operate(op, left, value)),
             Frame::Argument(target, end, count, base) => {
-                self.resume_values(program, space, target, end, count, base, value)
+                self.resume_values(target, end, count, base, value)
             }
             _ => unreachable!(),
         }
@@ -427,28 +399,22 @@ impl Engine {
     /// refused growth puts the frame back.
     #[tactic(auto, unfolding(crate::specs::Within::AreReached))]
     #[inline(never)]
-    pub fn resume_rare(
-        &mut self,
-        program: &Program,
-        space: &Space,
-        frame: Frame,
-        value: Ref,
-    ) -> Result<Option<Request>, Fault>
+    pub fn resume_rare(&mut self, frame: Frame, value: Ref) -> Result<Option<Request>, Fault>
         requires control { self.old.control ≡ Control.Give (Answer.Gave value) }
         requires room { length self.old.frames.items < vec_capacity self.old.frames }
         requires base { base_of frame ≤ length self.old.held.items }
         requires nested { Nested (reverse self.old.frames.items) (below_of frame self.old.held.items) }
         requires rare { IsRareFrame frame }
-        ensures goes { IfOk result (λ q. (h : Course) → after_answer program.now (view_of self.old) space.now frame (Answer.Gave value) h self.old.left ≡ continuing program.now (view_of self.new) space.now q h self.new.left) }
+        ensures goes { IfOk result (λ q. (p : Program) (t : Table) (h : Course) → after_answer p (view_of self.old) t frame (Answer.Gave value) h self.old.left ≡ continuing p (view_of self.new) t q h self.new.left) }
         ensures nested { IsNested (view_of self.new) }
         ensures within { (k : Reach) → AreReached k (view_of self.old) → IsFrameReached k frame → IsReached k value → AreReached k (view_of self.new) }
         ensures asks { (k : Reach) → AreReached k (view_of self.old) → IsFrameReached k frame → IsReached k value → IfOk result (IsAskedReached k) }
         ensures left { self.new.left ≡ self.old.left }
         ensures size { IfOk result (λ q. sized q (view_of self.new) ≤ 3 * length self.old.frames.items + 4) }
         ensures fault { IfErr result (λ f. f ≡ Fault.Memory) }
-        ensures back { IfErr result (λ _. (h : Course) → after_answer program.now (view_of self.old) space.now frame (Answer.Gave value) h self.old.left ≡ remaining program.now (view_of self.new) space.now h) }
+        ensures back { IfErr result (λ _. (p : Program) (t : Table) (h : Course) → after_answer p (view_of self.old) t frame (Answer.Gave value) h self.old.left ≡ remaining p (view_of self.new) t h) }
     {
-        match self.resume_value(program, space, frame, value) {
+        match self.resume_value(frame, value) {
             Ok(request) => Ok(request),
             Err(fault) => {
                 push_within(&mut self.frames, frame);

@@ -4,6 +4,7 @@ ghost use Rattle.std.specs.Prelude.{◌≡◌, ◌+◌, ◌<◌, ◌≤◌, ◌^
 ghost use Rattle.rr_lexer.specs.Tokens.{AreTokensOf};
 ghost use Rattle.rr_eval.specs.Counted.{failures, counted};
 ghost use Rattle.rr_eval.specs.Written.{written_to};
+ghost use Rattle.rr_eval.specs.Turns.{context_of};
 ghost use Rattle.rr_eval.specs.Runs.{Reads, Leaves, WithinSlots, Meets, program_meaning};
 
 use crate::counted::Counted;
@@ -11,14 +12,12 @@ use crate::engine::Turn;
 use crate::exception::report;
 use crate::machine::Machine;
 use crate::output::{Output, put};
-use crate::problem::Response;
-use crate::request::Request;
-use crate::serve::serve_call;
+use crate::serve::serve;
 use rr_base::{Fault, Limits, RactorNo};
 use rr_builtin::Methods;
 use rr_lexer::{Token, lex, tokens_are_one};
 use rr_parser::parse;
-use rr_space::{Ref, Space};
+use rr_space::Space;
 use rr_tree::Program;
 use std::alloc::Global;
 use std::io::Write;
@@ -78,7 +77,7 @@ fn run_program<O: Output>(
     output: &mut O,
 ) -> Outcome
     requires { O.failures output.old + 1 < 2 ^ 64 }
-    ensures leaves { Leaves (written_to O.contents O.failures output.old) (written_to O.contents O.failures output.new) (program_meaning program.now limits) result }
+    ensures leaves { Leaves (context_of program.now) (written_to O.contents O.failures output.old) (written_to O.contents O.failures output.new) (program_meaning program.now limits) result }
     ensures slots { WithinSlots limits.slots (program_meaning program.now limits) result }
 {
     let mut space = Space::new(alloc, RactorNo(1), limits.slots);
@@ -92,15 +91,14 @@ fn run_program<O: Output>(
     loop {
         match machine.turn(program, &mut space, BUDGET) {
             Ok(Turn::More) => {}
-            Ok(Turn::Ask(Request::Print(piece))) => {
-                if !put(output, piece.as_slice()) {
-                    return Outcome::OutputFailed;
-                }
-                machine.answer(Response::Gives(Ref::Nil));
-            }
-            Ok(Turn::Ask(Request::Call(call))) => {
-                match serve_call(alloc, &mut space, program, &methods, &call) {
-                    Ok(response) => machine.answer(response),
+            Ok(Turn::Ask(request)) => {
+                match serve(alloc, &mut space, program, &methods, request) {
+                    Ok(served) => {
+                        if !put(output, served.piece.as_slice()) {
+                            return Outcome::OutputFailed;
+                        }
+                        machine.answer(served.response);
+                    }
                     Err(fault) => return Outcome::Stopped(fault),
                 }
             }

@@ -12,13 +12,19 @@ ghost use Rattle.rr_builtin.specs.Methods.{method_named};
 ghost use Rattle.rr_eval.specs.Acts.{IsRefusal, Passes};
 ghost use Rattle.rr_eval.specs.Callees.{method_of};
 ghost use Rattle.rr_eval.specs.Calls.{sent, call_reply};
-ghost use Rattle.rr_eval.specs.Requests.{arguments_of};
+ghost use Rattle.rr_eval.specs.Requests.{arguments_of, asked_of};
+ghost use Rattle.rr_eval.specs.Runs.{piece_asked, reply_to};
+ghost use Rattle.rr_eval.specs.Serves.{IsReplied, IsRefused};
+ghost use Rattle.rr_eval.specs.Tasks.{piece_of, task_reply};
+ghost use Rattle.rr_text.specs.Names.{names_of};
 ghost use Rattle.rr_eval.specs.Responses.{receiver_of, response_from};
 ghost use Rattle.rr_eval.specs.Turns.{context_of};
-ghost use Rattle.rr_eval.specs.Within.{reach, IsCallReached, IsResponseReached};
+ghost use Rattle.rr_eval.specs.Within.{reach, IsReached, IsCallReached, IsRequestReached, IsResponseReached};
 
-use crate::call::{Arguments, Call, Callee};
+use crate::call::{Arguments, Call, Callee, Task};
+use crate::print::{Served, serve_task};
 use crate::problem::{Problem, Response};
+use crate::request::Request;
 use rr_base::Fault;
 use rr_builtin::{
     Built, BuiltInMethod, ContentMethod, Methods, NumberMethod, Problem as BuiltInProblem,
@@ -112,8 +118,8 @@ fn send_with(
 }
 
 /// What is responded to a call.
-fn response_from(missing: Problem, built: Built) -> Response
-    ensures { result ≡ response_from missing built }
+pub fn response_from(missing: Problem, built: Built) -> Response
+    ensures is { result ≡ response_from missing built }
 {
     match built {
         Built::Value(value) => Response::Gives(value),
@@ -123,7 +129,7 @@ fn response_from(missing: Problem, built: Built) -> Response
 }
 
 /// Serves a call where nothing is published. A refused growth leaves the objects as they were.
-pub fn serve_call(
+fn serve_call(
     alloc: Global,
     space: &mut Space,
     program: &Program,
@@ -157,5 +163,56 @@ pub fn serve_call(
             Ok(response_from(missing, built))
         }
         Err(fault) => Err(fault),
+    }
+}
+
+/// Does a task with these values.
+fn serve_values(
+    alloc: Global,
+    space: &mut Space,
+    program: &Program,
+    task: Task,
+    values: &Arguments,
+) -> Result<Served, Fault>
+    requires read { IsReadWith space.old [] }
+    requires reached { All (IsReached (reach (length space.old.slots) (Some []))) (arguments_of values.now) }
+    ensures piece { IfOk result (λ served. served.piece.items ≡ piece_of task (names_of program.now) space.old (arguments_of values.now)) }
+    ensures replied { IfOk result (λ served. IsReplied (task_reply task (names_of program.now) (arguments_of values.now) space.old) space.old served.response space.new) }
+    ensures refused { IfErr result (IsRefused (task_reply task (names_of program.now) (arguments_of values.now) space.old) space.old) }
+{
+    match values {
+        Arguments::Without => serve_task(alloc, space, program, task, &[]),
+        Arguments::One(first) => serve_task(alloc, space, program, task, &[*first]),
+        Arguments::Two(first, second) => {
+            serve_task(alloc, space, program, task, &[*first, *second])
+        }
+        Arguments::Many(values) => serve_task(alloc, space, program, task, values.as_slice()),
+    }
+}
+
+/// Serves a request where nothing is published. A refused growth leaves the objects as they were.
+pub fn serve(
+    alloc: Global,
+    space: &mut Space,
+    program: &Program,
+    methods: &Methods,
+    request: Request,
+) -> Result<Served, Fault>
+    requires methods { methods.now ≡ map (λ s. method_named s.items) program.now.symbols.items }
+    requires read { IsReadWith space.old [] }
+    requires reached { IsRequestReached (reach (length space.old.slots) (Some [])) request }
+    ensures piece { IfOk result (λ served. served.piece.items ≡ piece_asked (context_of program.now) (asked_of space.old request)) }
+    ensures replied { IfOk result (λ served. IsReplied (reply_to (context_of program.now) (asked_of space.old request) space.old) space.old served.response space.new) }
+    ensures refused { IfErr result (IsRefused (reply_to (context_of program.now) (asked_of space.old request) space.old) space.old) }
+{
+    match request {
+        Request::Do(task, values) => serve_values(alloc, space, program, task, &values),
+        Request::Call(call) => {
+            let response = serve_call(alloc, space, program, methods, &call)?;
+            Ok(Served {
+                piece: Vec::new(alloc),
+                response,
+            })
+        }
     }
 }

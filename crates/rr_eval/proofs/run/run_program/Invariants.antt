@@ -8,8 +8,8 @@ use Rattle.rr_eval.specs.Runs.{alone, program_meaning}
 use Rattle.rr_eval.proofs.Running.{IsRunning}
 use Rattle.rr_eval.proofs.run.run_program.Given as goal
 
-abbrev pub invariant-loop-piece : goal.invariant-loop-piece
-invariant-loop-piece g l = record {
+abbrev pub invariant-loop-request : goal.invariant-loop-request
+invariant-loop-request g l = record {
   within : AreWithin (length l.space.slots) l.machine;
   reached : AreReached (reach (length l.space.slots) (Some [])) l.machine;
   read : IsReadWith l.space [];
@@ -17,5 +17,5 @@ invariant-loop-piece g l = record {
   running : IsRunning (alone (context_of l.program)) l.program l.machine l.space (program_meaning l.program l.fn.limits) (written_to g.O.Output.contents g.O.Output.failures l.initial.output) (written_to g.O.Output.contents g.O.Output.failures l.output);
 }
 
-abbrev pub decreases-loop-piece : goal.decreases-loop-piece
-decreases-loop-piece g l = power l.machine
+abbrev pub decreases-loop-request : goal.decreases-loop-request
+decreases-loop-request g l = power l.machine

@@ -5,7 +5,7 @@ use Rattle.rr_text.specs.Reads.{IsReadWith}
 use Rattle.rr_eval.specs.declared.problem.Problem.TheVariants.{MissingMethod}
 use Rattle.rr_eval.specs.Callees.{method_of}
 use Rattle.rr_eval.specs.Requests.{arguments_of}
-use Rattle.rr_eval.specs.Responses.{response_from}
+use Rattle.rr_eval.specs.Responses.{receiver_of, response_from}
 use Rattle.rr_eval.specs.Turns.{context_of}
 use Rattle.rr_eval.specs.Within.{reach, IsResponseReached}
 use Rattle.rr_eval.proofs.Calling.{call_acts, one_reply, response_reached, sent_adds}
@@ -42,8 +42,8 @@ returns-in-Ok-clause-reply c =
     let u = c.send_with.new.space in
     let b = c.in-Ok.built in
     let is = call_acts (context_of c.args.program.now) call c.args.space.now u c.method_of-method.result (Ok b) c.in-Ok.ensures c.requires.read c.requires.reached c.method_of-method.ensures in
-    one_reply call.callee call.receiver c.args.space.now u _ b is c.len-after.ensures.well
-    ∙ ap (λ r. record { response = r; table = u }) (ap (λ x. response_from (MissingMethod call.callee x) b) (sym c.receiver_of.ensures) ∙ sym c.response_from.ensures)
+    one_reply (MissingMethod call.callee (receiver_of c.args.space.now call.receiver)) c.args.space.now u _ b is c.len-after.ensures.well
+    ∙ ap (λ r. record { response = r; table = u }) (ap (λ x. response_from (MissingMethod call.callee x) b) (sym c.receiver_of.ensures) ∙ sym c.response_from.ensures.is)
 
 pub returns-in-Ok-clause-read : goal.returns-in-Ok-clause-read
 returns-in-Ok-clause-read c =
@@ -54,7 +54,7 @@ pub returns-in-Ok-clause-reached : goal.returns-in-Ok-clause-reached
 returns-in-Ok-clause-reached c =
     let k = length c.send_with.new.space.slots in
     let is = call_acts (context_of c.args.program.now) c.args.call.now c.args.space.now c.send_with.new.space c.method_of-method.result (Ok c.in-Ok.built) c.in-Ok.ensures c.requires.read c.requires.reached c.method_of-method.ensures in
-    subst (λ r. IsResponseReached (reach k (Some [])) r) (sym c.response_from.ensures) (response_reached k _ c.in-Ok.built is.within is.among)
+    subst (λ r. IsResponseReached (reach k (Some [])) r) (sym c.response_from.ensures.is) (response_reached k _ c.in-Ok.built is.within is.among)
 
 pub returns-in-Ok-clause-grows : goal.returns-in-Ok-clause-grows
 returns-in-Ok-clause-grows c =

@@ -1,18 +1,21 @@
 -- A call is evaluated by its rule.
-use Rattle.std.proofs.Common.{◌≡◌, ℕ, Option, Result, Ok, Err, IfOk, sym, ap, ◌∙◌}
+use Rattle.std.proofs.Common.{◌≡◌, ℕ, Option, Result, Ok, Err, IfOk, sym, ap, ◌∙◌, ◌+◌, []}
 use Rattle.rr_base.specs.declared.fault.Fault.{Fault}
 use Rattle.rr_space.specs.Tables.{Table}
 use Rattle.rr_tree.specs.declared.program.Program.{Program}
 use Rattle.rr_eval.specs.declared.request.Request.{Request}
 use Rattle.rr_eval.specs.Script.{Script}
 use Rattle.rr_eval.specs.Requests.{Course}
-use Rattle.rr_eval.specs.Rules.{rule}
+use Rattle.rr_eval.specs.Rules.{rule, values, finish}
+use Rattle.rr_tree.specs.Nodes.{trees_before}
+use Rattle.rr_eval.specs.declared.call.Target.TheVariants.{Do}
+use Rattle.rr_eval.specs.declared.call.Task.TheVariants.{MakeArray}
 use Rattle.rr_eval.specs.Nodes.{evaluated_tree}
 use Rattle.rr_eval.specs.Turns.{context_of, after_script, continuing}
 use Rattle.rr_eval.specs.View.{View}
 use Rattle.rr_eval.specs.Views.{view_of}
 use Rattle.rr_eval.specs.Within.{reach}
-use Rattle.rr_eval.proofs.Lists.{call_is}
+use Rattle.rr_eval.proofs.Lists.{call_is, array_is}
 use Rattle.std.proofs.Common.{length}
 use Rattle.rr_eval.proofs.engine.Engine.open_rare.Goals as goal
 
@@ -22,12 +25,28 @@ by_rule : (r : Result (Option Request) Fault) (p : Program) (m new : View) (t : 
 by_rule (Ok q) p m new t a b e goes = λ h n. ap (λ s. after_script p m t s h n) (sym e) ∙ goes t h n
 by_rule (Err f) p m new t a b e goes = tt
 
+by_rule_of : (r : Result (Option Request) Fault) (p : Program) (m new : View) (t : Table) (a : Program → Script) (b : Script) → a p ≡ b
+    → IfOk r (λ q. (p : Program) (t : Table) (h : Course) (n : ℕ) → after_script p m t (a p) h n ≡ continuing p new t q h n)
+    → IfOk r (λ q. (h : Course) (n : ℕ) → after_script p m t b h n ≡ continuing p new t q h n)
+by_rule_of (Ok q) p m new t a b e goes = λ h n. ap (λ s. after_script p m t s h n) (sym e) ∙ goes p t h n
+by_rule_of (Err f) p m new t a b e goes = tt
+
 pub returns-in-Call-clause-goes : goal.returns-in-Call-clause-goes
 returns-in-Call-clause-goes c =
     let p = c.args.program.now in
     let ns = p.nodes.items in
     by_rule c.open_call.result p (view_of c.args.self.now) (view_of c.open_call.new.self) c.args.space.now _ _
     (call_is ns (context_of p) c.in-Call.name c.in-Call.first c.in-Call.count c.in-Call.site ∙ ap (λ x. rule (context_of p) (evaluated_tree ns x)) (sym c.in-Call.is)) c.open_call.ensures.goes
+
+pub returns-in-Array-clause-goes : goal.returns-in-Array-clause-goes
+returns-in-Array-clause-goes c =
+    let p = c.args.program.now in
+    let ns = p.nodes.items in
+    by_rule_of c.open_values.result p (view_of c.args.self.now) (view_of c.open_values.new.self) c.args.space.now (λ x. values (trees_before x.nodes.items (c.in-Array.first + c.in-Array.count) c.in-Array.count) [] (finish (context_of x) (Do MakeArray))) _
+    (array_is ns (context_of p) c.in-Array.first c.in-Array.count ∙ ap (λ x. rule (context_of p) (evaluated_tree ns x)) (sym c.in-Array.is)) c.open_values.ensures.goes
+
+pub returns-in-Array-clause-within : goal.returns-in-Array-clause-within
+returns-in-Array-clause-within c cs = c.open_values.ensures.within (reach (length c.args.space.now.slots) cs)
 
 pub returns-in-Bare-clause-within : goal.returns-in-Bare-clause-within
 returns-in-Bare-clause-within c cs = c.open_bare.ensures.within (reach (length c.args.space.now.slots) cs)

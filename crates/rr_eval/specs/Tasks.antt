@@ -1,0 +1,81 @@
+-- What an environment does with values where nothing is published: it prints them, or makes an array of them.
+use Rattle.std.specs.Prelude.{ℕ, List, [], ◌∷◌, ◌++◌, codes, map, length, Option, Some, None, if◌then◌else◌}
+use Rattle.std.specs.Str.{bytes_eq}
+use Rattle.rr_space.specs.Parts.{value_of}
+use Rattle.rr_space.specs.Tables.{Table}
+use Rattle.rr_space.specs.declared.refer.Ref.{Ref}
+use Rattle.rr_space.specs.declared.refer.Ref.TheVariants.{Nil}
+use Rattle.rr_text.specs.Walk.{Walked, Wrote, Differs, Deep, Shell}
+use Rattle.rr_text.specs.Forms.{Names, spoken, inspected, lines, within_text}
+use Rattle.rr_builtin.specs.Acts.{MakesArray, performed}
+use Rattle.rr_builtin.specs.Objects.{printed_text}
+use Rattle.rr_builtin.specs.declared.problem.Problem.{Problem as BuiltInProblem}
+use Rattle.rr_builtin.specs.declared.problem.Problem.TheVariants.{Moved, TooDeep}
+use Rattle.rr_eval.specs.declared.call.Task.{Task}
+use Rattle.rr_eval.specs.declared.call.Task.TheVariants.{Puts, Inspect, Print, MakeArray}
+use Rattle.rr_eval.specs.declared.problem.Problem.TheVariants.{BuiltIn, NotHere}
+use Rattle.rr_eval.specs.declared.problem.Response.TheVariants.{Gives, Fails}
+use Rattle.rr_eval.specs.Calls.{reply_with}
+use Rattle.rr_eval.specs.Script.{Reply}
+
+-- what a name prints by
+abbrev pub task_named : List ℕ → Option Task
+task_named name =
+    if bytes_eq name (codes "puts") then Some Puts else
+    if bytes_eq name (codes "p") then Some Inspect else
+    if bytes_eq name (codes "print") then Some Print else None
+
+-- what is written of a value: `puts` ends it with a line end, unless it ends with one; `p` inspects it and ends the line
+abbrev pub written_by : Task → Names → Table → Ref → Walked
+written_by Puts names t v = printed_text names [] lines t v
+written_by Inspect names t v = within_text (λ s. s ++ 10 ∷ []) (printed_text names [] inspected t v)
+written_by _ names t v = printed_text names [] spoken t v
+
+-- what is written of values, from left to right; `puts` of none is a line end
+abbrev pub texts_of : Task → Names → Table → List Ref → List Walked
+texts_of MakeArray names t vs = []
+texts_of Puts names t [] = Wrote (10 ∷ []) ∷ []
+texts_of task names t vs = map (written_by task names t) vs
+
+-- texts, one after the other, up to a value that has none
+abbrev pub joined_texts : List Walked → List ℕ
+joined_texts [] = []
+joined_texts (Wrote s ∷ ws) = s ++ joined_texts ws
+joined_texts (_ ∷ ws) = []
+
+-- why a value has none, where one has none
+abbrev pub lack_of : List Walked → Option BuiltInProblem
+lack_of [] = None
+lack_of (Wrote s ∷ ws) = lack_of ws
+lack_of (Deep ∷ ws) = Some TooDeep
+lack_of (_ ∷ ws) = Some Moved
+
+-- what is printed
+abbrev pub piece_of : Task → Names → Table → List Ref → List ℕ
+piece_of task names t vs = joined_texts (texts_of task names t vs)
+
+-- a new array of values
+abbrev pub array_reply : List Ref → Table → Reply
+array_reply vs t = reply_with NotHere t (performed (MakesArray (map value_of vs)) Nil t)
+
+abbrev pub value_reply : Ref → Table → Reply
+value_reply v t = record { response = Gives v; table = t }
+
+-- `p` gives its argument, an array of several, and nil for none; `puts` and `print` give nil
+abbrev pub inspected_reply : List Ref → Table → Reply
+inspected_reply [] t = value_reply Nil t
+inspected_reply (v ∷ []) t = value_reply v t
+inspected_reply (v ∷ w ∷ vs) t = array_reply (v ∷ w ∷ vs) t
+
+abbrev pub given_by : Task → List Ref → Table → Reply
+given_by MakeArray vs t = array_reply vs t
+given_by Inspect vs t = inspected_reply vs t
+given_by _ vs t = value_reply Nil t
+
+abbrev pub unless_lacking : Option BuiltInProblem → Table → Reply → Reply
+unless_lacking None t reply = reply
+unless_lacking (Some problem) t reply = record { response = Fails (BuiltIn problem); table = t }
+
+-- the reply: an exception, where a value has no text
+abbrev pub task_reply : Task → Names → List Ref → Table → Reply
+task_reply task names vs t = unless_lacking (lack_of (texts_of task names t vs)) t (given_by task vs t)
