@@ -21,3 +21,5 @@ mod ports;
 mod steps;
 #[cfg(test)]
 mod walk;
+#[cfg(test)]
+mod yields;

@@ -3,7 +3,7 @@
 
 use rr_base::{Fault, LimitKind, Limits};
 use rr_space::Label;
-use rr_world::{LastKind, Operand, Reply};
+use rr_world::{LastKind, Operand, Reply, Settled};
 use std::alloc::{AllocError, Global};
 
 /// A value: an immediate, which no step tells from another, or an object by its name.
@@ -60,6 +60,8 @@ pub struct Actor {
     /// Whether the message in the hand was moved, and the shells that it left, each with what left it.
     pub moved: bool,
     pub home: Vec<(usize, usize)>,
+    /// The ticket under which the moved message is shown that left the home.
+    pub waits: Option<u32>,
     pub slots: usize,
     /// Whether it has not ended.
     pub runs: bool,
@@ -73,13 +75,15 @@ pub struct Inbox {
     pub events: usize,
 }
 
-/// A port: a last value, or a last fault, with its ticket.
+/// A port: the shown message, and a last value or a last fault, with their tickets.
 #[derive(Drop)]
 pub struct Port {
+    pub shown: Option<(u32, Parcel)>,
     pub last: Option<(u32, Parcel, bool)>,
     pub given: bool,
     pub closed: bool,
     pub next: u32,
+    pub events: usize,
 }
 
 /// What a step answers.
@@ -93,6 +97,8 @@ pub enum Told {
     WasClosed(bool),
     Started(u32),
     GrabbedLast(bool),
+    Settled(Settled),
+    NotShown,
     Closed,
     HistoryFull,
     TooManySlots,
@@ -130,6 +136,8 @@ pub fn what_it_tells(reply: &Reply) -> Told {
         Reply::Started(number) => Told::Started(u32::from(number.0)),
         Reply::GrabbedLast(LastKind::Value) => Told::GrabbedLast(false),
         Reply::GrabbedLast(LastKind::Fault) => Told::GrabbedLast(true),
+        Reply::Settled(settled) => Told::Settled(*settled),
+        Reply::Refused(Fault::NotShown) => Told::NotShown,
         Reply::Refused(Fault::Closed) => Told::Closed,
         Reply::Refused(Fault::HistoryFull) => Told::HistoryFull,
         Reply::Refused(Fault::Limit(LimitKind::Slots)) => Told::TooManySlots,
@@ -197,6 +205,7 @@ impl Model {
             hand: None,
             moved: false,
             home: Vec::new(alloc),
+            waits: None,
             slots: 0,
             runs: true,
         })?;
@@ -207,10 +216,12 @@ impl Model {
             events: 0,
         })?;
         self.ports.push(Port {
+            shown: None,
             last: None,
             given: false,
             closed: false,
             next: 0,
+            events: 0,
         })?;
         Ok(())
     }
@@ -332,7 +343,7 @@ impl Model {
 }
 
 /// The kinds of answers, of which there are as many as this.
-pub const KINDS: usize = 19;
+pub const KINDS: usize = 23;
 
 impl Told {
     /// The number of its kind.
@@ -357,7 +368,11 @@ impl Told {
             Told::OfMain => 16,
             Told::GrabbedLast(false) => 17,
             Told::GrabbedLast(true) => 18,
-            Told::Other => 19,
+            Told::NotShown => 19,
+            Told::Settled(Settled::Taken) => 20,
+            Told::Settled(Settled::Shown) => 21,
+            Told::Settled(Settled::Closed) => 22,
+            Told::Other => 23,
         }
     }
 }

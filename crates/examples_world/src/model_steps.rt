@@ -206,7 +206,7 @@ impl Model {
         let Some(value) = self.named(who, operand) else {
             return Ok(Told::NotEnabled);
         };
-        if self.hand(who).is_some() {
+        if !self.is_free(who) {
             return Ok(Told::NotEnabled);
         }
         if self.leads_to_shell(alloc, value)? {
@@ -277,11 +277,19 @@ impl Model {
         self.actors.get(who)?.hand
     }
 
+    /// Whether nothing is in the hand, no home either.
+    pub fn is_free(&self, who: usize) -> bool {
+        self.actors
+            .get(who)
+            .is_some_and(|actor| actor.hand.is_none() && actor.waits.is_none())
+    }
+
     /// What is in the hand is this, which was moved or not; a home stays with what was moved alone.
     pub fn take_in_hand(&mut self, who: usize, hand: Option<Parcel>, moved: bool) {
         if let Some(actor) = self.actors.get_mut(who) {
             actor.hand = hand;
             actor.moved = moved;
+            actor.waits = None;
             if !moved {
                 actor.home.truncate(0);
             }
@@ -321,7 +329,7 @@ impl Model {
     }
 
     fn accept(&mut self, who: usize) -> Told {
-        if self.hand(who).is_some() {
+        if !self.is_free(who) {
             return Told::NotEnabled;
         }
         let Some(inbox) = self.inboxes.get_mut(who) else {
@@ -448,6 +456,9 @@ impl Model {
                 None => Told::NotEnabled,
             }),
             Action::ShowLast(kind) => Ok(self.show_last(who, matches!(kind, LastKind::Fault))),
+            Action::Show => Ok(self.show(who)),
+            Action::Withdraw(ticket) => Ok(self.withdraw(who, ticket)),
+            Action::Settle(ticket) => Ok(self.settle(who, ticket)),
             Action::Grab(to) => Ok(match place_of(to.0, count) {
                 Some(to) => self.grab(who, to),
                 None => Told::NotEnabled,

@@ -2,7 +2,7 @@
 
 ghost use Rattle.std.specs.Prelude.{◌≤◌};
 
-use crate::model::{Holder, KINDS, Model, Port, Value, what_it_tells};
+use crate::model::{Holder, KINDS, Model, Value, what_it_tells};
 use rr_base::{ClassId, Limits, RactorNo, Sym};
 use rr_space::Label;
 use rr_world::{Action, LastKind, NewObject, Operand, Step, World};
@@ -93,20 +93,23 @@ impl Dice {
 
     /// A step on ports.
     fn port(&mut self) -> Action {
-        match self.below(7) {
-            0 if self.below(5) == 0 => Action::ClosePort(self.ractor()),
+        match self.below(20) {
+            0 if self.below(3) == 0 => Action::ClosePort(self.ractor()),
             0 | 1 => Action::ShowLast(LastKind::Value),
             2 | 3 => Action::ShowLast(LastKind::Fault),
+            4 | 5 | 6 | 7 | 8 => Action::Show,
+            9 | 10 | 11 => Action::Withdraw(self.below(3)),
+            12 | 13 => Action::Settle(self.below(3)),
             _ => Action::Grab(self.ractor()),
         }
     }
 
     /// A step on messages and inboxes.
     fn exchange(&mut self) -> Action {
-        match self.below(17) {
+        match self.below(20) {
             0 => Action::Discard,
             1 => Action::Start,
-            2 | 16 => self.port(),
+            2 | 16 | 17 | 18 => self.port(),
             3 if self.below(2) == 0 => Action::Close(self.ractor()),
             3 | 4 | 5 => Action::Open,
             6 | 7 | 8 => Action::Accept,
@@ -174,16 +177,21 @@ fn is_inbox_apart(model: &Model, alloc: Global, place: usize) -> Result<bool, Al
     Ok(true)
 }
 
-/// What the last message of a port leads to is its.
+/// What the shown message and the last message of a port lead to is theirs.
 fn is_port_apart(model: &Model, alloc: Global, place: usize) -> Result<bool, AllocError> {
-    match model.ports.get(place) {
-        Some(
-            Port {
-                last: Some((ticket, parcel, _)),
-                ..
-            },
-        ) => is_held_by(model, alloc, parcel.root, Holder::Port(place, *ticket)),
-        _ => Ok(true),
+    let Some(port) = model.ports.get(place) else {
+        return Ok(true);
+    };
+    if let Some((ticket, parcel)) = port.shown
+        && !is_held_by(model, alloc, parcel.root, Holder::Port(place, ticket))?
+    {
+        return Ok(false);
+    }
+    match port.last {
+        Some((ticket, parcel, _)) => {
+            is_held_by(model, alloc, parcel.root, Holder::Port(place, ticket))
+        }
+        None => Ok(true),
     }
 }
 
@@ -230,7 +238,7 @@ fn walk(
 #[test]
 fn the_world_answers_as_the_model_does(rt: HostRuntime) -> Result<(), Fail> {
     let mut seen = [false; KINDS];
-    for seed in 1..7 {
+    for seed in 1..13 {
         walk(&rt, rt.alloc(), seed, FEW_SLOTS, &mut seen)?;
         walk(&rt, rt.alloc(), seed, FEW_EVENTS, &mut seen)?;
     }

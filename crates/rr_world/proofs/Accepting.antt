@@ -27,6 +27,7 @@ use Rattle.rr_world.proofs.Knowing.{read_both, holding_knows}
 use Rattle.rr_world.proofs.Enabled.{actor_at, mailbox_at, free}
 use Rattle.rr_world.proofs.Offering.{objects_stay}
 use Rattle.rr_world.proofs.Staying.{same_state}
+use Rattle.rr_world.proofs.Fitting.{waits_same}
 
 in_later : (e : Entry) (es : List Entry) (x : Entry) → Contains es x → Contains (e ∷ es) x
 in_later e es x (j, lt, is) = (suc j, omega arith, is)
@@ -82,12 +83,12 @@ module _ (w w2 : Assembly) (who : RactorNo) (k : ℕ) (m : Member) (i : Inbox) (
       let moved : parcel_in names2 (Hand k) e.message ≡ parcel_in names (Mail k e.ticket) e.message =
       parcel_moved (layout w) (Mail k e.ticket) (Hand k) e.message.objects names names2 e.message N J apart (names_moved goes R.tables q.2 J) in
       let actor : actor_in names2 k (record m { hand = Some e.message }) ≡ record (actor_in names k m) { hand = Some (parcel_in names (Mail k e.ticket) e.message) } =
-      handed names names2 k m e.message (spaces k) kept ∙ ap (λ (p : Parcel). let a : Actor = record (actor_in names k m) { hand = Some p } in a) moved in (
+      handed names names2 k m e.message m.ticket (spaces k) kept ∙ ap (λ (p : Parcel). let a : Actor = record (actor_in names k m) { hand = Some p } in a) moved in (
         names2,
         bound,
         q.1,
-        read_both w w2 k k m (record m { hand = Some e.message }) (less_first i who e es) at rs is refl
-            (holding_knows (layout w) m e.message (R.knows.ractors k m at) (R.knows.inboxes k i e box (subst (λ xs. Contains xs e) (sym first) (0, omega arith, refl))))
+        read_both w w2 k k m (record m { hand = Some e.message }) (less_first i who e es) at rs is refl (waits_same m (record m { hand = Some e.message }) refl refl)
+            (holding_knows (layout w) m e.message m.ticket (R.knows.ractors k m at) (R.knows.inboxes k i e box (subst (λ xs. Contains xs e) (sym first) (0, omega arith, refl))))
             (λ x has. R.knows.inboxes k i x box (subst (λ xs. Contains xs x) (sym first) (in_later e es x has)))
             R q.2,
         (

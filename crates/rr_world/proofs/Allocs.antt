@@ -29,7 +29,7 @@ use Rattle.rr_world.specs.declared.step.NewObject.TheVariants.{Text, Array}
 use Rattle.rr_world.specs.declared.step.NewObject.TheVariants as new
 use Rattle.rr_world.specs.declared.step.Action.TheVariants.{Alloc}
 use Rattle.rr_world.specs.declared.step.Reply.{Reply}
-use Rattle.rr_world.specs.declared.step.Reply.TheVariants.{NotEnabled, Done, Offered, Empty, EmptyAndClosed, WasClosed, Refused, Started, GrabbedLast, OfMain}
+use Rattle.rr_world.specs.declared.step.Reply.TheVariants.{NotEnabled, Done, Offered, Empty, EmptyAndClosed, WasClosed, Refused, Started, Settled, GrabbedLast, OfMain}
 use Rattle.rr_world.proofs.Lists.{eq_cases, set_at, set_off, seen_same, each_set}
 use Rattle.rr_world.proofs.Namings.{actor_same, same_actor, post_same, hand_same, home_stands}
 use Rattle.rr_world.proofs.Knowing.{read_set}
@@ -37,6 +37,7 @@ use Rattle.rr_world.proofs.Enabled.{actor_at}
 use Rattle.rr_world.proofs.Insides.{set_again, same_assembly}
 use Rattle.rr_world.proofs.Staying.{stays, same_state}
 use Rattle.rr_world.proofs.Rooting.{roots_keep}
+use Rattle.rr_world.proofs.Fitting.{waits_same}
 
 no_triples : (kind : NewObject) (l : Label) (x : Value) → Contains (new_object kind).triples (l, x) → ⊥
 no_triples Text l x has = none_in (l, x) has
@@ -237,11 +238,11 @@ module _ (w w2 : Assembly) (k : ℕ) (m m2 : Member) (kind : NewObject) (at : sl
       let count : length m2.space.slots ≡ length m.space.slots + 1 = ap length A.slots ∙ size in
       let actor : actor_in names2 k m2 ≡ record (actor_in names k m) { roots = (actor_in names k m).roots ++ At (Own new) ∷ []; slots = (actor_in names k m).slots + 1 } =
       same_actor roots (ap (option_map (parcel_in names2 (Hand k))) A.hand ∙ hand_same names names2 (Hand k) m.hand (hands k) kept)
-      (ap (option_map (shells_in names2 k)) A.home ∙ home_stands names names2 k m.space.slots m.hand m.home A.away (stand names bound g R names2 q.1 q.2 N q.4)) count A.limit A.next A.limits A.runs in (
+      (ap (option_map (shells_in names2 k)) A.home ∙ home_stands names names2 k m.space.slots m.hand m.home A.away (stand names bound g R names2 q.1 q.2 N q.4)) A.ticket count A.limit A.next A.limits A.runs in (
         names2,
         bound + 1,
         q.1,
-        read_set w w2 k m m2 at rs is A.owner (allocated_knows (layout w) (R.knows.ractors k m at)) R q.2,
+        read_set w w2 k m m2 at rs is A.owner (waits_same m m2 A.home A.ticket) (allocated_knows (layout w) (R.knows.ractors k m at)) R q.2,
         (
           k,
           actor_in names k m,
@@ -277,4 +278,5 @@ allocated_by w w2 who k m m2 kind EmptyAndClosed at rs is stands o = absurd o
 allocated_by w w2 who k m m2 kind (WasClosed b) at rs is stands o = absurd o
 allocated_by w w2 who k m m2 kind (Started j) at rs is stands o = absurd o
 allocated_by w w2 who k m m2 kind (GrabbedLast l) at rs is stands o = absurd o
+allocated_by w w2 who k m m2 kind (Settled l) at rs is stands o = absurd o
 allocated_by w w2 who k m m2 kind OfMain at rs is stands o = absurd o

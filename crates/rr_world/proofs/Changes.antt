@@ -18,7 +18,7 @@ use Rattle.rr_move.specs.Hands.{message_in, home_in}
 use Rattle.rr_move.specs.declared.home.Home.{Home}
 use Rattle.rr_move.specs.declared.hand.Hand.{Hand}
 use Rattle.rr_move.specs.declared.hand.Hand.TheVariants.{Empty, Planned, Published, Message, Moved, Shown}
-use Rattle.rr_world.specs.Views.{Member, AreAway, AreRootsWithin, HasAtMostAMessage}
+use Rattle.rr_world.specs.Views.{Member, AreAway, AreRootsWithin, HasNoPlan, ticket_in}
 use Rattle.rr_world.specs.Enabling.{IsNoShell, IsOpen}
 use Rattle.rr_world.specs.ObjectCases.{with_field}
 use Rattle.rr_world.specs.Changing.{IsMadeOf, IsReadBy}
@@ -28,7 +28,7 @@ use Rattle.rr_world.proofs.Fields.{field_cases}
 use Rattle.rr_world.proofs.Lists.{eq_cases, set_off}
 
 abbrev pub member : Table → List Ref → Hand → Limits → Bool → Member
-member space roots hand limits runs = record { space = space; roots = roots; hand = message_in hand; home = home_in hand; limits = limits; runs = runs }
+member space roots hand limits runs = record { space = space; roots = roots; hand = message_in hand; home = home_in hand; ticket = ticket_in hand; limits = limits; runs = runs }
 
 no_shell : (o : Object) → not (is_shell o.kind) ≡ true → IsNoShell o
 no_shell o holds is = let no : not (is_shell shell) ≡ true = subst (λ (k : Kind). not (is_shell k) ≡ true) is holds in cc
@@ -129,34 +129,44 @@ pub set_within : (a b : Table) (n : ℕ) (x : Slot) (rs : List Ref) → b.slots 
 set_within a b n x rs is within = subst (λ k. AreRootsWithin k rs) (sym (ap length is ∙ set_length a.slots n x)) within
 
 -- what is away stays so while other slots change, and while slots come behind
-pub away_set : (slots : List Slot) (n : ℕ) (x : Slot) (o : Object) (hand : Option Packed) (home : Option Home) → slice_get slots n ≡ Some (Here o) → IsNoShell o → AreAway slots hand home
-    → AreAway (slice_set slots n x) hand home
-away_set slots n x o hand None here whole away = tt
-away_set slots n x o None (Some h) here whole away = away
-away_set slots n x o (Some p) (Some h) here whole away = record {
-  shells = λ j has. set_off slots n j x (λ same. whole (ap (λ (y : Object). y.kind) (same_here o emptied (sym here ∙ ap (slice_get slots) (sym same) ∙ away.shells j has)))) ∙ away.shells j has;
-  count = away.count;
-}
+still_shell : (slots : List Slot) (n j : ℕ) (x : Slot) (o : Object) → slice_get slots n ≡ Some (Here o) → IsNoShell o → slice_get slots j ≡ Some (Here emptied) → slice_get (slice_set slots n x) j ≡ Some (Here emptied)
+still_shell slots n j x o here whole at =
+    set_off slots n j x (λ same. whole (ap (λ (y : Object). y.kind) (same_here o emptied (sym here ∙ ap (slice_get slots) (sym same) ∙ at)))) ∙ at
   where
     same_here : (a b : Object) → Some (Here a) ≡ Some (Here b) → a ≡ b
     same_here a b e = cc
+
+pub away_set : (slots : List Slot) (n : ℕ) (x : Slot) (o : Object) (hand : Option Packed) (home : Option Home) → slice_get slots n ≡ Some (Here o) → IsNoShell o → AreAway slots hand home
+    → AreAway (slice_set slots n x) hand home
+away_set slots n x o hand None here whole away = tt
+away_set slots n x o None (Some h) here whole away = λ j has. still_shell slots n j x o here whole (away j has)
+away_set slots n x o (Some p) (Some h) here whole away = record { shells = λ j has. still_shell slots n j x o here whole (away.shells j has); count = away.count }
 
 pub set_away : (a b : Table) (n : ℕ) (x : Slot) (o : Object) (hand : Option Packed) (home : Option Home) → b.slots ≡ slice_set a.slots n x → slice_get a.slots n ≡ Some (Here o) → IsNoShell o
     → AreAway a.slots hand home → AreAway b.slots hand home
 set_away a b n x o hand home is here whole away = subst (λ ss. AreAway ss hand home) (sym is) (away_set a.slots n x o hand home here whole away)
 
 -- a hand that has a message has nothing else
-pub held_fits : (h : Hand) (p : Packed) → message_in h ≡ Some p → HasAtMostAMessage h
+pub held_fits : (h : Hand) (p : Packed) → message_in h ≡ Some p → HasNoPlan h
 held_fits Empty p is = tt
 held_fits (Planned plan) p is = absurd (none-some p is)
 held_fits (Published places published) p is = absurd (none-some p is)
 held_fits (Message m) p is = tt
 held_fits (Moved d) p is = tt
-held_fits (Shown home ticket) p is = absurd (none-some p is)
+held_fits (Shown home ticket) p is = tt
+
+-- and waits under no ticket
+pub held_ticket : (h : Hand) (p : Packed) → message_in h ≡ Some p → ticket_in h ≡ None
+held_ticket Empty p is = refl
+held_ticket (Planned plan) p is = refl
+held_ticket (Published places published) p is = refl
+held_ticket (Message m) p is = refl
+held_ticket (Moved d) p is = refl
+held_ticket (Shown home ticket) p is = absurd (none-some p is)
 
 pub away_more : (slots more : List Slot) (hand : Option Packed) (home : Option Home) → AreAway slots hand home → AreAway (slots ++ more) hand home
 away_more slots more hand None away = tt
-away_more slots more None (Some h) away = away
+away_more slots more None (Some h) away = λ j has. append_left slots more j (Here emptied) (away j has)
 away_more slots more (Some p) (Some h) away = record { shells = λ j has. append_left slots more j (Here emptied) (away.shells j has); count = away.count }
 
 pub open_whole : (kind : Kind) (o : Object) → (kind ≡ shell → ⊥) → IsOpen kind o → IsNoShell o
@@ -188,7 +198,7 @@ made op may change x v old sp new rs hand limits runs n o is named slot here hol
       o,
       record { named = subst (λ (m : Member). named_ref m.roots op ≡ Some v) (sym is) named ∙ ap (λ r. Some r) slot; here = here },
       holds,
-      record { within = within; value = value; slots = slots; below = below; limit = limit; roots = refl; hand = refl; home = refl; away = away; next = next; owner = owner; limits = refl; runs = refl },
+      record { within = within; value = value; slots = slots; below = below; limit = limit; roots = refl; hand = refl; home = refl; ticket = refl; away = away; next = next; owner = owner; limits = refl; runs = refl },
     )
 
 pub read_by : (op : Operand) (l : Label) (v r : Ref) (old : Member) (sp : Table) (rs all : List Ref) (hand : Hand) (limits : Limits) (runs : Bool) → member sp rs hand limits runs ≡ old → all ≡ rs ++ r ∷ [] → named_ref old.roots op ≡ Some v

@@ -28,7 +28,7 @@ use Rattle.rr_world.specs.Runs.{HasOutcome}
 use Rattle.rr_world.specs.declared.step.Operand.{Operand}
 use Rattle.rr_world.specs.declared.step.Action.TheVariants.{Detach}
 use Rattle.rr_world.specs.declared.step.Reply.{Reply}
-use Rattle.rr_world.specs.declared.step.Reply.TheVariants.{NotEnabled, Done, Offered, Empty, EmptyAndClosed, WasClosed, Refused, Started, GrabbedLast, OfMain}
+use Rattle.rr_world.specs.declared.step.Reply.TheVariants.{NotEnabled, Done, Offered, Empty, EmptyAndClosed, WasClosed, Refused, Started, Settled, GrabbedLast, OfMain}
 use Rattle.rr_world.proofs.Enabled.{actor_at, free, allowed, tested_at}
 use Rattle.rr_world.proofs.Insides.{set_again, same_assembly}
 use Rattle.rr_world.proofs.Knowing.{knows_either, read_set}
@@ -40,6 +40,7 @@ use Rattle.rr_world.proofs.Rooting.{roots_keep}
 use Rattle.rr_world.proofs.Seeing.{there, resolved, shared_of, free_of, shell_of}
 use Rattle.rr_world.proofs.Staying.{stays_read, same_state}
 use Rattle.rr_world.proofs.Tables.{space_was, hand_was, space_now, hand_now, rest_now}
+use Rattle.rr_world.proofs.Fitting.{waits_no_more}
 
 -- names of slots, one after another
 named_slots : (names : Naming) (h : Owner) (ns : List ℕ) → map (λ n. name_in names h (Own n)) ns ≡ map Own (map (slice_index (names h)) ns)
@@ -117,11 +118,11 @@ module _ (w w2 : Assembly) (who : RactorNo) (k : ℕ) (m m2 : Member) (op : Oper
       ap (λ (x : Member). option_map (shells_in names2 k) x.home) A.now_is
       ∙ ap (λ (ns : List ℕ). Some ns) (map_same (slice_index (names2 (Space k))) (slice_index (names (Space k))) d.home.slots (λ n has. stand n (home_within n has))) in
       let actor : actor_in names2 k m2 ≡ record (actor_in names k m) { hand = Some (parcel_in names2 (Hand k) d.message); home = Some (shells_in names k d.home); next = (actor_in names k m).next + 1 } =
-      same_actor roots (ap (option_map (parcel_in names2 (Hand k))) held) home A.moved.emptied.slots.size A.moved.emptied.limit A.moved.next (ap (λ (x : Member). x.limits) A.now_is) (ap (λ (x : Member). x.runs) A.now_is) in (
+      same_actor roots (ap (option_map (parcel_in names2 (Hand k))) held) home (ap (λ (x : Member). x.ticket) A.now_is) A.moved.emptied.slots.size A.moved.emptied.limit A.moved.next (ap (λ (x : Member). x.limits) A.now_is) (ap (λ (x : Member). x.runs) A.now_is) in (
         names2,
         q.1,
         q.2,
-        read_set w w2 k m m2 at rs is A.moved.emptied.owner (moved_knows names bound g R knows) R q.3,
+        read_set w w2 k m m2 at rs is A.moved.emptied.owner (waits_no_more m m2 (ap (λ (x : Member). x.ticket) A.now_is ∙ A.empty.ticket)) (moved_knows names bound g R knows) R q.3,
         (
           k,
           actor_in names k m,
@@ -190,4 +191,5 @@ detached_by law w w2 who k m m2 op EmptyAndClosed at rs is stands o = absurd o
 detached_by law w w2 who k m m2 op (WasClosed b) at rs is stands o = absurd o
 detached_by law w w2 who k m m2 op (Started j) at rs is stands o = absurd o
 detached_by law w w2 who k m m2 op (GrabbedLast l) at rs is stands o = absurd o
+detached_by law w w2 who k m m2 op (Settled l) at rs is stands o = absurd o
 detached_by law w w2 who k m m2 op OfMain at rs is stands o = absurd o

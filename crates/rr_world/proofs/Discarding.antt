@@ -18,6 +18,7 @@ use Rattle.rr_world.specs.declared.step.Reply.TheVariants.{Done}
 use Rattle.rr_world.proofs.Lists.{set_at, set_off, seen_same, each_set}
 use Rattle.rr_world.proofs.Knowing.{read_set, emptied_knows}
 use Rattle.rr_world.proofs.Enabled.{actor_at, holds}
+use Rattle.rr_world.proofs.Fitting.{waits_homeless}
 
 module _ (w w2 : Assembly) (k : ℕ) (m : Member) (p : Packed) (at : slice_get w.ractors k ≡ Some m) (held : m.hand ≡ Some p)
     (rs : w2.ractors ≡ slice_set w.ractors k (record m { hand = None; home = None })) (is : w2.channels ≡ w.channels) where
@@ -43,7 +44,7 @@ module _ (w w2 : Assembly) (k : ℕ) (m : Member) (p : Packed) (at : slice_get w
         names,
         bound,
         q.0,
-        read_set w w2 k m (record m { hand = None; home = None }) at rs is refl (emptied_knows (layout w) m (R.knows.ractors k m at)) R q.1,
+        read_set w w2 k m (record m { hand = None; home = None }) at rs is refl (waits_homeless m (record m { hand = None; home = None }) refl) (emptied_knows (layout w) m None m.ticket (R.knows.ractors k m at)) R q.1,
         (
           k,
           actor_in names k m,

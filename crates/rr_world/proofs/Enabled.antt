@@ -59,14 +59,14 @@ pub holds : (names : Naming) (k : ℕ) (m : Member) (p : Packed) → m.hand ≡ 
 holds names k m p is = ap (option_map (parcel_in names (Hand k))) is
 
 pub free : (names : Naming) (k : ℕ) (m : Member) → IsFree m → IsFreeHand (actor_in names k m)
-free names k m is = (ap (option_map (parcel_in names (Hand k))) is.hand, ap (option_map (shells_in names k)) is.home)
+free names k m is = (ap (option_map (parcel_in names (Hand k))) is.hand, ap (option_map (shells_in names k)) is.home, is.ticket)
 
-none_back : {A B : Type 0} (f : A → B) (x : Option A) → option_map f x ≡ None → x ≡ None
+pub none_back : {A B : Type 0} (f : A → B) (x : Option A) → option_map f x ≡ None → x ≡ None
 none_back f None e = refl
 none_back f (Some a) e = absurd (none-some (f a) (sym e))
 
 pub free_back : (names : Naming) (k : ℕ) (m : Member) → IsFreeHand (actor_in names k m) → IsFree m
-free_back names k m is = record { hand = none_back (parcel_in names (Hand k)) m.hand is.0; home = none_back (shells_in names k) m.home is.1 }
+free_back names k m is = record { hand = none_back (parcel_in names (Hand k)) m.hand is.0; home = none_back (shells_in names k) m.home is.1; ticket = is.2 }
 
 pub no_offer : (w : Assembly) (names : Naming) (g : Objects) (step : Step) (to : RactorNo) → step.action ≡ Offer to → ((k : ℕ) → StandsAt to k → length w.channels.inboxes ≤ k)
     → IsPossible (state_in w names g) step → ⊥

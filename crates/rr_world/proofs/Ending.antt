@@ -24,6 +24,7 @@ use Rattle.rr_world.proofs.Knowing.{read_set}
 use Rattle.rr_world.proofs.Lists.{set_at, set_off, each_set}
 use Rattle.rr_world.proofs.Namings.{actor_same, same_actor, post_same}
 use Rattle.rr_world.proofs.Starting.{bare_knows, remade_empty}
+use Rattle.rr_world.proofs.Fitting.{waits_homeless}
 
 -- the same tables, without that of one owner
 abbrev without : Owner → Layout → Layout
@@ -119,11 +120,11 @@ module _ (w w2 : Assembly) (k : ℕ) (m m2 : Member) (at : slice_get w.ractors k
       let shows : (c u : ℕ) → names2 (Shown c u) ≡ names (Shown c u) = λ c u. N.rest (Shown c u) (λ z. let y : ⊥ = cc in y) in
       let hands : (n : ℕ) → names2 (Hand n) ≡ names (Hand n) = λ n. N.rest (Hand n) (λ z. let y : ⊥ = cc in y) in
       let actor : actor_in names2 k m2 ≡ ended_actor (actor_in names k m).limits =
-      same_actor (ap (map (root_in names2 (Space k))) A.roots) (ap (option_map (parcel_in names2 (Hand k))) A.hand) (ap (option_map (shells_in names2 k)) A.home) (ap length A.slots) A.limit A.next A.run A.runs in (
+      same_actor (ap (map (root_in names2 (Space k))) A.roots) (ap (option_map (parcel_in names2 (Hand k))) A.hand) (ap (option_map (shells_in names2 k)) A.home) A.ticket (ap length A.slots) A.limit A.next A.run A.runs in (
         names2,
         bound + 0,
         q.1,
-        read_set w w2 k m m2 at rs is (A.owner ∙ sym (R.owned k m at)) (bare_knows (layout w) m2 A.below A.roots A.hand) R q.2,
+        read_set w w2 k m m2 at rs is (A.owner ∙ sym (R.owned k m at)) (waits_homeless m m2 A.home) (bare_knows (layout w) m2 A.below A.roots A.hand) R q.2,
         (
           k,
           actor_in names k m,

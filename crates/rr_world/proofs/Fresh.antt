@@ -11,6 +11,7 @@ use Rattle.rr_port.specs.Ports.{Port, new_port}
 use Rattle.rr_store.specs.Stores.{Store, constant_of}
 use Rattle.rr_inbox.specs.declared.entry.Entry.{Entry}
 use Rattle.rr_space.proofs.Sounds.{none_in}
+use Rattle.rr_move.specs.declared.home.Home.{Home}
 use Rattle.rr_world.specs.Views.{Member, Assembly}
 use Rattle.rr_world.specs.Layouts.{MemberKnows, layout, space_slots, hand_slots, message_slots, inbox_slots, port_inside, port_slots}
 use Rattle.rr_world.specs.Runs.{IsNew, HasReading}
@@ -65,6 +66,10 @@ no_show : (limit c : ℕ) (p : Port) (e : Entry) → slice_get (new_port limit �
 no_show limit zero p e is has = none_in e (subst (λ (x : Port). Contains (port_inside x) e) (sym (same_Some (new_port limit) p is)) has)
 no_show limit (suc c) p e is has = none-some p is
 
+only_homeless : (limits : Limits) (w : Assembly) (N : IsNew limits w) (k : ℕ) (m : Member) (h : Home) → slice_get (N.main ∷ []) k ≡ Some m → m.home ≡ Some h → ⊥
+only_homeless limits w N zero m h at home = none-some h (sym N.home ∙ ap (λ (x : Member). x.home) (same_Some N.main m at) ∙ home)
+only_homeless limits w N (suc k) m h at home = none-some m at
+
 pub new_is_read : (limits : Limits) (w : Assembly) → IsNew limits w → HasReading w
 new_is_read limits w N =
     let e = empty_is_read (layout w) (all_empty limits w N) in (
@@ -82,5 +87,6 @@ new_is_read limits w N =
         owned = λ k m at. main_owned limits w N k m (ap (λ xs. slice_get xs k) (sym N.ractors) ∙ at);
         inboxes = ap length N.inboxes ∙ sym (ap length N.ractors);
         ports = ap length N.ports ∙ sym (ap length N.ractors);
+        fits = λ k m p h e at port home ticket shown. absurd (only_homeless limits w N k m h (ap (λ xs. slice_get xs k) (sym N.ractors) ∙ at) home);
       },
     )

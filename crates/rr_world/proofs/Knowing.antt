@@ -1,5 +1,5 @@
 -- What the tables of a World know of clusters, step by step.
-use Rattle.std.proofs.Common.{◌≡◌, ℕ, ◌+◌, zero, suc, ◌⊎◌, ⊎_elim, inl, inr, List, [], ◌∷◌, length, length-set, Some, None, slice_get, Contains, sym, ap, ◌∙◌, subst, refl}
+use Rattle.std.proofs.Common.{◌≡◌, ℕ, ◌+◌, zero, suc, ◌⊎◌, ⊎_elim, inl, inr, List, [], ◌∷◌, length, length-set, Option, Some, None, slice_get, Contains, sym, ap, ◌∙◌, subst, refl}
 use Rattle.std.specs.Prelude.{slice_set}
 use Rattle.std.proofs.lemmas.List.Elements.{Contains-append_cases, Contains-append_left, Contains-append_right}
 use Rattle.std.proofs.lemmas.Option.{none-some, same_Some, slice_get_within}
@@ -11,11 +11,13 @@ use Rattle.rr_space.specs.declared.refer.Ref.{Ref}
 use Rattle.rr_space.proofs.Hands.{append_cases}
 use Rattle.rr_space.proofs.Sounds.{joined_back, joined_in, none_in, in_first}
 use Rattle.rr_inbox.specs.Inboxes.{Inbox}
+use Rattle.rr_move.specs.declared.home.Home.{Home}
 use Rattle.rr_store.specs.Stores.{constant_of}
 use Rattle.rr_inbox.specs.declared.entry.Entry.{Entry}
 use Rattle.rr_world.specs.Views.{Member, Channels, Assembly, with_inbox}
 use Rattle.rr_world.specs.Layouts.{layout, message_below, MemberKnows, IsKnowing, AreOwned, IsRead}
 use Rattle.rr_world.specs.Opening.{IsOpenedBy}
+use Rattle.rr_world.proofs.Fitting.{WaitsAsBefore, fits_set}
 use Rattle.rr_world.proofs.Lists.{eq_cases, set_at, set_off}
 
 pub no_clusters : (w : Assembly) (c : ℕ) → layout w (Shared c) ≡ None
@@ -93,33 +95,35 @@ knows_told w w2 c i i2 box inside rs is K = record {
 
 -- a reading of the World with one ractor in another's place
 pub read_set : {names names2 : Naming} {bound bound2 : ℕ} {g g2 : Objects} (w w2 : Assembly) (k : ℕ) (m m2 : Member) → slice_get w.ractors k ≡ Some m → w2.ractors ≡ slice_set w.ractors k m2
-    → w2.channels ≡ w.channels → m2.space.owner ≡ m.space.owner → MemberKnows (layout w) m2 → IsRead w names bound g → IsReading (layout w2) names2 bound2 g2 → IsRead w2 names2 bound2 g2
-read_set w w2 k m m2 at rs is same M R tables = record {
+    → w2.channels ≡ w.channels → m2.space.owner ≡ m.space.owner → WaitsAsBefore m m2 → MemberKnows (layout w) m2 → IsRead w names bound g → IsReading (layout w2) names2 bound2 g2 → IsRead w2 names2 bound2 g2
+read_set w w2 k m m2 at rs is same waits M R tables = record {
   tables = tables;
   knows = knows_set w w2 k m2 rs is M R.knows;
   owned = owned_set w w2 k m m2 at rs same R.owned;
   inboxes = ap (λ (x : Channels). length x.inboxes) is ∙ R.inboxes ∙ sym (length-set w.ractors k m2) ∙ sym (ap length rs);
   ports = ap (λ (x : Channels). length x.ports) is ∙ R.ports ∙ sym (length-set w.ractors k m2) ∙ sym (ap length rs);
+  fits = fits_set w w2 k m m2 at rs (ap (λ (x : Channels). x.ports) is) waits R.fits;
 }
 
 -- and with one inbox in another's place
 pub read_both : {names names2 : Naming} {bound bound2 : ℕ} {g g2 : Objects} (w w2 : Assembly) (k c : ℕ) (m m2 : Member) (i2 : Inbox) → slice_get w.ractors k ≡ Some m → w2.ractors ≡ slice_set w.ractors k m2
-    → w2.channels ≡ with_inbox w.channels c i2 → m2.space.owner ≡ m.space.owner → MemberKnows (layout w) m2 → ((e : Entry) → Contains i2.inside e → Knows (message_below e.message) (layout w))
+    → w2.channels ≡ with_inbox w.channels c i2 → m2.space.owner ≡ m.space.owner → WaitsAsBefore m m2 → MemberKnows (layout w) m2 → ((e : Entry) → Contains i2.inside e → Knows (message_below e.message) (layout w))
     → IsRead w names bound g → IsReading (layout w2) names2 bound2 g2 → IsRead w2 names2 bound2 g2
-read_both w w2 k c m m2 i2 at rs is same M I R tables = record {
+read_both w w2 k c m m2 i2 at rs is same waits M I R tables = record {
   tables = tables;
   knows = knows_both w w2 k c m2 i2 rs is M I R.knows;
   owned = owned_set w w2 k m m2 at rs same R.owned;
   inboxes = ap (λ (x : Channels). length x.inboxes) is ∙ length-set w.channels.inboxes c i2 ∙ R.inboxes ∙ sym (length-set w.ractors k m2) ∙ sym (ap length rs);
   ports = ap (λ (x : Channels). length x.ports) is ∙ R.ports ∙ sym (length-set w.ractors k m2) ∙ sym (ap length rs);
+  fits = fits_set w w2 k m m2 at rs (ap (λ (x : Channels). x.ports) is) waits R.fits;
 }
 
 -- with the hand empty, less is known
-pub emptied_knows : (tables : Layout) (m : Member) → MemberKnows tables m → MemberKnows tables (record m { hand = None; home = None })
-emptied_knows tables m K = record { space = K.space; roots = K.roots; hand = λ p is. absurd (none-some p is) }
+pub emptied_knows : (tables : Layout) (m : Member) (home : Option Home) (ticket : Option ℕ) → MemberKnows tables m → MemberKnows tables (record m { hand = None; home = home; ticket = ticket })
+emptied_knows tables m home ticket K = record { space = K.space; roots = K.roots; hand = λ p is. absurd (none-some p is) }
 
-pub holding_knows : (tables : Layout) (m : Member) (p : Packed) → MemberKnows tables m → Knows (message_below p) tables → MemberKnows tables (record m { hand = Some p })
-holding_knows tables m p K L = record { space = K.space; roots = K.roots; hand = λ q is. subst (λ (x : Packed). Knows (message_below x) tables) (same_Some p q is) L }
+pub holding_knows : (tables : Layout) (m : Member) (p : Packed) (ticket : Option ℕ) → MemberKnows tables m → Knows (message_below p) tables → MemberKnows tables (record m { hand = Some p; ticket = ticket })
+holding_knows tables m p ticket K L = record { space = K.space; roots = K.roots; hand = λ q is. subst (λ (x : Packed). Knows (message_below x) tables) (same_Some p q is) L }
 
 -- what is opened brings what it knows
 pub opened_knows : (tables : Layout) (p : Packed) (root : Ref) (m m2 : Member) → IsOpenedBy p root m m2 → MemberKnows tables m → MemberKnows tables m2

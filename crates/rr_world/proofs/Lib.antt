@@ -1,6 +1,7 @@
 pub mod Lists
 pub mod Namings
 pub mod Tickets
+pub mod Fitting
 pub mod Staying
 pub mod Enabled
 pub mod Discarding
@@ -35,3 +36,4 @@ pub mod PortTelling
 pub mod PortInsides
 pub mod PortHands
 pub mod PortGoing
+pub mod PortShowing

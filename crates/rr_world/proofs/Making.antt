@@ -33,7 +33,7 @@ use Rattle.rr_world.specs.declared.step.Operand.TheVariants as operand
 use Rattle.rr_world.specs.declared.step.Action.{Action}
 use Rattle.rr_world.specs.declared.step.Action.TheVariants.{Freeze, Append, Push, Write, SetField}
 use Rattle.rr_world.specs.declared.step.Reply.{Reply}
-use Rattle.rr_world.specs.declared.step.Reply.TheVariants.{NotEnabled, Done, Offered, Empty, EmptyAndClosed, WasClosed, Refused, Started, GrabbedLast, OfMain}
+use Rattle.rr_world.specs.declared.step.Reply.TheVariants.{NotEnabled, Done, Offered, Empty, EmptyAndClosed, WasClosed, Refused, Started, Settled, GrabbedLast, OfMain}
 use Rattle.rr_world.proofs.Enabled.{actor_at, allowed}
 use Rattle.rr_world.proofs.Fields.{set_renamed, field_values}
 use Rattle.rr_world.proofs.Insides.{set_again, same_assembly}
@@ -263,6 +263,7 @@ frozen_by w w2 who k m m2 op EmptyAndClosed at rs is stands a = absurd a
 frozen_by w w2 who k m m2 op (WasClosed b) at rs is stands a = absurd a
 frozen_by w w2 who k m m2 op (Started j) at rs is stands a = absurd a
 frozen_by w w2 who k m m2 op (GrabbedLast l) at rs is stands a = absurd a
+frozen_by w w2 who k m m2 op (Settled l) at rs is stands a = absurd a
 frozen_by w w2 who k m m2 op OfMain at rs is stands a = absurd a
 
 -- whatever an append answers
@@ -284,6 +285,7 @@ appended_by w w2 who k m m2 op byte EmptyAndClosed at rs is stands a = absurd a
 appended_by w w2 who k m m2 op byte (WasClosed b) at rs is stands a = absurd a
 appended_by w w2 who k m m2 op byte (Started j) at rs is stands a = absurd a
 appended_by w w2 who k m m2 op byte (GrabbedLast l) at rs is stands a = absurd a
+appended_by w w2 who k m m2 op byte (Settled l) at rs is stands a = absurd a
 appended_by w w2 who k m m2 op byte OfMain at rs is stands a = absurd a
 
 -- whatever a push answers
@@ -325,6 +327,7 @@ pushed_by w w2 who k m m2 op value EmptyAndClosed at rs is stands a = absurd a
 pushed_by w w2 who k m m2 op value (WasClosed b) at rs is stands a = absurd a
 pushed_by w w2 who k m m2 op value (Started j) at rs is stands a = absurd a
 pushed_by w w2 who k m m2 op value (GrabbedLast l) at rs is stands a = absurd a
+pushed_by w w2 who k m m2 op value (Settled l) at rs is stands a = absurd a
 pushed_by w w2 who k m m2 op value OfMain at rs is stands a = absurd a
 
 -- whatever a write answers
@@ -358,6 +361,7 @@ written_by w w2 who k m m2 op i value EmptyAndClosed at rs is stands a = absurd 
 written_by w w2 who k m m2 op i value (WasClosed b) at rs is stands a = absurd a
 written_by w w2 who k m m2 op i value (Started j) at rs is stands a = absurd a
 written_by w w2 who k m m2 op i value (GrabbedLast l) at rs is stands a = absurd a
+written_by w w2 who k m m2 op i value (Settled l) at rs is stands a = absurd a
 written_by w w2 who k m m2 op i value OfMain at rs is stands a = absurd a
 
 -- whatever setting a field answers
@@ -399,4 +403,5 @@ set_by w w2 who k m m2 op name value EmptyAndClosed at rs is stands a = absurd a
 set_by w w2 who k m m2 op name value (WasClosed b) at rs is stands a = absurd a
 set_by w w2 who k m m2 op name value (Started j) at rs is stands a = absurd a
 set_by w w2 who k m m2 op name value (GrabbedLast l) at rs is stands a = absurd a
+set_by w w2 who k m m2 op name value (Settled l) at rs is stands a = absurd a
 set_by w w2 who k m m2 op name value OfMain at rs is stands a = absurd a

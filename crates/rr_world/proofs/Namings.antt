@@ -64,14 +64,15 @@ roots_same names names2 h (r ∷ rs) own shared =
     ∙ ap (λ vs. root_in names h r ∷ vs) (roots_same names names2 h rs own shared)
 
 -- a ractor is what is in it
-abbrev pub actor_with : List Value → Option Parcel → Option (List ℕ) → ℕ → ℕ → ℕ → Limits → Bool → Actor
-actor_with vs h o s l n z r = record { roots = vs; hand = h; home = o; slots = s; limit = l; next = n; limits = z; runs = r }
+abbrev pub actor_with : List Value → Option Parcel → Option (List ℕ) → Option ℕ → ℕ → ℕ → ℕ → Limits → Bool → Actor
+actor_with vs h o w s l n z r = record { roots = vs; hand = h; home = o; ticket = w; slots = s; limit = l; next = n; limits = z; runs = r }
 
-pub same_actor : {vs ws : List Value} {h i : Option Parcel} {o p : Option (List ℕ)} {s t l j n q : ℕ} {z y : Limits} {r u : Bool} → vs ≡ ws → h ≡ i → o ≡ p → s ≡ t → l ≡ j → n ≡ q → z ≡ y → r ≡ u
-    → actor_with vs h o s l n z r ≡ actor_with ws i p t j q y u
-same_actor {vs} {ws} {h} {i} {o} {p} {s} {t} {l} {j} {n} {q} {z} {y} {r} {u} a b c d e f g k =
-    ap (λ x. actor_with x h o s l n z r) a ∙ ap (λ x. actor_with ws x o s l n z r) b ∙ ap (λ x. actor_with ws i x s l n z r) c ∙ ap (λ x. actor_with ws i p x l n z r) d
-    ∙ ap (λ x. actor_with ws i p t x n z r) e ∙ ap (λ x. actor_with ws i p t j x z r) f ∙ ap (λ x. actor_with ws i p t j q x r) g ∙ ap (λ x. actor_with ws i p t j q y x) k
+pub same_actor : {vs ws : List Value} {h i : Option Parcel} {o p : Option (List ℕ)} {w x : Option ℕ} {s t l j n q : ℕ} {z y : Limits} {r u : Bool} → vs ≡ ws → h ≡ i → o ≡ p → w ≡ x → s ≡ t → l ≡ j → n ≡ q → z ≡ y → r ≡ u
+    → actor_with vs h o w s l n z r ≡ actor_with ws i p x t j q y u
+same_actor {vs} {ws} {h} {i} {o} {p} {w} {x} {s} {t} {l} {j} {n} {q} {z} {y} {r} {u} a b c m d e f g k =
+    ap (λ v. actor_with v h o w s l n z r) a ∙ ap (λ v. actor_with ws v o w s l n z r) b ∙ ap (λ v. actor_with ws i v w s l n z r) c ∙ ap (λ v. actor_with ws i p v s l n z r) m
+    ∙ ap (λ v. actor_with ws i p x v l n z r) d ∙ ap (λ v. actor_with ws i p x t v n z r) e ∙ ap (λ v. actor_with ws i p x t j v z r) f ∙ ap (λ v. actor_with ws i p x t j q v r) g
+    ∙ ap (λ v. actor_with ws i p x t j q y v) k
 
 pub home_same : (names names2 : Naming) (k : ℕ) (x : Option Home) → names2 (Space k) ≡ names (Space k) → option_map (shells_in names2 k) x ≡ option_map (shells_in names k) x
 home_same names names2 k None own = refl
@@ -81,19 +82,20 @@ home_same names names2 k (Some h) own = ap (λ ns. Some (map (slice_index ns) h.
 pub home_stands : (names names2 : Naming) (k : ℕ) (slots : List Slot) (hand : Option Packed) (x : Option Home) → AreAway slots hand x
     → ((i : ℕ) → i < length slots → slice_index (names2 (Space k)) i ≡ slice_index (names (Space k)) i) → option_map (shells_in names2 k) x ≡ option_map (shells_in names k) x
 home_stands names names2 k slots hand None away stand = refl
-home_stands names names2 k slots None (Some h) away stand = absurd away
+home_stands names names2 k slots None (Some h) away stand =
+    ap (λ (ns : List ℕ). Some ns) (map_same (slice_index (names2 (Space k))) (slice_index (names (Space k))) h.slots (λ n has. stand n (slice_get_within slots n (Here emptied) (away n has))))
 home_stands names names2 k slots (Some p) (Some h) away stand =
     ap (λ (ns : List ℕ). Some ns) (map_same (slice_index (names2 (Space k))) (slice_index (names (Space k))) h.slots (λ n has. stand n (slice_get_within slots n (Here emptied) (away.shells n has))))
 
 pub actor_same : (names names2 : Naming) (k : ℕ) (r : Member) → names2 (Space k) ≡ names (Space k) → names2 (Hand k) ≡ names (Hand k) → KeepsShared names names2
     → actor_in names2 k r ≡ actor_in names k r
 actor_same names names2 k r space hand shared =
-    same_actor (roots_same names names2 (Space k) r.roots space shared) (hand_same names names2 (Hand k) r.hand hand shared) (home_same names names2 k r.home space) refl refl refl refl refl
+    same_actor (roots_same names names2 (Space k) r.roots space shared) (hand_same names names2 (Hand k) r.hand hand shared) (home_same names names2 k r.home space) refl refl refl refl refl refl
 
 -- a ractor with another message in its hand
-pub handed : (names names2 : Naming) (k : ℕ) (r : Member) (p : Packed) → names2 (Space k) ≡ names (Space k) → KeepsShared names names2
-    → actor_in names2 k (record r { hand = Some p }) ≡ record (actor_in names k r) { hand = Some (parcel_in names2 (Hand k) p) }
-handed names names2 k r p space shared = same_actor (roots_same names names2 (Space k) r.roots space shared) refl (home_same names names2 k r.home space) refl refl refl refl refl
+pub handed : (names names2 : Naming) (k : ℕ) (r : Member) (p : Packed) (ticket : Option ℕ) → names2 (Space k) ≡ names (Space k) → KeepsShared names names2
+    → actor_in names2 k (record r { hand = Some p; ticket = ticket }) ≡ record (actor_in names k r) { hand = Some (parcel_in names2 (Hand k) p); ticket = ticket }
+handed names names2 k r p ticket space shared = same_actor (roots_same names names2 (Space k) r.roots space shared) refl (home_same names names2 k r.home space) refl refl refl refl refl refl
 
 pub letters_same : (names names2 : Naming) (c : ℕ) (es : List Entry) → ((e : Entry) → Contains es e → names2 (Mail c e.ticket) ≡ names (Mail c e.ticket)) → KeepsShared names names2
     → map (letter_in names2 c) es ≡ map (letter_in names c) es

@@ -29,6 +29,7 @@ use Rattle.std.proofs.lemmas.List.Elements.{Contains-append_cases}
 use Rattle.rr_space.proofs.Sounds.{none_in, in_first}
 use Rattle.rr_world.proofs.Knowing.{read_both, emptied_knows}
 use Rattle.rr_world.proofs.Enabled.{actor_at, mailbox_at, holds}
+use Rattle.rr_world.proofs.Fitting.{waits_homeless}
 
 triples_stay : (ts : List (Label × Value)) → map (renamed_triple (behind 0)) ts ≡ ts
 triples_stay [] = refl
@@ -109,7 +110,7 @@ module _ (w w2 : Assembly) (who : RactorNo) (k c : ℕ) (m : Member) (i i2 : Inb
         names2,
         bound,
         q.1,
-        read_both w w2 k c m (record m { hand = None; home = None }) i2 at rs is refl (emptied_knows (layout w) m (R.knows.ractors k m at))
+        read_both w w2 k c m (record m { hand = None; home = None }) i2 at rs is refl (waits_homeless m (record m { hand = None; home = None }) refl) (emptied_knows (layout w) m None m.ticket (R.knows.ractors k m at))
             (λ x has. ⊎_elim
             (λ old. R.knows.inboxes c i x box old)
             (λ new. ⊎_elim

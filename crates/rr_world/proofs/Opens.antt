@@ -18,13 +18,14 @@ use Rattle.rr_world.specs.Opening.{IsOpenedBy, Opened}
 use Rattle.rr_world.specs.Runs.{HasOutcome}
 use Rattle.rr_world.specs.declared.step.Action.TheVariants.{Open}
 use Rattle.rr_world.specs.declared.step.Reply.{Reply}
-use Rattle.rr_world.specs.declared.step.Reply.TheVariants.{NotEnabled, Done, Offered, Empty, EmptyAndClosed, WasClosed, Refused, Started, GrabbedLast, OfMain}
+use Rattle.rr_world.specs.declared.step.Reply.TheVariants.{NotEnabled, Done, Offered, Empty, EmptyAndClosed, WasClosed, Refused, Started, Settled, GrabbedLast, OfMain}
 use Rattle.rr_world.proofs.Lists.{set_at, set_off, each_set}
 use Rattle.rr_world.proofs.Namings.{actor_same, same_actor, post_same, value_moved, shared_kept, roots_stand}
 use Rattle.rr_world.proofs.Knowing.{read_set, opened_knows}
 use Rattle.rr_world.proofs.Enabled.{actor_at, holds, allowed, holds_not}
 use Rattle.rr_world.proofs.Insides.{set_again, same_assembly}
 use Rattle.rr_world.proofs.Staying.{refused, stays, same_state}
+use Rattle.rr_world.proofs.Fitting.{waits_homeless}
 
 module _ (w w2 : Assembly) (k : ℕ) (m m2 : Member) (p : Packed) (root : Ref) (at : slice_get w.ractors k ≡ Some m) (O : IsOpenedBy p root m m2)
     (rs : w2.ractors ≡ slice_set w.ractors k m2) (is : w2.channels ≡ w.channels) where
@@ -65,11 +66,11 @@ module _ (w w2 : Assembly) (k : ℕ) (m m2 : Member) (p : Packed) (root : Ref) (
       ap length O.opened.slots ∙ length-append m.space.slots (map (here_behind (length m.space.slots)) p.objects)
       ∙ ap (λ n. length m.space.slots + n) (length-map p.objects (here_behind (length m.space.slots))) in
       let actor : actor_in names2 k m2 ≡ record (actor_in names k m) { roots = (actor_in names k m).roots ++ (parcel_in names (Hand k) p).root ∷ []; hand = None; home = None; slots = (actor_in names k m).slots + (parcel_in names (Hand k) p).size } =
-      same_actor roots (ap (option_map (parcel_in names2 (Hand k))) O.hand) (ap (option_map (shells_in names2 k)) O.home) count O.opened.rest.limit O.opened.rest.next_message O.limits O.runs in (
+      same_actor roots (ap (option_map (parcel_in names2 (Hand k))) O.hand) (ap (option_map (shells_in names2 k)) O.home) O.ticket count O.opened.rest.limit O.opened.rest.next_message O.limits O.runs in (
         names2,
         bound,
         q.1,
-        read_set w w2 k m m2 at rs is O.opened.rest.owner (opened_knows (layout w) p root m m2 O (R.knows.ractors k m at)) R q.2,
+        read_set w w2 k m m2 at rs is O.opened.rest.owner (waits_homeless m m2 O.home) (opened_knows (layout w) p root m m2 O (R.knows.ractors k m at)) R q.2,
         (
           k,
           actor_in names k m,
@@ -114,4 +115,5 @@ opened_by w w2 who k m m2 EmptyAndClosed at rs is stands o = absurd o
 opened_by w w2 who k m m2 (WasClosed b) at rs is stands o = absurd o
 opened_by w w2 who k m m2 (Started j) at rs is stands o = absurd o
 opened_by w w2 who k m m2 (GrabbedLast l) at rs is stands o = absurd o
+opened_by w w2 who k m m2 (Settled l) at rs is stands o = absurd o
 opened_by w w2 who k m m2 OfMain at rs is stands o = absurd o

@@ -28,7 +28,7 @@ use Rattle.rr_world.specs.Packing.{IsPackedFrom, MayNotPack, Packs, named_ref}
 use Rattle.rr_world.specs.Runs.{HasOutcome}
 use Rattle.rr_world.specs.declared.step.Operand.{Operand}
 use Rattle.rr_world.specs.declared.step.Action.TheVariants.{Pack}
-use Rattle.rr_world.specs.declared.step.Reply.TheVariants.{NotEnabled, Done, Offered, Empty, EmptyAndClosed, WasClosed, Refused, Started, GrabbedLast, OfMain}
+use Rattle.rr_world.specs.declared.step.Reply.TheVariants.{NotEnabled, Done, Offered, Empty, EmptyAndClosed, WasClosed, Refused, Started, Settled, GrabbedLast, OfMain}
 use Rattle.rr_world.specs.declared.step.Reply.{Reply}
 use Rattle.rr_world.proofs.Lists.{set_at, set_off, seen_same, each_set}
 use Rattle.rr_world.proofs.Namings.{actor_same, post_same, handed}
@@ -38,6 +38,7 @@ use Rattle.rr_world.proofs.Insides.{set_again, same_assembly}
 use Rattle.rr_world.proofs.Staying.{stays_read, same_state}
 use Rattle.rr_world.proofs.Operands.{value_named, known_named}
 use Rattle.rr_world.proofs.Seeing.{inside, there, resolved, shared_of, promoted_of, free_of, shell_of}
+use Rattle.rr_world.proofs.Fitting.{waits_same}
 
 -- the table that a message is
 abbrev table_of : Packed → Table
@@ -191,7 +192,7 @@ module _ (w w2 : Assembly) (who : RactorNo) (k : ℕ) (m : Member) (op : Operand
         names2,
         bound + length p.objects,
         q.1,
-        read_set w w2 k m (record m { hand = Some p }) at rs is refl (holding_knows (layout w) m p (R.knows.ractors k m at) (known w w2 names bound g R k m v p at P empty knows rs is)) R q.2,
+        read_set w w2 k m (record m { hand = Some p }) at rs is refl (waits_same m (record m { hand = Some p }) refl refl) (holding_knows (layout w) m p m.ticket (R.knows.ractors k m at) (known w w2 names bound g R k m v p at P empty knows rs is)) R q.2,
         (
           k,
           actor_in names k m,
@@ -213,7 +214,7 @@ module _ (w w2 : Assembly) (who : RactorNo) (k : ℕ) (m : Member) (op : Operand
               ractors = ap (each_from (actor_in names2) 0) rs
                   ∙ each_set (actor_in names) (actor_in names2) 0 w.ractors k k (record m { hand = Some p }) (omega arith)
                   (λ j n x d z a. actor_same names names2 n x (spaces n) (N.rest (Hand n) (λ y. d (let f : n ≡ k = cc in omega arith))) kept)
-                  ∙ ap (slice_set (each_from (actor_in names) 0 w.ractors) k) (handed names names2 k m p (spaces k) kept);
+                  ∙ ap (slice_set (each_from (actor_in names) 0 w.ractors) k) (handed names names2 k m p m.ticket (spaces k) kept);
               post = ap (post_in names2) is ∙ post_same names names2 w.channels (λ c u. N.rest (Mail c u) (λ z. let f : ⊥ = cc in f)) (λ c u. N.rest (Shown c u) (λ z. let f : ⊥ = cc in f)) kept;
             },
           ),
@@ -267,4 +268,5 @@ packed_by w w2 who k m m2 op EmptyAndClosed at rs is stands o = absurd o
 packed_by w w2 who k m m2 op (WasClosed b) at rs is stands o = absurd o
 packed_by w w2 who k m m2 op (Started j) at rs is stands o = absurd o
 packed_by w w2 who k m m2 op (GrabbedLast l) at rs is stands o = absurd o
+packed_by w w2 who k m m2 op (Settled l) at rs is stands o = absurd o
 packed_by w w2 who k m m2 op OfMain at rs is stands o = absurd o

@@ -17,7 +17,7 @@ use Rattle.rr_port.specs.Ports.{Port, IsTicketed}
 use Rattle.rr_port.specs.declared.last.Grab.TheVariants as grab
 use Rattle.rr_port.specs.declared.last.LastGiven.{LastGiven}
 use Rattle.rr_port.specs.declared.last.Shown.{Shown as ShownMessage}
-use Rattle.rr_world.specs.Views.{Member, Assembly, IsFree, with_port}
+use Rattle.rr_world.specs.Views.{Member, Channels, Assembly, IsFree, with_port}
 use Rattle.rr_world.specs.Layouts.{shown_inside, last_inside}
 use Rattle.rr_world.specs.Leaving.{last_as}
 use Rattle.rr_world.specs.PortCases.{is_of_fault, told_of}
@@ -32,6 +32,7 @@ use Rattle.rr_world.specs.declared.step.Step.{Step}
 use Rattle.rr_world.specs.declared.step.Action.TheVariants.{ShowLast, Grab}
 use Rattle.rr_world.specs.declared.step.Reply.TheVariants.{Done, Offered, GrabbedLast, Refused, Empty, EmptyAndClosed}
 use Rattle.rr_world.proofs.Enabled.{actor_at, holds, free}
+use Rattle.rr_world.proofs.Fitting.{fits_ported, shows_nothing, shows_same, waits_homeless, waits_same}
 use Rattle.rr_world.proofs.Namings.{KeepsShared, parcel_same}
 use Rattle.rr_world.proofs.PortHands.{came_in, went_out}
 use Rattle.rr_world.proofs.PortInsides.{last_comes, last_leaves, last_entry, shown_leaves, shown_entry_of}
@@ -51,10 +52,10 @@ fault_as kind.Value m = refl
 fault_as kind.Fault m = refl
 
 -- a port is what is in it
-abbrev port_case : Option Letter → Option Farewell → Bool → Bool → ℕ → List PortEvent → ℕ → Showcase
+abbrev pub port_case : Option Letter → Option Farewell → Bool → Bool → ℕ → List PortEvent → ℕ → Showcase
 port_case s l g c n h m = record { shown = s; last = l; given = g; closed = c; next = n; history = h; limit = m }
 
-same_case : {s t : Option Letter} {l k : Option Farewell} {g i c d : Bool} {n o m q : ℕ} {h j : List PortEvent} → s ≡ t → l ≡ k → g ≡ i → c ≡ d → n ≡ o → h ≡ j → m ≡ q
+pub same_case : {s t : Option Letter} {l k : Option Farewell} {g i c d : Bool} {n o m q : ℕ} {h j : List PortEvent} → s ≡ t → l ≡ k → g ≡ i → c ≡ d → n ≡ o → h ≡ j → m ≡ q
     → port_case s l g c n h m ≡ port_case t k i d o j q
 same_case {s} {t} {l} {k} {g} {i} {c} {d} {n} {o} {m} {q} {h} {j} e1 e2 e3 e4 e5 e6 e7 =
     ap (λ x. port_case x l g c n h m) e1 ∙ ap (λ x. port_case t x g c n h m) e2 ∙ ap (λ x. port_case t k x c n h m) e3 ∙ ap (λ x. port_case t k i x n h m) e4
@@ -89,7 +90,8 @@ module _ (w w2 : Assembly) (who : RactorNo) (k : ℕ) (mark : LastKind) (m : Mem
   last_left A rs is names bound g R =
       let l : LastGiven = record { ticket = p.next; last = last_as mark x } in
       let held_last : m.hand ≡ Some (last_entry l).message = held ∙ ap (λ (y : Packed). Some y) (sym (message_as mark x)) in
-      let q = came_in w w2 k k m p p2 (last_entry l) at port held_last (last_comes p p2 l A.none A.shown A.last refl A.tickets) rs is names bound g R in
+      let q = came_in w w2 k k m None m.ticket p p2 (last_entry l) at port
+      (fits_ported w w2 k k m (record m { hand = None; home = None }) p p2 at port rs (ap (λ (x : Channels). x.ports) is) (waits_homeless m (record m { hand = None; home = None }) refl) (shows_same p p2 A.shown)) held_last (last_comes p p2 l A.none A.shown A.last refl A.tickets) rs is names bound g R in
       let names2 = q.0 in
       let H = q.3 in
       let parcel : parcel_in names2 (Shown k p.next) (message_of l.last) ≡ parcel_in names (Hand k) x = H.parcel ∙ ap (parcel_in names (Hand k)) (message_as mark x) in
@@ -134,7 +136,7 @@ module _ (w w2 : Assembly) (who : RactorNo) (k : ℕ) (mark : LastKind) (m : Mem
       → w2.ractors ≡ w.ractors → w2.channels ≡ with_port w.channels k p2 → HasOutcome (record { who = who; action = ShowLast mark }) (Refused fault.Closed) w w2
   last_refused shut shown last given closed next history limit rs is =
       let inside = ap (λ s. shown_inside s ++ last_inside p2.last) shown ∙ ap (λ l. shown_inside p.shown ++ last_inside l) last in
-      port_told w w2 k p p2 port inside rs is (record { who = who; action = ShowLast mark }) (Refused fault.Closed)
+      port_told w w2 k p p2 port inside shown rs is (record { who = who; action = ShowLast mark }) (Refused fault.Closed)
       (λ names g same. (
         k,
         actor_in names k m,
@@ -173,7 +175,9 @@ module _ (w w2 : Assembly) (who to : RactorNo) (k c : ℕ) (m : Member) (p p2 : 
   pub value_grabbed : (x : Packed) → Grabs (grab.Value x) p p2 who → w2.ractors ≡ slice_set w.ractors k (record m { hand = Some x }) → HasOutcome (record { who = who; action = Grab to }) Done w w2
   value_grabbed x (f, same, none, unshut, shown, now) rs names bound g R =
       let rs_f : w2.ractors ≡ slice_set w.ractors k (record m { hand = Some f.message }) = rs ∙ ap (λ (y : Packed). slice_set w.ractors k (let z : Member = record m { hand = Some y } in z)) (sym same) in
-      let q = went_out w w2 k c m p p2 (shown_entry_of f) at port free_hand (shown_leaves p p2 f none shown (ap (λ (y : Port). y.shown) now) (ap (λ (y : Port). y.last) now)) rs_f is names bound g R in
+      let q = went_out w w2 k c m m.ticket p p2 (shown_entry_of f) at port
+      (fits_ported w w2 k c m (record m { hand = Some f.message }) p p2 at port rs_f (ap (λ (y : Channels). y.ports) is) (waits_same m (record m { hand = Some f.message }) refl refl) (shows_nothing p p2 (ap (λ (y : Port). y.shown) now)))
+      free_hand.hand (shown_leaves p p2 f shown (ap (λ (y : Port). y.shown) now) (ap (λ (y : Port). y.last) now) tickets) rs_f is names bound g R in
       let H = q.3 in
       let h : p.history ++ event.Grabbed f.ticket (size_of x) who ∷ [] ≡ p.history ++ event.Grabbed f.ticket (size_of f.message) who ∷ [] = ap (λ (y : Packed). p.history ++ event.Grabbed f.ticket (size_of y) who ∷ []) (sym same) in
       let now_f : p2 ≡ record p { shown = None; history = p.history ++ event.Grabbed f.ticket (size_of f.message) who ∷ [] } = now ∙ ap (λ es. let y : Port = record p { shown = None; history = es } in y) h in (
@@ -208,7 +212,9 @@ module _ (w w2 : Assembly) (who to : RactorNo) (k c : ℕ) (m : Member) (p p2 : 
       → w2.ractors ≡ slice_set w.ractors k (record m { hand = Some x }) → HasOutcome (record { who = who; action = Grab to }) (GrabbedLast mark) w w2
   last_grabbed mark x l same fault_is last now rs names bound g R =
       let rs_l : w2.ractors ≡ slice_set w.ractors k (record m { hand = Some (message_of l.last) }) = rs ∙ ap (λ (y : Packed). slice_set w.ractors k (let z : Member = record m { hand = Some y } in z)) (sym same) in
-      let q = went_out w w2 k c m p p2 (last_entry l) at port free_hand (last_leaves p p2 l last (ap (λ (y : Port). y.shown) now) (ap (λ (y : Port). y.last) now) tickets) rs_l is names bound g R in
+      let q = went_out w w2 k c m m.ticket p p2 (last_entry l) at port
+      (fits_ported w w2 k c m (record m { hand = Some (message_of l.last) }) p p2 at port rs_l (ap (λ (y : Channels). y.ports) is) (waits_same m (record m { hand = Some (message_of l.last) }) refl refl) (shows_same p p2 (ap (λ (y : Port). y.shown) now)))
+      free_hand.hand (last_leaves p p2 l last (ap (λ (y : Port). y.shown) now) (ap (λ (y : Port). y.last) now) tickets) rs_l is names bound g R in
       let H = q.3 in
       let h : p.history ++ event.Grabbed l.ticket (size_of x) who ∷ [] ≡ p.history ++ event.Grabbed l.ticket (size_of (message_of l.last)) who ∷ [] = ap (λ (y : Packed). p.history ++ event.Grabbed l.ticket (size_of y) who ∷ []) (sym same) in
       let now_l : p2 ≡ record p { last = None; history = p.history ++ event.Grabbed l.ticket (size_of (message_of l.last)) who ∷ [] } = now ∙ ap (λ es. let y : Port = record p { last = None; history = es } in y) h in (

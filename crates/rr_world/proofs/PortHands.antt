@@ -1,5 +1,5 @@
 -- Messages go from a hand into a port, and from a port into a hand.
-use Rattle.std.proofs.Common.{◌≡◌, ℕ, ⊎_elim, inr, [], length, length-set, Some, None, slice_get, Contains, sym, ap, ◌∙◌, subst, refl, arith}
+use Rattle.std.proofs.Common.{◌≡◌, ℕ, ⊎_elim, inr, [], length, length-set, Option, Some, None, slice_get, Contains, sym, ap, ◌∙◌, subst, refl, arith}
 use Rattle.std.specs.Prelude.{slice_set}
 use Rattle.std.specs.Option.{option_map, option_and_then}
 use Rattle.std.proofs.lemmas.Option.{slice_get_within}
@@ -9,10 +9,11 @@ use Rattle.rr_space.proofs.Hands.{hands_on}
 use Rattle.rr_inbox.specs.declared.entry.Entry.{Entry}
 use Rattle.rr_port.specs.Ports.{Port}
 use Rattle.rr_store.specs.Stores.{constant_of}
-use Rattle.rr_world.specs.Views.{Member, Channels, Assembly, IsFree, with_port}
-use Rattle.rr_world.specs.Layouts.{layout, space_slots, hand_slots, inbox_slots, port_slots, port_inside, message_slots, message_below, MemberKnows, IsKnowing, IsRead}
+use Rattle.rr_move.specs.declared.home.Home.{Home}
+use Rattle.rr_world.specs.Views.{Member, Channels, Assembly, with_port}
+use Rattle.rr_world.specs.Layouts.{layout, space_slots, hand_slots, inbox_slots, port_slots, port_inside, message_slots, message_below, MemberKnows, IsKnowing, DoHomesFit, IsRead}
 use Rattle.rr_world.specs.States.{Actor, Parcel, with_case}
-use Rattle.rr_world.specs.Readings.{each_from, actor_in, parcel_in, showcase_in, post_in, state_in}
+use Rattle.rr_world.specs.Readings.{each_from, actor_in, parcel_in, shells_in, showcase_in, post_in, state_in}
 use Rattle.rr_world.proofs.Knowing.{knows_on, member_on, set_cases, owned_set, emptied_knows, holding_knows}
 use Rattle.rr_world.proofs.Lists.{eq_cases, set_at, set_off, seen_same, each_set}
 use Rattle.rr_world.proofs.Namings.{KeepsShared, actor_same, handed, post_shown, names_moved, parcel_moved, shared_kept, showcase_same}
@@ -34,32 +35,33 @@ knows_ported w w2 k c m2 p2 rs is M I K = record {
 -- a reading of the World with one ractor and one port in others' places
 read_ported : {names names2 : Naming} {bound bound2 : ℕ} {g g2 : Objects} (w w2 : Assembly) (k c : ℕ) (m m2 : Member) (p2 : Port) → slice_get w.ractors k ≡ Some m → w2.ractors ≡ slice_set w.ractors k m2
     → w2.channels ≡ with_port w.channels c p2 → m2.space.owner ≡ m.space.owner → MemberKnows (layout w) m2 → ((e : Entry) → Contains (port_inside p2) e → Knows (message_below e.message) (layout w))
-    → IsRead w names bound g → IsReading (layout w2) names2 bound2 g2 → IsRead w2 names2 bound2 g2
-read_ported w w2 k c m m2 p2 at rs is same M I R tables = record {
+    → (DoHomesFit w → DoHomesFit w2) → IsRead w names bound g → IsReading (layout w2) names2 bound2 g2 → IsRead w2 names2 bound2 g2
+read_ported w w2 k c m m2 p2 at rs is same M I fits R tables = record {
   tables = tables;
   knows = knows_ported w w2 k c m2 p2 rs is M I R.knows;
   owned = owned_set w w2 k m m2 at rs same R.owned;
   inboxes = ap (λ (x : Channels). length x.inboxes) is ∙ R.inboxes ∙ sym (length-set w.ractors k m2) ∙ sym (ap length rs);
   ports = ap (λ (x : Channels). length x.ports) is ∙ length-set w.channels.ports c p2 ∙ R.ports ∙ sym (length-set w.ractors k m2) ∙ sym (ap length rs);
+  fits = fits R.fits;
 }
 
 -- ---- Into a port.
 
 -- what a message in a hand that comes into a port leaves
-pub record HasCome (w w2 : Assembly) (k c : ℕ) (m : Member) (p2 : Port) (e : Entry) (names names2 : Naming) (g g2 : Objects) : Type 0 where
+pub record HasCome (w w2 : Assembly) (k c : ℕ) (m : Member) (home : Option Home) (ticket : Option ℕ) (p2 : Port) (e : Entry) (names names2 : Naming) (g g2 : Objects) : Type 0 where
   pub objects : IsHandedOn (Hand k) (Shown c e.ticket) g g2
-  pub ractors : (state_in w2 names2 g2).ractors ≡ slice_set (state_in w names g).ractors k (record (actor_in names k m) { hand = None; home = None })
+  pub ractors : (state_in w2 names2 g2).ractors ≡ slice_set (state_in w names g).ractors k (record (actor_in names k m) { hand = None; home = option_map (shells_in names k) home; ticket = ticket })
   pub post : post_in names2 w2.channels ≡ with_case (post_in names w.channels) c (showcase_in names2 c p2)
   pub rest : (u : ℕ) → (u ≡ e.ticket → ⊥) → names2 (Shown c u) ≡ names (Shown c u)
   pub parcel : parcel_in names2 (Shown c e.ticket) e.message ≡ parcel_in names (Hand k) e.message
   pub kept : KeepsShared names names2
 
-module _ (w w2 : Assembly) (k c : ℕ) (m : Member) (p p2 : Port) (e : Entry) (at : slice_get w.ractors k ≡ Some m) (port : slice_get w.channels.ports c ≡ Some p)
-    (held : m.hand ≡ Some e.message) (C : IsComing p p2 e) (rs : w2.ractors ≡ slice_set w.ractors k (record m { hand = None; home = None })) (is : w2.channels ≡ with_port w.channels c p2) where
+module _ (w w2 : Assembly) (k c : ℕ) (m : Member) (home : Option Home) (ticket : Option ℕ) (p p2 : Port) (e : Entry) (at : slice_get w.ractors k ≡ Some m) (port : slice_get w.channels.ports c ≡ Some p)
+    (fits : DoHomesFit w → DoHomesFit w2) (held : m.hand ≡ Some e.message) (C : IsComing p p2 e) (rs : w2.ractors ≡ slice_set w.ractors k (record m { hand = None; home = home; ticket = ticket })) (is : w2.channels ≡ with_port w.channels c p2) where
   rest : (h : Owner) → (h ≡ Hand k → ⊥) → (h ≡ Shown c e.ticket → ⊥) → layout w2 h ≡ layout w h
   unfolding layout
-  rest (Space j) q r = ap (λ xs. option_map space_slots (slice_get xs j)) rs ∙ seen_same (option_map space_slots) w.ractors k j m (record m { hand = None; home = None }) at refl
-  rest (Hand j) q r = ap (λ xs. option_and_then hand_slots (slice_get xs j)) rs ∙ ap (option_and_then hand_slots) (set_off w.ractors k j (record m { hand = None; home = None }) (λ z. q (ap Hand z)))
+  rest (Space j) q r = ap (λ xs. option_map space_slots (slice_get xs j)) rs ∙ seen_same (option_map space_slots) w.ractors k j m (record m { hand = None; home = home; ticket = ticket }) at refl
+  rest (Hand j) q r = ap (λ xs. option_and_then hand_slots (slice_get xs j)) rs ∙ ap (option_and_then hand_slots) (set_off w.ractors k j (record m { hand = None; home = home; ticket = ticket }) (λ z. q (ap Hand z)))
   rest (Mail d u) q r = ap (λ (x : Channels). option_and_then (inbox_slots u) (slice_get x.inboxes d)) is
   rest (Shown d u) q r = ap (λ (x : Channels). option_and_then (port_slots u) (slice_get x.ports d)) is ∙ ⊎_elim here other (eq_cases d c)
     where
@@ -75,7 +77,7 @@ module _ (w w2 : Assembly) (k c : ℕ) (m : Member) (p p2 : Port) (e : Entry) (a
   goes = record {
     from = ap (option_and_then hand_slots) at ∙ ap (option_map message_slots) held;
     to = inr (ap (option_and_then (port_slots e.ticket)) port ∙ C.fresh, refl);
-    gone = ap (λ xs. option_and_then hand_slots (slice_get xs k)) rs ∙ ap (option_and_then hand_slots) (set_at w.ractors k (record m { hand = None; home = None }) (slice_get_within w.ractors k m at));
+    gone = ap (λ xs. option_and_then hand_slots (slice_get xs k)) rs ∙ ap (option_and_then hand_slots) (set_at w.ractors k (record m { hand = None; home = home; ticket = ticket }) (slice_get_within w.ractors k m at));
     come = ap (λ (x : Channels). option_and_then (port_slots e.ticket) (slice_get x.ports c)) is
         ∙ ap (option_and_then (port_slots e.ticket)) (set_at w.channels.ports c p2 (slice_get_within w.channels.ports c p port))
         ∙ C.come ∙ ap (λ x. Some x) (objects_stay e.message.objects);
@@ -85,7 +87,7 @@ module _ (w w2 : Assembly) (k c : ℕ) (m : Member) (p p2 : Port) (e : Entry) (a
     unshared_b = λ d z. let n : ⊥ = cc in n;
   }
 
-  pub came_in : (names : Naming) (bound : ℕ) (g : Objects) → IsRead w names bound g → (names2 : Naming) × (g2 : Objects) × IsRead w2 names2 bound g2 × HasCome w w2 k c m p2 e names names2 g g2
+  pub came_in : (names : Naming) (bound : ℕ) (g : Objects) → IsRead w names bound g → (names2 : Naming) × (g2 : Objects) × IsRead w2 names2 bound g2 × HasCome w w2 k c m home ticket p2 e names names2 g g2
   came_in names bound g R =
       let q = hands_on (Hand k) (Shown c e.ticket) e.message.objects [] (layout w) (layout w2) names bound g goes R.tables in
       let names2 = q.0 in
@@ -98,17 +100,17 @@ module _ (w w2 : Assembly) (k c : ℕ) (m : Member) (p p2 : Port) (e : Entry) (a
       let mails : (n u : ℕ) → names2 (Mail n u) ≡ names (Mail n u) = λ n u. N.rest (Mail n u) (λ z. let y : ⊥ = cc in y) in (
         names2,
         q.1,
-        read_ported w w2 k c m (record m { hand = None; home = None }) p2 at rs is refl (emptied_knows (layout w) m (R.knows.ractors k m at))
+        read_ported w w2 k c m (record m { hand = None; home = home; ticket = ticket }) p2 at rs is refl (emptied_knows (layout w) m home ticket (R.knows.ractors k m at))
             (λ x has. ⊎_elim
             (λ old. R.knows.ports c p x port old)
             (λ (same : e ≡ x). subst (λ (y : Entry). Knows (message_below y.message) (layout w)) same ((R.knows.ractors k m at).hand e.message held))
             (C.inside x has))
-            R q.2,
+            fits R q.2,
         record {
           objects = q.4;
           ractors = ap (each_from (actor_in names2) 0) rs
-              ∙ each_set (actor_in names) (actor_in names2) 0 w.ractors k k (record m { hand = None; home = None }) (omega arith) (λ j n x d z a. actor_same names names2 n x (spaces n) (hands n) kept)
-              ∙ ap (slice_set (each_from (actor_in names) 0 w.ractors) k) (actor_same names names2 k (record m { hand = None; home = None }) (spaces k) (hands k) kept);
+              ∙ each_set (actor_in names) (actor_in names2) 0 w.ractors k k (record m { hand = None; home = home; ticket = ticket }) (omega arith) (λ j n x d z a. actor_same names names2 n x (spaces n) (hands n) kept)
+              ∙ ap (slice_set (each_from (actor_in names) 0 w.ractors) k) (actor_same names names2 k (record m { hand = None; home = home; ticket = ticket }) (spaces k) (hands k) kept);
           post = ap (post_in names2) is ∙ post_shown names names2 w.channels c p2 mails (λ d u z. N.rest (Shown d u) (λ y. z (let f : d ≡ c = cc in f))) kept;
           rest = λ u differ. N.rest (Shown c u) (λ z. differ (let f : u ≡ e.ticket = cc in f));
           parcel = parcel_moved (layout w) (Hand k) (Shown c e.ticket) e.message.objects names names2 e.message N J apart (names_moved goes R.tables q.2 J);
@@ -118,17 +120,17 @@ module _ (w w2 : Assembly) (k c : ℕ) (m : Member) (p p2 : Port) (e : Entry) (a
 
 -- ---- Out of a port.
 
-pub record HasLeft (w w2 : Assembly) (k c : ℕ) (m : Member) (p2 : Port) (e : Entry) (names names2 : Naming) (g g2 : Objects) : Type 0 where
+pub record HasLeft (w w2 : Assembly) (k c : ℕ) (m : Member) (ticket : Option ℕ) (p2 : Port) (e : Entry) (names names2 : Naming) (g g2 : Objects) : Type 0 where
   pub objects : IsHandedOn (Shown c e.ticket) (Hand k) g g2
-  pub ractors : (state_in w2 names2 g2).ractors ≡ slice_set (state_in w names g).ractors k (record (actor_in names k m) { hand = Some (parcel_in names (Shown c e.ticket) e.message) })
+  pub ractors : (state_in w2 names2 g2).ractors ≡ slice_set (state_in w names g).ractors k (record (actor_in names k m) { hand = Some (parcel_in names (Shown c e.ticket) e.message); ticket = ticket })
   pub post : post_in names2 w2.channels ≡ with_case (post_in names w.channels) c (showcase_in names c p2)
 
-module _ (w w2 : Assembly) (k c : ℕ) (m : Member) (p p2 : Port) (e : Entry) (at : slice_get w.ractors k ≡ Some m) (port : slice_get w.channels.ports c ≡ Some p)
-    (free_hand : IsFree m) (L : IsLeaving p p2 e) (rs : w2.ractors ≡ slice_set w.ractors k (record m { hand = Some e.message })) (is : w2.channels ≡ with_port w.channels c p2) where
+module _ (w w2 : Assembly) (k c : ℕ) (m : Member) (ticket : Option ℕ) (p p2 : Port) (e : Entry) (at : slice_get w.ractors k ≡ Some m) (port : slice_get w.channels.ports c ≡ Some p)
+    (fits : DoHomesFit w → DoHomesFit w2) (empty : m.hand ≡ None) (L : IsLeaving p p2 e) (rs : w2.ractors ≡ slice_set w.ractors k (record m { hand = Some e.message; ticket = ticket })) (is : w2.channels ≡ with_port w.channels c p2) where
   rest_out : (h : Owner) → (h ≡ Shown c e.ticket → ⊥) → (h ≡ Hand k → ⊥) → layout w2 h ≡ layout w h
   unfolding layout
-  rest_out (Space j) q r = ap (λ xs. option_map space_slots (slice_get xs j)) rs ∙ seen_same (option_map space_slots) w.ractors k j m (record m { hand = Some e.message }) at refl
-  rest_out (Hand j) q r = ap (λ xs. option_and_then hand_slots (slice_get xs j)) rs ∙ ap (option_and_then hand_slots) (set_off w.ractors k j (record m { hand = Some e.message }) (λ z. r (ap Hand z)))
+  rest_out (Space j) q r = ap (λ xs. option_map space_slots (slice_get xs j)) rs ∙ seen_same (option_map space_slots) w.ractors k j m (record m { hand = Some e.message; ticket = ticket }) at refl
+  rest_out (Hand j) q r = ap (λ xs. option_and_then hand_slots (slice_get xs j)) rs ∙ ap (option_and_then hand_slots) (set_off w.ractors k j (record m { hand = Some e.message; ticket = ticket }) (λ z. r (ap Hand z)))
   rest_out (Mail d u) q r = ap (λ (x : Channels). option_and_then (inbox_slots u) (slice_get x.inboxes d)) is
   rest_out (Shown d u) q r = ap (λ (x : Channels). option_and_then (port_slots u) (slice_get x.ports d)) is ∙ ⊎_elim here other (eq_cases d c)
     where
@@ -143,18 +145,18 @@ module _ (w w2 : Assembly) (k c : ℕ) (m : Member) (p p2 : Port) (e : Entry) (a
   unfolding layout
   goes_out = record {
     from = ap (option_and_then (port_slots e.ticket)) port ∙ L.was;
-    to = inr (ap (option_and_then hand_slots) at ∙ ap (option_map message_slots) free_hand.hand, refl);
+    to = inr (ap (option_and_then hand_slots) at ∙ ap (option_map message_slots) empty, refl);
     gone = ap (λ (x : Channels). option_and_then (port_slots e.ticket) (slice_get x.ports c)) is
         ∙ ap (option_and_then (port_slots e.ticket)) (set_at w.channels.ports c p2 (slice_get_within w.channels.ports c p port)) ∙ L.gone;
     come = ap (λ xs. option_and_then hand_slots (slice_get xs k)) rs
-        ∙ ap (option_and_then hand_slots) (set_at w.ractors k (record m { hand = Some e.message }) (slice_get_within w.ractors k m at)) ∙ ap (λ x. Some x) (objects_stay e.message.objects);
+        ∙ ap (option_and_then hand_slots) (set_at w.ractors k (record m { hand = Some e.message; ticket = ticket }) (slice_get_within w.ractors k m at)) ∙ ap (λ x. Some x) (objects_stay e.message.objects);
     rest = rest_out;
     apart = λ z. let n : ⊥ = cc in n;
     unshared_a = λ d z. let n : ⊥ = cc in n;
     unshared_b = λ d z. let n : ⊥ = cc in n;
   }
 
-  pub went_out : (names : Naming) (bound : ℕ) (g : Objects) → IsRead w names bound g → (names2 : Naming) × (g2 : Objects) × IsRead w2 names2 bound g2 × HasLeft w w2 k c m p2 e names names2 g g2
+  pub went_out : (names : Naming) (bound : ℕ) (g : Objects) → IsRead w names bound g → (names2 : Naming) × (g2 : Objects) × IsRead w2 names2 bound g2 × HasLeft w w2 k c m ticket p2 e names names2 g g2
   went_out names bound g R =
       let q = hands_on (Shown c e.ticket) (Hand k) e.message.objects [] (layout w) (layout w2) names bound g goes_out R.tables in
       let names2 = q.0 in
@@ -167,18 +169,18 @@ module _ (w w2 : Assembly) (k c : ℕ) (m : Member) (p p2 : Port) (e : Entry) (a
       let shows : (n u : ℕ) → names2 (Shown n u) ≡ names (Shown n u) = λ n u. N.rest (Shown n u) (λ z. let y : ⊥ = cc in y) in
       let moved : parcel_in names2 (Hand k) e.message ≡ parcel_in names (Shown c e.ticket) e.message =
       parcel_moved (layout w) (Shown c e.ticket) (Hand k) e.message.objects names names2 e.message N J apart (names_moved goes_out R.tables q.2 J) in
-      let actor : actor_in names2 k (record m { hand = Some e.message }) ≡ record (actor_in names k m) { hand = Some (parcel_in names (Shown c e.ticket) e.message) } =
-      handed names names2 k m e.message (spaces k) kept ∙ ap (λ (x : Parcel). let a : Actor = record (actor_in names k m) { hand = Some x } in a) moved in (
+      let actor : actor_in names2 k (record m { hand = Some e.message; ticket = ticket }) ≡ record (actor_in names k m) { hand = Some (parcel_in names (Shown c e.ticket) e.message); ticket = ticket } =
+      handed names names2 k m e.message ticket (spaces k) kept ∙ ap (λ (x : Parcel). let a : Actor = record (actor_in names k m) { hand = Some x; ticket = ticket } in a) moved in (
         names2,
         q.1,
-        read_ported w w2 k c m (record m { hand = Some e.message }) p2 at rs is refl
-            (holding_knows (layout w) m e.message (R.knows.ractors k m at) (R.knows.ports c p e port L.has))
+        read_ported w w2 k c m (record m { hand = Some e.message; ticket = ticket }) p2 at rs is refl
+            (holding_knows (layout w) m e.message ticket (R.knows.ractors k m at) (R.knows.ports c p e port L.has))
             (λ x has. R.knows.ports c p x port (L.inside x has))
-            R q.2,
+            fits R q.2,
         record {
           objects = q.4;
           ractors = ap (each_from (actor_in names2) 0) rs
-              ∙ each_set (actor_in names) (actor_in names2) 0 w.ractors k k (record m { hand = Some e.message }) (omega arith)
+              ∙ each_set (actor_in names) (actor_in names2) 0 w.ractors k k (record m { hand = Some e.message; ticket = ticket }) (omega arith)
               (λ j n x d z a. actor_same names names2 n x (spaces n) (N.rest (Hand n) (λ y. d (let f : n ≡ k = cc in omega arith))) kept)
               ∙ ap (slice_set (each_from (actor_in names) 0 w.ractors) k) actor;
           post = ap (post_in names2) is ∙ post_shown names names2 w.channels c p2 mails (λ d u z. shows d u) kept

@@ -73,16 +73,36 @@ last_leaves p p2 l is shown none T =
       inside = λ x has. subst (λ ys. Contains ys x) (sym before) (Contains-append_left xs (last_entry l ∷ []) x (subst (λ ys. Contains ys x) after has));
     }
 
-pub shown_leaves : (p p2 : Port) (f : ShownMessage) → p.last ≡ None → p.shown ≡ Some f → p2.shown ≡ None → p2.last ≡ p.last → IsLeaving p p2 (shown_entry_of f)
-shown_leaves p p2 f none is gone same =
-    let before : port_inside p ≡ shown_entry_of f ∷ [] = ap (λ s. shown_inside s ++ last_inside p.last) is ∙ ap (λ z. shown_entry_of f ∷ last_inside z) none in
-    let after : port_inside p2 ≡ [] = ap (λ s. shown_inside s ++ last_inside p2.last) gone ∙ ap last_inside (same ∙ none) in
+contains_behind : (e : Entry) (es : List Entry) (x : Entry) → Contains es x → Contains (e ∷ es) x
+contains_behind e es x has = Contains-append_right (e ∷ []) es x has
+
+last_entry_has : (l : Option LastGiven) (x : Entry) → Contains (last_inside l) x → (k : LastGiven) × (l ≡ Some k) × (k.ticket ≡ x.ticket)
+last_entry_has None x has = absurd (none_in x has)
+last_entry_has (Some k) x has = (k, refl, ⊎_elim (λ one. ap (λ (e : Entry). e.ticket) one) (λ none. absurd (none_in x none)) (in_first (last_entry k) [] x has))
+
+pub shown_comes : (p p2 : Port) (f : ShownMessage) → p.shown ≡ None → p2.shown ≡ Some f → p2.last ≡ p.last → f.ticket ≡ p.next → IsTicketed p → IsComing p p2 (shown_entry_of f)
+shown_comes p p2 f none is same next T =
+    let xs = last_inside p.last in
+    let before : port_inside p ≡ xs = ap (λ s. shown_inside s ++ xs) none in
+    let after : port_inside p2 ≡ shown_entry_of f ∷ xs = ap (λ s. shown_inside s ++ last_inside p2.last) is ∙ ap (λ l. shown_entry_of f ∷ last_inside l) same in
     record {
-      was = ap (mail_slots f.ticket) before ∙ mail_here (shown_entry_of f) [];
-      gone = ap (mail_slots f.ticket) after;
-      others = λ u differ. ap (mail_slots u) after ∙ sym (mail_past (shown_entry_of f) [] u differ) ∙ ap (mail_slots u) (sym before);
+      fresh = ap (mail_slots f.ticket) before ∙ mail_none xs f.ticket (λ x has under. let l = last_entry_has p.last x has in let lt = T.last_below_next l.0 l.1 in absurd (omega (arith, lt, l.2, under, next)));
+      come = ap (mail_slots f.ticket) after ∙ mail_here (shown_entry_of f) xs;
+      others = λ u differ. ap (mail_slots u) after ∙ mail_past (shown_entry_of f) xs u differ ∙ ap (mail_slots u) (sym before);
+      inside = λ x has. ⊎_elim (λ one. inr one) (λ old. inl (subst (λ ys. Contains ys x) (sym before) old)) (in_first (shown_entry_of f) xs x (subst (λ ys. Contains ys x) after has));
+    }
+
+pub shown_leaves : (p p2 : Port) (f : ShownMessage) → p.shown ≡ Some f → p2.shown ≡ None → p2.last ≡ p.last → IsTicketed p → IsLeaving p p2 (shown_entry_of f)
+shown_leaves p p2 f is gone same T =
+    let xs = last_inside p.last in
+    let before : port_inside p ≡ shown_entry_of f ∷ xs = ap (λ s. shown_inside s ++ xs) is in
+    let after : port_inside p2 ≡ xs = ap (λ s. shown_inside s ++ last_inside p2.last) gone ∙ ap last_inside same in
+    record {
+      was = ap (mail_slots f.ticket) before ∙ mail_here (shown_entry_of f) xs;
+      gone = ap (mail_slots f.ticket) after ∙ mail_none xs f.ticket (λ x has under. let l = last_entry_has p.last x has in absurd (T.apart f l.0 is l.1 (l.2 ∙ under)));
+      others = λ u differ. ap (mail_slots u) after ∙ sym (mail_past (shown_entry_of f) xs u differ) ∙ ap (mail_slots u) (sym before);
       has = subst (λ ys. Contains ys (shown_entry_of f)) (sym before) (0, omega arith, refl);
-      inside = λ x has. absurd (none_in x (subst (λ ys. Contains ys x) after has));
+      inside = λ x has. subst (λ ys. Contains ys x) (sym before) (contains_behind (shown_entry_of f) xs x (subst (λ ys. Contains ys x) after has));
     }
 
 -- ---- A port that was given no last value has none.

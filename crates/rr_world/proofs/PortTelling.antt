@@ -21,6 +21,7 @@ use Rattle.rr_world.specs.declared.step.Action.TheVariants.{ClosePort}
 use Rattle.rr_world.specs.declared.step.Reply.TheVariants.{WasClosed}
 use Rattle.rr_world.specs.Enabling.{Allows}
 use Rattle.rr_world.proofs.Enabled.{actor_at}
+use Rattle.rr_world.proofs.Fitting.{WaitsAsBefore, ShowsAsBefore, fits_on, same_as_before, set_as_before, shows_same, shows_still, waits_still}
 use Rattle.rr_world.proofs.Knowing.{knows_on, member_on, set_cases}
 use Rattle.rr_world.proofs.Lists.{each_at, each_back, seen_same}
 use Rattle.rr_world.proofs.Namings.{post_shown}
@@ -41,7 +42,7 @@ pub no_port_closed : (w : Assembly) (names : Naming) (g : Objects) (step : Step)
 no_port_closed w names g step to is none (k, a, there, at, allows, tested) =
     no_port w names g to none (subst (λ x. Allows (state_in w names g) step.who a x) is allows)
 
-module _ (w w2 : Assembly) (c : ℕ) (p p2 : Port) (port : slice_get w.channels.ports c ≡ Some p) (inside : port_inside p2 ≡ port_inside p) (rs : w2.ractors ≡ w.ractors) (is : w2.channels ≡ with_port w.channels c p2) where
+module _ (w w2 : Assembly) (c : ℕ) (p p2 : Port) (port : slice_get w.channels.ports c ≡ Some p) (inside : port_inside p2 ≡ port_inside p) (shown : p2.shown ≡ p.shown) (rs : w2.ractors ≡ w.ractors) (is : w2.channels ≡ with_port w.channels c p2) where
   tables : (h : Owner) → layout w2 h ≡ layout w h
   unfolding layout
   tables (Space j) = ap (λ xs. option_map space_slots (slice_get xs j)) rs
@@ -75,6 +76,8 @@ module _ (w w2 : Assembly) (c : ℕ) (p p2 : Port) (port : slice_get w.channels.
       owned = λ j m at. R.owned j m (ap (λ xs. slice_get xs j) (sym rs) ∙ at);
       inboxes = ap (λ (x : Channels). length x.inboxes) is ∙ R.inboxes ∙ sym (ap length rs);
       ports = ap (λ (x : Channels). length x.ports) is ∙ length-set w.channels.ports c p2 ∙ R.ports ∙ sym (ap length rs);
+      fits = fits_on w w2 (same_as_before WaitsAsBefore w.ractors w2.ractors rs waits_still)
+          (set_as_before ShowsAsBefore w.channels.ports w2.channels.ports c p p2 port (ap (λ (x : Channels). x.ports) is) (shows_same p p2 shown) shows_still) R.fits;
     },
     case names g (record {
       objects = λ n. refl;
@@ -91,7 +94,7 @@ pub port_closed_by : (w w2 : Assembly) (who to : RactorNo) (k c : ℕ) (m : Memb
     → w2.ractors ≡ w.ractors → w2.channels ≡ with_port w.channels c p2 → p2 ≡ port_shut_by p who → already ≡ p.closed → StandsAt who k → StandsAt to c
     → HasOutcome (record { who = who; action = ClosePort to }) (WasClosed already) w w2
 port_closed_by w w2 who to k c m p p2 already at port rs is shut was stands there =
-    port_told w w2 c p p2 port (ap port_inside shut) rs is (record { who = who; action = ClosePort to }) (WasClosed already)
+    port_told w w2 c p p2 port (ap port_inside shut) (ap (λ (x : Port). x.shown) shut) rs is (record { who = who; action = ClosePort to }) (WasClosed already)
     (λ names g same. (
       k,
       actor_in names k m,

@@ -30,7 +30,7 @@ use Rattle.rr_world.specs.Runs.{HasOutcome}
 use Rattle.rr_world.specs.declared.step.Operand.{Operand}
 use Rattle.rr_world.specs.declared.step.Action.TheVariants.{Read}
 use Rattle.rr_world.specs.declared.step.Reply.{Reply}
-use Rattle.rr_world.specs.declared.step.Reply.TheVariants.{NotEnabled, Done, Offered, Empty, EmptyAndClosed, WasClosed, Refused, Started, GrabbedLast, OfMain}
+use Rattle.rr_world.specs.declared.step.Reply.TheVariants.{NotEnabled, Done, Offered, Empty, EmptyAndClosed, WasClosed, Refused, Started, Settled, GrabbedLast, OfMain}
 use Rattle.rr_world.proofs.Changes.{at_slot}
 use Rattle.rr_world.proofs.Enabled.{actor_at, allowed}
 use Rattle.rr_world.proofs.Knowing.{no_clusters, none_known, knows_either, read_set}
@@ -38,6 +38,7 @@ use Rattle.rr_world.proofs.Lists.{seen_same, each_set}
 use Rattle.rr_world.proofs.Making.{slot_named, value_on, unmade, unmade_for}
 use Rattle.rr_world.proofs.Operands.{known_named}
 use Rattle.rr_world.proofs.Staying.{same_state}
+use Rattle.rr_world.proofs.Fitting.{waits_same}
 
 abbrev with_root : Member → Ref → Member
 with_root m r = record m { roots = m.roots ++ r ∷ [] }
@@ -152,7 +153,7 @@ module _ (w w2 : Assembly) (who : RactorNo) (k : ℕ) (m m2 : Member) (op : Oper
     names,
     bound,
     g,
-    read_set w w2 k m (with_root m r) at set is refl (root_known (layout w) (R.knows.ractors k m at)) R (reading_same (layout w) (layout w2) names bound g same_tables R.tables),
+    read_set w w2 k m (with_root m r) at set is refl (waits_same m (with_root m r) refl refl) (root_known (layout w) (R.knows.ractors k m at)) R (reading_same (layout w) (layout w2) names bound g same_tables R.tables),
     (k, actor_in names k m, stands, actor_at w names g k m at, under_on w names bound g R k m at who op (label_of label) under, read_as names bound g R),
   )
 
@@ -172,4 +173,5 @@ read_of w w2 who k m m2 op label EmptyAndClosed at rs is stands a = absurd a
 read_of w w2 who k m m2 op label (WasClosed b) at rs is stands a = absurd a
 read_of w w2 who k m m2 op label (Started j) at rs is stands a = absurd a
 read_of w w2 who k m m2 op label (GrabbedLast l) at rs is stands a = absurd a
+read_of w w2 who k m m2 op label (Settled l) at rs is stands a = absurd a
 read_of w w2 who k m m2 op label OfMain at rs is stands a = absurd a

@@ -23,7 +23,7 @@ use Rattle.rr_world.specs.Moving.{IsPutBackBy, PutsBackInto}
 use Rattle.rr_world.specs.Runs.{HasOutcome}
 use Rattle.rr_world.specs.declared.step.Action.TheVariants.{PutBack}
 use Rattle.rr_world.specs.declared.step.Reply.{Reply}
-use Rattle.rr_world.specs.declared.step.Reply.TheVariants.{NotEnabled, Done, Offered, Empty, EmptyAndClosed, WasClosed, Refused, Started, GrabbedLast, OfMain}
+use Rattle.rr_world.specs.declared.step.Reply.TheVariants.{NotEnabled, Done, Offered, Empty, EmptyAndClosed, WasClosed, Refused, Started, Settled, GrabbedLast, OfMain}
 use Rattle.rr_world.proofs.Enabled.{actor_at, allowed}
 use Rattle.rr_world.proofs.Insides.{set_again, same_assembly}
 use Rattle.rr_world.proofs.Knowing.{knows_either, read_set}
@@ -32,6 +32,7 @@ use Rattle.rr_world.proofs.Namings.{actor_same, same_actor, post_same}
 use Rattle.rr_world.proofs.Rooting.{roots_keep}
 use Rattle.rr_world.proofs.Staying.{refused}
 use Rattle.rr_world.proofs.Tables.{space_was, hand_was, space_now, hand_now, rest_now}
+use Rattle.rr_world.proofs.Fitting.{waits_homeless}
 
 module _ (w w2 : Assembly) (who : RactorNo) (k : ℕ) (m m2 : Member) (d : Detached) (at : slice_get w.ractors k ≡ Some m) (A : IsPutBackBy d m m2)
     (rs : w2.ractors ≡ slice_set w.ractors k m2) (is : w2.channels ≡ w.channels) where
@@ -88,14 +89,14 @@ module _ (w w2 : Assembly) (who : RactorNo) (k : ℕ) (m m2 : Member) (d : Detac
       let roots : map (root_in names2 (Space k)) m2.roots ≡ map (root_in names (Space k)) m.roots =
       ap (map (root_in names2 (Space k))) roots_are ∙ roots_keep (length m.space.slots) names names2 (Space k) m.roots A.rooted stand kept in
       let actor : actor_in names2 k m2 ≡ record (actor_in names k m) { hand = None; home = None } =
-      same_actor roots (ap (option_map (parcel_in names2 (Hand k))) gone) (ap (λ (x : Member). option_map (shells_in names2 k) x.home) A.now_is) A.back.slots.size A.back.rest.limit A.back.rest.next_message
+      same_actor roots (ap (option_map (parcel_in names2 (Hand k))) gone) (ap (λ (x : Member). option_map (shells_in names2 k) x.home) A.now_is) (ap (λ (x : Member). x.ticket) A.now_is) A.back.slots.size A.back.rest.limit A.back.rest.next_message
       (ap (λ (x : Member). x.limits) A.now_is) (ap (λ (x : Member). x.runs) A.now_is) in
       let hand = ap (option_map (parcel_in names (Hand k))) A.held in
       let home = ap (option_map (shells_in names k)) A.home in (
         names2,
         bound,
         q.1,
-        read_set w w2 k m m2 at rs is A.back.rest.owner (back_knows (layout w) (R.knows.ractors k m at)) R q.2,
+        read_set w w2 k m m2 at rs is A.back.rest.owner (waits_homeless m m2 (ap (λ (x : Member). x.home) A.now_is)) (back_knows (layout w) (R.knows.ractors k m at)) R q.2,
         (
           k,
           actor_in names k m,
@@ -144,4 +145,5 @@ returned_by law w w2 who k m m2 EmptyAndClosed at rs is stands o = absurd o
 returned_by law w w2 who k m m2 (WasClosed b) at rs is stands o = absurd o
 returned_by law w w2 who k m m2 (Started j) at rs is stands o = absurd o
 returned_by law w w2 who k m m2 (GrabbedLast l) at rs is stands o = absurd o
+returned_by law w w2 who k m m2 (Settled l) at rs is stands o = absurd o
 returned_by law w w2 who k m m2 OfMain at rs is stands o = absurd o

@@ -25,6 +25,7 @@ use Rattle.rr_world.proofs.Knowing.{read_set, knows_either, none_known}
 use Rattle.rr_world.proofs.Enabled.{actor_at}
 use Rattle.rr_world.proofs.Rooting.{roots_keep}
 use Rattle.rr_world.proofs.Changes.{set_length}
+use Rattle.rr_world.proofs.Fitting.{waits_same}
 
 module _ (w w2 : Assembly) (k n : ℕ) (m m2 : Member) (o p : Object) (v : Ref) (at : slice_get w.ractors k ≡ Some m) (here : slice_get m.space.slots n ≡ Some (Here o))
     (A : IsRewritten n p v m m2) (rs : w2.ractors ≡ slice_set w.ractors k m2) (is : w2.channels ≡ w.channels)
@@ -244,7 +245,7 @@ module _ (w w2 : Assembly) (k n : ℕ) (m m2 : Member) (o p : Object) (v : Ref) 
         ap (map (root_in names2 (Space k))) A.roots ∙ roots_keep (length m.space.slots) names names2 (Space k) m.roots A.within stand kept_shared in
         let count : length m2.space.slots ≡ length m.space.slots = ap length A.slots ∙ size in
         same_actor roots (ap (option_map (parcel_in names2 (Hand k))) A.hand ∙ hand_same names names2 (Hand k) m.hand hands kept_shared)
-        (ap (option_map (shells_in names2 k)) A.home ∙ home_stands names names2 k m.space.slots m.hand m.home A.away stand) count A.limit A.next A.limits A.runs
+        (ap (option_map (shells_in names2 k)) A.home ∙ home_stands names names2 k m.space.slots m.hand m.home A.away stand) A.ticket count A.limit A.next A.limits A.runs
 
     changed_to : ((o.frozen ≡ true) ⊎ (o.kind ≡ shell) → p ≡ o) → IsNewValue g (actor_in names k m).roots (root_in names (Space k) v)
         → IsChangedTo k (actor_in names k m) name (named names (Space k) o) (named names2 (Space k) p) (state_in w names g) (state_in w2 names2 g2)
@@ -284,7 +285,7 @@ module _ (w w2 : Assembly) (k n : ℕ) (m m2 : Member) (o p : Object) (v : Ref) 
         q.0,
         bound + 0,
         q.1,
-        read_set w w2 k m m2 at rs is A.owner (rewritten_knows (layout w) K (R.knows.ractors k m at)) R q.2,
+        read_set w w2 k m m2 at rs is A.owner (waits_same m m2 A.home A.ticket) (rewritten_knows (layout w) K (R.knows.ractors k m at)) R q.2,
         changed_to names bound g R K q.0 q.1 q.2 q.3 q.4 shut rooted,
         λ l x has. value_stays names bound g R K q.0 q.1 q.2 q.3 q.4 x (all_within S K l x has),
       )

@@ -10,7 +10,7 @@ use Rattle.rr_world.specs.Cases.{IsCase, IsOutcome}
 use Rattle.rr_world.specs.Runs.{HasOutcome, IsStep}
 use Rattle.rr_world.specs.declared.step.Step.{Step}
 use Rattle.rr_world.specs.declared.step.Reply.{Reply}
-use Rattle.rr_world.specs.declared.step.Reply.TheVariants.{NotEnabled, Done, Offered, Empty, EmptyAndClosed, WasClosed, Refused, Started, GrabbedLast, OfMain}
+use Rattle.rr_world.specs.declared.step.Reply.TheVariants.{NotEnabled, Done, Offered, Empty, EmptyAndClosed, WasClosed, Refused, Started, Settled, GrabbedLast, OfMain}
 use Rattle.rr_world.proofs.Enabled.{actor_at}
 use Rattle.rr_world.proofs.Lists.{each_back}
 use Rattle.rr_world.proofs.Staying.{same_state}
@@ -23,6 +23,7 @@ case_of step Empty s t runs o = (runs, o)
 case_of step EmptyAndClosed s t runs o = (runs, o)
 case_of step (WasClosed b) s t runs o = (runs, o)
 case_of step (Started n) s t runs o = (runs, o)
+case_of step (Settled what) s t runs o = (runs, o)
 case_of step (GrabbedLast l) s t runs o = (runs, o)
 case_of step (Refused f) s t runs o = (runs, o)
 case_of step OfMain s t runs o = (runs, o)

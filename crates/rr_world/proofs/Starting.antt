@@ -19,7 +19,7 @@ use Rattle.rr_inbox.specs.Inboxes.{Inbox, new_inbox}
 use Rattle.rr_port.specs.Ports.{Port, new_port}
 use Rattle.rr_store.specs.Stores.{constant_of}
 use Rattle.rr_world.specs.Views.{Member, Channels, Assembly}
-use Rattle.rr_world.specs.Layouts.{layout, space_slots, hand_slots, inbox_slots, port_slots, port_inside, message_slots, message_below, MemberKnows, IsKnowing, AreOwned, HaveInboxes, HavePorts, IsRead}
+use Rattle.rr_world.specs.Layouts.{layout, space_slots, hand_slots, inbox_slots, port_slots, port_inside, message_slots, message_below, MemberKnows, IsKnowing, AreOwned, DoHomesFit, HaveInboxes, HavePorts, IsRead}
 use Rattle.rr_world.specs.States.{Actor}
 use Rattle.rr_world.specs.Readings.{each_from, actor_in, shells_in, mailbox_in, showcase_in, parcel_in, root_in, post_in, state_in}
 use Rattle.rr_world.specs.Enabling.{StandsAt}
@@ -153,7 +153,7 @@ module _ (w w2 : Assembly) (limits : Limits) (m2 : Member) (A : IsBegun limits (
     objects = remade_empty (Space place) (layout w) (layout w2) names names2 bound (bound + 0) g g2 remakes was R.tables after_reading N M
 
     new_one : actor_in names2 place m2 ≡ new_actor limits
-    new_one = same_actor (ap (map (root_in names2 (Space place))) A.roots) (ap (option_map (parcel_in names2 (Hand place))) A.hand) (ap (option_map (shells_in names2 place)) A.home)
+    new_one = same_actor (ap (map (root_in names2 (Space place))) A.roots) (ap (option_map (parcel_in names2 (Hand place))) A.hand) (ap (option_map (shells_in names2 place)) A.home) A.ticket
         (ap length A.slots) A.limit A.next A.run A.runs
 
     started : (number : RactorNo) (a : Actor) → a.limits ≡ limits → StandsAt number place → IsStarted number a (state_in w names g) (state_in w2 names2 g2)
@@ -206,6 +206,15 @@ module _ (w w2 : Assembly) (limits : Limits) (m2 : Member) (A : IsBegun limits (
   more_ports even = ap (λ (x : Channels). length x.ports) is ∙ length-append w.channels.ports (new_port limits.events ∷ []) ∙ ap (λ n. n + 1) even
       ∙ sym (length-append w.ractors (m2 ∷ [])) ∙ sym (ap length rs)
 
+  more_fits : DoHomesFit w → DoHomesFit w2
+  more_fits fits j m p h e at port home ticket shown = ⊎_elim
+      (λ old. ⊎_elim
+      (λ was. fits j m p h e old was home ticket shown)
+      (λ new. absurd (none-some e (ap (λ (x : Port). x.shown) new.1 ∙ shown)))
+      (last_cases w.channels.ports (new_port limits.events) j p (ap (λ (x : Channels). slice_get x.ports j) (sym is) ∙ port)))
+      (λ new. absurd (none-some h (sym A.home ∙ ap (λ (x : Member). x.home) new.1 ∙ home)))
+      (last_cases w.ractors m2 j m (ap (λ xs. slice_get xs j) (sym rs) ∙ at))
+
   -- the ractor at k, whose limits these are, starts another
   pub begun : (who number : RactorNo) (k : ℕ) (m : Member) → slice_get w.ractors k ≡ Some m → m.limits ≡ limits → StandsAt who k → StandsAt number place
       → HasOutcome (record { who = who; action = Start }) (Started number) w w2
@@ -214,7 +223,7 @@ module _ (w w2 : Assembly) (limits : Limits) (m2 : Member) (A : IsBegun limits (
         q.0,
         bound + 0,
         q.1,
-        record { tables = q.2; knows = more_knows R.knows; owned = more_owned R.owned; inboxes = more_inboxes R.inboxes; ports = more_ports R.ports },
+        record { tables = q.2; knows = more_knows R.knows; owned = more_owned R.owned; inboxes = more_inboxes R.inboxes; ports = more_ports R.ports; fits = more_fits R.fits },
         (k, actor_in names k m, stands, actor_at w names g k m at, tt, started names bound g R q.0 q.1 q.2 q.3 q.4 number (actor_in names k m) same next),
       )
 

@@ -38,13 +38,14 @@ use Rattle.rr_world.specs.Runs.{HasOutcome}
 use Rattle.rr_world.specs.declared.step.Operand.{Operand}
 use Rattle.rr_world.specs.declared.step.Action.TheVariants.{SetConst, SetOwn, GetConst}
 use Rattle.rr_world.specs.declared.step.Reply.{Reply}
-use Rattle.rr_world.specs.declared.step.Reply.TheVariants.{NotEnabled, Done, Offered, Empty, EmptyAndClosed, WasClosed, Refused, Started, GrabbedLast, OfMain}
+use Rattle.rr_world.specs.declared.step.Reply.TheVariants.{NotEnabled, Done, Offered, Empty, EmptyAndClosed, WasClosed, Refused, Started, Settled, GrabbedLast, OfMain}
 use Rattle.rr_world.proofs.Enabled.{actor_at, allowed}
 use Rattle.rr_world.proofs.Insides.{set_again, same_assembly}
 use Rattle.rr_world.proofs.Knowing.{no_clusters, none_known, knows_on, member_on, read_set}
 use Rattle.rr_world.proofs.Lists.{eq_cases, seen_same, each_set}
 use Rattle.rr_world.proofs.Operands.{known_named, value_named}
 use Rattle.rr_world.proofs.Staying.{stays, stays_read, same_state}
+use Rattle.rr_world.proofs.Fitting.{waits_same, fits_same}
 
 get_mapped : {A B : Type 0} (f : A → B) (xs : List A) (i : ℕ) → slice_get (map f xs) i ≡ option_map f (slice_get xs i)
 get_mapped f [] i = refl
@@ -119,6 +120,7 @@ module _ (w w2 : Assembly) (name : Sym) (c : ConstValue) (rs : w2.ractors ≡ w.
     owned = λ j m at. R.owned j m (ap (λ xs. slice_get xs j) (sym rs) ∙ at);
     inboxes = ap length boxes ∙ R.inboxes ∙ sym (ap length rs);
     ports = ap length ports ∙ R.ports ∙ sym (ap length rs);
+    fits = fits_same w w2 rs ports R.fits;
   }
 
   set_constant : (names : Naming) (g : Objects) (e : StoreEvent Sym) → HasEvent w.channels.store → w2.channels.store.history ≡ w.channels.store.history ++ e ∷ [] → w2.channels.store.limit ≡ w.channels.store.limit
@@ -302,7 +304,7 @@ module _ (w w2 : Assembly) (who : RactorNo) (k : ℕ) (m : Member) (name : Sym) 
     names,
     bound,
     g,
-    read_set w w2 k m (joined_by m v) at rs is refl (got_knows names bound g R) R (reading_same (layout w) (layout w2) names bound g got_tables R.tables),
+    read_set w w2 k m (joined_by m v) at rs is refl (waits_same m (joined_by m v) refl refl) (got_knows names bound g R) R (reading_same (layout w) (layout w2) names bound g got_tables R.tables),
     (
       k,
       actor_in names k m,
@@ -346,6 +348,7 @@ got_by w w2 who k m m2 name v EmptyAndClosed at stands here public rs is a = abs
 got_by w w2 who k m m2 name v (WasClosed b) at stands here public rs is a = absurd a
 got_by w w2 who k m m2 name v (Started j) at stands here public rs is a = absurd a
 got_by w w2 who k m m2 name v (GrabbedLast l) at stands here public rs is a = absurd a
+got_by w w2 who k m m2 name v (Settled l) at stands here public rs is a = absurd a
 got_by w w2 who k m m2 name v OfMain at stands here public rs is a = absurd a
 
 -- the main ractor keeps the value itself, and it is this one

@@ -12,6 +12,7 @@ use Rattle.rr_world.specs.Cases.{IsOutcome}
 use Rattle.rr_world.specs.Runs.{HasOutcome}
 use Rattle.rr_world.specs.declared.step.Step.{Step}
 use Rattle.rr_world.specs.declared.step.Reply.{Reply}
+use Rattle.rr_world.proofs.Fitting.{fits_same}
 use Rattle.rr_world.proofs.Knowing.{knows_told}
 use Rattle.rr_world.proofs.Lists.{seen_same}
 use Rattle.rr_world.proofs.Namings.{post_set}
@@ -33,7 +34,7 @@ module _ (w w2 : Assembly) (c : ℕ) (i i2 : Inbox) (box : slice_get w.channels.
     names,
     bound,
     g,
-    record { tables = reading_same (layout w) (layout w2) names bound g tables R.tables; knows = knows_told w w2 c i i2 box inside rs is R.knows; owned = λ j m at. R.owned j m (ap (λ xs. slice_get xs j) (sym rs) ∙ at); inboxes = ap (λ (x : Channels). length x.inboxes) is ∙ length-set w.channels.inboxes c i2 ∙ R.inboxes ∙ sym (ap length rs); ports = ap (λ (x : Channels). length x.ports) is ∙ R.ports ∙ sym (ap length rs) },
+    record { tables = reading_same (layout w) (layout w2) names bound g tables R.tables; knows = knows_told w w2 c i i2 box inside rs is R.knows; owned = λ j m at. R.owned j m (ap (λ xs. slice_get xs j) (sym rs) ∙ at); inboxes = ap (λ (x : Channels). length x.inboxes) is ∙ length-set w.channels.inboxes c i2 ∙ R.inboxes ∙ sym (ap length rs); ports = ap (λ (x : Channels). length x.ports) is ∙ R.ports ∙ sym (ap length rs); fits = fits_same w w2 rs (ap (λ (x : Channels). x.ports) is) R.fits },
     case names g (record {
       objects = λ n. refl;
       ractors = ap (each_from (actor_in names) 0) rs;

@@ -19,6 +19,7 @@ pub record IsAllocatedBy (new : NewObject) (old now : Member) : Type 0 where
   pub roots : now.roots ≡ old.roots ++ Local (length old.space.slots) ∷ []
   pub hand : now.hand ≡ old.hand
   pub home : now.home ≡ old.home
+  pub ticket : now.ticket ≡ old.ticket
   pub away : AreAway old.space.slots old.hand old.home
   pub next : now.space.next_message ≡ old.space.next_message
   pub owner : now.space.owner ≡ old.space.owner

@@ -7,14 +7,14 @@ use Rattle.rr_world.specs.States as constant
 use Rattle.rr_base.specs.declared.event.StoreEvent.TheVariants as store
 use Rattle.rr_world.specs.declared.step.Action.{Action}
 use Rattle.rr_space.specs.Labels.{label_of}
-use Rattle.rr_world.specs.declared.step.Action.TheVariants.{Alloc, Pack, Discard, Offer, Accept, Open, Close, ClosePort, ShowLast, Grab, Freeze, Append, Push, Write, SetField, Read, Start, End, Detach, PutBack, SetConst, SetOwn, GetConst}
+use Rattle.rr_world.specs.declared.step.Action.TheVariants.{Alloc, Pack, Discard, Offer, Accept, Open, Close, ClosePort, ShowLast, Show, Withdraw, Settle, Grab, Freeze, Append, Push, Write, SetField, Read, Start, End, Detach, PutBack, SetConst, SetOwn, GetConst}
 use Rattle.rr_world.specs.declared.step.Step.{Step}
 use Rattle.rr_world.specs.declared.step.Reply.{Reply}
-use Rattle.rr_world.specs.declared.step.Reply.TheVariants.{NotEnabled, Done, Offered, Empty, EmptyAndClosed, WasClosed, Refused, Started, GrabbedLast, OfMain}
+use Rattle.rr_world.specs.declared.step.Reply.TheVariants.{NotEnabled, Done, Offered, Empty, EmptyAndClosed, WasClosed, Refused, Started, Settled, GrabbedLast, OfMain}
 use Rattle.rr_world.specs.Enabling.{StandsAt, IsRunning, IsPossible, named_value, IsNoShell, IsOpen, HasElement, Allows, IsEnabled}
 use Rattle.rr_world.specs.ObjectCases.{IsAllocated, IsAllocRefused, frozen, appended, pushed, written, with_field, IsMade, IsMemoryRefused, IsReadAs, IsStarted, IsEnded, IsStartRefused}
 use Rattle.rr_world.specs.MessageCases.{IsPacked, IsPackRefusedFor, IsDetached, IsDetachRefusedFor, IsReturned, IsDiscarded, IsOffered, IsOfferRefused, IsAccepted, IsOpenedAs, IsOpenRefused, IsClosedBy}
-use Rattle.rr_world.specs.PortCases.{IsPortClosedBy, IsLastLeft, IsLastRefused, IsGrabbed, is_of_fault, grabbed}
+use Rattle.rr_world.specs.PortCases.{IsPortClosedBy, IsLastLeft, IsLastRefused, IsGrabbed, IsShown, IsShowRefused, IsWithdrawn, IsWithdrawRefused, IsSettledAs, is_of_fault, grabbed}
 use Rattle.rr_world.specs.ConstantCases.{IsMain, IsConstantSet, IsSetRefused, IsSetOwnRefused, IsGot, IsGetRefused}
 
 -- the inbox of this number, in a clause of its own
@@ -46,6 +46,11 @@ Effect who k a (Close to) (WasClosed already) s t = (c : ℕ) × (b : Mailbox) �
 Effect who k a (ClosePort to) (WasClosed already) s t = (c : ℕ) × (b : Showcase) × PortIs s to c b × IsPortClosedBy who c b already s t
 Effect who k a (ShowLast mark) (Offered n) s t = (b : Showcase) × (p : Parcel) × PortIs s who k b × (a.hand ≡ Some p) × IsLastLeft who mark k a p b n s t
 Effect who k a (ShowLast mark) (Refused f) s t = (b : Showcase) × (p : Parcel) × PortIs s who k b × (a.hand ≡ Some p) × IsLastRefused who k p b f s t
+Effect who k a Show (Offered n) s t = (b : Showcase) × (p : Parcel) × PortIs s who k b × (a.hand ≡ Some p) × IsShown who k a p b n s t
+Effect who k a Show (Refused f) s t = (b : Showcase) × (p : Parcel) × PortIs s who k b × (a.hand ≡ Some p) × IsShowRefused who k p b f s t
+Effect who k a (Withdraw ticket) Done s t = (b : Showcase) × (e : Letter) × PortIs s who k b × (b.shown ≡ Some e) × (e.ticket ≡ ticket) × IsWithdrawn who k a e b s t
+Effect who k a (Withdraw ticket) (Refused f) s t = (b : Showcase) × PortIs s who k b × IsWithdrawRefused k a ticket b f s t
+Effect who k a (Settle ticket) (Settled what) s t = (b : Showcase) × PortIs s who k b × IsSettledAs k a ticket b what s t
 Effect who k a (Grab to) Done s t = (c : ℕ) × (b : Showcase) × (e : Letter) × PortIs s to c b × (b.last ≡ None) × (b.closed ≡ false) × (b.shown ≡ Some e)
     × IsGrabbed k c a e (grabbed (record b { shown = None }) e who) s t
 Effect who k a (Grab to) (GrabbedLast mark) s t = (c : ℕ) × (b : Showcase) × (l : Farewell) × PortIs s to c b × (b.last ≡ Some l) × (l.is_fault ≡ is_of_fault mark)

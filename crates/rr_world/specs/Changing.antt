@@ -37,6 +37,7 @@ pub record IsRewritten (n : ℕ) (p : Object) (v : Ref) (old now : Member) : Typ
   pub roots : now.roots ≡ old.roots
   pub hand : now.hand ≡ old.hand
   pub home : now.home ≡ old.home
+  pub ticket : now.ticket ≡ old.ticket
   pub away : AreAway old.space.slots old.hand old.home
   pub next : now.space.next_message ≡ old.space.next_message
   pub owner : now.space.owner ≡ old.space.owner

@@ -7,7 +7,7 @@ use Rattle.rr_share.specs.Search.{LeadsToShell}
 use Rattle.rr_world.specs.States.{Parcel, Mailbox, Showcase, Actor, State}
 use Rattle.rr_world.specs.declared.step.Action.{Action}
 use Rattle.rr_space.specs.Labels.{label_of}
-use Rattle.rr_world.specs.declared.step.Action.TheVariants.{Alloc, Pack, Discard, Offer, Accept, Open, Close, ClosePort, ShowLast, Grab, Freeze, Append, Push, Write, SetField, Read, Start, End, Detach, PutBack, SetConst, SetOwn, GetConst}
+use Rattle.rr_world.specs.declared.step.Action.TheVariants.{Alloc, Pack, Discard, Offer, Accept, Open, Close, ClosePort, ShowLast, Show, Withdraw, Settle, Grab, Freeze, Append, Push, Write, SetField, Read, Start, End, Detach, PutBack, SetConst, SetOwn, GetConst}
 use Rattle.rr_world.specs.declared.step.Operand.{Operand}
 use Rattle.rr_world.specs.declared.step.Operand.TheVariants as operand
 use Rattle.rr_world.specs.declared.step.Step.{Step}
@@ -28,13 +28,21 @@ HasPort s to = (c : ℕ) × (b : Showcase) × StandsAt to c × (slice_get s.post
 abbrev pub MayLeave : State → Number → Type 0
 MayLeave s who = (c : ℕ) × (b : Showcase) × StandsAt who c × (slice_get s.post.ports c ≡ Some b) × (b.given ≡ false)
 
+-- nothing is shown in its own port
+abbrev pub MayShow : State → Number → Type 0
+MayShow s who = (c : ℕ) × (b : Showcase) × StandsAt who c × (slice_get s.post.ports c ≡ Some b) × (b.shown ≡ None)
+
 -- a message is in the hand
 abbrev pub Holds : Actor → Type 0
 Holds a = (p : Parcel) × (a.hand ≡ Some p)
 
 -- nothing is in the hand
 abbrev pub IsFreeHand : Actor → Type 0
-IsFreeHand a = (a.hand ≡ None) × (a.home ≡ None)
+IsFreeHand a = (a.hand ≡ None) × (a.home ≡ None) × (a.ticket ≡ None)
+
+-- nothing is in the hand, or nothing but the home of the message that was shown under the ticket
+abbrev pub MayTakeBack : Actor → ℕ → Type 0
+MayTakeBack a ticket = IsFreeHand a ⊎ ((a.hand ≡ None) × (a.ticket ≡ Some ticket))
 
 -- a message is in the hand with its home, the shells that it left
 abbrev pub HoldsMoved : Actor → Type 0
@@ -93,7 +101,8 @@ IsTested s a (Detach op) = MayBePacked s a op
 IsTested s a _ = Unit {0}
 
 -- pack and detach need an empty hand and a value; discard, offer and open need a message in the hand, put back one with its
--- home, and accept an empty hand; channels that are named are there; freeze needs an object of its own that is no shell, append, push and write one of a kind that is not
+-- home, and accept an empty hand; show needs a message in the hand and nothing in the ractor's own port, and withdraw an empty hand
+-- or the home of what was shown; channels that are named are there; freeze needs an object of its own that is no shell, append, push and write one of a kind that is not
 -- frozen, and read an object that has the label
 abbrev pub Allows : State → Number → Actor → Action → Type 0
 Allows s who a (Alloc new) = Unit {0}
@@ -107,6 +116,9 @@ Allows s who a Open = Holds a
 Allows s who a (Close to) = HasInbox s to
 Allows s who a (ClosePort to) = HasPort s to
 Allows s who a (ShowLast kind) = Holds a × MayLeave s who
+Allows s who a Show = Holds a × MayShow s who
+Allows s who a (Withdraw ticket) = MayTakeBack a ticket × HasPort s who
+Allows s who a (Settle ticket) = HasPort s who
 Allows s who a (Grab to) = IsFreeHand a × HasPort s to
 Allows s who a (Freeze op) = MayChange s who a op IsNoShell
 Allows s who a (Append op byte) = MayChange s who a op (IsOpen text)

@@ -14,6 +14,8 @@ use Rattle.rr_port.specs.Lasts.{message_of}
 use Rattle.rr_port.specs.Ports.{Port}
 use Rattle.rr_port.specs.declared.last.LastGiven.{LastGiven}
 use Rattle.rr_port.specs.declared.last.Shown.{Shown as ShownMessage}
+use Rattle.rr_move.specs.Homes.{IsHomeOf}
+use Rattle.rr_move.specs.declared.home.Home.{Home}
 use Rattle.rr_world.specs.Views.{Member, Assembly}
 
 abbrev pub message_slots : Packed → List Slot
@@ -85,12 +87,17 @@ HaveInboxes w = length w.channels.inboxes ≡ length w.ractors
 abbrev pub HavePorts : Assembly → Type 0
 HavePorts w = length w.channels.ports ≡ length w.ractors
 
+-- the home that a ractor kept of a message, which is shown in its port under the ticket that it kept, is that message's
+abbrev pub DoHomesFit : Assembly → Type 0
+DoHomesFit w = (k : ℕ) (m : Member) (p : Port) (h : Home) (e : ShownMessage) → slice_get w.ractors k ≡ Some m → slice_get w.channels.ports k ≡ Some p
+    → m.home ≡ Some h → m.ticket ≡ Some e.ticket → p.shown ≡ Some e → IsHomeOf h e.message
+
 -- a reading of the World: its tables are read as a whole graph, what they know of clusters is what the store has, each
--- space is its ractor's, and there are as many inboxes and ports as
--- ractors
+-- space is its ractor's, there are as many inboxes and ports as ractors, and homes fit what is shown
 pub record IsRead (w : Assembly) (names : Naming) (bound : ℕ) (g : Objects) : Type 0 where
   pub tables : IsReading (layout w) names bound g
   pub knows : IsKnowing w
   pub owned : AreOwned w
   pub inboxes : HaveInboxes w
   pub ports : HavePorts w
+  pub fits : DoHomesFit w

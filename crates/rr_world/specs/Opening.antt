@@ -25,6 +25,7 @@ pub record IsOpenedBy (m : Packed) (root : Ref) (old new : Member) : Type 0 wher
   pub roots : new.roots ≡ old.roots ++ root ∷ []
   pub hand : new.hand ≡ None
   pub home : new.home ≡ None
+  pub ticket : new.ticket ≡ old.ticket
   pub limits : new.limits ≡ old.limits
   pub runs : new.runs ≡ old.runs
 

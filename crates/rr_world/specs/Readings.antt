@@ -67,6 +67,7 @@ actor_in names k r = record {
   roots = map (root_in names (Space k)) r.roots;
   hand = option_map (parcel_in names (Hand k)) r.hand;
   home = option_map (shells_in names k) r.home;
+  ticket = r.ticket;
   slots = length r.space.slots;
   limit = r.space.limit;
   next = r.space.next_message;

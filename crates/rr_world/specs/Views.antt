@@ -1,5 +1,5 @@
 -- What contracts see of a World: plain lists.
-use Rattle.std.specs.Prelude.{◌≡◌, ℕ, Bool, true, List, [], ◌∷◌, length, Option, None, Some, Contains, slice_get, slice_set}
+use Rattle.std.specs.Prelude.{◌≡◌, ◌⊎◌, ℕ, Bool, true, List, [], ◌∷◌, length, Option, None, Some, Contains, slice_get, slice_set}
 use Rattle.rr_base.specs.declared.limits.Limits.{Limits}
 use Rattle.rr_space.specs.Tables.{Table, Packed, Slot, Here}
 use Rattle.rr_space.specs.Views.{emptied}
@@ -9,17 +9,20 @@ use Rattle.rr_space.specs.declared.refer.Ref.TheVariants.{Nil, Truth, Int, Symbo
 use Rattle.rr_inbox.specs.Inboxes.{Inbox}
 use Rattle.rr_port.specs.Ports.{Port}
 use Rattle.rr_store.specs.Stores.{Store}
+use Rattle.rr_move.specs.Homes.{IsHomeOf}
 use Rattle.rr_move.specs.declared.home.Home.{Home}
 use Rattle.rr_move.specs.declared.hand.Hand.{Hand}
 use Rattle.rr_move.specs.declared.hand.Hand.TheVariants.{Empty, Planned, Published, Message, Moved, Shown}
 
 -- a ractor: its space, its roots, the message in its hand, the home of that message where it was moved out of the space, the
--- limits of the run, and whether it runs: it has not ended
+-- ticket under which the message of the home is shown, where it is no more in the hand, the limits of the run, and whether it
+-- runs: it has not ended
 pub record Member : Type 0 where
   pub space : Table
   pub roots : List Ref
   pub hand : Option Packed
   pub home : Option Home
+  pub ticket : Option ℕ
   pub limits : Limits
   pub runs : Bool
 
@@ -27,25 +30,60 @@ pub record Member : Type 0 where
 pub record IsFree (m : Member) : Type 0 where
   pub hand : m.hand ≡ None
   pub home : m.home ≡ None
+  pub ticket : m.ticket ≡ None
 
--- the hand is empty, or has a message
-abbrev pub HasAtMostAMessage : Hand → Type 0
-HasAtMostAMessage Empty = Unit {0}
-HasAtMostAMessage (Planned plan) = ⊥
-HasAtMostAMessage (Published places published) = ⊥
-HasAtMostAMessage (Message p) = Unit {0}
-HasAtMostAMessage (Moved d) = Unit {0}
-HasAtMostAMessage (Shown home ticket) = ⊥
+-- the ticket under which the message of a hand's home is shown
+abbrev pub ticket_in : Hand → Option ℕ
+ticket_in Empty = None
+ticket_in (Planned plan) = None
+ticket_in (Published places published) = None
+ticket_in (Message p) = None
+ticket_in (Moved d) = None
+ticket_in (Shown home ticket) = Some ticket
+
+-- the ticket that is kept with a home, of a message which is shown under it
+abbrev pub waits_under : {A : Type 0} → Option A → ℕ → Option ℕ
+waits_under None ticket = None
+waits_under (Some home) ticket = Some ticket
+
+-- nothing is in the hand but the home of the message that is shown under the ticket
+pub record IsWaiting (m : Member) (ticket : ℕ) : Type 0 where
+  pub hand : m.hand ≡ None
+  pub ticket_is : m.ticket ≡ Some ticket
+
+-- what is shown under the ticket may come back into the hand
+abbrev pub MayHaveBack : Member → ℕ → Type 0
+MayHaveBack m ticket = IsFree m ⊎ IsWaiting m ticket
+
+-- the home in the hand is that of another message than the one that was shown under its ticket
+pub record IsOfAnother (m : Member) (ticket : ℕ) (p : Packed) : Type 0 where
+  pub kept : Home
+  pub home : m.home ≡ Some kept
+  pub ticket_is : m.ticket ≡ Some ticket
+  pub strange : ¬ IsHomeOf kept p
+
+-- no plan is in the hand
+abbrev pub HasNoPlan : Hand → Type 0
+HasNoPlan Empty = Unit {0}
+HasNoPlan (Planned plan) = ⊥
+HasNoPlan (Published places published) = ⊥
+HasNoPlan (Message p) = Unit {0}
+HasNoPlan (Moved d) = Unit {0}
+HasNoPlan (Shown home ticket) = Unit {0}
+
+-- each slot of the home is a shell
+abbrev pub AreShells : List Slot → Home → Type 0
+AreShells slots h = (n : ℕ) → Contains h.slots n → slice_get slots n ≡ Some (Here emptied)
 
 -- a message is away from its home: each slot of the home is a shell, and each object has its list of clusters
 pub record IsAway (slots : List Slot) (p : Packed) (h : Home) : Type 0 where
-  pub shells : (n : ℕ) → Contains h.slots n → slice_get slots n ≡ Some (Here emptied)
+  pub shells : AreShells slots h
   pub count : length p.below ≡ length p.objects
 
--- where a home is in the hand, the message beside it is away from it
+-- where a home is in the hand, the message beside it is away from it, and where none is beside it, its slots are shells
 abbrev pub AreAway : List Slot → Option Packed → Option Home → Type 0
 AreAway slots hand None = Unit {0}
-AreAway slots None (Some h) = ⊥
+AreAway slots None (Some h) = AreShells slots h
 AreAway slots (Some p) (Some h) = IsAway slots p h
 
 -- what lies between ractors: their inboxes and their ports, by number, and the store

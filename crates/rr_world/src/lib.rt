@@ -7,9 +7,11 @@ mod moving;
 mod packing;
 mod ports;
 mod ractor;
+mod showing;
 mod step;
 mod world;
 
+pub use rr_port::Settled;
 pub use rr_space::Label;
 pub use step::{Action, LastKind, NewObject, Operand, Reply, Step};
 pub use world::World;

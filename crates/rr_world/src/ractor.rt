@@ -9,7 +9,8 @@ ghost use Rattle.rr_world.specs.Allocating.{Allocs};
 ghost use Rattle.rr_world.specs.ObjectCases.{new_object};
 ghost use Rattle.rr_world.specs.Opening.{Opened};
 ghost use Rattle.rr_world.specs.Packing.{Packs, named_ref};
-ghost use Rattle.rr_world.specs.Views.{AreAway, IsFree, IsImmediate};
+ghost use Rattle.std.specs.Bool.{OnTrue, OnFalse};
+ghost use Rattle.rr_world.specs.Views.{AreAway, IsFree, IsImmediate, IsOfAnother, MayHaveBack, waits_under};
 ghost use Rattle.rr_world.specs.Getting.{Joins};
 ghost use Rattle.rr_world.specs.Starting.{IsOver};
 ghost use Rattle.rr_space.specs.declared.refer.Ref.{Ref};
@@ -17,7 +18,7 @@ ghost use Rattle.rr_move.specs.Homes.{IsHomeOf};
 
 use crate::packing::copy_of;
 use crate::step::{NewObject, Operand, Reply};
-use rr_base::{Fault, Limits, RactorNo};
+use rr_base::{Fault, Limits, RactorNo, Ticket};
 use rr_copy::{Message, open};
 use rr_move::{Hand, Home};
 use rr_space::{Items, Node, Ref, Space};
@@ -37,13 +38,13 @@ pub(crate) struct Ractor {
 impl Model for Ractor {
     ghost use Rattle.std.specs.Prelude.{◌≤◌, length};
     ghost use Rattle.rr_move.specs.Hands.{message_in, home_in};
-    ghost use Rattle.rr_world.specs.Views.{Member, AreAway, AreRootsWithin, HasAtMostAMessage};
+    ghost use Rattle.rr_world.specs.Views.{Member, AreAway, AreRootsWithin, HasNoPlan, ticket_in};
 
     ghost Value = { Member };
 
-    ghost view = { λ r. record { space = r.space; roots = r.roots.items; hand = message_in r.hand; home = home_in r.hand; limits = r.limits; runs = r.runs } };
+    ghost view = { λ r. record { space = r.space; roots = r.roots.items; hand = message_in r.hand; home = home_in r.hand; ticket = ticket_in r.hand; limits = r.limits; runs = r.runs } };
 
-    ghost invariant = { λ r. AreRootsWithin (length r.space.slots) r.roots.items × (3 ≤ r.limits.events) × HasAtMostAMessage r.hand × AreAway r.space.slots (message_in r.hand) (home_in r.hand) };
+    ghost invariant = { λ r. AreRootsWithin (length r.space.slots) r.roots.items × (3 ≤ r.limits.events) × HasNoPlan r.hand × AreAway r.space.slots (message_in r.hand) (home_in r.hand) };
 }
 
 // What a new object is made of.
@@ -71,6 +72,7 @@ impl Ractor {
         ensures roots { result.roots ≡ [] }
         ensures hand { result.hand ≡ None }
         ensures home { result.home ≡ None }
+        ensures ticket { result.ticket ≡ None }
         ensures limits { result.limits ≡ limits }
         ensures runs { result.runs ≡ true }
     {
@@ -118,6 +120,8 @@ impl Ractor {
     /// Takes the message out of the hand, with its home where it was moved.
     pub(crate) fn take(&mut self) -> Option<(Message, Option<Home>)>
         ensures some { IfSome result (λ taken. (self.old.hand ≡ Some taken.0) × (self.old.home ≡ taken.1) × (self.new ≡ record self.old { hand = None; home = None })) }
+        ensures shells { IfSome result (λ taken. AreAway self.old.space.slots None taken.1) }
+        ensures alone { IfSome result (λ _. self.old.ticket ≡ None) }
         ensures fits { IfSome result (λ taken. ForSome taken.1 (λ home. IsHomeOf home taken.0) × AreAway self.old.space.slots (Some taken.0) taken.1) }
         ensures none { IfNone result ((self.old.hand ≡ None) × (self.new ≡ self.old)) }
     {
@@ -128,9 +132,43 @@ impl Ractor {
     pub(crate) fn hold(&mut self, message: Message, home: Option<Home>)
         requires fits { ForSome home (λ home. IsHomeOf home message) }
         requires away { AreAway self.old.space.slots (Some message) home }
-        ensures { self.new ≡ record self.old { hand = Some message; home = home } }
+        ensures { self.new ≡ record self.old { hand = Some message; home = home; ticket = None } }
     {
         self.hand = Hand::of_message(message, home);
+    }
+
+    /// Keeps the home of a message that is shown under the ticket. Without a home the hand is empty.
+    pub(crate) fn wait(&mut self, home: Option<Home>, ticket: Ticket)
+        requires shells { AreAway self.old.space.slots None home }
+        ensures { self.new ≡ record self.old { hand = None; home = home; ticket = waits_under home ticket } }
+    {
+        self.hand = Hand::of_home(home, ticket);
+    }
+
+    /// Whether what is shown under the ticket may come into the hand: nothing is in it but the home of that message.
+    pub(crate) fn can_take_back(&self, ticket: Ticket) -> bool
+        ensures { IsTrue result ↔ MayHaveBack self.now ticket }
+    {
+        self.hand.can_withdraw(ticket)
+    }
+
+    /// Takes back the message that was shown under the ticket, and answers whether it was that of the home. A message that
+    /// was not goes, and the hand stays as it is.
+    pub(crate) fn take_back(&mut self, ticket: Ticket, message: Message) -> bool
+        ensures back { OnTrue result (self.new ≡ record self.old { hand = Some message; ticket = None }) }
+        ensures strange { OnFalse result (MayHaveBack self.old ticket → IsOfAnother self.old ticket message) }
+    {
+        // With the size comes that each object has its list of clusters.
+        let _size = message.size();
+        self.hand.take_back(ticket, message).is_ok()
+    }
+
+    /// Lets go of the home of the message that was shown under the ticket, where that is in the hand.
+    pub(crate) fn forget(&mut self, ticket: Ticket)
+        ensures waited { self.old.ticket ≡ Some ticket → self.new ≡ record self.old { home = None; ticket = None } }
+        ensures kept { (self.old.ticket ≡ Some ticket → ⊥) → self.new ≡ self.old }
+    {
+        self.hand.forget_home(ticket);
     }
 
     /// The value that an operand names; none where there is no such root.

@@ -1,6 +1,7 @@
 //! Steps, and what they answer.
 
 use rr_base::{ClassId, Fault, RactorNo, Sym, Ticket};
+use rr_port::Settled;
 use rr_space::Label;
 
 /// A value that a step names: an immediate, or one of the ractor's roots, by its number from 0.
@@ -54,6 +55,14 @@ pub enum Action {
     /// The message in the hand is left in the ractor's own port as its last value or fault, and the port is closed. None
     /// may have been left before.
     ShowLast(LastKind),
+    /// The message in the hand is shown in the ractor's own port, where nothing is shown. Where it was moved, its home stays
+    /// in the hand, which is not empty then.
+    Show,
+    /// The message that is shown under the ticket in the ractor's own port comes back into its hand: an empty one, or the one
+    /// that kept the home of that message. Where it is shown no more, the home goes.
+    Withdraw(Ticket),
+    /// What became of the message that was shown under the ticket in the ractor's own port. Where it was taken, its home goes.
+    Settle(Ticket),
     /// What a ractor's port has comes into the hand, which has to be empty: the last value or fault, or else what is shown
     /// in the open port.
     Grab(RactorNo),
@@ -102,8 +111,10 @@ pub enum Reply {
     NotEnabled,
     /// The step was made.
     Done,
-    /// The message was offered, or left, under this ticket.
+    /// The message was offered, shown or left under this ticket.
     Offered(Ticket),
+    /// What became of a shown message.
+    Settled(Settled),
     /// A last value or fault came into the hand.
     GrabbedLast(LastKind),
     /// Nothing is in the inbox or shown in the port, which is open.

@@ -361,6 +361,9 @@ impl World {
                 None => Reply::NotEnabled,
             },
             Action::ShowLast(kind) => self.show_last(who, place, kind),
+            Action::Show => self.show(who, place),
+            Action::Withdraw(ticket) => self.withdraw(who, place, ticket),
+            Action::Settle(ticket) => self.settle(who, place, ticket),
             Action::Grab(to) => self.grab(who, place, to),
             Action::ClosePort(to) => self.close_port(who, place, to),
         }

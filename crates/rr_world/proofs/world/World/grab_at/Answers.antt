@@ -1,4 +1,4 @@
-use Rattle.std.proofs.Common.{◌≡◌, ap, refl, sym, ◌∙◌, subst, slice_get, Some, length, ◌<◌, arith}
+use Rattle.std.proofs.Common.{◌≡◌, ap, refl, sym, ◌∙◌, subst, slice_get, Some, None, length, ◌<◌, arith}
 use Rattle.std.proofs.lemmas.Bool.{false≢true}
 use Rattle.rr_port.specs.Ports.{Port, IsTicketed}
 use Rattle.rr_world.specs.Views.{Member, Assembly, IsFree}
@@ -41,7 +41,7 @@ returns-in-Value c =
     (ports_put (ap (λ (v : Assembly). v.channels.store) c.self.view_is) (ap (λ (v : Assembly). v.channels.inboxes) c.self.view_is) (set_in c.self.inside.ports.items w.channels.ports c.args.port c.grab.new.self c.grab.new.self ps refl))
     c.in-Value.message c.in-Value.ensures.grabs
     (set_in c.self.inside.ractors.items w.ractors c.args.place c.hold.new.self (record m { hand = Some c.in-Value.message }) vs
-    (c.hold.ensures ∙ ap (λ x. let y : Member = record m { hand = Some c.in-Value.message; home = x } in y) (sym none.home)))
+    (c.hold.ensures ∙ ap (λ x. let y : Member = record m { hand = Some c.in-Value.message; home = x; ticket = None } in y) (sym none.home) ∙ ap (λ x. let y : Member = record m { hand = Some c.in-Value.message; ticket = x } in y) (sym none.ticket)))
 
 pub returns-in-LastValue : goal.returns-in-LastValue
 returns-in-LastValue c =
@@ -64,7 +64,7 @@ returns-in-LastValue c =
     (ports_put (ap (λ (v : Assembly). v.channels.store) c.self.view_is) (ap (λ (v : Assembly). v.channels.inboxes) c.self.view_is) (set_in c.self.inside.ports.items w.channels.ports c.args.port c.grab.new.self c.grab.new.self ps refl))
     c.in-LastValue.message c.in-LastValue.ensures.grabs
     (set_in c.self.inside.ractors.items w.ractors c.args.place c.hold-in-LastValue.new.self (record m { hand = Some c.in-LastValue.message }) vs
-    (c.hold-in-LastValue.ensures ∙ ap (λ x. let y : Member = record m { hand = Some c.in-LastValue.message; home = x } in y) (sym none.home)))
+    (c.hold-in-LastValue.ensures ∙ ap (λ x. let y : Member = record m { hand = Some c.in-LastValue.message; home = x; ticket = None } in y) (sym none.home) ∙ ap (λ x. let y : Member = record m { hand = Some c.in-LastValue.message; ticket = x } in y) (sym none.ticket)))
 
 pub returns-in-LastFault : goal.returns-in-LastFault
 returns-in-LastFault c =
@@ -87,7 +87,7 @@ returns-in-LastFault c =
     (ports_put (ap (λ (v : Assembly). v.channels.store) c.self.view_is) (ap (λ (v : Assembly). v.channels.inboxes) c.self.view_is) (set_in c.self.inside.ports.items w.channels.ports c.args.port c.grab.new.self c.grab.new.self ps refl))
     c.in-LastFault.message c.in-LastFault.ensures.grabs
     (set_in c.self.inside.ractors.items w.ractors c.args.place c.hold-in-LastFault.new.self (record m { hand = Some c.in-LastFault.message }) vs
-    (c.hold-in-LastFault.ensures ∙ ap (λ x. let y : Member = record m { hand = Some c.in-LastFault.message; home = x } in y) (sym none.home)))
+    (c.hold-in-LastFault.ensures ∙ ap (λ x. let y : Member = record m { hand = Some c.in-LastFault.message; home = x; ticket = None } in y) (sym none.home) ∙ ap (λ x. let y : Member = record m { hand = Some c.in-LastFault.message; ticket = x } in y) (sym none.ticket)))
 
 pub returns-in-Nothing : goal.returns-in-Nothing
 returns-in-Nothing c =

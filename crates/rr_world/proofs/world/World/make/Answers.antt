@@ -92,6 +92,18 @@ pub returns-in-End : goal.returns-in-End
 returns-in-End c =
     subst (λ (a : Action). HasOutcome (record { who = c.args.who; action = a }) c.end.result c.args.self.now c.end.new.self) (sym c.in-End.is) c.end.ensures
 
+pub returns-in-Show : goal.returns-in-Show
+returns-in-Show c =
+    subst (λ (a : Action). HasOutcome (record { who = c.args.who; action = a }) c.show.result c.args.self.now c.show.new.self) (sym c.in-Show.is) c.show.ensures
+
+pub returns-in-Withdraw : goal.returns-in-Withdraw
+returns-in-Withdraw c =
+    subst (λ (a : Action). HasOutcome (record { who = c.args.who; action = a }) c.withdraw.result c.args.self.now c.withdraw.new.self) (sym c.in-Withdraw.is) c.withdraw.ensures
+
+pub returns-in-Settle : goal.returns-in-Settle
+returns-in-Settle c =
+    subst (λ (a : Action). HasOutcome (record { who = c.args.who; action = a }) c.settle.result c.args.self.now c.settle.new.self) (sym c.in-Settle.is) c.settle.ensures
+
 pub returns-in-ShowLast : goal.returns-in-ShowLast
 returns-in-ShowLast c =
     subst (λ (a : Action). HasOutcome (record { who = c.args.who; action = a }) c.show_last.result c.args.self.now c.show_last.new.self) (sym c.in-ShowLast.is) c.show_last.ensures

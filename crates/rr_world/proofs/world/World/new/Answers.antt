@@ -16,6 +16,7 @@ returns-clause-made c = record {
   roots = c.new.ensures.roots;
   hand = c.new.ensures.hand;
   home = c.new.ensures.home;
+  ticket = c.new.ensures.ticket;
   next = c.new.ensures.next;
   store = c.new-store.ensures;
   run = c.new.ensures.limits;
