@@ -1,12 +1,17 @@
 pub mod Told
 pub mod Looks
 pub mod Chains
+pub mod SoundOperands
 pub mod Sound
 pub mod Shrinking
 pub mod Leading
 pub mod Trails
+pub mod Strengths
+pub mod Firsts
 pub mod Stopping
+pub mod FullOperands
 pub mod Full
+pub mod DeepOperands
 pub mod Deep
 pub mod Making
 pub mod Choosing

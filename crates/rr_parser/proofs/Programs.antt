@@ -16,12 +16,16 @@ use Rattle.rr_parser.specs.Fronts.{Fronts, fronts_outside, RowFront, in_definiti
 use Rattle.rr_parser.proofs.Told.{told_def}
 use Rattle.rr_parser.proofs.Looks.{word-next, next-left, row-separators, separators-row, Steps-row}
 use Rattle.rr_parser.proofs.Chains.{Shrinks, IsSound, IsShrinking, shrinks_by, bind_ok, built_ok, done, ok_place, ok_what, at_answer, chain_sound}
-use Rattle.rr_parser.proofs.Sound.{NestedSound, statement_sound, sound_outside, nested, sound_nested}
+use Rattle.rr_parser.proofs.SoundOperands.{NestedSound}
+use Rattle.rr_parser.proofs.Sound.{statement_sound, sound_outside, nested, sound_nested}
 use Rattle.rr_parser.proofs.Shrinking.{NestedShrinking, statement_shrinking, shrinking_nested, ReadersShrink, shrinks_nested}
 use Rattle.rr_parser.proofs.Leading.{Leads, leads_bind, leads_trans, leads_eq, IsFull, chain_full}
-use Rattle.rr_parser.proofs.Stopping.{Stops, separators_stop, ends_behind, next_ends, chain_first, statement_starts, statement_no_def}
-use Rattle.rr_parser.proofs.Full.{Ends, NestedFull, word_here, statement_full, full_outside}
-use Rattle.rr_parser.proofs.Deep.{IsDeep, bind_deep, built_deep, NestedDeep, chain_deep, statement_deep, deep_outside}
+use Rattle.rr_parser.proofs.Strengths.{Stops, separators_stop, ends_behind}
+use Rattle.rr_parser.proofs.Firsts.{next_ends, chain_first, statement_starts, statement_no_def}
+use Rattle.rr_parser.proofs.FullOperands.{Ends, NestedFull, word_here}
+use Rattle.rr_parser.proofs.Full.{statement_full, full_outside}
+use Rattle.rr_parser.proofs.DeepOperands.{IsDeep, bind_deep, built_deep, NestedDeep, chain_deep}
+use Rattle.rr_parser.proofs.Deep.{statement_deep, deep_outside}
 
 outlined_ok : (r : Answer Outline) (z : Place) (t : Outline) → outlined r ≡ Ok (t, z) → (m : Place) × (r ≡ Ok (t, m)) × (skip m ≡ z)
 outlined_ok (Ok x) z t e = (x.1, ap (λ (q : Outline). done q x.1) (ok_what x.0 t (skip x.1) z e), ok_place x.0 t (skip x.1) z e)

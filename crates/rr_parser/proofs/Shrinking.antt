@@ -39,7 +39,8 @@ use Rattle.rr_parser.specs.Reading.Operands.{tailed_of}
 use Rattle.rr_parser.proofs.Trails.{trail_shrinking}
 use Rattle.rr_parser.proofs.Chains.{Shrinks, IsShrinking, shrinks_by, chain_shrinking}
 use Rattle.rr_parser.proofs.Formals.{formals-less}
-use Rattle.rr_parser.proofs.Sound.{nested, sound_nested, binary_sound, logical_sound, argument_sound, member_sound, tailed_sound, negation_sound, expression_sound, statement_sound, branch_sound}
+use Rattle.rr_parser.proofs.SoundOperands.{binary_sound, logical_sound, tailed_sound}
+use Rattle.rr_parser.proofs.Sound.{nested, sound_nested, argument_sound, member_sound, negation_sound, expression_sound, statement_sound, branch_sound}
 
 pub record NestedShrinking (R : Nested) : Type 0 where
   pub part : (p : Part) → IsShrinking (R.part p)
