@@ -5,7 +5,9 @@ ghost use Rattle.rr_space.specs.Parts.{IsWithin};
 
 use crate::values::{own, value};
 use rr_base::{RactorNo, Sym};
-use rr_builtin::{Built, BuiltInMethod, Methods, Problem, Receiver, call, write_missing};
+use rr_builtin::{
+    Built, BuiltInMethod, ContentMethod, Methods, Problem, Receiver, call, make_hash, write_missing,
+};
 use rr_space::{Ref, Space};
 use rr_text::{Form, Text, text};
 use rr_tree::Program;
@@ -119,5 +121,57 @@ pub fn outcome(alloc: Global, line: &str) -> Result<Vec<u8>, Fail> {
     };
     out.extend_from_slice(b" | ")?;
     out.extend_from_slice(&inspected(alloc, &space, &program, receiver)?)?;
+    Ok(out)
+}
+
+/// The value of a call that gives one.
+fn given(built: Built) -> Result<Ref, Fail> {
+    match built {
+        Built::Value(value) => Ok(value),
+        Built::Raised(_) => Err(Fail::from("raised")),
+        Built::Missing => Err(Fail::from("missing")),
+    }
+}
+
+/// Calls a method of hashes with integers, and writes what it gives.
+fn told(
+    alloc: Global,
+    space: &mut Space,
+    program: &Program,
+    method: ContentMethod,
+    values: &[Ref],
+) -> Result<Vec<u8>, Fail> {
+    let built = called(
+        alloc,
+        space,
+        program,
+        BuiltInMethod::Content(method),
+        values,
+    )?;
+    inspected(alloc, space, program, given(built)?)
+}
+
+/// A hash that is made empty, with its size; the same with two pairs; a value that is there, and one that is not.
+pub fn made_hash(alloc: Global) -> Result<Vec<u8>, Fail> {
+    let mut space = Space::new(alloc, RactorNo(1), 10);
+    let program = program(alloc, b"a")?;
+    let hash = given(make_hash(alloc, &mut space)?)?;
+    let mut out = inspected(alloc, &space, &program, hash)?;
+    out.push(b' ')?;
+    out.extend_from_slice(&told(alloc, &mut space, &program, ContentMethod::Size, &[hash])?)?;
+    let first = [hash, Ref::Int(7), Ref::Int(8)];
+    told(alloc, &mut space, &program, ContentMethod::SetAt, &first)?;
+    let second = [hash, Ref::Int(9), Ref::Int(10)];
+    told(alloc, &mut space, &program, ContentMethod::SetAt, &second)?;
+    out.extend_from_slice(b" | ")?;
+    out.extend_from_slice(&inspected(alloc, &space, &program, hash)?)?;
+    out.push(b' ')?;
+    out.extend_from_slice(&told(alloc, &mut space, &program, ContentMethod::Size, &[hash])?)?;
+    out.extend_from_slice(b" | ")?;
+    let there = [hash, Ref::Int(9)];
+    out.extend_from_slice(&told(alloc, &mut space, &program, ContentMethod::At, &there)?)?;
+    out.push(b' ')?;
+    let absent = [hash, Ref::Int(8)];
+    out.extend_from_slice(&told(alloc, &mut space, &program, ContentMethod::At, &absent)?)?;
     Ok(out)
 }

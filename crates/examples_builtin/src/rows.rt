@@ -1,6 +1,6 @@
 //! A table of calls.
 
-use crate::calls::outcome;
+use crate::calls::{made_hash, outcome};
 use std::test::Fail;
 
 /// A call, and what it comes to: its value or exception, and the receiver then.
@@ -209,6 +209,54 @@ error new => undefined method 'new' for an instance of TypeError | #<TypeError: 
 *[2,1 sort => [1, 2] | [2, 1]
 [1 sort 1 => wrong number of arguments (given 1, expected 0) (ArgumentError) | [1]
 {1:2 sort => undefined method 'sort' for an instance of Hash | {1 => 2}
+[1,2 == [1,2 => true | [1, 2]
+[1,2 == [2,1 => false | [1, 2]
+[1,2 == [1 => false | [1, 2]
+[ == [ => true | []
+[1 == 1 => false | [1]
+[1 == nil => false | [1]
+[1 == {1:2 => false | [1]
+*[1 == [1 => true | [1]
+['a,'b == ['a,'b => true | [\"a\", \"b\"]
+['a == ['b => false | [\"a\"]
+[1 == ['a => false | [1]
+[1 != [1 => false | [1]
+[1 != [2 => true | [1]
+[1 != nil => true | [1]
+[1 == shell => moved object (Ractor::MovedError) | [1]
+[1 != shell => moved object (Ractor::MovedError) | [1]
+shell == [1 => moved object (Ractor::MovedError) | shell
+[ == => wrong number of arguments (given 0, expected 1) (ArgumentError) | []
+[1 <=> [1 => undefined method '<=>' for an instance of Array | [1]
+[1 < [1 => undefined method '<' for an instance of Array | [1]
+1 == [1 => false | 1
+1 != [1 => true | 1
+'a == ['a => false | \"a\"
+:b == [1 => false | :b
+nil == [ => false | nil
+{1:2,3:4 == {3:4,1:2 => true | {1 => 2, 3 => 4}
+{1:2,3:4 == {1:2 => false | {1 => 2, 3 => 4}
+{1:2 == {1:2,3:4 => false | {1 => 2}
+{1:2 == {1:3 => false | {1 => 2}
+{1:2 == {2:2 => false | {1 => 2}
+{ == { => true | {}
+{ == [ => false | {}
+{1:2 == 5 => false | {1 => 2}
+{1:2 != {1:2 => false | {1 => 2}
+{1:2 != {1:3 => true | {1 => 2}
+{1:2 == shell => moved object (Ractor::MovedError) | {1 => 2}
+*{1:2 == {1:2 => true | {1 => 2}
+{1:2 + {1:2 => undefined method '+' for an instance of Hash | {1 => 2}
+[1,2,3 include? 2 => true | [1, 2, 3]
+[1,2,3 include? 4 => false | [1, 2, 3]
+[ include? nil => false | []
+['a,'b include? 'b => true | [\"a\", \"b\"]
+['a,'b include? 1 => false | [\"a\", \"b\"]
+[1,2 include? [1 => false | [1, 2]
+[1 include? shell => false | [1]
+*[1 include? 1 => true | [1]
+[1 include? => wrong number of arguments (given 0, expected 1) (ArgumentError) | [1]
+{1:2 include? 1 => undefined method 'include?' for an instance of Hash | {1 => 2}
 shell + 1 => moved object (Ractor::MovedError) | shell
 shell nil? => moved object (Ractor::MovedError) | shell
 nil == shell => false | nil";
@@ -227,6 +275,16 @@ fn calls_come_out_as_wanted(rt: HostRuntime) -> Result<(), Fail> {
             }
             return Err(Fail::from("another outcome"));
         }
+    }
+    Ok(())
+}
+
+/// An empty hash gets its pairs, and finds them again.
+#[test]
+fn a_made_hash_takes_pairs(rt: HostRuntime) -> Result<(), Fail> {
+    let found = made_hash(rt.alloc())?;
+    if found.as_slice() != b"{} 0 | {7 => 8, 9 => 10} 2 | 10 nil".as_slice() {
+        return Err(Fail::from("another hash"));
     }
     Ok(())
 }

@@ -1,5 +1,7 @@
-//! Worked examples of printed texts. It has only tests.
+//! Worked examples of printed texts and of equality. It has only tests.
 #![tactic(auto)]
 
+#[cfg(test)]
+mod compared;
 #[cfg(test)]
 mod printed;

@@ -15,3 +15,4 @@ pub mod NoFields
 pub mod Each
 pub mod Sorting
 pub mod Items
+pub mod Serving

@@ -1,5 +1,5 @@
 -- Acts on the objects of a space, and what they give and leave.
-use Rattle.std.specs.Prelude.{◌≡◌, ◌<◌, ◌⊎◌, ℕ, List, [], ◌∷◌, ◌++◌, length, map, remove, Result, Ok, Err, Option, Some, None, slice_get, slice_set, if◌then◌else◌, Contains, true, false, zero, suc, nat_lt, ◌-◌, ◌+◌, ◌*◌}
+use Rattle.std.specs.Prelude.{◌≡◌, ◌<◌, ◌≤◌, ◌⊎◌, IfOk, IfErr, ℕ, List, [], ◌∷◌, ◌++◌, length, map, remove, Result, Ok, Err, Option, Some, None, slice_get, slice_set, if◌then◌else◌, Contains, true, false, zero, suc, nat_lt, ◌-◌, ◌+◌, ◌*◌}
 use Rattle.rr_base.specs.declared.fault.Fault.{Fault}
 use Rattle.rr_base.specs.declared.fault.Fault.TheVariants.{Memory, Limit}
 use Rattle.rr_base.specs.declared.limits.LimitKind.TheVariants.{Slots}
@@ -228,3 +228,12 @@ IsRefusal f limit objects = (f ≡ Memory) ⊎ ((f ≡ Limit Slots) × (limit < 
 abbrev pub Acts : Below → (Table → Outcome × Table) → Table → Table → Result Built Fault → Type 0
 Acts below act old new (Ok b) = IsDone below (act old) old new b
 Acts below act old new (Err f) = (new ≡ old) × IsRefusal f old.limit (length (act old).1.slots)
+
+-- ---- What holds of each space, whatever clusters it is read with.
+
+-- limit, owner and numbering stay, no slot goes away, what is given lies within the space, and a refusal leaves all as it was
+pub record IsServed (old new : Table) (r : Result Built Fault) : Type 0 where
+  pub rest : IsRestKept old new
+  pub grown : length old.slots ≤ length new.slots
+  pub within : IfOk r (IsBuiltWithin (length new.slots))
+  pub refused : IfErr r (λ (f : Fault). (new ≡ old) × ((f ≡ Memory) ⊎ (f ≡ Limit Slots)))

@@ -1,9 +1,13 @@
 -- What a call of a built-in method comes to.
-use Rattle.std.specs.Prelude.{ℕ, Bool, not, ◌&&◌, ◌||◌, nat_lt, List, length, slice_index_or, if◌then◌else◌}
+use Rattle.std.specs.Prelude.{ℕ, Bool, true, false, not, ◌&&◌, ◌||◌, nat_lt, List, length, slice_index_or, if◌then◌else◌}
 use Rattle.std.specs.Cmp.Lexicographic.{slice_cmp}
 use Rattle.std.specs.Ordering.{nat_cmp}
 use Rattle.rr_space.specs.Graph.{Plain, Nil as NilValue}
-use Rattle.rr_space.specs.Tables.{Table, Below}
+use Rattle.rr_space.specs.Tables.{Table, Below, graph_of, resolve}
+use Rattle.rr_space.specs.Parts.{value_of}
+use Rattle.rr_base.specs.declared.limits.TheConstants.Limits.{DEFAULT}
+use Rattle.rr_text.specs.Walk.{Walked, Wrote, Differs, Deep, Shell}
+use Rattle.rr_text.specs.Comparing.{compared}
 use Rattle.rr_space.specs.Kinds.{kind_at}
 use Rattle.rr_space.specs.declared.kind.Kind.{Kind}
 use Rattle.rr_space.specs.declared.kind.Kind.TheVariants as kind
@@ -16,7 +20,7 @@ use Rattle.rr_text.specs.Forms.{Names, spoken}
 use Rattle.rr_builtin.specs.declared.method.TellingMethod.{TellingMethod}
 use Rattle.rr_builtin.specs.declared.method.TellingMethod.TheVariants.{Name, Message, Cause}
 use Rattle.rr_text.specs.Names.{names_of}
-use Rattle.rr_builtin.specs.declared.problem.Problem.TheVariants.{Moved, Count}
+use Rattle.rr_builtin.specs.declared.problem.Problem.TheVariants.{Moved, Count, TooDeep}
 use Rattle.rr_builtin.specs.declared.method.NumberMethod.{NumberMethod}
 use Rattle.rr_builtin.specs.declared.method.BuiltInMethod.{BuiltInMethod}
 use Rattle.rr_builtin.specs.declared.method.BuiltInMethod.TheVariants.{Operator, Number, Object, Content, Telling, New}
@@ -50,15 +54,33 @@ plain_operator names op (Int x) a t = Answers (outcome_of (on_integer op x a t))
 plain_operator names op (Symbol s) a t = symbol_operator names op s.0 (Symbol s) a t
 plain_operator names op v a t = equality op (equals t v a)
 
--- an operator on an array
-abbrev pub array_operator : Names → BinaryOperator → Ref → Ref → Table → Act
-array_operator names Add v a t = array_sum v a t
-array_operator names op v a t = plain_operator names op v a t
+-- whether two values are equal, with the limit of levels that scripts have
+unfoldable pub compared_at : Below → Table → Ref → Ref → Walked
+compared_at below t v a = compared (graph_of t.slots below) DEFAULT.levels (resolve t.slots (value_of v)) (resolve t.slots (value_of a))
 
-abbrev pub operator_act : Names → Kind → BinaryOperator → Ref → Ref → Table → Act
-operator_act names kind.Text op v a t = text_operator op v a t
-operator_act names kind.Array op v a t = array_operator names op v a t
-operator_act names _ op v a t = plain_operator names op v a t
+-- `==` and `!=` of a container, by what comparing it came to
+abbrev pub walked_equality : BinaryOperator → Walked → Act
+walked_equality op (Wrote s) = equality op true
+walked_equality op Differs = equality op false
+walked_equality op Deep = Answers (Raises TooDeep)
+walked_equality op Shell = Answers (Raises Moved)
+
+-- an operator on an array or a hash: both have `==` and `!=`
+abbrev pub container_operator : Below → BinaryOperator → Ref → Ref → Table → Act
+container_operator below Equal v a t = walked_equality Equal (compared_at below t v a)
+container_operator below NotEqual v a t = walked_equality NotEqual (compared_at below t v a)
+container_operator below _ v a t = Answers Lacks
+
+-- an operator on an array
+abbrev pub array_operator : Below → BinaryOperator → Ref → Ref → Table → Act
+array_operator below Add v a t = array_sum v a t
+array_operator below op v a t = container_operator below op v a t
+
+abbrev pub operator_act : Names → Below → Kind → BinaryOperator → Ref → Ref → Table → Act
+operator_act names below kind.Text op v a t = text_operator op v a t
+operator_act names below kind.Array op v a t = array_operator below op v a t
+operator_act names below kind.Hash op v a t = container_operator below op v a t
+operator_act names below _ op v a t = plain_operator names op v a t
 
 abbrev pub number_act : NumberMethod → Ref → Act
 number_act m (Int x) = Answers (outcome_of (number_answer m x))
@@ -72,7 +94,7 @@ telling_act names below Cause v t = Answers (Gives (element_at t v 1))
 
 -- what a method does that the receiver has, with its first two arguments
 abbrev pub method_act : Program → Below → BuiltInMethod → Ref → Ref → Ref → Table → Act
-method_act p below (Operator op) v a b t = operator_act (names_of p) (kind_at t v) op v a t
+method_act p below (Operator op) v a b t = operator_act (names_of p) below (kind_at t v) op v a t
 method_act p below (Number m) v a b t = number_act m v
 method_act p below (Object m) v a b t = object_act p below m v a t
 method_act p below (Content m) v a b t = content_act below (kind_at t v) m v a b t

@@ -1,13 +1,18 @@
 -- The methods of arrays and hashes, and those of texts among them.
-use Rattle.std.specs.Prelude.{◌-◌}
-use Rattle.rr_space.specs.Tables.{Table, Below}
+use Rattle.std.specs.Prelude.{◌-◌, true, false}
+use Rattle.rr_base.specs.declared.limits.TheConstants.Limits.{DEFAULT}
+use Rattle.rr_space.specs.Tables.{Table, Below, graph_of, resolve}
 use Rattle.rr_space.specs.Parts.{value_of}
 use Rattle.rr_space.specs.declared.kind.Kind.{Kind}
 use Rattle.rr_space.specs.declared.kind.Kind.TheVariants as kind
 use Rattle.rr_space.specs.declared.refer.Ref.{Ref}
 use Rattle.rr_builtin.specs.declared.method.ContentMethod.{ContentMethod}
-use Rattle.rr_builtin.specs.declared.method.ContentMethod.TheVariants.{Size, Length, IsEmpty, First, Last, At as AtMethod, SetAt, Append, Push, Pop, Shift, Keys, Values, HasKey, Delete, Sum, Sort}
-use Rattle.rr_builtin.specs.Acts.{Act, Answers, MakesArray, Pushes, Gives, Lacks, element_at}
+use Rattle.rr_builtin.specs.declared.method.ContentMethod.TheVariants.{Size, Length, IsEmpty, First, Last, At as AtMethod, SetAt, Append, Push, Pop, Shift, Includes, Keys, Values, HasKey, Delete, Sum, Sort}
+use Rattle.rr_text.specs.Walk.{Walked, Wrote, Differs, Deep, Shell}
+use Rattle.rr_text.specs.Same.{triples_in}
+use Rattle.rr_text.specs.Comparing.{searched}
+use Rattle.rr_builtin.specs.declared.problem.Problem.TheVariants.{Moved, TooDeep}
+use Rattle.rr_builtin.specs.Acts.{Act, Answers, MakesArray, Pushes, Gives, Raises, Lacks, element_at}
 use Rattle.rr_builtin.specs.Objects.{truth}
 use Rattle.rr_builtin.specs.Contents.{size_act, is_empty, indexed, unless_frozen, taken, popped, text_content}
 use Rattle.rr_builtin.specs.Arrays.{array_put}
@@ -33,6 +38,22 @@ array_content below Sum v a b t = sum_act below v t
 array_content below Sort v a b t = sort_act below v t
 array_content below _ v a b t = Answers Lacks
 
+-- whether an array has an element that is equal to a value, with the limit of levels that scripts have
+unfoldable pub searched_at : Below → Table → Ref → Ref → Walked
+searched_at below t v a =
+    searched (graph_of t.slots below) DEFAULT.levels (resolve t.slots (value_of a)) (triples_in (graph_of t.slots below) (resolve t.slots (value_of v))) (count_at t v)
+
+abbrev pub found_act : Walked → Act
+found_act (Wrote s) = truth true
+found_act Differs = truth false
+found_act Deep = Answers (Raises TooDeep)
+found_act Shell = Answers (Raises Moved)
+
+-- a method of arrays, `include?` among them
+abbrev pub array_method : Below → ContentMethod → Ref → Ref → Ref → Table → Act
+array_method below Includes v a b t = found_act (searched_at below t v a)
+array_method below m v a b t = array_content below m v a b t
+
 -- a method of hashes
 abbrev pub hash_content : Below → ContentMethod → Ref → Ref → Ref → Table → Act
 hash_content below Size v a b t = size_act kind.Hash v t
@@ -49,6 +70,6 @@ hash_content below _ v a b t = Answers Lacks
 -- a method of texts, arrays and hashes, by the kind of the receiver
 abbrev pub content_act : Below → Kind → ContentMethod → Ref → Ref → Ref → Table → Act
 content_act below kind.Text m v a b t = text_content m v a t
-content_act below kind.Array m v a b t = array_content below m v a b t
+content_act below kind.Array m v a b t = array_method below m v a b t
 content_act below kind.Hash m v a b t = hash_content below m v a b t
 content_act below _ m v a b t = Answers Lacks

@@ -25,12 +25,6 @@ abbrev pub is_array_kind : Kind → Bool
 is_array_kind kind.Array = true
 is_array_kind _ = false
 
--- whether values of the kind are compared without a walk
-abbrev pub is_compared : Kind → Bool
-is_compared kind.Array = false
-is_compared kind.Hash = false
-is_compared _ = true
-
 -- which kinds have `*`, `<` and its kin, which have `+`, and which have `<=>`
 abbrev pub is_added : Kind → Bool
 is_added kind.Integer = true
@@ -61,8 +55,8 @@ has_operator k LessOrEqual = is_added k
 has_operator k Greater = is_added k
 has_operator k GreaterOrEqual = is_added k
 has_operator k Compare = has_order k
-has_operator k Equal = is_compared k
-has_operator k NotEqual = is_compared k
+has_operator k Equal = true
+has_operator k NotEqual = true
 
 -- texts, arrays and hashes
 abbrev pub has_size : Kind → Bool
@@ -101,7 +95,7 @@ has_content k At = has_size k
 has_content k Push = is_array_kind k
 has_content k Pop = is_array_kind k
 has_content k Shift = is_array_kind k
-has_content k Includes = is_text_kind k
+has_content k Includes = is_appended k
 has_content k SetAt = is_container k
 has_content k Keys = is_hash k
 has_content k HasKey = is_hash k

@@ -7,9 +7,9 @@ ghost use Rattle.rr_space.specs.Parts.{IsWithin};
 ghost use Rattle.rr_space.specs.Kinds.{kind_at};
 ghost use Rattle.rr_text.specs.Names.{names_of};
 ghost use Rattle.rr_text.specs.Reads.{IsAmong, IsReadWith};
-ghost use Rattle.rr_builtin.specs.Acts.{Acts, IsRefAmong, IsBuiltWithin, IsBuiltAmong, outcome_of};
+ghost use Rattle.rr_builtin.specs.Acts.{Acts, IsServed, IsRefAmong, IsBuiltWithin, IsBuiltAmong, outcome_of};
 ghost use Rattle.rr_builtin.specs.Deeds.{act_of, IsFit, IsDeedAmong};
-ghost use Rattle.rr_builtin.specs.Calls.{equality, symbol_order, symbol_operator, plain_operator, array_operator, operator_act, number_act, telling_act, method_act, responds, most_of, is_between, call_act, called};
+ghost use Rattle.rr_builtin.specs.Calls.{compared_at, walked_equality, container_operator, equality, symbol_order, symbol_operator, plain_operator, array_operator, operator_act, number_act, telling_act, method_act, responds, most_of, is_between, call_act, called};
 
 use crate::arrays::sum_of_arrays;
 use crate::built::Built;
@@ -24,7 +24,7 @@ use crate::problem::Problem;
 use crate::texts::{order_of, ordered, text_operator};
 use rr_base::{Fault, Sym};
 use rr_space::{Kind, Ref, Space};
-use rr_text::{Form, symbol_name};
+use rr_text::{Compared, Form, compare, symbol_name};
 use rr_tree::{BinaryOperator, Program};
 use std::alloc::Global;
 
@@ -105,23 +105,63 @@ fn plain_operator(
     }
 }
 
-/// An operator on an array.
-fn array_operator(
+/// `==` and `!=` of an array or a hash, which are compared by what is in them.
+fn walked_equality(
     alloc: Global,
     space: &Space,
-    program: &Program,
     operator: BinaryOperator,
     value: Ref,
     operand: Ref,
 ) -> Result<Deed, Fault>
-    ensures act { IfOk result (λ deed. act_of deed ≡ array_operator (names_of program.now) operator value operand space.now) }
+    ensures act { IfOk result (λ deed. (below : Below) → IsReadWith space.now below → IsAmong below value → IsAmong below operand → act_of deed ≡ walked_equality operator (compared_at below space.now value operand)) }
+    ensures fit { IfOk result (λ deed. IsFit space.now value deed) }
+    ensures among { IfOk result (λ deed. (below : Below) → IsDeedAmong below deed) }
+    ensures fault { IfErr result (λ f. f ≡ Fault.Memory) }
+{
+    match compare(alloc, space, value, operand)? {
+        Compared::Same => Ok(equality(operator, true)),
+        Compared::Differs => Ok(equality(operator, false)),
+        Compared::Deep => Ok(raise(Problem::TooDeep)),
+        Compared::Shell => Ok(raise(Problem::Moved)),
+    }
+}
+
+/// An operator on an array or a hash: both have `==` and `!=`.
+fn container_operator(
+    alloc: Global,
+    space: &Space,
+    operator: BinaryOperator,
+    value: Ref,
+    operand: Ref,
+) -> Result<Deed, Fault>
+    ensures act { IfOk result (λ deed. (below : Below) → IsReadWith space.now below → IsAmong below value → IsAmong below operand → act_of deed ≡ container_operator below operator value operand space.now) }
+    ensures fit { IfOk result (λ deed. IsFit space.now value deed) }
+    ensures among { IfOk result (λ deed. (below : Below) → IsDeedAmong below deed) }
+    ensures fault { IfErr result (λ f. f ≡ Fault.Memory) }
+{
+    match operator {
+        BinaryOperator::Equal => walked_equality(alloc, space, operator, value, operand),
+        BinaryOperator::NotEqual => walked_equality(alloc, space, operator, value, operand),
+        _ => Ok(Deed::Answer(Built::Missing)),
+    }
+}
+
+/// An operator on an array.
+fn array_operator(
+    alloc: Global,
+    space: &Space,
+    operator: BinaryOperator,
+    value: Ref,
+    operand: Ref,
+) -> Result<Deed, Fault>
+    ensures act { IfOk result (λ deed. (below : Below) → IsReadWith space.now below → IsAmong below value → IsAmong below operand → act_of deed ≡ array_operator below operator value operand space.now) }
     ensures fit { IfOk result (λ deed. IsFit space.now value deed) }
     ensures among { IfOk result (λ deed. (below : Below) → IsReadWith space.now below → IsRefAmong below value → IsRefAmong below operand → IsDeedAmong below deed) }
     ensures fault { IfErr result (λ f. f ≡ Fault.Memory) }
 {
     match operator {
         BinaryOperator::Add => sum_of_arrays(alloc, space, value, operand),
-        _ => Ok(plain_operator(space, program, operator, value, operand)),
+        _ => container_operator(alloc, space, operator, value, operand),
     }
 }
 
@@ -133,14 +173,15 @@ fn operator_deed(
     value: Ref,
     operand: Ref,
 ) -> Result<Deed, Fault>
-    ensures act { IfOk result (λ deed. act_of deed ≡ operator_act (names_of program.now) (kind_at space.now value) operator value operand space.now) }
+    ensures act { IfOk result (λ deed. (below : Below) → IsReadWith space.now below → IsAmong below value → IsAmong below operand → act_of deed ≡ operator_act (names_of program.now) below (kind_at space.now value) operator value operand space.now) }
     ensures fit { IfOk result (λ deed. IsFit space.now value deed) }
     ensures among { IfOk result (λ deed. (below : Below) → IsReadWith space.now below → IsRefAmong below value → IsRefAmong below operand → IsDeedAmong below deed) }
     ensures fault { IfErr result (λ f. f ≡ Fault.Memory) }
 {
     match space.kind_of(value) {
         Kind::Text => text_operator(alloc, space, operator, value, operand),
-        Kind::Array => array_operator(alloc, space, program, operator, value, operand),
+        Kind::Array => array_operator(alloc, space, operator, value, operand),
+        Kind::Hash => container_operator(alloc, space, operator, value, operand),
         _ => Ok(plain_operator(space, program, operator, value, operand)),
     }
 }
@@ -190,7 +231,7 @@ fn method_deed(
     requires receiver { IsWithin (length space.now.slots) receiver }
     requires argument { IsWithin (length space.now.slots) argument }
     requires second { IsWithin (length space.now.slots) second }
-    ensures act { IfOk result (λ deed. (below : Below) → IsReadWith space.now below → IsAmong below receiver
+    ensures act { IfOk result (λ deed. (below : Below) → IsReadWith space.now below → IsAmong below receiver → IsAmong below argument
         → act_of deed ≡ method_act program.now below method receiver argument second space.now) }
     ensures fit { IfOk result (λ deed. IsFit space.now receiver deed) }
     ensures among { IfOk result (λ deed. (below : Below) → IsReadWith space.now below → IsRefAmong below receiver → IsRefAmong below argument → IsRefAmong below second → IsDeedAmong below deed) }
@@ -247,7 +288,7 @@ fn call_deed(
 ) -> Result<Deed, Fault>
     requires receiver { IsWithin (length space.now.slots) receiver }
     requires arguments { All (IsWithin (length space.now.slots)) arguments.now }
-    ensures act { IfOk result (λ deed. (below : Below) → IsReadWith space.now below → IsAmong below receiver
+    ensures act { IfOk result (λ deed. (below : Below) → IsReadWith space.now below → IsAmong below receiver → All (IsRefAmong below) arguments.now
         → act_of deed ≡ call_act program.now below receiver method arguments.now space.now) }
     ensures fit { IfOk result (λ deed. IsFit space.now receiver deed) }
     ensures among { IfOk result (λ deed. (below : Below) → IsReadWith space.now below → IsRefAmong below receiver → All (IsRefAmong below) arguments.now → IsDeedAmong below deed) }
@@ -291,8 +332,9 @@ pub fn call(
 ) -> Result<Built, Fault>
     requires receiver { IsWithin (length space.old.slots) receiver }
     requires arguments { All (IsWithin (length space.old.slots)) arguments.now }
-    ensures { (below : Below) → IsReadWith space.old below → IsAmong below receiver → All (IsRefAmong below) arguments.now
+    ensures act { (below : Below) → IsReadWith space.old below → IsAmong below receiver → All (IsRefAmong below) arguments.now
         → Acts below (called program.now below receiver method arguments.now) space.old space.new result }
+    ensures served { IsServed space.old space.new result }
 {
     let deed = call_deed(alloc, space, program, receiver, method, arguments)?;
     perform(alloc, space, receiver, deed)

@@ -12,7 +12,7 @@ ghost use Rattle.rr_builtin.specs.Numbers.{number_given};
 ghost use Rattle.rr_builtin.specs.Acts.{Answers, Gives, Pushes, IsRefAmong, IsBuiltWithin, IsBuiltAmong, outcome_of, element_at};
 ghost use Rattle.rr_builtin.specs.Deeds.{act_of, IsFit, IsDeedAmong};
 ghost use Rattle.rr_builtin.specs.Contents.{size_at, size_act, is_empty, place_of, element_of, indexed, character_of, character_act, unless_frozen, text_append, includes, includes_act, taken, popped, text_content};
-ghost use Rattle.rr_builtin.specs.Containers.{array_content, hash_content, content_act};
+ghost use Rattle.rr_builtin.specs.Containers.{array_content, array_method, hash_content, content_act, searched_at, found_act};
 ghost use Rattle.std.specs.Prelude.{pos};
 
 use crate::arrays::{names, put_deed, values};
@@ -31,6 +31,7 @@ use crate::sums::sum_deed;
 use memchr::memmem;
 use rr_base::Fault;
 use rr_space::{Kind, Ref, Space};
+use rr_text::{Compared, search};
 use std::alloc::Global;
 
 fn size_at(space: &Space, kind: Kind, value: Ref) -> usize
@@ -307,6 +308,45 @@ fn array_content(
     }
 }
 
+/// `include?` of an array.
+fn included_deed(alloc: Global, space: &Space, array: Ref, value: Ref) -> Result<Deed, Fault>
+    ensures act { IfOk result (λ deed. (below : Below) → IsReadWith space.now below → IsAmong below array → IsAmong below value → act_of deed ≡ found_act (searched_at below space.now array value)) }
+    ensures fit { IfOk result (λ deed. IsFit space.now array deed) }
+    ensures among { IfOk result (λ deed. (below : Below) → IsDeedAmong below deed) }
+    ensures fault { IfErr result (λ f. f ≡ Fault.Memory) }
+{
+    match search(alloc, space, array, value)? {
+        Compared::Same => Ok(truth(true)),
+        Compared::Differs => Ok(truth(false)),
+        Compared::Deep => Ok(raise(Problem::TooDeep)),
+        Compared::Shell => Ok(raise(Problem::Moved)),
+    }
+}
+
+/// A method of arrays, `include?` among them.
+fn array_method(
+    alloc: Global,
+    space: &Space,
+    method: ContentMethod,
+    array: Ref,
+    argument: Ref,
+    second: Ref,
+) -> Result<Deed, Fault>
+    requires within { IsWithin (length space.now.slots) array }
+    requires kind { kind_at space.now array ≡ Kind.Array }
+    requires argument { IsWithin (length space.now.slots) argument }
+    requires second { IsWithin (length space.now.slots) second }
+    ensures act { IfOk result (λ deed. (below : Below) → IsReadWith space.now below → IsAmong below array → IsAmong below argument → act_of deed ≡ array_method below method array argument second space.now) }
+    ensures fit { IfOk result (λ deed. IsFit space.now array deed) }
+    ensures among { IfOk result (λ deed. (below : Below) → IsReadWith space.now below → IsRefAmong below array → IsRefAmong below argument → IsRefAmong below second → IsDeedAmong below deed) }
+    ensures fault { IfErr result (λ f. f ≡ Fault.Memory) }
+{
+    match method {
+        ContentMethod::Includes => included_deed(alloc, space, array, argument),
+        _ => array_content(alloc, space, method, array, argument, second),
+    }
+}
+
 /// A method of hashes.
 fn hash_content(
     alloc: Global,
@@ -351,7 +391,7 @@ pub(crate) fn content_deed(
     requires receiver { IsWithin (length space.now.slots) value }
     requires argument { IsWithin (length space.now.slots) argument }
     requires second { IsWithin (length space.now.slots) second }
-    ensures act { IfOk result (λ deed. (below : Below) → IsReadWith space.now below → IsAmong below value
+    ensures act { IfOk result (λ deed. (below : Below) → IsReadWith space.now below → IsAmong below value → IsAmong below argument
         → act_of deed ≡ content_act below (kind_at space.now value) method value argument second space.now) }
     ensures fit { IfOk result (λ deed. IsFit space.now value deed) }
     ensures among { IfOk result (λ deed. (below : Below) → IsReadWith space.now below → IsRefAmong below value → IsRefAmong below argument → IsRefAmong below second → IsDeedAmong below deed) }
@@ -359,7 +399,7 @@ pub(crate) fn content_deed(
 {
     match space.kind_of(value) {
         Kind::Text => text_content(alloc, space, method, value, argument),
-        Kind::Array => array_content(alloc, space, method, value, argument, second),
+        Kind::Array => array_method(alloc, space, method, value, argument, second),
         Kind::Hash => hash_content(alloc, space, method, value, argument, second),
         _ => Ok(Deed::Answer(Built::Missing)),
     }

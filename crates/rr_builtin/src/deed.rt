@@ -1,6 +1,6 @@
 //! What is done with the receiver of a call.
 
-ghost use Rattle.std.specs.Prelude.{◌≡◌, ◌<◌, ◌≤◌, IsTrue, length, map, List, Some, IfOk};
+ghost use Rattle.std.specs.Prelude.{◌≡◌, ◌<◌, ◌≤◌, IsTrue, length, map, List, Ok, Some, IfOk};
 ghost use Rattle.std.specs.List.{All};
 ghost use Rattle.rr_space.specs.Tables.{Below, HashKey, TextKey};
 ghost use Rattle.rr_space.specs.Parts.{IsWithin};
@@ -9,7 +9,7 @@ ghost use Rattle.rr_space.specs.Labels.{triples_at};
 ghost use Rattle.rr_space.specs.Views.{can_write_at, keys_at, key_of, IsFirstAt};
 ghost use Rattle.rr_space.specs.Lookups.{key_at};
 ghost use Rattle.rr_text.specs.Reads.{IsReadWith};
-ghost use Rattle.rr_builtin.specs.Acts.{Acts, performed, froze, IsRefAmong, Answers, Makes, Freezes, Appends, Pushes, Takes, MakesArray, Puts, SetsValue, AddsPair, AddsText, TakesPair, MakesObject, IsDone};
+ghost use Rattle.rr_builtin.specs.Acts.{Acts, IsServed, performed, froze, IsRefAmong, Answers, Makes, Freezes, Appends, Pushes, Takes, MakesArray, Puts, SetsValue, AddsPair, AddsText, TakesPair, MakesObject, IsDone};
 ghost use Rattle.rr_builtin.specs.Deeds.{act_of, IsFit, IsDeedAmong, IsRefilled, IsWritableHash, LacksKey, HasPair};
 ghost use Rattle.rr_space.specs.Parts.{value_of};
 
@@ -54,7 +54,8 @@ pub(crate) enum Deed {
 
 /// Makes a new text.
 fn make(space: &mut Space, bytes: Vec<u8>) -> Result<Built, Fault>
-    ensures { (below : Below) (v : Ref) → IsReadWith space.old below → Acts below (performed (Makes bytes.items) v) space.old space.new result }
+    ensures act { (below : Below) (v : Ref) → IsReadWith space.old below → Acts below (performed (Makes bytes.items) v) space.old space.new result }
+    ensures served { IsServed space.old space.new result }
 {
     match space.alloc(Node::Text(bytes)) {
         Ok(text) => Ok(Built::Value(text)),
@@ -76,7 +77,8 @@ fn append(space: &mut Space, text: Ref, bytes: &[u8]) -> Result<Built, Fault>
     requires within { IsWithin (length space.old.slots) text }
     requires can { IsTrue (can_write_at space.old text) }
     requires kind { kind_at space.old text ≡ Kind.Text }
-    ensures { (below : Below) → IsReadWith space.old below → Acts below (performed (Appends bytes.now) text) space.old space.new result }
+    ensures act { (below : Below) → IsReadWith space.old below → Acts below (performed (Appends bytes.now) text) space.old space.new result }
+    ensures served { IsServed space.old space.new result }
 {
     match space.append_text(text, bytes) {
         Ok(()) => Ok(Built::Value(text)),
@@ -90,7 +92,8 @@ fn push(space: &mut Space, array: Ref, value: Ref) -> Result<Built, Fault>
     requires can { IsTrue (can_write_at space.old array) }
     requires kind { kind_at space.old array ≡ Kind.Array }
     requires value { IsWithin (length space.old.slots) value }
-    ensures { (below : Below) → IsReadWith space.old below → IsRefAmong below value → Acts below (performed (Pushes (value_of value)) array) space.old space.new result }
+    ensures act { (below : Below) → IsReadWith space.old below → IsRefAmong below value → Acts below (performed (Pushes (value_of value)) array) space.old space.new result }
+    ensures served { IsServed space.old space.new result }
 {
     match space.push_element(array, value) {
         Ok(()) => Ok(Built::Value(array)),
@@ -103,7 +106,8 @@ fn take(space: &mut Space, array: Ref, place: usize) -> Built
     requires can { IsTrue (can_write_at space.old array) }
     requires kind { kind_at space.old array ≡ Kind.Array }
     requires place { place < length (triples_at space.old array) }
-    ensures { (below : Below) → IsReadWith space.old below → IsDone below (performed (Takes place) array space.old) space.old space.new result }
+    ensures act { (below : Below) → IsReadWith space.old below → IsDone below (performed (Takes place) array space.old) space.old space.new result }
+    ensures served { IsServed space.old space.new (Ok result) }
 {
     match space.take_element(array, place) {
         Some(taken) => Built::Value(taken),
@@ -113,10 +117,12 @@ fn take(space: &mut Space, array: Ref, place: usize) -> Built
 
 /// Makes a new array of these values.
 ///
-/// A refused growth leaves the objects as they were.
+/// It is refused with `Memory`, or with `Limit(Slots)` where the space has as many objects as it may. That leaves the objects as
+/// they were.
 pub fn make_array(space: &mut Space, items: Vec<Ref>) -> Result<Built, Fault>
     requires { All (IsWithin (length space.old.slots)) items.items }
-    ensures { (below : Below) (v : Ref) → IsReadWith space.old below → All (IsRefAmong below) items.items → Acts below (performed (MakesArray (map value_of items.items)) v) space.old space.new result }
+    ensures act { (below : Below) (v : Ref) → IsReadWith space.old below → All (IsRefAmong below) items.items → Acts below (performed (MakesArray (map value_of items.items)) v) space.old space.new result }
+    ensures served { IsServed space.old space.new result }
 {
     match space.alloc(Node::Array(Items::from_vec(items))) {
         Ok(array) => Ok(Built::Value(array)),
@@ -130,7 +136,8 @@ fn put(space: &mut Space, array: Ref, place: usize, value: Ref) -> Result<Built,
     requires kind { kind_at space.old array ≡ Kind.Array }
     requires value { IsWithin (length space.old.slots) value }
     requires place { place ≤ length (triples_at space.old array) }
-    ensures { (below : Below) → IsReadWith space.old below → IsRefAmong below value → Acts below (performed (Puts place (value_of value)) array) space.old space.new result }
+    ensures act { (below : Below) → IsReadWith space.old below → IsRefAmong below value → Acts below (performed (Puts place (value_of value)) array) space.old space.new result }
+    ensures served { IsServed space.old space.new result }
 {
     if place < space.arity(array) {
         space.write_element(array, place, value);
@@ -148,7 +155,8 @@ fn refill(space: &mut Space, array: Ref, items: Vec<Ref>, place: usize, value: R
     requires kind { kind_at space.old array ≡ Kind.Array }
     requires value { IsWithin (length space.old.slots) value }
     requires filled { IsRefilled space.old array items.items place value }
-    ensures { (below : Below) → IsReadWith space.old below → All (IsRefAmong below) items.items → IsRefAmong below value → IsDone below (performed (Puts place (value_of value)) array space.old) space.old space.new result }
+    ensures act { (below : Below) → IsReadWith space.old below → All (IsRefAmong below) items.items → IsRefAmong below value → IsDone below (performed (Puts place (value_of value)) array space.old) space.old space.new result }
+    ensures served { IsServed space.old space.new (Ok result) }
 {
     space.write_elements(array, items);
     Built::Value(value)
@@ -165,7 +173,8 @@ fn set_value(
     requires hash { IsWritableHash space.old hash }
     requires value { IsWithin (length space.old.slots) value }
     requires first { (ks : List HashKey) → keys_at space.old hash ≡ Some ks → IsFirstAt ks (key_of key) pair }
-    ensures { (below : Below) → IsReadWith space.old below → IsRefAmong below value → Acts below (performed (SetsValue pair (value_of value)) hash) space.old space.new result }
+    ensures act { (below : Below) → IsReadWith space.old below → IsRefAmong below value → Acts below (performed (SetsValue pair (value_of value)) hash) space.old space.new result }
+    ensures served { IsServed space.old space.new result }
 {
     // The hash has its keys, as the clause of the number says.
     let _count = space.len();
@@ -182,7 +191,8 @@ fn add_pair(space: &mut Space, hash: Ref, key: Key, name: Ref, value: Ref) -> Re
     requires name { IsWithin (length space.old.slots) name }
     requires named { key_at space.old name ≡ Some (key_of key) }
     requires lacks { LacksKey space.old hash (key_of key) }
-    ensures { (below : Below) → IsReadWith space.old below → IsRefAmong below name → IsRefAmong below value → Acts below (performed (AddsPair (value_of name) (key_of key) (value_of value)) hash) space.old space.new result }
+    ensures act { (below : Below) → IsReadWith space.old below → IsRefAmong below name → IsRefAmong below value → Acts below (performed (AddsPair (value_of name) (key_of key) (value_of value)) hash) space.old space.new result }
+    ensures served { IsServed space.old space.new result }
 {
     let _count = space.len();
     match space.write_pair(hash, key, name, value) {
@@ -202,7 +212,8 @@ fn add_text(
     requires hash { IsWritableHash space.old hash }
     requires value { IsWithin (length space.old.slots) value }
     requires lacks { LacksKey space.old hash (TextKey bytes.items) }
-    ensures { (below : Below) → IsReadWith space.old below → IsRefAmong below value → Acts below (performed (AddsText bytes.items (value_of value)) hash) space.old space.new result }
+    ensures act { (below : Below) → IsReadWith space.old below → IsRefAmong below value → Acts below (performed (AddsText bytes.items (value_of value)) hash) space.old space.new result }
+    ensures served { IsServed space.old space.new result }
 {
     let _count = space.len();
     match space.write_text_pair(alloc, hash, bytes, value) {
@@ -215,7 +226,8 @@ fn add_text(
 fn take_pair(space: &mut Space, hash: Ref, pair: usize) -> Built
     requires hash { IsWritableHash space.old hash }
     requires pair { HasPair space.old hash pair }
-    ensures { (below : Below) → IsReadWith space.old below → IsDone below (performed (TakesPair pair) hash space.old) space.old space.new result }
+    ensures act { (below : Below) → IsReadWith space.old below → IsDone below (performed (TakesPair pair) hash space.old) space.old space.new result }
+    ensures served { IsServed space.old space.new (Ok result) }
 {
     let _count = space.len();
     match space.delete_pair(hash, pair) {
@@ -233,8 +245,9 @@ pub(crate) fn perform(
 ) -> Result<Built, Fault>
     requires within { IsWithin (length space.old.slots) receiver }
     requires fit { IsFit space.old receiver deed }
-    ensures { (below : Below) → IsReadWith space.old below → IsRefAmong below receiver → IsDeedAmong below deed
+    ensures act { (below : Below) → IsReadWith space.old below → IsRefAmong below receiver → IsDeedAmong below deed
         → Acts below (performed (act_of deed) receiver) space.old space.new result }
+    ensures served { IsServed space.old space.new result }
 {
     match deed {
         Deed::Answer(built) => Ok(built),

@@ -1,7 +1,7 @@
 //! Which methods the values of a kind have, and how many arguments they take.
 
 ghost use Rattle.std.specs.Prelude.{◌≡◌};
-ghost use Rattle.rr_builtin.specs.Kinds.{is_shell_kind, is_integer_kind, is_array_kind, is_compared, is_added, has_order, has_operator, has_size, is_text_kind, is_appended, is_joined, is_hash, is_container, is_copied, has_object, has_content, is_class, is_exception, has_telling, has, object_count, content_count, is_new, count_of};
+ghost use Rattle.rr_builtin.specs.Kinds.{is_shell_kind, is_integer_kind, is_array_kind, is_added, has_order, has_operator, has_size, is_text_kind, is_appended, is_joined, is_hash, is_container, is_copied, has_object, has_content, is_class, is_exception, has_telling, has, object_count, content_count, is_new, count_of};
 
 use crate::method::{BuiltInMethod, ContentMethod, ObjectMethod, TellingMethod};
 use rr_space::Kind;
@@ -31,17 +31,6 @@ pub(crate) fn is_array_kind(kind: Kind) -> bool
     match kind {
         Kind::Array => true,
         _ => false,
-    }
-}
-
-/// Whether values of the kind are compared without a walk.
-fn is_compared(kind: Kind) -> bool
-    ensures { result ≡ is_compared kind }
-{
-    match kind {
-        Kind::Array => false,
-        Kind::Hash => false,
-        _ => true,
     }
 }
 
@@ -94,8 +83,8 @@ fn has_operator(kind: Kind, operator: BinaryOperator) -> bool
         BinaryOperator::Greater => is_added(kind),
         BinaryOperator::GreaterOrEqual => is_added(kind),
         BinaryOperator::Compare => has_order(kind),
-        BinaryOperator::Equal => is_compared(kind),
-        BinaryOperator::NotEqual => is_compared(kind),
+        BinaryOperator::Equal => true,
+        BinaryOperator::NotEqual => true,
     }
 }
 
@@ -163,7 +152,7 @@ fn has_content(kind: Kind, method: ContentMethod) -> bool
         ContentMethod::Push => is_array_kind(kind),
         ContentMethod::Pop => is_array_kind(kind),
         ContentMethod::Shift => is_array_kind(kind),
-        ContentMethod::Includes => is_text_kind(kind),
+        ContentMethod::Includes => is_appended(kind),
         ContentMethod::SetAt => is_container(kind),
         ContentMethod::Keys => is_hash(kind),
         ContentMethod::Values => is_hash(kind),

@@ -6,7 +6,7 @@ ghost use Rattle.rr_space.specs.Tables.{Below};
 ghost use Rattle.rr_space.specs.Parts.{IsWithin, value_of};
 ghost use Rattle.rr_space.specs.Views.{object_of, node_keys, below_node, IsNodeWithin, AreFieldsDistinct};
 ghost use Rattle.rr_text.specs.Reads.{IsReadWith};
-ghost use Rattle.rr_builtin.specs.Acts.{Acts, MakesObject, IsRefAmong, performed};
+ghost use Rattle.rr_builtin.specs.Acts.{Acts, IsServed, MakesObject, IsRefAmong, performed};
 ghost use Rattle.rr_builtin.specs.Deeds.{act_of, IsFit, IsDeedAmong};
 ghost use Rattle.rr_builtin.specs.News.{empty_hash, new_exception, new_plain, is_exception_class, is_made, may_make, takes_message, new_act};
 
@@ -22,8 +22,9 @@ use std::alloc::Global;
 pub(crate) fn make_node(space: &mut Space, node: Node) -> Result<Built, Fault>
     requires within { IsNodeWithin (length space.old.slots) node }
     requires fields { AreFieldsDistinct node }
-    ensures { (below : Below) (v : Ref) → IsReadWith space.old below → ((e : ℕ × List Object) → Contains (below_node node) e → Contains below e)
+    ensures act { (below : Below) (v : Ref) → IsReadWith space.old below → ((e : ℕ × List Object) → Contains (below_node node) e → Contains below e)
         → Acts below (performed (MakesObject (object_of node) (node_keys node)) v) space.old space.new result }
+    ensures served { IsServed space.old space.new result }
 {
     match space.alloc(node) {
         Ok(made) => Ok(Built::Value(made)),
@@ -46,9 +47,11 @@ fn no_pairs(alloc: Global) -> Result<Node, Fault>
 
 /// Makes a hash without pairs, as a hash literal begins; `[]=` puts its pairs.
 ///
-/// A refused growth leaves the objects as they were.
+/// It is refused with `Memory`, or with `Limit(Slots)` where the space has as many objects as it may. That leaves the objects as
+/// they were.
 pub fn make_hash(alloc: Global, space: &mut Space) -> Result<Built, Fault>
-    ensures { (below : Below) (v : Ref) → IsReadWith space.old below → Acts below (performed (MakesObject empty_hash []) v) space.old space.new result }
+    ensures act { (below : Below) (v : Ref) → IsReadWith space.old below → Acts below (performed (MakesObject empty_hash []) v) space.old space.new result }
+    ensures served { IsServed space.old space.new result }
 {
     let node = no_pairs(alloc)?;
     make_node(space, node)

@@ -5,3 +5,6 @@ pub mod Loads
 pub mod Looking
 pub mod Turning
 pub mod Rows
+mod Sided
+mod Compares
+mod Searches

@@ -10,7 +10,7 @@ use Rattle.rr_text.specs.Reads.{IsAtEnd, IsAmong}
 use Rattle.rr_text.specs.Frames.{parts_of, breadth, IsFit, IsGrown, AreAmong}
 use Rattle.rr_text.specs.declared.walk.Frame.{Frame}
 
-pow_above : (b : ℕ) → 0 < b → (n : ℕ) → 0 < b ^ n
+pub pow_above : (b : ℕ) → 0 < b → (n : ℕ) → 0 < b ^ n
 pow_above b h zero = omega (arith, pow-zero b)
 pow_above b h (suc n) =
     let i : 1 ≤ b ^ n = pow_above b h n in
@@ -27,7 +27,7 @@ module _ {F : Type 0} (parts : F → ℕ) (breadth : ℕ) where
       let e : suc (parts f) * breadth ^ (room - 1 - length fs) ≡ suc (parts f) * breadth ^ (room - suc (length fs)) = ap (λ n. suc (parts f) * breadth ^ n) same in
       omega (arith, e, load_push (room - 1) fs f)
 
-  push_light : (levels : ℕ) (fs : List F) (f : F) → 0 < breadth → length fs < levels → suc (parts f) < breadth
+  pub push_light : (levels : ℕ) (fs : List F) (f : F) → 0 < breadth → length fs < levels → suc (parts f) < breadth
       → load parts breadth levels (fs ++ f ∷ []) < load parts breadth levels fs + breadth ^ (suc levels - length fs)
   push_light levels fs f some fits few =
       let n : ℕ = levels - length fs in
@@ -36,7 +36,7 @@ module _ {F : Type 0} (parts : F → ℕ) (breadth : ℕ) where
       let most : suc (suc (parts f)) * breadth ^ n ≤ breadth * breadth ^ n = mul-le-mul_right (breadth ^ n) few in
       omega (arith, load_push levels fs f, w, most, pow_above breadth some n)
 
-  next_light : (levels : ℕ) (fs fs' : List F) (top f : F) → length fs < levels → parts f < parts top
+  pub next_light : (levels : ℕ) (fs fs' : List F) (top f : F) → length fs < levels → parts f < parts top
       → load parts breadth levels fs' < load parts breadth levels (fs ++ f ∷ []) + breadth ^ (suc levels - length (fs ++ f ∷ []))
       → load parts breadth levels fs' < load parts breadth levels (fs ++ top ∷ [])
   next_light levels fs fs' top f fits less light =
@@ -46,7 +46,7 @@ module _ {F : Type 0} (parts : F → ℕ) (breadth : ℕ) where
       let most : suc (suc (parts f)) * breadth ^ n ≤ suc (parts top) * breadth ^ n = mul-le-mul_right (breadth ^ n) (let l : suc (suc (parts f)) ≤ suc (parts top) = omega (arith, less) in l) in
       omega (arith, load_push levels fs f, load_push levels fs top, w, most, light)
 
-  close_light : (levels : ℕ) (fs : List F) (top : F) → 0 < breadth → load parts breadth levels fs < load parts breadth levels (fs ++ top ∷ [])
+  pub close_light : (levels : ℕ) (fs : List F) (top : F) → 0 < breadth → load parts breadth levels fs < load parts breadth levels (fs ++ top ∷ [])
   close_light levels fs top some =
       let n : ℕ = levels - length fs in
       let most : 1 * breadth ^ n ≤ suc (parts top) * breadth ^ n = mul-le-mul_right (breadth ^ n) (let l : 1 ≤ suc (parts top) = omega arith in l) in
@@ -56,7 +56,7 @@ pub some_breadth : 0 < breadth
 unfolding breadth
 some_breadth = omega arith
 
-few_parts : (n : ℕ) → n < 2 ^ 64 → suc n < breadth
+pub few_parts : (n : ℕ) → n < 2 ^ 64 → suc n < breadth
 unfolding breadth
 few_parts n h = omega (arith, h)
 

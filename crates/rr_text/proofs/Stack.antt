@@ -116,6 +116,18 @@ module _ {I K : Type 0} (look : I → Look I K) (same : K → K → Bool) where
         let bs : List (Begun I K) = begun look same view levels fs in
         ap (λ w. followed (Wrote out) (followed w (rest look same room bs))) (at_leaf room (keys bs) i Shell e)
 
+    pub leaf_differs : (fs : List F) (out : List ℕ) (i : I) → look i ≡ Leaf Differs → showing look same view levels fs out i ≡ Differs
+    leaf_differs fs out i e =
+        let room : ℕ = levels - length fs in
+        let bs : List (Begun I K) = begun look same view levels fs in
+        ap (λ w. followed (Wrote out) (followed w (rest look same room bs))) (at_leaf room (keys bs) i Differs e)
+
+    pub leaf_deep : (fs : List F) (out : List ℕ) (i : I) → look i ≡ Leaf Deep → showing look same view levels fs out i ≡ Deep
+    leaf_deep fs out i e =
+        let room : ℕ = levels - length fs in
+        let bs : List (Begun I K) = begun look same view levels fs in
+        ap (λ w. followed (Wrote out) (followed w (rest look same room bs))) (at_leaf room (keys bs) i Deep e)
+
     pub again_showed : (fs fs' : List F) (out out' again opening closing : List ℕ) (i : I) (k : K) (parts : List (List ℕ × I)) → look i ≡ Branch k again opening parts closing
         → list_any (same k) (keys (begun look same view levels fs)) ≡ true → fs' ≡ fs → out' ≡ out ++ again
         → showing look same view levels fs out i ≡ whole look same view levels fs' out'

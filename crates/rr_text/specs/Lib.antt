@@ -8,3 +8,6 @@ pub mod Reads
 pub mod Told
 pub mod Frames
 pub mod Rows
+pub mod Same
+pub mod Comparing
+pub mod Beside

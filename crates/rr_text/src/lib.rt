@@ -1,18 +1,26 @@
 //! The printed text of values.
 #![tactic(auto)]
 
+mod beside;
+mod comparing;
 mod form;
 mod laws;
 mod leaf;
+mod likeness;
 mod names;
 mod parts;
 mod plain;
 mod printing;
 mod quote;
 mod raised;
+mod searching;
+mod sight;
 mod walk;
 
+pub use comparing::{compare, compare_within};
 pub use form::{Form, Text};
 pub use laws::shown_by_rows;
 pub use names::{class_name, symbol_name};
 pub use printing::{text, text_within};
+pub use searching::search;
+pub use sight::Compared;

@@ -6,9 +6,9 @@ use Rattle.rr_builtin.proofs.Among.{of_among}
 use Rattle.rr_builtin.proofs.Performing.{acts_same}
 use Rattle.rr_builtin.proofs.calls.call.Goals as goal
 
-pub returns : goal.returns
-returns c = λ below read among arguments.
+pub returns-clause-act : goal.returns-clause-act
+returns-clause-act c = λ below read among arguments.
     let receiver = of_among below c.args.receiver among in
     acts_same below (performed (act_of c.in_ok-deed.deed) c.args.receiver) (called c.args.program.now below c.args.receiver c.args.method c.args.arguments.now) c.args.space.now c.perform.new.space c.perform.result
-    (ap (λ (a : Act). performed a c.args.receiver c.args.space.now) (c.in_ok-deed.ensures.act below read among))
-    (c.perform.ensures below read receiver (c.in_ok-deed.ensures.among below read receiver arguments))
+    (ap (λ (a : Act). performed a c.args.receiver c.args.space.now) (c.in_ok-deed.ensures.act below read among arguments))
+    (c.perform.ensures.act below read receiver (c.in_ok-deed.ensures.among below read receiver arguments))

@@ -3,10 +3,11 @@ use Rattle.std.proofs.Common.{refl, []}
 use Rattle.rr_builtin.proofs.Among.{of_among, none_in}
 use Rattle.rr_builtin.proofs.Performing.{writable, read_led}
 use Rattle.rr_builtin.proofs.Storing.{written_keys, pair_taken}
+use Rattle.rr_builtin.proofs.Serving.{served_written}
 use Rattle.rr_builtin.proofs.deed.take_pair.Goals as goal
 
-pub returns : goal.returns
-returns c = λ below read.
+pub returns-clause-act : goal.returns-clause-act
+returns-clause-act c = λ below read.
     let t = c.args.space.now in
     let w = writable t c.args.hash c.requires.hash.0 in
     let k = written_keys t c.args.hash w c.len-count.ensures.well in
@@ -21,3 +22,10 @@ unreachable-requires c =
     let w = writable c.args.space.now c.args.hash c.requires.hash.0 in
     let k = written_keys c.args.space.now c.args.hash w c.len-count.ensures.well in
     false≢true ((c.in-None.ensures.keys w.slot k.0 w.named k.1).0.1 (c.requires.pair k.0 k.2))
+
+pub returns-clause-served : goal.returns-clause-served
+returns-clause-served c =
+    let t = c.args.space.now in
+    let w = writable t c.args.hash c.requires.hash.0 in
+    let p = c.in-Some.ensures.slots w.slot w.object w.named w.here in
+    served_written t c.delete_pair.new.self w.slot _ c.in-Some.value p.3 c.delete_pair.ensures.rest c.in-Some.ensures.within.1

@@ -5,10 +5,10 @@ use Rattle.rr_eval.proofs.print.new_array.Goals as goal
 
 pub returns-in-Ok-clause-replied : goal.returns-in-Ok-clause-replied
 returns-in-Ok-clause-replied c =
-    let is = array_acts c.in_ok-items.items.items c.args.values.now c.args.space.now c.make_array.new.space (Ok c.in-Ok.built) c.in_ok-items.ensures.items c.in-Ok.ensures c.requires.read c.requires.reached in
+    let is = array_acts c.in_ok-items.items.items c.args.values.now c.args.space.now c.make_array.new.space (Ok c.in-Ok.built) c.in_ok-items.ensures.items c.in-Ok.ensures.act c.requires.read c.requires.reached in
     array_replied c.args.values.now c.args.space.now c.make_array.new.space c.in-Ok.built c.response_from.result is c.len-after.ensures.well c.response_from.ensures.is
 
 pub returns-in-Err-clause-refused : goal.returns-in-Err-clause-refused
 returns-in-Err-clause-refused c =
-    let is = array_acts c.in_ok-items.items.items c.args.values.now c.args.space.now c.make_array.new.space (Err c.in-Err.fault) c.in_ok-items.ensures.items c.in-Err.ensures c.requires.read c.requires.reached in
+    let is = array_acts c.in_ok-items.items.items c.args.values.now c.args.space.now c.make_array.new.space (Err c.in-Err.fault) c.in_ok-items.ensures.items c.in-Err.ensures.act c.requires.read c.requires.reached in
     array_refused c.args.values.now c.args.space.now c.make_array.new.space c.in-Err.fault is

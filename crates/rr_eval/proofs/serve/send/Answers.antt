@@ -13,4 +13,4 @@ returns-in-None c = λ below read receiver arguments.
 pub returns-in-Some : goal.returns-in-Some
 returns-in-Some c = λ below read receiver arguments.
     let u = c.call.new.space in
-    subst (λ m. Acts below (sent (context_of c.args.program.now) below c.args.receiver m c.args.arguments.now) c.args.space.now u c.call.result) (sym c.in-Some.is) (c.call.ensures below read receiver arguments)
+    subst (λ m. Acts below (sent (context_of c.args.program.now) below c.args.receiver m c.args.arguments.now) c.args.space.now u c.call.result) (sym c.in-Some.is) (c.call.ensures.act below read receiver arguments)
