@@ -46,6 +46,16 @@ p without arguments|a = p; b = p(); puts a.nil?, b.nil?^n|true^ntrue^n|
 a variable with the name of a call|p = 1; puts p; print = 2; puts print; p(p)^n|1^n2^n1^n|
 an argument of a print that raises|print 1, foo^n||undefined local variable or method 'foo' (NameError)
 no new integer|p 1.class.new^n||undefined method 'new' for class Integer (NoMethodError)
+objects of classes|p Object.new; puts Object.new; print Object.new^n|#<Object>^n#<Object>^n#<Object>|
+exceptions as values|e = RuntimeError.new(\"x\"); p e, e.message, e.class; puts e; print StandardError.new^n|#<RuntimeError: x>^n\"x\"^nRuntimeError^nx^nStandardError|
+classes as values|p 5.class == Integer, Integer, [].class == Array, nil.is_a?(Object), [Integer, :a]^n|true^nInteger^ntrue^ntrue^n[Integer, :a]^n|
+a new exception of each kind|p TypeError.new(\"a\").message, ZeroDivisionError.new.message, NameError.new.class.name^n|\"a\"^n\"ZeroDivisionError\"^n\"NameError\"^n|
+the classes of values are constants|p 1.is_a?(Object), \"a\".is_a?(String), [].is_a?(Hash), RuntimeError.new.is_a?(StandardError), Class.class == Class^n|true^ntrue^nfalse^ntrue^ntrue^n|
+a constant that was never set|puts 1; puts Foo; puts 2^n|1^n|uninitialized constant Foo (NameError)
+a constant whose name begins like a class|Objects^n||uninitialized constant Objects (NameError)
+too many arguments for an exception|RuntimeError.new(1, 2)^n||wrong number of arguments (given 2, expected 0..1) (ArgumentError)
+an object takes no argument|Object.new(1)^n||wrong number of arguments (given 1, expected 0) (ArgumentError)
+no new object of a class of values|Integer.new^n||undefined method 'new' for class Integer (NoMethodError)
 an array of texts that change later|a = \"x\"; b = [a, a]; a << \"y\"; p b^n|[\"xy\", \"xy\"]^n|
 arrays through a loop|a = []; i = 0; while i < 5 do a << [i, i * i]; i = i + 1 end; p a, a[2][1]^n|[[0, 0], [1, 1], [2, 4], [3, 9], [4, 16]]^n4^n|
 arrays as arguments|puts [1, 2].equal?([1, 2]), [1].size.to_s^n|false^n1^n|

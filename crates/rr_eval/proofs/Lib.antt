@@ -1,4 +1,5 @@
 pub mod Trees
+pub mod Classes
 pub mod Lists
 pub mod Pieces
 pub mod Depth

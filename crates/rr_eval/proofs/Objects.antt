@@ -1,6 +1,11 @@
 -- An evaluation takes no object away.
-use Rattle.std.proofs.Common.{◌≡◌, ap, sym, subst, if◌then◌else◌, ◌≤◌, ℕ, zero, suc, Bool, arith, List, [], ◌∷◌, ◌++◌, length, length-append, reverse, Option, Some, None, true, false}
+use Rattle.std.proofs.Common.{◌≡◌, nat_eq, slice_index_or, ap, sym, subst, if◌then◌else◌, ◌≤◌, ℕ, zero, suc, Bool, arith, List, [], ◌∷◌, ◌++◌, length, length-append, reverse, Option, Some, None, true, false}
 use Rattle.rr_base.specs.Classes.{class_id}
+use Rattle.rr_eval.specs.Constants.{class_named}
+use Rattle.rr_base.specs.declared.class.BuiltInClass.{BuiltInClass}
+use Rattle.rr_base.specs.declared.name.Sym.{Sym}
+use Rattle.rr_base.specs.declared.name.TheConstants.ClassId.{RACTOR}
+use Rattle.rr_tree.specs.declared.node.Path.TheVariants.{Plain}
 use Rattle.rr_base.specs.declared.name.ClassId.{ClassId}
 use Rattle.rr_space.specs.Tables.{Table, Here}
 use Rattle.rr_space.specs.Lookups.{text_object, frozen_text}
@@ -9,7 +14,7 @@ use Rattle.rr_space.specs.declared.refer.Ref.TheVariants.{Int, Local}
 use Rattle.rr_space.specs.declared.refer.Ref.TheVariants as refs
 use Rattle.rr_builtin.specs.Objects.{is_truthy}
 use Rattle.rr_eval.specs.Values.{goes_on}
-use Rattle.rr_tree.specs.Tree.{tree_at, Tree, nil, truth, int, text, symbol, class_named, array, send, index, append, local, bare, call, logical_and, logical_or, logical_not, negate, binary, assign, choose, repeat, sequence}
+use Rattle.rr_tree.specs.Tree.{tree_at, Tree, nil, truth, int, text, symbol, class_named as class_tree, constant, array, send, index, append, local, bare, call, logical_and, logical_or, logical_not, negate, binary, assign, choose, repeat, sequence}
 use Rattle.rr_tree.specs.declared.node.BinaryOperator.{BinaryOperator}
 use Rattle.rr_tree.specs.declared.program.Program.{Program}
 use Rattle.rr_eval.specs.declared.problem.Answer.{Answer}
@@ -22,7 +27,7 @@ use Rattle.rr_eval.specs.declared.call.Task.TheVariants.{MakeArray}
 use Rattle.rr_eval.specs.declared.problem.Response.{Response}
 use Rattle.rr_eval.specs.declared.problem.Response.TheVariants.{Gives, Throws, Fails}
 use Rattle.rr_eval.specs.declared.problem.Problem.{Problem}
-use Rattle.rr_eval.specs.declared.problem.Problem.TheVariants.{MissingName, NotHere}
+use Rattle.rr_eval.specs.declared.problem.Problem.TheVariants.{MissingName, MissingConstant, NotHere}
 use Rattle.rr_eval.specs.declared.frame.Frame.{Frame}
 use Rattle.rr_eval.specs.declared.frame.Frame.TheVariants.{Not, Negation, And, Or, Left, Right, Store, Branch, Condition, Body, Rest, Argument}
 use Rattle.rr_eval.specs.Script.{Memory, State, Script, Ret, Go, See, Do, Ask, Asked, Reply, World, Outcome, Ended, Spent, Waits, Evaluation, run, after, taken, objects_of}
@@ -33,7 +38,7 @@ use Rattle.rr_eval.specs.Acts.{Passes}
 use Rattle.rr_eval.specs.Turns.{context_of, code_of, state_of, after_script, asking_then}
 use Rattle.rr_builtin.specs.Acts.{with_text}
 use Rattle.rr_eval.specs.Operators.{make, integers, opposite}
-use Rattle.rr_eval.specs.Rules.{Context, items, throw, raise, settled, on_value, with_value, on_table, operation, negation, statements, values, finish, printing, bare_rule, call_rule, rule, eval}
+use Rattle.rr_eval.specs.Rules.{Context, items, throw, raise, settled, on_value, with_value, on_table, operation, negation, statements, values, finish, printing, bare_rule, constant_rule, not_here, call_rule, rule, eval}
 use Rattle.rr_tree.specs.Nodes.{trees_before}
 use Rattle.rr_eval.specs.Messages.{message, exception_class}
 use Rattle.rr_eval.specs.Exceptions.{exception_object, with_exception}
@@ -107,6 +112,10 @@ bare_keeps : (c : Context) (task : Option Task) (x : ℕ) → Keeps (bare_rule c
 bare_keeps c (Some task) x = finish_keeps c (DoTarget task) []
 bare_keeps c None x = throw_keeps c (MissingName (record { 0 = x }))
 
+constant_keeps : (c : Context) (class : Option BuiltInClass) (x : Sym) → Keeps (constant_rule c class x)
+constant_keeps c (Some k) x = if_keeps (nat_eq (class_id k).0 RACTOR.0) (not_here c) (Ret (Gave (refs.Class (class_id k)))) (throw_keeps c NotHere) tt
+constant_keeps c None x = throw_keeps c (MissingConstant x)
+
 call_keeps : (c : Context) (task : Option Task) (ts : List Tree) → Keeps (call_rule c task ts)
 call_keeps c (Some task) ts = values_keep c (DoTarget task) ts []
 call_keeps c None ts = throw_keeps c NotHere
@@ -116,11 +125,12 @@ rule_keeps c nil = tt
 rule_keeps c (truth b) = tt
 rule_keeps c (int z) = tt
 rule_keeps c (symbol x) = tt
-rule_keeps c (class_named k) = tt
+rule_keeps c (class_tree k) = tt
 rule_keeps c (send a x list) = values_keep c (Call (callees.Name (record { 0 = x }))) (a ∷ items list) []
 rule_keeps c (index a b) = values_keep c (Call callees.Index) (a ∷ b ∷ []) []
 rule_keeps c (append a b) = values_keep c (Call callees.Append) (a ∷ b ∷ []) []
 rule_keeps c (array list) = values_keep c (DoTarget MakeArray) (items list) []
+rule_keeps c (constant (Plain x)) = constant_keeps c (class_named (slice_index_or c.symbols x.0 [])) x
 rule_keeps c (text i) = λ m. (λ k. make_keeps c.program.freezes _ k.table, tt)
 rule_keeps c (local depth slot x) = λ m. tt
 rule_keeps c (bare x) = bare_keeps c (printing c x) x

@@ -6,6 +6,7 @@ pub mod Operators
 pub mod Acts
 pub mod Changes
 pub mod Callees
+pub mod Constants
 pub mod Messages
 pub mod Exceptions
 pub mod Thrown

@@ -3,6 +3,7 @@ use Rattle.std.specs.Prelude.{◌+◌, ◌<◌, ◌^◌, Bool, true, false, List
 use Rattle.rr_tree.specs.Nodes.{node_tree, trees_before}
 use Rattle.rr_tree.specs.Tree.{Tree, sequence, array, call, send, listed, tree_at}
 use Rattle.rr_tree.specs.declared.node.Node.{Node}
+use Rattle.rr_tree.specs.declared.node.Path.TheVariants.{Plain}
 use Rattle.rr_tree.specs.declared.node.Node.TheVariants as node
 
 -- the tree of a node that is evaluated; nil stands for the items of a list past the table
@@ -40,6 +41,7 @@ is_unknown (node.Int z) = false
 is_unknown (node.Text i) = false
 is_unknown (node.Symbol x) = false
 is_unknown (node.Class k) = false
+is_unknown (node.Constant (Plain x)) = false
 is_unknown (node.Array first count) = false
 is_unknown (node.Local depth slot x) = false
 is_unknown (node.Bare x site) = false

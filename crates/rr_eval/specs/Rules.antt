@@ -1,11 +1,11 @@
 -- The rules of the language, each on a whole tree.
-use Rattle.std.specs.Prelude.{ℕ, zero, suc, Bool, true, false, not, List, [], ◌∷◌, ◌++◌, if◌then◌else◌, slice_index_or, slice_set, length, replicate, Option, Some, None}
+use Rattle.std.specs.Prelude.{ℕ, nat_eq, zero, suc, Bool, true, false, not, List, [], ◌∷◌, ◌++◌, if◌then◌else◌, slice_index_or, slice_set, length, replicate, Option, Some, None}
 use Rattle.rr_base.specs.Classes.{class_id}
 use Rattle.rr_base.specs.declared.name.ClassId.{ClassId}
 use Rattle.rr_space.specs.Tables.{Table}
 use Rattle.rr_space.specs.declared.refer.Ref.{Ref}
 use Rattle.rr_space.specs.declared.refer.Ref.TheVariants.{Nil, Truth, Int, Symbol, Class, Local}
-use Rattle.rr_tree.specs.Tree.{Tree, Trees, nil, truth, int, text, symbol, class_named, array, local, bare, call, send, index, append, logical_and, logical_or, logical_not, negate, binary, assign, choose, repeat, sequence, empty, then_one}
+use Rattle.rr_tree.specs.Tree.{Tree, Trees, nil, truth, int, text, symbol, class_named as class_tree, constant, array, local, bare, call, send, index, append, logical_and, logical_or, logical_not, negate, binary, assign, choose, repeat, sequence, empty, then_one}
 use Rattle.rr_tree.specs.declared.node.BinaryOperator.{BinaryOperator}
 use Rattle.rr_builtin.specs.Acts.{with_text}
 use Rattle.rr_builtin.specs.Objects.{is_truthy}
@@ -20,13 +20,18 @@ use Rattle.rr_eval.specs.declared.problem.Answer.TheVariants.{Gave, Raised}
 use Rattle.rr_eval.specs.declared.problem.Response.{Response}
 use Rattle.rr_eval.specs.declared.problem.Response.TheVariants.{Gives, Throws, Fails}
 use Rattle.rr_eval.specs.declared.problem.Problem.{Problem}
-use Rattle.rr_eval.specs.declared.problem.Problem.TheVariants.{MissingName, NotHere}
+use Rattle.rr_eval.specs.declared.problem.Problem.TheVariants.{MissingName, MissingConstant, NotHere}
 use Rattle.rr_eval.specs.Script.{State, Script, Ret, Go, See, Do, Ask, Does, Calls, World, Spent, Evaluation, run}
 use Rattle.rr_eval.specs.Values.{goes_on}
 use Rattle.rr_eval.specs.Operators.{make, integers, opposite}
 use Rattle.rr_eval.specs.Messages.{message, exception_class}
 use Rattle.rr_eval.specs.Exceptions.{with_exception}
 use Rattle.rr_eval.specs.Tasks.{task_named}
+use Rattle.rr_eval.specs.Constants.{class_named}
+use Rattle.rr_base.specs.declared.class.BuiltInClass.{BuiltInClass}
+use Rattle.rr_base.specs.declared.name.Sym.{Sym}
+use Rattle.rr_base.specs.declared.name.TheConstants.ClassId.{RACTOR}
+use Rattle.rr_tree.specs.declared.node.Path.TheVariants.{Plain}
 pub use Rattle.rr_eval.specs.Context.{Context}
 
 -- the trees of a list
@@ -113,6 +118,11 @@ abbrev pub bare_rule : Context → Option Task → ℕ → Script
 bare_rule c (Some task) x = finish c (DoTarget task) []
 bare_rule c None x = throw c (MissingName (record { 0 = x }))
 
+-- a constant is a built-in class; no other is set
+abbrev pub constant_rule : Context → Option BuiltInClass → Sym → Script
+constant_rule c (Some k) x = if nat_eq (class_id k).0 RACTOR.0 then not_here c else Ret (Gave (Class (class_id k)))
+constant_rule c None x = throw c (MissingConstant x)
+
 -- a call with arguments: of a name that prints or not
 abbrev pub call_rule : Context → Option Task → List Tree → Script
 call_rule c (Some task) ts = values ts [] (finish c (DoTarget task))
@@ -124,7 +134,8 @@ rule c nil = Ret (Gave Nil)
 rule c (truth b) = Ret (Gave (Truth b))
 rule c (int z) = Ret (Gave (Int z))
 rule c (symbol x) = Ret (Gave (Symbol (record { 0 = x })))
-rule c (class_named k) = Ret (Gave (Class k))
+rule c (class_tree k) = Ret (Gave (Class k))
+rule c (constant (Plain x)) = constant_rule c (class_named (slice_index_or c.symbols x.0 [])) x
 rule c (text i) = on_table c (make c.program.freezes (slice_index_or c.texts i []))
 rule c (array list) = values (items list) [] (finish c (DoTarget MakeArray))
 rule c (local depth slot x) = read slot

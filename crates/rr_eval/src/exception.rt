@@ -23,7 +23,7 @@ pub fn exception_class(problem: Problem) -> BuiltInClass
     match problem {
         Problem::BuiltIn(problem) => problem.class(),
         Problem::MissingMethod(_, _) => BuiltInClass::NoMethodError,
-        Problem::MissingName(_) => BuiltInClass::NameError,
+        Problem::MissingName(_) | Problem::MissingConstant(_) => BuiltInClass::NameError,
         Problem::NotHere => BuiltInClass::RuntimeError,
     }
 }

@@ -2,6 +2,7 @@
 #![tactic(auto)]
 
 mod call;
+mod constant;
 mod counted;
 mod engine;
 mod environment;

@@ -11,8 +11,9 @@ ghost use Rattle.rr_eval.specs.Acts.{Passes};
 ghost use Rattle.rr_eval.specs.Script.{Go, objects_of};
 ghost use Rattle.rr_eval.specs.Requests.{Course, Adds};
 ghost use Rattle.rr_eval.specs.Changes.{Changes};
+ghost use Rattle.rr_eval.specs.Constants.{class_named};
 ghost use Rattle.rr_eval.specs.Operators.{make};
-ghost use Rattle.rr_eval.specs.Rules.{rule, statements, values, on_table, finish, printing, bare_rule, call_rule};
+ghost use Rattle.rr_eval.specs.Rules.{rule, statements, values, on_table, finish, printing, bare_rule, call_rule, constant_rule};
 ghost use Rattle.rr_tree.specs.Nodes.{trees_before};
 ghost use Rattle.rr_eval.specs.Nodes.{evaluated_tree, IsEvaluated, IsRareNode, is_unknown};
 ghost use Rattle.rr_eval.specs.Frames.{resumed, IsNew};
@@ -21,14 +22,15 @@ ghost use Rattle.rr_eval.specs.Views.{view_of};
 ghost use Rattle.rr_eval.specs.Within.{Reach, AreReached, AreWithin, IsFrameReached, IsAskedReached, KeepsReach, KeepsRead};
 
 use crate::call::{Arguments, Callee, Target, Task};
+use crate::constant::class_named;
 use crate::engine::{Engine, push_within};
 use crate::frame::{Control, Frame};
 use crate::operator::make;
 use crate::problem::{Answer, Problem};
 use crate::request::Request;
-use rr_base::{Fault, Sym};
+use rr_base::{ClassId, Fault, Sym};
 use rr_space::{Ref, Space};
-use rr_tree::{Node, NodeId, Program};
+use rr_tree::{Node, NodeId, Path, Program};
 use std::alloc::{AllocError, Global};
 
 /// A copy of a text literal; empty past the table.
@@ -116,6 +118,29 @@ impl Engine {
     {
         let frame = Frame::Argument(Target::Call(callee), end, count, self.held.len());
         self.enter_above(frame, receiver);
+    }
+
+    /// Evaluates a constant, which is a built-in class or was never set.
+    #[tactic(auto, unfolding(crate::specs::Within::AreReached))]
+    #[inline(never)]
+    fn open_constant(&mut self, program: &Program, name: Sym)
+        requires nested { IsNested (view_of self.old) }
+        ensures goes { (t : Table) (h : Course) (n : ℕ) → after_script program.now (view_of self.old) t (constant_rule (context_of program.now) (class_named (slice_index_or (context_of program.now).symbols name.0 [])) name) h n ≡ remaining_with program.now (view_of self.new) t h n }
+        ensures nested { IsNested (view_of self.new) }
+        ensures within { (k : Reach) → AreReached k (view_of self.old) → AreReached k (view_of self.new) }
+        ensures left { self.new.left ≡ self.old.left }
+        ensures size { size (view_of self.new) ≤ 3 * length self.old.frames.items + 4 }
+    {
+        self.control = match class_named(program.symbol_bytes(name)) {
+            Some(class) => {
+                if class.id().0 == ClassId::RACTOR.0 {
+                    Control::Throw(Problem::NotHere)
+                } else {
+                    Control::Give(Answer::Gave(Ref::Class(class.id())))
+                }
+            }
+            None => Control::Throw(Problem::MissingConstant(name)),
+        };
     }
 
     /// Evaluates a text literal: a new text, which a comment at the head of the program may freeze.
@@ -306,6 +331,7 @@ impl Engine {
             Node::Nil => self.answer(Answer::Gave(Ref::Nil)),
             Node::Symbol(symbol) => self.answer(Answer::Gave(Ref::Symbol(symbol))),
             Node::Class(class) => self.answer(Answer::Gave(Ref::Class(class))),
+            Node::Constant(Path::Plain(name)) => self.open_constant(program, name),
             Node::Truth(truth) => self.answer(Answer::Gave(Ref::Truth(truth))),
             Node::Int(z) => self.answer(Answer::Gave(Ref::Int(z))),
             Node::Local { slot, .. } => self.answer(Answer::Gave(self.variable(slot))),

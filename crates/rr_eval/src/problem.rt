@@ -14,6 +14,8 @@ pub enum Problem {
     MissingMethod(Callee, Receiver),
     /// NameError: a bare name that is no variable.
     MissingName(Sym),
+    /// NameError: a constant that was never set.
+    MissingConstant(Sym),
     /// RuntimeError: what is not evaluated yet.
     NotHere,
 }

@@ -1,0 +1,21 @@
+//! The classes that constants name.
+
+ghost use Rattle.std.specs.Prelude.{◌≡◌};
+ghost use Rattle.rr_eval.specs.Constants.{class_named};
+
+use rr_base::{BuiltInClass, ClassId};
+
+/// The built-in class of a name.
+pub fn class_named(name: &[u8]) -> Option<BuiltInClass>
+    ensures { result ≡ class_named name.now }
+{
+    for number in 0..ClassId::BUILT_IN {
+        let Some(class) = ClassId(number).built_in() else {
+            unreachable!()
+        };
+        if class.name().as_bytes() == name {
+            return Some(class);
+        }
+    }
+    None
+}
