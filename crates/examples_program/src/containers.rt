@@ -56,6 +56,9 @@ a constant whose name begins like a class|Objects^n||uninitialized constant Obje
 too many arguments for an exception|RuntimeError.new(1, 2)^n||wrong number of arguments (given 2, expected 0..1) (ArgumentError)
 an object takes no argument|Object.new(1)^n||wrong number of arguments (given 1, expected 0) (ArgumentError)
 no new object of a class of values|Integer.new^n||undefined method 'new' for class Integer (NoMethodError)
+equal arrays|p [1, [2, \"a\"]] == [1, [2, \"a\"]], [1] == [2], [1] == [1, 2], [1] != [1], [] == [], [1] == 1^n|true^nfalse^nfalse^nfalse^ntrue^nfalse^n|
+an array is equal to itself inside itself|a = [1]; a << a; p a == a, a == [1, 2]^n|true^nfalse^n|
+a value in an array|p [1, \"b\"].include?(\"b\"), [[1]].include?([1]), [1].include?(3)^n|true^ntrue^nfalse^n|
 an array of texts that change later|a = \"x\"; b = [a, a]; a << \"y\"; p b^n|[\"xy\", \"xy\"]^n|
 arrays through a loop|a = []; i = 0; while i < 5 do a << [i, i * i]; i = i + 1 end; p a, a[2][1]^n|[[0, 0], [1, 1], [2, 4], [3, 9], [4, 16]]^n4^n|
 arrays as arguments|puts [1, 2].equal?([1, 2]), [1].size.to_s^n|false^n1^n|
