@@ -17,6 +17,7 @@ pub mod Rooting
 pub mod Knowing
 pub mod Operands
 pub mod Seeing
+pub mod OneNames
 pub mod Packs
 pub mod Allocs
 pub mod Changes

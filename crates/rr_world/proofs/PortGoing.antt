@@ -1,6 +1,6 @@
 -- Last values are left in ports, and messages are grabbed out of them.
-use Rattle.std.proofs.Common.{◌≡◌, ℕ, ◌+◌, ◌≤◌, Bool, true, false, List, [], ◌∷◌, ◌++◌, length, Option, Some, None, slice_get, sym, ap, ◌∙◌, subst, refl, arith}
-use Rattle.std.specs.Prelude.{slice_set}
+use Rattle.std.proofs.Common.{◌≡◌, ℕ, ◌+◌, ◌≤◌, Ok, Err, Bool, true, false, List, [], ◌∷◌, ◌++◌, length, Option, Some, None, slice_get, sym, ap, ◌∙◌, subst, refl, arith}
+use Rattle.std.specs.Prelude.{Result, slice_set}
 use Rattle.std.specs.Option.{option_map}
 use Rattle.std.proofs.lemmas.Option.{same_Some}
 use Rattle.rr_base.specs.declared.name.RactorNo.{RactorNo}
@@ -14,12 +14,13 @@ use Rattle.rr_copy.specs.Messages.{size_of}
 use Rattle.rr_port.specs.Answers.{Grabs}
 use Rattle.rr_port.specs.Lasts.{message_of, is_fault, last_event}
 use Rattle.rr_port.specs.Ports.{Port, IsTicketed}
+use Rattle.rr_port.specs.declared.last.Grab.{Grab as Grabbed}
 use Rattle.rr_port.specs.declared.last.Grab.TheVariants as grab
 use Rattle.rr_port.specs.declared.last.LastGiven.{LastGiven}
 use Rattle.rr_port.specs.declared.last.Shown.{Shown as ShownMessage}
 use Rattle.rr_world.specs.Views.{Member, Channels, Assembly, IsFree, with_port}
 use Rattle.rr_world.specs.Layouts.{shown_inside, last_inside}
-use Rattle.rr_world.specs.Leaving.{last_as}
+use Rattle.rr_world.specs.Leaving.{last_as, told_of_grab}
 use Rattle.rr_world.specs.PortCases.{is_of_fault, told_of}
 use Rattle.rr_world.specs.States.{Farewell, Letter, Showcase, Parcel, with_case}
 use Rattle.rr_world.specs.Readings.{actor_in, parcel_in, shown_in, farewell_in, showcase_in, post_in, state_in}
@@ -28,6 +29,7 @@ use Rattle.rr_world.specs.Cases.{IsOutcome}
 use Rattle.rr_world.specs.Runs.{HasOutcome}
 use Rattle.rr_world.specs.declared.step.LastKind.{LastKind}
 use Rattle.rr_world.specs.declared.step.LastKind.TheVariants as kind
+use Rattle.rr_world.specs.declared.step.Reply.{Reply}
 use Rattle.rr_world.specs.declared.step.Step.{Step}
 use Rattle.rr_world.specs.declared.step.Action.TheVariants.{ShowLast, Grab}
 use Rattle.rr_world.specs.declared.step.Reply.TheVariants.{Done, Offered, GrabbedLast, Refused, Empty, EmptyAndClosed}
@@ -37,7 +39,7 @@ use Rattle.rr_world.proofs.Namings.{KeepsShared, parcel_same}
 use Rattle.rr_world.proofs.PortHands.{came_in, went_out}
 use Rattle.rr_world.proofs.PortInsides.{last_comes, last_leaves, last_entry, shown_leaves, shown_entry_of}
 use Rattle.rr_world.proofs.PortTelling.{no_port, port_told, showcase_at}
-use Rattle.rr_world.proofs.Staying.{same_state}
+use Rattle.rr_world.proofs.Staying.{same_state, stays}
 
 told_as : (mark : LastKind) (t : ℕ) (who : RactorNo) (m : Packed) → last_event t who (last_as mark m) ≡ told_of mark t (size_of m) who
 told_as kind.Value t who m = refl
@@ -167,12 +169,16 @@ module _ (w w2 : Assembly) (who : RactorNo) (k : ℕ) (mark : LastKind) (m : Mem
 
 -- ---- Grabbing.
 
+abbrev pair_of : Result (Packed × Reply) Reply → Packed × Reply → Packed × Reply
+pair_of (Ok z) other = z
+pair_of (Err e) other = other
+
 module _ (w w2 : Assembly) (who to : RactorNo) (k c : ℕ) (m : Member) (p p2 : Port) (at : slice_get w.ractors k ≡ Some m) (port : slice_get w.channels.ports c ≡ Some p)
     (free_hand : IsFree m) (tickets : IsTicketed p) (stands : StandsAt who k) (there : StandsAt to c) (is : w2.channels ≡ with_port w.channels c p2) where
   has_port : (names : Naming) (g : Objects) → HasPort (state_in w names g) to
   has_port names g = (c, showcase_in names c p, there, showcase_at w names g c p port)
 
-  pub value_grabbed : (x : Packed) → Grabs (grab.Value x) p p2 who → w2.ractors ≡ slice_set w.ractors k (record m { hand = Some x }) → HasOutcome (record { who = who; action = Grab to }) Done w w2
+  value_grabbed : (x : Packed) → Grabs (grab.Value x) p p2 who → w2.ractors ≡ slice_set w.ractors k (record m { hand = Some x }) → HasOutcome (record { who = who; action = Grab to }) Done w w2
   value_grabbed x (f, same, none, unshut, shown, now) rs names bound g R =
       let rs_f : w2.ractors ≡ slice_set w.ractors k (record m { hand = Some f.message }) = rs ∙ ap (λ (y : Packed). slice_set w.ractors k (let z : Member = record m { hand = Some y } in z)) (sym same) in
       let q = went_out w w2 k c m m.ticket p p2 (shown_entry_of f) at port
@@ -244,13 +250,28 @@ module _ (w w2 : Assembly) (who to : RactorNo) (k c : ℕ) (m : Member) (p p2 : 
         ),
       )
 
-  pub last_value_grabbed : (x : Packed) → Grabs (grab.LastValue x) p p2 who → w2.ractors ≡ slice_set w.ractors k (record m { hand = Some x }) → HasOutcome (record { who = who; action = Grab to }) (GrabbedLast kind.Value) w w2
+  last_value_grabbed : (x : Packed) → Grabs (grab.LastValue x) p p2 who → w2.ractors ≡ slice_set w.ractors k (record m { hand = Some x }) → HasOutcome (record { who = who; action = Grab to }) (GrabbedLast kind.Value) w w2
   last_value_grabbed x (l, same, last, now) rs = last_grabbed kind.Value x l (ap message_of same) (ap is_fault same) last now rs
 
-  pub last_fault_grabbed : (x : Packed) → Grabs (grab.LastFault x) p p2 who → w2.ractors ≡ slice_set w.ractors k (record m { hand = Some x }) → HasOutcome (record { who = who; action = Grab to }) (GrabbedLast kind.Fault) w w2
+  last_fault_grabbed : (x : Packed) → Grabs (grab.LastFault x) p p2 who → w2.ractors ≡ slice_set w.ractors k (record m { hand = Some x }) → HasOutcome (record { who = who; action = Grab to }) (GrabbedLast kind.Fault) w w2
   last_fault_grabbed x (l, same, last, now) rs = last_grabbed kind.Fault x l (ap message_of same) (ap is_fault same) last now rs
 
-pub nothing_shown : (w : Assembly) (names : Naming) (g : Objects) (who to : RactorNo) (k c : ℕ) (m : Member) (p : Port) → slice_get w.ractors k ≡ Some m → slice_get w.channels.ports c ≡ Some p → IsFree m → StandsAt who k → StandsAt to c
+  got : {r : Reply} {x y : Packed} {q : Reply} → (let z : Result (Packed × Reply) Reply = Ok (y, q) in z) ≡ Ok (x, r) → (w2.ractors ≡ slice_set w.ractors k (record m { hand = Some y }) → HasOutcome (record { who = who; action = Grab to }) q w w2)
+      → w2.ractors ≡ slice_set w.ractors k (record m { hand = Some x }) → HasOutcome (record { who = who; action = Grab to }) r w w2
+  got {r} {x} {y} {q} same so rs =
+      let message : y ≡ x = ap (λ z. (pair_of z (y, q)).0) same in
+      let reply : q ≡ r = ap (λ z. (pair_of z (y, q)).1) same in
+      subst (λ z. HasOutcome (record { who = who; action = Grab to }) z w w2) reply (so (rs ∙ ap (λ (v : Packed). slice_set w.ractors k (let z : Member = record m { hand = Some v } in z)) (sym message)))
+
+  -- what a port had came into the hand
+  pub something_grabbed : (y : Grabbed) (x : Packed) (r : Reply) → told_of_grab y ≡ Ok (x, r) → Grabs y p p2 who → w2.ractors ≡ slice_set w.ractors k (record m { hand = Some x }) → HasOutcome (record { who = who; action = Grab to }) r w w2
+  something_grabbed (grab.Value v) x r same had rs = got same (value_grabbed v had) rs
+  something_grabbed (grab.LastValue v) x r same had rs = got same (last_value_grabbed v had) rs
+  something_grabbed (grab.LastFault v) x r same had rs = got same (last_fault_grabbed v had) rs
+  something_grabbed grab.Nothing x r same had rs = let z : ⊥ = cc in absurd z
+  something_grabbed grab.Closed x r same had rs = let z : ⊥ = cc in absurd z
+
+nothing_shown : (w : Assembly) (names : Naming) (g : Objects) (who to : RactorNo) (k c : ℕ) (m : Member) (p : Port) → slice_get w.ractors k ≡ Some m → slice_get w.channels.ports c ≡ Some p → IsFree m → StandsAt who k → StandsAt to c
     → p.last ≡ None → p.closed ≡ false → p.shown ≡ None → IsOutcome (record { who = who; action = Grab to }) Empty (state_in w names g) (state_in w names g)
 nothing_shown w names g who to k c m p at port free_hand stands there none unshut shown = (
   k,
@@ -261,7 +282,7 @@ nothing_shown w names g who to k c m p at port free_hand stands there none unshu
   (c, showcase_in names c p, (there, showcase_at w names g c p port), ap (option_map (farewell_in names c)) none, unshut, ap (option_map (shown_in names c)) shown, same_state (state_in w names g)),
 )
 
-pub nothing_left : (w : Assembly) (names : Naming) (g : Objects) (who to : RactorNo) (k c : ℕ) (m : Member) (p : Port) → slice_get w.ractors k ≡ Some m → slice_get w.channels.ports c ≡ Some p → IsFree m → StandsAt who k → StandsAt to c
+nothing_left : (w : Assembly) (names : Naming) (g : Objects) (who to : RactorNo) (k c : ℕ) (m : Member) (p : Port) → slice_get w.ractors k ≡ Some m → slice_get w.channels.ports c ≡ Some p → IsFree m → StandsAt who k → StandsAt to c
     → p.last ≡ None → p.closed ≡ true → IsOutcome (record { who = who; action = Grab to }) EmptyAndClosed (state_in w names g) (state_in w names g)
 nothing_left w names g who to k c m p at port free_hand stands there none shut = (
   k,
@@ -271,6 +292,21 @@ nothing_left w names g who to k c m p at port free_hand stands there none shut =
   (free names k m free_hand, (c, showcase_in names c p, there, showcase_at w names g c p port)),
   (c, showcase_in names c p, (there, showcase_at w names g c p port), ap (option_map (farewell_in names c)) none, shut, same_state (state_in w names g)),
 )
+
+-- there was nothing, and all is as it was
+pub nothing_grabbed : (w w2 : Assembly) (who to : RactorNo) (k c : ℕ) (m : Member) (p p2 : Port) (y : Grabbed) (r : Reply) → slice_get w.ractors k ≡ Some m → slice_get w.channels.ports c ≡ Some p → IsFree m → StandsAt who k → StandsAt to c
+    → told_of_grab y ≡ Err r → Grabs y p p2 who → (p2 ≡ p → w2 ≡ w) → HasOutcome (record { who = who; action = Grab to }) r w w2
+nothing_grabbed w w2 who to k c m p p2 (grab.Value v) r at port free_hand stands there same had back = let z : ⊥ = cc in absurd z
+nothing_grabbed w w2 who to k c m p p2 (grab.LastValue v) r at port free_hand stands there same had back = let z : ⊥ = cc in absurd z
+nothing_grabbed w w2 who to k c m p p2 (grab.LastFault v) r at port free_hand stands there same had back = let z : ⊥ = cc in absurd z
+nothing_grabbed w w2 who to k c m p p2 grab.Nothing r at port free_hand stands there same had back =
+    let reply : Empty ≡ r = cc in
+    subst (λ z. HasOutcome (record { who = who; action = Grab to }) z w w2) reply
+    (stays (record { who = who; action = Grab to }) Empty w w2 (back had.3) (λ names g. nothing_shown w names g who to k c m p at port free_hand stands there had.0 had.1 had.2))
+nothing_grabbed w w2 who to k c m p p2 grab.Closed r at port free_hand stands there same had back =
+    let reply : EmptyAndClosed ≡ r = cc in
+    subst (λ z. HasOutcome (record { who = who; action = Grab to }) z w w2) reply
+    (stays (record { who = who; action = Grab to }) EmptyAndClosed w w2 (back had.2) (λ names g. nothing_left w names g who to k c m p at port free_hand stands there had.0 had.1))
 
 pub no_port_grabbed : (w : Assembly) (names : Naming) (g : Objects) (step : Step) (to : RactorNo) → step.action ≡ Grab to → ((k : ℕ) → StandsAt to k → length w.channels.ports ≤ k)
     → IsPossible (state_in w names g) step → ⊥

@@ -10,6 +10,7 @@ pub mod PortCases
 pub mod Leaving
 pub mod Cases
 pub mod Runs
+pub mod Laws
 pub mod Opening
 pub mod Packing
 pub mod Allocating

@@ -3,6 +3,7 @@
 
 mod changing;
 mod constants;
+mod laws;
 mod moving;
 mod packing;
 mod ports;
@@ -11,6 +12,7 @@ mod showing;
 mod step;
 mod world;
 
+pub use laws::shown_by_names;
 pub use rr_port::Settled;
 pub use rr_space::Label;
 pub use step::{Action, LastKind, NewObject, Operand, Reply, Step};

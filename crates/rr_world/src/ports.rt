@@ -3,7 +3,7 @@
 ghost use Rattle.std.specs.Prelude.{◌≡◌, ◌<◌, length};
 ghost use Rattle.rr_port.specs.Lasts.{message_of};
 ghost use Rattle.rr_world.specs.Enabling.{StandsAt};
-ghost use Rattle.rr_world.specs.Leaving.{last_as};
+ghost use Rattle.rr_world.specs.Leaving.{last_as, told_of_grab};
 ghost use Rattle.rr_world.specs.Runs.{HasOutcome};
 ghost use Rattle.rr_world.specs.declared.step.Action.TheVariants.{ClosePort, ShowLast, Grab as Grabs};
 
@@ -30,6 +30,19 @@ fn message_of_last(last: Last) -> Message
     match last {
         Last::Value(message) => message,
         Last::Fault(message) => message,
+    }
+}
+
+// The message that was grabbed, and what the step answers then; or what it answers where there was none.
+fn grabbed_as(grab: Grab) -> Result<(Message, Reply), Reply>
+    ensures { result ≡ told_of_grab grab }
+{
+    match grab {
+        Grab::Value(message) => Ok((message, Reply::Done)),
+        Grab::LastValue(message) => Ok((message, Reply::GrabbedLast(LastKind::Value))),
+        Grab::LastFault(message) => Ok((message, Reply::GrabbedLast(LastKind::Fault))),
+        Grab::Nothing => Err(Reply::Empty),
+        Grab::Closed => Err(Reply::EmptyAndClosed),
     }
 }
 
@@ -96,21 +109,12 @@ impl World {
         }
         // With the history comes that no two messages inside have one ticket.
         let _events = self.ports[port].history();
-        match self.ports[port].grab(who) {
-            Grab::Value(message) => {
+        match grabbed_as(self.ports[port].grab(who)) {
+            Ok((message, reply)) => {
                 self.ractors[place].hold(message, None);
-                Reply::Done
+                reply
             }
-            Grab::LastValue(message) => {
-                self.ractors[place].hold(message, None);
-                Reply::GrabbedLast(LastKind::Value)
-            }
-            Grab::LastFault(message) => {
-                self.ractors[place].hold(message, None);
-                Reply::GrabbedLast(LastKind::Fault)
-            }
-            Grab::Nothing => Reply::Empty,
-            Grab::Closed => Reply::EmptyAndClosed,
+            Err(reply) => reply,
         }
     }
 
