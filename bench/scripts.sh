@@ -12,4 +12,7 @@ script("lines", "a = 0\n" + "a = a + 1\n" * 200_000 + "puts a\n")
 script("texts", 'a = ""\n' + 'a = "line" + " of text"\n' * 100_000 + "puts a\n")
 script("prints", "puts 1\n" * 20_000)
 script("blanks", "# " + "x" * 78 + "\n" + ("#" + " a comment of eighty bytes" * 3 + "\n") * 200_000)
+script("pushes", "a = []\ni = 0\nwhile i < 1000000\n  a << i\n  i = i + 1\nend\ns = 0\ni = 0\nwhile i < 1000000\n  s = s + a[i]\n  i = i + 1\nend\nputs s\n")
+script("sort", "a = []\nx = 12345\nwhile a.size < 200000\n  x = (x * 1103515245 + 12345) % 2147483648\n  a << x\nend\nputs a.sort[0]\n")
+script("inspect", "a = []\ni = 0\nwhile i < 100000\n  a << i\n  i = i + 1\nend\nputs a.inspect.size\n")
 PY
