@@ -110,7 +110,8 @@ pub fn shown_by_changes()
     ensures emptied { EmptiedIsNotShareable }
 {}
 
-/// Each key of a hash is the key that its key object is: each call that writes keeps that so.
+/// That each key of a hash is the key that its key object is stays so where a slot changes as a call changes one, and where
+/// objects arrive; and objects that match others and have their keys have it too.
 pub fn shown_by_keys()
     ensures key { KeyIsNamed }
     ensures written { OtherIsWritten }
