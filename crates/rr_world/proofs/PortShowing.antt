@@ -290,9 +290,17 @@ module _ (w w2 : Assembly) (who : RactorNo) (k t : ℕ) (m : Member) (p : Port) 
   own_port : (names : Naming) (g : Objects) → HasPort (state_in w names g) who
   own_port names g = (k, showcase_in names k p, stands, showcase_at w names g k p port)
 
-  pub withdrawn : (p2 : Port) (x : Packed) → MayHaveBack m t → IsTicketed p → Withdraws (Ok x) p p2 who t → w2.ractors ≡ slice_set w.ractors k (record m { hand = Some x; ticket = None })
+  -- a home fits what is shown under its ticket, in each reading
+  never_strange : (names : Naming) (bound : ℕ) (g : Objects) (p2 : Port) (x : Packed) → IsRead w names bound g → Withdraws (Ok x) p p2 who t → IsOfAnother m t x → ⊥
+  never_strange names bound g p2 x R (e, same, under, shown, now) other =
+      let fits = R.fits k m p other.kept e at port other.home (other.ticket_is ∙ ap (λ u. Some u) (sym under)) shown in
+      other.strange (subst (λ (y : Packed). IsHomeOf other.kept y) same fits)
+
+  pub withdrawn : (p2 : Port) (x : Packed) → MayHaveBack m t → IsTicketed p → Withdraws (Ok x) p p2 who t
+      → ((IsOfAnother m t x → ⊥) → w2.ractors ≡ slice_set w.ractors k (record m { hand = Some x; ticket = None }))
       → w2.channels ≡ with_port w.channels k p2 → HasOutcome (record { who = who; action = Withdraw t }) Done w w2
-  withdrawn p2 x may tickets (e, same, under, shown, now) rs is names bound g R =
+  withdrawn p2 x may tickets (e, same, under, shown, now) own is names bound g R =
+      let rs = own (never_strange names bound g p2 x R (e, same, under, shown, now)) in
       let empty : m.hand ≡ None = ⊎_elim (λ f. f.hand) (λ z. z.hand) may in
       let m2 : Member = record m { hand = Some e.message; ticket = None } in
       let rs_e : w2.ractors ≡ slice_set w.ractors k m2 = rs ∙ ap (λ (y : Packed). slice_set w.ractors k (let z : Member = record m { hand = Some y; ticket = None } in z)) (sym same) in
@@ -327,12 +335,6 @@ module _ (w w2 : Assembly) (who : RactorNo) (k t : ℕ) (m : Member) (p : Port) 
           ),
         ),
       )
-
-  -- a home fits what is shown under its ticket, in each reading
-  pub never_strange : (p2 : Port) (x : Packed) (reply : Reply) → Withdraws (Ok x) p p2 who t → IsOfAnother m t x → HasOutcome (record { who = who; action = Withdraw t }) reply w w2
-  never_strange p2 x reply (e, same, under, shown, now) other names bound g R =
-      let fits = R.fits k m p other.kept e at port other.home (other.ticket_is ∙ ap (λ u. Some u) (sym under)) shown in
-      absurd (other.strange (subst (λ (y : Packed). IsHomeOf other.kept y) same fits))
 
   pub withdraw_refused : (m2 : Member) (p2 : Port) (f : Fault) → MayHaveBack m t → Withdraws (Err f) p p2 who t → (m.ticket ≡ Some t → m2 ≡ record m { home = None; ticket = None })
       → ((m.ticket ≡ Some t → ⊥) → m2 ≡ m) → w2.ractors ≡ slice_set w.ractors k m2 → w2.channels ≡ w.channels → HasOutcome (record { who = who; action = Withdraw t }) (Refused f) w w2

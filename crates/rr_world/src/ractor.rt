@@ -9,7 +9,6 @@ ghost use Rattle.rr_world.specs.Allocating.{Allocs};
 ghost use Rattle.rr_world.specs.ObjectCases.{new_object};
 ghost use Rattle.rr_world.specs.Opening.{Opened};
 ghost use Rattle.rr_world.specs.Packing.{Packs, named_ref};
-ghost use Rattle.std.specs.Bool.{OnTrue, OnFalse};
 ghost use Rattle.rr_world.specs.Views.{AreAway, IsFree, IsImmediate, IsOfAnother, MayHaveBack, waits_under};
 ghost use Rattle.rr_world.specs.Getting.{Joins};
 ghost use Rattle.rr_world.specs.Starting.{IsOver};
@@ -152,15 +151,18 @@ impl Ractor {
         self.hand.can_withdraw(ticket)
     }
 
-    /// Takes back the message that was shown under the ticket, and answers whether it was that of the home. A message that
-    /// was not goes, and the hand stays as it is.
-    pub(crate) fn take_back(&mut self, ticket: Ticket, message: Message) -> bool
-        ensures back { OnTrue result (self.new ≡ record self.old { hand = Some message; ticket = None }) }
-        ensures strange { OnFalse result (MayHaveBack self.old ticket → IsOfAnother self.old ticket message) }
+    /// Takes back the message that was shown under the ticket, with its home where that is in the hand. A home that is not
+    /// the message's goes.
+    pub(crate) fn take_back(&mut self, ticket: Ticket, message: Message)
+        requires may { MayHaveBack self.old ticket }
+        ensures own { (IsOfAnother self.old ticket message → ⊥) → self.new ≡ record self.old { hand = Some message; ticket = None } }
+        ensures strange { IsOfAnother self.old ticket message → self.new ≡ record self.old { hand = Some message; home = None; ticket = None } }
     {
         // With the size comes that each object has its list of clusters.
         let _size = message.size();
-        self.hand.take_back(ticket, message).is_ok()
+        if let Err(message) = self.hand.take_back(ticket, message) {
+            self.hand = Hand::Message(message);
+        }
     }
 
     /// Lets go of the home of the message that was shown under the ticket, where that is in the hand.

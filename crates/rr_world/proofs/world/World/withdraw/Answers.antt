@@ -2,10 +2,9 @@ use Rattle.std.proofs.Common.{◌≡◌, ap, refl, sym, ◌∙◌, subst, slice_
 use Rattle.std.proofs.lemmas.Bool.{false≢true}
 use Rattle.rr_port.specs.Answers.{Withdraws}
 use Rattle.rr_port.specs.Ports.{Port, IsTicketed}
-use Rattle.rr_world.specs.Views.{Member, Assembly, MayHaveBack, IsOfAnother}
+use Rattle.rr_world.specs.Views.{Member, Assembly, MayHaveBack}
 use Rattle.rr_world.specs.declared.step.Action.TheVariants.{Withdraw}
-use Rattle.rr_world.specs.declared.step.Reply.TheVariants.{NotEnabled}
-use Rattle.rr_world.proofs.PortShowing.{have_back, never_strange, portless, withdraw_refused, withdrawn}
+use Rattle.rr_world.proofs.PortShowing.{have_back, portless, withdraw_refused, withdrawn}
 use Rattle.rr_world.proofs.Insides.{ports_put, read_at, read_twice, set_in, set_again, some_at}
 use Rattle.rr_world.proofs.Staying.{refused}
 use Rattle.rr_world.proofs.Enabled.{allowed}
@@ -30,26 +29,8 @@ returns-then-not-can_take_back c =
     (λ names g e. absurd (false≢true (c.if-not-can_take_back.ensures.1
     (have_back names c.args.place c.args.ticket m (allowed w names g (record { who = c.args.who; action = Withdraw c.args.ticket }) c.args.place m c.requires.stands at e).0))))
 
-pub returns-then-not-take_back : goal.returns-then-not-take_back
-returns-then-not-take_back c =
-    let w = c.args.self.now in
-    let vs : c.self.inside.ractors.items ≡ w.ractors = ap (λ (v : Assembly). v.ractors) c.self.view_is in
-    let ps : c.self.inside.ports.items ≡ w.channels.ports = ap (λ (v : Assembly). v.channels.ports) c.self.view_is in
-    let m = c.index_mut-in-Ok.result.now in
-    let p = c.index_mut.result.now in
-    let lt : c.args.place < length c.self.inside.ractors.items = omega (arith, ap length vs, c.requires.within) in
-    let within : c.args.place < length w.channels.ports = let many = ap length ps in omega (arith, c.len.ensures, c.if-place-len.false, many) in
-    let one : c.index.result.now ≡ m = read_twice c.self.inside.ractors.items c.args.place c.index.result.now m lt c.index.ensures c.index_mut-in-Ok.ensures.value in
-    let may : MayHaveBack m c.args.ticket = subst (λ (x : Member). MayHaveBack x c.args.ticket) one (c.if-not-can_take_back.ensures.0 refl) in
-    let other : IsOfAnother m c.args.ticket c.in-Ok.message = c.if-not-take_back.ensures.strange may in
-    never_strange w _ c.args.who c.args.place c.args.ticket m p
-    (read_at c.self.inside.ractors.items w.ractors c.args.place m vs c.requires.within c.index_mut-in-Ok.ensures.value)
-    (read_at c.self.inside.ports.items w.channels.ports c.args.place p ps within c.index_mut.ensures.value)
-    c.requires.stands
-    c.withdraw.new.self c.in-Ok.message NotEnabled c.in-Ok.ensures.withdraws other
-
-pub returns-else-not-take_back : goal.returns-else-not-take_back
-returns-else-not-take_back c =
+pub returns-in-Ok : goal.returns-in-Ok
+returns-in-Ok c =
     let w = c.args.self.now in
     let vs : c.self.inside.ractors.items ≡ w.ractors = ap (λ (v : Assembly). v.ractors) c.self.view_is in
     let ps : c.self.inside.ports.items ≡ w.channels.ports = ap (λ (v : Assembly). v.channels.ports) c.self.view_is in
@@ -68,7 +49,7 @@ returns-else-not-take_back c =
     c.withdraw.new.self c.in-Ok.message may
     (subst (λ (x : Port). IsTicketed x) told c.history-events.ensures.tickets)
     c.in-Ok.ensures.withdraws
-    (set_in c.self.inside.ractors.items w.ractors c.args.place c.take_back.new.self (record m { hand = Some c.in-Ok.message; ticket = None }) vs c.if-not-take_back.ensures.back)
+    (λ own. set_in c.self.inside.ractors.items w.ractors c.args.place c.take_back.new.self (record m { hand = Some c.in-Ok.message; ticket = None }) vs (c.take_back.ensures.own own))
     (ports_put (ap (λ (v : Assembly). v.channels.store) c.self.view_is) (ap (λ (v : Assembly). v.channels.inboxes) c.self.view_is) (set_in c.self.inside.ports.items w.channels.ports c.args.place c.withdraw.new.self c.withdraw.new.self ps refl))
 
 pub returns-in-Err : goal.returns-in-Err
