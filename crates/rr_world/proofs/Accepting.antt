@@ -12,7 +12,7 @@ use Rattle.rr_copy.specs.Messages.{size_of}
 use Rattle.rr_inbox.specs.Inboxes.{Inbox, IsTicketed}
 use Rattle.rr_inbox.specs.declared.entry.Entry.{Entry}
 use Rattle.rr_world.specs.Views.{Member, Channels, Assembly, IsFree, with_inbox}
-use Rattle.rr_world.specs.Layouts.{layout, space_slots, hand_slots, inbox_slots, port_slots, message_slots, mail_slots}
+use Rattle.rr_world.specs.Layouts.{cluster_slots, layout, space_slots, hand_slots, inbox_slots, port_slots, message_slots, mail_slots}
 use Rattle.rr_world.specs.States.{Actor, Parcel, with_box}
 use Rattle.rr_world.specs.Readings.{each_from, actor_in, mailbox_in, parcel_in, letter_in, post_in, state_in}
 use Rattle.rr_world.specs.Enabling.{StandsAt}
@@ -52,7 +52,7 @@ module _ (w w2 : Assembly) (who : RactorNo) (k : ℕ) (m : Member) (i : Inbox) (
       other : (d ≡ k → ⊥) → option_and_then (inbox_slots u) (slice_get (slice_set w.channels.inboxes k (less_first i who e es)) d) ≡ option_and_then (inbox_slots u) (slice_get w.channels.inboxes d)
       other z = ap (option_and_then (inbox_slots u)) (set_off w.channels.inboxes k d (less_first i who e es) z)
   rest (Shown d u) q r = ap (λ (x : Channels). option_and_then (port_slots u) (slice_get x.ports d)) is
-  rest (Shared d) q r = refl
+  rest (Shared d) q r = ap (λ (x : Channels). option_map cluster_slots (slice_get x.store.clusters d)) is
 
   goes : Goes (Mail k e.ticket) (Hand k) e.message.objects [] (layout w) (layout w2)
   unfolding layout

@@ -1,25 +1,25 @@
 -- A value is moved into a hand.
-use Rattle.std.proofs.Common.{◌≡◌, ℕ, ◌+◌, ◌<◌, ⊎_elim, inl, inr, List, [], ◌∷◌, length, map, Some, slice_get, Contains, sym, ap, ◌∙◌, subst, refl, arith}
+use Rattle.std.proofs.Common.{◌≡◌, ℕ, ◌+◌, ◌<◌, ⊎_elim, inl, inr, List, [], ◌∷◌, length, map, Some, None, slice_get, Contains, sym, ap, ◌∙◌, subst, refl, arith}
 use Rattle.std.specs.Prelude.{slice_index, slice_set}
 use Rattle.std.specs.Option.{option_map}
 use Rattle.std.proofs.lemmas.List.{length-map}
 use Rattle.std.proofs.lemmas.List.Elements.{Contains-append_cases}
-use Rattle.std.proofs.lemmas.Option.{same_Some, slice_get_within}
+use Rattle.std.proofs.lemmas.Option.{none-some, same_Some, slice_get_within}
 use Rattle.rr_base.specs.declared.name.RactorNo.{RactorNo}
-use Rattle.rr_space.specs.Graph.{Name, Own, Object}
+use Rattle.rr_space.specs.Graph.{Name, Own, Value, Object}
 use Rattle.rr_space.specs.Moves.{IsSetAt}
-use Rattle.rr_space.specs.Tables.{Packed, Here, Below, joined, resolve}
+use Rattle.rr_space.specs.Tables.{Packed, Slot, Here, Led, Below, IsPublished, joined, message_graph, resolve, space_graph}
 use Rattle.rr_space.specs.Parts.{value_of, below_ref}
-use Rattle.rr_space.specs.Readings.{Owner, Space, Hand, Mail, Shown, Shared, Objects, Naming, Knows, name_in}
-use Rattle.rr_space.specs.Steps.{IsMoved}
+use Rattle.rr_space.specs.Readings.{Owner, Space, Hand, Mail, Shown, Shared, Objects, Naming, IsReading, IsApart, IsSharedValue, Knows, name_in}
+use Rattle.rr_space.specs.Steps.{IsMoved, Remakes}
 use Rattle.rr_space.specs.Views.{emptied}
 use Rattle.rr_space.specs.declared.refer.Ref.{Ref}
-use Rattle.rr_space.proofs.Frames.{map_same}
+use Rattle.rr_space.proofs.Frames.{map_same, owner_cases}
 use Rattle.rr_space.proofs.Keeping.{list_has}
 use Rattle.rr_space.proofs.Sounds.{gets, joined_back, joined_in, none_in}
-use Rattle.rr_move.specs.Laws.{TakesOut, TakingOutIsAMove}
+use Rattle.rr_move.specs.Laws.{NamesStay, TakesOut, TakingOutIsAMove}
 use Rattle.rr_move.specs.declared.home.Detached.{Detached}
-use Rattle.rr_world.specs.Views.{Member, Assembly}
+use Rattle.rr_world.specs.Views.{Member, Channels, Assembly}
 use Rattle.rr_world.specs.Layouts.{layout, message_slots, message_below, MemberKnows, IsRead}
 use Rattle.rr_world.specs.Readings.{each_from, actor_in, shells_in, parcel_in, value_in, root_in, post_in, state_in}
 use Rattle.rr_world.specs.Enabling.{StandsAt}
@@ -31,13 +31,17 @@ use Rattle.rr_world.specs.declared.step.Reply.{Reply}
 use Rattle.rr_world.specs.declared.step.Reply.TheVariants.{NotEnabled, Done, Offered, Empty, EmptyAndClosed, WasClosed, Refused, Started, Settled, GrabbedLast, OfMain}
 use Rattle.rr_world.proofs.Enabled.{actor_at, free, allowed, tested_at}
 use Rattle.rr_world.proofs.Insides.{set_again, same_assembly}
-use Rattle.rr_world.proofs.Knowing.{knows_either, read_set}
+use Rattle.rr_world.proofs.Knowing.{knows_either, order_on, read_set}
 use Rattle.rr_world.proofs.Lists.{each_set}
 use Rattle.rr_world.proofs.Namings.{actor_same, same_actor, post_same}
 use Rattle.rr_world.proofs.Operands.{value_named, known_named}
 use Rattle.rr_world.proofs.Packs.{not_packed}
 use Rattle.rr_world.proofs.Rooting.{roots_keep}
-use Rattle.rr_world.proofs.Seeing.{there, resolved, shared_of, free_of, shell_of}
+use Rattle.rr_world.proofs.Seeing.{IsOfSpace, all_apart, held, is_sealed, there, resolved, shared_of, free_of, shell_of}
+use Rattle.rr_world.proofs.Sharing.{empty_list, same_elements, shared_moved, shared_names, shared_root, shared_stays}
+use Rattle.rr_world.proofs.Starting.{remade_empty}
+use Rattle.rr_space.proofs.Apart.{readings_are_apart}
+use Rattle.rr_space.proofs.Remaking.{remaking_is_a_step}
 use Rattle.rr_world.proofs.Staying.{stays_read, same_state}
 use Rattle.rr_world.proofs.Tables.{space_was, hand_was, space_now, hand_now, rest_now}
 use Rattle.rr_world.proofs.Fitting.{waits_no_more}
@@ -58,8 +62,8 @@ less_below names bs cs set e has =
 
 module _ (w w2 : Assembly) (who : RactorNo) (k : ℕ) (m m2 : Member) (op : Operand) (v : Ref) (d : Detached) (at : slice_get w.ractors k ≡ Some m) (A : IsMovedBy op v d m m2)
     (rs : w2.ractors ≡ slice_set w.ractors k m2) (is : w2.channels ≡ w.channels) where
-  held : m2.hand ≡ Some d.message
-  held = ap (λ (x : Member). x.hand) A.now_is
+  held_message : m2.hand ≡ Some d.message
+  held_message = ap (λ (x : Member). x.hand) A.now_is
 
   roots_are : m2.roots ≡ m.roots
   roots_are = ap (λ (x : Member). x.roots) A.now_is
@@ -69,12 +73,12 @@ module _ (w w2 : Assembly) (who : RactorNo) (k : ℕ) (m m2 : Member) (op : Oper
       knows_either (layout w) (joined m.space.below) (below_ref v) (message_below d.message) (λ e has. Contains-append_cases (joined m.space.below) (below_ref v) e (A.moved.below e has))
       (R.knows.ractors k m at).space knows
 
-  takes : (names : Naming) (bound : ℕ) (g : Objects) → IsRead w names bound g → Knows (below_ref v) (layout w) → TakesOut k (value_of v) d m.space m2.space (layout w) (layout w2)
-  takes names bound g R knows = record {
+  takes : IsOfSpace v → (names : Naming) (bound : ℕ) (g : Objects) → IsRead w names bound g → Knows (below_ref v) (layout w) → TakesOut k (value_of v) d m.space m2.space (layout w) (layout w2)
+  takes own names bound g R knows = record {
     space = space_was w w2 k m m2 at rs is;
     hand = hand_was w w2 k m m2 at rs is ∙ ap (option_map message_slots) A.empty.hand;
     space_after = space_now w w2 k m m2 at rs is;
-    hand_after = hand_now w w2 k m m2 at rs is ∙ ap (option_map message_slots) held;
+    hand_after = hand_now w w2 k m m2 at rs is ∙ ap (option_map message_slots) held_message;
     rest = rest_now w w2 k m m2 at rs is;
     copy = A.moved.copy;
     emptied = A.moved.emptied;
@@ -83,8 +87,91 @@ module _ (w w2 : Assembly) (who : RactorNo) (k : ℕ) (m m2 : Member) (op : Oper
     message_sealed = A.moved.sealed;
     knows = (R.knows.ractors k m at).space;
     message_knows = known names bound g R knows;
-    there = there w names bound g R k m v at A.moved.well A.moved.within knows;
+    there = there w names bound g R k m v at A.moved.well A.moved.within knows own;
   }
+
+  -- what a move of the value does
+  abbrev IsTaken : (names : Naming) (g : Objects) → Type 0
+  IsTaken names g = (names2 : Naming) × (bound2 : ℕ) × (g2 : Objects) × IsReading (layout w2) names2 bound2 g2 × NamesStay k m.space names names2
+      × IsMoved k (value_in names (Space k) (resolve m.space.slots (value_of v))) (value_in names2 (Hand k) d.message.root) (map (λ n. name_in names (Space k) (Own n)) d.home.slots) (map Own (names2 (Hand k))) g g2
+
+  module _ (names : Naming) (bound : ℕ) (g : Objects) (R : IsRead w names bound g) (knows : Knows (below_ref v) (layout w))
+      (public : IsPublished (resolve m.space.slots (value_of v))) (shared : IsSharedValue g (root_in names (Space k) v)) where
+    no_home : d.home.slots ≡ []
+    no_home = shared_names (space_graph m.space) (message_graph d.message) (resolve m.space.slots (value_of v)) d.message.root d.home.slots (is_sealed w names bound g R k m v at A.moved.well A.moved.within knows) public A.moved.copy.alike
+
+    no_objects : d.message.objects ≡ []
+    no_objects = empty_list d.message.objects (A.moved.copy.size ∙ ap length no_home)
+
+    slots_stay : m2.space.slots ≡ m.space.slots
+    slots_stay = same_elements m.space.slots m2.space.slots (λ n. A.moved.emptied.slots.others n (λ has. none_in n (subst (λ ns. Contains ns n) no_home has)))
+
+    hand_empty : layout w2 (Hand k) ≡ Some []
+    hand_empty = hand_now w w2 k m m2 at rs is ∙ ap (option_map message_slots) held_message ∙ ap (λ (os : List Object). Some (map Here os)) no_objects
+
+    hand_none : layout w (Hand k) ≡ None
+    hand_none = hand_was w w2 k m m2 at rs is ∙ ap (option_map message_slots) A.empty.hand
+
+    tables_stay : (h : Owner) → (h ≡ Hand k → ⊥) → layout w2 h ≡ layout w h
+    tables_stay h off = ⊎_elim
+        (λ mine. ap (layout w2) mine ∙ space_now w w2 k m m2 at rs is ∙ ap (λ (ss : List Slot). Some ss) slots_stay ∙ sym (space_was w w2 k m m2 at rs is) ∙ ap (layout w) (sym mine))
+        (λ other. rest_now w w2 k m m2 at rs is h other off)
+        (owner_cases h (Space k))
+
+    hand_apart : (c : ℕ) → Hand k ≡ Shared c → ⊥
+    hand_apart c e = cc
+
+    remakes : Remakes (Hand k) 0 [] [] (layout w) (layout w2)
+    remakes = record {
+      was = inr (hand_none, refl);
+      now = hand_empty;
+      rest = tables_stay;
+      unshared = hand_apart;
+      size = refl;
+      kept_here = λ i o e. absurd (none-some (Here o) e);
+      kept_led = λ i c q e. absurd (none-some (Led c q) e);
+      fresh_here = λ i c q e. absurd (none-some (Led c q) e);
+      sound = record { within = λ i o l x e has. absurd (none-some (Here o) e); led = λ i c q e. absurd (none-some (Led c q) e) };
+    }
+
+    -- a published value is moved without its objects
+    published_taken : IsTaken names g
+    published_taken =
+        let q = remaking_is_a_step (Hand k) 0 [] [] (layout w) (layout w2) names bound g remakes R.tables in
+        let names2 = q.0 in
+        let g2 = q.1 in
+        let N = q.3 in
+        let x : Value = root_in names (Space k) v in
+        let kept : (c : ℕ) → names2 (Shared c) ≡ names (Shared c) = λ c. N.rest (Shared c) (λ z. hand_apart c (sym z)) in
+        let spaces : names2 (Space k) ≡ names (Space k) = N.rest (Space k) (λ z. let y : ⊥ = cc in y) in
+        let same : (j : ℕ) → g2 j ≡ g j = remade_empty (Hand k) (layout w) (layout w2) names names2 bound (bound + 0) g g2 remakes hand_none R.tables q.2 N q.4 in
+        let before : IsApart g = all_apart w names bound g R k m v at A.moved.well A.moved.within knows in
+        let after : IsApart g2 = readings_are_apart (layout w2) names2 (bound + 0) g2 q.2 (order_on w w2 (ap (λ (y : Channels). y.store.clusters) is) R.clusters) in
+        let stays : IsSharedValue g2 x = shared_stays g g2 (Hand k) hand_apart q.4.others x shared in
+        let name : value_in names (Space k) (resolve m.space.slots (value_of v)) ≡ x = resolved w names bound g R k m v at A.moved.well A.moved.within knows in
+        let root : value_in names2 (Hand k) d.message.root ≡ x =
+        shared_root names names2 (Space k) (Hand k) kept (resolve m.space.slots (value_of v)) d.message.root d.home.slots public A.moved.copy.alike.roots ∙ name in
+        let none : names2 (Hand k) ≡ [] = empty_list (names2 (Hand k)) ((q.2.reads (Hand k) [] hand_empty).size) in
+        let moved : IsMoved k x x [] [] g g2 = shared_moved k g g2 before after x shared stays same in (
+          names2,
+          bound + 0,
+          g2,
+          q.2,
+          record {
+            space = λ i y e. ap (λ ns. slice_index ns i) spaces;
+            rest = λ h off other. N.rest h other;
+          },
+          subst (λ y. IsMoved k y (value_in names2 (Hand k) d.message.root) (map (λ n. name_in names (Space k) (Own n)) d.home.slots) (map Own (names2 (Hand k))) g g2) (sym name)
+              (subst (λ y. IsMoved k x y (map (λ n. name_in names (Space k) (Own n)) d.home.slots) (map Own (names2 (Hand k))) g g2) (sym root)
+              (subst (λ ns. IsMoved k x x (map (λ n. name_in names (Space k) (Own n)) ns) (map Own (names2 (Hand k))) g g2) (sym no_home)
+              (subst (λ ns. IsMoved k x x [] (map Own ns) g g2) (sym none) moved))),
+        )
+
+  taken : TakingOutIsAMove → (names : Naming) (bound : ℕ) (g : Objects) → IsRead w names bound g → Knows (below_ref v) (layout w) → IsTaken names g
+  taken law names bound g R knows = ⊎_elim
+      (λ own. law k (value_of v) d m.space m2.space (layout w) (layout w2) names bound g (takes own names bound g R knows) R.tables)
+      (λ h. published_taken names bound g R knows h.0 h.1)
+      (held w names bound g R k m v at A.moved.well A.moved.within knows)
 
   moved_knows : (names : Naming) (bound : ℕ) (g : Objects) → IsRead w names bound g → Knows (below_ref v) (layout w) → MemberKnows (layout w) m2
   moved_knows names bound g R knows =
@@ -92,7 +179,7 @@ module _ (w w2 : Assembly) (who : RactorNo) (k : ℕ) (m m2 : Member) (op : Oper
       record {
         space = record { known = λ c os has. K.space.known c os (less_below d.home.slots m.space.below m2.space.below A.moved.emptied.below (c, os) has) };
         roots = λ r has. K.roots r (subst (λ (xs : List Ref). Contains xs r) roots_are has);
-        hand = λ p e. subst (λ (x : Packed). Knows (message_below x) (layout w)) (same_Some d.message p (sym held ∙ e)) (known names bound g R knows);
+        hand = λ p e. subst (λ (x : Packed). Knows (message_below x) (layout w)) (same_Some d.message p (sym held_message ∙ e)) (known names bound g R knows);
       }
 
   -- the slots of the home were slots of the space
@@ -102,7 +189,7 @@ module _ (w w2 : Assembly) (who : RactorNo) (k : ℕ) (m m2 : Member) (op : Oper
   pub detached : TakingOutIsAMove → StandsAt who k → HasOutcome (record { who = who; action = Detach op }) Done w w2
   detached law stands names bound g R =
       let knows = known_named (layout w) m.roots op v (R.knows.ractors k m at).roots A.named in
-      let q = law k (value_of v) d m.space m2.space (layout w) (layout w2) names bound g (takes names bound g R knows) R.tables in
+      let q = taken law names bound g R knows in
       let names2 = q.0 in
       let N = q.4 in
       let kept : (c : ℕ) → names2 (Shared c) ≡ names (Shared c) = λ c. N.rest (Shared c) (λ z. let y : ⊥ = cc in y) (λ z. let y : ⊥ = cc in y) in
@@ -118,7 +205,7 @@ module _ (w w2 : Assembly) (who : RactorNo) (k : ℕ) (m m2 : Member) (op : Oper
       ap (λ (x : Member). option_map (shells_in names2 k) x.home) A.now_is
       ∙ ap (λ (ns : List ℕ). Some ns) (map_same (slice_index (names2 (Space k))) (slice_index (names (Space k))) d.home.slots (λ n has. stand n (home_within n has))) in
       let actor : actor_in names2 k m2 ≡ record (actor_in names k m) { hand = Some (parcel_in names2 (Hand k) d.message); home = Some (shells_in names k d.home); next = (actor_in names k m).next + 1 } =
-      same_actor roots (ap (option_map (parcel_in names2 (Hand k))) held) home (ap (λ (x : Member). x.ticket) A.now_is) A.moved.emptied.slots.size A.moved.emptied.limit A.moved.next (ap (λ (x : Member). x.limits) A.now_is) (ap (λ (x : Member). x.runs) A.now_is) in (
+      same_actor roots (ap (option_map (parcel_in names2 (Hand k))) held_message) home (ap (λ (x : Member). x.ticket) A.now_is) A.moved.emptied.slots.size A.moved.emptied.limit A.moved.next (ap (λ (x : Member). x.limits) A.now_is) (ap (λ (x : Member). x.runs) A.now_is) in (
         names2,
         q.1,
         q.2,

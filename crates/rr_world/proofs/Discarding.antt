@@ -9,7 +9,7 @@ use Rattle.rr_space.specs.Readings.{Owner, Space, Hand, Mail, Shown, Shared}
 use Rattle.rr_space.specs.Steps.{Goneby}
 use Rattle.rr_space.proofs.Drops.{dropping_is_a_step}
 use Rattle.rr_world.specs.Views.{Member, Channels, Assembly}
-use Rattle.rr_world.specs.Layouts.{layout, space_slots, hand_slots, inbox_slots, port_slots}
+use Rattle.rr_world.specs.Layouts.{cluster_slots, layout, space_slots, hand_slots, inbox_slots, port_slots}
 use Rattle.rr_world.specs.Readings.{each_from, actor_in, parcel_in, post_in}
 use Rattle.rr_world.specs.Enabling.{StandsAt}
 use Rattle.rr_world.specs.Runs.{HasOutcome}
@@ -28,7 +28,7 @@ module _ (w w2 : Assembly) (k : ℕ) (m : Member) (p : Packed) (at : slice_get w
   rest (Hand j) q = ap (λ xs. option_and_then hand_slots (slice_get xs j)) rs ∙ ap (option_and_then hand_slots) (set_off w.ractors k j (record m { hand = None; home = None }) (λ e. q (ap Hand e)))
   rest (Mail d u) q = ap (λ (x : Channels). option_and_then (inbox_slots u) (slice_get x.inboxes d)) is
   rest (Shown d u) q = ap (λ (x : Channels). option_and_then (port_slots u) (slice_get x.ports d)) is
-  rest (Shared d) q = refl
+  rest (Shared d) q = ap (λ (x : Channels). option_map cluster_slots (slice_get x.store.clusters d)) is
 
   gone : Goneby (Hand k) (layout w) (layout w2)
   unfolding layout

@@ -3,7 +3,7 @@ use Rattle.std.proofs.Common.{◌≡◌, ◌+◌, ℕ, Contains, subst, zero, su
 use Rattle.std.specs.Option.{option_map, option_and_then}
 use Rattle.std.proofs.lemmas.Option.{none-some, same_Some}
 use Rattle.rr_base.specs.declared.limits.Limits.{Limits}
-use Rattle.rr_space.specs.Tables.{Slot, Below, joined}
+use Rattle.rr_space.specs.Tables.{Slot, Here, Below, joined}
 use Rattle.rr_space.specs.Readings.{Knows, Layout, Owner, Space, Hand, Mail, Shown, Shared}
 use Rattle.rr_space.proofs.Cases.{empty_is_read}
 use Rattle.rr_inbox.specs.Inboxes.{Inbox, new_inbox}
@@ -13,7 +13,7 @@ use Rattle.rr_inbox.specs.declared.entry.Entry.{Entry}
 use Rattle.rr_space.proofs.Sounds.{none_in}
 use Rattle.rr_move.specs.declared.home.Home.{Home}
 use Rattle.rr_world.specs.Views.{Member, Assembly}
-use Rattle.rr_world.specs.Layouts.{MemberKnows, layout, space_slots, hand_slots, message_slots, inbox_slots, port_inside, port_slots}
+use Rattle.rr_world.specs.Layouts.{MemberKnows, layout, space_slots, hand_slots, cluster_slots, message_slots, inbox_slots, port_inside, port_slots}
 use Rattle.rr_world.specs.Runs.{IsNew, HasReading}
 
 space_empty : (m : Member) (k : ℕ) (t : List Slot) → m.space.slots ≡ [] → option_map space_slots (slice_get (m ∷ []) k) ≡ Some t → t ≡ []
@@ -38,7 +38,7 @@ all_empty limits w N (Space k) t is = space_empty N.main k t N.slots (ap (λ xs.
 all_empty limits w N (Hand k) t is = hand_empty N.main k t N.hand (ap (λ xs. option_and_then hand_slots (slice_get xs k)) (sym N.ractors) ∙ is)
 all_empty limits w N (Mail c u) t is = mail_empty limits.events c u t (ap (λ xs. option_and_then (inbox_slots u) (slice_get xs c)) (sym N.inboxes) ∙ is)
 all_empty limits w N (Shown c u) t is = show_empty limits.events c u t (ap (λ xs. option_and_then (port_slots u) (slice_get xs c)) (sym N.ports) ∙ is)
-all_empty limits w N (Shared c) t is = absurd (none-some t is)
+all_empty limits w N (Shared c) t is = absurd (none-some t (ap (λ (s : Store). option_map cluster_slots (slice_get s.clusters c)) (sym N.store) ∙ is))
 
 nothing_known : (tables : Layout) (b : Below) → b ≡ [] → Knows b tables
 nothing_known tables b none = record { known = λ c os has. absurd (none_in (c, os) (subst (λ x. Contains x (c, os)) none has)) }
@@ -88,5 +88,9 @@ new_is_read limits w N =
         inboxes = ap length N.inboxes ∙ sym (ap length N.ractors);
         ports = ap length N.ports ∙ sym (ap length N.ractors);
         fits = λ k m p h e at port home ticket shown. absurd (only_homeless limits w N k m h (ap (λ xs. slice_get xs k) (sym N.ractors) ∙ at) home);
+        clusters = record {
+          solid = λ c p u o is at. absurd (none-some (Here o) (ap (λ xs. slice_get xs p) (sym (all_empty limits w N (Shared c) u is)) ∙ at));
+          earlier = λ c p d q u o l is at has. absurd (none-some (Here o) (ap (λ xs. slice_get xs p) (sym (all_empty limits w N (Shared c) u is)) ∙ at));
+        };
       },
     )

@@ -6,7 +6,8 @@ use Rattle.std.proofs.lemmas.Option.{none-some, same_Some, slice_get_within}
 use Rattle.rr_space.specs.Graph.{Object}
 use Rattle.rr_space.specs.Tables.{Packed, Below, joined}
 use Rattle.rr_space.specs.Parts.{below_ref}
-use Rattle.rr_space.specs.Readings.{Shared, Knows, Layout, Naming, Objects, IsReading}
+use Rattle.rr_space.specs.Readings.{Shared, Knows, Layout, Naming, Objects, IsReading, AreClustersInOrder}
+use Rattle.std.specs.Option.{option_map}
 use Rattle.rr_space.specs.declared.refer.Ref.{Ref}
 use Rattle.rr_space.proofs.Hands.{append_cases}
 use Rattle.rr_space.proofs.Sounds.{joined_back, joined_in, none_in, in_first}
@@ -15,23 +16,27 @@ use Rattle.rr_move.specs.declared.home.Home.{Home}
 use Rattle.rr_store.specs.Stores.{constant_of}
 use Rattle.rr_inbox.specs.declared.entry.Entry.{Entry}
 use Rattle.rr_world.specs.Views.{Member, Channels, Assembly, with_inbox}
-use Rattle.rr_world.specs.Layouts.{layout, message_below, MemberKnows, IsKnowing, AreOwned, IsRead}
+use Rattle.rr_world.specs.Layouts.{cluster_slots, layout, message_below, MemberKnows, IsKnowing, AreOwned, IsRead}
 use Rattle.rr_world.specs.Opening.{IsOpenedBy}
 use Rattle.rr_world.proofs.Fitting.{WaitsAsBefore, fits_set}
 use Rattle.rr_world.proofs.Lists.{eq_cases, set_at, set_off}
 
-pub no_clusters : (w : Assembly) (c : ℕ) → layout w (Shared c) ≡ None
+-- the tables of the clusters stay, where the store keeps them
+pub clusters_same : (w w2 : Assembly) → w2.channels.store.clusters ≡ w.channels.store.clusters → (c : ℕ) → layout w2 (Shared c) ≡ layout w (Shared c)
 unfolding layout
-no_clusters w c = refl
+clusters_same w w2 same c = ap (λ xs. option_map cluster_slots (slice_get xs c)) same
 
-pub knows_on : (w w2 : Assembly) (b : Below) → Knows b (layout w) → Knows b (layout w2)
-knows_on w w2 b K = record { known = λ c os has. let q = K.known c os has in (q.0, no_clusters w2 c ∙ sym (no_clusters w c) ∙ q.1, q.2) }
+pub knows_on : (w w2 : Assembly) → w2.channels.store.clusters ≡ w.channels.store.clusters → (b : Below) → Knows b (layout w) → Knows b (layout w2)
+knows_on w w2 same b K = record { known = λ c os has. let q = K.known c os has in (q.0, clusters_same w w2 same c ∙ q.1, q.2) }
 
--- no cluster is known, as long as none is published
-pub none_known : (w : Assembly) (b : Below) → Knows b (layout w) → (c : ℕ) (os : List Object) → Contains b (c, os) → ⊥
-none_known w b K c os has = let q = K.known c os has in none-some _ (sym (no_clusters w c) ∙ q.1)
+-- and so does their order
+pub order_on : (w w2 : Assembly) → w2.channels.store.clusters ≡ w.channels.store.clusters → AreClustersInOrder (layout w) → AreClustersInOrder (layout w2)
+order_on w w2 same O = record {
+  solid = λ c p u o is at. O.solid c p u o (sym (clusters_same w w2 same c) ∙ is) at;
+  earlier = λ c p d q u o l is at has. O.earlier c p d q u o l (sym (clusters_same w w2 same c) ∙ is) at has;
+}
 
-knows_fewer : (tables : Layout) (a b : Below) → ((e : ℕ × List Object) → Contains a e → Contains b e) → Knows b tables → Knows a tables
+pub knows_fewer : (tables : Layout) (a b : Below) → ((e : ℕ × List Object) → Contains a e → Contains b e) → Knows b tables → Knows a tables
 knows_fewer tables a b fewer K = record { known = λ c os has. K.known c os (fewer (c, os) has) }
 
 pub knows_either : (tables : Layout) (a b d : Below) → ((e : ℕ × List Object) → Contains d e → Contains a e ⊎ Contains b e) → Knows a tables → Knows b tables → Knows d tables
@@ -44,11 +49,11 @@ set_cases (y ∷ ys) zero (suc j) x z e = inr e
 set_cases (y ∷ ys) (suc i) zero x z e = inr e
 set_cases (y ∷ ys) (suc i) (suc j) x z e = set_cases ys i j x z e
 
-pub member_on : (w w2 : Assembly) (m : Member) → MemberKnows (layout w) m → MemberKnows (layout w2) m
-member_on w w2 m K = record {
-  space = knows_on w w2 (joined m.space.below) K.space;
-  roots = λ r has. knows_on w w2 (below_ref r) (K.roots r has);
-  hand = λ p is. knows_on w w2 (message_below p) (K.hand p is);
+pub member_on : (w w2 : Assembly) → w2.channels.store.clusters ≡ w.channels.store.clusters → (m : Member) → MemberKnows (layout w) m → MemberKnows (layout w2) m
+member_on w w2 same m K = record {
+  space = knows_on w w2 same (joined m.space.below) K.space;
+  roots = λ r has. knows_on w w2 same (below_ref r) (K.roots r has);
+  hand = λ p is. knows_on w w2 same (message_below p) (K.hand p is);
 }
 
 -- the spaces stay whose they are
@@ -62,35 +67,35 @@ owned_set w w2 k m m2 at rs same all j x here = ⊎_elim
 -- one ractor is another
 pub knows_set : (w w2 : Assembly) (k : ℕ) (m2 : Member) → w2.ractors ≡ slice_set w.ractors k m2 → w2.channels ≡ w.channels → MemberKnows (layout w) m2 → IsKnowing w → IsKnowing w2
 knows_set w w2 k m2 rs is M K = record {
-  ractors = λ j m at. member_on w w2 m (⊎_elim (λ same. subst (MemberKnows (layout w)) same M) (λ there. K.ractors j m there) (set_cases w.ractors k j m2 m (ap (λ xs. slice_get xs j) (sym rs) ∙ at)));
-  store = λ n v here. knows_on w w2 (below_ref v) (K.store n v (ap (λ (x : Channels). constant_of x.store n) (sym is) ∙ here));
-  inboxes = λ c i e at has. knows_on w w2 (message_below e.message) (K.inboxes c i e (ap (λ (x : Channels). slice_get x.inboxes c) (sym is) ∙ at) has);
-  ports = λ c p e at has. knows_on w w2 (message_below e.message) (K.ports c p e (ap (λ (x : Channels). slice_get x.ports c) (sym is) ∙ at) has);
+  ractors = λ j m at. member_on w w2 (ap (λ (x : Channels). x.store.clusters) is) m (⊎_elim (λ same. subst (MemberKnows (layout w)) same M) (λ there. K.ractors j m there) (set_cases w.ractors k j m2 m (ap (λ xs. slice_get xs j) (sym rs) ∙ at)));
+  store = λ n v here. knows_on w w2 (ap (λ (x : Channels). x.store.clusters) is) (below_ref v) (K.store n v (ap (λ (x : Channels). constant_of x.store n) (sym is) ∙ here));
+  inboxes = λ c i e at has. knows_on w w2 (ap (λ (x : Channels). x.store.clusters) is) (message_below e.message) (K.inboxes c i e (ap (λ (x : Channels). slice_get x.inboxes c) (sym is) ∙ at) has);
+  ports = λ c p e at has. knows_on w w2 (ap (λ (x : Channels). x.store.clusters) is) (message_below e.message) (K.ports c p e (ap (λ (x : Channels). slice_get x.ports c) (sym is) ∙ at) has);
 }
 
 -- one ractor and one inbox are others
 pub knows_both : (w w2 : Assembly) (k c : ℕ) (m2 : Member) (i2 : Inbox) → w2.ractors ≡ slice_set w.ractors k m2 → w2.channels ≡ with_inbox w.channels c i2 → MemberKnows (layout w) m2
     → ((e : Entry) → Contains i2.inside e → Knows (message_below e.message) (layout w)) → IsKnowing w → IsKnowing w2
 knows_both w w2 k c m2 i2 rs is M I K = record {
-  ractors = λ j m at. member_on w w2 m (⊎_elim (λ same. subst (MemberKnows (layout w)) same M) (λ there. K.ractors j m there) (set_cases w.ractors k j m2 m (ap (λ xs. slice_get xs j) (sym rs) ∙ at)));
-  store = λ n v here. knows_on w w2 (below_ref v) (K.store n v (ap (λ (x : Channels). constant_of x.store n) (sym is) ∙ here));
-  inboxes = λ d i e at has. knows_on w w2 (message_below e.message) (⊎_elim
+  ractors = λ j m at. member_on w w2 (ap (λ (x : Channels). x.store.clusters) is) m (⊎_elim (λ same. subst (MemberKnows (layout w)) same M) (λ there. K.ractors j m there) (set_cases w.ractors k j m2 m (ap (λ xs. slice_get xs j) (sym rs) ∙ at)));
+  store = λ n v here. knows_on w w2 (ap (λ (x : Channels). x.store.clusters) is) (below_ref v) (K.store n v (ap (λ (x : Channels). constant_of x.store n) (sym is) ∙ here));
+  inboxes = λ d i e at has. knows_on w w2 (ap (λ (x : Channels). x.store.clusters) is) (message_below e.message) (⊎_elim
       (λ same. I e (subst (λ (x : Inbox). Contains x.inside e) (sym same) has))
       (λ there. K.inboxes d i e there has)
       (set_cases w.channels.inboxes c d i2 i (ap (λ (x : Channels). slice_get x.inboxes d) (sym is) ∙ at)));
-  ports = λ c p e at has. knows_on w w2 (message_below e.message) (K.ports c p e (ap (λ (x : Channels). slice_get x.ports c) (sym is) ∙ at) has);
+  ports = λ c p e at has. knows_on w w2 (ap (λ (x : Channels). x.store.clusters) is) (message_below e.message) (K.ports c p e (ap (λ (x : Channels). slice_get x.ports c) (sym is) ∙ at) has);
 }
 
 -- one inbox is another with the same messages
 pub knows_told : (w w2 : Assembly) (c : ℕ) (i i2 : Inbox) → slice_get w.channels.inboxes c ≡ Some i → i2.inside ≡ i.inside → w2.ractors ≡ w.ractors → w2.channels ≡ with_inbox w.channels c i2 → IsKnowing w → IsKnowing w2
 knows_told w w2 c i i2 box inside rs is K = record {
-  ractors = λ j m at. member_on w w2 m (K.ractors j m (ap (λ xs. slice_get xs j) (sym rs) ∙ at));
-  store = λ n v here. knows_on w w2 (below_ref v) (K.store n v (ap (λ (x : Channels). constant_of x.store n) (sym is) ∙ here));
-  inboxes = λ d x e at has. knows_on w w2 (message_below e.message) (⊎_elim
+  ractors = λ j m at. member_on w w2 (ap (λ (x : Channels). x.store.clusters) is) m (K.ractors j m (ap (λ xs. slice_get xs j) (sym rs) ∙ at));
+  store = λ n v here. knows_on w w2 (ap (λ (x : Channels). x.store.clusters) is) (below_ref v) (K.store n v (ap (λ (x : Channels). constant_of x.store n) (sym is) ∙ here));
+  inboxes = λ d x e at has. knows_on w w2 (ap (λ (x : Channels). x.store.clusters) is) (message_below e.message) (⊎_elim
       (λ same. K.inboxes c i e box (subst (λ xs. Contains xs e) inside (subst (λ (y : Inbox). Contains y.inside e) (sym same) has)))
       (λ there. K.inboxes d x e there has)
       (set_cases w.channels.inboxes c d i2 x (ap (λ (x : Channels). slice_get x.inboxes d) (sym is) ∙ at)));
-  ports = λ c p e at has. knows_on w w2 (message_below e.message) (K.ports c p e (ap (λ (x : Channels). slice_get x.ports c) (sym is) ∙ at) has);
+  ports = λ c p e at has. knows_on w w2 (ap (λ (x : Channels). x.store.clusters) is) (message_below e.message) (K.ports c p e (ap (λ (x : Channels). slice_get x.ports c) (sym is) ∙ at) has);
 }
 
 -- a reading of the World with one ractor in another's place
@@ -103,6 +108,7 @@ read_set w w2 k m m2 at rs is same waits M R tables = record {
   inboxes = ap (λ (x : Channels). length x.inboxes) is ∙ R.inboxes ∙ sym (length-set w.ractors k m2) ∙ sym (ap length rs);
   ports = ap (λ (x : Channels). length x.ports) is ∙ R.ports ∙ sym (length-set w.ractors k m2) ∙ sym (ap length rs);
   fits = fits_set w w2 k m m2 at rs (ap (λ (x : Channels). x.ports) is) waits R.fits;
+  clusters = order_on w w2 (ap (λ (x : Channels). x.store.clusters) is) R.clusters;
 }
 
 -- and with one inbox in another's place
@@ -116,6 +122,7 @@ read_both w w2 k c m m2 i2 at rs is same waits M I R tables = record {
   inboxes = ap (λ (x : Channels). length x.inboxes) is ∙ length-set w.channels.inboxes c i2 ∙ R.inboxes ∙ sym (length-set w.ractors k m2) ∙ sym (ap length rs);
   ports = ap (λ (x : Channels). length x.ports) is ∙ R.ports ∙ sym (length-set w.ractors k m2) ∙ sym (ap length rs);
   fits = fits_set w w2 k m m2 at rs (ap (λ (x : Channels). x.ports) is) waits R.fits;
+  clusters = order_on w w2 (ap (λ (x : Channels). x.store.clusters) is) R.clusters;
 }
 
 -- with the hand empty, less is known

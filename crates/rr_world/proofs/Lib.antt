@@ -15,6 +15,8 @@ pub mod Refusals
 pub mod Fresh
 pub mod Rooting
 pub mod Knowing
+pub mod Published
+pub mod Sharing
 pub mod Operands
 pub mod Seeing
 pub mod OneNames

@@ -11,7 +11,7 @@ use Rattle.rr_base.specs.declared.name.Sym.{Sym}
 use Rattle.rr_space.specs.Graph.{Kind, text, array, plain, shell, Own, Published, Value, Plain, At, Label, Place, Name, Object}
 use Rattle.rr_space.specs.Tables.{Slot, Here, Led, renamed_triple}
 use Rattle.rr_space.specs.Parts.{value_of, below_ref}
-use Rattle.rr_space.specs.Readings.{Owner, Space, Owned, Objects, Naming, Layout, Knows, named, name_in, whole}
+use Rattle.rr_space.specs.Readings.{Owner, Space, Shared, Owned, Objects, Naming, Layout, Knows, named, name_in, whole}
 use Rattle.rr_space.specs.Steps.{IsNewValue}
 use Rattle.rr_space.specs.declared.refer.Ref.{Ref}
 use Rattle.rr_space.specs.declared.refer.Ref.TheVariants as ref
@@ -37,8 +37,8 @@ use Rattle.rr_world.specs.declared.step.Reply.TheVariants.{NotEnabled, Done, Off
 use Rattle.rr_world.proofs.Enabled.{actor_at, allowed}
 use Rattle.rr_world.proofs.Fields.{set_renamed, field_values}
 use Rattle.rr_world.proofs.Insides.{set_again, same_assembly}
-use Rattle.rr_world.proofs.Knowing.{no_clusters, none_known}
-use Rattle.rr_world.proofs.Operands.{value_named, known_named, root_within}
+use Rattle.rr_world.proofs.Published.{at_place, in_place}
+use Rattle.rr_world.proofs.Operands.{value_named, known_named, ref_within}
 use Rattle.rr_world.proofs.Rewrites.{rewritten}
 use Rattle.rr_world.proofs.Staying.{stays_read, same_state}
 
@@ -78,13 +78,16 @@ module _ (w : Assembly) (names : Naming) (bound : ℕ) (g : Objects) (R : IsRead
   unfolding layout
   here_space = ap (option_map space_slots) at
 
-  -- an operand that is an object is a slot of the space
-  pub slot_named : (op : Operand) (n : ℕ) → HasRootsWithin m → named_value (actor_in names k m).roots op ≡ Some (At (Own n))
+  -- an operand that is an object of the ractor's own is a slot of the space
+  slot_named : (op : Operand) (n : ℕ) (y : Owned) → HasRootsWithin m → named_value (actor_in names k m).roots op ≡ Some (At (Own n)) → g n ≡ Some y → y.owner ≡ Space k
       → (i : ℕ) × (raw : Object) × IsSlot op m i raw × (slice_index (names (Space k)) i ≡ n)
-  slot_named op n within is =
+  slot_named op n y within is own mine =
       let b = some_back (root_in names (Space k)) (named_ref m.roots op) (At (Own n)) (sym (value_named names (Space k) m.roots op) ∙ is) in
       by b.0 b.1 b.2
     where
+      not_shared : (c : ℕ) (x : Owned) → g n ≡ Some x → x.owner ≡ Shared c → (i : ℕ) × (raw : Object) × IsSlot op m i raw × (slice_index (names (Space k)) i ≡ n)
+      not_shared c x here its = let both : Space k ≡ Shared c = sym mine ∙ ap (λ (z : Owned). z.owner) (same_Some y x (sym own ∙ here)) ∙ its in let z : ⊥ = cc in absurd z
+
       at_slot : (i : ℕ) → i < length m.space.slots → named_ref m.roots op ≡ Some (ref.Local i) → slice_index (names (Space k)) i ≡ n → (x : Option Slot) → slice_get m.space.slots i ≡ x
           → (j : ℕ) × (raw : Object) × IsSlot op m j raw × (slice_index (names (Space k)) j ≡ n)
       at_slot i lt is_named name None e = absurd (none_there m.space.slots i lt e)
@@ -93,7 +96,9 @@ module _ (w : Assembly) (names : Naming) (bound : ℕ) (g : Objects) (R : IsRead
           none_there [] j l none = absurd (omega arith)
           none_there (y ∷ ys) zero l none = none-some y (sym none)
           none_there (y ∷ ys) (suc j) l none = none_there ys j (omega arith) none
-      at_slot i lt is_named name (Some (Led c q)) e = let z = (R.tables.sound (Space k) m.space.slots here_space).led i c q e in absurd (none-some z.0 (sym (no_clusters w c) ∙ z.2))
+      at_slot i lt is_named name (Some (Led c q)) e =
+          let x = at_place (layout w) names bound g R.tables c q ((R.tables.sound (Space k) m.space.slots here_space).led i c q e) in
+          not_shared c x.0 (ap g (sym name ∙ (R.tables.reads (Space k) m.space.slots here_space).led i c q e) ∙ x.1) x.2
       at_slot i lt is_named name (Some (Here raw)) e = (i, raw, record { named = is_named; here = e }, name)
 
       by : (v : Ref) → named_ref m.roots op ≡ Some v → root_in names (Space k) v ≡ At (Own n) → (i : ℕ) × (raw : Object) × IsSlot op m i raw × (slice_index (names (Space k)) i ≡ n)
@@ -103,24 +108,20 @@ module _ (w : Assembly) (names : Naming) (bound : ℕ) (g : Objects) (R : IsRead
       by (ref.Symbol b) is_named e = absurd (let z : ⊥ = cc in z)
       by (ref.Class b) is_named e = absurd (let z : ⊥ = cc in z)
       by (ref.Ractor b) is_named e = absurd (let z : ⊥ = cc in z)
-      by (ref.Local i) is_named e = at_slot i (named_within op is_named) is_named (let z : At (Own (slice_index (names (Space k)) i)) ≡ At (Own n) = e in cc) (slice_get m.space.slots i) refl
-        where
-          named_within : (o : Operand) → named_ref m.roots o ≡ Some (ref.Local i) → i < length m.space.slots
-          named_within operand.Nil z = let y : ref.Nil ≡ ref.Local i = same_Some _ _ z in cc
-          named_within (operand.Truth b) z = let y : ref.Truth b ≡ ref.Local i = same_Some _ _ z in cc
-          named_within (operand.Int b) z = let y : ref.Int b ≡ ref.Local i = same_Some _ _ z in cc
-          named_within (operand.Symbol b) z = let y : ref.Symbol b ≡ ref.Local i = same_Some _ _ z in cc
-          named_within (operand.Class b) z = let y : ref.Class b ≡ ref.Local i = same_Some _ _ z in cc
-          named_within (operand.Ractor b) z = let y : ref.Ractor b ≡ ref.Local i = same_Some _ _ z in cc
-          named_within (operand.Root r) z = root_within (length m.space.slots) m.roots r (ref.Local i) within z
-      by (ref.Shared q c) is_named e = absurd (none_known w (below_ref (ref.Shared q c)) (known_named (layout w) m.roots op (ref.Shared q c) (R.knows.ractors k m at).roots is_named) _ _ (0, omega arith, refl))
+      by (ref.Local i) is_named e = at_slot i (ref_within (length m.space.slots) m.roots op (ref.Local i) within is_named) is_named (let z : At (Own (slice_index (names (Space k)) i)) ≡ At (Own n) = e in cc) (slice_get m.space.slots i) refl
+      by (ref.Shared q c) is_named e =
+          let known = known_named (layout w) m.roots op (ref.Shared q c) (R.knows.ractors k m at).roots is_named in
+          let h = ref_within (length m.space.slots) m.roots op (ref.Shared q c) within is_named in
+          let x = at_place (layout w) names bound g R.tables c.now.number q (in_place (layout w) (length m.space.slots) (ref.Shared q c) h known) in
+          let name : slice_index (names (Shared c.now.number)) q ≡ n = cc in
+          not_shared c.now.number x.0 (ap g (sym name) ∙ x.1) x.2
 
   -- what may be changed in the machine may be changed in the space
   pub may_back : (who : RactorNo) (op : Operand) (may : Object → Type 0) → StandsAt who k → HasRootsWithin m → ((o : Object) → may (named names (Space k) o) → may o)
       → MayChange (state_in w names g) who (actor_in names k m) op may → MayChangeSlot op may m
   may_back who op may stands within keeps (j, n, o, there, own, holds) =
-      let s = slot_named op n within own.named in
       let same : j ≡ k = omega (arith, stands, there) in
+      let s = slot_named op n _ within own.named own.here (ap Space same) in
       let read = (R.tables.reads (Space k) m.space.slots here_space).here s.0 s.1 s.2.here in
       let owned : Some (record { owner = Space k; object = named names (Space k) s.1 }) ≡ Some (record { owner = Space j; object = o }) = sym read ∙ ap g s.3 ∙ own.here in
       let one : named names (Space k) s.1 ≡ o = ap (λ (y : Owned). y.object) (same_Some _ _ owned) in

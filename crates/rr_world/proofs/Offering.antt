@@ -15,7 +15,7 @@ use Rattle.rr_copy.specs.Messages.{size_of}
 use Rattle.rr_inbox.specs.Inboxes.{Inbox, IsTicketed}
 use Rattle.rr_inbox.specs.declared.entry.Entry.{Entry}
 use Rattle.rr_world.specs.Views.{Member, Channels, Assembly, with_inbox}
-use Rattle.rr_world.specs.Layouts.{layout, space_slots, hand_slots, inbox_slots, port_slots, message_slots, mail_slots, message_below}
+use Rattle.rr_world.specs.Layouts.{cluster_slots, layout, space_slots, hand_slots, inbox_slots, port_slots, message_slots, mail_slots, message_below}
 use Rattle.rr_world.specs.States.{Mailbox, with_box}
 use Rattle.rr_world.specs.Readings.{each_from, actor_in, mailbox_in, parcel_in, letter_in, post_in}
 use Rattle.rr_world.specs.Enabling.{StandsAt}
@@ -68,7 +68,7 @@ module _ (w w2 : Assembly) (who : RactorNo) (k c : ℕ) (m : Member) (i i2 : Inb
       other : (d ≡ c → ⊥) → option_and_then (inbox_slots u) (slice_get (slice_set w.channels.inboxes c i2) d) ≡ option_and_then (inbox_slots u) (slice_get w.channels.inboxes d)
       other e = ap (option_and_then (inbox_slots u)) (set_off w.channels.inboxes c d i2 e)
   rest (Shown d u) q r = ap (λ (x : Channels). option_and_then (port_slots u) (slice_get x.ports d)) is
-  rest (Shared d) q r = refl
+  rest (Shared d) q r = ap (λ (x : Channels). option_map cluster_slots (slice_get x.store.clusters d)) is
 
   goes : Goes (Hand k) (Mail c i.next) p.objects [] (layout w) (layout w2)
   unfolding layout

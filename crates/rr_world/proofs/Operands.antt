@@ -1,14 +1,17 @@
 -- The values that operands name.
-use Rattle.std.proofs.Common.{◌≡◌, ℕ, zero, suc, List, [], ◌∷◌, map, Some, slice_get, Contains, sym, ap, refl, subst}
+use Rattle.std.proofs.Common.{◌≡◌, ◌∙◌, ℕ, zero, suc, List, [], ◌∷◌, length, map, Some, slice_get, Contains, sym, ap, refl, subst}
 use Rattle.std.specs.Option.{option_map}
 use Rattle.std.proofs.lemmas.Option.{none-some, same_Some}
-use Rattle.rr_space.specs.Tables.{Below}
-use Rattle.rr_space.specs.Parts.{below_ref, IsWithin}
+use Rattle.rr_space.specs.Tables.{Below, Table, resolve}
+use Rattle.rr_space.specs.Views.{IsKnownFrom}
+use Rattle.rr_space.specs.Parts.{value_of, below_ref, IsWithin}
 use Rattle.rr_space.specs.Readings.{Owner, Naming, Knows, Layout}
 use Rattle.rr_space.specs.declared.refer.Ref.{Ref}
+use Rattle.rr_space.specs.declared.refer.Ref.TheVariants as ref
 use Rattle.rr_space.proofs.Renaming.{contains_at}
 use Rattle.rr_space.proofs.Sounds.{none_in}
-use Rattle.rr_world.specs.Views.{AreRootsWithin}
+use Rattle.rr_world.specs.Views.{AreRootsWithin, Member}
+use Rattle.rr_world.specs.Getting.{IsPublicRef}
 use Rattle.rr_world.specs.Readings.{root_in}
 use Rattle.rr_world.specs.Enabling.{named_value}
 use Rattle.rr_world.specs.Packing.{named_ref}
@@ -45,3 +48,35 @@ pub root_within : (k : ℕ) (rs : List Ref) (n : ℕ) (r : Ref) → AreRootsWith
 root_within k [] n r all is = absurd (none-some r is)
 root_within k (x ∷ xs) zero r all is = subst (IsWithin k) (same_Some x r is) all.0
 root_within k (x ∷ xs) (suc n) r all is = root_within k xs n r all.1 is
+
+-- the value of an operand is within
+pub ref_within : (k : ℕ) (rs : List Ref) (op : Operand) (v : Ref) → AreRootsWithin k rs → named_ref rs op ≡ Some v → IsWithin k v
+ref_within k rs operand.Nil v all is = subst (IsWithin k) (same_Some _ v is) tt
+ref_within k rs (operand.Truth b) v all is = subst (IsWithin k) (same_Some _ v is) tt
+ref_within k rs (operand.Int b) v all is = subst (IsWithin k) (same_Some _ v is) tt
+ref_within k rs (operand.Symbol b) v all is = subst (IsWithin k) (same_Some _ v is) tt
+ref_within k rs (operand.Class b) v all is = subst (IsWithin k) (same_Some _ v is) tt
+ref_within k rs (operand.Ractor b) v all is = subst (IsWithin k) (same_Some _ v is) tt
+ref_within k rs (operand.Root n) v all is = root_within k rs n v all is
+
+-- what is within a space and no slot is within none
+within_all : (k : ℕ) (r : Ref) → IsWithin k r → ((x : ℕ) → r ≡ ref.Local x → ⊥) → IsWithin 0 r
+within_all k ref.Nil h apart = tt
+within_all k (ref.Truth b) h apart = tt
+within_all k (ref.Int b) h apart = tt
+within_all k (ref.Symbol b) h apart = tt
+within_all k (ref.Class b) h apart = tt
+within_all k (ref.Ractor b) h apart = tt
+within_all k (ref.Local x) h apart = absurd (apart x refl)
+within_all k (ref.Shared p c) h apart = h
+
+-- a value of which the forwards are followed, and which is no slot, is one that every ractor may have
+pub public_ref : (m : Member) (t : Table) → t ≡ m.space → (op : Operand) (v r : Ref) → named_ref m.roots op ≡ Some v → IsWithin (length m.space.slots) v → value_of r ≡ resolve t.slots (value_of v)
+    → (IsWithin (length t.slots) v → IsWithin (length t.slots) r) → IsKnownFrom t v r → ((x : ℕ) → r ≡ ref.Local x → ⊥) → IsPublicRef m op r
+public_ref m t same op v r is within value stays known apart = record {
+  value = v;
+  named = is;
+  resolves = value ∙ ap (λ (u : Table). resolve u.slots (value_of v)) same;
+  public = within_all (length t.slots) r (stays (subst (λ (u : Table). IsWithin (length u.slots) v) (sym same) within)) apart;
+  known = subst (λ (u : Table). IsKnownFrom u v r) same known;
+}

@@ -7,10 +7,11 @@ use Rattle.std.proofs.lemmas.List.Elements.{Contains-append_cases, Contains-appe
 use Rattle.std.proofs.lemmas.Option.{none-some, same_Some, slice_get_within, slice_get-get_or}
 use Rattle.rr_base.specs.declared.name.RactorNo.{RactorNo}
 use Rattle.rr_space.specs.Graph.{Own, Published, Value, Plain, At, Object, IsPart, IsAlike, Paired}
-use Rattle.rr_space.specs.Tables.{Table, Packed, Here, Led, Below, Embeds, joined, message_graph, space_graph, resolve}
+use Rattle.rr_space.proofs.Apart.{readings_are_apart}
+use Rattle.rr_space.specs.Tables.{Table, Packed, Here, Led, Below, Embeds, IsPublished, joined, message_graph, space_graph, resolve}
 use Rattle.rr_space.specs.Parts.{value_of, below_ref}
 use Rattle.rr_space.specs.Sound.{IsStanding}
-use Rattle.rr_space.specs.Readings.{Owner, Space, Hand, Mail, Shown, Shared, Owned, Objects, Naming, IsReading, IsSound, IsInLayout, Knows, whole, name_in}
+use Rattle.rr_space.specs.Readings.{Owner, Space, Hand, Mail, Shown, Shared, Owned, Objects, Naming, IsReading, IsSound, IsInLayout, IsApart, IsSharedValue, Knows, whole, name_in}
 use Rattle.rr_space.specs.Steps.{Remakes, IsRemade, IsNamed, IsCopied}
 use Rattle.rr_space.specs.declared.refer.Ref.{Ref}
 use Rattle.rr_space.proofs.Frames.{owner_cases}
@@ -21,7 +22,7 @@ use Rattle.rr_space.proofs.Sounds.{gets, joined_in, sound_is_sealed}
 use Rattle.rr_space.proofs.Spaces.{spaces_are_inside, raw_of}
 use Rattle.rr_copy.proofs.Shut.{message_is_shut}
 use Rattle.rr_world.specs.Views.{Member, Channels, Assembly, IsFree}
-use Rattle.rr_world.specs.Layouts.{layout, space_slots, hand_slots, inbox_slots, port_slots, message_slots, message_below, IsRead}
+use Rattle.rr_world.specs.Layouts.{layout, space_slots, hand_slots, inbox_slots, port_slots, message_slots, cluster_slots, message_below, IsRead}
 use Rattle.rr_world.specs.Readings.{each_from, actor_in, parcel_in, root_in, post_in, state_in}
 use Rattle.rr_world.specs.Enabling.{StandsAt, IsFreeHand, IsValue, MayBePacked}
 use Rattle.rr_world.specs.Packing.{IsPackedFrom, MayNotPack, Packs, named_ref}
@@ -32,12 +33,14 @@ use Rattle.rr_world.specs.declared.step.Reply.TheVariants.{NotEnabled, Done, Off
 use Rattle.rr_world.specs.declared.step.Reply.{Reply}
 use Rattle.rr_world.proofs.Lists.{set_at, set_off, seen_same, each_set}
 use Rattle.rr_world.proofs.Namings.{actor_same, post_same, handed}
-use Rattle.rr_world.proofs.Knowing.{none_known, knows_on, knows_either, read_set, holding_knows}
+use Rattle.rr_world.proofs.Published.{place_known}
+use Rattle.rr_world.proofs.Sharing.{empty_list, shared_alike, shared_names, shared_root, shared_stays}
+use Rattle.rr_world.proofs.Knowing.{knows_on, order_on, knows_either, read_set, holding_knows}
 use Rattle.rr_world.proofs.Enabled.{actor_at, free, free_back, allowed, tested_at}
 use Rattle.rr_world.proofs.Insides.{set_again, same_assembly}
 use Rattle.rr_world.proofs.Staying.{stays_read, same_state}
 use Rattle.rr_world.proofs.Operands.{value_named, known_named}
-use Rattle.rr_world.proofs.Seeing.{inside, there, resolved, shared_of, promoted_of, free_of, shell_of}
+use Rattle.rr_world.proofs.Seeing.{IsOfSpace, held, all_apart, is_sealed, inside, there, resolved, shared_of, promoted_of, free_of, shell_of}
 use Rattle.rr_world.proofs.Fitting.{waits_same}
 
 -- the table that a message is
@@ -53,7 +56,7 @@ module _ (w w2 : Assembly) (names : Naming) (bound : ℕ) (g : Objects) (R : IsR
   rest (Hand j) q = ap (λ xs. option_and_then hand_slots (slice_get xs j)) rs ∙ ap (option_and_then hand_slots) (set_off w.ractors k j (record m { hand = Some p }) (λ e. q (ap Hand e)))
   rest (Mail d u) q = ap (λ (x : Channels). option_and_then (inbox_slots u) (slice_get x.inboxes d)) is
   rest (Shown d u) q = ap (λ (x : Channels). option_and_then (port_slots u) (slice_get x.ports d)) is
-  rest (Shared d) q = refl
+  rest (Shared d) q = ap (λ (x : Channels). option_map cluster_slots (slice_get x.store.clusters d)) is
 
   was : layout w (Hand k) ≡ None
   unfolding layout
@@ -82,7 +85,8 @@ module _ (w w2 : Assembly) (names : Naming) (bound : ℕ) (g : Objects) (R : IsR
   standing : (i : ℕ) (b : Below) (x : Value) → slice_get p.below i ≡ Some b → IsStanding (length (map Here p.objects)) b x → IsInLayout (layout w) (map Here p.objects) x
   standing i b (Plain n) e s = s
   standing i b (At (Own n)) e s = s
-  standing i b (At (Published c q)) e s = absurd (none_known w (message_below p) known c s.0 (Contains-append_right p.root_below (joined p.below) (c, s.0) (joined_in p.below i b (c, s.0) e s.1)))
+  standing i b (At (Published c q)) e s =
+      place_known (layout w) (message_below p) c q known (s.0, Contains-append_right p.root_below (joined p.below) (c, s.0) (joined_in p.below i b (c, s.0) e s.1), s.2)
 
   sound : IsSound (layout w) (map Here p.objects)
   sound = record {
@@ -110,7 +114,7 @@ module _ (w w2 : Assembly) (names : Naming) (bound : ℕ) (g : Objects) (R : IsR
     kept_shared c = N.rest (Shared c) (λ e. hand_apart c (sym e))
 
     known2 : Knows (message_below p) (layout w2)
-    known2 = knows_on w w2 (message_below p) known
+    known2 = knows_on w w2 (ap (λ (x : Channels). x.store.clusters) is) (message_below p) known
 
     inside2 : Embeds (message_graph p) (name_in names2 (Hand k)) (whole g2)
     inside2 = spaces_are_inside (layout w2) names2 (bound + length p.objects) g2 (Hand k) (table_of p) after_reading now hand_apart known2 (message_is_shut (layout w2) p P.sound known2).0
@@ -124,8 +128,8 @@ module _ (w w2 : Assembly) (names : Naming) (bound : ℕ) (g : Objects) (R : IsR
     right_at : (i : ℕ) → i < length p.objects → slice_get (map Own (names2 (Hand k))) i ≡ Some (Own (slice_index (names2 (Hand k)) i))
     right_at i lt = map_at Own (names2 (Hand k)) i (slice_index (names2 (Hand k)) i) (name_at i lt)
 
-    alike : IsAlike (whole g) (root_in names (Space k) v) (whole g2) (parcel_in names2 (Hand k) p).root (Paired (map (λ n. name_in names (Space k) (Own n)) P.names) (map Own (names2 (Hand k))))
-    alike = subst (λ x. IsAlike (whole g) x (whole g2) (parcel_in names2 (Hand k) p).root (Paired (map (λ n. name_in names (Space k) (Own n)) P.names) (map Own (names2 (Hand k)))))
+    own_alike : IsOfSpace v → IsAlike (whole g) (root_in names (Space k) v) (whole g2) (parcel_in names2 (Hand k) p).root (Paired (map (λ n. name_in names (Space k) (Own n)) P.names) (map Own (names2 (Hand k))))
+    own_alike own = subst (λ x. IsAlike (whole g) x (whole g2) (parcel_in names2 (Hand k) p).root (Paired (map (λ n. name_in names (Space k) (Own n)) P.names) (map Own (names2 (Hand k)))))
         (resolved w names bound g R k m v at P.well P.within knows)
         (alike_inside (space_graph m.space) (name_in names (Space k)) (whole g) (message_graph p) (name_in names2 (Hand k)) (whole g2) (resolve m.space.slots (value_of v)) p.root P.names (map Own (names2 (Hand k)))
         (record {
@@ -135,10 +139,28 @@ module _ (w w2 : Assembly) (names : Naming) (bound : ℕ) (g : Objects) (R : IsR
           right_sealed = P.sealed;
           published = λ c q. ap (λ ns. Own (slice_index ns q)) (sym (kept_shared c));
         })
-        (there w names bound g R k m v at P.well P.within knows)
+        (there w names bound g R k m v at P.well P.within knows own)
         (message_is_shut (layout w2) p P.sound known2).1
         P.copy.alike
         (λ i o e. let raw = raw_of (layout w2) names2 (bound + length p.objects) g2 (Hand k) (table_of p) after_reading now i o e in right_at i (here_is i raw.0 raw.1)))
+
+    -- the copy of a published value is the value itself
+    published_alike : IsPublished (resolve m.space.slots (value_of v)) → IsSharedValue g (root_in names (Space k) v)
+        → IsAlike (whole g) (root_in names (Space k) v) (whole g2) (parcel_in names2 (Hand k) p).root (Paired (map (λ n. name_in names (Space k) (Own n)) P.names) (map Own (names2 (Hand k))))
+    published_alike public shared =
+        let none = shared_names (space_graph m.space) (message_graph p) (resolve m.space.slots (value_of v)) p.root P.names (is_sealed w names bound g R k m v at P.well P.within knows) public P.copy.alike in
+        let root : (parcel_in names2 (Hand k) p).root ≡ root_in names (Space k) v =
+        shared_root names names2 (Space k) (Hand k) kept_shared (resolve m.space.slots (value_of v)) p.root P.names public P.copy.alike.roots ∙ resolved w names bound g R k m v at P.well P.within knows in
+        let no_names : names2 (Hand k) ≡ [] = empty_list (names2 (Hand k)) (count ∙ P.copy.size ∙ ap length none) in
+        let stays : IsSharedValue g2 (root_in names (Space k) v) = shared_stays g g2 (Hand k) (hand_apart) M.others (root_in names (Space k) v) shared in
+        let after : IsApart g2 = readings_are_apart (layout w2) names2 (bound + length p.objects) g2 after_reading (order_on w w2 (ap (λ (x : Channels). x.store.clusters) is) R.clusters) in
+        subst (λ x. IsAlike (whole g) (root_in names (Space k) v) (whole g2) x (Paired (map (λ n. name_in names (Space k) (Own n)) P.names) (map Own (names2 (Hand k))))) (sym root)
+        (subst (λ ns. IsAlike (whole g) (root_in names (Space k) v) (whole g2) (root_in names (Space k) v) (Paired (map (λ n. name_in names (Space k) (Own n)) ns) (map Own (names2 (Hand k))))) (sym none)
+        (subst (λ ns. IsAlike (whole g) (root_in names (Space k) v) (whole g2) (root_in names (Space k) v) (Paired [] (map Own ns))) (sym no_names)
+        (shared_alike g g2 (all_apart w names bound g R k m v at P.well P.within knows) after (root_in names (Space k) v) shared stays)))
+
+    alike : IsAlike (whole g) (root_in names (Space k) v) (whole g2) (parcel_in names2 (Hand k) p).root (Paired (map (λ n. name_in names (Space k) (Own n)) P.names) (map Own (names2 (Hand k))))
+    alike = ⊎_elim own_alike (λ h. published_alike h.0 h.1) (held w names bound g R k m v at P.well P.within knows)
 
     -- a new object stands in the hand
     stands_new : (n : ℕ) (y : Owned) → g n ≡ None → g2 n ≡ Some y → (y.owner ≡ Hand k) × ((i : ℕ) × (i < length p.objects) × (slice_index (names2 (Hand k)) i ≡ n))

@@ -11,10 +11,10 @@ use Rattle.rr_port.specs.Ports.{Port}
 use Rattle.rr_store.specs.Stores.{constant_of}
 use Rattle.rr_move.specs.declared.home.Home.{Home}
 use Rattle.rr_world.specs.Views.{Member, Channels, Assembly, with_port}
-use Rattle.rr_world.specs.Layouts.{layout, space_slots, hand_slots, inbox_slots, port_slots, port_inside, message_slots, message_below, MemberKnows, IsKnowing, DoHomesFit, IsRead}
+use Rattle.rr_world.specs.Layouts.{cluster_slots, layout, space_slots, hand_slots, inbox_slots, port_slots, port_inside, message_slots, message_below, MemberKnows, IsKnowing, DoHomesFit, IsRead}
 use Rattle.rr_world.specs.States.{Actor, Parcel, with_case}
 use Rattle.rr_world.specs.Readings.{each_from, actor_in, parcel_in, shells_in, showcase_in, post_in, state_in}
-use Rattle.rr_world.proofs.Knowing.{knows_on, member_on, set_cases, owned_set, emptied_knows, holding_knows}
+use Rattle.rr_world.proofs.Knowing.{order_on, knows_on, member_on, set_cases, owned_set, emptied_knows, holding_knows}
 use Rattle.rr_world.proofs.Lists.{eq_cases, set_at, set_off, seen_same, each_set}
 use Rattle.rr_world.proofs.Namings.{KeepsShared, actor_same, handed, post_shown, names_moved, parcel_moved, shared_kept, showcase_same}
 use Rattle.rr_world.proofs.Offering.{objects_stay}
@@ -23,10 +23,10 @@ use Rattle.rr_world.proofs.PortInsides.{IsComing, IsLeaving}
 knows_ported : (w w2 : Assembly) (k c : ℕ) (m2 : Member) (p2 : Port) → w2.ractors ≡ slice_set w.ractors k m2 → w2.channels ≡ with_port w.channels c p2 → MemberKnows (layout w) m2
     → ((e : Entry) → Contains (port_inside p2) e → Knows (message_below e.message) (layout w)) → IsKnowing w → IsKnowing w2
 knows_ported w w2 k c m2 p2 rs is M I K = record {
-  ractors = λ j m at. member_on w w2 m (⊎_elim (λ same. subst (MemberKnows (layout w)) same M) (λ there. K.ractors j m there) (set_cases w.ractors k j m2 m (ap (λ xs. slice_get xs j) (sym rs) ∙ at)));
-  store = λ n v here. knows_on w w2 _ (K.store n v (ap (λ (x : Channels). constant_of x.store n) (sym is) ∙ here));
-  inboxes = λ d i e at has. knows_on w w2 (message_below e.message) (K.inboxes d i e (ap (λ (x : Channels). slice_get x.inboxes d) (sym is) ∙ at) has);
-  ports = λ d p e at has. knows_on w w2 (message_below e.message) (⊎_elim
+  ractors = λ j m at. member_on w w2 (ap (λ (x : Channels). x.store.clusters) is) m (⊎_elim (λ same. subst (MemberKnows (layout w)) same M) (λ there. K.ractors j m there) (set_cases w.ractors k j m2 m (ap (λ xs. slice_get xs j) (sym rs) ∙ at)));
+  store = λ n v here. knows_on w w2 (ap (λ (x : Channels). x.store.clusters) is) _ (K.store n v (ap (λ (x : Channels). constant_of x.store n) (sym is) ∙ here));
+  inboxes = λ d i e at has. knows_on w w2 (ap (λ (x : Channels). x.store.clusters) is) (message_below e.message) (K.inboxes d i e (ap (λ (x : Channels). slice_get x.inboxes d) (sym is) ∙ at) has);
+  ports = λ d p e at has. knows_on w w2 (ap (λ (x : Channels). x.store.clusters) is) (message_below e.message) (⊎_elim
       (λ same. I e (subst (λ (x : Port). Contains (port_inside x) e) (sym same) has))
       (λ there. K.ports d p e there has)
       (set_cases w.channels.ports c d p2 p (ap (λ (x : Channels). slice_get x.ports d) (sym is) ∙ at)));
@@ -43,6 +43,7 @@ read_ported w w2 k c m m2 p2 at rs is same M I fits R tables = record {
   inboxes = ap (λ (x : Channels). length x.inboxes) is ∙ R.inboxes ∙ sym (length-set w.ractors k m2) ∙ sym (ap length rs);
   ports = ap (λ (x : Channels). length x.ports) is ∙ length-set w.channels.ports c p2 ∙ R.ports ∙ sym (length-set w.ractors k m2) ∙ sym (ap length rs);
   fits = fits R.fits;
+  clusters = order_on w w2 (ap (λ (x : Channels). x.store.clusters) is) R.clusters;
 }
 
 -- ---- Into a port.
@@ -70,7 +71,7 @@ module _ (w w2 : Assembly) (k c : ℕ) (m : Member) (home : Option Home) (ticket
 
       other : (d ≡ c → ⊥) → option_and_then (port_slots u) (slice_get (slice_set w.channels.ports c p2) d) ≡ option_and_then (port_slots u) (slice_get w.channels.ports d)
       other z = ap (option_and_then (port_slots u)) (set_off w.channels.ports c d p2 z)
-  rest (Shared d) q r = refl
+  rest (Shared d) q r = ap (λ (x : Channels). option_map cluster_slots (slice_get x.store.clusters d)) is
 
   goes : Goes (Hand k) (Shown c e.ticket) e.message.objects [] (layout w) (layout w2)
   unfolding layout
@@ -139,7 +140,7 @@ module _ (w w2 : Assembly) (k c : ℕ) (m : Member) (ticket : Option ℕ) (p p2 
 
       other : (d ≡ c → ⊥) → option_and_then (port_slots u) (slice_get (slice_set w.channels.ports c p2) d) ≡ option_and_then (port_slots u) (slice_get w.channels.ports d)
       other z = ap (option_and_then (port_slots u)) (set_off w.channels.ports c d p2 z)
-  rest_out (Shared d) q r = refl
+  rest_out (Shared d) q r = ap (λ (x : Channels). option_map cluster_slots (slice_get x.store.clusters d)) is
 
   goes_out : Goes (Shown c e.ticket) (Hand k) e.message.objects [] (layout w) (layout w2)
   unfolding layout

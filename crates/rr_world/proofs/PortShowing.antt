@@ -24,7 +24,7 @@ use Rattle.rr_port.specs.declared.last.LastGiven.{LastGiven}
 use Rattle.rr_port.specs.declared.last.Settled.TheVariants as settled
 use Rattle.rr_port.specs.declared.last.Shown.{Shown as ShownMessage}
 use Rattle.rr_world.specs.Views.{Member, Channels, Assembly, IsFree, IsWaiting, MayHaveBack, IsOfAnother, waits_under, with_port}
-use Rattle.rr_world.specs.Layouts.{DoHomesFit, IsRead, MemberKnows, layout, space_slots, hand_slots, inbox_slots, port_slots, shown_inside, last_inside}
+use Rattle.rr_world.specs.Layouts.{cluster_slots, DoHomesFit, IsRead, MemberKnows, layout, space_slots, hand_slots, inbox_slots, port_slots, shown_inside, last_inside}
 use Rattle.rr_world.specs.PortCases.{HasShowRoom, IsShowRefused, IsUnder, IsLetGo}
 use Rattle.rr_world.specs.States.{Letter, Farewell, Showcase, Parcel, Post, Actor, IsSame, with_case}
 use Rattle.rr_world.specs.Readings.{actor_in, each_from, parcel_in, shells_in, shown_in, farewell_in, showcase_in, post_in, state_in}
@@ -255,7 +255,7 @@ module _ (w w2 : Assembly) (k : ℕ) (m m2 : Member) (t : ℕ) (at : slice_get w
     tables (Hand j) = ap (λ xs. option_and_then hand_slots (slice_get xs j)) rs ∙ seen_same (option_and_then hand_slots) w.ractors k j m m2 at (ap hand_slots bare)
     tables (Mail d u) = ap (λ (x : Channels). option_and_then (inbox_slots u) (slice_get x.inboxes d)) is
     tables (Shown d u) = ap (λ (x : Channels). option_and_then (port_slots u) (slice_get x.ports d)) is
-    tables (Shared d) = refl
+    tables (Shared d) = ap (λ (x : Channels). option_map cluster_slots (slice_get x.store.clusters d)) is
 
     bare_read : (names : Naming) (bound : ℕ) (g : Objects) → IsRead w names bound g → IsRead w2 names bound g
     bare_read names bound g R =

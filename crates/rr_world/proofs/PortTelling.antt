@@ -9,7 +9,7 @@ use Rattle.rr_space.proofs.Frames.{reading_same}
 use Rattle.rr_port.specs.Ports.{Port}
 use Rattle.rr_store.specs.Stores.{constant_of}
 use Rattle.rr_world.specs.Views.{Member, Channels, Assembly, with_port}
-use Rattle.rr_world.specs.Layouts.{layout, space_slots, hand_slots, inbox_slots, port_slots, port_inside, mail_slots, message_below, IsKnowing}
+use Rattle.rr_world.specs.Layouts.{cluster_slots, layout, space_slots, hand_slots, inbox_slots, port_slots, port_inside, mail_slots, message_below, IsKnowing}
 use Rattle.rr_world.specs.States.{IsSame, with_case}
 use Rattle.rr_world.specs.Readings.{each_from, actor_in, showcase_in, post_in, state_in}
 use Rattle.rr_world.specs.Enabling.{StandsAt, HasPort, IsPossible}
@@ -22,7 +22,7 @@ use Rattle.rr_world.specs.declared.step.Reply.TheVariants.{WasClosed}
 use Rattle.rr_world.specs.Enabling.{Allows}
 use Rattle.rr_world.proofs.Enabled.{actor_at}
 use Rattle.rr_world.proofs.Fitting.{WaitsAsBefore, ShowsAsBefore, fits_on, same_as_before, set_as_before, shows_same, shows_still, waits_still}
-use Rattle.rr_world.proofs.Knowing.{knows_on, member_on, set_cases}
+use Rattle.rr_world.proofs.Knowing.{order_on, knows_on, member_on, set_cases}
 use Rattle.rr_world.proofs.Lists.{each_at, each_back, seen_same}
 use Rattle.rr_world.proofs.Namings.{post_shown}
 
@@ -49,14 +49,14 @@ module _ (w w2 : Assembly) (c : ℕ) (p p2 : Port) (port : slice_get w.channels.
   tables (Hand j) = ap (λ xs. option_and_then hand_slots (slice_get xs j)) rs
   tables (Mail d u) = ap (λ (x : Channels). option_and_then (inbox_slots u) (slice_get x.inboxes d)) is
   tables (Shown d u) = ap (λ (x : Channels). option_and_then (port_slots u) (slice_get x.ports d)) is ∙ seen_same (option_and_then (port_slots u)) w.channels.ports c d p p2 port (ap (mail_slots u) inside)
-  tables (Shared d) = refl
+  tables (Shared d) = ap (λ (x : Channels). option_map cluster_slots (slice_get x.store.clusters d)) is
 
   told_knows : IsKnowing w → IsKnowing w2
   told_knows K = record {
-    ractors = λ j m at. member_on w w2 m (K.ractors j m (ap (λ xs. slice_get xs j) (sym rs) ∙ at));
-    store = λ n v here. knows_on w w2 _ (K.store n v (ap (λ (x : Channels). constant_of x.store n) (sym is) ∙ here));
-    inboxes = λ d i e at has. knows_on w w2 (message_below e.message) (K.inboxes d i e (ap (λ (x : Channels). slice_get x.inboxes d) (sym is) ∙ at) has);
-    ports = λ d x e at has. knows_on w w2 (message_below e.message) (⊎_elim
+    ractors = λ j m at. member_on w w2 (ap (λ (x : Channels). x.store.clusters) is) m (K.ractors j m (ap (λ xs. slice_get xs j) (sym rs) ∙ at));
+    store = λ n v here. knows_on w w2 (ap (λ (x : Channels). x.store.clusters) is) _ (K.store n v (ap (λ (x : Channels). constant_of x.store n) (sym is) ∙ here));
+    inboxes = λ d i e at has. knows_on w w2 (ap (λ (x : Channels). x.store.clusters) is) (message_below e.message) (K.inboxes d i e (ap (λ (x : Channels). slice_get x.inboxes d) (sym is) ∙ at) has);
+    ports = λ d x e at has. knows_on w w2 (ap (λ (x : Channels). x.store.clusters) is) (message_below e.message) (⊎_elim
         (λ same. K.ports c p e port (subst (λ xs. Contains xs e) inside (subst (λ (y : Port). Contains (port_inside y) e) (sym same) has)))
         (λ there. K.ports d x e there has)
         (set_cases w.channels.ports c d p2 x (ap (λ (x : Channels). slice_get x.ports d) (sym is) ∙ at)));
@@ -78,6 +78,7 @@ module _ (w w2 : Assembly) (c : ℕ) (p p2 : Port) (port : slice_get w.channels.
       ports = ap (λ (x : Channels). length x.ports) is ∙ length-set w.channels.ports c p2 ∙ R.ports ∙ sym (ap length rs);
       fits = fits_on w w2 (same_as_before WaitsAsBefore w.ractors w2.ractors rs waits_still)
           (set_as_before ShowsAsBefore w.channels.ports w2.channels.ports c p p2 port (ap (λ (x : Channels). x.ports) is) (shows_same p p2 shown) shows_still) R.fits;
+      clusters = order_on w w2 (ap (λ (x : Channels). x.store.clusters) is) R.clusters;
     },
     case names g (record {
       objects = λ n. refl;

@@ -1,25 +1,28 @@
 -- A value that was read joins the roots.
-use Rattle.std.proofs.Common.{◌≡◌, ℕ, ⊎_elim, [], ◌∷◌, ◌++◌, Option, Some, None, slice_get, Contains, sym, ap, ◌∙◌, subst, refl, arith}
+use Rattle.std.proofs.Common.{◌≡◌, ℕ, ⊎_elim, [], ◌∷◌, ◌++◌, length, map, Option, Some, None, slice_get, Contains, sym, ap, ◌∙◌, subst, refl, arith}
 use Rattle.std.specs.Prelude.{slice_index, slice_set}
 use Rattle.std.specs.Option.{option_map, option_and_then}
-use Rattle.std.proofs.lemmas.List.{map-append}
+use Rattle.std.proofs.lemmas.List.{length-map, map-append}
 use Rattle.std.proofs.lemmas.List.Elements.{Contains-append_cases}
 use Rattle.std.proofs.lemmas.Option.{none-some, same_Some}
 use Rattle.rr_base.specs.declared.name.RactorNo.{RactorNo}
 use Rattle.rr_space.specs.Graph.{Own, Value, At, Label, Object}
 use Rattle.rr_space.specs.Labels.{label_of, triples_at, triples_of}
-use Rattle.rr_space.specs.Tables.{Slot, Here, Led, joined, renamed_triple}
-use Rattle.rr_space.specs.Views.{slot_object}
-use Rattle.rr_space.specs.Parts.{value_of, below_ref}
-use Rattle.rr_space.specs.Readings.{Owner, Space, Hand, Mail, Shown, Shared, Owned, Objects, Naming, Layout, Knows, named, name_in}
+use Rattle.rr_space.specs.Tables.{Slot, Here, Led, Below, joined, numbered_object, outer_objects, renamed, renamed_triple}
+use Rattle.rr_space.specs.Sound.{IsWell}
+use Rattle.rr_space.specs.Views.{object_at, slot_object}
+use Rattle.rr_space.specs.Parts.{value_of, below_ref, IsWithin}
+use Rattle.rr_space.specs.Readings.{Owner, Space, Hand, Mail, Shown, Shared, Owned, Objects, Naming, Layout, Knows, Reads as TableReads, named, name_in}
 use Rattle.rr_space.specs.declared.refer.Ref.{Ref}
 use Rattle.rr_space.specs.declared.refer.Ref.TheVariants as ref
 use Rattle.rr_space.specs.declared.label.Label.{Label as CodeLabel}
 use Rattle.rr_space.proofs.Frames.{reading_same}
 use Rattle.rr_space.proofs.Renaming.{contains_at, map_at, mapped_at, contains_map, contains_map_back}
-use Rattle.rr_space.proofs.Sounds.{none_in, in_first}
+use Rattle.rr_space.proofs.Hands.{some_back}
+use Rattle.rr_space.proofs.Sounds.{gets, joined_in, none_in, in_first}
+use Rattle.rr_space.proofs.Spaces.{known_at}
 use Rattle.rr_world.specs.Views.{Member, Channels, Assembly}
-use Rattle.rr_world.specs.Layouts.{layout, space_slots, hand_slots, inbox_slots, port_slots, MemberKnows, IsRead}
+use Rattle.rr_world.specs.Layouts.{layout, space_slots, hand_slots, inbox_slots, port_slots, cluster_slots, MemberKnows, IsRead}
 use Rattle.rr_world.specs.States.{Actor}
 use Rattle.rr_world.specs.Readings.{each_from, actor_in, root_in, post_in, state_in}
 use Rattle.rr_world.specs.Enabling.{StandsAt, named_value}
@@ -31,12 +34,13 @@ use Rattle.rr_world.specs.declared.step.Operand.{Operand}
 use Rattle.rr_world.specs.declared.step.Action.TheVariants.{Read}
 use Rattle.rr_world.specs.declared.step.Reply.{Reply}
 use Rattle.rr_world.specs.declared.step.Reply.TheVariants.{NotEnabled, Done, Offered, Empty, EmptyAndClosed, WasClosed, Refused, Started, Settled, GrabbedLast, OfMain}
-use Rattle.rr_world.proofs.Changes.{at_slot}
 use Rattle.rr_world.proofs.Enabled.{actor_at, allowed}
-use Rattle.rr_world.proofs.Knowing.{no_clusters, none_known, knows_either, read_set}
+use Rattle.rr_world.proofs.Knowing.{knows_fewer, knows_either, read_set}
+use Rattle.rr_world.proofs.Published.{outer_named}
+use Rattle.rr_world.proofs.Seeing.{place_there}
 use Rattle.rr_world.proofs.Lists.{seen_same, each_set}
-use Rattle.rr_world.proofs.Making.{slot_named, value_on, unmade, unmade_for}
-use Rattle.rr_world.proofs.Operands.{known_named}
+use Rattle.rr_world.proofs.Making.{value_on, unmade, unmade_for}
+use Rattle.rr_world.proofs.Operands.{known_named, ref_within, value_named}
 use Rattle.rr_world.proofs.Staying.{same_state}
 use Rattle.rr_world.proofs.Fitting.{waits_same}
 
@@ -48,50 +52,108 @@ module _ (w : Assembly) (names : Naming) (bound : ℕ) (g : Objects) (R : IsRead
   unfolding layout
   here_space = ap (option_map space_slots) at
 
-  -- what stands under a label stands in an object of the space
-  slot_under : (op : Operand) (v : Ref) (l : Label) (x : Value) → named_ref m.roots op ≡ Some v → Contains (triples_at m.space v) (l, x)
-      → (i : ℕ) × (raw : Object) × (v ≡ ref.Local i) × (slice_get m.space.slots i ≡ Some (Here raw))
-  slot_under op v l x is_named has = by v is_named has
-    where
-      at_place : (i : ℕ) (y : Option Slot) → slice_get m.space.slots i ≡ y → Contains (triples_at m.space (ref.Local i)) (l, x)
-          → (j : ℕ) × (raw : Object) × (ref.Local i ≡ ref.Local j) × (slice_get m.space.slots j ≡ Some (Here raw))
-      at_place i (Some (Here raw)) e h = (i, raw, refl, e)
-      at_place i (Some (Led c q)) e h = let z = (R.tables.sound (Space k) m.space.slots here_space).led i c q e in absurd (none-some z.0 (sym (no_clusters w c) ∙ z.2))
-      at_place i None e h = absurd (none_in (l, x) (subst (λ ts. Contains ts (l, x)) (ap (λ y. triples_of (slot_object y (slice_get m.space.below i))) e) h))
+  reads : TableReads (layout w) names g (Space k) m.space.slots
+  reads = R.tables.reads (Space k) m.space.slots here_space
 
-      by : (r : Ref) → named_ref m.roots op ≡ Some r → Contains (triples_at m.space r) (l, x) → (i : ℕ) × (raw : Object) × (r ≡ ref.Local i) × (slice_get m.space.slots i ≡ Some (Here raw))
-      by ref.Nil n h = absurd (none_in (l, x) h)
-      by (ref.Truth b) n h = absurd (none_in (l, x) h)
-      by (ref.Int b) n h = absurd (none_in (l, x) h)
-      by (ref.Symbol b) n h = absurd (none_in (l, x) h)
-      by (ref.Class b) n h = absurd (none_in (l, x) h)
-      by (ref.Ractor b) n h = absurd (none_in (l, x) h)
-      by (ref.Local i) n h = at_place i (slice_get m.space.slots i) refl h
-      by (ref.Shared q c) n h = absurd (none_known w (below_ref (ref.Shared q c)) (known_named (layout w) m.roots op (ref.Shared q c) (R.knows.ractors k m at).roots n) _ _ (0, omega arith, refl))
+  space_known : Knows (joined m.space.below) (layout w)
+  space_known = (R.knows.ractors k m at).space
+
+  -- the object that a value leads to stands in the whole graph, under the value's name
+  object_seen : (v : Ref) → Knows (below_ref v) (layout w) → (o : Object) → object_at m.space v ≡ Some o
+      → (n : ℕ) × (y : Owned) × (root_in names (Space k) v ≡ At (Own n)) × (g n ≡ Some y) × (y.object ≡ named names (Space k) o)
+  object_seen ref.Nil K o e = absurd (none-some o e)
+  object_seen (ref.Truth b) K o e = absurd (none-some o e)
+  object_seen (ref.Int b) K o e = absurd (none-some o e)
+  object_seen (ref.Symbol b) K o e = absurd (none-some o e)
+  object_seen (ref.Class b) K o e = absurd (none-some o e)
+  object_seen (ref.Ractor b) K o e = absurd (none-some o e)
+  object_seen (ref.Shared p c) K o e =
+      let a = K.known c.now.number (outer_objects c.now) (0, omega arith, refl) in
+      let b = mapped_at (numbered_object c.now.number) a.0 p o (ap (λ os. slice_get os p) a.2 ∙ e) in (
+        slice_index (names (Shared c.now.number)) p,
+        record { owner = Shared c.now.number; object = named names (Shared c.now.number) b.0 },
+        refl,
+        (R.tables.reads (Shared c.now.number) (map Here a.0) a.1).here p b.0 (map_at Here a.0 p b.0 b.1),
+        outer_named names (Space k) c.now.number b.0 ∙ ap (named names (Space k)) b.2,
+      )
+  object_seen (ref.Local i) K o e = by (slice_get m.space.slots i) (slice_get m.space.below i) refl refl e
+    where
+      by : (x : Option Slot) (b : Option Below) → slice_get m.space.slots i ≡ x → slice_get m.space.below i ≡ b → slot_object x b ≡ Some o
+          → (n : ℕ) × (y : Owned) × (At (Own (slice_index (names (Space k)) i)) ≡ At (Own n)) × (g n ≡ Some y) × (y.object ≡ named names (Space k) o)
+      by None b s t is = absurd (none-some o is)
+      by (Some (Here raw)) b s t is =
+          (slice_index (names (Space k)) i, record { owner = Space k; object = named names (Space k) raw }, refl, reads.here i raw s, ap (named names (Space k)) (same_Some raw o is))
+      by (Some (Led c q)) None s t is = absurd (none-some o is)
+      by (Some (Led c q)) (Some b) s t is =
+          let known = knows_fewer (layout w) b (joined m.space.below) (λ x has. joined_in m.space.below i b x t has) space_known in
+          let a = known_at b (layout w) known c q o is in (
+            slice_index (names (Space k)) i,
+            record { owner = Shared c; object = named names (Shared c) a.1 },
+            refl,
+            ap g (reads.led i c q s) ∙ (R.tables.reads (Shared c) a.0 a.2).here q a.1 a.3,
+            outer_named names (Space k) c a.1 ∙ ap (named names (Space k)) a.4,
+          )
+
+  -- what has something under a label is an object
+  object_under : (v : Ref) (t : Label × Value) → Contains (triples_at m.space v) t → (o : Object) × (object_at m.space v ≡ Some o)
+  object_under v t has = by (object_at m.space v) refl
+    where
+      by : (x : Option Object) → object_at m.space v ≡ x → (o : Object) × (object_at m.space v ≡ Some o)
+      by None e = absurd (none_in t (subst (λ (y : Option Object). Contains (triples_of y) t) e has))
+      by (Some o) e = (o, e)
+
+  -- the object that an operand is, which has something under a label
+  pub under_seen : (op : Operand) (v : Ref) (t : Label × Value) → named_ref m.roots op ≡ Some v → Contains (triples_at m.space v) t
+      → (n : ℕ) × (y : Owned) × (named_value (actor_in names k m).roots op ≡ Some (At (Own n))) × (g n ≡ Some y) × (y.object.triples ≡ map (renamed_triple (name_in names (Space k))) (triples_at m.space v))
+  under_seen op v t is_named has =
+      let o = object_under v t has in
+      let q = object_seen v (known_named (layout w) m.roots op v (R.knows.ractors k m at).roots is_named) o.0 o.1 in (
+        q.0,
+        q.1,
+        value_on w names bound g R k m at op v is_named ∙ ap (λ x. Some x) q.2,
+        q.3,
+        ap (λ (x : Object). x.triples) q.4 ∙ ap (λ (x : Option Object). map (renamed_triple (name_in names (Space k))) (triples_of x)) (sym o.1),
+      )
 
   -- in the machine, a read is of an object that has the label
   under_on : (who : RactorNo) (op : Operand) (l : Label) → HasUnder op l m
       → (n : ℕ) × (y : Owned) × (x : Value) × (named_value (actor_in names k m).roots op ≡ Some (At (Own n))) × (g n ≡ Some y) × Contains y.object.triples (l, x)
   under_on who op l (v, x, is_named, has) =
-      let s = slot_under op v l x is_named has in
-      let raw_has : Contains s.1.triples (l, x) = subst (λ ts. Contains ts (l, x)) (at_slot m.space v s.0 s.1 s.2 s.3) has in (
-        slice_index (names (Space k)) s.0,
-        record { owner = Space k; object = named names (Space k) s.1 },
-        _,
-        value_on w names bound g R k m at op v is_named ∙ ap (λ r. Some (root_in names (Space k) r)) s.2,
-        (R.tables.reads (Space k) m.space.slots here_space).here s.0 s.1 s.3,
-        contains_map (renamed_triple (name_in names (Space k))) s.1.triples (l, x) raw_has,
-      )
+      let s = under_seen op v (l, x) is_named has in
+      (s.0, s.1, _, s.2, s.3, subst (λ ts. Contains ts (l, renamed (name_in names (Space k)) x)) (sym s.4) (contains_map (renamed_triple (name_in names (Space k))) (triples_at m.space v) (l, x) has))
 
-  under_back : (who : RactorNo) (op : Operand) (l : Label) → HasRootsWithin m
+  -- a value that has a name in the machine is an object
+  object_there : (v : Ref) (n : ℕ) → IsWell m.space → IsWithin (length m.space.slots) v → root_in names (Space k) v ≡ At (Own n) → (o : Object) × (object_at m.space v ≡ Some o)
+  object_there ref.Nil n well h e = let z : ⊥ = cc in absurd z
+  object_there (ref.Truth b) n well h e = let z : ⊥ = cc in absurd z
+  object_there (ref.Int b) n well h e = let z : ⊥ = cc in absurd z
+  object_there (ref.Symbol b) n well h e = let z : ⊥ = cc in absurd z
+  object_there (ref.Class b) n well h e = let z : ⊥ = cc in absurd z
+  object_there (ref.Ractor b) n well h e = let z : ⊥ = cc in absurd z
+  object_there (ref.Shared p c) n well h e = gets (outer_objects c.now) p (let many = length-map c.now.own (numbered_object c.now.number) in let lt = h.within in omega (arith, many, lt))
+  object_there (ref.Local i) n well h e =
+      let x = gets m.space.slots i h in
+      let b = gets m.space.below i (let many = well.sound.count in omega (arith, h, many)) in
+      by x.0 b.0 x.1 b.1
+    where
+      by : (x : Slot) (b : Below) → slice_get m.space.slots i ≡ Some x → slice_get m.space.below i ≡ Some b → (o : Object) × (slot_object (slice_get m.space.slots i) (slice_get m.space.below i) ≡ Some o)
+      by (Here o) b s t = (o, ap (λ y. slot_object y (slice_get m.space.below i)) s)
+      by (Led c q) b s t =
+          let known = knows_fewer (layout w) b (joined m.space.below) (λ y has. joined_in m.space.below i b y t has) space_known in
+          let o = place_there b (layout w) known c q (well.sound.slots i (Led c q) b s t) in
+          (o.0, ap (λ y. slot_object y (slice_get m.space.below i)) s ∙ ap (slot_object (Some (Led c q))) t ∙ o.1)
+
+  under_back : (who : RactorNo) (op : Operand) (l : Label) → IsWell m.space → HasRootsWithin m
       → (n : ℕ) × (y : Owned) × (x : Value) × (named_value (actor_in names k m).roots op ≡ Some (At (Own n))) × (g n ≡ Some y) × Contains y.object.triples (l, x) → HasUnder op l m
-  under_back who op l within (n, y, x, is_named, here, has) =
-      let s = slot_named w names bound g R k m at op n within is_named in
-      let read = (R.tables.reads (Space k) m.space.slots here_space).here s.0 s.1 s.2.here in
-      let one : named names (Space k) s.1 ≡ y.object = ap (λ (z : Owned). z.object) (same_Some _ y (sym read ∙ ap g s.3 ∙ here)) in
-      let b = contains_map_back (renamed_triple (name_in names (Space k))) s.1.triples (l, x) (subst (λ (z : Object). Contains z.triples (l, x)) (sym one) has) in
+  under_back who op l well within (n, y, x, is_named, here, has) =
+      let v = some_back (root_in names (Space k)) (named_ref m.roots op) (At (Own n)) (sym (value_named names (Space k) m.roots op) ∙ is_named) in
+      let o = object_there v.0 n well (ref_within (length m.space.slots) m.roots op v.0 within v.1) v.2 in
+      let q = object_seen v.0 (known_named (layout w) m.roots op v.0 (R.knows.ractors k m at).roots v.1) o.0 o.1 in
+      let name : q.0 ≡ n = let z : At (Own q.0) ≡ At (Own n) = sym q.2 ∙ v.2 in cc in
+      let one : named names (Space k) o.0 ≡ y.object = sym q.4 ∙ ap (λ (z : Owned). z.object) (same_Some q.1 y (sym q.3 ∙ ap g name ∙ here)) in
+      let b = contains_map_back (renamed_triple (name_in names (Space k))) o.0.triples (l, x) (subst (λ (z : Object). Contains z.triples (l, x)) (sym one) has) in
       let label : b.0.0 ≡ l = ap (λ (t : Label × Value). t.0) b.2 in
-      (ref.Local s.0, b.0.1, s.2.named, subst (λ ts. Contains ts (l, b.0.1)) (sym (at_slot m.space (ref.Local s.0) s.0 s.1 refl s.2.here)) (subst (λ j. Contains s.1.triples (j, b.0.1)) label b.1))
+      (v.0, b.0.1, v.1, subst (λ (z : Option Object). Contains (triples_of z) (l, b.0.1)) (sym o.1) (subst (λ j. Contains o.0.triples (j, b.0.1)) label b.1))
 
 module _ (w w2 : Assembly) (who : RactorNo) (k : ℕ) (m m2 : Member) (op : Operand) (label : CodeLabel) (v r : Ref) (at : slice_get w.ractors k ≡ Some m) (rs : w2.ractors ≡ slice_set w.ractors k m2)
     (is : w2.channels ≡ w.channels) (stands : StandsAt who k) (A : IsReadBy op (label_of label) v r m m2) where
@@ -104,7 +166,7 @@ module _ (w w2 : Assembly) (who : RactorNo) (k : ℕ) (m m2 : Member) (op : Oper
   same_tables (Hand j) = ap (λ xs. option_and_then hand_slots (slice_get xs j)) set ∙ seen_same (option_and_then hand_slots) w.ractors k j m (with_root m r) at refl
   same_tables (Mail d u) = ap (λ (x : Channels). option_and_then (inbox_slots u) (slice_get x.inboxes d)) is
   same_tables (Shown d u) = ap (λ (x : Channels). option_and_then (port_slots u) (slice_get x.ports d)) is
-  same_tables (Shared d) = refl
+  same_tables (Shared d) = ap (λ (x : Channels). option_map cluster_slots (slice_get x.store.clusters d)) is
 
   root_known : (tables : Layout) → MemberKnows tables m → MemberKnows tables (with_root m r)
   root_known tables K = record {
@@ -125,21 +187,20 @@ module _ (w w2 : Assembly) (who : RactorNo) (k : ℕ) (m m2 : Member) (op : Oper
 
   read_as : (names : Naming) (bound : ℕ) (g : Objects) → IsRead w names bound g → IsReadAs k (actor_in names k m) op (label_of label) (state_in w names g) (state_in w2 names g)
   read_as names bound g R =
-      let s = slot_under w names bound g R k m at op v (label_of label) (value_of r) A.named under.3 in
-      let raw_is : triples_at m.space v ≡ s.1.triples = at_slot m.space v s.0 s.1 s.2 s.3 in
+      let s = under_seen w names bound g R k m at op v (label_of label, value_of r) A.named under.3 in
       record {
-        name = slice_index (names (Space k)) s.0;
-        owned = record { owner = Space k; object = named names (Space k) s.1 };
+        name = s.0;
+        owned = s.1;
         value = root_in names (Space k) r;
-        named = value_on w names bound g R k m at op v A.named ∙ ap (λ q. Some (root_in names (Space k) q)) s.2;
-        here = (R.tables.reads (Space k) m.space.slots (here_space w names bound g R k m at)).here s.0 s.1 s.3;
+        named = s.2;
+        here = s.3;
         first = (
           A.first.0,
-          map_at (renamed_triple (name_in names (Space k))) s.1.triples A.first.0 (label_of label, value_of r) (ap (λ ts. slice_get ts A.first.0) (sym raw_is) ∙ A.first.1),
+          ap (λ ts. slice_get ts A.first.0) s.4 ∙ map_at (renamed_triple (name_in names (Space k))) (triples_at m.space v) A.first.0 (label_of label, value_of r) A.first.1,
           λ j y lt e.
-              let b = mapped_at (renamed_triple (name_in names (Space k))) s.1.triples j (label_of label, y) e in
+              let b = mapped_at (renamed_triple (name_in names (Space k))) (triples_at m.space v) j (label_of label, y) (ap (λ ts. slice_get ts j) (sym s.4) ∙ e) in
               let l_is : b.0.0 ≡ label_of label = ap (λ (t : Label × Value). t.0) b.2 in
-              A.first.2 j b.0.1 lt (ap (λ ts. slice_get ts j) raw_is ∙ b.1 ∙ ap (λ l. Some (l, b.0.1)) l_is),
+              A.first.2 j b.0.1 lt (b.1 ∙ ap (λ l. Some (l, b.0.1)) l_is),
         );
         objects = λ n. refl;
         ractors = ap (each_from (actor_in names) 0) set
@@ -162,8 +223,8 @@ pub read_of : (w w2 : Assembly) (who : RactorNo) (k : ℕ) (m m2 : Member) (op :
     → w2.channels ≡ w.channels → StandsAt who k → Reads op (label_of label) r m m2 → HasOutcome (record { who = who; action = Read op label }) r w w2
 read_of w w2 who k m m2 op label Done at rs is stands (v, r, A) = read_done w w2 who k m m2 op label v r at rs is stands A
 read_of w w2 who k m m2 op label NotEnabled at rs is stands a =
-    unmade w w2 who k m m2 (Read op label) at rs is a.2 (λ names bound g R e.
-    a.1 (under_back w names bound g R k m at who op (label_of label) a.0 (allowed w names g (record { who = who; action = Read op label }) k m stands at e)))
+    unmade w w2 who k m m2 (Read op label) at rs is a.3 (λ names bound g R e.
+    a.2 (under_back w names bound g R k m at who op (label_of label) a.0 a.1 (allowed w names g (record { who = who; action = Read op label }) k m stands at e)))
 read_of w w2 who k m m2 op label (Refused f) at rs is stands a =
     unmade_for w w2 who k m m2 (Read op label) f at rs is a.2 (λ names bound g R.
     (k, actor_in names k m, stands, actor_at w names g k m at, under_on w names bound g R k m at who op (label_of label) a.1, (a.0, same_state (state_in w names g))))

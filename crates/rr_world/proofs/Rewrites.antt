@@ -15,13 +15,14 @@ use Rattle.rr_space.proofs.Remaking.{remaking_is_a_step}
 use Rattle.rr_space.proofs.Renaming.{contains_map, contains_map_back}
 use Rattle.rr_space.proofs.Sounds.{gets}
 use Rattle.rr_world.specs.Views.{Member, Channels, Assembly}
-use Rattle.rr_world.specs.Layouts.{layout, space_slots, hand_slots, inbox_slots, port_slots, message_slots, MemberKnows, IsRead}
+use Rattle.rr_world.specs.Layouts.{cluster_slots, layout, space_slots, hand_slots, inbox_slots, port_slots, message_slots, MemberKnows, IsRead}
 use Rattle.rr_world.specs.Readings.{each_from, actor_in, shells_in, root_in, value_in, post_in, state_in, parcel_in}
 use Rattle.rr_world.specs.ObjectCases.{IsChangedTo}
 use Rattle.rr_world.specs.Changing.{IsRewritten}
 use Rattle.rr_world.proofs.Lists.{eq_cases, set_at, set_off, set_back, seen_same, each_set}
 use Rattle.rr_world.proofs.Namings.{actor_same, same_actor, post_same, hand_same, home_stands}
-use Rattle.rr_world.proofs.Knowing.{read_set, knows_either, none_known}
+use Rattle.rr_world.proofs.Knowing.{read_set, knows_either}
+use Rattle.rr_world.proofs.Published.{in_place}
 use Rattle.rr_world.proofs.Enabled.{actor_at}
 use Rattle.rr_world.proofs.Rooting.{roots_keep}
 use Rattle.rr_world.proofs.Changes.{set_length}
@@ -39,7 +40,7 @@ module _ (w w2 : Assembly) (k n : ℕ) (m m2 : Member) (o p : Object) (v : Ref) 
   rest (Hand j) q = ap (λ xs. option_and_then hand_slots (slice_get xs j)) rs ∙ seen_same (option_and_then hand_slots) w.ractors k j m m2 at (ap (option_map message_slots) A.hand)
   rest (Mail d u) q = ap (λ (x : Channels). option_and_then (inbox_slots u) (slice_get x.inboxes d)) is
   rest (Shown d u) q = ap (λ (x : Channels). option_and_then (port_slots u) (slice_get x.ports d)) is
-  rest (Shared d) q = refl
+  rest (Shared d) q = ap (λ (x : Channels). option_map cluster_slots (slice_get x.store.clusters d)) is
 
   was : layout w (Space k) ≡ Some m.space.slots
   unfolding layout
@@ -94,7 +95,7 @@ module _ (w w2 : Assembly) (k n : ℕ) (m m2 : Member) (o p : Object) (v : Ref) 
       by (ref.Class b) h L = tt
       by (ref.Ractor b) h L = tt
       by (ref.Local s) h L = h
-      by (ref.Shared q c) h L = absurd (none_known w (below_ref (ref.Shared q c)) L _ _ (0, omega arith, refl))
+      by (ref.Shared q c) h L = in_place (layout w) (length m.space.slots) (ref.Shared q c) h L
 
   -- each value of the new object is within
   all_within : IsSound (layout w) m.space.slots → Knows (below_ref v) (layout w) → (l : Label) (x : Value) → Contains p.triples (l, x) → IsInLayout (layout w) m.space.slots x

@@ -19,7 +19,7 @@ use Rattle.rr_inbox.specs.Inboxes.{Inbox, new_inbox}
 use Rattle.rr_port.specs.Ports.{Port, new_port}
 use Rattle.rr_store.specs.Stores.{constant_of}
 use Rattle.rr_world.specs.Views.{Member, Channels, Assembly}
-use Rattle.rr_world.specs.Layouts.{layout, space_slots, hand_slots, inbox_slots, port_slots, port_inside, message_slots, message_below, MemberKnows, IsKnowing, AreOwned, DoHomesFit, HaveInboxes, HavePorts, IsRead}
+use Rattle.rr_world.specs.Layouts.{cluster_slots, layout, space_slots, hand_slots, inbox_slots, port_slots, port_inside, message_slots, message_below, MemberKnows, IsKnowing, AreOwned, DoHomesFit, HaveInboxes, HavePorts, IsRead}
 use Rattle.rr_world.specs.States.{Actor}
 use Rattle.rr_world.specs.Readings.{each_from, actor_in, shells_in, mailbox_in, showcase_in, parcel_in, root_in, post_in, state_in}
 use Rattle.rr_world.specs.Enabling.{StandsAt}
@@ -29,7 +29,7 @@ use Rattle.rr_world.specs.Runs.{HasOutcome}
 use Rattle.rr_world.specs.declared.step.Action.TheVariants.{Start}
 use Rattle.rr_world.specs.declared.step.Reply.TheVariants.{Started, Refused}
 use Rattle.rr_world.proofs.Enabled.{actor_at}
-use Rattle.rr_world.proofs.Knowing.{knows_on, member_on}
+use Rattle.rr_world.proofs.Knowing.{order_on, knows_on, member_on}
 use Rattle.rr_world.proofs.Lists.{each_same}
 use Rattle.rr_world.proofs.Namings.{actor_same, same_actor, archive_same, mailbox_same, ports_same, same_post}
 use Rattle.rr_world.proofs.Staying.{stays, same_state}
@@ -118,7 +118,7 @@ module _ (w w2 : Assembly) (limits : Limits) (m2 : Member) (A : IsBegun limits (
   rest (Hand j) q = ap (λ xs. option_and_then hand_slots (slice_get xs j)) rs ∙ seen_more (option_and_then hand_slots) w.ractors m2 j refl (ap (option_map message_slots) A.hand)
   rest (Mail d u) q = ap (λ (x : Channels). option_and_then (inbox_slots u) (slice_get x.inboxes d)) is ∙ seen_more (option_and_then (inbox_slots u)) w.channels.inboxes (new_inbox limits.events) d refl refl
   rest (Shown d u) q = ap (λ (x : Channels). option_and_then (port_slots u) (slice_get x.ports d)) is ∙ seen_more (option_and_then (port_slots u)) w.channels.ports (new_port limits.events) d refl refl
-  rest (Shared d) q = refl
+  rest (Shared d) q = ap (λ (x : Channels). option_map cluster_slots (slice_get x.store.clusters d)) is
 
   was : layout w (Space place) ≡ None
   unfolding layout
@@ -180,13 +180,13 @@ module _ (w w2 : Assembly) (limits : Limits) (m2 : Member) (A : IsBegun limits (
 
   more_knows : IsKnowing w → IsKnowing w2
   more_knows K = record {
-    ractors = λ j m at. member_on w w2 m (⊎_elim (λ old. K.ractors j m old) (λ new. subst (MemberKnows (layout w)) new.1 (bare_knows (layout w) m2 A.below A.roots A.hand)) (last_cases w.ractors m2 j m (ap (λ xs. slice_get xs j) (sym rs) ∙ at)));
-    store = λ n v here. knows_on w w2 (below_ref v) (K.store n v (ap (λ (x : Channels). constant_of x.store n) (sym is) ∙ here));
-    inboxes = λ c i e at has. knows_on w w2 (message_below e.message) (⊎_elim
+    ractors = λ j m at. member_on w w2 (ap (λ (x : Channels). x.store.clusters) is) m (⊎_elim (λ old. K.ractors j m old) (λ new. subst (MemberKnows (layout w)) new.1 (bare_knows (layout w) m2 A.below A.roots A.hand)) (last_cases w.ractors m2 j m (ap (λ xs. slice_get xs j) (sym rs) ∙ at)));
+    store = λ n v here. knows_on w w2 (ap (λ (x : Channels). x.store.clusters) is) (below_ref v) (K.store n v (ap (λ (x : Channels). constant_of x.store n) (sym is) ∙ here));
+    inboxes = λ c i e at has. knows_on w w2 (ap (λ (x : Channels). x.store.clusters) is) (message_below e.message) (⊎_elim
         (λ old. K.inboxes c i e old has)
         (λ new. absurd (none_in e (subst (λ (x : Inbox). Contains x.inside e) (sym new.1) has)))
         (last_cases w.channels.inboxes (new_inbox limits.events) c i (ap (λ (x : Channels). slice_get x.inboxes c) (sym is) ∙ at)));
-    ports = λ c p e at has. knows_on w w2 (message_below e.message) (⊎_elim
+    ports = λ c p e at has. knows_on w w2 (ap (λ (x : Channels). x.store.clusters) is) (message_below e.message) (⊎_elim
         (λ old. K.ports c p e old has)
         (λ new. absurd (none_in e (subst (λ (x : Port). Contains (port_inside x) e) (sym new.1) has)))
         (last_cases w.channels.ports (new_port limits.events) c p (ap (λ (x : Channels). slice_get x.ports c) (sym is) ∙ at)));
@@ -223,7 +223,7 @@ module _ (w w2 : Assembly) (limits : Limits) (m2 : Member) (A : IsBegun limits (
         q.0,
         bound + 0,
         q.1,
-        record { tables = q.2; knows = more_knows R.knows; owned = more_owned R.owned; inboxes = more_inboxes R.inboxes; ports = more_ports R.ports; fits = more_fits R.fits },
+        record { tables = q.2; knows = more_knows R.knows; owned = more_owned R.owned; inboxes = more_inboxes R.inboxes; ports = more_ports R.ports; fits = more_fits R.fits; clusters = order_on w w2 (ap (λ (x : Channels). x.store.clusters) is) R.clusters },
         (k, actor_in names k m, stands, actor_at w names g k m at, tt, started names bound g R q.0 q.1 q.2 q.3 q.4 number (actor_in names k m) same next),
       )
 

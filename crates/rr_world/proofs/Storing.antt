@@ -11,10 +11,10 @@ use Rattle.rr_base.specs.declared.fault.Fault.{Fault}
 use Rattle.rr_base.specs.declared.fault.Fault.TheVariants as fault
 use Rattle.rr_base.specs.declared.event.StoreEvent.{StoreEvent}
 use Rattle.rr_base.specs.declared.event.StoreEvent.TheVariants as event
-use Rattle.rr_space.specs.Graph.{Own, At}
-use Rattle.rr_space.specs.Tables.{Slot, Here, Led}
+use Rattle.rr_space.specs.Graph.{Own, Published, At}
+use Rattle.rr_space.specs.Tables.{Slot, Here, Led, joined, resolve, resolve_slot}
 use Rattle.rr_space.specs.Parts.{value_of, below_ref, IsWithin}
-use Rattle.rr_space.specs.Readings.{Owner, Space, Hand, Mail, Shown, Shared, Owned, Objects, Naming, Knows, named}
+use Rattle.rr_space.specs.Readings.{Owner, Space, Hand, Mail, Shown, Shared, Owned, Objects, Naming, Layout, IsReading, Knows, named}
 use Rattle.rr_space.specs.declared.refer.Ref.{Ref}
 use Rattle.rr_space.specs.declared.refer.Ref.TheVariants as ref
 use Rattle.rr_space.proofs.Frames.{reading_same}
@@ -26,13 +26,13 @@ use Rattle.rr_store.specs.Answers.{IsSet, SetRefusal, GetRefusal}
 use Rattle.rr_store.specs.declared.constant.ConstValue.{ConstValue}
 use Rattle.rr_store.specs.declared.constant.ConstValue.TheVariants.{Shareable}
 use Rattle.rr_store.specs.declared.constant.ConstValue.TheVariants as store
-use Rattle.rr_world.specs.Views.{Member, Channels, Assembly, IsImmediate}
-use Rattle.rr_world.specs.Layouts.{layout, space_slots, hand_slots, inbox_slots, port_slots, message_below, MemberKnows, IsKnowing, IsRead}
+use Rattle.rr_world.specs.Views.{Member, Channels, Assembly}
+use Rattle.rr_world.specs.Layouts.{layout, space_slots, hand_slots, inbox_slots, port_slots, cluster_slots, message_below, MemberKnows, IsKnowing, IsRead}
 use Rattle.rr_world.specs.States.{Actor, Held, constant_at, itself}
-use Rattle.rr_world.specs.Readings.{each_from, actor_in, mailbox_in, showcase_in, root_in, public_value, constant_in, archive_in, post_in, state_in}
-use Rattle.rr_world.specs.Enabling.{StandsAt, IsPublicValue}
+use Rattle.rr_world.specs.Readings.{each_from, actor_in, mailbox_in, showcase_in, root_in, value_in, public_value, constant_in, archive_in, post_in, state_in}
+use Rattle.rr_world.specs.Enabling.{StandsAt, IsPublicValue, named_value}
 use Rattle.rr_world.specs.ConstantCases.{IsSetRefused, IsSetOwnRefused, IsGetRefused, IsConstantSet, IsMain}
-use Rattle.rr_world.specs.Getting.{Joins}
+use Rattle.rr_world.specs.Getting.{IsOwnRef, IsPublicRef, Joins}
 use Rattle.rr_world.specs.Packing.{named_ref}
 use Rattle.rr_world.specs.Runs.{HasOutcome}
 use Rattle.rr_world.specs.declared.step.Operand.{Operand}
@@ -41,7 +41,9 @@ use Rattle.rr_world.specs.declared.step.Reply.{Reply}
 use Rattle.rr_world.specs.declared.step.Reply.TheVariants.{NotEnabled, Done, Offered, Empty, EmptyAndClosed, WasClosed, Refused, Started, Settled, GrabbedLast, OfMain}
 use Rattle.rr_world.proofs.Enabled.{actor_at, allowed}
 use Rattle.rr_world.proofs.Insides.{set_again, same_assembly}
-use Rattle.rr_world.proofs.Knowing.{no_clusters, none_known, knows_on, member_on, read_set}
+use Rattle.rr_world.proofs.Knowing.{knows_either, knows_on, member_on, order_on, read_set}
+use Rattle.rr_world.proofs.Published.{at_place, in_place}
+use Rattle.rr_world.proofs.Seeing.{space_table, value_resolved}
 use Rattle.rr_world.proofs.Lists.{eq_cases, seen_same, each_set}
 use Rattle.rr_world.proofs.Operands.{known_named, value_named}
 use Rattle.rr_world.proofs.Staying.{stays, stays_read, same_state}
@@ -60,26 +62,6 @@ flat names (Some c) = refl
 seen : (names : Naming) (s : Store) (n : Sym) → constant_at (archive_in names s) n.0 ≡ option_map (constant_in names) (constant_of s n)
 seen names s n = ap (option_and_then itself) (get_mapped (option_map (constant_in names)) s.constants n.0) ∙ flat names (slice_get s.constants n.0)
 
-immediate_same : (names : Naming) (h : Owner) (v : Ref) → IsImmediate v → public_value names (value_of v) ≡ root_in names h v
-immediate_same names h ref.Nil i = refl
-immediate_same names h (ref.Truth b) i = refl
-immediate_same names h (ref.Int b) i = refl
-immediate_same names h (ref.Symbol b) i = refl
-immediate_same names h (ref.Class b) i = refl
-immediate_same names h (ref.Ractor b) i = refl
-immediate_same names h (ref.Local n) i = absurd i
-immediate_same names h (ref.Shared p c) i = absurd i
-
-immediate_public : (g : Objects) (names : Naming) (h : Owner) (v : Ref) → IsImmediate v → IsPublicValue g (root_in names h v)
-immediate_public g names h ref.Nil i = tt
-immediate_public g names h (ref.Truth b) i = tt
-immediate_public g names h (ref.Int b) i = tt
-immediate_public g names h (ref.Symbol b) i = tt
-immediate_public g names h (ref.Class b) i = tt
-immediate_public g names h (ref.Ractor b) i = tt
-immediate_public g names h (ref.Local n) i = absurd i
-immediate_public g names h (ref.Shared p c) i = absurd i
-
 public_root : (names : Naming) (h : Owner) (v : Ref) → IsWithin 0 v → root_in names h v ≡ public_value names (value_of v)
 public_root names h ref.Nil i = refl
 public_root names h (ref.Truth b) i = refl
@@ -90,27 +72,40 @@ public_root names h (ref.Ractor b) i = refl
 public_root names h (ref.Local n) i = absurd (omega (arith, i))
 public_root names h (ref.Shared p c) i = refl
 
-module _ (w w2 : Assembly) (name : Sym) (c : ConstValue) (rs : w2.ractors ≡ w.ractors) (boxes : w2.channels.inboxes ≡ w.channels.inboxes) (ports : w2.channels.ports ≡ w.channels.ports) (S : IsSet w.channels.store name c w2.channels.store) where
+-- a value that every ractor may have is an immediate or shared
+public_seen : (tables : Layout) (names : Naming) (bound : ℕ) (g : Objects) (h : Owner) → IsReading tables names bound g → (v : Ref) → IsWithin 0 v → Knows (below_ref v) tables → IsPublicValue g (root_in names h v)
+public_seen tables names bound g h R ref.Nil i K = tt
+public_seen tables names bound g h R (ref.Truth b) i K = tt
+public_seen tables names bound g h R (ref.Int b) i K = tt
+public_seen tables names bound g h R (ref.Symbol b) i K = tt
+public_seen tables names bound g h R (ref.Class b) i K = tt
+public_seen tables names bound g h R (ref.Ractor b) i K = tt
+public_seen tables names bound g h R (ref.Local n) i K = absurd (omega (arith, i))
+public_seen tables names bound g h R (ref.Shared p c) i K =
+    let x = at_place tables names bound g R c.now.number p (in_place tables 0 (ref.Shared p c) i K) in
+    (x.0, x.1, (c.now.number, x.2))
+
+module _ (w w2 : Assembly) (name : Sym) (c : ConstValue) (rs : w2.ractors ≡ w.ractors) (boxes : w2.channels.inboxes ≡ w.channels.inboxes) (ports : w2.channels.ports ≡ w.channels.ports) (clusters : w2.channels.store.clusters ≡ w.channels.store.clusters) (S : IsSet w.channels.store name c w2.channels.store) where
   same_tables : (h : Owner) → layout w2 h ≡ layout w h
   unfolding layout
   same_tables (Space j) = ap (λ xs. option_map space_slots (slice_get xs j)) rs
   same_tables (Hand j) = ap (λ xs. option_and_then hand_slots (slice_get xs j)) rs
   same_tables (Mail d u) = ap (λ xs. option_and_then (inbox_slots u) (slice_get xs d)) boxes
   same_tables (Shown d u) = ap (λ xs. option_and_then (port_slots u) (slice_get xs d)) ports
-  same_tables (Shared d) = refl
+  same_tables (Shared d) = ap (λ xs. option_map cluster_slots (slice_get xs d)) clusters
 
   named_one : (n : Sym) → n.0 ≡ name.0 → n ≡ name
   named_one n e = ap (λ i. let s : Sym = record { 0 = i } in s) e
 
   set_knows : ((v : Ref) → c ≡ Shareable v → Knows (below_ref v) (layout w)) → IsKnowing w → IsKnowing w2
   set_knows known K = record {
-    ractors = λ j m at. member_on w w2 m (K.ractors j m (ap (λ xs. slice_get xs j) (sym rs) ∙ at));
-    store = λ n v here. knows_on w w2 (below_ref v) (⊎_elim
+    ractors = λ j m at. member_on w w2 clusters m (K.ractors j m (ap (λ xs. slice_get xs j) (sym rs) ∙ at));
+    store = λ n v here. knows_on w w2 clusters (below_ref v) (⊎_elim
         (λ same. known v (same_Some c (Shareable v) (sym S.here ∙ ap (constant_of w2.channels.store) (sym (named_one n same)) ∙ here)))
         (λ other. K.store n v (sym (S.others n (λ e. other (ap (λ (s : Sym). s.0) e))) ∙ here))
         (eq_cases n.0 name.0));
-    inboxes = λ d i e at has. knows_on w w2 (message_below e.message) (K.inboxes d i e (ap (λ xs. slice_get xs d) (sym boxes) ∙ at) has);
-    ports = λ d p e at has. knows_on w w2 (message_below e.message) (K.ports d p e (ap (λ xs. slice_get xs d) (sym ports) ∙ at) has);
+    inboxes = λ d i e at has. knows_on w w2 clusters (message_below e.message) (K.inboxes d i e (ap (λ xs. slice_get xs d) (sym boxes) ∙ at) has);
+    ports = λ d p e at has. knows_on w w2 clusters (message_below e.message) (K.ports d p e (ap (λ xs. slice_get xs d) (sym ports) ∙ at) has);
   }
 
   set_read : (names : Naming) (bound : ℕ) (g : Objects) → ((v : Ref) → c ≡ Shareable v → Knows (below_ref v) (layout w)) → IsRead w names bound g → IsRead w2 names bound g
@@ -121,6 +116,7 @@ module _ (w w2 : Assembly) (name : Sym) (c : ConstValue) (rs : w2.ractors ≡ w.
     inboxes = ap length boxes ∙ R.inboxes ∙ sym (ap length rs);
     ports = ap length ports ∙ R.ports ∙ sym (ap length rs);
     fits = fits_same w w2 rs ports R.fits;
+    clusters = order_on w w2 clusters R.clusters;
   }
 
   set_constant : (names : Naming) (g : Objects) (e : StoreEvent Sym) → HasEvent w.channels.store → w2.channels.store.history ≡ w.channels.store.history ++ e ∷ [] → w2.channels.store.limit ≡ w.channels.store.limit
@@ -145,68 +141,81 @@ pub record IsStored (name : Sym) (c : ConstValue) (e : StoreEvent Sym) (s t : St
   pub room : HasEvent s
   pub history : t.history ≡ s.history ++ e ∷ []
   pub limit : t.limit ≡ s.limit
+  pub clusters : t.clusters ≡ s.clusters
 
--- a constant is set to an immediate
-pub constant_set : (w w2 : Assembly) (who : RactorNo) (k : ℕ) (m : Member) (name : Sym) (op : Operand) (v : Ref) → slice_get w.ractors k ≡ Some m → StandsAt who k → named_ref m.roots op ≡ Some v → IsImmediate v
-    → w2.ractors ≡ w.ractors → w2.channels.inboxes ≡ w.channels.inboxes → w2.channels.ports ≡ w.channels.ports → IsStored name (Shareable v) (event.Shared name who) w.channels.store w2.channels.store
+-- what the operand names, in the machine
+module _ (w : Assembly) (names : Naming) (bound : ℕ) (g : Objects) (R : IsRead w names bound g) (k : ℕ) (m : Member) (op : Operand) (r : Ref) (at : slice_get w.ractors k ≡ Some m) (P : IsPublicRef m op r) where
+  public_known : Knows (below_ref r) (layout w)
+  public_known = knows_either (layout w) (joined m.space.below) (below_ref P.value) (below_ref r) P.known (R.knows.ractors k m at).space
+      (known_named (layout w) m.roots op P.value (R.knows.ractors k m at).roots P.named)
+
+  one_name : root_in names (Space k) r ≡ root_in names (Space k) P.value
+  one_name = ap (value_in names (Space k)) P.resolves ∙ value_resolved w names bound g R k m at (value_of P.value)
+
+  public_is : named_value (actor_in names k m).roots op ≡ Some (root_in names (Space k) r)
+  public_is = value_named names (Space k) m.roots op ∙ ap (option_map (root_in names (Space k))) P.named ∙ ap (λ x. Some x) (sym one_name)
+
+  public_value_is : IsPublicValue g (root_in names (Space k) r)
+  public_value_is = public_seen (layout w) names bound g (Space k) R.tables r P.public public_known
+
+-- a constant is set to an immediate or a published object
+pub constant_set : (w w2 : Assembly) (who : RactorNo) (k : ℕ) (m : Member) (name : Sym) (op : Operand) (r : Ref) → slice_get w.ractors k ≡ Some m → StandsAt who k → IsPublicRef m op r
+    → w2.ractors ≡ w.ractors → w2.channels.inboxes ≡ w.channels.inboxes → w2.channels.ports ≡ w.channels.ports → IsStored name (Shareable r) (event.Shared name who) w.channels.store w2.channels.store
     → HasOutcome (record { who = who; action = SetConst name op }) Done w w2
-constant_set w w2 who k m name op v at stands is_named plain rs boxes ports T names bound g R =
-    let value = value_named names (Space k) m.roots op ∙ ap (option_map (root_in names (Space k))) is_named in
-    let known = known_named (layout w) m.roots op v (R.knows.ractors k m at).roots is_named in (
+constant_set w w2 who k m name op r at stands P rs boxes ports T names bound g R =
+    let value = public_is w names bound g R k m op r at P in
+    let known = public_known w names bound g R k m op r at P in (
       names,
       bound,
       g,
-      set_read w w2 name (Shareable v) rs boxes ports T.set names bound g
-          (λ x e. subst (λ (y : ConstValue). (z : Ref) → y ≡ Shareable z → Knows (below_ref z) (layout w)) refl
-          (λ z q. subst (λ (r : Ref). Knows (below_ref r) (layout w)) (let same : v ≡ z = cc in same) known) x e) R,
+      set_read w w2 name (Shareable r) rs boxes ports T.clusters T.set names bound g (λ z q. subst (λ (x : Ref). Knows (below_ref x) (layout w)) (let same : r ≡ z = cc in same) known) R,
       (
         k,
         actor_in names k m,
         stands,
         actor_at w names g k m at,
-        (root_in names (Space k) v, value, immediate_public g names (Space k) v plain),
+        (root_in names (Space k) r, value, public_value_is w names bound g R k m op r at P),
         (
-          root_in names (Space k) v,
+          root_in names (Space k) r,
           value,
-          subst (λ x. IsConstantSet name.0 (Held x) (event.Shared name who) (state_in w names g) (state_in w2 names g)) (immediate_same names (Space k) v plain)
-              (set_constant w w2 name (Shareable v) rs boxes ports T.set names g (event.Shared name who) T.room T.history T.limit),
+          subst (λ x. IsConstantSet name.0 (Held x) (event.Shared name who) (state_in w names g) (state_in w2 names g)) (sym (public_root names (Space k) r P.public))
+              (set_constant w w2 name (Shareable r) rs boxes ports T.clusters T.set names g (event.Shared name who) T.room T.history T.limit),
         ),
       ),
     )
 
-space_at : (w : Assembly) (k : ℕ) (m : Member) → slice_get w.ractors k ≡ Some m → layout w (Space k) ≡ Some m.space.slots
-unfolding layout
-space_at w k m at = ap (option_map space_slots) at
-
 -- the value is an object of the ractor's own, so that it is not set
 pub not_set : (w w2 : Assembly) (who : RactorNo) (k : ℕ) (m : Member) (name : Sym) (op : Operand) → slice_get w.ractors k ≡ Some m → StandsAt who k → w2 ≡ w
-    → ((v : Ref) → named_ref m.roots op ≡ Some v → (IsImmediate v → ⊥) × IsWithin (length m.space.slots) v) → HasOutcome (record { who = who; action = SetConst name op }) NotEnabled w w2
+    → ((v : Ref) → named_ref m.roots op ≡ Some v → IsOwnRef m v) → HasOutcome (record { who = who; action = SetConst name op }) NotEnabled w w2
 not_set w w2 who k m name op at stands same none =
     stays_read (record { who = who; action = SetConst name op }) NotEnabled w w2 same (λ names bound g R. (
       λ e.
           let z = allowed w names g (record { who = who; action = SetConst name op }) k m stands at e in
           let b = some_back (root_in names (Space k)) (named_ref m.roots op) z.0 (sym (value_named names (Space k) m.roots op) ∙ z.1) in
-          never names bound g R b.0 b.1 (subst (IsPublicValue g) (sym b.2) z.2),
+          let own = none b.0 b.1 in
+          never names bound g R b.0 own.0 own.1.0 own.1.1 (subst (IsPublicValue g) (sym b.2) z.2),
       same_state (state_in w names g),
     ))
   where
-    standing : (names : Naming) (bound : ℕ) (g : Objects) → IsRead w names bound g → (i : ℕ) (x : Slot) → slice_get m.space.slots i ≡ Some x → IsPublicValue g (At (Own (slice_index (names (Space k)) i))) → ⊥
-    standing names bound g R i (Led c p) here public = let z = (R.tables.sound (Space k) m.space.slots (space_at w k m at)).led i c p here in none-some z.0 (sym (no_clusters w c) ∙ z.2)
-    standing names bound g R i (Here o) here (y, its, (c, shared)) =
-        let read = (R.tables.reads (Space k) m.space.slots (space_at w k m at)).here i o here in
+    standing : (names : Naming) (bound : ℕ) (g : Objects) → IsRead w names bound g → (i j : ℕ) (x : Slot) → slice_get m.space.slots i ≡ Some x → At (resolve_slot (slice_get m.space.slots i) i) ≡ At (Own j)
+        → IsPublicValue g (At (Own (slice_index (names (Space k)) i))) → ⊥
+    standing names bound g R i j (Led c p) here own public = let led : At (Published c p) ≡ At (Own j) = ap (λ z. At (resolve_slot z i)) (sym here) ∙ own in cc
+    standing names bound g R i j (Here o) here own (y, its, (c, shared)) =
+        let read = (R.tables.reads (Space k) m.space.slots (space_table w k m at)).here i o here in
         let owned : record { owner = Space k; object = named names (Space k) o } ≡ y = same_Some _ y (sym read ∙ its) in
         let apart : Space k ≡ Shared c = ap (λ (x : Owned). x.owner) owned ∙ shared in
         cc
 
-    never : (names : Naming) (bound : ℕ) (g : Objects) → IsRead w names bound g → (v : Ref) → named_ref m.roots op ≡ Some v → IsPublicValue g (root_in names (Space k) v) → ⊥
-    never names bound g R ref.Nil is_named p = (none ref.Nil is_named).0 tt
-    never names bound g R (ref.Truth b) is_named p = (none (ref.Truth b) is_named).0 tt
-    never names bound g R (ref.Int b) is_named p = (none (ref.Int b) is_named).0 tt
-    never names bound g R (ref.Symbol b) is_named p = (none (ref.Symbol b) is_named).0 tt
-    never names bound g R (ref.Class b) is_named p = (none (ref.Class b) is_named).0 tt
-    never names bound g R (ref.Ractor b) is_named p = (none (ref.Ractor b) is_named).0 tt
-    never names bound g R (ref.Shared q c) is_named p = none_known w (below_ref (ref.Shared q c)) (known_named (layout w) m.roots op (ref.Shared q c) (R.knows.ractors k m at).roots is_named) _ _ (0, omega arith, refl)
-    never names bound g R (ref.Local i) is_named p = let x = gets m.space.slots i (none (ref.Local i) is_named).1 in standing names bound g R i x.0 x.1 p
+    never : (names : Naming) (bound : ℕ) (g : Objects) → IsRead w names bound g → (v : Ref) → IsWithin (length m.space.slots) v → (j : ℕ) → resolve m.space.slots (value_of v) ≡ At (Own j)
+        → IsPublicValue g (root_in names (Space k) v) → ⊥
+    never names bound g R ref.Nil h j own p = cc
+    never names bound g R (ref.Truth b) h j own p = cc
+    never names bound g R (ref.Int b) h j own p = cc
+    never names bound g R (ref.Symbol b) h j own p = cc
+    never names bound g R (ref.Class b) h j own p = cc
+    never names bound g R (ref.Ractor b) h j own p = cc
+    never names bound g R (ref.Shared q c) h j own p = cc
+    never names bound g R (ref.Local i) h j own p = let x = gets m.space.slots i h in standing names bound g R i j x.0 x.1 own p
 
 -- a constant is set to what the main ractor keeps
 pub own_set : (w w2 : Assembly) (who : RactorNo) (k : ℕ) (m : Member) (name : Sym) → slice_get w.ractors k ≡ Some m → StandsAt who k → IsMain who
@@ -216,24 +225,24 @@ own_set w w2 who k m name at stands main rs boxes ports T names bound g R = (
   names,
   bound,
   g,
-  set_read w w2 name store.Own rs boxes ports T.set names bound g (λ v e. absurd (let z : ⊥ = cc in z)) R,
-  (k, actor_in names k m, stands, actor_at w names g k m at, tt, (main, set_constant w w2 name store.Own rs boxes ports T.set names g (event.Own name who) T.room T.history T.limit)),
+  set_read w w2 name store.Own rs boxes ports T.clusters T.set names bound g (λ v e. absurd (let z : ⊥ = cc in z)) R,
+  (k, actor_in names k m, stands, actor_at w names g k m at, tt, (main, set_constant w w2 name store.Own rs boxes ports T.clusters T.set names g (event.Own name who) T.room T.history T.limit)),
 )
 
 -- a set that is refused
-pub set_refused : (w w2 : Assembly) (who : RactorNo) (k : ℕ) (m : Member) (name : Sym) (op : Operand) (v : Ref) (f : Fault) → slice_get w.ractors k ≡ Some m → StandsAt who k → named_ref m.roots op ≡ Some v
-    → IsImmediate v → w2 ≡ w → SetRefusal f w.channels.store who (Shareable v) → HasOutcome (record { who = who; action = SetConst name op }) (Refused f) w w2
-set_refused w w2 who k m name op v f at stands is_named plain same why =
-    stays (record { who = who; action = SetConst name op }) (Refused f) w w2 same (λ names g. (
+pub set_refused : (w w2 : Assembly) (who : RactorNo) (k : ℕ) (m : Member) (name : Sym) (op : Operand) (r : Ref) (f : Fault) → slice_get w.ractors k ≡ Some m → StandsAt who k → IsPublicRef m op r
+    → w2 ≡ w → SetRefusal f w.channels.store who (Shareable r) → HasOutcome (record { who = who; action = SetConst name op }) (Refused f) w w2
+set_refused w w2 who k m name op r f at stands P same why =
+    stays_read (record { who = who; action = SetConst name op }) (Refused f) w w2 same (λ names bound g R. (
       k,
       actor_in names k m,
       stands,
       actor_at w names g k m at,
-      (root_in names (Space k) v, value_named names (Space k) m.roots op ∙ ap (option_map (root_in names (Space k))) is_named, immediate_public g names (Space k) v plain),
+      (root_in names (Space k) r, public_is w names bound g R k m op r at P, public_value_is w names bound g R k m op r at P),
       refusal f why names g,
     ))
   where
-    refusal : (f : Fault) → SetRefusal f w.channels.store who (Shareable v) → (names : Naming) (g : Objects) → IsSetRefused f (state_in w names g) (state_in w names g)
+    refusal : (f : Fault) → SetRefusal f w.channels.store who (Shareable r) → (names : Naming) (g : Objects) → IsSetRefused f (state_in w names g) (state_in w names g)
     refusal fault.HistoryFull y names g = (y, same_state (state_in w names g))
     refusal fault.Memory y names g = (y, same_state (state_in w names g))
     refusal fault.NotShareable y names g = absurd (y.1 tt)
@@ -285,7 +294,7 @@ module _ (w w2 : Assembly) (who : RactorNo) (k : ℕ) (m : Member) (name : Sym) 
   got_tables (Hand j) = ap (λ xs. option_and_then hand_slots (slice_get xs j)) rs ∙ seen_same (option_and_then hand_slots) w.ractors k j m (joined_by m v) at refl
   got_tables (Mail d u) = ap (λ (x : Channels). option_and_then (inbox_slots u) (slice_get x.inboxes d)) is
   got_tables (Shown d u) = ap (λ (x : Channels). option_and_then (port_slots u) (slice_get x.ports d)) is
-  got_tables (Shared d) = refl
+  got_tables (Shared d) = ap (λ (x : Channels). option_map cluster_slots (slice_get x.store.clusters d)) is
 
   got_knows : (names : Naming) (bound : ℕ) (g : Objects) → IsRead w names bound g → MemberKnows (layout w) (joined_by m v)
   got_knows names bound g R =

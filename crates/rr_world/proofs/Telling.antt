@@ -5,7 +5,7 @@ use Rattle.rr_space.specs.Readings.{Owner, Space, Hand, Mail, Shown, Shared, Nam
 use Rattle.rr_space.proofs.Frames.{reading_same}
 use Rattle.rr_inbox.specs.Inboxes.{Inbox}
 use Rattle.rr_world.specs.Views.{Channels, Assembly, with_inbox}
-use Rattle.rr_world.specs.Layouts.{layout, space_slots, hand_slots, inbox_slots, port_slots, mail_slots}
+use Rattle.rr_world.specs.Layouts.{cluster_slots, layout, space_slots, hand_slots, inbox_slots, port_slots, mail_slots}
 use Rattle.rr_world.specs.States.{IsSame, with_box}
 use Rattle.rr_world.specs.Readings.{each_from, actor_in, mailbox_in, post_in, state_in}
 use Rattle.rr_world.specs.Cases.{IsOutcome}
@@ -13,7 +13,7 @@ use Rattle.rr_world.specs.Runs.{HasOutcome}
 use Rattle.rr_world.specs.declared.step.Step.{Step}
 use Rattle.rr_world.specs.declared.step.Reply.{Reply}
 use Rattle.rr_world.proofs.Fitting.{fits_same}
-use Rattle.rr_world.proofs.Knowing.{knows_told}
+use Rattle.rr_world.proofs.Knowing.{order_on, knows_told}
 use Rattle.rr_world.proofs.Lists.{seen_same}
 use Rattle.rr_world.proofs.Namings.{post_set}
 
@@ -24,7 +24,7 @@ module _ (w w2 : Assembly) (c : ℕ) (i i2 : Inbox) (box : slice_get w.channels.
   tables (Hand j) = ap (λ xs. option_and_then hand_slots (slice_get xs j)) rs
   tables (Mail d u) = ap (λ (x : Channels). option_and_then (inbox_slots u) (slice_get x.inboxes d)) is ∙ seen_same (option_and_then (inbox_slots u)) w.channels.inboxes c d i i2 box (ap (mail_slots u) inside)
   tables (Shown d u) = ap (λ (x : Channels). option_and_then (port_slots u) (slice_get x.ports d)) is
-  tables (Shared d) = refl
+  tables (Shared d) = ap (λ (x : Channels). option_map cluster_slots (slice_get x.store.clusters d)) is
 
   -- the objects, the ractors and the messages are as they were
   pub told : (step : Step) (reply : Reply)
@@ -34,7 +34,7 @@ module _ (w w2 : Assembly) (c : ℕ) (i i2 : Inbox) (box : slice_get w.channels.
     names,
     bound,
     g,
-    record { tables = reading_same (layout w) (layout w2) names bound g tables R.tables; knows = knows_told w w2 c i i2 box inside rs is R.knows; owned = λ j m at. R.owned j m (ap (λ xs. slice_get xs j) (sym rs) ∙ at); inboxes = ap (λ (x : Channels). length x.inboxes) is ∙ length-set w.channels.inboxes c i2 ∙ R.inboxes ∙ sym (ap length rs); ports = ap (λ (x : Channels). length x.ports) is ∙ R.ports ∙ sym (ap length rs); fits = fits_same w w2 rs (ap (λ (x : Channels). x.ports) is) R.fits },
+    record { tables = reading_same (layout w) (layout w2) names bound g tables R.tables; knows = knows_told w w2 c i i2 box inside rs is R.knows; owned = λ j m at. R.owned j m (ap (λ xs. slice_get xs j) (sym rs) ∙ at); inboxes = ap (λ (x : Channels). length x.inboxes) is ∙ length-set w.channels.inboxes c i2 ∙ R.inboxes ∙ sym (ap length rs); ports = ap (λ (x : Channels). length x.ports) is ∙ R.ports ∙ sym (ap length rs); fits = fits_same w w2 rs (ap (λ (x : Channels). x.ports) is) R.fits; clusters = order_on w w2 (ap (λ (x : Channels). x.store.clusters) is) R.clusters },
     case names g (record {
       objects = λ n. refl;
       ractors = ap (each_from (actor_in names) 0) rs;

@@ -5,6 +5,7 @@ use Rattle.rr_space.specs.Graph.{Object, Label, Value, text, array, plain}
 use Rattle.rr_space.specs.Tables.{Here, joined}
 use Rattle.rr_space.specs.Parts.{value_of, below_ref, IsWithin}
 use Rattle.rr_space.specs.Kinds.{kind_at}
+use Rattle.rr_space.specs.Sound.{IsWell}
 use Rattle.rr_space.specs.Views.{can_write_at, IsKnownFrom}
 use Rattle.rr_space.specs.Labels.{triples_at, IsFirstUnder}
 use Rattle.rr_space.specs.declared.kind.Kind.TheVariants.{Array, Text}
@@ -130,7 +131,7 @@ pub record IsReadBy (op : Operand) (l : Label) (v r : Ref) (old now : Member) : 
   pub now_is : now ≡ record old { roots = old.roots ++ r ∷ [] }
 
 abbrev pub Reads : Operand → Label → Reply → Member → Member → Type 0
-Reads op l NotEnabled old now = HasRootsWithin old × (HasUnder op l old → ⊥) × (now ≡ old)
+Reads op l NotEnabled old now = IsWell old.space × HasRootsWithin old × (HasUnder op l old → ⊥) × (now ≡ old)
 Reads op l Done old now = (v : Ref) × (r : Ref) × IsReadBy op l v r old now
 Reads op l (Refused f) old now = (f ≡ Memory) × HasUnder op l old × (now ≡ old)
 Reads op l _ old now = ⊥

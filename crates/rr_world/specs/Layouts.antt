@@ -1,8 +1,8 @@
 -- The tables that a World has.
 use Rattle.std.specs.Prelude.{◌≡◌, ◌+◌, ◌++◌, Contains, ℕ, List, [], ◌∷◌, length, map, Option, None, Some, slice_get, nat_eq, cond}
 use Rattle.std.specs.Option.{option_map, option_and_then}
-use Rattle.rr_space.specs.Tables.{Packed, Slot, Here, Below, joined}
-use Rattle.rr_space.specs.Readings.{Space, Hand, Mail, Shown, Shared, Layout, Knows, Naming, Objects, IsReading}
+use Rattle.rr_space.specs.Tables.{Packed, Slot, Here, Below, Whole, joined}
+use Rattle.rr_space.specs.Readings.{Space, Hand, Mail, Shown, Shared, Layout, Knows, Naming, Objects, IsReading, AreClustersInOrder}
 use Rattle.rr_space.specs.Parts.{below_ref}
 use Rattle.rr_space.specs.declared.refer.Ref.{Ref}
 use Rattle.rr_base.specs.declared.name.Sym.{Sym}
@@ -50,13 +50,17 @@ port_inside p = shown_inside p.shown ++ last_inside p.last
 abbrev pub port_slots : ℕ → Port → Option (List Slot)
 port_slots t p = mail_slots t (port_inside p)
 
--- a table for each space, for each message in a hand, and for each message in an inbox or a port
+-- the objects of a cluster, under names of its own
+abbrev pub cluster_slots : Whole → List Slot
+cluster_slots c = map Here c.own
+
+-- a table for each space, for each message in a hand, for each message in an inbox or a port, and for each published cluster
 unfoldable pub layout : Assembly → Layout
 layout w (Space k) = option_map space_slots (slice_get w.ractors k)
 layout w (Hand k) = option_and_then hand_slots (slice_get w.ractors k)
 layout w (Mail c t) = option_and_then (inbox_slots t) (slice_get w.channels.inboxes c)
 layout w (Shown c t) = option_and_then (port_slots t) (slice_get w.channels.ports c)
-layout w (Shared c) = None
+layout w (Shared c) = option_map cluster_slots (slice_get w.channels.store.clusters c)
 
 -- the clusters that a message leads to
 abbrev pub message_below : Packed → Below
@@ -93,7 +97,8 @@ DoHomesFit w = (k : ℕ) (m : Member) (p : Port) (h : Home) (e : ShownMessage) �
     → m.home ≡ Some h → m.ticket ≡ Some e.ticket → p.shown ≡ Some e → IsHomeOf h e.message
 
 -- a reading of the World: its tables are read as a whole graph, what they know of clusters is what the store has, each
--- space is its ractor's, there are as many inboxes and ports as ractors, and homes fit what is shown
+-- space is its ractor's, there are as many inboxes and ports as ractors, homes fit what is shown, and clusters are frozen and lead
+-- to earlier ones alone
 pub record IsRead (w : Assembly) (names : Naming) (bound : ℕ) (g : Objects) : Type 0 where
   pub tables : IsReading (layout w) names bound g
   pub knows : IsKnowing w
@@ -101,3 +106,4 @@ pub record IsRead (w : Assembly) (names : Naming) (bound : ℕ) (g : Objects) : 
   pub inboxes : HaveInboxes w
   pub ports : HavePorts w
   pub fits : DoHomesFit w
+  pub clusters : AreClustersInOrder (layout w)

@@ -5,7 +5,6 @@ use Rattle.rr_space.specs.Tables.{Table, Packed, Slot, Here}
 use Rattle.rr_space.specs.Views.{emptied}
 use Rattle.rr_space.specs.Parts.{IsWithin}
 use Rattle.rr_space.specs.declared.refer.Ref.{Ref}
-use Rattle.rr_space.specs.declared.refer.Ref.TheVariants.{Nil, Truth, Int, Symbol, Class, Ractor, Local, Shared}
 use Rattle.rr_inbox.specs.Inboxes.{Inbox}
 use Rattle.rr_port.specs.Ports.{Port}
 use Rattle.rr_store.specs.Stores.{Store}
@@ -108,17 +107,6 @@ pub record Assembly : Type 0 where
 -- the ractor at the place runs
 abbrev pub RunsAt : Assembly → ℕ → Type 0
 RunsAt w k = (m : Member) × (slice_get w.ractors k ≡ Some m) × (m.runs ≡ true)
-
--- the reference is no object
-abbrev pub IsImmediate : Ref → Type 0
-IsImmediate Nil = Unit {0}
-IsImmediate (Truth b) = Unit {0}
-IsImmediate (Int z) = Unit {0}
-IsImmediate (Symbol s) = Unit {0}
-IsImmediate (Class c) = Unit {0}
-IsImmediate (Ractor r) = Unit {0}
-IsImmediate (Local n) = ⊥
-IsImmediate (Shared place cluster) = ⊥
 
 -- each root leads to a slot of the space or to a place that its cluster has
 abbrev pub AreRootsWithin : ℕ → List Ref → Type 0

@@ -132,6 +132,8 @@ impl Ractor {
     pub(crate) fn read(&mut self, object: Operand, label: Label) -> Reply
         ensures { Reads object (label_of label) result self.old self.new }
     {
+        // With the number of slots comes that no reference in them leads nowhere.
+        let _slots = self.space.len();
         let Some(object) = self.named(object) else {
             return Reply::NotEnabled;
         };

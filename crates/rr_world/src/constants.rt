@@ -11,7 +11,7 @@ use rr_base::{RactorNo, Sym};
 use rr_store::ConstValue;
 
 impl World {
-    /// A constant is set to an immediate. No object is published yet.
+    /// A constant is set to an immediate or a published object.
     pub(crate) fn set_const(
         &mut self,
         who: RactorNo,
@@ -23,7 +23,7 @@ impl World {
         requires within { place < length self.old.ractors }
         ensures { HasOutcome (record { who = who; action = SetConst name value }) result self.old self.new }
     {
-        let Some(value) = self.ractors[place].immediate(value) else {
+        let Some(value) = self.ractors[place].public(value) else {
             return Reply::NotEnabled;
         };
         if let Err(fault) = self

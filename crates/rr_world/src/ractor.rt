@@ -9,8 +9,8 @@ ghost use Rattle.rr_world.specs.Allocating.{Allocs};
 ghost use Rattle.rr_world.specs.ObjectCases.{new_object};
 ghost use Rattle.rr_world.specs.Opening.{Opened};
 ghost use Rattle.rr_world.specs.Packing.{Packs, named_ref};
-ghost use Rattle.rr_world.specs.Views.{AreAway, IsFree, IsImmediate, IsOfAnother, MayHaveBack, waits_under};
-ghost use Rattle.rr_world.specs.Getting.{Joins};
+ghost use Rattle.rr_world.specs.Views.{AreAway, IsFree, IsOfAnother, MayHaveBack, waits_under};
+ghost use Rattle.rr_world.specs.Getting.{IsOwnRef, IsPublicRef, Joins};
 ghost use Rattle.rr_world.specs.Starting.{IsOver};
 ghost use Rattle.rr_space.specs.declared.refer.Ref.{Ref};
 ghost use Rattle.rr_move.specs.Homes.{IsHomeOf};
@@ -195,16 +195,17 @@ impl Ractor {
         }
     }
 
-    /// The value that an operand names, where it is no object.
-    pub(crate) fn immediate(&self, operand: Operand) -> Option<Ref>
-        ensures some { IfSome result (λ value. (named_ref self.now.roots operand ≡ Some value) × IsImmediate value) }
-        ensures none { IfNone result ((value : Ref) → named_ref self.now.roots operand ≡ Some value → (IsImmediate value → ⊥) × IsWithin (length self.now.space.slots) value) }
+    /// The value that an operand names, where every ractor may have it: an immediate, or a published object.
+    pub(crate) fn public(&self, operand: Operand) -> Option<Ref>
+        ensures some { IfSome result (λ value. IsPublicRef self.now operand value) }
+        ensures none { IfNone result ((value : Ref) → named_ref self.now.roots operand ≡ Some value → IsOwnRef self.now value) }
     {
-        let Some(value) = self.named(operand) else {
+        let Some(named) = self.named(operand) else {
             return None;
         };
+        let value = self.space.resolve(named);
         match value {
-            Ref::Local(_) | Ref::Shared(_, _) => None,
+            Ref::Local(_) => None,
             _ => Some(value),
         }
     }

@@ -1,6 +1,7 @@
 use Rattle.std.proofs.Common.{◌≡◌, ◌++◌, List, [], ◌∷◌, Contains, length, sym, ap, subst, ◌∙◌, refl, arith}
 use Rattle.std.proofs.lemmas.Option.{same_Some}
 use Rattle.rr_space.specs.Labels.{label_of, triples_at}
+use Rattle.rr_space.specs.Sound.{IsWell}
 use Rattle.rr_space.specs.declared.refer.Ref.{Ref}
 use Rattle.rr_world.specs.Views.{Member, AreRootsWithin}
 use Rattle.rr_world.specs.Changing.{HasRootsWithin}
@@ -10,6 +11,7 @@ use Rattle.rr_world.proofs.ractor.Ractor.read.Goals as goal
 
 pub returns-in_default-read : goal.returns-in_default-read
 returns-in_default-read c = (
+  subst (λ (m : Member). IsWell m.space) c.self.view_is c.len-slots.ensures.well,
   subst HasRootsWithin c.self.view_is c.self.invariant.0,
   λ h.
       let one : h.0 ≡ c.in-Some.object = same_Some _ _ (sym h.2 ∙ sym c.in-Some.ensures.is) in

@@ -22,7 +22,7 @@ returns-in-Err c =
     let vs : c.self.inside.ractors.items ≡ w.ractors = ap (λ (v : Assembly). v.ractors) c.self.view_is in
     let st : c.self.inside.store ≡ w.channels.store = ap (λ (v : Assembly). v.channels.store) c.self.view_is in
     let at : slice_get w.ractors c.args.place ≡ Some c.index.result.now = read_at c.self.inside.ractors.items w.ractors c.args.place c.index.result.now vs c.requires.within c.index.ensures in
-    set_refused w _ c.args.who c.args.place c.index.result.now c.args.name c.args.value c.in-Some.value c.in-Err.fault at c.requires.stands c.in-Some.ensures.some.0 c.in-Some.ensures.some.1
+    set_refused w _ c.args.who c.args.place c.index.result.now c.args.name c.args.value c.in-Some.value c.in-Err.fault at c.requires.stands c.in-Some.ensures.some
     (same_assembly _ _ _ _ vs (channels_same (sides_same (c.in-Err.ensures.refused.0 ∙ st) (ap (λ (v : Assembly). v.channels.ports) c.self.view_is)) (ap (λ (v : Assembly). v.channels.inboxes) c.self.view_is)))
     (subst (λ (s : Store). SetRefusal c.in-Err.fault s c.args.who (Shareable c.in-Some.value)) st c.in-Err.ensures.refused.1)
 
@@ -33,7 +33,7 @@ returns c =
     let st : c.self.inside.store ≡ w.channels.store = ap (λ (v : Assembly). v.channels.store) c.self.view_is in
     let at : slice_get w.ractors c.args.place ≡ Some c.index.result.now = read_at c.self.inside.ractors.items w.ractors c.args.place c.index.result.now vs c.requires.within c.index.ensures in
     let d = c.in_default-set_const.ensures in
-    constant_set w _ c.args.who c.args.place c.index.result.now c.args.name c.args.value c.in-Some.value at c.requires.stands c.in-Some.ensures.some.0 c.in-Some.ensures.some.1
+    constant_set w _ c.args.who c.args.place c.index.result.now c.args.name c.args.value c.in-Some.value at c.requires.stands c.in-Some.ensures.some
     vs (ap (λ (v : Assembly). v.channels.inboxes) c.self.view_is) (ap (λ (v : Assembly). v.channels.ports) c.self.view_is)
     (subst (λ (s : Store). IsStored c.args.name (Shareable c.in-Some.value) (event.Shared c.args.name c.args.who) s c.set_const.new.self) st
-    (record { set = d.set.0; room = d.set.1; history = d.history; limit = d.limit }))
+    (record { set = d.set.0; room = d.set.1; history = d.history; limit = d.limit; clusters = d.clusters }))

@@ -27,4 +27,4 @@ returns c =
     let d = c.in_default.ensures in
     own_set w _ c.args.who c.args.place someone.0 c.args.name someone.1 c.requires.stands d.set.2 vs (ap (λ (v : Assembly). v.channels.inboxes) c.self.view_is) (ap (λ (v : Assembly). v.channels.ports) c.self.view_is)
     (subst (λ (s : Store). IsStored c.args.name Own (event.Own c.args.name c.args.who) s c.set_const.new.self) st
-    (record { set = d.set.0; room = d.set.1; history = d.history; limit = d.limit }))
+    (record { set = d.set.0; room = d.set.1; history = d.history; limit = d.limit; clusters = d.clusters }))

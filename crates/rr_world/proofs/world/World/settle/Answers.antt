@@ -1,5 +1,5 @@
-use Rattle.std.proofs.Common.{◌≡◌, ap, refl, sym, ◌∙◌, subst, slice_get, Some, None, length, ◌<◌, arith}
-use Rattle.rr_world.specs.Views.{Member, Assembly}
+use Rattle.std.proofs.Common.{◌≡◌, ap, refl, length, ◌<◌, arith}
+use Rattle.rr_world.specs.Views.{Assembly}
 use Rattle.rr_world.specs.declared.step.Action.TheVariants.{Settle}
 use Rattle.rr_world.proofs.PortShowing.{portless, settled_closed, settled_shown, settled_taken}
 use Rattle.rr_world.proofs.Insides.{read_at, set_in, some_at}

@@ -1,6 +1,5 @@
-use Rattle.std.proofs.Common.{◌≡◌, ap, refl, sym, ◌∙◌, subst, slice_get, Some, None, length, ◌<◌, arith, Ok, Err}
+use Rattle.std.proofs.Common.{◌≡◌, ap, refl, subst, slice_get, Some, None, length, ◌<◌, arith}
 use Rattle.std.proofs.lemmas.Bool.{false≢true}
-use Rattle.rr_port.specs.Answers.{Withdraws}
 use Rattle.rr_port.specs.Ports.{Port, IsTicketed}
 use Rattle.rr_world.specs.Views.{Member, Assembly, MayHaveBack}
 use Rattle.rr_world.specs.declared.step.Action.TheVariants.{Withdraw}
