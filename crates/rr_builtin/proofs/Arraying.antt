@@ -19,10 +19,11 @@ use Rattle.rr_space.specs.declared.refer.Ref.TheVariants.{Local}
 use Rattle.rr_space.proofs.Removing.{values_placed}
 use Rattle.rr_space.proofs.Sounds.{joined_back}
 use Rattle.rr_text.specs.Reads.{IsReadWith}
+use Rattle.rr_text.specs.Comparing.{value_or_none}
 use Rattle.rr_builtin.specs.declared.built.Built.TheVariants as built
 use Rattle.rr_builtin.proofs.Among.{among_of, none_in}
 use Rattle.rr_builtin.proofs.Performing.{placed_value}
-use Rattle.rr_builtin.specs.Acts.{Gives, with_array, with_object, with_put, nils, value_or_nil, element_at, IsRefAmong, IsDone}
+use Rattle.rr_builtin.specs.Acts.{Gives, with_array, with_object, with_put, nils, element_at, IsRefAmong, IsDone}
 use Rattle.rr_builtin.specs.Elements.{listed}
 
 pub all_places : (k j : ℕ) (rs : List Ref) → All (IsWithin k) rs → AllWithin k (places_from j rs)
@@ -120,7 +121,7 @@ listed_take t v vs e zero le = refl
 listed_take t v vs e (suc n) le =
     let x = get_or vs n (Plain Nil) in
     let at : slice_get vs n ≡ Some x = slice_get-get_or vs n (Plain Nil) (omega (arith, le)) in
-    let one : element_at t v n ≡ x = ap (λ ts. value_or_nil (slice_get ts n)) e ∙ placed_value 0 vs n x at in
+    let one : element_at t v n ≡ x = ap (λ ts. value_or_none (slice_get ts n)) e ∙ placed_value 0 vs n x at in
     ap (λ ws. ws ++ element_at t v n ∷ []) (listed_take t v vs e n (omega (arith, le))) ∙ ap (λ y. take n vs ++ y ∷ []) one ∙ sym (take-suc vs n (Plain Nil) (omega (arith, le)))
 
 -- a value far behind the elements

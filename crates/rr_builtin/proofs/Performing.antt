@@ -16,10 +16,12 @@ use Rattle.rr_space.specs.declared.refer.Ref.{Ref}
 use Rattle.rr_space.specs.declared.refer.Ref.TheVariants.{Nil, Truth, Int, Symbol, Class, Ractor, Local, Shared}
 use Rattle.rr_space.proofs.Sounds.{joined_in, joined_back}
 use Rattle.rr_text.specs.Reads.{IsReadWith}
+use Rattle.rr_text.specs.Keys.{pairs_in}
+use Rattle.rr_text.specs.Comparing.{value_or_none, part_value}
 use Rattle.rr_builtin.specs.declared.built.Built.{Built}
 use Rattle.rr_builtin.specs.declared.built.Built.TheVariants as built
 use Rattle.rr_builtin.proofs.Among.{none_in}
-use Rattle.rr_builtin.specs.Acts.{Outcome, Gives, with_text, changed, changed_slot, part_value, without_element, pairs_in, value_or_nil, element_at, IsRefAmong, IsDone, IsRefusal, Acts}
+use Rattle.rr_builtin.specs.Acts.{Outcome, Gives, with_text, changed, changed_slot, without_element, element_at, IsRefAmong, IsDone, IsRefusal, Acts}
 
 -- ---- The table is read with the same clusters.
 
@@ -132,7 +134,7 @@ written_done below old new f v r x w slots keys rest read is within among = reco
 
 -- ---- An element that is taken out.
 
-pub placed_value : (j : ℕ) (vs : List Value) (k : ℕ) (x : Value) → slice_get vs k ≡ Some x → value_or_nil (slice_get (placed_from j vs) k) ≡ x
+pub placed_value : (j : ℕ) (vs : List Value) (k : ℕ) (x : Value) → slice_get vs k ≡ Some x → value_or_none (slice_get (placed_from j vs) k) ≡ x
 placed_value j [] k x e = absurd (none-some x e)
 placed_value j (v ∷ vs) zero x e = same_Some v x e
 placed_value j (v ∷ vs) (suc k) x e = placed_value (j + 1) vs k x e
@@ -146,7 +148,7 @@ pub triples_here : (t : Table) (v : Ref) (w : IsWritable t v) → triples_at t v
 triples_here t v w = ap (λ (r : Ref). triples_at t r) w.named ∙ ap (λ (s : Option Slot). triples_of (slot_object s (slice_get t.below w.slot))) w.here
 
 pub element_is : (t : Table) (v : Ref) (w : IsWritable t v) (vs : List Value) (k : ℕ) (x : Value) → w.object.triples ≡ placed_from 0 vs → slice_get vs k ≡ Some x → x ≡ element_at t v k
-element_is t v w vs k x e at = sym (ap (λ ts. value_or_nil (slice_get ts k)) (triples_here t v w ∙ e) ∙ placed_value 0 vs k x at)
+element_is t v w vs k x e at = sym (ap (λ ts. value_or_none (slice_get ts k)) (triples_here t v w ∙ e) ∙ placed_value 0 vs k x at)
 
 pub taken_is : (o : Object) (vs : List Value) (k : ℕ) → o.triples ≡ placed_from 0 vs → record o { triples = placed_from 0 (remove vs k) } ≡ without_element k o
 taken_is o vs k e = ap (λ (ws : List Value). record o { triples = placed_from 0 (remove ws k) }) (sym (ap (map part_value) e ∙ placed_values 0 vs))
@@ -163,7 +165,7 @@ pub paired_pairs : (j : ℕ) (ps : List (Value × Value)) → pairs_in (paired_f
 paired_pairs j [] = refl
 paired_pairs j (p ∷ ps) = ap (λ qs. p ∷ qs) (paired_pairs (j + 1) ps)
 
-pub paired_value : (j : ℕ) (ps : List (Value × Value)) (i : ℕ) (p : Value × Value) → slice_get ps i ≡ Some p → value_or_nil (slice_get (paired_from j ps) (2 * i + 1)) ≡ p.1
+pub paired_value : (j : ℕ) (ps : List (Value × Value)) (i : ℕ) (p : Value × Value) → slice_get ps i ≡ Some p → value_or_none (slice_get (paired_from j ps) (2 * i + 1)) ≡ p.1
 paired_value j [] i p e = absurd (none-some p e)
 paired_value j (q ∷ ps) zero p e = ap (λ r. r.1) (same_Some q p e)
-paired_value j (q ∷ ps) (suc i) p e = ap (λ k. value_or_nil (slice_get (paired_from j (q ∷ ps)) k)) (let z : 2 * suc i + 1 ≡ suc (suc (2 * i + 1)) = omega arith in z) ∙ paired_value (j + 1) ps i p e
+paired_value j (q ∷ ps) (suc i) p e = ap (λ k. value_or_none (slice_get (paired_from j (q ∷ ps)) k)) (let z : 2 * suc i + 1 ≡ suc (suc (2 * i + 1)) = omega arith in z) ∙ paired_value (j + 1) ps i p e

@@ -16,8 +16,10 @@ use Rattle.rr_space.specs.declared.refer.Ref.{Ref}
 use Rattle.rr_space.specs.declared.refer.Ref.TheVariants.{Nil, Truth, Int, Symbol, Class, Ractor, Local, Shared}
 use Rattle.rr_space.proofs.Within.{ref_later}
 use Rattle.rr_text.specs.Reads.{IsReadWith}
+use Rattle.rr_text.specs.Keys.{pairs_in}
+use Rattle.rr_text.specs.Comparing.{value_or_none}
 use Rattle.rr_builtin.specs.declared.built.Built.TheVariants as built
-use Rattle.rr_builtin.specs.Acts.{Gives, with_pair, changed, pairs_in, without_pair, without_key, keys_without, element_at, value_or_nil, added, with_frozen, changed_slot, keys_with, count_keys, key_count, IsRefAmong, IsDone, IsRefusal}
+use Rattle.rr_builtin.specs.Acts.{Gives, with_pair, changed, without_pair, without_key, keys_without, element_at, added, with_frozen, changed_slot, keys_with, count_keys, key_count, IsRefAmong, IsDone, IsRefusal}
 use Rattle.rr_builtin.specs.Hashes.{key_given}
 use Rattle.rr_builtin.proofs.Among.{among_of}
 use Rattle.rr_builtin.proofs.Performing.{IsWritable, read_led, read_grown, triples_here, paired_pairs, paired_value}
@@ -96,7 +98,7 @@ pub pair_taken : (below : Below) (old new : Table) (i : ℕ) (v r : Ref) (w : Is
     → IsWithin (length old.slots) r → IsRefAmong below r → IsDone below (Gives (element_at old v (2 * i + 1)), without_key i v (changed (without_pair i) v old)) old new (built.Value r)
 pair_taken below old new i v r w ks ps p at paired here is slots keys rest read within among =
     let left : record w.object { triples = paired_from 0 (remove ps i) } ≡ without_pair i w.object = ap (λ qs. record w.object { triples = paired_from 0 (remove qs i) }) (sym (ap pairs_in paired ∙ paired_pairs 0 ps)) in
-    let value : element_at old v (2 * i + 1) ≡ p.1 = ap (λ ts. value_or_nil (slice_get ts (2 * i + 1))) (triples_here old v w ∙ paired) ∙ paired_value 0 ps i p here in
+    let value : element_at old v (2 * i + 1) ≡ p.1 = ap (λ ts. value_or_none (slice_get ts (2 * i + 1))) (triples_here old v w ∙ paired) ∙ paired_value 0 ps i p here in
     record {
       outcome = ap Gives (sym (value ∙ is));
       slots = slots ∙ ap (λ o. slice_set old.slots w.slot (Here o)) left

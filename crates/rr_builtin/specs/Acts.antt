@@ -1,10 +1,10 @@
 -- Acts on the objects of a space, and what they give and leave.
-use Rattle.std.specs.Prelude.{◌≡◌, ◌<◌, ◌≤◌, ◌⊎◌, IfOk, IfErr, ℕ, List, [], ◌∷◌, ◌++◌, length, map, remove, Result, Ok, Err, Option, Some, None, slice_get, slice_set, if◌then◌else◌, Contains, true, false, zero, suc, nat_lt, ◌-◌, ◌+◌, ◌*◌}
+use Rattle.std.specs.Prelude.{◌≡◌, ◌<◌, ◌≤◌, ◌⊎◌, IfOk, IfErr, ℕ, List, [], ◌∷◌, ◌++◌, length, remove, Result, Ok, Err, Option, Some, None, slice_get, slice_set, if◌then◌else◌, Contains, true, false, zero, suc, nat_lt, ◌-◌, ◌+◌, ◌*◌}
 use Rattle.rr_base.specs.declared.fault.Fault.{Fault}
 use Rattle.rr_base.specs.declared.fault.Fault.TheVariants.{Memory, Limit}
 use Rattle.rr_base.specs.declared.limits.LimitKind.TheVariants.{Slots}
 use Rattle.rr_base.specs.declared.name.TheConstants.ClassId.{ARRAY}
-use Rattle.rr_space.specs.Graph.{Value, Plain, At, Own, Nil, Label, Place, KeyAt, ValueAt, Object, array}
+use Rattle.rr_space.specs.Graph.{Value, Plain, At, Own, Nil, Place, KeyAt, ValueAt, Object, array}
 use Rattle.rr_space.specs.Tables.{Table, Slot, Here, Led, Below, HashKey, TextKey, IsRestKept, below_hold}
 use Rattle.rr_space.specs.Lookups.{text_object, frozen_text}
 use Rattle.rr_space.specs.Parts.{value_of, IsWithin}
@@ -13,6 +13,8 @@ use Rattle.rr_space.specs.Labels.{triples_at}
 use Rattle.rr_space.specs.declared.refer.Ref.{Ref}
 use Rattle.rr_space.specs.declared.refer.Ref.TheVariants.{Local, Shared}
 use Rattle.rr_text.specs.Reads.{IsReadWith}
+use Rattle.rr_text.specs.Keys.{pairs_in}
+use Rattle.rr_text.specs.Comparing.{value_in, values_in}
 use Rattle.rr_builtin.specs.declared.problem.Problem.{Problem}
 use Rattle.rr_builtin.specs.declared.built.Built.{Built}
 use Rattle.rr_builtin.specs.declared.built.Built.TheVariants as built
@@ -143,12 +145,6 @@ added name key x v t = with_key key v (changed (with_pair (key_count t v) name x
 abbrev pub with_frozen : List ℕ → Table → Table
 with_frozen bytes t = record t { slots = t.slots ++ Here (frozen_text bytes) ∷ []; below = t.below ++ [] ∷ []; keys = t.keys ++ [] ∷ [] }
 
--- the keys and the values of a hash, pair by pair
-abbrev pub pairs_in : List (Label × Value) → List (Value × Value)
-pairs_in [] = []
-pairs_in (key ∷ []) = []
-pairs_in (key ∷ value ∷ ts) = (key.1, value.1) ∷ pairs_in ts
-
 -- a hash without a pair: later ones close up
 abbrev pub without_pair : ℕ → Object → Object
 without_pair i o = record o { triples = paired_from 0 (remove (pairs_in o.triples) i) }
@@ -162,19 +158,12 @@ abbrev pub without_key : ℕ → Ref → Table → Table
 without_key i (Local n) t = record t { keys = keys_without i t.keys n (slice_get t.keys n) }
 without_key i _ t = t
 
-abbrev pub part_value : Label × Value → Value
-part_value p = p.1
-
 abbrev pub without_element : ℕ → Object → Object
-without_element k o = record o { triples = placed_from 0 (remove (map part_value o.triples) k) }
-
-abbrev pub value_or_nil : Option (Label × Value) → Value
-value_or_nil (Some p) = p.1
-value_or_nil None = Plain Nil
+without_element k o = record o { triples = placed_from 0 (remove (values_in o.triples) k) }
 
 -- the k-th value that the object of a reference leads to, or nil
 abbrev pub element_at : Table → Ref → ℕ → Value
-element_at t v k = value_or_nil (slice_get (triples_at t v) k)
+element_at t v k = value_in (triples_at t v) k
 
 -- what an act on the receiver gives and leaves
 abbrev pub performed : Act → Ref → Table → Outcome × Table

@@ -3,10 +3,11 @@ use Rattle.std.specs.Prelude.{ℕ, Bool, true, false, not, ◌&&◌, ◌||◌, n
 use Rattle.std.specs.Cmp.Lexicographic.{slice_cmp}
 use Rattle.std.specs.Ordering.{nat_cmp}
 use Rattle.rr_space.specs.Graph.{Plain, Nil as NilValue}
-use Rattle.rr_space.specs.Tables.{Table, Below, graph_of, resolve}
+use Rattle.rr_space.specs.Tables.{Table, Below, resolve}
 use Rattle.rr_space.specs.Parts.{value_of}
 use Rattle.rr_base.specs.declared.limits.TheConstants.Limits.{DEFAULT}
 use Rattle.rr_text.specs.Walk.{Walked, Wrote, Differs, Deep, Shell}
+use Rattle.rr_text.specs.Keys.{reading}
 use Rattle.rr_text.specs.Comparing.{compared}
 use Rattle.rr_space.specs.Kinds.{kind_at}
 use Rattle.rr_space.specs.declared.kind.Kind.{Kind}
@@ -56,7 +57,7 @@ plain_operator names op v a t = equality op (equals t v a)
 
 -- whether two values are equal, with the limit of levels that scripts have
 unfoldable pub compared_at : Below → Table → Ref → Ref → Walked
-compared_at below t v a = compared (graph_of t.slots below) DEFAULT.levels (resolve t.slots (value_of v)) (resolve t.slots (value_of a))
+compared_at below t v a = compared (reading t below) DEFAULT.levels (resolve t.slots (value_of v)) (resolve t.slots (value_of a))
 
 -- `==` and `!=` of a container, by what comparing it came to
 abbrev pub walked_equality : BinaryOperator → Walked → Act

@@ -10,7 +10,8 @@ use Rattle.rr_builtin.specs.declared.method.ContentMethod.{ContentMethod}
 use Rattle.rr_builtin.specs.declared.method.ContentMethod.TheVariants.{Size, Length, IsEmpty, First, Last, At as AtMethod, SetAt, Append, Push, Pop, Shift, Includes, Keys, Values, HasKey, Delete, Sum, Sort}
 use Rattle.rr_text.specs.Walk.{Walked, Wrote, Differs, Deep, Shell}
 use Rattle.rr_text.specs.Same.{triples_in}
-use Rattle.rr_text.specs.Comparing.{searched}
+use Rattle.rr_text.specs.Keys.{reading}
+use Rattle.rr_text.specs.Comparing.{values_in, searched}
 use Rattle.rr_builtin.specs.declared.problem.Problem.TheVariants.{Moved, TooDeep}
 use Rattle.rr_builtin.specs.Acts.{Act, Answers, MakesArray, Pushes, Gives, Raises, Lacks, element_at}
 use Rattle.rr_builtin.specs.Objects.{truth}
@@ -41,7 +42,7 @@ array_content below _ v a b t = Answers Lacks
 -- whether an array has an element that is equal to a value, with the limit of levels that scripts have
 unfoldable pub searched_at : Below → Table → Ref → Ref → Walked
 searched_at below t v a =
-    searched (graph_of t.slots below) DEFAULT.levels (resolve t.slots (value_of a)) (triples_in (graph_of t.slots below) (resolve t.slots (value_of v))) (count_at t v)
+    searched (reading t below) DEFAULT.levels (resolve t.slots (value_of a)) (values_in (triples_in (graph_of t.slots below) (resolve t.slots (value_of v))))
 
 abbrev pub found_act : Walked → Act
 found_act (Wrote s) = truth true

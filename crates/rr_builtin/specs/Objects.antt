@@ -1,9 +1,8 @@
 -- The methods of all values but shells.
-use Rattle.std.specs.Prelude.{ℕ, Bool, true, false, not, ◌&&◌, nat_eq, List, if◌then◌else◌}
+use Rattle.std.specs.Prelude.{ℕ, Bool, true, false, not, ◌&&◌, List, if◌then◌else◌}
 use Rattle.std.specs.Str.{bytes_eq}
-use Rattle.std.specs.Ordering.{int_eq}
 use Rattle.rr_base.specs.declared.limits.TheConstants.Limits.{DEFAULT}
-use Rattle.rr_space.specs.Graph.{Immediate, Nil, Truth, Integer, SymbolNo, ClassNo, RactorNo, Value, Plain, At}
+use Rattle.rr_space.specs.Graph.{Truth, ClassNo, Plain}
 use Rattle.rr_space.specs.Tables.{Table, Below, graph_of, resolve}
 use Rattle.rr_space.specs.Parts.{value_of}
 use Rattle.rr_space.specs.Views.{text_at, frozen_at}
@@ -13,37 +12,17 @@ use Rattle.rr_space.specs.declared.kind.Kind.TheVariants as kind
 use Rattle.rr_space.specs.declared.refer.Ref.{Ref}
 use Rattle.rr_space.specs.declared.refer.Ref.TheVariants as ref
 use Rattle.rr_text.specs.Walk.{Walked, Wrote, Differs, Deep, Shell}
-use Rattle.rr_text.specs.Forms.{Names, Way, spoken, inspected, same_name, printed}
+use Rattle.rr_text.specs.Forms.{Names, Way, spoken, inspected, printed}
 use Rattle.rr_builtin.specs.declared.problem.Problem.TheVariants.{Moved, TooDeep, WrongType}
 use Rattle.rr_builtin.specs.declared.method.ObjectMethod.{ObjectMethod}
 use Rattle.rr_builtin.specs.declared.method.ObjectMethod.TheVariants.{Class, IsA, KindOf, IsNil, IsIdentical, Not, Freeze, IsFrozen, ToS, Inspect, Dup}
 use Rattle.rr_tree.specs.declared.program.Program.{Program}
 use Rattle.rr_text.specs.Names.{names_of}
+use Rattle.rr_text.specs.Same.{same_value}
 pub use Rattle.rr_builtin.specs.Kinds.{is_text_kind}
 use Rattle.rr_builtin.specs.Classes.{descends}
 use Rattle.rr_builtin.specs.Acts.{Act, Answers, Makes, MakesArray, Freezes, Gives, Raises}
 use Rattle.rr_builtin.specs.Elements.{elements_of}
-
-abbrev pub same_truth : Bool → Bool → Bool
-same_truth true b = b
-same_truth false b = not b
-
--- whether two are one immediate
-abbrev pub same_immediate : Immediate → Immediate → Bool
-same_immediate Nil Nil = true
-same_immediate (Truth a) (Truth b) = same_truth a b
-same_immediate (Integer x) (Integer y) = int_eq x y
-same_immediate (SymbolNo m) (SymbolNo n) = nat_eq m n
-same_immediate (ClassNo m) (ClassNo n) = nat_eq m n
-same_immediate (RactorNo m) (RactorNo n) = nat_eq m n
-same_immediate _ _ = false
-
--- whether two are one immediate or one object
-abbrev pub same_value : Value → Value → Bool
-same_value (Plain i) (Plain j) = same_immediate i j
-same_value (Plain i) (At n) = false
-same_value (At m) (Plain i) = false
-same_value (At m) (At n) = same_name m n
 
 -- one immediate or one object of the table, forwards followed
 unfoldable pub identical : Table → Ref → Ref → Bool

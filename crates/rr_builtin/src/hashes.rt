@@ -1,18 +1,17 @@
 //! The pairs of hashes by their keys.
 
-ghost use Rattle.std.specs.Prelude.{◌≡◌, List, None, Some, IfOk, IfErr, IfNone, IfSome, length, map};
+ghost use Rattle.std.specs.Prelude.{◌≡◌, List, None, Some, IfOk, IfErr, IfNone, IfSome, length};
 ghost use Rattle.std.specs.Option.{option_map};
-ghost use Rattle.rr_space.specs.Tables.{Below, HashKey, graph_of, resolve};
+ghost use Rattle.rr_space.specs.Tables.{Below, HashKey};
 ghost use Rattle.rr_space.specs.Parts.{IsWithin};
 ghost use Rattle.rr_space.specs.Kinds.{kind_at};
 ghost use Rattle.rr_space.specs.Views.{key_of, keys_at, IsFirstAt};
+ghost use Rattle.rr_text.specs.Keys.{pair_with};
 ghost use Rattle.rr_text.specs.Reads.{IsAmong, IsReadWith};
 ghost use Rattle.rr_builtin.specs.Acts.{IsRefAmong, IsBuiltWithin, IsBuiltAmong, outcome_of};
 ghost use Rattle.rr_builtin.specs.Deeds.{act_of, IsFit, IsDeedAmong, IsWritableHash, LacksKey, HasPair};
-ghost use Rattle.rr_builtin.specs.Elements.{names_of_hash};
-ghost use Rattle.rr_builtin.specs.Hashes.{place_among, key_in, pair_with, key_given, value_at, stored, hash_read, hash_has, hash_put, hash_delete};
+ghost use Rattle.rr_builtin.specs.Hashes.{key_given, value_at, stored, hash_read, hash_has, hash_put, hash_delete};
 
-use crate::arrays::element;
 use crate::built::Built;
 use crate::contents::element_at;
 use crate::deed::Deed;
@@ -21,6 +20,7 @@ use crate::objects::{raise, truth};
 use crate::problem::Problem;
 use rr_base::Fault;
 use rr_space::{Key, Kind, Ref, Space};
+use rr_text::pair_with;
 use std::alloc::Global;
 
 /// The key that an argument is: an immediate, or the bytes of a text.
@@ -33,37 +33,6 @@ fn key_given(alloc: Global, space: &Space, argument: Ref) -> Result<Option<Key>,
         return Ok(Some(Key::Text(bytes)));
     }
     space.key(alloc, argument)
-}
-
-/// The first pair of a hash whose key object is the key.
-fn pair_by_names(space: &Space, hash: Ref, key: &Key) -> Option<usize>
-    requires { IsWithin (length space.now.slots) hash }
-    ensures { (below : Below) → IsReadWith space.now below → IsAmong below hash
-        → result ≡ place_among (key_of key.now) (map (λ x. key_in (graph_of space.now.slots below) (resolve space.now.slots x)) (names_of_hash space.now hash)) }
-{
-    // No reference leads nowhere, as the clause of the number says.
-    let _count = space.len();
-    for pair in 0..space.arity(hash) / 2 {
-        if space.is_key(element(space, hash, 2 * pair), key) {
-            return Some(pair);
-        }
-    }
-    None
-}
-
-/// The pair of a hash that has the key.
-fn pair_with(space: &Space, hash: Ref, key: &Key) -> Option<usize>
-    requires within { IsWithin (length space.now.slots) hash }
-    requires kind { kind_at space.now hash ≡ Kind.Hash }
-    ensures { (below : Below) → IsReadWith space.now below → IsAmong below hash → result ≡ pair_with below space.now hash (key_of key.now) }
-{
-    // Each slot has its keys, as the clause of the number says.
-    let _count = space.len();
-    if space.can_freeze(hash) {
-        space.find(hash, key)
-    } else {
-        pair_by_names(space, hash, key)
-    }
 }
 
 /// The value of a pair, or nil.

@@ -2,13 +2,13 @@
 use Rattle.std.proofs.Common.{◌≡◌, ℕ, zero, suc, ◌+◌, ◌-◌, ◌^◌, ◌<◌, ◌≤◌, Bool, true, false, ◌||◌, List, [], ◌∷◌, ◌++◌, map, reverse, drop, length, get_or, refl, ap, sym, ◌∙◌, arith}
 use Rattle.std.specs.List.{list_any, All}
 use Rattle.std.proofs.lemmas.List.{reverse-append, length_push}
-use Rattle.rr_space.specs.Graph.{Graph}
 use Rattle.rr_space.specs.Tables.{Slot, Table, Below}
 use Rattle.rr_space.specs.declared.refer.Ref.{Ref}
 use Rattle.rr_text.specs.Reads.{IsAmong, IsReadWith}
 use Rattle.rr_text.specs.Walk.{Walked, Wrote, Leaf, Branch, followed, walk}
 use Rattle.rr_text.specs.Rest.{load, keys, showing, whole}
 use Rattle.rr_text.specs.Frames.{breadth}
+use Rattle.rr_text.specs.Keys.{Reading}
 use Rattle.rr_text.specs.Comparing.{Pair, same_pair, part_of, look_pair, compared}
 use Rattle.rr_text.specs.Beside.{resolved, key_of, begun_of, sides_of, outcome_of, ahead, AreSidesAmong, IsGrown, IsKnownBeside}
 use Rattle.rr_text.specs.declared.beside.Sides.{Sides}
@@ -36,26 +36,26 @@ module _ (slots : List Slot) where
       ap (λ xs. list_any (same_pair k) (keys (map (begun_of slots) xs))) (reverse-append (f ∷ []) fs)
       ∙ any_end k f (reverse fs) ∙ ap (λ b. same_pair k (key_of slots f) || b) (any_above k fs)
 
-  module _ (g : Graph) (levels : ℕ) (frames : List Beside) where
+  module _ (r : Reading) (levels : ℕ) (frames : List Beside) where
     -- two values that are told apart or together at once
-    pub told_now : (p : Pair) (now : Compared) → look_pair g p ≡ Leaf (outcome_of now) → showing (look_pair g) same_pair (begun_of slots) levels frames [] p ≡ ahead g slots levels now frames
-    told_now p Same e = leaf_showed (look_pair g) same_pair (begun_of slots) levels frames frames [] [] [] p e refl refl
-    told_now p DiffersNow e = leaf_differs (look_pair g) same_pair (begun_of slots) levels frames [] p e
-    told_now p DeepNow e = leaf_deep (look_pair g) same_pair (begun_of slots) levels frames [] p e
-    told_now p ShellNow e = leaf_shell (look_pair g) same_pair (begun_of slots) levels frames [] p e
+    pub told_now : (p : Pair) (now : Compared) → look_pair r p ≡ Leaf (outcome_of now) → showing (look_pair r) same_pair (begun_of slots) levels frames [] p ≡ ahead r slots levels now frames
+    told_now p Same e = leaf_showed (look_pair r) same_pair (begun_of slots) levels frames frames [] [] [] p e refl refl
+    told_now p DiffersNow e = leaf_differs (look_pair r) same_pair (begun_of slots) levels frames [] p e
+    told_now p DeepNow e = leaf_deep (look_pair r) same_pair (begun_of slots) levels frames [] p e
+    told_now p ShellNow e = leaf_shell (look_pair r) same_pair (begun_of slots) levels frames [] p e
 
-    module _ (p : Pair) (sides : List Sides) (e : look_pair g p ≡ Branch p [] [] (map part_of (map (resolved slots) sides)) []) where
-      pub begun_again : list_any (λ f. same_pair p (key_of slots f)) frames ≡ true → showing (look_pair g) same_pair (begun_of slots) levels frames [] p ≡ ahead g slots levels Same frames
-      begun_again is = again_showed (look_pair g) same_pair (begun_of slots) levels frames frames [] [] [] [] [] p p (map part_of (map (resolved slots) sides)) e (any_above p frames ∙ is) refl refl
+    module _ (p : Pair) (sides : List Sides) (e : look_pair r p ≡ Branch p [] [] (map part_of (map (resolved slots) sides)) []) where
+      pub begun_again : list_any (λ f. same_pair p (key_of slots f)) frames ≡ true → showing (look_pair r) same_pair (begun_of slots) levels frames [] p ≡ ahead r slots levels Same frames
+      begun_again is = again_showed (look_pair r) same_pair (begun_of slots) levels frames frames [] [] [] [] [] p p (map part_of (map (resolved slots) sides)) e (any_above p frames ∙ is) refl refl
 
-      pub begun_deep : list_any (λ f. same_pair p (key_of slots f)) frames ≡ false → levels ≤ length frames → showing (look_pair g) same_pair (begun_of slots) levels frames [] p ≡ ahead g slots levels DeepNow frames
-      begun_deep is full = deep_showed (look_pair g) same_pair (begun_of slots) levels frames [] [] [] [] p p (map part_of (map (resolved slots) sides)) e (any_above p frames ∙ is) full
+      pub begun_deep : list_any (λ f. same_pair p (key_of slots f)) frames ≡ false → levels ≤ length frames → showing (look_pair r) same_pair (begun_of slots) levels frames [] p ≡ ahead r slots levels DeepNow frames
+      begun_deep is full = deep_showed (look_pair r) same_pair (begun_of slots) levels frames [] [] [] [] p p (map part_of (map (resolved slots) sides)) e (any_above p frames ∙ is) full
 
       pub begun_inside : (f : Beside) (new : List Beside) → list_any (λ f. same_pair p (key_of slots f)) frames ≡ false → length frames < levels
           → begun_of slots f ≡ record { key = p; parts = map part_of (map (resolved slots) sides); closing = [] } → new ≡ frames ++ f ∷ []
-          → showing (look_pair g) same_pair (begun_of slots) levels frames [] p ≡ ahead g slots levels Same new
+          → showing (look_pair r) same_pair (begun_of slots) levels frames [] p ≡ ahead r slots levels Same new
       begun_inside f new is fits seen more =
-          entered_showed (look_pair g) same_pair (begun_of slots) levels frames new f [] [] [] [] [] p p (map part_of (map (resolved slots) sides)) e (any_above p frames ∙ is) fits seen more refl
+          entered_showed (look_pair r) same_pair (begun_of slots) levels frames new f [] [] [] [] [] p p (map part_of (map (resolved slots) sides)) e (any_above p frames ∙ is) fits seen more refl
 
 -- ---- Less is left.
 
@@ -96,28 +96,28 @@ drop_end [] (suc k) le = refl
 drop_end (x ∷ xs) zero le = absurd (let no : ⊥ = omega (arith, le) in no)
 drop_end (x ∷ xs) (suc k) le = drop_end xs k (omega (arith, le))
 
-module _ (slots : List Slot) (g : Graph) (levels : ℕ) (fs : List Beside) (top : Beside) where
+module _ (slots : List Slot) (r : Reading) (levels : ℕ) (fs : List Beside) (top : Beside) where
   pub side_next : (mid : List Beside) (f : Beside) (s : Sides) → top.next < length top.sides.items → s ≡ get_or top.sides.items top.next s → f ≡ record top { next = top.next + 1 } → mid ≡ fs ++ f ∷ []
-      → whole (look_pair g) same_pair (begun_of slots) levels (fs ++ top ∷ []) [] ≡ showing (look_pair g) same_pair (begun_of slots) levels mid [] (resolved slots s)
+      → whole (look_pair r) same_pair (begun_of slots) levels (fs ++ top ∷ []) [] ≡ showing (look_pair r) same_pair (begun_of slots) levels mid [] (resolved slots s)
   side_next mid f s lt is next more =
       let parts : (begun_of slots top).parts ≡ ([], resolved slots s) ∷ (begun_of slots f).parts =
       ap (λ (ss : List Sides). map part_of (map (resolved slots) ss)) (drop_next top.sides.items top.next s lt)
       ∙ ap (λ (x : Sides). part_of (resolved slots x) ∷ map part_of (map (resolved slots) (drop (top.next + 1) top.sides.items))) (sym is)
       ∙ ap (λ (x : Beside). ([], resolved slots s) ∷ (begun_of slots x).parts) (sym next) in
-      next_top (look_pair g) same_pair (begun_of slots) levels fs mid top f [] [] ([], resolved slots s) parts (ap (key_of slots) (sym next)) refl more refl
+      next_top (look_pair r) same_pair (begun_of slots) levels fs mid top f [] [] ([], resolved slots s) parts (ap (key_of slots) (sym next)) refl more refl
 
-  pub sides_end : length fs < levels → length top.sides.items ≤ top.next → whole (look_pair g) same_pair (begun_of slots) levels (fs ++ top ∷ []) [] ≡ ahead g slots levels Same fs
+  pub sides_end : length fs < levels → length top.sides.items ≤ top.next → whole (look_pair r) same_pair (begun_of slots) levels (fs ++ top ∷ []) [] ≡ ahead r slots levels Same fs
   sides_end fits le =
-      closed_top (look_pair g) same_pair (begun_of slots) levels fs fs top [] [] fits (ap (λ (ss : List Sides). map part_of (map (resolved slots) ss)) (drop_end top.sides.items top.next le)) refl refl
+      closed_top (look_pair r) same_pair (begun_of slots) levels fs fs top [] [] fits (ap (λ (ss : List Sides). map part_of (map (resolved slots) ss)) (drop_end top.sides.items top.next le)) refl refl
 
 -- nothing was begun
-pub starts : (slots : List Slot) (g : Graph) (levels : ℕ) (fs : List Beside) (p : Pair) → fs ≡ [] → compared g levels p.0 p.1 ≡ showing (look_pair g) same_pair (begun_of slots) levels fs [] p
+pub starts : (slots : List Slot) (r : Reading) (levels : ℕ) (fs : List Beside) (p : Pair) → fs ≡ [] → compared r levels p.0 p.1 ≡ showing (look_pair r) same_pair (begun_of slots) levels fs [] p
 unfolding compared
-starts slots g levels fs p e =
-    let one : Walked = walk (look_pair g) same_pair (levels - 0) [] p in
-    sym (ap (λ (xs : List Beside). showing (look_pair g) same_pair (begun_of slots) levels xs [] p) e
+starts slots r levels fs p e =
+    let one : Walked = walk (look_pair r) same_pair (levels - 0) [] p in
+    sym (ap (λ (xs : List Beside). showing (look_pair r) same_pair (begun_of slots) levels xs [] p) e
     ∙ followed_none (followed one (Wrote [])) ∙ followed_end one
-    ∙ ap (λ (n : ℕ). walk (look_pair g) same_pair n [] p) (let z : levels - 0 ≡ levels = omega arith in z))
+    ∙ ap (λ (n : ℕ). walk (look_pair r) same_pair n [] p) (let z : levels - 0 ≡ levels = omega arith in z))
 
 -- what was read from values of these clusters
 pub sides_known : (t : Table) (below : Below) (left right : Ref) (sides : List Sides) → IsReadWith t below → IsAmong below left → IsAmong below right → All (IsKnownBeside t left right) sides → AreSidesAmong below sides

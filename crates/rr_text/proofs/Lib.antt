@@ -5,6 +5,9 @@ pub mod Loads
 pub mod Looking
 pub mod Turning
 pub mod Rows
+pub mod Same
+pub mod Finding
+mod Fronts
 mod Sided
 mod Compares
 mod Searches

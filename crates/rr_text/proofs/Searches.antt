@@ -1,5 +1,5 @@
 -- Elements that are compared with a value.
-use Rattle.std.proofs.Common.{◌≡◌, ◌∙◌, ℕ, zero, suc, ◌+◌, ◌-◌, ◌<◌, refl, ap, sym, arith}
+use Rattle.std.proofs.Common.{◌≡◌, ◌∙◌, ℕ, ◌+◌, ◌<◌, ◌≤◌, drop, length, refl, ap, sym, arith}
 use Rattle.rr_base.specs.declared.limits.TheConstants.Limits.{DEFAULT}
 use Rattle.rr_space.specs.Tables.{Table, Below, graph_of, resolve}
 use Rattle.rr_space.specs.Sound.{IsTableSound}
@@ -10,46 +10,44 @@ use Rattle.rr_space.specs.declared.refer.Ref.{Ref}
 use Rattle.rr_text.specs.Reads.{IsAmong, IsReadWith}
 use Rattle.rr_text.specs.Walk.{Walked, Differs}
 use Rattle.rr_text.specs.Same.{kind_in, triples_in}
-use Rattle.rr_text.specs.Comparing.{value_in, item_compared, or_next, searched}
+use Rattle.rr_text.specs.Keys.{reading}
+use Rattle.rr_text.specs.Comparing.{value_in, values_in, item_compared, unless_differs, searched}
 use Rattle.rr_text.specs.Beside.{outcome_of}
 use Rattle.rr_text.specs.declared.sight.Compared.{Compared}
 use Rattle.rr_text.specs.declared.sight.Compared.TheVariants as compared
-use Rattle.rr_text.proofs.Sided.{kind_told, value_told}
+use Rattle.rr_text.proofs.Fronts.{values_next, values_end}
+use Rattle.rr_text.proofs.Sided.{count_told, kind_told, value_told}
 
-module _ (t : Table) (below : Below) (sound : IsTableSound t.slots t.below) (read : IsReadWith t below) (array item value : Ref) (n : ℕ) (now : Compared)
-    (among_array : IsAmong below array) (among_item : IsAmong below item) (is_item : value_of item ≡ value_in (triples_at t array) n)
-    (is : outcome_of now ≡ item_compared (graph_of t.slots below) DEFAULT.levels (kind_at t item) (resolve t.slots (value_of item)) (resolve t.slots (value_of value))) where
-  abbrev so_far : ℕ → Walked
-  so_far k = searched (graph_of t.slots below) DEFAULT.levels (resolve t.slots (value_of value)) (triples_in (graph_of t.slots below) (resolve t.slots (value_of array))) k
+module _ (t : Table) (below : Below) (sound : IsTableSound t.slots t.below) (read : IsReadWith t below) (array value : Ref) (among_array : IsAmong below array) where
+  -- what the search comes to from the n-th element on
+  abbrev pub searched_from : ℕ → Walked
+  searched_from n = searched (reading t below) DEFAULT.levels (resolve t.slots (value_of value)) (drop n (values_in (triples_in (graph_of t.slots below) (resolve t.slots (value_of array)))))
 
-  tried : so_far n ≡ Differs → so_far (n + 1) ≡ outcome_of now
-  tried none =
-      let g = graph_of t.slots below in
-      let v = resolve t.slots (value_of value) in
-      let ts = triples_in g (resolve t.slots (value_of array)) in
-      ap so_far (let z : n + 1 ≡ suc n = omega arith in z)
-      ∙ ap (λ w. or_next g w (item_compared g DEFAULT.levels (kind_in g (value_in ts n)) (value_in ts n) v)) none
-      ∙ ap (λ x. item_compared g DEFAULT.levels (kind_in g x) x v) (value_told t below sound read array item n among_array is_item)
-      ∙ ap (λ k. item_compared g DEFAULT.levels k (resolve t.slots (value_of item)) v) (kind_told t below sound read item among_item)
-      ∙ sym is
+  pub searched_end : (n : ℕ) → length (triples_at t array) ≤ n → searched_from n ≡ Differs
+  searched_end n le =
+      ap (searched (reading t below) DEFAULT.levels (resolve t.slots (value_of value)))
+      (values_end (triples_in (graph_of t.slots below) (resolve t.slots (value_of array))) n (omega (arith, le, count_told t below sound read array among_array)))
 
-  pub tried_next : so_far n ≡ Differs → now ≡ compared.Differs → so_far (n + 1) ≡ Differs
-  tried_next none e = tried none ∙ ap outcome_of e
+  module _ (item : Ref) (n : ℕ) (now : Compared) (lt : n < length (triples_at t array)) (among_item : IsAmong below item) (is_item : value_of item ≡ value_in (triples_at t array) n)
+      (is : outcome_of now ≡ item_compared (reading t below) DEFAULT.levels (kind_at t item) (resolve t.slots (value_of item)) (resolve t.slots (value_of value))) where
+    tried : searched_from n ≡ unless_differs (outcome_of now) (searched_from (n + 1))
+    tried =
+        let r = reading t below in
+        let v = resolve t.slots (value_of value) in
+        let ts = triples_in (graph_of t.slots below) (resolve t.slots (value_of array)) in
+        ap (searched r DEFAULT.levels v) (values_next ts n (omega (arith, lt, count_told t below sound read array among_array)))
+        ∙ ap (λ x. unless_differs (item_compared r DEFAULT.levels (kind_in r.graph x) x v) (searched_from (n + 1))) (value_told t below sound read array item n among_array is_item)
+        ∙ ap (λ k. unless_differs (item_compared r DEFAULT.levels k (resolve t.slots (value_of item)) v) (searched_from (n + 1))) (kind_told t below sound read item among_item)
+        ∙ ap (λ w. unless_differs w (searched_from (n + 1))) (sym is)
 
-  next_kept : (c : Compared) → (c ≡ compared.Differs → ⊥) → (w : Walked) → or_next (graph_of t.slots below) (outcome_of c) w ≡ outcome_of c
-  next_kept compared.Same out w = refl
-  next_kept compared.Differs out w = absurd (out refl)
-  next_kept compared.Deep out w = refl
-  next_kept compared.Shell out w = refl
+    pub tried_next : now ≡ compared.Differs → searched_from n ≡ searched_from (n + 1)
+    tried_next e = tried ∙ ap (λ c. unless_differs (outcome_of c) (searched_from (n + 1))) e
 
-  later : (k : ℕ) → (now ≡ compared.Differs → ⊥) → so_far n ≡ Differs → so_far (k + (n + 1)) ≡ outcome_of now
-  later zero out none = ap so_far (let z : zero + (n + 1) ≡ n + 1 = omega arith in z) ∙ tried none
-  later (suc k) out none =
-      let g = graph_of t.slots below in
-      let ts = triples_in g (resolve t.slots (value_of array)) in
-      let rest = item_compared g DEFAULT.levels (kind_in g (value_in ts (k + (n + 1)))) (value_in ts (k + (n + 1))) (resolve t.slots (value_of value)) in
-      ap so_far (let z : suc k + (n + 1) ≡ suc (k + (n + 1)) = omega arith in z)
-      ∙ ap (λ w. or_next g w rest) (later k out none) ∙ next_kept now out rest
+    kept : (c : Compared) (w : Walked) → (c ≡ compared.Differs → ⊥) → unless_differs (outcome_of c) w ≡ outcome_of c
+    kept compared.Same w out = refl
+    kept compared.Differs w out = absurd (out refl)
+    kept compared.Deep w out = refl
+    kept compared.Shell w out = refl
 
-  pub tried_last : (count : ℕ) → n < count → (now ≡ compared.Differs → ⊥) → so_far n ≡ Differs → outcome_of now ≡ so_far count
-  tried_last count lt out none = sym (ap so_far (let z : count ≡ (count - (n + 1)) + (n + 1) = omega (arith, lt) in z) ∙ later (count - (n + 1)) out none)
+    pub tried_last : (now ≡ compared.Differs → ⊥) → outcome_of now ≡ searched_from n
+    tried_last out = sym (tried ∙ kept now (searched_from (n + 1)) out)

@@ -1,11 +1,13 @@
 -- The values of containers that are compared, as a space tells them.
-use Rattle.std.proofs.Common.{◌≡◌, ℕ, zero, suc, ◌+◌, ◌-◌, ◌*◌, ◌/◌, ◌<◌, Bool, true, false, ◌||◌, nat_eq, List, [], ◌∷◌, ◌++◌, map, length, slice_get, Option, Some, None, Result, Ok, Err, IfOk, refl, ap, sym, ◌∙◌, arith, eq-eqb, if◌then◌else◌}
+use Rattle.std.proofs.Common.{append_assoc, drop, ◌≤◌, ◌≡◌, ℕ, ◌+◌, ◌*◌, ◌<◌, Bool, true, false, ◌||◌, nat_eq, List, [], ◌∷◌, ◌++◌, map, length, slice_get, Option, Some, None, Result, Ok, Err, IfOk, refl, ap, sym, ◌∙◌, arith, eq-eqb, if◌then◌else◌}
+use Rattle.std.specs.List.{zip}
 use Rattle.std.specs.Option.{option_map}
 use Rattle.std.proofs.lemmas.Bool.{eqb-true}
 use Rattle.std.proofs.lemmas.List.{length-map}
 use Rattle.std.proofs.lemmas.Option.{slice_get-map}
 use Rattle.rr_space.specs.Graph.{Published, Value, Label, Object}
-use Rattle.rr_space.specs.Tables.{Slot, Below, Table, resolve, resolve_slot, resolve_triple, resolve_object, graph_of}
+use Rattle.rr_space.specs.Lookups.{key_at}
+use Rattle.rr_space.specs.Tables.{HashKey, Slot, Below, Table, resolve, resolve_slot, resolve_triple, resolve_object, graph_of}
 use Rattle.rr_space.specs.Sound.{IsTableSound}
 use Rattle.rr_space.specs.Parts.{value_of, bytes_of}
 use Rattle.rr_space.specs.Views.{object_at, text_at}
@@ -16,10 +18,16 @@ use Rattle.rr_space.specs.declared.refer.Ref.TheVariants.{Nil, Truth, Int, Symbo
 use Rattle.rr_text.specs.Reads.{IsAmong, IsReadWith}
 use Rattle.rr_text.specs.Walk.{Wrote, Leaf}
 use Rattle.rr_text.specs.Same.{same_value, kind_in, bytes_in, triples_in}
-use Rattle.rr_text.specs.Comparing.{Pair, likeness, text_if, value_or_none, value_in, rows, all_rows, or_here, with_beside, same_key_in, value_under, matches, all_matches, look_like, look_pair}
-use Rattle.rr_text.specs.Beside.{same_key_at, values_of, resolved}
+use Rattle.rr_text.specs.Keys.{pairs_in, pair_with, reading}
+use Rattle.rr_text.specs.Comparing.{Pair, likeness, text_likeness, array_likeness, hash_likeness, other_likeness, text_if, value_or_none, value_in, values_in, all_rows, with_beside, equal_in, value_with, value_under, matches, all_matches, look_like, look_pair}
+use Rattle.rr_text.specs.Beside.{equal_at, values_of, resolved}
+use Rattle.rr_space.specs.declared.kind.Kind.{Kind}
+use Rattle.rr_space.specs.declared.kind.Kind.TheVariants as kind
 use Rattle.rr_text.specs.declared.likeness.Likeness.{Likeness}
+use Rattle.rr_text.specs.declared.likeness.Likeness.TheVariants.{Hashes}
 use Rattle.rr_text.specs.declared.beside.Sides.{Sides}
+use Rattle.rr_text.proofs.Finding.{key_seen}
+use Rattle.rr_text.proofs.Fronts.{values_next, values_end, pairs_next, pairs_end}
 use Rattle.rr_text.proofs.Seeing.{seen}
 
 -- ---- What a space tells of a reference is what the graph has there.
@@ -86,7 +94,7 @@ unequal m n out = by (nat_eq m n) refl
 pub equal : (m n : ℕ) → m ≡ n → nat_eq m n ≡ true
 equal m n e = eq-eqb m n e
 
-value_resolved : (slots : List Slot) (ts : List (Label × Value)) (k : ℕ) → value_in (map (resolve_triple slots) ts) k ≡ resolve slots (value_in ts k)
+pub value_resolved : (slots : List Slot) (ts : List (Label × Value)) (k : ℕ) → value_in (map (resolve_triple slots) ts) k ≡ resolve slots (value_in ts k)
 value_resolved slots ts k = ap value_or_none (slice_get-map (resolve_triple slots) ts k) ∙ by (slice_get ts k)
   where
     by : (o : Option (Label × Value)) → value_or_none (option_map (resolve_triple slots) o) ≡ resolve slots (value_or_none o)
@@ -100,34 +108,77 @@ map_end : {A B : Type 0} (f : A → B) (xs : List A) (x : A) → map f (xs ++ x 
 map_end f [] x = refl
 map_end f (y ∷ xs) x = ap (λ ys. f y ∷ ys) (map_end f xs x)
 
-rows_resolved : (slots : List Slot) (ss ts : List (Label × Value)) (n : ℕ) → rows (map (resolve_triple slots) ss) (map (resolve_triple slots) ts) n ≡ map (both slots) (rows ss ts n)
-rows_resolved slots ss ts zero = refl
-rows_resolved slots ss ts (suc n) =
-    ap (λ ps. ps ++ (value_in (map (resolve_triple slots) ss) n, value_in (map (resolve_triple slots) ts) n) ∷ []) (rows_resolved slots ss ts n)
-    ∙ ap (λ v. map (both slots) (rows ss ts n) ++ (v, value_in (map (resolve_triple slots) ts) n) ∷ []) (value_resolved slots ss n)
-    ∙ ap (λ v. map (both slots) (rows ss ts n) ++ (resolve slots (value_in ss n), v) ∷ []) (value_resolved slots ts n)
-    ∙ sym (map_end (both slots) (rows ss ts n) (value_in ss n, value_in ts n))
+nil_end : {A : Type 0} (xs : List A) → xs ++ [] ≡ xs
+nil_end [] = refl
+nil_end (x ∷ xs) = ap (λ ys. x ∷ ys) (nil_end xs)
+
+zip_resolved : (slots : List Slot) (ss ts : List (Label × Value)) → zip (values_in (map (resolve_triple slots) ss)) (values_in (map (resolve_triple slots) ts)) ≡ map (both slots) (zip (values_in ss) (values_in ts))
+zip_resolved slots [] ts = refl
+zip_resolved slots (s ∷ ss) [] = refl
+zip_resolved slots (s ∷ ss) (t ∷ ts) = ap (λ ps. (resolve slots s.1, resolve slots t.1) ∷ ps) (zip_resolved slots ss ts)
 
 sides_resolved : (slots : List Slot) (sides : List Sides) → map (resolved slots) sides ≡ map (both slots) (map values_of sides)
 sides_resolved slots [] = refl
 sides_resolved slots (s ∷ sides) = ap (λ ps. resolved slots s ∷ ps) (sides_resolved slots sides)
 
 -- one more row
-pub rows_more : (ss ts : List (Label × Value)) (sides new : List Sides) (s : Sides) (n : ℕ) → map values_of sides ≡ rows ss ts n → new ≡ sides ++ s ∷ [] → value_of s.left ≡ value_in ss n → value_of s.right ≡ value_in ts n
-    → map values_of new ≡ rows ss ts (n + 1)
-rows_more ss ts sides new s n e is left right =
-    ap (map values_of) is ∙ map_end values_of sides s ∙ ap (λ ps. ps ++ values_of s ∷ []) e
-    ∙ ap (λ v. rows ss ts n ++ (v, value_of s.right) ∷ []) left ∙ ap (λ v. rows ss ts n ++ (value_in ss n, v) ∷ []) right
-    ∙ ap (rows ss ts) (let z : suc n ≡ n + 1 = omega arith in z)
+pub rows_more : (ss ts : List (Label × Value)) (sides new : List Sides) (s : Sides) (n : ℕ) → n < length ss → n < length ts → new ≡ sides ++ s ∷ [] → value_of s.left ≡ value_in ss n → value_of s.right ≡ value_in ts n
+    → map values_of sides ++ zip (drop n (values_in ss)) (drop n (values_in ts)) ≡ map values_of new ++ zip (drop (n + 1) (values_in ss)) (drop (n + 1) (values_in ts))
+rows_more ss ts sides new s n in_ss in_ts is left right =
+    let rest = zip (drop (n + 1) (values_in ss)) (drop (n + 1) (values_in ts)) in
+    ap (λ vs. map values_of sides ++ zip vs (drop n (values_in ts))) (values_next ss n in_ss)
+    ∙ ap (λ vs. map values_of sides ++ zip (value_in ss n ∷ drop (n + 1) (values_in ss)) vs) (values_next ts n in_ts)
+    ∙ ap (λ v. map values_of sides ++ (v, value_in ts n) ∷ rest) (sym left)
+    ∙ ap (λ v. map values_of sides ++ (value_of s.left, v) ∷ rest) (sym right)
+    ∙ sym (append_assoc (map values_of sides) (values_of s ∷ []) rest)
+    ∙ ap (λ ps. ps ++ rest) (sym (ap (map values_of) is ∙ map_end values_of sides s))
+
+-- all rows
+pub rows_all : (ss ts : List (Label × Value)) (sides : List Sides) (n : ℕ) → length ss ≤ n
+    → map values_of sides ++ zip (drop n (values_in ss)) (drop n (values_in ts)) ≡ map values_of sides
+rows_all ss ts sides n le = ap (λ vs. map values_of sides ++ zip vs (drop n (values_in ts))) (values_end ss n le) ∙ nil_end (map values_of sides)
+
+-- ---- Values under keys.
+
+mapped_more : (ps : List Pair) (p : Pair) (found : Option (List Pair)) → option_map (λ qs. ps ++ qs) (option_map (λ qs. p ∷ qs) found) ≡ option_map (λ qs. (ps ++ p ∷ []) ++ qs) found
+mapped_more ps p None = refl
+mapped_more ps p (Some qs) = ap (λ rs. Some rs) (sym (append_assoc ps (p ∷ []) qs))
+
+-- what is found after these pairs
+abbrev pub found_after : (Value → Option Value) → List Pair → List (Value × Value) → Option (List Pair)
+found_after under ps rest = option_map (λ qs. ps ++ qs) (matches under rest)
+
+pub matched_first : (under : Value → Option Value) (rest : List (Value × Value)) → matches under rest ≡ found_after under [] rest
+matched_first under rest = by (matches under rest)
+  where
+    by : (o : Option (List Pair)) → o ≡ option_map (λ qs. [] ++ qs) o
+    by None = refl
+    by (Some qs) = refl
+
+pub matched_end : (under : Value → Option Value) (ps : List Pair) → found_after under ps [] ≡ Some ps
+matched_end under ps = ap (λ qs. Some qs) (nil_end ps)
+
+module _ (slots : List Slot) (under : Value → Option Value) (sides : List Sides) (name value : Value) (rest : List (Value × Value)) where
+  pub matched_more : (new : List Sides) (s : Sides) → under name ≡ Some (resolve slots (value_of s.right)) → value ≡ resolve slots (value_of s.left) → new ≡ sides ++ s ∷ []
+      → found_after under (map (resolved slots) sides) ((name, value) ∷ rest) ≡ found_after under (map (resolved slots) new) rest
+  matched_more new s found is more =
+      let ps = map (resolved slots) sides in
+      ap (λ o. option_map (λ qs. ps ++ qs) (with_beside value o (matches under rest))) found
+      ∙ ap (λ v. option_map (λ qs. ps ++ qs) (option_map (λ qs. (v, resolve slots (value_of s.right)) ∷ qs) (matches under rest))) is
+      ∙ mapped_more ps (resolved slots s) (matches under rest)
+      ∙ ap (λ qs. found_after under qs rest) (sym (ap (map (resolved slots)) more ∙ map_end (resolved slots) sides s))
+
+  pub matched_none : under name ≡ None → found_after under (map (resolved slots) sides) ((name, value) ∷ rest) ≡ None
+  matched_none none = ap (λ o. option_map (λ qs. map (resolved slots) sides ++ qs) (with_beside value o (matches under rest))) none
 
 module _ (t : Table) (below : Below) (sound : IsTableSound t.slots t.below) (read : IsReadWith t below) where
   pub value_told : (r x : Ref) (k : ℕ) → IsAmong below r → value_of x ≡ value_in (triples_at t r) k → value_in (triples_in (graph_of t.slots below) (resolve t.slots (value_of r))) k ≡ resolve t.slots (value_of x)
   value_told r x k among e =
       ap (λ ts. value_in ts k) (triples_told t below sound read r among) ∙ value_resolved t.slots (triples_at t r) k ∙ ap (resolve t.slots) (sym e)
 
-  pub key_told : (r s : Ref) → IsAmong below r → IsAmong below s → same_key_in (graph_of t.slots below) (resolve t.slots (value_of r)) (resolve t.slots (value_of s)) ≡ same_key_at t r s
-  unfolding same_key_in
-  key_told r s al ar =
+  pub equal_told : (r s : Ref) → IsAmong below r → IsAmong below s → equal_in (graph_of t.slots below) (resolve t.slots (value_of r)) (resolve t.slots (value_of s)) ≡ equal_at t r s
+  unfolding equal_in
+  equal_told r s al ar =
       let g = graph_of t.slots below in
       let v = resolve t.slots (value_of r) in
       let w = resolve t.slots (value_of s) in
@@ -136,87 +187,41 @@ module _ (t : Table) (below : Below) (sound : IsTableSound t.slots t.below) (rea
       ∙ ap (λ b. same_value v w || text_if (likeness (kind_at t r) (kind_at t s)) b (bytes_in g w)) (bytes_told t below sound read r al)
       ∙ ap (λ b. same_value v w || text_if (likeness (kind_at t r) (kind_at t s)) (text_at t r) b) (bytes_told t below sound read s ar)
 
-  -- ---- The pair of a hash that has a key.
+  -- the pair of an object, as the graph has it, by its key object
+  pub pair_told : (r name : Ref) (n : ℕ) → IsAmong below r → 2 * n + 1 < length (triples_at t r) → value_of name ≡ value_in (triples_at t r) (2 * n)
+      → drop n (pairs_in (triples_in (graph_of t.slots below) (resolve t.slots (value_of r))))
+      ≡ (resolve t.slots (value_of name), value_in (triples_in (graph_of t.slots below) (resolve t.slots (value_of r))) (2 * n + 1)) ∷ drop (n + 1) (pairs_in (triples_in (graph_of t.slots below) (resolve t.slots (value_of r))))
+  pair_told r name n among lt is_name =
+      let ts = triples_in (graph_of t.slots below) (resolve t.slots (value_of r)) in
+      pairs_next ts n (omega (arith, lt, count_told t below sound read r among))
+      ∙ ap (λ v. (v, value_in ts (2 * n + 1)) ∷ drop (n + 1) (pairs_in ts)) (value_told r name (2 * n) among is_name)
 
-  module _ (hash key name value : Ref) (n : ℕ) (among_hash : IsAmong below hash) (among_key : IsAmong below key) (among_name : IsAmong below name) (is_name : value_of name ≡ value_in (triples_at t hash) (2 * n)) where
-    abbrev under : ℕ → Option Value
-    under k = value_under (graph_of t.slots below) (resolve t.slots (value_of key)) (triples_in (graph_of t.slots below) (resolve t.slots (value_of hash))) k
+  pub pairs_told_end : (r : Ref) (n : ℕ) → IsAmong below r → length (triples_at t r) ≤ 2 * n + 1 → drop n (pairs_in (triples_in (graph_of t.slots below) (resolve t.slots (value_of r)))) ≡ []
+  pairs_told_end r n among le = pairs_end (triples_in (graph_of t.slots below) (resolve t.slots (value_of r))) n (omega (arith, le, count_told t below sound read r among))
 
-    abbrev here : Value
-    here = value_in (triples_in (graph_of t.slots below) (resolve t.slots (value_of hash))) (2 * n + 1)
+  -- ---- The value that a hash has under a key.
 
-    tested : (b : Bool) → same_key_at t key name ≡ b → under n ≡ None → under (n + 1) ≡ or_here None b here
-    tested b is none =
-        let g = graph_of t.slots below in
-        let k = resolve t.slots (value_of key) in
-        let ts = triples_in g (resolve t.slots (value_of hash)) in
-        ap under (let z : n + 1 ≡ suc n = omega arith in z)
-        ∙ ap (λ o. or_here o (same_key_in g k (value_in ts (2 * n))) here) none
-        ∙ ap (λ v. or_here None (same_key_in g k v) here) (value_told hash name (2 * n) among_hash is_name)
-        ∙ ap (λ c. or_here None c here) (key_told key name among_key among_name ∙ is)
+  module _ (hash name : Ref) (among_hash : IsAmong below hash) (among_name : IsAmong below name) where
+    abbrev under : Option Value
+    under = value_under (reading t below) (resolve t.slots (value_of hash)) (resolve t.slots (value_of name))
 
-    pub under_none : same_key_at t key name ≡ false → under n ≡ None → under (n + 1) ≡ None
-    under_none is none = tested false is none
+    by_key : (k : Option HashKey) → key_at t name ≡ k → under ≡ value_with (reading t below) (resolve t.slots (value_of hash)) k
+    unfolding value_under
+    by_key k e = ap (value_with (reading t below) (resolve t.slots (value_of hash))) (key_seen t below name sound read among_name ∙ e)
 
-    later : (k : ℕ) (x : Value) → under (n + 1) ≡ Some x → under (k + (n + 1)) ≡ Some x
-    later zero x e = ap under (let z : zero + (n + 1) ≡ n + 1 = omega arith in z) ∙ e
-    later (suc k) x e =
-        let g = graph_of t.slots below in
-        let ts = triples_in g (resolve t.slots (value_of hash)) in
-        ap under (let z : suc k + (n + 1) ≡ suc (k + (n + 1)) = omega arith in z)
-        ∙ ap (λ o. or_here o (same_key_in g (resolve t.slots (value_of key)) (value_in ts (2 * (k + (n + 1))))) (value_in ts (2 * (k + (n + 1)) + 1))) (later k x e)
+    by_pair : (key : HashKey) (found : Option ℕ) → found ≡ pair_with below t hash key
+        → value_with (reading t below) (resolve t.slots (value_of hash)) (Some key) ≡ option_map (λ i. value_in (triples_in (graph_of t.slots below) (resolve t.slots (value_of hash))) (2 * i + 1)) found
+    unfolding pair_with
+    by_pair key found e = ap (option_map (λ i. value_in (triples_in (graph_of t.slots below) (resolve t.slots (value_of hash))) (2 * i + 1))) (sym e)
 
-    pub under_some : (count : ℕ) → n < count → same_key_at t key name ≡ true → under n ≡ None → value_of value ≡ value_in (triples_at t hash) (2 * n + 1) → Some (resolve t.slots (value_of value)) ≡ under count
-    under_some count lt is none e =
-        let x = resolve t.slots (value_of value) in
-        let at : under (n + 1) ≡ Some x = tested true is none ∙ ap (λ v. Some v) (value_told hash value (2 * n + 1) among_hash e) in
-        sym (ap under (let z : count ≡ (count - (n + 1)) + (n + 1) = omega (arith, lt) in z) ∙ later (count - (n + 1)) x at)
+    pub under_no_key : key_at t name ≡ None → None ≡ under
+    under_no_key e = sym (by_key None e)
 
-  -- ---- The values of two hashes under the same keys.
+    pub under_none : (key : HashKey) → key_at t name ≡ Some key → None ≡ pair_with below t hash key → None ≡ under
+    under_none key e none = sym (by_key (Some key) e ∙ by_pair key None none)
 
-  module _ (left right key : Ref) (found : Option Ref) (n : ℕ) (among_left : IsAmong below left) (among_right : IsAmong below right) (is_key : value_of key ≡ value_in (triples_at t left) (2 * n))
-      (is : option_map (λ (x : Ref). resolve t.slots (value_of x)) found
-      ≡ value_under (graph_of t.slots below) (resolve t.slots (value_of key)) (triples_in (graph_of t.slots below) (resolve t.slots (value_of right))) (length (triples_at t right) / 2)) where
-    abbrev matched : ℕ → Option (List Pair)
-    matched k = matches (graph_of t.slots below) (triples_in (graph_of t.slots below) (resolve t.slots (value_of left))) (triples_in (graph_of t.slots below) (resolve t.slots (value_of right))) k
-
-    abbrev mine : Value
-    mine = value_in (triples_in (graph_of t.slots below) (resolve t.slots (value_of left))) (2 * n + 1)
-
-    sought : (o : Option (List Pair)) → matched n ≡ o → matched (n + 1) ≡ with_beside o mine (option_map (λ (x : Ref). resolve t.slots (value_of x)) found)
-    sought o e =
-        let g = graph_of t.slots below in
-        let ss = triples_in g (resolve t.slots (value_of left)) in
-        let ts = triples_in g (resolve t.slots (value_of right)) in
-        ap matched (let z : n + 1 ≡ suc n = omega arith in z)
-        ∙ ap (λ o. with_beside o mine (value_under g (value_in ss (2 * n)) ts (length ts / 2))) e
-        ∙ ap (λ v. with_beside o mine (value_under g v ts (length ts / 2))) (value_told left key (2 * n) among_left is_key)
-        ∙ ap (λ k. with_beside o mine (value_under g (resolve t.slots (value_of key)) ts (k / 2))) (count_told t below sound read right among_right)
-        ∙ ap (with_beside o mine) (sym is)
-
-    pub matched_more : (sides new : List Sides) (value mate : Ref) → matched n ≡ Some (map (resolved t.slots) sides) → found ≡ Some mate → value_of value ≡ value_in (triples_at t left) (2 * n + 1)
-        → new ≡ sides ++ record { left = value; right = mate } ∷ [] → matched (n + 1) ≡ Some (map (resolved t.slots) new)
-    matched_more sides new value mate e f at more =
-        let v = resolve t.slots (value_of value) in
-        let w = resolve t.slots (value_of mate) in
-        sought (Some (map (resolved t.slots) sides)) e
-        ∙ ap (λ (o : Option Ref). with_beside (Some (map (resolved t.slots) sides)) mine (option_map (λ (x : Ref). resolve t.slots (value_of x)) o)) f
-        ∙ ap (λ x. Some (map (resolved t.slots) sides ++ (x, w) ∷ [])) (value_told left value (2 * n + 1) among_left at)
-        ∙ ap (λ ps. Some ps) (sym (ap (map (resolved t.slots)) more ∙ map_end (resolved t.slots) sides (record { left = value; right = mate })))
-
-    never : (k : ℕ) → matched (n + 1) ≡ None → matched (k + (n + 1)) ≡ None
-    never zero e = ap matched (let z : zero + (n + 1) ≡ n + 1 = omega arith in z) ∙ e
-    never (suc k) e =
-        let g = graph_of t.slots below in
-        let ss = triples_in g (resolve t.slots (value_of left)) in
-        let ts = triples_in g (resolve t.slots (value_of right)) in
-        ap matched (let z : suc k + (n + 1) ≡ suc (k + (n + 1)) = omega arith in z)
-        ∙ ap (λ o. with_beside o (value_in ss (2 * (k + (n + 1)) + 1)) (value_under g (value_in ss (2 * (k + (n + 1)))) ts (length ts / 2))) (never k e)
-
-    pub matched_none : (count : ℕ) (ps : List Pair) → n < count → matched n ≡ Some ps → found ≡ None → matched count ≡ None
-    matched_none count ps lt e f =
-        ap matched (let z : count ≡ (count - (n + 1)) + (n + 1) = omega (arith, lt) in z)
-        ∙ never (count - (n + 1)) (sought (Some ps) e ∙ ap (λ (o : Option Ref). with_beside (Some ps) mine (option_map (λ (x : Ref). resolve t.slots (value_of x)) o)) f)
+    pub under_found : (key : HashKey) (i : ℕ) (x : Ref) → key_at t name ≡ Some key → Some i ≡ pair_with below t hash key → value_of x ≡ value_in (triples_at t hash) (2 * i + 1) → Some (resolve t.slots (value_of x)) ≡ under
+    under_found key i x e found is = sym (by_key (Some key) e ∙ by_pair key (Some i) found ∙ ap (λ v. Some v) (value_told hash x (2 * i + 1) among_hash is))
 
   -- ---- What is found at two values.
 
@@ -234,37 +239,62 @@ module _ (t : Table) (below : Below) (sound : IsTableSound t.slots t.below) (rea
     counts b e = ap (λ n. nat_eq n (length ts)) (count_told t below sound read left among_left) ∙ ap (nat_eq (length (triples_at t left))) (count_told t below sound read right among_right) ∙ e
 
     pub rows_differ : nat_eq (length (triples_at t left)) (length (triples_at t right)) ≡ false → all_rows ss ts ≡ None
-    rows_differ e = ap (λ b. if b then Some (rows ss ts (length ss)) else None) (counts false e)
+    rows_differ e = ap (λ b. if b then Some (zip (values_in ss) (values_in ts)) else None) (counts false e)
 
-    pub rows_found : (sides : List Sides) → nat_eq (length (triples_at t left)) (length (triples_at t right)) ≡ true → map values_of sides ≡ rows (triples_at t left) (triples_at t right) (length (triples_at t left))
+    pub rows_found : (sides : List Sides) → nat_eq (length (triples_at t left)) (length (triples_at t right)) ≡ true → map values_of sides ≡ zip (values_in (triples_at t left)) (values_in (triples_at t right))
         → all_rows ss ts ≡ Some (map (resolved t.slots) sides)
     rows_found sides e is =
         let xs = triples_at t left in
         let ys = triples_at t right in
-        ap (λ b. if b then Some (rows ss ts (length ss)) else None) (counts true e)
-        ∙ ap (λ n. Some (rows ss ts n)) (count_told t below sound read left among_left)
-        ∙ ap (λ zs. Some (rows zs ts (length xs))) (triples_told t below sound read left among_left)
-        ∙ ap (λ zs. Some (rows (map (resolve_triple t.slots) xs) zs (length xs))) (triples_told t below sound read right among_right)
-        ∙ ap (λ ps. Some ps) (rows_resolved t.slots xs ys (length xs) ∙ ap (map (both t.slots)) (sym is) ∙ sym (sides_resolved t.slots sides))
+        ap (λ b. if b then Some (zip (values_in ss) (values_in ts)) else None) (counts true e)
+        ∙ ap (λ zs. Some (zip (values_in zs) (values_in ts))) (triples_told t below sound read left among_left)
+        ∙ ap (λ zs. Some (zip (values_in (map (resolve_triple t.slots) xs)) (values_in zs))) (triples_told t below sound read right among_right)
+        ∙ ap (λ ps. Some ps) (zip_resolved t.slots xs ys ∙ ap (map (both t.slots)) (sym is) ∙ sym (sides_resolved t.slots sides))
 
-    pub matches_differ : nat_eq (length (triples_at t left)) (length (triples_at t right)) ≡ false → all_matches (graph_of t.slots below) ss ts ≡ None
-    matches_differ e = ap (λ b. if b then matches (graph_of t.slots below) ss ts (length ss / 2) else None) (counts false e)
+    pub matches_differ : nat_eq (length (triples_at t left)) (length (triples_at t right)) ≡ false → all_matches (reading t below) p.0 p.1 ≡ None
+    matches_differ e = ap (λ b. if b then matches (value_under (reading t below) p.1) (pairs_in ss) else None) (counts false e)
 
     pub matches_found : nat_eq (length (triples_at t left)) (length (triples_at t right)) ≡ true
-        → all_matches (graph_of t.slots below) ss ts ≡ matches (graph_of t.slots below) ss ts (length (triples_at t left) / 2)
-    matches_found e =
-        ap (λ b. if b then matches (graph_of t.slots below) ss ts (length ss / 2) else None) (counts true e)
-        ∙ ap (λ n. matches (graph_of t.slots below) ss ts (n / 2)) (count_told t below sound read left among_left)
+        → all_matches (reading t below) p.0 p.1 ≡ matches (value_under (reading t below) p.1) (pairs_in ss)
+    matches_found e = ap (λ b. if b then matches (value_under (reading t below) p.1) (pairs_in ss) else None) (counts true e)
 
-    pub seen_one : same_value p.0 p.1 ≡ true → Leaf (Wrote []) ≡ look_pair (graph_of t.slots below) p
+    pub seen_one : same_value p.0 p.1 ≡ true → Leaf (Wrote []) ≡ look_pair (reading t below) p
     unfolding look_pair
-    seen_one e = sym (ap (λ b. if b then Leaf (Wrote []) else look_like (graph_of t.slots below) (likeness (kind_in (graph_of t.slots below) p.0) (kind_in (graph_of t.slots below) p.1)) p) e)
+    seen_one e = sym (ap (λ b. if b then Leaf (Wrote []) else look_like (reading t below) (likeness (kind_in (graph_of t.slots below) p.0) (kind_in (graph_of t.slots below) p.1)) p) e)
 
-    pub seen_like : (l : Likeness) → same_value p.0 p.1 ≡ false → likeness (kind_at t left) (kind_at t right) ≡ l → look_like (graph_of t.slots below) l p ≡ look_pair (graph_of t.slots below) p
+    pub seen_like : (l : Likeness) → same_value p.0 p.1 ≡ false → likeness (kind_at t left) (kind_at t right) ≡ l → look_like (reading t below) l p ≡ look_pair (reading t below) p
     unfolding look_pair
     seen_like l e is =
+        let r = reading t below in
         let g = graph_of t.slots below in
-        sym (ap (λ b. if b then Leaf (Wrote []) else look_like g (likeness (kind_in g p.0) (kind_in g p.1)) p) e
-        ∙ ap (λ k. look_like g (likeness k (kind_in g p.1)) p) (kind_told t below sound read left among_left)
-        ∙ ap (λ k. look_like g (likeness (kind_at t left) k) p) (kind_told t below sound read right among_right)
-        ∙ ap (λ m. look_like g m p) is)
+        sym (ap (λ b. if b then Leaf (Wrote []) else look_like r (likeness (kind_in g p.0) (kind_in g p.1)) p) e
+        ∙ ap (λ k. look_like r (likeness k (kind_in g p.1)) p) (kind_told t below sound read left among_left)
+        ∙ ap (λ k. look_like r (likeness (kind_at t left) k) p) (kind_told t below sound read right among_right)
+        ∙ ap (λ m. look_like r m p) is)
+
+text_alike : (k : Kind) → text_likeness k ≡ Hashes → k ≡ kind.Hash
+text_alike kind.Text e = let no : ⊥ = cc in absurd no
+text_alike kind.Shell e = let no : ⊥ = cc in absurd no
+text_alike _ e = let no : ⊥ = cc in absurd no
+
+array_alike : (k : Kind) → array_likeness k ≡ Hashes → k ≡ kind.Hash
+array_alike kind.Array e = let no : ⊥ = cc in absurd no
+array_alike kind.Shell e = let no : ⊥ = cc in absurd no
+array_alike _ e = let no : ⊥ = cc in absurd no
+
+hash_alike : (k : Kind) → hash_likeness k ≡ Hashes → k ≡ kind.Hash
+hash_alike kind.Hash e = refl
+hash_alike kind.Shell e = let no : ⊥ = cc in absurd no
+hash_alike _ e = let no : ⊥ = cc in absurd no
+
+other_alike : (k : Kind) → other_likeness k ≡ Hashes → k ≡ kind.Hash
+other_alike kind.Shell e = let no : ⊥ = cc in absurd no
+other_alike _ e = let no : ⊥ = cc in absurd no
+
+-- what is compared as hashes are is a hash
+pub hashes_alike : (j k : Kind) → likeness j k ≡ Hashes → k ≡ kind.Hash
+hashes_alike kind.Shell k e = let no : ⊥ = cc in absurd no
+hashes_alike kind.Text k e = text_alike k e
+hashes_alike kind.Array k e = array_alike k e
+hashes_alike kind.Hash k e = hash_alike k e
+hashes_alike _ k e = other_alike k e

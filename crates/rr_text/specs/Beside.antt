@@ -1,7 +1,6 @@
 -- Containers that are compared, and the values in them that stand side by side.
 use Rattle.std.specs.Prelude.{ℕ, ◌-◌, ◌+◌, ◌^◌, ◌<◌, ◌≤◌, suc, Bool, ◌||◌, List, [], map, drop, length}
 use Rattle.std.specs.List.{All}
-use Rattle.rr_space.specs.Graph.{Graph}
 use Rattle.rr_space.specs.Tables.{Table, Slot, Below, resolve}
 use Rattle.rr_space.specs.Parts.{value_of}
 use Rattle.rr_space.specs.Kinds.{kind_at}
@@ -9,6 +8,7 @@ use Rattle.rr_space.specs.Views.{text_at, IsKnownFrom}
 use Rattle.rr_space.specs.declared.refer.Ref.{Ref}
 use Rattle.rr_text.specs.Walk.{Walked, Wrote, Differs, Deep, Shell, Look, Leaf, Branch}
 use Rattle.rr_text.specs.Same.{same_value}
+use Rattle.rr_text.specs.Keys.{Reading}
 use Rattle.rr_text.specs.Comparing.{Pair, same_pair, text_if, likeness, part_of, look_pair}
 use Rattle.rr_text.specs.Reads.{IsAmong}
 use Rattle.rr_text.specs.Rest.{Begun, whole, load}
@@ -20,9 +20,9 @@ use Rattle.rr_text.specs.declared.sight.Compared.{Compared}
 use Rattle.rr_text.specs.declared.sight.Compared.TheVariants as compared
 use Rattle.rr_text.specs.declared.comparing.Beside.{Beside}
 
--- whether two references are one key of hashes
-abbrev pub same_key_at : Table → Ref → Ref → Bool
-same_key_at t r s = same_value (resolve t.slots (value_of r)) (resolve t.slots (value_of s)) || text_if (likeness (kind_at t r) (kind_at t s)) (text_at t r) (text_at t s)
+-- whether two references are one value, or lead to texts of the same bytes
+abbrev pub equal_at : Table → Ref → Ref → Bool
+equal_at t r s = same_value (resolve t.slots (value_of r)) (resolve t.slots (value_of s)) || text_if (likeness (kind_at t r) (kind_at t s)) (text_at t r) (text_at t s)
 
 -- the values of two references
 abbrev pub values_of : Sides → Pair
@@ -74,10 +74,10 @@ pub record IsGrown (levels : ℕ) (frames frames' : List Beside) : Type 0 where
   pub fit : length frames' ≤ levels
   pub light : load sides_of breadth levels frames' < load sides_of breadth levels frames + breadth ^ (suc levels - length frames)
 
-module _ (g : Graph) (slots : List Slot) (levels : ℕ) where
+module _ (r : Reading) (slots : List Slot) (levels : ℕ) where
   -- what the walk comes to with these frames: it ends, or it goes on with them
   abbrev pub ahead : Compared → List Beside → Walked
-  ahead compared.Same frames = whole (look_pair g) same_pair (begun_of slots) levels frames []
+  ahead compared.Same frames = whole (look_pair r) same_pair (begun_of slots) levels frames []
   ahead compared.Differs frames = Differs
   ahead compared.Deep frames = Deep
   ahead compared.Shell frames = Shell

@@ -1,11 +1,15 @@
 -- Equality of values: containers are compared by what is in them, and two that are being compared already count as equal.
-use Rattle.std.specs.Prelude.{ℕ, zero, suc, ◌+◌, ◌*◌, ◌/◌, Bool, true, false, ◌&&◌, ◌||◌, nat_eq, List, [], ◌∷◌, ◌++◌, map, length, slice_get, Option, Some, None, if◌then◌else◌}
+use Rattle.std.specs.Prelude.{ℕ, ◌+◌, ◌*◌, Bool, true, false, ◌&&◌, ◌||◌, nat_eq, List, [], ◌∷◌, map, length, slice_get, Option, Some, None, if◌then◌else◌}
+use Rattle.std.specs.List.{zip}
+use Rattle.std.specs.Option.{option_map}
 use Rattle.std.specs.Str.{bytes_eq}
 use Rattle.rr_space.specs.Graph.{Graph, Nil, Value, Plain, Label}
+use Rattle.rr_space.specs.Tables.{HashKey}
 use Rattle.rr_space.specs.declared.kind.Kind.{Kind}
 use Rattle.rr_space.specs.declared.kind.Kind.TheVariants as kind
 use Rattle.rr_text.specs.Walk.{Walked, Wrote, Differs, Deep, Shell, Look, Leaf, Branch, walk}
 use Rattle.rr_text.specs.Same.{same_value, kind_in, bytes_in, triples_in}
+use Rattle.rr_text.specs.Keys.{Reading, key_in, pairs_in, place_among}
 use Rattle.rr_text.specs.declared.likeness.Likeness.{Likeness}
 use Rattle.rr_text.specs.declared.likeness.Likeness.TheVariants.{Moved, Unlike, Texts, Arrays, Hashes}
 
@@ -58,23 +62,26 @@ value_or_none None = Plain Nil
 abbrev pub value_in : List (Label × Value) → ℕ → Value
 value_in ts k = value_or_none (slice_get ts k)
 
--- the first values of two arrays, side by side
-abbrev pub rows : List (Label × Value) → List (Label × Value) → ℕ → List Pair
-rows ss ts zero = []
-rows ss ts (suc n) = rows ss ts n ++ (value_in ss n, value_in ts n) ∷ []
+abbrev pub part_value : Label × Value → Value
+part_value t = t.1
 
--- the same, where the arrays are as long
+-- the values of an object, in order
+abbrev pub values_in : List (Label × Value) → List Value
+values_in ts = map part_value ts
+
+-- the elements of two arrays side by side, where the arrays are as long
 abbrev pub all_rows : List (Label × Value) → List (Label × Value) → Option (List Pair)
-all_rows ss ts = if nat_eq (length ss) (length ts) then Some (rows ss ts (length ss)) else None
+all_rows ss ts = if nat_eq (length ss) (length ts) then Some (zip (values_in ss) (values_in ts)) else None
 
-abbrev pub or_here : Option Value → Bool → Value → Option Value
-or_here (Some x) here y = Some x
-or_here None here y = if here then Some y else None
+-- one more pair before the others, where both are there
+abbrev pub with_beside : Value → Option Value → Option (List Pair) → Option (List Pair)
+with_beside v (Some w) found = option_map (λ ps. (v, w) ∷ ps) found
+with_beside v None found = None
 
-abbrev pub with_beside : Option (List Pair) → Value → Option Value → Option (List Pair)
-with_beside (Some ps) v (Some w) = Some (ps ++ (v, w) ∷ [])
-with_beside (Some ps) v None = None
-with_beside None v w = None
+-- the values of these pairs, each beside that which the other hash has under the key object; none where it has none
+abbrev pub matches : (Value → Option Value) → List (Value × Value) → Option (List Pair)
+matches under [] = Some []
+matches under (p ∷ ps) = with_beside p.1 (under p.0) (matches under ps)
 
 abbrev pub part_of : Pair → List ℕ × Pair
 part_of p = ([], p)
@@ -84,35 +91,42 @@ abbrev pub branched : Pair → Option (List Pair) → Look Pair Pair
 branched p None = Leaf Differs
 branched p (Some ps) = Branch p [] [] (map part_of ps) []
 
-module _ (g : Graph) where
-  -- whether two values are one, or texts of the same bytes: so keys are compared
-  unfoldable pub same_key_in : Value → Value → Bool
-  same_key_in v w = same_value v w || text_if (likeness (kind_in g v) (kind_in g w)) (bytes_in g v) (bytes_in g w)
+-- an answer, or another one where it is that two values differ
+abbrev pub unless_differs : Walked → Walked → Walked
+unless_differs (Wrote s) w = Wrote s
+unless_differs Differs w = w
+unless_differs Deep w = Deep
+unless_differs Shell w = Shell
 
-  -- the value of the first of so many pairs of a hash that has the key
-  abbrev pub value_under : Value → List (Label × Value) → ℕ → Option Value
-  value_under key ts zero = None
-  value_under key ts (suc n) = or_here (value_under key ts n) (same_key_in key (value_in ts (2 * n))) (value_in ts (2 * n + 1))
+-- whether two values are one, or texts of the same bytes
+unfoldable pub equal_in : Graph → Value → Value → Bool
+equal_in g v w = same_value v w || text_if (likeness (kind_in g v) (kind_in g w)) (bytes_in g v) (bytes_in g w)
 
-  -- the values of the first pairs of a hash, each beside that of the other hash under the same key; none where a key is not there
-  abbrev pub matches : List (Label × Value) → List (Label × Value) → ℕ → Option (List Pair)
-  matches ss ts zero = Some []
-  matches ss ts (suc n) = with_beside (matches ss ts n) (value_in ss (2 * n + 1)) (value_under (value_in ss (2 * n)) ts (length ts / 2))
+module _ (r : Reading) where
+  -- the value of the pair of a hash that has the key
+  abbrev pub value_with : Value → Option HashKey → Option Value
+  value_with hash (Some key) = option_map (λ i. value_in (triples_in r.graph hash) (2 * i + 1)) (place_among key (r.keys hash))
+  value_with hash None = None
 
-  -- the same, where the hashes have as many pairs
-  abbrev pub all_matches : List (Label × Value) → List (Label × Value) → Option (List Pair)
-  all_matches ss ts = if nat_eq (length ss) (length ts) then matches ss ts (length ss / 2) else None
+  -- the value that a hash has under the key that a value is
+  unfoldable pub value_under : Value → Value → Option Value
+  value_under hash name = value_with hash (key_in r.graph name)
+
+  -- the values of two hashes under the same keys, where they have as many pairs and each key of the one is a key of the other
+  abbrev pub all_matches : Value → Value → Option (List Pair)
+  all_matches v w =
+      if nat_eq (length (triples_in r.graph v)) (length (triples_in r.graph w)) then matches (value_under w) (pairs_in (triples_in r.graph v)) else None
 
   abbrev pub look_like : Likeness → Pair → Look Pair Pair
   look_like Moved p = Leaf Shell
   look_like Unlike p = Leaf Differs
-  look_like Texts p = Leaf (decided (bytes_eq (bytes_in g p.0) (bytes_in g p.1)))
-  look_like Arrays p = branched p (all_rows (triples_in g p.0) (triples_in g p.1))
-  look_like Hashes p = branched p (all_matches (triples_in g p.0) (triples_in g p.1))
+  look_like Texts p = Leaf (decided (bytes_eq (bytes_in r.graph p.0) (bytes_in r.graph p.1)))
+  look_like Arrays p = branched p (all_rows (triples_in r.graph p.0) (triples_in r.graph p.1))
+  look_like Hashes p = branched p (all_matches p.0 p.1)
 
   -- what is found at two values: one value is equal to itself at once, and what was moved away is equal to nothing else
   unfoldable pub look_pair : Pair → Look Pair Pair
-  look_pair p = if same_value p.0 p.1 then Leaf (Wrote []) else look_like (likeness (kind_in g p.0) (kind_in g p.1)) p
+  look_pair p = if same_value p.0 p.1 then Leaf (Wrote []) else look_like (likeness (kind_in r.graph p.0) (kind_in r.graph p.1)) p
 
   -- whether two values are equal, where so many containers may be begun inside one another
   unfoldable pub compared : ℕ → Value → Value → Walked
@@ -123,15 +137,9 @@ module _ (g : Graph) where
   item_compared levels kind.Shell x v = Shell
   item_compared levels kind.Array x v = compared levels x v
   item_compared levels kind.Hash x v = compared levels x v
-  item_compared levels _ x v = decided (same_key_in x v)
+  item_compared levels _ x v = decided (equal_in r.graph x v)
 
-  abbrev pub or_next : Walked → Walked → Walked
-  or_next (Wrote s) w = Wrote s
-  or_next Differs w = w
-  or_next Deep w = Deep
-  or_next Shell w = Shell
-
-  -- the first elements of an array, one by one, until one does not differ from the value
-  abbrev pub searched : ℕ → Value → List (Label × Value) → ℕ → Walked
-  searched levels v ts zero = Differs
-  searched levels v ts (suc n) = or_next (searched levels v ts n) (item_compared levels (kind_in g (value_in ts n)) (value_in ts n) v)
+  -- whether one of the elements of an array is equal to a value: the first that does not differ from it tells
+  abbrev pub searched : ℕ → Value → List Value → Walked
+  searched levels v [] = Differs
+  searched levels v (x ∷ xs) = unless_differs (item_compared levels (kind_in r.graph x) x v) (searched levels v xs)

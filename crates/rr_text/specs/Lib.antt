@@ -9,5 +9,6 @@ pub mod Told
 pub mod Frames
 pub mod Rows
 pub mod Same
+pub mod Keys
 pub mod Comparing
 pub mod Beside

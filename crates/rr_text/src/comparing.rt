@@ -2,9 +2,9 @@
 
 ghost use Rattle.std.specs.Prelude.{◌≡◌, ◌<◌, ◌≤◌, ◌∷◌, ◌++◌, [], ℕ, List, length, IfOk, IfErr};
 ghost use Rattle.std.specs.List.{list_any};
-ghost use Rattle.rr_space.specs.Graph.{Graph};
-ghost use Rattle.rr_space.specs.Tables.{Below, Slot, graph_of, resolve};
+ghost use Rattle.rr_space.specs.Tables.{Below, Slot, resolve};
 ghost use Rattle.rr_space.specs.Parts.{value_of};
+ghost use Rattle.rr_text.specs.Keys.{Reading, reading};
 ghost use Rattle.rr_text.specs.Comparing.{Pair, same_pair, look_pair, compared};
 ghost use Rattle.rr_text.specs.Reads.{IsAmong, IsReadWith};
 ghost use Rattle.rr_text.specs.Rest.{load, showing, whole};
@@ -53,8 +53,8 @@ fn begin(
     sides: Vec<Sides>,
 ) -> Result<Compared, AllocError>
     requires fit { length frames.old.items ≤ levels }
-    ensures showed { IfOk result (λ now. (g : Graph) → look_pair g (resolved space.now.slots (record { left = left; right = right })) ≡ look_of space.now.slots (resolved space.now.slots (record { left = left; right = right })) (sights.Inside sides)
-        → showing (look_pair g) same_pair (begun_of space.now.slots) levels frames.old.items [] (resolved space.now.slots (record { left = left; right = right })) ≡ ahead g space.now.slots levels now frames.new.items) }
+    ensures showed { IfOk result (λ now. (r : Reading) → look_pair r (resolved space.now.slots (record { left = left; right = right })) ≡ look_of space.now.slots (resolved space.now.slots (record { left = left; right = right })) (sights.Inside sides)
+        → showing (look_pair r) same_pair (begun_of space.now.slots) levels frames.old.items [] (resolved space.now.slots (record { left = left; right = right })) ≡ ahead r space.now.slots levels now frames.new.items) }
     ensures grown { IfOk result (λ _. IsGrown levels frames.old.items frames.new.items) }
     ensures among { IfOk result (λ _. (below : Below) → AreAmong below frames.old.items → AreSidesAmong below sides.items → AreAmong below frames.new.items) }
 {
@@ -83,7 +83,7 @@ fn show(
 ) -> Result<Compared, AllocError>
     requires fit { length frames.old.items ≤ levels }
     ensures showed { IfOk result (λ now. (below : Below) → IsReadWith space.now below → IsAmong below values.left → IsAmong below values.right
-        → showing (look_pair (graph_of space.now.slots below)) same_pair (begun_of space.now.slots) levels frames.old.items [] (resolved space.now.slots values) ≡ ahead (graph_of space.now.slots below) space.now.slots levels now frames.new.items) }
+        → showing (look_pair (reading space.now below)) same_pair (begun_of space.now.slots) levels frames.old.items [] (resolved space.now.slots values) ≡ ahead (reading space.now below) space.now.slots levels now frames.new.items) }
     ensures grown { IfOk result (λ _. IsGrown levels frames.old.items frames.new.items) }
     ensures among { IfOk result (λ _. (below : Below) → IsReadWith space.now below → AreAmong below frames.old.items → IsAmong below values.left → IsAmong below values.right → AreAmong below frames.new.items) }
 {
@@ -106,7 +106,7 @@ fn step(
 ) -> Result<Compared, AllocError>
     requires depth { length frames.old.items < levels }
     ensures stepped { IfOk result (λ now. (below : Below) → IsReadWith space.now below → AreSidesAmong below top.sides.items
-        → whole (look_pair (graph_of space.now.slots below)) same_pair (begun_of space.now.slots) levels (frames.old.items ++ top ∷ []) [] ≡ ahead (graph_of space.now.slots below) space.now.slots levels now frames.new.items) }
+        → whole (look_pair (reading space.now below)) same_pair (begun_of space.now.slots) levels (frames.old.items ++ top ∷ []) [] ≡ ahead (reading space.now below) space.now.slots levels now frames.new.items) }
     ensures fit { IfOk result (λ _. length frames.new.items ≤ levels) }
     ensures among { IfOk result (λ _. (below : Below) → IsReadWith space.now below → AreAmong below frames.old.items → AreSidesAmong below top.sides.items → AreAmong below frames.new.items) }
     ensures lighter { IfOk result (λ _. load sides_of breadth levels frames.new.items < load sides_of breadth levels (frames.old.items ++ top ∷ [])) }
@@ -129,13 +129,13 @@ fn step(
 /// one another; or `Shell`, where it comes to an object that was moved away. What comes first counts. `Memory` is the only
 /// fault.
 ///
-/// Immediates are compared by value, texts by their bytes, arrays and hashes by what is in them, the order of a hash aside,
-/// and other objects are equal to themselves alone. Two containers that are being compared already count as equal. No method
+/// Immediates are compared by value, texts by their bytes, arrays by their elements, hashes by the values under their keys,
+/// in any order, and other objects are equal to themselves alone. Two containers that are being compared already count as equal. No method
 /// of the program is called. It is exact in the graph of the space with any clusters among which are all that the space and
 /// the values lead to, and of which no two have one number.
 pub fn compare(alloc: Global, space: &Space, left: Ref, right: Ref) -> Result<Compared, Fault>
     ensures is { IfOk result (λ now. (below : Below) → IsReadWith space.now below → IsAmong below left → IsAmong below right
-        → outcome_of now ≡ compared (graph_of space.now.slots below) Limits.DEFAULT.levels (resolve space.now.slots (value_of left)) (resolve space.now.slots (value_of right))) }
+        → outcome_of now ≡ compared (reading space.now below) Limits.DEFAULT.levels (resolve space.now.slots (value_of left)) (resolve space.now.slots (value_of right))) }
     ensures fault { IfErr result (λ e. e ≡ Fault.Memory) }
 {
     let levels = Limits::DEFAULT.levels as usize;
@@ -151,7 +151,7 @@ pub fn compare_within(
     right: Ref,
 ) -> Result<Compared, Fault>
     ensures is { IfOk result (λ now. (below : Below) → IsReadWith space.now below → IsAmong below left → IsAmong below right
-        → outcome_of now ≡ compared (graph_of space.now.slots below) levels (resolve space.now.slots (value_of left)) (resolve space.now.slots (value_of right))) }
+        → outcome_of now ≡ compared (reading space.now below) levels (resolve space.now.slots (value_of left)) (resolve space.now.slots (value_of right))) }
     ensures fault { IfErr result (λ e. e ≡ Fault.Memory) }
 {
     let mut frames = Vec::new(alloc);

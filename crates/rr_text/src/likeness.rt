@@ -7,7 +7,7 @@ ghost use Rattle.rr_space.specs.Views.{text_at};
 ghost use Rattle.rr_space.specs.Kinds.{kind_at};
 ghost use Rattle.rr_text.specs.Same.{same_value};
 ghost use Rattle.rr_text.specs.Comparing.{text_likeness, array_likeness, hash_likeness, other_likeness, likeness};
-ghost use Rattle.rr_text.specs.Beside.{same_key_at};
+ghost use Rattle.rr_text.specs.Beside.{equal_at};
 
 use rr_space::{Kind, Ref, Space};
 
@@ -83,8 +83,8 @@ pub(crate) fn is_one(space: &Space, left: Ref, right: Ref) -> bool
 }
 
 /// Whether two values are one, or texts of the same bytes.
-pub(crate) fn is_same_key(space: &Space, left: Ref, right: Ref) -> bool
-    ensures { result ≡ same_key_at space.now left right }
+pub(crate) fn is_equal(space: &Space, left: Ref, right: Ref) -> bool
+    ensures { result ≡ equal_at space.now left right }
 {
     if is_one(space, left, right) {
         return true;

@@ -1,7 +1,9 @@
 //! What is found at two values that are compared.
 
 ghost use Rattle.std.specs.Prelude.{◌≡◌, IfOk};
-ghost use Rattle.rr_space.specs.Tables.{Below, graph_of};
+ghost use Rattle.rr_space.specs.Tables.{Below};
+ghost use Rattle.rr_space.specs.Kinds.{kind_at};
+ghost use Rattle.rr_text.specs.Keys.{reading};
 ghost use Rattle.rr_text.specs.Comparing.{look_pair, look_like, decided};
 ghost use Rattle.rr_text.specs.Reads.{IsAmong, IsReadWith};
 ghost use Rattle.rr_text.specs.Beside.{resolved, look_of, outcome_of, IsSightKnown};
@@ -9,7 +11,7 @@ ghost use Rattle.rr_text.specs.declared.likeness.Likeness.TheVariants as likenes
 
 use crate::beside::{Sides, matches, rows};
 use crate::likeness::{Likeness, is_one, likeness_of};
-use rr_space::{Ref, Space};
+use rr_space::{Kind, Ref, Space};
 use std::alloc::{AllocError, Global};
 
 /// What comparing two values comes to.
@@ -46,31 +48,30 @@ pub(crate) fn decided(same: bool) -> Compared
 fn inside_arrays(alloc: Global, space: &Space, left: Ref, right: Ref) -> Result<Sight, AllocError>
     ensures is { IfOk result (λ sight. (below : Below) → IsReadWith space.now below → IsAmong below left → IsAmong below right
         → look_of space.now.slots (resolved space.now.slots (record { left = left; right = right })) sight
-        ≡ look_like (graph_of space.now.slots below) likenesses.Arrays (resolved space.now.slots (record { left = left; right = right }))) }
+        ≡ look_like (reading space.now below) likenesses.Arrays (resolved space.now.slots (record { left = left; right = right }))) }
     ensures known { IfOk result (IsSightKnown space.now left right) }
 {
     // No reference leads nowhere, as the clause of the number says.
     let _count = space.len();
-    let count = space.arity(left);
-    if count != space.arity(right) {
+    if space.arity(left) != space.arity(right) {
         return Ok(Sight::Decided(Compared::Differs));
     }
-    Ok(Sight::Inside(rows(alloc, space, left, right, count)?))
+    Ok(Sight::Inside(rows(alloc, space, left, right)?))
 }
 
 /// The values of two hashes under the same keys.
 fn inside_hashes(alloc: Global, space: &Space, left: Ref, right: Ref) -> Result<Sight, AllocError>
+    requires { kind_at space.now right ≡ Kind.Hash }
     ensures is { IfOk result (λ sight. (below : Below) → IsReadWith space.now below → IsAmong below left → IsAmong below right
         → look_of space.now.slots (resolved space.now.slots (record { left = left; right = right })) sight
-        ≡ look_like (graph_of space.now.slots below) likenesses.Hashes (resolved space.now.slots (record { left = left; right = right }))) }
+        ≡ look_like (reading space.now below) likenesses.Hashes (resolved space.now.slots (record { left = left; right = right }))) }
     ensures known { IfOk result (IsSightKnown space.now left right) }
 {
     let _count = space.len();
-    let count = space.arity(left);
-    if count != space.arity(right) {
+    if space.arity(left) != space.arity(right) {
         return Ok(Sight::Decided(Compared::Differs));
     }
-    match matches(alloc, space, left, right, count / 2)? {
+    match matches(alloc, space, left, right)? {
         Some(sides) => Ok(Sight::Inside(sides)),
         None => Ok(Sight::Decided(Compared::Differs)),
     }
@@ -85,7 +86,7 @@ pub(crate) fn sight_at(
 ) -> Result<Sight, AllocError>
     ensures is { IfOk result (λ sight. (below : Below) → IsReadWith space.now below → IsAmong below left → IsAmong below right
         → look_of space.now.slots (resolved space.now.slots (record { left = left; right = right })) sight
-        ≡ look_pair (graph_of space.now.slots below) (resolved space.now.slots (record { left = left; right = right }))) }
+        ≡ look_pair (reading space.now below) (resolved space.now.slots (record { left = left; right = right }))) }
     ensures known { IfOk result (IsSightKnown space.now left right) }
 {
     let _count = space.len();

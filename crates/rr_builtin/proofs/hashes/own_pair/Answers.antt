@@ -1,9 +1,7 @@
-use Rattle.std.proofs.Common.{◌≡◌, ◌∙◌, sym, ap, map, Some, Contains}
-use Rattle.rr_space.specs.Tables.{graph_of, resolve}
+use Rattle.std.proofs.Common.{◌≡◌, ◌∙◌, ap, Some, Contains}
 use Rattle.rr_space.specs.Views.{key_of, keys_at, IsFirstAt}
-use Rattle.rr_builtin.specs.Elements.{names_of_hash}
-use Rattle.rr_builtin.specs.Hashes.{key_in, keys_or, place_among, pair_with}
-use Rattle.rr_builtin.proofs.Keyed.{place_of_keys}
+use Rattle.rr_text.specs.Keys.{place_among, pair_with}
+use Rattle.rr_text.proofs.Finding.{place_of_keys, keys_of_own}
 use Rattle.rr_builtin.proofs.Performing.{writable}
 use Rattle.rr_builtin.proofs.Storing.{written_keys, match_some, match_none}
 use Rattle.rr_builtin.proofs.hashes.own_pair.Goals as goal
@@ -15,7 +13,7 @@ returns-clause-is c = λ below.
     let key = key_of c.args.key.now in
     let o = written_keys t c.args.hash (writable t c.args.hash c.requires.hash.0) c.len-count.ensures.well in
     place_of_keys key o.0 c.find.result (c.find.ensures.own o.0 o.2)
-    ∙ ap (λ ks. place_among key (keys_or ks (map (λ x. key_in (graph_of t.slots below) (resolve t.slots x)) (names_of_hash t c.args.hash)))) (sym o.2)
+    ∙ ap (place_among key) (keys_of_own below t c.args.hash o.0 o.2)
 
 pub returns-clause-first : goal.returns-clause-first
 returns-clause-first c =

@@ -8,20 +8,20 @@ use Rattle.rr_text.proofs.Compares.{begun_again, begun_deep, begun_inside, grown
 use Rattle.rr_text.proofs.comparing.begin.Goals as goal
 
 pub returns-then-is_above-clause-showed : goal.returns-then-is_above-clause-showed
-returns-then-is_above-clause-showed c = λ g e.
+returns-then-is_above-clause-showed c = λ r e.
     let slots = c.args.space.now.slots in
     let p = resolved slots (record { left = c.args.left; right = c.args.right }) in
-    begun_again slots g c.args.levels c.args.frames.now.items p c.args.sides.items e
+    begun_again slots r c.args.levels c.args.frames.now.items p c.args.sides.items e
     (ap (list_any (λ f. same_pair p (key_of slots f))) (sym c.deref.ensures.value) ∙ sym c.is_above.ensures ∙ c.if-is_above.true)
 
 pub returns-then-is_above-clause-grown : goal.returns-then-is_above-clause-grown
 returns-then-is_above-clause-grown c = grown_same c.args.levels c.args.frames.now.items c.requires.fit
 
 pub returns-then-len-levels-clause-showed : goal.returns-then-len-levels-clause-showed
-returns-then-len-levels-clause-showed c = λ g e.
+returns-then-len-levels-clause-showed c = λ r e.
     let slots = c.args.space.now.slots in
     let p = resolved slots (record { left = c.args.left; right = c.args.right }) in
-    begun_deep slots g c.args.levels c.args.frames.now.items p c.args.sides.items e
+    begun_deep slots r c.args.levels c.args.frames.now.items p c.args.sides.items e
     (ap (list_any (λ f. same_pair p (key_of slots f))) (sym c.deref.ensures.value) ∙ sym c.is_above.ensures ∙ c.if-is_above.false)
     (omega (arith, c.len.ensures, c.if-len-levels.true))
 
@@ -29,11 +29,11 @@ pub returns-then-len-levels-clause-grown : goal.returns-then-len-levels-clause-g
 returns-then-len-levels-clause-grown c = grown_same c.args.levels c.args.frames.now.items c.requires.fit
 
 pub returns-clause-showed : goal.returns-clause-showed
-returns-clause-showed c = λ g e.
+returns-clause-showed c = λ r e.
     let slots = c.args.space.now.slots in
     let p = resolved slots (record { left = c.args.left; right = c.args.right }) in
     let f : Beside = record { left = c.args.left; right = c.args.right; sides = c.args.sides; next = 0 } in
-    begun_inside slots g c.args.levels c.args.frames.now.items p c.args.sides.items e f c.push.new.self.items
+    begun_inside slots r c.args.levels c.args.frames.now.items p c.args.sides.items e f c.push.new.self.items
     (ap (list_any (λ f. same_pair p (key_of slots f))) (sym c.deref.ensures.value) ∙ sym c.is_above.ensures ∙ c.if-is_above.false)
     (omega (arith, c.len.ensures, c.if-len-levels.false)) refl c.in_ok-push.ensures.items
 

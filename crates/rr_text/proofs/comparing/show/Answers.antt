@@ -1,5 +1,5 @@
-use Rattle.rr_space.specs.Tables.{graph_of}
 use Rattle.std.proofs.Common.{◌∙◌, sym, ap, subst}
+use Rattle.rr_text.specs.Keys.{reading}
 use Rattle.rr_text.specs.Beside.{resolved, look_of, IsSightKnown}
 use Rattle.rr_text.specs.declared.sight.Sight.{Sight}
 use Rattle.rr_text.proofs.Compares.{told_now, grown_same, sides_known}
@@ -8,7 +8,7 @@ use Rattle.rr_text.proofs.comparing.show.Goals as goal
 pub returns-in-Decided-clause-showed : goal.returns-in-Decided-clause-showed
 returns-in-Decided-clause-showed c = λ below read left right.
     let t = c.args.space.now in
-    told_now t.slots (graph_of t.slots below) c.args.levels c.args.frames.now.items (resolved t.slots c.args.values) c.in-Decided.now
+    told_now t.slots (reading t below) c.args.levels c.args.frames.now.items (resolved t.slots c.args.values) c.in-Decided.now
     (sym (ap (look_of t.slots (resolved t.slots c.args.values)) (sym c.in-Decided.is) ∙ c.in_ok-now.ensures.is below read left right))
 
 pub returns-in-Decided-clause-grown : goal.returns-in-Decided-clause-grown
@@ -17,7 +17,7 @@ returns-in-Decided-clause-grown c = grown_same c.args.levels c.args.frames.now.i
 pub returns-in_ok-now-in-Inside-clause-showed : goal.returns-in_ok-now-in-Inside-clause-showed
 returns-in_ok-now-in-Inside-clause-showed c = λ below read left right.
     let t = c.args.space.now in
-    c.in_ok-now-in-Inside.ensures.showed (graph_of t.slots below)
+    c.in_ok-now-in-Inside.ensures.showed (reading t below)
     (sym (ap (look_of t.slots (resolved t.slots c.args.values)) (sym c.in-Inside.is) ∙ c.in_ok-now.ensures.is below read left right))
 
 pub returns-in_ok-now-in-Inside-clause-among : goal.returns-in_ok-now-in-Inside-clause-among

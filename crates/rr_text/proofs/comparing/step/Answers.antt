@@ -1,8 +1,8 @@
 use Rattle.std.proofs.Common.{◌≡◌, ◌∙◌, ◌<◌, ◌+◌, length, get_or, refl, sym, subst, arith}
 use Rattle.std.proofs.lemmas.List.{get_or_read}
 use Rattle.std.proofs.lemmas.List.Elements.{All-same, All-push}
-use Rattle.rr_space.specs.Tables.{graph_of}
 use Rattle.rr_text.specs.Reads.{IsAmong}
+use Rattle.rr_text.specs.Keys.{reading}
 use Rattle.rr_text.specs.Beside.{AreSidesAmong, sides_of}
 use Rattle.rr_text.specs.declared.beside.Sides.{Sides}
 use Rattle.rr_text.specs.declared.comparing.Beside.{Beside}
@@ -11,7 +11,7 @@ use Rattle.rr_text.proofs.comparing.step.Goals as goal
 
 pub returns-then-top-len-clause-stepped : goal.returns-then-top-len-clause-stepped
 returns-then-top-len-clause-stepped c = λ below read one.
-    sides_end c.args.space.now.slots (graph_of c.args.space.now.slots below) c.args.levels c.args.frames.now.items c.args.top c.requires.depth (omega (arith, c.len.ensures, c.if-top-len.true))
+    sides_end c.args.space.now.slots (reading c.args.space.now below) c.args.levels c.args.frames.now.items c.args.top c.requires.depth (omega (arith, c.len.ensures, c.if-top-len.true))
 
 pub returns-then-top-len-clause-lighter : goal.returns-then-top-len-clause-lighter
 returns-then-top-len-clause-lighter c = lighter_closed c.args.levels c.args.frames.now.items c.args.top
@@ -26,7 +26,7 @@ returns-clause-stepped c = λ below read one.
     let lt : k < length xs = omega (arith, c.len.ensures, c.if-top-len.false) in
     let at : s ≡ get_or xs k s = get_or_read xs _ _ (omega (arith, c.args.top.sides.ok.0)) c.index-values.ensures s in
     let in_at : IsAmong below s.left × IsAmong below s.right = subst (λ (x : Sides). IsAmong below x.left × IsAmong below x.right) (sym at) (one k s lt) in
-    side_next slots (graph_of slots below) c.args.levels c.args.frames.now.items c.args.top c.push.new.self.items f s lt at refl c.in_ok-push.ensures.items
+    side_next slots (reading c.args.space.now below) c.args.levels c.args.frames.now.items c.args.top c.push.new.self.items f s lt at refl c.in_ok-push.ensures.items
     ∙ c.in_ok-now.ensures.showed below read in_at.0 in_at.1
 
 pub returns-clause-among : goal.returns-clause-among

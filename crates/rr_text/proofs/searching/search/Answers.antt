@@ -1,14 +1,9 @@
-use Rattle.std.proofs.Common.{◌≡◌, ◌∙◌, ◌<◌, length, refl, ap, sym, arith}
-use Rattle.rr_base.specs.declared.limits.TheConstants.Limits.{DEFAULT}
-use Rattle.rr_space.specs.Tables.{graph_of, resolve}
-use Rattle.rr_space.specs.Parts.{value_of}
+use Rattle.std.proofs.Common.{◌≡◌, ◌∙◌, ◌<◌, ◌≤◌, length, refl, ap, sym, arith}
 use Rattle.rr_space.specs.Labels.{triples_at}
-use Rattle.rr_text.specs.Same.{triples_in}
-use Rattle.rr_text.specs.Comparing.{searched}
 use Rattle.rr_text.specs.Beside.{outcome_of}
 use Rattle.rr_text.specs.declared.sight.Compared.TheVariants as compared
 use Rattle.rr_text.proofs.Looking.{among_child}
-use Rattle.rr_text.proofs.Searches.{tried_next, tried_last}
+use Rattle.rr_text.proofs.Searches.{searched_end, tried_next, tried_last}
 use Rattle.rr_text.proofs.searching.search.Goals as goal
 
 pub loop-place-init : goal.loop-place-init
@@ -18,15 +13,17 @@ pub loop-place-preserved : goal.loop-place-preserved
 loop-place-preserved c = λ below read among_array among_value.
     let t = c.args.space.now in
     let among_item = among_child t below c.args.array c.value_at.result read among_array c.value_at.ensures.known in
-    tried_next t below c.len-count.ensures.well.sound read c.args.array c.value_at.result c.args.value c.loop-place.place c.in_ok-compare_item.field-0 among_array among_item c.value_at.ensures.is
-    (c.in_ok-compare_item.ensures.is below read among_item among_value) (c.loop-place.invariant below read among_array among_value) c.in-Differs.is
+    let lt : c.loop-place.place < length (triples_at t c.args.array) = omega (arith, c.loop-place-test.true, c.arity-place-end.ensures.count) in
+    c.loop-place.invariant below read among_array among_value
+    ∙ tried_next t below c.len-count.ensures.well.sound read c.args.array c.args.value among_array c.value_at.result c.loop-place.place c.in_ok-compare_item.field-0 lt among_item c.value_at.ensures.is
+    (c.in_ok-compare_item.ensures.is below read among_item among_value) c.in-Differs.is
 
 pub returns-clause-is : goal.returns-clause-is
 returns-clause-is c = λ below read among_array among_value.
     let t = c.args.space.now in
-    let g = graph_of t.slots below in
-    let end : c.loop-place.place ≡ length (triples_at t c.args.array) = omega (arith, c.loop-place.auto.place-end, c.loop-place-test.false, c.arity-place-end.ensures.count) in
-    sym (ap (searched g DEFAULT.levels (resolve t.slots (value_of c.args.value)) (triples_in g (resolve t.slots (value_of c.args.array)))) (sym end) ∙ c.loop-place.invariant below read among_array among_value)
+    let le : length (triples_at t c.args.array) ≤ c.loop-place.place = omega (arith, c.loop-place-test.false, c.arity-place-end.ensures.count) in
+    sym (c.loop-place.invariant below read among_array among_value
+    ∙ searched_end t below c.len-count.ensures.well.sound read c.args.array c.args.value among_array c.loop-place.place le)
 
 pub returns-in-Same-clause-is : goal.returns-in-Same-clause-is
 returns-in-Same-clause-is c = λ below read among_array among_value.
@@ -34,9 +31,9 @@ returns-in-Same-clause-is c = λ below read among_array among_value.
     let among_item = among_child t below c.args.array c.value_at.result read among_array c.value_at.ensures.known in
     let lt : c.loop-place.place < length (triples_at t c.args.array) = omega (arith, c.loop-place-test.true, c.arity-place-end.ensures.count) in
     ap outcome_of (sym c.in-Same.is)
-    ∙ tried_last t below c.len-count.ensures.well.sound read c.args.array c.value_at.result c.args.value c.loop-place.place c.in_ok-compare_item.field-0 among_array among_item c.value_at.ensures.is
-    (c.in_ok-compare_item.ensures.is below read among_item among_value) (length (triples_at t c.args.array)) lt (λ e. let no : compared.Same ≡ compared.Differs = sym c.in-Same.is ∙ e in let w : ⊥ = cc in w)
-    (c.loop-place.invariant below read among_array among_value)
+    ∙ tried_last t below c.len-count.ensures.well.sound read c.args.array c.args.value among_array c.value_at.result c.loop-place.place c.in_ok-compare_item.field-0 lt among_item c.value_at.ensures.is
+    (c.in_ok-compare_item.ensures.is below read among_item among_value) (λ e. let no : compared.Same ≡ compared.Differs = sym c.in-Same.is ∙ e in let w : ⊥ = cc in w)
+    ∙ sym (c.loop-place.invariant below read among_array among_value)
 
 pub returns-in-Deep-clause-is : goal.returns-in-Deep-clause-is
 returns-in-Deep-clause-is c = λ below read among_array among_value.
@@ -44,9 +41,9 @@ returns-in-Deep-clause-is c = λ below read among_array among_value.
     let among_item = among_child t below c.args.array c.value_at.result read among_array c.value_at.ensures.known in
     let lt : c.loop-place.place < length (triples_at t c.args.array) = omega (arith, c.loop-place-test.true, c.arity-place-end.ensures.count) in
     ap outcome_of (sym c.in-Deep.is)
-    ∙ tried_last t below c.len-count.ensures.well.sound read c.args.array c.value_at.result c.args.value c.loop-place.place c.in_ok-compare_item.field-0 among_array among_item c.value_at.ensures.is
-    (c.in_ok-compare_item.ensures.is below read among_item among_value) (length (triples_at t c.args.array)) lt (λ e. let no : compared.Deep ≡ compared.Differs = sym c.in-Deep.is ∙ e in let w : ⊥ = cc in w)
-    (c.loop-place.invariant below read among_array among_value)
+    ∙ tried_last t below c.len-count.ensures.well.sound read c.args.array c.args.value among_array c.value_at.result c.loop-place.place c.in_ok-compare_item.field-0 lt among_item c.value_at.ensures.is
+    (c.in_ok-compare_item.ensures.is below read among_item among_value) (λ e. let no : compared.Deep ≡ compared.Differs = sym c.in-Deep.is ∙ e in let w : ⊥ = cc in w)
+    ∙ sym (c.loop-place.invariant below read among_array among_value)
 
 pub returns-in-Shell-clause-is : goal.returns-in-Shell-clause-is
 returns-in-Shell-clause-is c = λ below read among_array among_value.
@@ -54,6 +51,6 @@ returns-in-Shell-clause-is c = λ below read among_array among_value.
     let among_item = among_child t below c.args.array c.value_at.result read among_array c.value_at.ensures.known in
     let lt : c.loop-place.place < length (triples_at t c.args.array) = omega (arith, c.loop-place-test.true, c.arity-place-end.ensures.count) in
     ap outcome_of (sym c.in-Shell.is)
-    ∙ tried_last t below c.len-count.ensures.well.sound read c.args.array c.value_at.result c.args.value c.loop-place.place c.in_ok-compare_item.field-0 among_array among_item c.value_at.ensures.is
-    (c.in_ok-compare_item.ensures.is below read among_item among_value) (length (triples_at t c.args.array)) lt (λ e. let no : compared.Shell ≡ compared.Differs = sym c.in-Shell.is ∙ e in let w : ⊥ = cc in w)
-    (c.loop-place.invariant below read among_array among_value)
+    ∙ tried_last t below c.len-count.ensures.well.sound read c.args.array c.args.value among_array c.value_at.result c.loop-place.place c.in_ok-compare_item.field-0 lt among_item c.value_at.ensures.is
+    (c.in_ok-compare_item.ensures.is below read among_item among_value) (λ e. let no : compared.Shell ≡ compared.Differs = sym c.in-Shell.is ∙ e in let w : ⊥ = cc in w)
+    ∙ sym (c.loop-place.invariant below read among_array among_value)

@@ -6,7 +6,7 @@ use Rattle.rr_space.specs.Kinds.{kind_at}
 use Rattle.rr_text.specs.Walk.{Leaf}
 use Rattle.rr_text.specs.Same.{bytes_in}
 use Rattle.rr_text.specs.Comparing.{decided, likeness}
-use Rattle.rr_text.proofs.Sided.{on_ok, seen_one, seen_like, bytes_told}
+use Rattle.rr_text.proofs.Sided.{on_ok, seen_one, seen_like, bytes_told, hashes_alike}
 use Rattle.rr_text.proofs.sight.sight_at.Goals as goal
 
 pub returns-then-is_one-clause-is : goal.returns-then-is_one-clause-is
@@ -38,6 +38,11 @@ pub returns-in-Arrays-clause-is : goal.returns-in-Arrays-clause-is
 returns-in-Arrays-clause-is c = on_ok _ _ c.inside_arrays.result c.inside_arrays.ensures.is (λ s is below read among_left among_right. is below read among_left among_right
     ∙ seen_like c.args.space.now below c.len-count.ensures.well.sound read c.args.left c.args.right among_left among_right _ (sym c.is_one.ensures ∙ c.if-is_one.false)
     (ap (λ k. likeness k (kind_at c.args.space.now c.args.right)) (sym c.kind_of.ensures) ∙ ap (likeness c.kind_of.result) (sym c.kind_of-2.ensures) ∙ sym c.likeness_of.ensures ∙ c.in-Arrays.is))
+
+pub inside_hashes-requires : goal.inside_hashes-requires
+inside_hashes-requires c =
+    hashes_alike (kind_at c.args.space.now c.args.left) (kind_at c.args.space.now c.args.right)
+    (ap (λ k. likeness k (kind_at c.args.space.now c.args.right)) (sym c.kind_of.ensures) ∙ ap (likeness c.kind_of.result) (sym c.kind_of-2.ensures) ∙ sym c.likeness_of.ensures ∙ c.in-Hashes.is)
 
 pub returns-in-Hashes-clause-is : goal.returns-in-Hashes-clause-is
 returns-in-Hashes-clause-is c = on_ok _ _ c.inside_hashes.result c.inside_hashes.ensures.is (λ s is below read among_left among_right. is below read among_left among_right
