@@ -1,5 +1,5 @@
 -- The first message of an inbox comes into a hand.
-use Rattle.std.proofs.Common.{◌≡◌, ℕ, suc, ⊎_elim, inr, List, [], ◌∷◌, ◌++◌, map, Some, slice_get, sym, ap, ◌∙◌, refl, arith, true, false, Contains, subst}
+use Rattle.std.proofs.Common.{◌≡◌, ℕ, suc, ⊎_elim, inr, List, [], ◌∷◌, ◌++◌, map, Some, slice_get, sym, ap, ◌∙◌, refl, arith, true, false, Contains, subst, length}
 use Rattle.std.specs.Prelude.{slice_set}
 use Rattle.std.specs.Option.{option_map, option_and_then}
 use Rattle.std.proofs.lemmas.Option.{slice_get_within}
@@ -26,7 +26,7 @@ use Rattle.rr_world.proofs.Tickets.{mail_none, mail_here, mail_past, first_diffe
 use Rattle.rr_world.proofs.Knowing.{read_both, holding_knows}
 use Rattle.rr_world.proofs.Enabled.{actor_at, mailbox_at, free}
 use Rattle.rr_world.proofs.Offering.{objects_stay}
-use Rattle.rr_world.proofs.Staying.{same_state}
+use Rattle.rr_world.proofs.Staying.{same_state, one_renamed}
 use Rattle.rr_world.proofs.Fitting.{waits_same}
 
 in_later : (e : Entry) (es : List Entry) (x : Entry) → Contains es x → Contains (e ∷ es) x
@@ -115,6 +115,7 @@ module _ (w w2 : Assembly) (who : RactorNo) (k : ℕ) (m : Member) (i : Inbox) (
             },
           ),
         ),
+        one_renamed (Hand k) (length w.ractors) (record { who = who; action = Accept }) N stands,
       )
 
 -- nothing is inside

@@ -35,7 +35,7 @@ use Rattle.rr_world.proofs.Namings.{actor_same, same_actor, post_same, hand_same
 use Rattle.rr_world.proofs.Knowing.{read_set}
 use Rattle.rr_world.proofs.Enabled.{actor_at}
 use Rattle.rr_world.proofs.Insides.{set_again, same_assembly}
-use Rattle.rr_world.proofs.Staying.{stays, same_state}
+use Rattle.rr_world.proofs.Staying.{stays, same_state, one_renamed}
 use Rattle.rr_world.proofs.Rooting.{roots_keep}
 use Rattle.rr_world.proofs.Fitting.{waits_same}
 
@@ -262,6 +262,7 @@ module _ (w w2 : Assembly) (k : ℕ) (m m2 : Member) (kind : NewObject) (at : sl
             post = ap (post_in names2) is ∙ post_same names names2 w.channels mails shows kept;
           },
         ),
+        one_renamed (Space k) (length w.ractors) (record { who = who; action = Alloc kind }) N stands,
       )
 
 -- whatever an alloc answers

@@ -1,5 +1,5 @@
 -- A run with one more step.
-use Rattle.std.proofs.Common.{ℕ, List, [], ◌∷◌, ◌++◌, sym, ◌∙◌, subst, refl}
+use Rattle.std.proofs.Common.{ℕ, List, [], ◌∷◌, ◌++◌, sym, subst, refl}
 use Rattle.rr_space.specs.Readings.{Objects, Naming, IsApart}
 use Rattle.rr_space.proofs.Apart.{readings_are_apart}
 use Rattle.rr_world.specs.Views.{Assembly}

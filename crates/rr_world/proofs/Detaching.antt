@@ -45,6 +45,7 @@ use Rattle.rr_space.proofs.Remaking.{remaking_is_a_step}
 use Rattle.rr_world.proofs.Staying.{stays_read, same_state}
 use Rattle.rr_world.proofs.Tables.{space_was, hand_was, space_now, hand_now, rest_now}
 use Rattle.rr_world.proofs.Fitting.{waits_no_more}
+use Rattle.rr_world.specs.Naming.{IsRenamed}
 
 -- names of slots, one after another
 named_slots : (names : Naming) (h : Owner) (ns : List ℕ) → map (λ n. name_in names h (Own n)) ns ≡ map Own (map (slice_index (names h)) ns)
@@ -238,6 +239,7 @@ module _ (w w2 : Assembly) (who : RactorNo) (k : ℕ) (m m2 : Member) (op : Oper
             },
           ),
         ),
+        λ h off. N.rest h (λ e. off (subst (IsRenamed (length w.ractors) who (Detach op)) (sym e) stands)) (λ e. off (subst (IsRenamed (length w.ractors) who (Detach op)) (sym e) stands)),
       )
 
 -- whatever a detach answers

@@ -25,6 +25,7 @@ use Rattle.rr_world.proofs.Lists.{set_at, set_off, each_set}
 use Rattle.rr_world.proofs.Namings.{actor_same, same_actor, post_same}
 use Rattle.rr_world.proofs.Starting.{bare_knows, remade_empty}
 use Rattle.rr_world.proofs.Fitting.{waits_homeless}
+use Rattle.rr_world.proofs.Staying.{one_renamed}
 
 -- the same tables, without that of one owner
 abbrev without : Owner → Layout → Layout
@@ -145,4 +146,5 @@ module _ (w w2 : Assembly) (k : ℕ) (m m2 : Member) (at : slice_get w.ractors k
             post = ap (post_in names2) is ∙ post_same names names2 w.channels mails shows kept;
           },
         ),
+        one_renamed (Space k) (length w.ractors) (record { who = who; action = End }) N stands,
       )

@@ -1,5 +1,5 @@
 -- What the tables of a World know of clusters, step by step.
-use Rattle.std.proofs.Common.{◌≡◌, ℕ, ◌+◌, zero, suc, ◌⊎◌, ⊎_elim, inl, inr, List, [], ◌∷◌, length, length-set, Option, Some, None, slice_get, Contains, sym, ap, ◌∙◌, subst, refl}
+use Rattle.std.proofs.Common.{◌≡◌, ℕ, ◌+◌, zero, suc, ◌⊎◌, ⊎_elim, inl, inr, List, [], ◌∷◌, length, length-set, Option, Some, None, slice_get, Contains, sym, ap, ◌∙◌, subst}
 use Rattle.std.specs.Prelude.{slice_set}
 use Rattle.std.proofs.lemmas.List.Elements.{Contains-append_cases, Contains-append_left, Contains-append_right}
 use Rattle.std.proofs.lemmas.Option.{none-some, same_Some, slice_get_within}

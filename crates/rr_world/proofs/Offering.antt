@@ -1,5 +1,5 @@
 -- The message in a hand goes to the end of an inbox.
-use Rattle.std.proofs.Common.{◌≡◌, Contains, ℕ, ◌+◌, ⊎_elim, inr, List, [], ◌∷◌, ◌++◌, map, Some, None, slice_get, sym, ap, ◌∙◌, subst, refl, arith, false}
+use Rattle.std.proofs.Common.{◌≡◌, Contains, ℕ, ◌+◌, ⊎_elim, inr, List, [], ◌∷◌, ◌++◌, map, Some, None, slice_get, sym, ap, ◌∙◌, subst, refl, arith, false, length}
 use Rattle.std.specs.Prelude.{slice_set}
 use Rattle.std.specs.Option.{option_map, option_and_then}
 use Rattle.std.proofs.lemmas.List.{map-append}
@@ -30,6 +30,7 @@ use Rattle.rr_space.proofs.Sounds.{none_in, in_first}
 use Rattle.rr_world.proofs.Knowing.{read_both, emptied_knows}
 use Rattle.rr_world.proofs.Enabled.{actor_at, mailbox_at, holds}
 use Rattle.rr_world.proofs.Fitting.{waits_homeless}
+use Rattle.rr_world.proofs.Staying.{one_renamed}
 
 triples_stay : (ts : List (Label × Value)) → map (renamed_triple (behind 0)) ts ≡ ts
 triples_stay [] = refl
@@ -144,6 +145,7 @@ module _ (w w2 : Assembly) (who : RactorNo) (k c : ℕ) (m : Member) (i i2 : Inb
             },
           ),
         ),
+        one_renamed (Mail c i.next) (length w.ractors) (record { who = who; action = Offer to }) N there,
       )
 
   pub offered_under : (to : RactorNo) (t : ℕ) → t ≡ i.next → StandsAt who k → StandsAt to c → HasOutcome (record { who = who; action = Offer to }) (Offered t) w w2

@@ -1,10 +1,10 @@
 -- Values of one ractor and their names.
-use Rattle.std.proofs.Common.{◌≡◌, ℕ, List, length, Some, slice_get, sym, ap, ◌∙◌, subst, refl}
+use Rattle.std.proofs.Common.{◌≡◌, ℕ, List, length, Some, slice_get, sym, ap, ◌∙◌, subst}
 use Rattle.std.specs.Prelude.{slice_index}
 use Rattle.std.proofs.lemmas.Option.{same_Some}
 use Rattle.rr_space.specs.Graph.{Own, Published, Value, Plain, At, Object}
 use Rattle.rr_space.specs.Parts.{value_of, below_ref, IsWithin}
-use Rattle.rr_space.specs.Readings.{Owner, Space, Shared, Owned, Layout, HasPlace, Knows, Naming, Objects, IsReading}
+use Rattle.rr_space.specs.Readings.{Space, Shared, Owned, Layout, HasPlace, Knows, Naming, Objects, IsReading}
 use Rattle.rr_space.specs.Tables.{Slot, Here, Led, resolve, resolve_slot}
 use Rattle.rr_space.specs.declared.refer.Ref.{Ref}
 use Rattle.rr_space.specs.declared.refer.Ref.TheVariants as ref

@@ -38,7 +38,7 @@ use Rattle.rr_world.proofs.Sharing.{empty_list, shared_alike, shared_names, shar
 use Rattle.rr_world.proofs.Knowing.{knows_on, order_on, knows_either, read_set, holding_knows}
 use Rattle.rr_world.proofs.Enabled.{actor_at, free, free_back, allowed, tested_at}
 use Rattle.rr_world.proofs.Insides.{set_again, same_assembly}
-use Rattle.rr_world.proofs.Staying.{stays_read, same_state}
+use Rattle.rr_world.proofs.Staying.{stays_read, same_state, one_renamed}
 use Rattle.rr_world.proofs.Operands.{value_named, known_named}
 use Rattle.rr_world.proofs.Seeing.{IsOfSpace, held, all_apart, is_sealed, inside, there, resolved, shared_of, promoted_of, free_of, shell_of}
 use Rattle.rr_world.proofs.Fitting.{waits_same}
@@ -241,6 +241,7 @@ module _ (w w2 : Assembly) (who : RactorNo) (k : ℕ) (m : Member) (op : Operand
             },
           ),
         ),
+        one_renamed (Hand k) (length w.ractors) (record { who = who; action = Pack op }) N stands,
       )
 
 -- why a value may not be packed

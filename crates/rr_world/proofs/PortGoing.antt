@@ -39,7 +39,7 @@ use Rattle.rr_world.proofs.Namings.{KeepsShared, parcel_same}
 use Rattle.rr_world.proofs.PortHands.{came_in, went_out}
 use Rattle.rr_world.proofs.PortInsides.{last_comes, last_leaves, last_entry, shown_leaves, shown_entry_of}
 use Rattle.rr_world.proofs.PortTelling.{no_port, port_told, showcase_at}
-use Rattle.rr_world.proofs.Staying.{same_state, stays}
+use Rattle.rr_world.proofs.Staying.{same_state, stays, one_renamed}
 
 told_as : (mark : LastKind) (t : ℕ) (who : RactorNo) (m : Packed) → last_event t who (last_as mark m) ≡ told_of mark t (size_of m) who
 told_as kind.Value t who m = refl
@@ -127,6 +127,7 @@ module _ (w w2 : Assembly) (who : RactorNo) (k : ℕ) (mark : LastKind) (m : Mem
             },
           ),
         ),
+        one_renamed (Shown k p.next) (length w.ractors) (record { who = who; action = ShowLast mark }) H.named stands,
       )
 
   pub last_left_under : (t : ℕ) → t ≡ p.next → IsLeftIn who mark x p p2 → w2.ractors ≡ slice_set w.ractors k (record m { hand = None; home = None }) → w2.channels ≡ with_port w.channels k p2
@@ -212,6 +213,7 @@ module _ (w w2 : Assembly) (who to : RactorNo) (k c : ℕ) (m : Member) (p p2 : 
             },
           ),
         ),
+        one_renamed (Hand k) (length w.ractors) (record { who = who; action = Grab to }) H.named stands,
       )
 
   last_grabbed : (mark : LastKind) (x : Packed) (l : LastGiven) → message_of l.last ≡ x → is_fault l.last ≡ is_of_fault mark → p.last ≡ Some l → p2 ≡ record p { last = None; history = p.history ++ event.Grabbed l.ticket (size_of x) who ∷ [] }
@@ -248,6 +250,7 @@ module _ (w w2 : Assembly) (who to : RactorNo) (k c : ℕ) (m : Member) (p p2 : 
             },
           ),
         ),
+        one_renamed (Hand k) (length w.ractors) (record { who = who; action = Grab to }) H.named stands,
       )
 
   last_value_grabbed : (x : Packed) → Grabs (grab.LastValue x) p p2 who → w2.ractors ≡ slice_set w.ractors k (record m { hand = Some x }) → HasOutcome (record { who = who; action = Grab to }) (GrabbedLast kind.Value) w w2

@@ -4,7 +4,7 @@ use Rattle.std.specs.Prelude.{slice_set}
 use Rattle.std.specs.Option.{option_map, option_and_then}
 use Rattle.std.proofs.lemmas.Option.{slice_get_within}
 use Rattle.rr_space.specs.Readings.{Owner, Space, Hand, Mail, Shown, Shared, Naming, Objects, Knows, IsReading}
-use Rattle.rr_space.specs.Steps.{Goes, IsHandedOn}
+use Rattle.rr_space.specs.Steps.{Goes, IsHandedOn, IsNamed}
 use Rattle.rr_space.proofs.Hands.{hands_on}
 use Rattle.rr_inbox.specs.declared.entry.Entry.{Entry}
 use Rattle.rr_port.specs.Ports.{Port}
@@ -56,6 +56,7 @@ pub record HasCome (w w2 : Assembly) (k c : ℕ) (m : Member) (home : Option Hom
   pub rest : (u : ℕ) → (u ≡ e.ticket → ⊥) → names2 (Shown c u) ≡ names (Shown c u)
   pub parcel : parcel_in names2 (Shown c e.ticket) e.message ≡ parcel_in names (Hand k) e.message
   pub kept : KeepsShared names names2
+  pub named : IsNamed (Shown c e.ticket) names names2
 
 module _ (w w2 : Assembly) (k c : ℕ) (m : Member) (home : Option Home) (ticket : Option ℕ) (p p2 : Port) (e : Entry) (at : slice_get w.ractors k ≡ Some m) (port : slice_get w.channels.ports c ≡ Some p)
     (fits : DoHomesFit w → DoHomesFit w2) (held : m.hand ≡ Some e.message) (C : IsComing p p2 e) (rs : w2.ractors ≡ slice_set w.ractors k (record m { hand = None; home = home; ticket = ticket })) (is : w2.channels ≡ with_port w.channels c p2) where
@@ -116,6 +117,7 @@ module _ (w w2 : Assembly) (k c : ℕ) (m : Member) (home : Option Home) (ticket
           rest = λ u differ. N.rest (Shown c u) (λ z. differ (let f : u ≡ e.ticket = cc in f));
           parcel = parcel_moved (layout w) (Hand k) (Shown c e.ticket) e.message.objects names names2 e.message N J apart (names_moved goes R.tables q.2 J);
           kept = kept;
+          named = N;
         },
       )
 
@@ -125,6 +127,7 @@ pub record HasLeft (w w2 : Assembly) (k c : ℕ) (m : Member) (ticket : Option �
   pub objects : IsHandedOn (Shown c e.ticket) (Hand k) g g2
   pub ractors : (state_in w2 names2 g2).ractors ≡ slice_set (state_in w names g).ractors k (record (actor_in names k m) { hand = Some (parcel_in names (Shown c e.ticket) e.message); ticket = ticket })
   pub post : post_in names2 w2.channels ≡ with_case (post_in names w.channels) c (showcase_in names c p2)
+  pub named : IsNamed (Hand k) names names2
 
 module _ (w w2 : Assembly) (k c : ℕ) (m : Member) (ticket : Option ℕ) (p p2 : Port) (e : Entry) (at : slice_get w.ractors k ≡ Some m) (port : slice_get w.channels.ports c ≡ Some p)
     (fits : DoHomesFit w → DoHomesFit w2) (empty : m.hand ≡ None) (L : IsLeaving p p2 e) (rs : w2.ractors ≡ slice_set w.ractors k (record m { hand = Some e.message; ticket = ticket })) (is : w2.channels ≡ with_port w.channels c p2) where
@@ -186,5 +189,6 @@ module _ (w w2 : Assembly) (k c : ℕ) (m : Member) (ticket : Option ℕ) (p p2 
               ∙ ap (slice_set (each_from (actor_in names) 0 w.ractors) k) actor;
           post = ap (post_in names2) is ∙ post_shown names names2 w.channels c p2 mails (λ d u z. shows d u) kept
               ∙ ap (with_case (post_in names w.channels) c) (showcase_same names names2 c p2 (shows c) kept);
+          named = N;
         },
       )

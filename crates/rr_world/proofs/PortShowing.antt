@@ -1,5 +1,5 @@
 -- Messages are shown in ports, and come back.
-use Rattle.std.proofs.Common.{◌≡◌, ℕ, ◌+◌, ◌≤◌, ◌⊎◌, ⊎_elim, inl, inr, true, false, List, [], ◌∷◌, ◌++◌, length, Option, Some, None, slice_get, sym, ap, ◌∙◌, subst, refl, arith, Ok, Err}
+use Rattle.std.proofs.Common.{◌≡◌, ℕ, ◌+◌, ◌≤◌, ◌⊎◌, ⊎_elim, inl, inr, false, List, [], ◌∷◌, ◌++◌, length, Option, Some, None, slice_get, sym, ap, ◌∙◌, subst, refl, arith, Ok, Err}
 use Rattle.std.specs.Prelude.{slice_set}
 use Rattle.std.specs.Option.{option_map, option_and_then, ForSome}
 use Rattle.std.proofs.lemmas.List.{append-nil}
@@ -23,16 +23,13 @@ use Rattle.rr_port.specs.Ports.{Port, HasEvents, IsTicketed, told_of_show}
 use Rattle.rr_port.specs.declared.last.LastGiven.{LastGiven}
 use Rattle.rr_port.specs.declared.last.Settled.TheVariants as settled
 use Rattle.rr_port.specs.declared.last.Shown.{Shown as ShownMessage}
-use Rattle.rr_world.specs.Views.{Member, Channels, Assembly, IsFree, IsWaiting, MayHaveBack, IsOfAnother, waits_under, with_port}
+use Rattle.rr_world.specs.Views.{Member, Channels, Assembly, MayHaveBack, IsOfAnother, waits_under, with_port}
 use Rattle.rr_world.specs.Layouts.{cluster_slots, DoHomesFit, IsRead, MemberKnows, layout, space_slots, hand_slots, inbox_slots, port_slots, shown_inside, last_inside}
 use Rattle.rr_world.specs.PortCases.{HasShowRoom, IsShowRefused, IsUnder, IsLetGo}
 use Rattle.rr_world.specs.States.{Letter, Farewell, Showcase, Parcel, Post, Actor, IsSame, with_case}
 use Rattle.rr_world.specs.Readings.{actor_in, each_from, parcel_in, shells_in, shown_in, farewell_in, showcase_in, post_in, state_in}
-use Rattle.rr_world.specs.Enabling.{StandsAt, HasPort, MayShow, MayTakeBack, IsPossible, Allows}
-use Rattle.rr_world.specs.Cases.{IsOutcome}
+use Rattle.rr_world.specs.Enabling.{StandsAt, HasPort, MayShow, MayTakeBack}
 use Rattle.rr_world.specs.Runs.{HasOutcome}
-use Rattle.rr_world.specs.declared.step.Step.{Step}
-use Rattle.rr_world.specs.declared.step.Reply.{Reply}
 use Rattle.rr_world.specs.declared.step.Action.TheVariants.{Show, Withdraw, Settle}
 use Rattle.rr_world.specs.declared.step.Reply.TheVariants.{Done, Offered, Refused, Settled}
 use Rattle.rr_world.proofs.Enabled.{actor_at, holds, free, free_back, none_back}
@@ -41,11 +38,11 @@ use Rattle.rr_world.proofs.Insides.{same_assembly}
 use Rattle.rr_world.proofs.Knowing.{read_set}
 use Rattle.rr_world.proofs.Lists.{eq_cases, each_set, seen_same, set_at, set_back, set_off}
 use Rattle.rr_world.proofs.Namings.{KeepsShared, parcel_same}
-use Rattle.rr_world.proofs.PortGoing.{port_case, same_case}
+use Rattle.rr_world.proofs.PortGoing.{same_case}
 use Rattle.rr_world.proofs.PortHands.{came_in, went_out}
 use Rattle.rr_world.proofs.PortInsides.{shown_comes, shown_leaves, shown_entry_of}
 use Rattle.rr_world.proofs.PortTelling.{no_port, port_told, showcase_at}
-use Rattle.rr_world.proofs.Staying.{same_state, stays}
+use Rattle.rr_world.proofs.Staying.{same_state, stays, one_renamed}
 
 -- ---- Showing.
 
@@ -158,6 +155,7 @@ module _ (w w2 : Assembly) (who : RactorNo) (k : ℕ) (m : Member) (p p2 : Port)
             },
           ),
         ),
+        one_renamed (Shown k p.next) (length w.ractors) (record { who = who; action = Show }) H.named stands,
       )
 
   module _ (rs : w2.ractors ≡ w.ractors) (is : w2.channels ≡ with_port w.channels k p2) where
@@ -334,6 +332,7 @@ module _ (w w2 : Assembly) (who : RactorNo) (k t : ℕ) (m : Member) (p : Port) 
             },
           ),
         ),
+        one_renamed (Hand k) (length w.ractors) (record { who = who; action = Withdraw t }) H.named stands,
       )
 
   pub withdraw_refused : (m2 : Member) (p2 : Port) (f : Fault) → MayHaveBack m t → Withdraws (Err f) p p2 who t → (m.ticket ≡ Some t → m2 ≡ record m { home = None; ticket = None })
@@ -354,6 +353,7 @@ module _ (w w2 : Assembly) (who : RactorNo) (k t : ℕ) (m : Member) (p : Port) 
           (have_seen names k t m may, own_port names g),
           (showcase_in names k p, (stands, showcase_at w names g k p port), ((λ under. gone (under_back names k t p.shown under)), q.1)),
         ),
+        λ h off. refl,
       ))
 
   -- ---- Settling.
@@ -374,6 +374,7 @@ module _ (w w2 : Assembly) (who : RactorNo) (k t : ℕ) (m : Member) (p : Port) 
           own_port names g,
           (showcase_in names k p, (stands, showcase_at w names g k p port), ((λ under. gone (under_back names k t p.shown under)), q.1)),
         ),
+        λ h off. refl,
       )
 
   pub settled_shown : Settles settled.Shown p t → w2 ≡ w → HasOutcome (record { who = who; action = Settle t }) (Settled settled.Shown) w w2

@@ -1,9 +1,9 @@
 -- What is published, in a reading.
-use Rattle.std.proofs.Common.{◌≡◌, ℕ, List, [], ◌∷◌, length, map, Some, slice_get, Contains, sym, ap, ◌∙◌, subst, refl, arith}
+use Rattle.std.proofs.Common.{◌≡◌, ℕ, List, [], ◌∷◌, length, map, Some, Contains, sym, ap, ◌∙◌, subst, refl, arith}
 use Rattle.std.specs.Prelude.{slice_index}
 use Rattle.std.proofs.lemmas.List.{length-map}
 use Rattle.std.proofs.lemmas.Option.{same_Some}
-use Rattle.rr_space.specs.Graph.{Graph, Name, Own, Published, Value, Plain, At, Label, Object, Leads, IsSolid, IsShareable, SameValue}
+use Rattle.rr_space.specs.Graph.{Graph, Own, Published, Value, Plain, At, Label, Object, Leads, IsSolid, IsShareable, SameValue}
 use Rattle.rr_space.specs.Tables.{renamed, Here, Below, IsPublished, IsSealed, numbered_name, numbered_object, outer_objects}
 use Rattle.rr_space.specs.Parts.{below_ref, IsWithin}
 use Rattle.rr_space.specs.Readings.{Owner, Shared, Owned, Objects, Naming, Layout, HasPlace, IsReading, IsApart, IsShared, IsSharedValue, Knows, object_part, named, name_in, whole}

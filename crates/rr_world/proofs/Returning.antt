@@ -33,6 +33,7 @@ use Rattle.rr_world.proofs.Rooting.{roots_keep}
 use Rattle.rr_world.proofs.Staying.{refused}
 use Rattle.rr_world.proofs.Tables.{space_was, hand_was, space_now, hand_now, rest_now}
 use Rattle.rr_world.proofs.Fitting.{waits_homeless}
+use Rattle.rr_world.specs.Naming.{IsRenamed}
 
 module _ (w w2 : Assembly) (who : RactorNo) (k : ℕ) (m m2 : Member) (d : Detached) (at : slice_get w.ractors k ≡ Some m) (A : IsPutBackBy d m m2)
     (rs : w2.ractors ≡ slice_set w.ractors k m2) (is : w2.channels ≡ w.channels) where
@@ -118,6 +119,7 @@ module _ (w w2 : Assembly) (who : RactorNo) (k : ℕ) (m m2 : Member) (d : Detac
             },
           ),
         ),
+        λ h off. N.rest h (λ e. off (subst (IsRenamed (length w.ractors) who PutBack) (sym e) stands)) (λ e. off (subst (IsRenamed (length w.ractors) who PutBack) (sym e) stands)),
       )
 
 some_back : {A B : Type 0} (f : A → B) (x : Option A) (b : B) → option_map f x ≡ Some b → (a : A) × (x ≡ Some a)

@@ -1,5 +1,5 @@
 -- Which ractors run, and what a step of a ractor that runs is to the machine.
-use Rattle.std.proofs.Common.{ℕ, ap, ◌∙◌, arith}
+use Rattle.std.proofs.Common.{ℕ, ap, ◌∙◌, arith, refl}
 use Rattle.rr_base.specs.declared.name.RactorNo.{RactorNo}
 use Rattle.rr_space.specs.Readings.{Naming, Objects}
 use Rattle.rr_world.specs.Views.{Assembly, RunsAt}
@@ -32,7 +32,7 @@ case_of step OfMain s t runs o = (runs, o)
 pub ran : (w w2 : Assembly) (step : Step) (k : ℕ) (r : Reply) → StandsAt step.who k → RunsAt w k → HasOutcome step r w w2 → IsStep step r w w2
 ran w w2 step k r stands (m, at, runs) out names bound g R =
     let q = out names bound g R in
-    (q.0, q.1, q.2, q.3, case_of step r (state_in w names g) (state_in w2 q.0 q.2) (k, actor_in names k m, stands, actor_at w names g k m at, runs) q.4)
+    (q.0, q.1, q.2, q.3, case_of step r (state_in w names g) (state_in w2 q.0 q.2) (k, actor_in names k m, stands, actor_at w names g k m at, runs) q.4, q.5)
 
 runs_back : (w : Assembly) (names : Naming) (g : Objects) (who : RactorNo) → IsRunning (state_in w names g) who → (k : ℕ) × StandsAt who k × RunsAt w k
 runs_back w names g who (k, a, stands, at, runs) =
@@ -41,4 +41,4 @@ runs_back w names g who (k, a, stands, at, runs) =
 
 -- a ractor that does not run makes no step
 pub none_runs : (w : Assembly) (step : Step) → ((k : ℕ) → StandsAt step.who k → RunsAt w k → ⊥) → IsStep step NotEnabled w w
-none_runs w step none names bound g R = (names, bound, g, R, (λ e. let b = runs_back w names g step.who e.0 in none b.0 b.1 b.2, same_state (state_in w names g)))
+none_runs w step none names bound g R = (names, bound, g, R, (λ e. let b = runs_back w names g step.who e.0 in none b.0 b.1 b.2, same_state (state_in w names g)), λ h off. refl)

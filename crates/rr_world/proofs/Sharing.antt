@@ -1,10 +1,10 @@
 -- A published value is its own copy, and moving it moves nothing.
-use Rattle.std.proofs.Common.{◌≡◌, ℕ, ◌<◌, inr, List, [], ◌∷◌, length, Some, None, slice_get, zero, suc, sym, ap, ◌∙◌, subst, refl, arith}
+use Rattle.std.proofs.Common.{◌≡◌, ℕ, inr, List, [], ◌∷◌, length, Some, slice_get, suc, sym, ap, ◌∙◌, refl, arith}
 use Rattle.std.proofs.lemmas.Option.{none-some, same_Some}
-use Rattle.rr_space.specs.Graph.{Graph, Name, Own, Value, Plain, At, Alike, IsAlike, IsAt, Paired, SameIn, SameValue}
+use Rattle.rr_space.specs.Graph.{Graph, Own, Value, Plain, At, Alike, IsAlike, IsAt, Paired, SameIn, SameValue}
 use Rattle.rr_space.specs.Tables.{IsPublished, IsSealed}
 use Rattle.rr_space.specs.Steps.{IsMoved}
-use Rattle.rr_space.specs.Readings.{Owner, Shared, Owned, Objects, Naming, IsApart, IsSharedValue, IsShared, whole}
+use Rattle.rr_space.specs.Readings.{Owner, Shared, Owned, Objects, Naming, IsApart, IsSharedValue, whole}
 use Rattle.rr_world.specs.Readings.{value_in}
 use Rattle.rr_world.proofs.Namings.{KeepsShared}
 use Rattle.rr_world.proofs.Published.{leads_shared, published_named, same_published, sealed_path, shared_solid}

@@ -9,6 +9,7 @@ pub mod ConstantCases
 pub mod PortCases
 pub mod Leaving
 pub mod Cases
+pub mod Naming
 pub mod Runs
 pub mod Laws
 pub mod Opening
