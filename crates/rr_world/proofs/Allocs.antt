@@ -28,8 +28,10 @@ use Rattle.rr_world.specs.declared.step.NewObject.{NewObject}
 use Rattle.rr_world.specs.declared.step.NewObject.TheVariants.{Text, Array}
 use Rattle.rr_world.specs.declared.step.NewObject.TheVariants as new
 use Rattle.rr_world.specs.declared.step.Action.TheVariants.{Alloc}
-use Rattle.rr_world.specs.declared.step.Reply.{Reply}
-use Rattle.rr_world.specs.declared.step.Reply.TheVariants.{NotEnabled, Done, Offered, Empty, EmptyAndClosed, WasClosed, Refused, Started, Settled, GrabbedLast, OfMain}
+use Rattle.rr_world.specs.declared.step.Reply.TheVariants.{Done, Refused}
+use Rattle.rr_world.specs.Outcomes.{reply_of}
+use Rattle.rr_world.specs.declared.outcome.Outcome.{Outcome}
+use Rattle.rr_world.specs.declared.outcome.Outcome.TheVariants as outcome
 use Rattle.rr_world.proofs.Lists.{eq_cases, set_at, set_off, seen_same, each_set}
 use Rattle.rr_world.proofs.Namings.{actor_same, same_actor, post_same, hand_same, home_stands}
 use Rattle.rr_world.proofs.Knowing.{read_set}
@@ -266,18 +268,10 @@ module _ (w w2 : Assembly) (k : ℕ) (m m2 : Member) (kind : NewObject) (at : sl
       )
 
 -- whatever an alloc answers
-pub allocated_by : (w w2 : Assembly) (who : RactorNo) (k : ℕ) (m m2 : Member) (kind : NewObject) (r : Reply) → slice_get w.ractors k ≡ Some m → w2.ractors ≡ slice_set w.ractors k m2 → w2.channels ≡ w.channels
-    → StandsAt who k → Allocs kind r m m2 → HasOutcome (record { who = who; action = Alloc kind }) r w w2
-allocated_by w w2 who k m m2 kind Done at rs is stands A = allocated w w2 k m m2 kind at A rs is who stands
-allocated_by w w2 who k m m2 kind (Refused f) at rs is stands (why, same) =
+pub allocated_by : (w w2 : Assembly) (who : RactorNo) (k : ℕ) (m m2 : Member) (kind : NewObject) (r : Outcome) → slice_get w.ractors k ≡ Some m → w2.ractors ≡ slice_set w.ractors k m2 → w2.channels ≡ w.channels
+    → StandsAt who k → Allocs kind r m m2 → HasOutcome (record { who = who; action = Alloc kind }) (reply_of r) w w2
+allocated_by w w2 who k m m2 kind outcome.Done at rs is stands A = allocated w w2 k m m2 kind at A rs is who stands
+allocated_by w w2 who k m m2 kind (outcome.Refused f) at rs is stands (why, same) =
     stays (record { who = who; action = Alloc kind }) (Refused f) w w2 (same_assembly w2.ractors w.ractors w2.channels w.channels (rs ∙ set_again w.ractors w.ractors k m2 m refl at same) is)
     (λ names g. (k, actor_in names k m, stands, actor_at w names g k m at, tt, (why, same_state (state_in w names g))))
-allocated_by w w2 who k m m2 kind NotEnabled at rs is stands o = absurd o
-allocated_by w w2 who k m m2 kind (Offered t) at rs is stands o = absurd o
-allocated_by w w2 who k m m2 kind Empty at rs is stands o = absurd o
-allocated_by w w2 who k m m2 kind EmptyAndClosed at rs is stands o = absurd o
-allocated_by w w2 who k m m2 kind (WasClosed b) at rs is stands o = absurd o
-allocated_by w w2 who k m m2 kind (Started j) at rs is stands o = absurd o
-allocated_by w w2 who k m m2 kind (GrabbedLast l) at rs is stands o = absurd o
-allocated_by w w2 who k m m2 kind (Settled l) at rs is stands o = absurd o
-allocated_by w w2 who k m m2 kind OfMain at rs is stands o = absurd o
+allocated_by w w2 who k m m2 kind outcome.NotEnabled at rs is stands o = absurd o

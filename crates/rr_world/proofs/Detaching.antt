@@ -27,8 +27,10 @@ use Rattle.rr_world.specs.Moving.{IsMovedBy, Detaches}
 use Rattle.rr_world.specs.Runs.{HasOutcome}
 use Rattle.rr_world.specs.declared.step.Operand.{Operand}
 use Rattle.rr_world.specs.declared.step.Action.TheVariants.{Detach}
-use Rattle.rr_world.specs.declared.step.Reply.{Reply}
-use Rattle.rr_world.specs.declared.step.Reply.TheVariants.{NotEnabled, Done, Offered, Empty, EmptyAndClosed, WasClosed, Refused, Started, Settled, GrabbedLast, OfMain}
+use Rattle.rr_world.specs.declared.step.Reply.TheVariants.{NotEnabled, Done, Refused}
+use Rattle.rr_world.specs.Outcomes.{reply_of}
+use Rattle.rr_world.specs.declared.outcome.Outcome.{Outcome}
+use Rattle.rr_world.specs.declared.outcome.Outcome.TheVariants as outcome
 use Rattle.rr_world.proofs.Enabled.{actor_at, free, allowed, tested_at}
 use Rattle.rr_world.proofs.Insides.{set_again, same_assembly}
 use Rattle.rr_world.proofs.Knowing.{knows_either, order_on, read_set}
@@ -243,10 +245,10 @@ module _ (w w2 : Assembly) (who : RactorNo) (k : ℕ) (m m2 : Member) (op : Oper
       )
 
 -- whatever a detach answers
-pub detached_by : TakingOutIsAMove → (w w2 : Assembly) (who : RactorNo) (k : ℕ) (m m2 : Member) (op : Operand) (r : Reply) → slice_get w.ractors k ≡ Some m → w2.ractors ≡ slice_set w.ractors k m2
-    → w2.channels ≡ w.channels → StandsAt who k → Detaches op r m m2 → HasOutcome (record { who = who; action = Detach op }) r w w2
-detached_by law w w2 who k m m2 op Done at rs is stands (v, d, A) = detached w w2 who k m m2 op v d at A rs is law stands
-detached_by law w w2 who k m m2 op NotEnabled at rs is stands (why, same) =
+pub detached_by : TakingOutIsAMove → (w w2 : Assembly) (who : RactorNo) (k : ℕ) (m m2 : Member) (op : Operand) (r : Outcome) → slice_get w.ractors k ≡ Some m → w2.ractors ≡ slice_set w.ractors k m2
+    → w2.channels ≡ w.channels → StandsAt who k → Detaches op r m m2 → HasOutcome (record { who = who; action = Detach op }) (reply_of r) w w2
+detached_by law w w2 who k m m2 op outcome.Done at rs is stands (v, d, A) = detached w w2 who k m m2 op v d at A rs is law stands
+detached_by law w w2 who k m m2 op outcome.NotEnabled at rs is stands (why, same) =
     stays_read (record { who = who; action = Detach op }) NotEnabled w w2 (same_assembly w2.ractors w.ractors w2.channels w.channels (rs ∙ set_again w.ractors w.ractors k m2 m refl at same) is)
     (λ names bound g R. (
       λ e.
@@ -254,7 +256,7 @@ detached_by law w w2 who k m m2 op NotEnabled at rs is stands (why, same) =
           not_packed w names bound g k m op R at why z.0 z.1 (tested_at w names g (record { who = who; action = Detach op }) k m stands at e),
       same_state (state_in w names g),
     ))
-detached_by law w w2 who k m m2 op (Refused f) at rs is stands (v, empty, named, F, same) =
+detached_by law w w2 who k m m2 op (outcome.Refused f) at rs is stands (v, empty, named, F, same) =
     stays_read (record { who = who; action = Detach op }) (Refused f) w w2 (same_assembly w2.ractors w.ractors w2.channels w.channels (rs ∙ set_again w.ractors w.ractors k m2 m refl at same) is)
     (λ names bound g R.
     let value = value_named names (Space k) m.roots op ∙ ap (option_map (root_in names (Space k))) named in (
@@ -274,11 +276,3 @@ detached_by law w w2 who k m m2 op (Refused f) at rs is stands (v, empty, named,
         ),
       ),
     ))
-detached_by law w w2 who k m m2 op (Offered t) at rs is stands o = absurd o
-detached_by law w w2 who k m m2 op Empty at rs is stands o = absurd o
-detached_by law w w2 who k m m2 op EmptyAndClosed at rs is stands o = absurd o
-detached_by law w w2 who k m m2 op (WasClosed b) at rs is stands o = absurd o
-detached_by law w w2 who k m m2 op (Started j) at rs is stands o = absurd o
-detached_by law w w2 who k m m2 op (GrabbedLast l) at rs is stands o = absurd o
-detached_by law w w2 who k m m2 op (Settled l) at rs is stands o = absurd o
-detached_by law w w2 who k m m2 op OfMain at rs is stands o = absurd o

@@ -32,8 +32,10 @@ use Rattle.rr_world.specs.declared.step.Operand.{Operand}
 use Rattle.rr_world.specs.declared.step.Operand.TheVariants as operand
 use Rattle.rr_world.specs.declared.step.Action.{Action}
 use Rattle.rr_world.specs.declared.step.Action.TheVariants.{Freeze, Append, Push, Write, SetField}
-use Rattle.rr_world.specs.declared.step.Reply.{Reply}
-use Rattle.rr_world.specs.declared.step.Reply.TheVariants.{NotEnabled, Done, Offered, Empty, EmptyAndClosed, WasClosed, Refused, Started, Settled, GrabbedLast, OfMain}
+use Rattle.rr_world.specs.declared.step.Reply.TheVariants.{NotEnabled, Refused}
+use Rattle.rr_world.specs.Outcomes.{reply_of}
+use Rattle.rr_world.specs.declared.outcome.Outcome.{Outcome}
+use Rattle.rr_world.specs.declared.outcome.Outcome.TheVariants as outcome
 use Rattle.rr_world.proofs.Enabled.{actor_at, allowed}
 use Rattle.rr_world.proofs.Fields.{set_renamed, field_values}
 use Rattle.rr_world.proofs.Insides.{set_again, same_assembly}
@@ -250,50 +252,34 @@ no_below : (tables : Layout) → Knows (below_ref ref.Nil) tables
 no_below tables = record { known = λ c os has. absurd (none_in (c, os) has) }
 
 -- whatever a freeze answers
-pub frozen_by : (w w2 : Assembly) (who : RactorNo) (k : ℕ) (m m2 : Member) (op : Operand) (r : Reply) → slice_get w.ractors k ≡ Some m → w2.ractors ≡ slice_set w.ractors k m2 → w2.channels ≡ w.channels
-    → StandsAt who k → Freezes op r m m2 → HasOutcome (record { who = who; action = Freeze op }) r w w2
-frozen_by w w2 who k m m2 op Done at rs is stands a = λ names bound g R.
+pub frozen_by : (w w2 : Assembly) (who : RactorNo) (k : ℕ) (m m2 : Member) (op : Operand) (r : Outcome) → slice_get w.ractors k ≡ Some m → w2.ractors ≡ slice_set w.ractors k m2 → w2.channels ≡ w.channels
+    → StandsAt who k → Freezes op r m m2 → HasOutcome (record { who = who; action = Freeze op }) (reply_of r) w w2
+frozen_by w w2 who k m m2 op outcome.Done at rs is stands a = λ names bound g R.
     let q = making w w2 k m m2 at rs is op IsNoShell frozen frozen ref.Nil a names bound g R (no_below (layout w)) tt (λ o whole. whole) (λ o whole shut. frozen_same o whole shut) (λ o l x has. inl (l, has)) (λ o. refl) in
     (q.0, q.1, q.2, q.3, (k, actor_in names k m, stands, actor_at w names g k m at, may_on w names bound g R k m at who op IsNoShell stands (λ o whole. whole) (a.0, a.1, a.2, a.3), q.4), one_renamed (Space k) (length w.ractors) (record { who = who; action = Freeze op }) q.5 stands)
-frozen_by w w2 who k m m2 op NotEnabled at rs is stands a =
+frozen_by w w2 who k m m2 op outcome.NotEnabled at rs is stands a =
     unmade w w2 who k m m2 (Freeze op) at rs is a.2 (λ names bound g R e.
     a.1 (may_back w names bound g R k m at who op IsNoShell stands a.0 (λ o whole. whole) (allowed w names g (record { who = who; action = Freeze op }) k m stands at e)))
-frozen_by w w2 who k m m2 op (Refused f) at rs is stands a = absurd a
-frozen_by w w2 who k m m2 op (Offered t) at rs is stands a = absurd a
-frozen_by w w2 who k m m2 op Empty at rs is stands a = absurd a
-frozen_by w w2 who k m m2 op EmptyAndClosed at rs is stands a = absurd a
-frozen_by w w2 who k m m2 op (WasClosed b) at rs is stands a = absurd a
-frozen_by w w2 who k m m2 op (Started j) at rs is stands a = absurd a
-frozen_by w w2 who k m m2 op (GrabbedLast l) at rs is stands a = absurd a
-frozen_by w w2 who k m m2 op (Settled l) at rs is stands a = absurd a
-frozen_by w w2 who k m m2 op OfMain at rs is stands a = absurd a
+frozen_by w w2 who k m m2 op (outcome.Refused f) at rs is stands a = absurd a
 
 -- whatever an append answers
-pub appended_by : (w w2 : Assembly) (who : RactorNo) (k : ℕ) (m m2 : Member) (op : Operand) (byte : ℕ) (r : Reply) → slice_get w.ractors k ≡ Some m → w2.ractors ≡ slice_set w.ractors k m2 → w2.channels ≡ w.channels
-    → StandsAt who k → Appends op byte r m m2 → HasOutcome (record { who = who; action = Append op byte }) r w w2
-appended_by w w2 who k m m2 op byte Done at rs is stands a = λ names bound g R.
+pub appended_by : (w w2 : Assembly) (who : RactorNo) (k : ℕ) (m m2 : Member) (op : Operand) (byte : ℕ) (r : Outcome) → slice_get w.ractors k ≡ Some m → w2.ractors ≡ slice_set w.ractors k m2 → w2.channels ≡ w.channels
+    → StandsAt who k → Appends op byte r m m2 → HasOutcome (record { who = who; action = Append op byte }) (reply_of r) w w2
+appended_by w w2 who k m m2 op byte outcome.Done at rs is stands a = λ names bound g R.
     let q = making w w2 k m m2 at rs is op (IsOpen text) (appended byte) (appended byte) ref.Nil a names bound g R (no_below (layout w)) tt (λ o whole. whole)
     (λ o opened shut. open_never text o (appended byte o) text_differs opened shut) (λ o l x has. inl (l, has)) (λ o. refl) in
     (q.0, q.1, q.2, q.3, (k, actor_in names k m, stands, actor_at w names g k m at, may_on w names bound g R k m at who op (IsOpen text) stands (λ o whole. whole) (a.0, a.1, a.2, a.3), q.4), one_renamed (Space k) (length w.ractors) (record { who = who; action = Append op byte }) q.5 stands)
-appended_by w w2 who k m m2 op byte NotEnabled at rs is stands a =
+appended_by w w2 who k m m2 op byte outcome.NotEnabled at rs is stands a =
     unmade w w2 who k m m2 (Append op byte) at rs is a.2 (λ names bound g R e.
     a.1 (may_back w names bound g R k m at who op (IsOpen text) stands a.0 (λ o whole. whole) (allowed w names g (record { who = who; action = Append op byte }) k m stands at e)))
-appended_by w w2 who k m m2 op byte (Refused f) at rs is stands a =
+appended_by w w2 who k m m2 op byte (outcome.Refused f) at rs is stands a =
     unmade_for w w2 who k m m2 (Append op byte) f at rs is a.2 (λ names bound g R.
     (k, actor_in names k m, stands, actor_at w names g k m at, may_on w names bound g R k m at who op (IsOpen text) stands (λ o whole. whole) a.1, (a.0, same_state (state_in w names g))))
-appended_by w w2 who k m m2 op byte (Offered t) at rs is stands a = absurd a
-appended_by w w2 who k m m2 op byte Empty at rs is stands a = absurd a
-appended_by w w2 who k m m2 op byte EmptyAndClosed at rs is stands a = absurd a
-appended_by w w2 who k m m2 op byte (WasClosed b) at rs is stands a = absurd a
-appended_by w w2 who k m m2 op byte (Started j) at rs is stands a = absurd a
-appended_by w w2 who k m m2 op byte (GrabbedLast l) at rs is stands a = absurd a
-appended_by w w2 who k m m2 op byte (Settled l) at rs is stands a = absurd a
-appended_by w w2 who k m m2 op byte OfMain at rs is stands a = absurd a
 
 -- whatever a push answers
-pub pushed_by : (w w2 : Assembly) (who : RactorNo) (k : ℕ) (m m2 : Member) (op value : Operand) (r : Reply) → slice_get w.ractors k ≡ Some m → w2.ractors ≡ slice_set w.ractors k m2 → w2.channels ≡ w.channels
-    → StandsAt who k → Pushes op value r m m2 → HasOutcome (record { who = who; action = Push op value }) r w w2
-pushed_by w w2 who k m m2 op value Done at rs is stands (v, is_named, a) = λ names bound g R.
+pub pushed_by : (w w2 : Assembly) (who : RactorNo) (k : ℕ) (m m2 : Member) (op value : Operand) (r : Outcome) → slice_get w.ractors k ≡ Some m → w2.ractors ≡ slice_set w.ractors k m2 → w2.channels ≡ w.channels
+    → StandsAt who k → Pushes op value r m m2 → HasOutcome (record { who = who; action = Push op value }) (reply_of r) w w2
+pushed_by w w2 who k m m2 op value outcome.Done at rs is stands (v, is_named, a) = λ names bound g R.
     let q = making w w2 k m m2 at rs is op (IsOpen array) (pushed (value_of v)) (pushed (root_in names (Space k) v)) v a names bound g R
     (known_named (layout w) m.roots value v (R.knows.ractors k m at).roots is_named) (named_new g names (Space k) m.roots value v is_named) (λ o whole. whole)
     (λ o opened shut. open_never array o (pushed (value_of v) o) array_differs opened shut) (λ o l x has. pushed_values (value_of v) o l x has) (λ o. pushed_same names (Space k) v o) in (
@@ -311,11 +297,11 @@ pushed_by w w2 who k m m2 op value Done at rs is stands (v, is_named, a) = λ na
       ),
       one_renamed (Space k) (length w.ractors) (record { who = who; action = Push op value }) q.5 stands,
     )
-pushed_by w w2 who k m m2 op value NotEnabled at rs is stands a =
+pushed_by w w2 who k m m2 op value outcome.NotEnabled at rs is stands a =
     unmade w w2 who k m m2 (Push op value) at rs is a.2 (λ names bound g R e.
     let z = allowed w names g (record { who = who; action = Push op value }) k m stands at e in
     a.1 (may_back w names bound g R k m at who op (IsOpen array) stands a.0 (λ o whole. whole) z.0) (value_back w names bound g R k m at value z.1))
-pushed_by w w2 who k m m2 op value (Refused f) at rs is stands a =
+pushed_by w w2 who k m m2 op value (outcome.Refused f) at rs is stands a =
     unmade_for w w2 who k m m2 (Push op value) f at rs is a.3 (λ names bound g R. (
       k,
       actor_in names k m,
@@ -324,19 +310,11 @@ pushed_by w w2 who k m m2 op value (Refused f) at rs is stands a =
       (may_on w names bound g R k m at who op (IsOpen array) stands (λ o whole. whole) a.1, (root_in names (Space k) a.2.0, value_on w names bound g R k m at value a.2.0 a.2.1)),
       (a.0, same_state (state_in w names g)),
     ))
-pushed_by w w2 who k m m2 op value (Offered t) at rs is stands a = absurd a
-pushed_by w w2 who k m m2 op value Empty at rs is stands a = absurd a
-pushed_by w w2 who k m m2 op value EmptyAndClosed at rs is stands a = absurd a
-pushed_by w w2 who k m m2 op value (WasClosed b) at rs is stands a = absurd a
-pushed_by w w2 who k m m2 op value (Started j) at rs is stands a = absurd a
-pushed_by w w2 who k m m2 op value (GrabbedLast l) at rs is stands a = absurd a
-pushed_by w w2 who k m m2 op value (Settled l) at rs is stands a = absurd a
-pushed_by w w2 who k m m2 op value OfMain at rs is stands a = absurd a
 
 -- whatever a write answers
-pub written_by : (w w2 : Assembly) (who : RactorNo) (k : ℕ) (m m2 : Member) (op : Operand) (i : ℕ) (value : Operand) (r : Reply) → slice_get w.ractors k ≡ Some m → w2.ractors ≡ slice_set w.ractors k m2 → w2.channels ≡ w.channels
-    → StandsAt who k → Writes op i value r m m2 → HasOutcome (record { who = who; action = Write op i value }) r w w2
-written_by w w2 who k m m2 op i value Done at rs is stands (v, is_named, a) = λ names bound g R.
+pub written_by : (w w2 : Assembly) (who : RactorNo) (k : ℕ) (m m2 : Member) (op : Operand) (i : ℕ) (value : Operand) (r : Outcome) → slice_get w.ractors k ≡ Some m → w2.ractors ≡ slice_set w.ractors k m2 → w2.channels ≡ w.channels
+    → StandsAt who k → Writes op i value r m m2 → HasOutcome (record { who = who; action = Write op i value }) (reply_of r) w w2
+written_by w w2 who k m m2 op i value outcome.Done at rs is stands (v, is_named, a) = λ names bound g R.
     let q = making w w2 k m m2 at rs is op (HasElement i) (written i (value_of v)) (written i (root_in names (Space k) v)) v a names bound g R
     (known_named (layout w) m.roots value v (R.knows.ractors k m at).roots is_named) (named_new g names (Space k) m.roots value v is_named) (λ o has. has_on names (Space k) i o has)
     (λ o has shut. open_never array o (written i (value_of v) o) array_differs has.0 shut) (λ o l x has. set_values o.triples i (Place i, value_of v) l x has) (λ o. written_same names (Space k) i v o) in (
@@ -354,24 +332,16 @@ written_by w w2 who k m m2 op i value Done at rs is stands (v, is_named, a) = λ
       ),
       one_renamed (Space k) (length w.ractors) (record { who = who; action = Write op i value }) q.5 stands,
     )
-written_by w w2 who k m m2 op i value NotEnabled at rs is stands a =
+written_by w w2 who k m m2 op i value outcome.NotEnabled at rs is stands a =
     unmade w w2 who k m m2 (Write op i value) at rs is a.2 (λ names bound g R e.
     let z = allowed w names g (record { who = who; action = Write op i value }) k m stands at e in
     a.1 (may_back w names bound g R k m at who op (HasElement i) stands a.0 (λ o has. has_back names (Space k) i o has) z.0) (value_back w names bound g R k m at value z.1))
-written_by w w2 who k m m2 op i value (Refused f) at rs is stands a = absurd a
-written_by w w2 who k m m2 op i value (Offered t) at rs is stands a = absurd a
-written_by w w2 who k m m2 op i value Empty at rs is stands a = absurd a
-written_by w w2 who k m m2 op i value EmptyAndClosed at rs is stands a = absurd a
-written_by w w2 who k m m2 op i value (WasClosed b) at rs is stands a = absurd a
-written_by w w2 who k m m2 op i value (Started j) at rs is stands a = absurd a
-written_by w w2 who k m m2 op i value (GrabbedLast l) at rs is stands a = absurd a
-written_by w w2 who k m m2 op i value (Settled l) at rs is stands a = absurd a
-written_by w w2 who k m m2 op i value OfMain at rs is stands a = absurd a
+written_by w w2 who k m m2 op i value (outcome.Refused f) at rs is stands a = absurd a
 
 -- whatever setting a field answers
-pub set_by : (w w2 : Assembly) (who : RactorNo) (k : ℕ) (m m2 : Member) (op : Operand) (name : Sym) (value : Operand) (r : Reply) → slice_get w.ractors k ≡ Some m → w2.ractors ≡ slice_set w.ractors k m2 → w2.channels ≡ w.channels
-    → StandsAt who k → Sets op name.0 value r m m2 → HasOutcome (record { who = who; action = SetField op name value }) r w w2
-set_by w w2 who k m m2 op name value Done at rs is stands (v, is_named, a) = λ names bound g R.
+pub set_by : (w w2 : Assembly) (who : RactorNo) (k : ℕ) (m m2 : Member) (op : Operand) (name : Sym) (value : Operand) (r : Outcome) → slice_get w.ractors k ≡ Some m → w2.ractors ≡ slice_set w.ractors k m2 → w2.channels ≡ w.channels
+    → StandsAt who k → Sets op name.0 value r m m2 → HasOutcome (record { who = who; action = SetField op name value }) (reply_of r) w w2
+set_by w w2 who k m m2 op name value outcome.Done at rs is stands (v, is_named, a) = λ names bound g R.
     let q = making w w2 k m m2 at rs is op (IsOpen plain) (with_field name.0 (value_of v)) (with_field name.0 (root_in names (Space k) v)) v a names bound g R
     (known_named (layout w) m.roots value v (R.knows.ractors k m at).roots is_named) (named_new g names (Space k) m.roots value v is_named) (λ o whole. whole)
     (λ o opened shut. open_never plain o (with_field name.0 (value_of v) o) plain_differs opened shut) (λ o l x has. field_values name.0 (value_of v) o.triples l x has) (λ o. field_same names (Space k) name.0 v o) in (
@@ -389,11 +359,11 @@ set_by w w2 who k m m2 op name value Done at rs is stands (v, is_named, a) = λ 
       ),
       one_renamed (Space k) (length w.ractors) (record { who = who; action = SetField op name value }) q.5 stands,
     )
-set_by w w2 who k m m2 op name value NotEnabled at rs is stands a =
+set_by w w2 who k m m2 op name value outcome.NotEnabled at rs is stands a =
     unmade w w2 who k m m2 (SetField op name value) at rs is a.2 (λ names bound g R e.
     let z = allowed w names g (record { who = who; action = SetField op name value }) k m stands at e in
     a.1 (may_back w names bound g R k m at who op (IsOpen plain) stands a.0 (λ o whole. whole) z.0) (value_back w names bound g R k m at value z.1))
-set_by w w2 who k m m2 op name value (Refused f) at rs is stands a =
+set_by w w2 who k m m2 op name value (outcome.Refused f) at rs is stands a =
     unmade_for w w2 who k m m2 (SetField op name value) f at rs is a.3 (λ names bound g R. (
       k,
       actor_in names k m,
@@ -402,11 +372,3 @@ set_by w w2 who k m m2 op name value (Refused f) at rs is stands a =
       (may_on w names bound g R k m at who op (IsOpen plain) stands (λ o whole. whole) a.1, (root_in names (Space k) a.2.0, value_on w names bound g R k m at value a.2.0 a.2.1)),
       (a.0, same_state (state_in w names g)),
     ))
-set_by w w2 who k m m2 op name value (Offered t) at rs is stands a = absurd a
-set_by w w2 who k m m2 op name value Empty at rs is stands a = absurd a
-set_by w w2 who k m m2 op name value EmptyAndClosed at rs is stands a = absurd a
-set_by w w2 who k m m2 op name value (WasClosed b) at rs is stands a = absurd a
-set_by w w2 who k m m2 op name value (Started j) at rs is stands a = absurd a
-set_by w w2 who k m m2 op name value (GrabbedLast l) at rs is stands a = absurd a
-set_by w w2 who k m m2 op name value (Settled l) at rs is stands a = absurd a
-set_by w w2 who k m m2 op name value OfMain at rs is stands a = absurd a

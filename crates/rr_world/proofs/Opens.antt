@@ -17,8 +17,10 @@ use Rattle.rr_world.specs.Enabling.{StandsAt}
 use Rattle.rr_world.specs.Opening.{IsOpenedBy, Opened}
 use Rattle.rr_world.specs.Runs.{HasOutcome}
 use Rattle.rr_world.specs.declared.step.Action.TheVariants.{Open}
-use Rattle.rr_world.specs.declared.step.Reply.{Reply}
-use Rattle.rr_world.specs.declared.step.Reply.TheVariants.{NotEnabled, Done, Offered, Empty, EmptyAndClosed, WasClosed, Refused, Started, Settled, GrabbedLast, OfMain}
+use Rattle.rr_world.specs.declared.step.Reply.TheVariants.{Done, Refused}
+use Rattle.rr_world.specs.Outcomes.{reply_of}
+use Rattle.rr_world.specs.declared.outcome.Outcome.{Outcome}
+use Rattle.rr_world.specs.declared.outcome.Outcome.TheVariants as outcome
 use Rattle.rr_world.proofs.Lists.{set_at, set_off, each_set}
 use Rattle.rr_world.proofs.Namings.{actor_same, same_actor, post_same, value_moved, shared_kept, roots_stand}
 use Rattle.rr_world.proofs.Knowing.{read_set, opened_knows}
@@ -94,13 +96,13 @@ module _ (w w2 : Assembly) (k : ℕ) (m m2 : Member) (p : Packed) (root : Ref) (
       )
 
 -- whatever opening answers
-pub opened_by : (w w2 : Assembly) (who : RactorNo) (k : ℕ) (m m2 : Member) (r : Reply) → slice_get w.ractors k ≡ Some m → w2.ractors ≡ slice_set w.ractors k m2 → w2.channels ≡ w.channels
-    → StandsAt who k → Opened r m m2 → HasOutcome (record { who = who; action = Open }) r w w2
-opened_by w w2 who k m m2 NotEnabled at rs is stands (none, same) =
+pub opened_by : (w w2 : Assembly) (who : RactorNo) (k : ℕ) (m m2 : Member) (r : Outcome) → slice_get w.ractors k ≡ Some m → w2.ractors ≡ slice_set w.ractors k m2 → w2.channels ≡ w.channels
+    → StandsAt who k → Opened r m m2 → HasOutcome (record { who = who; action = Open }) (reply_of r) w w2
+opened_by w w2 who k m m2 outcome.NotEnabled at rs is stands (none, same) =
     refused (record { who = who; action = Open }) w w2 (same_assembly w2.ractors w.ractors w2.channels w.channels (rs ∙ set_again w.ractors w.ractors k m2 m refl at same) is)
     (λ names g e. holds_not names k m none (allowed w names g (record { who = who; action = Open }) k m stands at e))
-opened_by w w2 who k m m2 Done at rs is stands (p, root, O) = opened w w2 k m m2 p root at O rs is who stands
-opened_by w w2 who k m m2 (Refused f) at rs is stands (p, held, why, same) =
+opened_by w w2 who k m m2 outcome.Done at rs is stands (p, root, O) = opened w w2 k m m2 p root at O rs is who stands
+opened_by w w2 who k m m2 (outcome.Refused f) at rs is stands (p, held, why, same) =
     stays (record { who = who; action = Open }) (Refused f) w w2 (same_assembly w2.ractors w.ractors w2.channels w.channels (rs ∙ set_again w.ractors w.ractors k m2 m refl at same) is)
     (λ names g. (
       k,
@@ -110,11 +112,3 @@ opened_by w w2 who k m m2 (Refused f) at rs is stands (p, held, why, same) =
       (parcel_in names (Hand k) p, holds names k m p held),
       (parcel_in names (Hand k) p, holds names k m p held, (why, same_state (state_in w names g))),
     ))
-opened_by w w2 who k m m2 (Offered t) at rs is stands o = absurd o
-opened_by w w2 who k m m2 Empty at rs is stands o = absurd o
-opened_by w w2 who k m m2 EmptyAndClosed at rs is stands o = absurd o
-opened_by w w2 who k m m2 (WasClosed b) at rs is stands o = absurd o
-opened_by w w2 who k m m2 (Started j) at rs is stands o = absurd o
-opened_by w w2 who k m m2 (GrabbedLast l) at rs is stands o = absurd o
-opened_by w w2 who k m m2 (Settled l) at rs is stands o = absurd o
-opened_by w w2 who k m m2 OfMain at rs is stands o = absurd o

@@ -29,8 +29,10 @@ use Rattle.rr_world.specs.Packing.{IsPackedFrom, MayNotPack, Packs, named_ref}
 use Rattle.rr_world.specs.Runs.{HasOutcome}
 use Rattle.rr_world.specs.declared.step.Operand.{Operand}
 use Rattle.rr_world.specs.declared.step.Action.TheVariants.{Pack}
-use Rattle.rr_world.specs.declared.step.Reply.TheVariants.{NotEnabled, Done, Offered, Empty, EmptyAndClosed, WasClosed, Refused, Started, Settled, GrabbedLast, OfMain}
-use Rattle.rr_world.specs.declared.step.Reply.{Reply}
+use Rattle.rr_world.specs.declared.step.Reply.TheVariants.{NotEnabled, Done, Refused}
+use Rattle.rr_world.specs.Outcomes.{reply_of}
+use Rattle.rr_world.specs.declared.outcome.Outcome.{Outcome}
+use Rattle.rr_world.specs.declared.outcome.Outcome.TheVariants as outcome
 use Rattle.rr_world.proofs.Lists.{set_at, set_off, seen_same, each_set}
 use Rattle.rr_world.proofs.Namings.{actor_same, post_same, handed}
 use Rattle.rr_world.proofs.Published.{place_known}
@@ -258,11 +260,11 @@ not_packed w names bound g k m op R at (inr (inr (v, named, N))) empty value tes
     (tested (root_in names (Space k) v) (value_named names (Space k) m.roots op ∙ ap (option_map (root_in names (Space k))) named))
 
 -- whatever a pack answers
-pub packed_by : (w w2 : Assembly) (who : RactorNo) (k : ℕ) (m m2 : Member) (op : Operand) (r : Reply) → slice_get w.ractors k ≡ Some m → w2.ractors ≡ slice_set w.ractors k m2 → w2.channels ≡ w.channels
-    → StandsAt who k → Packs op r m m2 → HasOutcome (record { who = who; action = Pack op }) r w w2
-packed_by w w2 who k m m2 op Done at rs is stands (v, p, empty, named, P, same) =
+pub packed_by : (w w2 : Assembly) (who : RactorNo) (k : ℕ) (m m2 : Member) (op : Operand) (r : Outcome) → slice_get w.ractors k ≡ Some m → w2.ractors ≡ slice_set w.ractors k m2 → w2.channels ≡ w.channels
+    → StandsAt who k → Packs op r m m2 → HasOutcome (record { who = who; action = Pack op }) (reply_of r) w w2
+packed_by w w2 who k m m2 op outcome.Done at rs is stands (v, p, empty, named, P, same) =
     packed w w2 who k m op v p at stands named P empty (rs ∙ ap (slice_set w.ractors k) same) is (λ names bound g R. known_named (layout w) m.roots op v (R.knows.ractors k m at).roots named)
-packed_by w w2 who k m m2 op NotEnabled at rs is stands (why, same) =
+packed_by w w2 who k m m2 op outcome.NotEnabled at rs is stands (why, same) =
     stays_read (record { who = who; action = Pack op }) NotEnabled w w2 (same_assembly w2.ractors w.ractors w2.channels w.channels (rs ∙ set_again w.ractors w.ractors k m2 m refl at same) is)
     (λ names bound g R. (
       λ e.
@@ -270,7 +272,7 @@ packed_by w w2 who k m m2 op NotEnabled at rs is stands (why, same) =
           not_packed w names bound g k m op R at why z.0 z.1 (tested_at w names g (record { who = who; action = Pack op }) k m stands at e),
       same_state (state_in w names g),
     ))
-packed_by w w2 who k m m2 op (Refused f) at rs is stands (v, empty, named, F, same) =
+packed_by w w2 who k m m2 op (outcome.Refused f) at rs is stands (v, empty, named, F, same) =
     stays_read (record { who = who; action = Pack op }) (Refused f) w w2 (same_assembly w2.ractors w.ractors w2.channels w.channels (rs ∙ set_again w.ractors w.ractors k m2 m refl at same) is)
     (λ names bound g R.
     let value = value_named names (Space k) m.roots op ∙ ap (option_map (root_in names (Space k))) named in (
@@ -285,11 +287,3 @@ packed_by w w2 who k m m2 op (Refused f) at rs is stands (v, empty, named, F, sa
         (⊎_elim (λ e. inl e) (λ e. inr (e.0, shell_of w names bound g R k m v at F.well F.within (known_named (layout w) m.roots op v (R.knows.ractors k m at).roots named) e.1)) F.why, same_state (state_in w names g)),
       ),
     ))
-packed_by w w2 who k m m2 op (Offered t) at rs is stands o = absurd o
-packed_by w w2 who k m m2 op Empty at rs is stands o = absurd o
-packed_by w w2 who k m m2 op EmptyAndClosed at rs is stands o = absurd o
-packed_by w w2 who k m m2 op (WasClosed b) at rs is stands o = absurd o
-packed_by w w2 who k m m2 op (Started j) at rs is stands o = absurd o
-packed_by w w2 who k m m2 op (GrabbedLast l) at rs is stands o = absurd o
-packed_by w w2 who k m m2 op (Settled l) at rs is stands o = absurd o
-packed_by w w2 who k m m2 op OfMain at rs is stands o = absurd o

@@ -32,8 +32,10 @@ use Rattle.rr_world.specs.Packing.{named_ref}
 use Rattle.rr_world.specs.Runs.{HasOutcome}
 use Rattle.rr_world.specs.declared.step.Operand.{Operand}
 use Rattle.rr_world.specs.declared.step.Action.TheVariants.{Read}
-use Rattle.rr_world.specs.declared.step.Reply.{Reply}
-use Rattle.rr_world.specs.declared.step.Reply.TheVariants.{NotEnabled, Done, Offered, Empty, EmptyAndClosed, WasClosed, Refused, Started, Settled, GrabbedLast, OfMain}
+use Rattle.rr_world.specs.declared.step.Reply.TheVariants.{Done}
+use Rattle.rr_world.specs.Outcomes.{reply_of}
+use Rattle.rr_world.specs.declared.outcome.Outcome.{Outcome}
+use Rattle.rr_world.specs.declared.outcome.Outcome.TheVariants as outcome
 use Rattle.rr_world.proofs.Enabled.{actor_at, allowed}
 use Rattle.rr_world.proofs.Knowing.{knows_fewer, knows_either, read_set}
 use Rattle.rr_world.proofs.Published.{outer_named}
@@ -220,20 +222,12 @@ module _ (w w2 : Assembly) (who : RactorNo) (k : ℕ) (m m2 : Member) (op : Oper
   )
 
 -- whatever a read answers
-pub read_of : (w w2 : Assembly) (who : RactorNo) (k : ℕ) (m m2 : Member) (op : Operand) (label : CodeLabel) (r : Reply) → slice_get w.ractors k ≡ Some m → w2.ractors ≡ slice_set w.ractors k m2
-    → w2.channels ≡ w.channels → StandsAt who k → Reads op (label_of label) r m m2 → HasOutcome (record { who = who; action = Read op label }) r w w2
-read_of w w2 who k m m2 op label Done at rs is stands (v, r, A) = read_done w w2 who k m m2 op label v r at rs is stands A
-read_of w w2 who k m m2 op label NotEnabled at rs is stands a =
+pub read_of : (w w2 : Assembly) (who : RactorNo) (k : ℕ) (m m2 : Member) (op : Operand) (label : CodeLabel) (r : Outcome) → slice_get w.ractors k ≡ Some m → w2.ractors ≡ slice_set w.ractors k m2
+    → w2.channels ≡ w.channels → StandsAt who k → Reads op (label_of label) r m m2 → HasOutcome (record { who = who; action = Read op label }) (reply_of r) w w2
+read_of w w2 who k m m2 op label outcome.Done at rs is stands (v, r, A) = read_done w w2 who k m m2 op label v r at rs is stands A
+read_of w w2 who k m m2 op label outcome.NotEnabled at rs is stands a =
     unmade w w2 who k m m2 (Read op label) at rs is a.3 (λ names bound g R e.
     a.2 (under_back w names bound g R k m at who op (label_of label) a.0 a.1 (allowed w names g (record { who = who; action = Read op label }) k m stands at e)))
-read_of w w2 who k m m2 op label (Refused f) at rs is stands a =
+read_of w w2 who k m m2 op label (outcome.Refused f) at rs is stands a =
     unmade_for w w2 who k m m2 (Read op label) f at rs is a.2 (λ names bound g R.
     (k, actor_in names k m, stands, actor_at w names g k m at, under_on w names bound g R k m at who op (label_of label) a.1, (a.0, same_state (state_in w names g))))
-read_of w w2 who k m m2 op label (Offered t) at rs is stands a = absurd a
-read_of w w2 who k m m2 op label Empty at rs is stands a = absurd a
-read_of w w2 who k m m2 op label EmptyAndClosed at rs is stands a = absurd a
-read_of w w2 who k m m2 op label (WasClosed b) at rs is stands a = absurd a
-read_of w w2 who k m m2 op label (Started j) at rs is stands a = absurd a
-read_of w w2 who k m m2 op label (GrabbedLast l) at rs is stands a = absurd a
-read_of w w2 who k m m2 op label (Settled l) at rs is stands a = absurd a
-read_of w w2 who k m m2 op label OfMain at rs is stands a = absurd a

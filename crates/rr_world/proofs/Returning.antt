@@ -22,8 +22,10 @@ use Rattle.rr_world.specs.Enabling.{StandsAt, HoldsMoved}
 use Rattle.rr_world.specs.Moving.{IsPutBackBy, PutsBackInto}
 use Rattle.rr_world.specs.Runs.{HasOutcome}
 use Rattle.rr_world.specs.declared.step.Action.TheVariants.{PutBack}
-use Rattle.rr_world.specs.declared.step.Reply.{Reply}
-use Rattle.rr_world.specs.declared.step.Reply.TheVariants.{NotEnabled, Done, Offered, Empty, EmptyAndClosed, WasClosed, Refused, Started, Settled, GrabbedLast, OfMain}
+use Rattle.rr_world.specs.declared.step.Reply.TheVariants.{Done}
+use Rattle.rr_world.specs.Outcomes.{reply_of}
+use Rattle.rr_world.specs.declared.outcome.Outcome.{Outcome}
+use Rattle.rr_world.specs.declared.outcome.Outcome.TheVariants as outcome
 use Rattle.rr_world.proofs.Enabled.{actor_at, allowed}
 use Rattle.rr_world.proofs.Insides.{set_again, same_assembly}
 use Rattle.rr_world.proofs.Knowing.{knows_either, read_set}
@@ -134,18 +136,10 @@ held_back names k m (p, home, has, its) =
     (a.0, b.0, a.1, b.1)
 
 -- whatever a put-back answers
-pub returned_by : PuttingBackUndoes → (w w2 : Assembly) (who : RactorNo) (k : ℕ) (m m2 : Member) (r : Reply) → slice_get w.ractors k ≡ Some m → w2.ractors ≡ slice_set w.ractors k m2
-    → w2.channels ≡ w.channels → StandsAt who k → PutsBackInto r m m2 → HasOutcome (record { who = who; action = PutBack }) r w w2
-returned_by law w w2 who k m m2 Done at rs is stands (d, A) = returned w w2 who k m m2 d at A rs is law stands
-returned_by law w w2 who k m m2 NotEnabled at rs is stands (never, same) =
+pub returned_by : PuttingBackUndoes → (w w2 : Assembly) (who : RactorNo) (k : ℕ) (m m2 : Member) (r : Outcome) → slice_get w.ractors k ≡ Some m → w2.ractors ≡ slice_set w.ractors k m2
+    → w2.channels ≡ w.channels → StandsAt who k → PutsBackInto r m m2 → HasOutcome (record { who = who; action = PutBack }) (reply_of r) w w2
+returned_by law w w2 who k m m2 outcome.Done at rs is stands (d, A) = returned w w2 who k m m2 d at A rs is law stands
+returned_by law w w2 who k m m2 outcome.NotEnabled at rs is stands (never, same) =
     refused (record { who = who; action = PutBack }) w w2 (same_assembly w2.ractors w.ractors w2.channels w.channels (rs ∙ set_again w.ractors w.ractors k m2 m refl at same) is)
     (λ names g e. let z = held_back names k m (allowed w names g (record { who = who; action = PutBack }) k m stands at e) in never z.0 z.1 z.2 z.3)
-returned_by law w w2 who k m m2 (Refused f) at rs is stands o = absurd o
-returned_by law w w2 who k m m2 (Offered t) at rs is stands o = absurd o
-returned_by law w w2 who k m m2 Empty at rs is stands o = absurd o
-returned_by law w w2 who k m m2 EmptyAndClosed at rs is stands o = absurd o
-returned_by law w w2 who k m m2 (WasClosed b) at rs is stands o = absurd o
-returned_by law w w2 who k m m2 (Started j) at rs is stands o = absurd o
-returned_by law w w2 who k m m2 (GrabbedLast l) at rs is stands o = absurd o
-returned_by law w w2 who k m m2 (Settled l) at rs is stands o = absurd o
-returned_by law w w2 who k m m2 OfMain at rs is stands o = absurd o
+returned_by law w w2 who k m m2 (outcome.Refused f) at rs is stands o = absurd o

@@ -8,7 +8,9 @@ use Rattle.rr_world.specs.Readings.{state_in}
 use Rattle.rr_world.specs.Enabling.{IsPossible}
 use Rattle.rr_world.specs.Cases.{IsOutcome}
 use Rattle.rr_world.specs.Naming.{IsRenamed, AreOthersKept}
+use Rattle.rr_world.specs.Outcomes.{reply_of}
 use Rattle.rr_world.specs.Runs.{HasOutcome}
+use Rattle.rr_world.specs.declared.outcome.Outcome.{Outcome}
 use Rattle.rr_world.specs.declared.step.Step.{Step}
 use Rattle.rr_world.specs.declared.step.Reply.{Reply}
 use Rattle.rr_world.specs.declared.step.Reply.TheVariants.{NotEnabled}
@@ -36,3 +38,7 @@ stays_read step reply w w2 same case names bound g R =
 -- one list of names is another, and the step acts on it
 pub one_renamed : {names names2 : Naming} (b : Owner) (count : ℕ) (step : Step) → IsNamed b names names2 → IsRenamed count step.who step.action b → AreOthersKept count step names names2
 one_renamed b count step N may h off = N.rest h (λ e. off (subst (IsRenamed count step.who step.action) (sym e) may))
+
+-- what a ractor's own step came to is what the step answers
+pub replied : (step : Step) (r : Outcome) (reply : Reply) (w w2 : Assembly) → reply ≡ reply_of r → HasOutcome step (reply_of r) w w2 → HasOutcome step reply w w2
+replied step r reply w w2 same out = subst (λ q. HasOutcome step q w w2) (sym same) out

@@ -37,8 +37,10 @@ use Rattle.rr_world.specs.Packing.{named_ref}
 use Rattle.rr_world.specs.Runs.{HasOutcome}
 use Rattle.rr_world.specs.declared.step.Operand.{Operand}
 use Rattle.rr_world.specs.declared.step.Action.TheVariants.{SetConst, SetOwn, GetConst}
-use Rattle.rr_world.specs.declared.step.Reply.{Reply}
-use Rattle.rr_world.specs.declared.step.Reply.TheVariants.{NotEnabled, Done, Offered, Empty, EmptyAndClosed, WasClosed, Refused, Started, Settled, GrabbedLast, OfMain}
+use Rattle.rr_world.specs.declared.step.Reply.TheVariants.{NotEnabled, Done, Refused, OfMain}
+use Rattle.rr_world.specs.Outcomes.{reply_of}
+use Rattle.rr_world.specs.declared.outcome.Outcome.{Outcome}
+use Rattle.rr_world.specs.declared.outcome.Outcome.TheVariants as outcome
 use Rattle.rr_world.proofs.Enabled.{actor_at, allowed}
 use Rattle.rr_world.proofs.Insides.{set_again, same_assembly}
 use Rattle.rr_world.proofs.Knowing.{knows_either, knows_on, member_on, order_on, read_set}
@@ -339,10 +341,10 @@ module _ (w w2 : Assembly) (who : RactorNo) (k : ℕ) (m : Member) (name : Sym) 
   )
 
 -- what a get answers where the constant has a value
-pub got_by : (w w2 : Assembly) (who : RactorNo) (k : ℕ) (m m2 : Member) (name : Sym) (v : Ref) (r : Reply) → slice_get w.ractors k ≡ Some m → StandsAt who k → constant_of w.channels.store name ≡ Some (Shareable v) → IsWithin 0 v
-    → w2.ractors ≡ slice_set w.ractors k m2 → w2.channels ≡ w.channels → Joins v r m m2 → HasOutcome (record { who = who; action = GetConst name }) r w w2
-got_by w w2 who k m m2 name v Done at stands here public rs is a = got w w2 who k m name v at stands here public (rs ∙ ap (slice_set w.ractors k) a) is
-got_by w w2 who k m m2 name v (Refused f) at stands here public rs is (memory, same) =
+pub got_by : (w w2 : Assembly) (who : RactorNo) (k : ℕ) (m m2 : Member) (name : Sym) (v : Ref) (r : Outcome) → slice_get w.ractors k ≡ Some m → StandsAt who k → constant_of w.channels.store name ≡ Some (Shareable v) → IsWithin 0 v
+    → w2.ractors ≡ slice_set w.ractors k m2 → w2.channels ≡ w.channels → Joins v r m m2 → HasOutcome (record { who = who; action = GetConst name }) (reply_of r) w w2
+got_by w w2 who k m m2 name v outcome.Done at stands here public rs is a = got w w2 who k m name v at stands here public (rs ∙ ap (slice_set w.ractors k) a) is
+got_by w w2 who k m m2 name v (outcome.Refused f) at stands here public rs is (memory, same) =
     subst (λ (x : Fault). HasOutcome (record { who = who; action = GetConst name }) (Refused x) w w2) (sym memory)
     (stays (record { who = who; action = GetConst name }) (Refused fault.Memory) w w2 (same_assembly w2.ractors w.ractors w2.channels w.channels (rs ∙ set_again w.ractors w.ractors k m2 m refl at same) is)
     (λ names g. (
@@ -353,15 +355,7 @@ got_by w w2 who k m m2 name v (Refused f) at stands here public rs is (memory, s
       tt,
       ((public_value names (value_of v), seen names w.channels.store name ∙ ap (option_map (constant_in names)) here), same_state (state_in w names g)),
     )))
-got_by w w2 who k m m2 name v NotEnabled at stands here public rs is a = absurd a
-got_by w w2 who k m m2 name v (Offered t) at stands here public rs is a = absurd a
-got_by w w2 who k m m2 name v Empty at stands here public rs is a = absurd a
-got_by w w2 who k m m2 name v EmptyAndClosed at stands here public rs is a = absurd a
-got_by w w2 who k m m2 name v (WasClosed b) at stands here public rs is a = absurd a
-got_by w w2 who k m m2 name v (Started j) at stands here public rs is a = absurd a
-got_by w w2 who k m m2 name v (GrabbedLast l) at stands here public rs is a = absurd a
-got_by w w2 who k m m2 name v (Settled l) at stands here public rs is a = absurd a
-got_by w w2 who k m m2 name v OfMain at stands here public rs is a = absurd a
+got_by w w2 who k m m2 name v outcome.NotEnabled at stands here public rs is a = absurd a
 
 -- the main ractor keeps the value itself, and it is this one
 pub of_main : (w w2 : Assembly) (who : RactorNo) (k : ℕ) (m : Member) (name : Sym) → slice_get w.ractors k ≡ Some m → StandsAt who k → w2 ≡ w

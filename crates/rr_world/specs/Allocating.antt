@@ -7,8 +7,8 @@ use Rattle.rr_space.specs.declared.refer.Ref.TheVariants.{Local}
 use Rattle.rr_world.specs.Views.{Member, AreRootsWithin, AreAway}
 use Rattle.rr_world.specs.ObjectCases.{new_object}
 use Rattle.rr_world.specs.declared.step.NewObject.{NewObject}
-use Rattle.rr_world.specs.declared.step.Reply.{Reply}
-use Rattle.rr_world.specs.declared.step.Reply.TheVariants.{Done, Refused}
+use Rattle.rr_world.specs.declared.outcome.Outcome.{Outcome}
+use Rattle.rr_world.specs.declared.outcome.Outcome.TheVariants.{Done, Refused}
 
 -- the object stands in the next slot, and comes last in the roots
 pub record IsAllocatedBy (new : NewObject) (old now : Member) : Type 0 where
@@ -26,7 +26,7 @@ pub record IsAllocatedBy (new : NewObject) (old now : Member) : Type 0 where
   pub limits : now.limits ≡ old.limits
   pub runs : now.runs ≡ old.runs
 
-abbrev pub Allocs : NewObject → Reply → Member → Member → Type 0
+abbrev pub Allocs : NewObject → Outcome → Member → Member → Type 0
 Allocs new Done old now = IsAllocatedBy new old now
 Allocs new (Refused f) old now = ((f ≡ Memory) ⊎ ((f ≡ Limit Slots) × (length old.space.slots ≡ old.space.limit))) × (now ≡ old)
 Allocs new _ old now = ⊥

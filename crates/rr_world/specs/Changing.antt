@@ -17,8 +17,8 @@ use Rattle.rr_world.specs.Enabling.{IsNoShell, IsOpen, HasElement}
 use Rattle.rr_world.specs.ObjectCases.{frozen, appended, pushed, written, with_field}
 use Rattle.rr_world.specs.Packing.{named_ref}
 use Rattle.rr_world.specs.declared.step.Operand.{Operand}
-use Rattle.rr_world.specs.declared.step.Reply.{Reply}
-use Rattle.rr_world.specs.declared.step.Reply.TheVariants.{NotEnabled, Done, Refused}
+use Rattle.rr_world.specs.declared.outcome.Outcome.{Outcome}
+use Rattle.rr_world.specs.declared.outcome.Outcome.TheVariants.{NotEnabled, Done, Refused}
 
 -- the operand is the slot n of the space, and the object there is o
 pub record IsSlot (op : Operand) (old : Member) (n : ℕ) (o : Object) : Type 0 where
@@ -52,7 +52,7 @@ IsMadeOf op may change v old now = (n : ℕ) × (o : Object) × IsSlot op old n 
 abbrev pub HasRootsWithin : Member → Type 0
 HasRootsWithin old = AreRootsWithin (length old.space.slots) old.roots
 
-abbrev pub Freezes : Operand → Reply → Member → Member → Type 0
+abbrev pub Freezes : Operand → Outcome → Member → Member → Type 0
 Freezes op NotEnabled old now = HasRootsWithin old × (MayChangeSlot op IsNoShell old → ⊥) × (now ≡ old)
 Freezes op Done old now = IsMadeOf op IsNoShell frozen Nil old now
 Freezes op _ old now = ⊥
@@ -66,11 +66,10 @@ pub record IsWritableText (op : Operand) (old : Member) (a : Ref) : Type 0 where
   pub can : IsTrue (can_write_at old.space a)
   pub kind : kind_at old.space a ≡ Text
 
-abbrev pub Appends : Operand → ℕ → Reply → Member → Member → Type 0
+abbrev pub Appends : Operand → ℕ → Outcome → Member → Member → Type 0
 Appends op byte NotEnabled old now = HasRootsWithin old × (MayBeAppended op old → ⊥) × (now ≡ old)
 Appends op byte Done old now = IsMadeOf op (IsOpen text) (appended byte) Nil old now
 Appends op byte (Refused f) old now = (f ≡ Memory) × MayBeAppended op old × (now ≡ old)
-Appends op byte _ old now = ⊥
 
 -- the operand is this value
 abbrev pub IsNamedRef : Operand → Member → Type 0
@@ -88,13 +87,12 @@ pub record AreWritable (op x : Operand) (old : Member) (a v : Ref) : Type 0 wher
   pub kind : kind_at old.space a ≡ Array
   pub within : IsWithin (length old.space.slots) v
 
-abbrev pub Pushes : Operand → Operand → Reply → Member → Member → Type 0
+abbrev pub Pushes : Operand → Operand → Outcome → Member → Member → Type 0
 Pushes op x NotEnabled old now = HasRootsWithin old × (MayBePushed op old → IsNamedRef x old → ⊥) × (now ≡ old)
 Pushes op x Done old now = (v : Ref) × (named_ref old.roots x ≡ Some v) × IsMadeOf op (IsOpen array) (pushed (value_of v)) v old now
 Pushes op x (Refused f) old now = (f ≡ Memory) × MayBePushed op old × IsNamedRef x old × (now ≡ old)
-Pushes op x _ old now = ⊥
 
-abbrev pub Writes : Operand → ℕ → Operand → Reply → Member → Member → Type 0
+abbrev pub Writes : Operand → ℕ → Operand → Outcome → Member → Member → Type 0
 Writes op i x NotEnabled old now = HasRootsWithin old × (MayChangeSlot op (HasElement i) old → IsNamedRef x old → ⊥) × (now ≡ old)
 Writes op i x Done old now = (v : Ref) × (named_ref old.roots x ≡ Some v) × IsMadeOf op (HasElement i) (written i (value_of v)) v old now
 Writes op i x _ old now = ⊥
@@ -111,11 +109,10 @@ pub record AreSettable (op x : Operand) (old : Member) (a v : Ref) : Type 0 wher
   pub kind : kind_at old.space a ≡ kinds.Object
   pub within : IsWithin (length old.space.slots) v
 
-abbrev pub Sets : Operand → ℕ → Operand → Reply → Member → Member → Type 0
+abbrev pub Sets : Operand → ℕ → Operand → Outcome → Member → Member → Type 0
 Sets op name x NotEnabled old now = HasRootsWithin old × (MayBeSet op old → IsNamedRef x old → ⊥) × (now ≡ old)
 Sets op name x Done old now = (v : Ref) × (named_ref old.roots x ≡ Some v) × IsMadeOf op (IsOpen plain) (with_field name (value_of v)) v old now
 Sets op name x (Refused f) old now = (f ≡ Memory) × MayBeSet op old × IsNamedRef x old × (now ≡ old)
-Sets op name x _ old now = ⊥
 
 -- something stands under the label in the object that the operand is
 abbrev pub HasUnder : Operand → Label → Member → Type 0
@@ -130,8 +127,7 @@ pub record IsReadBy (op : Operand) (l : Label) (v r : Ref) (old now : Member) : 
   pub known : IsKnownFrom old.space v r
   pub now_is : now ≡ record old { roots = old.roots ++ r ∷ [] }
 
-abbrev pub Reads : Operand → Label → Reply → Member → Member → Type 0
+abbrev pub Reads : Operand → Label → Outcome → Member → Member → Type 0
 Reads op l NotEnabled old now = IsWell old.space × HasRootsWithin old × (HasUnder op l old → ⊥) × (now ≡ old)
 Reads op l Done old now = (v : Ref) × (r : Ref) × IsReadBy op l v r old now
 Reads op l (Refused f) old now = (f ≡ Memory) × HasUnder op l old × (now ≡ old)
-Reads op l _ old now = ⊥

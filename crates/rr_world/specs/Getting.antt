@@ -9,8 +9,8 @@ use Rattle.rr_space.specs.declared.refer.Ref.{Ref}
 use Rattle.rr_world.specs.Views.{Member}
 use Rattle.rr_world.specs.Packing.{named_ref}
 use Rattle.rr_world.specs.declared.step.Operand.{Operand}
-use Rattle.rr_world.specs.declared.step.Reply.{Reply}
-use Rattle.rr_world.specs.declared.step.Reply.TheVariants.{Done, Refused}
+use Rattle.rr_world.specs.declared.outcome.Outcome.{Outcome}
+use Rattle.rr_world.specs.declared.outcome.Outcome.TheVariants.{Done, Refused}
 
 -- what the operand names is an immediate, or a published object: the reference r, once its forwards are followed
 pub record IsPublicRef (m : Member) (op : Operand) (r : Ref) : Type 0 where
@@ -25,7 +25,7 @@ abbrev pub IsOwnRef : Member → Ref → Type 0
 IsOwnRef m v = IsWithin (length m.space.slots) v × ((i : ℕ) × (resolve m.space.slots (value_of v) ≡ At (Own i)))
 
 -- the value comes last in the roots, or a growth was refused
-abbrev pub Joins : Ref → Reply → Member → Member → Type 0
+abbrev pub Joins : Ref → Outcome → Member → Member → Type 0
 Joins v Done old now = now ≡ record old { roots = old.roots ++ v ∷ [] }
 Joins v (Refused f) old now = (f ≡ Memory) × (now ≡ old)
 Joins v _ old now = ⊥

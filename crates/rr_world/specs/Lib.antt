@@ -12,6 +12,7 @@ pub mod Cases
 pub mod Naming
 pub mod Runs
 pub mod Laws
+pub mod Outcomes
 pub mod Opening
 pub mod Packing
 pub mod Allocating

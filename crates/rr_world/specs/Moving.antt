@@ -18,8 +18,8 @@ use Rattle.rr_world.specs.Views.{Member, IsFree, AreRootsWithin}
 use Rattle.rr_world.specs.Layouts.{message_below}
 use Rattle.rr_world.specs.Packing.{MayNotPack, named_ref}
 use Rattle.rr_world.specs.declared.step.Operand.{Operand}
-use Rattle.rr_world.specs.declared.step.Reply.{Reply}
-use Rattle.rr_world.specs.declared.step.Reply.TheVariants.{NotEnabled, Done, Refused}
+use Rattle.rr_world.specs.declared.outcome.Outcome.{Outcome}
+use Rattle.rr_world.specs.declared.outcome.Outcome.TheVariants.{NotEnabled, Done, Refused}
 
 -- what the value leads to was moved out of the space, as a message with its home
 pub record IsMovedFrom (t : Table) (v : Ref) (d : Detached) (now : Table) : Type 0 where
@@ -51,11 +51,10 @@ pub record IsMovedBy (op : Operand) (v : Ref) (d : Detached) (old now : Member) 
   pub moved : IsMovedFrom old.space v d now.space
   pub now_is : now ≡ record old { space = now.space; hand = Some d.message; home = Some d.home }
 
-abbrev pub Detaches : Operand → Reply → Member → Member → Type 0
+abbrev pub Detaches : Operand → Outcome → Member → Member → Type 0
 Detaches op NotEnabled old now = MayNotPack op old × (now ≡ old)
 Detaches op Done old now = (v : Ref) × (d : Detached) × IsMovedBy op v d old now
 Detaches op (Refused f) old now = (v : Ref) × IsFree old × (named_ref old.roots op ≡ Some v) × IsMoveRefused f old.space v × (now ≡ old)
-Detaches op _ old now = ⊥
 
 -- the moved message in the hand is in its home again
 pub record IsPutBackBy (d : Detached) (old now : Member) : Type 0 where
@@ -67,7 +66,7 @@ pub record IsPutBackBy (d : Detached) (old now : Member) : Type 0 where
   pub back : IsPutBack d.home.slots d.message old.space now.space
   pub now_is : now ≡ record old { space = now.space; hand = None; home = None }
 
-abbrev pub PutsBackInto : Reply → Member → Member → Type 0
+abbrev pub PutsBackInto : Outcome → Member → Member → Type 0
 PutsBackInto NotEnabled old now = ((p : Packed) (h : Home) → old.hand ≡ Some p → old.home ≡ Some h → ⊥) × (now ≡ old)
 PutsBackInto Done old now = (d : Detached) × IsPutBackBy d old now
 PutsBackInto _ old now = ⊥

@@ -9,8 +9,8 @@ use Rattle.rr_space.specs.Parts.{value_of, below_ref}
 use Rattle.rr_space.specs.declared.refer.Ref.{Ref}
 use Rattle.rr_copy.specs.Messages.{size_of}
 use Rattle.rr_world.specs.Views.{Member, AreRootsWithin}
-use Rattle.rr_world.specs.declared.step.Reply.{Reply}
-use Rattle.rr_world.specs.declared.step.Reply.TheVariants.{NotEnabled, Done, Refused}
+use Rattle.rr_world.specs.declared.outcome.Outcome.{Outcome}
+use Rattle.rr_world.specs.declared.outcome.Outcome.TheVariants.{NotEnabled, Done, Refused}
 
 -- why the message is not opened: a growth was refused, or its objects pass the limit of the space
 abbrev pub OpenRefusal : Fault → Packed → Member → Type 0
@@ -29,8 +29,7 @@ pub record IsOpenedBy (m : Packed) (root : Ref) (old new : Member) : Type 0 wher
   pub limits : new.limits ≡ old.limits
   pub runs : new.runs ≡ old.runs
 
-abbrev pub Opened : Reply → Member → Member → Type 0
+abbrev pub Opened : Outcome → Member → Member → Type 0
 Opened NotEnabled old new = (old.hand ≡ None) × (new ≡ old)
 Opened Done old new = (m : Packed) × (root : Ref) × IsOpenedBy m root old new
 Opened (Refused fault) old new = (m : Packed) × (old.hand ≡ Some m) × OpenRefusal fault m old × (new ≡ old)
-Opened _ old new = ⊥

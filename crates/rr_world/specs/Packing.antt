@@ -15,8 +15,8 @@ use Rattle.rr_world.specs.Views.{Member, IsFree}
 use Rattle.rr_world.specs.Layouts.{message_below}
 use Rattle.rr_world.specs.declared.step.Operand.{Operand}
 use Rattle.rr_world.specs.declared.step.Operand.TheVariants as operand
-use Rattle.rr_world.specs.declared.step.Reply.{Reply}
-use Rattle.rr_world.specs.declared.step.Reply.TheVariants.{NotEnabled, Done, Refused}
+use Rattle.rr_world.specs.declared.outcome.Outcome.{Outcome}
+use Rattle.rr_world.specs.declared.outcome.Outcome.TheVariants.{NotEnabled, Done, Refused}
 
 -- the reference that an operand is, where the roots are these
 abbrev pub named_ref : List Ref → Operand → Option Ref
@@ -60,8 +60,7 @@ abbrev pub MayNotPack : Operand → Member → Type 0
 MayNotPack op old = (IsFree old → ⊥) ⊎ ((named_ref old.roots op ≡ None) ⊎ ((v : Ref) × (named_ref old.roots op ≡ Some v) × IsNotPacked old.space v))
 
 -- what a pack answers, and what it leaves of the ractor
-abbrev pub Packs : Operand → Reply → Member → Member → Type 0
+abbrev pub Packs : Operand → Outcome → Member → Member → Type 0
 Packs op NotEnabled old new = MayNotPack op old × (new ≡ old)
 Packs op Done old new = (v : Ref) × (m : Packed) × IsFree old × (named_ref old.roots op ≡ Some v) × IsPackedFrom old.space v m × (new ≡ record old { hand = Some m })
 Packs op (Refused f) old new = (v : Ref) × IsFree old × (named_ref old.roots op ≡ Some v) × IsPackRefused f old.space v × (new ≡ old)
-Packs op _ old new = ⊥

@@ -18,24 +18,25 @@ ghost use Rattle.rr_world.specs.Changing.{
 };
 ghost use Rattle.rr_space.specs.Labels.{label_of};
 
+use crate::outcome::Outcome;
 use crate::ractor::Ractor;
-use crate::step::{Operand, Reply};
+use crate::step::Operand;
 use rr_base::{Fault, Sym};
 use rr_space::{Kind, Label, Ref};
 
 impl Ractor {
     /// Freezes one object.
-    pub(crate) fn freeze(&mut self, object: Operand) -> Reply
+    pub(crate) fn freeze(&mut self, object: Operand) -> Outcome
         ensures { Freezes object result self.old self.new }
     {
         let Some(object) = self.named(object) else {
-            return Reply::NotEnabled;
+            return Outcome::NotEnabled;
         };
         if !self.space.can_freeze(object) {
-            return Reply::NotEnabled;
+            return Outcome::NotEnabled;
         }
         self.space.freeze(object);
-        Reply::Done
+        Outcome::Done
     }
 
     // The text that the operand is, where it may be written.
@@ -51,16 +52,16 @@ impl Ractor {
     }
 
     /// Puts a byte behind those of a text.
-    pub(crate) fn append(&mut self, text: Operand, byte: u8) -> Reply
+    pub(crate) fn append(&mut self, text: Operand, byte: u8) -> Outcome
         ensures { Appends text byte result self.old self.new }
     {
         let Some(text) = self.writable_text(text) else {
-            return Reply::NotEnabled;
+            return Outcome::NotEnabled;
         };
         if let Err(fault) = self.space.append_text(text, &[byte]) {
-            return Reply::Refused(fault);
+            return Outcome::Refused(fault);
         }
-        Reply::Done
+        Outcome::Done
     }
 
     // The array and the value that the operands are, where the array may be written.
@@ -77,30 +78,30 @@ impl Ractor {
     }
 
     /// Puts a value behind the elements of an array.
-    pub(crate) fn push(&mut self, array: Operand, value: Operand) -> Reply
+    pub(crate) fn push(&mut self, array: Operand, value: Operand) -> Outcome
         ensures { Pushes array value result self.old self.new }
     {
         let Some((array, value)) = self.writable_array(array, value) else {
-            return Reply::NotEnabled;
+            return Outcome::NotEnabled;
         };
         if let Err(fault) = self.space.push_element(array, value) {
-            return Reply::Refused(fault);
+            return Outcome::Refused(fault);
         }
-        Reply::Done
+        Outcome::Done
     }
 
     /// Puts a value in the place of an element of an array.
-    pub(crate) fn write(&mut self, array: Operand, place: u32, value: Operand) -> Reply
+    pub(crate) fn write(&mut self, array: Operand, place: u32, value: Operand) -> Outcome
         ensures { Writes array place value result self.old self.new }
     {
         let Some((array, value)) = self.writable_array(array, value) else {
-            return Reply::NotEnabled;
+            return Outcome::NotEnabled;
         };
         if place as usize >= self.space.arity(array) {
-            return Reply::NotEnabled;
+            return Outcome::NotEnabled;
         }
         self.space.write_element(array, place as usize, value);
-        Reply::Done
+        Outcome::Done
     }
     // The plain object and the value that the operands are, where the object may be written.
     fn writable_object(&self, object: Operand, value: Operand) -> Option<(Ref, Ref)>
@@ -116,34 +117,34 @@ impl Ractor {
     }
 
     /// Sets a field of a plain object.
-    pub(crate) fn set_field(&mut self, object: Operand, name: Sym, value: Operand) -> Reply
+    pub(crate) fn set_field(&mut self, object: Operand, name: Sym, value: Operand) -> Outcome
         ensures { Sets object name.0 value result self.old self.new }
     {
         let Some((object, value)) = self.writable_object(object, value) else {
-            return Reply::NotEnabled;
+            return Outcome::NotEnabled;
         };
         if let Err(fault) = self.space.write_field(object, name, value) {
-            return Reply::Refused(fault);
+            return Outcome::Refused(fault);
         }
-        Reply::Done
+        Outcome::Done
     }
 
     /// Puts what stands under the label in an object behind the roots.
-    pub(crate) fn read(&mut self, object: Operand, label: Label) -> Reply
+    pub(crate) fn read(&mut self, object: Operand, label: Label) -> Outcome
         ensures { Reads object (label_of label) result self.old self.new }
     {
         // With the number of slots comes that no reference in them leads nowhere.
         let _slots = self.space.len();
         let Some(object) = self.named(object) else {
-            return Reply::NotEnabled;
+            return Outcome::NotEnabled;
         };
         let Some(found) = self.space.read(object, label) else {
-            return Reply::NotEnabled;
+            return Outcome::NotEnabled;
         };
         if self.roots.reserve(1).is_err() {
-            return Reply::Refused(Fault::Memory);
+            return Outcome::Refused(Fault::Memory);
         }
         self.roots.push_reserved(found);
-        Reply::Done
+        Outcome::Done
     }
 }

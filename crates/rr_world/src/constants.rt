@@ -54,7 +54,7 @@ impl World {
         ensures { HasOutcome (record { who = who; action = GetConst name }) result self.old self.new }
     {
         match self.store.get_const(who, name) {
-            Ok(ConstValue::Shareable(value)) => self.ractors[place].join(value),
+            Ok(ConstValue::Shareable(value)) => self.ractors[place].join(value).reply(),
             Ok(ConstValue::Own) => Reply::OfMain,
             Err(fault) => Reply::Refused(fault),
         }

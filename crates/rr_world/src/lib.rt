@@ -5,6 +5,7 @@ mod changing;
 mod constants;
 mod laws;
 mod moving;
+mod outcome;
 mod packing;
 mod ports;
 mod ractor;

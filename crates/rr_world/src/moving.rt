@@ -6,8 +6,9 @@ ghost use Rattle.rr_move.specs.declared.home.Detached.{Detached as MovedAway};
 ghost use Rattle.rr_world.specs.Moving.{Detaches, IsMovedFrom, IsMoveRefused, PutsBackInto};
 ghost use Rattle.rr_world.specs.Packing.{IsNotPacked};
 
+use crate::outcome::Outcome;
 use crate::ractor::Ractor;
-use crate::step::{Operand, Reply};
+use crate::step::Operand;
 use rr_base::Fault;
 use rr_copy::{Message, can_pack};
 use rr_move::{Hand, Home, detach_found, reattach};
@@ -39,33 +40,33 @@ fn moved_out(alloc: Global, space: &mut Space, value: Ref) -> Result<Option<(Mes
 
 impl Ractor {
     /// Moves what the value leads to into the empty hand.
-    pub(crate) fn detach(&mut self, alloc: Global, operand: Operand) -> Reply
+    pub(crate) fn detach(&mut self, alloc: Global, operand: Operand) -> Outcome
         ensures { Detaches operand result self.old self.new }
     {
         if !self.hand.is_empty() {
-            return Reply::NotEnabled;
+            return Outcome::NotEnabled;
         }
         let Some(value) = self.named(operand) else {
-            return Reply::NotEnabled;
+            return Outcome::NotEnabled;
         };
         match moved_out(alloc, &mut self.space, value) {
             Ok(Some((message, home))) => {
                 self.hand = Hand::of_message(message, Some(home));
-                Reply::Done
+                Outcome::Done
             }
-            Ok(None) => Reply::NotEnabled,
-            Err(fault) => Reply::Refused(fault),
+            Ok(None) => Outcome::NotEnabled,
+            Err(fault) => Outcome::Refused(fault),
         }
     }
 
     /// Puts the moved message in the hand back into its home.
-    pub(crate) fn put_back(&mut self) -> Reply
+    pub(crate) fn put_back(&mut self) -> Outcome
         ensures { PutsBackInto result self.old self.new }
     {
         let Some(moved) = self.hand.take_moved() else {
-            return Reply::NotEnabled;
+            return Outcome::NotEnabled;
         };
         reattach(&mut self.space, moved);
-        Reply::Done
+        Outcome::Done
     }
 }

@@ -15,8 +15,9 @@ ghost use Rattle.rr_world.specs.Starting.{IsOver};
 ghost use Rattle.rr_space.specs.declared.refer.Ref.{Ref};
 ghost use Rattle.rr_move.specs.Homes.{IsHomeOf};
 
+use crate::outcome::Outcome;
 use crate::packing::copy_of;
-use crate::step::{NewObject, Operand, Reply};
+use crate::step::{NewObject, Operand};
 use rr_base::{Fault, Limits, RactorNo, Ticket};
 use rr_copy::{Message, open};
 use rr_move::{Hand, Home};
@@ -211,72 +212,72 @@ impl Ractor {
     }
 
     /// A value that was got comes last in the roots.
-    pub(crate) fn join(&mut self, value: Ref) -> Reply
+    pub(crate) fn join(&mut self, value: Ref) -> Outcome
         requires { IsWithin (length self.old.space.slots) value }
         ensures { Joins value result self.old self.new }
     {
         if self.roots.reserve(1).is_err() {
-            return Reply::Refused(Fault::Memory);
+            return Outcome::Refused(Fault::Memory);
         }
         self.roots.push_reserved(value);
-        Reply::Done
+        Outcome::Done
     }
 
     /// A new object in the space, which comes last in the roots.
-    pub(crate) fn alloc(&mut self, alloc: Global, new: NewObject) -> Reply
+    pub(crate) fn alloc(&mut self, alloc: Global, new: NewObject) -> Outcome
         ensures { Allocs new result self.old self.new }
     {
         if self.roots.reserve(1).is_err() {
-            return Reply::Refused(Fault::Memory);
+            return Outcome::Refused(Fault::Memory);
         }
         match self.space.alloc(empty_node(alloc, new)) {
             Ok(root) => {
                 self.roots.push_reserved(root);
-                Reply::Done
+                Outcome::Done
             }
-            Err(fault) => Reply::Refused(fault),
+            Err(fault) => Outcome::Refused(fault),
         }
     }
 
     /// Puts a copy of the value into the empty hand.
-    pub(crate) fn pack(&mut self, alloc: Global, operand: Operand) -> Reply
+    pub(crate) fn pack(&mut self, alloc: Global, operand: Operand) -> Outcome
         ensures { Packs operand result self.old self.new }
     {
         if !self.hand.is_empty() {
-            return Reply::NotEnabled;
+            return Outcome::NotEnabled;
         }
         let Some(value) = self.named(operand) else {
-            return Reply::NotEnabled;
+            return Outcome::NotEnabled;
         };
         match copy_of(alloc, &self.space, value) {
             Ok(Some(message)) => {
                 self.hand = Hand::Message(message);
-                Reply::Done
+                Outcome::Done
             }
-            Ok(None) => Reply::NotEnabled,
-            Err(fault) => Reply::Refused(fault),
+            Ok(None) => Outcome::NotEnabled,
+            Err(fault) => Outcome::Refused(fault),
         }
     }
 
     /// Opens the message in the hand.
-    pub(crate) fn open_held(&mut self) -> Reply
+    pub(crate) fn open_held(&mut self) -> Outcome
         ensures { Opened result self.old self.new }
     {
         let Some((message, home)) = self.hand.take_message() else {
-            return Reply::NotEnabled;
+            return Outcome::NotEnabled;
         };
         if self.roots.reserve(1).is_err() {
             self.hand = Hand::of_message(message, home);
-            return Reply::Refused(Fault::Memory);
+            return Outcome::Refused(Fault::Memory);
         }
         match open(&mut self.space, message) {
             Ok(root) => {
                 self.roots.push_reserved(root);
-                Reply::Done
+                Outcome::Done
             }
             Err((fault, message)) => {
                 self.hand = Hand::of_message(message, home);
-                Reply::Refused(fault)
+                Outcome::Refused(fault)
             }
         }
     }

@@ -76,7 +76,7 @@ impl World {
         ensures { HasOutcome (record { who = who; action = Alloc new }) result self.old self.new }
     {
         let ractor = &mut self.ractors[place];
-        ractor.alloc(alloc, new)
+        ractor.alloc(alloc, new).reply()
     }
 
     // A copy of the value comes into the hand.
@@ -86,7 +86,7 @@ impl World {
         ensures { HasOutcome (record { who = who; action = Pack value }) result self.old self.new }
     {
         let ractor = &mut self.ractors[place];
-        ractor.pack(alloc, value)
+        ractor.pack(alloc, value).reply()
     }
 
     // What the value leads to is moved into the hand.
@@ -98,7 +98,7 @@ impl World {
         // By the laws on moves this is one, in the whole graph.
         shown_by_moving();
         let ractor = &mut self.ractors[place];
-        ractor.detach(alloc, value)
+        ractor.detach(alloc, value).reply()
     }
 
     // The moved message in the hand comes back into its home.
@@ -110,7 +110,7 @@ impl World {
         // By the laws on moves this ends one, in the whole graph.
         shown_by_moving();
         let ractor = &mut self.ractors[place];
-        ractor.put_back()
+        ractor.put_back().reply()
     }
 
     // The message in the hand goes.
@@ -178,7 +178,7 @@ impl World {
         ensures { HasOutcome (record { who = who; action = Open }) result self.old self.new }
     {
         let ractor = &mut self.ractors[place];
-        ractor.open_held()
+        ractor.open_held().reply()
     }
 
     // An inbox is closed.
@@ -199,7 +199,7 @@ impl World {
         ensures { HasOutcome (record { who = who; action = Freeze object }) result self.old self.new }
     {
         let ractor = &mut self.ractors[place];
-        ractor.freeze(object)
+        ractor.freeze(object).reply()
     }
 
     // A byte comes behind those of a text.
@@ -209,7 +209,7 @@ impl World {
         ensures { HasOutcome (record { who = who; action = Append text byte }) result self.old self.new }
     {
         let ractor = &mut self.ractors[place];
-        ractor.append(text, byte)
+        ractor.append(text, byte).reply()
     }
 
     // A value comes behind the elements of an array.
@@ -219,7 +219,7 @@ impl World {
         ensures { HasOutcome (record { who = who; action = Push array value }) result self.old self.new }
     {
         let ractor = &mut self.ractors[place];
-        ractor.push(array, value)
+        ractor.push(array, value).reply()
     }
 
     // A value comes in the place of an element.
@@ -236,7 +236,7 @@ impl World {
         ensures { HasOutcome (record { who = who; action = Write array at value }) result self.old self.new }
     {
         let ractor = &mut self.ractors[place];
-        ractor.write(array, at, value)
+        ractor.write(array, at, value).reply()
     }
 
     // A field of an object is set.
@@ -253,7 +253,7 @@ impl World {
         ensures { HasOutcome (record { who = who; action = SetField object name value }) result self.old self.new }
     {
         let ractor = &mut self.ractors[place];
-        ractor.set_field(object, name, value)
+        ractor.set_field(object, name, value).reply()
     }
 
     // What stands under a label joins the roots.
@@ -263,7 +263,7 @@ impl World {
         ensures { HasOutcome (record { who = who; action = Read object label }) result self.old self.new }
     {
         let ractor = &mut self.ractors[place];
-        ractor.read(object, label)
+        ractor.read(object, label).reply()
     }
 
     // A ractor starts, and its inbox and its port with it.

@@ -1,7 +1,9 @@
 use Rattle.std.proofs.Common.{◌≡◌, ap, refl}
 use Rattle.rr_world.specs.Views.{Assembly}
+use Rattle.rr_world.specs.declared.step.Action.TheVariants.{Alloc}
 use Rattle.rr_world.proofs.Allocs.{allocated_by}
 use Rattle.rr_world.proofs.Insides.{read_at, set_in}
+use Rattle.rr_world.proofs.Staying.{replied}
 use Rattle.rr_world.proofs.world.World.alloc.Goals as goal
 
 pub returns : goal.returns
@@ -9,7 +11,8 @@ returns c =
     let w = c.args.self.now in
     let m = c.index_mut-ractor.result.now in
     let vs : c.self.inside.ractors.items ≡ w.ractors = ap (λ (v : Assembly). v.ractors) c.self.view_is in
-    allocated_by w _ c.args.who c.args.place m c.alloc.new.self c.args.new c.alloc.result
+    replied (record { who = c.args.who; action = Alloc c.args.new }) c.alloc.result _ w _ c.reply.ensures
+    (allocated_by w _ c.args.who c.args.place m c.alloc.new.self c.args.new c.alloc.result
     (read_at c.self.inside.ractors.items w.ractors c.args.place m vs c.requires.within c.index_mut-ractor.ensures.value)
     (set_in c.self.inside.ractors.items w.ractors c.args.place c.alloc.new.self c.alloc.new.self vs refl)
-    (ap (λ (v : Assembly). v.channels) c.self.view_is) c.requires.stands c.alloc.ensures
+    (ap (λ (v : Assembly). v.channels) c.self.view_is) c.requires.stands c.alloc.ensures)

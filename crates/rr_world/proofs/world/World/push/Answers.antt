@@ -1,7 +1,9 @@
 use Rattle.std.proofs.Common.{◌≡◌, ap, refl}
 use Rattle.rr_world.specs.Views.{Assembly}
+use Rattle.rr_world.specs.declared.step.Action.TheVariants.{Push}
 use Rattle.rr_world.proofs.Making.{pushed_by}
 use Rattle.rr_world.proofs.Insides.{read_at, set_in}
+use Rattle.rr_world.proofs.Staying.{replied}
 use Rattle.rr_world.proofs.world.World.push.Goals as goal
 
 pub returns : goal.returns
@@ -9,7 +11,8 @@ returns c =
     let w = c.args.self.now in
     let m = c.index_mut-ractor.result.now in
     let vs : c.self.inside.ractors.items ≡ w.ractors = ap (λ (v : Assembly). v.ractors) c.self.view_is in
-    pushed_by w _ c.args.who c.args.place m c.push.new.self c.args.array c.args.value c.push.result
+    replied (record { who = c.args.who; action = Push c.args.array c.args.value }) c.push.result _ w _ c.reply.ensures
+    (pushed_by w _ c.args.who c.args.place m c.push.new.self c.args.array c.args.value c.push.result
     (read_at c.self.inside.ractors.items w.ractors c.args.place m vs c.requires.within c.index_mut-ractor.ensures.value)
     (set_in c.self.inside.ractors.items w.ractors c.args.place c.push.new.self c.push.new.self vs refl)
-    (ap (λ (v : Assembly). v.channels) c.self.view_is) c.requires.stands c.push.ensures
+    (ap (λ (v : Assembly). v.channels) c.self.view_is) c.requires.stands c.push.ensures)

@@ -1,7 +1,9 @@
 use Rattle.std.proofs.Common.{◌≡◌, ap, refl}
 use Rattle.rr_world.specs.Views.{Assembly}
+use Rattle.rr_world.specs.declared.step.Action.TheVariants.{Read}
 use Rattle.rr_world.proofs.Reading.{read_of}
 use Rattle.rr_world.proofs.Insides.{read_at, set_in}
+use Rattle.rr_world.proofs.Staying.{replied}
 use Rattle.rr_world.proofs.world.World.read.Goals as goal
 
 pub returns : goal.returns
@@ -9,7 +11,8 @@ returns c =
     let w = c.args.self.now in
     let m = c.index_mut-ractor.result.now in
     let vs : c.self.inside.ractors.items ≡ w.ractors = ap (λ (v : Assembly). v.ractors) c.self.view_is in
-    read_of w _ c.args.who c.args.place m c.read.new.self c.args.object c.args.label c.read.result
+    replied (record { who = c.args.who; action = Read c.args.object c.args.label }) c.read.result _ w _ c.reply.ensures
+    (read_of w _ c.args.who c.args.place m c.read.new.self c.args.object c.args.label c.read.result
     (read_at c.self.inside.ractors.items w.ractors c.args.place m vs c.requires.within c.index_mut-ractor.ensures.value)
     (set_in c.self.inside.ractors.items w.ractors c.args.place c.read.new.self c.read.new.self vs refl)
-    (ap (λ (v : Assembly). v.channels) c.self.view_is) c.requires.stands c.read.ensures
+    (ap (λ (v : Assembly). v.channels) c.self.view_is) c.requires.stands c.read.ensures)
