@@ -1,7 +1,7 @@
 //! Equality of arrays and hashes.
 
 use rr_base::RactorNo;
-use rr_space::{Entries, Items, Key, Kind, Node, Ref, Space};
+use rr_space::{Cluster, Entries, Items, Key, Kind, Node, Ref, Sealed, Space};
 use rr_text::{Compared, compare, compare_within};
 use std::alloc::Global;
 use std::test::Fail;
@@ -35,6 +35,78 @@ fn table(alloc: Global, space: &mut Space, keys: &[i64]) -> Result<Ref, Fail> {
     Ok(hash)
 }
 
+/// Sets the key of these bytes in a hash, by a new frozen text.
+fn add_text(
+    alloc: Global,
+    space: &mut Space,
+    hash: Ref,
+    bytes: &[u8],
+    value: i64,
+) -> Result<(), Fail> {
+    let name = space.alloc(Node::Text(bytes.to_vec(alloc)?))?;
+    if space.can_freeze(name) {
+        space.freeze(name);
+    }
+    let key = Key::Text(bytes.to_vec(alloc)?);
+    if let Ref::Local(slot) = name
+        && (slot as usize) < space.len()
+        && space.is_key(name, &key)
+        && space.can_write(hash)
+        && space.kind_of(hash) == Kind::Hash
+    {
+        return Ok(space.write_pair(hash, key, name, Ref::Int(value))?);
+    }
+    Err(Fail::from("no hash that may be written"))
+}
+
+/// A hash with a text for each letter as its keys, whose values are the places of the letters in the alphabet.
+fn letters(alloc: Global, space: &mut Space, letters: &str) -> Result<Ref, Fail> {
+    let entries = Box::new(alloc, Entries::new(alloc))?;
+    let hash = space.alloc(Node::Hash(entries))?;
+    for letter in letters.bytes() {
+        add_text(alloc, space, hash, &[letter], i64::from(letter) - 96)?;
+    }
+    Ok(hash)
+}
+
+/// A published cluster: the text `a`, the text `b`, `{"b" => 2, "a" => 1}`, and `[{"b" => 2, "a" => 1}, "a"]`.
+fn published(alloc: Global) -> Result<&'static Cluster, Fail> {
+    let mut pairs = Vec::new(alloc);
+    pairs.push((Ref::Local(1), Ref::Int(2)))?;
+    pairs.push((Ref::Local(0), Ref::Int(1)))?;
+    let mut items = Vec::new(alloc);
+    items.push(Ref::Local(2))?;
+    items.push(Ref::Local(0))?;
+    let mut nodes = Vec::new(alloc);
+    nodes.push(Sealed::Text(b"a".to_vec(alloc)?))?;
+    nodes.push(Sealed::Text(b"b".to_vec(alloc)?))?;
+    nodes.push(Sealed::Hash(pairs))?;
+    nodes.push(Sealed::Array(items))?;
+    match Cluster::new(alloc, nodes)?.publish(alloc, 7) {
+        Ok(cluster) => Ok(cluster),
+        Err(_) => Err(Fail::from("not published")),
+    }
+}
+
+/// An array of one element.
+fn around(alloc: Global, space: &mut Space, element: Ref) -> Result<Ref, Fail> {
+    if let Ref::Local(slot) = element
+        && (slot as usize) < space.len()
+    {
+        return Ok(space.alloc(Node::Array(Items::one(alloc, element)))?);
+    }
+    Err(Fail::from("no element of the space"))
+}
+
+/// So many arrays, each the only element of the next; the last of them.
+fn nested(alloc: Global, space: &mut Space, count: usize) -> Result<Ref, Fail> {
+    let mut array = space.alloc(Node::Array(Items::new(alloc)))?;
+    for _ in 1..count {
+        array = around(alloc, space, array)?;
+    }
+    Ok(array)
+}
+
 fn compared(alloc: Global, space: &Space, left: Ref, right: Ref) -> Result<Compared, Fail> {
     Ok(compare(alloc, space, left, right)?)
 }
@@ -64,6 +136,53 @@ fn hashes_are_compared_whatever_their_order(rt: HostRuntime) -> Result<(), Fail>
     assert!(rt; compared(rt.alloc(), &space, one, other)? == Compared::Same);
     assert!(rt; compared(rt.alloc(), &space, one, less)? == Compared::Differs);
     assert!(rt; compared(rt.alloc(), &space, one, another)? == Compared::Differs);
+    Ok(())
+}
+
+#[test]
+fn hashes_are_compared_by_the_bytes_of_their_keys(rt: HostRuntime) -> Result<(), Fail> {
+    let mut space = Space::new(rt.alloc(), RactorNo(1), 100);
+    let one = letters(rt.alloc(), &mut space, "abc")?;
+    let other = letters(rt.alloc(), &mut space, "cab")?;
+    let another = letters(rt.alloc(), &mut space, "abd")?;
+    let less = letters(rt.alloc(), &mut space, "ab")?;
+    assert!(rt; compared(rt.alloc(), &space, one, other)? == Compared::Same);
+    assert!(rt; compared(rt.alloc(), &space, one, another)? == Compared::Differs);
+    assert!(rt; compared(rt.alloc(), &space, one, less)? == Compared::Differs);
+    assert!(rt; compared(rt.alloc(), &space, less, one)? == Compared::Differs);
+    let numbered = table(rt.alloc(), &mut space, &[97, 98, 99])?;
+    assert!(rt; compared(rt.alloc(), &space, one, numbered)? == Compared::Differs);
+    Ok(())
+}
+
+#[test]
+fn published_containers_are_compared_with_own_ones(rt: HostRuntime) -> Result<(), Fail> {
+    let cluster = published(rt.alloc())?;
+    let mut space = Space::new(rt.alloc(), RactorNo(1), 100);
+    let own = letters(rt.alloc(), &mut space, "ab")?;
+    let other = letters(rt.alloc(), &mut space, "ac")?;
+    let hash = Ref::Shared(2, cluster);
+    let array = Ref::Shared(3, cluster);
+    assert!(rt; compared(rt.alloc(), &space, own, hash)? == Compared::Same);
+    assert!(rt; compared(rt.alloc(), &space, hash, own)? == Compared::Same);
+    assert!(rt; compared(rt.alloc(), &space, hash, hash)? == Compared::Same);
+    assert!(rt; compared(rt.alloc(), &space, other, hash)? == Compared::Differs);
+    assert!(rt; compared(rt.alloc(), &space, hash, other)? == Compared::Differs);
+    assert!(rt; compared(rt.alloc(), &space, array, hash)? == Compared::Differs);
+    Ok(())
+}
+
+#[test]
+fn many_levels_are_compared(rt: HostRuntime) -> Result<(), Fail> {
+    let mut space = Space::new(rt.alloc(), RactorNo(1), 10_000);
+    let one = nested(rt.alloc(), &mut space, 1_000)?;
+    let other = nested(rt.alloc(), &mut space, 1_000)?;
+    let same = compare_within(rt.alloc(), &space, 1_000, one, other)?;
+    assert!(rt; same == Compared::Same);
+    let deep = compare_within(rt.alloc(), &space, 999, one, other)?;
+    assert!(rt; deep == Compared::Deep);
+    let itself = compare_within(rt.alloc(), &space, 999, one, one)?;
+    assert!(rt; itself == Compared::Same);
     Ok(())
 }
 
