@@ -98,6 +98,10 @@ Integer name => \"Integer\" | Integer
 7 name => undefined method 'name' for an instance of Integer | 7
 error message => \"TypeError\" | #<TypeError: TypeError>
 error cause => nil | #<TypeError: TypeError>
+remote ractor => #<Ractor:#3> | #<Ractor::RemoteError: Ractor::RemoteError>
+remote ractor 1 => wrong number of arguments (given 1, expected 0) (ArgumentError) | #<Ractor::RemoteError: Ractor::RemoteError>
+error ractor => undefined method 'ractor' for an instance of TypeError | #<TypeError: TypeError>
+7 ractor => undefined method 'ractor' for an instance of Integer | 7
 error to_s => \"TypeError\" | #<TypeError: TypeError>
 error == 1 => false | #<TypeError: TypeError>
 ' empty? => true | \"\"

@@ -3,7 +3,7 @@
 ghost use Rattle.std.specs.Prelude.{length, IfOk};
 ghost use Rattle.rr_space.specs.Parts.{IsWithin};
 
-use rr_base::{ClassId, Sym};
+use rr_base::{ClassId, RactorNo, Sym};
 use rr_space::{Entries, Items, Key, Kind, Node, Raised, Ref, Space};
 use std::alloc::Global;
 use std::test::Fail;
@@ -98,15 +98,15 @@ fn shell(alloc: Global, space: &mut Space) -> Result<Ref, Fail> {
     Ok(value)
 }
 
-/// An exception without a message of its own.
-fn exception(alloc: Global, space: &mut Space) -> Result<Ref, Fail> {
+/// An exception of the class, without a message of its own, which says that ractor 3 ended.
+fn exception(alloc: Global, space: &mut Space, class: ClassId) -> Result<Ref, Fail> {
     let raised = Raised {
         message: Ref::Nil,
         cause: Ref::Nil,
-        ractor: Ref::Nil,
+        ractor: Ref::Ractor(RactorNo(3)),
         fields: Vec::new(alloc),
     };
-    Ok(space.alloc(Node::Exception(ClassId::TYPE_ERROR, Box::new(alloc, raised)?))?)
+    Ok(space.alloc(Node::Exception(class, Box::new(alloc, raised)?))?)
 }
 
 fn unfrozen(alloc: Global, space: &mut Space, word: &str) -> Result<Ref, Fail> {
@@ -123,7 +123,8 @@ fn unfrozen(alloc: Global, space: &mut Space, word: &str) -> Result<Ref, Fail> {
         "nil" => Ok(Ref::Nil),
         "true" => Ok(Ref::Truth(true)),
         "false" => Ok(Ref::Truth(false)),
-        "error" => exception(alloc, space),
+        "error" => exception(alloc, space, ClassId::TYPE_ERROR),
+        "remote" => exception(alloc, space, ClassId::REMOTE_ERROR),
         "shell" => shell(alloc, space),
         "Integer" => Ok(Ref::Class(ClassId::INTEGER)),
         "String" => Ok(Ref::Class(ClassId::STRING)),

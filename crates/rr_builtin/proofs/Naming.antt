@@ -62,6 +62,7 @@ names_are_one (Content content.Sort) = refl
 names_are_one (Telling telling.Name) = refl
 names_are_one (Telling telling.Message) = refl
 names_are_one (Telling telling.Cause) = refl
+names_are_one (Telling telling.Ractor) = refl
 names_are_one New = refl
 
 -- a method that is taken only where a test holds

@@ -9,7 +9,8 @@ use Rattle.rr_base.specs.declared.limits.TheConstants.Limits.{DEFAULT}
 use Rattle.rr_text.specs.Walk.{Walked, Wrote, Differs, Deep, Shell}
 use Rattle.rr_text.specs.Keys.{reading}
 use Rattle.rr_text.specs.Comparing.{compared}
-use Rattle.rr_space.specs.Kinds.{kind_at}
+use Rattle.rr_space.specs.Kinds.{kind_at, class_at}
+use Rattle.rr_base.specs.declared.name.TheConstants.ClassId.{REMOTE_ERROR}
 use Rattle.rr_space.specs.declared.kind.Kind.{Kind}
 use Rattle.rr_space.specs.declared.kind.Kind.TheVariants as kind
 use Rattle.rr_space.specs.declared.refer.Ref.{Ref}
@@ -19,7 +20,7 @@ use Rattle.rr_tree.specs.declared.node.BinaryOperator.TheVariants.{Add, Compare,
 use Rattle.rr_tree.specs.declared.program.Program.{Program}
 use Rattle.rr_text.specs.Forms.{Names, spoken}
 use Rattle.rr_builtin.specs.declared.method.TellingMethod.{TellingMethod}
-use Rattle.rr_builtin.specs.declared.method.TellingMethod.TheVariants.{Name, Message, Cause}
+use Rattle.rr_builtin.specs.declared.method.TellingMethod.TheVariants.{Name, Message, Cause, Ractor}
 use Rattle.rr_text.specs.Names.{names_of}
 use Rattle.rr_builtin.specs.declared.problem.Problem.TheVariants.{Moved, Count, TooDeep}
 use Rattle.rr_builtin.specs.declared.method.NumberMethod.{NumberMethod}
@@ -32,7 +33,8 @@ use Rattle.rr_builtin.specs.Texts.{text_operator, ordered}
 use Rattle.rr_builtin.specs.Containers.{content_act}
 use Rattle.rr_builtin.specs.Arrays.{array_sum}
 use Rattle.rr_builtin.specs.News.{may_make, takes_message, new_act}
-use Rattle.rr_builtin.specs.Kinds.{is_shell_kind, has, is_new, count_of}
+use Rattle.rr_builtin.specs.Kinds.{is_shell_kind, has, is_new, is_of_remote_errors, count_of}
+use Rattle.rr_builtin.specs.Classes.{descends}
 
 -- `==` and `!=` of values that are equal or not
 abbrev pub equality : BinaryOperator → Bool → Act
@@ -87,11 +89,12 @@ abbrev pub number_act : NumberMethod → Ref → Act
 number_act m (Int x) = Answers (outcome_of (number_answer m x))
 number_act m v = Answers Lacks
 
--- the name of a class, and the message and the cause of an exception, which are the first things that it leads to
+-- the name of a class, and the message, the cause and the ractor of an exception, which are the first things that it leads to
 abbrev pub telling_act : Names → Below → TellingMethod → Ref → Table → Act
 telling_act names below Name v t = told (printed_text names below spoken t v)
 telling_act names below Message v t = told (printed_text names below spoken t v)
 telling_act names below Cause v t = Answers (Gives (element_at t v 1))
+telling_act names below Ractor v t = Answers (Gives (element_at t v 2))
 
 -- what a method does that the receiver has, with its first two arguments
 abbrev pub method_act : Program → Below → BuiltInMethod → Ref → Ref → Ref → Table → Act
@@ -102,9 +105,9 @@ method_act p below (Content m) v a b t = content_act below (kind_at t v) m v a b
 method_act p below (Telling m) v a b t = telling_act (names_of p) below m v t
 method_act p below New v a b t = new_act p v a
 
--- whether a value of the kind has the method: `new` is not a method of each class
-abbrev pub responds : Program → Kind → Ref → BuiltInMethod → Bool
-responds p k v m = has k m && (not (is_new m) || may_make p v)
+-- whether a value of the kind has the method: `new` is not a method of each class, nor `ractor` of each exception
+abbrev pub responds : Program → Table → Kind → Ref → BuiltInMethod → Bool
+responds p t k v m = (has k m && (not (is_new m) || may_make p v)) && (not (is_of_remote_errors m) || descends p (class_at t v).0 REMOTE_ERROR.0)
 
 -- how many arguments the method takes at most
 abbrev pub most_of : Program → Ref → BuiltInMethod → ℕ
@@ -118,7 +121,7 @@ is_between least most n = not (nat_lt n least) && not (nat_lt most n)
 abbrev pub call_act : Program → Below → Ref → BuiltInMethod → List Ref → Table → Act
 call_act p below v m args t =
     if is_shell_kind (kind_at t v) then Answers (Raises Moved) else
-    if responds p (kind_at t v) v m then
+    if responds p t (kind_at t v) v m then
     (if is_between (count_of m) (most_of p v m) (length args) then method_act p below m v (slice_index_or args 0 Nil) (slice_index_or args 1 Nil) t else Answers (Raises (Count (length args) (count_of m) (most_of p v m))))
     else Answers Lacks
 

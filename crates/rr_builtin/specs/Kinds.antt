@@ -122,6 +122,7 @@ abbrev pub has_telling : Kind → TellingMethod → Bool
 has_telling k telling.Name = is_class k
 has_telling k telling.Message = is_exception k
 has_telling k telling.Cause = is_exception k
+has_telling k telling.Ractor = is_exception k
 
 -- all have but `dup`, which hashes and objects with fields have not
 abbrev pub has_object : Kind → ObjectMethod → Bool
@@ -160,6 +161,21 @@ is_new (Object m) = false
 is_new (Content m) = false
 is_new (Telling m) = false
 is_new New = true
+
+abbrev pub asks_ractor : TellingMethod → Bool
+asks_ractor telling.Name = false
+asks_ractor telling.Message = false
+asks_ractor telling.Cause = false
+asks_ractor telling.Ractor = true
+
+-- whether remote errors alone have the method
+abbrev pub is_of_remote_errors : BuiltInMethod → Bool
+is_of_remote_errors (Operator op) = false
+is_of_remote_errors (Number m) = false
+is_of_remote_errors (Object m) = false
+is_of_remote_errors (Content m) = false
+is_of_remote_errors (Telling m) = asks_ractor m
+is_of_remote_errors New = false
 
 -- how many arguments the method takes at least
 abbrev pub count_of : BuiltInMethod → ℕ

@@ -74,6 +74,7 @@ abbrev pub telling_name : TellingMethod → List ℕ
 telling_name telling.Name = codes "name"
 telling_name telling.Message = codes "message"
 telling_name telling.Cause = codes "cause"
+telling_name telling.Ractor = codes "ractor"
 
 abbrev pub method_name : BuiltInMethod → List ℕ
 method_name (Operator m) = operator_name m
@@ -101,7 +102,7 @@ content_methods = Content content.Size ∷ Content content.Length ∷ Content co
     ∷ Content content.SetAt ∷ Content content.Keys ∷ Content content.Values ∷ Content content.HasKey ∷ Content content.Delete ∷ Content content.Sum ∷ Content content.Sort ∷ []
 
 abbrev pub telling_methods : List BuiltInMethod
-telling_methods = Telling telling.Name ∷ Telling telling.Message ∷ Telling telling.Cause ∷ New ∷ []
+telling_methods = Telling telling.Name ∷ Telling telling.Message ∷ Telling telling.Cause ∷ Telling telling.Ractor ∷ New ∷ []
 
 -- the first of these methods that has the name
 abbrev pub named_among : List ℕ → List BuiltInMethod → Option BuiltInMethod

@@ -13,16 +13,17 @@ ghost use Rattle.rr_builtin.specs.Calls.{compared_at, walked_equality, container
 
 use crate::arrays::sum_of_arrays;
 use crate::built::Built;
+use crate::classes::descends;
 use crate::contents::{content_deed, element_at};
 use crate::deed::{Deed, perform};
-use crate::kinds::{count_of, has, is_new, is_shell_kind};
+use crate::kinds::{count_of, has, is_new, is_of_remote_errors, is_shell_kind};
 use crate::method::{BuiltInMethod, NumberMethod, TellingMethod};
 use crate::news::{may_make, new_deed, takes_message};
 use crate::numbers::{number_answer, on_integer};
 use crate::objects::{is_equal, object_deed, raise, told, truth};
 use crate::problem::Problem;
 use crate::texts::{order_of, ordered, text_operator};
-use rr_base::{Fault, Sym};
+use rr_base::{ClassId, Fault, Sym};
 use rr_space::{Kind, Ref, Space};
 use rr_text::{Compared, Form, compare, symbol_name};
 use rr_tree::{BinaryOperator, Program};
@@ -215,6 +216,7 @@ fn telling_deed(
         TellingMethod::Name => told(alloc, space, program, value, Form::ToS),
         TellingMethod::Message => told(alloc, space, program, value, Form::ToS),
         TellingMethod::Cause => Ok(Deed::Answer(element_at(space, value, 1))),
+        TellingMethod::Ractor => Ok(Deed::Answer(element_at(space, value, 2))),
     }
 }
 
@@ -254,10 +256,13 @@ fn method_deed(
 }
 
 /// Whether a value of the kind has the method.
-fn responds(program: &Program, kind: Kind, value: Ref, method: BuiltInMethod) -> bool
-    ensures { result ≡ responds program.now kind value method }
+fn responds(space: &Space, program: &Program, kind: Kind, value: Ref, method: BuiltInMethod) -> bool
+    ensures { result ≡ responds program.now space.now kind value method }
 {
-    has(kind, method) && (!is_new(method) || may_make(program, value))
+    has(kind, method)
+        && (!is_new(method) || may_make(program, value))
+        && (!is_of_remote_errors(method)
+            || descends(program, space.class_of(value), ClassId::REMOTE_ERROR))
 }
 
 /// How many arguments the method takes at most.
@@ -298,7 +303,7 @@ fn call_deed(
     if is_shell_kind(kind) {
         return Ok(raise(Problem::Moved));
     }
-    if !responds(program, kind, receiver, method) {
+    if !responds(space, program, kind, receiver, method) {
         return Ok(Deed::Answer(Built::Missing));
     }
     let least = count_of(method);

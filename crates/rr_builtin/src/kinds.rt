@@ -1,7 +1,7 @@
 //! Which methods the values of a kind have, and how many arguments they take.
 
 ghost use Rattle.std.specs.Prelude.{◌≡◌};
-ghost use Rattle.rr_builtin.specs.Kinds.{is_shell_kind, is_integer_kind, is_array_kind, is_added, has_order, has_operator, has_size, is_text_kind, is_appended, is_joined, is_hash, is_container, is_copied, has_object, has_content, is_class, is_exception, has_telling, has, object_count, content_count, is_new, count_of};
+ghost use Rattle.rr_builtin.specs.Kinds.{is_shell_kind, is_integer_kind, is_array_kind, is_added, has_order, has_operator, has_size, is_text_kind, is_appended, is_joined, is_hash, is_container, is_copied, has_object, has_content, is_class, is_exception, has_telling, has, object_count, content_count, is_new, is_of_remote_errors, asks_ractor, count_of};
 
 use crate::method::{BuiltInMethod, ContentMethod, ObjectMethod, TellingMethod};
 use rr_space::Kind;
@@ -208,6 +208,7 @@ fn has_telling(kind: Kind, method: TellingMethod) -> bool
         TellingMethod::Name => is_class(kind),
         TellingMethod::Message => is_exception(kind),
         TellingMethod::Cause => is_exception(kind),
+        TellingMethod::Ractor => is_exception(kind),
     }
 }
 
@@ -261,6 +262,31 @@ pub(crate) fn is_new(method: BuiltInMethod) -> bool
         BuiltInMethod::Content(_) => false,
         BuiltInMethod::Telling(_) => false,
         BuiltInMethod::New => true,
+    }
+}
+
+/// Whether remote errors alone have the method.
+pub(crate) fn is_of_remote_errors(method: BuiltInMethod) -> bool
+    ensures { result ≡ is_of_remote_errors method }
+{
+    match method {
+        BuiltInMethod::Operator(_) => false,
+        BuiltInMethod::Number(_) => false,
+        BuiltInMethod::Object(_) => false,
+        BuiltInMethod::Content(_) => false,
+        BuiltInMethod::Telling(method) => asks_ractor(method),
+        BuiltInMethod::New => false,
+    }
+}
+
+fn asks_ractor(method: TellingMethod) -> bool
+    ensures { result ≡ asks_ractor method }
+{
+    match method {
+        TellingMethod::Name => false,
+        TellingMethod::Message => false,
+        TellingMethod::Cause => false,
+        TellingMethod::Ractor => true,
     }
 }
 

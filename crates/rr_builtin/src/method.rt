@@ -57,6 +57,8 @@ pub enum TellingMethod {
     Name,
     Message,
     Cause,
+    /// The ractor that ended by it, of a remote error alone.
+    Ractor,
 }
 
 /// A built-in method that calls no block.

@@ -146,6 +146,8 @@ fn telling_method_named(name: &[u8]) -> Option<BuiltInMethod>
         TellingMethod::Message
     } else if name == b"cause".as_slice() {
         TellingMethod::Cause
+    } else if name == b"ractor".as_slice() {
+        TellingMethod::Ractor
     } else if name == b"new".as_slice() {
         return Some(BuiltInMethod::New);
     } else {

@@ -13,12 +13,12 @@ use Rattle.rr_builtin.proofs.Among.{on_if_ok, among_of}
 use Rattle.rr_builtin.proofs.calls.call_deed.Goals as goal
 
 -- what is called where nothing stands against it
-call_is : (p : Program) (below : Below) (v : Ref) (m : BuiltInMethod) (args : List Ref) (t : Table) → is_shell_kind (kind_at t v) ≡ false → responds p (kind_at t v) v m ≡ true
+call_is : (p : Program) (below : Below) (v : Ref) (m : BuiltInMethod) (args : List Ref) (t : Table) → is_shell_kind (kind_at t v) ≡ false → responds p t (kind_at t v) v m ≡ true
     → is_between (count_of m) (most_of p v m) (length args) ≡ true → method_act p below m v (slice_index_or args 0 Nil) (slice_index_or args 1 Nil) t ≡ call_act p below v m args t
 call_is p below v m args t whole there fits =
     let act : Act = method_act p below m v (slice_index_or args 0 Nil) (slice_index_or args 1 Nil) t in
     let counted : Bool → Act = λ b. if b then act else Answers (Raises (Count (length args) (count_of m) (most_of p v m))) in
-    sym (ap (λ b. if b then Answers (Raises Moved) else (if responds p (kind_at t v) v m then counted (is_between (count_of m) (most_of p v m) (length args)) else Answers Lacks)) whole
+    sym (ap (λ b. if b then Answers (Raises Moved) else (if responds p t (kind_at t v) v m then counted (is_between (count_of m) (most_of p v m) (length args)) else Answers Lacks)) whole
     ∙ ap (λ b. if b then counted (is_between (count_of m) (most_of p v m) (length args)) else Answers Lacks) there
     ∙ ap counted fits)
 
@@ -30,7 +30,7 @@ returns-clause-act c =
     let args = c.args.arguments.now in
     let t = c.args.space.now in
     let whole : is_shell_kind (kind_at t v) ≡ false = ap is_shell_kind (sym c.kind_of-kind.ensures) ∙ sym c.is_shell_kind.ensures ∙ c.if-is_shell_kind.false in
-    let there : responds p (kind_at t v) v m ≡ true = ap (λ k. responds p k v m) (sym c.kind_of-kind.ensures) ∙ sym c.responds.ensures ∙ c.if-not-responds.false in
+    let there : responds p t (kind_at t v) v m ≡ true = ap (λ k. responds p t k v m) (sym c.kind_of-kind.ensures) ∙ sym c.responds.ensures ∙ c.if-not-responds.false in
     let fits : is_between (count_of m) (most_of p v m) (length args) ≡ true =
     ap (λ (n : ℕ). is_between n (most_of p v m) (length args)) (sym c.count_of-least.ensures) ∙ ap (λ (n : ℕ). is_between c.count_of-least.result n (length args)) (sym c.most_of-most.ensures)
     ∙ sym c.is_between.ensures ∙ c.if-not-is_between.false in
