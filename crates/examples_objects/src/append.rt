@@ -1,8 +1,8 @@
 //! Objects that come into a space behind those that are there.
 
-ghost use Rattle.std.specs.Prelude.{◌≡◌, length, IfOk};
-ghost use Rattle.rr_space.specs.Views.{AllCarriedWithin};
-ghost use Rattle.rr_space.specs.Views.{IsNodeWithin};
+ghost use Rattle.std.specs.Prelude.{◌≡◌, length, map, IfOk};
+ghost use Rattle.rr_space.specs.Parts.{field_part, raised_parts};
+ghost use Rattle.rr_space.specs.Views.{AllCarriedWithin, AllWithin, IsNodeWithin};
 
 use rr_base::{ClassId, Fault, LimitKind, RactorNo, Sym};
 use rr_space::{Carried, Entries, Items, Key, Kind, Name, Node, Raised, Ref, Space};
@@ -37,16 +37,30 @@ fn object(alloc: Global) -> Result<Node, Fail>
     Ok(Node::Object(ClassId::ARRAY, fields))
 }
 
-fn exception(alloc: Global) -> Result<Node, Fail>
-    ensures { IfOk result (λ n. IsNodeWithin 6 n) }
+fn fields(alloc: Global) -> Result<Vec<(Sym, Ref)>, Fail>
+    ensures { IfOk result (λ v. AllWithin 6 (map field_part v.items)) }
+{
+    Ok(vec![in alloc; (Sym(3), Ref::Local(3))]?)
+}
+
+fn raised(alloc: Global, fields: Vec<(Sym, Ref)>) -> Result<Box<Raised>, Fail>
+    requires { AllWithin 6 (map field_part fields.items) }
+    ensures { IfOk result (λ r. AllWithin 6 (raised_parts r.value)) }
 {
     let raised = Raised {
         message: Ref::Local(0),
         cause: Ref::Nil,
         ractor: Ref::Nil,
-        fields: vec![in alloc; (Sym(3), Ref::Local(3))]?,
+        fields,
     };
-    Ok(Node::Exception(ClassId::STRING, Box::new(alloc, raised)?))
+    Ok(Box::new(alloc, raised)?)
+}
+
+fn exception(alloc: Global) -> Result<Node, Fail>
+    ensures { IfOk result (λ n. IsNodeWithin 6 n) }
+{
+    let fields = fields(alloc)?;
+    Ok(Node::Exception(ClassId::STRING, raised(alloc, fields)?))
 }
 
 /// One object of each kind, and a short array; they lead to one another.
