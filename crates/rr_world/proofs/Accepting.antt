@@ -1,5 +1,5 @@
 -- The first message of an inbox comes into a hand.
-use Rattle.std.proofs.Common.{◌≡◌, ℕ, suc, ⊎_elim, inr, List, [], ◌∷◌, ◌++◌, map, Some, slice_get, sym, ap, ◌∙◌, refl, arith, true, false, Contains, subst, length}
+use Rattle.std.proofs.Common.{◌≡◌, ℕ, suc, ⊎_elim, inr, List, [], ◌∷◌, ◌++◌, map, Some, slice_get, sym, ap, ◌∙◌, refl, arith, true, false, Contains, subst}
 use Rattle.std.specs.Prelude.{slice_set}
 use Rattle.std.specs.Option.{option_map, option_and_then}
 use Rattle.std.proofs.lemmas.Option.{slice_get_within}
@@ -115,7 +115,7 @@ module _ (w w2 : Assembly) (who : RactorNo) (k : ℕ) (m : Member) (i : Inbox) (
             },
           ),
         ),
-        one_renamed (Hand k) (length w.ractors) (record { who = who; action = Accept }) N stands,
+        one_renamed w (Hand k) (record { who = who; action = Accept }) N stands (λ j e. let z : ⊥ = cc in z),
       )
 
 -- nothing is inside

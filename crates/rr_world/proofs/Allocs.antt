@@ -37,7 +37,7 @@ use Rattle.rr_world.proofs.Namings.{actor_same, same_actor, post_same, hand_same
 use Rattle.rr_world.proofs.Knowing.{read_set}
 use Rattle.rr_world.proofs.Enabled.{actor_at}
 use Rattle.rr_world.proofs.Insides.{set_again, same_assembly}
-use Rattle.rr_world.proofs.Staying.{stays, same_state, one_renamed}
+use Rattle.rr_world.proofs.Staying.{stays, same_state, space_renamed}
 use Rattle.rr_world.proofs.Rooting.{roots_keep}
 use Rattle.rr_world.proofs.Fitting.{waits_same}
 
@@ -264,7 +264,7 @@ module _ (w w2 : Assembly) (k : ℕ) (m m2 : Member) (kind : NewObject) (at : sl
             post = ap (post_in names2) is ∙ post_same names names2 w.channels mails shows kept;
           },
         ),
-        one_renamed (Space k) (length w.ractors) (record { who = who; action = Alloc kind }) N stands,
+        space_renamed w k m (record { who = who; action = Alloc kind }) at N stands (stand names bound g R names2 q.1 q.2 N q.4),
       )
 
 -- whatever an alloc answers

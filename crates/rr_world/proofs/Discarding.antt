@@ -57,5 +57,5 @@ module _ (w w2 : Assembly) (k : ℕ) (m : Member) (p : Packed) (at : slice_get w
             post = ap (post_in names) is;
           },
         ),
-        λ h off. refl,
+        record { others = λ h off. refl; slots = λ j x i there lt off. refl },
       )

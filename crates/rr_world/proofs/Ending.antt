@@ -1,5 +1,5 @@
 -- A ractor ends.
-use Rattle.std.proofs.Common.{◌≡◌, ℕ, ◌+◌, ⊎_elim, inl, inr, Bool, true, false, cond, [], length, map, Some, None, slice_get, sym, ap, ◌∙◌, refl, arith}
+use Rattle.std.proofs.Common.{◌≡◌, ℕ, ◌+◌, ⊎_elim, inl, inr, Bool, true, false, cond, [], length, map, Some, None, slice_get, sym, ap, ◌∙◌, refl, arith, subst}
 use Rattle.std.specs.Prelude.{slice_set}
 use Rattle.std.specs.Option.{option_map, option_and_then}
 use Rattle.std.proofs.lemmas.Option.{none-some, slice_get_within}
@@ -25,7 +25,7 @@ use Rattle.rr_world.proofs.Lists.{set_at, set_off, each_set}
 use Rattle.rr_world.proofs.Namings.{actor_same, same_actor, post_same}
 use Rattle.rr_world.proofs.Starting.{bare_knows, remade_empty}
 use Rattle.rr_world.proofs.Fitting.{waits_homeless}
-use Rattle.rr_world.proofs.Staying.{one_renamed}
+use Rattle.rr_world.specs.Naming.{IsRenamed}
 
 -- the same tables, without that of one owner
 abbrev without : Owner → Layout → Layout
@@ -146,5 +146,5 @@ module _ (w w2 : Assembly) (k : ℕ) (m m2 : Member) (at : slice_get w.ractors k
             post = ap (post_in names2) is ∙ post_same names names2 w.channels mails shows kept;
           },
         ),
-        one_renamed (Space k) (length w.ractors) (record { who = who; action = End }) N stands,
+        record { others = λ h off. N.rest h (λ e. off (subst (IsRenamed (length w.ractors) who End) (sym e) stands)); slots = λ j x i there lt off. absurd (off refl) },
       )

@@ -42,7 +42,7 @@ use Rattle.rr_world.proofs.Insides.{set_again, same_assembly}
 use Rattle.rr_world.proofs.Published.{at_place, in_place}
 use Rattle.rr_world.proofs.Operands.{value_named, known_named, ref_within}
 use Rattle.rr_world.proofs.Rewrites.{rewritten}
-use Rattle.rr_world.proofs.Staying.{stays_read, same_state, one_renamed}
+use Rattle.rr_world.proofs.Staying.{stays_read, same_state, space_renamed}
 
 -- a root's value is an immediate or one that the roots reach
 root_reached : (g : Objects) (names : Naming) (h : Owner) (rs : List Ref) (v : Ref) → Contains rs v → IsNewValue g (map (root_in names h) rs) (root_in names h v)
@@ -155,6 +155,7 @@ module _ (w w2 : Assembly) (k : ℕ) (m m2 : Member) (at : slice_get w.ractors k
       → ((o : Object) → named names (Space k) (raw o) ≡ change (named names (Space k) o))
       → (names2 : Naming) × (bound2 : ℕ) × (g2 : Objects) × IsRead w2 names2 bound2 g2
       × IsMade k (actor_in names k m) op may change (state_in w names g) (state_in w2 names2 g2) × IsNamed (Space k) names names2
+      × ((i : ℕ) → i < length m.space.slots → slice_index (names2 (Space k)) i ≡ slice_index (names (Space k)) i)
   making op may raw change v (n, o, slot, holds, A) names bound g R K rooted keeps shut values same =
       let q = rewritten w w2 k n m m2 o (raw o) v at slot.here A rs is (values o) names bound g R K (shut o holds) rooted in
       let now : named q.0 (Space k) (raw o) ≡ change (named names (Space k) o) = named_same (name_in q.0 (Space k)) (name_in names (Space k)) (raw o) q.5 ∙ same o in
@@ -178,6 +179,7 @@ module _ (w w2 : Assembly) (k : ℕ) (m m2 : Member) (at : slice_get w.ractors k
           },
         ),
         q.6,
+        q.7,
       )
 
 frozen_same : (o : Object) → IsNoShell o → (o.frozen ≡ true) ⊎ (o.kind ≡ shell) → frozen o ≡ o
@@ -256,7 +258,7 @@ pub frozen_by : (w w2 : Assembly) (who : RactorNo) (k : ℕ) (m m2 : Member) (op
     → StandsAt who k → Freezes op r m m2 → HasOutcome (record { who = who; action = Freeze op }) (reply_of r) w w2
 frozen_by w w2 who k m m2 op outcome.Done at rs is stands a = λ names bound g R.
     let q = making w w2 k m m2 at rs is op IsNoShell frozen frozen ref.Nil a names bound g R (no_below (layout w)) tt (λ o whole. whole) (λ o whole shut. frozen_same o whole shut) (λ o l x has. inl (l, has)) (λ o. refl) in
-    (q.0, q.1, q.2, q.3, (k, actor_in names k m, stands, actor_at w names g k m at, may_on w names bound g R k m at who op IsNoShell stands (λ o whole. whole) (a.0, a.1, a.2, a.3), q.4), one_renamed (Space k) (length w.ractors) (record { who = who; action = Freeze op }) q.5 stands)
+    (q.0, q.1, q.2, q.3, (k, actor_in names k m, stands, actor_at w names g k m at, may_on w names bound g R k m at who op IsNoShell stands (λ o whole. whole) (a.0, a.1, a.2, a.3), q.4), space_renamed w k m (record { who = who; action = Freeze op }) at q.5 stands q.6)
 frozen_by w w2 who k m m2 op outcome.NotEnabled at rs is stands a =
     unmade w w2 who k m m2 (Freeze op) at rs is a.2 (λ names bound g R e.
     a.1 (may_back w names bound g R k m at who op IsNoShell stands a.0 (λ o whole. whole) (allowed w names g (record { who = who; action = Freeze op }) k m stands at e)))
@@ -268,7 +270,7 @@ pub appended_by : (w w2 : Assembly) (who : RactorNo) (k : ℕ) (m m2 : Member) (
 appended_by w w2 who k m m2 op byte outcome.Done at rs is stands a = λ names bound g R.
     let q = making w w2 k m m2 at rs is op (IsOpen text) (appended byte) (appended byte) ref.Nil a names bound g R (no_below (layout w)) tt (λ o whole. whole)
     (λ o opened shut. open_never text o (appended byte o) text_differs opened shut) (λ o l x has. inl (l, has)) (λ o. refl) in
-    (q.0, q.1, q.2, q.3, (k, actor_in names k m, stands, actor_at w names g k m at, may_on w names bound g R k m at who op (IsOpen text) stands (λ o whole. whole) (a.0, a.1, a.2, a.3), q.4), one_renamed (Space k) (length w.ractors) (record { who = who; action = Append op byte }) q.5 stands)
+    (q.0, q.1, q.2, q.3, (k, actor_in names k m, stands, actor_at w names g k m at, may_on w names bound g R k m at who op (IsOpen text) stands (λ o whole. whole) (a.0, a.1, a.2, a.3), q.4), space_renamed w k m (record { who = who; action = Append op byte }) at q.5 stands q.6)
 appended_by w w2 who k m m2 op byte outcome.NotEnabled at rs is stands a =
     unmade w w2 who k m m2 (Append op byte) at rs is a.2 (λ names bound g R e.
     a.1 (may_back w names bound g R k m at who op (IsOpen text) stands a.0 (λ o whole. whole) (allowed w names g (record { who = who; action = Append op byte }) k m stands at e)))
@@ -295,7 +297,7 @@ pushed_by w w2 who k m m2 op value outcome.Done at rs is stands (v, is_named, a)
         (may_on w names bound g R k m at who op (IsOpen array) stands (λ o whole. whole) (a.0, a.1, a.2, a.3), (root_in names (Space k) v, value_on w names bound g R k m at value v is_named)),
         (root_in names (Space k) v, value_on w names bound g R k m at value v is_named, q.4),
       ),
-      one_renamed (Space k) (length w.ractors) (record { who = who; action = Push op value }) q.5 stands,
+      space_renamed w k m (record { who = who; action = Push op value }) at q.5 stands q.6,
     )
 pushed_by w w2 who k m m2 op value outcome.NotEnabled at rs is stands a =
     unmade w w2 who k m m2 (Push op value) at rs is a.2 (λ names bound g R e.
@@ -330,7 +332,7 @@ written_by w w2 who k m m2 op i value outcome.Done at rs is stands (v, is_named,
         (may_on w names bound g R k m at who op (HasElement i) stands (λ o has. has_on names (Space k) i o has) (a.0, a.1, a.2, a.3), (root_in names (Space k) v, value_on w names bound g R k m at value v is_named)),
         (root_in names (Space k) v, value_on w names bound g R k m at value v is_named, q.4),
       ),
-      one_renamed (Space k) (length w.ractors) (record { who = who; action = Write op i value }) q.5 stands,
+      space_renamed w k m (record { who = who; action = Write op i value }) at q.5 stands q.6,
     )
 written_by w w2 who k m m2 op i value outcome.NotEnabled at rs is stands a =
     unmade w w2 who k m m2 (Write op i value) at rs is a.2 (λ names bound g R e.
@@ -357,7 +359,7 @@ set_by w w2 who k m m2 op name value outcome.Done at rs is stands (v, is_named, 
         (may_on w names bound g R k m at who op (IsOpen plain) stands (λ o whole. whole) (a.0, a.1, a.2, a.3), (root_in names (Space k) v, value_on w names bound g R k m at value v is_named)),
         (root_in names (Space k) v, value_on w names bound g R k m at value v is_named, q.4),
       ),
-      one_renamed (Space k) (length w.ractors) (record { who = who; action = SetField op name value }) q.5 stands,
+      space_renamed w k m (record { who = who; action = SetField op name value }) at q.5 stands q.6,
     )
 set_by w w2 who k m m2 op name value outcome.NotEnabled at rs is stands a =
     unmade w w2 who k m m2 (SetField op name value) at rs is a.2 (λ names bound g R e.

@@ -1,5 +1,5 @@
 -- The message in a hand goes to the end of an inbox.
-use Rattle.std.proofs.Common.{◌≡◌, Contains, ℕ, ◌+◌, ⊎_elim, inr, List, [], ◌∷◌, ◌++◌, map, Some, None, slice_get, sym, ap, ◌∙◌, subst, refl, arith, false, length}
+use Rattle.std.proofs.Common.{◌≡◌, Contains, ℕ, ◌+◌, ⊎_elim, inr, List, [], ◌∷◌, ◌++◌, map, Some, None, slice_get, sym, ap, ◌∙◌, subst, refl, arith, false}
 use Rattle.std.specs.Prelude.{slice_set}
 use Rattle.std.specs.Option.{option_map, option_and_then}
 use Rattle.std.proofs.lemmas.List.{map-append}
@@ -145,7 +145,7 @@ module _ (w w2 : Assembly) (who : RactorNo) (k c : ℕ) (m : Member) (i i2 : Inb
             },
           ),
         ),
-        one_renamed (Mail c i.next) (length w.ractors) (record { who = who; action = Offer to }) N there,
+        one_renamed w (Mail c i.next) (record { who = who; action = Offer to }) N there (λ j e. let z : ⊥ = cc in z),
       )
 
   pub offered_under : (to : RactorNo) (t : ℕ) → t ≡ i.next → StandsAt who k → StandsAt to c → HasOutcome (record { who = who; action = Offer to }) (Offered t) w w2

@@ -26,7 +26,7 @@ use Rattle.rr_world.proofs.Namings.{actor_same, same_actor, post_same, value_mov
 use Rattle.rr_world.proofs.Knowing.{read_set, opened_knows}
 use Rattle.rr_world.proofs.Enabled.{actor_at, holds, allowed, holds_not}
 use Rattle.rr_world.proofs.Insides.{set_again, same_assembly}
-use Rattle.rr_world.proofs.Staying.{refused, stays, same_state, one_renamed}
+use Rattle.rr_world.proofs.Staying.{refused, stays, same_state, space_renamed}
 use Rattle.rr_world.proofs.Fitting.{waits_homeless}
 
 module _ (w w2 : Assembly) (k : ℕ) (m m2 : Member) (p : Packed) (root : Ref) (at : slice_get w.ractors k ≡ Some m) (O : IsOpenedBy p root m m2)
@@ -92,7 +92,7 @@ module _ (w w2 : Assembly) (k : ℕ) (m m2 : Member) (p : Packed) (root : Ref) (
             },
           ),
         ),
-        one_renamed (Space k) (length w.ractors) (record { who = who; action = Open }) N stands,
+        space_renamed w k m (record { who = who; action = Open }) at N stands J.stand,
       )
 
 -- whatever opening answers

@@ -243,7 +243,7 @@ module _ (w w2 : Assembly) (who : RactorNo) (k : ℕ) (m : Member) (op : Operand
             },
           ),
         ),
-        one_renamed (Hand k) (length w.ractors) (record { who = who; action = Pack op }) N stands,
+        one_renamed w (Hand k) (record { who = who; action = Pack op }) N stands (λ j e. let z : ⊥ = cc in z),
       )
 
 -- why a value may not be packed

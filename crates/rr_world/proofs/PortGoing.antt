@@ -127,7 +127,7 @@ module _ (w w2 : Assembly) (who : RactorNo) (k : ℕ) (mark : LastKind) (m : Mem
             },
           ),
         ),
-        one_renamed (Shown k p.next) (length w.ractors) (record { who = who; action = ShowLast mark }) H.named stands,
+        one_renamed w (Shown k p.next) (record { who = who; action = ShowLast mark }) H.named stands (λ j e. let z : ⊥ = cc in z),
       )
 
   pub last_left_under : (t : ℕ) → t ≡ p.next → IsLeftIn who mark x p p2 → w2.ractors ≡ slice_set w.ractors k (record m { hand = None; home = None }) → w2.channels ≡ with_port w.channels k p2
@@ -213,7 +213,7 @@ module _ (w w2 : Assembly) (who to : RactorNo) (k c : ℕ) (m : Member) (p p2 : 
             },
           ),
         ),
-        one_renamed (Hand k) (length w.ractors) (record { who = who; action = Grab to }) H.named stands,
+        one_renamed w (Hand k) (record { who = who; action = Grab to }) H.named stands (λ j e. let z : ⊥ = cc in z),
       )
 
   last_grabbed : (mark : LastKind) (x : Packed) (l : LastGiven) → message_of l.last ≡ x → is_fault l.last ≡ is_of_fault mark → p.last ≡ Some l → p2 ≡ record p { last = None; history = p.history ++ event.Grabbed l.ticket (size_of x) who ∷ [] }
@@ -250,7 +250,7 @@ module _ (w w2 : Assembly) (who to : RactorNo) (k c : ℕ) (m : Member) (p p2 : 
             },
           ),
         ),
-        one_renamed (Hand k) (length w.ractors) (record { who = who; action = Grab to }) H.named stands,
+        one_renamed w (Hand k) (record { who = who; action = Grab to }) H.named stands (λ j e. let z : ⊥ = cc in z),
       )
 
   last_value_grabbed : (x : Packed) → Grabs (grab.LastValue x) p p2 who → w2.ractors ≡ slice_set w.ractors k (record m { hand = Some x }) → HasOutcome (record { who = who; action = Grab to }) (GrabbedLast kind.Value) w w2

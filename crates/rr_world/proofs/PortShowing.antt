@@ -155,7 +155,7 @@ module _ (w w2 : Assembly) (who : RactorNo) (k : ℕ) (m : Member) (p p2 : Port)
             },
           ),
         ),
-        one_renamed (Shown k p.next) (length w.ractors) (record { who = who; action = Show }) H.named stands,
+        one_renamed w (Shown k p.next) (record { who = who; action = Show }) H.named stands (λ j e. let z : ⊥ = cc in z),
       )
 
   module _ (rs : w2.ractors ≡ w.ractors) (is : w2.channels ≡ with_port w.channels k p2) where
@@ -332,7 +332,7 @@ module _ (w w2 : Assembly) (who : RactorNo) (k t : ℕ) (m : Member) (p : Port) 
             },
           ),
         ),
-        one_renamed (Hand k) (length w.ractors) (record { who = who; action = Withdraw t }) H.named stands,
+        one_renamed w (Hand k) (record { who = who; action = Withdraw t }) H.named stands (λ j e. let z : ⊥ = cc in z),
       )
 
   pub withdraw_refused : (m2 : Member) (p2 : Port) (f : Fault) → MayHaveBack m t → Withdraws (Err f) p p2 who t → (m.ticket ≡ Some t → m2 ≡ record m { home = None; ticket = None })
@@ -353,7 +353,7 @@ module _ (w w2 : Assembly) (who : RactorNo) (k t : ℕ) (m : Member) (p : Port) 
           (have_seen names k t m may, own_port names g),
           (showcase_in names k p, (stands, showcase_at w names g k p port), ((λ under. gone (under_back names k t p.shown under)), q.1)),
         ),
-        λ h off. refl,
+        record { others = λ h off. refl; slots = λ j x i there lt off. refl },
       ))
 
   -- ---- Settling.
@@ -374,7 +374,7 @@ module _ (w w2 : Assembly) (who : RactorNo) (k t : ℕ) (m : Member) (p : Port) 
           own_port names g,
           (showcase_in names k p, (stands, showcase_at w names g k p port), ((λ under. gone (under_back names k t p.shown under)), q.1)),
         ),
-        λ h off. refl,
+        record { others = λ h off. refl; slots = λ j x i there lt off. refl },
       )
 
   pub settled_shown : Settles settled.Shown p t → w2 ≡ w → HasOutcome (record { who = who; action = Settle t }) (Settled settled.Shown) w w2

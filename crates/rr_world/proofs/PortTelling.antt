@@ -85,7 +85,7 @@ module _ (w w2 : Assembly) (c : ℕ) (p p2 : Port) (port : slice_get w.channels.
       ractors = ap (each_from (actor_in names) 0) rs;
       post = ap (post_in names) is ∙ post_shown names names w.channels c p2 (λ d u. refl) (λ d u z. refl) (λ d. refl);
     }),
-    λ h off. refl,
+    record { others = λ h off. refl; slots = λ j x i there lt off. refl },
   )
 
 -- a port that is closed now

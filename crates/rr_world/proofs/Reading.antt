@@ -218,7 +218,7 @@ module _ (w w2 : Assembly) (who : RactorNo) (k : ℕ) (m m2 : Member) (op : Oper
     g,
     read_set w w2 k m (with_root m r) at set is refl (waits_same m (with_root m r) refl refl) (root_known (layout w) (R.knows.ractors k m at)) R (reading_same (layout w) (layout w2) names bound g same_tables R.tables),
     (k, actor_in names k m, stands, actor_at w names g k m at, under_on w names bound g R k m at who op (label_of label) under, read_as names bound g R),
-    λ h off. refl,
+    record { others = λ h off. refl; slots = λ j x i there lt off. refl },
   )
 
 -- whatever a read answers

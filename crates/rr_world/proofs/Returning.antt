@@ -29,7 +29,7 @@ use Rattle.rr_world.specs.declared.outcome.Outcome.TheVariants as outcome
 use Rattle.rr_world.proofs.Enabled.{actor_at, allowed}
 use Rattle.rr_world.proofs.Insides.{set_again, same_assembly}
 use Rattle.rr_world.proofs.Knowing.{knows_either, read_set}
-use Rattle.rr_world.proofs.Lists.{each_set}
+use Rattle.rr_world.proofs.Lists.{each_set, eq_cases}
 use Rattle.rr_world.proofs.Namings.{actor_same, same_actor, post_same}
 use Rattle.rr_world.proofs.Rooting.{roots_keep}
 use Rattle.rr_world.proofs.Staying.{refused}
@@ -121,7 +121,15 @@ module _ (w w2 : Assembly) (who : RactorNo) (k : ℕ) (m m2 : Member) (d : Detac
             },
           ),
         ),
-        λ h off. N.rest h (λ e. off (subst (IsRenamed (length w.ractors) who PutBack) (sym e) stands)) (λ e. off (subst (IsRenamed (length w.ractors) who PutBack) (sym e) stands)),
+        record {
+          others = λ h off. N.rest h (λ e. off (subst (IsRenamed (length w.ractors) who PutBack) (sym e) stands)) (λ e. off (subst (IsRenamed (length w.ractors) who PutBack) (sym e) stands));
+          slots = λ j x i there lt off. ⊎_elim
+              (λ same.
+              let one : x ≡ m = same_Some x m (sym there ∙ ap (slice_get w.ractors) same ∙ at) in
+              ap (λ n. slice_index (names2 (Space n)) i) same ∙ stand i (subst (λ (y : Member). i < length y.space.slots) one lt) ∙ ap (λ n. slice_index (names (Space n)) i) (sym same))
+              (λ differ. ap (λ ns. slice_index ns i) (spaces j differ))
+              (eq_cases j k);
+        },
       )
 
 some_back : {A B : Type 0} (f : A → B) (x : Option A) (b : B) → option_map f x ≡ Some b → (a : A) × (x ≡ Some a)

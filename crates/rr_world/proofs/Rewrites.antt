@@ -280,6 +280,7 @@ module _ (w w2 : Assembly) (k n : ℕ) (m m2 : Member) (o p : Object) (v : Ref) 
       → (names2 : Naming) × (bound2 : ℕ) × (g2 : Objects) × IsRead w2 names2 bound2 g2
       × IsChangedTo k (actor_in names k m) (slice_index (names (Space k)) n) (named names (Space k) o) (named names2 (Space k) p) (state_in w names g) (state_in w2 names2 g2)
       × ((l : Label) (x : Value) → Contains p.triples (l, x) → value_in names2 (Space k) x ≡ value_in names (Space k) x) × IsNamed (Space k) names names2
+      × ((i : ℕ) → i < length m.space.slots → slice_index (names2 (Space k)) i ≡ slice_index (names (Space k)) i)
   rewritten names bound g R K shut rooted =
       let S = R.tables.sound (Space k) m.space.slots was in
       let q = remaking_is_a_step (Space k) 0 m.space.slots after (layout w) (layout w2) names bound g (remakes S K) R.tables in (
@@ -290,4 +291,5 @@ module _ (w w2 : Assembly) (k n : ℕ) (m m2 : Member) (o p : Object) (v : Ref) 
         changed_to names bound g R K q.0 q.1 q.2 q.3 q.4 shut rooted,
         λ l x has. value_stays names bound g R K q.0 q.1 q.2 q.3 q.4 x (all_within S K l x has),
         q.3,
+        λ i lt. stand names bound g R K q.0 q.1 q.2 q.3 q.4 i lt,
       )

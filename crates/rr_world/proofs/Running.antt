@@ -41,4 +41,4 @@ runs_back w names g who (k, a, stands, at, runs) =
 
 -- a ractor that does not run makes no step
 pub none_runs : (w : Assembly) (step : Step) → ((k : ℕ) → StandsAt step.who k → RunsAt w k → ⊥) → IsStep step NotEnabled w w
-none_runs w step none names bound g R = (names, bound, g, R, (λ e. let b = runs_back w names g step.who e.0 in none b.0 b.1 b.2, same_state (state_in w names g)), λ h off. refl)
+none_runs w step none names bound g R = (names, bound, g, R, (λ e. let b = runs_back w names g step.who e.0 in none b.0 b.1 b.2, same_state (state_in w names g)), record { others = λ h off. refl; slots = λ j x i there lt off. refl })

@@ -32,7 +32,8 @@ use Rattle.rr_world.proofs.Enabled.{actor_at}
 use Rattle.rr_world.proofs.Knowing.{order_on, knows_on, member_on}
 use Rattle.rr_world.proofs.Lists.{each_same}
 use Rattle.rr_world.proofs.Namings.{actor_same, same_actor, archive_same, mailbox_same, ports_same, same_post}
-use Rattle.rr_world.proofs.Staying.{stays, same_state, one_renamed}
+use Rattle.rr_world.proofs.Staying.{stays, same_state}
+use Rattle.rr_world.specs.Naming.{IsRenamed}
 
 -- what stands in a list with one more
 pub last_cases : {A : Type 0} (xs : List A) (y : A) (j : ℕ) (z : A) → slice_get (xs ++ y ∷ []) j ≡ Some z → (slice_get xs j ≡ Some z) ⊎ ((j ≡ length xs) × (y ≡ z))
@@ -225,7 +226,10 @@ module _ (w w2 : Assembly) (limits : Limits) (m2 : Member) (A : IsBegun limits (
         q.1,
         record { tables = q.2; knows = more_knows R.knows; owned = more_owned R.owned; inboxes = more_inboxes R.inboxes; ports = more_ports R.ports; fits = more_fits R.fits; clusters = order_on w w2 (ap (λ (x : Channels). x.store.clusters) is) R.clusters },
         (k, actor_in names k m, stands, actor_at w names g k m at, tt, started names bound g R q.0 q.1 q.2 q.3 q.4 number (actor_in names k m) same next),
-        one_renamed (Space place) (length w.ractors) (record { who = who; action = Start }) q.3 refl,
+        record {
+          others = λ h off. q.3.rest h (λ e. off (subst (IsRenamed (length w.ractors) who Start) (sym e) refl));
+          slots = λ j x i there lt off. ap (λ ns. slice_index ns i) (q.3.rest (Space j) (λ e. let less = slice_get_within w.ractors j x there in let same : j ≡ place = cc in omega (arith, less, same)));
+        },
       )
 
 -- a refused start

@@ -184,7 +184,7 @@ constant_set w w2 who k m name op r at stands P rs boxes ports T names bound g R
               (set_constant w w2 name (Shareable r) rs boxes ports T.clusters T.set names g (event.Shared name who) T.room T.history T.limit),
         ),
       ),
-      λ h off. refl,
+      record { others = λ h off. refl; slots = λ j x i there lt off. refl },
     )
 
 -- the value is an object of the ractor's own, so that it is not set
@@ -230,7 +230,7 @@ own_set w w2 who k m name at stands main rs boxes ports T names bound g R = (
   g,
   set_read w w2 name store.Own rs boxes ports T.clusters T.set names bound g (λ v e. absurd (let z : ⊥ = cc in z)) R,
   (k, actor_in names k m, stands, actor_at w names g k m at, tt, (main, set_constant w w2 name store.Own rs boxes ports T.clusters T.set names g (event.Own name who) T.room T.history T.limit)),
-  λ h off. refl,
+  record { others = λ h off. refl; slots = λ j x i there lt off. refl },
 )
 
 -- a set that is refused
@@ -337,7 +337,7 @@ module _ (w w2 : Assembly) (who : RactorNo) (k : ℕ) (m : Member) (name : Sym) 
         },
       ),
     ),
-    λ h off. refl,
+    record { others = λ h off. refl; slots = λ j x i there lt off. refl },
   )
 
 -- what a get answers where the constant has a value

@@ -40,5 +40,5 @@ module _ (w w2 : Assembly) (c : ℕ) (i i2 : Inbox) (box : slice_get w.channels.
       ractors = ap (each_from (actor_in names) 0) rs;
       post = ap (post_in names) is ∙ post_set names names w.channels c i2 (λ d u z. refl) (λ d u. refl) (λ d. refl);
     }),
-    λ h off. refl,
+    record { others = λ h off. refl; slots = λ j x i there lt off. refl },
   )

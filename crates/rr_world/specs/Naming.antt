@@ -1,7 +1,8 @@
 -- Which lists of names a step may change: those of what it acts on.
-use Rattle.std.specs.Prelude.{◌≡◌, ℕ}
+use Rattle.std.specs.Prelude.{◌≡◌, ◌<◌, ℕ, length, Some, slice_get, slice_index}
 use Rattle.rr_base.specs.declared.name.RactorNo.{RactorNo as Number}
 use Rattle.rr_space.specs.Readings.{Owner, Space, Hand, Mail, Shown, Naming}
+use Rattle.rr_world.specs.Views.{Member, Assembly}
 use Rattle.rr_world.specs.Enabling.{StandsAt}
 use Rattle.rr_world.specs.declared.step.Action.{Action}
 use Rattle.rr_world.specs.declared.step.Action.TheVariants.{Alloc, Pack, Offer, Accept, Open, ShowLast, Show, Withdraw, Grab, Freeze, Append, Push, Write, SetField, Start, End, Detach, PutBack}
@@ -32,6 +33,7 @@ IsRenamed count who Show (Shown c ticket) = StandsAt who c
 IsRenamed count who (ShowLast kind) (Shown c ticket) = StandsAt who c
 IsRenamed count who action owner = ⊥
 
--- each list that the step does not act on is as it was
-abbrev pub AreOthersKept : ℕ → Step → Naming → Naming → Type 0
-AreOthersKept count step names names2 = (h : Owner) → (IsRenamed count step.who step.action h → ⊥) → names2 h ≡ names h
+-- each list that the step does not act on is as it was; and where the ractor does not end, each slot of each space has the name that it had
+pub record AreNamesKept (w : Assembly) (step : Step) (names names2 : Naming) : Type 0 where
+  pub others : (h : Owner) → (IsRenamed (length w.ractors) step.who step.action h → ⊥) → names2 h ≡ names h
+  pub slots : (k : ℕ) (m : Member) (i : ℕ) → slice_get w.ractors k ≡ Some m → i < length m.space.slots → (step.action ≡ End → ⊥) → slice_index (names2 (Space k)) i ≡ slice_index (names (Space k)) i

@@ -1,5 +1,5 @@
 -- Runs of the graph machine, and what it is for a World to make one.
-use Rattle.std.specs.Prelude.{◌≡◌, ℕ, true, List, [], ◌∷◌, length, None}
+use Rattle.std.specs.Prelude.{◌≡◌, ℕ, true, List, [], ◌∷◌, None}
 use Rattle.rr_base.specs.declared.limits.Limits.{Limits}
 use Rattle.rr_space.specs.Readings.{Objects, Naming, IsApart}
 use Rattle.rr_inbox.specs.Inboxes.{new_inbox}
@@ -10,7 +10,7 @@ use Rattle.rr_world.specs.Layouts.{IsRead}
 use Rattle.rr_world.specs.States.{State}
 use Rattle.rr_world.specs.Readings.{state_in}
 use Rattle.rr_world.specs.Cases.{IsOutcome, IsCase}
-use Rattle.rr_world.specs.Naming.{AreOthersKept}
+use Rattle.rr_world.specs.Naming.{AreNamesKept}
 use Rattle.rr_world.specs.declared.step.Step.{Step}
 use Rattle.rr_world.specs.declared.step.Reply.{Reply}
 
@@ -21,19 +21,19 @@ Chain [] (r ∷ rs) s t = ⊥
 Chain (x ∷ xs) [] s t = ⊥
 Chain (x ∷ xs) (r ∷ rs) s t = (mid : State) × IsCase x r s mid × IsApart mid.objects × Chain xs rs mid t
 
--- from each reading of the World before there is one after, and the reply is the outcome of the step, if the ractor runs; the
--- lists of names that it does not act on stay
+-- from each reading of the World before there is one after, and the reply is the outcome of the step, if the ractor runs; and
+-- names are kept
 abbrev pub HasOutcome : Step → Reply → Assembly → Assembly → Type 0
 HasOutcome step reply old new = (names : Naming) (bound : ℕ) (g : Objects) → IsRead old names bound g
     → (names2 : Naming) × (bound2 : ℕ) × (g2 : Objects) × IsRead new names2 bound2 g2
-    × IsOutcome step reply (state_in old names g) (state_in new names2 g2) × AreOthersKept (length old.ractors) step names names2
+    × IsOutcome step reply (state_in old names g) (state_in new names2 g2) × AreNamesKept old step names names2
 
--- from each reading of the World before there is one after, and the two states and the reply are a step of the machine; the
--- lists of names that it does not act on stay
+-- from each reading of the World before there is one after, and the two states and the reply are a step of the machine; and
+-- names are kept
 abbrev pub IsStep : Step → Reply → Assembly → Assembly → Type 0
 IsStep step reply old new = (names : Naming) (bound : ℕ) (g : Objects) → IsRead old names bound g
     → (names2 : Naming) × (bound2 : ℕ) × (g2 : Objects) × IsRead new names2 bound2 g2
-    × IsCase step reply (state_in old names g) (state_in new names2 g2) × AreOthersKept (length old.ractors) step names names2
+    × IsCase step reply (state_in old names g) (state_in new names2 g2) × AreNamesKept old step names names2
 
 -- from each reading of the World before there is one after, and the steps and replies are a run between the two states
 abbrev pub IsRun : List Step → List Reply → Assembly → Assembly → Type 0
