@@ -87,6 +87,11 @@ puts !1 -> Int(1), Not(0), Item(1), Call { name: Sym(0), first: 2, count: 1, sit
 [] -> Array { first: 0, count: 0 }, Item(0), Sequence { first: 1, count: 1 }
 [1, 2,] -> Int(1), Int(2), Item(0), Item(1), Array { first: 2, count: 2 }, Item(4), Sequence { first: 5, count: 1 }
 foo(1,) -> Int(1), Item(0), Call { name: Sym(0), first: 1, count: 1, site: 0 }, Item(2), Sequence { first: 3, count: 1 }
+f(*a) -> Bare { name: Sym(1), site: 0 }, Splat(0), Item(1), Call { name: Sym(0), first: 2, count: 1, site: 1 }, Item(3), Sequence { first: 4, count: 1 }
+[1, *b, 2,] -> Int(1), Bare { name: Sym(0), site: 0 }, Splat(1), Int(2), Item(0), Item(2), Item(3), Array { first: 4, count: 3 }, Item(7), Sequence { first: 8, count: 1 }
+a.b(* c * d) -> Bare { name: Sym(0), site: 0 }, Bare { name: Sym(2), site: 1 }, Bare { name: Sym(3), site: 2 }, Binary(Multiply, 1, 2), Splat(3), Item(4), Send { receiver: 0, name: Sym(1), first: 5, count: 1, site: 3 }, Item(6), Sequence { first: 7, count: 1 }
+puts [*a] -> Bare { name: Sym(1), site: 0 }, Splat(0), Item(1), Array { first: 2, count: 1 }, Item(3), Call { name: Sym(0), first: 4, count: 1, site: 1 }, Item(5), Sequence { first: 6, count: 1 }
+[*x = 1] -> Int(1), Assign { depth: 0, slot: 0, name: Sym(0), value: 0 }, Splat(1), Item(2), Array { first: 3, count: 1 }, Item(4), Sequence { first: 5, count: 1 }
 puts [1] -> Int(1), Item(0), Array { first: 1, count: 1 }, Item(2), Call { name: Sym(0), first: 3, count: 1, site: 0 }, Item(4), Sequence { first: 5, count: 1 }
 puts [1][0] -> Int(1), Item(0), Array { first: 1, count: 1 }, Int(0), Index(2, 3), Item(4), Call { name: Sym(0), first: 5, count: 1, site: 0 }, Item(6), Sequence { first: 7, count: 1 }
 a[0] -> Bare { name: Sym(0), site: 0 }, Int(0), Index(0, 1), Item(2), Sequence { first: 3, count: 1 }
@@ -183,6 +188,14 @@ foo(1,, 2) -> 1:7 unexpected token
 foo 1, -> 1:7 unexpected end
 [1 -> 1:3 unexpected end
 [,] -> 1:2 unexpected token
+[* -> 1:3 unexpected end
+[*] -> 1:3 unexpected token
+[*puts 1] -> 1:8 unexpected token
+f(**a) -> 1:4 unexpected token
+*a -> 1:1 unexpected token
+(*a) -> 1:2 unexpected token
+{*a} -> 1:2 unexpected token
+a[*b] -> 1:3 unexpected token
 x = 1; x [1] -> 1:10 unexpected token
 1 + a.b 2 -> 1:6 unexpected token
 a.1 -> 1:2 unexpected token
@@ -341,6 +354,8 @@ unless 1 then 2 else 3 end -> 1
 a = b = puts 1 -> 1
 a += b -= 1 -> 1
 [[1]] -> 2
+[*a] -> 1
+f(*[1]) -> 2
 a[b[0]] -> 2
 {a: 1} -> 1
 a.b(c.d(1)) -> 2

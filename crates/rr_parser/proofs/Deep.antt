@@ -1,7 +1,7 @@
 -- Reading is too deep only where the constructs that are begun pass the limit.
 use Rattle.std.proofs.Common.{◌≡◌, ℕ, zero, suc, inl, inr, Bool, true, false, cond, List, [], Option, Some, None, Ok, Err, refl}
 use Rattle.rr_base.specs.declared.name.Sym.{Sym}
-use Rattle.rr_tree.specs.Tree.{Tree, sequence, repeat, array, hash, pair, symbol, logical_not, listed}
+use Rattle.rr_tree.specs.Tree.{Tree, sequence, repeat, array, hash, splat, pair, symbol, logical_not, listed}
 use Rattle.rr_parser.specs.declared.word.Aim.{Aim}
 use Rattle.rr_parser.specs.declared.word.Head.{Head}
 use Rattle.rr_parser.specs.declared.word.Listed.{Listed}
@@ -17,7 +17,7 @@ use Rattle.rr_parser.specs.Grammar.Chains.{same, one_of, and_one}
 use Rattle.rr_parser.specs.Grammar.Nesting.{Nested}
 use Rattle.rr_parser.specs.Grammar.Names.{headed, name, command}
 use Rattle.rr_parser.specs.Grammar.Operators.{connective, joined_by}
-use Rattle.rr_parser.specs.Grammar.Calls.{target, with_target, assigned_to, label, comma, closing, last, Argument, Member, Commanded}
+use Rattle.rr_parser.specs.Grammar.Calls.{target, with_target, assigned_to, label, comma, star, closing, last, Argument, Member, Commanded}
 use Rattle.rr_parser.specs.Grammar.Sequences.{Negation, Expression, modifier, modified, Statement}
 use Rattle.rr_parser.specs.Grammar.Control.{thens, loops, elsif, chosen, unless_chosen, looping, Branch, Branches}
 use Rattle.rr_parser.specs.Grammar.Blocks.{parameters, entered}
@@ -26,14 +26,14 @@ use Rattle.rr_parser.specs.Grammar.{is_enclosed, inside, outside}
 use Rattle.rr_parser.specs.Reading.Answers.{wrong, deep, Answer, Parse, built, ended_by, closed, across, taking_of}
 use Rattle.rr_parser.specs.Reading.Nesting.{Readers}
 use Rattle.rr_parser.specs.Reading.Operators.{ternary_of}
-use Rattle.rr_parser.specs.Reading.Calls.{assigned_or, assigned_of, argument_of, pair_by, pair_of, member_of, another, members_of, bracketed_or, bracketed_of, array_of, hash_of, index_of, commanded_or, commanded_of, headed_of, command_or, command_of, phrase_or, phrase_of, operand_of, value_of}
+use Rattle.rr_parser.specs.Reading.Calls.{assigned_or, assigned_of, argument_of, pair_by, pair_of, item_or, item_of, member_of, another, members_of, bracketed_or, bracketed_of, array_of, hash_of, index_of, commanded_or, commanded_of, headed_of, command_or, command_of, phrase_or, phrase_of, operand_of, value_of}
 use Rattle.rr_parser.specs.Reading.Sequences.{negation_or, negation_of, expression_of, statement_of, ends, row, rows_of, sequence_of, statements_of, group_of}
 use Rattle.rr_parser.specs.Reading.Control.{both, branch_of, branches_of, otherwise_or, otherwise_of, ended, choice_of, unless_of, loop_of, looped_of}
 use Rattle.rr_parser.specs.Reading.Blocks.{left_block, block_or, block_of}
 use Rattle.rr_parser.specs.Reading.Definitions.{left_method, method_or, definition_or, definition_of}
 use Rattle.rr_parser.specs.Reading.{form_of, part_of, readers_inside, readers_outside}
-use Rattle.rr_parser.specs.Fronts.{Fronts, PairFront, behind_label, in_entry, MemberFront, MembersFront, in_former, in_latter, TakingFront, TernaryFront, AssignedFront, in_value, in_operand, ArgumentFront, CommandedFront, in_arguments, in_argument_command, CommandFront, behind_name, PhraseFront, in_command, in_plain, OperandFront, ValueFront, NegationFront, in_negation, behind_no_negation, ExpressionFront, StatementFront, RowsFront, StatementsFront, BranchFront, BranchesFront, EndedFront, LoopFront, LoopedFront, BlockFront, in_body, DefinitionFront, in_method, FormFront, PartFront, fronts_inside, fronts_outside}
-use Rattle.rr_parser.proofs.Told.{told_not}
+use Rattle.rr_parser.specs.Fronts.{Fronts, PairFront, behind_label, in_entry, ItemFront, in_splat, in_plain_item, MemberFront, MembersFront, in_former, in_latter, TakingFront, TernaryFront, AssignedFront, in_value, in_operand, ArgumentFront, CommandedFront, in_arguments, in_argument_command, CommandFront, behind_name, PhraseFront, in_command, in_plain, OperandFront, ValueFront, NegationFront, in_negation, behind_no_negation, ExpressionFront, StatementFront, RowsFront, StatementsFront, BranchFront, BranchesFront, EndedFront, LoopFront, LoopedFront, BlockFront, in_body, DefinitionFront, in_method, FormFront, PartFront, fronts_inside, fronts_outside}
+use Rattle.rr_parser.proofs.Told.{told_not, told_star}
 use Rattle.rr_parser.proofs.Looks.{word-next, another-comma, row-separators}
 use Rattle.rr_parser.proofs.Chains.{done}
 use Rattle.rr_parser.proofs.SoundOperands.{NestedSound, taking_sound}
@@ -66,10 +66,20 @@ module _ (N : Readers) (R : Nested) (F : Fronts) (sounds : NestedSound N R) (nes
   unfolding pair_of
   pair_deep s e = pair_by-deep s (at label s) refl e
 
+  item_or-deep : (s : Place) (o : Option (Unit {0} × Place)) → at (word star) s ≡ o → item_or N s o ≡ Err deep → (z : Place) × ItemFront R F s z
+  item_or-deep s None f e = let d = argument_deep s e in (d.0, in_plain_item d.1)
+  item_or-deep s (Some m) f e =
+      let d = argument_deep m.1 (built_deep splat (argument_of N m.1) e) in
+      (d.0, in_splat (word-next star told_star s m.1 m.0 f) d.1)
+
+  item_deep : IsDeep (item_of N) (ItemFront R F)
+  unfolding item_of
+  item_deep s e = item_or-deep s (at (word star) s) refl e
+
   member_deep : (k : Listed) → IsDeep (member_of N k) (MemberFront R F k)
   member_deep listings.Command = argument_deep
-  member_deep listings.Call = argument_deep
-  member_deep listings.Array = argument_deep
+  member_deep listings.Call = item_deep
+  member_deep listings.Array = item_deep
   member_deep listings.Hash = pair_deep
 
   members_deep : (k : Listed) → IsDeep (members_of N k) (MembersFront R F k)

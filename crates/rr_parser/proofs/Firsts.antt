@@ -25,7 +25,7 @@ use Rattle.rr_parser.specs.Grammar.Nesting.{Nested}
 use Rattle.rr_parser.specs.Grammar.Names.{is_local, name, bracket, is_tight, begins_operand, begins_operands, begins_command, is_allowed, head_of_kind, head, begins_head}
 use Rattle.rr_parser.specs.Grammar.Operands.{joined, literal_of, construct_of, Primary, a_literal, a_constant, a_path, a_negative, a_local, a_bare_call, a_call, a_block_call, a_jump, a_passing, a_passing_call, a_construct, Postfix, Bang, a_bang, no_bang, Minus, a_minus, no_minus}
 use Rattle.rr_parser.specs.Grammar.Operators.{operator, infixed, connective, joined_by, Binary, a_comparison, a_pair, Logical, Ternary, no_question, a_question}
-use Rattle.rr_parser.specs.Grammar.Calls.{target, Assigned, an_assignment, no_assignment, Argument, a_command, Phrase, by_name, an_operand, Value, closing, target_of_kind, label, Member, label_of_kind, last, by_label, by_arrow}
+use Rattle.rr_parser.specs.Grammar.Calls.{target, Assigned, an_assignment, no_assignment, Argument, a_command, Phrase, by_name, an_operand, Value, closing, target_of_kind, label, star, Item, a_splat, a_plain_item, Member, label_of_kind, last, by_label, by_arrow}
 use Rattle.rr_parser.specs.Grammar.Sequences.{Negation, a_negation, no_negation, Expression, modifier, Statement, modified}
 use Rattle.rr_parser.specs.Reading.Operands.{prefix_minus}
 use Rattle.rr_parser.specs.Reading.Sequences.{ends_at, ends}
@@ -385,12 +385,34 @@ label_no_closing k s m x e = none_unless (at (closing k) s) (λ u z f.
         not_closing listings.Hash f = absurd cc
     closing_no_label k _ f = refl
 
+star_closes : (k : Listed) → closes k star ≡ false
+star_closes listings.Command = refl
+star_closes listings.Call = refl
+star_closes listings.Array = refl
+star_closes listings.Hash = refl
+
+-- where an item begins, no list ends
+item_no_closing : (R : Nested) (k : Listed) (s z : Place) (t : Tree) → Item R s t z → at (closing k) s ≡ None
+item_no_closing R k s z t (a_splat {m = m} e h) = none_unless (at (closing k) s) (λ u y f.
+    let c = closing-next k s y u f in
+    let g : false ≡ true = sym (star_closes k) ∙ ap (closes k) (one_kind s m y star c.0 e c.1) ∙ c.2 in
+    let never : ⊥ = cc in never)
+item_no_closing R k s z t (a_plain_item h) = starts_no_closing k s (argument_starts R s z t h)
+
 pub member_no_closing : (R : Nested) (k : Listed) (s z : Place) (t : Tree) → Member R k s t z → at (closing k) s ≡ None
 member_no_closing R listings.Command s z t h = starts_no_closing listings.Command s (argument_starts R s z t h)
-member_no_closing R listings.Call s z t h = starts_no_closing listings.Call s (argument_starts R s z t h)
-member_no_closing R listings.Array s z t h = starts_no_closing listings.Array s (argument_starts R s z t h)
+member_no_closing R listings.Call s z t h = item_no_closing R listings.Call s z t h
+member_no_closing R listings.Array s z t h = item_no_closing R listings.Array s z t h
 member_no_closing R listings.Hash s z t (by_label {m = m} {x = x} e h) = label_no_closing listings.Hash s m x e
 member_no_closing R listings.Hash s z t (by_arrow {m = m} {k = q} h e i) = starts_no_closing listings.Hash s (argument_starts R s m q h)
+
+start_no_star : (k : WordKind) → starts k ≡ true → is_kind k star ≡ false
+start_no_star (kind.Operator o) e = absurd cc
+start_no_star _ e = refl
+
+-- where a value begins, no `*` stands
+pub starts_no_star : (s : Place) → Starts s → at (word star) s ≡ None
+starts_no_star s f = other-word star f.kind s f.behind f.here (start_no_star f.kind f.told)
 
 start_no_label : (k : WordKind) → starts k ≡ true → label_of_kind k ≡ None
 start_no_label (kind.Label y) e = absurd cc

@@ -1,6 +1,6 @@
 -- What is spelled is read, unless it nests too deep.
 use Rattle.std.proofs.Common.{◌≡◌, ℕ, zero, suc, ◌<◌, inl, inr, Bool, true, false, cond, List, [], Some, None, Ok, refl, sym, ap, ◌∙◌, arith}
-use Rattle.rr_tree.specs.Tree.{Tree, sequence, repeat, array, hash, pair, symbol, logical_not, listed}
+use Rattle.rr_tree.specs.Tree.{Tree, sequence, repeat, array, hash, splat, pair, symbol, logical_not, listed}
 use Rattle.rr_parser.specs.declared.word.Head.{Head}
 use Rattle.rr_parser.specs.declared.word.Listed.{Listed}
 use Rattle.rr_parser.specs.declared.word.Listed.TheVariants as listings
@@ -17,7 +17,7 @@ use Rattle.rr_parser.specs.Grammar.Nesting.{Nested}
 use Rattle.rr_parser.specs.Grammar.Names.{headed, name, command}
 use Rattle.rr_parser.specs.Grammar.Operands.{Blocked, no_block, a_block}
 use Rattle.rr_parser.specs.Grammar.Operators.{connective, joined_by, Ternary}
-use Rattle.rr_parser.specs.Grammar.Calls.{target, with_target, assigned_to, label, comma, closing, last, Assigned, an_assignment, no_assignment, Argument, Pair, by_label, by_arrow, Member, Members, Bracketed, no_members, some_members, Array, an_array, Hash, a_hash, Index, of_element, Commanded, Arguments, by_arguments, by_command, Command, a_command, Phrase, by_name, an_operand, Value}
+use Rattle.rr_parser.specs.Grammar.Calls.{target, with_target, assigned_to, label, comma, closing, last, Assigned, an_assignment, no_assignment, Argument, Pair, by_label, by_arrow, star, Item, a_splat, a_plain_item, Member, Members, Bracketed, no_members, some_members, Array, an_array, Hash, a_hash, Index, of_element, Commanded, Arguments, by_arguments, by_command, Command, a_command, Phrase, by_name, an_operand, Value}
 use Rattle.rr_parser.specs.Grammar.Sequences.{Negation, a_negation, no_negation, Expression, modifier, modified, Statement, Rows, Statements, no_statements, some_statements, Group, a_group}
 use Rattle.rr_parser.specs.Grammar.Control.{thens, loops, elsif, chosen, unless_chosen, Branch, a_branch, Branches, Otherwise, no_else, an_else, Choice, a_choice, Unless, an_unless, Loop, a_loop, looping, outside_loop, Looped, of_loop}
 use Rattle.rr_parser.specs.Grammar.Blocks.{parameters, entered, leaving, block_tree, Block, of_statements}
@@ -26,7 +26,7 @@ use Rattle.rr_parser.specs.Grammar.{PartOf, inside, outside}
 use Rattle.rr_parser.specs.Reading.Answers.{◌>>=◌, Answer, Parse, built, ended_by, closed, across, taking_of}
 use Rattle.rr_parser.specs.Reading.Nesting.{Readers}
 use Rattle.rr_parser.specs.Reading.Operators.{ternary_of}
-use Rattle.rr_parser.specs.Reading.Calls.{assigned_or, assigned_of, argument_of, pair_by, pair_of, member_of, another, members_of, bracketed_or, bracketed_of, array_of, hash_of, index_of, commanded_or, commanded_of, arguments_of, headed_of, command_or, command_of, phrase_or, phrase_of, value_of}
+use Rattle.rr_parser.specs.Reading.Calls.{assigned_or, assigned_of, argument_of, pair_by, pair_of, item_or, item_of, member_of, another, members_of, bracketed_or, bracketed_of, array_of, hash_of, index_of, commanded_or, commanded_of, arguments_of, headed_of, command_or, command_of, phrase_or, phrase_of, value_of}
 use Rattle.rr_parser.specs.Reading.Sequences.{negation_or, negation_of, expression_of, statement_of, row, rows_of, sequence_of, statements_at, statements_of, group_of}
 use Rattle.rr_parser.specs.Reading.Control.{both, branch_of, branches_of, otherwise_or, otherwise_of, ended, choice_of, unless_of, loop_of, looped_of}
 use Rattle.rr_parser.specs.Reading.Blocks.{left_block, block_or, block_of}
@@ -37,7 +37,7 @@ use Rattle.rr_parser.proofs.Looks.{seen, none_unless, another-comma, comma-anoth
 use Rattle.rr_parser.proofs.Shrinking.{ReadersShrink, shrinks_nested, Steps-connective, Steps-modifier, Steps-elsif}
 use Rattle.rr_parser.proofs.Leading.{Leads, leads_bind, leads_trans, leads_eq, leads_map, IsFull, chain_full, across_full}
 use Rattle.rr_parser.proofs.Strengths.{Stops, stops_by, word_unseen, connective_strength, no_connective_at, modifier_strength, no_modifier_at, comma_strength, separators_stop, thens_stop, loops_stop, ends_behind}
-use Rattle.rr_parser.proofs.Firsts.{next_ends, chain_first, member_no_closing, starts_no_label, last_stops, ternary_first, argument_starts, value_starts, starts_no_not, statement_starts, opened_stops, taking_stops}
+use Rattle.rr_parser.proofs.Firsts.{next_ends, chain_first, member_no_closing, starts_no_star, starts_no_label, last_stops, ternary_first, argument_starts, value_starts, starts_no_not, statement_starts, opened_stops, taking_stops}
 use Rattle.rr_parser.proofs.Stopping.{first_no_command, target_no_command, ternary_no_target, phrase_no_target, AtEnd, elsif_ends}
 use Rattle.rr_parser.proofs.FullOperands.{Anywhere, Ends, PartStops, value_stop, NestedFull, word_here, closed_full, taking_full, enclosed_full, same_fence, fence_ends, passed_full, bang_full, minus_full, ternary_full}
 
@@ -65,10 +65,18 @@ module _ (N : Readers) (R : Nested) (D : Type 0) (shrinks : ReadersShrink N) (ne
       leads_eq (pair_by N s (at label s)) (across pair (word kind.Arrow) (argument_of N) (argument_of N s)) (Ok (t, z)) (ap (pair_by N s) (starts_no_label s (argument_starts R s m k h)))
       (across_full pair (word kind.Arrow) (argument_of N) (argument_of N s) k m n z tt v (argument_full s m k h (stops_by kind.Arrow 26 m n e (omega arith))) (word_here kind.Arrow m n e refl) (argument_full n z v i stops))
 
+  item_full : IsFull (item_of N) (Item R) (Stops 26) D
+  unfolding item_of
+  item_full s z t (a_splat {m = m} {t = v} e h) stops =
+      leads_eq (item_or N s (at (word star) s)) (built splat (argument_of N m)) (Ok (t, z)) (ap (item_or N s) (word_here star s m e refl))
+      (leads_bind (argument_of N m) (v, z) (λ q. Ok (splat q.0, q.1)) (argument_full m z v h stops))
+  item_full s z t (a_plain_item h) stops =
+      leads_eq (item_or N s (at (word star) s)) (argument_of N s) (Ok (t, z)) (ap (item_or N s) (starts_no_star s (argument_starts R s z t h))) (argument_full s z t h stops)
+
   member_full : (k : Listed) → IsFull (member_of N k) (Member R k) (Stops 26) D
   member_full listings.Command = argument_full
-  member_full listings.Call = argument_full
-  member_full listings.Array = argument_full
+  member_full listings.Call = item_full
+  member_full listings.Array = item_full
   member_full listings.Hash = pair_full
 
   members_full : (k : Listed) (s z : Place) (l : List Tree) → Members R k s l z → Stops 26 z → at (another k) z ≡ None → Leads (members_of N k s) (Ok (l, z)) D

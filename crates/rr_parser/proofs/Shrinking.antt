@@ -21,7 +21,7 @@ use Rattle.rr_parser.specs.Grammar.Nesting.{Nested}
 use Rattle.rr_parser.specs.Grammar.Names.{headed, name, head, bracket}
 use Rattle.rr_parser.specs.Grammar.Operands.{scope_sign, tight_constant, behind_sign, inner_constant, joined, Blocked, no_block, a_block, Primary, a_literal, a_constant, a_path, a_negative, a_local, a_bare_call, a_call, a_block_call, a_jump, a_passing, a_passing_call, a_construct, tail, Tailed, a_send, a_sent_call, an_index, Postfix, Bang, a_bang, no_bang, Minus, a_minus, no_minus}
 use Rattle.rr_parser.specs.Grammar.Operators.{operator, infixed, connective, joined_by, Logical, Binary, Equality, a_comparison, a_pair, Ternary, no_question, a_question}
-use Rattle.rr_parser.specs.Grammar.Calls.{with_target, label, comma, Assigned, an_assignment, no_assignment, Argument, Pair, by_label, by_arrow, Member, Members, Bracketed, no_members, some_members, Array, an_array, Hash, a_hash, Index, of_element, Commanded, by_arguments, by_command, Command, a_command, Phrase, by_name, an_operand, Operand, Value}
+use Rattle.rr_parser.specs.Grammar.Calls.{with_target, label, comma, Assigned, an_assignment, no_assignment, Argument, Pair, by_label, by_arrow, star, Item, a_splat, a_plain_item, Member, Members, Bracketed, no_members, some_members, Array, an_array, Hash, a_hash, Index, of_element, Commanded, by_arguments, by_command, Command, a_command, Phrase, by_name, an_operand, Operand, Value}
 use Rattle.rr_parser.specs.Grammar.Sequences.{Negation, a_negation, no_negation, Expression, modifier, modified, Statement, Rows, Statements, no_statements, some_statements, Group, a_group}
 use Rattle.rr_parser.specs.Grammar.Control.{elsif, Branch, a_branch, Branches, Otherwise, no_else, an_else, Choice, a_choice, Unless, an_unless, Loop, a_loop, looping, Looped, of_loop}
 use Rattle.rr_parser.specs.Grammar.Blocks.{entered, Block, of_statements}
@@ -171,10 +171,14 @@ module _ (R : Nested) (nests : NestedShrinking R) where
   pair_shrinking s z t (by_label {m = m} {x = x} {t = v} e h) = omega (arith, Steps-label s m x e, argument_shrinking m z v h)
   pair_shrinking s z t (by_arrow {m = m} {n = n} {k = k} {t = v} h e i) = omega (arith, argument_shrinking s m k h, next-left m n kind.Arrow e, argument_shrinking n z v i)
 
+  item_shrinking : IsShrinking (Item R)
+  item_shrinking s z t (a_splat {m = m} {t = v} e h) = omega (arith, next-left s m star e, argument_shrinking m z v h)
+  item_shrinking s z t (a_plain_item h) = argument_shrinking s z t h
+
   member_shrinking : (k : Listed) → IsShrinking (Member R k)
   member_shrinking listings.Command = argument_shrinking
-  member_shrinking listings.Call = argument_shrinking
-  member_shrinking listings.Array = argument_shrinking
+  member_shrinking listings.Call = item_shrinking
+  member_shrinking listings.Array = item_shrinking
   member_shrinking listings.Hash = pair_shrinking
 
   members_shrinking : (k : Listed) → IsShrinking (Members R k)

@@ -1,7 +1,7 @@
 -- What is read is spelled.
 use Rattle.std.proofs.Common.{◌≡◌, ℕ, zero, suc, Bool, true, false, cond, List, [], Option, Some, None, Ok, refl, sym, subst}
 use Rattle.rr_base.specs.declared.name.Sym.{Sym}
-use Rattle.rr_tree.specs.Tree.{Tree, nil, sequence, repeat, array, hash, pair, symbol, logical_not, listed}
+use Rattle.rr_tree.specs.Tree.{Tree, nil, sequence, repeat, array, hash, splat, pair, symbol, logical_not, listed}
 use Rattle.rr_parser.specs.declared.word.Aim.{Aim}
 use Rattle.rr_parser.specs.declared.word.Behind.TheVariants as behinds
 use Rattle.rr_parser.specs.declared.word.Fence.{Fence}
@@ -17,7 +17,7 @@ use Rattle.rr_parser.specs.Grammar.Nesting.{Nested}
 use Rattle.rr_parser.specs.Grammar.Names.{headed, name, command}
 use Rattle.rr_parser.specs.Grammar.Operands.{Blocked}
 use Rattle.rr_parser.specs.Grammar.Operators.{connective, joined_by, Ternary}
-use Rattle.rr_parser.specs.Grammar.Calls.{target, with_target, assigned_to, label, comma, closing, last, Assigned, an_assignment, no_assignment, Argument, Pair, by_label, by_arrow, Member, Members, Bracketed, no_members, some_members, Array, an_array, Hash, a_hash, Index, of_element, Commanded, by_arguments, by_command, Command, a_command, Phrase, by_name, an_operand, Operand, Value}
+use Rattle.rr_parser.specs.Grammar.Calls.{target, with_target, assigned_to, label, comma, closing, last, Assigned, an_assignment, no_assignment, Argument, Pair, by_label, by_arrow, star, Item, a_splat, a_plain_item, Member, Members, Bracketed, no_members, some_members, Array, an_array, Hash, a_hash, Index, of_element, Commanded, by_arguments, by_command, Command, a_command, Phrase, by_name, an_operand, Operand, Value}
 use Rattle.rr_parser.specs.Grammar.Sequences.{Negation, a_negation, no_negation, Expression, modifier, modified, Statement, Rows, Statements, no_statements, some_statements, Group, a_group}
 use Rattle.rr_parser.specs.Grammar.Control.{thens, loops, elsif, chosen, unless_chosen, Branch, a_branch, Branches, Otherwise, no_else, an_else, Choice, a_choice, Unless, an_unless, Loop, a_loop, looping, outside_loop, Looped, of_loop}
 use Rattle.rr_parser.specs.Grammar.Blocks.{parameters, entered, leaving, block_tree, Block, of_statements}
@@ -28,13 +28,13 @@ use Rattle.rr_parser.specs.Reading.Answers.{Parse, built, closed, across, taking
 use Rattle.rr_parser.specs.Reading.Nesting.{Readers}
 use Rattle.rr_parser.specs.Reading.Operands.{blocked_of}
 use Rattle.rr_parser.specs.Reading.Operators.{ternary_of}
-use Rattle.rr_parser.specs.Reading.Calls.{assigned_or, assigned_of, argument_of, pair_by, pair_of, member_of, another, members_of, bracketed_or, bracketed_of, array_of, hash_of, index_of, commanded_or, commanded_of, arguments_of, headed_of, command_or, command_of, phrase_or, phrase_of, operand_of, value_of}
+use Rattle.rr_parser.specs.Reading.Calls.{assigned_or, assigned_of, argument_of, pair_by, pair_of, item_or, item_of, member_of, another, members_of, bracketed_or, bracketed_of, array_of, hash_of, index_of, commanded_or, commanded_of, arguments_of, headed_of, command_or, command_of, phrase_or, phrase_of, operand_of, value_of}
 use Rattle.rr_parser.specs.Reading.Sequences.{negation_or, negation_of, expression_of, statement_of, ends, row, rows_of, sequence_of, statements_of, group_of}
 use Rattle.rr_parser.specs.Reading.Control.{both, branch_of, branches_of, otherwise_or, otherwise_of, choice_of, unless_of, loop_of, looped_of}
 use Rattle.rr_parser.specs.Reading.Blocks.{left_block, block_or, block_of}
 use Rattle.rr_parser.specs.Reading.Definitions.{left_method, method_or, definition_or, definition_of}
 use Rattle.rr_parser.specs.Reading.{form_of, part_of, readers_inside, readers_outside, readers}
-use Rattle.rr_parser.proofs.Told.{told_close, told_else, told_end, told_not, told_arrow, told_close_square, told_fence}
+use Rattle.rr_parser.proofs.Told.{told_close, told_else, told_end, told_not, told_arrow, told_star, told_close_square, told_fence}
 use Rattle.rr_parser.proofs.Looks.{word-next, another-comma, row-separators}
 use Rattle.rr_parser.proofs.Chains.{bind_ok, built_ok, done, closed_ok, at_answer, across_ok, IsSound, chain_sound}
 use Rattle.rr_parser.proofs.SoundOperands.{NestedSound, sequence_ok, taking_sound, enclosed_sound, blocked_sound, bang_sound, minus_sound, ternary_sound}
@@ -68,10 +68,20 @@ module _ (N : Readers) (R : Nested) (nests : NestedSound N R) where
   unfolding pair_of
   pair_sound s z t e = pair_by-sound s (at label s) z t refl e
 
+  item_or-sound : (s : Place) (o : Option (Unit {0} × Place)) (z : Place) (t : Tree) → at (word star) s ≡ o → item_or N s o ≡ Ok (t, z) → Item R s t z
+  item_or-sound s None z t f e = a_plain_item (argument_sound s z t e)
+  item_or-sound s (Some m) z t f e =
+      let b = built_ok splat (argument_of N m.1) t z e in
+      subst (λ (q : Tree). Item R s q z) (sym b.2) (a_splat (word-next star told_star s m.1 m.0 f) (argument_sound m.1 z b.0 b.1))
+
+  item_sound : IsSound (item_of N) (Item R)
+  unfolding item_of
+  item_sound s z t e = item_or-sound s (at (word star) s) z t refl e
+
   pub member_sound : (k : Listed) → IsSound (member_of N k) (Member R k)
   member_sound listings.Command = argument_sound
-  member_sound listings.Call = argument_sound
-  member_sound listings.Array = argument_sound
+  member_sound listings.Call = item_sound
+  member_sound listings.Array = item_sound
   member_sound listings.Hash = pair_sound
 
   pub members_sound : (k : Listed) → IsSound (members_of N k) (Members R k)

@@ -24,7 +24,7 @@ use Rattle.rr_parser.specs.Grammar.Fences.{taking, Taking, within_head, opened}
 use Rattle.rr_parser.specs.Grammar.Names.{name, bracket, command}
 use Rattle.rr_parser.specs.Grammar.Operands.{joined, construct_of, tail, Postfix}
 use Rattle.rr_parser.specs.Grammar.Operators.{operator, connective, Binary, Logical}
-use Rattle.rr_parser.specs.Grammar.Calls.{target, with_target, label, comma, Argument, Members, Commanded}
+use Rattle.rr_parser.specs.Grammar.Calls.{target, with_target, label, comma, star, Argument, Members, Commanded}
 use Rattle.rr_parser.specs.Grammar.Sequences.{Expression, Statement, Rows, modifier}
 use Rattle.rr_parser.specs.Grammar.Control.{thens, loops, elsif, looping, Branch, Branches}
 use Rattle.rr_parser.specs.Grammar.Blocks.{parameters, entered}
@@ -123,10 +123,15 @@ pub data PairFront (N : Nested) (F : Fronts) : Place → Place → Type 0 where
   behind_label : {s m z : Place} {x : Sym} → at label s ≡ Some (x, m) → ArgumentFront N F m z → PairFront N F s z
   in_entry : {s z : Place} → AcrossFront (word kind.Arrow) (Argument N) (ArgumentFront N F) (ArgumentFront N F) s z → PairFront N F s z
 
+-- in an argument, or in one behind a `*`
+pub data ItemFront (N : Nested) (F : Fronts) : Place → Place → Type 0 where
+  in_splat : {s m z : Place} → next s ≡ Some (star, m) → ArgumentFront N F m z → ItemFront N F s z
+  in_plain_item : {s z : Place} → ArgumentFront N F s z → ItemFront N F s z
+
 abbrev pub MemberFront : Nested → Fronts → Listed → Place → Place → Type 0
 MemberFront N F listings.Command = ArgumentFront N F
-MemberFront N F listings.Call = ArgumentFront N F
-MemberFront N F listings.Array = ArgumentFront N F
+MemberFront N F listings.Call = ItemFront N F
+MemberFront N F listings.Array = ItemFront N F
 MemberFront N F listings.Hash = PairFront N F
 
 abbrev pub MembersFront : Nested → Fronts → Listed → Place → Place → Type 0

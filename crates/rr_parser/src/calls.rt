@@ -1,15 +1,15 @@
 //! Reading assignments, arguments and commands.
 
 ghost use Rattle.std.specs.Prelude.{◌≡◌};
-ghost use Rattle.rr_parser.specs.Reading.Calls.{pair_of, member_of, members_of, bracketed_of, array_of, hash_of, index_of, commanded_of, arguments_of, headed_of, command_of, phrase_of, operand_of, value_of};
+ghost use Rattle.rr_parser.specs.Reading.Calls.{item_of, pair_of, member_of, members_of, bracketed_of, array_of, hash_of, index_of, commanded_of, arguments_of, headed_of, command_of, phrase_of, operand_of, value_of};
 ghost use Rattle.rr_parser.specs.Reading.{readers};
 
 use crate::fences::within_head;
 use crate::look::{another, behind, closing, label, last, target};
 use crate::parser::{Parsed, ParsedList, Parser};
 use crate::refusal::Refusal;
-use crate::word::{Behind, Head, Listed, Part, Word, WordKind};
-use rr_tree::{Node, NodeId};
+use crate::word::{Behind, Head, Infix, Listed, Part, Word, WordKind};
+use rr_tree::{BinaryOperator, Node, NodeId};
 
 impl Parser {
     ghost use Rattle.rr_parser.specs.Meets.{Gives, GivesList, place};
@@ -158,11 +158,24 @@ impl Parser {
         ensures { Gives self.old self.new result (member_of (readers inside depth) list (place self.old words.now)) }
     {
         match list {
-            Listed::Command | Listed::Call | Listed::Array => {
-                self.value(false, inside, depth, words)
-            }
+            Listed::Command => self.value(false, inside, depth, words),
+            Listed::Call | Listed::Array => self.item(inside, depth, words),
             Listed::Hash => self.pair(inside, depth, words),
         }
+    }
+
+    /// An argument, or a `*` and one whose items are arguments.
+    #[cycle(parser)]
+    #[tactic(auto, unfolding(crate::specs::Reading::Calls::item_of))]
+    fn item<'w>(&mut self, inside: bool, depth: u32, words: &'w [Word]) -> Parsed<'w, NodeId>
+        ensures { Gives self.old self.new result (item_of (readers inside depth) (place self.old words.now)) }
+    {
+        let star = WordKind::Operator(Infix::Binary(BinaryOperator::Multiply));
+        let Some(rest) = behind(star, words) else {
+            return self.value(false, inside, depth, words);
+        };
+        let (items, rest) = self.value(false, inside, depth, rest)?;
+        Ok((self.put(Node::Splat(items))?, rest))
     }
 
     /// A key and its value.

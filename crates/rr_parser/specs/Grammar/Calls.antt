@@ -1,7 +1,8 @@
 -- Assignments, arguments and commands.
 use Rattle.std.specs.Prelude.{◌≡◌, List, [], ◌∷◌, Bool, true, false, Option, Some, None}
 use Rattle.rr_base.specs.declared.name.Sym.{Sym}
-use Rattle.rr_tree.specs.Tree.{Tree, field, global, operator_assign, append_assign, or_assign, and_assign, assign, set_field, set_global, symbol, array, hash, pair, listed}
+use Rattle.rr_tree.specs.Tree.{Tree, field, global, operator_assign, append_assign, or_assign, and_assign, assign, set_field, set_global, symbol, array, hash, splat, pair, listed}
+use Rattle.rr_tree.specs.declared.node.BinaryOperator.TheVariants as op
 use Rattle.rr_parser.specs.declared.word.WordKind.TheVariants as kind
 use Rattle.rr_parser.specs.declared.word.Word.{Word}
 use Rattle.rr_parser.specs.declared.word.WordKind.{WordKind}
@@ -120,10 +121,19 @@ pub data Pair (N : Nested) : Place → Tree → Place → Type 0 where
   by_label : {s m z : Place} {x : Sym} {t : Tree} → at label s ≡ Some (x, m) → Argument N m t z → Pair N s (pair (symbol x.0) t) z
   by_arrow : {s m n z : Place} {k t : Tree} → Argument N s k m → next m ≡ Some (kind.Arrow, n) → Argument N n t z → Pair N s (pair k t) z
 
+-- the `*` of an operator, which may stand before an argument too
+abbrev pub star : WordKind
+star = kind.Operator (infixes.Binary op.Multiply)
+
+-- an argument, or a `*` and one whose items are arguments
+pub data Item (N : Nested) : Place → Tree → Place → Type 0 where
+  a_splat : {s m z : Place} {t : Tree} → next s ≡ Some (star, m) → Argument N m t z → Item N s (splat t) z
+  a_plain_item : {s z : Place} {t : Tree} → Argument N s t z → Item N s t z
+
 abbrev pub Member : Nested → Listed → Place → Tree → Place → Type 0
 Member N listings.Command = Argument N
-Member N listings.Call = Argument N
-Member N listings.Array = Argument N
+Member N listings.Call = Item N
+Member N listings.Array = Item N
 Member N listings.Hash = Pair N
 
 -- one member or more, with commas between them

@@ -1,7 +1,7 @@
 -- Reading assignments, arguments and commands.
 use Rattle.std.specs.Prelude.{List, [], Bool, true, false, Option, Some, None, is_some, Ok, Err}
 use Rattle.rr_base.specs.declared.name.Sym.{Sym}
-use Rattle.rr_tree.specs.Tree.{Tree, array, hash, symbol, pair, listed}
+use Rattle.rr_tree.specs.Tree.{Tree, array, hash, symbol, splat, pair, listed}
 use Rattle.rr_parser.specs.declared.word.Part.TheVariants as parts
 use Rattle.rr_parser.specs.declared.word.WordKind.TheVariants as kind
 use Rattle.rr_parser.specs.declared.word.Aim.{Aim}
@@ -14,7 +14,7 @@ use Rattle.rr_parser.specs.Places.{Place, Look, unless, word, at}
 use Rattle.rr_parser.specs.Grammar.Chains.{one_of, and_one}
 use Rattle.rr_parser.specs.Grammar.Names.{headed, command}
 use Rattle.rr_parser.specs.Grammar.Fences.{within_head}
-use Rattle.rr_parser.specs.Grammar.Calls.{target, with_target, assigned_to, label, comma, closing, last}
+use Rattle.rr_parser.specs.Grammar.Calls.{target, with_target, assigned_to, label, comma, star, closing, last}
 use Rattle.rr_parser.specs.Reading.Answers.{◌>>=◌, wrong, Answer, Parse, built, ended_by, closed, across, taking_of, chain}
 use Rattle.rr_parser.specs.Reading.Nesting.{Readers}
 use Rattle.rr_parser.specs.Reading.Operands.{then_blocked}
@@ -37,10 +37,17 @@ pair_by N s (Some x) = built (pair (symbol x.0.0)) (argument_of N x.1)
 unfoldable pub pair_of : Readers → Parse Tree
 pair_of N s = pair_by N s (at label s)
 
+abbrev pub item_or : Readers → Place → Option (Unit {0} × Place) → Answer Tree
+item_or N s None = argument_of N s
+item_or N s (Some m) = built splat (argument_of N m.1)
+
+unfoldable pub item_of : Readers → Parse Tree
+item_of N s = item_or N s (at (word star) s)
+
 abbrev pub member_of : Readers → Listed → Parse Tree
 member_of N listings.Command = argument_of N
-member_of N listings.Call = argument_of N
-member_of N listings.Array = argument_of N
+member_of N listings.Call = item_of N
+member_of N listings.Array = item_of N
 member_of N listings.Hash = pair_of N
 
 abbrev pub unless_closing : Listed → Option (Unit {0} × List Word) → Option (Unit {0} × List Word)

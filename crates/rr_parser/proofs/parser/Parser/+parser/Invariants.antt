@@ -209,6 +209,9 @@ decreases-tailed l = 128 * l.depth + cond l.inside 0 64 + 3
 abbrev pub decreases-postfix : goal.decreases-postfix
 decreases-postfix l = 128 * l.depth + cond l.inside 0 64 + 5
 
+abbrev pub decreases-item : goal.decreases-item
+decreases-item l = 128 * l.depth + cond l.inside 0 64 + 28
+
 abbrev pub decreases-pair : goal.decreases-pair
 decreases-pair l = 128 * l.depth + cond l.inside 0 64 + 28
 
