@@ -1,23 +1,27 @@
 //! A script's tokens, tree and steps.
 
-use rr_base::{Fault, RactorNo};
-use rr_eval::{Machine, Response, Turn};
+use rr_base::{Fault, Limits, RactorNo};
+use rr_eval::{Machine, Prepared, Response, Turn};
 use rr_lexer::lex;
 use rr_parser::parse;
 use rr_space::{Ref, Space};
-use rr_tree::Program;
 use std::alloc::Global;
 use std::time::Instant;
 use std::{fs, io};
 
 const STEPS: u64 = 100_000_000;
 
+const LIMITS: Limits = Limits {
+    steps: STEPS,
+    ..Limits::DEFAULT
+};
+
 /// How often a program is run.
 const ROUNDS: u32 = 50;
 
-fn steps_of(alloc: Global, program: &Program) -> Result<u64, Fault> {
+fn steps_of(alloc: Global, program: &Prepared) -> Result<u64, Fault> {
     let mut space = Space::new(alloc, RactorNo(1), u32::MAX);
-    let mut machine = Machine::new(alloc, program, STEPS)?;
+    let mut machine = Machine::new(alloc, program, LIMITS)?;
     let mut steps = 0u64;
     for _turn in 0..u64::MAX {
         match machine.turn(program, &mut space, 1)? {
@@ -29,9 +33,9 @@ fn steps_of(alloc: Global, program: &Program) -> Result<u64, Fault> {
     Ok(steps)
 }
 
-fn run_once(alloc: Global, program: &Program) -> Result<(), Fault> {
+fn run_once(alloc: Global, program: &Prepared) -> Result<(), Fault> {
     let mut space = Space::new(alloc, RactorNo(1), u32::MAX);
-    let mut machine = Machine::new(alloc, program, STEPS)?;
+    let mut machine = Machine::new(alloc, program, LIMITS)?;
     for _turn in 0..STEPS {
         match machine.turn(program, &mut space, 1_000_000)? {
             Turn::More => {}
@@ -42,7 +46,7 @@ fn run_once(alloc: Global, program: &Program) -> Result<(), Fault> {
     Ok(())
 }
 
-fn run(alloc: Global, program: &Program) -> Result<(), Fault> {
+fn run(alloc: Global, program: &Prepared) -> Result<(), Fault> {
     for _ in 0..ROUNDS {
         run_once(alloc, program)?;
     }
@@ -61,6 +65,9 @@ pub fn measure(rt: &HostRuntime, file: &str) -> io::Result<()> {
         return println!(rt; "refused by the parser");
     };
     let parsed = begun.elapsed(rt)?.as_millis();
+    let Ok(program) = Prepared::of(rt.alloc(), program) else {
+        return println!(rt; "not enough memory");
+    };
     let (bytes, count) = (source.len(), tokens.len());
     let steps = steps_of(rt.alloc(), &program).unwrap_or(0);
     let begun = Instant::now(rt)?;

@@ -12,6 +12,8 @@ mod large;
 #[cfg(test)]
 mod limits;
 #[cfg(test)]
+mod methods;
+#[cfg(test)]
 mod rows;
 #[cfg(test)]
 mod run;

@@ -19,16 +19,14 @@ use Rattle.rr_builtin.specs.Calls.{call_act}
 use Rattle.rr_builtin.specs.declared.method.BuiltInMethod.{BuiltInMethod}
 use Rattle.rr_builtin.specs.declared.built.Built.{Built}
 use Rattle.rr_builtin.specs.declared.built.Built.TheVariants as built
-use Rattle.rr_eval.specs.declared.call.Callee.{Callee}
 use Rattle.rr_eval.specs.declared.problem.Problem.{Problem}
-use Rattle.rr_eval.specs.declared.problem.Problem.TheVariants.{MissingMethod}
 use Rattle.rr_eval.specs.declared.problem.Response.{Response}
 use Rattle.rr_eval.specs.declared.problem.Response.TheVariants as response
 use Rattle.rr_eval.specs.Context.{Context}
 use Rattle.rr_eval.specs.Callees.{method_of}
-use Rattle.rr_eval.specs.Calls.{sent, unpublished, reply_with, reply_of}
+use Rattle.rr_eval.specs.Calls.{sent, unpublished, reply_with}
 use Rattle.rr_eval.specs.Tasks.{task_reply, array_reply, inspected_reply, given_by, unless_lacking, lack_of, texts_of}
-use Rattle.rr_eval.specs.Responses.{ref_of, receiver_of, response_from, response_of}
+use Rattle.rr_eval.specs.Responses.{ref_of, response_from, response_of}
 use Rattle.rr_eval.specs.Requests.{Adds, arguments_of}
 use Rattle.rr_eval.specs.Runs.{alone}
 use Rattle.rr_eval.specs.Script.{Does, Calls, Reply}

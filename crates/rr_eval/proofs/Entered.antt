@@ -1,5 +1,5 @@
 -- A node is evaluated by its rule.
-use Rattle.std.proofs.Common.{◌≡◌, ℕ, suc, sym, ap, ◌∙◌, refl, Some, List, [], ◌∷◌, reverse, ℤ}
+use Rattle.std.proofs.Common.{◌≡◌, ℕ, suc, sym, ap, ◌∙◌, refl, Some, List, [], ◌∷◌, reverse, ℤ, Bool, true, false}
 use Rattle.rr_space.specs.Tables.{Table}
 use Rattle.rr_space.specs.declared.refer.Ref.{Ref}
 use Rattle.rr_space.specs.declared.refer.Ref.TheVariants.{Int}
@@ -18,7 +18,7 @@ use Rattle.rr_eval.specs.declared.frame.Control.TheVariants.{Enter}
 use Rattle.rr_eval.specs.View.{View}
 use Rattle.rr_eval.specs.Script.{State, Script, World, Spent, Ended, Waits, run, after, taken}
 use Rattle.rr_eval.specs.Requests.{Course, asking}
-use Rattle.rr_eval.specs.Rules.{Context, rule, meaning, on_value, with_value, settled, operation, begun}
+use Rattle.rr_eval.specs.Rules.{Context, rule, meaning, on_value, with_value, settled, operation, statements_of}
 use Rattle.rr_eval.specs.Nodes.{evaluated_tree}
 use Rattle.rr_eval.specs.Frames.{Code, runs_in, resumed, start, unwind, outcome_of, below_of}
 use Rattle.rr_eval.specs.Turns.{context_of, code_of, state_of, remaining, after_script, control_of, first_control, Replied, leaf_value}
@@ -64,16 +64,16 @@ limit p m t here at left h =
     ∙ unwind_spent (code_of p h.world) (reverse m.frames) m.held (state_of m t h)
 
 -- a leaf takes one step and changes nothing
-leaf_of : (c : Context) (w : World) (tree : Tree) (s : State) (n : ℕ) (v : Ref) → leaf_value tree s.memory.vars ≡ Some v → run w (meaning c w) (rule c tree) s n ≡ Ended (Gave v) s n
+leaf_of : (c : Context) (w : World) (tree : Tree) (s : State) (n : ℕ) (v : Ref) → leaf_value tree s.memory.calls.frames ≡ Some v → run w (meaning c w) (rule c tree) s n ≡ Ended (Gave v) s n
 leaf_of c w (int z) s n v e = ap (λ x. Ended (Gave x) s n) (cc e)
 leaf_of c w (local depth slot x) s n v e = ap (λ y. Ended (Gave y) s n) (cc e)
 leaf_of c w _ s n v e = cc e
 
-leaf : (c : Context) (w : World) (tree : Tree) (s : State) (n : ℕ) (v : Ref) → leaf_value tree s.memory.vars ≡ Some v → meaning c w tree s (suc n) ≡ Ended (Gave v) s n
+leaf : (c : Context) (w : World) (tree : Tree) (s : State) (n : ℕ) (v : Ref) → leaf_value tree s.memory.calls.frames ≡ Some v → meaning c w tree s (suc n) ≡ Ended (Gave v) s n
 leaf c w tree s n v e = meaning_rule c w tree s n ∙ leaf_of c w tree s n v e
 
 -- an operator on two leaves that are integers
-pub leaves : (p : Program) (m : View) (t : Table) (here n a b : ℕ) (op : BinaryOperator) (x y : ℤ) → m.control ≡ Enter here → m.left ≡ suc (suc (suc n)) → tree_at p.nodes.items here ≡ evaluated_tree p.nodes.items (Binary op a b) → leaf_value (tree_at p.nodes.items a) m.vars ≡ Some (Int x) → leaf_value (tree_at p.nodes.items b) m.vars ≡ Some (Int y) → (h : Course) → remaining p m t h ≡ after_script p m t (settled (context_of p) (integers op x y)) h n
+pub leaves : (p : Program) (m : View) (t : Table) (here n a b : ℕ) (op : BinaryOperator) (x y : ℤ) → m.control ≡ Enter here → m.left ≡ suc (suc (suc n)) → tree_at p.nodes.items here ≡ evaluated_tree p.nodes.items (Binary op a b) → leaf_value (tree_at p.nodes.items a) m.calls.frames ≡ Some (Int x) → leaf_value (tree_at p.nodes.items b) m.calls.frames ≡ Some (Int y) → (h : Course) → remaining p m t h ≡ after_script p m t (settled (context_of p) (integers op x y)) h n
 leaves p m t here n a b op x y at left there first second h =
     let c = context_of p in
     let ns = p.nodes.items in
@@ -84,7 +84,7 @@ leaves p m t here n a b op x y at left there first second h =
     ∙ ap (λ o. after o (λ r. run h.world (meaning c h.world) (on_value (operation c op (Int x)) r))) (leaf c h.world (tree_at ns b) s n (Int y) second))
 
 -- an operator on an integer and a right operand that is a leaf
-pub leaf_right : (p : Program) (m : View) (t : Table) (n b : ℕ) (op : BinaryOperator) (x y : ℤ) → m.left ≡ suc n → leaf_value (tree_at p.nodes.items b) m.vars ≡ Some (Int y) → (h : Course) → after_script p m t (resumed (code_of p h.world) (Left op b) [] (Gave (Int x))) h m.left ≡ after_script p m t (settled (context_of p) (integers op x y)) h n
+pub leaf_right : (p : Program) (m : View) (t : Table) (n b : ℕ) (op : BinaryOperator) (x y : ℤ) → m.left ≡ suc n → leaf_value (tree_at p.nodes.items b) m.calls.frames ≡ Some (Int y) → (h : Course) → after_script p m t (resumed (code_of p h.world) (Left op b) [] (Gave (Int x))) h m.left ≡ after_script p m t (settled (context_of p) (integers op x y)) h n
 leaf_right p m t n b op x y left there h =
     let c = context_of p in
     let ns = p.nodes.items in
@@ -92,6 +92,6 @@ leaf_right p m t n b op x y left there h =
     ∙ ap (λ o. unwind (code_of p h.world) (reverse m.frames) m.held (after o (λ r. run h.world (meaning c h.world) (on_value (operation c op (Int x)) r)))) (leaf c h.world (tree_at ns b) (state_of m t h) n (Int y) there)
 
 -- what a program does first
-pub first_start : (p : Program) (w : World) (ds : List ℕ) (root : ℕ) (s : State) (n : ℕ) → start (code_of p w) (first_control ds root) s n ≡ begun (context_of p) w ds (tree_at p.nodes.items root) s n
-first_start p w [] root s n = refl
-first_start p w (d ∷ ds) root s n = refl
+pub first_start : (p : Program) (w : World) (simple : Bool) (root : ℕ) (s : State) (n : ℕ) → start (code_of p w) (first_control simple root) s n ≡ statements_of (context_of p) w simple (tree_at p.nodes.items root) s n
+first_start p w true root s n = refl
+first_start p w false root s n = refl

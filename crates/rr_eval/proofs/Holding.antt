@@ -1,5 +1,5 @@
 -- What the machine holds leads somewhere.
-use Rattle.std.proofs.Common.{◌≡◌, ℕ, ◌<◌, ◌≤◌, sym, subst, refl, arith, true, false, nat_lt, nat_eq, map, List, [], ◌∷◌, ◌++◌, length, get_or, set, drop, zero, suc, Option, Some, None}
+use Rattle.std.proofs.Common.{◌≡◌, ℕ, ◌<◌, ◌≤◌, sym, subst, refl, arith, true, false, nat_lt, nat_eq, map, List, [], ◌∷◌, ◌++◌, length, get_or, set, take, drop, replicate, ◌-◌, zero, suc, Option, Some, None}
 use Rattle.std.specs.List.{All, IsDistinct}
 use Rattle.std.proofs.lemmas.Bool.Decides.{nat_tests}
 use Rattle.std.proofs.lemmas.List.Elements.{All-get_or, All-set, All-push, All-weaker}
@@ -10,10 +10,11 @@ use Rattle.rr_space.specs.Parts.{IsWithin}
 use Rattle.rr_space.specs.Tables.{Below}
 use Rattle.rr_builtin.specs.Acts.{IsRefAmong}
 use Rattle.rr_space.specs.Views.{field_number}
+use Rattle.rr_frames.specs.Frames.{Stack, Frame as Activated, frame_at, no_frame, read_last, write_last, laid, left}
 use Rattle.rr_space.specs.declared.refer.Ref.{Ref}
 use Rattle.rr_space.specs.declared.refer.Ref.TheVariants as refs
 use Rattle.rr_eval.specs.declared.problem.Answer.{Answer}
-use Rattle.rr_eval.specs.declared.problem.Answer.TheVariants.{Gave, Raised}
+use Rattle.rr_eval.specs.declared.problem.Answer.TheVariants.{Gave, Raised, Returned}
 use Rattle.rr_eval.specs.declared.problem.Response.{Response}
 use Rattle.rr_eval.specs.declared.problem.Response.TheVariants.{Gives, Throws, Fails}
 use Rattle.rr_eval.specs.declared.frame.Frame.{Frame}
@@ -21,7 +22,9 @@ use Rattle.rr_eval.specs.declared.frame.Frame.TheVariants as frames
 use Rattle.rr_eval.specs.declared.frame.Control.{Control}
 use Rattle.rr_eval.specs.declared.frame.Control.TheVariants.{Enter, Give, Throw, Raise}
 use Rattle.rr_eval.specs.View.{View}
-use Rattle.rr_eval.specs.Within.{Reach, reach, IsReached, IsAnswerReached, IsFrameReached, IsControlReached, IsResponseReached, AreReached, AreWithin}
+use Rattle.rr_eval.specs.Frames.{below_of}
+use Rattle.rr_frames.specs.declared.activation.Activation.{Activation}
+use Rattle.rr_eval.specs.Within.{Reach, reach, AreVariablesReached, IsReached, IsAnswerReached, IsFrameReached, IsControlReached, IsResponseReached, AreReached, AreWithin}
 
 -- more slots
 pub ref_more : (k l : ℕ) (cs : Option Below) → k ≤ l → (r : Ref) → IsReached (reach k cs) r → IsReached (reach l cs) r
@@ -45,6 +48,8 @@ frame_more k l cs le frames.Negation h = tt
 frame_more k l cs le (frames.Left op b) h = tt
 frame_more k l cs le (frames.Store x) h = tt
 frame_more k l cs le (frames.Branch b d) h = tt
+frame_more k l cs le frames.Return h = tt
+frame_more k l cs le frames.Back h = tt
 frame_more k l cs le (frames.Rest end count) h = tt
 frame_more k l cs le (frames.Argument target end count base) h = tt
 
@@ -52,6 +57,7 @@ control_more : (k l : ℕ) (cs : Option Below) → k ≤ l → (c : Control) →
 control_more k l cs le (Enter part) h = tt
 control_more k l cs le (Give (Gave v)) h = ref_more k l cs le v h
 control_more k l cs le (Give (Raised e)) h = ref_more k l cs le e h
+control_more k l cs le (Give (Returned v)) h = ref_more k l cs le v h
 control_more k l cs le (Throw e) h = tt
 control_more k l cs le (Raise class message) h = ref_more k l cs le message h
 
@@ -61,7 +67,7 @@ reached_more k l cs le m h = record {
   control = control_more k l cs le m.control h.control;
   frames = All-weaker (IsFrameReached (reach k cs)) (IsFrameReached (reach l cs)) (frame_more k l cs le) m.frames h.frames;
   held = All-weaker (IsReached (reach k cs)) (IsReached (reach l cs)) (ref_more k l cs le) m.held h.held;
-  vars = All-weaker (IsReached (reach k cs)) (IsReached (reach l cs)) (ref_more k l cs le) m.vars h.vars;
+  calls = All-weaker (AreVariablesReached (reach k cs)) (AreVariablesReached (reach l cs)) (λ f. All-weaker (IsReached (reach k cs)) (IsReached (reach l cs)) (ref_more k l cs le) f.variables) m.calls.frames h.calls;
 }
 
 pub within_more : (k l : ℕ) → k ≤ l → (m : View) → AreWithin k m → AreWithin l m
@@ -113,33 +119,98 @@ ref_reached k below (refs.Symbol s) h among = tt
 ref_reached k below (refs.Class c) h among = tt
 ref_reached k below (refs.Ractor r) h among = tt
 
--- the value of a variable
-pub variable_within : (k : Reach) (vars : List Ref) (slot : ℕ) → All (IsReached k) vars → IsReached k (get_or vars slot refs.Nil)
-variable_within k vars slot h = elim (nat_lt slot (length vars)) as (λ b. nat_lt slot (length vars) ≡ b → IsReached k (get_or vars slot refs.Nil)) [
-  | true ↦ λ e. let lt : slot < length vars = grind (arith, nat_tests) in All-get_or (IsReached k) vars slot refs.Nil lt h
-  | false ↦ λ e. let past : length vars ≤ slot = grind (arith, nat_tests) in subst (IsReached k) (sym (get_or-eq_default vars refs.Nil past)) tt
+-- an element, where there is one, and what stands for it otherwise
+all_at : {A : Type 0} (P : A → Type 0) (xs : List A) (i : ℕ) (d : A) → P d → All P xs → P (get_or xs i d)
+all_at P xs i d none h = elim (nat_lt i (length xs)) as (λ b. nat_lt i (length xs) ≡ b → P (get_or xs i d)) [
+  | true ↦ λ e. let lt : i < length xs = grind (arith, nat_tests) in All-get_or P xs i d lt h
+  | false ↦ λ e. let past : length xs ≤ i = grind (arith, nat_tests) in subst P (sym (get_or-eq_default xs d past)) none
 ] refl
+
+all_nil : {A : Type 0} (P : A → Type 0) → All P []
+all_nil P = λ i d lt. absurd (omega (arith, lt))
+
+-- parts of lists
+pub all_rest : {A : Type 0} (P : A → Type 0) (x : A) (xs : List A) → All P (x ∷ xs) → All P xs
+all_rest P x xs h = λ i d lt. h (suc i) d (omega (arith, lt))
+
+pub all_cons : {A : Type 0} (P : A → Type 0) (x : A) (xs : List A) → P x → All P xs → All P (x ∷ xs)
+all_cons P x xs first rest zero d lt = first
+all_cons P x xs first rest (suc i) d lt = rest i d (omega (arith, lt))
+
+pub all_drop : {A : Type 0} (P : A → Type 0) (n : ℕ) (xs : List A) → All P xs → All P (drop n xs)
+all_drop P zero xs h = h
+all_drop P (suc n) [] h = h
+all_drop P (suc n) (x ∷ xs) h = all_drop P n xs (all_rest P x xs h)
+
+pub all_take : {A : Type 0} (P : A → Type 0) (n : ℕ) (xs : List A) → All P xs → All P (take n xs)
+all_take P zero xs h = all_nil P
+all_take P (suc n) [] h = h
+all_take P (suc n) (x ∷ xs) h = all_cons P x (take n xs) (h zero x (omega arith)) (all_take P n xs (all_rest P x xs h))
+
+pub all_append : {A : Type 0} (P : A → Type 0) (xs ys : List A) → All P xs → All P ys → All P (xs ++ ys)
+all_append P [] ys h i = i
+all_append P (x ∷ xs) ys h i = all_cons P x (xs ++ ys) (h zero x (omega arith)) (all_append P xs ys (all_rest P x xs h) i)
+
+-- the variables of a frame
+pub frame_within : (k : Reach) (fs : List Activated) (number : ℕ) → All (AreVariablesReached k) fs → All (IsReached k) (frame_at number fs).variables
+frame_within k fs number h = all_at (AreVariablesReached k) fs number no_frame (all_nil (IsReached k)) h
+
+-- the value of a variable
+pub variable_within : (k : Reach) (fs : List Activated) (slot : ℕ) → All (AreVariablesReached k) fs → IsReached k (read_last slot fs)
+variable_within k fs slot h = all_at (IsReached k) (frame_at (length fs - 1) fs).variables slot refs.Nil tt (frame_within k fs (length fs - 1) h)
+
+-- a variable has another value
+pub written_within : (k : Reach) (fs : List Activated) (slot : ℕ) (v : Ref) → All (AreVariablesReached k) fs → IsReached k v → All (AreVariablesReached k) (write_last slot v fs)
+written_within k fs slot v h value =
+    let number = length fs - 1 in
+    let old = frame_at number fs in
+    All-set (AreVariablesReached k) fs number (record old { variables = set old.variables slot v }) (All-set (IsReached k) old.variables slot v value (frame_within k fs number h)) h
+
+-- the variables of a new frame
+replicated : (k : Reach) (n : ℕ) → All (IsReached k) (replicate n refs.Nil)
+replicated k zero = all_nil (IsReached k)
+replicated k (suc n) = all_cons (IsReached k) refs.Nil (replicate n refs.Nil) tt (replicated k n)
+
+pub laid_within : (k : Reach) (parameters size : ℕ) (vs : List Ref) → All (IsReached k) vs → All (IsReached k) (laid parameters size vs)
+laid_within k parameters size vs h =
+    let kept = take parameters vs in
+    all_append (IsReached k) (take size kept) (replicate (size - length kept) refs.Nil) (all_take (IsReached k) size kept (all_take (IsReached k) parameters vs h)) (replicated k (size - length kept))
+
+-- one frame more, or less
+pub entered_within : (k : Reach) (fs : List Activated) (f : Activated) → All (AreVariablesReached k) fs → All (IsReached k) f.variables → All (AreVariablesReached k) (fs ++ f ∷ [])
+entered_within k fs f h new = All-push (AreVariablesReached k) fs f h new
+
+pub left_within : (k : Reach) (fs : List Activated) → All (AreVariablesReached k) fs → All (AreVariablesReached k) (left fs)
+left_within k fs h = all_take (AreVariablesReached k) (length fs - 1) fs h
 
 -- other fields as they are
 pub with_control : (k : Reach) (m : View) (c : Control) → AreReached k m → IsControlReached k c → AreReached k (record m { control = c })
 unfolding AreReached
-with_control k m c h here = record { control = here; frames = h.frames; held = h.held; vars = h.vars }
+with_control k m c h here = record { control = here; frames = h.frames; held = h.held; calls = h.calls }
 
 pub with_frame : (k : Reach) (m : View) (f : Frame) (c : Control) → AreReached k m → IsFrameReached k f → IsControlReached k c → AreReached k (record m { control = c; frames = m.frames ++ f ∷ [] })
 unfolding AreReached
-with_frame k m f c h frame here = record { control = here; frames = All-push (IsFrameReached k) m.frames f h.frames frame; held = h.held; vars = h.vars }
+with_frame k m f c h frame here = record { control = here; frames = All-push (IsFrameReached k) m.frames f h.frames frame; held = h.held; calls = h.calls }
 
 pub with_left : (k : Reach) (m : View) (n : ℕ) → AreReached k m → AreReached k (record m { left = n })
 unfolding AreReached
-with_left k m n h = record { control = h.control; frames = h.frames; held = h.held; vars = h.vars }
+with_left k m n h = record { control = h.control; frames = h.frames; held = h.held; calls = h.calls }
 
 pub with_frames : (k : Reach) (m : View) (fs : List Frame) → fs ≡ m.frames → AreReached k m → AreReached k (record m { frames = fs })
 unfolding AreReached
-with_frames k m fs e h = record { control = h.control; frames = subst (All (IsFrameReached k)) (sym e) h.frames; held = h.held; vars = h.vars }
+with_frames k m fs e h = record { control = h.control; frames = subst (All (IsFrameReached k)) (sym e) h.frames; held = h.held; calls = h.calls }
 
-pub with_variable : (k : Reach) (m : View) (vars : List Ref) (slot : ℕ) (v : Ref) (c : Control) → vars ≡ set m.vars slot v → AreReached k m → IsReached k v → IsControlReached k c → AreReached k (record m { control = c; vars = vars })
+pub with_calls : (k : Reach) (m : View) (calls : Stack) (c : Control) → AreReached k m → All (AreVariablesReached k) calls.frames → IsControlReached k c → AreReached k (record m { control = c; calls = calls })
 unfolding AreReached
-with_variable k m vars slot v c e h value here = record { control = here; frames = h.frames; held = h.held; vars = subst (All (IsReached k)) (sym e) (All-set (IsReached k) m.vars slot v value h.vars) }
+with_calls k m calls c h variables here = record { control = here; frames = h.frames; held = h.held; calls = variables }
+
+pub with_variable : (k : Reach) (m : View) (calls : Stack) (slot : ℕ) (v : Ref) (c : Control) → calls ≡ record m.calls { frames = write_last slot v m.calls.frames } → AreReached k m → IsReached k v → IsControlReached k c → AreReached k (record m { control = c; calls = calls })
+unfolding AreReached
+with_variable k m calls slot v c e h value here = with_calls k m calls c h (subst (λ (s : Stack). All (AreVariablesReached k) s.frames) (sym e) (written_within k m.calls.frames slot v h.calls value)) here
+
+pub calls_reached : (k : Reach) (m : View) → AreReached k m → All (AreVariablesReached k) m.calls.frames
+unfolding AreReached
+calls_reached k m h = h.calls
 
 -- the value, or the exception, that is given
 pub given_within : (k : Reach) (m : View) (a : Answer) → m.control ≡ Give a → AreReached k m → IsAnswerReached k a
@@ -156,15 +227,37 @@ pub raised_reached : (k : Reach) (m : View) (class : ClassId) (message : Ref) �
 unfolding AreReached
 raised_reached k m class message e h = subst (IsControlReached k) e h.control
 
--- parts of what is held
-pub all_rest : (P : Ref → Type 0) (x : Ref) (xs : List Ref) → All P (x ∷ xs) → All P xs
-all_rest P x xs h = λ i d lt. h (suc i) d (omega (arith, lt))
-
-pub all_drop : (P : Ref → Type 0) (n : ℕ) (xs : List Ref) → All P xs → All P (drop n xs)
-all_drop P zero xs h = h
-all_drop P (suc n) [] h = h
-all_drop P (suc n) (x ∷ xs) h = all_drop P n xs (all_rest P x xs h)
-
 pub held_reached : (k : Reach) (m : View) → AreReached k m → All (IsReached k) m.held
 unfolding AreReached
 held_reached k m h = h.held
+
+-- the values below a frame
+below_reached : (P : Ref → Type 0) (f : Frame) (held : List Ref) → All P held → All P (below_of f held)
+below_reached P (frames.Argument target end count base) held h = all_take P base held h
+below_reached P _ held h = h
+
+-- a method's frame, with the values of its parameters
+pub enter_reached : (k : Reach) (m : View) (f : Frame) (fs : List Frame) (held : List Ref) (calls : Stack) (parameters size body : ℕ) (vs : List Ref) (a : Activation) → fs ≡ m.frames ++ frames.Back ∷ [] → held ≡ below_of f m.held
+    → calls.frames ≡ m.calls.frames ++ record { variables = laid parameters size vs; activation = a } ∷ [] → AreReached k m → All (IsReached k) vs
+    → AreReached k (record { control = Enter body; frames = fs; held = held; calls = calls; left = m.left })
+unfolding AreReached
+enter_reached k m f fs held calls parameters size body vs a pushed cleared entered h values = record {
+  control = tt;
+  frames = subst (All (IsFrameReached k)) (sym pushed) (All-push (IsFrameReached k) m.frames frames.Back h.frames tt);
+  held = subst (All (IsReached k)) (sym cleared) (below_reached (IsReached k) f m.held h.held);
+  calls = subst (All (AreVariablesReached k)) (sym entered) (entered_within k m.calls.frames (record { variables = laid parameters size vs; activation = a }) h.calls (laid_within k parameters size vs values));
+}
+
+-- other frames of methods
+pub same_calls : (k : Reach) (m : View) (calls : Stack) → calls ≡ m.calls → AreReached k m → AreReached k (record m { calls = calls })
+same_calls k m calls e h = subst (λ s. AreReached k (record m { calls = s })) (sym e) h
+
+-- a machine that begins
+pub first_reached : (k : Reach) (m : View) → IsControlReached k m.control → m.frames ≡ [] → m.held ≡ [] → All (AreVariablesReached k) m.calls.frames → AreReached k m
+unfolding AreReached
+first_reached k m control frames held calls = record {
+  control = control;
+  frames = subst (All (IsFrameReached k)) (sym frames) (all_nil (IsFrameReached k));
+  held = subst (All (IsReached k)) (sym held) (all_nil (IsReached k));
+  calls = calls;
+}

@@ -18,3 +18,5 @@ pub mod Reading
 pub mod Calling
 pub mod Replying
 pub mod Literals
+pub mod Defining
+pub mod Invoking

@@ -11,7 +11,8 @@ use Rattle.rr_eval.specs.declared.frame.Frame.TheVariants.{Argument}
 use Rattle.rr_eval.specs.Script.{Go}
 use Rattle.rr_eval.specs.declared.call.Callee.TheVariants as callees
 use Rattle.rr_eval.specs.declared.call.Target.TheVariants.{Do, Call as CallTarget}
-use Rattle.rr_eval.specs.declared.call.Task.{Task}
+use Rattle.rr_eval.specs.declared.call.Target.{Target}
+use Rattle.rr_eval.specs.Methods.{own_method}
 use Rattle.rr_eval.specs.declared.call.Task.TheVariants.{MakeArray}
 use Rattle.rr_eval.specs.Rules.{Context, rule, statements, values, on_value, finish, printing, call_rule, not_here}
 use Rattle.rr_eval.specs.Nodes.{evaluated_tree, is_unknown}
@@ -31,15 +32,15 @@ pub sequence_rule : (ns : List Node) (c : Context) (first count : ℕ) → state
 sequence_rule ns c first count = ap statements (sym (items_listed (trees_before ns (first + count) count)))
 
 -- the first of several arguments
-pub values_from : (c : Code) (task : Task) (first count held : ℕ) → 1 ≤ count → Go (tree_at c.nodes first) (resumed c (Argument (Do task) (first + count) (count - 1) held) []) ≡ values (trees_before c.nodes (first + count) count) [] (finish c.context (Do task))
-values_from c task first zero held h = absurd (omega arith)
-values_from c task first (suc more) held h =
+pub values_from : (c : Code) (target : Target) (first count held : ℕ) → 1 ≤ count → Go (tree_at c.nodes first) (resumed c (Argument target (first + count) (count - 1) held) []) ≡ values (trees_before c.nodes (first + count) count) [] (finish c.context target)
+values_from c target first zero held h = absurd (omega arith)
+values_from c target first (suc more) held h =
     let k : suc more - 1 ≡ more = omega arith in
     let e : first ≡ first + suc more - suc more = omega arith in
-    ap (λ m. Go (tree_at c.nodes first) (resumed c (Argument (Do task) (first + suc more) m held) [])) k ∙ ap (λ p. Go (tree_at c.nodes p) (resumed c (Argument (Do task) (first + suc more) more held) [])) e
+    ap (λ m. Go (tree_at c.nodes first) (resumed c (Argument target (first + suc more) m held) [])) k ∙ ap (λ p. Go (tree_at c.nodes p) (resumed c (Argument target (first + suc more) more held) [])) e
 
-pub call_is : (ns : List Node) (c : Context) (x : Sym) (first count site : ℕ) → call_rule c (printing c x.0) (trees_before ns (first + count) count) ≡ rule c (evaluated_tree ns (Call x first count site))
-call_is ns c x first count site = ap (call_rule c (printing c x.0)) (sym (items_listed (trees_before ns (first + count) count)))
+pub call_is : (ns : List Node) (c : Context) (x : Sym) (first count site : ℕ) → call_rule c (own_method c.program x.0) (printing c x.0) x (trees_before ns (first + count) count) ≡ rule c (evaluated_tree ns (Call x first count site))
+call_is ns c x first count site = ap (call_rule c (own_method c.program x.0) (printing c x.0) x) (sym (items_listed (trees_before ns (first + count) count)))
 
 pub array_is : (ns : List Node) (c : Context) (first count : ℕ) → values (trees_before ns (first + count) count) [] (finish c (Do MakeArray)) ≡ rule c (evaluated_tree ns (nodes.Array first count))
 array_is ns c first count = ap (λ ts. values ts [] (finish c (Do MakeArray))) (sym (items_listed (trees_before ns (first + count) count)))
@@ -75,4 +76,5 @@ unknown_rule ns c (nodes.Choose a b d) e = absurd cc
 unknown_rule ns c (nodes.Loop until a b) e = absurd cc
 unknown_rule ns c (nodes.Sequence first count) e = absurd cc
 unknown_rule ns c (nodes.Item a) e = absurd cc
+unknown_rule ns c (nodes.Return a) e = absurd cc
 unknown_rule ns c _ e = refl

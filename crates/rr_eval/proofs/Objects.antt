@@ -1,10 +1,10 @@
 -- An evaluation takes no object away.
-use Rattle.std.proofs.Common.{◌≡◌, nat_eq, slice_index_or, ap, sym, subst, if◌then◌else◌, ◌≤◌, ℕ, zero, suc, Bool, arith, List, [], ◌∷◌, ◌++◌, length, length-append, reverse, Option, Some, None, true, false}
+use Rattle.std.proofs.Common.{◌≡◌, nat_eq, nat_lt, slice_index_or, ap, sym, subst, if◌then◌else◌, ◌≤◌, ℕ, zero, suc, Bool, arith, List, [], ◌∷◌, ◌++◌, length, length-append, reverse, Option, Some, None, true, false}
 use Rattle.rr_base.specs.Classes.{class_id}
 use Rattle.rr_eval.specs.Constants.{class_named}
 use Rattle.rr_base.specs.declared.class.BuiltInClass.{BuiltInClass}
 use Rattle.rr_base.specs.declared.name.Sym.{Sym}
-use Rattle.rr_base.specs.declared.name.TheConstants.ClassId.{RACTOR}
+use Rattle.rr_base.specs.declared.name.TheConstants.ClassId.{OBJECT, RACTOR}
 use Rattle.rr_tree.specs.declared.node.Path.TheVariants.{Plain}
 use Rattle.rr_base.specs.declared.name.ClassId.{ClassId}
 use Rattle.rr_space.specs.Tables.{Table, Here}
@@ -14,22 +14,24 @@ use Rattle.rr_space.specs.declared.refer.Ref.TheVariants.{Int, Local}
 use Rattle.rr_space.specs.declared.refer.Ref.TheVariants as refs
 use Rattle.rr_builtin.specs.Objects.{is_truthy}
 use Rattle.rr_eval.specs.Values.{goes_on}
-use Rattle.rr_tree.specs.Tree.{tree_at, Tree, nil, truth, int, text, symbol, class_named as class_tree, constant, array, send, index, append, local, bare, call, logical_and, logical_or, logical_not, negate, binary, assign, choose, repeat, sequence}
+use Rattle.rr_tree.specs.Tree.{tree_at, Tree, nil, truth, int, text, symbol, class_named as class_tree, constant, array, send, index, append, local, bare, call, logical_and, logical_or, logical_not, negate, binary, assign, choose, repeat, sequence, return}
 use Rattle.rr_tree.specs.declared.node.BinaryOperator.{BinaryOperator}
 use Rattle.rr_tree.specs.declared.program.Program.{Program}
 use Rattle.rr_eval.specs.declared.problem.Answer.{Answer}
-use Rattle.rr_eval.specs.declared.problem.Answer.TheVariants.{Gave, Raised}
+use Rattle.rr_eval.specs.declared.problem.Answer.TheVariants.{Gave, Raised, Returned}
 use Rattle.rr_eval.specs.declared.call.Callee.TheVariants as callees
 use Rattle.rr_eval.specs.declared.call.Target.{Target}
-use Rattle.rr_eval.specs.declared.call.Target.TheVariants.{Do as DoTarget, Call}
+use Rattle.rr_eval.specs.declared.call.Target.TheVariants.{Do as DoTarget, Call, Own}
 use Rattle.rr_eval.specs.declared.call.Task.{Task}
 use Rattle.rr_eval.specs.declared.call.Task.TheVariants.{MakeArray}
 use Rattle.rr_eval.specs.declared.problem.Response.{Response}
 use Rattle.rr_eval.specs.declared.problem.Response.TheVariants.{Gives, Throws, Fails}
 use Rattle.rr_eval.specs.declared.problem.Problem.{Problem}
-use Rattle.rr_eval.specs.declared.problem.Problem.TheVariants.{MissingName, MissingConstant, NotHere}
+use Rattle.rr_eval.specs.declared.problem.Problem.TheVariants.{BuiltIn, MissingMethod, MissingName, MissingConstant, NotHere}
+use Rattle.rr_builtin.specs.declared.problem.Problem.TheVariants.{Count, TooDeep}
+use Rattle.rr_builtin.specs.declared.problem.Receiver.TheVariants.{Instance}
 use Rattle.rr_eval.specs.declared.frame.Frame.{Frame}
-use Rattle.rr_eval.specs.declared.frame.Frame.TheVariants.{Not, Negation, And, Or, Left, Right, Store, Branch, Condition, Body, Rest, Argument}
+use Rattle.rr_eval.specs.declared.frame.Frame.TheVariants.{Not, Negation, And, Or, Left, Right, Store, Branch, Condition, Body, Return, Back, Rest, Argument}
 use Rattle.rr_eval.specs.Script.{Memory, State, Script, Ret, Go, See, Do, Ask, Asked, Reply, World, Outcome, Ended, Spent, Waits, Evaluation, run, after, taken, objects_of}
 use Rattle.rr_eval.specs.Requests.{Course, Adds, AddsTo, asking}
 use Rattle.rr_base.specs.declared.fault.Fault.{Fault}
@@ -38,7 +40,8 @@ use Rattle.rr_eval.specs.Acts.{Passes}
 use Rattle.rr_eval.specs.Turns.{context_of, code_of, state_of, after_script, asking_then}
 use Rattle.rr_builtin.specs.Acts.{with_text}
 use Rattle.rr_eval.specs.Operators.{make, integers, opposite}
-use Rattle.rr_eval.specs.Rules.{Context, items, throw, raise, settled, on_value, with_value, on_table, operation, negation, statements, values, finish, printing, bare_rule, constant_rule, not_here, call_rule, rule, eval}
+use Rattle.rr_eval.specs.Rules.{Context, items, throw, raise, settled, on_value, with_value, on_table, operation, negation, statements, values, finish, printing, bare_rule, constant_rule, not_here, call_rule, own_rule, back, rule, eval}
+use Rattle.rr_eval.specs.Methods.{Method, own_method}
 use Rattle.rr_tree.specs.Nodes.{trees_before}
 use Rattle.rr_eval.specs.Messages.{message, exception_class}
 use Rattle.rr_eval.specs.Exceptions.{exception_object, with_exception}
@@ -63,6 +66,7 @@ Keeps (Ask q next) = (r : Response) → Keeps (next r)
 on_value_keeps : (next : Ref → Script) → ((v : Ref) → Keeps (next v)) → (a : Answer) → Keeps (on_value next a)
 on_value_keeps next h (Gave v) = h v
 on_value_keeps next h (Raised e) = tt
+on_value_keeps next h (Returned v) = tt
 
 exception_keeps : (class : ClassId) (message : Ref) (t : Table) → count t ≤ count (with_exception class message t)
 exception_keeps class message t = omega (arith, length-append t.slots (Here (exception_object class message) ∷ []))
@@ -86,10 +90,25 @@ negates : (c : Context) (v : Ref) → Keeps (negation c v)
 negates c (Int x) = settled_keeps c (opposite x)
 negates c v = settled_keeps c
 
+if_keeps : (b : Bool) (p q : Script) → Keeps p → Keeps q → Keeps (if b then p else q)
+if_keeps true p q kept other = kept
+if_keeps false p q kept other = other
+
+back_keeps : (a : Answer) → Keeps (back a)
+back_keeps a = (λ m. omega arith, tt)
+
+own_keeps : (c : Context) (x : Sym) (m : Option Method) (vs : List Ref) → Keeps (own_rule c x m vs)
+own_keeps c x None vs = throw_keeps c (MissingMethod (callees.Name x) (Instance OBJECT))
+own_keeps c x (Some m) vs =
+    if_keeps (nat_eq (length vs) m.parameters) _ _
+    (λ k. if_keeps (nat_lt (length k.calls.frames) k.calls.limit) _ _ (λ l. omega arith, λ a. back_keeps a) (throw_keeps c (BuiltIn TooDeep)))
+    (throw_keeps c (BuiltIn (Count (length vs) m.parameters m.parameters)))
+
 finish_keeps : (c : Context) (target : Target) (vs : List Ref) → Keeps (finish c target vs)
 finish_keeps c (DoTarget task) vs = λ m. settled_keeps c
 finish_keeps c (Call callee) [] = tt
 finish_keeps c (Call callee) (v ∷ vs) = settled_keeps c
+finish_keeps c (Own x) vs = own_keeps c x (own_method c.program x.0) vs
 
 statements_keep : (ts : List Tree) → Keeps (statements ts)
 statements_keep [] = tt
@@ -100,25 +119,23 @@ values_keep : (c : Context) (target : Target) (ts : List Tree) (stand : List Ref
 values_keep c target [] stand = finish_keeps c target stand
 values_keep c target (t ∷ ts) stand = on_value_keeps (λ v. values ts (stand ++ v ∷ []) (finish c target)) (λ v. values_keep c target ts (stand ++ v ∷ []))
 
-if_keeps : (b : Bool) (p q : Script) → Keeps p → Keeps q → Keeps (if b then p else q)
-if_keeps true p q kept other = kept
-if_keeps false p q kept other = other
-
 round_keeps : (b : Bool) (body loop : Tree) → Keeps (if b then with_value body (λ w. Go loop Ret) else Ret (Gave refs.Nil))
 round_keeps true body loop = on_value_keeps _ (λ w. λ a. tt)
 round_keeps false body loop = tt
 
-bare_keeps : (c : Context) (task : Option Task) (x : ℕ) → Keeps (bare_rule c task x)
-bare_keeps c (Some task) x = finish_keeps c (DoTarget task) []
-bare_keeps c None x = throw_keeps c (MissingName (record { 0 = x }))
+bare_keeps : (c : Context) (m : Option Method) (task : Option Task) (x : Sym) → Keeps (bare_rule c m task x)
+bare_keeps c (Some m) task x = finish_keeps c (Own x) []
+bare_keeps c None (Some task) x = finish_keeps c (DoTarget task) []
+bare_keeps c None None x = throw_keeps c (MissingName x)
 
 constant_keeps : (c : Context) (class : Option BuiltInClass) (x : Sym) → Keeps (constant_rule c class x)
 constant_keeps c (Some k) x = if_keeps (nat_eq (class_id k).0 RACTOR.0) (not_here c) (Ret (Gave (refs.Class (class_id k)))) (throw_keeps c NotHere) tt
 constant_keeps c None x = throw_keeps c (MissingConstant x)
 
-call_keeps : (c : Context) (task : Option Task) (ts : List Tree) → Keeps (call_rule c task ts)
-call_keeps c (Some task) ts = values_keep c (DoTarget task) ts []
-call_keeps c None ts = throw_keeps c NotHere
+call_keeps : (c : Context) (m : Option Method) (task : Option Task) (x : Sym) (ts : List Tree) → Keeps (call_rule c m task x ts)
+call_keeps c (Some m) task x ts = values_keep c (Own x) ts []
+call_keeps c None (Some task) x ts = values_keep c (DoTarget task) ts []
+call_keeps c None None x ts = throw_keeps c NotHere
 
 rule_keeps : (c : Context) (tree : Tree) → Keeps (rule c tree)
 rule_keeps c nil = tt
@@ -133,8 +150,8 @@ rule_keeps c (array list) = values_keep c (DoTarget MakeArray) (items list) []
 rule_keeps c (constant (Plain x)) = constant_keeps c (class_named (slice_index_or c.symbols x.0 [])) x
 rule_keeps c (text i) = λ m. (λ k. make_keeps c.program.freezes _ k.table, tt)
 rule_keeps c (local depth slot x) = λ m. tt
-rule_keeps c (bare x) = bare_keeps c (printing c x) x
-rule_keeps c (call x list) = call_keeps c (printing c x) (items list)
+rule_keeps c (bare x) = bare_keeps c (own_method c.program x) (printing c x) (record { 0 = x })
+rule_keeps c (call x list) = call_keeps c (own_method c.program x) (printing c x) (record { 0 = x }) (items list)
 rule_keeps c (logical_and a b) = on_value_keeps _ (λ v. if_keeps (is_truthy v) (Go b Ret) (Ret (Gave v)) (λ a'. tt) tt)
 rule_keeps c (logical_or a b) = on_value_keeps _ (λ v. if_keeps (is_truthy v) (Ret (Gave v)) (Go b Ret) tt (λ a'. tt))
 rule_keeps c (logical_not a) = on_value_keeps _ (λ v. tt)
@@ -144,6 +161,7 @@ rule_keeps c (assign depth slot x a) = on_value_keeps _ (λ v. (λ m. omega arit
 rule_keeps c (choose a b d) = on_value_keeps _ (λ v. λ a'. tt)
 rule_keeps c (repeat until a b) = on_value_keeps _ (λ v. round_keeps (goes_on until v) b (repeat until a b))
 rule_keeps c (sequence list) = statements_keep (items list)
+rule_keeps c (return a) = on_value_keeps _ (λ v. tt)
 rule_keeps c _ = throw_keeps c NotHere
 
 resumed_keeps : (c : Code) (f : Frame) (stand : List Ref) (a : Answer) → Keeps (resumed c f stand a)
@@ -157,6 +175,8 @@ resumed_keeps c (Store x) stand = on_value_keeps _ (λ v. (λ m. omega arith, tt
 resumed_keeps c (Branch b d) stand = on_value_keeps _ (λ v. λ a. tt)
 resumed_keeps c (Condition until body loop) stand = on_value_keeps _ (λ v. round_keeps (goes_on until v) (tree_at c.nodes body) (tree_at c.nodes loop))
 resumed_keeps c (Body loop) stand = on_value_keeps _ (λ w. λ a. tt)
+resumed_keeps c Return stand = on_value_keeps _ (λ v. tt)
+resumed_keeps c Back stand = back_keeps
 resumed_keeps c (Rest end more) stand = on_value_keeps _ (λ v. statements_keep (trees_before c.nodes end more))
 resumed_keeps c (Argument target end more base) stand = on_value_keeps _ (λ v. values_keep c.context target (trees_before c.nodes end more) (stand ++ v ∷ []))
 
@@ -199,7 +219,9 @@ meaning_keeps c adds t s n = eval_keeps c.context c.world adds n t s n
 
 -- what the frames still do takes no object away
 pub unwind_keeps : (k : ℕ) (c : Code) → Adds c.world → (fs : List Frame) (held : List Ref) (o : Outcome) → k ≤ objects_of o → k ≤ objects_of (unwind c fs held o)
-unwind_keeps k c adds [] held o le = le
+unwind_keeps k c adds [] held (Ended a s n) le = le
+unwind_keeps k c adds [] held (Spent s) le = le
+unwind_keeps k c adds [] held (Waits s) le = le
 unwind_keeps k c adds (f ∷ fs) held o le =
     let next = λ (a : Answer). runs_in c (resumed c f (stand_of f held) a) in
     unwind_keeps k c adds fs (below_of f held) (after o next) (after_keeps k o next le (λ a s n. run_keeps c.world adds (means c) (meaning_keeps c adds) (resumed c f (stand_of f held) a) (resumed_keeps c f (stand_of f held) a) s n))

@@ -66,7 +66,9 @@ module _ (own : Context) where
   meaning_grows c t s n = eval_grows c.context c.world n t s n
 
   unwind_grows : (x : List ℕ) (c : Code) (fs : List Frame) (held : List Ref) (o : Outcome) → IsBeginning x (text_of own o) → IsBeginning x (text_of own (unwind c fs held o))
-  unwind_grows x c [] held o b = b
+  unwind_grows x c [] held (Ended a s n) b = b
+  unwind_grows x c [] held (Spent s) b = b
+  unwind_grows x c [] held (Waits s) b = b
   unwind_grows x c (f ∷ fs) held o b =
       let next = λ (a : Answer). runs_in c (resumed c f (stand_of f held) a) in
       unwind_grows x c fs (below_of f held) (after o next) (after_grows x o next b (λ a s n. run_grows c.world (means c) (meaning_grows c) (resumed c f (stand_of f held) a) s n))

@@ -10,7 +10,7 @@ use Rattle.rr_space.specs.Tables.{Table, Below}
 use Rattle.rr_space.specs.declared.refer.Ref.{Ref}
 use Rattle.rr_space.specs.declared.refer.Ref.TheVariants as refs
 use Rattle.rr_text.specs.Reads.{IsReadWith}
-use Rattle.rr_builtin.specs.Acts.{MakesArray, performed, IsRefAmong, IsDone, Acts}
+use Rattle.rr_builtin.specs.Acts.{MakesArray, performed, IsRefAmong, Acts}
 use Rattle.rr_builtin.specs.declared.built.Built.{Built}
 use Rattle.rr_eval.specs.declared.problem.Problem.TheVariants.{NotHere}
 use Rattle.rr_eval.specs.declared.problem.Response.{Response}

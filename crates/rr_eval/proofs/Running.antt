@@ -1,17 +1,15 @@
 -- What is still to be run, and what was written so far.
-use Rattle.std.proofs.Common.{replicate, length, ◌≡◌, ◌≤◌, ℕ, ◌∙◌, sym, ap, subst, refl, List, [], ◌∷◌, ◌++◌, Some}
-use Rattle.std.proofs.lemmas.List.{length-map}
+use Rattle.std.proofs.Common.{◌≡◌, ◌≤◌, ℕ, ◌∙◌, sym, ap, subst, refl, List, [], ◌∷◌, ◌++◌, Some}
 use Rattle.std.proofs.KnownBytes.{Appends-nil}
 use Rattle.rr_space.specs.Tables.{Table}
 use Rattle.rr_space.specs.declared.refer.Ref.{Ref}
-use Rattle.rr_space.specs.declared.refer.Ref.TheVariants.{Nil}
 use Rattle.rr_tree.specs.declared.program.Program.{Program}
 use Rattle.rr_eval.specs.declared.problem.Response.{Response}
 use Rattle.rr_eval.specs.declared.problem.Answer.TheVariants.{Gave, Raised}
 use Rattle.rr_eval.specs.Script.{Asked, World, Outcome, Ended, Spent, objects_of}
 use Rattle.rr_eval.specs.Requests.{Course}
 use Rattle.rr_eval.specs.Exceptions.{IsTold}
-use Rattle.rr_eval.specs.Rules.{start_state}
+use Rattle.rr_eval.specs.Rules.{start_state, first_memory}
 use Rattle.rr_eval.specs.View.{View}
 use Rattle.rr_eval.specs.Turns.{context_of, remaining, asking_then, answered, state_of}
 use Rattle.rr_eval.specs.Written.{Written, IsBeginning, WritesAll, WritesBeginning, FallsShort}
@@ -95,7 +93,5 @@ first_table t slots a b c d e f =
     ∙ ap (λ x. record { slots = t.slots; below = t.below; keys = t.keys; limit = t.limit; owner = x; next_message = 1 }) (sym e)
     ∙ ap (λ x. record { slots = t.slots; below = t.below; keys = t.keys; limit = t.limit; owner = t.owner; next_message = x }) (sym f)
 
-pub first_state : (p : Program) (t : Table) (slots : ℕ) → no_objects slots ≡ t → start_state (context_of p) (no_objects slots) ≡ record { memory = record { vars = replicate (length p.symbols.items) Nil; table = t }; asked = [] }
-first_state p t slots e =
-    ap (λ k. record { memory = record { vars = replicate k Nil; table = no_objects slots }; asked = [] }) (length-map p.symbols.items _)
-    ∙ ap (λ u. record { memory = record { vars = replicate (length p.symbols.items) Nil; table = u }; asked = [] }) e
+pub first_state : (p : Program) (t : Table) (most slots : ℕ) → no_objects slots ≡ t → start_state (context_of p) most (no_objects slots) ≡ record { memory = first_memory (context_of p) most t; asked = [] }
+first_state p t most slots e = ap (start_state (context_of p) most) e

@@ -5,15 +5,15 @@ use Rattle.rr_space.specs.declared.refer.Ref.TheVariants.{Nil, Truth}
 use Rattle.rr_tree.specs.Tree.{tree_at}
 use Rattle.rr_tree.specs.declared.node.Node.{Node}
 use Rattle.rr_eval.specs.declared.problem.Answer.{Answer}
-use Rattle.rr_eval.specs.declared.problem.Answer.TheVariants.{Gave}
+use Rattle.rr_eval.specs.declared.problem.Answer.TheVariants.{Gave, Returned}
 use Rattle.rr_eval.specs.declared.frame.Frame.{Frame}
-use Rattle.rr_eval.specs.declared.frame.Frame.TheVariants.{Not, Negation, And, Or, Left, Right, Store, Branch, Condition, Body, Rest, Argument}
+use Rattle.rr_eval.specs.declared.frame.Frame.TheVariants.{Not, Negation, And, Or, Left, Right, Store, Branch, Condition, Body, Return, Back, Rest, Argument}
 use Rattle.rr_eval.specs.declared.frame.Control.{Control}
 use Rattle.rr_eval.specs.declared.frame.Control.TheVariants.{Enter, Give, Throw, Raise}
 use Rattle.rr_eval.specs.Script.{State, Script, Ret, Go, World, Evaluation, Outcome, Ended, run, after}
 use Rattle.rr_builtin.specs.Objects.{is_truthy}
 use Rattle.rr_eval.specs.Values.{goes_on}
-use Rattle.rr_eval.specs.Rules.{Context, throw, raise, on_value, with_value, operation, negation, write, statements, values, finish, meaning}
+use Rattle.rr_eval.specs.Rules.{Context, throw, raise, on_value, with_value, operation, negation, write, statements, values, finish, back, concluded, meaning}
 use Rattle.rr_tree.specs.Nodes.{trees_before}
 
 -- a program: its nodes, what its trees refer to, and the environment that it runs in
@@ -41,6 +41,8 @@ resumed c (Store x) stand = on_value (λ v. write x v)
 resumed c (Branch b d) stand = on_value (λ v. Go (if is_truthy v then tree_at c.nodes b else tree_at c.nodes d) Ret)
 resumed c (Condition until body loop) stand = on_value (λ v. if goes_on until v then with_value (tree_at c.nodes body) (λ w. Go (tree_at c.nodes loop) Ret) else Ret (Gave Nil))
 resumed c (Body loop) stand = on_value (λ w. Go (tree_at c.nodes loop) Ret)
+resumed c Return stand = on_value (λ v. Ret (Returned v))
+resumed c Back stand = back
 resumed c (Rest end count) stand = on_value (λ v. statements (trees_before c.nodes end count))
 resumed c (Argument target end count base) stand = on_value (λ v. values (trees_before c.nodes end count) (stand ++ v ∷ []) (finish c.context target))
 
@@ -58,9 +60,9 @@ abbrev pub IsNew : Frame → ℕ → Type 0
 IsNew (Argument target end count base) n = base ≡ n
 IsNew _ n = Unit {0}
 
--- what the frames, the topmost first, do with an outcome
+-- what the frames, the topmost first, do with an outcome, and what comes after all of them
 abbrev pub unwind : Code → List Frame → List Ref → Outcome → Outcome
-unwind c [] held o = o
+unwind c [] held o = concluded o
 unwind c (f ∷ fs) held o = unwind c fs (below_of f held) (after o (λ a. runs_in c (resumed c f (stand_of f held) a)))
 
 -- where a frame's values begin

@@ -1,5 +1,7 @@
 pub mod Context
 pub mod Script
+pub mod Methods
+pub mod Prepared
 pub mod Values
 pub mod Responses
 pub mod Operators

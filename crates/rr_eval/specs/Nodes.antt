@@ -59,4 +59,5 @@ is_unknown (node.Choose a b d) = false
 is_unknown (node.Loop until a b) = false
 is_unknown (node.Sequence first count) = false
 is_unknown (node.Item a) = false
+is_unknown (node.Return a) = false
 is_unknown _ = true

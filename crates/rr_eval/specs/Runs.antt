@@ -136,7 +136,7 @@ no_objects slots = record { slots = []; below = []; keys = []; limit = slots; ow
 
 -- what a script that runs alone does within limits
 abbrev pub script_meaning : Context → Tree → Limits → Outcome
-script_meaning c tree within = begun c (alone c) c.program.definitions.items tree (start_state c (no_objects within.slots)) within.steps
+script_meaning c tree within = begun c (alone c) tree (start_state c within.frames (no_objects within.slots)) within.steps
 
 -- what a program does
 abbrev pub program_meaning : Program → Limits → Outcome

@@ -1,5 +1,6 @@
 -- What a rule says: evaluate a part, look at the memory, change it, ask the environment, answer.
 use Rattle.std.specs.Prelude.{ℕ, List, [], ◌∷◌, ◌++◌, length, Option, Some, None}
+use Rattle.rr_frames.specs.Frames.{Stack}
 use Rattle.rr_space.specs.Tables.{Table}
 use Rattle.rr_space.specs.declared.refer.Ref.{Ref}
 use Rattle.rr_tree.specs.Tree.{Tree}
@@ -8,9 +9,9 @@ use Rattle.rr_eval.specs.declared.call.Task.{Task}
 use Rattle.rr_eval.specs.declared.problem.Answer.{Answer}
 use Rattle.rr_eval.specs.declared.problem.Response.{Response}
 
--- the variables by their numbers, and the objects
+-- the frames of the methods that run, with their variables, and the objects
 pub record Memory : Type 0 where
-  pub vars : List Ref
+  pub calls : Stack
   pub table : Table
 
 -- what a rule asks of the environment: to do something with values, with the objects then; to call a method of a receiver

@@ -1,11 +1,11 @@
 -- What an environment does with values where nothing is published: it prints them, or makes an array of them.
-use Rattle.std.specs.Prelude.{ℕ, List, [], ◌∷◌, ◌++◌, codes, map, length, Option, Some, None, if◌then◌else◌}
+use Rattle.std.specs.Prelude.{ℕ, List, [], ◌∷◌, ◌++◌, codes, map, Option, Some, None, if◌then◌else◌}
 use Rattle.std.specs.Str.{bytes_eq}
 use Rattle.rr_space.specs.Parts.{value_of}
 use Rattle.rr_space.specs.Tables.{Table}
 use Rattle.rr_space.specs.declared.refer.Ref.{Ref}
 use Rattle.rr_space.specs.declared.refer.Ref.TheVariants.{Nil}
-use Rattle.rr_text.specs.Walk.{Walked, Wrote, Differs, Deep, Shell}
+use Rattle.rr_text.specs.Walk.{Walked, Wrote, Deep}
 use Rattle.rr_text.specs.Forms.{Names, spoken, inspected, lines, within_text}
 use Rattle.rr_builtin.specs.Acts.{MakesArray, performed}
 use Rattle.rr_builtin.specs.Objects.{printed_text}

@@ -1,9 +1,10 @@
 -- What the machine has still to do, and what a turn does of it.
-use Rattle.std.specs.Prelude.{◌≡◌, ◌+◌, ◌*◌, ◌<◌, ◌≤◌, length, map, ℕ, Option, Some, None, Vec, Result, Ok, Err, List, reverse, slice_index_or, [], ◌∷◌}
+use Rattle.std.specs.Prelude.{◌≡◌, ◌+◌, ◌*◌, ◌<◌, ◌≤◌, length, map, ℕ, Option, Some, None, Vec, Result, Ok, Err, List, reverse, Bool, true, false}
 use Rattle.rr_base.specs.declared.fault.Fault.{Fault}
+use Rattle.rr_frames.specs.Frames.{Frame as Activated, read_last}
 use Rattle.rr_space.specs.Tables.{Table}
 use Rattle.rr_space.specs.declared.refer.Ref.{Ref}
-use Rattle.rr_space.specs.declared.refer.Ref.TheVariants.{Nil, Int}
+use Rattle.rr_space.specs.declared.refer.Ref.TheVariants.{Int}
 use Rattle.rr_tree.specs.Tree.{Tree, int, local}
 use Rattle.rr_tree.specs.declared.program.Program.{Program}
 use Rattle.rr_eval.specs.declared.problem.Answer.{Answer}
@@ -34,9 +35,9 @@ context_of p = record { symbols = contents p.symbols.items; texts = contents p.t
 abbrev pub code_of : Program → World → Code
 code_of p w = record { nodes = p.nodes.items; context = context_of p; world = w }
 
--- the variables and the objects, after this was asked
+-- the frames of methods and the objects, after this was asked
 abbrev pub state_of : View → Table → Course → State
-state_of m t h = record { memory = record { vars = m.vars; table = t }; asked = h.asked }
+state_of m t h = record { memory = record { calls = m.calls; table = t }; asked = h.asked }
 
 -- what is still to be done with n steps, after this was asked
 abbrev pub remaining_with : Program → View → Table → Course → ℕ → Outcome
@@ -65,10 +66,10 @@ control_of (response.Gives v) = Give (Gave v)
 control_of (response.Throws e) = Give (Raised e)
 control_of (response.Fails e) = Throw e
 
--- what comes first: the statements from a node on, where nothing is defined
-abbrev pub first_control : List ℕ → ℕ → Control
-first_control [] root = Enter root
-first_control (definition ∷ more) root = Throw NotHere
+-- what comes first: the statements from a node on, where no class is defined
+abbrev pub first_control : Bool → ℕ → Control
+first_control true root = Enter root
+first_control false root = Throw NotHere
 
 -- the machine goes on with a response
 abbrev pub answered : View → Response → View
@@ -83,6 +84,10 @@ abbrev pub after_answer : Program → View → Table → Frame → Answer → Co
 after_answer p m t f a h n =
     unwind (code_of p h.world) (reverse m.frames) (below_of f m.held) (runs_in (code_of p h.world) (resumed (code_of p h.world) f (stand_of f m.held) a) (state_of m t h) n)
 
+-- what the frames below a frame that was taken off do after a script, with n steps
+abbrev pub after_values : Program → View → Table → Frame → Script → Course → ℕ → Outcome
+after_values p m t f script h n = unwind (code_of p h.world) (reverse m.frames) (below_of f m.held) (runs_in (code_of p h.world) script (state_of m t h) n)
+
 abbrev pub IsNested : View → Type 0
 IsNested m = Nested (reverse m.frames) m.held
 
@@ -91,16 +96,16 @@ pub record Stands (old new : View) (before after : Table) (f : Fault) : Type 0 w
   pub control : new.control ≡ old.control
   pub frames : new.frames ≡ old.frames
   pub held : new.held ≡ old.held
-  pub vars : new.vars ≡ old.vars
+  pub calls : new.calls ≡ old.calls
   pub left : new.left ≡ old.left
   pub objects : after ≡ before
   pub refusal : IsRefusal f
 
 -- the value of a tree that takes one step and leaves all as it is
-abbrev pub leaf_value : Tree → List Ref → Option Ref
-leaf_value (int z) vars = Some (Int z)
-leaf_value (local depth slot x) vars = Some (slice_index_or vars slot Nil)
-leaf_value _ vars = None
+abbrev pub leaf_value : Tree → List Activated → Option Ref
+leaf_value (int z) frames = Some (Int z)
+leaf_value (local depth slot x) frames = Some (read_last slot frames)
+leaf_value _ frames = None
 
 -- A turn of at most `budget` steps: what was still to be done is what it did, and then what is still to be done. It stops
 -- at the step limit only where the budget reaches it.

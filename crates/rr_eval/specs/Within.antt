@@ -1,6 +1,7 @@
 -- Each reference that the machine holds leads somewhere.
 use Rattle.std.specs.Prelude.{ℕ, ◌<◌, length, List, Option, Some, None, Contains}
 use Rattle.std.specs.List.{All}
+use Rattle.rr_frames.specs.Frames.{Frame as Activated}
 use Rattle.rr_space.specs.Graph.{Object}
 use Rattle.rr_space.specs.Sound.{IsHold}
 use Rattle.rr_space.specs.Tables.{Below, Table, Whole, below_hold}
@@ -9,7 +10,7 @@ use Rattle.rr_space.specs.declared.refer.Ref.TheVariants.{Local, Shared}
 use Rattle.rr_text.specs.Reads.{IsReadWith}
 use Rattle.rr_eval.specs.declared.call.Call.{Call}
 use Rattle.rr_eval.specs.declared.problem.Answer.{Answer}
-use Rattle.rr_eval.specs.declared.problem.Answer.TheVariants.{Gave, Raised}
+use Rattle.rr_eval.specs.declared.problem.Answer.TheVariants.{Gave, Raised, Returned}
 use Rattle.rr_eval.specs.declared.problem.Response.{Response}
 use Rattle.rr_eval.specs.declared.problem.Response.TheVariants.{Gives, Throws, Fails}
 use Rattle.rr_eval.specs.declared.frame.Frame.{Frame}
@@ -47,11 +48,16 @@ IsReached k _ = Unit {0}
 abbrev pub IsAnswerReached : Reach → Answer → Type 0
 IsAnswerReached k (Gave v) = IsReached k v
 IsAnswerReached k (Raised e) = IsReached k e
+IsAnswerReached k (Returned v) = IsReached k v
 
 abbrev pub IsResponseReached : Reach → Response → Type 0
 IsResponseReached k (Gives v) = IsReached k v
 IsResponseReached k (Throws e) = IsReached k e
 IsResponseReached k (Fails e) = Unit {0}
+
+-- the variables of a method
+abbrev pub AreVariablesReached : Reach → Activated → Type 0
+AreVariablesReached k f = All (IsReached k) f.variables
 
 abbrev pub IsFrameReached : Reach → Frame → Type 0
 IsFrameReached k (Right op v) = IsReached k v
@@ -92,7 +98,7 @@ pub record RefsReached (k : Reach) (m : View) : Type 0 where
   pub control : IsControlReached k m.control
   pub frames : All (IsFrameReached k) m.frames
   pub held : All (IsReached k) m.held
-  pub vars : All (IsReached k) m.vars
+  pub calls : All (AreVariablesReached k) m.calls.frames
 
 -- the same, as one fact
 unfoldable pub AreReached : Reach → View → Type 0

@@ -45,6 +45,8 @@ pub enum Target {
     Do(Task),
     /// The first of them is the receiver of a call, and the others are its arguments.
     Call(Callee),
+    /// They are the arguments of the program's method of this name.
+    Own(Sym),
 }
 
 /// Values, as the arguments of a call. No more than two of them take no memory.

@@ -1,8 +1,9 @@
 //! The machine: a stack of frames, each of which waits for the answer of a part.
 
-ghost use Rattle.std.specs.Prelude.{◌≡◌, ◌+◌, ◌*◌, ◌<◌, ◌≤◌, ℕ, List, [], ◌∷◌, ◌++◌, length, reverse, slice_index_or, vec_capacity, Option, Some, IfOk, IfErr, IfSome, IsTrue, IsFalse, OnOk, MatchOption};
+ghost use Rattle.std.specs.Prelude.{◌≡◌, ◌+◌, ◌*◌, ◌<◌, ◌≤◌, ℕ, List, [], ◌∷◌, ◌++◌, length, reverse, vec_capacity, Option, Some, IfOk, IfErr, IfSome, IsTrue, IsFalse, OnOk, MatchOption};
 ghost use Rattle.rr_base.specs.declared.fault.Fault.{Fault};
 ghost use Rattle.rr_space.specs.declared.refer.Ref.{Ref};
+ghost use Rattle.rr_frames.specs.Frames.{read_last};
 ghost use Rattle.rr_space.specs.Tables.{Table, Below};
 ghost use Rattle.rr_tree.specs.declared.node.Node.{Node};
 ghost use Rattle.rr_tree.specs.declared.program.Program.{Program};
@@ -12,18 +13,21 @@ ghost use Rattle.rr_eval.specs.Script.{Ended, objects_of};
 ghost use Rattle.rr_eval.specs.Requests.{Course, Adds};
 ghost use Rattle.rr_eval.specs.Changes.{Changes};
 ghost use Rattle.rr_eval.specs.Frames.{below_of, base_of, Nested};
+ghost use Rattle.rr_eval.specs.Rules.{ended};
 ghost use Rattle.rr_eval.specs.Nodes.{evaluated_tree, IsEvaluated, IsRareNode};
 ghost use Rattle.rr_eval.specs.Turns.{context_of, state_of, remaining, remaining_with, after_script, after_answer, continuing, IsNested, Stands, leaf_value, Turned, size, sized, power, Falls};
 ghost use Rattle.rr_eval.specs.Views.{view_of};
-ghost use Rattle.rr_eval.specs.Within.{Reach, reach, IsReached, IsAnswerReached, IsFrameReached, IsAskedReached, IsTurnReached, AreReached, AreWithin, KeepsReach, KeepsRead};
+ghost use Rattle.rr_eval.specs.Within.{Reach, reach, IsReached, IsAnswerReached, IsFrameReached, AreVariablesReached, IsAskedReached, IsTurnReached, AreReached, AreWithin, KeepsReach, KeepsRead};
 ghost use Rattle.std.specs.List.{All};
 
 use crate::frame::{Control, Frame};
 use crate::nodes::evaluated_node;
 use crate::operator::on_integers;
+use crate::prepared::Prepared;
 use crate::problem::Answer;
 use crate::request::Request;
 use rr_base::Fault;
+use rr_frames::Frames;
 use rr_space::{Ref, Space};
 use rr_tree::{BinaryOperator, Node, NodeId, Program};
 use std::alloc::Global;
@@ -35,8 +39,8 @@ pub struct Engine {
     pub frames: Vec<Frame>,
     /// The values of arguments that were evaluated so far, those of the topmost frame last.
     pub held: Vec<Ref>,
-    /// The variables, by their numbers.
-    pub vars: Vec<Ref>,
+    /// The frames of the program and of the methods that run, with their variables.
+    pub calls: Frames,
     /// The steps that are left.
     pub left: u64,
     pub alloc: Global,
@@ -73,19 +77,16 @@ impl Engine {
     /// The value of a variable.
     #[inline(always)]
     pub fn variable(&self, slot: u32) -> Ref
-        ensures value { result ≡ slice_index_or self.now.vars.items slot Ref.Nil }
-        ensures within { (k : Reach) → All (IsReached k) self.now.vars.items → IsReached k result }
+        ensures value { result ≡ read_last slot self.now.calls.frames }
+        ensures within { (k : Reach) → All (AreVariablesReached k) self.now.calls.frames → IsReached k result }
     {
-        match self.vars.get(slot as usize) {
-            Some(value) => *value,
-            None => Ref::Nil,
-        }
+        self.calls.read(slot)
     }
 
     /// The integer that a part is, where it is a literal or a variable.
     #[inline(always)]
     pub fn leaf(&self, program: &Program, place: NodeId) -> Option<i64>
-        ensures { IfSome result (λ z. leaf_value (tree_at program.now.nodes.items place) self.now.vars.items ≡ Some (Ref.Int z)) }
+        ensures { IfSome result (λ z. leaf_value (tree_at program.now.nodes.items place) self.now.calls.frames ≡ Some (Ref.Int z)) }
     {
         match evaluated_node(program, place) {
             Node::Int(z) => Some(z),
@@ -184,19 +185,19 @@ impl Engine {
     #[inline(never)]
     fn visit_rare(
         &mut self,
-        program: &Program,
+        prepared: &Prepared,
         space: &mut Space,
         here: NodeId,
         node: Node,
     ) -> Result<Option<Request>, Fault>
         requires control { self.old.control ≡ Control.Enter here }
-        requires tree { tree_at program.now.nodes.items here ≡ evaluated_tree program.now.nodes.items node }
+        requires tree { tree_at prepared.now.program.nodes.items here ≡ evaluated_tree prepared.now.program.nodes.items node }
         requires evaluated { IsEvaluated node }
         requires rare { IsRareNode node }
         requires some { 0 < self.old.left }
         requires nested { IsNested (view_of self.old) }
         requires within { AreWithin (length space.old.slots) (view_of self.old) }
-        ensures goes { IfOk result (λ q. (h : Course) → remaining program.now (view_of self.old) space.old h ≡ continuing program.now (view_of self.new) space.new q h self.new.left) }
+        ensures goes { IfOk result (λ q. (h : Course) → remaining prepared.now.program (view_of self.old) space.old h ≡ continuing prepared.now.program (view_of self.new) space.new q h self.new.left) }
         ensures nested { IsNested (view_of self.new) }
         ensures within { KeepsReach (view_of self.old) space.old (view_of self.new) space.new }
         ensures read { KeepsRead (view_of self.old) space.old space.new }
@@ -206,9 +207,9 @@ impl Engine {
         ensures err { IfErr result (λ f. Stands (view_of self.old) (view_of self.new) space.old space.new f) }
         ensures limit { space.new.limit ≡ space.old.limit }
         ensures changed { Changes space.old space.new }
-        ensures full { IfErr result (λ f. (h : Course) → Adds h.world → Passes f space.old.limit (objects_of (remaining program.now (view_of self.old) space.old h))) }
+        ensures full { IfErr result (λ f. (h : Course) → Adds h.world → Passes f space.old.limit (objects_of (remaining prepared.now.program (view_of self.old) space.old h))) }
     {
-        match self.open_rare(program, space, node) {
+        match self.open_rare(prepared, space, node) {
             Ok(request) => {
                 self.left -= 1;
                 Ok(request)
@@ -223,7 +224,7 @@ impl Engine {
     fn pop_frame(&mut self, answer: Answer) -> Option<Frame>
         requires control { self.old.control ≡ Control.Give answer }
         requires nested { IsNested (view_of self.old) }
-        ensures goes { (p : Program) (t : Table) (h : Course) → MatchOption result (remaining p (view_of self.old) t h ≡ Ended answer (state_of (view_of self.new) t h) self.new.left) (λ f. remaining p (view_of self.old) t h ≡ after_answer p (view_of self.new) t f answer h self.new.left) }
+        ensures goes { (p : Program) (t : Table) (h : Course) → MatchOption result (remaining p (view_of self.old) t h ≡ Ended (ended answer) (state_of (view_of self.new) t h) self.new.left) (λ f. remaining p (view_of self.old) t h ≡ after_answer p (view_of self.new) t f answer h self.new.left) }
         ensures nested { MatchOption result (IsNested (view_of self.new)) (λ f. Nested (reverse self.new.frames.items) (below_of f self.new.held.items)) }
         ensures within { (k : Reach) → AreReached k (view_of self.old) → AreReached k (view_of self.new) }
         ensures frame { (k : Reach) → AreReached k (view_of self.old) → IfSome result (IsFrameReached k) }
@@ -257,18 +258,23 @@ impl Engine {
 
     /// At most `budget` steps. A refused growth leaves what is still to be done as it is, and the next turn goes on there.
     #[tactic(auto, using(crate::proofs::Changing::changes_trans, crate::proofs::Changing::changes_none))]
-    pub fn turn(&mut self, program: &Program, space: &mut Space, budget: u32) -> Result<Turn, Fault>
+    pub fn turn(
+        &mut self,
+        prepared: &Prepared,
+        space: &mut Space,
+        budget: u32,
+    ) -> Result<Turn, Fault>
         requires nested { IsNested (view_of self.old) }
         requires within { AreWithin (length space.old.slots) (view_of self.old) }
         ensures nested { IsNested (view_of self.new) }
         ensures within { KeepsReach (view_of self.old) space.old (view_of self.new) space.new }
         ensures read { KeepsRead (view_of self.old) space.old space.new }
         ensures ends_within { (clusters : Option Below) → AreReached (reach (length space.old.slots) clusters) (view_of self.old) → IfOk result (IsTurnReached (reach (length space.new.slots) clusters)) }
-        ensures turned { Turned program.now (view_of self.old) space.old budget result (view_of self.new) space.new }
+        ensures turned { Turned prepared.now.program (view_of self.old) space.old budget result (view_of self.new) space.new }
         ensures falls { 0 < budget → Falls (view_of self.old) result (view_of self.new) }
         ensures limit { space.new.limit ≡ space.old.limit }
         ensures changed { Changes space.old space.new }
-        ensures full { IfErr result (λ f. (h : Course) → Adds h.world → Passes f space.old.limit (objects_of (remaining program.now (view_of self.old) space.old h))) }
+        ensures full { IfErr result (λ f. (h : Course) → Adds h.world → Passes f space.old.limit (objects_of (remaining prepared.now.program (view_of self.old) space.old h))) }
     {
         let stop = self.left.saturating_sub(u64::from(budget));
         loop {
@@ -277,8 +283,8 @@ impl Engine {
                     let Some(frame) = self.pop_frame(Answer::Gave(value)) else {
                         return Ok(Turn::Done(value));
                     };
-                    if !self.resume(program, frame, value, stop)
-                        && let Some(request) = self.resume_rare(frame, value)?
+                    if !self.resume(&prepared.program, frame, value, stop)
+                        && let Some(request) = self.resume_rare(prepared, frame, value)?
                     {
                         return Ok(Turn::Ask(request));
                     }
@@ -289,7 +295,13 @@ impl Engine {
                     };
                     self.pass(frame, exception);
                 }
-                Control::Throw(problem) => self.throw(program, space, problem)?,
+                Control::Give(Answer::Returned(value)) => {
+                    let Some(frame) = self.pop_frame(Answer::Returned(value)) else {
+                        return Ok(Turn::Done(value));
+                    };
+                    self.leave(frame, value);
+                }
+                Control::Throw(problem) => self.throw(&prepared.program, space, problem)?,
                 Control::Raise(class, message) => self.raise(space, class, message)?,
                 Control::Enter(here) => {
                     if self.left == 0 {
@@ -299,9 +311,9 @@ impl Engine {
                         return Ok(Turn::More);
                     }
                     self.make_room()?;
-                    let node = evaluated_node(program, here);
-                    if !self.visit_usual(program, here, node, stop)
-                        && let Some(request) = self.visit_rare(program, space, here, node)?
+                    let node = evaluated_node(&prepared.program, here);
+                    if !self.visit_usual(&prepared.program, here, node, stop)
+                        && let Some(request) = self.visit_rare(prepared, space, here, node)?
                     {
                         return Ok(Turn::Ask(request));
                     }

@@ -9,11 +9,11 @@ ghost use Rattle.rr_eval.specs.Served.{Exchange, Gives, Ran, course_after, world
 
 use crate::engine::Turn;
 use crate::machine::Machine;
+use crate::prepared::Prepared;
 use crate::problem::Response;
 use crate::request::Request;
 use rr_base::Fault;
 use rr_space::{Ref, Space};
-use rr_tree::Program;
 
 /// What serves the requests of a machine.
 pub trait Environment {
@@ -50,16 +50,16 @@ const BUDGET: u32 = 1_000_000;
 pub fn run_in<E: Environment>(
     environment: &mut E,
     machine: &mut Machine,
-    program: &Program,
+    prepared: &Prepared,
     space: &mut Space,
 ) -> Result<Ending, Fault>
     requires { AreWithin (length space.old.slots) machine.old }
     ensures within { AreWithin (length space.new.slots) machine.new }
     ensures ends_within { IfOk result (IsEndingWithin (length space.new.slots)) }
-    ensures ran { Ran E.leads program.now machine.old space.old environment.old result machine.new space.new environment.new }
+    ensures ran { Ran E.leads prepared.now.program machine.old space.old environment.old result machine.new space.new environment.new }
 {
     loop {
-        match machine.turn(program, space, BUDGET)? {
+        match machine.turn(prepared, space, BUDGET)? {
             Turn::More => {}
             Turn::Ask(request) => match environment.serve(request, space) {
                 Ok(response) => machine.answer(response),

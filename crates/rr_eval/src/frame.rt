@@ -34,6 +34,10 @@ pub enum Frame {
     Condition(bool, NodeId, NodeId),
     /// The body of a loop, and the loop itself.
     Body(NodeId),
+    /// `return`.
+    Return,
+    /// The body of a method, whose variables go with it.
+    Back,
     /// Statements: the number behind the last one, and how many are still to be evaluated.
     Rest(NodeId, u32),
     /// Values for a target: the number behind the last part, how many parts are still to be evaluated, and where the values

@@ -1,30 +1,34 @@
 //! The machine as its callers see it.
 
-ghost use Rattle.std.specs.Prelude.{◌≡◌, ◌<◌, ℕ, List, length, Option, replicate, IfOk, IfErr, suc};
+ghost use Rattle.std.specs.Prelude.{◌≡◌, ◌<◌, ℕ, List, length, Option, IfOk, IfErr, suc};
 ghost use Rattle.rr_base.specs.declared.fault.Fault.{Fault};
-ghost use Rattle.rr_space.specs.declared.refer.Ref.{Ref};
+ghost use Rattle.rr_eval.specs.Methods.{are_methods, definitions_of};
+ghost use Rattle.std.specs.List.{All};
 ghost use Rattle.rr_space.specs.Tables.{Table, Below};
 ghost use Rattle.rr_tree.specs.declared.program.Program.{Program};
 ghost use Rattle.rr_tree.specs.Tree.{Tree, tree_at, listed};
 ghost use Rattle.rr_eval.specs.Acts.{Passes};
 ghost use Rattle.rr_eval.specs.Script.{State, World, Evaluation, run, Ended, Spent, objects_of};
-ghost use Rattle.rr_eval.specs.Rules.{Context, rule, throw, meaning, begun, items};
+ghost use Rattle.rr_eval.specs.Rules.{Context, rule, throw, meaning, begun, first_memory, items};
 ghost use Rattle.rr_eval.specs.Requests.{Course, Adds};
 ghost use Rattle.rr_eval.specs.Exceptions.{IsTold};
 ghost use Rattle.rr_eval.specs.Thrown.{thrown, thrown_at, report};
 ghost use Rattle.rr_eval.specs.declared.problem.Problem.{Problem};
 ghost use Rattle.rr_eval.specs.declared.problem.Answer.{Answer};
 ghost use Rattle.rr_eval.specs.Changes.{Changes};
-ghost use Rattle.rr_eval.specs.Within.{Reach, reach, AreReached, AreWithin, IsControlReached, IsResponseReached, IsTurnReached, IsTurnWithin, KeepsReach, KeepsRead};
+ghost use Rattle.rr_eval.specs.Within.{Reach, reach, AreReached, AreVariablesReached, AreWithin, IsControlReached, IsResponseReached, IsTurnReached, IsTurnWithin, KeepsReach, KeepsRead};
 ghost use Rattle.rr_eval.specs.Turns.{context_of, first_control, remaining, answered, Turned, Replied, Falls};
 
 use crate::engine::{Engine, Turn};
 use crate::frame::Control;
+use crate::invoke::no_activation;
+use crate::prepared::Prepared;
 use crate::problem::{Problem, Response};
-use rr_base::Fault;
-use rr_space::{Ref, Space};
+use rr_base::{Fault, Limits};
+use rr_frames::{Frames, Shape};
+use rr_space::Space;
 use rr_tree::Program;
-use std::alloc::{AllocError, Global};
+use std::alloc::Global;
 use std::marker::Model;
 
 /// A machine that evaluates a program step by step, seen as what it has still to do.
@@ -49,45 +53,55 @@ impl Model for Machine {
     ghost invariant = { λ m. IsNested (view_of m.engine) };
 }
 
-/// Variables that are unset.
-fn unset(alloc: Global, count: usize) -> Result<Vec<Ref>, AllocError>
-    ensures { IfOk result (λ vars. vars.items ≡ replicate count Ref.Nil) }
-{
-    let mut vars = Vec::with_capacity(alloc, count)?;
-    for _made in 0..count {
-        vars.push(Ref::Nil)?;
-    }
-    Ok(vars)
-}
-
-/// What comes first: the statements of a program, where it defines nothing.
-fn first_control(program: &Program) -> Control
-    ensures is { result ≡ first_control program.now.definitions.items program.now.root }
+/// What comes first: the statements of a program, where it defines methods alone.
+fn first_control(prepared: &Prepared) -> Control
+    ensures is { result ≡ first_control (are_methods (definitions_of prepared.now.program)) prepared.now.program.root }
     ensures within { (k : Reach) → IsControlReached k result }
 {
-    match program.definitions.as_slice() {
-        [] => Control::Enter(program.root),
-        _ => Control::Throw(Problem::NotHere),
+    match prepared.simple {
+        true => Control::Enter(prepared.program.root),
+        false => Control::Throw(Problem::NotHere),
+    }
+}
+
+/// The frame of a program, whose variables are unset, where so many methods may be called in one another.
+fn first_calls(alloc: Global, program: &Program, most: u32) -> Result<Frames, Fault>
+    ensures calls { IfOk result (λ calls. (t : Table) → record { calls = calls; table = t } ≡ first_memory (context_of program.now) most t) }
+    ensures within { IfOk result (λ calls. (k : Reach) → All (AreVariablesReached k) calls.frames) }
+    ensures fault { IfErr result (λ f. f ≡ Fault.Memory) }
+{
+    let Ok(size) = u32::try_from(program.symbols.len()) else {
+        return Err(Fault::Memory);
+    };
+    let mut calls = Frames::new(alloc, most as usize + 1);
+    let shape = Shape {
+        parameters: 0,
+        size,
+    };
+    match calls.push(&[], None, shape, no_activation()) {
+        Ok(()) => Ok(calls),
+        Err(_) => Err(Fault::Memory),
     }
 }
 
 impl Machine {
-    /// A machine that has the whole program still to do, with `steps` steps to spend. The only fault is `Memory`.
+    /// A machine that has the whole program still to do, within limits, of which it takes the steps and the frames. The only
+    /// fault is `Memory`.
     ///
-    /// No definition is evaluated yet: a program that has one raises RuntimeError at once.
+    /// No class is evaluated yet: a program that defines one raises RuntimeError at once.
     #[tactic(auto, unfolding(crate::specs::Within::AreReached))]
-    pub fn new(alloc: Global, program: &Program, steps: u64) -> Result<Machine, Fault>
-        ensures left { IfOk result (λ m. m.left ≡ steps) }
+    pub fn new(alloc: Global, prepared: &Prepared, limits: Limits) -> Result<Machine, Fault>
+        ensures left { IfOk result (λ m. m.left ≡ limits.steps) }
         ensures within { IfOk result (λ m. (k : Reach) → AreReached k m) }
-        ensures whole { IfOk result (λ m. (t : Table) (h : Course) → remaining program.now m t h ≡ begun (context_of program.now) h.world program.now.definitions.items (tree_at program.now.nodes.items program.now.root) (record { memory = record { vars = replicate (length program.now.symbols.items) Ref.Nil; table = t }; asked = h.asked }) steps) }
+        ensures whole { IfOk result (λ m. (t : Table) (h : Course) → remaining prepared.now.program m t h ≡ begun (context_of prepared.now.program) h.world (tree_at prepared.now.program.nodes.items prepared.now.program.root) (record { memory = first_memory (context_of prepared.now.program) limits.frames t; asked = h.asked }) limits.steps) }
         ensures fault { IfErr result (λ f. f ≡ Fault.Memory) }
     {
         let engine = Engine {
-            control: first_control(program),
+            control: first_control(prepared),
             frames: Vec::new(alloc),
             held: Vec::new(alloc),
-            vars: unset(alloc, program.symbols.len())?,
-            left: steps,
+            calls: first_calls(alloc, &prepared.program, limits.frames)?,
+            left: limits.steps,
             alloc,
         };
         Ok(Machine { engine })
@@ -99,7 +113,12 @@ impl Machine {
     /// The faults are `Memory` and `Limit(Slots)`, the second only where what is still to be done makes more objects than
     /// the space may have. A refused growth leaves what is still to be done as it is, and the
     /// next turn goes on there.
-    pub fn turn(&mut self, program: &Program, space: &mut Space, budget: u32) -> Result<Turn, Fault>
+    pub fn turn(
+        &mut self,
+        prepared: &Prepared,
+        space: &mut Space,
+        budget: u32,
+    ) -> Result<Turn, Fault>
         requires within { AreWithin (length space.old.slots) self.old }
         ensures within { AreWithin (length space.new.slots) self.new }
         ensures ends_within { IfOk result (IsTurnWithin (length space.new.slots)) }
@@ -107,13 +126,13 @@ impl Machine {
         ensures reach { KeepsReach self.old space.old self.new space.new }
         ensures ends_reach { (clusters : Option Below) → AreReached (reach (length space.old.slots) clusters) self.old → IfOk result (IsTurnReached (reach (length space.new.slots) clusters)) }
         ensures read { KeepsRead self.old space.old space.new }
-        ensures turned { Turned program.now self.old space.old budget result self.new space.new }
+        ensures turned { Turned prepared.now.program self.old space.old budget result self.new space.new }
         ensures falls { 0 < budget → Falls self.old result self.new }
         ensures limit { space.new.limit ≡ space.old.limit }
         ensures changed { Changes space.old space.new }
-        ensures full { IfErr result (λ f. (h : Course) → Adds h.world → Passes f space.old.limit (objects_of (remaining program.now self.old space.old h))) }
+        ensures full { IfErr result (λ f. (h : Course) → Adds h.world → Passes f space.old.limit (objects_of (remaining prepared.now.program self.old space.old h))) }
     {
-        self.engine.turn(program, space, budget)
+        self.engine.turn(prepared, space, budget)
     }
 
     /// Goes on with what the environment replied to the request of the last turn. The environment may have changed the

@@ -1,6 +1,6 @@
 //! What a node does first.
 
-ghost use Rattle.std.specs.Prelude.{◌≡◌, ◌+◌, ◌-◌, ◌*◌, ◌<◌, ◌≤◌, ◌^◌, ℕ, List, [], ◌∷◌, true, length, slice_index_or, vec_capacity, IfOk, IfErr, IsTrue, IsFalse};
+ghost use Rattle.std.specs.Prelude.{◌≡◌, ◌+◌, ◌-◌, ◌*◌, ◌<◌, ◌≤◌, ◌^◌, ℕ, List, [], ◌∷◌, true, length, slice_index_or, vec_capacity, IfOk, IfErr, IsTrue, IsFalse, OnOk};
 ghost use Rattle.rr_base.specs.declared.fault.Fault.{Fault};
 ghost use Rattle.rr_space.specs.Tables.{Table};
 ghost use Rattle.rr_tree.specs.Tree.{tree_at};
@@ -12,6 +12,7 @@ ghost use Rattle.rr_eval.specs.Script.{Go, objects_of};
 ghost use Rattle.rr_eval.specs.Requests.{Course, Adds};
 ghost use Rattle.rr_eval.specs.Changes.{Changes};
 ghost use Rattle.rr_eval.specs.Constants.{class_named};
+ghost use Rattle.rr_eval.specs.Methods.{own_method};
 ghost use Rattle.rr_eval.specs.Operators.{make};
 ghost use Rattle.rr_eval.specs.Rules.{rule, statements, values, on_table, finish, printing, bare_rule, call_rule, constant_rule};
 ghost use Rattle.rr_tree.specs.Nodes.{trees_before};
@@ -26,6 +27,7 @@ use crate::constant::class_named;
 use crate::engine::{Engine, push_within};
 use crate::frame::{Control, Frame};
 use crate::operator::make;
+use crate::prepared::Prepared;
 use crate::problem::{Answer, Problem};
 use crate::request::Request;
 use rr_base::{ClassId, Fault, Sym};
@@ -209,18 +211,52 @@ impl Engine {
         }
     }
 
-    /// Evaluates a call with arguments: of a name that prints, or not.
+    /// Evaluates values, the last `count` parts before `first + count`, with which the program's method of a name is called.
+    fn open_own(
+        &mut self,
+        prepared: &Prepared,
+        name: Sym,
+        first: NodeId,
+        count: u32,
+    ) -> Result<(), Fault>
+        requires small { first + count < 2 ^ 32 }
+        requires nested { IsNested (view_of self.old) }
+        ensures goes { OnOk result ((t : Table) (h : Course) (n : ℕ) → after_script prepared.now.program (view_of self.old) t (values (trees_before prepared.now.program.nodes.items (first + count) count) [] (finish (context_of prepared.now.program) (Target.Own name))) h n ≡ remaining_with prepared.now.program (view_of self.new) t h n) }
+        ensures nested { IsNested (view_of self.new) }
+        ensures within { (k : Reach) → AreReached k (view_of self.old) → AreReached k (view_of self.new) }
+        ensures left { self.new.left ≡ self.old.left }
+        ensures err { (t : Table) → IfErr result (λ f. Stands (view_of self.old) (view_of self.new) t t f) }
+        ensures size { OnOk result (size (view_of self.new) ≤ 3 * length self.old.frames.items + 4) }
+        ensures fault { IfErr result (λ f. f ≡ Fault.Memory) }
+    {
+        self.frames.reserve(1)?;
+        match count {
+            0 => self.invoke(prepared, name, Frame::Not, None),
+            _ => {
+                let frame = Frame::Argument(
+                    Target::Own(name),
+                    first + count,
+                    count - 1,
+                    self.held.len(),
+                );
+                self.enter_above(frame, first);
+                Ok(())
+            }
+        }
+    }
+
+    /// Evaluates a call with arguments: of a method of the program, of a name that prints, or of another.
     #[tactic(auto, unfolding(crate::specs::Within::AreReached))]
     fn open_call(
         &mut self,
-        program: &Program,
+        prepared: &Prepared,
         name: Sym,
         first: NodeId,
         count: u32,
     ) -> Result<Option<Request>, Fault>
         requires small { first + count < 2 ^ 32 }
         requires nested { IsNested (view_of self.old) }
-        ensures goes { IfOk result (λ q. (t : Table) (h : Course) (n : ℕ) → after_script program.now (view_of self.old) t (call_rule (context_of program.now) (printing (context_of program.now) name.0) (trees_before program.now.nodes.items (first + count) count)) h n ≡ continuing program.now (view_of self.new) t q h n) }
+        ensures goes { IfOk result (λ q. (t : Table) (h : Course) (n : ℕ) → after_script prepared.now.program (view_of self.old) t (call_rule (context_of prepared.now.program) (own_method prepared.now.program name.0) (printing (context_of prepared.now.program) name.0) name (trees_before prepared.now.program.nodes.items (first + count) count)) h n ≡ continuing prepared.now.program (view_of self.new) t q h n) }
         ensures nested { IsNested (view_of self.new) }
         ensures within { (k : Reach) → AreReached k (view_of self.old) → AreReached k (view_of self.new) }
         ensures left { self.new.left ≡ self.old.left }
@@ -229,20 +265,24 @@ impl Engine {
         ensures size { IfOk result (λ q. sized q (view_of self.new) ≤ 3 * length self.old.frames.items + 4) }
         ensures fault { IfErr result (λ f. f ≡ Fault.Memory) }
     {
-        match printing(program, name) {
-            Some(task) => self.open_values(task, first, count),
-            None => {
+        match (prepared.method(name), printing(&prepared.program, name)) {
+            (Some(_), _) => match self.open_own(prepared, name, first, count) {
+                Ok(()) => Ok(None),
+                Err(fault) => Err(fault),
+            },
+            (None, Some(task)) => self.open_values(task, first, count),
+            (None, None) => {
                 self.control = Control::Throw(Problem::NotHere);
                 Ok(None)
             }
         }
     }
 
-    /// Evaluates a bare name, which prints or is missing.
+    /// Evaluates a bare name: that of a method of the program, one that prints, or one that is missing.
     #[tactic(auto, unfolding(crate::specs::Within::AreReached))]
-    fn open_bare(&mut self, program: &Program, name: Sym) -> Result<Option<Request>, Fault>
+    fn open_bare(&mut self, prepared: &Prepared, name: Sym) -> Result<Option<Request>, Fault>
         requires nested { IsNested (view_of self.old) }
-        ensures goes { IfOk result (λ q. (t : Table) (h : Course) (n : ℕ) → after_script program.now (view_of self.old) t (bare_rule (context_of program.now) (printing (context_of program.now) name.0) name.0) h n ≡ continuing program.now (view_of self.new) t q h n) }
+        ensures goes { IfOk result (λ q. (t : Table) (h : Course) (n : ℕ) → after_script prepared.now.program (view_of self.old) t (bare_rule (context_of prepared.now.program) (own_method prepared.now.program name.0) (printing (context_of prepared.now.program) name.0) name) h n ≡ continuing prepared.now.program (view_of self.new) t q h n) }
         ensures nested { IsNested (view_of self.new) }
         ensures within { (k : Reach) → AreReached k (view_of self.old) → AreReached k (view_of self.new) }
         ensures left { self.new.left ≡ self.old.left }
@@ -251,9 +291,13 @@ impl Engine {
         ensures size { IfOk result (λ q. sized q (view_of self.new) ≤ 3 * length self.old.frames.items + 4) }
         ensures fault { IfErr result (λ f. f ≡ Fault.Memory) }
     {
-        match printing(program, name) {
-            Some(task) => Ok(Some(Request::Do(task, Arguments::Without))),
-            None => {
+        match (prepared.method(name), printing(&prepared.program, name)) {
+            (Some(_), _) => match self.open_own(prepared, name, 0, 0) {
+                Ok(()) => Ok(None),
+                Err(fault) => Err(fault),
+            },
+            (None, Some(task)) => Ok(Some(Request::Do(task, Arguments::Without))),
+            (None, None) => {
                 self.control = Control::Throw(Problem::MissingName(name));
                 Ok(None)
             }
@@ -277,7 +321,7 @@ impl Engine {
     /// Does what a node does first that needs the objects or memory.
     pub fn open_rare(
         &mut self,
-        program: &Program,
+        prepared: &Prepared,
         space: &mut Space,
         node: Node,
     ) -> Result<Option<Request>, Fault>
@@ -285,7 +329,7 @@ impl Engine {
         requires rare { IsRareNode node }
         requires nested { IsNested (view_of self.old) }
         requires within { AreWithin (length space.old.slots) (view_of self.old) }
-        ensures goes { IfOk result (λ q. (h : Course) (n : ℕ) → after_script program.now (view_of self.old) space.old (rule (context_of program.now) (evaluated_tree program.now.nodes.items node)) h n ≡ continuing program.now (view_of self.new) space.new q h n) }
+        ensures goes { IfOk result (λ q. (h : Course) (n : ℕ) → after_script prepared.now.program (view_of self.old) space.old (rule (context_of prepared.now.program) (evaluated_tree prepared.now.program.nodes.items node)) h n ≡ continuing prepared.now.program (view_of self.new) space.new q h n) }
         ensures nested { IsNested (view_of self.new) }
         ensures within { KeepsReach (view_of self.old) space.old (view_of self.new) space.new }
         ensures read { KeepsRead (view_of self.old) space.old space.new }
@@ -295,18 +339,18 @@ impl Engine {
         ensures size { IfOk result (λ q. sized q (view_of self.new) ≤ 3 * length self.old.frames.items + 4) }
         ensures limit { space.new.limit ≡ space.old.limit }
         ensures changed { Changes space.old space.new }
-        ensures full { IfErr result (λ f. (h : Course) (n : ℕ) → Adds h.world → Passes f space.old.limit (objects_of (after_script program.now (view_of self.old) space.old (rule (context_of program.now) (evaluated_tree program.now.nodes.items node)) h n))) }
+        ensures full { IfErr result (λ f. (h : Course) (n : ℕ) → Adds h.world → Passes f space.old.limit (objects_of (after_script prepared.now.program (view_of self.old) space.old (rule (context_of prepared.now.program) (evaluated_tree prepared.now.program.nodes.items node)) h n))) }
     {
         match node {
-            Node::Text(i) => self.open_text(program, space, i),
+            Node::Text(i) => self.open_text(&prepared.program, space, i),
             Node::Array { first, count } => self.open_values(Task::MakeArray, first, count),
-            Node::Bare { name, .. } => self.open_bare(program, name),
+            Node::Bare { name, .. } => self.open_bare(prepared, name),
             Node::Call {
                 name,
                 first,
                 count,
                 ..
-            } => self.open_call(program, name, first, count),
+            } => self.open_call(prepared, name, first, count),
             _ => unreachable!(),
         }
     }
@@ -350,6 +394,7 @@ impl Engine {
             Node::Index(a, b) => self.open_send(Callee::Index, a, b + 1, 1),
             Node::Append(a, b) => self.open_send(Callee::Append, a, b + 1, 1),
             Node::Assign { slot, value, .. } => self.enter_above(Frame::Store(slot), value),
+            Node::Return(value) => self.enter_above(Frame::Return, value),
             Node::Choose(a, b, d) => self.enter_above(Frame::Branch(b, d), a),
             Node::Loop {
                 until,

@@ -26,6 +26,8 @@ pub enum Answer {
     Gave(Ref),
     /// With an exception, which is an object.
     Raised(Ref),
+    /// With the value of a `return`, which leaves the method.
+    Returned(Ref),
 }
 
 /// What an operation or a request comes to.

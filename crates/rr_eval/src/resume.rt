@@ -1,6 +1,6 @@
 //! What a frame does with the answer that it waits for.
 
-ghost use Rattle.std.specs.Prelude.{◌≡◌, ◌+◌, ◌*◌, ◌<◌, ◌≤◌, ℕ, List, [], ◌∷◌, ◌++◌, length, reverse, slice_set, take, vec_capacity, IfOk, IfErr, IsTrue, IsFalse, OnOk};
+ghost use Rattle.std.specs.Prelude.{◌≡◌, ◌+◌, ◌*◌, ◌<◌, ◌≤◌, ℕ, List, [], ◌∷◌, ◌++◌, length, reverse, take, vec_capacity, IfOk, IfErr, IsTrue, IsFalse, OnOk};
 ghost use Rattle.rr_base.specs.declared.fault.Fault.{Fault};
 ghost use Rattle.rr_space.specs.Tables.{Table};
 ghost use Rattle.rr_tree.specs.declared.program.Program.{Program};
@@ -8,7 +8,7 @@ ghost use Rattle.rr_eval.specs.declared.problem.Answer.{Answer};
 ghost use Rattle.rr_eval.specs.declared.frame.Control.{Control};
 ghost use Rattle.rr_eval.specs.declared.frame.Frame.{Frame};
 ghost use Rattle.rr_eval.specs.Context.{Context};
-ghost use Rattle.rr_eval.specs.Rules.{operation, negation, finish, send_to};
+ghost use Rattle.rr_eval.specs.Rules.{operation, negation, finish, back};
 ghost use Rattle.rr_eval.specs.Requests.{Course, arguments_of};
 ghost use Rattle.rr_eval.specs.Frames.{resumed, runs_in, below_of, base_of, stand_of, unwind, Nested, IsRareFrame};
 ghost use Rattle.rr_eval.specs.Turns.{context_of, code_of, state_of, remaining, IsNested, after_script, after_answer, remaining_with, continuing, Stands, size, sized};
@@ -20,6 +20,7 @@ use crate::call::{Arguments, Call, Callee, Target, Task, arguments_of, call_of};
 use crate::engine::{Engine, push_within};
 use crate::frame::{Control, Frame, standing};
 use crate::operator::{on_integers, opposite};
+use crate::prepared::Prepared;
 use crate::problem::Answer;
 use crate::request::Request;
 use crate::value::goes_on;
@@ -28,33 +29,15 @@ use rr_builtin::is_truthy;
 use rr_space::Ref;
 use rr_tree::{BinaryOperator, NodeId, Program};
 
-/// Puts a value in the place of another, where there is one.
-#[inline(always)]
-fn set_at<T: Drop>(items: &mut Vec<T>, place: usize, value: T)
-    ensures { items.new.items ≡ slice_set items.old.items place value }
-{
-    if let Some(item) = items.get_mut(place) {
-        *item = value;
-    }
-}
-
 /// Takes away the values that stand for a frame.
 #[inline(always)]
-fn clear(held: &mut Vec<Ref>, frame: Frame)
+pub fn clear(held: &mut Vec<Ref>, frame: Frame)
     ensures { held.new.items ≡ below_of frame held.old.items }
 {
     match frame {
         Frame::Argument(_, _, _, base) => held.truncate(base),
         _ => (),
     }
-}
-
-/// Gives a variable a value.
-#[inline(always)]
-fn set_variable(vars: &mut Vec<Ref>, slot: u32, value: Ref)
-    ensures { vars.new.items ≡ slice_set vars.old.items slot value }
-{
-    set_at(vars, slot as usize, value);
 }
 
 impl Engine {
@@ -129,6 +112,21 @@ impl Engine {
         }
     }
 
+    /// A method ends with a value, and its variables go.
+    #[tactic(auto, unfolding(crate::specs::Within::AreReached))]
+    #[inline(always)]
+    fn end_method(&mut self, value: Ref)
+        requires nested { IsNested (view_of self.old) }
+        ensures goes { (p : Program) (t : Table) (h : Course) (n : ℕ) → after_script p (view_of self.old) t (back (Answer.Gave value)) h n ≡ remaining_with p (view_of self.new) t h n }
+        ensures nested { IsNested (view_of self.new) }
+        ensures within { (k : Reach) → AreReached k (view_of self.old) → IsReached k value → AreReached k (view_of self.new) }
+        ensures left { self.new.left ≡ self.old.left }
+        ensures size { size (view_of self.new) ≡ 3 * length self.old.frames.items + 2 }
+    {
+        self.calls.pop();
+        self.control = Control::Give(Answer::Gave(value));
+    }
+
     /// Does what a frame, which is taken off the stack, does with a value, unless that needs the objects or memory.
     #[tactic(auto, unfolding(crate::specs::Within::AreReached))]
     #[inline(always)]
@@ -155,7 +153,7 @@ impl Engine {
             }
             Frame::Right(op, left) => self.operate_integers(op, left, value),
             Frame::Store(slot) => {
-                set_variable(&mut self.vars, slot, value);
+                self.calls.write(slot, value);
                 self.control = Control::Give(Answer::Gave(value));
                 true
             }
@@ -193,6 +191,14 @@ impl Engine {
             }
             Frame::Rest(end, count) => {
                 self.begin(end, count);
+                true
+            }
+            Frame::Return => {
+                self.control = Control::Give(Answer::Returned(value));
+                true
+            }
+            Frame::Back => {
+                self.end_method(value);
                 true
             }
             Frame::Negation | Frame::Argument(_, _, _, _) => false,
@@ -321,13 +327,19 @@ impl Engine {
     }
 
     /// Does what is done with the values that stand for a frame and with one more.
-    fn finish(&mut self, target: Target, frame: Frame, value: Ref) -> Result<Option<Request>, Fault>
+    fn finish(
+        &mut self,
+        prepared: &Prepared,
+        target: Target,
+        frame: Frame,
+        value: Ref,
+    ) -> Result<Option<Request>, Fault>
         requires room { length self.old.frames.items < vec_capacity self.old.frames }
         requires base { base_of frame ≤ length self.old.held.items }
         requires nested { Nested (reverse self.old.frames.items) (below_of frame self.old.held.items) }
-        ensures goes { IfOk result (λ q. (p : Program) (t : Table) (h : Course) (n : ℕ) → unwind (code_of p h.world) (reverse self.old.frames.items) (below_of frame self.old.held.items) (runs_in (code_of p h.world) (finish (context_of p) target (stand_of frame self.old.held.items ++ value ∷ [])) (state_of (view_of self.old) t h) n) ≡ continuing p (view_of self.new) t q h n) }
+        ensures goes { IfOk result (λ q. (t : Table) (h : Course) (n : ℕ) → unwind (code_of prepared.now.program h.world) (reverse self.old.frames.items) (below_of frame self.old.held.items) (runs_in (code_of prepared.now.program h.world) (finish (context_of prepared.now.program) target (stand_of frame self.old.held.items ++ value ∷ [])) (state_of (view_of self.old) t h) n) ≡ continuing prepared.now.program (view_of self.new) t q h n) }
         ensures nested { OnOk result (IsNested (view_of self.new)) }
-        ensures within { (k : Reach) → AreReached k (view_of self.old) → AreReached k (view_of self.new) }
+        ensures within { (k : Reach) → AreReached k (view_of self.old) → IsReached k value → AreReached k (view_of self.new) }
         ensures asks { (k : Reach) → AreReached k (view_of self.old) → IsReached k value → IfOk result (IsAskedReached k) }
         ensures left { self.new.left ≡ self.old.left }
         ensures err { (t : Table) → IfErr result (λ f. Stands (view_of self.old) (view_of self.new) t t f) }
@@ -338,12 +350,17 @@ impl Engine {
         match target {
             Target::Do(task) => self.ask(task, frame, value),
             Target::Call(callee) => self.send(callee, frame, value),
+            Target::Own(name) => match self.invoke(prepared, name, frame, Some(value)) {
+                Ok(()) => Ok(None),
+                Err(fault) => Err(fault),
+            },
         }
     }
 
     /// Goes on with the values for a target.
     fn resume_values(
         &mut self,
+        prepared: &Prepared,
         target: Target,
         end: NodeId,
         count: u32,
@@ -353,7 +370,7 @@ impl Engine {
         requires room { length self.old.frames.items < vec_capacity self.old.frames }
         requires base { base ≤ length self.old.held.items }
         requires nested { Nested (reverse self.old.frames.items) (take base self.old.held.items) }
-        ensures goes { IfOk result (λ q. (p : Program) (t : Table) (h : Course) (n : ℕ) → after_answer p (view_of self.old) t (Frame.Argument target end count base) (Answer.Gave value) h n ≡ continuing p (view_of self.new) t q h n) }
+        ensures goes { IfOk result (λ q. (t : Table) (h : Course) (n : ℕ) → after_answer prepared.now.program (view_of self.old) t (Frame.Argument target end count base) (Answer.Gave value) h n ≡ continuing prepared.now.program (view_of self.new) t q h n) }
         ensures nested { OnOk result (IsNested (view_of self.new)) }
         ensures within { (k : Reach) → AreReached k (view_of self.old) → IsReached k value → AreReached k (view_of self.new) }
         ensures asks { (k : Reach) → AreReached k (view_of self.old) → IsReached k value → IfOk result (IsAskedReached k) }
@@ -364,18 +381,28 @@ impl Engine {
         ensures fault { IfErr result (λ f. f ≡ Fault.Memory) }
     {
         match count {
-            0 => self.finish(target, Frame::Argument(target, end, 0, base), value),
+            0 => self.finish(
+                prepared,
+                target,
+                Frame::Argument(target, end, 0, base),
+                value,
+            ),
             _ => self.keep(target, end, count, base, value),
         }
     }
 
     /// Does what a frame does with a value, where that needs the objects or memory.
-    fn resume_value(&mut self, frame: Frame, value: Ref) -> Result<Option<Request>, Fault>
+    fn resume_value(
+        &mut self,
+        prepared: &Prepared,
+        frame: Frame,
+        value: Ref,
+    ) -> Result<Option<Request>, Fault>
         requires room { length self.old.frames.items < vec_capacity self.old.frames }
         requires base { base_of frame ≤ length self.old.held.items }
         requires nested { Nested (reverse self.old.frames.items) (below_of frame self.old.held.items) }
         requires rare { IsRareFrame frame }
-        ensures goes { IfOk result (λ q. (p : Program) (t : Table) (h : Course) (n : ℕ) → after_answer p (view_of self.old) t frame (Answer.Gave value) h n ≡ continuing p (view_of self.new) t q h n) }
+        ensures goes { IfOk result (λ q. (t : Table) (h : Course) (n : ℕ) → after_answer prepared.now.program (view_of self.old) t frame (Answer.Gave value) h n ≡ continuing prepared.now.program (view_of self.new) t q h n) }
         ensures nested { OnOk result (IsNested (view_of self.new)) }
         ensures within { (k : Reach) → AreReached k (view_of self.old) → IsFrameReached k frame → IsReached k value → AreReached k (view_of self.new) }
         ensures asks { (k : Reach) → AreReached k (view_of self.old) → IsFrameReached k frame → IsReached k value → IfOk result (IsAskedReached k) }
@@ -389,7 +416,7 @@ impl Engine {
             Frame::Negation => Ok(self.negate(value)),
             Frame::Right(op, left) => Ok(self.operate(op, left, value)),
             Frame::Argument(target, end, count, base) => {
-                self.resume_values(target, end, count, base, value)
+                self.resume_values(prepared, target, end, count, base, value)
             }
             _ => unreachable!(),
         }
@@ -399,22 +426,27 @@ impl Engine {
     /// refused growth puts the frame back.
     #[tactic(auto, unfolding(crate::specs::Within::AreReached))]
     #[inline(never)]
-    pub fn resume_rare(&mut self, frame: Frame, value: Ref) -> Result<Option<Request>, Fault>
+    pub fn resume_rare(
+        &mut self,
+        prepared: &Prepared,
+        frame: Frame,
+        value: Ref,
+    ) -> Result<Option<Request>, Fault>
         requires control { self.old.control ≡ Control.Give (Answer.Gave value) }
         requires room { length self.old.frames.items < vec_capacity self.old.frames }
         requires base { base_of frame ≤ length self.old.held.items }
         requires nested { Nested (reverse self.old.frames.items) (below_of frame self.old.held.items) }
         requires rare { IsRareFrame frame }
-        ensures goes { IfOk result (λ q. (p : Program) (t : Table) (h : Course) → after_answer p (view_of self.old) t frame (Answer.Gave value) h self.old.left ≡ continuing p (view_of self.new) t q h self.new.left) }
+        ensures goes { IfOk result (λ q. (t : Table) (h : Course) → after_answer prepared.now.program (view_of self.old) t frame (Answer.Gave value) h self.old.left ≡ continuing prepared.now.program (view_of self.new) t q h self.new.left) }
         ensures nested { IsNested (view_of self.new) }
         ensures within { (k : Reach) → AreReached k (view_of self.old) → IsFrameReached k frame → IsReached k value → AreReached k (view_of self.new) }
         ensures asks { (k : Reach) → AreReached k (view_of self.old) → IsFrameReached k frame → IsReached k value → IfOk result (IsAskedReached k) }
         ensures left { self.new.left ≡ self.old.left }
         ensures size { IfOk result (λ q. sized q (view_of self.new) ≤ 3 * length self.old.frames.items + 4) }
         ensures fault { IfErr result (λ f. f ≡ Fault.Memory) }
-        ensures back { IfErr result (λ _. (p : Program) (t : Table) (h : Course) → after_answer p (view_of self.old) t frame (Answer.Gave value) h self.old.left ≡ remaining p (view_of self.new) t h) }
+        ensures back { IfErr result (λ _. (t : Table) (h : Course) → after_answer prepared.now.program (view_of self.old) t frame (Answer.Gave value) h self.old.left ≡ remaining prepared.now.program (view_of self.new) t h) }
     {
-        match self.resume_value(frame, value) {
+        match self.resume_value(prepared, frame, value) {
             Ok(request) => Ok(request),
             Err(fault) => {
                 push_within(&mut self.frames, frame);
@@ -423,7 +455,7 @@ impl Engine {
         }
     }
 
-    /// Passes an exception through a frame, which is taken off the stack.
+    /// Passes an exception through a frame, which is taken off the stack. A method ends with it.
     #[tactic(auto, unfolding(crate::specs::Within::AreReached))]
     #[inline(never)]
     pub fn pass(&mut self, frame: Frame, exception: Ref)
@@ -436,6 +468,30 @@ impl Engine {
         ensures left { self.new.left ≡ self.old.left }
         ensures size { size (view_of self.new) ≡ 3 * length self.old.frames.items + 2 }
     {
-        clear(&mut self.held, frame);
+        match frame {
+            Frame::Back => self.calls.pop(),
+            _ => clear(&mut self.held, frame),
+        }
+    }
+
+    /// Passes what a `return` gives through a frame, which is taken off the stack. A method ends with it as its value.
+    #[tactic(auto, unfolding(crate::specs::Within::AreReached))]
+    pub fn leave(&mut self, frame: Frame, value: Ref)
+        requires control { self.old.control ≡ Control.Give (Answer.Returned value) }
+        requires base { base_of frame ≤ length self.old.held.items }
+        requires nested { Nested (reverse self.old.frames.items) (below_of frame self.old.held.items) }
+        ensures goes { (p : Program) (t : Table) (h : Course) → after_answer p (view_of self.old) t frame (Answer.Returned value) h self.old.left ≡ remaining p (view_of self.new) t h }
+        ensures nested { IsNested (view_of self.new) }
+        ensures within { (k : Reach) → AreReached k (view_of self.old) → AreReached k (view_of self.new) }
+        ensures left { self.new.left ≡ self.old.left }
+        ensures size { size (view_of self.new) ≡ 3 * length self.old.frames.items + 2 }
+    {
+        match frame {
+            Frame::Back => {
+                self.calls.pop();
+                self.control = Control::Give(Answer::Gave(value));
+            }
+            _ => clear(&mut self.held, frame),
+        }
     }
 }

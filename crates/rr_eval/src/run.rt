@@ -12,6 +12,7 @@ use crate::engine::Turn;
 use crate::exception::report;
 use crate::machine::Machine;
 use crate::output::{Output, put};
+use crate::prepared::Prepared;
 use crate::serve::serve;
 use rr_base::{Fault, Limits, RactorNo};
 use rr_builtin::Methods;
@@ -72,27 +73,27 @@ fn objects_fit(space: &Space)
 /// Runs a program on the main ractor.
 fn run_program<O: Output>(
     alloc: Global,
-    program: &Program,
+    prepared: &Prepared,
     limits: Limits,
     output: &mut O,
 ) -> Outcome
     requires { O.failures output.old + 1 < 2 ^ 64 }
-    ensures leaves { Leaves (context_of program.now) (written_to O.contents O.failures output.old) (written_to O.contents O.failures output.new) (program_meaning program.now limits) result }
-    ensures slots { WithinSlots limits.slots (program_meaning program.now limits) result }
+    ensures leaves { Leaves (context_of prepared.now.program) (written_to O.contents O.failures output.old) (written_to O.contents O.failures output.new) (program_meaning prepared.now.program limits) result }
+    ensures slots { WithinSlots limits.slots (program_meaning prepared.now.program limits) result }
 {
     let mut space = Space::new(alloc, RactorNo(1), limits.slots);
-    let Ok(methods) = Methods::of(alloc, program) else {
+    let Ok(methods) = Methods::of(alloc, &prepared.program) else {
         return Outcome::Stopped(Fault::Memory);
     };
-    let mut machine = match Machine::new(alloc, program, limits.steps) {
+    let mut machine = match Machine::new(alloc, prepared, limits) {
         Ok(machine) => machine,
         Err(fault) => return Outcome::Stopped(fault),
     };
     loop {
-        match machine.turn(program, &mut space, BUDGET) {
+        match machine.turn(prepared, &mut space, BUDGET) {
             Ok(Turn::More) => {}
             Ok(Turn::Ask(request)) => {
-                match serve(alloc, &mut space, program, &methods, request) {
+                match serve(alloc, &mut space, &prepared.program, &methods, request) {
                     Ok(served) => {
                         if !put(output, served.piece.as_slice()) {
                             return Outcome::OutputFailed;
@@ -108,7 +109,7 @@ fn run_program<O: Output>(
             }
             Ok(Turn::Raised(exception)) => {
                 objects_fit(&space);
-                return match report(alloc, program, &space, exception) {
+                return match report(alloc, &prepared.program, &space, exception) {
                     Ok(told) => Outcome::Raised(told),
                     Err(_) => Outcome::Stopped(Fault::Memory),
                 };
@@ -119,6 +120,23 @@ fn run_program<O: Output>(
             }
             Err(fault) => return Outcome::Stopped(fault),
         }
+    }
+}
+
+/// Makes a program ready and runs it.
+fn run_prepared<O: Output>(
+    alloc: Global,
+    program: Program,
+    limits: Limits,
+    output: &mut O,
+) -> Outcome
+    requires { O.failures output.old + 1 < 2 ^ 64 }
+    ensures leaves { Leaves (context_of program) (written_to O.contents O.failures output.old) (written_to O.contents O.failures output.new) (program_meaning program limits) result }
+    ensures slots { WithinSlots limits.slots (program_meaning program limits) result }
+{
+    match Prepared::of(alloc, program) {
+        Ok(prepared) => run_program(alloc, &prepared, limits, output),
+        Err(_) => Outcome::Stopped(Fault::Memory),
     }
 }
 
@@ -133,12 +151,12 @@ fn run_within<O: Output>(
     ensures { Meets (record { source = source.now; limits = limits; before = written_to O.contents O.failures output.old; after = written_to O.contents O.failures output.new; ended = result }) }
 {
     match read_program(alloc, source) {
-        Ok(program) => Ok(run_program(alloc, &program, limits, output)),
+        Ok(program) => Ok(run_prepared(alloc, program, limits, output)),
         Err(fault) => Err(fault),
     }
 }
 
-/// Runs a script within limits, of which it takes the steps and the slots.
+/// Runs a script within limits, of which it takes the steps, the frames and the slots.
 ///
 /// A fault means that the source was not read, and nothing was written: `Syntax`, `Limit` of `Source`, of `Nesting` or, where the
 /// program needs too many parts, of `Slots`, and `Memory`. Once it is read, the outcome says how the run ended.

@@ -41,6 +41,13 @@ read_at number place frames = slice_index_or (frame_at number frames).variables 
 abbrev pub write_at : ℕ → ℕ → Ref → List Frame → List Frame
 write_at number place value frames = slice_set frames number (record (frame_at number frames) { variables = slice_set (frame_at number frames).variables place value })
 
+-- the same of the last frame
+abbrev pub read_last : ℕ → List Frame → Ref
+read_last place frames = read_at (length frames - 1) place frames
+
+abbrev pub write_last : ℕ → Ref → List Frame → List Frame
+write_last place value frames = write_at (length frames - 1) place value frames
+
 -- the frames without the last one
 abbrev pub left : List Frame → List Frame
 left frames = take (length frames - 1) frames

@@ -4,7 +4,7 @@ ghost use Rattle.std.specs.Prelude.{◌≡◌, nat_lt, ◌∷◌, ◌++◌, [], 
 ghost use Rattle.std.specs.Option.{option_map};
 ghost use Rattle.rr_base.specs.declared.fault.Fault.{Fault};
 ghost use Rattle.rr_base.specs.declared.limits.LimitKind.{LimitKind};
-ghost use Rattle.rr_frames.specs.Frames.{no_frames, list_of, laid, read_at, write_at, left};
+ghost use Rattle.rr_frames.specs.Frames.{no_frames, list_of, laid, read_at, write_at, read_last, write_last, left};
 
 use crate::activation::{Activation, Shape};
 use crate::slots::{add_within, append_within, cut_within, replace_at};
@@ -27,7 +27,7 @@ pub(crate) struct Row {
 pub struct Frames {
     slots: Vec<Ref>,
     rows: Vec<Row>,
-    limit: u32,
+    limit: usize,
 }
 
 impl Model for Frames {
@@ -43,7 +43,7 @@ impl Model for Frames {
 
 impl Frames {
     /// No frames, of which there may be `limit`. Takes no memory.
-    pub fn new(alloc: Global, limit: u32) -> Frames
+    pub fn new(alloc: Global, limit: usize) -> Frames
         ensures { result ≡ no_frames limit }
     {
         Frames {
@@ -102,6 +102,35 @@ impl Frames {
         }
     }
 
+    /// A variable of the last frame; nil where there is none.
+    #[inline(always)]
+    pub fn read(&self, place: u32) -> Ref
+        ensures { result ≡ read_last place self.now.frames }
+    {
+        let count = self.rows.len();
+        if count > 0 {
+            let row = self.rows[count - 1];
+            if (place as usize) < row.size {
+                return self.slots[row.base + place as usize];
+            }
+        }
+        Ref::Nil
+    }
+
+    /// Gives a variable of the last frame another value. Nothing is done where there is no such variable.
+    #[inline(always)]
+    pub fn write(&mut self, place: u32, other: Ref)
+        ensures { self.new ≡ record self.old { frames = write_last place other self.old.frames } }
+    {
+        let count = self.rows.len();
+        if count > 0 {
+            let row = self.rows[count - 1];
+            if (place as usize) < row.size {
+                replace_at(&mut self.slots, row.base + place as usize, other);
+            }
+        }
+    }
+
     /// A new frame, the last one, whose first variables are the parameters: they have the first of the values, and all
     /// other variables are nil. `last` stands behind `values`.
     ///
@@ -120,7 +149,7 @@ impl Frames {
         ensures refused { OnErr result (self.new ≡ self.old) }
         ensures fault { IfErr result (λ fault. fault ≡ (if nat_lt (length self.old.frames) self.old.limit then Fault.Memory else Fault.Limit LimitKind.Frames)) }
     {
-        if self.rows.len() >= self.limit as usize {
+        if self.rows.len() >= self.limit {
             return Err(Fault::Limit(LimitKind::Frames));
         }
         let base = self.slots.len();
@@ -156,7 +185,7 @@ impl Frames {
     {
         let room = self.slots.capacity().saturating_sub(self.slots.len());
         let size = shape.size as usize;
-        if self.rows.len() >= self.limit as usize
+        if self.rows.len() >= self.limit
             || self.rows.len() >= self.rows.capacity()
             || room < 2
             || room < size

@@ -8,7 +8,7 @@ use Rattle.rr_eval.proofs.environment.run_in.Given as goal
 abbrev pub invariant-loop-request : goal.invariant-loop-request
 invariant-loop-request g l = record {
   within : AreWithin (length l.space.slots) l.machine;
-  served : IsServed g.E.Environment.leads l.program l.fn.machine l.fn.space l.fn.environment l.machine l.space l.environment;
+  served : IsServed g.E.Environment.leads l.prepared.program l.fn.machine l.fn.space l.fn.environment l.machine l.space l.environment;
 }
 
 abbrev pub decreases-loop-request : goal.decreases-loop-request

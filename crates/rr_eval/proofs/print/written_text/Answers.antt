@@ -2,7 +2,7 @@
 use Rattle.std.proofs.Common.{◌≡◌, ◌∙◌, ◌++◌, ◌∷◌, [], ℕ, List, sym, ap, subst, IfOk}
 use Rattle.rr_text.specs.Forms.{lines, inspected, spoken, within_text}
 use Rattle.rr_text.specs.Names.{names_of}
-use Rattle.rr_text.specs.Walk.{Walked, Wrote}
+use Rattle.rr_text.specs.Walk.{Wrote}
 use Rattle.rr_text.specs.Ways.{text_of}
 use Rattle.rr_builtin.specs.Objects.{printed_text}
 use Rattle.rr_eval.specs.Tasks.{written_by}

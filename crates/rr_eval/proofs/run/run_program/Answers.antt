@@ -18,17 +18,17 @@ use Rattle.rr_eval.proofs.run.run_program.Goals.{in-Ok-report, in-Err-report}
 
 pub loop-request-init : goal.loop-request-init
 loop-request-init g c =
-    let p = c.args.program.now in
+    let p = c.args.prepared.now.program in
     let w = alone (context_of p) in
     let made = c.new-space.ensures in
-    let begins = first_state p c.new-space.result c.args.limits.slots (first_table c.new-space.result c.args.limits.slots made.slots made.below made.keys made.limit made.owner made.next_message) in
+    let begins = first_state p c.new-space.result c.args.limits.frames c.args.limits.slots (first_table c.new-space.result c.args.limits.slots made.slots made.below made.keys made.limit made.owner made.next_message) in
     let whole = c.in-Ok-new.ensures.whole c.new-space.result (in_world w []) in
     record {
       within = c.in-Ok-new.ensures.within (reach (length c.new-space.result.slots) None);
       reached = c.in-Ok-new.ensures.within (reach (length c.new-space.result.slots) (Some []));
       read = none_read c.new-space.result made.below;
       limit = made.limit;
-      running = running_first w p c.in-Ok-new.machine c.new-space.result _ _ (ap (λ s. begun (context_of p) w p.definitions.items (tree_at p.nodes.items p.root) s c.args.limits.steps) begins ∙ sym whole);
+      running = running_first w p c.in-Ok-new.machine c.new-space.result _ _ (ap (λ s. begun (context_of p) w (tree_at p.nodes.items p.root) s c.args.limits.steps) begins ∙ sym whole);
     }
 
 pub loop-request-preserved-in-Ok-More : goal.loop-request-preserved-in-Ok-More
@@ -41,7 +41,7 @@ loop-request-preserved-in-Ok-More g c =
       reached = on.reach (Some []) before.reached;
       read = on.read [] before.read before.reached;
       limit = on.limit ∙ before.limit;
-      running = running_on (alone (context_of c.args.program.now)) c.args.program.now c.loop-request.machine c.turn.new.self c.loop-request.space c.turn.new.space _ _ _ before.running turned.1;
+      running = running_on (alone (context_of c.args.prepared.now.program)) c.args.prepared.now.program c.loop-request.machine c.turn.new.self c.loop-request.space c.turn.new.space _ _ _ before.running turned.1;
     }
 
 pub serve-requires-clause-read : goal.serve-requires-clause-read
@@ -51,17 +51,17 @@ pub serve-requires-clause-reached : goal.serve-requires-clause-reached
 serve-requires-clause-reached g c = rw c.in-Ok-Ask.field-0-is at (c.in-Ok-Ask.ensures.ends_reach (Some []) c.loop-request.invariant.reached)
 
 pub returns-in-Err-serve-clause-leaves : goal.returns-in-Err-serve-clause-leaves
-returns-in-Err-serve-clause-leaves g c = (c.in-Err-serve.ensures.refused.refused, running_stopped (alone (context_of c.args.program.now)) _ _ _ _ _ _ c.loop-request.invariant.running)
+returns-in-Err-serve-clause-leaves g c = (c.in-Err-serve.ensures.refused.refused, running_stopped (alone (context_of c.args.prepared.now.program)) _ _ _ _ _ _ c.loop-request.invariant.running)
 
 pub returns-in-Err-serve-clause-slots : goal.returns-in-Err-serve-clause-slots
 returns-in-Err-serve-clause-slots g c = λ is.
     let asks = c.in-Ok-Ask.ensures in
     let running = c.loop-request.invariant.running in
     let turned = rw c.in-Ok-Ask.field-0-is at asks.turned in
-    let h = in_world (alone (context_of c.args.program.now)) running.asked in
+    let h = in_world (alone (context_of c.args.prepared.now.program)) running.asked in
     let q = asked_of c.turn.new.space c.in-Ok-Ask.request in
     let more = c.in-Err-serve.ensures.refused.full is in
-    let kept = asking_keeps c.args.program.now c.turn.new.self c.turn.new.space q h _ (alone_adds (context_of c.args.program.now)) refl in
+    let kept = asking_keeps c.args.prepared.now.program c.turn.new.self c.turn.new.space q h _ (alone_adds (context_of c.args.prepared.now.program)) refl in
     let all = ap objects_of (running.same ∙ turned.1 h) in
     omega (arith, more, kept, all, asks.limit, c.loop-request.invariant.limit)
 
@@ -71,12 +71,12 @@ returns-then-not-put-clause-leaves g c =
     let now = written_to g.O.Output.contents g.O.Output.failures c.loop-request.output in
     let new = written_to g.O.Output.contents g.O.Output.failures c.put.new.output in
     let q = asked_of c.turn.new.space c.in-Ok-Ask.request in
-    running_failed (alone (context_of c.args.program.now)) c.args.program.now c.loop-request.machine c.turn.new.self c.loop-request.space c.turn.new.space _ _ now new q c.loop-request.invariant.running turned.1
+    running_failed (alone (context_of c.args.prepared.now.program)) c.args.prepared.now.program c.loop-request.machine c.turn.new.self c.loop-request.space c.turn.new.space _ _ now new q c.loop-request.invariant.running turned.1
     (subst (λ text. FallsShort now new text) (c.as_slice.ensures.value ∙ c.in-Ok-serve.ensures.piece) c.if-not-put.ensures)
 
 pub loop-request-preserved : goal.loop-request-preserved
 loop-request-preserved g c =
-    let w = alone (context_of c.args.program.now) in
+    let w = alone (context_of c.args.prepared.now.program) in
     let asks = c.in-Ok-Ask.ensures in
     let before = c.loop-request.invariant in
     let turned = rw c.in-Ok-Ask.field-0-is at asks.turned in
@@ -92,36 +92,36 @@ loop-request-preserved g c =
       reached = c.answer.ensures.within (reach k (Some [])) (reached_more _ _ (Some []) served.grows _ reached) served.reached;
       read = served.read;
       limit = served.limit ∙ asks.limit ∙ before.limit;
-      running = rw c.answer.ensures.goes (running_more w c.args.program.now c.loop-request.machine c.turn.new.self c.loop-request.space c.turn.new.space c.serve.new.space _ _ now new q c.in-Ok-serve.served.response before.running turned.1 (λ asked. ap (λ r. Some r) served.is) wrote);
+      running = rw c.answer.ensures.goes (running_more w c.args.prepared.now.program c.loop-request.machine c.turn.new.self c.loop-request.space c.turn.new.space c.serve.new.space _ _ now new q c.in-Ok-serve.served.response before.running turned.1 (λ asked. ap (λ r. Some r) served.is) wrote);
     }
 
 pub returns-in-Err-turn-clause-leaves : goal.returns-in-Err-turn-clause-leaves
 returns-in-Err-turn-clause-leaves g c =
     let turned = rw c.in-Err-turn.fault-is at c.in-Err-turn.ensures.turned in
-    (turned.0, running_stopped (alone (context_of c.args.program.now)) _ _ _ _ _ _ c.loop-request.invariant.running)
+    (turned.0, running_stopped (alone (context_of c.args.prepared.now.program)) _ _ _ _ _ _ c.loop-request.invariant.running)
 
 pub returns-in-Err-turn-clause-slots : goal.returns-in-Err-turn-clause-slots
 returns-in-Err-turn-clause-slots g c =
     let running = c.loop-request.invariant.running in
     let passes = rw c.in-Err-turn.fault-is at c.in-Err-turn.ensures.full in
     let fault = c.in-Err-turn.fault in
-    let rest = remaining c.args.program.now c.loop-request.machine c.loop-request.space (in_world (alone (context_of c.args.program.now)) running.asked) in
-    subst (λ o. Passes fault c.args.limits.slots (objects_of o)) (sym running.same) (subst (λ k. Passes fault k (objects_of rest)) c.loop-request.invariant.limit (passes (in_world (alone (context_of c.args.program.now)) running.asked) (alone_adds (context_of c.args.program.now))))
+    let rest = remaining c.args.prepared.now.program c.loop-request.machine c.loop-request.space (in_world (alone (context_of c.args.prepared.now.program)) running.asked) in
+    subst (λ o. Passes fault c.args.limits.slots (objects_of o)) (sym running.same) (subst (λ k. Passes fault k (objects_of rest)) c.loop-request.invariant.limit (passes (in_world (alone (context_of c.args.prepared.now.program)) running.asked) (alone_adds (context_of c.args.prepared.now.program))))
 
 pub returns-in-Ok-Raised-clause-leaves : goal.returns-in-Ok-Raised-clause-leaves
 returns-in-Ok-Raised-clause-leaves g c =
     let turned = rw c.in-Ok-Raised.field-0-is at c.in-Ok-Raised.ensures.turned in
     let running = c.loop-request.invariant.running in
     elim c.match-report.branch [
-      | in-Ok-report w ↦ rw (w.result-is) (running_raised (alone (context_of c.args.program.now)) c.args.program.now c.loop-request.machine c.turn.new.self c.loop-request.space c.turn.new.space _ _ _ c.in-Ok-Raised.exception w.in-Ok-report.told.items running turned.1 w.in-Ok-report.ensures)
-      | in-Err-report w ↦ rw (w.result-is) (inl refl, running_stopped (alone (context_of c.args.program.now)) _ _ _ _ _ _ running)
+      | in-Ok-report w ↦ rw (w.result-is) (running_raised (alone (context_of c.args.prepared.now.program)) c.args.prepared.now.program c.loop-request.machine c.turn.new.self c.loop-request.space c.turn.new.space _ _ _ c.in-Ok-Raised.exception w.in-Ok-report.told.items running turned.1 w.in-Ok-report.ensures)
+      | in-Err-report w ↦ rw (w.result-is) (inl refl, running_stopped (alone (context_of c.args.prepared.now.program)) _ _ _ _ _ _ running)
     ]
 
 pub returns-in-Ok-Raised-clause-slots : goal.returns-in-Ok-Raised-clause-slots
 returns-in-Ok-Raised-clause-slots g c =
     let turned = rw c.in-Ok-Raised.field-0-is at c.in-Ok-Raised.ensures.turned in
     let fits : length c.turn.new.space.slots ≤ c.args.limits.slots = omega (arith, c.objects_fit-in-Ok-Raised.ensures, c.in-Ok-Raised.ensures.limit, c.loop-request.invariant.limit) in
-    let most = running_fits (alone (context_of c.args.program.now)) c.args.program.now c.loop-request.machine c.loop-request.space _ _ _ _ c.loop-request.invariant.running _ turned.1 (λ h. fits) in
+    let most = running_fits (alone (context_of c.args.prepared.now.program)) c.args.prepared.now.program c.loop-request.machine c.loop-request.space _ _ _ _ c.loop-request.invariant.running _ turned.1 (λ h. fits) in
     elim c.match-report.branch [
       | in-Ok-report w ↦ rw (w.result-is) most
       | in-Err-report w ↦ rw (w.result-is) (λ is. absurd (cc is))
@@ -130,21 +130,21 @@ returns-in-Ok-Raised-clause-slots g c =
 pub returns-in-Ok-Done-clause-leaves : goal.returns-in-Ok-Done-clause-leaves
 returns-in-Ok-Done-clause-leaves g c =
     let turned = rw c.in-Ok-Done.field-0-is at c.in-Ok-Done.ensures.turned in
-    running_done (alone (context_of c.args.program.now)) c.args.program.now c.loop-request.machine c.turn.new.self c.loop-request.space c.turn.new.space _ _ _ _ c.loop-request.invariant.running turned.1
+    running_done (alone (context_of c.args.prepared.now.program)) c.args.prepared.now.program c.loop-request.machine c.turn.new.self c.loop-request.space c.turn.new.space _ _ _ _ c.loop-request.invariant.running turned.1
 
 pub returns-in-Ok-Done-clause-slots : goal.returns-in-Ok-Done-clause-slots
 returns-in-Ok-Done-clause-slots g c =
     let turned = rw c.in-Ok-Done.field-0-is at c.in-Ok-Done.ensures.turned in
     let fits : length c.turn.new.space.slots ≤ c.args.limits.slots = omega (arith, c.objects_fit.ensures, c.in-Ok-Done.ensures.limit, c.loop-request.invariant.limit) in
-    running_fits (alone (context_of c.args.program.now)) c.args.program.now c.loop-request.machine c.loop-request.space _ _ _ _ c.loop-request.invariant.running _ turned.1 (λ h. fits)
+    running_fits (alone (context_of c.args.prepared.now.program)) c.args.prepared.now.program c.loop-request.machine c.loop-request.space _ _ _ _ c.loop-request.invariant.running _ turned.1 (λ h. fits)
 
 pub returns-in-Ok-StepLimit-clause-leaves : goal.returns-in-Ok-StepLimit-clause-leaves
 returns-in-Ok-StepLimit-clause-leaves g c =
     let turned = rw c.in-Ok-StepLimit.field-0-is at c.in-Ok-StepLimit.ensures.turned in
-    running_spent (alone (context_of c.args.program.now)) c.args.program.now c.loop-request.machine c.turn.new.self c.loop-request.space c.turn.new.space _ _ _ c.loop-request.invariant.running turned.2
+    running_spent (alone (context_of c.args.prepared.now.program)) c.args.prepared.now.program c.loop-request.machine c.turn.new.self c.loop-request.space c.turn.new.space _ _ _ c.loop-request.invariant.running turned.2
 
 pub returns-in-Ok-StepLimit-clause-slots : goal.returns-in-Ok-StepLimit-clause-slots
 returns-in-Ok-StepLimit-clause-slots g c =
     let turned = rw c.in-Ok-StepLimit.field-0-is at c.in-Ok-StepLimit.ensures.turned in
     let fits : length c.turn.new.space.slots ≤ c.args.limits.slots = omega (arith, c.objects_fit-in-Ok-StepLimit.ensures, c.in-Ok-StepLimit.ensures.limit, c.loop-request.invariant.limit) in
-    running_fits (alone (context_of c.args.program.now)) c.args.program.now c.loop-request.machine c.loop-request.space _ _ _ _ c.loop-request.invariant.running _ turned.2 (λ h. fits)
+    running_fits (alone (context_of c.args.prepared.now.program)) c.args.prepared.now.program c.loop-request.machine c.loop-request.space _ _ _ _ c.loop-request.invariant.running _ turned.2 (λ h. fits)

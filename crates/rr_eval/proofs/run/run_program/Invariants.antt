@@ -14,7 +14,7 @@ invariant-loop-request g l = record {
   reached : AreReached (reach (length l.space.slots) (Some [])) l.machine;
   read : IsReadWith l.space [];
   limit : l.space.limit ≡ l.fn.limits.slots;
-  running : IsRunning (alone (context_of l.program)) l.program l.machine l.space (program_meaning l.program l.fn.limits) (written_to g.O.Output.contents g.O.Output.failures l.initial.output) (written_to g.O.Output.contents g.O.Output.failures l.output);
+  running : IsRunning (alone (context_of l.prepared.program)) l.prepared.program l.machine l.space (program_meaning l.prepared.program l.fn.limits) (written_to g.O.Output.contents g.O.Output.failures l.initial.output) (written_to g.O.Output.contents g.O.Output.failures l.output);
 }
 
 abbrev pub decreases-loop-request : goal.decreases-loop-request

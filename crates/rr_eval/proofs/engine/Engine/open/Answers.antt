@@ -62,3 +62,6 @@ returns-in-Choose-clause-within c k h = c.enter_above-in-Choose.ensures.within k
 
 pub returns-in-Loop-clause-within : goal.returns-in-Loop-clause-within
 returns-in-Loop-clause-within c k h = c.enter_above-in-Loop.ensures.within k h tt
+
+pub returns-in-Return-clause-within : goal.returns-in-Return-clause-within
+returns-in-Return-clause-within c k h = c.enter_above-in-Return.ensures.within k h tt

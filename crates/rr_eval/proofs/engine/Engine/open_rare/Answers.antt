@@ -33,14 +33,14 @@ by_rule_of (Err f) p m new t a b e goes = tt
 
 pub returns-in-Call-clause-goes : goal.returns-in-Call-clause-goes
 returns-in-Call-clause-goes c =
-    let p = c.args.program.now in
+    let p = c.args.prepared.now.program in
     let ns = p.nodes.items in
     by_rule c.open_call.result p (view_of c.args.self.now) (view_of c.open_call.new.self) c.args.space.now _ _
     (call_is ns (context_of p) c.in-Call.name c.in-Call.first c.in-Call.count c.in-Call.site ∙ ap (λ x. rule (context_of p) (evaluated_tree ns x)) (sym c.in-Call.is)) c.open_call.ensures.goes
 
 pub returns-in-Array-clause-goes : goal.returns-in-Array-clause-goes
 returns-in-Array-clause-goes c =
-    let p = c.args.program.now in
+    let p = c.args.prepared.now.program in
     let ns = p.nodes.items in
     by_rule_of c.open_values.result p (view_of c.args.self.now) (view_of c.open_values.new.self) c.args.space.now (λ x. values (trees_before x.nodes.items (c.in-Array.first + c.in-Array.count) c.in-Array.count) [] (finish (context_of x) (Do MakeArray))) _
     (array_is ns (context_of p) c.in-Array.first c.in-Array.count ∙ ap (λ x. rule (context_of p) (evaluated_tree ns x)) (sym c.in-Array.is)) c.open_values.ensures.goes

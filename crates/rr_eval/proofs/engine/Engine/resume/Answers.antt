@@ -13,7 +13,10 @@ pub returns-in-Right-clause-within : goal.returns-in-Right-clause-within
 returns-in-Right-clause-within c k h frame value = c.operate_integers.ensures.within k h
 
 pub returns-in-Store-clause-within : goal.returns-in-Store-clause-within
-returns-in-Store-clause-within c k h frame value = with_variable k (view_of c.args.self.now) _ _ _ _ c.set_variable.ensures h value value
+returns-in-Store-clause-within c k h frame value = with_variable k (view_of c.args.self.now) _ _ _ _ c.write.ensures h value value
+
+pub returns-in-Back-clause-within : goal.returns-in-Back-clause-within
+returns-in-Back-clause-within c k h frame value = c.end_method.ensures.within k h value
 
 pub returns-in-Rest-clause-within : goal.returns-in-Rest-clause-within
 returns-in-Rest-clause-within c k h frame value = c.begin.ensures.within k h

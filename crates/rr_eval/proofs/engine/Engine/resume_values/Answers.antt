@@ -2,7 +2,7 @@
 use Rattle.rr_eval.proofs.engine.Engine.resume_values.Goals as goal
 
 pub returns-in-0-clause-within : goal.returns-in-0-clause-within
-returns-in-0-clause-within c k h value = c.finish.ensures.within k h
+returns-in-0-clause-within c k h value = c.finish.ensures.within k h value
 
 pub returns-in_default-clause-asks : goal.returns-in_default-clause-asks
 returns-in_default-clause-asks c k h value = c.keep.ensures.asks k

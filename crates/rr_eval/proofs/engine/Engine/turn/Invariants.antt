@@ -18,7 +18,7 @@ invariant-loop-self l = record {
   fell : power (view_of l.self) + l.fn.self.left ≤ power (view_of l.fn.self) + l.self.left;
   changed : Changes l.fn.space l.space;
   limit : l.space.limit ≡ l.fn.space.limit;
-  same : (h : Course) → remaining l.program (view_of l.fn.self) l.fn.space h ≡ remaining l.program (view_of l.self) l.space h;
+  same : (h : Course) → remaining l.prepared.program (view_of l.fn.self) l.fn.space h ≡ remaining l.prepared.program (view_of l.self) l.space h;
 }
 
 abbrev pub decreases-loop-self : goal.decreases-loop-self

@@ -12,7 +12,7 @@ use Rattle.rr_eval.proofs.engine.Engine.visit_rare.Goals as goal
 
 pub returns-in-Ok-clause-goes : goal.returns-in-Ok-clause-goes
 returns-in-Ok-clause-goes c h =
-    let p = c.args.program.now in
+    let p = c.args.prepared.now.program in
     let m = view_of c.args.self.now in
     let t = c.args.space.now in
     let some : m.left ≡ suc (m.left - 1) = omega arith in
@@ -22,7 +22,7 @@ returns-in-Ok-clause-goes c h =
 
 pub returns-in-Err-clause-full : goal.returns-in-Err-clause-full
 returns-in-Err-clause-full c h adds =
-    let p = c.args.program.now in
+    let p = c.args.prepared.now.program in
     let m = view_of c.args.self.now in
     let t = c.args.space.now in
     let some : m.left ≡ suc (m.left - 1) = omega arith in

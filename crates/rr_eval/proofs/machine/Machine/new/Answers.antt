@@ -1,0 +1,27 @@
+-- The machine begins with the statements of the program.
+use Rattle.std.proofs.Common.{◌∙◌, ap, reverse}
+use Rattle.rr_tree.specs.Tree.{tree_at}
+use Rattle.rr_eval.specs.Methods.{are_methods, definitions_of}
+use Rattle.rr_eval.specs.Rules.{concluded, statements_of}
+use Rattle.rr_eval.specs.Frames.{start, unwind}
+use Rattle.rr_eval.specs.Script.{State}
+use Rattle.rr_eval.specs.Turns.{context_of, code_of}
+use Rattle.rr_eval.proofs.Entered.{first_start}
+use Rattle.rr_eval.proofs.Holding.{first_reached}
+use Rattle.rr_eval.proofs.machine.Machine.new.Goals as goal
+
+pub returns-clause-within : goal.returns-clause-within
+returns-clause-within c k = first_reached k _ (c.first_control.ensures.within k) c.new.ensures.items c.new-2.ensures.items (c.in_ok-first_calls.ensures.within k)
+
+pub returns-clause-whole : goal.returns-clause-whole
+returns-clause-whole c t h =
+    let p = c.args.prepared.now.program in
+    let code = code_of p h.world in
+    let n = c.args.limits.steps in
+    let simple = are_methods (definitions_of p) in
+    let tree = tree_at p.nodes.items p.root in
+    let s : State = record { memory = record { calls = c.in_ok-first_calls.field-0; table = t }; asked = h.asked } in
+    ap (λ fs. unwind code (reverse fs) c.new-2.result.items (start code c.first_control.result s n)) c.new.ensures.items
+    ∙ ap (λ k. concluded (start code k s n)) c.first_control.ensures.is
+    ∙ ap concluded (first_start p h.world simple p.root s n)
+    ∙ ap (λ m. concluded (statements_of (context_of p) h.world simple tree (record { memory = m; asked = h.asked }) n)) (c.in_ok-first_calls.ensures.calls t)

@@ -1,0 +1,174 @@
+//! Calls of the program's own methods.
+
+ghost use Rattle.std.specs.Prelude.{◌≡◌, ◌+◌, ◌*◌, ◌<◌, ◌≤◌, ℕ, ◌++◌, length, reverse, vec_capacity, Some, IfErr, OnOk};
+ghost use Rattle.rr_base.specs.declared.fault.Fault.{Fault};
+ghost use Rattle.rr_frames.specs.Frames.{list_of, no_frame};
+ghost use Rattle.rr_space.specs.Tables.{Table};
+ghost use Rattle.rr_tree.specs.declared.program.Program.{Program};
+ghost use Rattle.std.specs.List.{All};
+ghost use Rattle.rr_eval.specs.Methods.{own_method};
+ghost use Rattle.rr_eval.specs.Prepared.{method_of};
+ghost use Rattle.rr_eval.specs.Rules.{throw, entered, own_rule};
+ghost use Rattle.rr_eval.specs.Requests.{Course};
+ghost use Rattle.rr_eval.specs.Frames.{below_of, base_of, stand_of, Nested};
+ghost use Rattle.rr_eval.specs.Turns.{context_of, IsNested, remaining_with, after_values, Stands, size};
+ghost use Rattle.rr_eval.specs.Views.{view_of};
+ghost use Rattle.rr_eval.specs.Within.{Reach, AreReached, IsReached};
+
+use crate::call::Callee;
+use crate::engine::{Engine, push_within};
+use crate::frame::{Control, Frame, standing};
+use crate::prepared::{Definition, Prepared};
+use crate::problem::Problem;
+use crate::resume::clear;
+use rr_base::{ClassId, Fault, LimitKind, Sym};
+use rr_builtin::{Problem as BuiltInProblem, Receiver};
+use rr_frames::{Activation, Given};
+use rr_space::Ref;
+
+/// What a frame has beside its variables, as long as no block, `super` or `self` is evaluated.
+pub fn no_activation() -> Activation
+    ensures { result ≡ no_frame.activation }
+{
+    Activation {
+        itself: Ref::Nil,
+        given: Given::Nothing,
+        home: 0,
+        root: 0,
+        method: 0,
+    }
+}
+
+/// How many values there are, with one more.
+fn count_of(values: &[Ref], last: Option<Ref>) -> usize
+    ensures { result ≡ length (values.now ++ list_of last) }
+{
+    match last {
+        Some(_) => values.len() + 1,
+        None => values.len(),
+    }
+}
+
+impl Engine {
+    /// Raises an exception in the place of what is done with the values that stand for a frame.
+    #[tactic(auto, unfolding(crate::specs::Within::AreReached))]
+    fn refuse(&mut self, frame: Frame, problem: Problem)
+        requires base { base_of frame ≤ length self.old.held.items }
+        requires nested { Nested (reverse self.old.frames.items) (below_of frame self.old.held.items) }
+        ensures goes { (p : Program) (t : Table) (h : Course) (n : ℕ) → after_values p (view_of self.old) t frame (throw (context_of p) problem) h n ≡ remaining_with p (view_of self.new) t h n }
+        ensures nested { IsNested (view_of self.new) }
+        ensures within { (k : Reach) → AreReached k (view_of self.old) → AreReached k (view_of self.new) }
+        ensures left { self.new.left ≡ self.old.left }
+        ensures size { size (view_of self.new) ≤ 3 * length self.old.frames.items + 4 }
+    {
+        clear(&mut self.held, frame);
+        self.control = Control::Throw(problem);
+    }
+
+    /// Evaluates the statements of a method, in a frame of their own, whose parameters have the values that stand for a
+    /// frame and one more. A refused growth leaves all as it is.
+    #[tactic(auto, unfolding(crate::specs::Within::AreReached))]
+    fn enter_method(
+        &mut self,
+        definition: Definition,
+        frame: Frame,
+        last: Option<Ref>,
+    ) -> Result<(), Fault>
+        requires room { length self.old.frames.items < vec_capacity self.old.frames }
+        requires base { base_of frame ≤ length self.old.held.items }
+        requires nested { Nested (reverse self.old.frames.items) (below_of frame self.old.held.items) }
+        ensures goes { OnOk result ((p : Program) (t : Table) (h : Course) (n : ℕ) → after_values p (view_of self.old) t frame (entered (context_of p) (method_of p.nodes.items definition) (stand_of frame self.old.held.items ++ list_of last) self.old.calls) h n ≡ remaining_with p (view_of self.new) t h n) }
+        ensures nested { OnOk result (IsNested (view_of self.new)) }
+        ensures within { (k : Reach) → AreReached k (view_of self.old) → All (IsReached k) (list_of last) → AreReached k (view_of self.new) }
+        ensures left { self.new.left ≡ self.old.left }
+        ensures err { (t : Table) → IfErr result (λ f. Stands (view_of self.old) (view_of self.new) t t f) }
+        ensures size { OnOk result (size (view_of self.new) ≤ 3 * length self.old.frames.items + 4) }
+        ensures room { IfErr result (λ _. length self.new.frames.items < vec_capacity self.new.frames) }
+        ensures fault { IfErr result (λ f. f ≡ Fault.Memory) }
+    {
+        match self.calls.push(
+            standing(&self.held, frame),
+            last,
+            definition.shape,
+            no_activation(),
+        ) {
+            Ok(()) => {
+                clear(&mut self.held, frame);
+                push_within(&mut self.frames, Frame::Back);
+                self.control = Control::Enter(definition.body);
+                Ok(())
+            }
+            Err(Fault::Limit(LimitKind::Frames)) => {
+                self.refuse(frame, Problem::BuiltIn(BuiltInProblem::TooDeep));
+                Ok(())
+            }
+            Err(_) => Err(Fault::Memory),
+        }
+    }
+
+    /// Calls a method with the values that stand for a frame and with one more, where they are as many as it has parameters.
+    /// A refused growth leaves all as it is.
+    fn call_method(
+        &mut self,
+        definition: Definition,
+        frame: Frame,
+        last: Option<Ref>,
+    ) -> Result<(), Fault>
+        requires room { length self.old.frames.items < vec_capacity self.old.frames }
+        requires base { base_of frame ≤ length self.old.held.items }
+        requires nested { Nested (reverse self.old.frames.items) (below_of frame self.old.held.items) }
+        ensures goes { OnOk result ((p : Program) (x : Sym) (t : Table) (h : Course) (n : ℕ) → after_values p (view_of self.old) t frame (own_rule (context_of p) x (Some (method_of p.nodes.items definition)) (stand_of frame self.old.held.items ++ list_of last)) h n ≡ remaining_with p (view_of self.new) t h n) }
+        ensures nested { OnOk result (IsNested (view_of self.new)) }
+        ensures within { (k : Reach) → AreReached k (view_of self.old) → All (IsReached k) (list_of last) → AreReached k (view_of self.new) }
+        ensures left { self.new.left ≡ self.old.left }
+        ensures err { (t : Table) → IfErr result (λ f. Stands (view_of self.old) (view_of self.new) t t f) }
+        ensures size { OnOk result (size (view_of self.new) ≤ 3 * length self.old.frames.items + 4) }
+        ensures room { IfErr result (λ _. length self.new.frames.items < vec_capacity self.new.frames) }
+        ensures fault { IfErr result (λ f. f ≡ Fault.Memory) }
+    {
+        let given = count_of(standing(&self.held, frame), last);
+        let wanted = definition.shape.parameters as usize;
+        if given == wanted {
+            self.enter_method(definition, frame, last)
+        } else {
+            let count = BuiltInProblem::Count {
+                given,
+                least: wanted,
+                most: wanted,
+            };
+            self.refuse(frame, Problem::BuiltIn(count));
+            Ok(())
+        }
+    }
+
+    /// Calls the program's method of a name with the values that stand for a frame and with one more. A refused growth
+    /// leaves all as it is.
+    pub fn invoke(
+        &mut self,
+        prepared: &Prepared,
+        name: Sym,
+        frame: Frame,
+        last: Option<Ref>,
+    ) -> Result<(), Fault>
+        requires room { length self.old.frames.items < vec_capacity self.old.frames }
+        requires base { base_of frame ≤ length self.old.held.items }
+        requires nested { Nested (reverse self.old.frames.items) (below_of frame self.old.held.items) }
+        ensures goes { OnOk result ((t : Table) (h : Course) (n : ℕ) → after_values prepared.now.program (view_of self.old) t frame (own_rule (context_of prepared.now.program) name (own_method prepared.now.program name.0) (stand_of frame self.old.held.items ++ list_of last)) h n ≡ remaining_with prepared.now.program (view_of self.new) t h n) }
+        ensures nested { OnOk result (IsNested (view_of self.new)) }
+        ensures within { (k : Reach) → AreReached k (view_of self.old) → All (IsReached k) (list_of last) → AreReached k (view_of self.new) }
+        ensures left { self.new.left ≡ self.old.left }
+        ensures err { (t : Table) → IfErr result (λ f. Stands (view_of self.old) (view_of self.new) t t f) }
+        ensures size { OnOk result (size (view_of self.new) ≤ 3 * length self.old.frames.items + 4) }
+        ensures room { IfErr result (λ _. length self.new.frames.items < vec_capacity self.new.frames) }
+        ensures fault { IfErr result (λ f. f ≡ Fault.Memory) }
+    {
+        match prepared.method(name) {
+            Some(definition) => self.call_method(definition, frame, last),
+            None => {
+                let receiver = Receiver::Instance(ClassId::OBJECT);
+                self.refuse(frame, Problem::MissingMethod(Callee::Name(name), receiver));
+                Ok(())
+            }
+        }
+    }
+}
