@@ -60,6 +60,11 @@ def f; yield[0]; yield(1).b; end -> Yield { first: 0, count: 0 }, Int(0), Index(
 def g; yield f 1 do end; end -> Int(1), Item(0), Call { name: Sym(1), first: 1, count: 1, site: 0 }, Sequence { first: 3, count: 0 }, Block { scope: 2, parameters: 0, size: 0, body: 3 }, WithBlock(2, 4), Item(5), Yield { first: 6, count: 1 }, Item(7), Sequence { first: 8, count: 1 }, Method { name: Sym(0), scope: 1, parameters: 0, size: 0, body: 9 }, Sequence { first: 11, count: 0 } | 10
 def f; return 1; end -> Int(1), Return(0), Item(1), Sequence { first: 2, count: 1 }, Method { name: Sym(0), scope: 1, parameters: 0, size: 0, body: 3 }, Sequence { first: 5, count: 0 } | 4
 while 1; break; end; def f; end -> Int(1), Nil, Break(1), Item(2), Sequence { first: 3, count: 1 }, Loop { until: false, condition: 0, body: 4 }, Sequence { first: 6, count: 0 }, Method { name: Sym(0), scope: 1, parameters: 0, size: 0, body: 6 }, Item(5), Sequence { first: 8, count: 1 } | 7
+def f; 1; rescue; 2; end -> Int(1), Item(0), Sequence { first: 1, count: 1 }, Nil, Int(2), Item(4), Sequence { first: 5, count: 1 }, Clause { first: 7, count: 0, target: 3, body: 6 }, Nil, Item(7), Rescue { body: 2, first: 9, count: 1, otherwise: 8 }, Method { name: Sym(0), scope: 1, parameters: 0, size: 0, body: 10 }, Sequence { first: 12, count: 0 } | 11
+def f; rescue A, Ractor::Error => e; e; else 2; ensure 3; end -> Sequence { first: 0, count: 0 }, Constant(Plain(Sym(1))), Constant(Ractor(Sym(3))), Local { depth: 0, slot: 0, name: Sym(4) }, Local { depth: 0, slot: 0, name: Sym(4) }, Item(4), Sequence { first: 5, count: 1 }, Item(1), Item(2), Clause { first: 7, count: 2, target: 3, body: 6 }, Int(2), Item(10), Sequence { first: 11, count: 1 }, Item(9), Rescue { body: 0, first: 13, count: 1, otherwise: 12 }, Int(3), Item(15), Sequence { first: 16, count: 1 }, Ensure(14, 17), Method { name: Sym(0), scope: 1, parameters: 0, size: 1, body: 18 }, Sequence { first: 20, count: 0 } | 19
+def f; 1; ensure; 2; end -> Int(1), Item(0), Sequence { first: 1, count: 1 }, Int(2), Item(3), Sequence { first: 4, count: 1 }, Ensure(2, 5), Method { name: Sym(0), scope: 1, parameters: 0, size: 0, body: 6 }, Sequence { first: 8, count: 0 } | 7
+def f^n1^nrescue A then 2^nrescue^n3^nend -> Int(1), Item(0), Sequence { first: 1, count: 1 }, Constant(Plain(Sym(1))), Nil, Int(2), Item(5), Sequence { first: 6, count: 1 }, Item(3), Clause { first: 8, count: 1, target: 4, body: 7 }, Nil, Int(3), Item(11), Sequence { first: 12, count: 1 }, Clause { first: 14, count: 0, target: 10, body: 13 }, Nil, Item(9), Item(14), Rescue { body: 2, first: 16, count: 2, otherwise: 15 }, Method { name: Sym(0), scope: 1, parameters: 0, size: 0, body: 18 }, Sequence { first: 20, count: 0 } | 19
+def f(e); rescue => e; else; end -> Sequence { first: 0, count: 0 }, Local { depth: 0, slot: 0, name: Sym(1) }, Sequence { first: 2, count: 0 }, Clause { first: 3, count: 0, target: 1, body: 2 }, Sequence { first: 4, count: 0 }, Item(3), Rescue { body: 0, first: 5, count: 1, otherwise: 4 }, Method { name: Sym(0), scope: 1, parameters: 1, size: 1, body: 6 }, Sequence { first: 8, count: 0 } | 7
 ";
 
 /// Sources that are refused.
@@ -93,6 +98,26 @@ def f; super() { 1 }; end -> 1:16 unexpected token
 def f; yield 1 do end; end -> 1:16 unexpected token
 def f; super 1 do end; end -> 1:16 unexpected token
 def f; yield = 1; end -> 1:14 unexpected token
+def f; else 1; end -> 1:8 unexpected token
+def f; ensure; rescue; end -> 1:16 unexpected token
+def f; ensure; else; end -> 1:16 unexpected token
+def f; ensure; ensure; end -> 1:16 unexpected token
+def f; rescue; else; else; end -> 1:22 unexpected token
+def f; rescue; else; rescue; end -> 1:22 unexpected token
+def f; rescue 5; end -> 1:15 unexpected token
+def f; rescue a; end -> 1:15 unexpected token
+def f; rescue A B; end -> 1:17 unexpected token
+def f; rescue A,; end -> 1:17 unexpected token
+def f; rescue A, b; end -> 1:18 unexpected token
+def f; rescue A => 5; end -> 1:20 unexpected token
+def f; rescue A => e f; end -> 1:22 unexpected token
+def f; rescue => A; end -> 1:18 unexpected token
+def f; rescue => a?; end -> 1:18 unexpected token
+def f; rescue Ractor ::Error; end -> 1:22 unexpected token
+def f; rescue A::B; end -> 1:16 unexpected token
+def f; rescue -> 1:14 unexpected end
+def f; rescue; -> 1:15 unexpected end
+def f; ensure -> 1:14 unexpected end
 ";
 
 fn check_rows(rt: &impl Abort, alloc: Global, rows: &str) -> Result<(), AllocError> {

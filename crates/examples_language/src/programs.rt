@@ -164,6 +164,16 @@ puts Ractor::Port, Ractor -> Constant(Ractor(Sym(2))), Constant(Plain(Sym(1))), 
 Ractor.new { 1 } -> Constant(Plain(Sym(0))), Send { receiver: 0, name: Sym(1), first: 1, count: 0, site: 0 }, Int(1), Item(2), Sequence { first: 3, count: 1 }, Block { scope: 1, parameters: 0, size: 0, body: 4 }, WithBlock(1, 5), Item(6), Sequence { first: 7, count: 1 }
 Ractor.new do 1 end -> Constant(Plain(Sym(0))), Send { receiver: 0, name: Sym(1), first: 1, count: 0, site: 0 }, Int(1), Item(2), Sequence { first: 3, count: 1 }, Block { scope: 1, parameters: 0, size: 0, body: 4 }, WithBlock(1, 5), Item(6), Sequence { first: 7, count: 1 }
 1 if f do end -> Int(1), Call { name: Sym(0), first: 1, count: 0, site: 0 }, Sequence { first: 2, count: 0 }, Block { scope: 1, parameters: 0, size: 0, body: 2 }, WithBlock(1, 3), Nil, Choose(4, 0, 5), Item(6), Sequence { first: 7, count: 1 }
+f do 1; rescue => x; x; end -> Call { name: Sym(0), first: 0, count: 0, site: 0 }, Int(1), Item(1), Sequence { first: 2, count: 1 }, Local { depth: 0, slot: 0, name: Sym(1) }, Local { depth: 0, slot: 0, name: Sym(1) }, Item(5), Sequence { first: 6, count: 1 }, Clause { first: 8, count: 0, target: 4, body: 7 }, Nil, Item(8), Rescue { body: 3, first: 10, count: 1, otherwise: 9 }, Block { scope: 1, parameters: 0, size: 1, body: 11 }, WithBlock(0, 12), Item(13), Sequence { first: 14, count: 1 }
+f 1 do ensure; end -> Int(1), Item(0), Call { name: Sym(0), first: 1, count: 1, site: 0 }, Sequence { first: 3, count: 0 }, Sequence { first: 4, count: 0 }, Ensure(3, 4), Block { scope: 1, parameters: 0, size: 0, body: 5 }, WithBlock(2, 6), Item(7), Sequence { first: 8, count: 1 }
+begin 1 end -> Int(1), Item(0), Sequence { first: 1, count: 1 }, Item(2), Sequence { first: 3, count: 1 }
+begin; 1; rescue A; 2; ensure; 3; end -> Int(1), Item(0), Sequence { first: 1, count: 1 }, Constant(Plain(Sym(0))), Nil, Int(2), Item(5), Sequence { first: 6, count: 1 }, Item(3), Clause { first: 8, count: 1, target: 4, body: 7 }, Nil, Item(9), Rescue { body: 2, first: 11, count: 1, otherwise: 10 }, Int(3), Item(13), Sequence { first: 14, count: 1 }, Ensure(12, 15), Item(16), Sequence { first: 17, count: 1 }
+begin; rescue => e; end; e -> Sequence { first: 0, count: 0 }, Local { depth: 0, slot: 0, name: Sym(0) }, Sequence { first: 2, count: 0 }, Clause { first: 3, count: 0, target: 1, body: 2 }, Nil, Item(3), Rescue { body: 0, first: 5, count: 1, otherwise: 4 }, Local { depth: 0, slot: 0, name: Sym(0) }, Item(6), Item(7), Sequence { first: 8, count: 2 }
+puts begin 1 end -> Int(1), Item(0), Sequence { first: 1, count: 1 }, Item(2), Call { name: Sym(0), first: 3, count: 1, site: 0 }, Item(4), Sequence { first: 5, count: 1 }
+x = begin 1 end if 2 -> Int(1), Item(0), Sequence { first: 1, count: 1 }, Assign { depth: 0, slot: 0, name: Sym(0), value: 2 }, Int(2), Nil, Choose(4, 3, 5), Item(6), Sequence { first: 7, count: 1 }
+begin 1 end.f -> Int(1), Item(0), Sequence { first: 1, count: 1 }, Send { receiver: 2, name: Sym(0), first: 3, count: 0, site: 0 }, Item(3), Sequence { first: 4, count: 1 }
+(begin 1 end) while 2 -> Int(1), Item(0), Sequence { first: 1, count: 1 }, Item(2), Sequence { first: 3, count: 1 }, Int(2), Nil, Loop { until: false, condition: 5, body: 4 }, Item(7), Sequence { first: 8, count: 1 }
+begin^n1^nend^nwhile 2 do end -> Int(1), Item(0), Sequence { first: 1, count: 1 }, Int(2), Sequence { first: 4, count: 0 }, Loop { until: false, condition: 3, body: 4 }, Item(2), Item(5), Sequence { first: 6, count: 2 }
 ";
 
 /// Sources that are refused.
@@ -274,6 +284,24 @@ Ractor::Port::A -> 1:13 unexpected token
 Ractor ::Port -> 1:8 unexpected token
 Ractor:: Port -> 1:7 unexpected token
 Ractors::Port -> 1:8 unexpected token
+rescue -> 1:1 unexpected token
+1 rescue 2 -> 1:3 unexpected token
+ensure -> 1:1 unexpected token
+f { rescue; 1 } -> 1:5 unexpected token
+(1; rescue; 2) -> 1:5 unexpected token
+while 1; rescue; end -> 1:10 unexpected token
+if 1; ensure; end -> 1:7 unexpected token
+f do else end -> 1:6 unexpected token
+f do ensure else end -> 1:13 unexpected token
+begin 1 end while 2 -> 1:13 left out
+begin 1 end until 2 -> 1:13 left out
+x = begin 1 end while 2 -> 1:17 left out
+begin -> 1:6 unexpected end
+begin 1 -> 1:8 unexpected end
+begin 1 } -> 1:9 unexpected token
+begin else end -> 1:7 unexpected token
+begin rescue => e end -> 1:19 unexpected token
+1 begin 2 end -> 1:3 unexpected token
 ";
 
 fn check_rows(rt: &impl Abort, alloc: Global, rows: &str) -> Result<(), AllocError> {
@@ -371,6 +399,8 @@ f 1 do g { 2 } end -> 2
 a b 1 do [1] end -> 2
 f do g do 1 end end -> 2
 while f do g do 1 end end -> 2
+begin 1 end -> 1
+begin begin 1 end; rescue; [2] end -> 2
 ";
 
 #[test]

@@ -31,7 +31,7 @@ use Rattle.rr_parser.specs.Grammar.Calls.{target, with_target, signed, assigned_
 use Rattle.rr_parser.specs.Reading.Answers.{◌>>=◌, wrong, Answer, Parse, built, ended_by, closed, across, taking_of, trail_on}
 use Rattle.rr_parser.specs.Reading.Nesting.{Readers}
 use Rattle.rr_parser.specs.Reading.Calls.{assigned_or, assigned_of, argument_of, pair_by, pair_of, members_of, bracketed_or, bracketed_of, commanded_or, commanded_of, arguments_of, headed_of, operand_of, value_of}
-use Rattle.rr_parser.specs.Reading.Sequences.{statements_of}
+use Rattle.rr_parser.specs.Reading.Bodies.{held_of}
 use Rattle.rr_parser.specs.Meets.{View, nodes, lists, Made, Fails, Gives, Puts, Marks, Aims, Enters, Leaves, SetsDo, ReadsNames, known_of, place}
 use Rattle.rr_parser.specs.declared.variables.Variable.{Variable}
 use Rattle.rr_parser.specs.declared.variables.Scope.{Scope}
@@ -254,23 +254,23 @@ module _ (N : Readers) (fence : Fence) (old s1 : Parser) (xs : List Sym) (k : Sc
   entered_place : place s1 rest ≡ entered xs (place old rest)
   entered_place = ap (λ (q : Known). record { known = q; rest = rest }) n.begins.known
 
-  reads_block : block_of N fence (place old words) ≡ left_block (place old words) xs (place old rest) (closed (fence_end fence) (statements_of N (place s1 rest)))
+  reads_block : block_of N fence (place old words) ≡ left_block (place old words) xs (place old rest) (closed (fence_end fence) (held_of N fence (place s1 rest)))
   unfolding block_of
   reads_block =
       ap (block_or N fence (place old words)) (seen_at old parameters words rest xs e)
-      ∙ ap (λ (q : Place). left_block (place old words) xs (place old rest) (closed (fence_end fence) (statements_of N q))) (sym entered_place)
+      ∙ ap (λ (q : Place). left_block (place old words) xs (place old rest) (closed (fence_end fence) (held_of N fence q))) (sym entered_place)
 
-  pub fails_block : (d : Refusal) → Fails d (statements_of N (place s1 rest)) → Fails d (block_of N fence (place old words))
+  pub fails_block : (d : Refusal) → Fails d (held_of N fence (place s1 rest)) → Fails d (block_of N fence (place old words))
   fails_block d h =
-      let body = closed (fence_end fence) (statements_of N (place s1 rest)) in
+      let body = closed (fence_end fence) (held_of N fence (place s1 rest)) in
       fails_eq d (block_of N fence (place old words)) (left_block (place old words) xs (place old rest) body) reads_block
-      (fails_bind d body (λ q. Ok (block_tree xs (place old rest) q.1 q.0, leaving (place old words) q.1)) (fails_bind d (statements_of N (place s1 rest)) (λ x. ended_by x.0 (at (word (fence_end fence)) x.1)) h))
+      (fails_bind d body (λ q. Ok (block_tree xs (place old rest) q.1 q.0, leaving (place old words) q.1)) (fails_bind d (held_of N fence (place s1 rest)) (λ x. ended_by x.0 (at (word (fence_end fence)) x.1)) h))
 
-  module _ (s2 : Parser) (t : ℕ) (left : List Word) (m : Made nodes s1 s2 t left (statements_of N (place s1 rest))) where
+  module _ (s2 : Parser) (t : ℕ) (left : List Word) (m : Made nodes s1 s2 t left (held_of N fence (place s1 rest))) where
     pub wrong_block : word (fence_end fence) left ≡ None → block_of N fence (place old words) ≡ Err wrong
     wrong_block c =
         reads_block
-        ∙ ap (left_block (place old words) xs (place old rest)) (closed_wrong s2 (fence_end fence) left (tree_at s2.nodes.items t) (statements_of N (place s1 rest)) m.tree c)
+        ∙ ap (left_block (place old words) xs (place old rest)) (closed_wrong s2 (fence_end fence) left (tree_at s2.nodes.items t) (held_of N fence (place s1 rest)) m.tree c)
 
     left_known : (s3 : Parser) → Leaves s2 s3 k → known_of s3 ≡ left_to (known_of old) (known_of s2)
     left_known s3 l =
@@ -294,7 +294,7 @@ module _ (N : Readers) (fence : Fence) (old s1 : Parser) (xs : List Sym) (k : Sc
     made_block s3 new size id after c is l p =
         made_put old s3 new id after (block k.number k.parameters size (tree_at s3.nodes.items t)) (block_of N fence (place old words))
         (reads_block
-        ∙ ap (left_block (place old words) xs (place old rest)) (closed_tree s2 (fence_end fence) left after (tree_at s2.nodes.items t) (statements_of N (place s1 rest)) m.tree c)
+        ∙ ap (left_block (place old words) xs (place old rest)) (closed_tree s2 (fence_end fence) left after (tree_at s2.nodes.items t) (held_of N fence (place s1 rest)) m.tree c)
         ∙ ap (λ (u : Tree). Ok (u, leaving (place old words) (place s2 after))) (left_tree s3 size l is after)
         ∙ ap (λ (q : Known). Ok (block k.number k.parameters size (tree_at s3.nodes.items t), record { known = q; rest = after })) (sym (left_known s3 l)))
         (subst (λ (ns : List Node). Extends old.nodes.items ns) (sym l.nodes) (subst (λ (ns : List Node). Extends ns s2.nodes.items) n.nodes m.kept)) p
@@ -305,6 +305,7 @@ fails_parameters N fence old words (refusal.Storage s) h = tt
 fails_parameters N fence old words refusal.Nesting h = absurd h
 fails_parameters N fence old words (refusal.Unexpected n) h = ap (block_or N fence (place old words)) (unseen_at old parameters words h)
 fails_parameters N fence old words (refusal.Number n) h = absurd h
+fails_parameters N fence old words (refusal.LeftOut n) h = absurd h
 
 -- a key, its arrow and its value
 pub made_arrow : (N : Readers) (old m1 m2 new : Parser) (a b id : ℕ) (words rest after left : List Word) → label words ≡ None → Made nodes old m1 a rest (argument_of N (place old words))

@@ -1,7 +1,7 @@
 -- Reading is too deep only where the constructs that are begun pass the limit.
 use Rattle.std.proofs.Common.{◌≡◌, ℕ, zero, suc, inl, inr, Bool, true, false, cond, List, [], Option, Some, None, Ok, Err, refl}
 use Rattle.rr_base.specs.declared.name.Sym.{Sym}
-use Rattle.rr_tree.specs.Tree.{Tree, sequence, repeat, array, hash, splat, pair, symbol, logical_not, listed}
+use Rattle.rr_tree.specs.Tree.{Tree, rescue, clause, ensure, sequence, repeat, array, hash, splat, pair, symbol, logical_not, listed}
 use Rattle.rr_parser.specs.declared.word.Aim.{Aim}
 use Rattle.rr_parser.specs.declared.word.Head.{Head}
 use Rattle.rr_parser.specs.declared.word.Listed.{Listed}
@@ -11,15 +11,18 @@ use Rattle.rr_parser.specs.declared.word.Part.TheVariants as parts
 use Rattle.rr_parser.specs.declared.word.WordKind.TheVariants as kind
 use Rattle.rr_parser.specs.declared.word.Behind.TheVariants as behinds
 use Rattle.rr_parser.specs.declared.word.Fence.{Fence}
+use Rattle.rr_parser.specs.declared.word.Fence.TheVariants as fences
+use Rattle.rr_tree.specs.declared.node.Path.{Path}
 use Rattle.rr_parser.specs.Grammar.Fences.{Taking, within_head, fence_end}
 use Rattle.rr_parser.specs.Places.{Place, word, at, skip, separators}
-use Rattle.rr_parser.specs.Grammar.Chains.{same, one_of, and_one}
+use Rattle.rr_parser.specs.Grammar.Chains.{Chain, same, one_of, and_one}
 use Rattle.rr_parser.specs.Grammar.Nesting.{Nested}
 use Rattle.rr_parser.specs.Grammar.Names.{headed, name, command}
 use Rattle.rr_parser.specs.Grammar.Operators.{connective, joined_by}
 use Rattle.rr_parser.specs.Grammar.Calls.{target, with_target, assigned_to, label, comma, star, closing, last, Argument, Member, Commanded}
-use Rattle.rr_parser.specs.Grammar.Sequences.{Negation, Expression, modifier, modified, Statement}
+use Rattle.rr_parser.specs.Grammar.Sequences.{Negation, Expression, modifier, modified, Statement, Statements}
 use Rattle.rr_parser.specs.Grammar.Control.{thens, loops, elsif, chosen, unless_chosen, looping, Branch, Branches}
+use Rattle.rr_parser.specs.Grammar.Bodies.{path, Class, Classes, caught, with_caught, caught_tree, Clause, rescues, Clauses, Rescued, loop_word}
 use Rattle.rr_parser.specs.Grammar.Blocks.{parameters, entered}
 use Rattle.rr_parser.specs.Grammar.Definitions.{formals, defined}
 use Rattle.rr_parser.specs.Grammar.{is_enclosed, inside, outside}
@@ -29,16 +32,44 @@ use Rattle.rr_parser.specs.Reading.Operators.{ternary_of}
 use Rattle.rr_parser.specs.Reading.Calls.{assigned_or, assigned_of, argument_of, pair_by, pair_of, item_or, item_of, member_of, another, members_of, bracketed_or, bracketed_of, array_of, hash_of, index_of, commanded_or, commanded_of, headed_of, command_or, command_of, phrase_or, phrase_of, operand_of, value_of}
 use Rattle.rr_parser.specs.Reading.Sequences.{negation_or, negation_of, expression_of, statement_of, ends, row, rows_of, sequence_of, statements_of, group_of}
 use Rattle.rr_parser.specs.Reading.Control.{both, branch_of, branches_of, otherwise_or, otherwise_of, ended, choice_of, unless_of, loop_of, looped_of}
+use Rattle.rr_parser.specs.Reading.Bodies.{class_or, class_of, several_classes, classes_or, classes_of, clause_or, clause_on, clause_of, clauses_of, rescued_or, rescued_on, rescued_of, ensured_or, ensured_on, body_of, unlooped, ended_body, unlooped_on, begun_of, held_of}
 use Rattle.rr_parser.specs.Reading.Blocks.{left_block, block_or, block_of}
 use Rattle.rr_parser.specs.Reading.Definitions.{left_method, method_or, definition_or, definition_of}
 use Rattle.rr_parser.specs.Reading.{form_of, part_of, readers_inside, readers_outside}
-use Rattle.rr_parser.specs.Fronts.{Fronts, PairFront, behind_label, in_entry, ItemFront, in_splat, in_plain_item, MemberFront, MembersFront, in_former, in_latter, TakingFront, TernaryFront, AssignedFront, in_value, in_operand, ArgumentFront, CommandedFront, in_arguments, in_argument_command, CommandFront, behind_name, PhraseFront, in_command, in_plain, OperandFront, ValueFront, NegationFront, in_negation, behind_no_negation, ExpressionFront, StatementFront, RowsFront, StatementsFront, BranchFront, BranchesFront, EndedFront, LoopFront, LoopedFront, BlockFront, in_body, DefinitionFront, in_method, FormFront, PartFront, fronts_inside, fronts_outside}
+use Rattle.rr_parser.specs.Fronts.{Fronts, ChainFront, in_one, in_more, ClauseFront, in_clause, ClausesFront, RescuedFront, BodyFront, HeldFront, PairFront, behind_label, in_entry, ItemFront, in_splat, in_plain_item, MemberFront, MembersFront, in_former, in_latter, TakingFront, TernaryFront, AssignedFront, in_value, in_operand, ArgumentFront, CommandedFront, in_arguments, in_argument_command, CommandFront, behind_name, PhraseFront, in_command, in_plain, OperandFront, ValueFront, NegationFront, in_negation, behind_no_negation, ExpressionFront, StatementFront, RowsFront, StatementsFront, BranchFront, BranchesFront, EndedFront, LoopFront, LoopedFront, BlockFront, in_body, DefinitionFront, in_method, FormFront, PartFront, fronts_inside, fronts_outside}
 use Rattle.rr_parser.proofs.Told.{told_not, told_star}
 use Rattle.rr_parser.proofs.Looks.{word-next, another-comma, row-separators}
 use Rattle.rr_parser.proofs.Chains.{done}
 use Rattle.rr_parser.proofs.SoundOperands.{NestedSound, taking_sound}
-use Rattle.rr_parser.proofs.Sound.{member_sound, argument_sound, commanded_sound, negation_sound, expression_sound, statement_sound, branch_sound, branches_sound, sound_inside, sound_outside}
-use Rattle.rr_parser.proofs.DeepOperands.{IsDeep, bind_deep, built_deep, ended_not_deep, closed_deep, across_deep, past_loop, NestedDeep, taking_deep, enclosed_deep, chain_deep, passed_deep, bang_deep, minus_deep, ternary_deep}
+use Rattle.rr_parser.proofs.Sound.{member_sound, argument_sound, commanded_sound, negation_sound, expression_sound, statement_sound, statements_sound, class_sound, classes_sound, clause_sound, clauses_sound, rescued_sound, branch_sound, branches_sound, sound_inside, sound_outside}
+use Rattle.rr_parser.proofs.DeepOperands.{IsDeep, bind_deep, built_deep, ended_not_deep, closed_deep, across_deep, past_loop, NestedDeep, from_deep, taking_deep, enclosed_deep, chain_deep, passed_deep, bang_deep, minus_deep, ternary_deep}
+
+-- ---- classes, in which nothing nests
+
+abbrev Nowhere : Place → Place → Type 0
+Nowhere s z = ⊥
+
+class_deep : IsDeep class_of Nowhere
+class_deep s e = class_or-deep s (at path s) e
+  where
+    class_or-deep : (s : Place) (o : Option (Path × Place)) → class_or o ≡ Err deep → (z : Place) × Nowhere s z
+    class_or-deep s None e = absurd cc
+    class_or-deep s (Some x) e = absurd cc
+
+no_class_front : (s z : Place) → ChainFront comma (Chain comma one_of and_one Class) Nowhere s z → ⊥
+no_class_front s z (in_one h) = h
+no_class_front s z (in_more c e h) = h
+
+several_not_deep : (s : Place) → several_classes s ≡ Err deep → ⊥
+unfolding several_classes
+several_not_deep s e = let d = chain_deep comma comma one_of and_one class_of Class Nowhere (λ m n x e. e) class_sound class_deep s e in no_class_front s d.0 d.1
+
+classes_or-deep : (s : Place) (o : Option (Path × Place)) → classes_or s o ≡ Err deep → ⊥
+classes_or-deep s None e = let never : ⊥ = cc in never
+classes_or-deep s (Some x) e = several_not_deep s e
+
+classes_not_deep : (s : Place) → classes_of s ≡ Err deep → ⊥
+classes_not_deep s e = classes_or-deep s (at path s) e
 
 module _ (N : Readers) (R : Nested) (F : Fronts) (sounds : NestedSound N R) (nests : NestedDeep N F) where
   -- ---- assignments and calls
@@ -201,18 +232,19 @@ module _ (N : Readers) (R : Nested) (F : Fronts) (sounds : NestedSound N R) (nes
   unfolding branches_of
   branches_deep = chain_deep elsif elsif one_of and_one (branch_of N) (Branch R) (BranchFront R F) (λ m n x e. e) (branch_sound N R sounds) branch_deep
 
+  else_deep : {A : Type 0} (s : Place) (P : Place → A → Place → Type 0) (G : Place → Place → Type 0) (a : A) (m : Place) → P s a m → (o : Option (Unit {0} × Place)) → at (word kind.Else) m ≡ o → otherwise_or N m o ≡ Err deep
+      → (z : Place) × EndedFront R F P G s z
+  else_deep s P G a m h None g i = absurd cc
+  else_deep s P G a m h (Some x) g i = let d = statements_deep x.1 i in (d.0, in_latter {x = x.0} h g d.1)
+
   ended_deep : {A : Type 0} (f : A → Tree → Tree) (r : Answer A) (s : Place) (P : Place → A → Place → Type 0) (G : Place → Place → Type 0)
       → ((a : A) (m : Place) → r ≡ Ok (a, m) → P s a m) → (r ≡ Err deep → (z : Place) × G s z) → ended N f r ≡ Err deep → (z : Place) × EndedFront R F P G s z
   unfolding otherwise_of
   ended_deep {A} f r s P G sound first e =
       elim (bind_deep r (λ l. closed kind.End (built (f l.0) (otherwise_of N l.1))) e) [
         | inl g ↦ (let d = first g in (d.0, in_former d.1))
-        | inr b ↦ by_else b.0.0 b.0.1 (sound b.0.0 b.0.1 b.1) (at (word kind.Else) b.0.1) refl (built_deep (f b.0.0) (otherwise_of N b.0.1) (closed_deep kind.End (built (f b.0.0) (otherwise_of N b.0.1)) b.2))
+        | inr b ↦ else_deep s P G b.0.0 b.0.1 (sound b.0.0 b.0.1 b.1) (at (word kind.Else) b.0.1) refl (built_deep (f b.0.0) (otherwise_of N b.0.1) (closed_deep kind.End (built (f b.0.0) (otherwise_of N b.0.1)) b.2))
       ]
-    where
-      by_else : (a : A) (m : Place) → P s a m → (o : Option (Unit {0} × Place)) → at (word kind.Else) m ≡ o → otherwise_or N m o ≡ Err deep → (z : Place) × EndedFront R F P G s z
-      by_else a m h None g i = absurd cc
-      by_else a m h (Some x) g i = let d = statements_deep x.1 i in (d.0, in_latter {x = x.0} h g d.1)
 
   choice_deep : IsDeep (choice_of N) (EndedFront R F (Branches R) (BranchesFront R F))
   unfolding choice_of
@@ -237,19 +269,78 @@ module _ (N : Readers) (R : Nested) (F : Fronts) (sounds : NestedSound N R) (nes
   looped_deep : (until : Bool) → IsDeep (looped_of N until) (LoopedFront R F)
   looped_deep until s e = loop_deep until (looping s) (outside_deep s (loop_of N until (looping s)) e)
 
+  -- ---- bodies
+
+  clause_or-deep : (s m : Place) (l : List Tree) (o : Option (Option Sym × Place)) → Classes s l m → at caught m ≡ o → clause_or N l o ≡ Err deep → (z : Place) × ClauseFront R F s z
+  clause_or-deep s m l None h f e = absurd cc
+  clause_or-deep s m l (Some x) h f e =
+      let n = with_caught x.0 x.1 in
+      let d = statements_deep n (built_deep (clause (listed l) (caught_tree x.0 n)) (statements_of N n) e) in
+      (d.0, in_clause h f d.1)
+
+  clause_deep : IsDeep (clause_of N) (ClauseFront R F)
+  unfolding clause_of
+  clause_deep = from_deep classes_of (clause_on N) Classes (ClauseFront R F) classes_sound (λ s m l h e. clause_or-deep s m l (at caught m) h refl e) (λ s e. absurd (classes_not_deep s e))
+
+  clauses_deep : IsDeep (clauses_of N) (ClausesFront R F)
+  unfolding clauses_of
+  clauses_deep = chain_deep rescues rescues one_of and_one (clause_of N) (Clause R) (ClauseFront R F) (λ m n x e. e) (clause_sound N R sounds) clause_deep
+
+  rescued_or-deep : (s m : Place) (l : Tree) (o : Option (Unit {0} × Place)) → Statements R s l m → at rescues m ≡ o → rescued_or N l m o ≡ Err deep → (z : Place) × RescuedFront R F s z
+  unfolding otherwise_of
+  rescued_or-deep s m l None h f e = absurd cc
+  rescued_or-deep s m l (Some x) h f e =
+      elim (bind_deep (clauses_of N x.1) (λ c. built (rescue l (listed c.0)) (otherwise_of N c.1)) e) [
+        | inl g ↦ (let d = clauses_deep x.1 g in (d.0, in_latter {x = x.0} h f (in_former d.1)))
+        | inr b ↦ (let d = else_deep x.1 (Clauses R) (ClausesFront R F) b.0.0 b.0.1 (clauses_sound N R sounds x.1 b.0.1 b.0.0 b.1) (at (word kind.Else) b.0.1) refl (built_deep (rescue l (listed b.0.0)) (otherwise_of N b.0.1) b.2) in
+            (d.0, in_latter {x = x.0} h f d.1))
+      ]
+
+  rescued_deep : IsDeep (rescued_of N) (RescuedFront R F)
+  unfolding rescued_of
+  rescued_deep =
+      from_deep (statements_of N) (rescued_on N) (Statements R) (RescuedFront R F) (statements_sound N R sounds) (λ s m l h e. rescued_or-deep s m l (at rescues m) h refl e) (λ s e. let d = statements_deep s e in (d.0, in_former d.1))
+
+  ensured_or-deep : (s m : Place) (l : Tree) (o : Option (Unit {0} × Place)) → Rescued R s l m → at (word kind.Ensure) m ≡ o → ensured_or N l m o ≡ Err deep → (z : Place) × BodyFront R F s z
+  ensured_or-deep s m l None h f e = absurd cc
+  ensured_or-deep s m l (Some x) h f e = let d = statements_deep x.1 (built_deep (ensure l) (statements_of N x.1) e) in (d.0, in_latter {x = x.0} h f d.1)
+
+  body_deep : IsDeep (body_of N) (BodyFront R F)
+  unfolding body_of
+  body_deep =
+      from_deep (rescued_of N) (ensured_on N) (Rescued R) (BodyFront R F) (rescued_sound N R sounds) (λ s m l h e. ensured_or-deep s m l (at (word kind.Ensure) m) h refl e) (λ s e. let d = rescued_deep s e in (d.0, in_former d.1))
+
+  unlooped_not-deep : (t : Tree) (n : Place) (o : Option (Bool × Place)) → unlooped t n o ≡ Err deep → ⊥
+  unlooped_not-deep t n None e = let never : ⊥ = cc in never
+  unlooped_not-deep t n (Some x) e = let never : ⊥ = cc in never
+
+  begun_deep : IsDeep (begun_of N) (BodyFront R F)
+  unfolding begun_of
+  begun_deep s e =
+      elim (bind_deep (ended_body N s) (λ x. unlooped_on x.0 x.1) e) [
+        | inl g ↦ body_deep s (closed_deep kind.End (body_of N s) g)
+        | inr b ↦ absurd (unlooped_not-deep b.0.0 b.0.1 (at loop_word b.0.1) b.2)
+      ]
+
+  held_deep : (k : Fence) → IsDeep (held_of N k) (HeldFront R F k)
+  held_deep fences.Brace = statements_deep
+  held_deep fences.Do = body_deep
+
+  -- ---- scopes
+
   left_deep : (s : Place) (xs : List Sym) (m : Place) (r : Answer Tree) → left_block s xs m r ≡ Err deep → r ≡ Err deep
   left_deep s xs m (Ok x) e = absurd cc
   left_deep s xs m (Err wrong) e = absurd cc
   left_deep s xs m (Err deep) e = refl
 
-  block_or-deep : (k : Fence) (s : Place) (o : Option (List Sym × Place)) → at parameters s ≡ o → block_or N k s o ≡ Err deep → (z : Place) × BlockFront R F s z
+  block_or-deep : (k : Fence) (s : Place) (o : Option (List Sym × Place)) → at parameters s ≡ o → block_or N k s o ≡ Err deep → (z : Place) × BlockFront R F k s z
   block_or-deep k s None f e = absurd cc
   block_or-deep k s (Some x) f e =
-      let body = closed (fence_end k) (statements_of N (entered x.0 x.1)) in
-      let d = statements_deep (entered x.0 x.1) (closed_deep (fence_end k) (statements_of N (entered x.0 x.1)) (left_deep s x.0 x.1 body e)) in
+      let body = closed (fence_end k) (held_of N k (entered x.0 x.1)) in
+      let d = held_deep k (entered x.0 x.1) (closed_deep (fence_end k) (held_of N k (entered x.0 x.1)) (left_deep s x.0 x.1 body e)) in
       (d.0, in_body f d.1)
 
-  block_deep : (k : Fence) → IsDeep (block_of N k) (BlockFront R F)
+  block_deep : (k : Fence) → IsDeep (block_of N k) (BlockFront R F k)
   unfolding block_of
   block_deep k s e = block_or-deep k s (at parameters s) refl e
 
@@ -261,8 +352,8 @@ module _ (N : Readers) (R : Nested) (F : Fronts) (sounds : NestedSound N R) (nes
   method_or-deep : (s m : Place) (x : Sym) (o : Option (List Sym × Place)) → at name s ≡ Some (x, m) → at formals m ≡ o → method_or N s x o ≡ Err deep → (z : Place) × DefinitionFront R F s z
   method_or-deep s m x None f g e = absurd cc
   method_or-deep s m x (Some n) f g e =
-      let body = closed kind.End (statements_of N (defined n.0 n.1)) in
-      let d = statements_deep (defined n.0 n.1) (closed_deep kind.End (statements_of N (defined n.0 n.1)) (left_method-deep s x n.0 n.1 body e)) in
+      let body = closed kind.End (body_of N (defined n.0 n.1)) in
+      let d = body_deep (defined n.0 n.1) (closed_deep kind.End (body_of N (defined n.0 n.1)) (left_method-deep s x n.0 n.1 body e)) in
       (d.0, in_method f g d.1)
 
   definition_or-deep : (s : Place) (o : Option (Sym × Place)) → at name s ≡ o → definition_or N s o ≡ Err deep → (z : Place) × DefinitionFront R F s z
@@ -281,6 +372,7 @@ module _ (N : Readers) (R : Nested) (F : Fronts) (sounds : NestedSound N R) (nes
   form_deep parts.Choice = choice_deep
   form_deep parts.Unless = unless_deep
   form_deep (parts.Loop until) = looped_deep until
+  form_deep parts.Begin = begun_deep
   form_deep parts.Minus = (minus_deep N R F sounds nests)
   form_deep parts.Bang = (bang_deep N R F sounds nests)
   form_deep parts.Not = negation_deep

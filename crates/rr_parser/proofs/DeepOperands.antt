@@ -59,7 +59,7 @@ closed_deep k (Err deep) e = refl
 abbrev pub IsDeepOn : {A B : Type 0} → (A → Parse B) → (Place → A → Place → Type 0) → (Place → Place → Type 0) → Type 0
 IsDeepOn {A} {B} on U F = (s m : Place) (l : A) → U s l m → on l m ≡ Err deep → (z : Place) × F s z
 
-from_deep : {A B : Type 0} (p : Parse A) (on : A → Parse B) (U : Place → A → Place → Type 0) (F : Place → Place → Type 0) → IsSound p U → IsDeepOn on U F → IsDeep p F → IsDeep (from p on) F
+pub from_deep : {A B : Type 0} (p : Parse A) (on : A → Parse B) (U : Place → A → Place → Type 0) (F : Place → Place → Type 0) → IsSound p U → IsDeepOn on U F → IsDeep p F → IsDeep (from p on) F
 from_deep p on U F sound deep_on first s e =
     elim (bind_deep (p s) (λ x. on x.0 x.1) e) [
       | inl g ↦ first s g

@@ -22,7 +22,7 @@ use Rattle.rr_parser.specs.Grammar.Definitions.{formals, apart, defined, rejoine
 use Rattle.rr_parser.specs.Reading.Answers.{wrong, built, ended_by, closed}
 use Rattle.rr_parser.specs.Reading.Nesting.{Readers}
 use Rattle.rr_parser.specs.Reading.Operands.{passing_or, passing_of}
-use Rattle.rr_parser.specs.Reading.Sequences.{statements_of}
+use Rattle.rr_parser.specs.Reading.Bodies.{body_of}
 use Rattle.rr_parser.specs.Reading.Definitions.{left_method, method_or, definition_or, definition_of}
 use Rattle.rr_parser.specs.Meets.{nodes, lists, Made, Fails, Puts, Defines, Rejoins, ReadsNames, known_of, place}
 use Rattle.rr_parser.proofs.Making.{made_over, made_eq, made_put, fails_eq, fails_bind, seen_at, unseen_at, closed_tree, closed_wrong}
@@ -42,24 +42,24 @@ module _ (N : Readers) (old s1 : Parser) (x : Sym) (xs : List Sym) (k : Outside)
   defined_place : place s1 rest ≡ defined xs (place old rest)
   defined_place = ap (λ (q : Known). record { known = q; rest = rest }) n.known
 
-  reads_method : definition_of N (place old words) ≡ left_method (place old words) x xs (place old rest) (closed kind.End (statements_of N (place s1 rest)))
+  reads_method : definition_of N (place old words) ≡ left_method (place old words) x xs (place old rest) (closed kind.End (body_of N (place s1 rest)))
   unfolding definition_of
   reads_method =
       ap (definition_or N (place old words)) (seen_at old name words after x e)
       ∙ ap (method_or N (place old words) x) (seen_at old formals after rest xs f)
-      ∙ ap (λ (q : Place). left_method (place old words) x xs (place old rest) (closed kind.End (statements_of N q))) (sym defined_place)
+      ∙ ap (λ (q : Place). left_method (place old words) x xs (place old rest) (closed kind.End (body_of N q))) (sym defined_place)
 
-  pub fails_method : (d : Refusal) → Fails d (statements_of N (place s1 rest)) → Fails d (definition_of N (place old words))
+  pub fails_method : (d : Refusal) → Fails d (body_of N (place s1 rest)) → Fails d (definition_of N (place old words))
   fails_method d h =
-      let body = closed kind.End (statements_of N (place s1 rest)) in
+      let body = closed kind.End (body_of N (place s1 rest)) in
       fails_eq d (definition_of N (place old words)) (left_method (place old words) x xs (place old rest) body) reads_method
-      (fails_bind d body (λ q. Ok (method_tree x xs (place old rest) q.1 q.0, rejoining (place old words) q.1)) (fails_bind d (statements_of N (place s1 rest)) (λ x. ended_by x.0 (at (word kind.End) x.1)) h))
+      (fails_bind d body (λ q. Ok (method_tree x xs (place old rest) q.1 q.0, rejoining (place old words) q.1)) (fails_bind d (body_of N (place s1 rest)) (λ x. ended_by x.0 (at (word kind.End) x.1)) h))
 
-  module _ (s2 : Parser) (t : ℕ) (left : List Word) (m : Made nodes s1 s2 t left (statements_of N (place s1 rest))) where
+  module _ (s2 : Parser) (t : ℕ) (left : List Word) (m : Made nodes s1 s2 t left (body_of N (place s1 rest))) where
     pub wrong_method : word kind.End left ≡ None → definition_of N (place old words) ≡ Err wrong
     wrong_method c =
         reads_method
-        ∙ ap (left_method (place old words) x xs (place old rest)) (closed_wrong s2 kind.End left (tree_at s2.nodes.items t) (statements_of N (place s1 rest)) m.tree c)
+        ∙ ap (left_method (place old words) x xs (place old rest)) (closed_wrong s2 kind.End left (tree_at s2.nodes.items t) (body_of N (place s1 rest)) m.tree c)
 
     rejoined_known : (s3 : Parser) → Rejoins s2 s3 k.variables → known_of s3 ≡ rejoined (known_of old) (known_of s2)
     rejoined_known s3 l = l.known ∙ ap (λ (q : Known). rejoined q (known_of s2)) n.outer
@@ -78,7 +78,7 @@ module _ (N : Readers) (old s1 : Parser) (x : Sym) (xs : List Sym) (k : Outside)
     made_method s3 new size id behind c is l p =
         made_put old s3 new id behind (method x.0 k.number k.parameters size (tree_at s3.nodes.items t)) (definition_of N (place old words))
         (reads_method
-        ∙ ap (left_method (place old words) x xs (place old rest)) (closed_tree s2 kind.End left behind (tree_at s2.nodes.items t) (statements_of N (place s1 rest)) m.tree c)
+        ∙ ap (left_method (place old words) x xs (place old rest)) (closed_tree s2 kind.End left behind (tree_at s2.nodes.items t) (body_of N (place s1 rest)) m.tree c)
         ∙ ap (λ (u : Tree). Ok (u, rejoining (place old words) (place s2 behind))) (rejoined_tree s3 size l is behind)
         ∙ ap (λ (q : Known). Ok (method x.0 k.number k.parameters size (tree_at s3.nodes.items t), record { known = q; rest = behind })) (sym (rejoined_known s3 l)))
         (subst (λ (ns : List Node). Extends old.nodes.items ns) (sym l.nodes) (subst (λ (ns : List Node). Extends ns s2.nodes.items) n.nodes m.kept)) p
@@ -89,6 +89,7 @@ fails_formals N old x words after (refusal.Storage s) e h = tt
 fails_formals N old x words after refusal.Nesting e h = absurd h
 fails_formals N old x words after (refusal.Unexpected n) e h = ap (definition_or N (place old words)) (seen_at old name words after x e) ∙ ap (method_or N (place old words) x) (unseen_at old formals after h)
 fails_formals N old x words after (refusal.Number n) e h = absurd h
+fails_formals N old x words after (refusal.LeftOut n) e h = absurd h
 
 -- ---- what passes arguments on
 

@@ -27,6 +27,7 @@ refused_spells d ws (refusal.Storage storage.Slots) f line column kind h g is = 
 refused_spells d ws refusal.Nesting f line column kind h g is = let e = sym g ∙ is in absurd cc
 refused_spells d ws (refusal.Unexpected n) f line column kind h g is = program_wrong d ws h
 refused_spells d ws (refusal.Number n) f line column kind h g is = program_wrong d ws h
+refused_spells d ws (refusal.LeftOut n) f line column kind h g is = program_wrong d ws h
 
 -- what refuses by its nesting spells nothing within the limit
 pub deep_spells : (d : ℕ) (ws : List Word) (e : Refusal) (f : Fault) → Fails e (program_of d ws) → IsFaultOf e f → f ≡ fault.Limit limit.Nesting → (t : Main) → WordsSpell d ws t → ⊥
@@ -35,6 +36,7 @@ deep_spells d ws (refusal.Storage storage.Slots) f h g is = let e = sym g ∙ is
 deep_spells d ws refusal.Nesting f h g is = λ t s. let lt = program_deep d d ws h t s in let never : ⊥ = omega arith in never
 deep_spells d ws (refusal.Unexpected n) f h g is = let e = sym g.3 ∙ is in absurd cc
 deep_spells d ws (refusal.Number n) f h g is = let e = sym g.3 ∙ is in absurd cc
+deep_spells d ws (refusal.LeftOut n) f h g is = let e = sym g.3 ∙ is in absurd cc
 
 -- and more constructs than the limit are begun at some place
 pub deep_nests : (d : ℕ) (ws : List Word) (e : Refusal) (f : Fault) → Fails e (program_of d ws) → IsFaultOf e f → f ≡ fault.Limit limit.Nesting → (z : Place) × ProgramFront (outside d) (fronts_outside d) (start ws) z
@@ -43,6 +45,7 @@ deep_nests d ws (refusal.Storage storage.Slots) f h g is = let e = sym g ∙ is 
 deep_nests d ws refusal.Nesting f h g is = program_nests d ws h
 deep_nests d ws (refusal.Unexpected n) f h g is = let e = sym g.3 ∙ is in absurd cc
 deep_nests d ws (refusal.Number n) f h g is = let e = sym g.3 ∙ is in absurd cc
+deep_nests d ws (refusal.LeftOut n) f h g is = let e = sym g.3 ∙ is in absurd cc
 
 no_fault : (f : Fault) (g : Fault) → f ≡ g → IsParseFault g → IsParseFault f
 no_fault f g e h = subst (λ (x : Fault). IsParseFault x) (sym e) h
@@ -53,6 +56,7 @@ parse_fault (refusal.Storage storage.Slots) f g = no_fault f (fault.Limit limit.
 parse_fault refusal.Nesting f g = no_fault f (fault.Limit limit.Nesting) g tt
 parse_fault (refusal.Unexpected n) f g = no_fault f (fault.Syntax g.0 g.1 g.2) g.3 tt
 parse_fault (refusal.Number n) f g = no_fault f (fault.Syntax g.0 g.1 g.2) g.3 tt
+parse_fault (refusal.LeftOut n) f g = no_fault f (fault.Syntax g.0 g.1 g.2) g.3 tt
 
 -- what the statements of a program fail by
 pub fails_program : (d : ℕ) (ws : List Word) (locals : List Local) (e : Refusal) → locals ≡ [] → Fails e (outline_of (readers false d) (record { known = record { locals = locals; level = 0; count = 0; begun = 0; in_loop = false; in_method = false; takes_do = true }; rest = ws })) → Fails e (program_of d ws)

@@ -58,6 +58,7 @@ opens kind.OpenBrace = true
 opens kind.If = true
 opens kind.Unless = true
 opens (kind.Loop until) = true
+opens kind.Begin = true
 opens _ = false
 
 literal_opens : (k : WordKind) (t : Tree) → literal_of k ≡ Some t → opens k ≡ true
@@ -78,6 +79,7 @@ construct_opens kind.OpenBrace p e = refl
 construct_opens kind.If p e = refl
 construct_opens kind.Unless p e = refl
 construct_opens (kind.Loop until) p e = refl
+construct_opens kind.Begin p e = refl
 construct_opens _ p e = absurd cc
 
 -- What an operand begins with.
@@ -308,6 +310,8 @@ start_no_end kind.Close e = absurd cc
 start_no_end kind.CloseBrace e = absurd cc
 start_no_end kind.Elsif e = absurd cc
 start_no_end kind.Else e = absurd cc
+start_no_end kind.Rescue e = absurd cc
+start_no_end kind.Ensure e = absurd cc
 start_no_end kind.End e = absurd cc
 start_no_end _ e = refl
 

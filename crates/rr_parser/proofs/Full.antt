@@ -1,6 +1,6 @@
 -- What is spelled is read, unless it nests too deep.
 use Rattle.std.proofs.Common.{◌≡◌, ℕ, zero, suc, ◌<◌, inl, inr, Bool, true, false, cond, List, [], Some, None, Ok, refl, sym, ap, ◌∙◌, arith}
-use Rattle.rr_tree.specs.Tree.{Tree, sequence, repeat, array, hash, splat, pair, symbol, logical_not, listed}
+use Rattle.rr_tree.specs.Tree.{Tree, rescue, clause, ensure, sequence, repeat, array, hash, splat, pair, symbol, logical_not, listed}
 use Rattle.rr_parser.specs.declared.word.Head.{Head}
 use Rattle.rr_parser.specs.declared.word.Listed.{Listed}
 use Rattle.rr_parser.specs.declared.word.Listed.TheVariants as listings
@@ -10,9 +10,11 @@ use Rattle.rr_parser.specs.declared.word.WordKind.TheVariants as kind
 use Rattle.rr_parser.specs.declared.word.Behind.{Behind}
 use Rattle.rr_parser.specs.declared.word.Behind.TheVariants as behinds
 use Rattle.rr_parser.specs.declared.word.Fence.{Fence}
+use Rattle.rr_parser.specs.declared.word.Fence.TheVariants as fences
+use Rattle.rr_tree.specs.declared.node.Path.{Path}
 use Rattle.rr_parser.specs.Grammar.Fences.{Taking, within_head, fence_end}
 use Rattle.rr_parser.specs.Places.{Place, word, at, next, skip, separators}
-use Rattle.rr_parser.specs.Grammar.Chains.{same, one_of, and_one}
+use Rattle.rr_parser.specs.Grammar.Chains.{Chain, same, one_of, and_one}
 use Rattle.rr_parser.specs.Grammar.Nesting.{Nested}
 use Rattle.rr_parser.specs.Grammar.Names.{headed, name, command}
 use Rattle.rr_parser.specs.Grammar.Operands.{Blocked, no_block, a_block}
@@ -20,26 +22,28 @@ use Rattle.rr_parser.specs.Grammar.Operators.{connective, joined_by, Ternary}
 use Rattle.rr_parser.specs.Grammar.Calls.{target, with_target, assigned_to, label, comma, closing, last, Assigned, an_assignment, no_assignment, Argument, Pair, by_label, by_arrow, star, Item, a_splat, a_plain_item, Member, Members, Bracketed, no_members, some_members, Array, an_array, Hash, a_hash, Index, of_element, Commanded, Arguments, by_arguments, by_command, Command, a_command, Phrase, by_name, an_operand, Value}
 use Rattle.rr_parser.specs.Grammar.Sequences.{Negation, a_negation, no_negation, Expression, modifier, modified, Statement, Rows, Statements, no_statements, some_statements, Group, a_group}
 use Rattle.rr_parser.specs.Grammar.Control.{thens, loops, elsif, chosen, unless_chosen, Branch, a_branch, Branches, Otherwise, no_else, an_else, Choice, a_choice, Unless, an_unless, Loop, a_loop, looping, outside_loop, Looped, of_loop}
+use Rattle.rr_parser.specs.Grammar.Bodies.{path, Class, a_class, Classes, no_classes, some_classes, with_caught, caught_tree, Clause, a_clause, rescues, Clauses, Rescued, no_rescue, a_rescue, Body, no_ensure, an_ensure, Begun, a_begun, Held, between_braces, until_end}
 use Rattle.rr_parser.specs.Grammar.Blocks.{parameters, entered, leaving, block_tree, Block, of_statements}
 use Rattle.rr_parser.specs.Grammar.Definitions.{defined, rejoining, method_tree, Definition, of_method}
 use Rattle.rr_parser.specs.Grammar.{PartOf, inside, outside}
-use Rattle.rr_parser.specs.Reading.Answers.{◌>>=◌, Answer, Parse, built, ended_by, closed, across, taking_of}
+use Rattle.rr_parser.specs.Reading.Answers.{◌>>=◌, Answer, Parse, built, ended_by, closed, from, across, taking_of}
 use Rattle.rr_parser.specs.Reading.Nesting.{Readers}
 use Rattle.rr_parser.specs.Reading.Operators.{ternary_of}
 use Rattle.rr_parser.specs.Reading.Calls.{assigned_or, assigned_of, argument_of, pair_by, pair_of, item_or, item_of, member_of, another, members_of, bracketed_or, bracketed_of, array_of, hash_of, index_of, commanded_or, commanded_of, arguments_of, headed_of, command_or, command_of, phrase_or, phrase_of, value_of}
 use Rattle.rr_parser.specs.Reading.Sequences.{negation_or, negation_of, expression_of, statement_of, row, rows_of, sequence_of, statements_at, statements_of, group_of}
 use Rattle.rr_parser.specs.Reading.Control.{both, branch_of, branches_of, otherwise_or, otherwise_of, ended, choice_of, unless_of, loop_of, looped_of}
+use Rattle.rr_parser.specs.Reading.Bodies.{class_or, class_of, several_classes, classes_or, classes_of, clause_or, clause_on, clause_of, clauses_of, rescued_or, rescued_on, rescued_of, ensured_or, ensured_on, body_of, unlooped, ended_body, unlooped_on, begun_of, held_of}
 use Rattle.rr_parser.specs.Reading.Blocks.{left_block, block_or, block_of}
 use Rattle.rr_parser.specs.Reading.Definitions.{left_method, method_or, definition_or, definition_of}
 use Rattle.rr_parser.specs.Reading.{part_of, readers_inside, readers_outside}
 use Rattle.rr_parser.proofs.Told.{told_comma}
 use Rattle.rr_parser.proofs.Looks.{seen, none_unless, another-comma, comma-another, last-another, Steps-another, other-word, separators-row, Steps-row}
-use Rattle.rr_parser.proofs.Shrinking.{ReadersShrink, shrinks_nested, Steps-connective, Steps-modifier, Steps-elsif}
+use Rattle.rr_parser.proofs.Shrinking.{ReadersShrink, shrinks_nested, Steps-connective, Steps-modifier, Steps-elsif, Steps-comma, Steps-rescues, class_shrinks}
 use Rattle.rr_parser.proofs.Leading.{Leads, leads_bind, leads_trans, leads_eq, leads_map, IsFull, chain_full, across_full}
 use Rattle.rr_parser.proofs.Strengths.{Stops, stops_by, word_unseen, connective_strength, no_connective_at, modifier_strength, no_modifier_at, comma_strength, separators_stop, thens_stop, loops_stop, ends_behind}
 use Rattle.rr_parser.proofs.Firsts.{next_ends, chain_first, member_no_closing, starts_no_star, starts_no_label, last_stops, ternary_first, argument_starts, value_starts, starts_no_not, statement_starts, opened_stops, taking_stops}
-use Rattle.rr_parser.proofs.Stopping.{first_no_command, target_no_command, ternary_no_target, phrase_no_target, AtEnd, elsif_ends}
-use Rattle.rr_parser.proofs.FullOperands.{Anywhere, Ends, PartStops, value_stop, NestedFull, word_here, closed_full, taking_full, enclosed_full, same_fence, fence_ends, passed_full, bang_full, minus_full, ternary_full}
+use Rattle.rr_parser.proofs.Stopping.{finished, end_ends, rescue_ends, caught_stop, first_no_command, target_no_command, ternary_no_target, phrase_no_target, AtEnd, elsif_ends}
+use Rattle.rr_parser.proofs.FullOperands.{Anywhere, Ends, PartStops, value_stop, NestedFull, word_here, closed_full, taking_full, enclosed_full, same_fence, passed_full, bang_full, minus_full, ternary_full}
 
 module _ (N : Readers) (R : Nested) (D : Type 0) (shrinks : ReadersShrink N) (nests : NestedFull N R D) where
   -- ---- assignments and calls
@@ -214,30 +218,30 @@ module _ (N : Readers) (R : Nested) (D : Type 0) (shrinks : ReadersShrink N) (ne
 
   pub otherwise_full : IsFull (otherwise_of N) (Otherwise R) AtEnd D
   unfolding otherwise_of
-  otherwise_full s z t no_else stops = inl (ap (otherwise_or N s) (other-word kind.Else kind.End s stops.0 stops.1 refl))
+  otherwise_full s z t no_else stops = inl (ap (otherwise_or N s) (other-word kind.Else stops.0 s stops.1 stops.2 (finished stops.0 stops.3).0))
   otherwise_full s z t (an_else {m = m} e h) stops =
       leads_eq (otherwise_or N s (at (word kind.Else) s)) (statements_of N m) (Ok (t, z)) (ap (otherwise_or N s) (word_here kind.Else s m e refl))
-      (statements_full m z t h (next_ends z stops.0 kind.End true stops.1 refl))
+      (statements_full m z t h (end_ends z stops))
 
   -- behind branches an `else` or the `end` comes
   branches_end : (m n : Place) (e : Tree) → Otherwise R m e n → AtEnd n → Ends m × (at elsif m ≡ None)
-  branches_end m n e no_else stops = (next_ends m stops.0 kind.End true stops.1 refl, other-word kind.Elsif kind.End m stops.0 stops.1 refl)
+  branches_end m n e no_else stops = (end_ends m stops, other-word kind.Elsif stops.0 m stops.1 stops.2 (finished stops.0 stops.3).1)
   branches_end m n e (an_else {m = o} f h) stops = (next_ends m o kind.Else true f refl, other-word kind.Elsif kind.Else m o f refl)
 
   ended_full : {A : Type 0} (f : A → Tree → Tree) (r : Answer A) (l : A) (m n z : Place) (e : Tree) → Leads r (Ok (l, m)) D → Otherwise R m e n → next n ≡ Some (kind.End, z) → Leads (ended N f r) (Ok (f l e, z)) D
   ended_full f r l m n z e b h i =
       leads_trans (ended N f r) (closed kind.End (built (f l) (otherwise_of N m))) (Ok (f l e, z)) (leads_bind r (l, m) (λ l. closed kind.End (built (f l.0) (otherwise_of N l.1))) b)
-      (closed_full kind.End (built (f l) (otherwise_of N m)) (f l e) n z refl (leads_bind (otherwise_of N m) (e, n) (λ x. Ok (f l x.0, x.1)) (otherwise_full m n e h (z, i))) i)
+      (closed_full kind.End (built (f l) (otherwise_of N m)) (f l e) n z refl (leads_bind (otherwise_of N m) (e, n) (λ x. Ok (f l x.0, x.1)) (otherwise_full m n e h (kind.End, z, i, refl))) i)
 
   pub choice_full : IsFull (choice_of N) (Choice R) Anywhere D
   unfolding choice_of
   choice_full s z t (a_choice {m = m} {n = n} {l = l} {e = e} b h f) u =
-      let stops = branches_end m n e h (z, f) in ended_full chosen (branches_of N s) l m n z e (branches_full s m l b stops.0 stops.1) h f
+      let stops = branches_end m n e h (kind.End, z, f, refl) in ended_full chosen (branches_of N s) l m n z e (branches_full s m l b stops.0 stops.1) h f
 
   pub unless_full : IsFull (unless_of N) (Unless R) Anywhere D
   unfolding unless_of
   unless_full s z t (an_unless {m = m} {n = n} {b = b} {e = e} c h f) u =
-      let stops = branches_end m n e h (z, f) in ended_full unless_chosen (branch_of N s) b m n z e (branch_full s m b c stops.0) h f
+      let stops = branches_end m n e h (kind.End, z, f, refl) in ended_full unless_chosen (branch_of N s) b m n z e (branch_full s m b c stops.0) h f
 
   pub loop_full : (until : Bool) → IsFull (loop_of N until) (Loop R until) Anywhere D
   unfolding loop_of
@@ -249,21 +253,97 @@ module _ (N : Readers) (R : Nested) (D : Type 0) (shrinks : ReadersShrink N) (ne
   looped_full : (until : Bool) → IsFull (looped_of N until) (Looped R until) Anywhere D
   looped_full until s z t (of_loop {z = y} h) u = leads_bind (loop_of N until (looping s)) (t, y) (λ x. Ok (x.0, outside_loop s x.1)) (loop_full until (looping s) y t h tt)
 
+  -- ---- bodies
+
+  class_full : IsFull class_of Class Anywhere D
+  class_full s z t (a_class e) u = inl (ap class_or e)
+
+  several_full : (s z : Place) (l : List Tree) → Chain comma one_of and_one Class s l z → at comma z ≡ None → Leads (several_classes s) (Ok (l, z)) D
+  unfolding several_classes
+  several_full s z l c e = chain_full comma comma one_of and_one class_of Class Anywhere D Steps-comma class_shrinks (λ m n x e. tt) (λ m n z x r e h. e) class_full s z l c tt e
+
+  class_path : (s z : Place) (t : Tree) → Class s t z → (x : Path) × (at path s ≡ Some (x, z))
+  class_path s z t (a_class {x = x} e) = (x, e)
+
+  classes_full : IsFull classes_of Classes (Stops 27) D
+  classes_full s z l (no_classes e) stops = inl (ap (classes_or s) e)
+  classes_full s z l (some_classes c) stops =
+      let f = chain_first comma one_of and_one Class s z l c in
+      leads_eq (classes_or s (at path s)) (several_classes s) (Ok (l, z)) (ap (classes_or s) (class_path s f.1 f.0 f.2).1) (several_full s z l c (word_unseen kind.Comma told_comma z stops))
+
+  clause_full : IsFull (clause_of N) (Clause R) Ends D
+  unfolding clause_of
+  clause_full s z t (a_clause {m = m} {n = n} {l = l} {x = x} {t = b} h e i) stops =
+      let w = with_caught x n in
+      leads_trans (from classes_of (clause_on N) s) (clause_on N l m) (Ok (t, z))
+      (leads_bind (classes_of s) (l, m) (λ q. clause_on N q.0 q.1) (classes_full s m l h (omega (arith, caught_stop m n x e))))
+      (leads_eq (clause_on N l m) (built (clause (listed l) (caught_tree x w)) (statements_of N w)) (Ok (t, z)) (ap (clause_or N l) e)
+      (leads_bind (statements_of N w) (b, z) (λ q. Ok (clause (listed l) (caught_tree x w) q.0, q.1)) (statements_full w z b i stops)))
+
+  clauses_full : (s z : Place) (l : List Tree) → Clauses R s l z → Ends z → at rescues z ≡ None → Leads (clauses_of N s) (Ok (l, z)) D
+  unfolding clauses_of
+  clauses_full s z l c stops e =
+      chain_full rescues rescues one_of and_one (clause_of N) (Clause R) Ends D Steps-rescues shrinks.clause (λ m n x e. rescue_ends m n x e) (λ m n z x r e h. e) clause_full s z l c stops e
+
+  -- behind clauses an `else`, an `ensure` or the `end` comes
+  clauses_end : (m n : Place) (e : Tree) → Otherwise R m e n → AtEnd n → Ends m × (at rescues m ≡ None)
+  clauses_end m n e no_else stops = (end_ends m stops, other-word kind.Rescue stops.0 m stops.1 stops.2 (finished stops.0 stops.3).2)
+  clauses_end m n e (an_else {m = o} f h) stops = (next_ends m o kind.Else true f refl, other-word kind.Rescue kind.Else m o f refl)
+
+  rescued_full : IsFull (rescued_of N) (Rescued R) AtEnd D
+  unfolding rescued_of
+  rescued_full s z t (no_rescue h) stops =
+      leads_trans (from (statements_of N) (rescued_on N) s) (rescued_on N t z) (Ok (t, z)) (leads_bind (statements_of N s) (t, z) (λ q. rescued_on N q.0 q.1) (statements_full s z t h (end_ends z stops)))
+      (inl (ap (rescued_or N t z) (other-word kind.Rescue stops.0 z stops.1 stops.2 (finished stops.0 stops.3).2)))
+  rescued_full s z t (a_rescue {m = m} {n = n} {o = o} {t = b} {e = e} {l = l} h f c g) stops =
+      let behind = clauses_end o z e g stops in
+      leads_trans (from (statements_of N) (rescued_on N) s) (rescued_on N b m) (Ok (t, z)) (leads_bind (statements_of N s) (b, m) (λ q. rescued_on N q.0 q.1) (statements_full s m b h (next_ends m n kind.Rescue true f refl)))
+      (leads_eq (rescued_on N b m) (clauses_of N n >>= λ l. built (rescue b (listed l.0)) (otherwise_of N l.1)) (Ok (t, z)) (ap (rescued_or N b m) (word_here kind.Rescue m n f refl))
+      (leads_trans (clauses_of N n >>= λ l. built (rescue b (listed l.0)) (otherwise_of N l.1)) (built (rescue b (listed l)) (otherwise_of N o)) (Ok (t, z))
+      (leads_bind (clauses_of N n) (l, o) (λ l. built (rescue b (listed l.0)) (otherwise_of N l.1)) (clauses_full n o l c behind.0 behind.1))
+      (leads_bind (otherwise_of N o) (e, z) (λ x. Ok (rescue b (listed l) x.0, x.1)) (otherwise_full o z e g stops))))
+
+  -- the word that ends a block comes, or the `end` of another construct
+  abbrev AtFence : Fence → Place → Type 0
+  AtFence k z = (y : Place) × (next z ≡ Some (fence_end k, y))
+
+  pub body_full : IsFull (body_of N) (Body R) (AtFence fences.Do) D
+  unfolding body_of
+  body_full s z t (no_ensure h) stops =
+      leads_trans (from (rescued_of N) (ensured_on N) s) (ensured_on N t z) (Ok (t, z)) (leads_bind (rescued_of N s) (t, z) (λ q. ensured_on N q.0 q.1) (rescued_full s z t h (kind.End, stops.0, stops.1, refl)))
+      (inl (ap (ensured_or N t z) (other-word kind.Ensure kind.End z stops.0 stops.1 refl)))
+  body_full s z t (an_ensure {m = m} {n = n} {t = b} {e = e} h f i) stops =
+      leads_trans (from (rescued_of N) (ensured_on N) s) (ensured_on N b m) (Ok (t, z)) (leads_bind (rescued_of N s) (b, m) (λ q. ensured_on N q.0 q.1) (rescued_full s m b h (kind.Ensure, n, f, refl)))
+      (leads_eq (ensured_on N b m) (built (ensure b) (statements_of N n)) (Ok (t, z)) (ap (ensured_or N b m) (word_here kind.Ensure m n f refl))
+      (leads_bind (statements_of N n) (e, z) (λ x. Ok (ensure b x.0, x.1)) (statements_full n z e i (next_ends z stops.0 kind.End true stops.1 refl))))
+
+  begun_full : IsFull (begun_of N) (Begun R) Anywhere D
+  unfolding begun_of
+  begun_full s z t (a_begun {m = m} h e f) u =
+      leads_trans (from (ended_body N) unlooped_on s) (unlooped_on t z) (Ok (t, z))
+      (leads_bind (ended_body N s) (t, z) (λ x. unlooped_on x.0 x.1) (closed_full kind.End (body_of N s) t m z refl (body_full s m t h (z, e)) e)) (inl (ap (unlooped t z) f))
+
+  held_full : (k : Fence) → IsFull (held_of N k) (Held R k) (AtFence k) D
+  held_full fences.Brace s z t (between_braces h) stops = statements_full s z t h (next_ends z stops.0 kind.CloseBrace true stops.1 refl)
+  held_full fences.Do s z t (until_end h) stops = body_full s z t h stops
+
+  -- ---- scopes
+
   block_full : (k : Fence) → IsFull (block_of N k) (Block R k) Anywhere D
   unfolding block_of
   block_full k s z t (of_statements {m = m} {n = n} {z = y} {xs = xs} {t = b} e h f) u =
-      let body = closed (fence_end k) (statements_of N (entered xs m)) in
+      let body = closed (fence_end k) (held_of N k (entered xs m)) in
       leads_eq (block_or N k s (at parameters s)) (left_block s xs m body) (Ok (block_tree xs m y b, leaving s y)) (ap (block_or N k s) e)
       (leads_bind body (b, y) (λ q. Ok (block_tree xs m q.1 q.0, leaving s q.1))
-      (closed_full (fence_end k) (statements_of N (entered xs m)) b n y (same_fence k) (statements_full (entered xs m) n b h (next_ends n y (fence_end k) true f (fence_ends k))) f))
+      (closed_full (fence_end k) (held_of N k (entered xs m)) b n y (same_fence k) (held_full k (entered xs m) n b h (y, f)) f))
 
   definition_full : IsFull (definition_of N) (Definition R) Anywhere D
   unfolding definition_of
   definition_full s z t (of_method {m = m} {n = n} {o = o} {z = y} {x = x} {xs = xs} {t = b} e f h g) u =
-      let body = closed kind.End (statements_of N (defined xs n)) in
+      let body = closed kind.End (body_of N (defined xs n)) in
       leads_eq (definition_or N s (at name s)) (left_method s x xs n body) (Ok (method_tree x xs n y b, rejoining s y)) (ap (definition_or N s) e ∙ ap (method_or N s x) f)
       (leads_bind body (b, y) (λ q. Ok (method_tree x xs n q.1 q.0, rejoining s q.1))
-      (closed_full kind.End (statements_of N (defined xs n)) b o y refl (statements_full (defined xs n) o b h (next_ends o y kind.End true g refl)) g))
+      (closed_full kind.End (body_of N (defined xs n)) b o y refl (body_full (defined xs n) o b h (y, g)) g))
 
   pub part_full : (p : Part) → IsFull (part_of N p) (PartOf R p) (PartStops p) D
   part_full parts.Group = enclosed_full (group_of N) (Group R) group_full
@@ -273,6 +353,7 @@ module _ (N : Readers) (R : Nested) (D : Type 0) (shrinks : ReadersShrink N) (ne
   part_full parts.Choice = enclosed_full (choice_of N) (Choice R) choice_full
   part_full parts.Unless = enclosed_full (unless_of N) (Unless R) unless_full
   part_full (parts.Loop until) = enclosed_full (looped_of N until) (Looped R until) (looped_full until)
+  part_full parts.Begin = enclosed_full (begun_of N) (Begun R) begun_full
   part_full parts.Minus = (minus_full N R D shrinks nests)
   part_full parts.Bang = (bang_full N R D shrinks nests)
   part_full parts.Not = negation_full

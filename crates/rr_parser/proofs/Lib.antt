@@ -24,4 +24,5 @@ pub mod Formals
 pub mod Programs
 pub mod Defining
 pub mod Outlines
+pub mod Rescuing
 mod Indexing

@@ -13,11 +13,11 @@ use Rattle.rr_parser.specs.declared.word.WordKind.{WordKind}
 use Rattle.rr_parser.specs.declared.word.WordKind.TheVariants as kind
 use Rattle.rr_parser.specs.declared.word.Word.{Word}
 use Rattle.rr_parser.specs.Places.{Known, Place, Look, seen_before, first_as, unless, where_true, is_kind, word, any_word, placed, at, next, without_separators, skip, behind_separators, separators}
-use Rattle.rr_parser.specs.Grammar.Names.{name_of_kind, name, bracket, begins_operands, head_of_kind, head, begins_head, commanding, command}
+use Rattle.rr_parser.specs.Grammar.Names.{name_of_kind, name, variable_of_kind, bracket, begins_operands, head_of_kind, head, begins_head, commanding, command}
 use Rattle.rr_parser.specs.Grammar.Operands.{joined, square, called, sent, indexed, behind_dot, tail}
 use Rattle.rr_parser.specs.Grammar.Calls.{target_of_kind, sign_of_kind, sign, assigned, named, target_word, target, comma, closing, behind_comma, last}
 use Rattle.rr_parser.specs.Grammar.Control.{behind_word, then_or_separators, thens, either, loops}
-use Rattle.rr_parser.specs.Grammar.Blocks.{variable_of_kind, before_names, more_names, names_to, behind_bar, parameters}
+use Rattle.rr_parser.specs.Grammar.Blocks.{before_names, more_names, names_to, behind_bar, parameters}
 use Rattle.rr_parser.specs.Reading.Operands.{without_integer, no_integer, prefix_minus}
 use Rattle.rr_parser.specs.Reading.Calls.{unless_closing, another}
 use Rattle.rr_parser.specs.Reading.Sequences.{ends, before_row, row}

@@ -6,12 +6,12 @@ use Rattle.std.proofs.Math.Dec.{eqb-suc-suc}
 use Rattle.std.proofs.lemmas.Bool.{ne_eqb}
 use Rattle.rr_base.specs.declared.name.Sym.{Sym}
 use Rattle.rr_parser.specs.declared.locals.Local.{Local}
-use Rattle.rr_parser.specs.Grammar.Names.{local_if, later_or, find, seen_from}
+use Rattle.rr_parser.specs.Grammar.Names.{variable_of_kind, variable, local_if, later_or, find, seen_from}
 use Rattle.rr_parser.specs.declared.word.WordKind.{WordKind}
 use Rattle.rr_parser.specs.declared.word.WordKind.TheVariants as kind
 use Rattle.rr_parser.specs.declared.word.Word.{Word}
 use Rattle.rr_parser.specs.Places.{Known, seen_before, where_true, is_kind, word}
-use Rattle.rr_parser.specs.Grammar.Blocks.{variable_of_kind, variable, before_names, no_more, more_names, names_to}
+use Rattle.rr_parser.specs.Grammar.Blocks.{before_names, no_more, more_names, names_to}
 
 later_or-later : (a b c : Option Local) → later_or (later_or a b) c ≡ later_or a (later_or b c)
 later_or-later None b c = refl

@@ -1,5 +1,5 @@
 -- What is spelled takes no words back, and so reading takes none back.
-use Rattle.std.proofs.Common.{◌≡◌, ℕ, zero, suc, List, [], Bool, true, false, Option, Some, None, refl, ap, arith, ◌<◌, ◌≤◌}
+use Rattle.std.proofs.Common.{◌≡◌, ℕ, zero, suc, List, [], ◌∷◌, length, Bool, true, false, Option, Some, None, refl, ap, arith, ◌<◌, ◌≤◌}
 use Rattle.rr_tree.specs.Tree.{call, send, listed}
 use Rattle.rr_parser.specs.declared.word.Tail.{Tail}
 use Rattle.rr_parser.specs.declared.word.Target.{Target}
@@ -7,23 +7,27 @@ use Rattle.rr_parser.specs.declared.word.Listed.{Listed}
 use Rattle.rr_parser.specs.declared.word.Listed.TheVariants as listings
 use Rattle.rr_parser.specs.declared.word.Part.{Part}
 use Rattle.rr_parser.specs.declared.word.Part.TheVariants as parts
+use Rattle.rr_parser.specs.declared.word.WordKind.{WordKind}
 use Rattle.rr_parser.specs.declared.word.WordKind.TheVariants as kind
+use Rattle.rr_tree.specs.declared.node.Path.{Path}
+use Rattle.rr_tree.specs.declared.node.Path.TheVariants as paths
 use Rattle.rr_parser.specs.declared.word.Behind.{Behind}
 use Rattle.rr_parser.specs.declared.word.Behind.TheVariants as behinds
 use Rattle.rr_parser.specs.declared.word.Fence.{Fence}
 use Rattle.rr_parser.specs.Grammar.Fences.{Taking, taken, taking, within_head, opening, fence_end}
 use Rattle.rr_base.specs.declared.name.Sym.{Sym}
-use Rattle.rr_parser.specs.Places.{Place, placed, skip, separators}
+use Rattle.rr_parser.specs.Places.{Known, Place, placed, word, skip, separators}
 use Rattle.rr_parser.specs.declared.word.Word.{Word}
 use Rattle.rr_tree.specs.Tree.{Tree}
 use Rattle.rr_parser.specs.Grammar.Chains.{same, one_of, and_one}
 use Rattle.rr_parser.specs.Grammar.Nesting.{Nested}
-use Rattle.rr_parser.specs.Grammar.Names.{headed, name, head, bracket}
+use Rattle.rr_parser.specs.Grammar.Names.{headed, name, variable, head, bracket}
 use Rattle.rr_parser.specs.Grammar.Operands.{scope_sign, tight_constant, behind_sign, inner_constant, joined, Blocked, no_block, a_block, Primary, a_literal, a_constant, a_path, a_negative, a_local, a_bare_call, a_call, a_block_call, a_jump, a_passing, a_passing_call, a_construct, tail, Tailed, a_send, a_sent_call, an_index, Postfix, Bang, a_bang, no_bang, Minus, a_minus, no_minus}
 use Rattle.rr_parser.specs.Grammar.Operators.{operator, infixed, connective, joined_by, Logical, Binary, Equality, a_comparison, a_pair, Ternary, no_question, a_question}
 use Rattle.rr_parser.specs.Grammar.Calls.{with_target, label, comma, Assigned, an_assignment, no_assignment, Argument, Pair, by_label, by_arrow, star, Item, a_splat, a_plain_item, Member, Members, Bracketed, no_members, some_members, Array, an_array, Hash, a_hash, Index, of_element, Commanded, by_arguments, by_command, Command, a_command, Phrase, by_name, an_operand, Operand, Value}
 use Rattle.rr_parser.specs.Grammar.Sequences.{Negation, a_negation, no_negation, Expression, modifier, modified, Statement, Rows, Statements, no_statements, some_statements, Group, a_group}
-use Rattle.rr_parser.specs.Grammar.Control.{elsif, Branch, a_branch, Branches, Otherwise, no_else, an_else, Choice, a_choice, Unless, an_unless, Loop, a_loop, looping, Looped, of_loop}
+use Rattle.rr_parser.specs.Grammar.Control.{thens, elsif, Branch, a_branch, Branches, Otherwise, no_else, an_else, Choice, a_choice, Unless, an_unless, Loop, a_loop, looping, Looped, of_loop}
+use Rattle.rr_parser.specs.Grammar.Bodies.{path_from, path_of_kind, path, Class, a_class, Classes, no_classes, some_classes, before_thens, named_thens, behind_arrow, caught, with_caught, Clause, a_clause, rescues, Clauses, Rescued, no_rescue, a_rescue, Body, no_ensure, an_ensure, Begun, a_begun, Held, between_braces, until_end}
 use Rattle.rr_parser.specs.Grammar.Blocks.{entered, Block, of_statements}
 use Rattle.rr_parser.specs.Grammar.Definitions.{defined, Definition, of_method}
 use Rattle.rr_parser.specs.Grammar.{FormOf, is_enclosed, Enclosed, PartOf, inside, outside}
@@ -32,15 +36,16 @@ use Rattle.rr_parser.specs.Reading.Operators.{binary_of, logical_of}
 use Rattle.rr_parser.specs.Reading.Calls.{argument_of, member_of}
 use Rattle.rr_parser.specs.Reading.Sequences.{negation_of, expression_of, statement_of}
 use Rattle.rr_parser.specs.Reading.Control.{branch_of}
+use Rattle.rr_parser.specs.Reading.Bodies.{class_of, clause_of}
 use Rattle.rr_parser.specs.Reading.{readers}
-use Rattle.rr_parser.proofs.Looks.{Steps, Steps-first_as, Steps-word, Steps-separators, Steps-thens, Steps-loops, Steps-target, Steps-tail, Steps-last, Steps-closing, parameters-less, command-next, next-left, left, left-without_separators}
+use Rattle.rr_parser.proofs.Looks.{Steps, Steps-first_as, Steps-word, Steps-separators, Steps-thens, Steps-loops, Steps-target, Steps-tail, Steps-last, Steps-closing, parameters-less, command-next, next-left, left, some_place, left-without_separators}
 use Rattle.rr_parser.specs.declared.word.Target.TheVariants as targets
 use Rattle.rr_parser.specs.Reading.Operands.{tailed_of}
 use Rattle.rr_parser.proofs.Trails.{trail_shrinking}
 use Rattle.rr_parser.proofs.Chains.{Shrinks, IsShrinking, shrinks_by, chain_shrinking}
 use Rattle.rr_parser.proofs.Formals.{formals-less}
 use Rattle.rr_parser.proofs.SoundOperands.{binary_sound, logical_sound, tailed_sound}
-use Rattle.rr_parser.proofs.Sound.{nested, sound_nested, argument_sound, member_sound, negation_sound, expression_sound, statement_sound, branch_sound}
+use Rattle.rr_parser.proofs.Sound.{nested, sound_nested, argument_sound, member_sound, negation_sound, expression_sound, statement_sound, branch_sound, class_sound, clause_sound}
 
 pub record NestedShrinking (R : Nested) : Type 0 where
   pub part : (p : Part) → IsShrinking (R.part p)
@@ -65,6 +70,57 @@ inner_steps s z x (Some r) g e =
 Steps-inner_constant : (b : Bool) → Steps (inner_constant b)
 Steps-inner_constant false s z x e = absurd cc
 Steps-inner_constant true s z x e = inner_steps s z x (scope_sign s.rest) refl e
+
+-- ---- classes and clauses
+
+path-less : (known : Known) (ws : List Word) (x : Path) (z : Place) → placed known (path ws) ≡ Some (x, z) → left z < length ws
+path-less known [] x z e = absurd cc
+path-less known (w ∷ ws) x z e = by_kind w.kind e
+  where
+    by_inner : (y : Sym) (outer : Bool) (o : Option (Sym × List Word)) → inner_constant outer ws ≡ o → placed known (Some (path_from y ws o)) ≡ Some (x, z) → left z < suc (length ws)
+    by_inner y outer None g h =
+        let n : Place = record { known = known; rest = ws } in
+        omega (arith, ap left (some_place (paths.Plain y) x n z h))
+    by_inner y outer (Some r) g h =
+        let s : Place = record { known = known; rest = ws } in
+        let n : Place = record { known = known; rest = r.1 } in
+        omega (arith, Steps-inner_constant outer s n r.0 (ap (placed known) g), ap left (some_place (paths.Ractor r.0) x n z h))
+
+    by_kind : (k : WordKind) → placed known (path_of_kind k ws) ≡ Some (x, z) → left z < suc (length ws)
+    by_kind (kind.Constant y outer) h = by_inner y outer (inner_constant outer ws) refl h
+    by_kind _ h = absurd cc
+
+Steps-path : Steps path
+Steps-path s z x e = path-less s.known s.rest x z e
+
+Steps-variable : Steps variable
+Steps-variable = Steps-first_as _
+
+thens-less : (known : Known) (y x : Option Sym) (ws : List Word) (z : Place) (o : Option (Unit {0} × List Word)) → thens ws ≡ o → placed known (before_thens y o) ≡ Some (x, z) → left z < length ws
+thens-less known y x ws z None g e = absurd cc
+thens-less known y x ws z (Some r) g e =
+    let s : Place = record { known = known; rest = ws } in
+    let n : Place = record { known = known; rest = r.1 } in
+    omega (arith, Steps-thens s n r.0 (ap (placed known) g), ap left (some_place y x n z e))
+
+named-less : (known : Known) (x : Option Sym) (ws : List Word) (z : Place) (o : Option (Sym × List Word)) → variable ws ≡ o → placed known (named_thens o) ≡ Some (x, z) → left z < length ws
+named-less known x ws z None g e = absurd cc
+named-less known x ws z (Some r) g e =
+    let s : Place = record { known = known; rest = ws } in
+    let n : Place = record { known = known; rest = r.1 } in
+    omega (arith, Steps-variable s n r.0 (ap (placed known) g), thens-less known (Some r.0) x r.1 z (thens r.1) refl e)
+
+caught-less : (s z : Place) (x : Option Sym) (o : Option (Unit {0} × List Word)) → word kind.Arrow s.rest ≡ o → placed s.known (behind_arrow s.rest o) ≡ Some (x, z) → left z < left s
+caught-less s z x None g e = thens-less s.known None x s.rest z (thens s.rest) refl e
+caught-less s z x (Some r) g e =
+    let n : Place = record { known = s.known; rest = r.1 } in
+    omega (arith, Steps-word kind.Arrow s n r.0 (ap (placed s.known) g), named-less s.known x r.1 z (variable r.1) refl e)
+
+Steps-caught : Steps caught
+Steps-caught s z x e = caught-less s z x (word kind.Arrow s.rest) refl e
+
+pub Steps-rescues : Steps rescues
+Steps-rescues = Steps-word kind.Rescue
 
 pub Steps-name : Steps name
 Steps-name = Steps-first_as _
@@ -95,6 +151,20 @@ Steps-comma = Steps-word kind.Comma
 
 pub Steps-elsif : Steps elsif
 Steps-elsif = Steps-word kind.Elsif
+
+class_shrinking : IsShrinking Class
+class_shrinking s z t (a_class {x = x} e) = omega (arith, Steps-path s z x e)
+
+pub class_shrinks : Shrinks class_of
+class_shrinks = shrinks_by class_of Class class_sound class_shrinking
+
+classes_shrinking : IsShrinking Classes
+classes_shrinking s z l (no_classes e) = omega arith
+classes_shrinking s z l (some_classes c) = chain_shrinking comma one_of and_one Class Steps-comma class_shrinking s z l c
+
+caught_left : (x : Option Sym) (n : Place) → left (with_caught x n) ≤ left n
+caught_left None n = omega arith
+caught_left (Some x) n = omega arith
 
 taking_shrinking : {A : Type 0} (b : Bool) (P : Place → A → Place → Type 0) → IsShrinking P → IsShrinking (Taking b P)
 taking_shrinking b P smaller s z t (taken {z = y} h) = smaller (taking b s) y t h
@@ -259,12 +329,35 @@ module _ (R : Nested) (nests : NestedShrinking R) where
   looped_shrinking : (until : Bool) → IsShrinking (Looped R until)
   looped_shrinking until s z t (of_loop {z = y} h) = loop_shrinking until (looping s) y t h
 
+  clause_shrinking : IsShrinking (Clause R)
+  clause_shrinking s z t (a_clause {m = m} {n = n} {l = l} {x = x} {t = b} h e i) =
+      omega (arith, classes_shrinking s m l h, Steps-caught m n x e, caught_left x n, statements_shrinking (with_caught x n) z b i)
+
+  clauses_shrinking : IsShrinking (Clauses R)
+  clauses_shrinking = chain_shrinking rescues one_of and_one (Clause R) Steps-rescues clause_shrinking
+
+  rescued_shrinking : IsShrinking (Rescued R)
+  rescued_shrinking s z t (no_rescue h) = statements_shrinking s z t h
+  rescued_shrinking s z t (a_rescue {m = m} {n = n} {o = o} {t = b} {e = e} {l = l} h f c g) =
+      omega (arith, statements_shrinking s m b h, next-left m n kind.Rescue f, clauses_shrinking n o l c, otherwise_shrinking o z e g)
+
+  body_shrinking : IsShrinking (Body R)
+  body_shrinking s z t (no_ensure h) = rescued_shrinking s z t h
+  body_shrinking s z t (an_ensure {m = m} {n = n} {t = b} {e = e} h f i) = omega (arith, rescued_shrinking s m b h, next-left m n kind.Ensure f, statements_shrinking n z e i)
+
+  begun_shrinking : IsShrinking (Begun R)
+  begun_shrinking s z t (a_begun {m = m} h e f) = omega (arith, body_shrinking s m t h, next-left m z kind.End e)
+
+  held_shrinking : (k : Fence) → IsShrinking (Held R k)
+  held_shrinking k s z t (between_braces h) = statements_shrinking s z t h
+  held_shrinking k s z t (until_end h) = body_shrinking s z t h
+
   block_shrinking : (k : Fence) → IsShrinking (Block R k)
-  block_shrinking k s z t (of_statements {m = m} {n = n} {z = y} {xs = xs} {t = b} e h f) = omega (arith, parameters-less s m xs e, statements_shrinking (entered xs m) n b h, next-left n y (fence_end k) f)
+  block_shrinking k s z t (of_statements {m = m} {n = n} {z = y} {xs = xs} {t = b} e h f) = omega (arith, parameters-less s m xs e, held_shrinking k (entered xs m) n b h, next-left n y (fence_end k) f)
 
   definition_shrinking : IsShrinking (Definition R)
   definition_shrinking s z t (of_method {m = m} {n = n} {o = o} {z = y} {x = x} {xs = xs} {t = b} e f h g) =
-      omega (arith, Steps-name s m x e, formals-less m n xs f, statements_shrinking (defined xs n) o b h, next-left o y kind.End g)
+      omega (arith, Steps-name s m x e, formals-less m n xs f, body_shrinking (defined xs n) o b h, next-left o y kind.End g)
 
   form_shrinking : (p : Part) → IsShrinking (FormOf R p)
   form_shrinking parts.Group = group_shrinking
@@ -274,6 +367,7 @@ module _ (R : Nested) (nests : NestedShrinking R) where
   form_shrinking parts.Choice = choice_shrinking
   form_shrinking parts.Unless = unless_shrinking
   form_shrinking (parts.Loop until) = looped_shrinking until
+  form_shrinking parts.Begin = begun_shrinking
   form_shrinking parts.Minus = minus_shrinking
   form_shrinking parts.Bang = bang_shrinking
   form_shrinking parts.Not = negation_shrinking
@@ -320,6 +414,7 @@ pub record ReadersShrink (N : Readers) : Type 0 where
   pub expression : Shrinks (expression_of N)
   pub statement : Shrinks (statement_of N)
   pub branch : Shrinks (branch_of N)
+  pub clause : Shrinks (clause_of N)
 
 pub shrinks_nested : (b : Bool) (d : ℕ) → ReadersShrink (readers b d)
 shrinks_nested b d =
@@ -337,4 +432,5 @@ shrinks_nested b d =
       expression = shrinks_by (expression_of N) (Expression R) (expression_sound N R sounds) (expression_shrinking R nests);
       statement = shrinks_by (statement_of N) (Statement R) (statement_sound N R sounds) (statement_shrinking R nests);
       branch = shrinks_by (branch_of N) (Branch R) (branch_sound N R sounds) (branch_shrinking R nests);
+      clause = shrinks_by (clause_of N) (Clause R) (clause_sound N R sounds) (clause_shrinking R nests);
     }

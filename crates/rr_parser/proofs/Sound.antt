@@ -1,18 +1,20 @@
 -- What is read is spelled.
 use Rattle.std.proofs.Common.{◌≡◌, ℕ, zero, suc, Bool, true, false, cond, List, [], Option, Some, None, Ok, refl, sym, subst}
 use Rattle.rr_base.specs.declared.name.Sym.{Sym}
-use Rattle.rr_tree.specs.Tree.{Tree, nil, sequence, repeat, array, hash, splat, pair, symbol, logical_not, listed}
+use Rattle.rr_tree.specs.Tree.{Tree, nil, constant, rescue, clause, ensure, sequence, repeat, array, hash, splat, pair, symbol, logical_not, listed}
 use Rattle.rr_parser.specs.declared.word.Aim.{Aim}
 use Rattle.rr_parser.specs.declared.word.Behind.TheVariants as behinds
 use Rattle.rr_parser.specs.declared.word.Fence.{Fence}
+use Rattle.rr_parser.specs.declared.word.Fence.TheVariants as fences
+use Rattle.rr_tree.specs.declared.node.Path.{Path}
 use Rattle.rr_parser.specs.declared.word.Head.{Head}
 use Rattle.rr_parser.specs.declared.word.Listed.{Listed}
 use Rattle.rr_parser.specs.declared.word.Listed.TheVariants as listings
 use Rattle.rr_parser.specs.declared.word.Part.{Part}
 use Rattle.rr_parser.specs.declared.word.Part.TheVariants as parts
 use Rattle.rr_parser.specs.declared.word.WordKind.TheVariants as kind
-use Rattle.rr_parser.specs.Places.{Place, word, at, skip, separators}
-use Rattle.rr_parser.specs.Grammar.Chains.{same, one_of, and_one}
+use Rattle.rr_parser.specs.Places.{Place, word, at, next, skip, separators}
+use Rattle.rr_parser.specs.Grammar.Chains.{Chain, same, one_of, and_one}
 use Rattle.rr_parser.specs.Grammar.Nesting.{Nested}
 use Rattle.rr_parser.specs.Grammar.Names.{headed, name, command}
 use Rattle.rr_parser.specs.Grammar.Operands.{Blocked}
@@ -20,6 +22,7 @@ use Rattle.rr_parser.specs.Grammar.Operators.{connective, joined_by, Ternary}
 use Rattle.rr_parser.specs.Grammar.Calls.{target, with_target, assigned_to, label, comma, closing, last, Assigned, an_assignment, no_assignment, Argument, Pair, by_label, by_arrow, star, Item, a_splat, a_plain_item, Member, Members, Bracketed, no_members, some_members, Array, an_array, Hash, a_hash, Index, of_element, Commanded, by_arguments, by_command, Command, a_command, Phrase, by_name, an_operand, Operand, Value}
 use Rattle.rr_parser.specs.Grammar.Sequences.{Negation, a_negation, no_negation, Expression, modifier, modified, Statement, Rows, Statements, no_statements, some_statements, Group, a_group}
 use Rattle.rr_parser.specs.Grammar.Control.{thens, loops, elsif, chosen, unless_chosen, Branch, a_branch, Branches, Otherwise, no_else, an_else, Choice, a_choice, Unless, an_unless, Loop, a_loop, looping, outside_loop, Looped, of_loop}
+use Rattle.rr_parser.specs.Grammar.Bodies.{path, Class, a_class, Classes, no_classes, some_classes, caught, with_caught, caught_tree, Clause, a_clause, rescues, Clauses, Rescued, no_rescue, a_rescue, Body, no_ensure, an_ensure, loop_word, Begun, a_begun, Held, between_braces, until_end}
 use Rattle.rr_parser.specs.Grammar.Blocks.{parameters, entered, leaving, block_tree, Block, of_statements}
 use Rattle.rr_parser.specs.Grammar.Definitions.{formals, defined, rejoining, method_tree, Definition, of_method}
 use Rattle.rr_parser.specs.Grammar.Fences.{within_head, fence_end}
@@ -31,13 +34,34 @@ use Rattle.rr_parser.specs.Reading.Operators.{ternary_of}
 use Rattle.rr_parser.specs.Reading.Calls.{assigned_or, assigned_of, argument_of, pair_by, pair_of, item_or, item_of, member_of, another, members_of, bracketed_or, bracketed_of, array_of, hash_of, index_of, commanded_or, commanded_of, arguments_of, headed_of, command_or, command_of, phrase_or, phrase_of, operand_of, value_of}
 use Rattle.rr_parser.specs.Reading.Sequences.{negation_or, negation_of, expression_of, statement_of, ends, row, rows_of, sequence_of, statements_of, group_of}
 use Rattle.rr_parser.specs.Reading.Control.{both, branch_of, branches_of, otherwise_or, otherwise_of, choice_of, unless_of, loop_of, looped_of}
+use Rattle.rr_parser.specs.Reading.Bodies.{class_or, class_of, several_classes, classes_or, classes_of, clause_or, clause_on, clause_of, clauses_of, rescued_or, rescued_on, rescued_of, ensured_or, ensured_on, body_of, unlooped, ended_body, unlooped_on, begun_of, held_of}
 use Rattle.rr_parser.specs.Reading.Blocks.{left_block, block_or, block_of}
 use Rattle.rr_parser.specs.Reading.Definitions.{left_method, method_or, definition_or, definition_of}
 use Rattle.rr_parser.specs.Reading.{form_of, part_of, readers_inside, readers_outside, readers}
-use Rattle.rr_parser.proofs.Told.{told_close, told_else, told_end, told_not, told_arrow, told_star, told_close_square, told_fence}
+use Rattle.rr_parser.proofs.Told.{told_close, told_else, told_end, told_rescue, told_ensure, told_not, told_arrow, told_star, told_close_square, told_fence}
 use Rattle.rr_parser.proofs.Looks.{word-next, another-comma, row-separators}
-use Rattle.rr_parser.proofs.Chains.{bind_ok, built_ok, done, closed_ok, at_answer, across_ok, IsSound, chain_sound}
+use Rattle.rr_parser.proofs.Chains.{bind_ok, built_ok, done, closed_ok, at_answer, across_ok, IsSound, chain_sound, from_sound}
 use Rattle.rr_parser.proofs.SoundOperands.{NestedSound, sequence_ok, taking_sound, enclosed_sound, blocked_sound, bang_sound, minus_sound, ternary_sound}
+
+-- ---- classes
+
+pub class_sound : IsSound class_of Class
+class_sound s z t e = class_or-sound s (at path s) z t refl e
+  where
+    class_or-sound : (s : Place) (o : Option (Path × Place)) (z : Place) (t : Tree) → at path s ≡ o → class_or o ≡ Ok (t, z) → Class s t z
+    class_or-sound s None z t f e = absurd cc
+    class_or-sound s (Some x) z t f e = at_answer (Class s) (constant x.0) t x.1 z e (a_class f)
+
+several_sound : IsSound several_classes (Chain comma one_of and_one Class)
+unfolding several_classes
+several_sound = chain_sound comma comma one_of and_one class_of Class (λ m n x e. e) class_sound
+
+classes_or-sound : (s : Place) (o : Option (Path × Place)) (z : Place) (l : List Tree) → at path s ≡ o → classes_or s o ≡ Ok (l, z) → Classes s l z
+classes_or-sound s None z l f e = at_answer (Classes s) [] l s z e (no_classes f)
+classes_or-sound s (Some x) z l f e = some_classes (several_sound s z l e)
+
+pub classes_sound : IsSound classes_of Classes
+classes_sound s z l e = classes_or-sound s (at path s) z l refl e
 
 module _ (N : Readers) (R : Nested) (nests : NestedSound N R) where
   -- ---- assignments and calls
@@ -241,11 +265,66 @@ module _ (N : Readers) (R : Nested) (nests : NestedSound N R) where
       let b = bind_ok (loop_of N until (looping s)) (λ x. Ok (x.0, outside_loop s x.1)) (t, z) e in
       at_answer (Looped R until s) b.0.0 t (outside_loop s b.0.1) z b.2 (of_loop (loop_sound until (looping s) b.0.1 b.0.0 b.1))
 
-  left_sound : (k : Fence) (s : Place) (xs : List Sym) (m z : Place) (t : Tree) → at parameters s ≡ Some (xs, m) → left_block s xs m (closed (fence_end k) (statements_of N (entered xs m))) ≡ Ok (t, z) → Block R k s t z
+  -- ---- bodies
+
+  clause_or-sound : (s m : Place) (l : List Tree) (o : Option (Option Sym × Place)) (z : Place) (t : Tree) → Classes s l m → at caught m ≡ o → clause_or N l o ≡ Ok (t, z) → Clause R s t z
+  clause_or-sound s m l None z t h f e = absurd cc
+  clause_or-sound s m l (Some x) z t h f e =
+      let n = with_caught x.0 x.1 in
+      let b = built_ok (clause (listed l) (caught_tree x.0 n)) (statements_of N n) t z e in
+      subst (λ (q : Tree). Clause R s q z) (sym b.2) (a_clause h f (statements_sound n z b.0 b.1))
+
+  pub clause_sound : IsSound (clause_of N) (Clause R)
+  unfolding clause_of
+  clause_sound = from_sound classes_of (clause_on N) Classes (Clause R) classes_sound (λ s m z l t h e. clause_or-sound s m l (at caught m) z t h refl e)
+
+  pub clauses_sound : IsSound (clauses_of N) (Clauses R)
+  unfolding clauses_of
+  clauses_sound = chain_sound rescues rescues one_of and_one (clause_of N) (Clause R) (λ m n x e. e) clause_sound
+
+  rescued_or-sound : (s m : Place) (l : Tree) (o : Option (Unit {0} × Place)) (z : Place) (t : Tree) → Statements R s l m → at rescues m ≡ o → rescued_or N l m o ≡ Ok (t, z) → Rescued R s t z
+  rescued_or-sound s m l None z t h f e = at_answer (Rescued R s) l t m z e (no_rescue h)
+  rescued_or-sound s m l (Some x) z t h f e =
+      let b = bind_ok (clauses_of N x.1) (λ c. built (rescue l (listed c.0)) (otherwise_of N c.1)) (t, z) e in
+      let c = built_ok (rescue l (listed b.0.0)) (otherwise_of N b.0.1) t z b.2 in
+      subst (λ (q : Tree). Rescued R s q z) (sym c.2) (a_rescue h (word-next kind.Rescue told_rescue m x.1 x.0 f) (clauses_sound x.1 b.0.1 b.0.0 b.1) (otherwise_sound b.0.1 z c.0 c.1))
+
+  pub rescued_sound : IsSound (rescued_of N) (Rescued R)
+  unfolding rescued_of
+  rescued_sound = from_sound (statements_of N) (rescued_on N) (Statements R) (Rescued R) statements_sound (λ s m z l t h e. rescued_or-sound s m l (at rescues m) z t h refl e)
+
+  ensured_or-sound : (s m : Place) (l : Tree) (o : Option (Unit {0} × Place)) (z : Place) (t : Tree) → Rescued R s l m → at (word kind.Ensure) m ≡ o → ensured_or N l m o ≡ Ok (t, z) → Body R s t z
+  ensured_or-sound s m l None z t h f e = at_answer (Body R s) l t m z e (no_ensure h)
+  ensured_or-sound s m l (Some x) z t h f e =
+      let b = built_ok (ensure l) (statements_of N x.1) t z e in
+      subst (λ (q : Tree). Body R s q z) (sym b.2) (an_ensure h (word-next kind.Ensure told_ensure m x.1 x.0 f) (statements_sound x.1 z b.0 b.1))
+
+  pub body_sound : IsSound (body_of N) (Body R)
+  unfolding body_of
+  body_sound = from_sound (rescued_of N) (ensured_on N) (Rescued R) (Body R) rescued_sound (λ s m z l t h e. ensured_or-sound s m l (at (word kind.Ensure) m) z t h refl e)
+
+  begun_or-sound : (s m n : Place) (t : Tree) (o : Option (Bool × Place)) (z : Place) (u : Tree) → Body R s t m → next m ≡ Some (kind.End, n) → at loop_word n ≡ o → unlooped t n o ≡ Ok (u, z) → Begun R s u z
+  begun_or-sound s m n t None z u h e f g = at_answer (Begun R s) t u n z g (a_begun h e f)
+  begun_or-sound s m n t (Some x) z u h e f g = absurd cc
+
+  begun_sound : IsSound (begun_of N) (Begun R)
+  unfolding begun_of
+  begun_sound s z t e =
+      let b = bind_ok (ended_body N s) (λ x. unlooped_on x.0 x.1) (t, z) e in
+      let c = closed_ok kind.End told_end (body_of N s) b.0.1 b.0.0 b.1 in
+      begun_or-sound s c.0 b.0.1 b.0.0 (at loop_word b.0.1) z t (body_sound s c.0 b.0.0 c.1) c.2 refl b.2
+
+  pub held_sound : (k : Fence) → IsSound (held_of N k) (Held R k)
+  held_sound fences.Brace s z t e = between_braces (statements_sound s z t e)
+  held_sound fences.Do s z t e = until_end (body_sound s z t e)
+
+  -- ---- scopes
+
+  left_sound : (k : Fence) (s : Place) (xs : List Sym) (m z : Place) (t : Tree) → at parameters s ≡ Some (xs, m) → left_block s xs m (closed (fence_end k) (held_of N k (entered xs m))) ≡ Ok (t, z) → Block R k s t z
   left_sound k s xs m z t f e =
-      let b = bind_ok (closed (fence_end k) (statements_of N (entered xs m))) (λ q. Ok (block_tree xs m q.1 q.0, leaving s q.1)) (t, z) e in
-      let c = closed_ok (fence_end k) (told_fence k) (statements_of N (entered xs m)) b.0.1 b.0.0 b.1 in
-      at_answer (Block R k s) (block_tree xs m b.0.1 b.0.0) t (leaving s b.0.1) z b.2 (of_statements f (statements_sound (entered xs m) c.0 b.0.0 c.1) c.2)
+      let b = bind_ok (closed (fence_end k) (held_of N k (entered xs m))) (λ q. Ok (block_tree xs m q.1 q.0, leaving s q.1)) (t, z) e in
+      let c = closed_ok (fence_end k) (told_fence k) (held_of N k (entered xs m)) b.0.1 b.0.0 b.1 in
+      at_answer (Block R k s) (block_tree xs m b.0.1 b.0.0) t (leaving s b.0.1) z b.2 (of_statements f (held_sound k (entered xs m) c.0 b.0.0 c.1) c.2)
 
   block_or-sound : (k : Fence) (s : Place) (o : Option (List Sym × Place)) (z : Place) (t : Tree) → at parameters s ≡ o → block_or N k s o ≡ Ok (t, z) → Block R k s t z
   block_or-sound k s None z t f e = absurd cc
@@ -255,11 +334,11 @@ module _ (N : Readers) (R : Nested) (nests : NestedSound N R) where
   unfolding block_of
   block_sound k s z t e = block_or-sound k s (at parameters s) z t refl e
 
-  left_method-sound : (s m : Place) (x : Sym) (xs : List Sym) (n z : Place) (t : Tree) → at name s ≡ Some (x, m) → at formals m ≡ Some (xs, n) → left_method s x xs n (closed kind.End (statements_of N (defined xs n))) ≡ Ok (t, z) → Definition R s t z
+  left_method-sound : (s m : Place) (x : Sym) (xs : List Sym) (n z : Place) (t : Tree) → at name s ≡ Some (x, m) → at formals m ≡ Some (xs, n) → left_method s x xs n (closed kind.End (body_of N (defined xs n))) ≡ Ok (t, z) → Definition R s t z
   left_method-sound s m x xs n z t f g e =
-      let b = bind_ok (closed kind.End (statements_of N (defined xs n))) (λ q. Ok (method_tree x xs n q.1 q.0, rejoining s q.1)) (t, z) e in
-      let c = closed_ok kind.End told_end (statements_of N (defined xs n)) b.0.1 b.0.0 b.1 in
-      at_answer (Definition R s) (method_tree x xs n b.0.1 b.0.0) t (rejoining s b.0.1) z b.2 (of_method f g (statements_sound (defined xs n) c.0 b.0.0 c.1) c.2)
+      let b = bind_ok (closed kind.End (body_of N (defined xs n))) (λ q. Ok (method_tree x xs n q.1 q.0, rejoining s q.1)) (t, z) e in
+      let c = closed_ok kind.End told_end (body_of N (defined xs n)) b.0.1 b.0.0 b.1 in
+      at_answer (Definition R s) (method_tree x xs n b.0.1 b.0.0) t (rejoining s b.0.1) z b.2 (of_method f g (body_sound (defined xs n) c.0 b.0.0 c.1) c.2)
 
   method_or-sound : (s m : Place) (x : Sym) (o : Option (List Sym × Place)) (z : Place) (t : Tree) → at name s ≡ Some (x, m) → at formals m ≡ o → method_or N s x o ≡ Ok (t, z) → Definition R s t z
   method_or-sound s m x None z t f g e = absurd cc
@@ -281,6 +360,7 @@ module _ (N : Readers) (R : Nested) (nests : NestedSound N R) where
   form_sound parts.Choice = choice_sound
   form_sound parts.Unless = unless_sound
   form_sound (parts.Loop until) = looped_sound until
+  form_sound parts.Begin = begun_sound
   form_sound parts.Minus = (minus_sound N R nests)
   form_sound parts.Bang = (bang_sound N R nests)
   form_sound parts.Not = negation_sound

@@ -1,5 +1,6 @@
 -- What stops which reader, and which words begin what.
-use Rattle.std.proofs.Common.{◌≡◌, ℕ, zero, suc, ◌+◌, ◌*◌, ◌<◌, ◌≤◌, true, false, Option, Some, None, refl, sym, ap, ◌∙◌, subst, arith}
+use Rattle.std.proofs.Common.{◌≡◌, ℕ, zero, suc, ◌+◌, ◌*◌, ◌<◌, ◌≤◌, Bool, true, false, List, Option, Some, None, refl, sym, ap, ◌∙◌, subst, arith}
+use Rattle.rr_base.specs.declared.name.Sym.{Sym}
 use Rattle.rr_tree.specs.Tree.{Tree}
 use Rattle.rr_parser.specs.declared.word.Head.{Head}
 use Rattle.rr_parser.specs.declared.word.Head.TheVariants as heads
@@ -9,18 +10,20 @@ use Rattle.rr_parser.specs.declared.word.Target.{Target}
 use Rattle.rr_parser.specs.declared.word.Part.{Part}
 use Rattle.rr_parser.specs.declared.word.WordKind.{WordKind}
 use Rattle.rr_parser.specs.declared.word.WordKind.TheVariants as kind
-use Rattle.rr_parser.specs.Places.{Place, Look, at, next}
+use Rattle.rr_parser.specs.declared.word.Word.{Word}
+use Rattle.rr_parser.specs.Places.{Place, Look, is_kind, word, placed, at, next}
 use Rattle.rr_parser.specs.Grammar.Chains.{Chain, one, more, at_first, and_then, same}
 use Rattle.rr_parser.specs.Grammar.Nesting.{Nested}
 use Rattle.rr_parser.specs.Grammar.Names.{begins_operands, head, begins_head, command}
 use Rattle.rr_parser.specs.Grammar.Operands.{construct_of, Primary, a_literal, a_constant, a_path, a_negative, a_local, a_bare_call, a_call, a_block_call, a_jump, a_passing, a_passing_call, a_construct, Postfix, a_bang, no_bang, Minus, a_minus, no_minus}
 use Rattle.rr_parser.specs.Grammar.Operators.{operator, infixed, connective, joined_by, Binary, a_comparison, a_pair, Logical, Ternary, no_question, a_question}
 use Rattle.rr_parser.specs.Grammar.Calls.{target, a_command, Phrase, by_name, an_operand, target_of_kind}
-use Rattle.rr_parser.specs.Grammar.Control.{elsif}
-use Rattle.rr_parser.specs.Reading.Sequences.{ends}
-use Rattle.rr_parser.proofs.Told.{told_elsif}
+use Rattle.rr_parser.specs.Grammar.Control.{thens, elsif}
+use Rattle.rr_parser.specs.Grammar.Bodies.{rescues, before_thens, behind_arrow, caught}
+use Rattle.rr_parser.specs.Reading.Sequences.{ends_at, ends}
+use Rattle.rr_parser.proofs.Told.{told_rescue, told_arrow, told_elsif}
 use Rattle.rr_parser.proofs.Looks.{seen, some_what, some_place, none_unless, by_next, one_kind, one_place, word-next, name-next, next-name, target-next, command-next}
-use Rattle.rr_parser.proofs.Strengths.{strength_in, Stops, operator_strength, connective_strength, tail_strength}
+use Rattle.rr_parser.proofs.Strengths.{strength_in, Stops, stops_by, thens_stop, operator_strength, connective_strength, tail_strength}
 use Rattle.rr_parser.proofs.Firsts.{next_ends, opens, First, and_false, bare_no_command, bracket_not_assign, brace_not_assign, by_word, by_integer, by_no_command, by_jump, by_passing, by_bang, by_prefix}
 
 -- ---- a name that begins no command
@@ -153,9 +156,41 @@ phrase_no_target R s z t (by_name (a_command {m = m} {x = x} e h b)) stops = non
 
 -- ---- what ends branches
 
--- the word `end` comes
+-- the words that end what is done otherwise
+abbrev pub finishes : WordKind → Bool
+finishes kind.End = true
+finishes kind.Ensure = true
+finishes _ = false
+
+-- such a word comes
 abbrev pub AtEnd : Place → Type 0
-AtEnd z = (y : Place) × (next z ≡ Some (kind.End, y))
+AtEnd z = (k : WordKind) × (y : Place) × (next z ≡ Some (k, y)) × (finishes k ≡ true)
+
+-- it begins nothing else, and ends statements
+pub finished : (k : WordKind) → finishes k ≡ true → (is_kind k kind.Else ≡ false) × (is_kind k kind.Elsif ≡ false) × (is_kind k kind.Rescue ≡ false) × (ends_at k ≡ true)
+finished kind.End e = (refl, refl, refl, refl)
+finished kind.Ensure e = (refl, refl, refl, refl)
+finished _ e = absurd cc
+
+pub end_ends : (z : Place) → AtEnd z → ends z.rest ≡ true
+end_ends z a = next_ends z a.1 a.0 true a.2 (finished a.0 a.3).3
+
+pub rescue_ends : (z n : Place) (u : Unit {0}) → at rescues z ≡ Some (u, n) → ends z.rest ≡ true
+rescue_ends z n u e = next_ends z n kind.Rescue true (word-next kind.Rescue told_rescue z n u e) refl
+
+-- an arrow, or what stands before statements
+pub caught_stop : (z n : Place) (x : Option Sym) → at caught z ≡ Some (x, n) → Stops 28 z
+caught_stop z n x e = by_arrow (word kind.Arrow z.rest) refl e
+  where
+    by_thens : (o : Option (Unit {0} × List Word)) → thens z.rest ≡ o → placed z.known (before_thens None o) ≡ Some (x, n) → Stops 28 z
+    by_thens None g h = absurd cc
+    by_thens (Some r) g h = thens_stop z (record { known = z.known; rest = r.1 }) r.0 (ap (placed z.known) g)
+
+    by_arrow : (o : Option (Unit {0} × List Word)) → word kind.Arrow z.rest ≡ o → placed z.known (behind_arrow z.rest o) ≡ Some (x, n) → Stops 28 z
+    by_arrow None g h = by_thens (thens z.rest) refl h
+    by_arrow (Some r) g h =
+        let m : Place = record { known = z.known; rest = r.1 } in
+        stops_by kind.Arrow 28 z m (word-next kind.Arrow told_arrow z m r.0 (ap (placed z.known) g)) (omega arith)
 
 pub elsif_ends : (z n : Place) (u : Unit {0}) → at elsif z ≡ Some (u, n) → ends z.rest ≡ true
 elsif_ends z n u e = next_ends z n kind.Elsif true (word-next kind.Elsif told_elsif z n u e) refl

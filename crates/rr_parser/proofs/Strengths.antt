@@ -160,6 +160,8 @@ at_word known w ws kind.Close f e = (omega arith, refl)
 at_word known w ws kind.CloseBrace f e = (omega arith, refl)
 at_word known w ws kind.Elsif f e = (omega arith, refl)
 at_word known w ws kind.Else f e = (omega arith, refl)
+at_word known w ws kind.Rescue f e = (omega arith, refl)
+at_word known w ws kind.Ensure f e = (omega arith, refl)
 at_word known w ws kind.End f e = (omega arith, refl)
 at_word known w ws _ f e = let g = sym e ∙ ap ends_at f in absurd cc
 

@@ -42,6 +42,14 @@ pub told_end : Told kind.End
 told_end kind.End e = refl
 told_end _ e = absurd (false≢true e)
 
+pub told_rescue : Told kind.Rescue
+told_rescue kind.Rescue e = refl
+told_rescue _ e = absurd (false≢true e)
+
+pub told_ensure : Told kind.Ensure
+told_ensure kind.Ensure e = refl
+told_ensure _ e = absurd (false≢true e)
+
 pub told_def : Told kind.Def
 told_def kind.Def e = refl
 told_def _ e = absurd (false≢true e)

@@ -26,3 +26,4 @@ IsFaultOf (refusal.Storage storage.Slots) f = f ≡ fault.Limit limit.Slots
 IsFaultOf refusal.Nesting f = f ≡ fault.Limit limit.Nesting
 IsFaultOf (refusal.Unexpected n) f = IsSyntax f
 IsFaultOf (refusal.Number n) f = IsSyntax f
+IsFaultOf (refusal.LeftOut n) f = IsSyntax f

@@ -1,5 +1,5 @@
 -- Where constructs are begun and not ended: what stands before is spelled, and the innermost has just begun.
-use Rattle.std.specs.Prelude.{◌≡◌, ℕ, zero, suc, List, Bool, true, false, Some, None}
+use Rattle.std.specs.Prelude.{◌≡◌, ℕ, zero, suc, List, Bool, true, false, Option, Some, None}
 use Rattle.rr_base.specs.declared.name.Sym.{Sym}
 use Rattle.rr_tree.specs.Tree.{Tree}
 use Rattle.rr_lexer.specs.declared.kind.Token.{Token}
@@ -9,6 +9,7 @@ use Rattle.rr_parser.specs.declared.word.Aim.{Aim}
 use Rattle.rr_parser.specs.declared.word.Behind.{Behind}
 use Rattle.rr_parser.specs.declared.word.Behind.TheVariants as behinds
 use Rattle.rr_parser.specs.declared.word.Fence.{Fence}
+use Rattle.rr_parser.specs.declared.word.Fence.TheVariants as fences
 use Rattle.rr_parser.specs.declared.word.Head.{Head}
 use Rattle.rr_parser.specs.declared.word.Listed.{Listed}
 use Rattle.rr_parser.specs.declared.word.Listed.TheVariants as listings
@@ -25,8 +26,9 @@ use Rattle.rr_parser.specs.Grammar.Names.{name, bracket, command}
 use Rattle.rr_parser.specs.Grammar.Operands.{joined, construct_of, tail, Postfix}
 use Rattle.rr_parser.specs.Grammar.Operators.{operator, connective, Binary, Logical}
 use Rattle.rr_parser.specs.Grammar.Calls.{target, with_target, label, comma, star, Argument, Members, Commanded}
-use Rattle.rr_parser.specs.Grammar.Sequences.{Expression, Statement, Rows, modifier}
+use Rattle.rr_parser.specs.Grammar.Sequences.{Expression, Statement, Rows, Statements, modifier}
 use Rattle.rr_parser.specs.Grammar.Control.{thens, loops, elsif, looping, Branch, Branches}
+use Rattle.rr_parser.specs.Grammar.Bodies.{Classes, caught, with_caught, rescues, Clauses, Rescued}
 use Rattle.rr_parser.specs.Grammar.Blocks.{parameters, entered}
 use Rattle.rr_parser.specs.Grammar.Definitions.{formals, defined}
 use Rattle.rr_parser.specs.Grammar.Programs.{Entries}
@@ -190,11 +192,27 @@ LoopFront N F = AcrossFront loops (Taking false (Expression N)) (TakingFront fal
 abbrev pub LoopedFront : Nested → Fronts → Place → Place → Type 0
 LoopedFront N F s z = LoopFront N F (looping s) z
 
-pub data BlockFront (N : Nested) (F : Fronts) : Place → Place → Type 0 where
-  in_body : {s m z : Place} {xs : List Sym} → at parameters s ≡ Some (xs, m) → StatementsFront N F (entered xs m) z → BlockFront N F s z
+pub data ClauseFront (N : Nested) (F : Fronts) : Place → Place → Type 0 where
+  in_clause : {s m n z : Place} {l : List Tree} {x : Option Sym} → Classes s l m → at caught m ≡ Some (x, n) → StatementsFront N F (with_caught x n) z → ClauseFront N F s z
+
+abbrev pub ClausesFront : Nested → Fronts → Place → Place → Type 0
+ClausesFront N F = ChainFront rescues (Clauses N) (ClauseFront N F)
+
+abbrev pub RescuedFront : Nested → Fronts → Place → Place → Type 0
+RescuedFront N F = AcrossFront rescues (Statements N) (StatementsFront N F) (EndedFront N F (Clauses N) (ClausesFront N F))
+
+abbrev pub BodyFront : Nested → Fronts → Place → Place → Type 0
+BodyFront N F = AcrossFront (word kind.Ensure) (Rescued N) (RescuedFront N F) (StatementsFront N F)
+
+abbrev pub HeldFront : Nested → Fronts → Fence → Place → Place → Type 0
+HeldFront N F fences.Brace = StatementsFront N F
+HeldFront N F fences.Do = BodyFront N F
+
+pub data BlockFront (N : Nested) (F : Fronts) (f : Fence) : Place → Place → Type 0 where
+  in_body : {s m z : Place} {xs : List Sym} → at parameters s ≡ Some (xs, m) → HeldFront N F f (entered xs m) z → BlockFront N F f s z
 
 pub data DefinitionFront (N : Nested) (F : Fronts) : Place → Place → Type 0 where
-  in_method : {s m n z : Place} {x : Sym} {xs : List Sym} → at name s ≡ Some (x, m) → at formals m ≡ Some (xs, n) → StatementsFront N F (defined xs n) z → DefinitionFront N F s z
+  in_method : {s m n z : Place} {x : Sym} {xs : List Sym} → at name s ≡ Some (x, m) → at formals m ≡ Some (xs, n) → BodyFront N F (defined xs n) z → DefinitionFront N F s z
 
 -- in a part, without its own say about `do`
 abbrev pub FormFront : Nested → Fronts → Part → Place → Place → Type 0
@@ -205,12 +223,13 @@ FormFront N F (parts.Loop until) = LoopedFront N F
 FormFront N F parts.Array = MembersFront N F listings.Array
 FormFront N F parts.Hash = MembersFront N F listings.Hash
 FormFront N F parts.Index = ArgumentFront N F
+FormFront N F parts.Begin = BodyFront N F
 FormFront N F parts.Minus = MinusFront N F
 FormFront N F parts.Bang = BangFront N F
 FormFront N F parts.Not = NegationFront N F
 FormFront N F parts.Command = CommandFront N F
 FormFront N F parts.Branch = ArgumentFront N F
-FormFront N F (parts.Block f) = BlockFront N F
+FormFront N F (parts.Block f) = BlockFront N F f
 FormFront N F parts.Definition = DefinitionFront N F
 
 abbrev pub PartFront : Nested → Fronts → Part → Place → Place → Type 0

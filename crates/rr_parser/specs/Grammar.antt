@@ -14,6 +14,7 @@ use Rattle.rr_parser.specs.Grammar.Operands.{Bang, Minus}
 use Rattle.rr_parser.specs.Grammar.Calls.{Argument, Array, Hash, Index, Bracketed, Command, Value}
 use Rattle.rr_parser.specs.Grammar.Sequences.{Negation, Group}
 use Rattle.rr_parser.specs.Grammar.Control.{Choice, Unless, Looped}
+use Rattle.rr_parser.specs.Grammar.Bodies.{Begun}
 use Rattle.rr_parser.specs.Grammar.Blocks.{Block}
 use Rattle.rr_parser.specs.Grammar.Definitions.{Definition}
 use Rattle.rr_parser.specs.Grammar.Programs.{Outline, Main, main_of, Program}
@@ -26,6 +27,7 @@ pub mod Operators
 pub mod Calls
 pub mod Sequences
 pub mod Control
+pub mod Bodies
 pub mod Blocks
 pub mod Definitions
 pub mod Programs
@@ -39,6 +41,7 @@ FormOf N parts.Index = Index N
 FormOf N parts.Choice = Choice N
 FormOf N parts.Unless = Unless N
 FormOf N (parts.Loop until) = Looped N until
+FormOf N parts.Begin = Begun N
 FormOf N parts.Minus = Minus N
 FormOf N parts.Bang = Bang N
 FormOf N parts.Not = Negation N

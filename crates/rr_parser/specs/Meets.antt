@@ -18,6 +18,7 @@ use Rattle.rr_parser.specs.declared.variables.Scope.{Scope}
 use Rattle.rr_parser.specs.Grammar.Names.{find, seen_from, with_variable, with_loop}
 use Rattle.rr_parser.specs.Grammar.Fences.{with_do}
 use Rattle.rr_parser.specs.Grammar.Blocks.{inner, with_parameters}
+use Rattle.rr_parser.specs.Grammar.Bodies.{with_caught, caught_tree}
 use Rattle.rr_parser.specs.Grammar.Calls.{with_target, target_variable}
 use Rattle.rr_parser.specs.Grammar.Definitions.{apart, rejoined}
 use Rattle.rr_parser.specs.Grammar.Programs.{Entry, defines, does, Outline}
@@ -69,6 +70,7 @@ Fails (refusal.Storage s) read = Unit {0}
 Fails refusal.Nesting read = read ≡ Err deep
 Fails (refusal.Unexpected n) read = read ≡ Err wrong
 Fails (refusal.Number n) read = read ≡ Err wrong
+Fails (refusal.LeftOut n) read = read ≡ Err wrong
 
 -- What a function of the parser returned is what reading gives, unless storage ran out.
 abbrev pub Gives : Parser → Parser → Result (ℕ × Bor (List Word)) Refusal → Answer Tree → Type 0
@@ -136,6 +138,13 @@ pub record Aims (old new : Parser) (x : Target) (v : Variable) : Type 0 where
   pub known : (ws : List Word) → place new ws ≡ with_target x (place old ws)
   pub seen : (ws : List Word) → target_variable x (place new ws) ≡ v
 
+-- The variable that gets an exception became known, if there is one, and a node stands for it.
+pub record Catches (old new : Parser) (x : Option Sym) (id : ℕ) : Type 0 where
+  pub there : id < length new.nodes.items
+  pub kept : Extends old.nodes.items new.nodes.items
+  pub known : (ws : List Word) → place new ws ≡ with_caught x (place old ws)
+  pub tree : (ws : List Word) → tree_at new.nodes.items id ≡ caught_tree x (with_caught x (place old ws))
+
 -- A scope with these parameters was begun, and the mark tells what was known before it.
 pub record Begins (old new : Known) (xs : List Sym) (m : Scope) : Type 0 where
   pub known : new ≡ with_parameters xs (inner old)
@@ -189,6 +198,12 @@ ReadsNames (Ok x) read = read ≡ Some (x.0.items, x.1.now)
 ReadsNames (Err (refusal.Storage s)) read = Unit {0}
 ReadsNames (Err (refusal.Unexpected n)) read = read ≡ None
 ReadsNames (Err _) read = ⊥
+
+-- what was read, and the words behind it
+abbrev pub Reads : {A : Type 0} → Result (A × Bor (List Word)) Refusal → Option (A × List Word) → Type 0
+Reads (Ok x) read = read ≡ Some (x.0, x.1.now)
+Reads (Err (refusal.Unexpected n)) read = read ≡ None
+Reads (Err _) read = ⊥
 
 -- what was seen first, and the words behind it
 abbrev pub Sees : {A : Type 0} → Option (A × Bor (List Word)) → Option (A × List Word) → Type 0

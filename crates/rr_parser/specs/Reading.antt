@@ -12,6 +12,7 @@ use Rattle.rr_parser.specs.Reading.Operands.{bang_of, minus_of}
 use Rattle.rr_parser.specs.Reading.Calls.{argument_of, bracketed_of, array_of, hash_of, index_of, command_of, value_of}
 use Rattle.rr_parser.specs.Reading.Sequences.{negation_of, group_of}
 use Rattle.rr_parser.specs.Reading.Control.{choice_of, unless_of, looped_of}
+use Rattle.rr_parser.specs.Reading.Bodies.{begun_of}
 use Rattle.rr_parser.specs.Reading.Blocks.{block_of}
 use Rattle.rr_parser.specs.Reading.Definitions.{definition_of}
 use Rattle.rr_parser.specs.Reading.Programs.{outline_of}
@@ -24,6 +25,7 @@ pub mod Operators
 pub mod Calls
 pub mod Sequences
 pub mod Control
+pub mod Bodies
 pub mod Blocks
 pub mod Definitions
 pub mod Programs
@@ -37,6 +39,7 @@ form_of N parts.Index = index_of N
 form_of N parts.Choice = choice_of N
 form_of N parts.Unless = unless_of N
 form_of N (parts.Loop until) = looped_of N until
+form_of N parts.Begin = begun_of N
 form_of N parts.Minus = minus_of N
 form_of N parts.Bang = bang_of N
 form_of N parts.Not = negation_of N

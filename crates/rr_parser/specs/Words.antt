@@ -26,6 +26,7 @@ keyword_kind keywords.Nil = kind.Nil
 keyword_kind keywords.True = kind.Truth true
 keyword_kind keywords.False = kind.Truth false
 keyword_kind keywords.SelfWord = kind.Itself
+keyword_kind keywords.Begin = kind.Begin
 keyword_kind keywords.If = kind.If
 keyword_kind keywords.Unless = kind.Unless
 keyword_kind keywords.While = kind.Loop false
@@ -43,6 +44,8 @@ keyword_kind keywords.Not = kind.NotWord
 keyword_kind keywords.Then = kind.Then
 keyword_kind keywords.Elsif = kind.Elsif
 keyword_kind keywords.Else = kind.Else
+keyword_kind keywords.Rescue = kind.Rescue
+keyword_kind keywords.Ensure = kind.Ensure
 keyword_kind keywords.End = kind.End
 keyword_kind _ = kind.Other
 

@@ -1,7 +1,8 @@
 //! Reading blocks.
 
 ghost use Rattle.std.specs.Prelude.{◌≡◌};
-ghost use Rattle.rr_parser.specs.Grammar.Blocks.{names_to, parameters, variable, variable_of_kind};
+ghost use Rattle.rr_parser.specs.Grammar.Names.{variable, variable_of_kind};
+ghost use Rattle.rr_parser.specs.Grammar.Blocks.{names_to, parameters};
 ghost use Rattle.rr_parser.specs.Reading.Blocks.{block_of};
 ghost use Rattle.rr_parser.specs.Reading.{readers};
 ghost use Rattle.rr_parser.specs.Meets.{ReadsNames, Sees};
@@ -26,7 +27,7 @@ fn variable_of_kind(kind: WordKind) -> Option<Sym>
 }
 
 /// A name that may be a variable, and the words behind it.
-fn variable(words: &[Word]) -> Option<(Sym, &[Word])>
+pub(crate) fn variable(words: &[Word]) -> Option<(Sym, &[Word])>
     ensures { Sees result (variable words.now) }
 {
     let (word, rest) = words.split_first()?;
@@ -83,7 +84,7 @@ impl Parser {
     {
         let (parameters, rest) = parameters(self.alloc, words)?;
         let scope = self.enter(&parameters)?;
-        let (body, rest) = self.statements(inside, depth, rest)?;
+        let (body, rest) = self.held(fence, inside, depth, rest)?;
         let Some(rest) = behind(fence_end(fence), rest) else {
             return Err(Refusal::Unexpected(rest.len()));
         };

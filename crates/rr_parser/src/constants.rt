@@ -43,7 +43,7 @@ fn tight_constant(words: &[Word]) -> Option<(Sym, &[Word])>
 }
 
 /// `::` and a constant, directly behind a constant that has others.
-fn inner_constant(outer: bool, words: &[Word]) -> Option<(Sym, &[Word])>
+pub(crate) fn inner_constant(outer: bool, words: &[Word]) -> Option<(Sym, &[Word])>
     ensures { Sees result (inner_constant outer words.now) }
 {
     if !outer {

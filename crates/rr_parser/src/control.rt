@@ -100,7 +100,12 @@ impl Parser {
 
     #[cycle(parser)]
     #[tactic(auto, unfolding(crate::specs::Reading::Control::otherwise_of))]
-    fn otherwise<'w>(&mut self, inside: bool, depth: u32, words: &'w [Word]) -> Parsed<'w, NodeId>
+    pub fn otherwise<'w>(
+        &mut self,
+        inside: bool,
+        depth: u32,
+        words: &'w [Word],
+    ) -> Parsed<'w, NodeId>
         ensures { Gives self.old self.new result (otherwise_of (readers inside depth) (place self.old words.now)) }
     {
         match behind(WordKind::Else, words) {

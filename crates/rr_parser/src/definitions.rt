@@ -108,7 +108,7 @@ impl Parser {
         };
         let (parameters, rest) = formals(self.alloc, rest)?;
         let outside = self.enter_method(&parameters)?;
-        let (body, rest) = self.statements(inside, depth, rest)?;
+        let (body, rest) = self.body(inside, depth, rest)?;
         let Some(rest) = behind(WordKind::End, rest) else {
             return Err(Refusal::Unexpected(rest.len()));
         };

@@ -2,6 +2,7 @@
 #![tactic(auto)]
 
 mod blocks;
+mod bodies;
 mod calls;
 mod constants;
 mod control;

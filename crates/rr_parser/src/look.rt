@@ -361,8 +361,13 @@ fn ends_at(kind: WordKind) -> bool
     ensures { result ≡ ends_at kind }
 {
     match kind {
-        WordKind::Close | WordKind::CloseBrace | WordKind::Elsif | WordKind::Else | WordKind::End =>
-            true,
+        WordKind::Close
+        | WordKind::CloseBrace
+        | WordKind::Elsif
+        | WordKind::Else
+        | WordKind::Rescue
+        | WordKind::Ensure
+        | WordKind::End => true,
         _ => false,
     }
 }
@@ -434,6 +439,7 @@ fn begins_operand(kind: WordKind, tight: bool) -> bool
         | WordKind::Global(_)
         | WordKind::Itself
         | WordKind::Passing(_)
+        | WordKind::Begin
         | WordKind::Bang
         | WordKind::Open
         | WordKind::OpenSquare => true,

@@ -27,6 +27,7 @@ fn keyword_kind(keyword: Keyword) -> WordKind
         Keyword::True => WordKind::Truth(true),
         Keyword::False => WordKind::Truth(false),
         Keyword::SelfWord => WordKind::Itself,
+        Keyword::Begin => WordKind::Begin,
         Keyword::If => WordKind::If,
         Keyword::Unless => WordKind::Unless,
         Keyword::While => WordKind::Loop { until: false },
@@ -44,6 +45,8 @@ fn keyword_kind(keyword: Keyword) -> WordKind
         Keyword::Then => WordKind::Then,
         Keyword::Elsif => WordKind::Elsif,
         Keyword::Else => WordKind::Else,
+        Keyword::Rescue => WordKind::Rescue,
+        Keyword::Ensure => WordKind::Ensure,
         Keyword::End => WordKind::End,
         _ => WordKind::Other,
     }

@@ -1,7 +1,7 @@
 //! The nodes that a parser puts.
 
 ghost use Rattle.std.specs.Prelude.{◌≡◌, ◌<◌, ◌≤◌, ◌++◌, length, map, All, IfOk, OnOk};
-ghost use Rattle.rr_tree.specs.Tree.{Tree, nil, tree_at, sequence, bare, call, send, array, hash, pair, symbol, listed, HasPartsBefore};
+ghost use Rattle.rr_tree.specs.Tree.{Tree, nil, tree_at, sequence, bare, call, send, array, hash, pair, symbol, rescue, clause, listed, HasPartsBefore};
 ghost use Rattle.rr_tree.specs.Nodes.{node_tree, item};
 ghost use Rattle.rr_parser.specs.Grammar.Operators.{infixed, joined_by};
 ghost use Rattle.rr_parser.specs.Grammar.Names.{local_tree, jump_tree, jump_value, passed, passed_bare, headed};
@@ -143,6 +143,48 @@ impl Parser {
             first,
             count,
             site,
+        })
+    }
+
+    /// Puts a clause: its classes, its variable and its statements.
+    pub fn put_clause(
+        &mut self,
+        classes: &[NodeId],
+        target: NodeId,
+        body: NodeId,
+    ) -> Result<NodeId, Storage>
+        requires classes { All (λ i. i < length self.old.nodes.items) classes.now }
+        requires target { target < length self.old.nodes.items }
+        requires body { body < length self.old.nodes.items }
+        ensures { IfOk result (λ id. Puts self.old self.new (clause (listed (map (tree_at self.old.nodes.items) classes.now)) (tree_at self.old.nodes.items target) (tree_at self.old.nodes.items body)) id) }
+    {
+        let (first, count) = self.put_items(classes)?;
+        self.put(Node::Clause {
+            first,
+            count,
+            target,
+            body,
+        })
+    }
+
+    /// Puts statements, the clauses that rescue them, and what follows where nothing was raised.
+    pub fn put_rescue(
+        &mut self,
+        body: NodeId,
+        clauses: &[NodeId],
+        otherwise: NodeId,
+    ) -> Result<NodeId, Storage>
+        requires body { body < length self.old.nodes.items }
+        requires clauses { All (λ i. i < length self.old.nodes.items) clauses.now }
+        requires otherwise { otherwise < length self.old.nodes.items }
+        ensures { IfOk result (λ id. Puts self.old self.new (rescue (tree_at self.old.nodes.items body) (listed (map (tree_at self.old.nodes.items) clauses.now)) (tree_at self.old.nodes.items otherwise)) id) }
+    {
+        let (first, count) = self.put_items(clauses)?;
+        self.put(Node::Rescue {
+            body,
+            first,
+            count,
+            otherwise,
         })
     }
 

@@ -113,6 +113,7 @@ impl Parser {
             WordKind::If => self.part(Part::Choice, inside, depth, rest),
             WordKind::Unless => self.part(Part::Unless, inside, depth, rest),
             WordKind::Loop { until } => self.part(Part::Loop { until }, inside, depth, rest),
+            WordKind::Begin => self.part(Part::Begin, inside, depth, rest),
             _ => Err(Refusal::Unexpected(words.len())),
         }
     }

@@ -41,7 +41,7 @@ impl Parser {
     ghost use Rattle.rr_parser.specs.Meets.{Gives, GivesList, Marks, Aims, Enters, Leaves, SetsLoop, SetsDo, Sees, place, known_of};
 
     /// From here on the name is a local variable.
-    fn mark(&mut self, name: Sym) -> Result<Variable, Storage>
+    pub fn mark(&mut self, name: Sym) -> Result<Variable, Storage>
         ensures { IfOk result (Marks self.old self.new name) }
     {
         self.known.mark(name)
@@ -175,6 +175,7 @@ impl Parser {
             Part::Choice => self.choice(inside, depth, words),
             Part::Unless => self.unless(inside, depth, words),
             Part::Loop { until } => self.looped(until, inside, depth, words),
+            Part::Begin => self.begun(inside, depth, words),
             Part::Minus => self.minus(inside, depth, words),
             Part::Bang => self.bang(inside, depth, words),
             Part::Not => self.negation(inside, depth, words),

@@ -104,6 +104,7 @@ fn fault_of(source: &[u8], tokens: &[Token], refusal: Refusal) -> Fault
         Refusal::Unexpected(0) => fault_at(source, tokens, 0, SyntaxKind::UnexpectedEnd),
         Refusal::Unexpected(left) => fault_at(source, tokens, left, SyntaxKind::UnexpectedToken),
         Refusal::Number(left) => fault_at(source, tokens, left, SyntaxKind::Number),
+        Refusal::LeftOut(left) => fault_at(source, tokens, left, SyntaxKind::LeftOut),
     }
 }
 

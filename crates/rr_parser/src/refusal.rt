@@ -21,6 +21,8 @@ pub(crate) enum Refusal {
     Unexpected(usize),
     /// The first of the words that are left is an integer that does not fit 64 bits.
     Number(usize),
+    /// The first of the words that are left begins what the language leaves out.
+    LeftOut(usize),
 }
 
 impl From<AllocError> for Storage {

@@ -130,6 +130,8 @@ pub(crate) enum Part {
     Unless,
     /// What stands behind `while` or `until`, with its `end`.
     Loop { until: bool },
+    /// What stands behind `begin`, with its `end`.
+    Begin,
     /// What stands behind a minus.
     Minus,
     /// What stands behind a `!`.
@@ -140,7 +142,7 @@ pub(crate) enum Part {
     Command,
     /// One of the two operands between which is chosen.
     Branch,
-    /// The parameters and the statements of a block, with the word that ends it.
+    /// The parameters of a block and what it holds, with the word that ends it.
     Block(Fence),
     /// What stands behind `def`, with its `end`.
     Definition,
@@ -187,6 +189,7 @@ pub(crate) enum WordKind {
     Unless,
     /// `while`, or `until`.
     Loop { until: bool },
+    Begin,
     Do,
     Jump(Jump),
     /// `yield`, or `super`.
@@ -195,6 +198,8 @@ pub(crate) enum WordKind {
     Then,
     Elsif,
     Else,
+    Rescue,
+    Ensure,
     End,
     /// The words `and`, `or` and `not`.
     AndWord,

@@ -6,19 +6,11 @@ use Rattle.rr_parser.specs.declared.word.Fence.{Fence}
 use Rattle.rr_parser.specs.declared.word.WordKind.{WordKind}
 use Rattle.rr_parser.specs.declared.word.WordKind.TheVariants as kind
 use Rattle.rr_parser.specs.declared.word.Word.{Word}
-use Rattle.rr_parser.specs.Places.{Known, Place, Look, first_as, is_kind, word, at, next}
+use Rattle.rr_parser.specs.Places.{Known, Place, Look, is_kind, word, at, next}
 use Rattle.rr_parser.specs.Grammar.Nesting.{Nested}
 use Rattle.rr_parser.specs.Grammar.Fences.{fence_end}
-use Rattle.rr_parser.specs.Grammar.Names.{with_variable}
-use Rattle.rr_parser.specs.Grammar.Sequences.{Statements}
-
--- a name that may be a variable: no mark ends it
-abbrev pub variable_of_kind : WordKind → Option Sym
-variable_of_kind (kind.Name x marked) = if marked then None else Some x
-variable_of_kind _ = None
-
-abbrev pub variable : Look Sym
-variable = first_as (λ w. variable_of_kind w.kind)
+use Rattle.rr_parser.specs.Grammar.Names.{with_variable, variable_of_kind}
+use Rattle.rr_parser.specs.Grammar.Bodies.{Held}
 
 -- a name before others
 abbrev pub before_names : Option Sym → Option (List Sym × List Word) → Option (List Sym × List Word)
@@ -68,9 +60,9 @@ left_to k n = record { locals = take (length k.locals) n.locals; level = k.level
 abbrev pub leaving : Place → Place → Place
 leaving s n = record { known = left_to s.known n.known; rest = n.rest }
 
--- a block: its number among the scopes, its parameters, how many variables it has at its end, and its statements
+-- a block: its number among the scopes, its parameters, how many variables it has at its end, and what it holds
 abbrev pub block_tree : List Sym → Place → Place → Tree → Tree
 block_tree xs m n t = block (entered xs m).known.begun (length xs) n.known.count t
 
 pub data Block (N : Nested) (f : Fence) : Place → Tree → Place → Type 0 where
-  of_statements : {s m n z : Place} {xs : List Sym} {t : Tree} → at parameters s ≡ Some (xs, m) → Statements N (entered xs m) t n → next n ≡ Some (fence_end f, z) → Block N f s (block_tree xs m z t) (leaving s z)
+  of_statements : {s m n z : Place} {xs : List Sym} {t : Tree} → at parameters s ≡ Some (xs, m) → Held N f (entered xs m) t n → next n ≡ Some (fence_end f, z) → Block N f s (block_tree xs m z t) (leaving s z)

@@ -9,7 +9,7 @@ use Rattle.rr_parser.specs.Places.{Known, Place, Look, word, at, next}
 use Rattle.rr_parser.specs.Grammar.Nesting.{Nested}
 use Rattle.rr_parser.specs.Grammar.Names.{name}
 use Rattle.rr_parser.specs.Grammar.Blocks.{names_to, with_parameters}
-use Rattle.rr_parser.specs.Grammar.Sequences.{Statements}
+use Rattle.rr_parser.specs.Grammar.Bodies.{Body}
 
 abbrev pub names_unless : WordKind → List Word → Option (Unit {0} × List Word) → Option (List Sym × List Word)
 names_unless k ws None = names_to k ws
@@ -50,11 +50,11 @@ rejoined k n = record { locals = k.locals; level = k.level; count = k.count; beg
 abbrev pub rejoining : Place → Place → Place
 rejoining s n = record { known = rejoined s.known n.known; rest = n.rest }
 
--- a method: its name, its number among the scopes, its parameters, how many variables it has at its end, and its statements
+-- a method: its name, its number among the scopes, its parameters, how many variables it has at its end, and its body
 abbrev pub method_tree : Sym → List Sym → Place → Place → Tree → Tree
 method_tree x xs m n t = method x.0 (defined xs m).known.begun (length xs) n.known.count t
 
 -- the definition of a method, behind the word `def`
 pub data Definition (N : Nested) : Place → Tree → Place → Type 0 where
-  of_method : {s m n o z : Place} {x : Sym} {xs : List Sym} {t : Tree} → at name s ≡ Some (x, m) → at formals m ≡ Some (xs, n) → Statements N (defined xs n) t o → next o ≡ Some (kind.End, z)
+  of_method : {s m n o z : Place} {x : Sym} {xs : List Sym} {t : Tree} → at name s ≡ Some (x, m) → at formals m ≡ Some (xs, n) → Body N (defined xs n) t o → next o ≡ Some (kind.End, z)
       → Definition N s (method_tree x xs n z t) (rejoining s z)

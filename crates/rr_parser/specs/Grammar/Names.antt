@@ -62,6 +62,14 @@ name_of_kind _ = None
 abbrev pub name : Look Sym
 name = first_as (λ w. name_of_kind w.kind)
 
+-- a name that may be a variable: no mark ends it
+abbrev pub variable_of_kind : WordKind → Option Sym
+variable_of_kind (kind.Name x marked) = if marked then None else Some x
+variable_of_kind _ = None
+
+abbrev pub variable : Look Sym
+variable = first_as (λ w. variable_of_kind w.kind)
+
 -- the bracket that stands directly behind a name
 abbrev pub bracket : Look (Unit {0})
 bracket = tight_as (λ k. where_true (is_kind k kind.Open))
@@ -84,6 +92,7 @@ begins_operand (kind.Field x) tight = true
 begins_operand (kind.Global x) tight = true
 begins_operand kind.Itself tight = true
 begins_operand (kind.Passing p) tight = true
+begins_operand kind.Begin tight = true
 begins_operand kind.Open tight = true
 begins_operand kind.OpenSquare tight = true
 begins_operand kind.Bang tight = true

@@ -8,15 +8,15 @@ use Rattle.rr_parser.specs.Grammar.Names.{name}
 use Rattle.rr_parser.specs.Grammar.Definitions.{formals, defined, rejoining, method_tree}
 use Rattle.rr_parser.specs.Reading.Answers.{◌>>=◌, wrong, Answer, Parse, closed}
 use Rattle.rr_parser.specs.Reading.Nesting.{Readers}
-use Rattle.rr_parser.specs.Reading.Sequences.{statements_of}
+use Rattle.rr_parser.specs.Reading.Bodies.{body_of}
 
--- the method that has this name, these parameters and these statements
+-- the method that has this name, these parameters and this body
 abbrev pub left_method : Place → Sym → List Sym → Place → Answer Tree → Answer Tree
 left_method s x xs n r = r >>= λ t. Ok (method_tree x xs n t.1 t.0, rejoining s t.1)
 
 abbrev pub method_or : Readers → Place → Sym → Option (List Sym × Place) → Answer Tree
 method_or N s x None = Err wrong
-method_or N s x (Some n) = left_method s x n.0 n.1 (closed kind.End (statements_of N (defined n.0 n.1)))
+method_or N s x (Some n) = left_method s x n.0 n.1 (closed kind.End (body_of N (defined n.0 n.1)))
 
 abbrev pub definition_or : Readers → Place → Option (Sym × Place) → Answer Tree
 definition_or N s None = Err wrong

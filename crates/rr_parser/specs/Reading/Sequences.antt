@@ -32,6 +32,8 @@ ends_at kind.Close = true
 ends_at kind.CloseBrace = true
 ends_at kind.Elsif = true
 ends_at kind.Else = true
+ends_at kind.Rescue = true
+ends_at kind.Ensure = true
 ends_at kind.End = true
 ends_at _ = false
 

@@ -9,14 +9,17 @@ use Rattle.rr_parser.specs.Reading.Answers.{Parse}
 use Rattle.rr_parser.specs.Reading.Operators.{binary_of, logical_of}
 use Rattle.rr_parser.specs.Reading.Calls.{another, member_of}
 use Rattle.rr_parser.specs.Reading.Sequences.{negation_of, expression_of, statement_of, row}
+use Rattle.rr_parser.specs.Grammar.Bodies.{rescues}
 use Rattle.rr_parser.specs.Reading.Control.{branch_of}
+use Rattle.rr_parser.specs.Reading.Bodies.{clause_of}
 use Rattle.rr_parser.specs.Reading.{readers}
 use Rattle.rr_parser.specs.Meets.{Gives, GivesList, nodes, pairs, lists, place}
 use Rattle.rr_parser.proofs.Looks.{Steps-row, Steps-another}
-use Rattle.rr_parser.proofs.Shrinking.{Steps-operator, Steps-connective, Steps-modifier, Steps-elsif, shrinks_nested}
+use Rattle.rr_parser.proofs.Shrinking.{Steps-operator, Steps-connective, Steps-modifier, Steps-elsif, Steps-rescues, shrinks_nested}
 use Rattle.rr_parser.proofs.Making.{stable_nodes, stable_pairs, goes_ends, goes_fails, goes_smaller, list_on, operators_on, nested_part, nested_bracketed, gives_outside}
 use Rattle.rr_parser.proofs.Choosing.{made_alternatives, made_pair, made_branch, made_loop, made_choice, made_unless}
 use Rattle.rr_parser.proofs.Calling.{gives_sent, gives_headed, made_behind, made_element, made_arrow, trail_fails, trail_smaller, trail_goes, trail_ends}
+use Rattle.rr_parser.proofs.Rescuing.{made_clause, made_rescued, made_ensured}
 use Rattle.rr_parser.proofs.parser.Parser.+parser.Goals as goal
 
 pub members-returns-in_err-next : goal.members-returns-in_err-next
@@ -215,3 +218,34 @@ pub headed-returns : goal.headed-returns
 headed-returns t c =
     gives_headed (readers c.args.inside c.args.depth) c.args.self.now c.arguments.new.self c.put_headed.new.self c.blocked.new.self _ c.args.head c.in_ok-items.items.items c.deref.result.now _ _ c.blocked.result c.deref.ensures.value c.in_ok-items.ensures
     c.in_ok-command.ensures c.blocked.ensures
+
+pub clauses-returns-in_err-next : goal.clauses-returns-in_err-next
+clauses-returns-in_err-next t c =
+    let p = err_from_is_err_and c.from_residual-in_err-next.result c.from_residual-in_err-next.ensures.1 in
+    rw (p.1, p.2) (goes_fails (lists nodes) nodes rescues and_one (clause_of (readers c.args.inside c.args.depth)) Steps-rescues ((shrinks_nested c.args.inside c.args.depth).clause) _ _ _ _ _ _ _ _ c.loop-after.invariant c.in-Some.ensures c.in_err-next.ensures)
+
+pub clauses-loop-after-smaller : goal.clauses-loop-after-smaller
+clauses-loop-after-smaller t c =
+    goes_smaller (lists nodes) nodes rescues and_one (clause_of (readers c.args.inside c.args.depth)) Steps-rescues ((shrinks_nested c.args.inside c.args.depth).clause) _ _ _ _ _ _ _ c.in-Some.ensures c.in_ok-next.ensures
+
+pub clauses-loop-after-preserved : goal.clauses-loop-after-preserved
+clauses-loop-after-preserved t c =
+    list_on nodes stable_nodes rescues (clause_of (readers c.args.inside c.args.depth)) Steps-rescues ((shrinks_nested c.args.inside c.args.depth).clause) _ _ _ _ _ _ _ _ _ _ _ c.loop-after.invariant c.in-Some.ensures c.in_ok-next.ensures c.in_ok-push-2.ensures.items
+
+pub clauses-returns : goal.clauses-returns
+clauses-returns t c =
+    goes_ends (lists nodes) nodes rescues and_one (clause_of (readers c.args.inside c.args.depth)) Steps-rescues ((shrinks_nested c.args.inside c.args.depth).clause) _ _ _ _ _ c.loop-after.invariant c.in_default.ensures
+
+pub clause-returns : goal.clause-returns
+clause-returns t c =
+    made_clause (readers c.args.inside c.args.depth) c.args.self.now c.classes.new.self c.in_ok-classes.classes.items _ _ _ _ c.in_ok-classes.ensures c.in_ok-name.ensures c.catch.new.self _ c.in_ok-target.ensures c.statements.new.self c.put_clause.new.self
+    c.deref.result.now _ _ _ c.deref.ensures.value c.in_ok-body.ensures c.in_ok-put_clause.ensures
+
+pub rescued-returns : goal.rescued-returns
+rescued-returns t c =
+    made_rescued (readers c.args.inside c.args.depth) c.args.self.now c.statements.new.self _ _ _ c.in_ok-body.ensures _ c.in-Some.ensures c.clauses.new.self c.in_ok-clauses.clauses.items _ c.in_ok-clauses.ensures c.otherwise.new.self c.put_rescue.new.self
+    c.deref.result.now _ _ _ c.deref.ensures.value c.in_ok-otherwise.ensures c.in_ok-put_rescue.ensures
+
+pub body-returns : goal.body-returns
+body-returns t c =
+    made_ensured (readers c.args.inside c.args.depth) c.args.self.now c.rescued.new.self _ _ _ c.in_ok-body.ensures _ c.in-Some.ensures c.statements.new.self c.put.new.self _ _ _ c.in_ok-last.ensures c.in_ok-put.ensures.puts

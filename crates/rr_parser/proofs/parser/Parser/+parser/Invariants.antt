@@ -10,7 +10,9 @@ use Rattle.rr_parser.specs.Reading.Operators.{binary_on, binary_of, logical_on, 
 use Rattle.rr_parser.specs.Reading.Operands.{tailed_of, postfix_of}
 use Rattle.rr_parser.specs.Reading.Calls.{another, member_of, members_of}
 use Rattle.rr_parser.specs.Reading.Sequences.{negation_of, expression_of, statement_of, rows_of, row}
+use Rattle.rr_parser.specs.Grammar.Bodies.{rescues}
 use Rattle.rr_parser.specs.Reading.Control.{branch_of, branches_of}
+use Rattle.rr_parser.specs.Reading.Bodies.{clause_of, clauses_of}
 use Rattle.rr_parser.specs.Reading.{readers}
 use Rattle.rr_parser.specs.Meets.{place, nodes, pairs, lists}
 use Rattle.rr_parser.proofs.Making.{Goes}
@@ -98,7 +100,7 @@ abbrev pub decreases-unless : goal.decreases-unless
 decreases-unless l = 128 * l.depth + cond l.inside 0 64 + 45
 
 abbrev pub decreases-part_within : goal.decreases-part_within
-decreases-part_within l = 128 * l.depth + cond l.inside 0 64 + 47
+decreases-part_within l = 128 * l.depth + cond l.inside 0 64 + 50
 
 abbrev pub decreases-binary_on : goal.decreases-binary_on
 decreases-binary_on l = 128 * l.depth + cond l.inside 0 64 + (2 * l.level + 8)
@@ -128,7 +130,7 @@ abbrev pub decreases-condition : goal.decreases-condition
 decreases-condition l = 128 * l.depth + cond l.inside 0 64 + 40
 
 abbrev pub decreases-form : goal.decreases-form
-decreases-form l = 128 * l.depth + cond l.inside 0 64 + 46
+decreases-form l = 128 * l.depth + cond l.inside 0 64 + 49
 
 abbrev pub decreases-call_arguments : goal.decreases-call_arguments
 decreases-call_arguments l = 128 * l.depth + cond l.inside 0 64 + 32
@@ -237,7 +239,7 @@ abbrev pub decreases-blocked : goal.decreases-blocked
 decreases-blocked l = 128 * l.depth + cond l.inside 0 64 + 2
 
 abbrev pub decreases-block : goal.decreases-block
-decreases-block l = 128 * l.depth + cond l.inside 0 64 + 43
+decreases-block l = 128 * l.depth + cond l.inside 0 64 + 48
 
 abbrev pub decreases-looped : goal.decreases-looped
 decreases-looped l = 128 * l.depth + cond l.inside 0 64 + 44
@@ -246,4 +248,30 @@ abbrev pub decreases-passing : goal.decreases-passing
 decreases-passing l = 128 * l.depth + cond l.inside 0 64 + 3
 
 abbrev pub decreases-definition : goal.decreases-definition
-decreases-definition l = 128 * l.depth + cond l.inside 0 64 + 43
+decreases-definition l = 128 * l.depth + cond l.inside 0 64 + 48
+
+abbrev pub decreases-clause : goal.decreases-clause
+decreases-clause l = 128 * l.depth + cond l.inside 0 64 + 43
+
+abbrev pub decreases-clauses : goal.decreases-clauses
+decreases-clauses l = 128 * l.depth + cond l.inside 0 64 + 44
+
+abbrev pub decreases-rescued : goal.decreases-rescued
+decreases-rescued l = 128 * l.depth + cond l.inside 0 64 + 45
+
+abbrev pub decreases-body : goal.decreases-body
+decreases-body l = 128 * l.depth + cond l.inside 0 64 + 46
+
+abbrev pub decreases-begun : goal.decreases-begun
+decreases-begun l = 128 * l.depth + cond l.inside 0 64 + 47
+
+abbrev pub decreases-held : goal.decreases-held
+decreases-held l = 128 * l.depth + cond l.inside 0 64 + 47
+
+abbrev pub invariant-clauses-loop-after : goal.invariant-clauses-loop-after
+invariant-clauses-loop-after l =
+    Goes (lists nodes) l.fn.self l.self l.clauses.items (clauses_of (readers l.inside l.depth) (place l.fn.self l.fn.words))
+    (chain_on rescues and_one (clause_of (readers l.inside l.depth)) (map (tree_at l.self.nodes.items) l.clauses.items) (place l.self l.rest))
+
+abbrev pub decreases-clauses-loop-after : goal.decreases-clauses-loop-after
+decreases-clauses-loop-after l = length l.rest
