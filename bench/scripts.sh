@@ -15,4 +15,6 @@ script("blanks", "# " + "x" * 78 + "\n" + ("#" + " a comment of eighty bytes" * 
 script("pushes", "a = []\ni = 0\nwhile i < 1000000\n  a << i\n  i = i + 1\nend\ns = 0\ni = 0\nwhile i < 1000000\n  s = s + a[i]\n  i = i + 1\nend\nputs s\n")
 script("sort", "a = []\nx = 12345\nwhile a.size < 200000\n  x = (x * 1103515245 + 12345) % 2147483648\n  a << x\nend\nputs a.sort[0]\n")
 script("inspect", "a = []\ni = 0\nwhile i < 100000\n  a << i\n  i = i + 1\nend\nputs a.inspect.size\n")
+script("fib", "def fib(n)\n  return n if n < 2\n  fib(n - 1) + fib(n - 2)\nend\nputs fib(27)\n")
+script("four", "def f(a, b, c, d)\n  a + b + c + d\nend\ni = 0\ns = 0\nwhile i < 1000000\n  s = f(i, 1, 2, s) - s\n  i = i + 1\nend\nputs s\n")
 PY
