@@ -1,13 +1,11 @@
 -- New arrays, and arrays that a value is put into.
-use Rattle.std.proofs.Common.{◌≡◌, ◌∙◌, ◌≤◌, ◌<◌, ◌+◌, ◌-◌, ◌⊎◌, ⊎_elim, inl, inr, ℕ, zero, suc, Bool, true, false, nat_lt, if◌then◌else◌, List, [], ◌∷◌, ◌++◌, length, length-append, map, take, get_or, Contains, Some, slice_get, slice_set, refl, sym, ap, subst, arith}
+use Rattle.std.proofs.Common.{◌≡◌, ◌∙◌, ◌≤◌, ◌<◌, ◌+◌, ◌-◌, ◌⊎◌, ⊎_elim, inl, inr, ℕ, zero, suc, Bool, true, false, nat_lt, if◌then◌else◌, List, [], ◌∷◌, ◌++◌, length, length-append, map, Contains, Some, slice_get, slice_set, refl, sym, ap, subst, arith}
 use Rattle.std.specs.List.{All}
-use Rattle.std.proofs.Math.Seq.{take-suc}
 use Rattle.std.proofs.lemmas.Bool.{lt-ltb, ltb-true}
-use Rattle.std.proofs.lemmas.List.{take_all}
 use Rattle.std.proofs.lemmas.List.Elements.{Contains-append_left, Contains-append_right, Contains-append_cases}
-use Rattle.std.proofs.lemmas.Option.{none-some, same_Some, slice_get-get_or}
+use Rattle.std.proofs.lemmas.Option.{none-some, same_Some}
 use Rattle.rr_base.specs.declared.name.TheConstants.ClassId.{ARRAY}
-use Rattle.rr_space.specs.Graph.{Value, Plain, Nil, At, Own, Place, Object, array}
+use Rattle.rr_space.specs.Graph.{Value, At, Own, Place, Object, array}
 use Rattle.rr_space.specs.Tables.{Table, Here, Below, joined, IsRestKept}
 use Rattle.rr_space.specs.Parts.{value_of, places_from, below_ref, below_parts, IsWithin}
 use Rattle.rr_space.specs.Views.{AllWithin, placed_from, object_of, below_node, node_keys}
@@ -19,12 +17,12 @@ use Rattle.rr_space.specs.declared.refer.Ref.TheVariants.{Local}
 use Rattle.rr_space.proofs.Removing.{values_placed}
 use Rattle.rr_space.proofs.Sounds.{joined_back}
 use Rattle.rr_text.specs.Reads.{IsReadWith}
-use Rattle.rr_text.specs.Comparing.{value_or_none}
+use Rattle.rr_text.specs.Comparing.{values_in}
 use Rattle.rr_builtin.specs.declared.built.Built.TheVariants as built
 use Rattle.rr_builtin.proofs.Among.{among_of, none_in}
-use Rattle.rr_builtin.proofs.Performing.{placed_value}
-use Rattle.rr_builtin.specs.Acts.{Gives, with_array, with_object, with_put, nils, element_at, IsRefAmong, IsDone}
-use Rattle.rr_builtin.specs.Elements.{listed}
+use Rattle.rr_builtin.proofs.Performing.{placed_values}
+use Rattle.rr_builtin.specs.Acts.{Gives, with_array, with_object, with_put, nils, IsRefAmong, IsDone}
+use Rattle.rr_builtin.specs.Elements.{elements_of}
 
 pub all_places : (k j : ℕ) (rs : List Ref) → All (IsWithin k) rs → AllWithin k (places_from j rs)
 all_places k j [] all = tt
@@ -115,25 +113,14 @@ placed_append j [] ws = ap (λ n. placed_from n ws) (let z : j ≡ j + 0 = omega
 placed_append j (v ∷ vs) ws =
     ap (λ ts. (Place j, v) ∷ ts) (placed_append (j + 1) vs ws ∙ ap (λ n. placed_from (j + 1) vs ++ placed_from n ws) (let z : (j + 1) + length vs ≡ j + suc (length vs) = omega arith in z))
 
--- the elements of what is placed
-listed_take : (t : Table) (v : Ref) (vs : List Value) → triples_at t v ≡ placed_from 0 vs → (n : ℕ) → n ≤ length vs → listed t v n ≡ take n vs
-listed_take t v vs e zero le = refl
-listed_take t v vs e (suc n) le =
-    let x = get_or vs n (Plain Nil) in
-    let at : slice_get vs n ≡ Some x = slice_get-get_or vs n (Plain Nil) (omega (arith, le)) in
-    let one : element_at t v n ≡ x = ap (λ ts. value_or_none (slice_get ts n)) e ∙ placed_value 0 vs n x at in
-    ap (λ ws. ws ++ element_at t v n ∷ []) (listed_take t v vs e n (omega (arith, le))) ∙ ap (λ y. take n vs ++ y ∷ []) one ∙ sym (take-suc vs n (Plain Nil) (omega (arith, le)))
-
 -- a value far behind the elements
 pub put_refilled : (t : Table) (v : Ref) (o : Object) (vs zs : List Value) (k : ℕ) (x : Value) → triples_at t v ≡ o.triples → o.triples ≡ placed_from 0 vs → length (triples_at t v) ≤ k
-    → zs ≡ listed t v (length (triples_at t v)) ++ (nils (k - length (triples_at t v)) ++ x ∷ []) → record o { triples = placed_from 0 zs } ≡ with_put k x o
+    → zs ≡ elements_of t v ++ (nils (k - length (triples_at t v)) ++ x ∷ []) → record o { triples = placed_from 0 zs } ≡ with_put k x o
 put_refilled t v o vs zs k x here placed le is =
     let n = length o.triples in
     let size : n ≡ length vs = ap length placed ∙ placed_length 0 vs in
     let count : length (triples_at t v) ≡ n = ap length here in
-    let old : listed t v (length (triples_at t v)) ≡ vs =
-    listed_take t v vs (here ∙ placed) (length (triples_at t v)) (omega (arith, size, count)) ∙ take_all (length (triples_at t v)) vs (omega (arith, size, count))
-    in
+    let old : elements_of t v ≡ vs = ap values_in (here ∙ placed) ∙ placed_values 0 vs in
     ap (λ ws. record o { triples = placed_from 0 ws }) (is ∙ ap (λ ws. ws ++ (nils (k - length (triples_at t v)) ++ x ∷ [])) old ∙ ap (λ m. vs ++ (nils (k - m) ++ x ∷ [])) count)
     ∙ ap (λ ts. record o { triples = ts }) (placed_append 0 vs (nils (k - n) ++ x ∷ []) ∙ ap (λ ts. ts ++ placed_from (0 + length vs) (nils (k - n) ++ x ∷ [])) (sym placed)
     ∙ ap (λ m. o.triples ++ placed_from m (nils (k - n) ++ x ∷ [])) (let z : 0 + length vs ≡ n = omega (arith, size) in z))

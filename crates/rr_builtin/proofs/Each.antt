@@ -1,11 +1,12 @@
 -- Elements that are gathered as what each of them is.
-use Rattle.std.proofs.Common.{◌≡◌, ◌∙◌, ◌+◌, ◌-◌, ◌<◌, ℕ, suc, List, [], ◌∷◌, ◌++◌, Option, Some, None, Result, Ok, Err, refl, ap, arith}
+use Rattle.std.proofs.Common.{◌≡◌, ◌∙◌, ◌<◌, ℕ, suc, List, [], ◌∷◌, ◌++◌, drop, length, Option, Some, None, Result, Ok, Err, refl, sym, ap, arith}
 use Rattle.rr_space.specs.Graph.{Value}
 use Rattle.rr_space.specs.Tables.{Table}
+use Rattle.rr_space.specs.Labels.{triples_at}
 use Rattle.rr_space.specs.declared.refer.Ref.{Ref}
 use Rattle.rr_builtin.specs.Acts.{element_at}
-use Rattle.rr_builtin.specs.Elements.{listed, first_as, each_as}
-use Rattle.rr_builtin.proofs.Gathering.{listed_from}
+use Rattle.rr_builtin.specs.Elements.{elements_of, first_as, each_as}
+use Rattle.rr_builtin.proofs.Listing.{listed, listed_front}
 
 module _ {A : Type 0} (f : Value → Option A) where
   first_ok : (x : Value) (o : Option A) (y : A) (ys : List A) (r : Result (List A) Value) → o ≡ Some y → r ≡ Ok ys → first_as x o r ≡ Ok (y ∷ ys)
@@ -40,9 +41,7 @@ module _ {A : Type 0} (f : Value → Option A) where
       first_err v (f v) p.first x (each_as f ((xs ++ x ∷ []) ++ rest)) p.here (each_stops xs x rest p.rest p.others i)
 
   -- the first element that is none
-  pub each_other : (t : Table) (v : Ref) (k n : ℕ) (ys : List A) → k < n → each_as f (listed t v k) ≡ Ok ys → f (element_at t v k) ≡ None → each_as f (listed t v n) ≡ Err (element_at t v k)
-  each_other t v k n ys lt e i =
-      let m = n - suc k in
-      let h = listed_from t v (suc k) m in
-      ap (λ xs. each_as f xs) (ap (listed t v) (let z : n ≡ suc k + m = omega (arith, lt) in z) ∙ h.1)
-      ∙ each_stops (listed t v k) (element_at t v k) h.0 ys e i
+  pub each_other : (t : Table) (v : Ref) (k : ℕ) (ys : List A) → k < length (triples_at t v) → each_as f (listed t v k) ≡ Ok ys → f (element_at t v k) ≡ None → each_as f (elements_of t v) ≡ Err (element_at t v k)
+  each_other t v k ys lt e i =
+      ap (λ xs. each_as f xs) (sym (listed_front t v (suc k) (omega (arith, lt))))
+      ∙ each_stops (listed t v k) (element_at t v k) (drop (suc k) (elements_of t v)) ys e i

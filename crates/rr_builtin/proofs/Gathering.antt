@@ -1,5 +1,5 @@
 -- Lists of references that are gathered one by one.
-use Rattle.std.proofs.Common.{◌≡◌, ◌∙◌, ◌+◌, arith, ℕ, zero, suc, List, [], ◌∷◌, ◌++◌, length, map, refl, sym, ap, subst}
+use Rattle.std.proofs.Common.{◌≡◌, ◌∙◌, ℕ, zero, suc, List, [], ◌∷◌, ◌++◌, length, map, refl, sym, ap, subst}
 use Rattle.std.specs.List.{All}
 use Rattle.std.proofs.lemmas.List.Elements.{All-nil, All-push}
 use Rattle.rr_space.specs.Graph.{Value, Plain, Nil}
@@ -9,8 +9,7 @@ use Rattle.rr_space.specs.declared.refer.Ref.{Ref}
 use Rattle.rr_space.specs.declared.refer.Ref.TheVariants as ref
 use Rattle.rr_space.proofs.Writing.{map_push}
 use Rattle.rr_text.specs.Reads.{IsReadWith}
-use Rattle.rr_builtin.specs.Acts.{IsRefAmong, nils, element_at}
-use Rattle.rr_builtin.specs.Elements.{listed}
+use Rattle.rr_builtin.specs.Acts.{IsRefAmong, nils}
 
 -- the references are these values, lie within the table, and lead to what it or the value leads to
 pub record IsGathered (t : Table) (v : Ref) (items : List Ref) (values : List Value) : Type 0 where
@@ -56,11 +55,3 @@ padded_more old items new n p is = subst (λ (rs : List Ref). IsPadded old rs (s
   within = λ k all. All-push (IsWithin k) items ref.Nil (p.within k all) tt;
   among = λ below all. All-push (IsRefAmong below) items ref.Nil (p.among below all) tt;
 })
-
--- the first elements, and those behind them
-pub listed_from : (t : Table) (v : Ref) (k m : ℕ) → (rest : List Value) × (listed t v (k + m) ≡ listed t v k ++ rest)
-listed_from t v k zero = ([], ap (listed t v) (let z : k + 0 ≡ k = omega arith in z) ∙ append_nil (listed t v k))
-listed_from t v k (suc m) =
-    let h = listed_from t v k m in
-    let x = element_at t v (k + m) in
-    (h.0 ++ x ∷ [], ap (listed t v) (let z : k + suc m ≡ suc (k + m) = omega arith in z) ∙ ap (λ xs. xs ++ x ∷ []) h.1 ∙ append_three (listed t v k) h.0 (x ∷ []))

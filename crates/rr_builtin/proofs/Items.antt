@@ -14,7 +14,7 @@ use Rattle.rr_space.proofs.Writing.{map_push}
 use Rattle.rr_text.specs.Reads.{IsReadWith, IsAmong}
 use Rattle.rr_builtin.specs.declared.sorts.TextItem.{TextItem}
 use Rattle.rr_builtin.specs.Acts.{Act, MakesArray, IsRefAmong, element_at}
-use Rattle.rr_builtin.specs.Elements.{count_at, elements_of, listed, each_as}
+use Rattle.rr_builtin.specs.Elements.{count_at, elements_of, each_as}
 use Rattle.rr_builtin.specs.Kinds.{is_integer_kind}
 use Rattle.rr_builtin.specs.Sums.{integer_of}
 use Rattle.rr_builtin.specs.Objects.{is_text_kind}
@@ -22,6 +22,7 @@ use Rattle.rr_builtin.specs.ValueClasses.{kind_of_value, bytes_of_value}
 use Rattle.rr_builtin.specs.Sorts.{is_less, is_text_before, integer_value, text_of, text_value, item_of, incomparable, in_order, sorted_like, sort_act}
 use Rattle.rr_builtin.proofs.Classing.{kind_is, bytes_are}
 use Rattle.rr_builtin.proofs.Each.{each_more}
+use Rattle.rr_builtin.proofs.Listing.{listed}
 
 pub numbers_are : (zs : List ℤ) → map value_of (map (λ z. Int z) zs) ≡ map integer_value zs
 numbers_are [] = refl

@@ -6,6 +6,7 @@ pub mod Among
 pub mod Performing
 pub mod Ancestors
 pub mod Gathering
+pub mod Listing
 pub mod Arraying
 pub mod Keyed
 pub mod Storing

@@ -139,7 +139,7 @@ placed_value j [] k x e = absurd (none-some x e)
 placed_value j (v ∷ vs) zero x e = same_Some v x e
 placed_value j (v ∷ vs) (suc k) x e = placed_value (j + 1) vs k x e
 
-placed_values : (j : ℕ) (vs : List Value) → map part_value (placed_from j vs) ≡ vs
+pub placed_values : (j : ℕ) (vs : List Value) → map part_value (placed_from j vs) ≡ vs
 placed_values j [] = refl
 placed_values j (v ∷ vs) = ap (λ (ws : List Value). v ∷ ws) (placed_values (j + 1) vs)
 

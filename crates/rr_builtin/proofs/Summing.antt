@@ -1,13 +1,14 @@
 -- Sums of integers that are added one by one.
-use Rattle.std.proofs.Common.{◌≡◌, ◌∙◌, ◌+◌, ◌-◌, ◌<◌, ℕ, suc, ℤ, pos, ◌+ℤ◌, List, [], ◌∷◌, ◌++◌, Option, Some, None, Result, Ok, Err, refl, ap, arith}
+use Rattle.std.proofs.Common.{◌≡◌, ◌∙◌, ◌<◌, ℕ, suc, ℤ, pos, ◌+ℤ◌, List, [], ◌∷◌, ◌++◌, drop, length, Option, Some, None, Result, Ok, Err, refl, sym, ap, arith}
 use Rattle.std.proofs.lemmas.Int.{ints}
 use Rattle.rr_space.specs.Graph.{Value}
 use Rattle.rr_space.specs.Tables.{Table}
+use Rattle.rr_space.specs.Labels.{triples_at}
 use Rattle.rr_space.specs.declared.refer.Ref.{Ref}
 use Rattle.rr_builtin.specs.Acts.{element_at}
-use Rattle.rr_builtin.specs.Elements.{listed, first_as}
+use Rattle.rr_builtin.specs.Elements.{elements_of, first_as}
 use Rattle.rr_builtin.specs.Sums.{integer_of, integers_of, total, totalled}
-use Rattle.rr_builtin.proofs.Gathering.{listed_from}
+use Rattle.rr_builtin.proofs.Listing.{listed, listed_front}
 
 -- an integer before others that have a sum
 first_sum : (x : Value) (o : Option ℤ) (z w : ℤ) (r : Result (List ℤ) Value) → o ≡ Some z → totalled r ≡ Ok w → totalled (first_as x o r) ≡ Ok (z +ℤ w)
@@ -51,9 +52,7 @@ sum_stops (y ∷ xs) x rest w e i =
     first_other y (integer_of y) p.first x (integers_of ((xs ++ x ∷ []) ++ rest)) p.integer (sum_stops xs x rest p.rest p.sum i)
 
 -- the first element that is no integer
-pub sum_other : (t : Table) (v : Ref) (k n : ℕ) (w : ℤ) → k < n → totalled (integers_of (listed t v k)) ≡ Ok w → integer_of (element_at t v k) ≡ None → totalled (integers_of (listed t v n)) ≡ Err (element_at t v k)
-sum_other t v k n w lt e i =
-    let m = n - suc k in
-    let h = listed_from t v (suc k) m in
-    ap (λ xs. totalled (integers_of xs)) (ap (listed t v) (let z : n ≡ suc k + m = omega (arith, lt) in z) ∙ h.1)
-    ∙ sum_stops (listed t v k) (element_at t v k) h.0 w e i
+pub sum_other : (t : Table) (v : Ref) (k : ℕ) (w : ℤ) → k < length (triples_at t v) → totalled (integers_of (listed t v k)) ≡ Ok w → integer_of (element_at t v k) ≡ None → totalled (integers_of (elements_of t v)) ≡ Err (element_at t v k)
+sum_other t v k w lt e i =
+    ap (λ xs. totalled (integers_of xs)) (sym (listed_front t v (suc k) (omega (arith, lt))))
+    ∙ sum_stops (listed t v k) (element_at t v k) (drop (suc k) (elements_of t v)) w e i

@@ -5,12 +5,14 @@ ghost use Rattle.std.specs.List.{All};
 ghost use Rattle.rr_space.specs.Tables.{Below};
 ghost use Rattle.rr_space.specs.Parts.{IsWithin, value_of};
 ghost use Rattle.rr_space.specs.Kinds.{kind_at};
+ghost use Rattle.rr_space.specs.Labels.{triples_at};
 ghost use Rattle.rr_space.specs.Views.{can_write_at};
+ghost use Rattle.rr_text.specs.Keys.{pairs_in};
 ghost use Rattle.rr_text.specs.Reads.{IsReadWith};
 ghost use Rattle.rr_builtin.specs.Acts.{IsRefAmong, Puts, element_at, nils};
 ghost use Rattle.rr_builtin.specs.Deeds.{act_of, IsFit, IsDeedAmong};
 ghost use Rattle.rr_builtin.specs.Contents.{unless_frozen};
-ghost use Rattle.rr_builtin.specs.Elements.{elements_of, halves, names_of_hash, values_of_hash};
+ghost use Rattle.rr_builtin.specs.Elements.{elements_of, half_of, names_of_hash, values_of_hash};
 ghost use Rattle.rr_builtin.specs.Arrays.{array_sum, array_put};
 
 use crate::contents::place_of;
@@ -53,19 +55,19 @@ pub(crate) fn elements(
     Ok(items)
 }
 
-/// The key objects of a hash, or with 1 as `offset` its values: the first `count` of them.
+/// The key objects of a hash, or with 1 as `offset` its values.
 fn every_other(
     alloc: Global,
     space: &Space,
     hash: Ref,
     offset: usize,
-    count: usize,
 ) -> Result<Vec<Ref>, AllocError>
-    requires { 2 * count + offset < 2 ^ 64 }
-    ensures items { IfOk result (λ items. map value_of items.items ≡ halves space.now hash offset count) }
+    requires { offset < 2 }
+    ensures items { IfOk result (λ items. map value_of items.items ≡ map (half_of offset) (pairs_in (triples_at space.now hash))) }
     ensures within { IfOk result (λ items. All (IsWithin (length space.now.slots)) items.items) }
     ensures among { IfOk result (λ items. (below : Below) → IsReadWith space.now below → IsRefAmong below hash → All (IsRefAmong below) items.items) }
 {
+    let count = space.arity(hash) / 2;
     let mut items = Vec::with_capacity(alloc, count)?;
     for pair in 0..count {
         items.push(element(space, hash, 2 * pair + offset))?;
@@ -79,7 +81,7 @@ pub(crate) fn names(alloc: Global, space: &Space, hash: Ref) -> Result<Vec<Ref>,
     ensures within { IfOk result (λ items. All (IsWithin (length space.now.slots)) items.items) }
     ensures among { IfOk result (λ items. (below : Below) → IsReadWith space.now below → IsRefAmong below hash → All (IsRefAmong below) items.items) }
 {
-    every_other(alloc, space, hash, 0, space.arity(hash) / 2)
+    every_other(alloc, space, hash, 0)
 }
 
 /// The values of a hash.
@@ -88,7 +90,7 @@ pub(crate) fn values(alloc: Global, space: &Space, hash: Ref) -> Result<Vec<Ref>
     ensures within { IfOk result (λ items. All (IsWithin (length space.now.slots)) items.items) }
     ensures among { IfOk result (λ items. (below : Below) → IsReadWith space.now below → IsRefAmong below hash → All (IsRefAmong below) items.items) }
 {
-    every_other(alloc, space, hash, 1, space.arity(hash) / 2)
+    every_other(alloc, space, hash, 1)
 }
 
 /// `+` of arrays.

@@ -1,4 +1,4 @@
-use Rattle.rr_builtin.specs.Elements.{listed}
+use Rattle.rr_builtin.proofs.Listing.{listed}
 use Rattle.rr_builtin.proofs.Gathering.{IsGathered}
 use Rattle.rr_builtin.proofs.arrays.elements.Given as goal
 

@@ -1,4 +1,4 @@
-use Rattle.rr_builtin.specs.Elements.{halves}
+use Rattle.rr_builtin.proofs.Listing.{halves}
 use Rattle.rr_builtin.proofs.Gathering.{IsGathered}
 use Rattle.rr_builtin.proofs.arrays.every_other.Given as goal
 

@@ -1,5 +1,5 @@
 use Rattle.std.proofs.Common.{◌≡◌, Ok}
-use Rattle.rr_builtin.specs.Elements.{listed}
+use Rattle.rr_builtin.proofs.Listing.{listed}
 use Rattle.rr_builtin.specs.Sums.{IsSumOfSoMany, integers_of, totalled}
 use Rattle.rr_builtin.proofs.sums.total.Given as goal
 
