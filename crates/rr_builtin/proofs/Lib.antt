@@ -13,6 +13,7 @@ pub mod Storing
 pub mod Classing
 pub mod Summing
 pub mod NoFields
+pub mod Copying
 pub mod Each
 pub mod Sorting
 pub mod Items

@@ -114,8 +114,6 @@ is_exception _ = false
 
 abbrev pub is_copied : Kind → Bool
 is_copied kind.Hash = false
-is_copied kind.Object = false
-is_copied kind.Exception = false
 is_copied _ = true
 
 abbrev pub has_telling : Kind → TellingMethod → Bool
@@ -124,7 +122,7 @@ has_telling k telling.Message = is_exception k
 has_telling k telling.Cause = is_exception k
 has_telling k telling.Ractor = is_exception k
 
--- all have but `dup`, which hashes and objects with fields have not
+-- all have but `dup`, which hashes have not
 abbrev pub has_object : Kind → ObjectMethod → Bool
 has_object k Dup = is_copied k
 has_object k _ = true

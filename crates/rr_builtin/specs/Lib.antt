@@ -20,3 +20,4 @@ pub mod Hashes
 pub mod News
 pub mod Containers
 pub mod Calls
+pub mod Copies

@@ -1,5 +1,5 @@
 -- The methods of all values but shells.
-use Rattle.std.specs.Prelude.{ℕ, Bool, true, false, not, ◌&&◌, List, if◌then◌else◌}
+use Rattle.std.specs.Prelude.{ℕ, Bool, true, false, not, ◌&&◌, List, [], if◌then◌else◌}
 use Rattle.std.specs.Str.{bytes_eq}
 use Rattle.rr_base.specs.declared.limits.TheConstants.Limits.{DEFAULT}
 use Rattle.rr_space.specs.Graph.{Truth, ClassNo, Plain}
@@ -21,8 +21,9 @@ use Rattle.rr_text.specs.Names.{names_of}
 use Rattle.rr_text.specs.Same.{same_value}
 pub use Rattle.rr_builtin.specs.Kinds.{is_text_kind}
 use Rattle.rr_builtin.specs.Classes.{descends}
-use Rattle.rr_builtin.specs.Acts.{Act, Answers, Makes, MakesArray, Freezes, Gives, Raises}
+use Rattle.rr_builtin.specs.Acts.{Act, Answers, Makes, MakesArray, MakesObject, Freezes, Gives, Raises}
 use Rattle.rr_builtin.specs.Elements.{elements_of}
+use Rattle.rr_builtin.specs.Copies.{plain_copy, exception_copy}
 
 -- one immediate or one object of the table, forwards followed
 unfoldable pub identical : Table → Ref → Ref → Bool
@@ -67,10 +68,12 @@ abbrev pub kind_of_act : Program → Ref → Ref → Table → Act
 kind_of_act p v (ref.Class c) t = truth (descends p (class_at t v).0 c.0)
 kind_of_act p v a t = Answers (Raises (WrongType (class_at t a)))
 
--- a text and an array anew, not frozen, and any other value itself
+-- a text, an array, an object and an exception anew, not frozen, and any other value itself
 abbrev pub copy_act : Kind → Ref → Table → Act
 copy_act kind.Text v t = Makes (text_at t v)
 copy_act kind.Array v t = MakesArray (elements_of t v)
+copy_act kind.Object v t = MakesObject (plain_copy t v) []
+copy_act kind.Exception v t = MakesObject (exception_copy t v) []
 copy_act _ v t = Answers (Gives (value_of v))
 
 -- a method of all values, with its argument

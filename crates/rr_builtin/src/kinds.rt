@@ -186,8 +186,6 @@ fn is_copied(kind: Kind) -> bool
 {
     match kind {
         Kind::Hash => false,
-        Kind::Object => false,
-        Kind::Exception => false,
         _ => true,
     }
 }

@@ -7,6 +7,7 @@ mod calls;
 mod characters;
 mod classes;
 mod contents;
+mod copies;
 mod deed;
 mod dividing;
 mod hashes;

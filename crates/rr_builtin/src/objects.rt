@@ -14,6 +14,7 @@ ghost use Rattle.rr_builtin.specs.Objects.{identical, is_truthy, is_nil, answers
 use crate::arrays::elements;
 use crate::built::Built;
 use crate::classes::descends;
+use crate::copies::{exception_copy, plain_copy};
 use crate::deed::Deed;
 use crate::kinds::is_text_kind;
 use crate::method::ObjectMethod;
@@ -127,7 +128,7 @@ fn kind_of_deed(space: &Space, program: &Program, value: Ref, class: Ref) -> Dee
     }
 }
 
-/// `dup`: a text or an array anew, and any other value itself.
+/// `dup`: a text, an array, an object or an exception anew, and any other value itself.
 fn copy_deed(alloc: Global, space: &Space, value: Ref) -> Result<Deed, Fault>
     requires { IsWithin (length space.now.slots) value }
     ensures act { IfOk result (λ deed. act_of deed ≡ copy_act (kind_at space.now value) value space.now) }
@@ -138,6 +139,8 @@ fn copy_deed(alloc: Global, space: &Space, value: Ref) -> Result<Deed, Fault>
     match space.kind_of(value) {
         Kind::Text => Ok(Deed::Make(space.text_bytes(value).to_vec(alloc)?)),
         Kind::Array => Ok(Deed::MakeArray(elements(alloc, space, value, 0)?)),
+        Kind::Object => Ok(Deed::MakeNode(plain_copy(alloc, space, value)?)),
+        Kind::Exception => Ok(Deed::MakeNode(exception_copy(alloc, space, value)?)),
         _ => Ok(Deed::Answer(Built::Value(value))),
     }
 }
