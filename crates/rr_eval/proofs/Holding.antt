@@ -20,7 +20,7 @@ use Rattle.rr_eval.specs.declared.problem.Response.TheVariants.{Gives, Throws, F
 use Rattle.rr_eval.specs.declared.frame.Frame.{Frame}
 use Rattle.rr_eval.specs.declared.frame.Frame.TheVariants as frames
 use Rattle.rr_eval.specs.declared.frame.Control.{Control}
-use Rattle.rr_eval.specs.declared.frame.Control.TheVariants.{Enter, Give, Throw, Raise}
+use Rattle.rr_eval.specs.declared.frame.Control.TheVariants.{Enter, Operate, Give, Throw, Raise}
 use Rattle.rr_eval.specs.View.{View}
 use Rattle.rr_eval.specs.Frames.{below_of}
 use Rattle.rr_frames.specs.declared.activation.Activation.{Activation}
@@ -55,6 +55,7 @@ frame_more k l cs le (frames.Argument target end count base) h = tt
 
 control_more : (k l : ℕ) (cs : Option Below) → k ≤ l → (c : Control) → IsControlReached (reach k cs) c → IsControlReached (reach l cs) c
 control_more k l cs le (Enter part) h = tt
+control_more k l cs le (Operate op a b) h = tt
 control_more k l cs le (Give (Gave v)) h = ref_more k l cs le v h
 control_more k l cs le (Give (Raised e)) h = ref_more k l cs le e h
 control_more k l cs le (Give (Returned v)) h = ref_more k l cs le v h

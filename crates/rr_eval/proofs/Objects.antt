@@ -14,7 +14,8 @@ use Rattle.rr_space.specs.declared.refer.Ref.TheVariants.{Int, Local}
 use Rattle.rr_space.specs.declared.refer.Ref.TheVariants as refs
 use Rattle.rr_builtin.specs.Objects.{is_truthy}
 use Rattle.rr_eval.specs.Values.{goes_on}
-use Rattle.rr_tree.specs.Tree.{tree_at, Tree, nil, truth, int, text, symbol, class_named as class_tree, constant, array, send, index, append, local, bare, call, logical_and, logical_or, logical_not, negate, binary, assign, choose, repeat, sequence, return}
+use Rattle.rr_tree.specs.Tree.{tree_at, Tree, nil, truth, int, text, symbol, class_named as class_tree, constant, array, send, index, append, local, bare, call, logical_and, logical_or, logical_not, negate, binary, assign, choose, repeat, sequence, return, operator_assign, or_assign, and_assign}
+use Rattle.rr_frames.specs.Frames.{read_last}
 use Rattle.rr_tree.specs.declared.node.BinaryOperator.{BinaryOperator}
 use Rattle.rr_tree.specs.declared.program.Program.{Program}
 use Rattle.rr_eval.specs.declared.problem.Answer.{Answer}
@@ -40,7 +41,7 @@ use Rattle.rr_eval.specs.Acts.{Passes}
 use Rattle.rr_eval.specs.Turns.{context_of, code_of, state_of, after_script, asking_then}
 use Rattle.rr_builtin.specs.Acts.{with_text}
 use Rattle.rr_eval.specs.Operators.{make, integers, opposite}
-use Rattle.rr_eval.specs.Rules.{Context, items, throw, raise, settled, on_value, with_value, on_table, operation, negation, statements, values, finish, printing, bare_rule, constant_rule, not_here, call_rule, own_rule, back, rule, eval}
+use Rattle.rr_eval.specs.Rules.{Context, items, throw, raise, settled, on_value, with_value, on_table, operation, negation, statements, values, finish, printing, bare_rule, constant_rule, not_here, call_rule, own_rule, back, slot_of, update_rule, or_rule, and_rule, write, rule, eval}
 use Rattle.rr_eval.specs.Methods.{Method, own_method}
 use Rattle.rr_tree.specs.Nodes.{trees_before}
 use Rattle.rr_eval.specs.Messages.{message, exception_class}
@@ -137,6 +138,22 @@ call_keeps c (Some m) task x ts = values_keep c (Own x) ts []
 call_keeps c None (Some task) x ts = values_keep c (DoTarget task) ts []
 call_keeps c None None x ts = throw_keeps c NotHere
 
+-- a variable that gets a value
+written_keeps : (slot : ℕ) (t : Tree) → Keeps (with_value t (λ v. write slot v))
+written_keeps slot t = on_value_keeps _ (λ v. (λ m. omega arith, tt))
+
+update_keeps : (c : Context) (op : BinaryOperator) (a b : Tree) (slot : Option ℕ) → Keeps (update_rule c op a b slot)
+update_keeps c op a b (Some slot) = written_keeps slot (binary op a b)
+update_keeps c op a b None = throw_keeps c NotHere
+
+or_keeps : (c : Context) (b : Tree) (slot : Option ℕ) → Keeps (or_rule c b slot)
+or_keeps c b (Some slot) = λ m. if_keeps (is_truthy (read_last slot m.calls.frames)) (Ret (Gave (read_last slot m.calls.frames))) (with_value b (λ v. write slot v)) tt (written_keeps slot b)
+or_keeps c b None = throw_keeps c NotHere
+
+and_keeps : (c : Context) (b : Tree) (slot : Option ℕ) → Keeps (and_rule c b slot)
+and_keeps c b (Some slot) = λ m. if_keeps (is_truthy (read_last slot m.calls.frames)) (with_value b (λ v. write slot v)) (Ret (Gave (read_last slot m.calls.frames))) (written_keeps slot b) tt
+and_keeps c b None = throw_keeps c NotHere
+
 rule_keeps : (c : Context) (tree : Tree) → Keeps (rule c tree)
 rule_keeps c nil = tt
 rule_keeps c (truth b) = tt
@@ -158,6 +175,9 @@ rule_keeps c (logical_not a) = on_value_keeps _ (λ v. tt)
 rule_keeps c (negate a) = on_value_keeps _ (λ v. negates c v)
 rule_keeps c (binary op a b) = on_value_keeps _ (λ v. on_value_keeps _ (λ w. operates c op v w))
 rule_keeps c (assign depth slot x a) = on_value_keeps _ (λ v. (λ m. omega arith, tt))
+rule_keeps c (operator_assign op a b) = update_keeps c op a b (slot_of a)
+rule_keeps c (or_assign a b) = or_keeps c b (slot_of a)
+rule_keeps c (and_assign a b) = and_keeps c b (slot_of a)
 rule_keeps c (choose a b d) = on_value_keeps _ (λ v. λ a'. tt)
 rule_keeps c (repeat until a b) = on_value_keeps _ (λ v. round_keeps (goes_on until v) b (repeat until a b))
 rule_keeps c (sequence list) = statements_keep (items list)

@@ -3,13 +3,13 @@ use Rattle.std.proofs.Common.{◌≡◌, ℕ, zero, suc, ◌∙◌, sym, ap, Lis
 use Rattle.std.proofs.lemmas.List.{append-nil}
 use Rattle.rr_space.specs.Tables.{Table}
 use Rattle.rr_space.specs.declared.refer.Ref.{Ref}
-use Rattle.rr_tree.specs.Tree.{Tree, tree_at}
+use Rattle.rr_tree.specs.Tree.{Tree, binary, tree_at}
 use Rattle.rr_tree.specs.declared.program.Program.{Program}
 use Rattle.rr_eval.specs.declared.problem.Answer.{Answer}
 use Rattle.rr_eval.specs.declared.problem.Response.{Response}
 use Rattle.rr_eval.specs.declared.frame.Frame.{Frame}
 use Rattle.rr_eval.specs.declared.frame.Control.{Control}
-use Rattle.rr_eval.specs.declared.frame.Control.TheVariants.{Enter, Give, Throw, Raise}
+use Rattle.rr_eval.specs.declared.frame.Control.TheVariants.{Enter, Operate, Give, Throw, Raise}
 use Rattle.rr_eval.specs.Script.{State, Script, Ret, Go, See, Do, Ask, Asked, Reply, World, Outcome, Ended, Spent, Waits, Evaluation, run, after, taken}
 use Rattle.rr_eval.specs.Rules.{Context, throw, raise, settled, rule, eval}
 use Rattle.rr_eval.specs.Requests.{Course}
@@ -75,6 +75,7 @@ module _ (own : Context) where
 
   start_grows : (c : Code) (k : Control) (s : State) (n : ℕ) → IsBeginning (text_asked own s.asked) (text_of own (start c k s n))
   start_grows c (Enter part) s n = meaning_grows c (tree_at c.nodes part) s n
+  start_grows c (Operate op a b) s n = meaning_grows c (binary op (tree_at c.nodes a) (tree_at c.nodes b)) s n
   start_grows c (Give a) s n = beginning-refl (text_asked own s.asked)
   start_grows c (Throw e) s n = run_grows c.world (means c) (meaning_grows c) (throw c.context e) s n
   start_grows c (Raise class message) s n = run_grows c.world (means c) (meaning_grows c) (raise class message) s n

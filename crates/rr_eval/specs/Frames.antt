@@ -1,15 +1,15 @@
 -- What the frames of the machine stand for.
-use Rattle.std.specs.Prelude.{◌≡◌, ℕ, ◌≤◌, List, [], ◌∷◌, ◌++◌, if◌then◌else◌, not, length, take, drop, reverse}
+use Rattle.std.specs.Prelude.{◌≡◌, ℕ, ◌≤◌, List, [], ◌∷◌, ◌++◌, if◌then◌else◌, not, length, take, drop, reverse, Option, Some, None}
 use Rattle.rr_space.specs.declared.refer.Ref.{Ref}
 use Rattle.rr_space.specs.declared.refer.Ref.TheVariants.{Nil, Truth}
-use Rattle.rr_tree.specs.Tree.{tree_at}
+use Rattle.rr_tree.specs.Tree.{Tree, binary, tree_at}
 use Rattle.rr_tree.specs.declared.node.Node.{Node}
 use Rattle.rr_eval.specs.declared.problem.Answer.{Answer}
 use Rattle.rr_eval.specs.declared.problem.Answer.TheVariants.{Gave, Returned}
 use Rattle.rr_eval.specs.declared.frame.Frame.{Frame}
 use Rattle.rr_eval.specs.declared.frame.Frame.TheVariants.{Not, Negation, And, Or, Left, Right, Store, Branch, Condition, Body, Return, Back, Rest, Argument}
 use Rattle.rr_eval.specs.declared.frame.Control.{Control}
-use Rattle.rr_eval.specs.declared.frame.Control.TheVariants.{Enter, Give, Throw, Raise}
+use Rattle.rr_eval.specs.declared.frame.Control.TheVariants.{Enter, Operate, Give, Throw, Raise}
 use Rattle.rr_eval.specs.Script.{State, Script, Ret, Go, World, Evaluation, Outcome, Ended, run, after}
 use Rattle.rr_builtin.specs.Objects.{is_truthy}
 use Rattle.rr_eval.specs.Values.{goes_on}
@@ -85,9 +85,16 @@ IsRareFrame _ = ⊥
 -- what comes first
 abbrev pub start : Code → Control → State → ℕ → Outcome
 start c (Enter part) s n = means c (tree_at c.nodes part) s n
+start c (Operate op a b) s n = means c (binary op (tree_at c.nodes a) (tree_at c.nodes b)) s n
 start c (Give a) s n = Ended a s n
 start c (Throw e) s n = runs_in c (throw c.context e) s n
 start c (Raise class message) s n = runs_in c (raise class message) s n
+
+-- the tree that comes first, where one does
+abbrev pub first_tree : List Node → Control → Option Tree
+first_tree ns (Enter part) = Some (tree_at ns part)
+first_tree ns (Operate op a b) = Some (binary op (tree_at ns a) (tree_at ns b))
+first_tree ns _ = None
 
 -- how all ends that frames and what comes first have still to do
 abbrev pub outcome_of : Code → List Frame → List Ref → Control → State → ℕ → Outcome

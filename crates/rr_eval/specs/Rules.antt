@@ -5,7 +5,7 @@ use Rattle.rr_base.specs.declared.name.ClassId.{ClassId}
 use Rattle.rr_space.specs.Tables.{Table}
 use Rattle.rr_space.specs.declared.refer.Ref.{Ref}
 use Rattle.rr_space.specs.declared.refer.Ref.TheVariants.{Nil, Truth, Int, Symbol, Class, Local}
-use Rattle.rr_tree.specs.Tree.{Tree, Trees, nil, truth, int, text, symbol, class_named as class_tree, constant, array, local, bare, call, send, index, append, logical_and, logical_or, logical_not, negate, binary, assign, choose, repeat, sequence, return, empty, then_one}
+use Rattle.rr_tree.specs.Tree.{Tree, Trees, nil, truth, int, text, symbol, class_named as class_tree, constant, array, local, bare, call, send, index, append, logical_and, logical_or, logical_not, negate, binary, assign, choose, repeat, sequence, return, operator_assign, or_assign, and_assign, empty, then_one}
 use Rattle.rr_tree.specs.declared.node.BinaryOperator.{BinaryOperator}
 use Rattle.rr_builtin.specs.Acts.{with_text}
 use Rattle.rr_builtin.specs.Objects.{is_truthy}
@@ -162,6 +162,25 @@ call_rule c (Some m) task x ts = values ts [] (finish c (Own x))
 call_rule c None (Some task) x ts = values ts [] (finish c (DoTarget task))
 call_rule c None None x ts = not_here c
 
+-- the variable of the method that runs that a target is, where it is one
+abbrev pub slot_of : Tree → Option ℕ
+slot_of (local depth slot x) = Some slot
+slot_of _ = None
+
+-- `a op= b` is `a = a op b`
+abbrev pub update_rule : Context → BinaryOperator → Tree → Tree → Option ℕ → Script
+update_rule c op a b (Some slot) = with_value (binary op a b) (λ v. write slot v)
+update_rule c op a b None = not_here c
+
+-- `a ||= b` assigns where the variable is nil or false, and `a &&= b` where it is neither; else its value is the value
+abbrev pub or_rule : Context → Tree → Option ℕ → Script
+or_rule c b (Some slot) = See (λ m. let v = read_last slot m.calls.frames in if is_truthy v then Ret (Gave v) else with_value b (λ w. write slot w))
+or_rule c b None = not_here c
+
+abbrev pub and_rule : Context → Tree → Option ℕ → Script
+and_rule c b (Some slot) = See (λ m. let v = read_last slot m.calls.frames in if is_truthy v then with_value b (λ w. write slot w) else Ret (Gave v))
+and_rule c b None = not_here c
+
 -- The rule of each kind of tree. No block is evaluated yet, so each variable is one of the method that runs, or of the program.
 abbrev pub rule : Context → Tree → Script
 rule c nil = Ret (Gave Nil)
@@ -184,6 +203,9 @@ rule c (append a b) = values (a ∷ b ∷ []) [] (finish c (Call callees.Append)
 rule c (negate a) = with_value a (negation c)
 rule c (binary op a b) = with_value a (λ v. with_value b (operation c op v))
 rule c (assign depth slot x a) = with_value a (λ v. write slot v)
+rule c (operator_assign op a b) = update_rule c op a b (slot_of a)
+rule c (or_assign a b) = or_rule c b (slot_of a)
+rule c (and_assign a b) = and_rule c b (slot_of a)
 rule c (choose a b d) = with_value a (λ v. Go (if is_truthy v then b else d) Ret)
 -- each turn of a loop evaluates the loop again
 rule c (repeat until a b) = with_value a (λ v. if goes_on until v then with_value b (λ w. Go (repeat until a b) Ret) else Ret (Gave Nil))

@@ -11,7 +11,7 @@ use Rattle.rr_eval.specs.declared.problem.Answer.{Answer}
 use Rattle.rr_eval.specs.declared.problem.Answer.TheVariants.{Gave, Raised}
 use Rattle.rr_eval.specs.declared.frame.Frame.{Frame}
 use Rattle.rr_eval.specs.declared.frame.Control.{Control}
-use Rattle.rr_eval.specs.declared.frame.Control.TheVariants.{Enter, Give, Throw, Raise}
+use Rattle.rr_eval.specs.declared.frame.Control.TheVariants.{Enter, Operate, Give, Throw, Raise}
 use Rattle.rr_eval.specs.declared.engine.Turn.{Turn}
 use Rattle.rr_eval.specs.declared.engine.Turn.TheVariants as turns
 use Rattle.rr_eval.specs.Acts.{IsRefusal}
@@ -127,6 +127,7 @@ pub record Replied (p : Program) (m : View) (response : Response) : Type 0 where
 -- a bound on what can be done without a step
 abbrev pub waits : Control → ℕ
 waits (Enter part) = 0
+waits (Operate op a b) = 0
 waits (Give a) = 2
 waits (Raise class message) = 3
 waits (Throw e) = 4

@@ -7,15 +7,15 @@ ghost use Rattle.rr_frames.specs.Frames.{read_last};
 ghost use Rattle.rr_space.specs.Tables.{Table, Below};
 ghost use Rattle.rr_tree.specs.declared.node.Node.{Node};
 ghost use Rattle.rr_tree.specs.declared.program.Program.{Program};
-ghost use Rattle.rr_tree.specs.Tree.{tree_at};
+ghost use Rattle.rr_tree.specs.Tree.{tree_at, binary};
 ghost use Rattle.rr_eval.specs.Acts.{Passes};
 ghost use Rattle.rr_eval.specs.Script.{Ended, objects_of};
 ghost use Rattle.rr_eval.specs.Requests.{Course, Adds};
 ghost use Rattle.rr_eval.specs.Changes.{Changes};
-ghost use Rattle.rr_eval.specs.Frames.{below_of, base_of, Nested};
+ghost use Rattle.rr_eval.specs.Frames.{below_of, base_of, Nested, first_tree};
 ghost use Rattle.rr_eval.specs.Rules.{ended};
 ghost use Rattle.rr_eval.specs.Nodes.{evaluated_tree, IsEvaluated, IsRareNode};
-ghost use Rattle.rr_eval.specs.Turns.{context_of, state_of, remaining, remaining_with, after_script, after_answer, continuing, IsNested, Stands, leaf_value, Turned, size, sized, power, Falls};
+ghost use Rattle.rr_eval.specs.Turns.{context_of, state_of, remaining, remaining_with, after_script, after_answer, continuing, IsNested, Stands, leaf_value, Turned, size, sized, waits, power, Falls};
 ghost use Rattle.rr_eval.specs.Views.{view_of};
 ghost use Rattle.rr_eval.specs.Within.{Reach, reach, IsReached, IsAnswerReached, IsFrameReached, AreVariablesReached, IsAskedReached, IsTurnReached, AreReached, AreWithin, KeepsReach, KeepsRead};
 ghost use Rattle.std.specs.List.{All};
@@ -100,16 +100,8 @@ impl Engine {
 
     /// Three steps at once, where both operands are integers that need no frame.
     #[inline(always)]
-    fn visit_leaves(
-        &mut self,
-        program: &Program,
-        here: NodeId,
-        op: BinaryOperator,
-        a: NodeId,
-        b: NodeId,
-    ) -> bool
-        requires control { self.old.control ≡ Control.Enter here }
-        requires node { tree_at program.now.nodes.items here ≡ evaluated_tree program.now.nodes.items (Node.Binary op a b) }
+    fn visit_leaves(&mut self, program: &Program, op: BinaryOperator, a: NodeId, b: NodeId) -> bool
+        requires first { first_tree program.now.nodes.items self.old.control ≡ Some (binary op (tree_at program.now.nodes.items a) (tree_at program.now.nodes.items b)) }
         requires some { 2 < self.old.left }
         requires nested { IsNested (view_of self.old) }
         ensures goes { IsTrue result → (t : Table) (h : Course) → remaining program.now (view_of self.old) t h ≡ remaining program.now (view_of self.new) t h }
@@ -150,7 +142,7 @@ impl Engine {
     {
         if let Node::Binary(op, a, b) = node
             && self.left - stop > 2
-            && self.visit_leaves(program, here, op, a, b)
+            && self.visit_leaves(program, op, a, b)
         {
             return true;
         }
@@ -179,6 +171,36 @@ impl Engine {
             return true;
         }
         false
+    }
+
+    /// Evaluates an operator and its operands: one step, or three where the operands need no frame and the steps do not
+    /// stop before.
+    #[inline(always)]
+    fn visit_operation(
+        &mut self,
+        program: &Program,
+        op: BinaryOperator,
+        a: NodeId,
+        b: NodeId,
+        stop: u64,
+    )
+        requires first { first_tree program.now.nodes.items self.old.control ≡ Some (binary op (tree_at program.now.nodes.items a) (tree_at program.now.nodes.items b)) }
+        requires waits { waits self.old.control ≡ 0 }
+        requires some { stop < self.old.left }
+        requires room { length self.old.frames.items < vec_capacity self.old.frames }
+        requires nested { IsNested (view_of self.old) }
+        ensures goes { (t : Table) (h : Course) → remaining program.now (view_of self.old) t h ≡ remaining program.now (view_of self.new) t h }
+        ensures nested { IsNested (view_of self.new) }
+        ensures within { (k : Reach) → AreReached k (view_of self.old) → AreReached k (view_of self.new) }
+        ensures left { stop ≤ self.new.left }
+        ensures spends { self.new.left < self.old.left }
+        ensures falls { power (view_of self.new) + self.old.left ≤ power (view_of self.old) + self.new.left }
+    {
+        if self.left - stop > 2 && self.visit_leaves(program, op, a, b) {
+            return;
+        }
+        self.enter_above(Frame::Left(op, b), a);
+        self.left -= 1;
     }
 
     /// Evaluates a node that needs the objects or memory, which is one step.
@@ -303,6 +325,16 @@ impl Engine {
                 }
                 Control::Throw(problem) => self.throw(&prepared.program, space, problem)?,
                 Control::Raise(class, message) => self.raise(space, class, message)?,
+                Control::Operate(op, a, b) => {
+                    if self.left == 0 {
+                        return Ok(Turn::StepLimit);
+                    }
+                    if self.left <= stop {
+                        return Ok(Turn::More);
+                    }
+                    self.make_room()?;
+                    self.visit_operation(&prepared.program, op, a, b, stop);
+                }
                 Control::Enter(here) => {
                     if self.left == 0 {
                         return Ok(Turn::StepLimit);

@@ -49,6 +49,8 @@ pub enum Frame {
 #[derive(Clone, Copy)]
 pub enum Control {
     Enter(NodeId),
+    /// An operator and its operands, which no node has in this place.
+    Operate(BinaryOperator, NodeId, NodeId),
     Give(Answer),
     /// An exception that is made and raised, its message first.
     Throw(Problem),

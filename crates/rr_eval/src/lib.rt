@@ -23,6 +23,7 @@ mod resume;
 mod run;
 mod serve;
 mod throw;
+mod update;
 mod value;
 
 pub use call::{Arguments, Call, Callee, Task};

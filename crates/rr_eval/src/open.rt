@@ -394,6 +394,11 @@ impl Engine {
             Node::Index(a, b) => self.open_send(Callee::Index, a, b + 1, 1),
             Node::Append(a, b) => self.open_send(Callee::Append, a, b + 1, 1),
             Node::Assign { slot, value, .. } => self.enter_above(Frame::Store(slot), value),
+            Node::OperatorAssign(op, target, value) => {
+                self.open_update(program, op, target, value);
+            }
+            Node::OrAssign(target, value) => self.open_or_assign(program, target, value),
+            Node::AndAssign(target, value) => self.open_and_assign(program, target, value),
             Node::Return(value) => self.enter_above(Frame::Return, value),
             Node::Choose(a, b, d) => self.enter_above(Frame::Branch(b, d), a),
             Node::Loop {

@@ -65,3 +65,12 @@ returns-in-Loop-clause-within c k h = c.enter_above-in-Loop.ensures.within k h t
 
 pub returns-in-Return-clause-within : goal.returns-in-Return-clause-within
 returns-in-Return-clause-within c k h = c.enter_above-in-Return.ensures.within k h tt
+
+pub returns-in-OrAssign-clause-within : goal.returns-in-OrAssign-clause-within
+returns-in-OrAssign-clause-within c k h = c.open_or_assign.ensures.within k h
+
+pub returns-in-AndAssign-clause-within : goal.returns-in-AndAssign-clause-within
+returns-in-AndAssign-clause-within c k h = c.open_and_assign.ensures.within k h
+
+pub returns-in-OperatorAssign-clause-within : goal.returns-in-OperatorAssign-clause-within
+returns-in-OperatorAssign-clause-within c k h = c.open_update.ensures.within k h

@@ -1,5 +1,7 @@
 -- The step limit.
-use Rattle.std.proofs.Common.{◌∙◌, arith, length, subst}
+use Rattle.std.proofs.Common.{◌∙◌, ap, arith, length, subst}
+use Rattle.rr_tree.specs.Tree.{tree_at, binary}
+use Rattle.rr_eval.specs.Frames.{first_tree}
 use Rattle.rr_eval.proofs.Entered.{limit}
 use Rattle.rr_eval.specs.Within.{reach, IsAskedReached}
 use Rattle.rr_eval.specs.Views.{view_of}
@@ -7,7 +9,15 @@ use Rattle.rr_eval.proofs.engine.Engine.turn.Goals as goal
 
 pub returns-then-self-eq0-clause-turned : goal.returns-then-self-eq0-clause-turned
 returns-then-self-eq0-clause-turned c =
-    (omega arith, c.if-self-eq0.true, λ h. c.loop-self.invariant.same h ∙ limit c.args.prepared.now.program (view_of c.loop-self.self) c.loop-self.space c.in-Enter.here c.in-Enter.is c.if-self-eq0.true h)
+    let p = c.args.prepared.now.program in
+    let ns = p.nodes.items in
+    (omega arith, c.if-self-eq0.true, λ h. c.loop-self.invariant.same h ∙ limit p (view_of c.loop-self.self) c.loop-self.space _ (ap (first_tree ns) c.in-Operate.is) c.if-self-eq0.true h)
+
+pub returns-then-self-eq0-2-clause-turned : goal.returns-then-self-eq0-2-clause-turned
+returns-then-self-eq0-2-clause-turned c =
+    let p = c.args.prepared.now.program in
+    let ns = p.nodes.items in
+    (omega arith, c.if-self-eq0-2.true, λ h. c.loop-self.invariant.same h ∙ limit p (view_of c.loop-self.self) c.loop-self.space _ (ap (first_tree ns) c.in-Enter.is) c.if-self-eq0-2.true h)
 
 pub returns-in-Enter-clause-ends_within : goal.returns-in-Enter-clause-ends_within
 returns-in-Enter-clause-ends_within c clusters h =

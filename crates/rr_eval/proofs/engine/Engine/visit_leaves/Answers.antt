@@ -18,7 +18,7 @@ returns-in-Some-Some-clause-goes c = λ _ t h.
     let fy : to_z w64 (of_z w64 y) ≡ y = search rules in
     let given = c.on_integers.ensures.does ∙ ap (λ z. integers c.args.op z (to_z w64 (of_z w64 y))) fx ∙ ap (integers c.args.op x) fy in
     let some : m.left ≡ suc (suc (suc (m.left - 3))) = omega arith in
-    leaves p m t c.args.here (m.left - 3) c.args.a c.args.b c.args.op x y c.requires.control some c.requires.node c.in-Some-Some.ensures c.in-Some-Some.ensures' h
+    leaves p m t (m.left - 3) c.args.a c.args.b c.args.op x y c.requires.first some c.in-Some-Some.ensures c.in-Some-Some.ensures' h
     ∙ ap (λ r. after_script p m t (settled (context_of p) r) h (m.left - 3)) (sym given)
     ∙ c.settle.ensures.goes p t h (m.left - 3)
     ∙ ap (remaining_with p (view_of c.settle.new.self) t h) (sym c.settle.ensures.left)
