@@ -14,7 +14,7 @@ use Rattle.rr_eval.specs.declared.call.Target.TheVariants.{Do, Call as CallTarge
 use Rattle.rr_eval.specs.declared.call.Target.{Target}
 use Rattle.rr_eval.specs.Methods.{own_method}
 use Rattle.rr_eval.specs.declared.call.Task.TheVariants.{MakeArray}
-use Rattle.rr_eval.specs.Rules.{Context, rule, statements, values, on_value, finish, printing, call_rule, not_here}
+use Rattle.rr_eval.specs.Rules.{Context, rule, statements, values, on_value, finish, printing, awaited, call_rule, not_here}
 use Rattle.rr_eval.specs.Nodes.{evaluated_tree, is_unknown}
 use Rattle.rr_eval.specs.Frames.{Code, resumed}
 use Rattle.rr_eval.proofs.Trees.{items_listed}
@@ -39,8 +39,8 @@ values_from c target first (suc more) held h =
     let e : first ≡ first + suc more - suc more = omega arith in
     ap (λ m. Go (tree_at c.nodes first) (resumed c (Argument target (first + suc more) m held) [])) k ∙ ap (λ p. Go (tree_at c.nodes p) (resumed c (Argument target (first + suc more) more held) [])) e
 
-pub call_is : (ns : List Node) (c : Context) (x : Sym) (first count site : ℕ) → call_rule c (own_method c.program x.0) (printing c x.0) x (trees_before ns (first + count) count) ≡ rule c (evaluated_tree ns (Call x first count site))
-call_is ns c x first count site = ap (call_rule c (own_method c.program x.0) (printing c x.0) x) (sym (items_listed (trees_before ns (first + count) count)))
+pub call_is : (ns : List Node) (c : Context) (x : Sym) (first count site : ℕ) → call_rule c (own_method c.program x.0) (printing c x.0) (awaited c x.0) x (trees_before ns (first + count) count) ≡ rule c (evaluated_tree ns (Call x first count site))
+call_is ns c x first count site = ap (call_rule c (own_method c.program x.0) (printing c x.0) (awaited c x.0) x) (sym (items_listed (trees_before ns (first + count) count)))
 
 pub array_is : (ns : List Node) (c : Context) (first count : ℕ) → values (trees_before ns (first + count) count) [] (finish c (Do MakeArray)) ≡ rule c (evaluated_tree ns (nodes.Array first count))
 array_is ns c first count = ap (λ ts. values ts [] (finish c (Do MakeArray))) (sym (items_listed (trees_before ns (first + count) count)))

@@ -41,7 +41,7 @@ use Rattle.rr_eval.specs.Acts.{Passes}
 use Rattle.rr_eval.specs.Turns.{context_of, code_of, state_of, after_script, asking_then}
 use Rattle.rr_builtin.specs.Acts.{with_text}
 use Rattle.rr_eval.specs.Operators.{make, integers, opposite}
-use Rattle.rr_eval.specs.Rules.{Context, items, throw, raise, settled, on_value, with_value, on_table, operation, negation, statements, values, finish, printing, bare_rule, constant_rule, not_here, call_rule, own_rule, back, slot_of, update_rule, or_rule, and_rule, write, rule, eval}
+use Rattle.rr_eval.specs.Rules.{Context, items, throw, raise, settled, on_value, with_value, on_table, operation, negation, statements, values, finish, printing, awaited, bare_rule, constant_rule, not_here, call_rule, own_rule, back, slot_of, update_rule, or_rule, and_rule, write, rule, eval}
 use Rattle.rr_eval.specs.Methods.{Method, own_method}
 use Rattle.rr_tree.specs.Nodes.{trees_before}
 use Rattle.rr_eval.specs.Messages.{message, exception_class}
@@ -133,10 +133,11 @@ constant_keeps : (c : Context) (class : Option BuiltInClass) (x : Sym) → Keeps
 constant_keeps c (Some k) x = if_keeps (nat_eq (class_id k).0 RACTOR.0) (not_here c) (Ret (Gave (refs.Class (class_id k)))) (throw_keeps c NotHere) tt
 constant_keeps c None x = throw_keeps c (MissingConstant x)
 
-call_keeps : (c : Context) (m : Option Method) (task : Option Task) (x : Sym) (ts : List Tree) → Keeps (call_rule c m task x ts)
-call_keeps c (Some m) task x ts = values_keep c (Own x) ts []
-call_keeps c None (Some task) x ts = values_keep c (DoTarget task) ts []
-call_keeps c None None x ts = throw_keeps c NotHere
+call_keeps : (c : Context) (m : Option Method) (task : Option Task) (later : Bool) (x : Sym) (ts : List Tree) → Keeps (call_rule c m task later x ts)
+call_keeps c (Some m) task later x ts = values_keep c (Own x) ts []
+call_keeps c None (Some task) later x ts = values_keep c (DoTarget task) ts []
+call_keeps c None None true x ts = throw_keeps c NotHere
+call_keeps c None None false x ts = values_keep c (Own x) ts []
 
 -- a variable that gets a value
 written_keeps : (slot : ℕ) (t : Tree) → Keeps (with_value t (λ v. write slot v))
@@ -168,7 +169,7 @@ rule_keeps c (constant (Plain x)) = constant_keeps c (class_named (slice_index_o
 rule_keeps c (text i) = λ m. (λ k. make_keeps c.program.freezes _ k.table, tt)
 rule_keeps c (local depth slot x) = λ m. tt
 rule_keeps c (bare x) = bare_keeps c (own_method c.program x) (printing c x) (record { 0 = x })
-rule_keeps c (call x list) = call_keeps c (own_method c.program x) (printing c x) (record { 0 = x }) (items list)
+rule_keeps c (call x list) = call_keeps c (own_method c.program x) (printing c x) (awaited c x) (record { 0 = x }) (items list)
 rule_keeps c (logical_and a b) = on_value_keeps _ (λ v. if_keeps (is_truthy v) (Go b Ret) (Ret (Gave v)) (λ a'. tt) tt)
 rule_keeps c (logical_or a b) = on_value_keeps _ (λ v. if_keeps (is_truthy v) (Ret (Gave v)) (Go b Ret) tt (λ a'. tt))
 rule_keeps c (logical_not a) = on_value_keeps _ (λ v. tt)

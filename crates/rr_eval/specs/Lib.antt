@@ -15,6 +15,7 @@ pub mod Thrown
 pub mod Requests
 pub mod Calls
 pub mod Tasks
+pub mod Awaited
 pub mod Rules
 pub mod Nodes
 pub mod Frames

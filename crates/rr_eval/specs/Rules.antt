@@ -31,6 +31,7 @@ use Rattle.rr_eval.specs.Operators.{make, integers, opposite}
 use Rattle.rr_eval.specs.Messages.{message, exception_class}
 use Rattle.rr_eval.specs.Exceptions.{with_exception}
 use Rattle.rr_eval.specs.Tasks.{task_named}
+use Rattle.rr_eval.specs.Awaited.{is_awaited}
 use Rattle.rr_eval.specs.Constants.{class_named}
 use Rattle.rr_base.specs.declared.class.BuiltInClass.{BuiltInClass}
 use Rattle.rr_base.specs.declared.name.Sym.{Sym}
@@ -141,6 +142,10 @@ finish c (Own x) vs = own_rule c x (own_method c.program x.0) vs
 abbrev pub printing : Context → ℕ → Option Task
 printing c x = task_named (slice_index_or c.symbols x [])
 
+-- whether a name is that of a method of `self` that is not evaluated yet
+abbrev pub awaited : Context → ℕ → Bool
+awaited c x = is_awaited (slice_index_or c.symbols x [])
+
 -- what is not evaluated yet
 abbrev pub not_here : Context → Script
 not_here c = throw c NotHere
@@ -156,11 +161,13 @@ abbrev pub constant_rule : Context → Option BuiltInClass → Sym → Script
 constant_rule c (Some k) x = if nat_eq (class_id k).0 RACTOR.0 then not_here c else Ret (Gave (Class (class_id k)))
 constant_rule c None x = throw c (MissingConstant x)
 
--- a call with arguments: of a method of the program, of a name that prints, or of another
-abbrev pub call_rule : Context → Option Method → Option Task → Sym → List Tree → Script
-call_rule c (Some m) task x ts = values ts [] (finish c (Own x))
-call_rule c None (Some task) x ts = values ts [] (finish c (DoTarget task))
-call_rule c None None x ts = not_here c
+-- A call with arguments: of a method of the program, of a name that prints, or of a method that is not evaluated yet. No method
+-- has another name, so that its call raises, once its arguments are evaluated.
+abbrev pub call_rule : Context → Option Method → Option Task → Bool → Sym → List Tree → Script
+call_rule c (Some m) task later x ts = values ts [] (finish c (Own x))
+call_rule c None (Some task) later x ts = values ts [] (finish c (DoTarget task))
+call_rule c None None true x ts = not_here c
+call_rule c None None false x ts = values ts [] (finish c (Own x))
 
 -- the variable of the method that runs that a target is, where it is one
 abbrev pub slot_of : Tree → Option ℕ
@@ -193,7 +200,7 @@ rule c (text i) = on_table c (make c.program.freezes (slice_index_or c.texts i [
 rule c (array list) = values (items list) [] (finish c (DoTarget MakeArray))
 rule c (local depth slot x) = read slot
 rule c (bare x) = bare_rule c (own_method c.program x) (printing c x) (record { 0 = x })
-rule c (call x list) = call_rule c (own_method c.program x) (printing c x) (record { 0 = x }) (items list)
+rule c (call x list) = call_rule c (own_method c.program x) (printing c x) (awaited c x) (record { 0 = x }) (items list)
 rule c (logical_and a b) = with_value a (λ v. if is_truthy v then Go b Ret else Ret (Gave v))
 rule c (logical_or a b) = with_value a (λ v. if is_truthy v then Ret (Gave v) else Go b Ret)
 rule c (logical_not a) = with_value a (λ v. Ret (Gave (Truth (not (is_truthy v)))))

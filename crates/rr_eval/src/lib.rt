@@ -1,6 +1,7 @@
 //! The meaning of scripts: rules on trees, and the machine that meets them.
 #![tactic(auto)]
 
+mod awaited;
 mod call;
 mod constant;
 mod counted;

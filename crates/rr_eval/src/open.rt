@@ -1,6 +1,6 @@
 //! What a node does first.
 
-ghost use Rattle.std.specs.Prelude.{◌≡◌, ◌+◌, ◌-◌, ◌*◌, ◌<◌, ◌≤◌, ◌^◌, ℕ, List, [], ◌∷◌, true, length, slice_index_or, vec_capacity, IfOk, IfErr, IsTrue, IsFalse, OnOk};
+ghost use Rattle.std.specs.Prelude.{◌≡◌, ◌+◌, ◌-◌, ◌*◌, ◌<◌, ◌≤◌, ◌^◌, ℕ, List, [], ◌∷◌, true, length, slice_index_or, vec_capacity, None, IfOk, IfErr, IsTrue, IsFalse, OnOk};
 ghost use Rattle.rr_base.specs.declared.fault.Fault.{Fault};
 ghost use Rattle.rr_space.specs.Tables.{Table};
 ghost use Rattle.rr_tree.specs.Tree.{tree_at};
@@ -14,7 +14,7 @@ ghost use Rattle.rr_eval.specs.Changes.{Changes};
 ghost use Rattle.rr_eval.specs.Constants.{class_named};
 ghost use Rattle.rr_eval.specs.Methods.{own_method};
 ghost use Rattle.rr_eval.specs.Operators.{make};
-ghost use Rattle.rr_eval.specs.Rules.{rule, statements, values, on_table, finish, printing, bare_rule, call_rule, constant_rule};
+ghost use Rattle.rr_eval.specs.Rules.{rule, statements, values, on_table, finish, printing, awaited, bare_rule, call_rule, constant_rule};
 ghost use Rattle.rr_tree.specs.Nodes.{trees_before};
 ghost use Rattle.rr_eval.specs.Nodes.{evaluated_tree, IsEvaluated, IsRareNode, is_unknown};
 ghost use Rattle.rr_eval.specs.Frames.{resumed, IsNew};
@@ -22,6 +22,7 @@ ghost use Rattle.rr_eval.specs.Turns.{context_of, code_of, IsNested, after_scrip
 ghost use Rattle.rr_eval.specs.Views.{view_of};
 ghost use Rattle.rr_eval.specs.Within.{Reach, AreReached, AreWithin, IsFrameReached, IsAskedReached, KeepsReach, KeepsRead};
 
+use crate::awaited::is_awaited;
 use crate::call::{Arguments, Callee, Target, Task};
 use crate::constant::class_named;
 use crate::engine::{Engine, push_within};
@@ -245,7 +246,37 @@ impl Engine {
         }
     }
 
-    /// Evaluates a call with arguments: of a method of the program, of a name that prints, or of another.
+    /// Evaluates a call with arguments of a name that is no method's. Such a call raises, once its arguments are evaluated.
+    #[tactic(auto, unfolding(crate::specs::Within::AreReached))]
+    fn open_missing(
+        &mut self,
+        prepared: &Prepared,
+        name: Sym,
+        first: NodeId,
+        count: u32,
+    ) -> Result<Option<Request>, Fault>
+        requires small { first + count < 2 ^ 32 }
+        requires nested { IsNested (view_of self.old) }
+        ensures goes { IfOk result (λ q. (t : Table) (h : Course) (n : ℕ) → after_script prepared.now.program (view_of self.old) t (call_rule (context_of prepared.now.program) None None (awaited (context_of prepared.now.program) name.0) name (trees_before prepared.now.program.nodes.items (first + count) count)) h n ≡ continuing prepared.now.program (view_of self.new) t q h n) }
+        ensures nested { IsNested (view_of self.new) }
+        ensures within { (k : Reach) → AreReached k (view_of self.old) → AreReached k (view_of self.new) }
+        ensures left { self.new.left ≡ self.old.left }
+        ensures asks { (k : Reach) → IfOk result (IsAskedReached k) }
+        ensures err { (t : Table) → IfErr result (λ f. Stands (view_of self.old) (view_of self.new) t t f) }
+        ensures size { IfOk result (λ q. sized q (view_of self.new) ≤ 3 * length self.old.frames.items + 4) }
+        ensures fault { IfErr result (λ f. f ≡ Fault.Memory) }
+    {
+        if is_awaited(prepared.program.symbol_bytes(name)) {
+            self.control = Control::Throw(Problem::NotHere);
+            return Ok(None);
+        }
+        match self.open_own(prepared, name, first, count) {
+            Ok(()) => Ok(None),
+            Err(fault) => Err(fault),
+        }
+    }
+
+    /// Evaluates a call with arguments: of a method of the program, of a name that prints, or of another, which raises.
     #[tactic(auto, unfolding(crate::specs::Within::AreReached))]
     fn open_call(
         &mut self,
@@ -256,7 +287,7 @@ impl Engine {
     ) -> Result<Option<Request>, Fault>
         requires small { first + count < 2 ^ 32 }
         requires nested { IsNested (view_of self.old) }
-        ensures goes { IfOk result (λ q. (t : Table) (h : Course) (n : ℕ) → after_script prepared.now.program (view_of self.old) t (call_rule (context_of prepared.now.program) (own_method prepared.now.program name.0) (printing (context_of prepared.now.program) name.0) name (trees_before prepared.now.program.nodes.items (first + count) count)) h n ≡ continuing prepared.now.program (view_of self.new) t q h n) }
+        ensures goes { IfOk result (λ q. (t : Table) (h : Course) (n : ℕ) → after_script prepared.now.program (view_of self.old) t (call_rule (context_of prepared.now.program) (own_method prepared.now.program name.0) (printing (context_of prepared.now.program) name.0) (awaited (context_of prepared.now.program) name.0) name (trees_before prepared.now.program.nodes.items (first + count) count)) h n ≡ continuing prepared.now.program (view_of self.new) t q h n) }
         ensures nested { IsNested (view_of self.new) }
         ensures within { (k : Reach) → AreReached k (view_of self.old) → AreReached k (view_of self.new) }
         ensures left { self.new.left ≡ self.old.left }
@@ -271,10 +302,7 @@ impl Engine {
                 Err(fault) => Err(fault),
             },
             (None, Some(task)) => self.open_values(task, first, count),
-            (None, None) => {
-                self.control = Control::Throw(Problem::NotHere);
-                Ok(None)
-            }
+            (None, None) => self.open_missing(prepared, name, first, count),
         }
     }
 

@@ -1,0 +1,16 @@
+-- The names by which `self` has methods that are not evaluated yet.
+use Rattle.std.specs.Prelude.{ℕ, Bool, ◌||◌, List, codes}
+use Rattle.std.specs.Str.{bytes_eq}
+use Rattle.std.specs.Option.{is_some}
+use Rattle.rr_builtin.specs.Methods.{named_among, object_methods}
+
+-- a method that only `self` has
+abbrev pub is_of_self : List ℕ → Bool
+is_of_self name = bytes_eq name (codes "raise") || bytes_eq name (codes "loop") || bytes_eq name (codes "block_given?")
+
+-- a method that all values have
+abbrev pub is_of_all : List ℕ → Bool
+is_of_all name = is_some (named_among name object_methods)
+
+abbrev pub is_awaited : List ℕ → Bool
+is_awaited name = is_of_self name || is_of_all name
