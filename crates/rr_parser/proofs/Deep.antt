@@ -21,6 +21,7 @@ use Rattle.rr_parser.specs.Grammar.Names.{headed, name, command}
 use Rattle.rr_parser.specs.Grammar.Operators.{connective, joined_by}
 use Rattle.rr_parser.specs.Grammar.Calls.{target, with_target, assigned_to, label, comma, star, closing, last, Argument, Member, Commanded}
 use Rattle.rr_parser.specs.Grammar.Sequences.{Negation, Expression, modifier, modified, Statement, Statements}
+use Rattle.rr_parser.specs.Grammar.Interpolations.{text_middle, text_tail, first_piece, and_piece}
 use Rattle.rr_parser.specs.Grammar.Control.{thens, loops, elsif, chosen, unless_chosen, looping, Branch, Branches}
 use Rattle.rr_parser.specs.Grammar.Bodies.{path, Class, Classes, caught, with_caught, caught_tree, Clause, rescues, Clauses, Rescued, loop_word}
 use Rattle.rr_parser.specs.Grammar.Blocks.{parameters, entered}
@@ -31,12 +32,13 @@ use Rattle.rr_parser.specs.Reading.Nesting.{Readers}
 use Rattle.rr_parser.specs.Reading.Operators.{ternary_of}
 use Rattle.rr_parser.specs.Reading.Calls.{assigned_or, assigned_of, argument_of, pair_by, pair_of, item_or, item_of, member_of, another, members_of, bracketed_or, bracketed_of, array_of, hash_of, index_of, commanded_or, commanded_of, headed_of, command_or, command_of, phrase_or, phrase_of, operand_of, value_of}
 use Rattle.rr_parser.specs.Reading.Sequences.{negation_or, negation_of, expression_of, statement_of, ends, row, rows_of, sequence_of, statements_of, group_of}
+use Rattle.rr_parser.specs.Reading.Interpolations.{pieces_of, interpolated_or, interpolated_on, interpolation_of}
 use Rattle.rr_parser.specs.Reading.Control.{both, branch_of, branches_of, otherwise_or, otherwise_of, ended, choice_of, unless_of, loop_of, looped_of}
 use Rattle.rr_parser.specs.Reading.Bodies.{class_or, class_of, several_classes, classes_or, classes_of, clause_or, clause_on, clause_of, clauses_of, rescued_or, rescued_on, rescued_of, ensured_or, ensured_on, body_of, unlooped, ended_body, unlooped_on, begun_of, held_of}
 use Rattle.rr_parser.specs.Reading.Blocks.{left_block, block_or, block_of}
 use Rattle.rr_parser.specs.Reading.Definitions.{left_method, method_or, definition_or, definition_of}
 use Rattle.rr_parser.specs.Reading.{form_of, part_of, readers_inside, readers_outside}
-use Rattle.rr_parser.specs.Fronts.{Fronts, ChainFront, in_one, in_more, ClauseFront, in_clause, ClausesFront, RescuedFront, BodyFront, HeldFront, PairFront, behind_label, in_entry, ItemFront, in_splat, in_plain_item, MemberFront, MembersFront, in_former, in_latter, TakingFront, TernaryFront, AssignedFront, in_value, in_operand, ArgumentFront, CommandedFront, in_arguments, in_argument_command, CommandFront, behind_name, PhraseFront, in_command, in_plain, OperandFront, ValueFront, NegationFront, in_negation, behind_no_negation, ExpressionFront, StatementFront, RowsFront, StatementsFront, BranchFront, BranchesFront, EndedFront, LoopFront, LoopedFront, BlockFront, in_body, DefinitionFront, in_method, FormFront, PartFront, fronts_inside, fronts_outside}
+use Rattle.rr_parser.specs.Fronts.{Fronts, ChainFront, in_one, in_more, ClauseFront, in_clause, ClausesFront, RescuedFront, BodyFront, HeldFront, PairFront, behind_label, in_entry, ItemFront, in_splat, in_plain_item, MemberFront, MembersFront, in_former, in_latter, TakingFront, TernaryFront, AssignedFront, in_value, in_operand, ArgumentFront, CommandedFront, in_arguments, in_argument_command, CommandFront, behind_name, PhraseFront, in_command, in_plain, OperandFront, ValueFront, NegationFront, in_negation, behind_no_negation, ExpressionFront, StatementFront, RowsFront, StatementsFront, PiecesFront, BranchFront, BranchesFront, EndedFront, LoopFront, LoopedFront, BlockFront, in_body, DefinitionFront, in_method, FormFront, PartFront, fronts_inside, fronts_outside}
 use Rattle.rr_parser.proofs.Told.{told_not, told_star}
 use Rattle.rr_parser.proofs.Looks.{word-next, another-comma, row-separators}
 use Rattle.rr_parser.proofs.Chains.{done}
@@ -221,6 +223,24 @@ module _ (N : Readers) (R : Nested) (F : Fronts) (sounds : NestedSound N R) (nes
   unfolding group_of
   group_deep s e = statements_deep s (closed_deep kind.Close (statements_of N s) e)
 
+  -- ---- text with parts
+
+  pieces_deep : (i : ℕ) → IsDeep (pieces_of N i) (PiecesFront R F i)
+  unfolding pieces_of
+  pieces_deep i = chain_deep text_middle text_middle (first_piece i) and_piece (statements_of N) (Statements R) (StatementsFront R F) (λ m n x e. e) (statements_sound N R sounds) statements_deep
+
+  interpolated_or-not_deep : (l : List Tree) (o : Option (ℕ × Place)) → interpolated_or l o ≡ Err deep → ⊥
+  interpolated_or-not_deep l None e = let never : ⊥ = cc in never
+  interpolated_or-not_deep l (Some x) e = let never : ⊥ = cc in never
+
+  interpolation_deep : (i : ℕ) → IsDeep (interpolation_of N i) (PiecesFront R F i)
+  unfolding interpolation_of
+  interpolation_deep i s e =
+      elim (bind_deep (pieces_of N i s) (λ x. interpolated_on x.0 x.1) e) [
+        | inl g ↦ pieces_deep i s g
+        | inr b ↦ absurd (interpolated_or-not_deep b.0.0 (at text_tail b.0.1) b.2)
+      ]
+
   -- ---- control
 
   branch_deep : IsDeep (branch_of N) (BranchFront R F)
@@ -378,6 +398,7 @@ module _ (N : Readers) (R : Nested) (F : Fronts) (sounds : NestedSound N R) (nes
   form_deep parts.Not = negation_deep
   form_deep parts.Command = command_deep
   form_deep parts.Branch = argument_deep
+  form_deep (parts.Interpolation i) = interpolation_deep i
   form_deep (parts.Block k) = block_deep k
   form_deep parts.Definition = definition_deep
 

@@ -59,6 +59,7 @@ opens kind.If = true
 opens kind.Unless = true
 opens (kind.Loop until) = true
 opens kind.Begin = true
+opens (kind.TextHead i) = true
 opens _ = false
 
 literal_opens : (k : WordKind) (t : Tree) → literal_of k ≡ Some t → opens k ≡ true
@@ -80,6 +81,7 @@ construct_opens kind.If p e = refl
 construct_opens kind.Unless p e = refl
 construct_opens (kind.Loop until) p e = refl
 construct_opens kind.Begin p e = refl
+construct_opens (kind.TextHead i) p e = refl
 construct_opens _ p e = absurd cc
 
 -- What an operand begins with.
@@ -308,6 +310,8 @@ first_starts s (by_prefix {m = m} e) = record { kind = kind.Minus; behind = m; h
 start_no_end : (k : WordKind) → starts k ≡ true → ends_at k ≡ false
 start_no_end kind.Close e = absurd cc
 start_no_end kind.CloseBrace e = absurd cc
+start_no_end (kind.TextMiddle i) e = absurd cc
+start_no_end (kind.TextTail i) e = absurd cc
 start_no_end kind.Elsif e = absurd cc
 start_no_end kind.Else e = absurd cc
 start_no_end kind.Rescue e = absurd cc

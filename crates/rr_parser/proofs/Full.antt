@@ -21,6 +21,7 @@ use Rattle.rr_parser.specs.Grammar.Operands.{Blocked, no_block, a_block}
 use Rattle.rr_parser.specs.Grammar.Operators.{connective, joined_by, Ternary}
 use Rattle.rr_parser.specs.Grammar.Calls.{target, with_target, assigned_to, label, comma, closing, last, Assigned, an_assignment, no_assignment, Argument, Pair, by_label, by_arrow, star, Item, a_splat, a_plain_item, Member, Members, Bracketed, no_members, some_members, Array, an_array, Hash, a_hash, Index, of_element, Commanded, Arguments, by_arguments, by_command, Command, a_command, Phrase, by_name, an_operand, Value}
 use Rattle.rr_parser.specs.Grammar.Sequences.{Negation, a_negation, no_negation, Expression, modifier, modified, Statement, Rows, Statements, no_statements, some_statements, Group, a_group}
+use Rattle.rr_parser.specs.Grammar.Interpolations.{text_middle, first_piece, and_piece, Pieces, Interpolation, an_interpolation}
 use Rattle.rr_parser.specs.Grammar.Control.{thens, loops, elsif, chosen, unless_chosen, Branch, a_branch, Branches, Otherwise, no_else, an_else, Choice, a_choice, Unless, an_unless, Loop, a_loop, looping, outside_loop, Looped, of_loop}
 use Rattle.rr_parser.specs.Grammar.Bodies.{path, Class, a_class, Classes, no_classes, some_classes, with_caught, caught_tree, Clause, a_clause, rescues, Clauses, Rescued, no_rescue, a_rescue, Body, no_ensure, an_ensure, Begun, a_begun, Held, between_braces, until_end}
 use Rattle.rr_parser.specs.Grammar.Blocks.{parameters, entered, leaving, block_tree, Block, of_statements}
@@ -31,6 +32,7 @@ use Rattle.rr_parser.specs.Reading.Nesting.{Readers}
 use Rattle.rr_parser.specs.Reading.Operators.{ternary_of}
 use Rattle.rr_parser.specs.Reading.Calls.{assigned_or, assigned_of, argument_of, pair_by, pair_of, item_or, item_of, member_of, another, members_of, bracketed_or, bracketed_of, array_of, hash_of, index_of, commanded_or, commanded_of, arguments_of, headed_of, command_or, command_of, phrase_or, phrase_of, value_of}
 use Rattle.rr_parser.specs.Reading.Sequences.{negation_or, negation_of, expression_of, statement_of, row, rows_of, sequence_of, statements_at, statements_of, group_of}
+use Rattle.rr_parser.specs.Reading.Interpolations.{pieces_of, interpolated_or, interpolated_on, interpolation_of}
 use Rattle.rr_parser.specs.Reading.Control.{both, branch_of, branches_of, otherwise_or, otherwise_of, ended, choice_of, unless_of, loop_of, looped_of}
 use Rattle.rr_parser.specs.Reading.Bodies.{class_or, class_of, several_classes, classes_or, classes_of, clause_or, clause_on, clause_of, clauses_of, rescued_or, rescued_on, rescued_of, ensured_or, ensured_on, body_of, unlooped, ended_body, unlooped_on, begun_of, held_of}
 use Rattle.rr_parser.specs.Reading.Blocks.{left_block, block_or, block_of}
@@ -38,11 +40,11 @@ use Rattle.rr_parser.specs.Reading.Definitions.{left_method, method_or, definiti
 use Rattle.rr_parser.specs.Reading.{part_of, readers_inside, readers_outside}
 use Rattle.rr_parser.proofs.Told.{told_comma}
 use Rattle.rr_parser.proofs.Looks.{seen, none_unless, another-comma, comma-another, last-another, Steps-another, other-word, separators-row, Steps-row}
-use Rattle.rr_parser.proofs.Shrinking.{ReadersShrink, shrinks_nested, Steps-connective, Steps-modifier, Steps-elsif, Steps-comma, Steps-rescues, class_shrinks}
+use Rattle.rr_parser.proofs.Shrinking.{ReadersShrink, shrinks_nested, Steps-connective, Steps-modifier, Steps-elsif, Steps-comma, Steps-middle, Steps-rescues, class_shrinks}
 use Rattle.rr_parser.proofs.Leading.{Leads, leads_bind, leads_trans, leads_eq, leads_map, IsFull, chain_full, across_full}
 use Rattle.rr_parser.proofs.Strengths.{Stops, stops_by, word_unseen, connective_strength, no_connective_at, modifier_strength, no_modifier_at, comma_strength, separators_stop, thens_stop, loops_stop, ends_behind}
 use Rattle.rr_parser.proofs.Firsts.{next_ends, chain_first, member_no_closing, starts_no_star, starts_no_label, last_stops, ternary_first, argument_starts, value_starts, starts_no_not, statement_starts, opened_stops, taking_stops}
-use Rattle.rr_parser.proofs.Stopping.{finished, end_ends, rescue_ends, caught_stop, first_no_command, target_no_command, ternary_no_target, phrase_no_target, AtEnd, elsif_ends}
+use Rattle.rr_parser.proofs.Stopping.{finished, end_ends, rescue_ends, caught_stop, first_no_command, target_no_command, ternary_no_target, phrase_no_target, AtEnd, middle_ends, tail_ends, elsif_ends}
 use Rattle.rr_parser.proofs.FullOperands.{Anywhere, Ends, PartStops, value_stop, NestedFull, word_here, closed_full, taking_full, enclosed_full, same_fence, passed_full, bang_full, minus_full, ternary_full}
 
 module _ (N : Readers) (R : Nested) (D : Type 0) (shrinks : ReadersShrink N) (nests : NestedFull N R D) where
@@ -203,6 +205,21 @@ module _ (N : Readers) (R : Nested) (D : Type 0) (shrinks : ReadersShrink N) (ne
   unfolding group_of
   group_full s z t (a_group {m = m} h e) u = closed_full kind.Close (statements_of N s) t m z refl (statements_full s m t h (next_ends m z kind.Close true e refl)) e
 
+  -- ---- text with parts
+
+  pieces_full : (i : ℕ) (s z : Place) (l : List Tree) → Pieces R i s l z → Ends z → at text_middle z ≡ None → Leads (pieces_of N i s) (Ok (l, z)) D
+  unfolding pieces_of
+  pieces_full i s z l c stops e =
+      chain_full text_middle text_middle (first_piece i) and_piece (statements_of N) (Statements R) Ends D Steps-middle shrinks.statements
+      (λ m n x e. middle_ends m n x e) (λ m n z x r e h. e) statements_full s z l c stops e
+
+  interpolation_full : (i : ℕ) → IsFull (interpolation_of N i) (Interpolation R i) Anywhere D
+  unfolding interpolation_of
+  interpolation_full i s z t (an_interpolation {m = m} {l = l} {j = j} c e) u =
+      let behind = tail_ends m z j e in
+      leads_trans (from (pieces_of N i) interpolated_on s) (interpolated_on l m) (Ok (t, z)) (leads_bind (pieces_of N i s) (l, m) (λ q. interpolated_on q.0 q.1) (pieces_full i s m l c behind.0 behind.1))
+      (inl (ap (interpolated_or l) e))
+
   -- ---- control
 
   pub branch_full : IsFull (branch_of N) (Branch R) Ends D
@@ -359,6 +376,7 @@ module _ (N : Readers) (R : Nested) (D : Type 0) (shrinks : ReadersShrink N) (ne
   part_full parts.Not = negation_full
   part_full parts.Command = command_full
   part_full parts.Branch = argument_full
+  part_full (parts.Interpolation i) = enclosed_full (interpolation_of N i) (Interpolation R i) (interpolation_full i)
   part_full (parts.Block k) = enclosed_full (block_of N k) (Block R k) (block_full k)
   part_full parts.Definition = enclosed_full (definition_of N) (Definition R) definition_full
 

@@ -116,6 +116,7 @@ module _ (N : Readers) (R : Nested) (D : Type 0) (shrinks : ReadersShrink N) (ne
   construct_full kind.Unless m p f = ap (λ q. N.part q m) (same_part parts.Unless p f)
   construct_full (kind.Loop until) m p f = ap (λ q. N.part q m) (same_part (parts.Loop until) p f)
   construct_full kind.Begin m p f = ap (λ q. N.part q m) (same_part parts.Begin p f)
+  construct_full (kind.TextHead i) m p f = ap (λ q. N.part q m) (same_part (parts.Interpolation i) p f)
   construct_full _ m p f = absurd cc
 
   -- a construct ends by itself
@@ -127,6 +128,7 @@ module _ (N : Readers) (R : Nested) (D : Type 0) (shrinks : ReadersShrink N) (ne
   construct_anywhere kind.Unless p z f = subst (λ q. PartStops q z) (same_part parts.Unless p f) tt
   construct_anywhere (kind.Loop until) p z f = subst (λ q. PartStops q z) (same_part (parts.Loop until) p f) tt
   construct_anywhere kind.Begin p z f = subst (λ q. PartStops q z) (same_part parts.Begin p f) tt
+  construct_anywhere (kind.TextHead i) p z f = subst (λ q. PartStops q z) (same_part (parts.Interpolation i) p f) tt
   construct_anywhere _ p z f = absurd cc
 
   plain_constant_full : (x : Sym) (outer : Bool) (z : Place) → at (inner_constant outer) z ≡ None → constant_at x outer z ≡ done (constant (paths.Plain x)) z

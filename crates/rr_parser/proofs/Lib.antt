@@ -25,4 +25,5 @@ pub mod Programs
 pub mod Defining
 pub mod Outlines
 pub mod Rescuing
+pub mod Interpolating
 mod Indexing

@@ -26,6 +26,7 @@ use Rattle.rr_parser.specs.Grammar.Operands.{scope_sign, tight_constant, behind_
 use Rattle.rr_parser.specs.Grammar.Operators.{operator, infixed, connective, joined_by, Logical, Binary, Equality, a_comparison, a_pair, Ternary, no_question, a_question}
 use Rattle.rr_parser.specs.Grammar.Calls.{with_target, label, comma, Assigned, an_assignment, no_assignment, Argument, Pair, by_label, by_arrow, star, Item, a_splat, a_plain_item, Member, Members, Bracketed, no_members, some_members, Array, an_array, Hash, a_hash, Index, of_element, Commanded, by_arguments, by_command, Command, a_command, Phrase, by_name, an_operand, Operand, Value}
 use Rattle.rr_parser.specs.Grammar.Sequences.{Negation, a_negation, no_negation, Expression, modifier, modified, Statement, Rows, Statements, no_statements, some_statements, Group, a_group}
+use Rattle.rr_parser.specs.Grammar.Interpolations.{text_middle, text_tail, first_piece, and_piece, Pieces, Interpolation, an_interpolation}
 use Rattle.rr_parser.specs.Grammar.Control.{thens, elsif, Branch, a_branch, Branches, Otherwise, no_else, an_else, Choice, a_choice, Unless, an_unless, Loop, a_loop, looping, Looped, of_loop}
 use Rattle.rr_parser.specs.Grammar.Bodies.{path_from, path_of_kind, path, Class, a_class, Classes, no_classes, some_classes, before_thens, named_thens, behind_arrow, caught, with_caught, Clause, a_clause, rescues, Clauses, Rescued, no_rescue, a_rescue, Body, no_ensure, an_ensure, Begun, a_begun, Held, between_braces, until_end}
 use Rattle.rr_parser.specs.Grammar.Blocks.{entered, Block, of_statements}
@@ -34,7 +35,7 @@ use Rattle.rr_parser.specs.Grammar.{FormOf, is_enclosed, Enclosed, PartOf, insid
 use Rattle.rr_parser.specs.Reading.Nesting.{Readers}
 use Rattle.rr_parser.specs.Reading.Operators.{binary_of, logical_of}
 use Rattle.rr_parser.specs.Reading.Calls.{argument_of, member_of}
-use Rattle.rr_parser.specs.Reading.Sequences.{negation_of, expression_of, statement_of}
+use Rattle.rr_parser.specs.Reading.Sequences.{negation_of, expression_of, statement_of, statements_of}
 use Rattle.rr_parser.specs.Reading.Control.{branch_of}
 use Rattle.rr_parser.specs.Reading.Bodies.{class_of, clause_of}
 use Rattle.rr_parser.specs.Reading.{readers}
@@ -45,7 +46,7 @@ use Rattle.rr_parser.proofs.Trails.{trail_shrinking}
 use Rattle.rr_parser.proofs.Chains.{Shrinks, IsShrinking, shrinks_by, chain_shrinking}
 use Rattle.rr_parser.proofs.Formals.{formals-less}
 use Rattle.rr_parser.proofs.SoundOperands.{binary_sound, logical_sound, tailed_sound}
-use Rattle.rr_parser.proofs.Sound.{nested, sound_nested, argument_sound, member_sound, negation_sound, expression_sound, statement_sound, branch_sound, class_sound, clause_sound}
+use Rattle.rr_parser.proofs.Sound.{nested, sound_nested, argument_sound, member_sound, negation_sound, expression_sound, statement_sound, statements_sound, branch_sound, class_sound, clause_sound}
 
 pub record NestedShrinking (R : Nested) : Type 0 where
   pub part : (p : Part) → IsShrinking (R.part p)
@@ -121,6 +122,12 @@ Steps-caught s z x e = caught-less s z x (word kind.Arrow s.rest) refl e
 
 pub Steps-rescues : Steps rescues
 Steps-rescues = Steps-word kind.Rescue
+
+pub Steps-middle : Steps text_middle
+Steps-middle = Steps-first_as _
+
+Steps-text_tail : Steps text_tail
+Steps-text_tail = Steps-first_as _
 
 pub Steps-name : Steps name
 Steps-name = Steps-first_as _
@@ -299,12 +306,18 @@ module _ (R : Nested) (nests : NestedShrinking R) where
   rows_shrinking : IsShrinking (Rows R)
   rows_shrinking = chain_shrinking separators one_of and_one (Statement R) Steps-separators statement_shrinking
 
-  statements_shrinking : IsShrinking (Statements R)
+  pub statements_shrinking : IsShrinking (Statements R)
   statements_shrinking s z t no_statements = left-without_separators s.rest
   statements_shrinking s z t (some_statements {m = m} {l = l} h) = omega (arith, left-without_separators s.rest, rows_shrinking (skip s) m l h, left-without_separators m.rest)
 
   group_shrinking : IsShrinking (Group R)
   group_shrinking s z t (a_group {m = m} h e) = omega (arith, statements_shrinking s m t h, next-left m z kind.Close e)
+
+  pieces_shrinking : (i : ℕ) → IsShrinking (Pieces R i)
+  pieces_shrinking i = chain_shrinking text_middle (first_piece i) and_piece (Statements R) Steps-middle statements_shrinking
+
+  interpolation_shrinking : (i : ℕ) → IsShrinking (Interpolation R i)
+  interpolation_shrinking i s z t (an_interpolation {m = m} {l = l} {j = j} h e) = omega (arith, pieces_shrinking i s m l h, Steps-text_tail m z j e)
 
   branch_shrinking : IsShrinking (Branch R)
   branch_shrinking s z b (a_branch {m = m} {n = n} {c = c} {t = t} {u = u} h e i) = omega (arith, expression_shrinking s m c h, Steps-thens m n u e, statements_shrinking n z t i)
@@ -373,6 +386,7 @@ module _ (R : Nested) (nests : NestedShrinking R) where
   form_shrinking parts.Not = negation_shrinking
   form_shrinking parts.Command = command_shrinking
   form_shrinking parts.Branch = argument_shrinking
+  form_shrinking (parts.Interpolation i) = interpolation_shrinking i
   form_shrinking (parts.Block k) = block_shrinking k
   form_shrinking parts.Definition = definition_shrinking
 
@@ -413,6 +427,7 @@ pub record ReadersShrink (N : Readers) : Type 0 where
   pub negation : Shrinks (negation_of N)
   pub expression : Shrinks (expression_of N)
   pub statement : Shrinks (statement_of N)
+  pub statements : Shrinks (statements_of N)
   pub branch : Shrinks (branch_of N)
   pub clause : Shrinks (clause_of N)
 
@@ -431,6 +446,7 @@ shrinks_nested b d =
       negation = shrinks_by (negation_of N) (Negation R) (negation_sound N R sounds) (negation_shrinking R nests);
       expression = shrinks_by (expression_of N) (Expression R) (expression_sound N R sounds) (expression_shrinking R nests);
       statement = shrinks_by (statement_of N) (Statement R) (statement_sound N R sounds) (statement_shrinking R nests);
+      statements = shrinks_by (statements_of N) (Statements R) (statements_sound N R sounds) (statements_shrinking R nests);
       branch = shrinks_by (branch_of N) (Branch R) (branch_sound N R sounds) (branch_shrinking R nests);
       clause = shrinks_by (clause_of N) (Clause R) (clause_sound N R sounds) (clause_shrinking R nests);
     }

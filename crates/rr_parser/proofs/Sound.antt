@@ -1,7 +1,7 @@
 -- What is read is spelled.
-use Rattle.std.proofs.Common.{◌≡◌, ℕ, zero, suc, Bool, true, false, cond, List, [], Option, Some, None, Ok, refl, sym, subst}
+use Rattle.std.proofs.Common.{◌≡◌, ℕ, zero, suc, Bool, true, false, cond, List, [], ◌∷◌, ◌++◌, Option, Some, None, Ok, refl, sym, subst}
 use Rattle.rr_base.specs.declared.name.Sym.{Sym}
-use Rattle.rr_tree.specs.Tree.{Tree, nil, constant, rescue, clause, ensure, sequence, repeat, array, hash, splat, pair, symbol, logical_not, listed}
+use Rattle.rr_tree.specs.Tree.{Tree, nil, text, interpolation, constant, rescue, clause, ensure, sequence, repeat, array, hash, splat, pair, symbol, logical_not, listed}
 use Rattle.rr_parser.specs.declared.word.Aim.{Aim}
 use Rattle.rr_parser.specs.declared.word.Behind.TheVariants as behinds
 use Rattle.rr_parser.specs.declared.word.Fence.{Fence}
@@ -21,6 +21,7 @@ use Rattle.rr_parser.specs.Grammar.Operands.{Blocked}
 use Rattle.rr_parser.specs.Grammar.Operators.{connective, joined_by, Ternary}
 use Rattle.rr_parser.specs.Grammar.Calls.{target, with_target, assigned_to, label, comma, closing, last, Assigned, an_assignment, no_assignment, Argument, Pair, by_label, by_arrow, star, Item, a_splat, a_plain_item, Member, Members, Bracketed, no_members, some_members, Array, an_array, Hash, a_hash, Index, of_element, Commanded, by_arguments, by_command, Command, a_command, Phrase, by_name, an_operand, Operand, Value}
 use Rattle.rr_parser.specs.Grammar.Sequences.{Negation, a_negation, no_negation, Expression, modifier, modified, Statement, Rows, Statements, no_statements, some_statements, Group, a_group}
+use Rattle.rr_parser.specs.Grammar.Interpolations.{text_middle, text_tail, first_piece, and_piece, Pieces, Interpolation, an_interpolation}
 use Rattle.rr_parser.specs.Grammar.Control.{thens, loops, elsif, chosen, unless_chosen, Branch, a_branch, Branches, Otherwise, no_else, an_else, Choice, a_choice, Unless, an_unless, Loop, a_loop, looping, outside_loop, Looped, of_loop}
 use Rattle.rr_parser.specs.Grammar.Bodies.{path, Class, a_class, Classes, no_classes, some_classes, caught, with_caught, caught_tree, Clause, a_clause, rescues, Clauses, Rescued, no_rescue, a_rescue, Body, no_ensure, an_ensure, loop_word, Begun, a_begun, Held, between_braces, until_end}
 use Rattle.rr_parser.specs.Grammar.Blocks.{parameters, entered, leaving, block_tree, Block, of_statements}
@@ -33,6 +34,7 @@ use Rattle.rr_parser.specs.Reading.Operands.{blocked_of}
 use Rattle.rr_parser.specs.Reading.Operators.{ternary_of}
 use Rattle.rr_parser.specs.Reading.Calls.{assigned_or, assigned_of, argument_of, pair_by, pair_of, item_or, item_of, member_of, another, members_of, bracketed_or, bracketed_of, array_of, hash_of, index_of, commanded_or, commanded_of, arguments_of, headed_of, command_or, command_of, phrase_or, phrase_of, operand_of, value_of}
 use Rattle.rr_parser.specs.Reading.Sequences.{negation_or, negation_of, expression_of, statement_of, ends, row, rows_of, sequence_of, statements_of, group_of}
+use Rattle.rr_parser.specs.Reading.Interpolations.{pieces_of, interpolated_or, interpolated_on, interpolation_of}
 use Rattle.rr_parser.specs.Reading.Control.{both, branch_of, branches_of, otherwise_or, otherwise_of, choice_of, unless_of, loop_of, looped_of}
 use Rattle.rr_parser.specs.Reading.Bodies.{class_or, class_of, several_classes, classes_or, classes_of, clause_or, clause_on, clause_of, clauses_of, rescued_or, rescued_on, rescued_of, ensured_or, ensured_on, body_of, unlooped, ended_body, unlooped_on, begun_of, held_of}
 use Rattle.rr_parser.specs.Reading.Blocks.{left_block, block_or, block_of}
@@ -217,6 +219,20 @@ module _ (N : Readers) (R : Nested) (nests : NestedSound N R) where
   unfolding group_of
   group_sound s z t e = let c = closed_ok kind.Close told_close (statements_of N s) z t e in a_group (statements_sound s c.0 t c.1) c.2
 
+  -- ---- text with parts
+
+  pub pieces_sound : (i : ℕ) → IsSound (pieces_of N i) (Pieces R i)
+  unfolding pieces_of
+  pieces_sound i = chain_sound text_middle text_middle (first_piece i) and_piece (statements_of N) (Statements R) (λ m n x e. e) statements_sound
+
+  interpolated_or-sound : (i : ℕ) (s m : Place) (l : List Tree) (o : Option (ℕ × Place)) (z : Place) (t : Tree) → Pieces R i s l m → at text_tail m ≡ o → interpolated_or l o ≡ Ok (t, z) → Interpolation R i s t z
+  interpolated_or-sound i s m l None z t h f e = absurd cc
+  interpolated_or-sound i s m l (Some x) z t h f e = at_answer (Interpolation R i s) (interpolation (listed (l ++ text x.0 ∷ []))) t x.1 z e (an_interpolation h f)
+
+  interpolation_sound : (i : ℕ) → IsSound (interpolation_of N i) (Interpolation R i)
+  unfolding interpolation_of
+  interpolation_sound i = from_sound (pieces_of N i) interpolated_on (Pieces R i) (Interpolation R i) (pieces_sound i) (λ s m z l t h e. interpolated_or-sound i s m l (at text_tail m) z t h refl e)
+
   -- ---- control
 
   pub branch_sound : IsSound (branch_of N) (Branch R)
@@ -366,6 +382,7 @@ module _ (N : Readers) (R : Nested) (nests : NestedSound N R) where
   form_sound parts.Not = negation_sound
   form_sound parts.Command = command_sound
   form_sound parts.Branch = argument_sound
+  form_sound (parts.Interpolation i) = interpolation_sound i
   form_sound (parts.Block k) = block_sound k
   form_sound parts.Definition = definition_sound
 

@@ -18,11 +18,12 @@ use Rattle.rr_parser.specs.Grammar.Names.{begins_operands, head, begins_head, co
 use Rattle.rr_parser.specs.Grammar.Operands.{construct_of, Primary, a_literal, a_constant, a_path, a_negative, a_local, a_bare_call, a_call, a_block_call, a_jump, a_passing, a_passing_call, a_construct, Postfix, a_bang, no_bang, Minus, a_minus, no_minus}
 use Rattle.rr_parser.specs.Grammar.Operators.{operator, infixed, connective, joined_by, Binary, a_comparison, a_pair, Logical, Ternary, no_question, a_question}
 use Rattle.rr_parser.specs.Grammar.Calls.{target, a_command, Phrase, by_name, an_operand, target_of_kind}
+use Rattle.rr_parser.specs.Grammar.Interpolations.{middle_of_kind, text_middle, tail_of_kind, text_tail}
 use Rattle.rr_parser.specs.Grammar.Control.{thens, elsif}
 use Rattle.rr_parser.specs.Grammar.Bodies.{rescues, before_thens, behind_arrow, caught}
 use Rattle.rr_parser.specs.Reading.Sequences.{ends_at, ends}
 use Rattle.rr_parser.proofs.Told.{told_rescue, told_arrow, told_elsif}
-use Rattle.rr_parser.proofs.Looks.{seen, some_what, some_place, none_unless, by_next, one_kind, one_place, word-next, name-next, next-name, target-next, command-next}
+use Rattle.rr_parser.proofs.Looks.{seen, seen_as, some_what, some_place, none_unless, by_next, one_kind, one_place, word-next, name-next, next-name, target-next, command-next}
 use Rattle.rr_parser.proofs.Strengths.{strength_in, Stops, stops_by, thens_stop, operator_strength, connective_strength, tail_strength}
 use Rattle.rr_parser.proofs.Firsts.{next_ends, opens, First, and_false, bare_no_command, bracket_not_assign, brace_not_assign, by_word, by_integer, by_no_command, by_jump, by_passing, by_bang, by_prefix}
 
@@ -191,6 +192,21 @@ caught_stop z n x e = by_arrow (word kind.Arrow z.rest) refl e
     by_arrow (Some r) g h =
         let m : Place = record { known = z.known; rest = r.1 } in
         stops_by kind.Arrow 28 z m (word-next kind.Arrow told_arrow z m r.0 (ap (placed z.known) g)) (omega arith)
+
+middle_told : (k : WordKind) (i : ℕ) → middle_of_kind k ≡ Some i → ends_at k ≡ true
+middle_told (kind.TextMiddle j) i e = refl
+middle_told _ i e = absurd cc
+
+pub middle_ends : (z n : Place) (i : ℕ) → at text_middle z ≡ Some (i, n) → ends z.rest ≡ true
+middle_ends z n i e = let w = seen_as (λ w. middle_of_kind w.kind) z n i e in next_ends z n w.kind true w.here (middle_told w.kind i w.told)
+
+-- the piece that ends a literal ends statements, and is no piece between two parts
+pub tail_ends : (z n : Place) (i : ℕ) → at text_tail z ≡ Some (i, n) → (ends z.rest ≡ true) × (at text_middle z ≡ None)
+tail_ends z n i e = let w = seen_as (λ w. tail_of_kind w.kind) z n i e in by_kind w.kind w.here w.told
+  where
+    by_kind : (k : WordKind) → next z ≡ Some (k, n) → tail_of_kind k ≡ Some i → (ends z.rest ≡ true) × (at text_middle z ≡ None)
+    by_kind (kind.TextTail j) f g = (next_ends z n (kind.TextTail j) true f refl, by_next (λ q. at text_middle q ≡ None) z n (kind.TextTail j) f (λ b. refl))
+    by_kind _ f g = absurd cc
 
 pub elsif_ends : (z n : Place) (u : Unit {0}) → at elsif z ≡ Some (u, n) → ends z.rest ≡ true
 elsif_ends z n u e = next_ends z n kind.Elsif true (word-next kind.Elsif told_elsif z n u e) refl

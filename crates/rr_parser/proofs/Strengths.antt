@@ -158,6 +158,8 @@ at_word known w ws kind.Separator f e =
     (omega arith, no_row s (skip n) tt (next-separators s n refl) e)
 at_word known w ws kind.Close f e = (omega arith, refl)
 at_word known w ws kind.CloseBrace f e = (omega arith, refl)
+at_word known w ws (kind.TextMiddle i) f e = (omega arith, refl)
+at_word known w ws (kind.TextTail i) f e = (omega arith, refl)
 at_word known w ws kind.Elsif f e = (omega arith, refl)
 at_word known w ws kind.Else f e = (omega arith, refl)
 at_word known w ws kind.Rescue f e = (omega arith, refl)

@@ -27,6 +27,7 @@ use Rattle.rr_parser.specs.Grammar.Operands.{joined, construct_of, tail, Postfix
 use Rattle.rr_parser.specs.Grammar.Operators.{operator, connective, Binary, Logical}
 use Rattle.rr_parser.specs.Grammar.Calls.{target, with_target, label, comma, star, Argument, Members, Commanded}
 use Rattle.rr_parser.specs.Grammar.Sequences.{Expression, Statement, Rows, Statements, modifier}
+use Rattle.rr_parser.specs.Grammar.Interpolations.{text_middle, Pieces}
 use Rattle.rr_parser.specs.Grammar.Control.{thens, loops, elsif, looping, Branch, Branches}
 use Rattle.rr_parser.specs.Grammar.Bodies.{Classes, caught, with_caught, rescues, Clauses, Rescued}
 use Rattle.rr_parser.specs.Grammar.Blocks.{parameters, entered}
@@ -176,6 +177,9 @@ RowsFront N F = ChainFront separators (Rows N) (StatementFront N F)
 abbrev pub StatementsFront : Nested → Fronts → Place → Place → Type 0
 StatementsFront N F s z = RowsFront N F (skip s) z
 
+abbrev pub PiecesFront : Nested → Fronts → ℕ → Place → Place → Type 0
+PiecesFront N F i = ChainFront text_middle (Pieces N i) (StatementsFront N F)
+
 abbrev pub BranchFront : Nested → Fronts → Place → Place → Type 0
 BranchFront N F = AcrossFront thens (Expression N) (ExpressionFront N F) (StatementsFront N F)
 
@@ -229,6 +233,7 @@ FormFront N F parts.Bang = BangFront N F
 FormFront N F parts.Not = NegationFront N F
 FormFront N F parts.Command = CommandFront N F
 FormFront N F parts.Branch = ArgumentFront N F
+FormFront N F (parts.Interpolation i) = PiecesFront N F i
 FormFront N F (parts.Block f) = BlockFront N F f
 FormFront N F parts.Definition = DefinitionFront N F
 

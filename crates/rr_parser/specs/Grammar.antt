@@ -13,6 +13,7 @@ use Rattle.rr_parser.specs.Grammar.Fences.{Taking}
 use Rattle.rr_parser.specs.Grammar.Operands.{Bang, Minus}
 use Rattle.rr_parser.specs.Grammar.Calls.{Argument, Array, Hash, Index, Bracketed, Command, Value}
 use Rattle.rr_parser.specs.Grammar.Sequences.{Negation, Group}
+use Rattle.rr_parser.specs.Grammar.Interpolations.{Interpolation}
 use Rattle.rr_parser.specs.Grammar.Control.{Choice, Unless, Looped}
 use Rattle.rr_parser.specs.Grammar.Bodies.{Begun}
 use Rattle.rr_parser.specs.Grammar.Blocks.{Block}
@@ -26,6 +27,7 @@ pub mod Operands
 pub mod Operators
 pub mod Calls
 pub mod Sequences
+pub mod Interpolations
 pub mod Control
 pub mod Bodies
 pub mod Blocks
@@ -47,6 +49,7 @@ FormOf N parts.Bang = Bang N
 FormOf N parts.Not = Negation N
 FormOf N parts.Command = Command N
 FormOf N parts.Branch = Argument N
+FormOf N (parts.Interpolation i) = Interpolation N i
 FormOf N (parts.Block f) = Block N f
 FormOf N parts.Definition = Definition N
 

@@ -11,6 +11,7 @@ use Rattle.rr_parser.specs.Reading.Nesting.{Readers}
 use Rattle.rr_parser.specs.Reading.Operands.{bang_of, minus_of}
 use Rattle.rr_parser.specs.Reading.Calls.{argument_of, bracketed_of, array_of, hash_of, index_of, command_of, value_of}
 use Rattle.rr_parser.specs.Reading.Sequences.{negation_of, group_of}
+use Rattle.rr_parser.specs.Reading.Interpolations.{interpolation_of}
 use Rattle.rr_parser.specs.Reading.Control.{choice_of, unless_of, looped_of}
 use Rattle.rr_parser.specs.Reading.Bodies.{begun_of}
 use Rattle.rr_parser.specs.Reading.Blocks.{block_of}
@@ -24,6 +25,7 @@ pub mod Operands
 pub mod Operators
 pub mod Calls
 pub mod Sequences
+pub mod Interpolations
 pub mod Control
 pub mod Bodies
 pub mod Blocks
@@ -45,6 +47,7 @@ form_of N parts.Bang = bang_of N
 form_of N parts.Not = negation_of N
 form_of N parts.Command = command_of N
 form_of N parts.Branch = argument_of N
+form_of N (parts.Interpolation i) = interpolation_of N i
 form_of N (parts.Block f) = block_of N f
 form_of N parts.Definition = definition_of N
 

@@ -112,9 +112,12 @@ symbols_of source tokens = fold (λ names token. with_symbol source names token 
 abbrev pub with_text : List ℕ → List (List ℕ) → Token → Kind → List (List ℕ)
 with_text source texts token kinds.Text = texts ++ contents_of (word_of source token) ∷ []
 with_text source texts token kinds.Single = texts ++ contents_of (word_of source token) ∷ []
+with_text source texts token kinds.Head = texts ++ contents_of (word_of source token) ∷ []
+with_text source texts token kinds.Middle = texts ++ contents_of (word_of source token) ∷ []
+with_text source texts token kinds.Tail = texts ++ contents_of (word_of source token) ∷ []
 with_text source texts token _ = texts
 
--- what the text literals among the tokens stand for, in their order
+-- what the text literals among the tokens stand for, or their pieces where parts of them are evaluated, in their order
 abbrev pub texts_of : List ℕ → List Token → List (List ℕ)
 texts_of source tokens = fold (λ texts token. with_text source texts token token.kind) [] tokens
 
@@ -146,6 +149,9 @@ word_kind source names texts token kinds.Label = kind.Label (number_of names (to
 word_kind source names texts token kinds.Int = int_kind (int_value_of (word_of source token))
 word_kind source names texts token kinds.Text = kind.Text texts
 word_kind source names texts token kinds.Single = kind.Text texts
+word_kind source names texts token kinds.Head = kind.TextHead texts
+word_kind source names texts token kinds.Middle = kind.TextMiddle texts
+word_kind source names texts token kinds.Tail = kind.TextTail texts
 word_kind source names texts token (kinds.Keyword k) = keyword_kind k
 word_kind source names texts token (kinds.Op o) = op_kind o
 word_kind source names texts token kinds.LineEnd = kind.Separator

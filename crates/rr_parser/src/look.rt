@@ -363,6 +363,8 @@ fn ends_at(kind: WordKind) -> bool
     match kind {
         WordKind::Close
         | WordKind::CloseBrace
+        | WordKind::TextMiddle(_)
+        | WordKind::TextTail(_)
         | WordKind::Elsif
         | WordKind::Else
         | WordKind::Rescue
@@ -430,6 +432,7 @@ fn begins_operand(kind: WordKind, tight: bool) -> bool
     match kind {
         WordKind::Int(_)
         | WordKind::Text(_)
+        | WordKind::TextHead(_)
         | WordKind::Name(_, _)
         | WordKind::Nil
         | WordKind::Truth(_)

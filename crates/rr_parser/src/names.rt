@@ -1,6 +1,7 @@
 //! Words from tokens: each name and each text gets its number.
 
 ghost use Rattle.std.specs.Prelude.{◌≡◌, ◌∷◌, [], ◌++◌, length, map, IfOk, OnOk};
+ghost use Rattle.rr_lexer.specs.Contents.{word_of, contents_of};
 ghost use Rattle.rr_parser.specs.Words.{keyword_kind, op_kind, is_marked, is_ractor, with_name, number_of, with_symbol, with_text, word_with, words_of, symbols_of, texts_of};
 
 use crate::refusal::Storage;
@@ -149,13 +150,14 @@ impl<'s> Numbering<'s> {
         Ok(Sym(number(place)?))
     }
 
-    fn text(&mut self, text: Vec<u8>) -> Result<u32, Storage>
-        ensures texts { OnOk result (texts_held self.new ≡ texts_held self.old ++ text.items ∷ []) }
+    /// The number of the text, or of the piece of one, that a token stands for.
+    fn text(&mut self, alloc: Global, source: &[u8], token: Token) -> Result<u32, Storage>
+        ensures texts { OnOk result (texts_held self.new ≡ texts_held self.old ++ contents_of (word_of source.now token) ∷ []) }
         ensures number { IfOk result (λ n. n ≡ length (texts_held self.old)) }
         ensures names { self.new.names.keys ≡ self.old.names.keys }
     {
         let place = number(self.texts.len())?;
-        self.texts.push(text)?;
+        self.texts.push(text_contents(alloc, source, token)?)?;
         Ok(place)
     }
 
@@ -182,9 +184,10 @@ impl<'s> Numbering<'s> {
                 Some(value) => WordKind::Int(value),
                 None => WordKind::Other,
             },
-            Kind::Text | Kind::Single => WordKind::Text(self.text(text_contents(
-                alloc, source, token,
-            )?)?),
+            Kind::Text | Kind::Single => WordKind::Text(self.text(alloc, source, token)?),
+            Kind::Head => WordKind::TextHead(self.text(alloc, source, token)?),
+            Kind::Middle => WordKind::TextMiddle(self.text(alloc, source, token)?),
+            Kind::Tail => WordKind::TextTail(self.text(alloc, source, token)?),
             Kind::Keyword(keyword) => keyword_kind(keyword),
             Kind::Op(op) => op_kind(op),
             Kind::LineEnd => WordKind::Separator,

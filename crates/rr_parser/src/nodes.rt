@@ -1,7 +1,7 @@
 //! The nodes that a parser puts.
 
 ghost use Rattle.std.specs.Prelude.{◌≡◌, ◌<◌, ◌≤◌, ◌++◌, length, map, All, IfOk, OnOk};
-ghost use Rattle.rr_tree.specs.Tree.{Tree, nil, tree_at, sequence, bare, call, send, array, hash, pair, symbol, rescue, clause, listed, HasPartsBefore};
+ghost use Rattle.rr_tree.specs.Tree.{Tree, nil, tree_at, sequence, interpolation, bare, call, send, array, hash, pair, symbol, rescue, clause, listed, HasPartsBefore};
 ghost use Rattle.rr_tree.specs.Nodes.{node_tree, item};
 ghost use Rattle.rr_parser.specs.Grammar.Operators.{infixed, joined_by};
 ghost use Rattle.rr_parser.specs.Grammar.Names.{local_tree, jump_tree, jump_value, passed, passed_bare, headed};
@@ -130,6 +130,15 @@ impl Parser {
     {
         let (first, count) = self.put_items(items)?;
         self.put(Node::Sequence { first, count })
+    }
+
+    /// Puts a text literal with parts that are evaluated, whose items are pieces of text and what stands between them.
+    pub fn put_interpolation(&mut self, items: &[NodeId]) -> Result<NodeId, Storage>
+        requires { All (λ i. i < length self.old.nodes.items) items.now }
+        ensures { IfOk result (λ id. Puts self.old self.new (interpolation (listed (map (tree_at self.old.nodes.items) items.now))) id) }
+    {
+        let (first, count) = self.put_items(items)?;
+        self.put(Node::Interpolation { first, count })
     }
 
     pub fn put_call(&mut self, name: Sym, items: &[NodeId]) -> Result<NodeId, Storage>

@@ -114,6 +114,7 @@ impl Parser {
             WordKind::Unless => self.part(Part::Unless, inside, depth, rest),
             WordKind::Loop { until } => self.part(Part::Loop { until }, inside, depth, rest),
             WordKind::Begin => self.part(Part::Begin, inside, depth, rest),
+            WordKind::TextHead(text) => self.part(Part::Interpolation(text), inside, depth, rest),
             _ => Err(Refusal::Unexpected(words.len())),
         }
     }

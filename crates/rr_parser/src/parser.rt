@@ -181,6 +181,7 @@ impl Parser {
             Part::Not => self.negation(inside, depth, words),
             Part::Command => self.command(inside, depth, words),
             Part::Branch => self.value(false, inside, depth, words),
+            Part::Interpolation(head) => self.interpolation(head, inside, depth, words),
             Part::Block(fence) => self.block(fence, inside, depth, words),
             Part::Definition => self.definition(inside, depth, words),
         }

@@ -144,11 +144,11 @@ pub(crate) fn read(
 /// The program that the tokens of a source spell.
 ///
 /// The tokens are those that `lex` gives for the source. A `Syntax` fault stands at the first token that no construct
-/// goes on with, or at the end of the source. At most 200 constructs may be open at one place: brackets, a construct that
-/// an `end` ends, a minus, a `!` or a `not` before an operand, a command that is the argument of a command, a branch of
-/// `? :`, and the right side of an assignment inside the right side of another one; past that the fault is
-/// `Limit(Nesting)`. A program that needs more than 4,294,967,295 nodes, names or texts is `Limit(Slots)`, and where the
-/// allocator refuses a growth the fault is `Memory`.
+/// goes on with, or at the end of the source. At most 200 constructs may be open at one place: brackets, a text literal
+/// with parts that are evaluated, a construct that an `end` ends, a minus, a `!` or a `not` before an operand, a command
+/// that is the argument of a command, a branch of `? :`, and the right side of an assignment inside the right side of
+/// another one; past that the fault is `Limit(Nesting)`. A program that needs more than 4,294,967,295 nodes, names or
+/// texts is `Limit(Slots)`, and where the allocator refuses a growth the fault is `Memory`.
 pub fn parse(alloc: Global, source: &[u8], tokens: &[Token]) -> Result<Program, Fault>
     // What is read is spelled so.
     ensures found { IfOk result (λ p. SpellsWithin 200 source.now tokens.now (tree_at p.nodes.items p.root)) }

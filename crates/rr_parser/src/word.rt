@@ -142,6 +142,8 @@ pub(crate) enum Part {
     Command,
     /// One of the two operands between which is chosen.
     Branch,
+    /// The parts of a text literal behind its first piece, whose number it has.
+    Interpolation(u32),
     /// The parameters of a block and what it holds, with the word that ends it.
     Block(Fence),
     /// What stands behind `def`, with its `end`.
@@ -155,6 +157,12 @@ pub(crate) enum WordKind {
     Int(u64),
     /// A literal, by its number among the program's texts.
     Text(u32),
+    /// The first piece of a literal with parts that are evaluated, by its number among the texts.
+    TextHead(u32),
+    /// A piece between two such parts.
+    TextMiddle(u32),
+    /// The last piece.
+    TextTail(u32),
     /// A name, and whether it ends with `?` or `!`: such a name is no target.
     Name(Sym, bool),
     Nil,

@@ -83,6 +83,7 @@ is_tight (w ∷ ws) = not w.blank
 abbrev pub begins_operand : WordKind → Bool → Bool
 begins_operand (kind.Int n) tight = true
 begins_operand (kind.Text i) tight = true
+begins_operand (kind.TextHead i) tight = true
 begins_operand (kind.Name x marked) tight = true
 begins_operand kind.Nil tight = true
 begins_operand (kind.Truth b) tight = true

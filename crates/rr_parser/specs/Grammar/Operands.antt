@@ -87,6 +87,7 @@ construct_of kind.If = Some parts.Choice
 construct_of kind.Unless = Some parts.Unless
 construct_of (kind.Loop until) = Some (parts.Loop until)
 construct_of kind.Begin = Some parts.Begin
+construct_of (kind.TextHead i) = Some (parts.Interpolation i)
 construct_of _ = None
 
 -- a call or a command, with the block that stands behind it

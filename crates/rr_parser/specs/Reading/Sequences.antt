@@ -30,6 +30,8 @@ statement_of N = chain modifier same modified (expression_of N)
 abbrev pub ends_at : WordKind → Bool
 ends_at kind.Close = true
 ends_at kind.CloseBrace = true
+ends_at (kind.TextMiddle i) = true
+ends_at (kind.TextTail i) = true
 ends_at kind.Elsif = true
 ends_at kind.Else = true
 ends_at kind.Rescue = true

@@ -1,4 +1,4 @@
-use Rattle.std.proofs.Common.{List, ◌-◌, sym, subst, arith}
+use Rattle.std.proofs.Common.{List, ◌-◌, sym, ◌∙◌, subst, arith}
 use Rattle.std.proofs.lemmas.Result.{err_from_is_err_and}
 use Rattle.rr_tree.specs.Tree.{Tree}
 use Rattle.rr_parser.specs.Grammar.Chains.{and_one}
@@ -8,18 +8,21 @@ use Rattle.rr_parser.specs.Grammar.Control.{elsif}
 use Rattle.rr_parser.specs.Reading.Answers.{Parse}
 use Rattle.rr_parser.specs.Reading.Operators.{binary_of, logical_of}
 use Rattle.rr_parser.specs.Reading.Calls.{another, member_of}
-use Rattle.rr_parser.specs.Reading.Sequences.{negation_of, expression_of, statement_of, row}
+use Rattle.rr_parser.specs.Reading.Sequences.{negation_of, expression_of, statement_of, statements_of, row}
 use Rattle.rr_parser.specs.Grammar.Bodies.{rescues}
+use Rattle.rr_parser.specs.Grammar.Interpolations.{text_middle, and_piece}
+use Rattle.rr_parser.specs.Reading.Interpolations.{pieces_of}
 use Rattle.rr_parser.specs.Reading.Control.{branch_of}
 use Rattle.rr_parser.specs.Reading.Bodies.{clause_of}
 use Rattle.rr_parser.specs.Reading.{readers}
 use Rattle.rr_parser.specs.Meets.{Gives, GivesList, nodes, pairs, lists, place}
 use Rattle.rr_parser.proofs.Looks.{Steps-row, Steps-another}
-use Rattle.rr_parser.proofs.Shrinking.{Steps-operator, Steps-connective, Steps-modifier, Steps-elsif, Steps-rescues, shrinks_nested}
+use Rattle.rr_parser.proofs.Shrinking.{Steps-operator, Steps-connective, Steps-modifier, Steps-elsif, Steps-middle, Steps-rescues, shrinks_nested}
 use Rattle.rr_parser.proofs.Making.{stable_nodes, stable_pairs, goes_ends, goes_fails, goes_smaller, list_on, operators_on, nested_part, nested_bracketed, gives_outside}
 use Rattle.rr_parser.proofs.Choosing.{made_alternatives, made_pair, made_branch, made_loop, made_choice, made_unless}
 use Rattle.rr_parser.proofs.Calling.{gives_sent, gives_headed, made_behind, made_element, made_arrow, trail_fails, trail_smaller, trail_goes, trail_ends}
 use Rattle.rr_parser.proofs.Rescuing.{made_clause, made_rescued, made_ensured}
+use Rattle.rr_parser.proofs.Interpolating.{pieces_begin, pieces_on, made_interpolation}
 use Rattle.rr_parser.proofs.parser.Parser.+parser.Goals as goal
 
 pub members-returns-in_err-next : goal.members-returns-in_err-next
@@ -249,3 +252,31 @@ rescued-returns t c =
 pub body-returns : goal.body-returns
 body-returns t c =
     made_ensured (readers c.args.inside c.args.depth) c.args.self.now c.rescued.new.self _ _ _ c.in_ok-body.ensures _ c.in-Some.ensures c.statements.new.self c.put.new.self _ _ _ c.in_ok-last.ensures c.in_ok-put.ensures.puts
+
+pub pieces-returns-in_err-next : goal.pieces-returns-in_err-next
+pieces-returns-in_err-next t c =
+    let p = err_from_is_err_and c.from_residual-in_err-next.result c.from_residual-in_err-next.ensures.1 in
+    rw (p.1, p.2) (goes_fails (lists nodes) nodes text_middle and_piece (statements_of (readers c.args.inside c.args.depth)) Steps-middle (shrinks_nested c.args.inside c.args.depth).statements _ _ _ _ _ _ _ _ c.loop-middle.invariant c.in-Some.ensures c.in_err-next.ensures)
+
+pub pieces-loop-middle-smaller : goal.pieces-loop-middle-smaller
+pieces-loop-middle-smaller t c =
+    goes_smaller (lists nodes) nodes text_middle and_piece (statements_of (readers c.args.inside c.args.depth)) Steps-middle (shrinks_nested c.args.inside c.args.depth).statements _ _ _ _ _ _ _ c.in-Some.ensures c.in_ok-next.ensures
+
+pub pieces-returns : goal.pieces-returns
+pieces-returns t c =
+    goes_ends (lists nodes) nodes text_middle and_piece (statements_of (readers c.args.inside c.args.depth)) Steps-middle (shrinks_nested c.args.inside c.args.depth).statements _ _ _ _ _ c.loop-middle.invariant c.in_default.ensures
+
+pub pieces-loop-middle-init : goal.pieces-loop-middle-init
+unfolding pieces_of
+pieces-loop-middle-init t c =
+    pieces_begin (statements_of (readers c.args.inside c.args.depth)) _ _ _ _ _ _ _ _ _ _ _ c.in_ok-first.ensures c.in_ok-piece.ensures.puts c.new-items.ensures.items c.in_ok-push.ensures.items c.in_ok-push-2.ensures.items
+
+pub pieces-loop-middle-preserved : goal.pieces-loop-middle-preserved
+pieces-loop-middle-preserved t c =
+    pieces_on (statements_of (readers c.args.inside c.args.depth)) (shrinks_nested c.args.inside c.args.depth).statements _ _ _ _ _ _ _ _ _ _ _ _ _ _ c.loop-middle.invariant c.in-Some.ensures c.in_ok-next.ensures c.in_ok-piece-2.ensures.puts
+    c.in_ok-push-3.ensures.items c.in_ok-push-4.ensures.items
+
+pub interpolation-returns : goal.interpolation-returns
+interpolation-returns t c =
+    made_interpolation (readers c.args.inside c.args.depth) c.args.head c.args.self.now c.pieces.new.self c.in_ok-items.items.items _ _ c.in_ok-items.ensures _ _ c.in-Some.ensures c.put.new.self _ c.in_ok-piece.ensures.puts c.deref.result.now
+    (c.deref.ensures.value ∙ c.in_ok-push.ensures.items) c.put_interpolation.new.self _ c.in_ok-put_interpolation.ensures

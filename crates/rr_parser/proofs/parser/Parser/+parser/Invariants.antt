@@ -9,8 +9,10 @@ use Rattle.rr_parser.specs.Reading.Answers.{chain_on, trail_on}
 use Rattle.rr_parser.specs.Reading.Operators.{binary_on, binary_of, logical_on, logical_of}
 use Rattle.rr_parser.specs.Reading.Operands.{tailed_of, postfix_of}
 use Rattle.rr_parser.specs.Reading.Calls.{another, member_of, members_of}
-use Rattle.rr_parser.specs.Reading.Sequences.{negation_of, expression_of, statement_of, rows_of, row}
+use Rattle.rr_parser.specs.Reading.Sequences.{negation_of, expression_of, statement_of, statements_of, rows_of, row}
 use Rattle.rr_parser.specs.Grammar.Bodies.{rescues}
+use Rattle.rr_parser.specs.Grammar.Interpolations.{text_middle, and_piece}
+use Rattle.rr_parser.specs.Reading.Interpolations.{pieces_of}
 use Rattle.rr_parser.specs.Reading.Control.{branch_of, branches_of}
 use Rattle.rr_parser.specs.Reading.Bodies.{clause_of, clauses_of}
 use Rattle.rr_parser.specs.Reading.{readers}
@@ -275,3 +277,17 @@ invariant-clauses-loop-after l =
 
 abbrev pub decreases-clauses-loop-after : goal.decreases-clauses-loop-after
 decreases-clauses-loop-after l = length l.rest
+
+abbrev pub decreases-pieces : goal.decreases-pieces
+decreases-pieces l = 128 * l.depth + cond l.inside 0 64 + 43
+
+abbrev pub decreases-interpolation : goal.decreases-interpolation
+decreases-interpolation l = 128 * l.depth + cond l.inside 0 64 + 44
+
+abbrev pub invariant-pieces-loop-middle : goal.invariant-pieces-loop-middle
+invariant-pieces-loop-middle l =
+    Goes (lists nodes) l.fn.self l.self l.items.items (pieces_of (readers l.inside l.depth) l.head (place l.fn.self l.fn.words))
+    (chain_on text_middle and_piece (statements_of (readers l.inside l.depth)) (map (tree_at l.self.nodes.items) l.items.items) (place l.self l.rest))
+
+abbrev pub decreases-pieces-loop-middle : goal.decreases-pieces-loop-middle
+decreases-pieces-loop-middle l = length l.rest
