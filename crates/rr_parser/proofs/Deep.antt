@@ -40,7 +40,8 @@ use Rattle.rr_parser.specs.Reading.Definitions.{left_method, method_or, definiti
 use Rattle.rr_parser.specs.Reading.{form_of, part_of, readers_inside, readers_outside}
 use Rattle.rr_parser.specs.Fronts.{Fronts, ChainFront, in_one, in_more, ClauseFront, in_clause, ClausesFront, RescuedFront, BodyFront, HeldFront, PairFront, behind_label, in_entry, ItemFront, in_splat, in_plain_item, MemberFront, MembersFront, in_former, in_latter, TakingFront, TernaryFront, AssignedFront, in_value, in_operand, ArgumentFront, CommandedFront, in_arguments, in_argument_command, CommandFront, behind_name, PhraseFront, in_command, in_plain, OperandFront, ValueFront, NegationFront, in_negation, behind_no_negation, ExpressionFront, StatementFront, RowsFront, StatementsFront, PiecesFront, BranchFront, BranchesFront, EndedFront, LoopFront, LoopedFront, BlockFront, in_body, DefinitionFront, in_method, FormFront, PartFront, fronts_inside, fronts_outside}
 use Rattle.rr_parser.proofs.Told.{told_not, told_star}
-use Rattle.rr_parser.proofs.Looks.{word-next, another-comma, row-separators}
+use Rattle.rr_parser.proofs.Looks.{word-next, row-separators}
+use Rattle.rr_parser.proofs.Listing.{another-comma}
 use Rattle.rr_parser.proofs.Chains.{done}
 use Rattle.rr_parser.proofs.SoundOperands.{NestedSound, taking_sound}
 use Rattle.rr_parser.proofs.Sound.{member_sound, argument_sound, commanded_sound, negation_sound, expression_sound, statement_sound, statements_sound, class_sound, classes_sound, clause_sound, clauses_sound, rescued_sound, branch_sound, branches_sound, sound_inside, sound_outside}

@@ -29,7 +29,8 @@ use Rattle.rr_parser.specs.Grammar.Calls.{target, Assigned, an_assignment, no_as
 use Rattle.rr_parser.specs.Grammar.Sequences.{Negation, a_negation, no_negation, Expression, modifier, Statement, modified}
 use Rattle.rr_parser.specs.Reading.Operands.{prefix_minus}
 use Rattle.rr_parser.specs.Reading.Sequences.{ends_at, ends}
-use Rattle.rr_parser.proofs.Looks.{closes, ends_member, closing-next, last-next, seen_as, none_unless, by_next, one_kind, other-word, name-next, no_prefix, target-next, head-next, command-next}
+use Rattle.rr_parser.proofs.Looks.{seen_as, none_unless, by_next, one_kind, other-word, name-next, no_prefix, target-next, head-next, command-next}
+use Rattle.rr_parser.proofs.Listing.{closes, ends_member, closing-next, last-next}
 use Rattle.rr_parser.proofs.Strengths.{strength, strength_in, Stops, stops_by}
 
 -- ---- the first word

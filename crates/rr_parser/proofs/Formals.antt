@@ -6,7 +6,8 @@ use Rattle.rr_parser.specs.declared.word.WordKind.TheVariants as kind
 use Rattle.rr_parser.specs.declared.word.Word.{Word}
 use Rattle.rr_parser.specs.Places.{Known, Place, placed, word, at}
 use Rattle.rr_parser.specs.Grammar.Definitions.{names_unless, some_names, with_separator, separated, behind_bracket, formals}
-use Rattle.rr_parser.proofs.Looks.{left, Steps-word, names_to-less, same_rest, placed_some}
+use Rattle.rr_parser.proofs.Looks.{left, Steps-word, placed_some}
+use Rattle.rr_parser.proofs.Listing.{names_to-less, same_rest}
 
 word-less : (known : Known) (k : WordKind) (ws r : List Word) (u : Unit {0}) → word k ws ≡ Some (u, r) → length r < length ws
 word-less known k ws r u e = Steps-word k (record { known = known; rest = ws }) (record { known = known; rest = r }) u (ap (placed known) e)

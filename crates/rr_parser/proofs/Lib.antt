@@ -1,5 +1,6 @@
 pub mod Told
 pub mod Looks
+pub mod Listing
 pub mod Chains
 pub mod SoundOperands
 pub mod Sound

@@ -39,7 +39,8 @@ use Rattle.rr_parser.specs.Reading.Sequences.{negation_of, expression_of, statem
 use Rattle.rr_parser.specs.Reading.Control.{branch_of}
 use Rattle.rr_parser.specs.Reading.Bodies.{class_of, clause_of}
 use Rattle.rr_parser.specs.Reading.{readers}
-use Rattle.rr_parser.proofs.Looks.{Steps, Steps-first_as, Steps-word, Steps-separators, Steps-thens, Steps-loops, Steps-target, Steps-tail, Steps-last, Steps-closing, parameters-less, command-next, next-left, left, some_place, left-without_separators}
+use Rattle.rr_parser.proofs.Looks.{Steps, Steps-first_as, Steps-word, Steps-separators, Steps-thens, Steps-loops, Steps-target, Steps-tail, command-next, next-left, left, some_place, left-without_separators}
+use Rattle.rr_parser.proofs.Listing.{Steps-last, Steps-closing, parameters-less}
 use Rattle.rr_parser.specs.declared.word.Target.TheVariants as targets
 use Rattle.rr_parser.specs.Reading.Operands.{tailed_of}
 use Rattle.rr_parser.proofs.Trails.{trail_shrinking}

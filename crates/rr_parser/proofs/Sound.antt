@@ -41,7 +41,8 @@ use Rattle.rr_parser.specs.Reading.Blocks.{left_block, block_or, block_of}
 use Rattle.rr_parser.specs.Reading.Definitions.{left_method, method_or, definition_or, definition_of}
 use Rattle.rr_parser.specs.Reading.{form_of, part_of, readers_inside, readers_outside, readers}
 use Rattle.rr_parser.proofs.Told.{told_close, told_else, told_end, told_rescue, told_ensure, told_not, told_arrow, told_star, told_close_square, told_fence}
-use Rattle.rr_parser.proofs.Looks.{word-next, another-comma, row-separators}
+use Rattle.rr_parser.proofs.Looks.{word-next, row-separators}
+use Rattle.rr_parser.proofs.Listing.{another-comma}
 use Rattle.rr_parser.proofs.Chains.{bind_ok, built_ok, done, closed_ok, at_answer, across_ok, IsSound, chain_sound, from_sound}
 use Rattle.rr_parser.proofs.SoundOperands.{NestedSound, sequence_ok, taking_sound, enclosed_sound, blocked_sound, bang_sound, minus_sound, ternary_sound}
 

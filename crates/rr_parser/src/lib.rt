@@ -8,6 +8,7 @@ mod constants;
 mod control;
 mod definitions;
 mod fences;
+mod infixes;
 mod interpolations;
 mod locals;
 mod look;

@@ -4,20 +4,15 @@ ghost use Rattle.std.specs.Prelude.{◌≡◌, ◌≤◌};
 ghost use Rattle.rr_parser.specs.Places.{word, without_separators, separators};
 ghost use Rattle.rr_parser.specs.Grammar.Names.{name, head, begins_argument, begins_arguments, bracket, begins_operands, begins_operand, is_tight};
 ghost use Rattle.rr_parser.specs.Grammar.Operands.{negated, joined, square, sent, tail};
-ghost use Rattle.rr_parser.specs.Grammar.Operators.{level_of_binary, level_of, operator_of, at_level, operator, connective_of, connective};
 ghost use Rattle.rr_parser.specs.Grammar.Calls.{sign, target_word, target, label, closing, last};
-ghost use Rattle.rr_parser.specs.Grammar.Sequences.{modifier};
 ghost use Rattle.rr_parser.specs.Grammar.Control.{thens, loops};
 ghost use Rattle.rr_parser.specs.Reading.Operands.{prefix_minus};
 ghost use Rattle.rr_parser.specs.Reading.Calls.{another};
 ghost use Rattle.rr_parser.specs.Reading.Sequences.{ends_at, ends, row};
 ghost use Rattle.rr_parser.specs.Meets.{Sees, SeesRest};
 
-use crate::word::{
-    Aim, Connective, Head, Infix, Listed, Modifier, Sign, Tail, Target, Word, WordKind,
-};
+use crate::word::{Aim, Head, Listed, Sign, Tail, Target, Word, WordKind};
 use rr_base::Sym;
-use rr_tree::BinaryOperator;
 
 /// How many integers there are from 0 on.
 pub(crate) const INTEGERS: u64 = 9_223_372_036_854_775_808;
@@ -33,102 +28,12 @@ pub(crate) fn negated(n: u64) -> i64
     }
 }
 
-fn level_of_binary(operator: BinaryOperator) -> u8
-    ensures { result ≡ level_of_binary operator }
-{
-    match operator {
-        BinaryOperator::Multiply | BinaryOperator::Divide | BinaryOperator::Remainder => 1,
-        BinaryOperator::Add | BinaryOperator::Subtract => 2,
-        BinaryOperator::Less
-        | BinaryOperator::LessOrEqual
-        | BinaryOperator::Greater
-        | BinaryOperator::GreaterOrEqual => 4,
-        BinaryOperator::Compare | BinaryOperator::Equal | BinaryOperator::NotEqual => 5,
-    }
-}
-
-/// The level of an operator. The tightest is 1, and 5 does not associate.
-pub(crate) fn level_of(operator: Infix) -> u8
-    ensures { result ≡ level_of operator }
-{
-    match operator {
-        Infix::Binary(operator) => level_of_binary(operator),
-        Infix::Append => 3,
-    }
-}
-
-/// The operator of a level that a word is.
-fn operator_of(level: u8, kind: WordKind) -> Option<Infix>
-    ensures { result ≡ operator_of level kind }
-{
-    match kind {
-        WordKind::Operator(operator) => at_level(level, operator),
-        WordKind::Minus => at_level(level, Infix::Binary(BinaryOperator::Subtract)),
-        _ => None,
-    }
-}
-
-fn at_level(level: u8, operator: Infix) -> Option<Infix>
-    ensures { result ≡ at_level level operator }
-{
-    if level_of(operator) == level {
-        Some(operator)
-    } else {
-        None
-    }
-}
-
 /// The words behind a word of this kind.
 pub(crate) fn behind(kind: WordKind, words: &[Word]) -> Option<&[Word]>
     ensures { SeesRest result (word kind words.now) }
 {
     match words {
         [first, rest @ ..] if first.kind == kind => Some(rest),
-        _ => None,
-    }
-}
-
-/// An operator of a level.
-pub(crate) fn operator(level: u8, words: &[Word]) -> Option<(Infix, &[Word])>
-    ensures { Sees result (operator level words.now) }
-{
-    let (word, rest) = words.split_first()?;
-    let operator = operator_of(level, word.kind)?;
-    Some((operator, rest))
-}
-
-/// What joins conditions at a level that a word is. `&&` is level 1, `||` level 2, and the words `and` and `or` are
-/// level 3.
-fn connective_of(level: u8, kind: WordKind) -> Option<Connective>
-    ensures { result ≡ connective_of level kind }
-{
-    match kind {
-        WordKind::And if level == 1 => Some(Connective::And),
-        WordKind::Or if level == 2 => Some(Connective::Or),
-        WordKind::AndWord if level == 3 => Some(Connective::And),
-        WordKind::OrWord if level == 3 => Some(Connective::Or),
-        _ => None,
-    }
-}
-
-/// What joins conditions at a level.
-pub(crate) fn connective(level: u8, words: &[Word]) -> Option<(Connective, &[Word])>
-    ensures { Sees result (connective level words.now) }
-{
-    let (word, rest) = words.split_first()?;
-    let connective = connective_of(level, word.kind)?;
-    Some((connective, rest))
-}
-
-/// What says whether, or how often, a statement is done.
-pub(crate) fn modifier(words: &[Word]) -> Option<(Modifier, &[Word])>
-    ensures { Sees result (modifier words.now) }
-{
-    let (word, rest) = words.split_first()?;
-    match word.kind {
-        WordKind::If => Some((Modifier::If, rest)),
-        WordKind::Unless => Some((Modifier::Unless, rest)),
-        WordKind::Loop { until } => Some((Modifier::Loop { until }, rest)),
         _ => None,
     }
 }

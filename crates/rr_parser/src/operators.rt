@@ -9,7 +9,8 @@ ghost use Rattle.rr_parser.specs.Reading.Answers.{across};
 ghost use Rattle.rr_parser.specs.Reading.Operators.{binary_on, binary_of, equality_on, logical_on, logical_of, ternary_on, ternary_of};
 ghost use Rattle.rr_parser.specs.Reading.{readers};
 
-use crate::look::{behind, connective, operator};
+use crate::infixes::{connective, operator};
+use crate::look::behind;
 use crate::parser::{Parsed, Parser};
 use crate::refusal::Refusal;
 use crate::word::{Part, Word, WordKind};

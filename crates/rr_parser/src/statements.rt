@@ -4,7 +4,8 @@ ghost use Rattle.std.specs.Prelude.{◌≡◌};
 ghost use Rattle.rr_parser.specs.Reading.Sequences.{negation_of, expression_of, statement_of, rows_of, statements_of, group_of};
 ghost use Rattle.rr_parser.specs.Reading.{readers};
 
-use crate::look::{behind, connective, ends, modifier, row, without_separators};
+use crate::infixes::{connective, modifier};
+use crate::look::{behind, ends, row, without_separators};
 use crate::parser::{Parsed, ParsedList, Parser};
 use crate::refusal::Refusal;
 use crate::word::{Part, Word, WordKind};

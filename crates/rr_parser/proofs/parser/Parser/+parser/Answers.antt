@@ -16,7 +16,8 @@ use Rattle.rr_parser.specs.Reading.Control.{branch_of}
 use Rattle.rr_parser.specs.Reading.Bodies.{clause_of}
 use Rattle.rr_parser.specs.Reading.{readers}
 use Rattle.rr_parser.specs.Meets.{Gives, GivesList, nodes, pairs, lists, place}
-use Rattle.rr_parser.proofs.Looks.{Steps-row, Steps-another}
+use Rattle.rr_parser.proofs.Looks.{Steps-row}
+use Rattle.rr_parser.proofs.Listing.{Steps-another}
 use Rattle.rr_parser.proofs.Shrinking.{Steps-operator, Steps-connective, Steps-modifier, Steps-elsif, Steps-middle, Steps-rescues, shrinks_nested}
 use Rattle.rr_parser.proofs.Making.{stable_nodes, stable_pairs, goes_ends, goes_fails, goes_smaller, list_on, operators_on, nested_part, nested_bracketed, gives_outside}
 use Rattle.rr_parser.proofs.Choosing.{made_alternatives, made_pair, made_branch, made_loop, made_choice, made_unless}
