@@ -1,7 +1,7 @@
 //! Lists of steps on a new World.
 
 use rr_base::{ClassId, Fault, LimitKind, Limits, RactorNo, Sym};
-use rr_world::{Action, Label, NewObject, Operand, Reply, Step, World};
+use rr_world::{Action, Label, LastKind, NewObject, Operand, Reply, Step, World};
 use std::test::Fail;
 
 const MAIN: RactorNo = RactorNo(1);
@@ -37,16 +37,70 @@ fn what_is_not_possible_is_not_enabled(rt: HostRuntime) -> Result<(), Fail> {
     let steps = [
         by_main(Action::Discard),
         by_main(Action::Open),
-        by_main(Action::Pack(Operand::Root(0))),
+        by_main(Action::PutBack),
+        by_main(Action::Offer(MAIN)),
+        by_main(Action::Show),
+        by_main(Action::ShowLast(LastKind::Value)),
         by_main(Action::Close(other)),
+        by_main(Action::ClosePort(other)),
+        by_main(Action::Grab(other)),
         Step {
             who: other,
             action: Action::Accept,
+        },
+        Step {
+            who: RactorNo(0),
+            action: Action::Start,
         },
     ];
     let replies = world.run_steps(rt.alloc(), &steps)?;
     for reply in &replies {
         assert!(rt; matches!(reply, Reply::NotEnabled));
+    }
+    Ok(())
+}
+
+#[test]
+fn no_step_is_made_of_a_root_that_is_not_there(rt: HostRuntime) -> Result<(), Fail> {
+    let mut world = World::new(rt.alloc(), Limits::DEFAULT)?;
+    let root = Operand::Root(0);
+    let steps = [
+        by_main(Action::Pack(root)),
+        by_main(Action::Detach(root)),
+        by_main(Action::Freeze(root)),
+        by_main(Action::Append(root, b'a')),
+        by_main(Action::Push(root, Operand::Nil)),
+        by_main(Action::Write(root, 0, Operand::Nil)),
+        by_main(Action::SetField(root, Sym(7), Operand::Nil)),
+        by_main(Action::Read(root, Label::Place(0))),
+        by_main(Action::SetConst(Sym(7), root)),
+    ];
+    let replies = world.run_steps(rt.alloc(), &steps)?;
+    for reply in &replies {
+        assert!(rt; matches!(reply, Reply::NotEnabled));
+    }
+    Ok(())
+}
+
+#[test]
+fn a_hand_with_a_copy_takes_nothing_more(rt: HostRuntime) -> Result<(), Fail> {
+    let mut world = World::new(rt.alloc(), Limits::DEFAULT)?;
+    let steps = [
+        by_main(Action::Alloc(NewObject::Text)),
+        by_main(Action::Pack(Operand::Root(0))),
+        by_main(Action::Pack(Operand::Nil)),
+        by_main(Action::Detach(Operand::Nil)),
+        by_main(Action::Accept),
+        by_main(Action::Grab(MAIN)),
+        by_main(Action::Withdraw(0)),
+        by_main(Action::PutBack),
+        by_main(Action::Offer(RactorNo(2))),
+        by_main(Action::SetConst(Sym(7), Operand::Root(0))),
+    ];
+    let replies = world.run_steps(rt.alloc(), &steps)?;
+    for (place, reply) in replies.iter().enumerate() {
+        assert!(rt; matches!(reply, Reply::Done) == (place < 2));
+        assert!(rt; matches!(reply, Reply::NotEnabled) == (place >= 2));
     }
     Ok(())
 }
