@@ -10,6 +10,8 @@ mod model;
 #[cfg(test)]
 mod model_constants;
 #[cfg(test)]
+mod model_plans;
+#[cfg(test)]
 mod model_ports;
 #[cfg(test)]
 mod model_steps;

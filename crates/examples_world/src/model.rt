@@ -62,6 +62,8 @@ pub struct Actor {
     pub home: Vec<(usize, usize)>,
     /// The ticket under which the moved message is shown that left the home.
     pub waits: Option<u32>,
+    /// The objects of the plan in the hand; none where there is no plan.
+    pub plan: Vec<usize>,
     pub slots: usize,
     /// Whether it has not ended.
     pub runs: bool,
@@ -206,6 +208,7 @@ impl Model {
             moved: false,
             home: Vec::new(alloc),
             waits: None,
+            plan: Vec::new(alloc),
             slots: 0,
             runs: true,
         })?;

@@ -277,11 +277,11 @@ impl Model {
         self.actors.get(who)?.hand
     }
 
-    /// Whether nothing is in the hand, no home either.
+    /// Whether nothing is in the hand, no home and no plan either.
     pub fn is_free(&self, who: usize) -> bool {
-        self.actors
-            .get(who)
-            .is_some_and(|actor| actor.hand.is_none() && actor.waits.is_none())
+        self.actors.get(who).is_some_and(|actor| {
+            actor.hand.is_none() && actor.waits.is_none() && actor.plan.is_empty()
+        })
     }
 
     /// What is in the hand is this, which was moved or not; a home stays with what was moved alone.
@@ -290,6 +290,7 @@ impl Model {
             actor.hand = hand;
             actor.moved = moved;
             actor.waits = None;
+            actor.plan.truncate(0);
             if !moved {
                 actor.home.truncate(0);
             }
@@ -297,7 +298,7 @@ impl Model {
     }
 
     fn discard(&mut self, who: usize) -> Told {
-        if self.hand(who).is_none() {
+        if self.hand(who).is_none() && !self.has_plan(who) {
             return Told::NotEnabled;
         }
         self.hand_on(Holder::Hand(who), Holder::Nobody);
@@ -439,6 +440,7 @@ impl Model {
             Action::Read(operand, label) => self.read(who, operand, mark_of(label)),
             Action::Pack(operand) => self.pack(alloc, who, operand, false),
             Action::Detach(operand) => self.pack(alloc, who, operand, true),
+            Action::Plan(operand) => self.plan(alloc, who, operand),
             Action::PutBack => self.put_back(alloc, who),
             Action::Discard => Ok(self.discard(who)),
             Action::Offer(to) => match place_of(to.0, count) {

@@ -67,6 +67,7 @@ fn no_step_is_made_of_a_root_that_is_not_there(rt: HostRuntime) -> Result<(), Fa
     let steps = [
         by_main(Action::Pack(root)),
         by_main(Action::Detach(root)),
+        by_main(Action::Plan(root)),
         by_main(Action::Freeze(root)),
         by_main(Action::Append(root, b'a')),
         by_main(Action::Push(root, Operand::Nil)),
@@ -90,6 +91,7 @@ fn a_hand_with_a_copy_takes_nothing_more(rt: HostRuntime) -> Result<(), Fail> {
         by_main(Action::Pack(Operand::Root(0))),
         by_main(Action::Pack(Operand::Nil)),
         by_main(Action::Detach(Operand::Nil)),
+        by_main(Action::Plan(Operand::Nil)),
         by_main(Action::Accept),
         by_main(Action::Grab(MAIN)),
         by_main(Action::Withdraw(0)),
@@ -101,6 +103,32 @@ fn a_hand_with_a_copy_takes_nothing_more(rt: HostRuntime) -> Result<(), Fail> {
     for (place, reply) in replies.iter().enumerate() {
         assert!(rt; matches!(reply, Reply::Done) == (place < 2));
         assert!(rt; matches!(reply, Reply::NotEnabled) == (place >= 2));
+    }
+    Ok(())
+}
+
+#[test]
+fn a_plan_is_held_until_it_is_dropped(rt: HostRuntime) -> Result<(), Fail> {
+    let mut world = World::new(rt.alloc(), Limits::DEFAULT)?;
+    let text = Operand::Root(0);
+    let steps = [
+        by_main(Action::Alloc(NewObject::Text)),
+        by_main(Action::Plan(text)),
+        by_main(Action::Plan(Operand::Int(7))),
+        by_main(Action::Freeze(text)),
+        by_main(Action::Plan(text)),
+        by_main(Action::Plan(text)),
+        by_main(Action::Pack(Operand::Nil)),
+        by_main(Action::Offer(MAIN)),
+        by_main(Action::Open),
+        by_main(Action::Discard),
+        by_main(Action::Discard),
+    ];
+    let replies = world.run_steps(rt.alloc(), &steps)?;
+    for (place, reply) in replies.iter().enumerate() {
+        let is_made = place < 5 || place == 9;
+        assert!(rt; matches!(reply, Reply::Done) == is_made);
+        assert!(rt; matches!(reply, Reply::NotEnabled) != is_made);
     }
     Ok(())
 }

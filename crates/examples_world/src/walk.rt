@@ -116,6 +116,7 @@ impl Dice {
             9 | 10 | 11 => Action::Offer(self.ractor()),
             12 => Action::PutBack,
             13 | 14 => Action::Detach(self.operand()),
+            15 => Action::Plan(self.operand()),
             _ => Action::Pack(self.operand()),
         }
     }

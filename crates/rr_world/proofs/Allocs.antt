@@ -19,7 +19,7 @@ use Rattle.rr_space.proofs.Remaking.{remaking_is_a_step}
 use Rattle.rr_space.proofs.Sounds.{joined_back, joined_in, none_in, in_first, gets}
 use Rattle.rr_world.specs.Views.{Member, Channels, Assembly}
 use Rattle.rr_world.specs.Layouts.{cluster_slots, layout, space_slots, hand_slots, inbox_slots, port_slots, message_slots, MemberKnows, IsRead}
-use Rattle.rr_world.specs.Readings.{each_from, actor_in, shells_in, root_in, post_in, state_in, parcel_in}
+use Rattle.rr_world.specs.Readings.{each_from, actor_in, shells_in, planned_in, root_in, post_in, state_in, parcel_in}
 use Rattle.rr_world.specs.Enabling.{StandsAt}
 use Rattle.rr_world.specs.ObjectCases.{new_object}
 use Rattle.rr_world.specs.Allocating.{IsAllocatedBy, Allocs}
@@ -33,7 +33,7 @@ use Rattle.rr_world.specs.Outcomes.{reply_of}
 use Rattle.rr_world.specs.declared.outcome.Outcome.{Outcome}
 use Rattle.rr_world.specs.declared.outcome.Outcome.TheVariants as outcome
 use Rattle.rr_world.proofs.Lists.{eq_cases, set_at, set_off, seen_same, each_set}
-use Rattle.rr_world.proofs.Namings.{actor_same, same_actor, post_same, hand_same, home_stands}
+use Rattle.rr_world.proofs.Namings.{actor_same, same_actor, plan_stands, post_same, hand_same, home_stands}
 use Rattle.rr_world.proofs.Knowing.{read_set}
 use Rattle.rr_world.proofs.Enabled.{actor_at}
 use Rattle.rr_world.proofs.Insides.{set_again, same_assembly}
@@ -240,7 +240,8 @@ module _ (w w2 : Assembly) (k : ℕ) (m m2 : Member) (kind : NewObject) (at : sl
       let count : length m2.space.slots ≡ length m.space.slots + 1 = ap length A.slots ∙ size in
       let actor : actor_in names2 k m2 ≡ record (actor_in names k m) { roots = (actor_in names k m).roots ++ At (Own new) ∷ []; slots = (actor_in names k m).slots + 1 } =
       same_actor roots (ap (option_map (parcel_in names2 (Hand k))) A.hand ∙ hand_same names names2 (Hand k) m.hand (hands k) kept)
-      (ap (option_map (shells_in names2 k)) A.home ∙ home_stands names names2 k m.space.slots m.hand m.home A.away (stand names bound g R names2 q.1 q.2 N q.4)) A.ticket count A.limit A.next A.limits A.runs in (
+      (ap (option_map (shells_in names2 k)) A.home ∙ home_stands names names2 k m.space.slots m.hand m.home A.away (stand names bound g R names2 q.1 q.2 N q.4)) A.ticket
+      (ap (option_map (planned_in names2 k)) A.plan ∙ plan_stands names names2 k (length m.space.slots) m.plan A.planned (stand names bound g R names2 q.1 q.2 N q.4)) count A.limit A.next A.limits A.runs in (
         names2,
         bound + 1,
         q.1,

@@ -35,7 +35,7 @@ use Rattle.rr_world.proofs.Enabled.{actor_at, free, allowed, tested_at}
 use Rattle.rr_world.proofs.Insides.{set_again, same_assembly}
 use Rattle.rr_world.proofs.Knowing.{knows_either, order_on, read_set}
 use Rattle.rr_world.proofs.Lists.{each_set, eq_cases}
-use Rattle.rr_world.proofs.Namings.{actor_same, same_actor, post_same}
+use Rattle.rr_world.proofs.Namings.{actor_same, same_actor, no_plan_same, post_same}
 use Rattle.rr_world.proofs.Operands.{value_named, known_named}
 use Rattle.rr_world.proofs.Packs.{not_packed}
 use Rattle.rr_world.proofs.Rooting.{roots_keep}
@@ -208,7 +208,7 @@ module _ (w w2 : Assembly) (who : RactorNo) (k : ℕ) (m m2 : Member) (op : Oper
       ap (λ (x : Member). option_map (shells_in names2 k) x.home) A.now_is
       ∙ ap (λ (ns : List ℕ). Some ns) (map_same (slice_index (names2 (Space k))) (slice_index (names (Space k))) d.home.slots (λ n has. stand n (home_within n has))) in
       let actor : actor_in names2 k m2 ≡ record (actor_in names k m) { hand = Some (parcel_in names2 (Hand k) d.message); home = Some (shells_in names k d.home); next = (actor_in names k m).next + 1 } =
-      same_actor roots (ap (option_map (parcel_in names2 (Hand k))) held_message) home (ap (λ (x : Member). x.ticket) A.now_is) A.moved.emptied.slots.size A.moved.emptied.limit A.moved.next (ap (λ (x : Member). x.limits) A.now_is) (ap (λ (x : Member). x.runs) A.now_is) in (
+      same_actor roots (ap (option_map (parcel_in names2 (Hand k))) held_message) home (ap (λ (x : Member). x.ticket) A.now_is) (no_plan_same names names2 k m2.plan m.plan (ap (λ (x : Member). x.plan) A.now_is ∙ A.empty.plan) A.empty.plan) A.moved.emptied.slots.size A.moved.emptied.limit A.moved.next (ap (λ (x : Member). x.limits) A.now_is) (ap (λ (x : Member). x.runs) A.now_is) in (
         names2,
         q.1,
         q.2,

@@ -1,15 +1,15 @@
 -- Which steps are enabled, by the World's own lists.
-use Rattle.std.proofs.Common.{◌≡◌, ℕ, ◌≤◌, length, slice_get, Option, Some, None, sym, ap, ◌∙◌, subst, refl, arith}
+use Rattle.std.proofs.Common.{◌≡◌, ℕ, ◌≤◌, ◌⊎◌, ⊎_elim, inl, inr, length, slice_get, Option, Some, None, sym, ap, ◌∙◌, subst, refl, arith}
 use Rattle.std.specs.Option.{option_map}
 use Rattle.std.proofs.lemmas.Option.{none-some, same_Some, slice_get_within}
 use Rattle.rr_base.specs.declared.name.RactorNo.{RactorNo}
 use Rattle.rr_space.specs.Tables.{Packed}
 use Rattle.rr_space.specs.Readings.{Naming, Objects, Hand}
 use Rattle.rr_inbox.specs.Inboxes.{Inbox}
-use Rattle.rr_world.specs.Views.{Member, Assembly, IsFree}
+use Rattle.rr_world.specs.Views.{Member, Assembly, HasToDrop, IsFree}
 use Rattle.rr_world.specs.States.{Actor}
-use Rattle.rr_world.specs.Readings.{actor_in, shells_in, mailbox_in, parcel_in, state_in}
-use Rattle.rr_world.specs.Enabling.{IsTested, StandsAt, HasInbox, Holds, IsFreeHand, Allows, IsPossible}
+use Rattle.rr_world.specs.Readings.{actor_in, shells_in, planned_in, mailbox_in, parcel_in, state_in}
+use Rattle.rr_world.specs.Enabling.{IsTested, StandsAt, HasInbox, Holds, HoldsPlan, IsFreeHand, Allows, IsPossible}
 use Rattle.rr_world.specs.declared.step.Action.TheVariants.{Offer, Close}
 use Rattle.rr_world.specs.declared.step.Step.{Step}
 use Rattle.rr_world.proofs.Lists.{each_at, each_back}
@@ -59,14 +59,14 @@ pub holds : (names : Naming) (k : ℕ) (m : Member) (p : Packed) → m.hand ≡ 
 holds names k m p is = ap (option_map (parcel_in names (Hand k))) is
 
 pub free : (names : Naming) (k : ℕ) (m : Member) → IsFree m → IsFreeHand (actor_in names k m)
-free names k m is = (ap (option_map (parcel_in names (Hand k))) is.hand, ap (option_map (shells_in names k)) is.home, is.ticket)
+free names k m is = (ap (option_map (parcel_in names (Hand k))) is.hand, ap (option_map (shells_in names k)) is.home, is.ticket, ap (option_map (planned_in names k)) is.plan)
 
 pub none_back : {A B : Type 0} (f : A → B) (x : Option A) → option_map f x ≡ None → x ≡ None
 none_back f None e = refl
 none_back f (Some a) e = absurd (none-some (f a) (sym e))
 
 pub free_back : (names : Naming) (k : ℕ) (m : Member) → IsFreeHand (actor_in names k m) → IsFree m
-free_back names k m is = record { hand = none_back (parcel_in names (Hand k)) m.hand is.0; home = none_back (shells_in names k) m.home is.1; ticket = is.2 }
+free_back names k m is = record { hand = none_back (parcel_in names (Hand k)) m.hand is.0; home = none_back (shells_in names k) m.home is.1; ticket = is.2; plan = none_back (planned_in names k) m.plan is.3 }
 
 pub no_offer : (w : Assembly) (names : Naming) (g : Objects) (step : Step) (to : RactorNo) → step.action ≡ Offer to → ((k : ℕ) → StandsAt to k → length w.channels.inboxes ≤ k)
     → IsPossible (state_in w names g) step → ⊥
@@ -77,3 +77,11 @@ pub no_close : (w : Assembly) (names : Naming) (g : Objects) (step : Step) (to :
     → IsPossible (state_in w names g) step → ⊥
 no_close w names g step to is none (k, a, there, at, allows, tested) =
     no_inbox w names g to none (subst (λ x. Allows (state_in w names g) step.who a x) is allows)
+
+-- a message or a plan is in the hand, and none
+pub holds_one : (names : Naming) (k : ℕ) (m : Member) → HasToDrop m → Holds (actor_in names k m) ⊎ HoldsPlan (actor_in names k m)
+holds_one names k m has = ⊎_elim (λ z. inl (parcel_in names (Hand k) z.0, holds names k m z.0 z.1)) (λ z. inr (planned_in names k z.0, ap (option_map (planned_in names k)) z.1)) has
+
+pub holds_none : (names : Naming) (k : ℕ) (m : Member) → m.hand ≡ None → m.plan ≡ None → Holds (actor_in names k m) ⊎ HoldsPlan (actor_in names k m) → ⊥
+holds_none names k m none no_plan has =
+    ⊎_elim (λ z. holds_not names k m none z) (λ z. none-some z.0 (sym (ap (option_map (planned_in names k)) no_plan) ∙ z.1)) has

@@ -12,7 +12,7 @@ use Rattle.rr_space.proofs.Frames.{owner_same, owner_refl}
 use Rattle.rr_space.proofs.Remaking.{remaking_is_a_step}
 use Rattle.rr_world.specs.Views.{Member, Channels, Assembly}
 use Rattle.rr_world.specs.Layouts.{cluster_slots, layout, space_slots, hand_slots, inbox_slots, port_slots, message_slots}
-use Rattle.rr_world.specs.Readings.{each_from, actor_in, parcel_in, root_in, shells_in, post_in}
+use Rattle.rr_world.specs.Readings.{each_from, actor_in, parcel_in, root_in, shells_in, planned_in, post_in}
 use Rattle.rr_world.specs.Enabling.{StandsAt}
 use Rattle.rr_world.specs.ObjectCases.{ended_actor}
 use Rattle.rr_world.specs.Starting.{IsOver}
@@ -121,7 +121,7 @@ module _ (w w2 : Assembly) (k : ℕ) (m m2 : Member) (at : slice_get w.ractors k
       let shows : (c u : ℕ) → names2 (Shown c u) ≡ names (Shown c u) = λ c u. N.rest (Shown c u) (λ z. let y : ⊥ = cc in y) in
       let hands : (n : ℕ) → names2 (Hand n) ≡ names (Hand n) = λ n. N.rest (Hand n) (λ z. let y : ⊥ = cc in y) in
       let actor : actor_in names2 k m2 ≡ ended_actor (actor_in names k m).limits =
-      same_actor (ap (map (root_in names2 (Space k))) A.roots) (ap (option_map (parcel_in names2 (Hand k))) A.hand) (ap (option_map (shells_in names2 k)) A.home) A.ticket (ap length A.slots) A.limit A.next A.run A.runs in (
+      same_actor (ap (map (root_in names2 (Space k))) A.roots) (ap (option_map (parcel_in names2 (Hand k))) A.hand) (ap (option_map (shells_in names2 k)) A.home) A.ticket (ap (option_map (planned_in names2 k)) A.plan) (ap length A.slots) A.limit A.next A.run A.runs in (
         names2,
         bound + 0,
         q.1,

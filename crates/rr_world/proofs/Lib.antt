@@ -21,6 +21,7 @@ pub mod Operands
 pub mod Seeing
 pub mod OneNames
 pub mod Packs
+pub mod Plans
 pub mod Allocs
 pub mod Changes
 pub mod Fields

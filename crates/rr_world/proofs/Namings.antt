@@ -17,20 +17,21 @@ use Rattle.rr_space.specs.declared.refer.Ref.TheVariants.{Nil, Truth, Int, Symbo
 use Rattle.rr_space.proofs.Frames.{map_same}
 use Rattle.rr_copy.specs.Messages.{size_of}
 use Rattle.rr_move.specs.declared.home.Home.{Home}
+use Rattle.rr_share.specs.declared.planned.Plan.{Plan}
 use Rattle.rr_inbox.specs.Inboxes.{Inbox}
 use Rattle.rr_inbox.specs.declared.entry.Entry.{Entry}
 use Rattle.rr_port.specs.Lasts.{message_of, is_fault}
 use Rattle.rr_port.specs.Ports.{Port}
 use Rattle.rr_port.specs.declared.last.LastGiven.{LastGiven}
 use Rattle.rr_port.specs.declared.last.Shown.{Shown as ShownMessage}
-use Rattle.rr_world.specs.Views.{Member, Channels, AreAway, AreRootsWithin, with_inbox, with_port}
+use Rattle.rr_world.specs.Views.{Member, Channels, AreAway, ArePlacesBelow, AreRootsWithin, with_inbox, with_port}
 use Rattle.rr_world.specs.States.{Parcel, Letter, Farewell, Showcase, Mailbox, Actor, Archive, Held, Post, with_box, with_case}
 use Rattle.rr_store.specs.Stores.{Store}
 use Rattle.rr_store.specs.declared.constant.ConstValue.{ConstValue}
 use Rattle.rr_store.specs.declared.constant.ConstValue.TheVariants.{Shareable}
 use Rattle.rr_store.specs.declared.constant.ConstValue.TheVariants as store
 use Rattle.rr_space.specs.Parts.{value_of}
-use Rattle.rr_world.specs.Readings.{value_in, root_in, parcel_in, shells_in, letter_in, mailbox_in, shown_in, farewell_in, showcase_in, actor_in, post_in, public_value, constant_in, archive_in, each_from}
+use Rattle.rr_world.specs.Readings.{value_in, root_in, parcel_in, shells_in, planned_in, letter_in, mailbox_in, shown_in, farewell_in, showcase_in, actor_in, post_in, public_value, constant_in, archive_in, each_from}
 use Rattle.rr_world.proofs.Lists.{each_same, each_set}
 
 -- clusters have the names that they had
@@ -64,19 +65,35 @@ roots_same names names2 h (r ∷ rs) own shared =
     ∙ ap (λ vs. root_in names h r ∷ vs) (roots_same names names2 h rs own shared)
 
 -- a ractor is what is in it
-abbrev pub actor_with : List Value → Option Parcel → Option (List ℕ) → Option ℕ → ℕ → ℕ → ℕ → Limits → Bool → Actor
-actor_with vs h o w s l n z r = record { roots = vs; hand = h; home = o; ticket = w; slots = s; limit = l; next = n; limits = z; runs = r }
+abbrev pub actor_with : List Value → Option Parcel → Option (List ℕ) → Option ℕ → Option (List ℕ) → ℕ → ℕ → ℕ → Limits → Bool → Actor
+actor_with vs h o w v s l n z r = record { roots = vs; hand = h; home = o; ticket = w; plan = v; slots = s; limit = l; next = n; limits = z; runs = r }
 
-pub same_actor : {vs ws : List Value} {h i : Option Parcel} {o p : Option (List ℕ)} {w x : Option ℕ} {s t l j n q : ℕ} {z y : Limits} {r u : Bool} → vs ≡ ws → h ≡ i → o ≡ p → w ≡ x → s ≡ t → l ≡ j → n ≡ q → z ≡ y → r ≡ u
-    → actor_with vs h o w s l n z r ≡ actor_with ws i p x t j q y u
-same_actor {vs} {ws} {h} {i} {o} {p} {w} {x} {s} {t} {l} {j} {n} {q} {z} {y} {r} {u} a b c m d e f g k =
-    ap (λ v. actor_with v h o w s l n z r) a ∙ ap (λ v. actor_with ws v o w s l n z r) b ∙ ap (λ v. actor_with ws i v w s l n z r) c ∙ ap (λ v. actor_with ws i p v s l n z r) m
-    ∙ ap (λ v. actor_with ws i p x v l n z r) d ∙ ap (λ v. actor_with ws i p x t v n z r) e ∙ ap (λ v. actor_with ws i p x t j v z r) f ∙ ap (λ v. actor_with ws i p x t j q v r) g
-    ∙ ap (λ v. actor_with ws i p x t j q y v) k
+pub same_actor : {vs ws : List Value} {h i : Option Parcel} {o p : Option (List ℕ)} {w x : Option ℕ} {π ρ : Option (List ℕ)} {s t l j n q : ℕ} {z y : Limits} {r u : Bool} → vs ≡ ws → h ≡ i → o ≡ p → w ≡ x → π ≡ ρ → s ≡ t → l ≡ j → n ≡ q → z ≡ y → r ≡ u
+    → actor_with vs h o w π s l n z r ≡ actor_with ws i p x ρ t j q y u
+same_actor {vs} {ws} {h} {i} {o} {p} {w} {x} {π} {ρ} {s} {t} {l} {j} {n} {q} {z} {y} {r} {u} a b c m planned d e f g k =
+    ap (λ v. actor_with v h o w π s l n z r) a ∙ ap (λ v. actor_with ws v o w π s l n z r) b ∙ ap (λ v. actor_with ws i v w π s l n z r) c ∙ ap (λ v. actor_with ws i p v π s l n z r) m
+    ∙ ap (λ v. actor_with ws i p x v s l n z r) planned
+    ∙ ap (λ v. actor_with ws i p x ρ v l n z r) d ∙ ap (λ v. actor_with ws i p x ρ t v n z r) e ∙ ap (λ v. actor_with ws i p x ρ t j v z r) f ∙ ap (λ v. actor_with ws i p x ρ t j q v r) g
+    ∙ ap (λ v. actor_with ws i p x ρ t j q y v) k
 
 pub home_same : (names names2 : Naming) (k : ℕ) (x : Option Home) → names2 (Space k) ≡ names (Space k) → option_map (shells_in names2 k) x ≡ option_map (shells_in names k) x
 home_same names names2 k None own = refl
 home_same names names2 k (Some h) own = ap (λ ns. Some (map (slice_index ns) h.slots)) own
+
+pub plan_same : (names names2 : Naming) (k : ℕ) (x : Option Plan) → names2 (Space k) ≡ names (Space k) → option_map (planned_in names2 k) x ≡ option_map (planned_in names k) x
+plan_same names names2 k None own = refl
+plan_same names names2 k (Some p) own = ap (λ ns. Some (map (slice_index ns) p.places)) own
+
+-- a plan has the names that it had, where the slots have
+pub plan_stands : (names names2 : Naming) (k count : ℕ) (x : Option Plan) → ArePlacesBelow count x
+    → ((i : ℕ) → i < count → slice_index (names2 (Space k)) i ≡ slice_index (names (Space k)) i) → option_map (planned_in names2 k) x ≡ option_map (planned_in names k) x
+plan_stands names names2 k count None within stand = refl
+plan_stands names names2 k count (Some p) within stand =
+    ap (λ (ns : List ℕ). Some ns) (map_same (slice_index (names2 (Space k))) (slice_index (names (Space k))) p.places (λ n has. stand n (within n has)))
+
+-- where there is no plan, there is none under other names
+pub no_plan_same : (names names2 : Naming) (k : ℕ) (x y : Option Plan) → x ≡ None → y ≡ None → option_map (planned_in names2 k) x ≡ option_map (planned_in names k) y
+no_plan_same names names2 k x y none none2 = ap (option_map (planned_in names2 k)) none ∙ sym (ap (option_map (planned_in names k)) none2)
 
 -- a home has the names that it had, where the slots have
 pub home_stands : (names names2 : Naming) (k : ℕ) (slots : List Slot) (hand : Option Packed) (x : Option Home) → AreAway slots hand x
@@ -90,12 +107,12 @@ home_stands names names2 k slots (Some p) (Some h) away stand =
 pub actor_same : (names names2 : Naming) (k : ℕ) (r : Member) → names2 (Space k) ≡ names (Space k) → names2 (Hand k) ≡ names (Hand k) → KeepsShared names names2
     → actor_in names2 k r ≡ actor_in names k r
 actor_same names names2 k r space hand shared =
-    same_actor (roots_same names names2 (Space k) r.roots space shared) (hand_same names names2 (Hand k) r.hand hand shared) (home_same names names2 k r.home space) refl refl refl refl refl refl
+    same_actor (roots_same names names2 (Space k) r.roots space shared) (hand_same names names2 (Hand k) r.hand hand shared) (home_same names names2 k r.home space) refl (plan_same names names2 k r.plan space) refl refl refl refl refl
 
 -- a ractor with another message in its hand
 pub handed : (names names2 : Naming) (k : ℕ) (r : Member) (p : Packed) (ticket : Option ℕ) → names2 (Space k) ≡ names (Space k) → KeepsShared names names2
     → actor_in names2 k (record r { hand = Some p; ticket = ticket }) ≡ record (actor_in names k r) { hand = Some (parcel_in names2 (Hand k) p); ticket = ticket }
-handed names names2 k r p ticket space shared = same_actor (roots_same names names2 (Space k) r.roots space shared) refl (home_same names names2 k r.home space) refl refl refl refl refl refl
+handed names names2 k r p ticket space shared = same_actor (roots_same names names2 (Space k) r.roots space shared) refl (home_same names names2 k r.home space) refl (plan_same names names2 k r.plan space) refl refl refl refl refl
 
 pub letters_same : (names names2 : Naming) (c : ℕ) (es : List Entry) → ((e : Entry) → Contains es e → names2 (Mail c e.ticket) ≡ names (Mail c e.ticket)) → KeepsShared names names2
     → map (letter_in names2 c) es ≡ map (letter_in names c) es

@@ -22,7 +22,7 @@ use Rattle.rr_world.specs.Outcomes.{reply_of}
 use Rattle.rr_world.specs.declared.outcome.Outcome.{Outcome}
 use Rattle.rr_world.specs.declared.outcome.Outcome.TheVariants as outcome
 use Rattle.rr_world.proofs.Lists.{set_at, set_off, each_set}
-use Rattle.rr_world.proofs.Namings.{actor_same, same_actor, post_same, value_moved, shared_kept, roots_stand}
+use Rattle.rr_world.proofs.Namings.{actor_same, same_actor, no_plan_same, post_same, value_moved, shared_kept, roots_stand}
 use Rattle.rr_world.proofs.Knowing.{read_set, opened_knows}
 use Rattle.rr_world.proofs.Enabled.{actor_at, holds, allowed, holds_not}
 use Rattle.rr_world.proofs.Insides.{set_again, same_assembly}
@@ -68,7 +68,7 @@ module _ (w w2 : Assembly) (k : ℕ) (m m2 : Member) (p : Packed) (root : Ref) (
       ap length O.opened.slots ∙ length-append m.space.slots (map (here_behind (length m.space.slots)) p.objects)
       ∙ ap (λ n. length m.space.slots + n) (length-map p.objects (here_behind (length m.space.slots))) in
       let actor : actor_in names2 k m2 ≡ record (actor_in names k m) { roots = (actor_in names k m).roots ++ (parcel_in names (Hand k) p).root ∷ []; hand = None; home = None; slots = (actor_in names k m).slots + (parcel_in names (Hand k) p).size } =
-      same_actor roots (ap (option_map (parcel_in names2 (Hand k))) O.hand) (ap (option_map (shells_in names2 k)) O.home) O.ticket count O.opened.rest.limit O.opened.rest.next_message O.limits O.runs in (
+      same_actor roots (ap (option_map (parcel_in names2 (Hand k))) O.hand) (ap (option_map (shells_in names2 k)) O.home) O.ticket (no_plan_same names names2 k m2.plan m.plan O.plan O.no_plan) count O.opened.rest.limit O.opened.rest.next_message O.limits O.runs in (
         names2,
         bound,
         q.1,

@@ -30,7 +30,7 @@ use Rattle.rr_world.proofs.Enabled.{actor_at, allowed}
 use Rattle.rr_world.proofs.Insides.{set_again, same_assembly}
 use Rattle.rr_world.proofs.Knowing.{knows_either, read_set}
 use Rattle.rr_world.proofs.Lists.{each_set, eq_cases}
-use Rattle.rr_world.proofs.Namings.{actor_same, same_actor, post_same}
+use Rattle.rr_world.proofs.Namings.{actor_same, same_actor, no_plan_same, post_same}
 use Rattle.rr_world.proofs.Rooting.{roots_keep}
 use Rattle.rr_world.proofs.Staying.{refused}
 use Rattle.rr_world.proofs.Tables.{space_was, hand_was, space_now, hand_now, rest_now}
@@ -92,7 +92,7 @@ module _ (w w2 : Assembly) (who : RactorNo) (k : ℕ) (m m2 : Member) (d : Detac
       let roots : map (root_in names2 (Space k)) m2.roots ≡ map (root_in names (Space k)) m.roots =
       ap (map (root_in names2 (Space k))) roots_are ∙ roots_keep (length m.space.slots) names names2 (Space k) m.roots A.rooted stand kept in
       let actor : actor_in names2 k m2 ≡ record (actor_in names k m) { hand = None; home = None } =
-      same_actor roots (ap (option_map (parcel_in names2 (Hand k))) gone) (ap (λ (x : Member). option_map (shells_in names2 k) x.home) A.now_is) (ap (λ (x : Member). x.ticket) A.now_is) A.back.slots.size A.back.rest.limit A.back.rest.next_message
+      same_actor roots (ap (option_map (parcel_in names2 (Hand k))) gone) (ap (λ (x : Member). option_map (shells_in names2 k) x.home) A.now_is) (ap (λ (x : Member). x.ticket) A.now_is) (no_plan_same names names2 k m2.plan m.plan (ap (λ (x : Member). x.plan) A.now_is ∙ A.no_plan) A.no_plan) A.back.slots.size A.back.rest.limit A.back.rest.next_message
       (ap (λ (x : Member). x.limits) A.now_is) (ap (λ (x : Member). x.runs) A.now_is) in
       let hand = ap (option_map (parcel_in names (Hand k))) A.held in
       let home = ap (option_map (shells_in names k)) A.home in (

@@ -16,11 +16,11 @@ use Rattle.rr_space.proofs.Renaming.{contains_map, contains_map_back}
 use Rattle.rr_space.proofs.Sounds.{gets}
 use Rattle.rr_world.specs.Views.{Member, Channels, Assembly}
 use Rattle.rr_world.specs.Layouts.{cluster_slots, layout, space_slots, hand_slots, inbox_slots, port_slots, message_slots, MemberKnows, IsRead}
-use Rattle.rr_world.specs.Readings.{each_from, actor_in, shells_in, root_in, value_in, post_in, state_in, parcel_in}
+use Rattle.rr_world.specs.Readings.{each_from, actor_in, shells_in, planned_in, root_in, value_in, post_in, state_in, parcel_in}
 use Rattle.rr_world.specs.ObjectCases.{IsChangedTo}
 use Rattle.rr_world.specs.Changing.{IsRewritten}
 use Rattle.rr_world.proofs.Lists.{eq_cases, set_at, set_off, set_back, seen_same, each_set}
-use Rattle.rr_world.proofs.Namings.{actor_same, same_actor, post_same, hand_same, home_stands}
+use Rattle.rr_world.proofs.Namings.{actor_same, same_actor, plan_stands, post_same, hand_same, home_stands}
 use Rattle.rr_world.proofs.Knowing.{read_set, knows_either}
 use Rattle.rr_world.proofs.Published.{in_place}
 use Rattle.rr_world.proofs.Enabled.{actor_at}
@@ -246,7 +246,8 @@ module _ (w w2 : Assembly) (k n : ℕ) (m m2 : Member) (o p : Object) (v : Ref) 
         ap (map (root_in names2 (Space k))) A.roots ∙ roots_keep (length m.space.slots) names names2 (Space k) m.roots A.within stand kept_shared in
         let count : length m2.space.slots ≡ length m.space.slots = ap length A.slots ∙ size in
         same_actor roots (ap (option_map (parcel_in names2 (Hand k))) A.hand ∙ hand_same names names2 (Hand k) m.hand hands kept_shared)
-        (ap (option_map (shells_in names2 k)) A.home ∙ home_stands names names2 k m.space.slots m.hand m.home A.away stand) A.ticket count A.limit A.next A.limits A.runs
+        (ap (option_map (shells_in names2 k)) A.home ∙ home_stands names names2 k m.space.slots m.hand m.home A.away stand) A.ticket
+        (ap (option_map (planned_in names2 k)) A.plan ∙ plan_stands names names2 k (length m.space.slots) m.plan A.planned stand) count A.limit A.next A.limits A.runs
 
     changed_to : ((o.frozen ≡ true) ⊎ (o.kind ≡ shell) → p ≡ o) → IsNewValue g (actor_in names k m).roots (root_in names (Space k) v)
         → IsChangedTo k (actor_in names k m) name (named names (Space k) o) (named names2 (Space k) p) (state_in w names g) (state_in w2 names2 g2)

@@ -9,7 +9,7 @@ use Rattle.rr_space.specs.Tables.{Slot, Here, Led, Below, Embeds, There, IsPubli
 use Rattle.rr_space.specs.Moves.{IsPromoted}
 use Rattle.rr_space.specs.Parts.{value_of, below_ref, IsWithin}
 use Rattle.rr_space.specs.Sound.{HasPlaceIn, IsWell}
-use Rattle.rr_space.specs.Readings.{Space, Shared, Objects, Naming, Layout, HasPlace, Knows, IsApart, IsShared, IsSharedValue, whole, name_in}
+use Rattle.rr_space.specs.Readings.{Owner, Space, Shared, Objects, Naming, Layout, HasPlace, Knows, IsApart, IsShared, IsSharedValue, whole, name_in}
 use Rattle.rr_space.specs.declared.refer.Ref.{Ref}
 use Rattle.rr_space.specs.declared.refer.Ref.TheVariants as ref
 use Rattle.rr_space.proofs.Renaming.{leads_back, reaches_on, shares_on, shares_back}
@@ -19,8 +19,9 @@ use Rattle.rr_space.proofs.Spaces.{entry_of, known_at, spaces_are_inside, raw_of
 use Rattle.rr_share.specs.Search.{LeadsToShell}
 use Rattle.rr_world.specs.Views.{Member, Assembly}
 use Rattle.rr_world.specs.Layouts.{layout, space_slots, IsRead}
-use Rattle.rr_world.specs.Readings.{value_in, root_in}
+use Rattle.rr_world.specs.Readings.{value_in, root_in, state_in}
 use Rattle.rr_world.specs.Enabling.{AreShareablesShared}
+use Rattle.rr_world.specs.PlanCases.{IsToPublish}
 use Rattle.rr_world.proofs.Published.{in_place, place_shared, leads_shared, shared_solid, owner_shared, sealed_path}
 
 there_end : (g : Graph) (f : Name → Name) (gs : Graph) → Embeds g f gs → (path : List Label) (v : Value) (n : Name) → There g v → Leads g v path (At n) → There g (At n)
@@ -175,3 +176,37 @@ module _ (w : Assembly) (names : Naming) (bound : ℕ) (g : Objects) (R : IsRead
 
   pub shell_of : LeadsToShell (space_graph m.space) (resolve m.space.slots (value_of v)) → LeadsToShell (whole g) (root_in names (Space k) v)
   shell_of (n, o, reach, here, is) = (name_in names (Space k) n, renamed_object (name_in names (Space k)) o, on n reach, inside.here n o here, is)
+
+  not_shared : (h : Owner) → h ≡ Space k → IsShared h → ⊥
+  not_shared h own shared = apart shared.0 (sym own ∙ shared.1)
+
+  -- what is reached and shareable in the space is to be published
+  pub planned_here : (i : ℕ) → Reaches (space_graph m.space) (resolve m.space.slots (value_of v)) (Own i) → IsShareable (space_graph m.space) (At (Own i))
+      → IsToPublish k (root_in names (Space k) v) (state_in w names g) (slice_index (names (Space k)) i)
+  planned_here i reach share = ⊎_elim on_own (λ h. absurd (sealed_path (space_graph m.space) is_sealed reach.0 (resolve m.space.slots (value_of v)) i h.0 reach.1)) held
+    where
+      on_own : IsOfSpace v → IsToPublish k (root_in names (Space k) v) (state_in w names g) (slice_index (names (Space k)) i)
+      on_own own =
+          let t = there_end (space_graph m.space) (name_in names (Space k)) (whole g) inside reach.0 (resolve m.space.slots (value_of v)) (Own i) (there own) reach.1 in
+          let o = t (Own i) refl in
+          let raw = raw_of (layout w) names bound g (Space k) m.space R.tables is_space i o.0 o.1 in
+          let here = (R.tables.reads (Space k) m.space.slots is_space).here i raw.0 raw.1 in
+          record { owned = _; here = here; own = refl; reached = on (Own i) reach; shareable = shares_on (space_graph m.space) (name_in names (Space k)) (whole g) inside (At (Own i)) t share }
+
+  -- and there is nothing else
+  pub planned_back : (n : ℕ) → IsToPublish k (root_in names (Space k) v) (state_in w names g) n
+      → (i : ℕ) × (slice_index (names (Space k)) i ≡ n) × Reaches (space_graph m.space) (resolve m.space.slots (value_of v)) (Own i) × IsShareable (space_graph m.space) (At (Own i))
+  planned_back n T = ⊎_elim
+      (λ own. let b = back own (Own n) T.reached in by b.0 b.1 b.2 b.3)
+      (λ h. absurd (not_shared T.owned.owner T.own (owner_shared g n T.owned (leads_shared g all_apart T.reached.0 (root_in names (Space k) v) (At (Own n)) h.1 T.reached.1) T.here)))
+      held
+    where
+      by : (q : Name) → name_in names (Space k) q ≡ Own n → Reaches (space_graph m.space) (resolve m.space.slots (value_of v)) q → There (space_graph m.space) (At q)
+          → (i : ℕ) × (slice_index (names (Space k)) i ≡ n) × Reaches (space_graph m.space) (resolve m.space.slots (value_of v)) (Own i) × IsShareable (space_graph m.space) (At (Own i))
+      by (Own i) is r t =
+          let e : Own (slice_index (names (Space k)) i) ≡ Own n = is in
+          (i, cc, r, shares_back (space_graph m.space) (name_in names (Space k)) (whole g) inside (At (Own i)) (subst (λ z. IsShareable (whole g) (At z)) (sym is) T.shareable))
+      by (Published c p) is r t =
+          let o = t (Published c p) refl in
+          absurd (not_shared T.owned.owner T.own
+          (owner_shared g n T.owned (subst (λ z. IsSharedValue g (At z)) is (place_shared (layout w) names bound g R.tables (Space k) c p (place_seen c p o.0 o.1))) T.here))

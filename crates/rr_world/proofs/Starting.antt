@@ -21,7 +21,7 @@ use Rattle.rr_store.specs.Stores.{constant_of}
 use Rattle.rr_world.specs.Views.{Member, Channels, Assembly}
 use Rattle.rr_world.specs.Layouts.{cluster_slots, layout, space_slots, hand_slots, inbox_slots, port_slots, port_inside, message_slots, message_below, MemberKnows, IsKnowing, AreOwned, DoHomesFit, HaveInboxes, HavePorts, IsRead}
 use Rattle.rr_world.specs.States.{Actor}
-use Rattle.rr_world.specs.Readings.{each_from, actor_in, shells_in, mailbox_in, showcase_in, parcel_in, root_in, post_in, state_in}
+use Rattle.rr_world.specs.Readings.{each_from, actor_in, shells_in, planned_in, mailbox_in, showcase_in, parcel_in, root_in, post_in, state_in}
 use Rattle.rr_world.specs.Enabling.{StandsAt}
 use Rattle.rr_world.specs.ObjectCases.{IsStarted, new_actor, new_mailbox, new_showcase}
 use Rattle.rr_world.specs.Starting.{IsBegun}
@@ -154,7 +154,7 @@ module _ (w w2 : Assembly) (limits : Limits) (m2 : Member) (A : IsBegun limits (
     objects = remade_empty (Space place) (layout w) (layout w2) names names2 bound (bound + 0) g g2 remakes was R.tables after_reading N M
 
     new_one : actor_in names2 place m2 ≡ new_actor limits
-    new_one = same_actor (ap (map (root_in names2 (Space place))) A.roots) (ap (option_map (parcel_in names2 (Hand place))) A.hand) (ap (option_map (shells_in names2 place)) A.home) A.ticket
+    new_one = same_actor (ap (map (root_in names2 (Space place))) A.roots) (ap (option_map (parcel_in names2 (Hand place))) A.hand) (ap (option_map (shells_in names2 place)) A.home) A.ticket (ap (option_map (planned_in names2 place)) A.plan)
         (ap length A.slots) A.limit A.next A.run A.runs
 
     started : (number : RactorNo) (a : Actor) → a.limits ≡ limits → StandsAt number place → IsStarted number a (state_in w names g) (state_in w2 names2 g2)

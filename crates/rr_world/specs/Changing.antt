@@ -12,7 +12,7 @@ use Rattle.rr_space.specs.declared.kind.Kind.TheVariants.{Array, Text}
 use Rattle.rr_space.specs.declared.kind.Kind.TheVariants as kinds
 use Rattle.rr_space.specs.declared.refer.Ref.{Ref}
 use Rattle.rr_space.specs.declared.refer.Ref.TheVariants.{Nil, Local}
-use Rattle.rr_world.specs.Views.{Member, AreRootsWithin, AreAway}
+use Rattle.rr_world.specs.Views.{Member, ArePlacesBelow, AreRootsWithin, AreAway}
 use Rattle.rr_world.specs.Enabling.{IsNoShell, IsOpen, HasElement}
 use Rattle.rr_world.specs.ObjectCases.{frozen, appended, pushed, written, with_field}
 use Rattle.rr_world.specs.Packing.{named_ref}
@@ -39,6 +39,8 @@ pub record IsRewritten (n : ℕ) (p : Object) (v : Ref) (old now : Member) : Typ
   pub hand : now.hand ≡ old.hand
   pub home : now.home ≡ old.home
   pub ticket : now.ticket ≡ old.ticket
+  pub plan : now.plan ≡ old.plan
+  pub planned : ArePlacesBelow (length old.space.slots) old.plan
   pub away : AreAway old.space.slots old.hand old.home
   pub next : now.space.next_message ≡ old.space.next_message
   pub owner : now.space.owner ≡ old.space.owner

@@ -7,7 +7,7 @@ use Rattle.rr_share.specs.Search.{LeadsToShell}
 use Rattle.rr_world.specs.States.{Parcel, Mailbox, Showcase, Actor, State}
 use Rattle.rr_world.specs.declared.step.Action.{Action}
 use Rattle.rr_space.specs.Labels.{label_of}
-use Rattle.rr_world.specs.declared.step.Action.TheVariants.{Alloc, Pack, Discard, Offer, Accept, Open, Close, ClosePort, ShowLast, Show, Withdraw, Settle, Grab, Freeze, Append, Push, Write, SetField, Read, Start, End, Detach, PutBack, SetConst, SetOwn, GetConst}
+use Rattle.rr_world.specs.declared.step.Action.TheVariants.{Alloc, Pack, Plan, Discard, Offer, Accept, Open, Close, ClosePort, ShowLast, Show, Withdraw, Settle, Grab, Freeze, Append, Push, Write, SetField, Read, Start, End, Detach, PutBack, SetConst, SetOwn, GetConst}
 use Rattle.rr_world.specs.declared.step.Operand.{Operand}
 use Rattle.rr_world.specs.declared.step.Operand.TheVariants as operand
 use Rattle.rr_world.specs.declared.step.Step.{Step}
@@ -36,9 +36,13 @@ MayShow s who = (c : ℕ) × (b : Showcase) × StandsAt who c × (slice_get s.po
 abbrev pub Holds : Actor → Type 0
 Holds a = (p : Parcel) × (a.hand ≡ Some p)
 
+-- a plan is in the hand
+abbrev pub HoldsPlan : Actor → Type 0
+HoldsPlan a = (ns : List ℕ) × (a.plan ≡ Some ns)
+
 -- nothing is in the hand
 abbrev pub IsFreeHand : Actor → Type 0
-IsFreeHand a = (a.hand ≡ None) × (a.home ≡ None) × (a.ticket ≡ None)
+IsFreeHand a = (a.hand ≡ None) × (a.home ≡ None) × (a.ticket ≡ None) × (a.plan ≡ None)
 
 -- nothing is in the hand, or nothing but the home of the message that was shown under the ticket
 abbrev pub MayTakeBack : Actor → ℕ → Type 0
@@ -100,7 +104,7 @@ IsTested s a (Pack op) = MayBePacked s a op
 IsTested s a (Detach op) = MayBePacked s a op
 IsTested s a _ = Unit {0}
 
--- pack and detach need an empty hand and a value; discard, offer and open need a message in the hand, put back one with its
+-- pack, detach and plan need an empty hand and a value; discard needs a message or a plan in the hand, offer and open a message, put back one with its
 -- home, and accept an empty hand; show needs a message in the hand and nothing in the ractor's own port, and withdraw an empty hand
 -- or the home of what was shown; channels that are named are there; freeze needs an object of its own that is no shell, append, push and write one of a kind that is not
 -- frozen, and read an object that has the label
@@ -109,7 +113,8 @@ Allows s who a (Alloc new) = Unit {0}
 Allows s who a (Pack op) = IsFreeHand a × IsValue a op
 Allows s who a (Detach op) = IsFreeHand a × IsValue a op
 Allows s who a PutBack = HoldsMoved a
-Allows s who a Discard = Holds a
+Allows s who a (Plan op) = IsFreeHand a × IsValue a op
+Allows s who a Discard = Holds a ⊎ HoldsPlan a
 Allows s who a (Offer to) = Holds a × HasInbox s to
 Allows s who a Accept = IsFreeHand a × HasInbox s who
 Allows s who a Open = Holds a

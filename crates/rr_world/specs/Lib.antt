@@ -5,6 +5,7 @@ pub mod Readings
 pub mod Enabling
 pub mod ObjectCases
 pub mod MessageCases
+pub mod PlanCases
 pub mod ConstantCases
 pub mod PortCases
 pub mod Leaving
@@ -15,6 +16,7 @@ pub mod Laws
 pub mod Outcomes
 pub mod Opening
 pub mod Packing
+pub mod Planning
 pub mod Allocating
 pub mod Changing
 pub mod Starting

@@ -49,10 +49,10 @@ pub record IsReturned (k : ℕ) (a : Actor) (p : Parcel) (home : List ℕ) (s t 
   pub ractors : t.ractors ≡ slice_set s.ractors k (record a { hand = None; home = None })
   pub post : t.post ≡ s.post
 
--- drop: the hand's objects vanish, and a home with them
+-- drop: the hand's objects vanish, and a home or a plan with them
 pub record IsDiscarded (k : ℕ) (a : Actor) (s t : State) : Type 0 where
   pub objects : IsDropped (Hand k) s.objects t.objects
-  pub ractors : t.ractors ≡ slice_set s.ractors k (record a { hand = None; home = None })
+  pub ractors : t.ractors ≡ slice_set s.ractors k (record a { hand = None; home = None; plan = None })
   pub post : t.post ≡ s.post
 
 -- offer, Ok: it was open; the message is last under the next ticket, and the owner of its objects turns from hand to message; a

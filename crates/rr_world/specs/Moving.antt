@@ -60,6 +60,7 @@ Detaches op (Refused f) old now = (v : Ref) × IsFree old × (named_ref old.root
 pub record IsPutBackBy (d : Detached) (old now : Member) : Type 0 where
   pub held : old.hand ≡ Some d.message
   pub home : old.home ≡ Some d.home
+  pub no_plan : old.plan ≡ None
   pub rooted : AreRootsWithin (length old.space.slots) old.roots
   pub shells : (n : ℕ) → Contains d.home.slots n → slice_get old.space.slots n ≡ Some (Here emptied)
   pub count : length d.message.below ≡ length d.message.objects

@@ -26,6 +26,8 @@ pub record IsOpenedBy (m : Packed) (root : Ref) (old new : Member) : Type 0 wher
   pub hand : new.hand ≡ None
   pub home : new.home ≡ None
   pub ticket : new.ticket ≡ old.ticket
+  pub no_plan : old.plan ≡ None
+  pub plan : new.plan ≡ None
   pub limits : new.limits ≡ old.limits
   pub runs : new.runs ≡ old.runs
 

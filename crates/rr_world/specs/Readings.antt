@@ -8,6 +8,7 @@ use Rattle.rr_space.specs.Readings.{Owner, Space, Hand, Mail, Shown, Shared, Obj
 use Rattle.rr_space.specs.declared.refer.Ref.{Ref}
 use Rattle.rr_copy.specs.Messages.{size_of}
 use Rattle.rr_move.specs.declared.home.Home.{Home}
+use Rattle.rr_share.specs.declared.planned.Plan.{Plan}
 use Rattle.rr_inbox.specs.Inboxes.{Inbox}
 use Rattle.rr_inbox.specs.declared.entry.Entry.{Entry}
 use Rattle.rr_port.specs.Lasts.{message_of, is_fault}
@@ -62,12 +63,17 @@ showcase_in names c p = record {
 abbrev pub shells_in : Naming → ℕ → Home → List ℕ
 shells_in names k h = map (slice_index (names (Space k))) h.slots
 
+-- the names of the slots of a plan
+abbrev pub planned_in : Naming → ℕ → Plan → List ℕ
+planned_in names k p = map (slice_index (names (Space k))) p.places
+
 abbrev pub actor_in : Naming → ℕ → Member → Actor
 actor_in names k r = record {
   roots = map (root_in names (Space k)) r.roots;
   hand = option_map (parcel_in names (Hand k)) r.hand;
   home = option_map (shells_in names k) r.home;
   ticket = r.ticket;
+  plan = option_map (planned_in names k) r.plan;
   slots = length r.space.slots;
   limit = r.space.limit;
   next = r.space.next_message;

@@ -13,6 +13,7 @@ pub record IsBare (limits : Limits) (number : ℕ) (running : Bool) (m : Member)
   pub hand : m.hand ≡ None
   pub home : m.home ≡ None
   pub ticket : m.ticket ≡ None
+  pub plan : m.plan ≡ None
   pub next : m.space.next_message ≡ 1
   pub run : m.limits ≡ limits
   pub runs : m.runs ≡ running

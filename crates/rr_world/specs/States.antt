@@ -47,13 +47,15 @@ pub record Showcase : Type 0 where
   pub limit : ℕ
 
 -- a ractor: the values that it holds, the message in its hand, the names of the shells that its objects left where it was moved,
--- in their order, the ticket under which that message is shown, where it is no more in the hand, the slots that the ractor has used, the most that it may use, the number of its next moved message, the limits
+-- in their order, the ticket under which that message is shown, where it is no more in the hand, the names of the objects of a
+-- plan in the hand, the slots that the ractor has used, the most that it may use, the number of its next moved message, the limits
 -- of the run, which it hands on to those that it starts, and whether it runs: it has not ended
 pub record Actor : Type 0 where
   pub roots : List Value
   pub hand : Option Parcel
   pub home : Option (List ℕ)
   pub ticket : Option ℕ
+  pub plan : Option (List ℕ)
   pub slots : ℕ
   pub limit : ℕ
   pub next : ℕ

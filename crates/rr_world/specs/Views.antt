@@ -1,5 +1,5 @@
 -- What contracts see of a World: plain lists.
-use Rattle.std.specs.Prelude.{◌≡◌, ◌⊎◌, ℕ, Bool, true, List, [], ◌∷◌, length, Option, None, Some, Contains, slice_get, slice_set}
+use Rattle.std.specs.Prelude.{◌≡◌, ◌<◌, ◌⊎◌, ℕ, Bool, true, List, [], ◌∷◌, length, Option, None, Some, Contains, slice_get, slice_set}
 use Rattle.rr_base.specs.declared.limits.Limits.{Limits}
 use Rattle.rr_space.specs.Tables.{Table, Packed, Slot, Here}
 use Rattle.rr_space.specs.Views.{emptied}
@@ -8,20 +8,22 @@ use Rattle.rr_space.specs.declared.refer.Ref.{Ref}
 use Rattle.rr_inbox.specs.Inboxes.{Inbox}
 use Rattle.rr_port.specs.Ports.{Port}
 use Rattle.rr_store.specs.Stores.{Store}
+use Rattle.rr_share.specs.declared.planned.Plan.{Plan}
 use Rattle.rr_move.specs.Homes.{IsHomeOf}
 use Rattle.rr_move.specs.declared.home.Home.{Home}
 use Rattle.rr_move.specs.declared.hand.Hand.{Hand}
 use Rattle.rr_move.specs.declared.hand.Hand.TheVariants.{Empty, Planned, Published, Message, Moved, Shown}
 
 -- a ractor: its space, its roots, the message in its hand, the home of that message where it was moved out of the space, the
--- ticket under which the message of the home is shown, where it is no more in the hand, the limits of the run, and whether it
--- runs: it has not ended
+-- ticket under which the message of the home is shown, where it is no more in the hand, the plan in the hand, the limits of the
+-- run, and whether it runs: it has not ended
 pub record Member : Type 0 where
   pub space : Table
   pub roots : List Ref
   pub hand : Option Packed
   pub home : Option Home
   pub ticket : Option ℕ
+  pub plan : Option Plan
   pub limits : Limits
   pub runs : Bool
 
@@ -30,6 +32,7 @@ pub record IsFree (m : Member) : Type 0 where
   pub hand : m.hand ≡ None
   pub home : m.home ≡ None
   pub ticket : m.ticket ≡ None
+  pub plan : m.plan ≡ None
 
 -- the ticket under which the message of a hand's home is shown
 abbrev pub ticket_in : Hand → Option ℕ
@@ -50,6 +53,10 @@ pub record IsWaiting (m : Member) (ticket : ℕ) : Type 0 where
   pub hand : m.hand ≡ None
   pub ticket_is : m.ticket ≡ Some ticket
 
+-- a message or a plan is in the hand
+abbrev pub HasToDrop : Member → Type 0
+HasToDrop m = ((p : Packed) × (m.hand ≡ Some p)) ⊎ ((p : Plan) × (m.plan ≡ Some p))
+
 -- what is shown under the ticket may come back into the hand
 abbrev pub MayHaveBack : Member → ℕ → Type 0
 MayHaveBack m ticket = IsFree m ⊎ IsWaiting m ticket
@@ -61,14 +68,32 @@ pub record IsOfAnother (m : Member) (ticket : ℕ) (p : Packed) : Type 0 where
   pub ticket_is : m.ticket ≡ Some ticket
   pub strange : ¬ IsHomeOf kept p
 
--- no plan is in the hand
-abbrev pub HasNoPlan : Hand → Type 0
-HasNoPlan Empty = Unit {0}
-HasNoPlan (Planned plan) = ⊥
-HasNoPlan (Published places published) = ⊥
-HasNoPlan (Message p) = Unit {0}
-HasNoPlan (Moved d) = Unit {0}
-HasNoPlan (Shown home ticket) = Unit {0}
+-- the plan in a hand
+abbrev pub plan_in : Hand → Option Plan
+plan_in Empty = None
+plan_in (Planned plan) = Some plan
+plan_in (Published places published) = None
+plan_in (Message p) = None
+plan_in (Moved d) = None
+plan_in (Shown home ticket) = None
+
+-- each place of a plan is one of so many slots
+abbrev pub ArePlacesBelow : ℕ → Option Plan → Type 0
+ArePlacesBelow k None = Unit {0}
+ArePlacesBelow k (Some plan) = (n : ℕ) → Contains plan.places n → n < k
+
+-- no published plan is in the hand
+abbrev pub HasNoPublished : Hand → Type 0
+HasNoPublished Empty = Unit {0}
+HasNoPublished (Planned plan) = Unit {0}
+HasNoPublished (Published places published) = ⊥
+HasNoPublished (Message p) = Unit {0}
+HasNoPublished (Moved d) = Unit {0}
+HasNoPublished (Shown home ticket) = Unit {0}
+
+-- that, and the places of a plan in the hand are slots
+abbrev pub IsHandFit : ℕ → Hand → Type 0
+IsHandFit k h = HasNoPublished h × ArePlacesBelow k (plan_in h)
 
 -- each slot of the home is a shell
 abbrev pub AreShells : List Slot → Home → Type 0

@@ -7,6 +7,7 @@ mod laws;
 mod moving;
 mod outcome;
 mod packing;
+mod planning;
 mod ports;
 mod ractor;
 mod showing;

@@ -3,13 +3,14 @@
 ghost use Rattle.std.specs.Prelude.{◌≡◌, ◌≤◌, ◌↔◌, [], true, IsTrue, Some, None};
 ghost use Rattle.std.specs.Prelude.{length, IfSome, IfNone};
 ghost use Rattle.std.specs.Option.{ForSome};
+ghost use Rattle.std.specs.Bool.{OnTrue, OnFalse};
 ghost use Rattle.rr_space.specs.Parts.{IsWithin};
 ghost use Rattle.rr_space.specs.Views.{AreFieldsDistinct, node_parts, object_of};
 ghost use Rattle.rr_world.specs.Allocating.{Allocs};
 ghost use Rattle.rr_world.specs.ObjectCases.{new_object};
 ghost use Rattle.rr_world.specs.Opening.{Opened};
 ghost use Rattle.rr_world.specs.Packing.{Packs, named_ref};
-ghost use Rattle.rr_world.specs.Views.{AreAway, IsFree, IsOfAnother, MayHaveBack, waits_under};
+ghost use Rattle.rr_world.specs.Views.{AreAway, HasToDrop, IsFree, IsOfAnother, MayHaveBack, waits_under};
 ghost use Rattle.rr_world.specs.Getting.{IsOwnRef, IsPublicRef, Joins};
 ghost use Rattle.rr_world.specs.Starting.{IsOver};
 ghost use Rattle.rr_space.specs.declared.refer.Ref.{Ref};
@@ -38,13 +39,13 @@ pub(crate) struct Ractor {
 impl Model for Ractor {
     ghost use Rattle.std.specs.Prelude.{◌≤◌, length};
     ghost use Rattle.rr_move.specs.Hands.{message_in, home_in};
-    ghost use Rattle.rr_world.specs.Views.{Member, AreAway, AreRootsWithin, HasNoPlan, ticket_in};
+    ghost use Rattle.rr_world.specs.Views.{Member, AreAway, AreRootsWithin, IsHandFit, plan_in, ticket_in};
 
     ghost Value = { Member };
 
-    ghost view = { λ r. record { space = r.space; roots = r.roots.items; hand = message_in r.hand; home = home_in r.hand; ticket = ticket_in r.hand; limits = r.limits; runs = r.runs } };
+    ghost view = { λ r. record { space = r.space; roots = r.roots.items; hand = message_in r.hand; home = home_in r.hand; ticket = ticket_in r.hand; plan = plan_in r.hand; limits = r.limits; runs = r.runs } };
 
-    ghost invariant = { λ r. AreRootsWithin (length r.space.slots) r.roots.items × (3 ≤ r.limits.events) × HasNoPlan r.hand × AreAway r.space.slots (message_in r.hand) (home_in r.hand) };
+    ghost invariant = { λ r. AreRootsWithin (length r.space.slots) r.roots.items × (3 ≤ r.limits.events) × IsHandFit (length r.space.slots) r.hand × AreAway r.space.slots (message_in r.hand) (home_in r.hand) };
 }
 
 // What a new object is made of.
@@ -73,6 +74,7 @@ impl Ractor {
         ensures hand { result.hand ≡ None }
         ensures home { result.home ≡ None }
         ensures ticket { result.ticket ≡ None }
+        ensures plan { result.plan ≡ None }
         ensures limits { result.limits ≡ limits }
         ensures runs { result.runs ≡ true }
     {
@@ -122,17 +124,26 @@ impl Ractor {
         ensures some { IfSome result (λ taken. (self.old.hand ≡ Some taken.0) × (self.old.home ≡ taken.1) × (self.new ≡ record self.old { hand = None; home = None })) }
         ensures shells { IfSome result (λ taken. AreAway self.old.space.slots None taken.1) }
         ensures alone { IfSome result (λ _. self.old.ticket ≡ None) }
+        ensures planless { IfSome result (λ _. self.old.plan ≡ None) }
         ensures fits { IfSome result (λ taken. ForSome taken.1 (λ home. IsHomeOf home taken.0) × AreAway self.old.space.slots (Some taken.0) taken.1) }
         ensures none { IfNone result ((self.old.hand ≡ None) × (self.new ≡ self.old)) }
     {
         self.hand.take_message()
     }
 
+    /// Drops a plan, or the message with its home, and answers whether there was one in the hand.
+    pub(crate) fn clear(&mut self) -> bool
+        ensures gone { OnTrue result (HasToDrop self.old × (self.new ≡ record self.old { hand = None; home = None; plan = None })) }
+        ensures kept { OnFalse result ((self.old.hand ≡ None) × (self.old.plan ≡ None) × (self.new ≡ self.old)) }
+    {
+        self.hand.clear()
+    }
+
     /// Puts a message into the hand, with its home where it was moved.
     pub(crate) fn hold(&mut self, message: Message, home: Option<Home>)
         requires fits { ForSome home (λ home. IsHomeOf home message) }
         requires away { AreAway self.old.space.slots (Some message) home }
-        ensures { self.new ≡ record self.old { hand = Some message; home = home; ticket = None } }
+        ensures { self.new ≡ record self.old { hand = Some message; home = home; ticket = None; plan = None } }
     {
         self.hand = Hand::of_message(message, home);
     }
@@ -140,7 +151,7 @@ impl Ractor {
     /// Keeps the home of a message that is shown under the ticket. Without a home the hand is empty.
     pub(crate) fn wait(&mut self, home: Option<Home>, ticket: Ticket)
         requires shells { AreAway self.old.space.slots None home }
-        ensures { self.new ≡ record self.old { hand = None; home = home; ticket = waits_under home ticket } }
+        ensures { self.new ≡ record self.old { hand = None; home = home; ticket = waits_under home ticket; plan = None } }
     {
         self.hand = Hand::of_home(home, ticket);
     }

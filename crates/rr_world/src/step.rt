@@ -40,7 +40,10 @@ pub enum Action {
     /// A copy of the value comes into the hand as a message. The hand has to be empty, and each shareable object that the
     /// value leads to has to be published.
     Pack(Operand),
-    /// The message in the hand goes, and its objects with it.
+    /// A plan of the ractor's own shareable objects that the value leads to comes into the hand, which has to be empty. Where
+    /// there are none, the hand stays empty.
+    Plan(Operand),
+    /// The message in the hand goes, and its objects with it; or a plan goes.
     Discard,
     /// The message in the hand goes to the end of a ractor's inbox.
     Offer(RactorNo),

@@ -4,7 +4,7 @@ ghost use Rattle.std.specs.Prelude.{◌≡◌, ◌+◌, ◌<◌, ◌≤◌, ℕ,
 ghost use Rattle.rr_world.specs.Enabling.{StandsAt};
 ghost use Rattle.rr_world.specs.Runs.{HasReading, IsNew, IsRun, IsStep, HasOutcome};
 ghost use Rattle.rr_world.specs.Views.{RunsAt};
-ghost use Rattle.rr_world.specs.declared.step.Action.TheVariants.{Alloc, Pack, Discard, Offer, Accept, Open, Close};
+ghost use Rattle.rr_world.specs.declared.step.Action.TheVariants.{Alloc, Pack, Plan, Discard, Offer, Accept, Open, Close};
 ghost use Rattle.rr_world.specs.declared.step.Action.TheVariants.{Freeze, Append, Push, Write, SetField, Start, End, Read, Detach, PutBack};
 
 use crate::ractor::Ractor;
@@ -113,15 +113,25 @@ impl World {
         ractor.put_back().reply()
     }
 
-    // The message in the hand goes.
+    // A plan of what is to be published comes into the hand.
+    fn plan(&mut self, alloc: Global, who: RactorNo, place: usize, value: Operand) -> Reply
+        requires stands { StandsAt who place }
+        requires within { place < length self.old.ractors }
+        ensures { HasOutcome (record { who = who; action = Plan value }) result self.old self.new }
+    {
+        let ractor = &mut self.ractors[place];
+        ractor.plan(alloc, value).reply()
+    }
+
+    // The message or the plan in the hand goes.
     fn discard(&mut self, who: RactorNo, place: usize) -> Reply
         requires stands { StandsAt who place }
         requires within { place < length self.old.ractors }
         ensures { HasOutcome (record { who = who; action = Discard }) result self.old self.new }
     {
-        let Some(_taken) = self.ractors[place].take() else {
+        if !self.ractors[place].clear() {
             return Reply::NotEnabled;
-        };
+        }
         Reply::Done
     }
 
@@ -335,6 +345,7 @@ impl World {
             Action::Alloc(new) => self.alloc(alloc, who, place, new),
             Action::Pack(value) => self.pack(alloc, who, place, value),
             Action::Detach(value) => self.detach(alloc, who, place, value),
+            Action::Plan(value) => self.plan(alloc, who, place, value),
             Action::PutBack => self.put_back(who, place),
             Action::Discard => self.discard(who, place),
             Action::Accept => self.accept(who, place),

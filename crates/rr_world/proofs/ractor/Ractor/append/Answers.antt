@@ -4,7 +4,7 @@ use Rattle.rr_space.specs.declared.refer.Ref.TheVariants.{Nil}
 use Rattle.rr_world.specs.Views.{Member}
 use Rattle.rr_world.specs.Enabling.{IsOpen}
 use Rattle.rr_world.specs.ObjectCases.{appended}
-use Rattle.rr_world.proofs.Changes.{open_text, set_within, kept_known, made, open_whole, set_away}
+use Rattle.rr_world.proofs.Changes.{open_text, set_within, kept_known, made, open_whole, set_away, set_hand}
 use Rattle.rr_world.proofs.Making.{text_differs}
 use Rattle.rr_world.proofs.ractor.Ractor.append.Goals as goal
 
@@ -14,7 +14,7 @@ invariant_of-self-2 c =
     let here = ap (λ (m : Member). slice_get m.space.slots s.0) c.self.view_is ∙ s.3 in (
       set_within c.self.inside.space c.append_text.new.self s.0 _ c.self.inside.roots.items (c.in_default-append_text.ensures.slots s.0 s.1 s.2 here) c.self.invariant.0,
       c.self.invariant.1,
-      c.self.invariant.2,
+      set_hand c.self.inside.space c.append_text.new.self s.0 _ c.self.inside.hand (c.in_default-append_text.ensures.slots s.0 s.1 s.2 here) c.self.invariant.2,
       set_away c.self.inside.space c.append_text.new.self s.0 _ s.1 _ _ (c.in_default-append_text.ensures.slots s.0 s.1 s.2 here) here (open_whole text s.1 text_differs s.4) c.self.invariant.3,
     )
 
@@ -24,4 +24,4 @@ returns c =
     let here = ap (λ (m : Member). slice_get m.space.slots s.0) c.self.view_is ∙ s.3 in
     made c.args.text (IsOpen text) (appended c.args.byte) Nil c.in-Some.text c.args.self.now c.self.inside.space c.append_text.new.self c.self.inside.roots.items c.self.inside.hand c.self.inside.limits c.self.inside.runs s.0 s.1
     c.self.view_is c.in-Some.ensures.some.text s.2 here s.4 (c.in_default-append_text.ensures.slots s.0 s.1 s.2 here)
-    (kept_known Nil c.self.inside.space.below c.append_text.new.self.below c.append_text.ensures.below) c.append_text.ensures.rest.limit c.append_text.ensures.rest.owner c.append_text.ensures.rest.next_message c.self.invariant.0 c.self.invariant.3 tt
+    (kept_known Nil c.self.inside.space.below c.append_text.new.self.below c.append_text.ensures.below) c.append_text.ensures.rest.limit c.append_text.ensures.rest.owner c.append_text.ensures.rest.next_message c.self.invariant.0 c.self.invariant.3 c.self.invariant.2.1 tt

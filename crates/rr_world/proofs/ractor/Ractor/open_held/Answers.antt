@@ -2,7 +2,7 @@ use Rattle.std.proofs.Common.{◌≡◌, ◌≤◌, ◌++◌, ◌∷◌, [], Lis
 use Rattle.rr_space.specs.Tables.{here_behind}
 use Rattle.rr_space.specs.declared.refer.Ref.{Ref}
 use Rattle.rr_move.specs.Hands.{message_in, home_in}
-use Rattle.rr_world.specs.Views.{AreAway, AreRootsWithin, HasNoPlan}
+use Rattle.rr_world.specs.Views.{AreAway, AreRootsWithin, IsHandFit}
 use Rattle.rr_world.proofs.Rooting.{roots_and_more}
 use Rattle.rr_world.proofs.ractor.Ractor.open_held.Goals as goal
 
@@ -15,7 +15,7 @@ invariant_of-self-in-Ok c =
       subst (λ (rs : List Ref). AreRootsWithin (length c.open.new.space.slots) rs) (sym pushed)
           (roots_and_more (length old) (length c.open.new.space.slots) c.self.inside.roots.items c.in-Ok.root le c.self.invariant.0 c.in-Ok.ensures.within),
       c.self.invariant.1,
-      subst HasNoPlan (sym c.in-Some.ensures.some.2) tt,
+      subst (IsHandFit (length c.open.new.space.slots)) (sym c.in-Some.ensures.some.2) (tt, tt),
       subst (λ h. AreAway c.open.new.space.slots (message_in h) (home_in h)) (sym c.in-Some.ensures.some.2) tt,
     )
 
@@ -28,6 +28,6 @@ invariant_of-self-in-Ok-2 c =
       subst (λ (rs : List Ref). AreRootsWithin (length c.open.new.space.slots) rs) (sym pushed)
           (roots_and_more (length old) (length c.open.new.space.slots) c.self.inside.roots.items c.in-Ok.root le c.self.invariant.0 c.in-Ok.ensures.within),
       c.self.invariant.1,
-      subst HasNoPlan (sym c.in-Some.ensures.some.2) tt,
+      subst (IsHandFit (length c.open.new.space.slots)) (sym c.in-Some.ensures.some.2) (tt, tt),
       subst (λ h. AreAway c.open.new.space.slots (message_in h) (home_in h)) (sym c.in-Some.ensures.some.2) tt,
     )

@@ -32,6 +32,10 @@ pub returns-in-Detach : goal.returns-in-Detach
 returns-in-Detach c =
     subst (λ (a : Action). HasOutcome (record { who = c.args.who; action = a }) c.detach.result c.args.self.now c.detach.new.self) (sym c.in-Detach.is) c.detach.ensures
 
+pub returns-in-Plan : goal.returns-in-Plan
+returns-in-Plan c =
+    subst (λ (a : Action). HasOutcome (record { who = c.args.who; action = a }) c.plan.result c.args.self.now c.plan.new.self) (sym c.in-Plan.is) c.plan.ensures
+
 pub returns-in-PutBack : goal.returns-in-PutBack
 returns-in-PutBack c =
     subst (λ (a : Action). HasOutcome (record { who = c.args.who; action = a }) c.put_back.result c.args.self.now c.put_back.new.self) (sym c.in-PutBack.is) c.put_back.ensures

@@ -17,6 +17,7 @@ returns-clause-made c = record {
   hand = c.new.ensures.hand;
   home = c.new.ensures.home;
   ticket = c.new.ensures.ticket;
+  plan = c.new.ensures.plan;
   next = c.new.ensures.next;
   store = c.new-store.ensures;
   run = c.new.ensures.limits;
