@@ -174,6 +174,14 @@ x = begin 1 end if 2 -> Int(1), Item(0), Sequence { first: 1, count: 1 }, Assign
 begin 1 end.f -> Int(1), Item(0), Sequence { first: 1, count: 1 }, Send { receiver: 2, name: Sym(0), first: 3, count: 0, site: 0 }, Item(3), Sequence { first: 4, count: 1 }
 (begin 1 end) while 2 -> Int(1), Item(0), Sequence { first: 1, count: 1 }, Item(2), Sequence { first: 3, count: 1 }, Int(2), Nil, Loop { until: false, condition: 5, body: 4 }, Item(7), Sequence { first: 8, count: 1 }
 begin^n1^nend^nwhile 2 do end -> Int(1), Item(0), Sequence { first: 1, count: 1 }, Int(2), Sequence { first: 4, count: 0 }, Loop { until: false, condition: 3, body: 4 }, Item(2), Item(5), Sequence { first: 6, count: 2 }
+\"a#{1}b\" -> Int(1), Item(0), Sequence { first: 1, count: 1 }, Text(0), Text(1), Item(3), Item(2), Item(4), Interpolation { first: 5, count: 3 }, Item(8), Sequence { first: 9, count: 1 }
+\"#{}\" -> Sequence { first: 0, count: 0 }, Text(0), Text(1), Item(1), Item(0), Item(2), Interpolation { first: 3, count: 3 }, Item(6), Sequence { first: 7, count: 1 }
+\"#{1}#{2}\" -> Int(1), Item(0), Sequence { first: 1, count: 1 }, Text(0), Int(2), Item(4), Sequence { first: 5, count: 1 }, Text(1), Text(2), Item(3), Item(2), Item(7), Item(6), Item(8), Interpolation { first: 9, count: 5 }, Item(14), Sequence { first: 15, count: 1 }
+puts \"#{x = 1}\"; x -> Int(1), Assign { depth: 0, slot: 0, name: Sym(1), value: 0 }, Item(1), Sequence { first: 2, count: 1 }, Text(0), Text(1), Item(4), Item(3), Item(5), Interpolation { first: 6, count: 3 }, Item(9), Call { name: Sym(0), first: 10, count: 1, site: 0 }, Local { depth: 0, slot: 0, name: Sym(1) }, Item(11), Item(12), Sequence { first: 13, count: 2 }
+\"#{\"a#{1}\"}\" -> Int(1), Item(0), Sequence { first: 1, count: 1 }, Text(1), Text(2), Item(3), Item(2), Item(4), Interpolation { first: 5, count: 3 }, Item(8), Sequence { first: 9, count: 1 }, Text(0), Text(3), Item(11), Item(10), Item(12), Interpolation { first: 13, count: 3 }, Item(16), Sequence { first: 17, count: 1 }
+while \"#{f do 1 end}\" do end -> Call { name: Sym(0), first: 0, count: 0, site: 0 }, Int(1), Item(1), Sequence { first: 2, count: 1 }, Block { scope: 1, parameters: 0, size: 0, body: 3 }, WithBlock(0, 4), Item(5), Sequence { first: 6, count: 1 }, Text(0), Text(1), Item(8), Item(7), Item(9), Interpolation { first: 10, count: 3 }, Sequence { first: 14, count: 0 }, Loop { until: false, condition: 13, body: 14 }, Item(15), Sequence { first: 16, count: 1 }
+\"#{1^n2}\" -> Int(1), Int(2), Item(0), Item(1), Sequence { first: 2, count: 2 }, Text(0), Text(1), Item(5), Item(4), Item(6), Interpolation { first: 7, count: 3 }, Item(10), Sequence { first: 11, count: 1 }
+\"a#{1}\".b -> Int(1), Item(0), Sequence { first: 1, count: 1 }, Text(0), Text(1), Item(3), Item(2), Item(4), Interpolation { first: 5, count: 3 }, Send { receiver: 8, name: Sym(0), first: 9, count: 0, site: 0 }, Item(9), Sequence { first: 10, count: 1 }
 ";
 
 /// Sources that are refused.
@@ -302,6 +310,13 @@ begin 1 } -> 1:9 unexpected token
 begin else end -> 1:7 unexpected token
 begin rescue => e end -> 1:19 unexpected token
 1 begin 2 end -> 1:3 unexpected token
+\"#{1 -> 1:5 unexpected end
+\"#{1)}\" -> 1:5 unexpected token
+\"#{1 2}\" -> 1:6 unexpected token
+\"#{else}\" -> 1:4 unexpected token
+\"#{break}\" -> 1:4 unexpected token
+\"#{def f; end}\" -> 1:4 unexpected token
+\"a#{1}\" 2 -> 1:9 unexpected token
 ";
 
 fn check_rows(rt: &impl Abort, alloc: Global, rows: &str) -> Result<(), AllocError> {
@@ -339,6 +354,18 @@ fn names_and_texts(rt: HostRuntime) -> Result<(), Fail> {
     assert_eq!(rt; program.texts.len(), 2);
     assert_eq!(rt; program.texts[0].as_slice(), b"x\n".as_slice());
     assert_eq!(rt; program.texts[1].as_slice(), b"y".as_slice());
+    Ok(())
+}
+
+#[test]
+fn pieces_of_texts(rt: HostRuntime) -> Result<(), Fail> {
+    let program = read(rt.alloc(), b"\"a#{'x'}\\n\"; \"#{1}\"")?;
+    assert_eq!(rt; program.texts.len(), 5);
+    assert_eq!(rt; program.texts[0].as_slice(), b"a".as_slice());
+    assert_eq!(rt; program.texts[1].as_slice(), b"x".as_slice());
+    assert_eq!(rt; program.texts[2].as_slice(), b"\n".as_slice());
+    assert_eq!(rt; program.texts[3].as_slice(), b"".as_slice());
+    assert_eq!(rt; program.texts[4].as_slice(), b"".as_slice());
     Ok(())
 }
 
@@ -401,6 +428,9 @@ f do g do 1 end end -> 2
 while f do g do 1 end end -> 2
 begin 1 end -> 1
 begin begin 1 end; rescue; [2] end -> 2
+\"#{1}\" -> 1
+\"#{[1]}#{2}\" -> 2
+\"#{\"#{1}\"}\" -> 2
 ";
 
 #[test]
