@@ -2,7 +2,11 @@
 #![tactic(auto)]
 
 #[cfg(test)]
+mod assigning;
+#[cfg(test)]
 mod broken;
+#[cfg(test)]
+mod builtins;
 #[cfg(test)]
 mod calls;
 #[cfg(test)]

@@ -50,7 +50,7 @@ arguments come before their count|def f(a); a; end^nf((puts 1), (puts 2))^n|1^n2
 an exception passes through methods|def f(a); 1 / a; end^ndef g(a); f(a); puts 9; end^nputs 0; g(0)^n|0^n|divided by 0 (ZeroDivisionError)
 a method with the name of one that prints|def puts(a); print a, a; end^nputs 4^n|44|
 a bare name with the name of one that prints|def p; print 7; end^np^n|7|
-a command with another name|def f; 1; end^nputs 1; foo 2^n|1^n|not here yet (RuntimeError)
+a command with another name|def f; 1; end^nputs 1; foo 2^n|1^n|undefined method 'foo' for an instance of Object (NoMethodError)
 a method without an end|def f(n); f(n + 1); end^nf(0)^n||stack level too deep (SystemStackError)
 a bare method without an end|def f; f; end^nf^n||stack level too deep (SystemStackError)
 a method that changes an array|def f(a); a << 1; nil; end^nx = []; f(x); f(x); p x^n|[1, 1]^n|
