@@ -135,6 +135,13 @@ return if 1 -> Nil, Return(0), Int(1), Nil, Choose(2, 1, 3), Item(4), Sequence {
 return {a: 1} -> Int(1), Symbol(Sym(0)), Pair(1, 0), Item(2), Hash { first: 3, count: 1 }, Return(4), Item(5), Sequence { first: 6, count: 1 }
 1 && return -> Int(1), Nil, Return(1), And(0, 2), Item(3), Sequence { first: 4, count: 1 }
 return puts 1 -> Int(1), Item(0), Call { name: Sym(0), first: 1, count: 1, site: 0 }, Return(2), Item(3), Sequence { first: 4, count: 1 }
+foo *1 -> Int(1), Splat(0), Item(1), Call { name: Sym(0), first: 2, count: 1, site: 0 }, Item(3), Sequence { first: 4, count: 1 }
+foo * 1 -> Bare { name: Sym(0), site: 0 }, Int(1), Binary(Multiply, 0, 1), Item(2), Sequence { first: 3, count: 1 }
+foo *a, 1 -> Bare { name: Sym(1), site: 0 }, Splat(0), Int(1), Item(1), Item(2), Call { name: Sym(0), first: 3, count: 2, site: 1 }, Item(5), Sequence { first: 6, count: 1 }
+x = 1; x *2 -> Int(1), Assign { depth: 0, slot: 0, name: Sym(0), value: 0 }, Local { depth: 0, slot: 0, name: Sym(0) }, Int(2), Binary(Multiply, 2, 3), Item(1), Item(4), Sequence { first: 5, count: 2 }
+return *a -> Bare { name: Sym(0), site: 0 }, Splat(0), Item(1), Array { first: 2, count: 1 }, Return(3), Item(4), Sequence { first: 5, count: 1 }
+return *1, 2 -> Int(1), Splat(0), Int(2), Item(1), Item(2), Array { first: 3, count: 2 }, Return(5), Item(6), Sequence { first: 7, count: 1 }
+while 1; break *a; end -> Int(1), Bare { name: Sym(0), site: 0 }, Splat(1), Item(2), Array { first: 3, count: 1 }, Break(4), Item(5), Sequence { first: 6, count: 1 }, Loop { until: false, condition: 0, body: 7 }, Item(8), Sequence { first: 9, count: 1 }
 x = return 1 -> Int(1), Return(0), Assign { depth: 0, slot: 0, name: Sym(0), value: 1 }, Item(2), Sequence { first: 3, count: 1 }
 f do end -> Call { name: Sym(0), first: 0, count: 0, site: 0 }, Sequence { first: 1, count: 0 }, Block { scope: 1, parameters: 0, size: 0, body: 1 }, WithBlock(0, 2), Item(3), Sequence { first: 4, count: 1 }
 f do^n1^nend -> Call { name: Sym(0), first: 0, count: 0, site: 0 }, Int(1), Item(1), Sequence { first: 2, count: 1 }, Block { scope: 1, parameters: 0, size: 0, body: 3 }, WithBlock(0, 4), Item(5), Sequence { first: 6, count: 1 }
@@ -272,6 +279,10 @@ f { break }; next -> 1:14 unexpected token
 1 + return 2 -> 1:12 unexpected token
 return 1, -> 1:10 unexpected end
 return 1 2 -> 1:10 unexpected token
+return (*a) -> 1:9 unexpected token
+1 + foo *2 -> 1:9 unexpected token
+foo *, 1 -> 1:6 unexpected token
+x = *a -> 1:5 unexpected token
 f 1 { } -> 1:5 unexpected token
 1 do end -> 1:3 unexpected token
 f do -> 1:5 unexpected end

@@ -18,7 +18,7 @@ use Rattle.rr_parser.specs.declared.parser.Parser.{Parser}
 use Rattle.rr_parser.specs.declared.word.WordKind.{WordKind}
 use Rattle.rr_parser.specs.declared.word.WordKind.TheVariants as kind
 use Rattle.rr_parser.specs.Places.{Known, Place, without_separators, word, at, skip}
-use Rattle.rr_parser.specs.Grammar.Names.{with_loop, jump_tree, jump_value, headed}
+use Rattle.rr_parser.specs.Grammar.Names.{with_loop, jump_tree, is_splat, jump_value, headed}
 use Rattle.rr_parser.specs.Grammar.Operators.{operator, infixed}
 use Rattle.rr_parser.specs.Grammar.Control.{thens, loops, chosen, unless_chosen, outside_loop}
 use Rattle.rr_parser.specs.Reading.Answers.{◌>>=◌, wrong, Answer, built, ended_by, closed, across, taking_of}
@@ -218,10 +218,15 @@ pub value_none : (f : ℕ → Tree) (xs : List ℕ) → length xs ≡ 0 → jump
 value_none f [] e = refl
 value_none f (x ∷ xs) e = let never : ⊥ = omega (arith, e) in absurd never
 
-pub value_one : (f : ℕ → Tree) (xs : List ℕ) (d : ℕ) → length xs ≡ 1 → jump_value (map f xs) ≡ f (get_or xs 0 d)
-value_one f [] d e = let never : ⊥ = omega (arith, e) in absurd never
-value_one f (x ∷ []) d e = refl
-value_one f (x ∷ y ∷ xs) d e = let never : ⊥ = omega (arith, e) in absurd never
+pub value_one : (f : ℕ → Tree) (xs : List ℕ) (d : ℕ) → length xs ≡ 1 → is_splat (f (get_or xs 0 d)) ≡ false → jump_value (map f xs) ≡ f (get_or xs 0 d)
+value_one f [] d e g = let never : ⊥ = omega (arith, e) in absurd never
+value_one f (x ∷ []) d e g = ap (λ b. cond b (array (listed (f x ∷ []))) (f x)) g
+value_one f (x ∷ y ∷ xs) d e g = let never : ⊥ = omega (arith, e) in absurd never
+
+pub value_splat : (f : ℕ → Tree) (xs : List ℕ) (d : ℕ) → length xs ≡ 1 → is_splat (f (get_or xs 0 d)) ≡ true → jump_value (map f xs) ≡ array (listed (map f xs))
+value_splat f [] d e g = let never : ⊥ = omega (arith, e) in absurd never
+value_splat f (x ∷ []) d e g = ap (λ b. cond b (array (listed (f x ∷ []))) (f x)) g
+value_splat f (x ∷ y ∷ xs) d e g = let never : ⊥ = omega (arith, e) in absurd never
 
 pub value_more : (f : ℕ → Tree) (xs : List ℕ) → (length xs ≡ 0 → ⊥) → (length xs ≡ 1 → ⊥) → jump_value (map f xs) ≡ array (listed (map f xs))
 value_more f [] a b = absurd (a refl)

@@ -111,7 +111,7 @@ module _ (N : Readers) (R : Nested) (F : Fronts) (sounds : NestedSound N R) (nes
   item_deep s e = item_or-deep s (at (word star) s) refl e
 
   member_deep : (k : Listed) → IsDeep (member_of N k) (MemberFront R F k)
-  member_deep listings.Command = argument_deep
+  member_deep listings.Command = item_deep
   member_deep listings.Call = item_deep
   member_deep listings.Array = item_deep
   member_deep listings.Hash = pair_deep

@@ -409,7 +409,7 @@ item_no_closing R k s z t (a_splat {m = m} e h) = none_unless (at (closing k) s)
 item_no_closing R k s z t (a_plain_item h) = starts_no_closing k s (argument_starts R s z t h)
 
 pub member_no_closing : (R : Nested) (k : Listed) (s z : Place) (t : Tree) → Member R k s t z → at (closing k) s ≡ None
-member_no_closing R listings.Command s z t h = starts_no_closing listings.Command s (argument_starts R s z t h)
+member_no_closing R listings.Command s z t h = item_no_closing R listings.Command s z t h
 member_no_closing R listings.Call s z t h = item_no_closing R listings.Call s z t h
 member_no_closing R listings.Array s z t h = item_no_closing R listings.Array s z t h
 member_no_closing R listings.Hash s z t (by_label {m = m} {x = x} e h) = label_no_closing listings.Hash s m x e

@@ -39,7 +39,7 @@ use Rattle.rr_parser.specs.Reading.Blocks.{left_block, block_or, block_of}
 use Rattle.rr_parser.specs.Reading.Definitions.{left_method, method_or, definition_or, definition_of}
 use Rattle.rr_parser.specs.Reading.{part_of, readers_inside, readers_outside}
 use Rattle.rr_parser.proofs.Told.{told_comma}
-use Rattle.rr_parser.proofs.Looks.{seen, none_unless, other-word, separators-row, Steps-row}
+use Rattle.rr_parser.proofs.Looks.{seen, by_next, none_unless, other-word, separators-row, Steps-row}
 use Rattle.rr_parser.proofs.Listing.{another-comma, comma-another, last-another, Steps-another}
 use Rattle.rr_parser.proofs.Shrinking.{ReadersShrink, shrinks_nested, Steps-connective, Steps-modifier, Steps-elsif, Steps-comma, Steps-middle, Steps-rescues, class_shrinks}
 use Rattle.rr_parser.proofs.Leading.{Leads, leads_bind, leads_trans, leads_eq, leads_map, IsFull, chain_full, across_full}
@@ -81,7 +81,7 @@ module _ (N : Readers) (R : Nested) (D : Type 0) (shrinks : ReadersShrink N) (ne
       leads_eq (item_or N s (at (word star) s)) (argument_of N s) (Ok (t, z)) (ap (item_or N s) (starts_no_star s (argument_starts R s z t h))) (argument_full s z t h stops)
 
   member_full : (k : Listed) → IsFull (member_of N k) (Member R k) (Stops 26) D
-  member_full listings.Command = argument_full
+  member_full listings.Command = item_full
   member_full listings.Call = item_full
   member_full listings.Array = item_full
   member_full listings.Hash = pair_full
@@ -127,11 +127,15 @@ module _ (N : Readers) (R : Nested) (D : Type 0) (shrinks : ReadersShrink N) (ne
   argument_no_command s z t (an_assignment {n = n} {x = x} e h) = target_no_command s n x e
   argument_no_command s z t (no_assignment h) = first_no_command s (ternary_first R s z t h)
 
+  item_no_command : (s z : Place) (t : Tree) → Item R s t z → at (command s.known) s ≡ None
+  item_no_command s z t (a_splat {m = m} e h) = by_next (λ q. at (command q.known) q ≡ None) s m star e (λ b. refl)
+  item_no_command s z t (a_plain_item h) = argument_no_command s z t h
+
   pub commanded_full : IsFull (commanded_of N) (Commanded R) (Stops 27) D
   unfolding commanded_of
   commanded_full s z l (by_arguments c) stops =
-      let f = chain_first comma one_of and_one (Argument R) s z l c in
-      leads_eq (commanded_or N s (at (command s.known) s)) (members_of N listings.Command s) (Ok (l, z)) (ap (commanded_or N s) (argument_no_command s f.1 f.0 f.2)) (commands_full s z l c stops)
+      let f = chain_first comma one_of and_one (Item R) s z l c in
+      leads_eq (commanded_or N s (at (command s.known) s)) (members_of N listings.Command s) (Ok (l, z)) (ap (commanded_or N s) (item_no_command s f.1 f.0 f.2)) (commands_full s z l c stops)
   commanded_full s z l (by_command {t = t} e h) stops =
       leads_eq (commanded_or N s (at (command s.known) s)) (built one_of (N.part parts.Command s)) (Ok (l, z)) (ap (commanded_or N s) e)
       (leads_bind (N.part parts.Command s) (t, z) (λ y. Ok (one_of y.0, y.1)) (nests.part parts.Command s z t h stops))

@@ -27,4 +27,5 @@ pub mod Defining
 pub mod Outlines
 pub mod Rescuing
 pub mod Interpolating
+pub mod Splats
 mod Indexing

@@ -254,7 +254,7 @@ module _ (R : Nested) (nests : NestedShrinking R) where
   item_shrinking s z t (a_plain_item h) = argument_shrinking s z t h
 
   member_shrinking : (k : Listed) → IsShrinking (Member R k)
-  member_shrinking listings.Command = argument_shrinking
+  member_shrinking listings.Command = item_shrinking
   member_shrinking listings.Call = item_shrinking
   member_shrinking listings.Array = item_shrinking
   member_shrinking listings.Hash = pair_shrinking

@@ -106,7 +106,7 @@ module _ (N : Readers) (R : Nested) (nests : NestedSound N R) where
   item_sound s z t e = item_or-sound s (at (word star) s) z t refl e
 
   pub member_sound : (k : Listed) → IsSound (member_of N k) (Member R k)
-  member_sound listings.Command = argument_sound
+  member_sound listings.Command = item_sound
   member_sound listings.Call = item_sound
   member_sound listings.Array = item_sound
   member_sound listings.Hash = pair_sound

@@ -132,7 +132,7 @@ pub data ItemFront (N : Nested) (F : Fronts) : Place → Place → Type 0 where
   in_plain_item : {s z : Place} → ArgumentFront N F s z → ItemFront N F s z
 
 abbrev pub MemberFront : Nested → Fronts → Listed → Place → Place → Type 0
-MemberFront N F listings.Command = ArgumentFront N F
+MemberFront N F listings.Command = ItemFront N F
 MemberFront N F listings.Call = ItemFront N F
 MemberFront N F listings.Array = ItemFront N F
 MemberFront N F listings.Hash = PairFront N F

@@ -158,8 +158,7 @@ impl Parser {
         ensures { Gives self.old self.new result (member_of (readers inside depth) list (place self.old words.now)) }
     {
         match list {
-            Listed::Command => self.value(false, inside, depth, words),
-            Listed::Call | Listed::Array => self.item(inside, depth, words),
+            Listed::Command | Listed::Call | Listed::Array => self.item(inside, depth, words),
             Listed::Hash => self.pair(inside, depth, words),
         }
     }

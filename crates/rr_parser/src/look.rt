@@ -11,8 +11,9 @@ ghost use Rattle.rr_parser.specs.Reading.Calls.{another};
 ghost use Rattle.rr_parser.specs.Reading.Sequences.{ends_at, ends, row};
 ghost use Rattle.rr_parser.specs.Meets.{Sees, SeesRest};
 
-use crate::word::{Aim, Head, Listed, Sign, Tail, Target, Word, WordKind};
+use crate::word::{Aim, Head, Infix, Listed, Sign, Tail, Target, Word, WordKind};
 use rr_base::Sym;
+use rr_tree::BinaryOperator;
 
 /// How many integers there are from 0 on.
 pub(crate) const INTEGERS: u64 = 9_223_372_036_854_775_808;
@@ -351,7 +352,7 @@ fn begins_operand(kind: WordKind, tight: bool) -> bool
         | WordKind::Bang
         | WordKind::Open
         | WordKind::OpenSquare => true,
-        WordKind::Minus => tight,
+        WordKind::Minus | WordKind::Operator(Infix::Binary(BinaryOperator::Multiply)) => tight,
         _ => false,
     }
 }

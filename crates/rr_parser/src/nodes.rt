@@ -1,10 +1,10 @@
 //! The nodes that a parser puts.
 
-ghost use Rattle.std.specs.Prelude.{◌≡◌, ◌<◌, ◌≤◌, ◌++◌, length, map, All, IfOk, OnOk};
+ghost use Rattle.std.specs.Prelude.{◌≡◌, ◌<◌, ◌≤◌, ◌++◌, List, length, map, All, IfOk, OnOk};
 ghost use Rattle.rr_tree.specs.Tree.{Tree, nil, tree_at, sequence, interpolation, bare, call, send, array, hash, pair, symbol, rescue, clause, listed, HasPartsBefore};
-ghost use Rattle.rr_tree.specs.Nodes.{node_tree, item};
+ghost use Rattle.rr_tree.specs.Nodes.{IsNoItem, node_tree, item};
 ghost use Rattle.rr_parser.specs.Grammar.Operators.{infixed, joined_by};
-ghost use Rattle.rr_parser.specs.Grammar.Names.{local_tree, jump_tree, jump_value, passed, passed_bare, headed};
+ghost use Rattle.rr_parser.specs.Grammar.Names.{local_tree, jump_tree, is_splat, jump_value, passed, passed_bare, headed};
 ghost use Rattle.rr_parser.specs.Grammar.Calls.{target_tree, set_target, operated, signed};
 ghost use Rattle.rr_parser.specs.Grammar.Sequences.{modified};
 ghost use Rattle.rr_parser.specs.Grammar.Control.{chosen};
@@ -19,6 +19,13 @@ use crate::word::{
 };
 use rr_base::Sym;
 use rr_tree::{Node, NodeId};
+
+/// Whether it stands for a value whose items are arguments.
+fn is_splat(node: Node) -> bool
+    ensures { (ns : List Node) → IsNoItem node → result ≡ is_splat (node_tree ns node) }
+{
+    matches!(node, Node::Splat(_))
+}
 
 impl Parser {
     ghost use Rattle.rr_parser.specs.Meets.{Gives, Appends, Puts, pairs, place};
@@ -216,6 +223,18 @@ impl Parser {
         self.put_jump(jump, value)
     }
 
+    /// Whether the items of what a node stands for are arguments.
+    fn is_splat(&self, id: NodeId) -> bool
+        requires { id < length self.now.nodes.items }
+        ensures { result ≡ is_splat (tree_at self.now.nodes.items id) }
+    {
+        let mut id = id;
+        while let Node::Item(inner) = self.nodes[id as usize] {
+            id = inner;
+        }
+        is_splat(self.nodes[id as usize])
+    }
+
     /// Puts the value of a jump: the one that there is, or an array of them.
     fn put_value(&mut self, items: &[NodeId]) -> Result<NodeId, Storage>
         requires { All (λ i. i < length self.old.nodes.items) items.now }
@@ -224,7 +243,7 @@ impl Parser {
         if items.is_empty() {
             return self.put(Node::Nil);
         }
-        if items.len() == 1 {
+        if items.len() == 1 && !self.is_splat(items[0]) {
             return Ok(items[0]);
         }
         self.put_array(items)

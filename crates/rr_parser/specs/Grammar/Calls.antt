@@ -131,7 +131,7 @@ pub data Item (N : Nested) : Place → Tree → Place → Type 0 where
   a_plain_item : {s z : Place} {t : Tree} → Argument N s t z → Item N s t z
 
 abbrev pub Member : Nested → Listed → Place → Tree → Place → Type 0
-Member N listings.Command = Argument N
+Member N listings.Command = Item N
 Member N listings.Call = Item N
 Member N listings.Array = Item N
 Member N listings.Hash = Pair N

@@ -1,11 +1,13 @@
 -- What a name stands for, and what its neighbours say about it.
 use Rattle.std.specs.Prelude.{ℕ, ◌==◌, ◌+◌, ◌-◌, List, [], ◌∷◌, ◌++◌, Bool, true, false, not, ◌&&◌, ◌||◌, Option, Some, None, is_some, if◌then◌else◌}
 use Rattle.rr_base.specs.declared.name.Sym.{Sym}
-use Rattle.rr_tree.specs.Tree.{Tree, Trees, nil, local, call, array, yield, super, forwarding_super, break, next, return, listed}
+use Rattle.rr_tree.specs.Tree.{Tree, Trees, nil, local, call, array, yield, super, forwarding_super, break, next, return, splat, listed}
 use Rattle.rr_parser.specs.declared.locals.Local.{Local}
 use Rattle.rr_parser.specs.declared.variables.Variable.{Variable}
 use Rattle.rr_parser.specs.declared.word.Head.{Head}
 use Rattle.rr_parser.specs.declared.word.Head.TheVariants as heads
+use Rattle.rr_tree.specs.declared.node.BinaryOperator.TheVariants as op
+use Rattle.rr_parser.specs.declared.word.Infix.TheVariants as infixes
 use Rattle.rr_parser.specs.declared.word.Jump.{Jump}
 use Rattle.rr_parser.specs.declared.word.Jump.TheVariants as jumps
 use Rattle.rr_parser.specs.declared.word.Passing.{Passing}
@@ -79,7 +81,7 @@ abbrev pub is_tight : List Word → Bool
 is_tight [] = false
 is_tight (w ∷ ws) = not w.blank
 
--- a word that begins an operand; the minus does so only where no blank follows it
+-- a word that begins an operand; the minus and the `*` do so only where no blank follows them
 abbrev pub begins_operand : WordKind → Bool → Bool
 begins_operand (kind.Int n) tight = true
 begins_operand (kind.Text i) tight = true
@@ -98,6 +100,7 @@ begins_operand kind.Open tight = true
 begins_operand kind.OpenSquare tight = true
 begins_operand kind.Bang tight = true
 begins_operand kind.Minus tight = tight
+begins_operand (kind.Operator (infixes.Binary op.Multiply)) tight = tight
 begins_operand _ tight = false
 
 -- behind a blank stands a word that begins an operand
@@ -122,10 +125,15 @@ jump_tree jumps.Break t = break t
 jump_tree jumps.Next t = next t
 jump_tree jumps.Return t = return t
 
--- the value of a jump: several are an array
+-- an argument whose items are arguments
+abbrev pub is_splat : Tree → Bool
+is_splat (splat t) = true
+is_splat _ = false
+
+-- the value of a jump: several are an array, and so are the items of one
 abbrev pub jump_value : List Tree → Tree
 jump_value [] = nil
-jump_value (t ∷ []) = t
+jump_value (t ∷ []) = if is_splat t then array (listed (t ∷ [])) else t
 jump_value (t ∷ u ∷ ts) = array (listed (t ∷ u ∷ ts))
 
 -- a word that begins the value of a jump, whether a blank stands before it or not

@@ -45,7 +45,7 @@ unfoldable pub item_of : Readers → Parse Tree
 item_of N s = item_or N s (at (word star) s)
 
 abbrev pub member_of : Readers → Listed → Parse Tree
-member_of N listings.Command = argument_of N
+member_of N listings.Command = item_of N
 member_of N listings.Call = item_of N
 member_of N listings.Array = item_of N
 member_of N listings.Hash = pair_of N
