@@ -12,6 +12,8 @@ mod calls;
 #[cfg(test)]
 mod containers;
 #[cfg(test)]
+mod interpolations;
+#[cfg(test)]
 mod large;
 #[cfg(test)]
 mod limits;

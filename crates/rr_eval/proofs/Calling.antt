@@ -25,13 +25,13 @@ use Rattle.rr_eval.specs.declared.problem.Response.TheVariants as response
 use Rattle.rr_eval.specs.Context.{Context}
 use Rattle.rr_eval.specs.Callees.{method_of}
 use Rattle.rr_eval.specs.Calls.{sent, unpublished, reply_with}
-use Rattle.rr_eval.specs.Tasks.{task_reply, array_reply, inspected_reply, given_by, unless_lacking, lack_of, texts_of}
+use Rattle.rr_eval.specs.Tasks.{task_reply, array_reply, text_reply, joined_texts, inspected_reply, given_by, unless_lacking, lack_of, texts_of}
 use Rattle.rr_eval.specs.Responses.{ref_of, response_from, response_of}
 use Rattle.rr_eval.specs.Requests.{Adds, arguments_of}
 use Rattle.rr_eval.specs.Runs.{alone}
 use Rattle.rr_eval.specs.Script.{Does, Calls, Reply}
 use Rattle.rr_eval.specs.declared.call.Task.{Task}
-use Rattle.rr_eval.specs.declared.call.Task.TheVariants.{Puts as PutsTask, Inspect, Print, MakeArray}
+use Rattle.rr_eval.specs.declared.call.Task.TheVariants.{Puts as PutsTask, Inspect, Print, MakeArray, MakeText}
 use Rattle.rr_builtin.specs.declared.problem.Problem.{Problem as BuiltInProblem}
 use Rattle.rr_text.specs.Forms.{Names}
 use Rattle.rr_text.specs.Names.{names_of}
@@ -175,18 +175,22 @@ inspected_adds [] t = omega arith
 inspected_adds (v ∷ []) t = omega arith
 inspected_adds (v ∷ w ∷ vs) t = array_adds (v ∷ w ∷ vs) t
 
-given_adds : (task : Task) (vs : List Ref) (t : Table) → count t ≤ count (given_by task vs t).table
-given_adds MakeArray vs t = array_adds vs t
-given_adds Inspect vs t = inspected_adds vs t
-given_adds PutsTask vs t = omega arith
-given_adds Print vs t = omega arith
+text_adds : (bytes : List ℕ) (t : Table) → count t ≤ count (text_reply bytes t).table
+text_adds bytes t = omega (arith, length-append t.slots (Here (text_object bytes) ∷ []))
+
+given_adds : (task : Task) (s : List ℕ) (vs : List Ref) (t : Table) → count t ≤ count (given_by task s vs t).table
+given_adds MakeText s vs t = text_adds s t
+given_adds MakeArray s vs t = array_adds vs t
+given_adds Inspect s vs t = inspected_adds vs t
+given_adds PutsTask s vs t = omega arith
+given_adds Print s vs t = omega arith
 
 lacking_adds : (lack : Option BuiltInProblem) (t : Table) (reply : Reply) → count t ≤ count reply.table → count t ≤ count (unless_lacking lack t reply).table
 lacking_adds None t reply le = le
 lacking_adds (Some problem) t reply le = omega arith
 
 task_adds : (task : Task) (names : Names) (vs : List Ref) (t : Table) → count t ≤ count (task_reply task names vs t).table
-task_adds task names vs t = lacking_adds (lack_of (texts_of task names t vs)) t (given_by task vs t) (given_adds task vs t)
+task_adds task names vs t = lacking_adds (lack_of (texts_of task names t vs)) t (given_by task (joined_texts (texts_of task names t vs)) vs t) (given_adds task (joined_texts (texts_of task names t vs)) vs t)
 
 -- a script that runs alone takes no object away
 pub alone_adds : (c : Context) → Adds (alone c)

@@ -3,6 +3,7 @@ pub mod Classes
 pub mod Lists
 pub mod Pieces
 pub mod Depth
+pub mod Unknown
 pub mod Unwind
 pub mod Entered
 pub mod Bytes

@@ -13,7 +13,7 @@ use Rattle.rr_eval.specs.declared.call.Callee.TheVariants as callees
 use Rattle.rr_eval.specs.declared.call.Target.TheVariants.{Do, Call as CallTarget}
 use Rattle.rr_eval.specs.declared.call.Target.{Target}
 use Rattle.rr_eval.specs.Methods.{own_method}
-use Rattle.rr_eval.specs.declared.call.Task.TheVariants.{MakeArray}
+use Rattle.rr_eval.specs.declared.call.Task.TheVariants.{MakeArray, MakeText}
 use Rattle.rr_eval.specs.Rules.{Context, rule, statements, values, on_value, finish, printing, awaited, call_rule, not_here}
 use Rattle.rr_eval.specs.Nodes.{evaluated_tree, is_unknown}
 use Rattle.rr_eval.specs.Frames.{Code, resumed}
@@ -45,6 +45,9 @@ call_is ns c x first count site = ap (call_rule c (own_method c.program x.0) (pr
 pub array_is : (ns : List Node) (c : Context) (first count : ℕ) → values (trees_before ns (first + count) count) [] (finish c (Do MakeArray)) ≡ rule c (evaluated_tree ns (nodes.Array first count))
 array_is ns c first count = ap (λ ts. values ts [] (finish c (Do MakeArray))) (sym (items_listed (trees_before ns (first + count) count)))
 
+pub interpolation_is : (ns : List Node) (c : Context) (first count : ℕ) → values (trees_before ns (first + count) count) [] (finish c (Do MakeText)) ≡ rule c (evaluated_tree ns (nodes.Interpolation first count))
+interpolation_is ns c first count = ap (λ ts. values ts [] (finish c (Do MakeText))) (sym (items_listed (trees_before ns (first + count) count)))
+
 pub send_is : (ns : List Node) (c : Context) (a : ℕ) (x : Sym) (first count site : ℕ)
     → values (tree_at ns a ∷ trees_before ns (first + count) count) [] (finish c (CallTarget (callees.Name x))) ≡ rule c (evaluated_tree ns (Send a x first count site))
 send_is ns c a x first count site = ap (λ ts. values (tree_at ns a ∷ ts) [] (finish c (CallTarget (callees.Name x)))) (sym (items_listed (trees_before ns (first + count) count)))
@@ -60,6 +63,7 @@ unknown_rule ns c (nodes.Class k) e = absurd cc
 unknown_rule ns c (nodes.Constant (Plain x)) e = absurd cc
 unknown_rule ns c (nodes.Constant (Ractor x)) e = refl
 unknown_rule ns c (nodes.Array first count) e = absurd cc
+unknown_rule ns c (nodes.Interpolation first count) e = absurd cc
 unknown_rule ns c (nodes.Local depth slot x) e = absurd cc
 unknown_rule ns c (nodes.Bare x site) e = absurd cc
 unknown_rule ns c (nodes.Call x first count site) e = absurd cc

@@ -14,7 +14,7 @@ use Rattle.rr_space.specs.declared.refer.Ref.TheVariants.{Int, Local}
 use Rattle.rr_space.specs.declared.refer.Ref.TheVariants as refs
 use Rattle.rr_builtin.specs.Objects.{is_truthy}
 use Rattle.rr_eval.specs.Values.{goes_on}
-use Rattle.rr_tree.specs.Tree.{tree_at, Tree, nil, truth, int, text, symbol, class_named as class_tree, constant, array, send, index, append, local, bare, call, logical_and, logical_or, logical_not, negate, binary, assign, choose, repeat, sequence, return, operator_assign, or_assign, and_assign}
+use Rattle.rr_tree.specs.Tree.{tree_at, Tree, nil, truth, int, text, symbol, class_named as class_tree, constant, array, interpolation, send, index, append, local, bare, call, logical_and, logical_or, logical_not, negate, binary, assign, choose, repeat, sequence, return, operator_assign, or_assign, and_assign}
 use Rattle.rr_frames.specs.Frames.{read_last}
 use Rattle.rr_tree.specs.declared.node.BinaryOperator.{BinaryOperator}
 use Rattle.rr_tree.specs.declared.program.Program.{Program}
@@ -24,7 +24,7 @@ use Rattle.rr_eval.specs.declared.call.Callee.TheVariants as callees
 use Rattle.rr_eval.specs.declared.call.Target.{Target}
 use Rattle.rr_eval.specs.declared.call.Target.TheVariants.{Do as DoTarget, Call, Own}
 use Rattle.rr_eval.specs.declared.call.Task.{Task}
-use Rattle.rr_eval.specs.declared.call.Task.TheVariants.{MakeArray}
+use Rattle.rr_eval.specs.declared.call.Task.TheVariants.{MakeArray, MakeText}
 use Rattle.rr_eval.specs.declared.problem.Response.{Response}
 use Rattle.rr_eval.specs.declared.problem.Response.TheVariants.{Gives, Throws, Fails}
 use Rattle.rr_eval.specs.declared.problem.Problem.{Problem}
@@ -165,6 +165,7 @@ rule_keeps c (send a x list) = values_keep c (Call (callees.Name (record { 0 = x
 rule_keeps c (index a b) = values_keep c (Call callees.Index) (a ∷ b ∷ []) []
 rule_keeps c (append a b) = values_keep c (Call callees.Append) (a ∷ b ∷ []) []
 rule_keeps c (array list) = values_keep c (DoTarget MakeArray) (items list) []
+rule_keeps c (interpolation list) = values_keep c (DoTarget MakeText) (items list) []
 rule_keeps c (constant (Plain x)) = constant_keeps c (class_named (slice_index_or c.symbols x.0 [])) x
 rule_keeps c (text i) = λ m. (λ k. make_keeps c.program.freezes _ k.table, tt)
 rule_keeps c (local depth slot x) = λ m. tt

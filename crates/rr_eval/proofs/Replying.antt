@@ -1,5 +1,5 @@
--- What a new array leaves where nothing is published.
-use Rattle.std.proofs.Common.{◌≡◌, ◌∙◌, ap, sym, subst, arith, map, inl, inr, List, [], length, Some, Result, Ok, Err}
+-- What a new array and a new text leave where nothing is published.
+use Rattle.std.proofs.Common.{◌≡◌, ◌∙◌, ap, sym, subst, arith, map, inl, inr, ◌≤◌, ℕ, false, List, [], length, Some, Result, Ok, Err, IfOk}
 use Rattle.std.proofs.Math.Logic.{⊎_elim}
 use Rattle.std.specs.List.{All}
 use Rattle.std.proofs.lemmas.List.Elements.{All-weaker}
@@ -14,10 +14,13 @@ use Rattle.rr_builtin.specs.Acts.{MakesArray, performed, IsRefAmong, Acts}
 use Rattle.rr_builtin.specs.declared.built.Built.{Built}
 use Rattle.rr_eval.specs.declared.problem.Problem.TheVariants.{NotHere}
 use Rattle.rr_eval.specs.declared.problem.Response.{Response}
+use Rattle.rr_eval.specs.Acts.{Acts as Makes}
+use Rattle.rr_eval.specs.Operators.{make}
 use Rattle.rr_eval.specs.Responses.{response_from}
+use Rattle.rr_eval.specs.Script.{Reply}
 use Rattle.rr_eval.specs.Serves.{IsReplied, IsRefused}
-use Rattle.rr_eval.specs.Tasks.{array_reply}
-use Rattle.rr_eval.specs.Within.{reach, IsReached}
+use Rattle.rr_eval.specs.Tasks.{array_reply, text_reply}
+use Rattle.rr_eval.specs.Within.{reach, IsReached, IsResponseReached}
 use Rattle.rr_eval.proofs.Calling.{one_reply, response_reached, array_adds}
 use Rattle.rr_eval.proofs.Holding.{ref_among}
 
@@ -46,3 +49,18 @@ array_refused vs t u f is = record {
   refused = ⊎_elim (λ m. inl m) (λ s. inr s.0) is.1;
   full = λ e. ⊎_elim (λ m. absurd (cc (sym m ∙ e))) (λ s. s.1) is.1;
 }
+
+-- a new text
+abbrev reply_from : Response × Table → Reply
+reply_from d = record { response = d.0; table = d.1 }
+
+pub text_replied : (bytes items : List ℕ) (t u : Table) (r : Result Response Fault) → items ≡ bytes → Makes (make false items) t u r → IfOk r (IsResponseReached (reach (length u.slots) (Some [])))
+    → IsReadWith u [] → u.limit ≡ t.limit → length t.slots ≤ length u.slots → IfOk r (λ x. IsReplied (text_reply bytes t) t x u)
+text_replied bytes items t u (Ok x) e acts reached read limit grows = record {
+  is = ap (λ s. text_reply s t) (sym e) ∙ ap reply_from acts;
+  read = read;
+  reached = reached;
+  grows = grows;
+  limit = limit;
+}
+text_replied bytes items t u (Err f) e acts reached read limit grows = tt

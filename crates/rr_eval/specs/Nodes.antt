@@ -1,7 +1,7 @@
 -- The tree of a node, by the numbers of its parts.
 use Rattle.std.specs.Prelude.{◌+◌, ◌<◌, ◌^◌, Bool, true, false, List}
 use Rattle.rr_tree.specs.Nodes.{node_tree, trees_before}
-use Rattle.rr_tree.specs.Tree.{Tree, sequence, array, call, send, listed, tree_at}
+use Rattle.rr_tree.specs.Tree.{Tree, sequence, array, interpolation, call, send, listed, tree_at}
 use Rattle.rr_tree.specs.declared.node.Node.{Node}
 use Rattle.rr_tree.specs.declared.node.Path.TheVariants.{Plain}
 use Rattle.rr_tree.specs.declared.node.Node.TheVariants as node
@@ -10,6 +10,7 @@ use Rattle.rr_tree.specs.declared.node.Node.TheVariants as node
 abbrev pub evaluated_tree : List Node → Node → Tree
 evaluated_tree ns (node.Sequence first count) = sequence (listed (trees_before ns (first + count) count))
 evaluated_tree ns (node.Array first count) = array (listed (trees_before ns (first + count) count))
+evaluated_tree ns (node.Interpolation first count) = interpolation (listed (trees_before ns (first + count) count))
 evaluated_tree ns (node.Call x first count site) = call x.0 (listed (trees_before ns (first + count) count))
 evaluated_tree ns (node.Send a x first count site) = send (tree_at ns a) x.0 (listed (trees_before ns (first + count) count))
 evaluated_tree ns n = node_tree ns n
@@ -19,6 +20,7 @@ abbrev pub IsEvaluated : Node → Type 0
 IsEvaluated (node.Item a) = ⊥
 IsEvaluated (node.Sequence first count) = first + count < 2 ^ 32
 IsEvaluated (node.Array first count) = first + count < 2 ^ 32
+IsEvaluated (node.Interpolation first count) = first + count < 2 ^ 32
 IsEvaluated (node.Call x first count site) = first + count < 2 ^ 32
 IsEvaluated (node.Send a x first count site) = first + count < 2 ^ 32
 IsEvaluated (node.Index a b) = b + 1 < 2 ^ 32
@@ -29,6 +31,7 @@ IsEvaluated _ = Unit {0}
 abbrev pub IsRareNode : Node → Type 0
 IsRareNode (node.Text i) = Unit {0}
 IsRareNode (node.Array first count) = Unit {0}
+IsRareNode (node.Interpolation first count) = Unit {0}
 IsRareNode (node.Bare x site) = Unit {0}
 IsRareNode (node.Call x first count site) = Unit {0}
 IsRareNode _ = ⊥
@@ -43,6 +46,7 @@ is_unknown (node.Symbol x) = false
 is_unknown (node.Class k) = false
 is_unknown (node.Constant (Plain x)) = false
 is_unknown (node.Array first count) = false
+is_unknown (node.Interpolation first count) = false
 is_unknown (node.Local depth slot x) = false
 is_unknown (node.Bare x site) = false
 is_unknown (node.Call x first count site) = false

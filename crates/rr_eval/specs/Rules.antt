@@ -5,7 +5,7 @@ use Rattle.rr_base.specs.declared.name.ClassId.{ClassId}
 use Rattle.rr_space.specs.Tables.{Table}
 use Rattle.rr_space.specs.declared.refer.Ref.{Ref}
 use Rattle.rr_space.specs.declared.refer.Ref.TheVariants.{Nil, Truth, Int, Symbol, Class, Local}
-use Rattle.rr_tree.specs.Tree.{Tree, Trees, nil, truth, int, text, symbol, class_named as class_tree, constant, array, local, bare, call, send, index, append, logical_and, logical_or, logical_not, negate, binary, assign, choose, repeat, sequence, return, operator_assign, or_assign, and_assign, empty, then_one}
+use Rattle.rr_tree.specs.Tree.{Tree, Trees, nil, truth, int, text, symbol, class_named as class_tree, constant, array, interpolation, local, bare, call, send, index, append, logical_and, logical_or, logical_not, negate, binary, assign, choose, repeat, sequence, return, operator_assign, or_assign, and_assign, empty, then_one}
 use Rattle.rr_tree.specs.declared.node.BinaryOperator.{BinaryOperator}
 use Rattle.rr_builtin.specs.Acts.{with_text}
 use Rattle.rr_builtin.specs.Objects.{is_truthy}
@@ -14,7 +14,7 @@ use Rattle.rr_eval.specs.declared.call.Callee.TheVariants as callees
 use Rattle.rr_eval.specs.declared.call.Target.{Target}
 use Rattle.rr_eval.specs.declared.call.Target.TheVariants.{Do as DoTarget, Call, Own}
 use Rattle.rr_eval.specs.declared.call.Task.{Task}
-use Rattle.rr_eval.specs.declared.call.Task.TheVariants.{MakeArray}
+use Rattle.rr_eval.specs.declared.call.Task.TheVariants.{MakeArray, MakeText}
 use Rattle.rr_eval.specs.declared.problem.Answer.{Answer}
 use Rattle.rr_eval.specs.declared.problem.Answer.TheVariants.{Gave, Raised, Returned}
 use Rattle.rr_eval.specs.declared.problem.Response.{Response}
@@ -130,7 +130,7 @@ abbrev pub own_rule : Context → Sym → Option Method → List Ref → Script
 own_rule c x None vs = throw c (MissingMethod (callees.Name x) (Instance OBJECT))
 own_rule c x (Some m) vs = if nat_eq (length vs) m.parameters then See (λ k. entered c m vs k.calls) else throw c (BuiltIn (Count (length vs) m.parameters m.parameters))
 
--- what is done with values: they are printed or put into an array, or the first of them is sent the others, or a method of
+-- what is done with values: they are printed or put into an array or a text, or the first of them is sent the others, or a method of
 -- the program is called with them
 abbrev pub finish : Context → Target → List Ref → Script
 finish c (DoTarget task) vs = See (λ m. Ask (Does task vs m.table) (settled c))
@@ -198,6 +198,8 @@ rule c (class_tree k) = Ret (Gave (Class k))
 rule c (constant (Plain x)) = constant_rule c (class_named (slice_index_or c.symbols x.0 [])) x
 rule c (text i) = on_table c (make c.program.freezes (slice_index_or c.texts i []))
 rule c (array list) = values (items list) [] (finish c (DoTarget MakeArray))
+-- the parts of a text are evaluated from left to right, and then one text is made of what each is spoken as
+rule c (interpolation list) = values (items list) [] (finish c (DoTarget MakeText))
 rule c (local depth slot x) = read slot
 rule c (bare x) = bare_rule c (own_method c.program x) (printing c x) (record { 0 = x })
 rule c (call x list) = call_rule c (own_method c.program x) (printing c x) (awaited c x) (record { 0 = x }) (items list)

@@ -1,5 +1,5 @@
--- What an environment does with values where nothing is published: it prints them, or makes an array of them.
-use Rattle.std.specs.Prelude.{ℕ, List, [], ◌∷◌, ◌++◌, codes, map, Option, Some, None, if◌then◌else◌}
+-- What an environment does with values where nothing is published: it prints them, or makes an array or a text of them.
+use Rattle.std.specs.Prelude.{ℕ, false, List, [], ◌∷◌, ◌++◌, codes, map, Option, Some, None, if◌then◌else◌}
 use Rattle.std.specs.Str.{bytes_eq}
 use Rattle.rr_space.specs.Parts.{value_of}
 use Rattle.rr_space.specs.Tables.{Table}
@@ -12,10 +12,11 @@ use Rattle.rr_builtin.specs.Objects.{printed_text}
 use Rattle.rr_builtin.specs.declared.problem.Problem.{Problem as BuiltInProblem}
 use Rattle.rr_builtin.specs.declared.problem.Problem.TheVariants.{Moved, TooDeep}
 use Rattle.rr_eval.specs.declared.call.Task.{Task}
-use Rattle.rr_eval.specs.declared.call.Task.TheVariants.{Puts, Inspect, Print, MakeArray}
+use Rattle.rr_eval.specs.declared.call.Task.TheVariants.{Puts, Inspect, Print, MakeArray, MakeText}
 use Rattle.rr_eval.specs.declared.problem.Problem.TheVariants.{BuiltIn, NotHere}
 use Rattle.rr_eval.specs.declared.problem.Response.TheVariants.{Gives, Fails}
 use Rattle.rr_eval.specs.Calls.{reply_with}
+use Rattle.rr_eval.specs.Operators.{make}
 use Rattle.rr_eval.specs.Script.{Reply}
 
 -- what a name prints by
@@ -50,9 +51,18 @@ lack_of (Wrote s ∷ ws) = lack_of ws
 lack_of (Deep ∷ ws) = Some TooDeep
 lack_of (_ ∷ ws) = Some Moved
 
+-- what is printed where these are the texts: a text that is made is not
+abbrev pub printed_by : Task → List ℕ → List ℕ
+printed_by MakeText s = []
+printed_by _ s = s
+
 -- what is printed
 abbrev pub piece_of : Task → Names → Table → List Ref → List ℕ
-piece_of task names t vs = joined_texts (texts_of task names t vs)
+piece_of task names t vs = printed_by task (joined_texts (texts_of task names t vs))
+
+-- a new text
+abbrev pub text_reply : List ℕ → Table → Reply
+text_reply bytes t = record { response = (make false bytes t).0; table = (make false bytes t).1 }
 
 -- a new array of values
 abbrev pub array_reply : List Ref → Table → Reply
@@ -67,10 +77,12 @@ inspected_reply [] t = value_reply Nil t
 inspected_reply (v ∷ []) t = value_reply v t
 inspected_reply (v ∷ w ∷ vs) t = array_reply (v ∷ w ∷ vs) t
 
-abbrev pub given_by : Task → List Ref → Table → Reply
-given_by MakeArray vs t = array_reply vs t
-given_by Inspect vs t = inspected_reply vs t
-given_by _ vs t = value_reply Nil t
+-- what a task gives, where these are the texts of the values, one after the other
+abbrev pub given_by : Task → List ℕ → List Ref → Table → Reply
+given_by MakeText s vs t = text_reply s t
+given_by MakeArray s vs t = array_reply vs t
+given_by Inspect s vs t = inspected_reply vs t
+given_by _ s vs t = value_reply Nil t
 
 abbrev pub unless_lacking : Option BuiltInProblem → Table → Reply → Reply
 unless_lacking None t reply = reply
@@ -78,4 +90,4 @@ unless_lacking (Some problem) t reply = record { response = Fails (BuiltIn probl
 
 -- the reply: an exception, where a value has no text
 abbrev pub task_reply : Task → Names → List Ref → Table → Reply
-task_reply task names vs t = unless_lacking (lack_of (texts_of task names t vs)) t (given_by task vs t)
+task_reply task names vs t = unless_lacking (lack_of (texts_of task names t vs)) t (given_by task (joined_texts (texts_of task names t vs)) vs t)

@@ -37,6 +37,8 @@ pub enum Task {
     Print,
     /// They become the elements of a new array.
     MakeArray,
+    /// A new text is made of what they are spoken as.
+    MakeText,
 }
 
 /// What is done with values that were evaluated from left to right.

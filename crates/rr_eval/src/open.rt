@@ -3,7 +3,7 @@
 ghost use Rattle.std.specs.Prelude.{◌≡◌, ◌+◌, ◌-◌, ◌*◌, ◌<◌, ◌≤◌, ◌^◌, ℕ, List, [], ◌∷◌, true, length, slice_index_or, vec_capacity, None, IfOk, IfErr, IsTrue, IsFalse, OnOk};
 ghost use Rattle.rr_base.specs.declared.fault.Fault.{Fault};
 ghost use Rattle.rr_space.specs.Tables.{Table};
-ghost use Rattle.rr_tree.specs.Tree.{tree_at};
+ghost use Rattle.rr_tree.specs.Tree.{tree_at, constant};
 ghost use Rattle.rr_tree.specs.declared.node.Node.{Node};
 ghost use Rattle.rr_tree.specs.declared.program.Program.{Program};
 ghost use Rattle.rr_eval.specs.declared.frame.Control.{Control};
@@ -144,6 +144,22 @@ impl Engine {
             }
             None => Control::Throw(Problem::MissingConstant(name)),
         };
+    }
+
+    /// Evaluates a constant by its path.
+    #[tactic(auto, unfolding(crate::specs::Within::AreReached))]
+    fn open_path(&mut self, program: &Program, path: Path)
+        requires nested { IsNested (view_of self.old) }
+        ensures goes { (t : Table) (h : Course) (n : ℕ) → after_script program.now (view_of self.old) t (rule (context_of program.now) (constant path)) h n ≡ remaining_with program.now (view_of self.new) t h n }
+        ensures nested { IsNested (view_of self.new) }
+        ensures within { (k : Reach) → AreReached k (view_of self.old) → AreReached k (view_of self.new) }
+        ensures left { self.new.left ≡ self.old.left }
+        ensures size { size (view_of self.new) ≤ 3 * length self.old.frames.items + 4 }
+    {
+        match path {
+            Path::Plain(name) => self.open_constant(program, name),
+            Path::Ractor(_) => self.control = Control::Throw(Problem::NotHere),
+        }
     }
 
     /// Evaluates a text literal: a new text, which a comment at the head of the program may freeze.
@@ -372,6 +388,7 @@ impl Engine {
         match node {
             Node::Text(i) => self.open_text(&prepared.program, space, i),
             Node::Array { first, count } => self.open_values(Task::MakeArray, first, count),
+            Node::Interpolation { first, count } => self.open_values(Task::MakeText, first, count),
             Node::Bare { name, .. } => self.open_bare(prepared, name),
             Node::Call {
                 name,
@@ -403,7 +420,7 @@ impl Engine {
             Node::Nil => self.answer(Answer::Gave(Ref::Nil)),
             Node::Symbol(symbol) => self.answer(Answer::Gave(Ref::Symbol(symbol))),
             Node::Class(class) => self.answer(Answer::Gave(Ref::Class(class))),
-            Node::Constant(Path::Plain(name)) => self.open_constant(program, name),
+            Node::Constant(path) => self.open_path(program, path),
             Node::Truth(truth) => self.answer(Answer::Gave(Ref::Truth(truth))),
             Node::Int(z) => self.answer(Answer::Gave(Ref::Int(z))),
             Node::Local { slot, .. } => self.answer(Answer::Gave(self.variable(slot))),
@@ -436,7 +453,11 @@ impl Engine {
             } => self.enter_above(Frame::Condition(until, body, here), condition),
             Node::Sequence { first, count } => self.begin(first + count, count),
             Node::Item(_) => unreachable!(),
-            Node::Text(_) | Node::Array { .. } | Node::Bare { .. } | Node::Call { .. } => {
+            Node::Text(_)
+            | Node::Array { .. }
+            | Node::Interpolation { .. }
+            | Node::Bare { .. }
+            | Node::Call { .. } => {
                 return false;
             }
             _ => self.open_unknown(node),

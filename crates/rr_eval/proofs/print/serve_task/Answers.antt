@@ -7,7 +7,7 @@ use Rattle.rr_eval.specs.Within.{reach, IsReached}
 use Rattle.rr_eval.proofs.Holding.{ref_among}
 use Rattle.rr_eval.proofs.print.serve_task.Goals as goal
 
-pub write_piece-requires-clause-among : goal.write_piece-requires-clause-among
-write_piece-requires-clause-among c =
+pub write_all-requires-clause-among : goal.write_all-requires-clause-among
+write_all-requires-clause-among c =
     let k = length c.args.space.now.slots in
     All-weaker (IsReached (reach k (Some []))) (IsAmong []) (λ r h. among_of [] r (ref_among k [] r h)) c.args.values.now c.requires.reached

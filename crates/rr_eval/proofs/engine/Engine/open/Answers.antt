@@ -9,6 +9,7 @@ use Rattle.rr_eval.specs.Rules.{rule, with_value}
 use Rattle.rr_eval.specs.Nodes.{evaluated_tree}
 use Rattle.rr_eval.specs.Turns.{context_of, after_script}
 use Rattle.rr_eval.proofs.Lists.{sequence_rule, send_is}
+use Rattle.rr_eval.proofs.Unknown.{unknown_else}
 use Rattle.rr_eval.specs.Views.{view_of}
 use Rattle.rr_eval.proofs.engine.Engine.open.Goals as goal
 
@@ -74,3 +75,38 @@ returns-in-AndAssign-clause-within c k h = c.open_and_assign.ensures.within k h
 
 pub returns-in-OperatorAssign-clause-within : goal.returns-in-OperatorAssign-clause-within
 returns-in-OperatorAssign-clause-within c k h = c.open_update.ensures.within k h
+
+pub open_unknown-requires-clause-unknown : goal.open_unknown-requires-clause-unknown
+open_unknown-requires-clause-unknown c =
+    let is = c.in_default in
+    unknown_else c.args.node (record {
+      no_nil = is.not-Nil;
+      no_truth = is.not-Truth;
+      no_int = is.not-Int;
+      no_text = is.not-Text;
+      no_symbol = is.not-Symbol;
+      no_class = is.not-Class;
+      no_constant = is.not-Constant;
+      no_array = is.not-Array;
+      no_interpolation = is.not-Interpolation;
+      no_local = is.not-Local;
+      no_bare = is.not-Bare;
+      no_call = is.not-Call;
+      no_send = is.not-Send;
+      no_index = is.not-Index;
+      no_append = is.not-Append;
+      no_and = is.not-And;
+      no_or = is.not-Or;
+      no_not = is.not-Not;
+      no_negate = is.not-Negate;
+      no_binary = is.not-Binary;
+      no_assign = is.not-Assign;
+      no_operator_assign = is.not-OperatorAssign;
+      no_or_assign = is.not-OrAssign;
+      no_and_assign = is.not-AndAssign;
+      no_choose = is.not-Choose;
+      no_loop = is.not-Loop;
+      no_sequence = is.not-Sequence;
+      no_item = is.not-Item;
+      no_return = is.not-Return;
+    })

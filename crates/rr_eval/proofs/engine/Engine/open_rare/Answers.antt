@@ -9,13 +9,13 @@ use Rattle.rr_eval.specs.Requests.{Course}
 use Rattle.rr_eval.specs.Rules.{rule, values, finish}
 use Rattle.rr_tree.specs.Nodes.{trees_before}
 use Rattle.rr_eval.specs.declared.call.Target.TheVariants.{Do}
-use Rattle.rr_eval.specs.declared.call.Task.TheVariants.{MakeArray}
+use Rattle.rr_eval.specs.declared.call.Task.TheVariants.{MakeArray, MakeText}
 use Rattle.rr_eval.specs.Nodes.{evaluated_tree}
 use Rattle.rr_eval.specs.Turns.{context_of, after_script, continuing}
 use Rattle.rr_eval.specs.View.{View}
 use Rattle.rr_eval.specs.Views.{view_of}
 use Rattle.rr_eval.specs.Within.{reach}
-use Rattle.rr_eval.proofs.Lists.{call_is, array_is}
+use Rattle.rr_eval.proofs.Lists.{call_is, array_is, interpolation_is}
 use Rattle.std.proofs.Common.{length}
 use Rattle.rr_eval.proofs.engine.Engine.open_rare.Goals as goal
 
@@ -44,6 +44,16 @@ returns-in-Array-clause-goes c =
     let ns = p.nodes.items in
     by_rule_of c.open_values.result p (view_of c.args.self.now) (view_of c.open_values.new.self) c.args.space.now (λ x. values (trees_before x.nodes.items (c.in-Array.first + c.in-Array.count) c.in-Array.count) [] (finish (context_of x) (Do MakeArray))) _
     (array_is ns (context_of p) c.in-Array.first c.in-Array.count ∙ ap (λ x. rule (context_of p) (evaluated_tree ns x)) (sym c.in-Array.is)) c.open_values.ensures.goes
+
+pub returns-in-Interpolation-clause-goes : goal.returns-in-Interpolation-clause-goes
+returns-in-Interpolation-clause-goes c =
+    let p = c.args.prepared.now.program in
+    let ns = p.nodes.items in
+    by_rule_of c.open_values-in-Interpolation.result p (view_of c.args.self.now) (view_of c.open_values-in-Interpolation.new.self) c.args.space.now (λ x. values (trees_before x.nodes.items (c.in-Interpolation.first + c.in-Interpolation.count) c.in-Interpolation.count) [] (finish (context_of x) (Do MakeText))) _
+    (interpolation_is ns (context_of p) c.in-Interpolation.first c.in-Interpolation.count ∙ ap (λ x. rule (context_of p) (evaluated_tree ns x)) (sym c.in-Interpolation.is)) c.open_values-in-Interpolation.ensures.goes
+
+pub returns-in-Interpolation-clause-within : goal.returns-in-Interpolation-clause-within
+returns-in-Interpolation-clause-within c cs = c.open_values-in-Interpolation.ensures.within (reach (length c.args.space.now.slots) cs)
 
 pub returns-in-Array-clause-within : goal.returns-in-Array-clause-within
 returns-in-Array-clause-within c cs = c.open_values.ensures.within (reach (length c.args.space.now.slots) cs)

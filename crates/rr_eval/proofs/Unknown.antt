@@ -1,0 +1,73 @@
+-- The nodes that are not evaluated yet are those that are none of the others.
+use Rattle.std.proofs.Common.{◌≡◌, ℕ, ℤ, Bool, true, refl}
+use Rattle.rr_base.specs.declared.name.ClassId.{ClassId}
+use Rattle.rr_base.specs.declared.name.Sym.{Sym}
+use Rattle.rr_tree.specs.declared.node.BinaryOperator.{BinaryOperator}
+use Rattle.rr_tree.specs.declared.node.Node.{Node}
+use Rattle.rr_tree.specs.declared.node.Node.TheVariants as nodes
+use Rattle.rr_tree.specs.declared.node.Path.{Path}
+use Rattle.rr_eval.specs.Nodes.{is_unknown}
+
+-- that a node is of none of the kinds that are evaluated
+pub record IsNone (n : Node) : Type 0 where
+  pub no_nil : n ≡ nodes.Nil → ⊥
+  pub no_truth : (x0 : Bool) → n ≡ nodes.Truth x0 → ⊥
+  pub no_int : (x0 : ℤ) → n ≡ nodes.Int x0 → ⊥
+  pub no_text : (x0 : ℕ) → n ≡ nodes.Text x0 → ⊥
+  pub no_symbol : (x0 : Sym) → n ≡ nodes.Symbol x0 → ⊥
+  pub no_class : (x0 : ClassId) → n ≡ nodes.Class x0 → ⊥
+  pub no_constant : (x0 : Path) → n ≡ nodes.Constant x0 → ⊥
+  pub no_array : (x0 : ℕ) (x1 : ℕ) → n ≡ nodes.Array x0 x1 → ⊥
+  pub no_interpolation : (x0 : ℕ) (x1 : ℕ) → n ≡ nodes.Interpolation x0 x1 → ⊥
+  pub no_local : (x0 : ℕ) (x1 : ℕ) (x2 : Sym) → n ≡ nodes.Local x0 x1 x2 → ⊥
+  pub no_bare : (x0 : Sym) (x1 : ℕ) → n ≡ nodes.Bare x0 x1 → ⊥
+  pub no_call : (x0 : Sym) (x1 : ℕ) (x2 : ℕ) (x3 : ℕ) → n ≡ nodes.Call x0 x1 x2 x3 → ⊥
+  pub no_send : (x0 : ℕ) (x1 : Sym) (x2 : ℕ) (x3 : ℕ) (x4 : ℕ) → n ≡ nodes.Send x0 x1 x2 x3 x4 → ⊥
+  pub no_index : (x0 : ℕ) (x1 : ℕ) → n ≡ nodes.Index x0 x1 → ⊥
+  pub no_append : (x0 : ℕ) (x1 : ℕ) → n ≡ nodes.Append x0 x1 → ⊥
+  pub no_and : (x0 : ℕ) (x1 : ℕ) → n ≡ nodes.And x0 x1 → ⊥
+  pub no_or : (x0 : ℕ) (x1 : ℕ) → n ≡ nodes.Or x0 x1 → ⊥
+  pub no_not : (x0 : ℕ) → n ≡ nodes.Not x0 → ⊥
+  pub no_negate : (x0 : ℕ) → n ≡ nodes.Negate x0 → ⊥
+  pub no_binary : (x0 : BinaryOperator) (x1 : ℕ) (x2 : ℕ) → n ≡ nodes.Binary x0 x1 x2 → ⊥
+  pub no_assign : (x0 : ℕ) (x1 : ℕ) (x2 : Sym) (x3 : ℕ) → n ≡ nodes.Assign x0 x1 x2 x3 → ⊥
+  pub no_operator_assign : (x0 : BinaryOperator) (x1 : ℕ) (x2 : ℕ) → n ≡ nodes.OperatorAssign x0 x1 x2 → ⊥
+  pub no_or_assign : (x0 : ℕ) (x1 : ℕ) → n ≡ nodes.OrAssign x0 x1 → ⊥
+  pub no_and_assign : (x0 : ℕ) (x1 : ℕ) → n ≡ nodes.AndAssign x0 x1 → ⊥
+  pub no_choose : (x0 : ℕ) (x1 : ℕ) (x2 : ℕ) → n ≡ nodes.Choose x0 x1 x2 → ⊥
+  pub no_loop : (x0 : Bool) (x1 : ℕ) (x2 : ℕ) → n ≡ nodes.Loop x0 x1 x2 → ⊥
+  pub no_sequence : (x0 : ℕ) (x1 : ℕ) → n ≡ nodes.Sequence x0 x1 → ⊥
+  pub no_item : (x0 : ℕ) → n ≡ nodes.Item x0 → ⊥
+  pub no_return : (x0 : ℕ) → n ≡ nodes.Return x0 → ⊥
+
+pub unknown_else : (n : Node) → IsNone n → is_unknown n ≡ true
+unknown_else nodes.Nil h = absurd (h.no_nil refl)
+unknown_else (nodes.Truth x0) h = absurd (h.no_truth x0 refl)
+unknown_else (nodes.Int x0) h = absurd (h.no_int x0 refl)
+unknown_else (nodes.Text x0) h = absurd (h.no_text x0 refl)
+unknown_else (nodes.Symbol x0) h = absurd (h.no_symbol x0 refl)
+unknown_else (nodes.Class x0) h = absurd (h.no_class x0 refl)
+unknown_else (nodes.Constant x0) h = absurd (h.no_constant x0 refl)
+unknown_else (nodes.Array x0 x1) h = absurd (h.no_array x0 x1 refl)
+unknown_else (nodes.Interpolation x0 x1) h = absurd (h.no_interpolation x0 x1 refl)
+unknown_else (nodes.Local x0 x1 x2) h = absurd (h.no_local x0 x1 x2 refl)
+unknown_else (nodes.Bare x0 x1) h = absurd (h.no_bare x0 x1 refl)
+unknown_else (nodes.Call x0 x1 x2 x3) h = absurd (h.no_call x0 x1 x2 x3 refl)
+unknown_else (nodes.Send x0 x1 x2 x3 x4) h = absurd (h.no_send x0 x1 x2 x3 x4 refl)
+unknown_else (nodes.Index x0 x1) h = absurd (h.no_index x0 x1 refl)
+unknown_else (nodes.Append x0 x1) h = absurd (h.no_append x0 x1 refl)
+unknown_else (nodes.And x0 x1) h = absurd (h.no_and x0 x1 refl)
+unknown_else (nodes.Or x0 x1) h = absurd (h.no_or x0 x1 refl)
+unknown_else (nodes.Not x0) h = absurd (h.no_not x0 refl)
+unknown_else (nodes.Negate x0) h = absurd (h.no_negate x0 refl)
+unknown_else (nodes.Binary x0 x1 x2) h = absurd (h.no_binary x0 x1 x2 refl)
+unknown_else (nodes.Assign x0 x1 x2 x3) h = absurd (h.no_assign x0 x1 x2 x3 refl)
+unknown_else (nodes.OperatorAssign x0 x1 x2) h = absurd (h.no_operator_assign x0 x1 x2 refl)
+unknown_else (nodes.OrAssign x0 x1) h = absurd (h.no_or_assign x0 x1 refl)
+unknown_else (nodes.AndAssign x0 x1) h = absurd (h.no_and_assign x0 x1 refl)
+unknown_else (nodes.Choose x0 x1 x2) h = absurd (h.no_choose x0 x1 x2 refl)
+unknown_else (nodes.Loop x0 x1 x2) h = absurd (h.no_loop x0 x1 x2 refl)
+unknown_else (nodes.Sequence x0 x1) h = absurd (h.no_sequence x0 x1 refl)
+unknown_else (nodes.Item x0) h = absurd (h.no_item x0 refl)
+unknown_else (nodes.Return x0) h = absurd (h.no_return x0 refl)
+unknown_else _ h = refl
