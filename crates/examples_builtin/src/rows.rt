@@ -134,6 +134,10 @@ error == 1 => false | #<TypeError: TypeError>
 [1 - [1 => undefined method '-' for an instance of Array | [1]
 [1,2 dup => [1, 2] | [1, 2]
 *[1,2 dup => [1, 2] | [1, 2]
+{1:2,3:4 dup => {1 => 2, 3 => 4} | {1 => 2, 3 => 4}
+*{1:2 dup => {1 => 2} | {1 => 2}
+{ dup => {} | {}
+{1:2 dup 1 => wrong number of arguments (given 1, expected 0) (ArgumentError) | {1 => 2}
 'ab dup => \"ab\" | \"ab\"
 7 dup => 7 | 7
 nil dup => nil | nil

@@ -14,6 +14,7 @@ pub mod Classing
 pub mod Summing
 pub mod NoFields
 pub mod Copying
+pub mod HashCopying
 pub mod Each
 pub mod Sorting
 pub mod Items

@@ -43,7 +43,7 @@ listed_all t v =
     let n = length (triples_at t v) in
     append_nil (listed t v n) ∙ ap (λ xs. listed t v n ++ xs) (sym (values_end (triples_at t v))) ∙ listed_front t v n (omega arith)
 
-pairs_next : (ts : List (Label × Value)) (n : ℕ) → 2 * n + 1 < length ts → drop n (pairs_in ts) ≡ (value_in ts (2 * n), value_in ts (2 * n + 1)) ∷ drop (suc n) (pairs_in ts)
+pub pairs_next : (ts : List (Label × Value)) (n : ℕ) → 2 * n + 1 < length ts → drop n (pairs_in ts) ≡ (value_in ts (2 * n), value_in ts (2 * n + 1)) ∷ drop (suc n) (pairs_in ts)
 pairs_next [] n lt = absurd (let no : ⊥ = omega (arith, lt) in no)
 pairs_next (t ∷ []) n lt = absurd (let no : ⊥ = omega (arith, lt) in no)
 pairs_next (k ∷ v ∷ ts) zero lt = refl
@@ -52,7 +52,7 @@ pairs_next (k ∷ v ∷ ts) (suc n) lt =
     ∙ ap (λ i. (value_in (k ∷ v ∷ ts) i, value_in (k ∷ v ∷ ts) (suc (suc (2 * n + 1)))) ∷ drop (suc (suc n)) (pairs_in (k ∷ v ∷ ts))) (let z : suc (suc (2 * n)) ≡ 2 * suc n = omega arith in z)
     ∙ ap (λ i. (value_in (k ∷ v ∷ ts) (2 * suc n), value_in (k ∷ v ∷ ts) i) ∷ drop (suc (suc n)) (pairs_in (k ∷ v ∷ ts))) (let z : suc (suc (2 * n + 1)) ≡ 2 * suc n + 1 = omega arith in z)
 
-pairs_end : (ts : List (Label × Value)) (n : ℕ) → length ts ≤ 2 * n + 1 → drop n (pairs_in ts) ≡ []
+pub pairs_end : (ts : List (Label × Value)) (n : ℕ) → length ts ≤ 2 * n + 1 → drop n (pairs_in ts) ≡ []
 pairs_end [] zero le = refl
 pairs_end [] (suc n) le = refl
 pairs_end (t ∷ []) zero le = refl
@@ -66,7 +66,7 @@ half_is ts zero n lt = ap (value_in ts) (let z : 2 * n ≡ 2 * n + 0 = omega ari
 half_is ts (suc zero) n lt = refl
 half_is ts (suc (suc d)) n lt = absurd (let no : ⊥ = omega (arith, lt) in no)
 
-map_drop : {A B : Type 0} (f : A → B) (xs : List A) (n : ℕ) → map f (drop n xs) ≡ drop n (map f xs)
+pub map_drop : {A B : Type 0} (f : A → B) (xs : List A) (n : ℕ) → map f (drop n xs) ≡ drop n (map f xs)
 map_drop f xs zero = refl
 map_drop f [] (suc n) = refl
 map_drop f (x ∷ xs) (suc n) = map_drop f xs n

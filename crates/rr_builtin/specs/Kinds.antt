@@ -5,7 +5,7 @@ use Rattle.rr_space.specs.declared.kind.Kind.TheVariants as kind
 use Rattle.rr_tree.specs.declared.node.BinaryOperator.{BinaryOperator}
 use Rattle.rr_tree.specs.declared.node.BinaryOperator.TheVariants.{Add, Subtract, Multiply, Divide, Remainder, Less, LessOrEqual, Greater, GreaterOrEqual, Compare, Equal, NotEqual}
 use Rattle.rr_builtin.specs.declared.method.ObjectMethod.{ObjectMethod}
-use Rattle.rr_builtin.specs.declared.method.ObjectMethod.TheVariants.{IsA, KindOf, IsIdentical, Dup}
+use Rattle.rr_builtin.specs.declared.method.ObjectMethod.TheVariants.{IsA, KindOf, IsIdentical}
 use Rattle.rr_builtin.specs.declared.method.ContentMethod.{ContentMethod}
 use Rattle.rr_builtin.specs.declared.method.ContentMethod.TheVariants.{Size, Length, IsEmpty, First, Last, At, Append, Push, Pop, Shift, Includes, SetAt, Keys, Values, HasKey, Delete, Sum, Sort}
 use Rattle.rr_builtin.specs.declared.method.TellingMethod.{TellingMethod}
@@ -112,26 +112,17 @@ abbrev pub is_exception : Kind → Bool
 is_exception kind.Exception = true
 is_exception _ = false
 
-abbrev pub is_copied : Kind → Bool
-is_copied kind.Hash = false
-is_copied _ = true
-
 abbrev pub has_telling : Kind → TellingMethod → Bool
 has_telling k telling.Name = is_class k
 has_telling k telling.Message = is_exception k
 has_telling k telling.Cause = is_exception k
 has_telling k telling.Ractor = is_exception k
 
--- all have but `dup`, which hashes have not
-abbrev pub has_object : Kind → ObjectMethod → Bool
-has_object k Dup = is_copied k
-has_object k _ = true
-
 -- whether values of the kind have the method
 abbrev pub has : Kind → BuiltInMethod → Bool
 has k (Operator op) = has_operator k op
 has k (Number m) = is_integer_kind k
-has k (Object m) = has_object k m
+has k (Object m) = true
 has k (Content m) = has_content k m
 has k (Telling m) = has_telling k m
 has k New = is_class k

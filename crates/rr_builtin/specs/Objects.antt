@@ -23,7 +23,7 @@ pub use Rattle.rr_builtin.specs.Kinds.{is_text_kind}
 use Rattle.rr_builtin.specs.Classes.{descends}
 use Rattle.rr_builtin.specs.Acts.{Act, Answers, Makes, MakesArray, MakesObject, Freezes, Gives, Raises}
 use Rattle.rr_builtin.specs.Elements.{elements_of}
-use Rattle.rr_builtin.specs.Copies.{plain_copy, exception_copy}
+use Rattle.rr_builtin.specs.Copies.{plain_copy, exception_copy, hash_copy, hash_copy_keys}
 
 -- one immediate or one object of the table, forwards followed
 unfoldable pub identical : Table → Ref → Ref → Bool
@@ -68,13 +68,14 @@ abbrev pub kind_of_act : Program → Ref → Ref → Table → Act
 kind_of_act p v (ref.Class c) t = truth (descends p (class_at t v).0 c.0)
 kind_of_act p v a t = Answers (Raises (WrongType (class_at t a)))
 
--- a text, an array, an object and an exception anew, not frozen, and any other value itself
-abbrev pub copy_act : Kind → Ref → Table → Act
-copy_act kind.Text v t = Makes (text_at t v)
-copy_act kind.Array v t = MakesArray (elements_of t v)
-copy_act kind.Object v t = MakesObject (plain_copy t v) []
-copy_act kind.Exception v t = MakesObject (exception_copy t v) []
-copy_act _ v t = Answers (Gives (value_of v))
+-- a text, an array, a hash, an object and an exception anew, not frozen, and any other value itself
+abbrev pub copy_act : Below → Kind → Ref → Table → Act
+copy_act below kind.Text v t = Makes (text_at t v)
+copy_act below kind.Array v t = MakesArray (elements_of t v)
+copy_act below kind.Hash v t = MakesObject (hash_copy below t v) (hash_copy_keys below t v)
+copy_act below kind.Object v t = MakesObject (plain_copy t v) []
+copy_act below kind.Exception v t = MakesObject (exception_copy t v) []
+copy_act below _ v t = Answers (Gives (value_of v))
 
 -- a method of all values, with its argument
 abbrev pub object_act : Program → Below → ObjectMethod → Ref → Ref → Table → Act
@@ -87,7 +88,7 @@ object_act p below Not v a t = truth (not (is_truthy v))
 object_act p below Freeze v a t = Freezes
 object_act p below IsFrozen v a t = truth (answers_frozen t v)
 object_act p below ToS v a t = spoken_act (names_of p) below v t
-object_act p below Dup v a t = copy_act (kind_at t v) v t
+object_act p below Dup v a t = copy_act below (kind_at t v) v t
 object_act p below Inspect v a t = told (printed_text (names_of p) below inspected t v)
 
 -- ---- Equality of values that are no containers.

@@ -1,7 +1,7 @@
 //! Which methods the values of a kind have, and how many arguments they take.
 
 ghost use Rattle.std.specs.Prelude.{◌≡◌};
-ghost use Rattle.rr_builtin.specs.Kinds.{is_shell_kind, is_integer_kind, is_array_kind, is_added, has_order, has_operator, has_size, is_text_kind, is_appended, is_joined, is_hash, is_container, is_copied, has_object, has_content, is_class, is_exception, has_telling, has, object_count, content_count, is_new, is_of_remote_errors, asks_ractor, count_of};
+ghost use Rattle.rr_builtin.specs.Kinds.{is_shell_kind, is_integer_kind, is_array_kind, is_added, has_order, has_operator, has_size, is_text_kind, is_appended, is_joined, is_hash, is_container, has_content, is_class, is_exception, has_telling, has, object_count, content_count, is_new, is_of_remote_errors, asks_ractor, count_of};
 
 use crate::method::{BuiltInMethod, ContentMethod, ObjectMethod, TellingMethod};
 use rr_space::Kind;
@@ -181,24 +181,6 @@ fn is_exception(kind: Kind) -> bool
     }
 }
 
-fn is_copied(kind: Kind) -> bool
-    ensures { result ≡ is_copied kind }
-{
-    match kind {
-        Kind::Hash => false,
-        _ => true,
-    }
-}
-
-fn has_object(kind: Kind, method: ObjectMethod) -> bool
-    ensures { result ≡ has_object kind method }
-{
-    match method {
-        ObjectMethod::Dup => is_copied(kind),
-        _ => true,
-    }
-}
-
 fn has_telling(kind: Kind, method: TellingMethod) -> bool
     ensures { result ≡ has_telling kind method }
 {
@@ -217,7 +199,7 @@ pub fn has(kind: Kind, method: BuiltInMethod) -> bool
     match method {
         BuiltInMethod::Operator(operator) => has_operator(kind, operator),
         BuiltInMethod::Number(_) => is_integer_kind(kind),
-        BuiltInMethod::Object(method) => has_object(kind, method),
+        BuiltInMethod::Object(_) => true,
         BuiltInMethod::Content(method) => has_content(kind, method),
         BuiltInMethod::Telling(method) => has_telling(kind, method),
         BuiltInMethod::New => is_class(kind),

@@ -10,6 +10,7 @@ mod contents;
 mod copies;
 mod deed;
 mod dividing;
+mod hash_copies;
 mod hashes;
 mod integer;
 mod kinds;

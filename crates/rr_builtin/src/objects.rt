@@ -16,6 +16,7 @@ use crate::built::Built;
 use crate::classes::descends;
 use crate::copies::{exception_copy, plain_copy};
 use crate::deed::Deed;
+use crate::hash_copies::hash_copy;
 use crate::kinds::is_text_kind;
 use crate::method::ObjectMethod;
 use crate::problem::Problem;
@@ -128,10 +129,10 @@ fn kind_of_deed(space: &Space, program: &Program, value: Ref, class: Ref) -> Dee
     }
 }
 
-/// `dup`: a text, an array, an object or an exception anew, and any other value itself.
+/// `dup`: a text, an array, a hash, an object or an exception anew, and any other value itself.
 fn copy_deed(alloc: Global, space: &Space, value: Ref) -> Result<Deed, Fault>
     requires { IsWithin (length space.now.slots) value }
-    ensures act { IfOk result (λ deed. act_of deed ≡ copy_act (kind_at space.now value) value space.now) }
+    ensures act { IfOk result (λ deed. (below : Below) → IsReadWith space.now below → IsAmong below value → act_of deed ≡ copy_act below (kind_at space.now value) value space.now) }
     ensures fit { IfOk result (λ deed. IsFit space.now value deed) }
     ensures among { IfOk result (λ deed. (below : Below) → IsReadWith space.now below → IsRefAmong below value → IsDeedAmong below deed) }
     ensures fault { IfErr result (λ f. f ≡ Fault.Memory) }
@@ -139,6 +140,7 @@ fn copy_deed(alloc: Global, space: &Space, value: Ref) -> Result<Deed, Fault>
     match space.kind_of(value) {
         Kind::Text => Ok(Deed::Make(space.text_bytes(value).to_vec(alloc)?)),
         Kind::Array => Ok(Deed::MakeArray(elements(alloc, space, value, 0)?)),
+        Kind::Hash => Ok(Deed::MakeNode(hash_copy(alloc, space, value)?)),
         Kind::Object => Ok(Deed::MakeNode(plain_copy(alloc, space, value)?)),
         Kind::Exception => Ok(Deed::MakeNode(exception_copy(alloc, space, value)?)),
         _ => Ok(Deed::Answer(Built::Value(value))),
