@@ -12,6 +12,8 @@ mod programs;
 #[cfg(test)]
 mod table;
 #[cfg(test)]
+mod targets;
+#[cfg(test)]
 mod token_rows;
 #[cfg(test)]
 mod tokens;

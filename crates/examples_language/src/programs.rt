@@ -330,7 +330,8 @@ begin rescue => e end -> 1:19 unexpected token
 \"a#{1}\" 2 -> 1:9 unexpected token
 ";
 
-fn check_rows(rt: &impl Abort, alloc: Global, rows: &str) -> Result<(), AllocError> {
+/// Each source has what stands behind it.
+pub fn check_rows(rt: &impl Abort, alloc: Global, rows: &str) -> Result<(), AllocError> {
     for row in rows.lines() {
         let (source, want) = split_row(row);
         let bytes = source_of(alloc, source)?;
@@ -418,6 +419,9 @@ while 1 do 2 end -> 1
 unless 1 then 2 else 3 end -> 1
 1 and 2 or 3 if 4 unless 5 -> 0
 a = b = puts 1 -> 1
+a[0] = b[0] = 1 -> 1
+a[b[0]] = 1 -> 2
+a.b = c.d = e[0] = 1 -> 2
 a += b -= 1 -> 1
 [[1]] -> 2
 [*a] -> 1

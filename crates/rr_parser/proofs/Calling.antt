@@ -32,7 +32,7 @@ use Rattle.rr_parser.specs.Reading.Answers.{◌>>=◌, wrong, Answer, Parse, bui
 use Rattle.rr_parser.specs.Reading.Nesting.{Readers}
 use Rattle.rr_parser.specs.Reading.Calls.{assigned_or, assigned_of, argument_of, pair_by, pair_of, members_of, bracketed_or, bracketed_of, commanded_or, commanded_of, arguments_of, headed_of, operand_of, value_of}
 use Rattle.rr_parser.specs.Reading.Bodies.{held_of}
-use Rattle.rr_parser.specs.Meets.{View, nodes, lists, Made, Fails, Gives, Puts, Marks, Aims, Enters, Leaves, SetsDo, ReadsNames, known_of, place}
+use Rattle.rr_parser.specs.Meets.{View, nodes, lists, reaches, Made, Fails, Gives, Puts, Marks, Aims, Enters, Leaves, SetsDo, ReadsNames, known_of, place}
 use Rattle.rr_parser.specs.declared.variables.Variable.{Variable}
 use Rattle.rr_parser.specs.declared.variables.Scope.{Scope}
 use Rattle.rr_parser.specs.Grammar.Blocks.{parameters, entered, leaving, left_to, block_tree}
@@ -40,6 +40,8 @@ use Rattle.rr_parser.specs.Reading.Blocks.{left_block, block_or, block_of}
 use Rattle.rr_parser.specs.Grammar.Operands.{tail}
 use Rattle.rr_parser.specs.Grammar.Fences.{with_do, taking_as, opening, opened, fence_end}
 use Rattle.rr_parser.specs.Reading.Operands.{call_of, block_behind, blocked_or, blocked_of, then_blocked, unbracketed_or, variable_or_call, name_or, name_of, primary_of, tailed_of, postfix_of}
+use Rattle.rr_parser.specs.Grammar.Operands.{Reached, plain}
+use Rattle.rr_parser.specs.declared.word.Reached.{Reached as CodeReached}
 use Rattle.rr_parser.proofs.Shrinking.{ReadersShrink}
 use Rattle.rr_parser.proofs.Trails.{trail_on-ends, trail_on-turn}
 use Rattle.rr_parser.proofs.Looks.{Steps-tail}
@@ -96,71 +98,42 @@ fails_assignment N b old mid i x words after d k e h =
 -- ---- what follows an operand
 
 module _ (N : Readers) (shrinks : ReadersShrink N) where
-  abbrev goes_on : Tree → Parse Tree
+  abbrev goes_on : Reached → Parse Reached
   goes_on = trail_on tail (tailed_of N)
 
-  pub trail_begins : (old new : Parser) (e : ℕ) (words rest : List Word) → Made nodes old new e rest (primary_of N (place old words))
-      → Goes nodes old new e (postfix_of N (place old words)) (trail_on tail (tailed_of N) (tree_at new.nodes.items e) (place new rest))
+  pub trail_begins : (old new : Parser) (i : ℕ) (words rest : List Word) → Made nodes old new i rest (primary_of N (place old words))
+      → Goes reaches old new (record { node = i; spot = None }) (postfix_of N (place old words)) (trail_on tail (tailed_of N) (plain (tree_at new.nodes.items i)) (place new rest))
   unfolding postfix_of
-  trail_begins old new e words rest m = record { there = m.there; kept = m.kept; same = ap (λ (q : Answer Tree). q >>= λ r. goes_on r.0 r.1) m.tree }
+  trail_begins old new i words rest m = record { there = (m.there, tt); kept = m.kept; same = ap (λ (q : Answer Tree). built plain q >>= λ r. goes_on r.0 r.1) m.tree }
 
-  turns : (new : Parser) (l : ℕ) (rest after : List Word) (x : Tail) → tail rest ≡ Some (x, after)
-      → goes_on (tree_at new.nodes.items l) (place new rest) ≡ (tailed_of N x (tree_at new.nodes.items l) (place new after) >>= λ r. goes_on r.0 r.1)
-  turns new l rest after x e = trail_on-turn tail (tailed_of N) Steps-tail (λ x l n z t e. shrinks.tailed x l n z t e) (tree_at new.nodes.items l) (place new rest) (place new after) x (seen_at new tail rest after x e)
+  turns : (new : Parser) (l : CodeReached) (rest after : List Word) (x : Tail) → tail rest ≡ Some (x, after)
+      → goes_on (reaches.tree new.nodes.items l) (place new rest) ≡ (tailed_of N x (reaches.tree new.nodes.items l) (place new after) >>= λ r. goes_on r.0 r.1)
+  turns new l rest after x e = trail_on-turn tail (tailed_of N) Steps-tail (λ x l n z t e. shrinks.tailed x l n z t e) (reaches.tree new.nodes.items l) (place new rest) (place new after) x (seen_at new tail rest after x e)
 
-  pub trail_ends : (old new : Parser) (l : ℕ) (rest : List Word) (read : Answer Tree) → Goes nodes old new l read (trail_on tail (tailed_of N) (tree_at new.nodes.items l) (place new rest)) → tail rest ≡ None → Made nodes old new l rest read
+  pub trail_ends : (old new : Parser) (l : CodeReached) (rest : List Word) (read : Answer Reached) → Goes reaches old new l read (trail_on tail (tailed_of N) (reaches.tree new.nodes.items l) (place new rest)) → tail rest ≡ None → Made reaches old new l rest read
   trail_ends old new l rest read g e = record {
     there = g.there;
-    tree = g.same ∙ trail_on-ends tail (tailed_of N) Steps-tail (λ x l n z t e. shrinks.tailed x l n z t e) (tree_at new.nodes.items l) (place new rest) (unseen_at new tail rest e);
+    tree = g.same ∙ trail_on-ends tail (tailed_of N) Steps-tail (λ x l n z t e. shrinks.tailed x l n z t e) (reaches.tree new.nodes.items l) (place new rest) (unseen_at new tail rest e);
     kept = g.kept;
   }
 
-  pub trail_fails : (old s0 : Parser) (l : ℕ) (rest after : List Word) (x : Tail) (read : Answer Tree) (d : Refusal) → Goes nodes old s0 l read (trail_on tail (tailed_of N) (tree_at s0.nodes.items l) (place s0 rest)) → tail rest ≡ Some (x, after)
-      → Fails d (tailed_of N x (tree_at s0.nodes.items l) (place s0 after)) → Fails d read
+  pub trail_fails : (old s0 : Parser) (l : CodeReached) (rest after : List Word) (x : Tail) (read : Answer Reached) (d : Refusal) → Goes reaches old s0 l read (trail_on tail (tailed_of N) (reaches.tree s0.nodes.items l) (place s0 rest)) → tail rest ≡ Some (x, after)
+      → Fails d (tailed_of N x (reaches.tree s0.nodes.items l) (place s0 after)) → Fails d read
   trail_fails old s0 l rest after x read d g e h =
-      fails_eq d read (tailed_of N x (tree_at s0.nodes.items l) (place s0 after) >>= λ r. goes_on r.0 r.1) (g.same ∙ turns s0 l rest after x e)
-      (fails_bind d (tailed_of N x (tree_at s0.nodes.items l) (place s0 after)) (λ r. goes_on r.0 r.1) h)
+      fails_eq d read (tailed_of N x (reaches.tree s0.nodes.items l) (place s0 after) >>= λ r. goes_on r.0 r.1) (g.same ∙ turns s0 l rest after x e)
+      (fails_bind d (tailed_of N x (reaches.tree s0.nodes.items l) (place s0 after)) (λ r. goes_on r.0 r.1) h)
 
-  pub trail_smaller : (s0 s1 : Parser) (l b : ℕ) (rest after left : List Word) (x : Tail) → tail rest ≡ Some (x, after) → Made nodes s0 s1 b left (tailed_of N x (tree_at s0.nodes.items l) (place s0 after)) → length left < length rest
+  pub trail_smaller : (s0 s1 : Parser) (l b : CodeReached) (rest after left : List Word) (x : Tail) → tail rest ≡ Some (x, after) → Made reaches s0 s1 b left (tailed_of N x (reaches.tree s0.nodes.items l) (place s0 after)) → length left < length rest
   trail_smaller s0 s1 l b rest after left x e m =
-      omega (arith, Steps-tail (place s0 rest) (place s0 after) x (seen_at s0 tail rest after x e), shrinks.tailed x (tree_at s0.nodes.items l) (place s0 after) (place s1 left) (tree_at s1.nodes.items b) m.tree)
+      omega (arith, Steps-tail (place s0 rest) (place s0 after) x (seen_at s0 tail rest after x e), shrinks.tailed x (reaches.tree s0.nodes.items l) (place s0 after) (place s1 left) (reaches.tree s1.nodes.items b) m.tree)
 
-  pub trail_goes : (old s0 s1 : Parser) (l b : ℕ) (rest after left : List Word) (x : Tail) (read : Answer Tree) → Goes nodes old s0 l read (trail_on tail (tailed_of N) (tree_at s0.nodes.items l) (place s0 rest)) → tail rest ≡ Some (x, after)
-      → Made nodes s0 s1 b left (tailed_of N x (tree_at s0.nodes.items l) (place s0 after)) → Goes nodes old s1 b read (trail_on tail (tailed_of N) (tree_at s1.nodes.items b) (place s1 left))
+  pub trail_goes : (old s0 s1 : Parser) (l b : CodeReached) (rest after left : List Word) (x : Tail) (read : Answer Reached) → Goes reaches old s0 l read (trail_on tail (tailed_of N) (reaches.tree s0.nodes.items l) (place s0 rest)) → tail rest ≡ Some (x, after)
+      → Made reaches s0 s1 b left (tailed_of N x (reaches.tree s0.nodes.items l) (place s0 after)) → Goes reaches old s1 b read (trail_on tail (tailed_of N) (reaches.tree s1.nodes.items b) (place s1 left))
   trail_goes old s0 s1 l b rest after left x read g e m = record {
     there = m.there;
     kept = Extends-trans old.nodes.items s0.nodes.items s1.nodes.items g.kept m.kept;
-    same = g.same ∙ turns s0 l rest after x e ∙ ap (λ (q : Answer Tree). q >>= λ r. goes_on r.0 r.1) m.tree;
+    same = g.same ∙ turns s0 l rest after x e ∙ ap (λ (q : Answer Reached). q >>= λ r. goes_on r.0 r.1) m.tree;
   }
-
--- an operand and its index
-pub made_element : (N : Readers) (old m1 new : Parser) (x : Tail) (l a id : ℕ) (words rest : List Word) → x ≡ tails.Index → l < length old.nodes.items → Made nodes old m1 a rest (N.part parts.Index (place old words))
-    → Puts m1 new (index (tree_at m1.nodes.items l) (tree_at m1.nodes.items a)) id → Made nodes old new id rest (tailed_of N x (tree_at old.nodes.items l) (place old words))
-unfolding tailed_of
-made_element N old m1 new x l a id words rest is lt m p =
-    made_eq (tailed_of N x (tree_at old.nodes.items l) (place old words)) (built (index (tree_at old.nodes.items l)) (N.part parts.Index (place old words))) (ap (λ (y : Tail). tailed_of N y (tree_at old.nodes.items l) (place old words)) is)
-    (made_over (index (tree_at old.nodes.items l)) m p (ap (λ (u : Tree). index u (tree_at m1.nodes.items a)) (tree_at-kept old.nodes.items m1.nodes.items l m.kept lt)))
-
--- a call and its arguments, and what stands behind them
-pub gives_sent : (N : Readers) (old m1 m2 new : Parser) (y : Tail) (l id : ℕ) (x : Sym) (es fs : List ℕ) (words rest : List Word) (r : Result (ℕ × Bor (List Word)) Refusal) → y ≡ tails.Call x → fs ≡ es → l < length old.nodes.items
-    → Made (lists nodes) old m1 es rest (N.bracketed (place old words)) → Puts m1 m2 (send (tree_at m1.nodes.items l) x.0 (listed (map (tree_at m1.nodes.items) fs))) id
-    → Gives m2 new r (blocked_of N behinds.Call (tree_at m2.nodes.items id) (place m2 rest)) → Gives old new r (tailed_of N y (tree_at old.nodes.items l) (place old words))
-unfolding tailed_of
-gives_sent N old m1 m2 new y l id x es fs words rest r is same lt m p g =
-    let reads : List Tree → Tree = λ q. send (tree_at old.nodes.items l) x.0 (listed q) in
-    let made : Made nodes old m2 id rest (built reads (N.bracketed (place old words))) =
-    made_over reads m p (ap (λ (u : Tree). send u x.0 (listed (map (tree_at m1.nodes.items) fs))) (tree_at-kept old.nodes.items m1.nodes.items l m.kept lt) ∙ ap (λ (q : List ℕ). reads (map (tree_at m1.nodes.items) q)) same) in
-    subst (λ (z : Tail). Gives old new r (tailed_of N z (tree_at old.nodes.items l) (place old words))) (sym is)
-    (gives_from old m2 new id rest (built reads (N.bracketed (place old words))) (λ c s. blocked_of N behinds.Call c s) r made g)
-
--- a call without arguments, and what stands behind it
-pub gives_send : (N : Readers) (old m1 new : Parser) (y : Tail) (l id : ℕ) (x : Sym) (words : List Word) (r : Result (ℕ × Bor (List Word)) Refusal) → y ≡ tails.Send x
-    → Puts old m1 (send (tree_at old.nodes.items l) x.0 (listed [])) id → Gives m1 new r (blocked_of N behinds.Call (tree_at m1.nodes.items id) (place m1 words)) → Gives old new r (tailed_of N y (tree_at old.nodes.items l) (place old words))
-unfolding tailed_of
-gives_send N old m1 new y l id x words r is p g =
-    let t = send (tree_at old.nodes.items l) x.0 (listed []) in
-    subst (λ (z : Tail). Gives old new r (tailed_of N z (tree_at old.nodes.items l) (place old words))) (sym is)
-    (gives_from old m1 new id words (Ok (t, place old words)) (λ c s. blocked_of N behinds.Call c s) r (made_put old old m1 id words t (Ok (t, place old words)) refl (Extends-refl old.nodes.items) p) g)
 
 -- a call by a name, and what stands behind its arguments
 pub gives_called : (N : Readers) (old m1 m2 new : Parser) (id : ℕ) (x : Sym) (es fs : List ℕ) (words after rest : List Word) (r : Result (ℕ × Bor (List Word)) Refusal) → fs ≡ es → bracket words ≡ Some (tt, after)

@@ -30,7 +30,7 @@ use Rattle.rr_parser.specs.Grammar.{is_enclosed, inside, outside}
 use Rattle.rr_parser.specs.Reading.Answers.{wrong, deep, Answer, Parse, built, ended_by, closed, across, taking_of}
 use Rattle.rr_parser.specs.Reading.Nesting.{Readers}
 use Rattle.rr_parser.specs.Reading.Operators.{ternary_of}
-use Rattle.rr_parser.specs.Reading.Calls.{assigned_or, assigned_of, argument_of, pair_by, pair_of, item_or, item_of, member_of, another, members_of, bracketed_or, bracketed_of, array_of, hash_of, index_of, commanded_or, commanded_of, headed_of, command_or, command_of, phrase_or, phrase_of, operand_of, value_of}
+use Rattle.rr_parser.specs.Reading.Calls.{assigned_or, assigned_of, argument_of, pair_by, pair_of, item_or, item_of, member_of, another, members_of, bracketed_or, bracketed_of, array_of, hash_of, index_of, commanded_or, commanded_of, headed_of, command_or, command_of, phrase_or, phrase_of, operand_of, value_of, settled_of}
 use Rattle.rr_parser.specs.Reading.Sequences.{negation_or, negation_of, expression_of, statement_of, ends, row, rows_of, sequence_of, statements_of, group_of}
 use Rattle.rr_parser.specs.Reading.Interpolations.{pieces_of, interpolated_or, interpolated_on, interpolation_of}
 use Rattle.rr_parser.specs.Reading.Control.{both, branch_of, branches_of, otherwise_or, otherwise_of, ended, choice_of, unless_of, loop_of, looped_of}
@@ -38,14 +38,14 @@ use Rattle.rr_parser.specs.Reading.Bodies.{class_or, class_of, several_classes, 
 use Rattle.rr_parser.specs.Reading.Blocks.{left_block, block_or, block_of}
 use Rattle.rr_parser.specs.Reading.Definitions.{left_method, method_or, definition_or, definition_of}
 use Rattle.rr_parser.specs.Reading.{form_of, part_of, readers_inside, readers_outside}
-use Rattle.rr_parser.specs.Fronts.{Fronts, ChainFront, in_one, in_more, ClauseFront, in_clause, ClausesFront, RescuedFront, BodyFront, HeldFront, PairFront, behind_label, in_entry, ItemFront, in_splat, in_plain_item, MemberFront, MembersFront, in_former, in_latter, TakingFront, TernaryFront, AssignedFront, in_value, in_operand, ArgumentFront, CommandedFront, in_arguments, in_argument_command, CommandFront, behind_name, PhraseFront, in_command, in_plain, OperandFront, ValueFront, NegationFront, in_negation, behind_no_negation, ExpressionFront, StatementFront, RowsFront, StatementsFront, PiecesFront, BranchFront, BranchesFront, EndedFront, LoopFront, LoopedFront, BlockFront, in_body, DefinitionFront, in_method, FormFront, PartFront, fronts_inside, fronts_outside}
+use Rattle.rr_parser.specs.Fronts.{Fronts, ChainFront, in_one, in_more, ClauseFront, in_clause, ClausesFront, RescuedFront, BodyFront, HeldFront, PairFront, behind_label, in_entry, ItemFront, in_splat, in_plain_item, MemberFront, MembersFront, in_former, in_latter, TakingFront, TernaryFront, AssignedFront, in_value, in_operand, ArgumentFront, CommandedFront, in_arguments, in_argument_command, CommandFront, behind_name, PhraseFront, in_command, in_plain, OperandFront, ValueFront, NegationFront, in_negation, behind_no_negation, ExpressionFront, StatementFront, RowsFront, StatementsFront, PiecesFront, BranchFront, BranchesFront, EndedFront, LoopFront, LoopedFront, BlockFront, in_body, DefinitionFront, in_method, FormFront, PartFront, fronts_inside, fronts_outside, SettledFront}
 use Rattle.rr_parser.proofs.Told.{told_not, told_star}
 use Rattle.rr_parser.proofs.Looks.{word-next, row-separators}
 use Rattle.rr_parser.proofs.Listing.{another-comma}
 use Rattle.rr_parser.proofs.Chains.{done}
 use Rattle.rr_parser.proofs.SoundOperands.{NestedSound, taking_sound}
 use Rattle.rr_parser.proofs.Sound.{member_sound, argument_sound, commanded_sound, negation_sound, expression_sound, statement_sound, statements_sound, class_sound, classes_sound, clause_sound, clauses_sound, rescued_sound, branch_sound, branches_sound, sound_inside, sound_outside}
-use Rattle.rr_parser.proofs.DeepOperands.{IsDeep, bind_deep, built_deep, ended_not_deep, closed_deep, across_deep, past_loop, NestedDeep, from_deep, taking_deep, enclosed_deep, chain_deep, passed_deep, bang_deep, minus_deep, ternary_deep}
+use Rattle.rr_parser.proofs.DeepOperands.{IsDeep, bind_deep, built_deep, ended_not_deep, closed_deep, across_deep, past_loop, NestedDeep, from_deep, taking_deep, enclosed_deep, chain_deep, passed_deep, bang_deep, minus_deep, ternary_deep, settled_deep}
 
 -- ---- classes, in which nothing nests
 
@@ -88,7 +88,7 @@ module _ (N : Readers) (R : Nested) (F : Fronts) (sounds : NestedSound N R) (nes
   assigned_deep b q G first s e = assigned_or-deep b q G first s (at target s) refl e
 
   pub argument_deep : IsDeep (argument_of N) (ArgumentFront R F)
-  argument_deep = assigned_deep false (ternary_of N) (TernaryFront R F) (ternary_deep N R F sounds nests)
+  argument_deep = assigned_deep false (settled_of N false) (SettledFront R F false) (settled_deep N R F sounds nests false)
 
   pair_by-deep : (s : Place) (o : Option (Sym × Place)) → at label s ≡ o → pair_by N s o ≡ Err deep → (z : Place) × PairFront R F s z
   pair_by-deep s None f e =
@@ -169,7 +169,7 @@ module _ (N : Readers) (R : Nested) (F : Fronts) (sounds : NestedSound N R) (nes
   command_deep s e = command_or-deep s (at (command s.known) s) refl e
 
   phrase_or-deep : (s : Place) (o : Option (Head × Place)) → at (command s.known) s ≡ o → phrase_or N s o ≡ Err deep → (z : Place) × PhraseFront R F s z
-  phrase_or-deep s None f e = let d = (ternary_deep N R F sounds nests) s e in (d.0, in_plain d.1)
+  phrase_or-deep s None f e = let d = (settled_deep N R F sounds nests) true s e in (d.0, in_plain d.1)
   phrase_or-deep s (Some x) f e = let d = called_deep s x.1 x.0 f e in (d.0, in_command d.1)
 
   phrase_deep : IsDeep (phrase_of N) (PhraseFront R F)
@@ -177,7 +177,7 @@ module _ (N : Readers) (R : Nested) (F : Fronts) (sounds : NestedSound N R) (nes
   phrase_deep s e = phrase_or-deep s (at (command s.known) s) refl e
 
   operand_deep : (b : Bool) → IsDeep (operand_of N b) (OperandFront R F b)
-  operand_deep false = (ternary_deep N R F sounds nests)
+  operand_deep false = settled_deep N R F sounds nests false
   operand_deep true = phrase_deep
 
   pub value_deep : (b : Bool) → IsDeep (value_of N b) (ValueFront R F b)

@@ -1,4 +1,6 @@
 -- Reading operands and operators is too deep only where the constructs that are begun pass the limit.
+use Rattle.rr_parser.specs.declared.word.Sign.{Sign}
+use Rattle.rr_parser.specs.Grammar.Calls.{settled, sign}
 use Rattle.std.proofs.Common.{◌≡◌, ℕ, zero, suc, pos, ◌⊎◌, inl, inr, Bool, true, false, cond, List, [], length, Option, Some, None, Result, Ok, Err, refl}
 use Rattle.rr_base.specs.declared.name.Sym.{Sym}
 use Rattle.rr_parser.specs.declared.word.Infix.{Infix}
@@ -19,19 +21,20 @@ use Rattle.rr_parser.specs.Places.{Place, Look, word, at, next}
 use Rattle.rr_parser.specs.Grammar.Chains.{Chain, one, more, same}
 use Rattle.rr_parser.specs.Grammar.Nesting.{Nested}
 use Rattle.rr_parser.specs.Grammar.Names.{is_local, variable_of, local_tree, is_allowed, jump_tree, begins_arguments, passed, passed_bare, name, bracket, begins_operands}
-use Rattle.rr_parser.specs.Grammar.Operands.{fits, fits_below, negated, joined, literal_of, inner_constant, construct_of, tail, Primary, Tailed, Minus}
+use Rattle.rr_parser.specs.Grammar.Operands.{fits, fits_below, negated, joined, literal_of, inner_constant, construct_of, tail, Primary, Tailed, Minus, Reached, Spot, plain, at_element, Plain, Postfix, no_minus, no_bang}
 use Rattle.rr_parser.specs.Grammar.Operators.{operator, infixed, connective, joined_by, Binary, Logical}
 use Rattle.rr_parser.specs.Grammar.Control.{outside_loop}
 use Rattle.rr_parser.specs.Reading.Answers.{◌>>=◌, Refused, wrong, deep, Answer, Parse, built, ended_by, closed, from, on_seen, across, taking_of, enclosed_of, trail_on, turn, chain_from, chain_on, chain}
 use Rattle.rr_parser.specs.Reading.Nesting.{Readers}
-use Rattle.rr_parser.specs.Reading.Operands.{bare_call, block_behind, blocked_or, blocked_of, then_blocked, unbracketed_or, name_or, name_of, passing_or, passing_of, constant_or, constant_at, int_at, negative_in, negative_of, begun, primary_at, primary_in, primary_of, tailed_of, postfix_of, bang_or, bang_of, prefix_minus, minus_or, minus_of}
+use Rattle.rr_parser.specs.Reading.Operands.{bare_call, block_behind, blocked_or, blocked_of, then_blocked, unbracketed_or, name_or, name_of, passing_or, passing_of, constant_or, constant_at, int_at, negative_in, negative_of, begun, primary_at, primary_in, primary_of, tailed_of, postfix_of, bang_or, bang_of, prefix_minus, minus_or, minus_of, plainly, sent_of, tree_reached, sent_or, sent_call_of, element_of}
 use Rattle.rr_parser.specs.Reading.Operators.{binary_on, binary_of, pair_or, equality_on, logical_on, logical_of, question_or, ternary_on, ternary_of}
-use Rattle.rr_parser.specs.Fronts.{Fronts, ChainFront, in_one, in_more, in_head, TailedFront, PostfixFront, AcrossFront, in_former, in_latter, TakingFront, EnclosedFront, CallFront, BlockedFront, in_block, PassedFront, in_passed, in_its_block, PrimaryFront, in_construct, in_call, in_passing, in_block_call, BangFront, in_bang, behind_no_bang, MinusFront, in_minus, behind_no_minus, BinaryFront, EqualityFront, LogicalFront, TernaryFront}
+use Rattle.rr_parser.specs.Fronts.{Fronts, ChainFront, in_one, in_more, in_head, TailedFront, PostfixFront, AcrossFront, in_former, in_latter, TakingFront, EnclosedFront, CallFront, BlockedFront, in_block, PassedFront, in_passed, in_its_block, PrimaryFront, in_construct, in_call, in_passing, in_block_call, BangFront, in_bang, behind_no_bang, MinusFront, in_minus, behind_no_minus, BinaryFront, EqualityFront, LogicalFront, TernaryFront, SettledFront, in_setting, in_no_setting}
 use Rattle.rr_parser.proofs.Told.{told_bang}
 use Rattle.rr_parser.proofs.Looks.{word-next, next-name, prefix-next}
 use Rattle.rr_parser.proofs.Trails.{trail_deep}
 use Rattle.rr_parser.proofs.Chains.{done, built_ok, IsSound}
-use Rattle.rr_parser.proofs.SoundOperands.{NestedSound, primary_sound, tailed_sound, minus_sound, binary_sound_on, binary_sound, logical_sound_on, logical_sound}
+use Rattle.rr_parser.specs.Reading.Calls.{behind_bang, behind_minus, setting_of, settled_of, setting_or, spot_or, reached_on}
+use Rattle.rr_parser.proofs.SoundOperands.{NestedSound, primary_sound, tailed_sound, minus_sound, binary_sound_on, binary_sound, logical_sound_on, logical_sound, postfix_sound, plain_primary_sound}
 
 abbrev pub IsDeep : {A : Type 0} → Parse A → (Place → Place → Type 0) → Type 0
 IsDeep {A} p F = (s : Place) → p s ≡ Err deep → (z : Place) × F s z
@@ -258,21 +261,28 @@ module _ (N : Readers) (R : Nested) (F : Fronts) (sounds : NestedSound N R) (nes
   unfolding primary_of
   primary_deep s e = primary_in-deep s (next s) refl e
 
-  tailed_deep : (x : Tail) (l : Tree) (n : Place) → tailed_of N x l n ≡ Err deep → (z : Place) × TailedFront R F x n z
-  unfolding tailed_of
-  tailed_deep (tails.Send x) l n e = blocked_deep behinds.Call (send l x.0 (listed [])) n e
-  tailed_deep (tails.Call x) l n e = call_deep (λ q. send l x.0 (listed q)) n e
-  tailed_deep tails.Index l n e = nests.part parts.Index n (built_deep (index l) (N.part parts.Index n) e)
+  sent_deep : (x : Sym) (l : Reached) (n : Place) (o : Option (Fence × Place)) → opened behinds.Call n ≡ o → sent_or N l.tree x n o ≡ Err deep → (z : Place) × BlockedFront F behinds.Call n z
+  sent_deep x l n None f e = absurd cc
+  sent_deep x l n (Some m) f e =
+      let c = send l.tree x.0 (listed []) in
+      let d = behind_deep m.0 c m.1 (built_deep plain (block_behind N m.0 c m.1) e) in
+      (d.0, in_block f d.1)
+
+  tailed_deep : (x : Tail) (l : Reached) (n : Place) → tailed_of N x l n ≡ Err deep → (z : Place) × TailedFront R F x n z
+  unfolding sent_of sent_call_of element_of
+  tailed_deep (tails.Send x) l n e = sent_deep x l n (opened behinds.Call n) refl e
+  tailed_deep (tails.Call x) l n e = call_deep (λ q. send l.tree x.0 (listed q)) n (built_deep plain (sent_call_of N l.tree x n) e)
+  tailed_deep tails.Index l n e = nests.part parts.Index n (built_deep (at_element l.tree) (N.part parts.Index n) e)
 
   postfix_deep : IsDeep (postfix_of N) (PostfixFront R F)
   unfolding postfix_of
   postfix_deep =
-      from_deep (primary_of N) (trail_on tail (tailed_of N)) (Primary R) (PostfixFront R F) (primary_sound N R sounds)
-      (trail_deep tail (tailed_of N) (Primary R) (Tailed R) (tailed_sound N R sounds) (PrimaryFront R F) (TailedFront R F) tailed_deep (λ r f e. bind_deep r f e))
-      (λ s e. let d = primary_deep s e in (d.0, in_head d.1))
+      from_deep (plainly (primary_of N)) (trail_on tail (tailed_of N)) (Plain (Primary R)) (PostfixFront R F) (plain_primary_sound N R sounds)
+      (trail_deep tail (tailed_of N) (Plain (Primary R)) (Tailed R) (tailed_sound N R sounds) (PrimaryFront R F) (TailedFront R F) tailed_deep (λ r f e. bind_deep r f e))
+      (λ s e. let d = primary_deep s (built_deep plain (primary_of N s) e) in (d.0, in_head d.1))
 
   bang_or-deep : (s : Place) (o : Option (Unit {0} × Place)) → at (word kind.Bang) s ≡ o → bang_or N s o ≡ Err deep → (z : Place) × BangFront R F s z
-  bang_or-deep s None f e = let d = postfix_deep s e in (d.0, behind_no_bang d.1)
+  bang_or-deep s None f e = let d = postfix_deep s (built_deep tree_reached (postfix_of N s) e) in (d.0, behind_no_bang d.1)
   bang_or-deep s (Some m) f e =
       let d = nests.part parts.Bang m.1 (built_deep logical_not (N.part parts.Bang m.1) e) in
       (d.0, in_bang (word-next kind.Bang told_bang s m.1 m.0 f) d.1)
@@ -362,3 +372,28 @@ module _ (N : Readers) (R : Nested) (F : Fronts) (sounds : NestedSound N R) (nes
 
   pub ternary_deep : IsDeep (ternary_of N) (TernaryFront R F)
   ternary_deep = from_deep (minus_of N) (ternary_on N) (Minus R) (TernaryFront R F) (minus_sound N R sounds) ternary_deep_on (front_first (TernaryFront R F) (λ s z f. in_former (logical_front 2 s z f)))
+
+  -- ---- assignments to an element or an attribute
+
+  setting_or-deep : (b : Bool) (s m : Place) (r : Reached) (p : Spot) (o : Option (Sign × Place)) → Postfix R s r m → r.spot ≡ Some p → at sign m ≡ o → setting_or N b r.tree p m o ≡ Err deep → (z : Place) × SettledFront R F b s z
+  setting_or-deep b s m r p None h f g e = let d = ternary_deep_on s m r.tree (no_minus (no_bang h)) e in (d.0, in_no_setting d.1)
+  setting_or-deep b s m r p (Some q) h f g e = let d = nests.value b q.1 (built_deep (settled q.0 p r.tree) (N.value b q.1) e) in (d.0, in_setting h f g d.1)
+
+  spot_or-deep : (b : Bool) (s m : Place) (r : Reached) (o : Option Spot) → Postfix R s r m → r.spot ≡ o → spot_or N b r.tree o m ≡ Err deep → (z : Place) × SettledFront R F b s z
+  unfolding setting_of
+  spot_or-deep b s m r None h f e = let d = ternary_deep_on s m r.tree (no_minus (no_bang h)) e in (d.0, in_no_setting d.1)
+  spot_or-deep b s m r (Some p) h f e = setting_or-deep b s m r p (at sign m) h f refl e
+
+  behind_bang-deep : (b : Bool) (s : Place) (o : Option (Unit {0} × Place)) → behind_bang N b s o ≡ Err deep → (z : Place) × SettledFront R F b s z
+  behind_bang-deep b s None e =
+      from_deep (postfix_of N) (reached_on N b) (Postfix R) (SettledFront R F b) (postfix_sound N R sounds) (λ s m r h e. spot_or-deep b s m r r.spot h refl e)
+      (λ s e. let d = postfix_deep s e in (d.0, in_no_setting (in_former (logical_front 2 s d.0 (behind_no_minus (behind_no_bang d.1)))))) s e
+  behind_bang-deep b s (Some m) e = let d = ternary_deep s e in (d.0, in_no_setting d.1)
+
+  behind_minus-deep : (b : Bool) (s : Place) (o : Option (Unit {0} × Place)) → behind_minus N b s o ≡ Err deep → (z : Place) × SettledFront R F b s z
+  behind_minus-deep b s None e = behind_bang-deep b s (at (word kind.Bang) s) e
+  behind_minus-deep b s (Some m) e = let d = ternary_deep s e in (d.0, in_no_setting d.1)
+
+  pub settled_deep : (b : Bool) → IsDeep (settled_of N b) (SettledFront R F b)
+  unfolding settled_of
+  settled_deep b s e = behind_minus-deep b s (at prefix_minus s) e

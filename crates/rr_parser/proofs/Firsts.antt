@@ -23,9 +23,9 @@ use Rattle.rr_parser.specs.Places.{Known, Place, Look, seen_before, unless, wher
 use Rattle.rr_parser.specs.Grammar.Chains.{Chain, one, more, at_first, and_then, same}
 use Rattle.rr_parser.specs.Grammar.Nesting.{Nested}
 use Rattle.rr_parser.specs.Grammar.Names.{is_local, name, bracket, is_tight, begins_operand, begins_operands, begins_command, is_allowed, head_of_kind, head, begins_head}
-use Rattle.rr_parser.specs.Grammar.Operands.{joined, literal_of, construct_of, Primary, a_literal, a_constant, a_path, a_negative, a_local, a_bare_call, a_call, a_block_call, a_jump, a_passing, a_passing_call, a_construct, Postfix, Bang, a_bang, no_bang, Minus, a_minus, no_minus}
+use Rattle.rr_parser.specs.Grammar.Operands.{joined, literal_of, construct_of, Primary, a_literal, a_constant, a_path, a_negative, a_local, a_bare_call, a_call, a_block_call, a_jump, a_passing, a_passing_call, a_construct, Postfix, Bang, a_bang, no_bang, Minus, a_minus, no_minus, Reached, as_it_is}
 use Rattle.rr_parser.specs.Grammar.Operators.{operator, infixed, connective, joined_by, Binary, a_comparison, a_pair, Logical, Ternary, no_question, a_question}
-use Rattle.rr_parser.specs.Grammar.Calls.{target, Assigned, an_assignment, no_assignment, Argument, a_command, Phrase, by_name, an_operand, Value, closing, target_of_kind, label, star, Item, a_splat, a_plain_item, Member, label_of_kind, last, by_label, by_arrow}
+use Rattle.rr_parser.specs.Grammar.Calls.{target, Assigned, an_assignment, no_assignment, Argument, a_command, Phrase, by_name, an_operand, Value, closing, target_of_kind, label, star, Item, a_splat, a_plain_item, Member, label_of_kind, last, by_label, by_arrow, Settled, a_setting, no_setting, sign}
 use Rattle.rr_parser.specs.Grammar.Sequences.{Negation, a_negation, no_negation, Expression, modifier, Statement, modified}
 use Rattle.rr_parser.specs.Reading.Operands.{prefix_minus}
 use Rattle.rr_parser.specs.Reading.Sequences.{ends_at, ends}
@@ -238,21 +238,21 @@ primary_no_prefix R s z t (a_passing_call {m = m} {p = p} e f g h) = by_next (λ
 primary_no_prefix R s z t (a_construct {m = m} {k = k} {p = p} e f h) = open_no_prefix s m k e (construct_opens k p f)
 
 -- the first operand of a trail
-postfix_head : (R : Nested) (s z : Place) (t : Tree) → Postfix R s t z → (u : Tree) × (y : Place) × Primary R s u y
-postfix_head R s z t (at_first h) = (t, z, h)
+postfix_head : (R : Nested) (s z : Place) (t : Reached) → Postfix R s t z → (u : Tree) × (y : Place) × Primary R s u y
+postfix_head R s z t (at_first (as_it_is {t = u} h)) = (u, z, h)
 postfix_head R s z t (and_then {m = m} {l = l} c e h) = postfix_head R s m l c
 
-pub postfix_no_bang : (R : Nested) (s z : Place) (t : Tree) → Postfix R s t z → at (word kind.Bang) s ≡ None
+pub postfix_no_bang : (R : Nested) (s z : Place) (t : Reached) → Postfix R s t z → at (word kind.Bang) s ≡ None
 postfix_no_bang R s z t h = let p = postfix_head R s z t h in primary_no_bang R s p.1 p.0 p.2
 
 pub bang_no_prefix : (R : Nested) (s z : Place) (t : Tree) → Bang R s t z → at prefix_minus s ≡ None
 bang_no_prefix R s z t (a_bang {m = m} e h) = by_next (λ q. at prefix_minus q ≡ None) s m kind.Bang e (λ b. refl)
-bang_no_prefix R s z t (no_bang h) = let p = postfix_head R s z t h in primary_no_prefix R s p.1 p.0 p.2
+bang_no_prefix R s z t (no_bang {r = r} h) = let p = postfix_head R s z r h in primary_no_prefix R s p.1 p.0 p.2
 
 minus_first : (R : Nested) (s z : Place) (t : Tree) → Minus R s t z → First s
 minus_first R s z t (a_minus e f h) = by_prefix e
 minus_first R s z t (no_minus (a_bang e h)) = by_bang e
-minus_first R s z t (no_minus (no_bang h)) = let p = postfix_head R s z t h in primary_first R s p.1 p.0 p.2
+minus_first R s z t (no_minus (no_bang {r = r} h)) = let p = postfix_head R s z r h in primary_first R s p.1 p.0 p.2
 
 binary_first : (R : Nested) (level : ℕ) (s z : Place) (t : Tree) → Binary R level s t z → First s
 binary_first R zero s z t h = minus_first R s z t h
@@ -267,9 +267,13 @@ logical_first R (suc level) s z t c =
     let f = chain_first (connective (suc level)) same joined_by (Logical R level) s z t c in
     logical_first R level s f.1 f.0 f.2
 
-pub ternary_first : (R : Nested) (s z : Place) (t : Tree) → Ternary R s t z → First s
+ternary_first : (R : Nested) (s z : Place) (t : Tree) → Ternary R s t z → First s
 ternary_first R s z t (no_question h) = logical_first R 2 s z t h
 ternary_first R s z t (a_question {m = m} {c = c} h e f g i) = logical_first R 2 s m c h
+
+pub settled_first : (R : Nested) (b : Bool) (s z : Place) (t : Tree) → Settled R b s t z → First s
+settled_first R b s z t (a_setting {m = m} {r = r} h f g i) = let p = postfix_head R s m r h in primary_first R s p.1 p.0 p.2
+settled_first R b s z t (no_setting h) = ternary_first R s z t h
 
 -- ---- what the first word tells
 
@@ -367,14 +371,14 @@ head_starts s m x e = let h = head-next s m x e in record { kind = h.0; behind =
 
 pub phrase_starts : (R : Nested) (s z : Place) (t : Tree) → Phrase R s t z → Starts s
 phrase_starts R s z t (by_name (a_command {m = m} {x = x} e h b)) = head_starts s m x (command-next s m x e).0
-phrase_starts R s z t (an_operand h) = first_starts s (ternary_first R s z t h)
+phrase_starts R s z t (an_operand h) = first_starts s (settled_first R true s z t h)
 
 pub assigned_starts : (R : Nested) (commands : Bool) (Q : Place → Tree → Place → Type 0) → ((s z : Place) (t : Tree) → Q s t z → Starts s) → (s z : Place) (t : Tree) → Assigned R commands Q s t z → Starts s
 assigned_starts R commands Q begins s z t (an_assignment {n = n} {x = x} e h) = target_starts s n x e
 assigned_starts R commands Q begins s z t (no_assignment h) = begins s z t h
 
 pub argument_starts : (R : Nested) (s z : Place) (t : Tree) → Argument R s t z → Starts s
-argument_starts R = assigned_starts R false (Ternary R) (λ s z t h. first_starts s (ternary_first R s z t h))
+argument_starts R = assigned_starts R false (Settled R false) (λ s z t h. first_starts s (settled_first R false s z t h))
 
 -- a label begins a pair, and else a value does
 label_no_closing : (k : Listed) (s m : Place) (x : Sym) → at label s ≡ Some (x, m) → at (closing k) s ≡ None

@@ -19,7 +19,7 @@ use Rattle.rr_parser.specs.Grammar.Nesting.{Nested}
 use Rattle.rr_parser.specs.Grammar.Names.{headed, name, command}
 use Rattle.rr_parser.specs.Grammar.Operands.{Blocked, no_block, a_block}
 use Rattle.rr_parser.specs.Grammar.Operators.{connective, joined_by, Ternary}
-use Rattle.rr_parser.specs.Grammar.Calls.{target, with_target, assigned_to, label, comma, closing, last, Assigned, an_assignment, no_assignment, Argument, Pair, by_label, by_arrow, star, Item, a_splat, a_plain_item, Member, Members, Bracketed, no_members, some_members, Array, an_array, Hash, a_hash, Index, of_element, Commanded, Arguments, by_arguments, by_command, Command, a_command, Phrase, by_name, an_operand, Value}
+use Rattle.rr_parser.specs.Grammar.Calls.{target, with_target, assigned_to, label, comma, closing, last, Assigned, an_assignment, no_assignment, Argument, Pair, by_label, by_arrow, star, Item, a_splat, a_plain_item, Member, Members, Bracketed, no_members, some_members, Array, an_array, Hash, a_hash, Index, of_element, Commanded, Arguments, by_arguments, by_command, Command, a_command, Phrase, by_name, an_operand, Value, Settled}
 use Rattle.rr_parser.specs.Grammar.Sequences.{Negation, a_negation, no_negation, Expression, modifier, modified, Statement, Rows, Statements, no_statements, some_statements, Group, a_group}
 use Rattle.rr_parser.specs.Grammar.Interpolations.{text_middle, first_piece, and_piece, Pieces, Interpolation, an_interpolation}
 use Rattle.rr_parser.specs.Grammar.Control.{thens, loops, elsif, chosen, unless_chosen, Branch, a_branch, Branches, Otherwise, no_else, an_else, Choice, a_choice, Unless, an_unless, Loop, a_loop, looping, outside_loop, Looped, of_loop}
@@ -30,7 +30,7 @@ use Rattle.rr_parser.specs.Grammar.{PartOf, inside, outside}
 use Rattle.rr_parser.specs.Reading.Answers.{◌>>=◌, Answer, Parse, built, ended_by, closed, from, across, taking_of}
 use Rattle.rr_parser.specs.Reading.Nesting.{Readers}
 use Rattle.rr_parser.specs.Reading.Operators.{ternary_of}
-use Rattle.rr_parser.specs.Reading.Calls.{assigned_or, assigned_of, argument_of, pair_by, pair_of, item_or, item_of, member_of, another, members_of, bracketed_or, bracketed_of, array_of, hash_of, index_of, commanded_or, commanded_of, arguments_of, headed_of, command_or, command_of, phrase_or, phrase_of, value_of}
+use Rattle.rr_parser.specs.Reading.Calls.{assigned_or, assigned_of, argument_of, pair_by, pair_of, item_or, item_of, member_of, another, members_of, bracketed_or, bracketed_of, array_of, hash_of, index_of, commanded_or, commanded_of, arguments_of, headed_of, command_or, command_of, phrase_or, phrase_of, value_of, settled_of}
 use Rattle.rr_parser.specs.Reading.Sequences.{negation_or, negation_of, expression_of, statement_of, row, rows_of, sequence_of, statements_at, statements_of, group_of}
 use Rattle.rr_parser.specs.Reading.Interpolations.{pieces_of, interpolated_or, interpolated_on, interpolation_of}
 use Rattle.rr_parser.specs.Reading.Control.{both, branch_of, branches_of, otherwise_or, otherwise_of, ended, choice_of, unless_of, loop_of, looped_of}
@@ -44,9 +44,9 @@ use Rattle.rr_parser.proofs.Listing.{another-comma, comma-another, last-another,
 use Rattle.rr_parser.proofs.Shrinking.{ReadersShrink, shrinks_nested, Steps-connective, Steps-modifier, Steps-elsif, Steps-comma, Steps-middle, Steps-rescues, class_shrinks}
 use Rattle.rr_parser.proofs.Leading.{Leads, leads_bind, leads_trans, leads_eq, leads_map, IsFull, chain_full, across_full}
 use Rattle.rr_parser.proofs.Strengths.{Stops, stops_by, word_unseen, connective_strength, no_connective_at, modifier_strength, no_modifier_at, comma_strength, separators_stop, thens_stop, loops_stop, ends_behind}
-use Rattle.rr_parser.proofs.Firsts.{next_ends, chain_first, member_no_closing, starts_no_star, starts_no_label, last_stops, ternary_first, argument_starts, value_starts, starts_no_not, statement_starts, opened_stops, taking_stops}
-use Rattle.rr_parser.proofs.Stopping.{finished, end_ends, rescue_ends, caught_stop, first_no_command, target_no_command, ternary_no_target, phrase_no_target, AtEnd, middle_ends, tail_ends, elsif_ends}
-use Rattle.rr_parser.proofs.FullOperands.{Anywhere, Ends, PartStops, value_stop, NestedFull, word_here, closed_full, taking_full, enclosed_full, same_fence, passed_full, bang_full, minus_full, ternary_full}
+use Rattle.rr_parser.proofs.Firsts.{next_ends, chain_first, member_no_closing, starts_no_star, starts_no_label, last_stops, settled_first, argument_starts, value_starts, starts_no_not, statement_starts, opened_stops, taking_stops}
+use Rattle.rr_parser.proofs.Stopping.{finished, end_ends, rescue_ends, caught_stop, first_no_command, target_no_command, settled_no_target, phrase_no_target, AtEnd, middle_ends, tail_ends, elsif_ends}
+use Rattle.rr_parser.proofs.FullOperands.{Anywhere, Ends, PartStops, value_stop, NestedFull, word_here, closed_full, taking_full, enclosed_full, same_fence, passed_full, bang_full, minus_full, settled_full}
 
 module _ (N : Readers) (R : Nested) (D : Type 0) (shrinks : ReadersShrink N) (nests : NestedFull N R D) where
   -- ---- assignments and calls
@@ -61,7 +61,7 @@ module _ (N : Readers) (R : Nested) (D : Type 0) (shrinks : ReadersShrink N) (ne
       leads_eq (assigned_or N b q s (at target s)) (q s) (Ok (t, z)) (ap (assigned_or N b q s) (none s z t h stops)) (full s z t h stops)
 
   pub argument_full : IsFull (argument_of N) (Argument R) (Stops 26) D
-  argument_full = assigned_full false (ternary_of N) (Ternary R) (ternary_full N R D shrinks nests) (ternary_no_target R)
+  argument_full = assigned_full false (settled_of N false) (Settled R false) (settled_full N R D shrinks nests false) (settled_no_target R false)
 
   pair_full : IsFull (pair_of N) (Pair R) (Stops 26) D
   unfolding pair_of
@@ -125,7 +125,7 @@ module _ (N : Readers) (R : Nested) (D : Type 0) (shrinks : ReadersShrink N) (ne
 
   argument_no_command : (s z : Place) (t : Tree) → Argument R s t z → at (command s.known) s ≡ None
   argument_no_command s z t (an_assignment {n = n} {x = x} e h) = target_no_command s n x e
-  argument_no_command s z t (no_assignment h) = first_no_command s (ternary_first R s z t h)
+  argument_no_command s z t (no_assignment h) = first_no_command s (settled_first R false s z t h)
 
   item_no_command : (s z : Place) (t : Tree) → Item R s t z → at (command s.known) s ≡ None
   item_no_command s z t (a_splat {m = m} e h) = by_next (λ q. at (command q.known) q ≡ None) s m star e (λ b. refl)
@@ -161,10 +161,10 @@ module _ (N : Readers) (R : Nested) (D : Type 0) (shrinks : ReadersShrink N) (ne
   phrase_full s z t (by_name (a_command {m = m} {n = n} {x = x} {l = l} e h b)) stops =
       leads_eq (phrase_or N s (at (command s.known) s)) (headed_of N x m) (Ok (t, z)) (ap (phrase_or N s) e) (called_full m n z x l t h b stops)
   phrase_full s z t (an_operand h) stops =
-      leads_eq (phrase_or N s (at (command s.known) s)) (ternary_of N s) (Ok (t, z)) (ap (phrase_or N s) (first_no_command s (ternary_first R s z t h))) ((ternary_full N R D shrinks nests) s z t h (omega (arith, stops)))
+      leads_eq (phrase_or N s (at (command s.known) s)) (settled_of N true s) (Ok (t, z)) (ap (phrase_or N s) (first_no_command s (settled_first R true s z t h))) ((settled_full N R D shrinks nests true) s z t h stops)
 
   pub value_full : (b : Bool) → IsFull (value_of N b) (Value R b) (Stops (value_stop b)) D
-  value_full false = assigned_full false (ternary_of N) (Ternary R) (ternary_full N R D shrinks nests) (ternary_no_target R)
+  value_full false = assigned_full false (settled_of N false) (Settled R false) (settled_full N R D shrinks nests false) (settled_no_target R false)
   value_full true = assigned_full true (phrase_of N) (Phrase R) phrase_full (phrase_no_target R)
 
   -- ---- statements

@@ -1,5 +1,7 @@
 -- What is spelled of operands and operators is read, unless it nests too deep.
-use Rattle.std.proofs.Common.{◌≡◌, ℕ, zero, suc, ◌+◌, ◌*◌, inl, pos, Bool, true, false, cond, List, [], Option, Some, None, Ok, Err, refl, ap, ◌∙◌, subst, arith}
+use Rattle.rr_parser.specs.declared.word.Sign.{Sign}
+use Rattle.rr_parser.specs.Grammar.Calls.{Settled, a_setting, no_setting, settled, sign}
+use Rattle.std.proofs.Common.{◌≡◌, ℕ, zero, suc, ◌+◌, ◌*◌, inl, inr, pos, Bool, true, false, cond, List, [], Option, Some, None, Ok, Err, refl, sym, ap, ◌∙◌, subst, arith}
 use Rattle.rr_base.specs.declared.name.Sym.{Sym}
 use Rattle.rr_tree.specs.Tree.{Tree, nil, truth, int, text, bare, call, with_block, negate, choose, send, index, symbol, constant, field, global, itself, logical_not, listed}
 use Rattle.rr_parser.specs.declared.word.Tail.{Tail}
@@ -17,11 +19,11 @@ use Rattle.rr_parser.specs.Grammar.Fences.{Taking, taken, taking, taking_as, fen
 use Rattle.rr_parser.specs.Places.{is_kind, where_true, seen_before, placed, Place, word, at, next}
 use Rattle.rr_parser.specs.Grammar.Nesting.{Nested}
 use Rattle.rr_parser.specs.Grammar.Names.{is_local, variable_of, local_tree, is_allowed, jump_tree, begins_arguments, passed, passed_bare, name, bracket, begins_operands}
-use Rattle.rr_parser.specs.Grammar.Operands.{fits, fits_below, negated, joined, literal_of, inner_constant, construct_of, Blocked, no_block, a_block, Primary, a_literal, a_constant, a_path, a_negative, a_local, a_bare_call, a_call, a_block_call, a_jump, a_passing, a_passing_call, a_construct, tail, Tailed, a_send, a_sent_call, an_index, Postfix, Bang, a_bang, no_bang, Minus, a_minus, no_minus}
+use Rattle.rr_parser.specs.Grammar.Operands.{fits, fits_below, negated, joined, literal_of, inner_constant, construct_of, Blocked, no_block, a_block, Primary, a_literal, a_constant, a_path, a_negative, a_local, a_bare_call, a_call, a_block_call, a_jump, a_passing, a_passing_call, a_construct, tail, Tailed, a_sent_call, an_index, Postfix, Bang, a_bang, no_bang, Minus, a_minus, no_minus, Spot, Reached, plain, at_element, Plain, as_it_is, an_attribute, a_block_send}
 use Rattle.rr_parser.specs.Grammar.Operators.{operator, infixed, connective, joined_by, Logical, Binary, Equality, a_comparison, a_pair, Ternary, no_question, a_question}
-use Rattle.rr_parser.specs.Reading.Answers.{wrong, Answer, Parse, built, ended_by, closed, across, taking_of}
+use Rattle.rr_parser.specs.Reading.Answers.{wrong, deep, Answer, Parse, built, ended_by, closed, across, taking_of, ◌>>=◌, chain_on, from}
 use Rattle.rr_parser.specs.Reading.Nesting.{Readers}
-use Rattle.rr_parser.specs.Reading.Operands.{call_of, bare_call, variable_or_call, block_behind, blocked_or, blocked_of, then_blocked, unbracketed_or, name_or, name_of, jump_at, passing_or, passing_of, constant_or, constant_at, int_at, negative_in, negative_of, primary_at, primary_in, primary_of, tailed_of, postfix_of, bang_or, bang_of, prefix_minus, minus_or, minus_of}
+use Rattle.rr_parser.specs.Reading.Operands.{call_of, bare_call, variable_or_call, block_behind, blocked_or, blocked_of, then_blocked, unbracketed_or, name_or, name_of, jump_at, passing_or, passing_of, constant_or, constant_at, int_at, negative_in, negative_of, primary_at, primary_in, primary_of, tailed_of, postfix_of, bang_or, bang_of, prefix_minus, minus_or, minus_of, plainly, sent_of, tree_reached, sent_or, sent_call_of, element_of}
 use Rattle.rr_parser.specs.Reading.Operators.{binary_on, binary_of, pair_or, equality_on, logical_on, logical_of, question_or, ternary_on, ternary_of}
 use Rattle.rr_parser.specs.Reading.Sequences.{ends_at, ends}
 use Rattle.rr_parser.proofs.Told.{told_question}
@@ -29,9 +31,10 @@ use Rattle.rr_parser.proofs.Looks.{Steps-tail, by_next, name-next, next-prefix}
 use Rattle.rr_parser.proofs.Shrinking.{ReadersShrink, Steps-operator, Steps-connective}
 use Rattle.rr_tree.specs.declared.node.Path.TheVariants as paths
 use Rattle.rr_parser.proofs.Trails.{trail_full}
-use Rattle.rr_parser.proofs.Chains.{done}
+use Rattle.rr_parser.proofs.Chains.{done, chain_on-ends, ok_place}
 use Rattle.rr_parser.proofs.Leading.{Leads, leads_bind, leads_trans, leads_eq, IsFull, IsFullOn, from_full, onward_bind, onward_full, across_full}
-use Rattle.rr_parser.proofs.Strengths.{Stops, stops_by, word_unseen, operator_strength, no_operator_at, connective_strength, no_connective_at, no_tail_at}
+use Rattle.rr_parser.proofs.Strengths.{Stops, stops_by, word_unseen, operator_strength, no_operator_at, connective_strength, no_connective_at, no_tail_at, sign_strength, strength_in}
+use Rattle.rr_parser.specs.Reading.Calls.{setting_of, settled_of, setting_or, spot_or, reached_on, behind_bang, behind_minus}
 use Rattle.rr_parser.proofs.Firsts.{postfix_no_bang, bang_no_prefix}
 
 abbrev pub Anywhere : Place → Type 0
@@ -231,23 +234,31 @@ module _ (N : Readers) (R : Nested) (D : Type 0) (shrinks : ReadersShrink N) (ne
   primary_full s z t (a_construct {m = m} {k = k} {p = p} e f h) u =
       leads_eq (primary_of N s) (N.part p m) (Ok (t, z)) (by_kind_full s m k e ∙ construct_full k m p f) (nests.part p m z t h (construct_anywhere k p z f))
 
-  tailed_full : (x : Tail) (l : Tree) (n z : Place) (t : Tree) → Tailed R x l n t z → Leads (tailed_of N x l n) (Ok (t, z)) D
-  unfolding tailed_of
-  tailed_full x l n z t (a_send {x = y} h) = blocked_full behinds.Call (send l y.0 (listed [])) n z t h
-  tailed_full x l n z t (a_sent_call {m = m} {x = y} {l = a} h b) = arguments_full (λ q. send l y.0 (listed q)) n m z a t h b
-  tailed_full x l n z t (an_index {i = i} h) = leads_bind (N.part parts.Index n) (i, z) (λ q. Ok (index l q.0, q.1)) (nests.part parts.Index n z i h tt)
+  tailed_full : (x : Tail) (l : Reached) (n z : Place) (t : Reached) → Tailed R x l n t z → Leads (tailed_of N x l n) (Ok (t, z)) D
+  unfolding sent_of sent_call_of element_of
+  tailed_full x l n z t (an_attribute {x = y} e) = inl (ap (sent_or N l.tree y n) e)
+  tailed_full x l n z t (a_block_send {m = m} {x = y} {f = f} {b = b} e h) =
+      let c = send l.tree y.0 (listed []) in
+      leads_eq (sent_or N l.tree y n (opened behinds.Call n)) (built plain (block_behind N f c m)) (Ok (plain (with_block c b), z)) (ap (sent_or N l.tree y n) e)
+      (leads_bind (block_behind N f c m) (with_block c b, z) (λ q. Ok (plain q.0, q.1)) (behind_full f c m z b h))
+  tailed_full x l n z t (a_sent_call {m = m} {x = y} {t = v} {l = a} h b) = leads_bind (sent_call_of N l.tree y n) (v, z) (λ q. Ok (plain q.0, q.1)) (arguments_full (λ q. send l.tree y.0 (listed q)) n m z a v h b)
+  tailed_full x l n z t (an_index {i = i} h) = leads_bind (N.part parts.Index n) (i, z) (λ q. Ok (at_element l.tree q.0, q.1)) (nests.part parts.Index n z i h tt)
 
-  pub postfix_full : IsFull (postfix_of N) (Postfix R) (Stops 0) D
+  as_it_is_full : (s z : Place) (t : Reached) → Plain (Primary R) s t z → Leads (plainly (primary_of N) s) (Ok (t, z)) D
+  as_it_is_full s z t (as_it_is {t = u} h) = leads_bind (primary_of N s) (u, z) (λ q. Ok (plain q.0, q.1)) (primary_full s z u h tt)
+
+  postfix_full : IsFull (postfix_of N) (Postfix R) (Stops 0) D
   unfolding postfix_of
-  postfix_full = trail_full tail (tailed_of N) Steps-tail (λ x l n z t e. shrinks.tailed x l n z t e) (primary_of N) (Primary R) (Tailed R) D (Stops 0) (λ s z t h. primary_full s z t h tt) tailed_full no_tail_at
+  postfix_full = trail_full tail (tailed_of N) Steps-tail (λ x l n z t e. shrinks.tailed x l n z t e) (plainly (primary_of N)) (Plain (Primary R)) (Tailed R) D (Stops 0) as_it_is_full tailed_full no_tail_at
 
   pub bang_full : IsFull (bang_of N) (Bang R) (Stops 0) D
   unfolding bang_of
   bang_full s z t (a_bang {m = m} {t = v} e h) stops =
       leads_eq (bang_or N s (at (word kind.Bang) s)) (built logical_not (N.part parts.Bang m)) (Ok (t, z)) (ap (bang_or N s) (word_here kind.Bang s m e refl))
       (leads_bind (N.part parts.Bang m) (v, z) (λ x. Ok (logical_not x.0, x.1)) (nests.part parts.Bang m z v h stops))
-  bang_full s z t (no_bang h) stops =
-      leads_eq (bang_or N s (at (word kind.Bang) s)) (postfix_of N s) (Ok (t, z)) (ap (bang_or N s) (postfix_no_bang R s z t h)) (postfix_full s z t h stops)
+  bang_full s z t (no_bang {r = r} h) stops =
+      leads_eq (bang_or N s (at (word kind.Bang) s)) (built tree_reached (postfix_of N s)) (Ok (r.tree, z)) (ap (bang_or N s) (postfix_no_bang R s z r h))
+      (leads_bind (postfix_of N s) (r, z) (λ q. Ok (tree_reached q.0, q.1)) (postfix_full s z r h stops))
 
   pub minus_full : IsFull (minus_of N) (Minus R) (Stops 0) D
   unfolding minus_of
@@ -302,3 +313,72 @@ module _ (N : Readers) (R : Nested) (D : Type 0) (shrinks : ReadersShrink N) (ne
 
   pub ternary_full : IsFull (ternary_of N) (Ternary R) (Stops 26) D
   ternary_full = from_full (minus_of N) (ternary_on N) (Minus R) (Stops 0) (Ternary R) (Stops 26) minus_full ternary_full_on
+
+  -- ---- assignments to an element or an attribute
+
+  -- where nothing goes on with an operand it stands alone
+  binary_still : (level : ℕ) (l : Tree) (m : Place) → Stops (3 * level) m → binary_on N level l m ≡ Ok (l, m)
+  unfolding binary_on
+  binary_still zero l m stops = refl
+  binary_still (suc level) l m stops =
+      ap (λ (q : Answer Tree). q >>= λ x. chain_on (operator (suc level)) infixed (binary_of N level) x.0 x.1) (binary_still level l m (omega (arith, stops)))
+      ∙ chain_on-ends (operator (suc level)) infixed (binary_of N level) (Steps-operator (suc level)) (shrinks.binary level) l m (no_operator_at (suc level) m stops)
+
+  equality_still : (l : Tree) (m : Place) → Stops 15 m → equality_on N l m ≡ Ok (l, m)
+  unfolding equality_on
+  equality_still l m stops = ap (λ (q : Answer Tree). q >>= λ x. pair_or N x.0 x.1 (at (operator 5) x.1)) (binary_still 4 l m (omega (arith, stops))) ∙ ap (pair_or N l m) (no_operator_at 5 m stops)
+
+  logical_still : (level : ℕ) (l : Tree) (m : Place) → Stops (16 + 4 * level) m → logical_on N level l m ≡ Ok (l, m)
+  unfolding logical_on
+  logical_still zero l m stops = equality_still l m (omega (arith, stops))
+  logical_still (suc level) l m stops =
+      ap (λ (q : Answer Tree). q >>= λ x. chain_on (connective (suc level)) joined_by (logical_of N level) x.0 x.1) (logical_still level l m (omega (arith, stops)))
+      ∙ chain_on-ends (connective (suc level)) joined_by (logical_of N level) (Steps-connective (suc level)) (shrinks.logical level) l m (no_connective_at (suc level) m stops)
+
+  ternary_still : (l : Tree) (m : Place) → Stops 25 m → ternary_on N l m ≡ Ok (l, m)
+  unfolding ternary_on
+  ternary_still l m stops = ap (λ (q : Answer Tree). q >>= λ c. question_or N c.0 c.1 (at (word kind.Question) c.1)) (logical_still 2 l m (omega (arith, stops))) ∙ ap (question_or N l m) (word_unseen kind.Question told_question m stops)
+
+  -- before the sign of an assignment an operand stands alone, and what stands alone has no such sign behind it
+  sign_full : (b : Bool) (u : Tree) (p : Spot) (y z : Place) (t : Tree) (o : Option (Sign × Place)) → at sign y ≡ o → Leads (ternary_on N u y) (Ok (t, z)) D → Stops 26 z → Leads (setting_or N b u p y o) (Ok (t, z)) D
+  sign_full b u p y z t None f l stops = l
+  sign_full b u p y z t (Some q) f l stops =
+      let still = ternary_still u y (omega (arith, sign_strength y q.1 q.0 f)) in
+      elim l [
+        | inl e ↦ (let never : ⊥ = omega (arith, stops, sign_strength y q.1 q.0 f, ap (λ (x : Place). strength_in (next x)) (ok_place u t y z (sym still ∙ e))) in absurd never)
+        | inr d ↦ (let g : done u y ≡ Err deep = sym still ∙ d.0 in absurd cc)
+      ]
+
+  spot_full : (b : Bool) (r : Reached) (y z : Place) (t : Tree) (o : Option Spot) → Leads (ternary_on N r.tree y) (Ok (t, z)) D → Stops 26 z → Leads (spot_or N b r.tree o y) (Ok (t, z)) D
+  unfolding setting_of
+  spot_full b r y z t None l stops = l
+  spot_full b r y z t (Some p) l stops = sign_full b r.tree p y z t (at sign y) refl l stops
+
+  -- what is read where no word stands before an operand
+  unprefixed_full : (b : Bool) (s m z : Place) (r : Reached) (t : Tree) → Postfix R s r m → Stops 0 m → Leads (reached_on N b r m) (Ok (t, z)) D → Leads (settled_of N b s) (Ok (t, z)) D
+  unfolding settled_of
+  unprefixed_full b s m z r t h stops l =
+      leads_eq (behind_minus N b s (at prefix_minus s)) (from (postfix_of N) (reached_on N b) s) (Ok (t, z)) (ap (behind_minus N b s) (bang_no_prefix R s m r.tree (no_bang h)) ∙ ap (behind_bang N b s) (postfix_no_bang R s m r h))
+      (leads_trans (from (postfix_of N) (reached_on N b) s) (reached_on N b r m) (Ok (t, z)) (leads_bind (postfix_of N s) (r, m) (λ x. reached_on N b x.0 x.1) (postfix_full s m r h stops)) l)
+
+  first_full : (b : Bool) (s y z : Place) (u t : Tree) → Minus R s u y → Stops 0 y → Leads (ternary_on N u y) (Ok (t, z)) D → Ternary R s t z → Stops 26 z → Leads (settled_of N b s) (Ok (t, z)) D
+  unfolding settled_of
+  first_full b s y z u t (a_minus {m = m} e f h) alone l w stops =
+      leads_eq (behind_minus N b s (at prefix_minus s)) (ternary_of N s) (Ok (t, z)) (ap (behind_minus N b s) (next-prefix s m e f)) (ternary_full s z t w stops)
+  first_full b s y z u t (no_minus (a_bang {m = m} e h)) alone l w stops =
+      leads_eq (behind_minus N b s (at prefix_minus s)) (ternary_of N s) (Ok (t, z)) (ap (behind_minus N b s) (bang_no_prefix R s y _ (a_bang e h)) ∙ ap (behind_bang N b s) (word_here kind.Bang s m e refl)) (ternary_full s z t w stops)
+  first_full b s y z u t (no_minus (no_bang {r = r} h)) alone l w stops = unprefixed_full b s y z r t h alone (spot_full b r y z t r.spot l stops)
+
+  least_stop : (b : Bool) (z : Place) → Stops (value_stop b) z → Stops 26 z
+  least_stop true z stops = omega (arith, stops)
+  least_stop false z stops = stops
+
+  pub settled_full : (b : Bool) → IsFull (settled_of N b) (Settled R b) (Stops (value_stop b)) D
+  unfolding setting_of
+  settled_full b s z t (a_setting {m = m} {n = n} {r = r} {p = p} {q = q} {t = v} h f g i) stops =
+      unprefixed_full b s m z r (settled q p r.tree v) h (omega (arith, sign_strength m n q g))
+      (leads_eq (spot_or N b r.tree r.spot m) (built (settled q p r.tree) (N.value b n)) (Ok (settled q p r.tree v, z)) (ap (λ (o : Option Spot). spot_or N b r.tree o m) f ∙ ap (setting_or N b r.tree p m) g)
+      (leads_bind (N.value b n) (v, z) (λ x. Ok (settled q p r.tree x.0, x.1)) (nests.value b n z v i stops)))
+  settled_full b s z t (no_setting h) stops =
+      let o = ternary_full_on s z t h (least_stop b z stops) in
+      first_full b s o.behind z o.first t o.spelled o.stops o.leads h (least_stop b z stops)

@@ -17,6 +17,7 @@ pub mod Deep
 pub mod Making
 pub mod Choosing
 pub mod Calling
+pub mod Spots
 pub mod Exact
 pub mod Lists
 pub mod Numbers

@@ -22,9 +22,9 @@ use Rattle.rr_tree.specs.Tree.{Tree}
 use Rattle.rr_parser.specs.Grammar.Chains.{same, one_of, and_one}
 use Rattle.rr_parser.specs.Grammar.Nesting.{Nested}
 use Rattle.rr_parser.specs.Grammar.Names.{headed, name, variable, head, bracket}
-use Rattle.rr_parser.specs.Grammar.Operands.{scope_sign, tight_constant, behind_sign, inner_constant, joined, Blocked, no_block, a_block, Primary, a_literal, a_constant, a_path, a_negative, a_local, a_bare_call, a_call, a_block_call, a_jump, a_passing, a_passing_call, a_construct, tail, Tailed, a_send, a_sent_call, an_index, Postfix, Bang, a_bang, no_bang, Minus, a_minus, no_minus}
+use Rattle.rr_parser.specs.Grammar.Operands.{scope_sign, tight_constant, behind_sign, inner_constant, joined, Blocked, no_block, a_block, Primary, a_literal, a_constant, a_path, a_negative, a_local, a_bare_call, a_call, a_block_call, a_jump, a_passing, a_passing_call, a_construct, tail, Tailed, a_sent_call, an_index, Postfix, Bang, a_bang, no_bang, Minus, a_minus, no_minus, Plain, Reached, as_it_is, an_attribute, a_block_send}
 use Rattle.rr_parser.specs.Grammar.Operators.{operator, infixed, connective, joined_by, Logical, Binary, Equality, a_comparison, a_pair, Ternary, no_question, a_question}
-use Rattle.rr_parser.specs.Grammar.Calls.{with_target, label, comma, Assigned, an_assignment, no_assignment, Argument, Pair, by_label, by_arrow, star, Item, a_splat, a_plain_item, Member, Members, Bracketed, no_members, some_members, Array, an_array, Hash, a_hash, Index, of_element, Commanded, by_arguments, by_command, Command, a_command, Phrase, by_name, an_operand, Operand, Value}
+use Rattle.rr_parser.specs.Grammar.Calls.{with_target, label, comma, Assigned, an_assignment, no_assignment, Argument, Pair, by_label, by_arrow, star, Item, a_splat, a_plain_item, Member, Members, Bracketed, no_members, some_members, Array, an_array, Hash, a_hash, Index, of_element, Commanded, by_arguments, by_command, Command, a_command, Phrase, by_name, an_operand, Operand, Value, Settled, sign, a_setting, no_setting}
 use Rattle.rr_parser.specs.Grammar.Sequences.{Negation, a_negation, no_negation, Expression, modifier, modified, Statement, Rows, Statements, no_statements, some_statements, Group, a_group}
 use Rattle.rr_parser.specs.Grammar.Interpolations.{text_middle, text_tail, first_piece, and_piece, Pieces, Interpolation, an_interpolation}
 use Rattle.rr_parser.specs.Grammar.Control.{thens, elsif, Branch, a_branch, Branches, Otherwise, no_else, an_else, Choice, a_choice, Unless, an_unless, Loop, a_loop, looping, Looped, of_loop}
@@ -148,6 +148,9 @@ Steps-connective level = Steps-first_as _
 pub Steps-operator : (level : ℕ) → Steps (operator level)
 Steps-operator level = Steps-first_as _
 
+pub Steps-sign : Steps sign
+Steps-sign = Steps-first_as _
+
 pub Steps-label : Steps label
 Steps-label = Steps-first_as _
 
@@ -200,17 +203,21 @@ module _ (R : Nested) (nests : NestedShrinking R) where
   primary_shrinking s z t (a_passing_call {m = m} {n = n} {p = p} {u = u} {l = l} e f g h) = omega (arith, next-left s m (kind.Passing p) e, Steps-bracket m n u g, nests.bracketed n z l h)
   primary_shrinking s z t (a_construct {m = m} {k = k} {p = p} e f h) = omega (arith, next-left s m k e, nests.part p m z t h)
 
-  tailed_shrinking : (x : Tail) (l : Tree) (n z : Place) (t : Tree) → Tailed R x l n t z → left z ≤ left n
-  tailed_shrinking x l n z t (a_send {x = y} h) = blocked_shrinking behinds.Call (send l y.0 (listed [])) n z t h
-  tailed_shrinking x l n z t (a_sent_call {m = m} {x = y} {l = a} h b) = omega (arith, nests.bracketed n m a h, blocked_shrinking behinds.Call (send l y.0 (listed a)) m z t b)
+  tailed_shrinking : (x : Tail) (l : Reached) (n z : Place) (t : Reached) → Tailed R x l n t z → left z ≤ left n
+  tailed_shrinking x l n z t (an_attribute e) = omega arith
+  tailed_shrinking x l n z t (a_block_send {m = m} {f = f} {b = b} e h) = omega (arith, Steps-opening behinds.Call n.known.takes_do n m f e, nests.part (parts.Block f) m z b h)
+  tailed_shrinking x l n z t (a_sent_call {m = m} {x = y} {t = v} {l = a} h b) = omega (arith, nests.bracketed n m a h, blocked_shrinking behinds.Call (send l.tree y.0 (listed a)) m z v b)
   tailed_shrinking x l n z t (an_index {i = i} h) = nests.part parts.Index n z i h
 
+  plain_shrinking : IsShrinking (Plain (Primary R))
+  plain_shrinking s z r (as_it_is {t = t} h) = primary_shrinking s z t h
+
   postfix_shrinking : IsShrinking (Postfix R)
-  postfix_shrinking = trail_shrinking tail (Primary R) (Tailed R) Steps-tail primary_shrinking tailed_shrinking
+  postfix_shrinking = trail_shrinking tail (Plain (Primary R)) (Tailed R) Steps-tail plain_shrinking tailed_shrinking
 
   bang_shrinking : IsShrinking (Bang R)
   bang_shrinking s z t (a_bang {m = m} {t = v} e h) = omega (arith, next-left s m kind.Bang e, nests.part parts.Bang m z v h)
-  bang_shrinking s z t (no_bang h) = postfix_shrinking s z t h
+  bang_shrinking s z t (no_bang {r = r} h) = postfix_shrinking s z r h
 
   minus_shrinking : IsShrinking (Minus R)
   minus_shrinking s z t (a_minus {m = m} {t = v} e f h) = omega (arith, next-left s m kind.Minus e, nests.part parts.Minus m z v h)
@@ -242,8 +249,12 @@ module _ (R : Nested) (nests : NestedShrinking R) where
   assigned_shrinking commands Q smaller s z t (an_assignment {n = n} {x = x} {t = v} e h) = omega (arith, Steps-target s n x e, target_left x.target n, nests.value commands (with_target x.target n) z v h)
   assigned_shrinking commands Q smaller s z t (no_assignment h) = smaller s z t h
 
+  settled_shrinking : (b : Bool) → IsShrinking (Settled R b)
+  settled_shrinking b s z t (a_setting {m = m} {n = n} {r = r} {q = q} {t = v} h f g i) = omega (arith, postfix_shrinking s m r h, Steps-sign m n q g, nests.value b n z v i)
+  settled_shrinking b s z t (no_setting h) = ternary_shrinking s z t h
+
   argument_shrinking : IsShrinking (Argument R)
-  argument_shrinking = assigned_shrinking false (Ternary R) ternary_shrinking
+  argument_shrinking = assigned_shrinking false (Settled R false) (settled_shrinking false)
 
   pair_shrinking : IsShrinking (Pair R)
   pair_shrinking s z t (by_label {m = m} {x = x} {t = v} e h) = omega (arith, Steps-label s m x e, argument_shrinking m z v h)
@@ -285,10 +296,10 @@ module _ (R : Nested) (nests : NestedShrinking R) where
 
   phrase_shrinking : IsShrinking (Phrase R)
   phrase_shrinking s z t (by_name h) = command_shrinking s z t h
-  phrase_shrinking s z t (an_operand h) = ternary_shrinking s z t h
+  phrase_shrinking s z t (an_operand h) = settled_shrinking true s z t h
 
   operand_shrinking : (b : Bool) → IsShrinking (Operand R b)
-  operand_shrinking false = ternary_shrinking
+  operand_shrinking false = settled_shrinking false
   operand_shrinking true = phrase_shrinking
 
   value_shrinking : (b : Bool) → IsShrinking (Value R b)
@@ -424,7 +435,7 @@ pub record ReadersShrink (N : Readers) : Type 0 where
   pub logical : (level : ℕ) → Shrinks (logical_of N level)
   pub argument : Shrinks (argument_of N)
   pub member : (k : Listed) → Shrinks (member_of N k)
-  pub tailed : (x : Tail) (l : Tree) → Shrinks (tailed_of N x l)
+  pub tailed : (x : Tail) (l : Reached) → Shrinks (tailed_of N x l)
   pub negation : Shrinks (negation_of N)
   pub expression : Shrinks (expression_of N)
   pub statement : Shrinks (statement_of N)

@@ -1,4 +1,5 @@
 -- What is read is spelled.
+use Rattle.rr_parser.specs.declared.word.Sign.{Sign}
 use Rattle.std.proofs.Common.{◌≡◌, ℕ, zero, suc, Bool, true, false, cond, List, [], ◌∷◌, ◌++◌, Option, Some, None, Ok, refl, sym, subst}
 use Rattle.rr_base.specs.declared.name.Sym.{Sym}
 use Rattle.rr_tree.specs.Tree.{Tree, nil, text, interpolation, constant, rescue, clause, ensure, sequence, repeat, array, hash, splat, pair, symbol, logical_not, listed}
@@ -17,9 +18,9 @@ use Rattle.rr_parser.specs.Places.{Place, word, at, next, skip, separators}
 use Rattle.rr_parser.specs.Grammar.Chains.{Chain, same, one_of, and_one}
 use Rattle.rr_parser.specs.Grammar.Nesting.{Nested}
 use Rattle.rr_parser.specs.Grammar.Names.{headed, name, command}
-use Rattle.rr_parser.specs.Grammar.Operands.{Blocked}
+use Rattle.rr_parser.specs.Grammar.Operands.{Blocked, Reached, Spot, Postfix, no_minus, no_bang}
 use Rattle.rr_parser.specs.Grammar.Operators.{connective, joined_by, Ternary}
-use Rattle.rr_parser.specs.Grammar.Calls.{target, with_target, assigned_to, label, comma, closing, last, Assigned, an_assignment, no_assignment, Argument, Pair, by_label, by_arrow, star, Item, a_splat, a_plain_item, Member, Members, Bracketed, no_members, some_members, Array, an_array, Hash, a_hash, Index, of_element, Commanded, by_arguments, by_command, Command, a_command, Phrase, by_name, an_operand, Operand, Value}
+use Rattle.rr_parser.specs.Grammar.Calls.{target, with_target, assigned_to, label, comma, closing, last, Assigned, an_assignment, no_assignment, Argument, Pair, by_label, by_arrow, star, Item, a_splat, a_plain_item, Member, Members, Bracketed, no_members, some_members, Array, an_array, Hash, a_hash, Index, of_element, Commanded, by_arguments, by_command, Command, a_command, Phrase, by_name, an_operand, Operand, Value, Settled, a_setting, no_setting, settled, sign}
 use Rattle.rr_parser.specs.Grammar.Sequences.{Negation, a_negation, no_negation, Expression, modifier, modified, Statement, Rows, Statements, no_statements, some_statements, Group, a_group}
 use Rattle.rr_parser.specs.Grammar.Interpolations.{text_middle, text_tail, first_piece, and_piece, Pieces, Interpolation, an_interpolation}
 use Rattle.rr_parser.specs.Grammar.Control.{thens, loops, elsif, chosen, unless_chosen, Branch, a_branch, Branches, Otherwise, no_else, an_else, Choice, a_choice, Unless, an_unless, Loop, a_loop, looping, outside_loop, Looped, of_loop}
@@ -30,9 +31,9 @@ use Rattle.rr_parser.specs.Grammar.Fences.{within_head, fence_end}
 use Rattle.rr_parser.specs.Grammar.{FormOf, is_enclosed, PartOf, inside, outside}
 use Rattle.rr_parser.specs.Reading.Answers.{Parse, built, closed, across, taking_of, ended_by}
 use Rattle.rr_parser.specs.Reading.Nesting.{Readers}
-use Rattle.rr_parser.specs.Reading.Operands.{blocked_of}
+use Rattle.rr_parser.specs.Reading.Operands.{blocked_of, prefix_minus, postfix_of}
 use Rattle.rr_parser.specs.Reading.Operators.{ternary_of}
-use Rattle.rr_parser.specs.Reading.Calls.{assigned_or, assigned_of, argument_of, pair_by, pair_of, item_or, item_of, member_of, another, members_of, bracketed_or, bracketed_of, array_of, hash_of, index_of, commanded_or, commanded_of, arguments_of, headed_of, command_or, command_of, phrase_or, phrase_of, operand_of, value_of}
+use Rattle.rr_parser.specs.Reading.Calls.{assigned_or, assigned_of, argument_of, pair_by, pair_of, item_or, item_of, member_of, another, members_of, bracketed_or, bracketed_of, array_of, hash_of, index_of, commanded_or, commanded_of, arguments_of, headed_of, command_or, command_of, phrase_or, phrase_of, operand_of, value_of, behind_bang, behind_minus, setting_of, settled_of, setting_or, spot_or, reached_on}
 use Rattle.rr_parser.specs.Reading.Sequences.{negation_or, negation_of, expression_of, statement_of, ends, row, rows_of, sequence_of, statements_of, group_of}
 use Rattle.rr_parser.specs.Reading.Interpolations.{pieces_of, interpolated_or, interpolated_on, interpolation_of}
 use Rattle.rr_parser.specs.Reading.Control.{both, branch_of, branches_of, otherwise_or, otherwise_of, choice_of, unless_of, loop_of, looped_of}
@@ -44,7 +45,7 @@ use Rattle.rr_parser.proofs.Told.{told_close, told_else, told_end, told_rescue, 
 use Rattle.rr_parser.proofs.Looks.{word-next, row-separators}
 use Rattle.rr_parser.proofs.Listing.{another-comma}
 use Rattle.rr_parser.proofs.Chains.{bind_ok, built_ok, done, closed_ok, at_answer, across_ok, IsSound, chain_sound, from_sound}
-use Rattle.rr_parser.proofs.SoundOperands.{NestedSound, sequence_ok, taking_sound, enclosed_sound, blocked_sound, bang_sound, minus_sound, ternary_sound}
+use Rattle.rr_parser.proofs.SoundOperands.{NestedSound, sequence_ok, taking_sound, enclosed_sound, blocked_sound, bang_sound, minus_sound, ternary_sound, ternary_sound_on, postfix_sound}
 
 -- ---- classes
 
@@ -80,8 +81,32 @@ module _ (N : Readers) (R : Nested) (nests : NestedSound N R) where
   unfolding assigned_of
   assigned_sound commands q Q sound s z t e = assigned_or-sound commands q Q sound s (at target s) z t refl e
 
+  setting_or-sound : (b : Bool) (s m : Place) (r : Reached) (p : Spot) (o : Option (Sign × Place)) (z : Place) (t : Tree) → Postfix R s r m → r.spot ≡ Some p → at sign m ≡ o → setting_or N b r.tree p m o ≡ Ok (t, z) → Settled R b s t z
+  setting_or-sound b s m r p None z t h f g e = no_setting ((ternary_sound_on N R nests) s m z r.tree t (no_minus (no_bang h)) e)
+  setting_or-sound b s m r p (Some q) z t h f g e =
+      let v = built_ok (settled q.0 p r.tree) (N.value b q.1) t z e in
+      subst (λ (x : Tree). Settled R b s x z) (sym v.2) (a_setting h f g (nests.value b q.1 z v.0 v.1))
+
+  spot_or-sound : (b : Bool) (s m : Place) (r : Reached) (o : Option Spot) (z : Place) (t : Tree) → Postfix R s r m → r.spot ≡ o → spot_or N b r.tree o m ≡ Ok (t, z) → Settled R b s t z
+  unfolding setting_of
+  spot_or-sound b s m r None z t h f e = no_setting ((ternary_sound_on N R nests) s m z r.tree t (no_minus (no_bang h)) e)
+  spot_or-sound b s m r (Some p) z t h f e = setting_or-sound b s m r p (at sign m) z t h f refl e
+
+  behind_bang-sound : (b : Bool) (s : Place) (o : Option (Unit {0} × Place)) (z : Place) (t : Tree) → behind_bang N b s o ≡ Ok (t, z) → Settled R b s t z
+  behind_bang-sound b s None z t e =
+      from_sound (postfix_of N) (reached_on N b) (Postfix R) (Settled R b) (postfix_sound N R nests) (λ s m z r t h e. spot_or-sound b s m r r.spot z t h refl e) s z t e
+  behind_bang-sound b s (Some m) z t e = no_setting ((ternary_sound N R nests) s z t e)
+
+  behind_minus-sound : (b : Bool) (s : Place) (o : Option (Unit {0} × Place)) (z : Place) (t : Tree) → behind_minus N b s o ≡ Ok (t, z) → Settled R b s t z
+  behind_minus-sound b s None z t e = behind_bang-sound b s (at (word kind.Bang) s) z t e
+  behind_minus-sound b s (Some m) z t e = no_setting ((ternary_sound N R nests) s z t e)
+
+  settled_sound : (b : Bool) → IsSound (settled_of N b) (Settled R b)
+  unfolding settled_of
+  settled_sound b s z t e = behind_minus-sound b s (at prefix_minus s) z t e
+
   pub argument_sound : IsSound (argument_of N) (Argument R)
-  argument_sound = assigned_sound false (ternary_of N) (Ternary R) (ternary_sound N R nests)
+  argument_sound = assigned_sound false (settled_of N false) (Settled R false) (settled_sound false)
 
   pair_by-sound : (s : Place) (o : Option (Sym × Place)) (z : Place) (t : Tree) → at label s ≡ o → pair_by N s o ≡ Ok (t, z) → Pair R s t z
   pair_by-sound s None z t f e =
@@ -168,7 +193,7 @@ module _ (N : Readers) (R : Nested) (nests : NestedSound N R) where
   command_sound s z t e = command_or-sound s (at (command s.known) s) z t refl e
 
   phrase_or-sound : (s : Place) (o : Option (Head × Place)) (z : Place) (t : Tree) → at (command s.known) s ≡ o → phrase_or N s o ≡ Ok (t, z) → Phrase R s t z
-  phrase_or-sound s None z t f e = an_operand ((ternary_sound N R nests) s z t e)
+  phrase_or-sound s None z t f e = an_operand (settled_sound true s z t e)
   phrase_or-sound s (Some x) z t f e = by_name (called_sound s x z t f e)
 
   phrase_sound : IsSound (phrase_of N) (Phrase R)
@@ -176,7 +201,7 @@ module _ (N : Readers) (R : Nested) (nests : NestedSound N R) where
   phrase_sound s z t e = phrase_or-sound s (at (command s.known) s) z t refl e
 
   operand_sound : (b : Bool) → IsSound (operand_of N b) (Operand R b)
-  operand_sound false = (ternary_sound N R nests)
+  operand_sound false = settled_sound false
   operand_sound true = phrase_sound
 
   pub value_sound : (b : Bool) → IsSound (value_of N b) (Value R b)

@@ -1,5 +1,5 @@
 -- What is read of operands and operators is spelled.
-use Rattle.std.proofs.Common.{◌≡◌, ℕ, zero, suc, pos, Bool, true, false, cond, List, [], Option, Some, None, Ok, Err, refl, sym, subst, ap}
+use Rattle.std.proofs.Common.{◌≡◌, ℕ, zero, suc, pos, Bool, true, false, cond, List, [], Option, Some, None, Ok, Err, refl, sym, subst, ap, ◌∙◌}
 use Rattle.rr_base.specs.declared.name.Sym.{Sym}
 use Rattle.rr_parser.specs.declared.word.Infix.{Infix}
 use Rattle.rr_tree.specs.Tree.{Tree, nil, int, bare, call, with_block, negate, sequence, choose, send, index, constant, logical_not, listed}
@@ -19,13 +19,13 @@ use Rattle.rr_parser.specs.Places.{Place, word, at, next, skip}
 use Rattle.rr_parser.specs.Grammar.Chains.{one, same}
 use Rattle.rr_parser.specs.Grammar.Nesting.{Nested}
 use Rattle.rr_parser.specs.Grammar.Names.{is_local, variable_of, local_tree, is_allowed, jump_tree, begins_arguments, passed, passed_bare, name, bracket, begins_operands}
-use Rattle.rr_parser.specs.Grammar.Operands.{fits, fits_below, negated, joined, literal_of, inner_constant, construct_of, Blocked, no_block, a_block, Primary, a_literal, a_constant, a_path, a_negative, a_local, a_bare_call, a_call, a_block_call, a_jump, a_passing, a_passing_call, a_construct, tail, Tailed, a_send, a_sent_call, an_index, Postfix, Bang, a_bang, no_bang, Minus, a_minus, no_minus}
+use Rattle.rr_parser.specs.Grammar.Operands.{fits, fits_below, negated, joined, literal_of, inner_constant, construct_of, Blocked, no_block, a_block, Primary, a_literal, a_constant, a_path, a_negative, a_local, a_bare_call, a_call, a_block_call, a_jump, a_passing, a_passing_call, a_construct, tail, Tailed, Reached, plain, at_element, at_attribute, Plain, as_it_is, an_attribute, a_block_send, a_sent_call, an_index, Postfix, Bang, a_bang, no_bang, Minus, a_minus, no_minus}
 use Rattle.rr_parser.specs.Grammar.Operators.{operator, infixed, Binary, Equality, a_comparison, a_pair, connective, joined_by, Logical, Ternary, no_question, a_question}
 use Rattle.rr_parser.specs.Grammar.Fences.{Taking, taken, taking, taking_as, opened}
 use Rattle.rr_parser.specs.Grammar.{Enclosed}
 use Rattle.rr_parser.specs.Reading.Answers.{wrong, Answer, Parse, built, taking_of, enclosed_of, chain_on, trail_on}
 use Rattle.rr_parser.specs.Reading.Nesting.{Readers}
-use Rattle.rr_parser.specs.Reading.Operands.{call_of, bare_call, blocked_or, blocked_of, then_blocked, unbracketed_or, name_or, name_of, passing_or, passing_of, constant_or, constant_at, int_at, negative_in, negative_of, begun, primary_at, primary_in, primary_of, tailed_of, postfix_of, bang_or, bang_of, prefix_minus, minus_or, minus_of}
+use Rattle.rr_parser.specs.Reading.Operands.{call_of, bare_call, blocked_or, blocked_of, then_blocked, unbracketed_or, name_or, name_of, passing_or, passing_of, constant_or, constant_at, int_at, negative_in, negative_of, begun, primary_at, primary_in, primary_of, block_behind, sent_or, sent_of, sent_call_of, element_of, plainly, tailed_of, tree_reached, postfix_of, bang_or, bang_of, prefix_minus, minus_or, minus_of}
 use Rattle.rr_parser.specs.Reading.Operators.{binary_on, binary_of, pair_or, equality_on, logical_on, logical_of, question_or, ternary_on, ternary_of}
 use Rattle.rr_parser.specs.Reading.Sequences.{sequence_of}
 use Rattle.rr_parser.proofs.Told.{told_bang, told_question, told_colon}
@@ -175,20 +175,33 @@ module _ (N : Readers) (R : Nested) (nests : NestedSound N R) where
   unfolding primary_of
   primary_sound s z t e = primary_in-sound s (next s) z t refl e
 
-  pub tailed_sound : (x : Tail) (l : Tree) (n z : Place) (t : Tree) → tailed_of N x l n ≡ Ok (t, z) → Tailed R x l n t z
-  unfolding tailed_of
-  tailed_sound (tails.Send x) l n z t e = a_send (blocked_sound behinds.Call (send l x.0 (listed [])) n z t e)
-  tailed_sound (tails.Call x) l n z t e = let a = arguments_sound (λ q. send l x.0 (listed q)) n z t e in a_sent_call a.2 a.3
+  sent_sound : (x : Sym) (l : Reached) (n : Place) (o : Option (Fence × Place)) (z : Place) (t : Reached) → opened behinds.Call n ≡ o → sent_or N l.tree x n o ≡ Ok (t, z) → Tailed R (tails.Send x) l n t z
+  sent_sound x l n None z t f e = at_answer (Tailed R (tails.Send x) l n) (at_attribute l.tree x) t n z e (an_attribute f)
+  sent_sound x l n (Some b) z t f e =
+      let c = built_ok plain (block_behind N b.0 (send l.tree x.0 (listed [])) b.1) t z e in
+      let d = built_ok (with_block (send l.tree x.0 (listed []))) (N.part (parts.Block b.0) b.1) c.0 z c.1 in
+      subst (λ (q : Reached). Tailed R (tails.Send x) l n q z) (sym (c.2 ∙ ap plain d.2)) (a_block_send f (nests.part (parts.Block b.0) b.1 z d.0 d.1))
+
+  pub tailed_sound : (x : Tail) (l : Reached) (n z : Place) (t : Reached) → tailed_of N x l n ≡ Ok (t, z) → Tailed R x l n t z
+  unfolding sent_of sent_call_of element_of
+  tailed_sound (tails.Send x) l n z t e = sent_sound x l n (opened behinds.Call n) z t refl e
+  tailed_sound (tails.Call x) l n z t e =
+      let b = built_ok plain (sent_call_of N l.tree x n) t z e in
+      let a = arguments_sound (λ q. send l.tree x.0 (listed q)) n z b.0 b.1 in
+      subst (λ (q : Reached). Tailed R (tails.Call x) l n q z) (sym b.2) (a_sent_call a.2 a.3)
   tailed_sound tails.Index l n z t e =
-      let b = built_ok (index l) (N.part parts.Index n) t z e in
-      subst (λ (q : Tree). Tailed R tails.Index l n q z) (sym b.2) (an_index (nests.part parts.Index n z b.0 b.1))
+      let b = built_ok (at_element l.tree) (N.part parts.Index n) t z e in
+      subst (λ (q : Reached). Tailed R tails.Index l n q z) (sym b.2) (an_index (nests.part parts.Index n z b.0 b.1))
+
+  pub plain_primary_sound : IsSound (plainly (primary_of N)) (Plain (Primary R))
+  plain_primary_sound s z t e = let b = built_ok plain (primary_of N s) t z e in subst (λ (q : Reached). Plain (Primary R) s q z) (sym b.2) (as_it_is (primary_sound s z b.0 b.1))
 
   pub postfix_sound : IsSound (postfix_of N) (Postfix R)
   unfolding postfix_of
-  postfix_sound = from_sound (primary_of N) (trail_on tail (tailed_of N)) (Primary R) (Postfix R) primary_sound (trail_sound tail (tailed_of N) (Primary R) (Tailed R) tailed_sound)
+  postfix_sound = from_sound (plainly (primary_of N)) (trail_on tail (tailed_of N)) (Plain (Primary R)) (Postfix R) plain_primary_sound (trail_sound tail (tailed_of N) (Plain (Primary R)) (Tailed R) tailed_sound)
 
   bang_or-sound : (s : Place) (o : Option (Unit {0} × Place)) (z : Place) (t : Tree) → at (word kind.Bang) s ≡ o → bang_or N s o ≡ Ok (t, z) → Bang R s t z
-  bang_or-sound s None z t f e = no_bang (postfix_sound s z t e)
+  bang_or-sound s None z t f e = let b = built_ok tree_reached (postfix_of N s) t z e in subst (λ (q : Tree). Bang R s q z) (sym b.2) (no_bang (postfix_sound s z b.0 b.1))
   bang_or-sound s (Some m) z t f e =
       let b = built_ok logical_not (N.part parts.Bang m.1) t z e in
       subst (λ (q : Tree). Bang R s q z) (sym b.2) (a_bang (word-next kind.Bang told_bang s m.1 m.0 f) (nests.part parts.Bang m.1 z b.0 b.1))

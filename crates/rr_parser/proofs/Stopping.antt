@@ -15,9 +15,9 @@ use Rattle.rr_parser.specs.Places.{Place, Look, is_kind, word, placed, at, next}
 use Rattle.rr_parser.specs.Grammar.Chains.{Chain, one, more, at_first, and_then, same}
 use Rattle.rr_parser.specs.Grammar.Nesting.{Nested}
 use Rattle.rr_parser.specs.Grammar.Names.{begins_operands, head, begins_head, command}
-use Rattle.rr_parser.specs.Grammar.Operands.{construct_of, Primary, a_literal, a_constant, a_path, a_negative, a_local, a_bare_call, a_call, a_block_call, a_jump, a_passing, a_passing_call, a_construct, Postfix, a_bang, no_bang, Minus, a_minus, no_minus}
+use Rattle.rr_parser.specs.Grammar.Operands.{construct_of, Primary, a_literal, a_constant, a_path, a_negative, a_local, a_bare_call, a_call, a_block_call, a_jump, a_passing, a_passing_call, a_construct, Postfix, a_bang, no_bang, Minus, a_minus, no_minus, Reached, Spot, as_it_is}
 use Rattle.rr_parser.specs.Grammar.Operators.{operator, infixed, connective, joined_by, Binary, a_comparison, a_pair, Logical, Ternary, no_question, a_question}
-use Rattle.rr_parser.specs.Grammar.Calls.{target, a_command, Phrase, by_name, an_operand, target_of_kind}
+use Rattle.rr_parser.specs.Grammar.Calls.{target, a_command, Phrase, by_name, an_operand, target_of_kind, Settled, a_setting, no_setting, sign}
 use Rattle.rr_parser.specs.Grammar.Interpolations.{middle_of_kind, text_middle, tail_of_kind, text_tail}
 use Rattle.rr_parser.specs.Grammar.Control.{thens, elsif}
 use Rattle.rr_parser.specs.Grammar.Bodies.{rescues, before_thens, behind_arrow, caught}
@@ -107,8 +107,8 @@ module _ (R : Nested) (s m n : Place) (k : WordKind) (x : Target) (sign : Sign) 
   primary_stuck z t (a_passing_call {m = o} {p = p} e f g h) = absurd (no_word k (kind.Passing p) is_target (one_kind s m o k (kind.Passing p) here e) refl)
   primary_stuck z t (a_construct {m = o} {k = q} {p = p} e f h) = absurd (no_construct k p is_target (ap construct_of (one_kind s m o k q here e) ∙ f))
 
-  postfix_stuck : (z : Place) (t : Tree) → Postfix R s t z → Assigns z
-  postfix_stuck z t (at_first h) = primary_stuck z t h
+  postfix_stuck : (z : Place) (t : Reached) → Postfix R s t z → Assigns z
+  postfix_stuck z t (at_first (as_it_is {t = u} h)) = primary_stuck z u h
   postfix_stuck z t (and_then {m = o} {n = q} {l = l} {x = y} c e h) =
       let a = postfix_stuck o l c in
       let never : ⊥ = omega (arith, tail_strength o q y e, a) in absurd never
@@ -116,7 +116,14 @@ module _ (R : Nested) (s m n : Place) (k : WordKind) (x : Target) (sign : Sign) 
   minus_stuck : (z : Place) (t : Tree) → Minus R s t z → Assigns z
   minus_stuck z t (a_minus {m = o} e f h) = absurd (no_word k kind.Minus is_target (one_kind s m o k kind.Minus here e) refl)
   minus_stuck z t (no_minus (a_bang {m = o} e h)) = absurd (no_word k kind.Bang is_target (one_kind s m o k kind.Bang here e) refl)
-  minus_stuck z t (no_minus (no_bang h)) = postfix_stuck z t h
+  minus_stuck z t (no_minus (no_bang {r = r} h)) = postfix_stuck z r h
+
+  -- nothing follows it, so that it is no element and no attribute
+  postfix_no_spot : (z : Place) (r : Reached) (p : Spot) → Postfix R s r z → r.spot ≡ Some p → ⊥
+  postfix_no_spot z r p (at_first (as_it_is h)) f = let never : ⊥ = cc in never
+  postfix_no_spot z r p (and_then {m = o} {n = q} {l = l} {x = y} c e h) f =
+      let a = postfix_stuck o l c in
+      let never : ⊥ = omega (arith, tail_strength o q y e, a) in never
 
   -- what is seen at another strength does not come
   chain_stuck : {X : Type 0} (between : Look X) (w : ℕ) (join : X → Tree → Tree → Tree) (P : Place → Tree → Place → Type 0) → w < 26 → ((o q : Place) (y : X) → at between o ≡ Some (y, q) → strength_in (next o) ≡ w)
@@ -144,13 +151,17 @@ module _ (R : Nested) (s m n : Place) (k : WordKind) (x : Target) (sign : Sign) 
       let a = logical_stuck 2 (omega arith) o c h in
       let never : ⊥ = omega (arith, ap strength_in e, a) in absurd never
 
-pub ternary_no_target : (R : Nested) (s z : Place) (t : Tree) → Ternary R s t z → Stops 26 z → at target s ≡ None
+ternary_no_target : (R : Nested) (s z : Place) (t : Tree) → Ternary R s t z → Stops 26 z → at target s ≡ None
 ternary_no_target R s z t h stops = none_unless (at target s) (λ x n e.
     let k = target-next s n x e in
     let never : ⊥ = omega (arith, ternary_stuck R s k.m n k.first x.target x.sign k.here k.told k.sign z t h, stops) in never)
 
+pub settled_no_target : (R : Nested) (b : Bool) (s z : Place) (t : Tree) → Settled R b s t z → Stops 26 z → at target s ≡ None
+settled_no_target R b s z t (a_setting {m = m} {r = r} {p = p} h f g i) stops = none_unless (at target s) (λ x n e. let k = target-next s n x e in postfix_no_spot R s k.m n k.first x.target x.sign k.here k.told k.sign m r p h f)
+settled_no_target R b s z t (no_setting h) stops = ternary_no_target R s z t h stops
+
 pub phrase_no_target : (R : Nested) (s z : Place) (t : Tree) → Phrase R s t z → Stops 27 z → at target s ≡ None
-phrase_no_target R s z t (an_operand h) stops = ternary_no_target R s z t h (omega (arith, stops))
+phrase_no_target R s z t (an_operand h) stops = settled_no_target R true s z t h (omega (arith, stops))
 phrase_no_target R s z t (by_name (a_command {m = m} {x = x} e h b)) stops = none_unless (at target s) (λ y n f.
     let g : seen x m ≡ None = sym e ∙ target_no_command s n y f in
     let never : ⊥ = cc in never)

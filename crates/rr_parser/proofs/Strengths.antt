@@ -14,7 +14,8 @@ use Rattle.rr_parser.specs.declared.word.Word.{Word}
 use Rattle.rr_parser.specs.Places.{Known, Place, first_as, is_kind, without_separators, word, at, next, skip, separators}
 use Rattle.rr_parser.specs.Grammar.Operands.{tail}
 use Rattle.rr_parser.specs.Grammar.Operators.{level_of, at_level, operator_of, operator, where_level, connective_of, connective}
-use Rattle.rr_parser.specs.Grammar.Calls.{comma}
+use Rattle.rr_parser.specs.declared.word.Sign.{Sign}
+use Rattle.rr_parser.specs.Grammar.Calls.{comma, sign_of_kind, sign}
 use Rattle.rr_parser.specs.Grammar.Sequences.{modifier_of, modifier}
 use Rattle.rr_parser.specs.Grammar.Control.{thens, loops}
 use Rattle.rr_parser.specs.Reading.Sequences.{ends_at, ends, row}
@@ -106,6 +107,13 @@ modifier_tells kind.If x e = refl
 modifier_tells kind.Unless x e = refl
 modifier_tells (kind.Loop until) x e = refl
 modifier_tells _ x e = absurd cc
+
+sign_tells : (k : WordKind) (q : Sign) → sign_of_kind k ≡ Some q → strength k ≡ 26
+sign_tells (kind.Assign r) q e = refl
+sign_tells _ q e = absurd cc
+
+pub sign_strength : (s z : Place) (q : Sign) → at sign s ≡ Some (q, z) → strength_in (next s) ≡ 26
+sign_strength = seen_strength sign_of_kind 26 sign_tells
 
 pub modifier_strength : (s z : Place) (x : Modifier) → at modifier s ≡ Some (x, z) → strength_in (next s) ≡ 29
 modifier_strength = seen_strength modifier_of 29 modifier_tells

@@ -1,6 +1,5 @@
 -- Trails: what follows an operand, time after time.
 use Rattle.std.proofs.Common.{◌≡◌, ℕ, zero, suc, ◌<◌, ◌≤◌, ◌⊎◌, inl, inr, length, Option, Some, None, Ok, Err, refl, sym, ap, ◌∙◌, arith}
-use Rattle.rr_tree.specs.Tree.{Tree}
 use Rattle.rr_parser.specs.Places.{Place, Look, at}
 use Rattle.rr_parser.specs.Grammar.Chains.{Trail, at_first, and_then}
 use Rattle.rr_parser.specs.Reading.Answers.{◌>>=◌, deep, Answer, Parse, from, trail_turn, trail_from, trail_on}
@@ -9,51 +8,51 @@ use Rattle.rr_parser.proofs.Looks.{left, Steps}
 use Rattle.rr_parser.proofs.Chains.{bind_ok, at_answer, IsSoundOn, IsShrinking}
 use Rattle.rr_parser.proofs.Leading.{Leads, leads_bind, leads_trans, leads_eq, IsFull}
 
-pub trail_shrinking : {X : Type 0} (look : Look X) (P : Place → Tree → Place → Type 0) (Q : X → Tree → Place → Tree → Place → Type 0) → Steps look → IsShrinking P → ((x : X) (l : Tree) (n z : Place) (t : Tree) → Q x l n t z → left z ≤ left n)
+pub trail_shrinking : {X A : Type 0} (look : Look X) (P : Place → A → Place → Type 0) (Q : X → A → Place → A → Place → Type 0) → Steps look → IsShrinking P → ((x : X) (l : A) (n z : Place) (t : A) → Q x l n t z → left z ≤ left n)
     → IsShrinking (Trail look P Q)
 trail_shrinking look P Q steps first later s z t (at_first h) = first s z t h
 trail_shrinking look P Q steps first later s z t (and_then {m = m} {n = n} {l = l} {x = x} c e h) = omega (arith, trail_shrinking look P Q steps first later s m l c, steps m n x e, later x l n z t h)
 
-module _ {X : Type 0} (look : Look X) (q : X → Tree → Parse Tree) (steps : Steps look) (smaller : (x : X) (l : Tree) (n z : Place) (t : Tree) → q x l n ≡ Ok (t, z) → left z ≤ left n) where
+module _ {X A : Type 0} (look : Look X) (q : X → A → Parse A) (steps : Steps look) (smaller : (x : X) (l : A) (n z : Place) (t : A) → q x l n ≡ Ok (t, z) → left z ≤ left n) where
   -- the turns that are left over do not matter
-  turn-enough : (go went : Tree → Parse Tree) (l : Tree) (s : Place) (o : Option (X × Place)) → ((x : X) (m : Place) → o ≡ Some (x, m) → left m < left s)
-      → ((u : Tree) (m : Place) → left m < left s → go u m ≡ went u m) → trail_turn q go l s o ≡ trail_turn q went l s o
+  turn-enough : (go went : A → Parse A) (l : A) (s : Place) (o : Option (X × Place)) → ((x : X) (m : Place) → o ≡ Some (x, m) → left m < left s)
+      → ((u : A) (m : Place) → left m < left s → go u m ≡ went u m) → trail_turn q go l s o ≡ trail_turn q went l s o
   turn-enough go went l s None h i = refl
   turn-enough go went l s (Some x) h i = go_on (q x.0 l x.1) refl
     where
-      go_on : (r : Answer Tree) → q x.0 l x.1 ≡ r → (r >>= λ r. go r.0 r.1) ≡ (r >>= λ r. went r.0 r.1)
+      go_on : (r : Answer A) → q x.0 l x.1 ≡ r → (r >>= λ r. go r.0 r.1) ≡ (r >>= λ r. went r.0 r.1)
       go_on (Ok r) f = i r.0 r.1 (omega (arith, h x.0 x.1 refl, smaller x.0 l x.1 r.1 r.0 f))
       go_on (Err d) f = refl
 
-  none_left : (go : Tree → Parse Tree) (l : Tree) (s : Place) (o : Option (X × Place)) → left s ≤ 0 → ((x : X) (m : Place) → o ≡ Some (x, m) → left m < left s) → Ok (l, s) ≡ trail_turn q go l s o
+  none_left : (go : A → Parse A) (l : A) (s : Place) (o : Option (X × Place)) → left s ≤ 0 → ((x : X) (m : Place) → o ≡ Some (x, m) → left m < left s) → Ok (l, s) ≡ trail_turn q go l s o
   none_left go l s None a h = refl
   none_left go l s (Some x) a h = let never : ⊥ = omega (arith, h x.0 x.1 refl, a) in absurd never
 
-  trail_from-enough : (n k : ℕ) (l : Tree) (s : Place) → left s ≤ n → left s ≤ k → trail_from look q n l s ≡ trail_from look q k l s
+  trail_from-enough : (n k : ℕ) (l : A) (s : Place) → left s ≤ n → left s ≤ k → trail_from look q n l s ≡ trail_from look q k l s
   unfolding trail_from
   trail_from-enough zero zero l s a b = refl
   trail_from-enough zero (suc k) l s a b = none_left (trail_from look q k) l s (at look s) a (λ x m f. steps s m x f)
   trail_from-enough (suc n) zero l s a b = sym (none_left (trail_from look q n) l s (at look s) b (λ x m f. steps s m x f))
   trail_from-enough (suc n) (suc k) l s a b = turn-enough (trail_from look q n) (trail_from look q k) l s (at look s) (λ x m f. steps s m x f) (λ u m lt. trail_from-enough n k u m (omega arith) (omega arith))
 
-  pub trail_on-ends : (l : Tree) (s : Place) → at look s ≡ None → trail_on look q l s ≡ Ok (l, s)
+  pub trail_on-ends : (l : A) (s : Place) → at look s ≡ None → trail_on look q l s ≡ Ok (l, s)
   unfolding trail_on trail_from
   trail_on-ends l s e = trail_from-enough (length s.rest) (suc (length s.rest)) l s (omega arith) (omega arith) ∙ ap (trail_turn q (trail_from look q (length s.rest)) l s) e
 
-  pub trail_on-turn : (l : Tree) (s m : Place) (x : X) → at look s ≡ Some (x, m) → trail_on look q l s ≡ (q x l m >>= λ r. trail_on look q r.0 r.1)
+  pub trail_on-turn : (l : A) (s m : Place) (x : X) → at look s ≡ Some (x, m) → trail_on look q l s ≡ (q x l m >>= λ r. trail_on look q r.0 r.1)
   unfolding trail_on trail_from
   trail_on-turn l s m x e =
       trail_from-enough (length s.rest) (suc (length s.rest)) l s (omega arith) (omega arith)
       ∙ ap (trail_turn q (trail_from look q (length s.rest)) l s) e
       ∙ go_on (q x l m) refl
     where
-      go_on : (r : Answer Tree) → q x l m ≡ r → (r >>= λ r. trail_from look q (length s.rest) r.0 r.1) ≡ (r >>= λ r. trail_from look q (length r.1.rest) r.0 r.1)
+      go_on : (r : Answer A) → q x l m ≡ r → (r >>= λ r. trail_from look q (length s.rest) r.0 r.1) ≡ (r >>= λ r. trail_from look q (length r.1.rest) r.0 r.1)
       go_on (Ok r) f = trail_from-enough (length s.rest) (length r.1.rest) r.0 r.1 (omega (arith, steps s m x e, smaller x l m r.1 r.0 f)) (omega arith)
       go_on (Err d) f = refl
 
-  module _ (p : Parse Tree) (P : Place → Tree → Place → Type 0) (Q : X → Tree → Place → Tree → Place → Type 0) (D : Type 0) (Stops : Place → Type 0) (full : (s z : Place) (t : Tree) → P s t z → Leads (p s) (Ok (t, z)) D)
-      (later : (x : X) (l : Tree) (n z : Place) (t : Tree) → Q x l n t z → Leads (q x l n) (Ok (t, z)) D) where
-    trail_leads : (s z : Place) (t : Tree) → Trail look P Q s t z → Leads (from p (trail_on look q) s) (trail_on look q t z) D
+  module _ (p : Parse A) (P : Place → A → Place → Type 0) (Q : X → A → Place → A → Place → Type 0) (D : Type 0) (Stops : Place → Type 0) (full : (s z : Place) (t : A) → P s t z → Leads (p s) (Ok (t, z)) D)
+      (later : (x : X) (l : A) (n z : Place) (t : A) → Q x l n t z → Leads (q x l n) (Ok (t, z)) D) where
+    trail_leads : (s z : Place) (t : A) → Trail look P Q s t z → Leads (from p (trail_on look q) s) (trail_on look q t z) D
     trail_leads s z t (at_first h) = leads_bind (p s) (t, z) (λ x. trail_on look q x.0 x.1) (full s z t h)
     trail_leads s z t (and_then {m = m} {n = n} {l = l} {x = x} c e h) =
         leads_trans (from p (trail_on look q) s) (trail_on look q l m) (trail_on look q t z) (trail_leads s m l c)
@@ -63,15 +62,15 @@ module _ {X : Type 0} (look : Look X) (q : X → Tree → Parse Tree) (steps : S
     pub trail_full : ((z : Place) → Stops z → at look z ≡ None) → IsFull (from p (trail_on look q)) (Trail look P Q) Stops D
     trail_full none s z t c stops = leads_trans (from p (trail_on look q) s) (trail_on look q t z) (Ok (t, z)) (trail_leads s z t c) (inl (trail_on-ends t z (none z stops)))
 
-module _ {X : Type 0} (look : Look X) (q : X → Tree → Parse Tree) (P : Place → Tree → Place → Type 0) (Q : X → Tree → Place → Tree → Place → Type 0) (sound : (x : X) (l : Tree) (n z : Place) (t : Tree) → q x l n ≡ Ok (t, z) → Q x l n t z) where
-  turn_sound : (go : Tree → Parse Tree) (s : Place) (l : Tree) (m z : Place) (t : Tree) (o : Option (X × Place)) → at look m ≡ o → Trail look P Q s l m
-      → ((u : Tree) (n : Place) → Trail look P Q s u n → go u n ≡ Ok (t, z) → Trail look P Q s t z) → trail_turn q go l m o ≡ Ok (t, z) → Trail look P Q s t z
+module _ {X A : Type 0} (look : Look X) (q : X → A → Parse A) (P : Place → A → Place → Type 0) (Q : X → A → Place → A → Place → Type 0) (sound : (x : X) (l : A) (n z : Place) (t : A) → q x l n ≡ Ok (t, z) → Q x l n t z) where
+  turn_sound : (go : A → Parse A) (s : Place) (l : A) (m z : Place) (t : A) (o : Option (X × Place)) → at look m ≡ o → Trail look P Q s l m
+      → ((u : A) (n : Place) → Trail look P Q s u n → go u n ≡ Ok (t, z) → Trail look P Q s t z) → trail_turn q go l m o ≡ Ok (t, z) → Trail look P Q s t z
   turn_sound go s l m z t None f c i e = at_answer (Trail look P Q s) l t m z e c
   turn_sound go s l m z t (Some x) f c i e =
       let b = bind_ok (q x.0 l x.1) (λ r. go r.0 r.1) (t, z) e in
       i b.0.0 b.0.1 (and_then c f (sound x.0 l x.1 b.0.1 b.0.0 b.1)) b.2
 
-  turns_sound : (n : ℕ) (s : Place) (l : Tree) (m z : Place) (t : Tree) → Trail look P Q s l m → trail_from look q n l m ≡ Ok (t, z) → Trail look P Q s t z
+  turns_sound : (n : ℕ) (s : Place) (l : A) (m z : Place) (t : A) → Trail look P Q s l m → trail_from look q n l m ≡ Ok (t, z) → Trail look P Q s t z
   unfolding trail_from
   turns_sound zero s l m z t c e = at_answer (Trail look P Q s) l t m z e c
   turns_sound (suc n) s l m z t c e = turn_sound (trail_from look q n) s l m z t (at look m) refl c (λ u o d f. turns_sound n s u o z t d f) e
@@ -80,10 +79,10 @@ module _ {X : Type 0} (look : Look X) (q : X → Tree → Parse Tree) (P : Place
   unfolding trail_on
   trail_sound s m z l t h e = turns_sound (length m.rest) s l m z t (at_first h) e
 
-  module _ (F : Place → Place → Type 0) (G : X → Place → Place → Type 0) (is_deep : (x : X) (l : Tree) (n : Place) → q x l n ≡ Err deep → (z : Place) × G x n z)
-      (bind_deep : (r : Answer Tree) (f : Tree × Place → Answer Tree) → (r >>= f) ≡ Err deep → (r ≡ Err deep) ⊎ ((x : Tree × Place) × (r ≡ Ok x) × (f x ≡ Err deep))) where
-    turn_deep : (go : Tree → Parse Tree) (s : Place) (l : Tree) (m : Place) (o : Option (X × Place)) → at look m ≡ o → Trail look P Q s l m
-        → ((u : Tree) (n : Place) → Trail look P Q s u n → go u n ≡ Err deep → (z : Place) × TrailFront look (Trail look P Q) F G s z) → trail_turn q go l m o ≡ Err deep → (z : Place) × TrailFront look (Trail look P Q) F G s z
+  module _ (F : Place → Place → Type 0) (G : X → Place → Place → Type 0) (is_deep : (x : X) (l : A) (n : Place) → q x l n ≡ Err deep → (z : Place) × G x n z)
+      (bind_deep : (r : Answer A) (f : A × Place → Answer A) → (r >>= f) ≡ Err deep → (r ≡ Err deep) ⊎ ((x : A × Place) × (r ≡ Ok x) × (f x ≡ Err deep))) where
+    turn_deep : (go : A → Parse A) (s : Place) (l : A) (m : Place) (o : Option (X × Place)) → at look m ≡ o → Trail look P Q s l m
+        → ((u : A) (n : Place) → Trail look P Q s u n → go u n ≡ Err deep → (z : Place) × TrailFront look (Trail look P Q) F G s z) → trail_turn q go l m o ≡ Err deep → (z : Place) × TrailFront look (Trail look P Q) F G s z
     turn_deep go s l m None f c i e = absurd cc
     turn_deep go s l m (Some x) f c i e =
         elim (bind_deep (q x.0 l x.1) (λ r. go r.0 r.1) e) [
@@ -91,11 +90,11 @@ module _ {X : Type 0} (look : Look X) (q : X → Tree → Parse Tree) (P : Place
           | inr b ↦ i b.0.0 b.0.1 (and_then c f (sound x.0 l x.1 b.0.1 b.0.0 b.1)) b.2
         ]
 
-    turns_deep : (n : ℕ) (s : Place) (l : Tree) (m : Place) → Trail look P Q s l m → trail_from look q n l m ≡ Err deep → (z : Place) × TrailFront look (Trail look P Q) F G s z
+    turns_deep : (n : ℕ) (s : Place) (l : A) (m : Place) → Trail look P Q s l m → trail_from look q n l m ≡ Err deep → (z : Place) × TrailFront look (Trail look P Q) F G s z
     unfolding trail_from
     turns_deep zero s l m c e = absurd cc
     turns_deep (suc n) s l m c e = turn_deep (trail_from look q n) s l m (at look m) refl c (λ u o d f. turns_deep n s u o d f) e
 
-    pub trail_deep : (s m : Place) (l : Tree) → P s l m → trail_on look q l m ≡ Err deep → (z : Place) × TrailFront look (Trail look P Q) F G s z
+    pub trail_deep : (s m : Place) (l : A) → P s l m → trail_on look q l m ≡ Err deep → (z : Place) × TrailFront look (Trail look P Q) F G s z
     unfolding trail_on
     trail_deep s m l h e = turns_deep (length m.rest) s l m (at_first h) e

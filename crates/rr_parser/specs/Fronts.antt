@@ -23,9 +23,10 @@ use Rattle.rr_parser.specs.Places.{Place, Look, word, at, next, skip, separators
 use Rattle.rr_parser.specs.Grammar.Nesting.{Nested}
 use Rattle.rr_parser.specs.Grammar.Fences.{taking, Taking, within_head, opened}
 use Rattle.rr_parser.specs.Grammar.Names.{name, bracket, command}
-use Rattle.rr_parser.specs.Grammar.Operands.{joined, construct_of, tail, Postfix}
+use Rattle.rr_parser.specs.declared.word.Sign.{Sign}
+use Rattle.rr_parser.specs.Grammar.Operands.{joined, construct_of, tail, Spot, Reached, Postfix}
 use Rattle.rr_parser.specs.Grammar.Operators.{operator, connective, Binary, Logical}
-use Rattle.rr_parser.specs.Grammar.Calls.{target, with_target, label, comma, star, Argument, Members, Commanded}
+use Rattle.rr_parser.specs.Grammar.Calls.{sign, target, with_target, label, comma, star, Argument, Members, Commanded}
 use Rattle.rr_parser.specs.Grammar.Sequences.{Expression, Statement, Rows, Statements, modifier}
 use Rattle.rr_parser.specs.Grammar.Interpolations.{text_middle, Pieces}
 use Rattle.rr_parser.specs.Grammar.Control.{thens, loops, elsif, looping, Branch, Branches}
@@ -52,9 +53,9 @@ pub data AcrossFront {X A : Type 0} (look : Look X) (P : Place → A → Place �
   in_latter : {s m n z : Place} {a : A} {x : X} → P s a m → at look m ≡ Some (x, n) → G n z → AcrossFront look P F G s z
 
 -- in what comes first, or in what follows it
-pub data TrailFront {X : Type 0} (look : Look X) (T : Place → Tree → Place → Type 0) (F : Place → Place → Type 0) (G : X → Place → Place → Type 0) : Place → Place → Type 0 where
+pub data TrailFront {X A : Type 0} (look : Look X) (T : Place → A → Place → Type 0) (F : Place → Place → Type 0) (G : X → Place → Place → Type 0) : Place → Place → Type 0 where
   in_head : {s z : Place} → F s z → TrailFront look T F G s z
-  in_tail : {s m n z : Place} {l : Tree} {x : X} → T s l m → at look m ≡ Some (x, n) → G x n z → TrailFront look T F G s z
+  in_tail : {s m n z : Place} {l : A} {x : X} → T s l m → at look m ≡ Some (x, n) → G x n z → TrailFront look T F G s z
 
 -- in what is read where calls take the word `do`, or not
 abbrev pub TakingFront : Bool → (Place → Place → Type 0) → Place → Place → Type 0
@@ -115,12 +116,17 @@ BranchesOfQuestion N F = AcrossFront (word kind.Colon) (N.part parts.Branch) (F.
 abbrev pub TernaryFront : Nested → Fronts → Place → Place → Type 0
 TernaryFront N F = AcrossFront (word kind.Question) (Logical N 2) (LogicalFront N F 2) (BranchesOfQuestion N F)
 
+-- in the right side of an assignment to an element or an attribute, or in an operand
+pub data SettledFront (N : Nested) (F : Fronts) (commands : Bool) : Place → Place → Type 0 where
+  in_setting : {s m n z : Place} {r : Reached} {p : Spot} {q : Sign} → Postfix N s r m → r.spot ≡ Some p → at sign m ≡ Some (q, n) → F.value commands n z → SettledFront N F commands s z
+  in_no_setting : {s z : Place} → TernaryFront N F s z → SettledFront N F commands s z
+
 pub data AssignedFront (F : Fronts) (commands : Bool) (G : Place → Place → Type 0) : Place → Place → Type 0 where
   in_value : {s n z : Place} {x : Aim} → at target s ≡ Some (x, n) → F.value commands (with_target x.target n) z → AssignedFront F commands G s z
   in_operand : {s z : Place} → G s z → AssignedFront F commands G s z
 
 abbrev pub ArgumentFront : Nested → Fronts → Place → Place → Type 0
-ArgumentFront N F = AssignedFront F false (TernaryFront N F)
+ArgumentFront N F = AssignedFront F false (SettledFront N F false)
 
 pub data PairFront (N : Nested) (F : Fronts) : Place → Place → Type 0 where
   behind_label : {s m z : Place} {x : Sym} → at label s ≡ Some (x, m) → ArgumentFront N F m z → PairFront N F s z
@@ -152,10 +158,10 @@ pub data CommandFront (N : Nested) (F : Fronts) : Place → Place → Type 0 whe
 
 pub data PhraseFront (N : Nested) (F : Fronts) : Place → Place → Type 0 where
   in_command : {s z : Place} → CommandFront N F s z → PhraseFront N F s z
-  in_plain : {s z : Place} → TernaryFront N F s z → PhraseFront N F s z
+  in_plain : {s z : Place} → SettledFront N F true s z → PhraseFront N F s z
 
 abbrev pub OperandFront : Nested → Fronts → Bool → Place → Place → Type 0
-OperandFront N F false = TernaryFront N F
+OperandFront N F false = SettledFront N F false
 OperandFront N F true = PhraseFront N F
 
 abbrev pub ValueFront : Nested → Fronts → Bool → Place → Place → Type 0

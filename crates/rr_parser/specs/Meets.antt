@@ -27,6 +27,10 @@ use Rattle.rr_parser.specs.declared.outline.Entry.{Entry as CodeEntry}
 use Rattle.rr_parser.specs.declared.outline.Entry.TheVariants as code_entry
 use Rattle.rr_parser.specs.declared.outline.Outline.{Outline as CodeOutline}
 use Rattle.rr_parser.specs.declared.word.Target.{Target}
+use Rattle.rr_parser.specs.declared.word.Spot.{Spot as CodeSpot}
+use Rattle.rr_parser.specs.declared.word.Spot.TheVariants as code_spot
+use Rattle.rr_parser.specs.declared.word.Reached.{Reached as CodeReached}
+use Rattle.rr_parser.specs.Grammar.Operands.{Spot, element, attribute, Reached}
 use Rattle.rr_parser.specs.Reading.Answers.{Answer, Refused, wrong, deep}
 
 abbrev pub known_of : Parser → Known
@@ -49,6 +53,30 @@ pairs = record { tree = λ ns p. (tree_at ns p.0, tree_at ns p.1); within = λ n
 
 abbrev pub lists : {E A : Type 0} → View E A → View (List E) (List A)
 lists v = record { tree = λ ns es. map (v.tree ns) es; within = λ n es. All (v.within n) es }
+
+-- an element or an attribute, by the nodes of its parts
+abbrev pub spot_tree : List Node → CodeSpot → Spot
+spot_tree ns (code_spot.Element r i) = element (tree_at ns r) (tree_at ns i)
+spot_tree ns (code_spot.Attribute r x) = attribute (tree_at ns r) x
+
+abbrev pub spot_within : ℕ → CodeSpot → Type 0
+spot_within n (code_spot.Element r i) = (r < n) × (i < n)
+spot_within n (code_spot.Attribute r x) = r < n
+
+abbrev pub spots_tree : List Node → Option CodeSpot → Option Spot
+spots_tree ns None = None
+spots_tree ns (Some p) = Some (spot_tree ns p)
+
+abbrev pub spots_within : ℕ → Option CodeSpot → Type 0
+spots_within n None = Unit {0}
+spots_within n (Some p) = spot_within n p
+
+-- an operand and how it can be assigned to
+abbrev pub reaches : View CodeReached Reached
+reaches = record {
+  tree = λ ns r. record { tree = tree_at ns r.node; spot = spots_tree ns r.spot };
+  within = λ n r. (r.node < n) × spots_within n r.spot;
+}
 
 abbrev pub entry_tree : List Node → CodeEntry → Entry
 entry_tree ns (code_entry.Definition i) = defines (tree_at ns i)
@@ -76,6 +104,10 @@ Fails (refusal.LeftOut n) read = read ≡ Err wrong
 abbrev pub Gives : Parser → Parser → Result (ℕ × Bor (List Word)) Refusal → Answer Tree → Type 0
 Gives old new (Ok x) read = Made nodes old new x.0 x.1.now read
 Gives old new (Err e) read = Fails e read
+
+abbrev pub GivesReached : Parser → Parser → Result (CodeReached × Bor (List Word)) Refusal → Answer Reached → Type 0
+GivesReached old new (Ok x) read = Made reaches old new x.0 x.1.now read
+GivesReached old new (Err e) read = Fails e read
 
 abbrev pub GivesList : Parser → Parser → Result (Vec ℕ Global × Bor (List Word)) Refusal → Answer (List Tree) → Type 0
 GivesList old new (Ok x) read = Made (lists nodes) old new x.0.items x.1.now read

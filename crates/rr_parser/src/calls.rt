@@ -47,18 +47,18 @@ impl Parser {
         if commands {
             self.phrase(inside, depth, words)
         } else {
-            self.ternary(inside, depth, words)
+            self.settled(false, inside, depth, words)
         }
     }
 
-    /// A command or an operand.
+    /// A command, or an operand or an assignment to it.
     #[cycle(parser)]
     #[tactic(auto, unfolding(crate::specs::Reading::Calls::phrase_of))]
     fn phrase<'w>(&mut self, inside: bool, depth: u32, words: &'w [Word]) -> Parsed<'w, NodeId>
         ensures { Gives self.old self.new result (phrase_of (readers inside depth) (place self.old words.now)) }
     {
         let Some((head, rest)) = self.command_head(words) else {
-            return self.ternary(inside, depth, words);
+            return self.settled(true, inside, depth, words);
         };
         self.headed(head, inside, depth, rest)
     }

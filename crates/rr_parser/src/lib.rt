@@ -20,6 +20,7 @@ mod outline;
 mod parser;
 mod program;
 mod refusal;
+mod settings;
 mod statements;
 mod variables;
 mod word;

@@ -213,7 +213,7 @@ pub(crate) fn another(list: Listed, words: &[Word]) -> Option<&[Word]>
 }
 
 /// The sign of an assignment.
-fn sign(words: &[Word]) -> Option<(Sign, &[Word])>
+pub(crate) fn sign(words: &[Word]) -> Option<(Sign, &[Word])>
     ensures { Sees result (sign words.now) }
 {
     match words {

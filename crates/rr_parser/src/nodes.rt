@@ -365,7 +365,7 @@ impl Parser {
     }
 
     /// Puts an assignment with an operator.
-    fn put_operation(
+    pub fn put_operation(
         &mut self,
         operation: Operation,
         target: NodeId,

@@ -2,19 +2,19 @@
 
 ghost use Rattle.std.specs.Prelude.{◌≡◌, ◌<◌, length};
 ghost use Rattle.rr_tree.specs.Tree.{tree_at};
-ghost use Rattle.rr_parser.specs.Reading.Operands.{jump_at, passing_of, primary_of, tailed_of, postfix_of, name_of, variable_or_call, block_behind, blocked_of, bang_of, minus_of};
+ghost use Rattle.rr_parser.specs.Reading.Operands.{jump_at, passing_of, primary_of, sent_of, sent_call_of, element_of, plainly, tailed_of, postfix_of, name_of, variable_or_call, block_behind, blocked_of, bang_of, minus_of};
 ghost use Rattle.rr_parser.specs.Reading.{readers};
 
 use crate::fences::opening;
 use crate::look::{begins_arguments, begins_operands, behind, bracket, prefix_minus, tail};
 use crate::parser::{Parsed, Parser};
 use crate::refusal::Refusal;
-use crate::word::{Behind, Fence, Jump, Part, Passing, Tail, Word, WordKind};
+use crate::word::{Behind, Fence, Jump, Part, Passing, Reached, Spot, Tail, Word, WordKind};
 use rr_base::Sym;
 use rr_tree::{Node, NodeId};
 
 impl Parser {
-    ghost use Rattle.rr_parser.specs.Meets.{Gives, place};
+    ghost use Rattle.rr_parser.specs.Meets.{Gives, GivesReached, reaches, place};
 
     #[cycle(parser)]
     #[tactic(auto, unfolding(crate::specs::Reading::Operands::minus_of))]
@@ -34,7 +34,8 @@ impl Parser {
         ensures { Gives self.old self.new result (bang_of (readers inside depth) (place self.old words.now)) }
     {
         let Some(rest) = behind(WordKind::Bang, words) else {
-            return self.postfix(inside, depth, words);
+            let (operand, rest) = self.postfix(inside, depth, words)?;
+            return Ok((operand.node, rest));
         };
         let (operand, rest) = self.part(Part::Bang, inside, depth, rest)?;
         Ok((self.put(Node::Not(operand))?, rest))
@@ -43,10 +44,19 @@ impl Parser {
     /// An operand and what follows it.
     #[cycle(parser)]
     #[tactic(auto, unfolding(crate::specs::Reading::Operands::postfix_of))]
-    fn postfix<'w>(&mut self, inside: bool, depth: u32, words: &'w [Word]) -> Parsed<'w, NodeId>
-        ensures { Gives self.old self.new result (postfix_of (readers inside depth) (place self.old words.now)) }
+    pub fn postfix<'w>(
+        &mut self,
+        inside: bool,
+        depth: u32,
+        words: &'w [Word],
+    ) -> Parsed<'w, Reached>
+        ensures { GivesReached self.old self.new result (postfix_of (readers inside depth) (place self.old words.now)) }
     {
-        let (mut operand, mut rest) = self.primary(inside, depth, words)?;
+        let (first, mut rest) = self.primary(inside, depth, words)?;
+        let mut operand = Reached {
+            node: first,
+            spot: None,
+        };
         while let Some((tail, after)) = tail(rest) {
             let (made, after) = self.tailed(tail, operand, inside, depth, after)?;
             operand = made;
@@ -56,33 +66,106 @@ impl Parser {
     }
 
     #[cycle(parser)]
-    #[tactic(auto, unfolding(crate::specs::Reading::Operands::tailed_of))]
     fn tailed<'w>(
         &mut self,
         tail: Tail,
-        operand: NodeId,
+        operand: Reached,
+        inside: bool,
+        depth: u32,
+        words: &'w [Word],
+    ) -> Parsed<'w, Reached>
+        requires { operand.node < length self.old.nodes.items }
+        ensures { GivesReached self.old self.new result (tailed_of (readers inside depth) tail (reaches.tree self.old.nodes.items operand) (place self.old words.now)) }
+    {
+        match tail {
+            Tail::Send(name) => self.sent(operand.node, name, inside, depth, words),
+            Tail::Call(name) => self.sent_call(operand.node, name, inside, depth, words),
+            Tail::Index => self.element(operand.node, inside, depth, words),
+        }
+    }
+
+    /// A call without arguments, with the block that may stand behind it.
+    #[cycle(parser)]
+    #[tactic(auto, unfolding(crate::specs::Reading::Operands::sent_of))]
+    fn sent<'w>(
+        &mut self,
+        receiver: NodeId,
+        name: Sym,
+        inside: bool,
+        depth: u32,
+        words: &'w [Word],
+    ) -> Parsed<'w, Reached>
+        requires { receiver < length self.old.nodes.items }
+        ensures { GivesReached self.old self.new result (sent_of (readers inside depth) (tree_at self.old.nodes.items receiver) name (place self.old words.now)) }
+    {
+        let call = self.put_send(receiver, name, &[])?;
+        let Some((fence, rest)) = opening(Behind::Call, self.known.takes_do, words) else {
+            let attribute = Reached {
+                node: call,
+                spot: Some(Spot::Attribute { receiver, name }),
+            };
+            return Ok((attribute, words));
+        };
+        let (node, rest) = self.block_behind(fence, call, inside, depth, rest)?;
+        Ok((Reached { node, spot: None }, rest))
+    }
+
+    /// A call with arguments in brackets.
+    #[cycle(parser)]
+    fn sent_call<'w>(
+        &mut self,
+        receiver: NodeId,
+        name: Sym,
+        inside: bool,
+        depth: u32,
+        words: &'w [Word],
+    ) -> Parsed<'w, Reached>
+        requires { receiver < length self.old.nodes.items }
+        ensures { GivesReached self.old self.new result (plainly (sent_call_of (readers inside depth) (tree_at self.old.nodes.items receiver) name) (place self.old words.now)) }
+    {
+        let (node, rest) = self.sent_arguments(receiver, name, inside, depth, words)?;
+        Ok((Reached { node, spot: None }, rest))
+    }
+
+    /// The arguments of a call, with the block that may stand behind them.
+    #[cycle(parser)]
+    #[tactic(auto, unfolding(crate::specs::Reading::Operands::sent_call_of))]
+    fn sent_arguments<'w>(
+        &mut self,
+        receiver: NodeId,
+        name: Sym,
         inside: bool,
         depth: u32,
         words: &'w [Word],
     ) -> Parsed<'w, NodeId>
-        requires { operand < length self.old.nodes.items }
-        ensures { Gives self.old self.new result (tailed_of (readers inside depth) tail (tree_at self.old.nodes.items operand) (place self.old words.now)) }
+        requires { receiver < length self.old.nodes.items }
+        ensures { Gives self.old self.new result (sent_call_of (readers inside depth) (tree_at self.old.nodes.items receiver) name (place self.old words.now)) }
     {
-        match tail {
-            Tail::Send(name) => {
-                let call = self.put_send(operand, name, &[])?;
-                self.blocked(Behind::Call, call, inside, depth, words)
-            }
-            Tail::Call(name) => {
-                let (items, rest) = self.inner_arguments(inside, depth, words)?;
-                let call = self.put_send(operand, name, &items)?;
-                self.blocked(Behind::Call, call, inside, depth, rest)
-            }
-            Tail::Index => {
-                let (index, rest) = self.part(Part::Index, inside, depth, words)?;
-                Ok((self.put(Node::Index(operand, index))?, rest))
-            }
-        }
+        let (items, rest) = self.inner_arguments(inside, depth, words)?;
+        let call = self.put_send(receiver, name, &items)?;
+        self.blocked(Behind::Call, call, inside, depth, rest)
+    }
+
+    /// An index, with the bracket behind it.
+    #[cycle(parser)]
+    #[tactic(auto, unfolding(crate::specs::Reading::Operands::element_of))]
+    fn element<'w>(
+        &mut self,
+        receiver: NodeId,
+        inside: bool,
+        depth: u32,
+        words: &'w [Word],
+    ) -> Parsed<'w, Reached>
+        requires { receiver < length self.old.nodes.items }
+        ensures { GivesReached self.old self.new result (element_of (readers inside depth) (tree_at self.old.nodes.items receiver) (place self.old words.now)) }
+    {
+        let (index, rest) = self.part(Part::Index, inside, depth, words)?;
+        let node = self.put(Node::Index(receiver, index))?;
+        let element = Reached {
+            node,
+            spot: Some(Spot::Element { receiver, index }),
+        };
+        Ok((element, rest))
     }
 
     #[cycle(parser)]

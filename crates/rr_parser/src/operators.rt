@@ -29,7 +29,7 @@ impl Parser {
 
     #[cycle(parser)]
     #[tactic(auto, unfolding(crate::specs::Reading::Operators::ternary_on))]
-    fn ternary_on<'w>(
+    pub fn ternary_on<'w>(
         &mut self,
         left: NodeId,
         inside: bool,

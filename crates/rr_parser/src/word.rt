@@ -1,7 +1,7 @@
 //! Words: tokens as the grammar sees them, with names and texts by number.
 
 use rr_base::Sym;
-use rr_tree::BinaryOperator;
+use rr_tree::{BinaryOperator, NodeId};
 
 /// What joins two conditions.
 #[derive(Clone, Copy, Debug, PartialEq, Eq, Drop)]
@@ -101,6 +101,20 @@ pub(crate) enum Target {
     Variable(Sym),
     Field(Sym),
     Global(Sym),
+}
+
+/// What stands behind an operand and can be assigned to.
+#[derive(Clone, Copy, Debug, PartialEq, Eq, Drop)]
+pub(crate) enum Spot {
+    Element { receiver: NodeId, index: NodeId },
+    Attribute { receiver: NodeId, name: Sym },
+}
+
+/// An operand that was read, and how it can be assigned to, if it can.
+#[derive(Clone, Copy, Debug, PartialEq, Eq, Drop)]
+pub(crate) struct Reached {
+    pub node: NodeId,
+    pub spot: Option<Spot>,
 }
 
 /// What has members with commas between them.

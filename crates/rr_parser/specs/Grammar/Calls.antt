@@ -1,7 +1,7 @@
 -- Assignments, arguments and commands.
 use Rattle.std.specs.Prelude.{◌≡◌, List, [], ◌∷◌, Bool, true, false, Option, Some, None}
 use Rattle.rr_base.specs.declared.name.Sym.{Sym}
-use Rattle.rr_tree.specs.Tree.{Tree, field, global, operator_assign, append_assign, or_assign, and_assign, assign, set_field, set_global, symbol, array, hash, splat, pair, listed}
+use Rattle.rr_tree.specs.Tree.{Tree, field, global, operator_assign, append_assign, or_assign, and_assign, assign, set_field, set_global, set_index, set_attribute, symbol, array, hash, splat, pair, listed}
 use Rattle.rr_tree.specs.declared.node.BinaryOperator.TheVariants as op
 use Rattle.rr_parser.specs.declared.word.WordKind.TheVariants as kind
 use Rattle.rr_parser.specs.declared.word.Word.{Word}
@@ -26,7 +26,7 @@ use Rattle.rr_parser.specs.Grammar.Nesting.{Nested}
 use Rattle.rr_parser.specs.Grammar.Fences.{Taking, within_head}
 use Rattle.rr_parser.specs.declared.variables.Variable.{Variable}
 use Rattle.rr_parser.specs.Grammar.Names.{variable_of, local_tree, with_local, headed, command}
-use Rattle.rr_parser.specs.Grammar.Operands.{Blocked}
+use Rattle.rr_parser.specs.Grammar.Operands.{Blocked, Spot, element, attribute, Reached, Postfix}
 use Rattle.rr_parser.specs.Grammar.Operators.{Ternary}
 
 -- what is assigned to
@@ -101,13 +101,28 @@ assigned_to a s t = signed a.sign a.target (target_variable a.target s) t
 abbrev pub comma : Look (Unit {0})
 comma = word kind.Comma
 
+-- the tree of an assignment to an element or an attribute
+abbrev pub set_spot : Spot → Tree → Tree
+set_spot (element r i) t = set_index r i t
+set_spot (attribute r x) t = set_attribute r x.0 t
+
+-- the same, or one with an operator to what is read so
+abbrev pub settled : Sign → Spot → Tree → Tree → Tree
+settled signs.Plain p x t = set_spot p t
+settled (signs.With o) p x t = operated o x t
+
+-- an assignment to an element or an attribute, or an operand
+pub data Settled (N : Nested) (commands : Bool) : Place → Tree → Place → Type 0 where
+  a_setting : {s m n z : Place} {r : Reached} {p : Spot} {q : Sign} {t : Tree} → Postfix N s r m → r.spot ≡ Some p → at sign m ≡ Some (q, n) → N.value commands n t z → Settled N commands s (settled q p r.tree t) z
+  no_setting : {s z : Place} {t : Tree} → Ternary N s t z → Settled N commands s t z
+
 -- An assignment, or a Q. The variable is known on the right side already.
 pub data Assigned (N : Nested) (commands : Bool) (Q : Place → Tree → Place → Type 0) : Place → Tree → Place → Type 0 where
   an_assignment : {s n z : Place} {x : Aim} {t : Tree} → at target s ≡ Some (x, n) → N.value commands (with_target x.target n) t z → Assigned N commands Q s (assigned_to x (with_target x.target n) t) z
   no_assignment : {s z : Place} {t : Tree} → Q s t z → Assigned N commands Q s t z
 
 abbrev pub Argument : Nested → Place → Tree → Place → Type 0
-Argument N = Assigned N false (Ternary N)
+Argument N = Assigned N false (Settled N false)
 
 abbrev pub label_of_kind : WordKind → Option Sym
 label_of_kind (kind.Label x) = Some x
@@ -183,11 +198,11 @@ pub data Command (N : Nested) : Place → Tree → Place → Type 0 where
 
 pub data Phrase (N : Nested) : Place → Tree → Place → Type 0 where
   by_name : {s z : Place} {t : Tree} → Command N s t z → Phrase N s t z
-  an_operand : {s z : Place} {t : Tree} → Ternary N s t z → Phrase N s t z
+  an_operand : {s z : Place} {t : Tree} → Settled N true s t z → Phrase N s t z
 
 -- an operand; and a command too, where commands may stand
 abbrev pub Operand : Nested → Bool → Place → Tree → Place → Type 0
-Operand N false = Ternary N
+Operand N false = Settled N false
 Operand N true = Phrase N
 
 -- a right side, an argument, or what is joined to an expression

@@ -9,9 +9,9 @@ pub data Chain {X R S : Type 0} (between : Look X) (first : R → S) (join : X �
   more : {s m n z : Place} {l : S} {r : R} {x : X} → Chain between first join P s l m → at between m ≡ Some (x, n) → P n r z → Chain between first join P s (join x l r) z
 
 -- A P, or a trail and what is seen behind it, with what Q makes of both.
-pub data Trail {X : Type 0} (look : Look X) (P : Place → Tree → Place → Type 0) (Q : X → Tree → Place → Tree → Place → Type 0) : Place → Tree → Place → Type 0 where
-  at_first : {s z : Place} {t : Tree} → P s t z → Trail look P Q s t z
-  and_then : {s m n z : Place} {l t : Tree} {x : X} → Trail look P Q s l m → at look m ≡ Some (x, n) → Q x l n t z → Trail look P Q s t z
+pub data Trail {X A : Type 0} (look : Look X) (P : Place → A → Place → Type 0) (Q : X → A → Place → A → Place → Type 0) : Place → A → Place → Type 0 where
+  at_first : {s z : Place} {t : A} → P s t z → Trail look P Q s t z
+  and_then : {s m n z : Place} {l t : A} {x : X} → Trail look P Q s l m → at look m ≡ Some (x, n) → Q x l n t z → Trail look P Q s t z
 
 abbrev pub same : Tree → Tree
 same t = t

@@ -140,18 +140,42 @@ behind_dot ws (Some r) = sent (name r.1)
 abbrev pub tail : Look Tail
 tail ws = behind_dot ws (word kind.Dot ws)
 
--- what an operand and what follows it make
-pub data Tailed (N : Nested) : Tail → Tree → Place → Tree → Place → Type 0 where
-  a_send : {s z : Place} {x : Sym} {r t : Tree} → Blocked N behinds.Call (send r x.0 (listed [])) s t z → Tailed N (tails.Send x) r s t z
-  a_sent_call : {s m z : Place} {x : Sym} {r t : Tree} {l : List Tree} → N.bracketed s l m → Blocked N behinds.Call (send r x.0 (listed l)) m t z → Tailed N (tails.Call x) r s t z
-  an_index : {s z : Place} {r i : Tree} → N.part parts.Index s i z → Tailed N tails.Index r s (index r i) z
+-- what stands behind an operand and can be assigned to: an element, or an attribute
+pub data Spot : Type 0 where
+  element : Tree → Tree → Spot
+  attribute : Tree → Sym → Spot
 
-abbrev pub Postfix : Nested → Place → Tree → Place → Type 0
-Postfix N = Trail tail (Primary N) (Tailed N)
+-- what is read: its tree, and how it can be assigned to, if it can
+pub record Reached : Type 0 where
+  pub tree : Tree
+  pub spot : Option Spot
+
+abbrev pub plain : Tree → Reached
+plain t = record { tree = t; spot = None }
+
+abbrev pub at_element : Tree → Tree → Reached
+at_element r i = record { tree = index r i; spot = Some (element r i) }
+
+abbrev pub at_attribute : Tree → Sym → Reached
+at_attribute r x = record { tree = send r x.0 (listed []); spot = Some (attribute r x) }
+
+-- a P, which cannot be assigned to so
+pub data Plain (P : Place → Tree → Place → Type 0) : Place → Reached → Place → Type 0 where
+  as_it_is : {s z : Place} {t : Tree} → P s t z → Plain P s (plain t) z
+
+-- what an operand and what follows it make
+pub data Tailed (N : Nested) : Tail → Reached → Place → Reached → Place → Type 0 where
+  an_attribute : {s : Place} {x : Sym} {r : Reached} → opened behinds.Call s ≡ None → Tailed N (tails.Send x) r s (at_attribute r.tree x) s
+  a_block_send : {s m z : Place} {x : Sym} {r : Reached} {f : Fence} {b : Tree} → opened behinds.Call s ≡ Some (f, m) → N.part (parts.Block f) m b z → Tailed N (tails.Send x) r s (plain (with_block (send r.tree x.0 (listed [])) b)) z
+  a_sent_call : {s m z : Place} {x : Sym} {r : Reached} {t : Tree} {l : List Tree} → N.bracketed s l m → Blocked N behinds.Call (send r.tree x.0 (listed l)) m t z → Tailed N (tails.Call x) r s (plain t) z
+  an_index : {s z : Place} {r : Reached} {i : Tree} → N.part parts.Index s i z → Tailed N tails.Index r s (at_element r.tree i) z
+
+abbrev pub Postfix : Nested → Place → Reached → Place → Type 0
+Postfix N = Trail tail (Plain (Primary N)) (Tailed N)
 
 pub data Bang (N : Nested) : Place → Tree → Place → Type 0 where
   a_bang : {s m z : Place} {t : Tree} → next s ≡ Some (kind.Bang, m) → N.part parts.Bang m t z → Bang N s (logical_not t) z
-  no_bang : {s z : Place} {t : Tree} → Postfix N s t z → Bang N s t z
+  no_bang : {s z : Place} {r : Reached} → Postfix N s r z → Bang N s r.tree z
 
 pub data Minus (N : Nested) : Place → Tree → Place → Type 0 where
   a_minus : {s m z : Place} {t : Tree} → next s ≡ Some (kind.Minus, m) → at joined m ≡ None → N.part parts.Minus m t z → Minus N s (negate t) z

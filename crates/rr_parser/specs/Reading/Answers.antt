@@ -60,17 +60,17 @@ abbrev pub turn : {X R S : Type 0} → (X → S → R → S) → Parse R → (S 
 turn join p go l s None = Ok (l, s)
 turn join p go l s (Some x) = p x.1 >>= λ r. go (join x.0 l r.0) r.1
 
-abbrev pub trail_turn : {X : Type 0} → (X → Tree → Parse Tree) → (Tree → Parse Tree) → Tree → Place → Option (X × Place) → Answer Tree
+abbrev pub trail_turn : {X A : Type 0} → (X → A → Parse A) → (A → Parse A) → A → Place → Option (X × Place) → Answer A
 trail_turn q go l s None = Ok (l, s)
 trail_turn q go l s (Some x) = q x.0 l x.1 >>= λ r. go r.0 r.1
 
 -- what a trail gives of which l has come; the number bounds the turns
-unfoldable pub trail_from : {X : Type 0} → Look X → (X → Tree → Parse Tree) → ℕ → Tree → Parse Tree
+unfoldable pub trail_from : {X A : Type 0} → Look X → (X → A → Parse A) → ℕ → A → Parse A
 trail_from look q zero l s = Ok (l, s)
 trail_from look q (suc n) l s = trail_turn q (trail_from look q n) l s (at look s)
 
 -- the same with turns enough
-unfoldable pub trail_on : {X : Type 0} → Look X → (X → Tree → Parse Tree) → Tree → Parse Tree
+unfoldable pub trail_on : {X A : Type 0} → Look X → (X → A → Parse A) → A → Parse A
 trail_on look q l s = trail_from look q (length s.rest) l s
 
 -- what a chain gives of which l has come; the number bounds the turns

@@ -14,11 +14,40 @@ use Rattle.rr_parser.specs.Places.{Place, Look, unless, word, at}
 use Rattle.rr_parser.specs.Grammar.Chains.{one_of, and_one}
 use Rattle.rr_parser.specs.Grammar.Names.{headed, command}
 use Rattle.rr_parser.specs.Grammar.Fences.{within_head}
-use Rattle.rr_parser.specs.Grammar.Calls.{target, with_target, assigned_to, label, comma, star, closing, last}
-use Rattle.rr_parser.specs.Reading.Answers.{◌>>=◌, wrong, Answer, Parse, built, ended_by, closed, across, taking_of, chain}
+use Rattle.rr_parser.specs.declared.word.Sign.{Sign}
+use Rattle.rr_parser.specs.Grammar.Operands.{Spot, Reached}
+use Rattle.rr_parser.specs.Grammar.Calls.{sign, settled, target, with_target, assigned_to, label, comma, star, closing, last}
+use Rattle.rr_parser.specs.Reading.Answers.{◌>>=◌, wrong, Answer, Parse, built, ended_by, closed, from, across, taking_of, chain}
 use Rattle.rr_parser.specs.Reading.Nesting.{Readers}
-use Rattle.rr_parser.specs.Reading.Operands.{then_blocked}
-use Rattle.rr_parser.specs.Reading.Operators.{ternary_of}
+use Rattle.rr_parser.specs.Reading.Operands.{then_blocked, postfix_of, prefix_minus}
+use Rattle.rr_parser.specs.Reading.Operators.{ternary_on, ternary_of}
+
+abbrev pub setting_or : Readers → Bool → Tree → Spot → Place → Option (Sign × Place) → Answer Tree
+setting_or N commands t p m None = ternary_on N t m
+setting_or N commands t p m (Some q) = built (settled q.0 p t) (N.value commands q.1)
+
+-- what stands behind what can be assigned to
+unfoldable pub setting_of : Readers → Bool → Tree → Spot → Parse Tree
+setting_of N commands t p m = setting_or N commands t p m (at sign m)
+
+abbrev pub spot_or : Readers → Bool → Tree → Option Spot → Parse Tree
+spot_or N commands t None = ternary_on N t
+spot_or N commands t (Some p) = setting_of N commands t p
+
+-- what stands behind an operand that no word stands before
+abbrev pub reached_on : Readers → Bool → Reached → Parse Tree
+reached_on N commands r = spot_or N commands r.tree r.spot
+
+abbrev pub behind_bang : Readers → Bool → Place → Option (Unit {0} × Place) → Answer Tree
+behind_bang N commands s None = from (postfix_of N) (reached_on N commands) s
+behind_bang N commands s (Some m) = ternary_of N s
+
+abbrev pub behind_minus : Readers → Bool → Place → Option (Unit {0} × Place) → Answer Tree
+behind_minus N commands s None = behind_bang N commands s (at (word kind.Bang) s)
+behind_minus N commands s (Some m) = ternary_of N s
+
+unfoldable pub settled_of : Readers → Bool → Parse Tree
+settled_of N commands s = behind_minus N commands s (at prefix_minus s)
 
 abbrev pub assigned_or : Readers → Bool → Parse Tree → Place → Option (Aim × Place) → Answer Tree
 assigned_or N commands q s None = q s
@@ -28,7 +57,7 @@ unfoldable pub assigned_of : Readers → Bool → Parse Tree → Parse Tree
 assigned_of N commands q s = assigned_or N commands q s (at target s)
 
 abbrev pub argument_of : Readers → Parse Tree
-argument_of N = assigned_of N false (ternary_of N)
+argument_of N = assigned_of N false (settled_of N false)
 
 abbrev pub pair_by : Readers → Place → Option (Sym × Place) → Answer Tree
 pair_by N s None = across pair (word kind.Arrow) (argument_of N) (argument_of N s)
@@ -99,14 +128,14 @@ unfoldable pub command_of : Readers → Parse Tree
 command_of N s = command_or N (at (command s.known) s)
 
 abbrev pub phrase_or : Readers → Place → Option (Head × Place) → Answer Tree
-phrase_or N s None = ternary_of N s
+phrase_or N s None = settled_of N true s
 phrase_or N s (Some x) = headed_of N x.0 x.1
 
 unfoldable pub phrase_of : Readers → Parse Tree
 phrase_of N s = phrase_or N s (at (command s.known) s)
 
 abbrev pub operand_of : Readers → Bool → Parse Tree
-operand_of N false = ternary_of N
+operand_of N false = settled_of N false
 operand_of N true = phrase_of N
 
 abbrev pub value_of : Readers → Bool → Parse Tree

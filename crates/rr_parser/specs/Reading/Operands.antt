@@ -1,7 +1,7 @@
 -- Reading operands.
 use Rattle.std.specs.Prelude.{ℕ, Bool, pos, [], List, Option, Some, None, Ok, Err, if◌then◌else◌}
 use Rattle.rr_base.specs.declared.name.Sym.{Sym}
-use Rattle.rr_tree.specs.Tree.{Tree, nil, int, bare, call, send, with_block, index, constant, negate, logical_not, listed}
+use Rattle.rr_tree.specs.Tree.{Tree, nil, int, bare, call, send, with_block, constant, negate, logical_not, listed}
 use Rattle.rr_parser.specs.declared.word.WordKind.{WordKind}
 use Rattle.rr_parser.specs.declared.word.WordKind.TheVariants as kind
 use Rattle.rr_parser.specs.declared.word.Word.{Word}
@@ -18,7 +18,7 @@ use Rattle.rr_tree.specs.declared.node.Path.TheVariants as paths
 use Rattle.rr_parser.specs.Places.{Place, Look, word, at, next}
 use Rattle.rr_parser.specs.Grammar.Names.{is_local, variable_of, local_tree, is_allowed, jump_tree, begins_arguments, passed, passed_bare, bracket, begins_operands}
 use Rattle.rr_parser.specs.Grammar.Fences.{opened}
-use Rattle.rr_parser.specs.Grammar.Operands.{fits, fits_below, negated, joined, literal_of, inner_constant, construct_of, tail}
+use Rattle.rr_parser.specs.Grammar.Operands.{fits, fits_below, negated, joined, literal_of, inner_constant, construct_of, tail, Reached, plain, at_element, at_attribute}
 use Rattle.rr_parser.specs.Reading.Answers.{◌>>=◌, wrong, Answer, Parse, built, from, trail_on}
 use Rattle.rr_parser.specs.Reading.Nesting.{Readers}
 
@@ -108,16 +108,37 @@ primary_in N (Some k) = primary_at N k.0 k.1
 unfoldable pub primary_of : Readers → Parse Tree
 primary_of N s = primary_in N (next s)
 
-unfoldable pub tailed_of : Readers → Tail → Tree → Parse Tree
-tailed_of N (tails.Send x) r s = blocked_of N behinds.Call (send r x.0 (listed [])) s
-tailed_of N (tails.Call x) r s = then_blocked N behinds.Call (built (λ l. send r x.0 (listed l)) (N.bracketed s))
-tailed_of N tails.Index r s = built (index r) (N.part parts.Index s)
+abbrev pub sent_or : Readers → Tree → Sym → Place → Option (Fence × Place) → Answer Reached
+sent_or N r x s None = Ok (at_attribute r x, s)
+sent_or N r x s (Some b) = built plain (block_behind N b.0 (send r x.0 (listed [])) b.1)
 
-unfoldable pub postfix_of : Readers → Parse Tree
-postfix_of N = from (primary_of N) (trail_on tail (tailed_of N))
+-- a call without arguments
+unfoldable pub sent_of : Readers → Tree → Sym → Parse Reached
+sent_of N r x s = sent_or N r x s (opened behinds.Call s)
+
+-- a call with arguments in brackets
+unfoldable pub sent_call_of : Readers → Tree → Sym → Parse Tree
+sent_call_of N r x s = then_blocked N behinds.Call (built (λ l. send r x.0 (listed l)) (N.bracketed s))
+
+unfoldable pub element_of : Readers → Tree → Parse Reached
+element_of N r s = built (at_element r) (N.part parts.Index s)
+
+abbrev pub plainly : Parse Tree → Parse Reached
+plainly p s = built plain (p s)
+
+abbrev pub tailed_of : Readers → Tail → Reached → Parse Reached
+tailed_of N (tails.Send x) r = sent_of N r.tree x
+tailed_of N (tails.Call x) r = plainly (sent_call_of N r.tree x)
+tailed_of N tails.Index r = element_of N r.tree
+
+unfoldable pub postfix_of : Readers → Parse Reached
+postfix_of N = from (plainly (primary_of N)) (trail_on tail (tailed_of N))
+
+abbrev pub tree_reached : Reached → Tree
+tree_reached r = r.tree
 
 abbrev pub bang_or : Readers → Place → Option (Unit {0} × Place) → Answer Tree
-bang_or N s None = postfix_of N s
+bang_or N s None = built tree_reached (postfix_of N s)
 bang_or N s (Some m) = built logical_not (N.part parts.Bang m.1)
 
 unfoldable pub bang_of : Readers → Parse Tree

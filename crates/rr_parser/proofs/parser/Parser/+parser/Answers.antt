@@ -21,7 +21,8 @@ use Rattle.rr_parser.proofs.Listing.{Steps-another}
 use Rattle.rr_parser.proofs.Shrinking.{Steps-operator, Steps-connective, Steps-modifier, Steps-elsif, Steps-middle, Steps-rescues, shrinks_nested}
 use Rattle.rr_parser.proofs.Making.{stable_nodes, stable_pairs, goes_ends, goes_fails, goes_smaller, list_on, operators_on, nested_part, nested_bracketed, gives_outside}
 use Rattle.rr_parser.proofs.Choosing.{made_alternatives, made_pair, made_branch, made_loop, made_choice, made_unless}
-use Rattle.rr_parser.proofs.Calling.{gives_sent, gives_headed, made_behind, made_element, made_arrow, trail_fails, trail_smaller, trail_goes, trail_ends}
+use Rattle.rr_parser.proofs.Spots.{gives_sent, made_element, made_attribute, made_setting}
+use Rattle.rr_parser.proofs.Calling.{gives_headed, made_behind, made_arrow, trail_fails, trail_smaller, trail_goes, trail_ends}
 use Rattle.rr_parser.proofs.Rescuing.{made_clause, made_rescued, made_ensured}
 use Rattle.rr_parser.proofs.Interpolating.{pieces_begin, pieces_on, made_interpolation}
 use Rattle.rr_parser.proofs.parser.Parser.+parser.Goals as goal
@@ -202,9 +203,9 @@ postfix-loop-tail-preserved t c = trail_goes (readers c.args.inside c.args.depth
 pub postfix-returns : goal.postfix-returns
 postfix-returns t c = trail_ends (readers c.args.inside c.args.depth) (shrinks_nested c.args.inside c.args.depth) _ _ _ _ _ c.loop-tail.invariant c.in_default.ensures
 
-pub tailed-returns-in_ok-put-in-Index : goal.tailed-returns-in_ok-put-in-Index
-tailed-returns-in_ok-put-in-Index t c =
-    made_element (readers c.args.inside c.args.depth) c.args.self.now c.part.new.self c.put.new.self c.args.tail _ _ _ _ _ c.in-Index.is c.requires c.in_ok-index-in-Index.ensures c.in_ok-put-in-Index.ensures.puts
+pub element-returns : goal.element-returns
+element-returns t c =
+    made_element (readers c.args.inside c.args.depth) c.args.self.now c.part.new.self c.put.new.self _ _ _ _ _ c.requires c.in_ok-index.ensures c.in_ok-node.ensures.puts
 
 pub pair-returns : goal.pair-returns
 pair-returns t c =
@@ -214,9 +215,10 @@ pub block_behind-returns : goal.block_behind-returns
 block_behind-returns t c =
     made_behind (readers c.args.inside c.args.depth) c.args.self.now c.part.new.self c.put.new.self _ _ _ _ _ _ c.requires c.in_ok-block.ensures c.in_ok-put.ensures.puts
 
-pub tailed-returns-in_ok-call-in-Call : goal.tailed-returns-in_ok-call-in-Call
-tailed-returns-in_ok-call-in-Call t c =
-    gives_sent (readers c.args.inside c.args.depth) c.args.self.now c.inner_arguments.new.self c.put_send-in-Call.new.self c.blocked-in-Call.new.self c.args.tail _ _ _ c.in_ok-items-in-Call.items.items c.deref.result.now _ _ c.blocked-in-Call.result c.in-Call.is c.deref.ensures.value c.requires c.in_ok-items-in-Call.ensures c.in_ok-call-in-Call.ensures c.blocked-in-Call.ensures
+pub sent_arguments-returns : goal.sent_arguments-returns
+sent_arguments-returns t c =
+    gives_sent (readers c.args.inside c.args.depth) c.args.self.now c.inner_arguments.new.self c.put_send.new.self c.blocked.new.self _ _ _ c.in_ok-items.items.items c.deref.result.now _ _ c.blocked.result c.deref.ensures.value c.requires c.in_ok-items.ensures c.in_ok-call.ensures
+    c.blocked.ensures
 
 pub headed-returns : goal.headed-returns
 headed-returns t c =
@@ -281,3 +283,11 @@ pub interpolation-returns : goal.interpolation-returns
 interpolation-returns t c =
     made_interpolation (readers c.args.inside c.args.depth) c.args.head c.args.self.now c.pieces.new.self c.in_ok-items.items.items _ _ c.in_ok-items.ensures _ _ c.in-Some.ensures c.put.new.self _ c.in_ok-piece.ensures.puts c.deref.result.now
     (c.deref.ensures.value ∙ c.in_ok-push.ensures.items) c.put_interpolation.new.self _ c.in_ok-put_interpolation.ensures
+
+pub sent-returns-in_default : goal.sent-returns-in_default
+sent-returns-in_default t c =
+    made_attribute (readers c.args.inside c.args.depth) c.args.self.now c.put_send.new.self _ _ _ _ c.requires c.in_ok-call.ensures c.in_default.ensures
+
+pub setting-returns : goal.setting-returns
+setting-returns t c =
+    made_setting (readers c.args.inside c.args.depth) c.args.commands c.args.self.now c.right_side.new.self c.put_setting.new.self _ _ _ c.args.spot _ _ _ _ c.requires.target c.requires.spot c.in-Some.ensures c.in_ok-value.ensures c.in_ok-put_setting.ensures

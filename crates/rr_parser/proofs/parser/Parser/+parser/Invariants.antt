@@ -16,7 +16,7 @@ use Rattle.rr_parser.specs.Reading.Interpolations.{pieces_of}
 use Rattle.rr_parser.specs.Reading.Control.{branch_of, branches_of}
 use Rattle.rr_parser.specs.Reading.Bodies.{clause_of, clauses_of}
 use Rattle.rr_parser.specs.Reading.{readers}
-use Rattle.rr_parser.specs.Meets.{place, nodes, pairs, lists}
+use Rattle.rr_parser.specs.Meets.{place, nodes, pairs, lists, reaches}
 use Rattle.rr_parser.proofs.Making.{Goes}
 use Rattle.rr_parser.proofs.parser.Parser.+parser.Given as goal
 
@@ -39,10 +39,10 @@ abbrev pub decreases-primary : goal.decreases-primary
 decreases-primary l = 128 * l.depth + cond l.inside 0 64 + 4
 
 abbrev pub decreases-bang : goal.decreases-bang
-decreases-bang l = 128 * l.depth + cond l.inside 0 64 + 6
+decreases-bang l = 128 * l.depth + cond l.inside 0 64 + 7
 
 abbrev pub decreases-minus : goal.decreases-minus
-decreases-minus l = 128 * l.depth + cond l.inside 0 64 + 7
+decreases-minus l = 128 * l.depth + cond l.inside 0 64 + 8
 
 abbrev pub decreases-equality_on : goal.decreases-equality_on
 decreases-equality_on l = 128 * l.depth + cond l.inside 0 64 + 18
@@ -54,55 +54,55 @@ abbrev pub decreases-ternary : goal.decreases-ternary
 decreases-ternary l = 128 * l.depth + cond l.inside 0 64 + 25
 
 abbrev pub decreases-commanded : goal.decreases-commanded
-decreases-commanded l = 128 * l.depth + cond l.inside 0 64 + 32
+decreases-commanded l = 128 * l.depth + cond l.inside 0 64 + 34
 
 abbrev pub decreases-bracketed : goal.decreases-bracketed
-decreases-bracketed l = 128 * l.depth + cond l.inside 0 64 + 31
+decreases-bracketed l = 128 * l.depth + cond l.inside 0 64 + 33
 
 abbrev pub decreases-phrase : goal.decreases-phrase
-decreases-phrase l = 128 * l.depth + cond l.inside 0 64 + 35
+decreases-phrase l = 128 * l.depth + cond l.inside 0 64 + 37
 
 abbrev pub decreases-command : goal.decreases-command
-decreases-command l = 128 * l.depth + cond l.inside 0 64 + 35
+decreases-command l = 128 * l.depth + cond l.inside 0 64 + 37
 
 abbrev pub decreases-negation : goal.decreases-negation
-decreases-negation l = 128 * l.depth + cond l.inside 0 64 + 38
+decreases-negation l = 128 * l.depth + cond l.inside 0 64 + 40
 
 abbrev pub decreases-expression : goal.decreases-expression
-decreases-expression l = 128 * l.depth + cond l.inside 0 64 + 39
+decreases-expression l = 128 * l.depth + cond l.inside 0 64 + 41
 
 abbrev pub decreases-statement : goal.decreases-statement
-decreases-statement l = 128 * l.depth + cond l.inside 0 64 + 40
+decreases-statement l = 128 * l.depth + cond l.inside 0 64 + 42
 
 abbrev pub decreases-rows : goal.decreases-rows
-decreases-rows l = 128 * l.depth + cond l.inside 0 64 + 41
+decreases-rows l = 128 * l.depth + cond l.inside 0 64 + 43
 
 abbrev pub decreases-statements : goal.decreases-statements
-decreases-statements l = 128 * l.depth + cond l.inside 0 64 + 42
+decreases-statements l = 128 * l.depth + cond l.inside 0 64 + 44
 
 abbrev pub decreases-group : goal.decreases-group
-decreases-group l = 128 * l.depth + cond l.inside 0 64 + 43
+decreases-group l = 128 * l.depth + cond l.inside 0 64 + 45
 
 abbrev pub decreases-otherwise : goal.decreases-otherwise
-decreases-otherwise l = 128 * l.depth + cond l.inside 0 64 + 43
+decreases-otherwise l = 128 * l.depth + cond l.inside 0 64 + 45
 
 abbrev pub decreases-branch : goal.decreases-branch
-decreases-branch l = 128 * l.depth + cond l.inside 0 64 + 43
+decreases-branch l = 128 * l.depth + cond l.inside 0 64 + 45
 
 abbrev pub decreases-repeat : goal.decreases-repeat
-decreases-repeat l = 128 * l.depth + cond l.inside 0 64 + 43
+decreases-repeat l = 128 * l.depth + cond l.inside 0 64 + 45
 
 abbrev pub decreases-branches : goal.decreases-branches
-decreases-branches l = 128 * l.depth + cond l.inside 0 64 + 44
+decreases-branches l = 128 * l.depth + cond l.inside 0 64 + 46
 
 abbrev pub decreases-choice : goal.decreases-choice
-decreases-choice l = 128 * l.depth + cond l.inside 0 64 + 45
+decreases-choice l = 128 * l.depth + cond l.inside 0 64 + 47
 
 abbrev pub decreases-unless : goal.decreases-unless
-decreases-unless l = 128 * l.depth + cond l.inside 0 64 + 45
+decreases-unless l = 128 * l.depth + cond l.inside 0 64 + 47
 
 abbrev pub decreases-part_within : goal.decreases-part_within
-decreases-part_within l = 128 * l.depth + cond l.inside 0 64 + 50
+decreases-part_within l = 128 * l.depth + cond l.inside 0 64 + 52
 
 abbrev pub decreases-binary_on : goal.decreases-binary_on
 decreases-binary_on l = 128 * l.depth + cond l.inside 0 64 + (2 * l.level + 8)
@@ -117,25 +117,25 @@ abbrev pub decreases-logical : goal.decreases-logical
 decreases-logical l = 128 * l.depth + cond l.inside 0 64 + (2 * l.level + 20)
 
 abbrev pub decreases-operand : goal.decreases-operand
-decreases-operand l = 128 * l.depth + cond l.inside 0 64 + cond l.commands 36 26
+decreases-operand l = 128 * l.depth + cond l.inside 0 64 + cond l.commands 38 28
 
 abbrev pub decreases-value : goal.decreases-value
-decreases-value l = 128 * l.depth + cond l.inside 0 64 + cond l.commands 37 27
+decreases-value l = 128 * l.depth + cond l.inside 0 64 + cond l.commands 39 29
 
 abbrev pub decreases-headed : goal.decreases-headed
-decreases-headed l = 128 * l.depth + cond l.inside 0 64 + 34
+decreases-headed l = 128 * l.depth + cond l.inside 0 64 + 36
 
 abbrev pub decreases-arguments : goal.decreases-arguments
-decreases-arguments l = 128 * l.depth + cond l.inside 0 64 + 33
+decreases-arguments l = 128 * l.depth + cond l.inside 0 64 + 35
 
 abbrev pub decreases-condition : goal.decreases-condition
-decreases-condition l = 128 * l.depth + cond l.inside 0 64 + 40
+decreases-condition l = 128 * l.depth + cond l.inside 0 64 + 42
 
 abbrev pub decreases-form : goal.decreases-form
-decreases-form l = 128 * l.depth + cond l.inside 0 64 + 49
+decreases-form l = 128 * l.depth + cond l.inside 0 64 + 51
 
 abbrev pub decreases-call_arguments : goal.decreases-call_arguments
-decreases-call_arguments l = 128 * l.depth + cond l.inside 0 64 + 32
+decreases-call_arguments l = 128 * l.depth + cond l.inside 0 64 + 34
 
 abbrev pub invariant-members-loop-after : goal.invariant-members-loop-after
 invariant-members-loop-after l =
@@ -147,8 +147,8 @@ decreases-members-loop-after l = length l.rest
 
 abbrev pub invariant-postfix-loop-tail : goal.invariant-postfix-loop-tail
 invariant-postfix-loop-tail l =
-    Goes nodes l.fn.self l.self l.operand (postfix_of (readers l.inside l.depth) (place l.fn.self l.fn.words))
-    (trail_on tail (tailed_of (readers l.inside l.depth)) (tree_at l.self.nodes.items l.operand) (place l.self l.rest))
+    Goes reaches l.fn.self l.self l.operand (postfix_of (readers l.inside l.depth) (place l.fn.self l.fn.words))
+    (trail_on tail (tailed_of (readers l.inside l.depth)) (reaches.tree l.self.nodes.items l.operand) (place l.self l.rest))
 
 abbrev pub decreases-postfix-loop-tail : goal.decreases-postfix-loop-tail
 decreases-postfix-loop-tail l = length l.rest
@@ -208,31 +208,31 @@ abbrev pub decreases-logical_on-loop-connective : goal.decreases-logical_on-loop
 decreases-logical_on-loop-connective l = length l.rest
 
 abbrev pub decreases-tailed : goal.decreases-tailed
-decreases-tailed l = 128 * l.depth + cond l.inside 0 64 + 3
+decreases-tailed l = 128 * l.depth + cond l.inside 0 64 + 5
 
 abbrev pub decreases-postfix : goal.decreases-postfix
-decreases-postfix l = 128 * l.depth + cond l.inside 0 64 + 5
+decreases-postfix l = 128 * l.depth + cond l.inside 0 64 + 6
 
 abbrev pub decreases-item : goal.decreases-item
-decreases-item l = 128 * l.depth + cond l.inside 0 64 + 28
+decreases-item l = 128 * l.depth + cond l.inside 0 64 + 30
 
 abbrev pub decreases-pair : goal.decreases-pair
-decreases-pair l = 128 * l.depth + cond l.inside 0 64 + 28
+decreases-pair l = 128 * l.depth + cond l.inside 0 64 + 30
 
 abbrev pub decreases-member : goal.decreases-member
-decreases-member l = 128 * l.depth + cond l.inside 0 64 + 29
+decreases-member l = 128 * l.depth + cond l.inside 0 64 + 31
 
 abbrev pub decreases-members : goal.decreases-members
-decreases-members l = 128 * l.depth + cond l.inside 0 64 + 30
+decreases-members l = 128 * l.depth + cond l.inside 0 64 + 32
 
 abbrev pub decreases-array : goal.decreases-array
-decreases-array l = 128 * l.depth + cond l.inside 0 64 + 32
+decreases-array l = 128 * l.depth + cond l.inside 0 64 + 34
 
 abbrev pub decreases-hash : goal.decreases-hash
-decreases-hash l = 128 * l.depth + cond l.inside 0 64 + 32
+decreases-hash l = 128 * l.depth + cond l.inside 0 64 + 34
 
 abbrev pub decreases-index : goal.decreases-index
-decreases-index l = 128 * l.depth + cond l.inside 0 64 + 32
+decreases-index l = 128 * l.depth + cond l.inside 0 64 + 34
 
 abbrev pub decreases-block_behind : goal.decreases-block_behind
 decreases-block_behind l = 128 * l.depth + cond l.inside 0 64 + 1
@@ -241,34 +241,34 @@ abbrev pub decreases-blocked : goal.decreases-blocked
 decreases-blocked l = 128 * l.depth + cond l.inside 0 64 + 2
 
 abbrev pub decreases-block : goal.decreases-block
-decreases-block l = 128 * l.depth + cond l.inside 0 64 + 48
+decreases-block l = 128 * l.depth + cond l.inside 0 64 + 50
 
 abbrev pub decreases-looped : goal.decreases-looped
-decreases-looped l = 128 * l.depth + cond l.inside 0 64 + 44
+decreases-looped l = 128 * l.depth + cond l.inside 0 64 + 46
 
 abbrev pub decreases-passing : goal.decreases-passing
 decreases-passing l = 128 * l.depth + cond l.inside 0 64 + 3
 
 abbrev pub decreases-definition : goal.decreases-definition
-decreases-definition l = 128 * l.depth + cond l.inside 0 64 + 48
+decreases-definition l = 128 * l.depth + cond l.inside 0 64 + 50
 
 abbrev pub decreases-clause : goal.decreases-clause
-decreases-clause l = 128 * l.depth + cond l.inside 0 64 + 43
+decreases-clause l = 128 * l.depth + cond l.inside 0 64 + 45
 
 abbrev pub decreases-clauses : goal.decreases-clauses
-decreases-clauses l = 128 * l.depth + cond l.inside 0 64 + 44
+decreases-clauses l = 128 * l.depth + cond l.inside 0 64 + 46
 
 abbrev pub decreases-rescued : goal.decreases-rescued
-decreases-rescued l = 128 * l.depth + cond l.inside 0 64 + 45
+decreases-rescued l = 128 * l.depth + cond l.inside 0 64 + 47
 
 abbrev pub decreases-body : goal.decreases-body
-decreases-body l = 128 * l.depth + cond l.inside 0 64 + 46
+decreases-body l = 128 * l.depth + cond l.inside 0 64 + 48
 
 abbrev pub decreases-begun : goal.decreases-begun
-decreases-begun l = 128 * l.depth + cond l.inside 0 64 + 47
+decreases-begun l = 128 * l.depth + cond l.inside 0 64 + 49
 
 abbrev pub decreases-held : goal.decreases-held
-decreases-held l = 128 * l.depth + cond l.inside 0 64 + 47
+decreases-held l = 128 * l.depth + cond l.inside 0 64 + 49
 
 abbrev pub invariant-clauses-loop-after : goal.invariant-clauses-loop-after
 invariant-clauses-loop-after l =
@@ -279,10 +279,10 @@ abbrev pub decreases-clauses-loop-after : goal.decreases-clauses-loop-after
 decreases-clauses-loop-after l = length l.rest
 
 abbrev pub decreases-pieces : goal.decreases-pieces
-decreases-pieces l = 128 * l.depth + cond l.inside 0 64 + 43
+decreases-pieces l = 128 * l.depth + cond l.inside 0 64 + 45
 
 abbrev pub decreases-interpolation : goal.decreases-interpolation
-decreases-interpolation l = 128 * l.depth + cond l.inside 0 64 + 44
+decreases-interpolation l = 128 * l.depth + cond l.inside 0 64 + 46
 
 abbrev pub invariant-pieces-loop-middle : goal.invariant-pieces-loop-middle
 invariant-pieces-loop-middle l =
@@ -291,3 +291,24 @@ invariant-pieces-loop-middle l =
 
 abbrev pub decreases-pieces-loop-middle : goal.decreases-pieces-loop-middle
 decreases-pieces-loop-middle l = length l.rest
+
+abbrev pub decreases-element : goal.decreases-element
+decreases-element l = 128 * l.depth + cond l.inside 0 64 + 3
+
+abbrev pub decreases-sent_arguments : goal.decreases-sent_arguments
+decreases-sent_arguments l = 128 * l.depth + cond l.inside 0 64 + 3
+
+abbrev pub decreases-sent : goal.decreases-sent
+decreases-sent l = 128 * l.depth + cond l.inside 0 64 + 3
+
+abbrev pub decreases-sent_call : goal.decreases-sent_call
+decreases-sent_call l = 128 * l.depth + cond l.inside 0 64 + 4
+
+abbrev pub decreases-setting : goal.decreases-setting
+decreases-setting l = 128 * l.depth + cond l.inside 0 64 + 25
+
+abbrev pub decreases-behind_operand : goal.decreases-behind_operand
+decreases-behind_operand l = 128 * l.depth + cond l.inside 0 64 + 26
+
+abbrev pub decreases-settled : goal.decreases-settled
+decreases-settled l = 128 * l.depth + cond l.inside 0 64 + 27
