@@ -217,6 +217,19 @@ error new => undefined method 'new' for an instance of TypeError | #<TypeError: 
 *[2,1 sort => [1, 2] | [2, 1]
 [1 sort 1 => wrong number of arguments (given 1, expected 0) (ArgumentError) | [1]
 {1:2 sort => undefined method 'sort' for an instance of Hash | {1 => 2}
+[1,2,3 join => \"123\" | [1, 2, 3]
+[1,'a,-2 join '- => \"1-a--2\" | [1, \"a\", -2]
+[1,2 join ', => \"1,2\" | [1, 2]
+[1 join '- => \"1\" | [1]
+[1,2 join nil => \"12\" | [1, 2]
+[ join => \"\" | []
+[ join 5 => \"\" | []
+[1 join 5 => wrong type Integer (TypeError) | [1]
+[1 join [1 => wrong type Array (TypeError) | [1]
+*['a,'b join *'+ => \"a+b\" | [\"a\", \"b\"]
+[1 join '- 1 => wrong number of arguments (given 2, expected 0..1) (ArgumentError) | [1]
+'a join '- => undefined method 'join' for an instance of String | \"a\"
+{1:2 join => undefined method 'join' for an instance of Hash | {1 => 2}
 [1,2 == [1,2 => true | [1, 2]
 [1,2 == [2,1 => false | [1, 2]
 [1,2 == [1 => false | [1, 2]

@@ -121,6 +121,13 @@ taking from a frozen array|[].freeze.pop^n||can't modify frozen Array (FrozenErr
 taking the first of a frozen array|[1].freeze.shift^n||can't modify frozen Array (FrozenError)
 an argument for a pop|[1].pop(1)^n||wrong number of arguments (given 1, expected 0) (ArgumentError)
 arrays joined|a = [1]; b = a + [2]; b << 3; p a, b, [] + [], [[]] + [nil]^n|[1]^n[1, 2, 3]^n[]^n[[], nil]^n|
+texts of joined arrays|p [1, nil, :a, \"b\", [2, []], Integer].join(\"-\"), [].join(\"-\"), [1, [], 2].join(\"-\"), [[], []].join(\"-\"), [1, 2].join, [1, [2, [3]]].join, [1, 2].join(nil), [].join(5)^n|\"1--a-b-2--Integer\"^n\"\"^n\"1--2\"^n\"-\"^n\"12\"^n\"123\"^n\"12\"^n\"\"^n|
+texts of joined values|p [true, false, nil, -3, \"ü\"].join(\"é\"), [RuntimeError.new(\"m\"), [ArgumentError.new]].join(\" \"), [Object.new].join^n|\"trueéfalseéé-3éü\"^n\"m ArgumentError\"^n\"#<Object>\"^n|
+a joined text is a new one|a = [\"x\"]; p a.join.equal?(a[0]), a.freeze.join.frozen?, a.join^n|false^nfalse^n\"x\"^n|
+an array joined inside itself|a = [1]; a << [2, a]; p a.join(\"-\")^n||recursive array join (ArgumentError)
+a text between elements that is none|[1].join(5)^n||wrong type Integer (TypeError)
+two texts between elements|[1].join(\"a\", \"b\")^n||wrong number of arguments (given 2, expected 0..1) (ArgumentError)
+a joined text|\"a\".join^n||undefined method 'join' for an instance of String (NoMethodError)
 an array and a text|[1] + \"a\"^n||wrong type String (TypeError)
 an array and nil|[1] + nil^n||wrong type NilClass (TypeError)
 an array less an array|[1] - [1]^n||undefined method '-' for an instance of Array (NoMethodError)

@@ -89,7 +89,7 @@ fn published(alloc: Global) -> Result<&'static Cluster, Fail> {
 }
 
 /// An array of one element.
-fn around(alloc: Global, space: &mut Space, element: Ref) -> Result<Ref, Fail> {
+pub fn around(alloc: Global, space: &mut Space, element: Ref) -> Result<Ref, Fail> {
     if let Ref::Local(slot) = element
         && (slot as usize) < space.len()
     {
@@ -99,7 +99,7 @@ fn around(alloc: Global, space: &mut Space, element: Ref) -> Result<Ref, Fail> {
 }
 
 /// So many arrays, each the only element of the next; the last of them.
-fn nested(alloc: Global, space: &mut Space, count: usize) -> Result<Ref, Fail> {
+pub fn nested(alloc: Global, space: &mut Space, count: usize) -> Result<Ref, Fail> {
     let mut array = space.alloc(Node::Array(Items::new(alloc)))?;
     for _ in 1..count {
         array = around(alloc, space, array)?;

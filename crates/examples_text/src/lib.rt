@@ -1,7 +1,9 @@
-//! Worked examples of printed texts and of equality. It has only tests.
+//! Worked examples of printed and joined texts and of equality. It has only tests.
 #![tactic(auto)]
 
 #[cfg(test)]
 mod compared;
+#[cfg(test)]
+mod joined;
 #[cfg(test)]
 mod printed;

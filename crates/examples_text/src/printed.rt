@@ -8,7 +8,7 @@ use std::alloc::Global;
 use std::test::Fail;
 
 /// A program with one name.
-fn program(alloc: Global) -> Result<Program, Fail> {
+pub fn program(alloc: Global) -> Result<Program, Fail> {
     let mut symbols = Vec::new(alloc);
     symbols.push(b"name".to_vec(alloc)?)?;
     Ok(Program {

@@ -59,6 +59,7 @@ names_are_one (Content content.HasKey) = refl
 names_are_one (Content content.Delete) = refl
 names_are_one (Content content.Sum) = refl
 names_are_one (Content content.Sort) = refl
+names_are_one (Content content.Join) = refl
 names_are_one (Telling telling.Name) = refl
 names_are_one (Telling telling.Message) = refl
 names_are_one (Telling telling.Cause) = refl

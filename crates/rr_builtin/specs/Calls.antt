@@ -6,7 +6,7 @@ use Rattle.rr_space.specs.Graph.{Plain, Nil as NilValue}
 use Rattle.rr_space.specs.Tables.{Table, Below, resolve}
 use Rattle.rr_space.specs.Parts.{value_of}
 use Rattle.rr_base.specs.declared.limits.TheConstants.Limits.{DEFAULT}
-use Rattle.rr_text.specs.Walk.{Walked, Wrote, Differs, Deep, Shell}
+use Rattle.rr_text.specs.Walk.{Walked, Wrote, Differs, Deep, Circular, Shell}
 use Rattle.rr_text.specs.Keys.{reading}
 use Rattle.rr_text.specs.Comparing.{compared}
 use Rattle.rr_space.specs.Kinds.{kind_at, class_at}
@@ -22,7 +22,7 @@ use Rattle.rr_text.specs.Forms.{Names, spoken}
 use Rattle.rr_builtin.specs.declared.method.TellingMethod.{TellingMethod}
 use Rattle.rr_builtin.specs.declared.method.TellingMethod.TheVariants.{Name, Message, Cause, Ractor}
 use Rattle.rr_text.specs.Names.{names_of}
-use Rattle.rr_builtin.specs.declared.problem.Problem.TheVariants.{Moved, Count, TooDeep}
+use Rattle.rr_builtin.specs.declared.problem.Problem.TheVariants.{Moved, Count, TooDeep, Circular as CircularProblem}
 use Rattle.rr_builtin.specs.declared.method.NumberMethod.{NumberMethod}
 use Rattle.rr_builtin.specs.declared.method.BuiltInMethod.{BuiltInMethod}
 use Rattle.rr_builtin.specs.declared.method.BuiltInMethod.TheVariants.{Operator, Number, Object, Content, Telling, New}
@@ -33,7 +33,7 @@ use Rattle.rr_builtin.specs.Texts.{text_operator, ordered}
 use Rattle.rr_builtin.specs.Containers.{content_act}
 use Rattle.rr_builtin.specs.Arrays.{array_sum}
 use Rattle.rr_builtin.specs.News.{may_make, takes_message, new_act}
-use Rattle.rr_builtin.specs.Kinds.{is_shell_kind, has, is_new, is_of_remote_errors, count_of}
+use Rattle.rr_builtin.specs.Kinds.{is_shell_kind, has, is_new, is_join, is_of_remote_errors, count_of}
 use Rattle.rr_builtin.specs.Classes.{descends}
 
 -- `==` and `!=` of values that are equal or not
@@ -65,6 +65,7 @@ compared_at below t v a = compared (reading t below) DEFAULT.levels (resolve t.s
 abbrev pub walked_equality : BinaryOperator → Walked → Act
 walked_equality op (Wrote s) = equality op true
 walked_equality op Differs = equality op false
+walked_equality op Circular = Answers (Raises CircularProblem)
 walked_equality op Deep = Answers (Raises TooDeep)
 walked_equality op Shell = Answers (Raises Moved)
 
@@ -101,7 +102,7 @@ abbrev pub method_act : Program → Below → BuiltInMethod → Ref → Ref → 
 method_act p below (Operator op) v a b t = operator_act (names_of p) below (kind_at t v) op v a t
 method_act p below (Number m) v a b t = number_act m v
 method_act p below (Object m) v a b t = object_act p below m v a t
-method_act p below (Content m) v a b t = content_act below (kind_at t v) m v a b t
+method_act p below (Content m) v a b t = content_act (names_of p) below (kind_at t v) m v a b t
 method_act p below (Telling m) v a b t = telling_act (names_of p) below m v t
 method_act p below New v a b t = new_act p v a
 
@@ -109,9 +110,9 @@ method_act p below New v a b t = new_act p v a
 abbrev pub responds : Program → Table → Kind → Ref → BuiltInMethod → Bool
 responds p t k v m = (has k m && (not (is_new m) || may_make p v)) && (not (is_of_remote_errors m) || descends p (class_at t v).0 REMOTE_ERROR.0)
 
--- how many arguments the method takes at most
+-- how many arguments the method takes at most: `new` of an exception takes a message, and `join` a separator
 abbrev pub most_of : Program → Ref → BuiltInMethod → ℕ
-most_of p v m = if is_new m && takes_message p v then 1 else count_of m
+most_of p v m = if (is_new m && takes_message p v) || is_join m then 1 else count_of m
 
 abbrev pub is_between : ℕ → ℕ → ℕ → Bool
 is_between least most n = not (nat_lt n least) && not (nat_lt most n)

@@ -7,12 +7,13 @@ use Rattle.rr_space.specs.declared.kind.Kind.{Kind}
 use Rattle.rr_space.specs.declared.kind.Kind.TheVariants as kind
 use Rattle.rr_space.specs.declared.refer.Ref.{Ref}
 use Rattle.rr_builtin.specs.declared.method.ContentMethod.{ContentMethod}
-use Rattle.rr_builtin.specs.declared.method.ContentMethod.TheVariants.{Size, Length, IsEmpty, First, Last, At as AtMethod, SetAt, Append, Push, Pop, Shift, Includes, Keys, Values, HasKey, Delete, Sum, Sort}
-use Rattle.rr_text.specs.Walk.{Walked, Wrote, Differs, Deep, Shell}
+use Rattle.rr_builtin.specs.declared.method.ContentMethod.TheVariants.{Size, Length, IsEmpty, First, Last, At as AtMethod, SetAt, Append, Push, Pop, Shift, Includes, Keys, Values, HasKey, Delete, Sum, Sort, Join}
+use Rattle.rr_text.specs.Walk.{Walked, Wrote, Differs, Deep, Circular, Shell}
+use Rattle.rr_text.specs.Forms.{Names}
 use Rattle.rr_text.specs.Same.{triples_in}
 use Rattle.rr_text.specs.Keys.{reading}
 use Rattle.rr_text.specs.Comparing.{values_in, searched}
-use Rattle.rr_builtin.specs.declared.problem.Problem.TheVariants.{Moved, TooDeep}
+use Rattle.rr_builtin.specs.declared.problem.Problem.TheVariants.{Moved, TooDeep, Circular as CircularProblem}
 use Rattle.rr_builtin.specs.Acts.{Act, Answers, MakesArray, Pushes, Gives, Raises, Lacks, element_at}
 use Rattle.rr_builtin.specs.Objects.{truth}
 use Rattle.rr_builtin.specs.Contents.{size_act, is_empty, indexed, unless_frozen, taken, popped, text_content}
@@ -20,6 +21,7 @@ use Rattle.rr_builtin.specs.Arrays.{array_put}
 use Rattle.rr_builtin.specs.Hashes.{hash_read, hash_has, hash_put, hash_delete}
 use Rattle.rr_builtin.specs.Sums.{sum_act}
 use Rattle.rr_builtin.specs.Sorts.{sort_act}
+use Rattle.rr_builtin.specs.Joins.{join_act}
 use Rattle.rr_builtin.specs.Elements.{count_at, names_of_hash, values_of_hash}
 
 -- a method of arrays
@@ -48,12 +50,14 @@ abbrev pub found_act : Walked → Act
 found_act (Wrote s) = truth true
 found_act Differs = truth false
 found_act Deep = Answers (Raises TooDeep)
+found_act Circular = Answers (Raises CircularProblem)
 found_act Shell = Answers (Raises Moved)
 
--- a method of arrays, `include?` among them
-abbrev pub array_method : Below → ContentMethod → Ref → Ref → Ref → Table → Act
-array_method below Includes v a b t = found_act (searched_at below t v a)
-array_method below m v a b t = array_content below m v a b t
+-- a method of arrays, `include?` and `join` among them
+abbrev pub array_method : Names → Below → ContentMethod → Ref → Ref → Ref → Table → Act
+array_method names below Includes v a b t = found_act (searched_at below t v a)
+array_method names below Join v a b t = join_act names below v a t
+array_method names below m v a b t = array_content below m v a b t
 
 -- a method of hashes
 abbrev pub hash_content : Below → ContentMethod → Ref → Ref → Ref → Table → Act
@@ -69,8 +73,8 @@ hash_content below Values v a b t = MakesArray (values_of_hash t v)
 hash_content below _ v a b t = Answers Lacks
 
 -- a method of texts, arrays and hashes, by the kind of the receiver
-abbrev pub content_act : Below → Kind → ContentMethod → Ref → Ref → Ref → Table → Act
-content_act below kind.Text m v a b t = text_content m v a t
-content_act below kind.Array m v a b t = array_method below m v a b t
-content_act below kind.Hash m v a b t = hash_content below m v a b t
-content_act below _ m v a b t = Answers Lacks
+abbrev pub content_act : Names → Below → Kind → ContentMethod → Ref → Ref → Ref → Table → Act
+content_act names below kind.Text m v a b t = text_content m v a t
+content_act names below kind.Array m v a b t = array_method names below m v a b t
+content_act names below kind.Hash m v a b t = hash_content below m v a b t
+content_act names below _ m v a b t = Answers Lacks

@@ -7,7 +7,7 @@ use Rattle.rr_tree.specs.declared.node.BinaryOperator.TheVariants.{Add, Subtract
 use Rattle.rr_builtin.specs.declared.method.ObjectMethod.{ObjectMethod}
 use Rattle.rr_builtin.specs.declared.method.ObjectMethod.TheVariants.{IsA, KindOf, IsIdentical}
 use Rattle.rr_builtin.specs.declared.method.ContentMethod.{ContentMethod}
-use Rattle.rr_builtin.specs.declared.method.ContentMethod.TheVariants.{Size, Length, IsEmpty, First, Last, At, Append, Push, Pop, Shift, Includes, SetAt, Keys, Values, HasKey, Delete, Sum, Sort}
+use Rattle.rr_builtin.specs.declared.method.ContentMethod.TheVariants.{Size, Length, IsEmpty, First, Last, At, Append, Push, Pop, Shift, Includes, SetAt, Keys, Values, HasKey, Delete, Sum, Sort, Join}
 use Rattle.rr_builtin.specs.declared.method.TellingMethod.{TellingMethod}
 use Rattle.rr_builtin.specs.declared.method.TellingMethod.TheVariants as telling
 use Rattle.rr_builtin.specs.declared.method.BuiltInMethod.{BuiltInMethod}
@@ -103,6 +103,7 @@ has_content k Values = is_hash k
 has_content k Delete = is_hash k
 has_content k Sum = is_array_kind k
 has_content k Sort = is_array_kind k
+has_content k Join = is_array_kind k
 
 abbrev pub is_class : Kind → Bool
 is_class kind.Class = true
@@ -150,6 +151,11 @@ is_new (Object m) = false
 is_new (Content m) = false
 is_new (Telling m) = false
 is_new New = true
+
+-- whether the method joins an array
+abbrev pub is_join : BuiltInMethod → Bool
+is_join (Content Join) = true
+is_join _ = false
 
 abbrev pub asks_ractor : TellingMethod → Bool
 asks_ractor telling.Name = false

@@ -16,6 +16,7 @@ pub mod Elements
 pub mod ValueClasses
 pub mod Sums
 pub mod Sorts
+pub mod Joins
 pub mod Hashes
 pub mod News
 pub mod Containers

@@ -69,6 +69,7 @@ content_name content.HasKey = codes "key?"
 content_name content.Delete = codes "delete"
 content_name content.Sum = codes "sum"
 content_name content.Sort = codes "sort"
+content_name content.Join = codes "join"
 
 abbrev pub telling_name : TellingMethod → List ℕ
 telling_name telling.Name = codes "name"
@@ -99,7 +100,7 @@ object_methods = Object object.Class ∷ Object object.IsA ∷ Object object.Kin
 abbrev pub content_methods : List BuiltInMethod
 content_methods = Content content.Size ∷ Content content.Length ∷ Content content.IsEmpty ∷ Content content.First ∷ Content content.Last ∷ Content content.At
     ∷ Content content.Append ∷ Content content.Push ∷ Content content.Pop ∷ Content content.Shift ∷ Content content.Includes
-    ∷ Content content.SetAt ∷ Content content.Keys ∷ Content content.Values ∷ Content content.HasKey ∷ Content content.Delete ∷ Content content.Sum ∷ Content content.Sort ∷ []
+    ∷ Content content.SetAt ∷ Content content.Keys ∷ Content content.Values ∷ Content content.HasKey ∷ Content content.Delete ∷ Content content.Sum ∷ Content content.Sort ∷ Content content.Join ∷ []
 
 abbrev pub telling_methods : List BuiltInMethod
 telling_methods = Telling telling.Name ∷ Telling telling.Message ∷ Telling telling.Cause ∷ Telling telling.Ractor ∷ New ∷ []

@@ -11,9 +11,9 @@ use Rattle.rr_space.specs.declared.kind.Kind.{Kind}
 use Rattle.rr_space.specs.declared.kind.Kind.TheVariants as kind
 use Rattle.rr_space.specs.declared.refer.Ref.{Ref}
 use Rattle.rr_space.specs.declared.refer.Ref.TheVariants as ref
-use Rattle.rr_text.specs.Walk.{Walked, Wrote, Differs, Deep, Shell}
+use Rattle.rr_text.specs.Walk.{Walked, Wrote, Differs, Deep, Circular, Shell}
 use Rattle.rr_text.specs.Forms.{Names, Way, spoken, inspected, printed}
-use Rattle.rr_builtin.specs.declared.problem.Problem.TheVariants.{Moved, TooDeep, WrongType}
+use Rattle.rr_builtin.specs.declared.problem.Problem.TheVariants.{Moved, TooDeep, WrongType, Circular as CircularProblem}
 use Rattle.rr_builtin.specs.declared.method.ObjectMethod.{ObjectMethod}
 use Rattle.rr_builtin.specs.declared.method.ObjectMethod.TheVariants.{Class, IsA, KindOf, IsNil, IsIdentical, Not, Freeze, IsFrozen, ToS, Inspect, Dup}
 use Rattle.rr_tree.specs.declared.program.Program.{Program}
@@ -54,6 +54,7 @@ abbrev pub told : Walked → Act
 told (Wrote s) = Makes s
 told Differs = Answers (Raises Moved)
 told Deep = Answers (Raises TooDeep)
+told Circular = Answers (Raises CircularProblem)
 told Shell = Answers (Raises Moved)
 
 -- a text is its own `to_s`

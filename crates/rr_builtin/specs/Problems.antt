@@ -5,7 +5,7 @@ use Rattle.rr_base.specs.declared.class.BuiltInClass.{BuiltInClass}
 use Rattle.rr_base.specs.declared.class.BuiltInClass.TheVariants.{ArgumentError, FrozenError, IndexError, MovedError, RangeError, SystemStackError, TypeError, ZeroDivisionError}
 use Rattle.rr_text.specs.Forms.{Names}
 use Rattle.rr_builtin.specs.declared.problem.Problem.{Problem}
-use Rattle.rr_builtin.specs.declared.problem.Problem.TheVariants.{DividedByZero, OutOfRange, Count, Frozen, Incomparable, WrongType, IndexOutOfRange, Negative, Moved, TooDeep}
+use Rattle.rr_builtin.specs.declared.problem.Problem.TheVariants.{DividedByZero, OutOfRange, Count, Frozen, Incomparable, WrongType, IndexOutOfRange, Negative, Moved, TooDeep, Circular}
 use Rattle.rr_builtin.specs.declared.problem.Receiver.{Receiver}
 use Rattle.rr_builtin.specs.declared.problem.Receiver.TheVariants.{Nil, Truth, Class, Instance}
 
@@ -20,6 +20,7 @@ problem_class IndexOutOfRange = IndexError
 problem_class Negative = ArgumentError
 problem_class Moved = MovedError
 problem_class TooDeep = SystemStackError
+problem_class Circular = ArgumentError
 
 -- how many arguments a method takes
 abbrev pub expected_text : ℕ → ℕ → List ℕ
@@ -39,6 +40,7 @@ problem_text names IndexOutOfRange = codes "index out of range"
 problem_text names Negative = codes "argument must be non-negative"
 problem_text names Moved = codes "moved object"
 problem_text names TooDeep = codes "stack level too deep"
+problem_text names Circular = codes "recursive array join"
 
 -- what a message calls the receiver of a missing method
 abbrev pub receiver_text : Names → Receiver → List ℕ

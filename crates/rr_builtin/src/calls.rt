@@ -16,7 +16,7 @@ use crate::built::Built;
 use crate::classes::descends;
 use crate::contents::{content_deed, element_at};
 use crate::deed::{Deed, perform};
-use crate::kinds::{count_of, has, is_new, is_of_remote_errors, is_shell_kind};
+use crate::kinds::{count_of, has, is_join, is_new, is_of_remote_errors, is_shell_kind};
 use crate::method::{BuiltInMethod, NumberMethod, TellingMethod};
 use crate::news::{may_make, new_deed, takes_message};
 use crate::numbers::{number_answer, on_integer};
@@ -248,7 +248,7 @@ fn method_deed(
             object_deed(alloc, space, program, method, receiver, argument)
         }
         BuiltInMethod::Content(method) => content_deed(
-            alloc, space, method, receiver, argument, second,
+            alloc, space, program, method, receiver, argument, second,
         ),
         BuiltInMethod::Telling(method) => telling_deed(alloc, space, program, method, receiver),
         BuiltInMethod::New => new_deed(alloc, space, program, receiver, argument),
@@ -265,11 +265,11 @@ fn responds(space: &Space, program: &Program, kind: Kind, value: Ref, method: Bu
             || descends(program, space.class_of(value), ClassId::REMOTE_ERROR))
 }
 
-/// How many arguments the method takes at most.
+/// How many arguments the method takes at most: `new` of an exception takes a message, and `join` a separator.
 fn most_of(program: &Program, value: Ref, method: BuiltInMethod) -> usize
     ensures { result ≡ most_of program.now value method }
 {
-    if is_new(method) && takes_message(program, value) {
+    if (is_new(method) && takes_message(program, value)) || is_join(method) {
         1
     } else {
         count_of(method)

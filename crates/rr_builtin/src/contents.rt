@@ -6,6 +6,7 @@ ghost use Rattle.rr_space.specs.Parts.{IsWithin, value_of};
 ghost use Rattle.rr_space.specs.Kinds.{kind_at};
 ghost use Rattle.rr_space.specs.Views.{text_at};
 ghost use Rattle.rr_space.specs.Labels.{triples_at};
+ghost use Rattle.rr_text.specs.Names.{names_of};
 ghost use Rattle.rr_text.specs.Reads.{IsAmong, IsReadWith};
 ghost use Rattle.rr_builtin.specs.Integers.{given};
 ghost use Rattle.rr_builtin.specs.Numbers.{number_given};
@@ -21,6 +22,7 @@ use crate::characters::{character_at, characters};
 use crate::deed::Deed;
 use crate::hashes::{hash_delete, hash_has, hash_put, hash_read};
 use crate::integer::NumberProblem;
+use crate::joins::join_deed;
 use crate::kinds::is_text_kind;
 use crate::method::ContentMethod;
 use crate::numbers::number_given;
@@ -32,6 +34,7 @@ use memchr::memmem;
 use rr_base::Fault;
 use rr_space::{Kind, Ref, Space};
 use rr_text::{Compared, search};
+use rr_tree::Program;
 use std::alloc::Global;
 
 fn size_at(space: &Space, kind: Kind, value: Ref) -> usize
@@ -323,10 +326,11 @@ fn included_deed(alloc: Global, space: &Space, array: Ref, value: Ref) -> Result
     }
 }
 
-/// A method of arrays, `include?` among them.
+/// A method of arrays, `include?` and `join` among them.
 fn array_method(
     alloc: Global,
     space: &Space,
+    program: &Program,
     method: ContentMethod,
     array: Ref,
     argument: Ref,
@@ -336,13 +340,14 @@ fn array_method(
     requires kind { kind_at space.now array ≡ Kind.Array }
     requires argument { IsWithin (length space.now.slots) argument }
     requires second { IsWithin (length space.now.slots) second }
-    ensures act { IfOk result (λ deed. (below : Below) → IsReadWith space.now below → IsAmong below array → IsAmong below argument → act_of deed ≡ array_method below method array argument second space.now) }
+    ensures act { IfOk result (λ deed. (below : Below) → IsReadWith space.now below → IsAmong below array → IsAmong below argument → act_of deed ≡ array_method (names_of program.now) below method array argument second space.now) }
     ensures fit { IfOk result (λ deed. IsFit space.now array deed) }
     ensures among { IfOk result (λ deed. (below : Below) → IsReadWith space.now below → IsRefAmong below array → IsRefAmong below argument → IsRefAmong below second → IsDeedAmong below deed) }
     ensures fault { IfErr result (λ f. f ≡ Fault.Memory) }
 {
     match method {
         ContentMethod::Includes => included_deed(alloc, space, array, argument),
+        ContentMethod::Join => join_deed(alloc, space, program, array, argument),
         _ => array_content(alloc, space, method, array, argument, second),
     }
 }
@@ -383,6 +388,7 @@ fn hash_content(
 pub(crate) fn content_deed(
     alloc: Global,
     space: &Space,
+    program: &Program,
     method: ContentMethod,
     value: Ref,
     argument: Ref,
@@ -392,14 +398,14 @@ pub(crate) fn content_deed(
     requires argument { IsWithin (length space.now.slots) argument }
     requires second { IsWithin (length space.now.slots) second }
     ensures act { IfOk result (λ deed. (below : Below) → IsReadWith space.now below → IsAmong below value → IsAmong below argument
-        → act_of deed ≡ content_act below (kind_at space.now value) method value argument second space.now) }
+        → act_of deed ≡ content_act (names_of program.now) below (kind_at space.now value) method value argument second space.now) }
     ensures fit { IfOk result (λ deed. IsFit space.now value deed) }
     ensures among { IfOk result (λ deed. (below : Below) → IsReadWith space.now below → IsRefAmong below value → IsRefAmong below argument → IsRefAmong below second → IsDeedAmong below deed) }
     ensures fault { IfErr result (λ f. f ≡ Fault.Memory) }
 {
     match space.kind_of(value) {
         Kind::Text => text_content(alloc, space, method, value, argument),
-        Kind::Array => array_method(alloc, space, method, value, argument, second),
+        Kind::Array => array_method(alloc, space, program, method, value, argument, second),
         Kind::Hash => hash_content(alloc, space, method, value, argument, second),
         _ => Ok(Deed::Answer(Built::Missing)),
     }

@@ -1,7 +1,7 @@
 //! Which methods the values of a kind have, and how many arguments they take.
 
 ghost use Rattle.std.specs.Prelude.{◌≡◌};
-ghost use Rattle.rr_builtin.specs.Kinds.{is_shell_kind, is_integer_kind, is_array_kind, is_added, has_order, has_operator, has_size, is_text_kind, is_appended, is_joined, is_hash, is_container, has_content, is_class, is_exception, has_telling, has, object_count, content_count, is_new, is_of_remote_errors, asks_ractor, count_of};
+ghost use Rattle.rr_builtin.specs.Kinds.{is_shell_kind, is_integer_kind, is_array_kind, is_added, has_order, has_operator, has_size, is_text_kind, is_appended, is_joined, is_hash, is_container, has_content, is_class, is_exception, has_telling, has, object_count, content_count, is_new, is_join, is_of_remote_errors, asks_ractor, count_of};
 
 use crate::method::{BuiltInMethod, ContentMethod, ObjectMethod, TellingMethod};
 use rr_space::Kind;
@@ -160,6 +160,7 @@ fn has_content(kind: Kind, method: ContentMethod) -> bool
         ContentMethod::Delete => is_hash(kind),
         ContentMethod::Sum => is_array_kind(kind),
         ContentMethod::Sort => is_array_kind(kind),
+        ContentMethod::Join => is_array_kind(kind),
     }
 }
 
@@ -242,6 +243,16 @@ pub(crate) fn is_new(method: BuiltInMethod) -> bool
         BuiltInMethod::Content(_) => false,
         BuiltInMethod::Telling(_) => false,
         BuiltInMethod::New => true,
+    }
+}
+
+/// Whether the method joins an array.
+pub(crate) fn is_join(method: BuiltInMethod) -> bool
+    ensures { result ≡ is_join method }
+{
+    match method {
+        BuiltInMethod::Content(ContentMethod::Join) => true,
+        _ => false,
     }
 }
 

@@ -13,6 +13,7 @@ mod dividing;
 mod hash_copies;
 mod hashes;
 mod integer;
+mod joins;
 mod kinds;
 mod method;
 mod names;

@@ -49,6 +49,7 @@ pub enum ContentMethod {
     Delete,
     Sum,
     Sort,
+    Join,
 }
 
 /// A method of classes or of exceptions, which tells something of them.

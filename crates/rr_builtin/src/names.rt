@@ -131,6 +131,8 @@ fn content_method_named(name: &[u8]) -> Option<BuiltInMethod>
         ContentMethod::Sum
     } else if name == b"sort".as_slice() {
         ContentMethod::Sort
+    } else if name == b"join".as_slice() {
+        ContentMethod::Join
     } else {
         return None;
     };

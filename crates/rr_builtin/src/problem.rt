@@ -37,6 +37,8 @@ pub enum Problem {
     Moved,
     /// Containers stand in one another more levels deep than may be entered.
     TooDeep,
+    /// An array that would be joined stands inside itself.
+    Circular,
 }
 
 impl Problem {
@@ -59,6 +61,7 @@ impl Problem {
             Problem::Negative => BuiltInClass::ArgumentError,
             Problem::Moved => BuiltInClass::MovedError,
             Problem::TooDeep => BuiltInClass::SystemStackError,
+            Problem::Circular => BuiltInClass::ArgumentError,
         }
     }
 
@@ -83,6 +86,7 @@ impl Problem {
             Problem::Negative => out.extend_from_slice(b"argument must be non-negative"),
             Problem::Moved => out.extend_from_slice(b"moved object"),
             Problem::TooDeep => out.extend_from_slice(b"stack level too deep"),
+            Problem::Circular => out.extend_from_slice(b"recursive array join"),
         }
     }
 }

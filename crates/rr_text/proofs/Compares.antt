@@ -44,18 +44,18 @@ module _ (slots : List Slot) where
     told_now p DeepNow e = leaf_deep (look_pair r) same_pair (begun_of slots) levels frames [] p e
     told_now p ShellNow e = leaf_shell (look_pair r) same_pair (begun_of slots) levels frames [] p e
 
-    module _ (p : Pair) (sides : List Sides) (e : look_pair r p ≡ Branch p [] [] (map part_of (map (resolved slots) sides)) []) where
+    module _ (p : Pair) (sides : List Sides) (e : look_pair r p ≡ Branch p (Wrote []) [] (map part_of (map (resolved slots) sides)) []) where
       pub begun_again : list_any (λ f. same_pair p (key_of slots f)) frames ≡ true → showing (look_pair r) same_pair (begun_of slots) levels frames [] p ≡ ahead r slots levels Same frames
       begun_again is = again_showed (look_pair r) same_pair (begun_of slots) levels frames frames [] [] [] [] [] p p (map part_of (map (resolved slots) sides)) e (any_above p frames ∙ is) refl refl
 
       pub begun_deep : list_any (λ f. same_pair p (key_of slots f)) frames ≡ false → levels ≤ length frames → showing (look_pair r) same_pair (begun_of slots) levels frames [] p ≡ ahead r slots levels DeepNow frames
-      begun_deep is full = deep_showed (look_pair r) same_pair (begun_of slots) levels frames [] [] [] [] p p (map part_of (map (resolved slots) sides)) e (any_above p frames ∙ is) full
+      begun_deep is full = deep_showed (look_pair r) same_pair (begun_of slots) levels frames [] (Wrote []) [] [] p p (map part_of (map (resolved slots) sides)) e (any_above p frames ∙ is) full
 
       pub begun_inside : (f : Beside) (new : List Beside) → list_any (λ f. same_pair p (key_of slots f)) frames ≡ false → length frames < levels
           → begun_of slots f ≡ record { key = p; parts = map part_of (map (resolved slots) sides); closing = [] } → new ≡ frames ++ f ∷ []
           → showing (look_pair r) same_pair (begun_of slots) levels frames [] p ≡ ahead r slots levels Same new
       begun_inside f new is fits seen more =
-          entered_showed (look_pair r) same_pair (begun_of slots) levels frames new f [] [] [] [] [] p p (map part_of (map (resolved slots) sides)) e (any_above p frames ∙ is) fits seen more refl
+          entered_showed (look_pair r) same_pair (begun_of slots) levels frames new f [] [] (Wrote []) [] [] p p (map part_of (map (resolved slots) sides)) e (any_above p frames ∙ is) fits seen more refl
 
 -- ---- Less is left.
 

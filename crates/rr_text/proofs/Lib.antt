@@ -11,3 +11,4 @@ mod Fronts
 mod Sided
 mod Compares
 mod Searches
+mod Joins

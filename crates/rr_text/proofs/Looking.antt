@@ -15,7 +15,7 @@ use Rattle.rr_space.specs.Labels.{triples_at, IsFirstUnder}
 use Rattle.rr_space.specs.declared.kind.Kind.TheVariants.{Array as ArrayKind, Hash as HashKind}
 use Rattle.rr_space.specs.declared.refer.Ref.{Ref}
 use Rattle.rr_space.specs.declared.refer.Ref.TheVariants.{Nil, Truth, Int, Symbol, Class, Ractor, Local, Shared}
-use Rattle.rr_text.specs.Walk.{Wrote, Differs, Deep, Shell, Look, Leaf, Branch}
+use Rattle.rr_text.specs.Walk.{Wrote, Differs, Deep, Circular, Shell, Look, Leaf, Branch}
 use Rattle.rr_text.specs.Forms.{Names, Way, inspected, lines, Item, Key, lining, elements, entries, key_text, thing, look, line_look, array_look, hash_look, object_look, same_key, is_message, message_in, message_text, told_by, immediate_written}
 use Rattle.rr_text.specs.Rest.{keys}
 use Rattle.rr_text.specs.Reads.{IsAmong, IsReadWith, IsAtEnd}
@@ -80,7 +80,7 @@ module _ (names : Names) (g : Graph) where
       subst P (sym e) (ap (λ k. object_look names g way k (At n) (thing names g n)) h)
 
   -- the elements of an array that is not empty stand on lines
-  pub line_some : (v : Value) (ts : List (Label × Value)) → 0 < length ts → line_look names g v ts ≡ Branch (lining, v) (codes "[...]" ++ 10 ∷ []) [] (elements lines [] [] ts) []
+  pub line_some : (v : Value) (ts : List (Label × Value)) → 0 < length ts → line_look names g v ts ≡ Branch (lining, v) (Wrote (codes "[...]" ++ 10 ∷ [])) [] (elements lines [] [] ts) []
   line_some v [] h = absurd (let w : ⊥ = omega (arith, h) in w)
   line_some v (t ∷ ts) h = refl
 
@@ -107,7 +107,7 @@ module _ (names : Names) (g : Graph) where
       ∙ any_end k f (reverse fs) ∙ ap (λ b. same_key k (key_of f) || b) (any_above k fs)
 
   module _ (levels : ℕ) (frames frames' : List Frame) (f : Frame) (out out' again opening : List ℕ) (i : Item)
-      (e : look names g i ≡ Branch (key_of f) again opening (begun_of names g f).parts (begun_of names g f).closing) where
+      (e : look names g i ≡ Branch (key_of f) (Wrote again) opening (begun_of names g f).parts (begun_of names g f).closing) where
     here : (b : Bool) → list_any (λ x. same_key (key_of f) (key_of x)) frames ≡ b
         → MatchBool b ((frames' ≡ frames) × (out' ≡ out ++ again)) ((length frames < levels) × (frames' ≡ frames ++ f ∷ []) × (out' ≡ out ++ opening))
         → Showed names g levels frames out i On frames' out'
@@ -115,13 +115,13 @@ module _ (names : Names) (g : Graph) where
         again_showed (look names g) same_key (begun_of names g) levels frames frames' out out' again opening (begun_of names g f).closing i (key_of f) (begun_of names g f).parts e
         (any_above (key_of f) frames ∙ is) same_frames more
     here false is (fits, es, more) =
-        entered_showed (look names g) same_key (begun_of names g) levels frames frames' f out out' again opening (begun_of names g f).closing i (key_of f) (begun_of names g f).parts e
+        entered_showed (look names g) same_key (begun_of names g) levels frames frames' f out out' (Wrote again) opening (begun_of names g f).closing i (key_of f) (begun_of names g f).parts e
         (any_above (key_of f) frames ∙ is) fits refl es more
 
     pub entered_shows : (going : Going) → IsEntered levels again opening f frames out going frames' out' → Showed names g levels frames out i going frames' out'
     entered_shows On h = here (list_any (λ x. same_key (key_of f) (key_of x)) frames) refl h
     entered_shows GoingDeep (new, full) =
-        deep_showed (look names g) same_key (begun_of names g) levels frames out again opening (begun_of names g f).closing i (key_of f) (begun_of names g f).parts e
+        deep_showed (look names g) same_key (begun_of names g) levels frames out (Wrote again) opening (begun_of names g f).closing i (key_of f) (begun_of names g f).parts e
         (any_above (key_of f) frames ∙ new) full
     entered_shows GoingShell h = absurd h
 
@@ -260,6 +260,7 @@ module _ (names : Names) (g : Graph) where
       (λ h. absurd (let w : ⊥ = cc in w), λ h. leaf_shell (look names g) same_key (begun_of names g) levels frames out i e)
   leaf_shows levels frames out out' i (Leaf Differs) now e h = absurd h
   leaf_shows levels frames out out' i (Leaf Deep) now e h = absurd h
+  leaf_shows levels frames out out' i (Leaf Circular) now e h = absurd h
   leaf_shows levels frames out out' i (Branch k again opening parts closing) now e h = absurd h
 
 pub told_look : (names : Names) (t : Table) (below : Below) (r : Ref) (n : Name) (way : Way) → IsTableSound t.slots t.below → IsReadWith t below → IsAmong below r → IsAtEnd t r → value_of r ≡ At n

@@ -2,10 +2,11 @@
 use Rattle.std.proofs.Common.{refl}
 use Rattle.std.specs.Fmt.{digits}
 use Rattle.rr_text.specs.Quoted.{quoted}
+use Rattle.rr_text.specs.Joining.{look_joined, joined}
 use Rattle.rr_text.specs.Rows.{AllRows}
 
 pub rows_compute : AllRows
-unfolding digits quoted
+unfolding digits quoted look_joined joined
 rows_compute = record {
   itself = refl;
   pairs = refl;
@@ -24,4 +25,11 @@ rows_compute = record {
   plain_object = refl;
   immediates = refl;
   hash_itself = refl;
+  joined_alike = refl;
+  joined_bare = refl;
+  joined_itself = refl;
+  joined_hash = refl;
+  joined_too_deep = refl;
+  joined_hash_too_deep = refl;
+  joined_shell = refl;
 }

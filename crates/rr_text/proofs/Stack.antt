@@ -2,34 +2,39 @@
 use Rattle.std.proofs.Common.{◌≡◌, ℕ, zero, suc, ◌+◌, ◌-◌, ◌<◌, ◌≤◌, Bool, true, false, List, [], ◌∷◌, ◌++◌, map, length, refl, sym, ap, ◌∙◌, arith, if◌then◌else◌}
 use Rattle.std.specs.List.{list_any}
 use Rattle.std.proofs.lemmas.List.{append_assoc, append-nil, reverse-append, length_push}
-use Rattle.rr_text.specs.Walk.{Walked, Wrote, Differs, Deep, Shell, Look, Leaf, Branch, followed, all_of, looked, walk}
+use Rattle.rr_text.specs.Walk.{Walked, Wrote, Differs, Deep, Circular, Shell, Look, Leaf, Branch, followed, all_of, looked, walk}
 use Rattle.rr_text.specs.Rest.{Begun, keys, rest, begun, whole, showing}
 
 pub followed_bytes : (a b : List ℕ) (p : Walked) → followed (Wrote a) (followed (Wrote b) p) ≡ followed (Wrote (a ++ b)) p
 followed_bytes a b (Wrote c) = ap Wrote (sym (append_assoc a b c))
 followed_bytes a b Differs = refl
 followed_bytes a b Deep = refl
+followed_bytes a b Circular = refl
 followed_bytes a b Shell = refl
 
 pub followed_assoc : (p q r : Walked) → followed (followed p q) r ≡ followed p (followed q r)
 followed_assoc (Wrote a) (Wrote b) r = sym (followed_bytes a b r)
 followed_assoc (Wrote a) Differs r = refl
 followed_assoc (Wrote a) Deep r = refl
+followed_assoc (Wrote a) Circular r = refl
 followed_assoc (Wrote a) Shell r = refl
 followed_assoc Differs q r = refl
 followed_assoc Deep q r = refl
+followed_assoc Circular q r = refl
 followed_assoc Shell q r = refl
 
 pub followed_none : (p : Walked) → followed (Wrote []) p ≡ p
 followed_none (Wrote a) = refl
 followed_none Differs = refl
 followed_none Deep = refl
+followed_none Circular = refl
 followed_none Shell = refl
 
 pub followed_end : (p : Walked) → followed p (Wrote []) ≡ p
 followed_end (Wrote a) = ap Wrote (append-nil a)
 followed_end Differs = refl
 followed_end Deep = refl
+followed_end Circular = refl
 followed_end Shell = refl
 
 module _ {I K : Type 0} (look : I → Look I K) (same : K → K → Bool) where
@@ -39,22 +44,22 @@ module _ {I K : Type 0} (look : I → Look I K) (same : K → K → Bool) where
   at_leaf (suc room) above i w e =
       ap (looked same above (λ k opening parts closing. followed (Wrote opening) (followed (all_of (walk look same room (k ∷ above)) parts) (Wrote closing)))) e
 
-  pub at_again : (room : ℕ) (above : List K) (i : I) (k : K) (again opening closing : List ℕ) (parts : List (List ℕ × I)) → look i ≡ Branch k again opening parts closing
-      → list_any (same k) above ≡ true → walk look same room above i ≡ Wrote again
+  pub at_again : (room : ℕ) (above : List K) (i : I) (k : K) (again : Walked) (opening closing : List ℕ) (parts : List (List ℕ × I)) → look i ≡ Branch k again opening parts closing
+      → list_any (same k) above ≡ true → walk look same room above i ≡ again
   at_again zero above i k again opening closing parts e h =
-      ap (looked same above (λ k opening parts closing. Deep)) e ∙ ap (λ b. if b then Wrote again else Deep) h
+      ap (looked same above (λ k opening parts closing. Deep)) e ∙ ap (λ b. if b then again else Deep) h
   at_again (suc room) above i k again opening closing parts e h =
       let inside : Walked = followed (Wrote opening) (followed (all_of (walk look same room (k ∷ above)) parts) (Wrote closing)) in
       ap (looked same above (λ k opening parts closing. followed (Wrote opening) (followed (all_of (walk look same room (k ∷ above)) parts) (Wrote closing)))) e
-      ∙ ap (λ b. if b then Wrote again else inside) h
+      ∙ ap (λ b. if b then again else inside) h
 
-  pub too_deep : (above : List K) (i : I) (k : K) (again opening closing : List ℕ) (parts : List (List ℕ × I)) → look i ≡ Branch k again opening parts closing
+  pub too_deep : (above : List K) (i : I) (k : K) (again : Walked) (opening closing : List ℕ) (parts : List (List ℕ × I)) → look i ≡ Branch k again opening parts closing
       → list_any (same k) above ≡ false → walk look same 0 above i ≡ Deep
   too_deep above i k again opening closing parts e h =
-      ap (looked same above (λ k opening parts closing. Deep)) e ∙ ap (λ b. if b then Wrote again else Deep) h
+      ap (looked same above (λ k opening parts closing. Deep)) e ∙ ap (λ b. if b then again else Deep) h
 
   -- a branch is begun
-  pub begins : (room : ℕ) (bs : List (Begun I K)) (out : List ℕ) (i : I) (k : K) (again opening closing : List ℕ) (parts : List (List ℕ × I)) → look i ≡ Branch k again opening parts closing
+  pub begins : (room : ℕ) (bs : List (Begun I K)) (out : List ℕ) (i : I) (k : K) (again : Walked) (opening closing : List ℕ) (parts : List (List ℕ × I)) → look i ≡ Branch k again opening parts closing
       → list_any (same k) (keys bs) ≡ false
       → followed (Wrote out) (followed (walk look same (suc room) (keys bs) i) (rest look same (suc room) bs))
       ≡ followed (Wrote (out ++ opening)) (rest look same room (record { key = k; parts = parts; closing = closing } ∷ bs))
@@ -65,7 +70,7 @@ module _ {I K : Type 0} (look : I → Look I K) (same : K → K → Bool) where
       let inside : Walked = followed (Wrote opening) (followed all (Wrote closing)) in
       let is : walk look same (suc room) above i ≡ inside =
       ap (looked same above (λ k opening parts closing. followed (Wrote opening) (followed (all_of (walk look same room (k ∷ above)) parts) (Wrote closing)))) e
-      ∙ ap (λ b. if b then Wrote again else inside) h in
+      ∙ ap (λ b. if b then again else inside) h in
       ap (λ w. followed (Wrote out) (followed w below)) is
       ∙ ap (followed (Wrote out)) (followed_assoc (Wrote opening) (followed all (Wrote closing)) below)
       ∙ followed_bytes out opening (followed (followed all (Wrote closing)) below)
@@ -128,18 +133,25 @@ module _ {I K : Type 0} (look : I → Look I K) (same : K → K → Bool) where
         let bs : List (Begun I K) = begun look same view levels fs in
         ap (λ w. followed (Wrote out) (followed w (rest look same room bs))) (at_leaf room (keys bs) i Deep e)
 
-    pub again_showed : (fs fs' : List F) (out out' again opening closing : List ℕ) (i : I) (k : K) (parts : List (List ℕ × I)) → look i ≡ Branch k again opening parts closing
+    pub again_showed : (fs fs' : List F) (out out' again opening closing : List ℕ) (i : I) (k : K) (parts : List (List ℕ × I)) → look i ≡ Branch k (Wrote again) opening parts closing
         → list_any (same k) (keys (begun look same view levels fs)) ≡ true → fs' ≡ fs → out' ≡ out ++ again
         → showing look same view levels fs out i ≡ whole look same view levels fs' out'
     again_showed fs fs' out out' again opening closing i k parts e h same_frames more =
         let room : ℕ = levels - length fs in
         let bs : List (Begun I K) = begun look same view levels fs in
-        ap (λ w. followed (Wrote out) (followed w (rest look same room bs))) (at_again room (keys bs) i k again opening closing parts e h)
+        ap (λ w. followed (Wrote out) (followed w (rest look same room bs))) (at_again room (keys bs) i k (Wrote again) opening closing parts e h)
         ∙ followed_bytes out again (rest look same room bs)
         ∙ ap (λ o. whole look same view levels fs o) (sym more)
         ∙ ap (λ xs. whole look same view levels xs out') (sym same_frames)
 
-    pub deep_showed : (fs : List F) (out again opening closing : List ℕ) (i : I) (k : K) (parts : List (List ℕ × I)) → look i ≡ Branch k again opening parts closing
+    pub circular_showed : (fs : List F) (out opening closing : List ℕ) (i : I) (k : K) (parts : List (List ℕ × I)) → look i ≡ Branch k Circular opening parts closing
+        → list_any (same k) (keys (begun look same view levels fs)) ≡ true → showing look same view levels fs out i ≡ Circular
+    circular_showed fs out opening closing i k parts e h =
+        let room : ℕ = levels - length fs in
+        let bs : List (Begun I K) = begun look same view levels fs in
+        ap (λ w. followed (Wrote out) (followed w (rest look same room bs))) (at_again room (keys bs) i k Circular opening closing parts e h)
+
+    pub deep_showed : (fs : List F) (out : List ℕ) (again : Walked) (opening closing : List ℕ) (i : I) (k : K) (parts : List (List ℕ × I)) → look i ≡ Branch k again opening parts closing
         → list_any (same k) (keys (begun look same view levels fs)) ≡ false → levels ≤ length fs
         → showing look same view levels fs out i ≡ Deep
     deep_showed fs out again opening closing i k parts e h full =
@@ -148,7 +160,7 @@ module _ {I K : Type 0} (look : I → Look I K) (same : K → K → Bool) where
         ap (λ r. followed (Wrote out) (followed (walk look same r (keys bs) i) (rest look same r bs))) none
         ∙ ap (λ w. followed (Wrote out) (followed w (rest look same 0 bs))) (too_deep (keys bs) i k again opening closing parts e h)
 
-    pub entered_showed : (fs fs' : List F) (f : F) (out out' again opening closing : List ℕ) (i : I) (k : K) (parts : List (List ℕ × I)) → look i ≡ Branch k again opening parts closing
+    pub entered_showed : (fs fs' : List F) (f : F) (out out' : List ℕ) (again : Walked) (opening closing : List ℕ) (i : I) (k : K) (parts : List (List ℕ × I)) → look i ≡ Branch k again opening parts closing
         → list_any (same k) (keys (begun look same view levels fs)) ≡ false → length fs < levels
         → view f ≡ record { key = k; parts = parts; closing = closing } → fs' ≡ fs ++ f ∷ [] → out' ≡ out ++ opening
         → showing look same view levels fs out i ≡ whole look same view levels fs' out'

@@ -48,7 +48,7 @@ outcome_of compared.Shell = Shell
 -- what is found at two values
 abbrev pub look_of : List Slot → Pair → Sight → Look Pair Pair
 look_of slots p (Decided c) = Leaf (outcome_of c)
-look_of slots p (Inside sides) = Branch p [] [] (map part_of (map (resolved slots) sides.items)) []
+look_of slots p (Inside sides) = Branch p (Wrote []) [] (map part_of (map (resolved slots) sides.items)) []
 
 abbrev pub IsSightKnown : Table → Ref → Ref → Sight → Type 0
 IsSightKnown t left right (Decided c) = Unit {0}

@@ -7,7 +7,7 @@ use Rattle.rr_space.specs.Graph.{Graph, Nil, Value, Plain, Label}
 use Rattle.rr_space.specs.Tables.{HashKey}
 use Rattle.rr_space.specs.declared.kind.Kind.{Kind}
 use Rattle.rr_space.specs.declared.kind.Kind.TheVariants as kind
-use Rattle.rr_text.specs.Walk.{Walked, Wrote, Differs, Deep, Shell, Look, Leaf, Branch, walk}
+use Rattle.rr_text.specs.Walk.{Walked, Wrote, Differs, Deep, Circular, Shell, Look, Leaf, Branch, walk}
 use Rattle.rr_text.specs.Same.{same_value, kind_in, bytes_in, triples_in}
 use Rattle.rr_text.specs.Keys.{Reading, key_in, pairs_in, place_among}
 use Rattle.rr_text.specs.declared.likeness.Likeness.{Likeness}
@@ -89,13 +89,14 @@ part_of p = ([], p)
 -- two containers that have no such pairs differ
 abbrev pub branched : Pair → Option (List Pair) → Look Pair Pair
 branched p None = Leaf Differs
-branched p (Some ps) = Branch p [] [] (map part_of ps) []
+branched p (Some ps) = Branch p (Wrote []) [] (map part_of ps) []
 
 -- an answer, or another one where it is that two values differ
 abbrev pub unless_differs : Walked → Walked → Walked
 unless_differs (Wrote s) w = Wrote s
 unless_differs Differs w = w
 unless_differs Deep w = Deep
+unless_differs Circular w = Circular
 unless_differs Shell w = Shell
 
 -- whether two values are one, or texts of the same bytes

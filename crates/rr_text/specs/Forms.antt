@@ -3,7 +3,7 @@ use Rattle.std.specs.Prelude.{ℕ, ◌-◌, Bool, true, false, ◌&&◌, List, [
 use Rattle.std.specs.Fmt.{decimal, signed_decimal}
 use Rattle.rr_space.specs.Graph.{Name, Own, Published, Immediate, Nil, Truth, Integer, SymbolNo, ClassNo, RactorNo, Value, Plain, At, Label, Place, Field, KeyAt, ValueAt, Message, Cause, Ractor, Kind, text, array, hash, plain, exception, shell, Object, Graph}
 use Rattle.rr_space.specs.Views.{emptied}
-use Rattle.rr_text.specs.Walk.{Walked, Wrote, Differs, Deep, Shell, Look, Leaf, Branch, walk}
+use Rattle.rr_text.specs.Walk.{Walked, Wrote, Differs, Deep, Circular, Shell, Look, Leaf, Branch, walk}
 use Rattle.rr_text.specs.Quoted.{quoted}
 
 -- how a program spells its symbols and classes, by their numbers
@@ -80,6 +80,7 @@ abbrev pub within_text : (List ℕ → List ℕ) → Walked → Walked
 within_text f (Wrote s) = Wrote (f s)
 within_text f Differs = Differs
 within_text f Deep = Deep
+within_text f Circular = Circular
 within_text f Shell = Shell
 
 abbrev pub is_message : Label → Bool
@@ -173,12 +174,12 @@ module _ (names : Names) where
     entries first (key ∷ value ∷ ts) = (first ++ key_text key.1, (inspected, value.1)) ∷ entries (codes ", ") ts
 
     abbrev pub row_look : Value → List (Label × Value) → Look Item Key
-    row_look v ts = Branch (inspecting, v) (codes "[...]") (codes "[") (elements inspected [] (codes ", ") ts) (codes "]")
+    row_look v ts = Branch (inspecting, v) (Wrote (codes "[...]")) (codes "[") (elements inspected [] (codes ", ") ts) (codes "]")
 
     -- the elements of an array on lines of their own; an empty one is an empty line
     abbrev pub line_look : Value → List (Label × Value) → Look Item Key
     line_look v [] = Leaf (Wrote (10 ∷ []))
-    line_look v (t ∷ ts) = Branch (lining, v) (codes "[...]" ++ 10 ∷ []) [] (elements lines [] [] (t ∷ ts)) []
+    line_look v (t ∷ ts) = Branch (lining, v) (Wrote (codes "[...]" ++ 10 ∷ [])) [] (elements lines [] [] (t ∷ ts)) []
 
     abbrev pub array_look : Way → Value → List (Label × Value) → Look Item Key
     array_look spoken v ts = row_look v ts
@@ -186,7 +187,7 @@ module _ (names : Names) where
     array_look lines v ts = line_look v ts
 
     abbrev pub hash_look : Way → Value → List (Label × Value) → Look Item Key
-    hash_look way v ts = Branch (inspecting, v) (codes "{...}" ++ line_end way) (codes "{") (entries [] ts) (codes "}" ++ line_end way)
+    hash_look way v ts = Branch (inspecting, v) (Wrote (codes "{...}" ++ line_end way)) (codes "{") (entries [] ts) (codes "}" ++ line_end way)
 
     abbrev pub object_look : Way → Kind → Value → Object → Look Item Key
     object_look way text v o = Leaf (Wrote (text_written way o.bytes))

@@ -12,3 +12,4 @@ pub mod Same
 pub mod Keys
 pub mod Comparing
 pub mod Beside
+pub mod Joining

@@ -1,8 +1,9 @@
 -- Worked rows of printed texts.
 use Rattle.std.specs.Prelude.{◌≡◌, ℕ, true, false, List, [], ◌∷◌, ◌++◌, pos, codes, slice_get, None}
 use Rattle.rr_space.specs.Graph.{Own, Published, Nil, Truth, Integer, SymbolNo, ClassNo, RactorNo, Value, Plain, At, Label, Place, KeyAt, ValueAt, Message, Cause, Ractor, Kind, text, array, hash, plain, exception, shell, Object, Graph}
-use Rattle.rr_text.specs.Walk.{Walked, Wrote, Deep, Shell}
+use Rattle.rr_text.specs.Walk.{Walked, Wrote, Deep, Circular, Shell}
 use Rattle.rr_text.specs.Forms.{Names, Way, spoken, inspected, lines, printed}
+use Rattle.rr_text.specs.Joining.{joined}
 
 abbrev pub row_names : Names
 row_names = record { symbol = λ s. codes "name"; class = λ c. codes "Foo" }
@@ -52,6 +53,10 @@ row_graph (Published c p) = None
 abbrev pub Row : ℕ → Way → ℕ → Walked → Type 0
 Row levels way n w = printed row_names row_graph levels way (At (Own n)) ≡ w
 
+-- an array of that number of objects, with so many levels, is joined so
+abbrev pub Joins : ℕ → List ℕ → ℕ → Walked → Type 0
+Joins levels separator n w = joined row_names row_graph levels separator (At (Own n)) ≡ w
+
 pub record AllRows : Type 0 where
   pub itself : Row 3 inspected 0 (Wrote (codes "[1, [...]]"))
   pub pairs : Row 3 inspected 2 (Wrote (codes "{name: 1, \"a\" => 2}"))
@@ -70,3 +75,10 @@ pub record AllRows : Type 0 where
   pub plain_object : Row 0 spoken 12 (Wrote (codes "#<Foo>"))
   pub immediates : Row 1 spoken 13 (Wrote (codes "[nil, true, false, :name, Foo, #<Ractor:#3>]"))
   pub hash_itself : Row 1 inspected 14 (Wrote (codes "{nil => {...}}"))
+  pub joined_alike : Joins 2 (codes "-") 3 (Wrote (codes "1---a"))
+  pub joined_bare : Joins 2 [] 3 (Wrote (codes "1a"))
+  pub joined_itself : Joins 3 (codes "-") 0 Circular
+  pub joined_hash : Joins 2 (codes "-") 15 (Wrote (codes "{nil => {...}}"))
+  pub joined_too_deep : Joins 1 (codes "-") 3 Deep
+  pub joined_hash_too_deep : Joins 1 (codes "-") 15 Deep
+  pub joined_shell : Joins 1 (codes "-") 7 Shell

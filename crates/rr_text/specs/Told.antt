@@ -8,7 +8,7 @@ use Rattle.rr_space.specs.Labels.{triples_at}
 use Rattle.rr_space.specs.declared.refer.Ref.{Ref}
 use Rattle.rr_space.specs.declared.kind.Kind.{Kind as ValueKind}
 use Rattle.rr_space.specs.declared.kind.Kind.TheVariants.{Nil as NilKind, Truth as TruthKind, Integer as IntegerKind, Symbol as SymbolKind, Class as ClassKind, Ractor as RactorKind, Text as TextKind, Array as ArrayKind, Hash as HashKind, Object as ObjectKind, Exception as ExceptionKind, Shell as ShellKind}
-use Rattle.rr_text.specs.Walk.{Walked, Wrote, Differs, Deep, Shell, Look, Leaf, Branch}
+use Rattle.rr_text.specs.Walk.{Walked, Wrote, Differs, Deep, Circular, Shell, Look, Leaf, Branch}
 use Rattle.rr_text.specs.Forms.{Names, Item, Key, told_by}
 use Rattle.rr_text.specs.declared.raised.Told.{Told}
 use Rattle.rr_text.specs.declared.raised.Told.TheVariants.{Text, Name as NameTold, Shell as ShellTold}
@@ -48,4 +48,5 @@ IsLeafWritten (Leaf (Wrote s)) now out out' = (now ≡ true) × (out' ≡ out ++
 IsLeafWritten (Leaf Shell) now out out' = now ≡ false
 IsLeafWritten (Leaf Differs) now out out' = ⊥
 IsLeafWritten (Leaf Deep) now out out' = ⊥
+IsLeafWritten (Leaf Circular) now out out' = ⊥
 IsLeafWritten (Branch k again opening parts closing) now out out' = ⊥

@@ -4,6 +4,7 @@
 mod beside;
 mod comparing;
 mod form;
+mod joining;
 mod laws;
 mod leaf;
 mod likeness;
@@ -20,6 +21,7 @@ mod walk;
 
 pub use comparing::{compare, compare_within};
 pub use form::{Form, Text};
+pub use joining::{Joined, join, join_within};
 pub use laws::shown_by_rows;
 pub use names::{class_name, symbol_name};
 pub use pairs::pair_with;
