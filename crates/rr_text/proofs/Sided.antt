@@ -19,7 +19,7 @@ use Rattle.rr_text.specs.Reads.{IsAmong, IsReadWith}
 use Rattle.rr_text.specs.Walk.{Wrote, Leaf}
 use Rattle.rr_text.specs.Same.{same_value, kind_in, bytes_in, triples_in}
 use Rattle.rr_text.specs.Keys.{pairs_in, pair_with, reading}
-use Rattle.rr_text.specs.Comparing.{Pair, likeness, text_likeness, array_likeness, hash_likeness, other_likeness, text_if, value_or_none, value_in, values_in, all_rows, with_beside, equal_in, value_with, value_under, matches, all_matches, look_like, look_pair}
+use Rattle.rr_text.specs.Comparing.{Pair, likeness, text_likeness, array_likeness, hash_likeness, other_likeness, text_if, value_or_none, value_in, values_in, all_rows, all_there, beside, equal_in, value_with, value_under, matches, all_matches, look_like, look_pair}
 use Rattle.rr_text.specs.Beside.{equal_at, values_of, resolved}
 use Rattle.rr_space.specs.declared.kind.Kind.{Kind}
 use Rattle.rr_space.specs.declared.kind.Kind.TheVariants as kind
@@ -163,13 +163,13 @@ module _ (slots : List Slot) (under : Value → Option Value) (sides : List Side
       → found_after under (map (resolved slots) sides) ((name, value) ∷ rest) ≡ found_after under (map (resolved slots) new) rest
   matched_more new s found is more =
       let ps = map (resolved slots) sides in
-      ap (λ o. option_map (λ qs. ps ++ qs) (with_beside value o (matches under rest))) found
+      ap (λ o. option_map (λ qs. ps ++ qs) (all_there (option_map (λ w. (value, w)) o ∷ map (beside under) rest))) found
       ∙ ap (λ v. option_map (λ qs. ps ++ qs) (option_map (λ qs. (v, resolve slots (value_of s.right)) ∷ qs) (matches under rest))) is
       ∙ mapped_more ps (resolved slots s) (matches under rest)
       ∙ ap (λ qs. found_after under qs rest) (sym (ap (map (resolved slots)) more ∙ map_end (resolved slots) sides s))
 
   pub matched_none : under name ≡ None → found_after under (map (resolved slots) sides) ((name, value) ∷ rest) ≡ None
-  matched_none none = ap (λ o. option_map (λ qs. map (resolved slots) sides ++ qs) (with_beside value o (matches under rest))) none
+  matched_none none = ap (λ o. option_map (λ qs. map (resolved slots) sides ++ qs) (all_there (option_map (λ w. (value, w)) o ∷ map (beside under) rest))) none
 
 module _ (t : Table) (below : Below) (sound : IsTableSound t.slots t.below) (read : IsReadWith t below) where
   pub value_told : (r x : Ref) (k : ℕ) → IsAmong below r → value_of x ≡ value_in (triples_at t r) k → value_in (triples_in (graph_of t.slots below) (resolve t.slots (value_of r))) k ≡ resolve t.slots (value_of x)

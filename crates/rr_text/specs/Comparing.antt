@@ -73,15 +73,19 @@ values_in ts = map part_value ts
 abbrev pub all_rows : List (Label × Value) → List (Label × Value) → Option (List Pair)
 all_rows ss ts = if nat_eq (length ss) (length ts) then Some (zip (values_in ss) (values_in ts)) else None
 
--- one more pair before the others, where both are there
-abbrev pub with_beside : Value → Option Value → Option (List Pair) → Option (List Pair)
-with_beside v (Some w) found = option_map (λ ps. (v, w) ∷ ps) found
-with_beside v None found = None
+-- all of a list, where each of it is there
+abbrev pub all_there : {A : Type 0} → List (Option A) → Option (List A)
+all_there [] = Some []
+all_there (Some x ∷ xs) = option_map (λ ys. x ∷ ys) (all_there xs)
+all_there (None ∷ xs) = None
 
--- the values of these pairs, each beside that which the other hash has under the key object; none where it has none
+-- the value of a pair beside that which the other hash has under its key object
+abbrev pub beside : (Value → Option Value) → Value × Value → Option Pair
+beside under p = option_map (λ w. (p.1, w)) (under p.0)
+
+-- the values of these pairs, each beside the other hash's; none where that has none for one of them
 abbrev pub matches : (Value → Option Value) → List (Value × Value) → Option (List Pair)
-matches under [] = Some []
-matches under (p ∷ ps) = with_beside p.1 (under p.0) (matches under ps)
+matches under ps = all_there (map (beside under) ps)
 
 abbrev pub part_of : Pair → List ℕ × Pair
 part_of p = ([], p)
@@ -98,6 +102,11 @@ unless_differs Differs w = w
 unless_differs Deep w = Deep
 unless_differs Circular w = Circular
 unless_differs Shell w = Shell
+
+-- the first of these answers that is not that two values differ
+abbrev pub first_telling : List Walked → Walked
+first_telling [] = Differs
+first_telling (w ∷ ws) = unless_differs w (first_telling ws)
 
 -- whether two values are one, or texts of the same bytes
 unfoldable pub equal_in : Graph → Value → Value → Bool
@@ -142,5 +151,4 @@ module _ (r : Reading) where
 
   -- whether one of the elements of an array is equal to a value: the first that does not differ from it tells
   abbrev pub searched : ℕ → Value → List Value → Walked
-  searched levels v [] = Differs
-  searched levels v (x ∷ xs) = unless_differs (item_compared levels (kind_in r.graph x) x v) (searched levels v xs)
+  searched levels v xs = first_telling (map (λ x. item_compared levels (kind_in r.graph x) x v) xs)
