@@ -1,80 +1,76 @@
 //! Constants that are set and got.
 
-use rr_base::{Fault, Limits, RactorNo, Sym};
-use rr_world::{Action, NewObject, Operand, Reply, Step, World};
+use crate::expect::{MAIN, OTHER, answers_in_turn};
+use crate::model::Told;
+use rr_base::{Limits, Sym};
+use rr_world::{Action, NewObject, Operand};
 use std::test::Fail;
 
-const MAIN: RactorNo = RactorNo(1);
+const NAME: Sym = Sym(7);
 
-const OTHER: RactorNo = RactorNo(2);
-
-fn by_main(action: Action) -> Step {
-    Step { who: MAIN, action }
-}
-
-fn by_other(action: Action) -> Step {
-    Step { who: OTHER, action }
-}
+const FEW_EVENTS: Limits = Limits {
+    events: 3,
+    ..Limits::DEFAULT
+};
 
 #[test]
 fn each_ractor_gets_an_immediate(rt: HostRuntime) -> Result<(), Fail> {
-    let mut world = World::new(rt.alloc(), Limits::DEFAULT)?;
-    let name = Sym(7);
-    let steps = [
-        by_main(Action::Start),
-        by_main(Action::Alloc(NewObject::Array)),
-        by_main(Action::GetConst(name)),
-        by_other(Action::SetConst(name, Operand::Int(1))),
-        by_main(Action::GetConst(name)),
-        by_main(Action::SetConst(name, Operand::Root(0))),
-        by_main(Action::SetConst(name, Operand::Root(1))),
-        by_main(Action::SetConst(name, Operand::Root(2))),
-        by_main(Action::Push(Operand::Root(0), Operand::Root(1))),
-        by_main(Action::Push(Operand::Root(1), Operand::Root(0))),
-    ];
-    let replies = world.run_steps(rt.alloc(), &steps)?;
-    assert_eq!(rt; replies.len(), 10);
-    assert!(rt; matches!(&replies[2], Reply::Refused(Fault::Unknown(Sym(7)))));
-    assert!(rt; matches!(&replies[3], Reply::Done));
-    assert!(rt; matches!(&replies[4], Reply::Done));
-    assert!(rt; matches!(&replies[5], Reply::NotEnabled));
-    assert!(rt; matches!(&replies[6], Reply::Done));
-    assert!(rt; matches!(&replies[7], Reply::NotEnabled));
-    assert!(rt; matches!(&replies[8], Reply::Done));
-    assert!(rt; matches!(&replies[9], Reply::NotEnabled));
-    Ok(())
+    answers_in_turn(
+        &rt,
+        rt.alloc(),
+        Limits::DEFAULT,
+        &[
+            (MAIN, Action::Start, Told::Started(2)),
+            (MAIN, Action::Alloc(NewObject::Array), Told::Done),
+            (MAIN, Action::GetConst(NAME), Told::Unknown),
+            (OTHER, Action::SetConst(NAME, Operand::Int(1)), Told::Done),
+            (MAIN, Action::GetConst(NAME), Told::Done),
+            (
+                MAIN,
+                Action::SetConst(NAME, Operand::Root(0)),
+                Told::NotEnabled,
+            ),
+            (MAIN, Action::SetConst(NAME, Operand::Root(1)), Told::Done),
+            (
+                MAIN,
+                Action::SetConst(NAME, Operand::Root(2)),
+                Told::NotEnabled,
+            ),
+            (
+                MAIN,
+                Action::Push(Operand::Root(0), Operand::Root(1)),
+                Told::Done,
+            ),
+            (
+                MAIN,
+                Action::Push(Operand::Root(1), Operand::Root(0)),
+                Told::NotEnabled,
+            ),
+        ],
+    )
 }
 
 #[test]
 fn what_the_main_ractor_keeps_is_its_own(rt: HostRuntime) -> Result<(), Fail> {
-    let limits = Limits {
-        events: 3,
-        ..Limits::DEFAULT
-    };
-    let mut world = World::new(rt.alloc(), limits)?;
-    let name = Sym(0);
-    let steps = [
-        by_main(Action::Start),
-        by_other(Action::SetOwn(name)),
-        by_main(Action::SetOwn(name)),
-        by_main(Action::GetConst(name)),
-        by_other(Action::GetConst(name)),
-        by_other(Action::SetConst(name, Operand::Nil)),
-        by_other(Action::GetConst(name)),
-        by_main(Action::SetConst(Sym(1), Operand::Nil)),
-        by_main(Action::SetConst(name, Operand::Truth(true))),
-        by_other(Action::SetOwn(name)),
-    ];
-    let replies = world.run_steps(rt.alloc(), &steps)?;
-    assert_eq!(rt; replies.len(), 10);
-    assert!(rt; matches!(&replies[1], Reply::Refused(Fault::NotShareable)));
-    assert!(rt; matches!(&replies[2], Reply::Done));
-    assert!(rt; matches!(&replies[3], Reply::OfMain));
-    assert!(rt; matches!(&replies[4], Reply::Refused(Fault::NotMain)));
-    assert!(rt; matches!(&replies[5], Reply::Done));
-    assert!(rt; matches!(&replies[6], Reply::Done));
-    assert!(rt; matches!(&replies[7], Reply::Done));
-    assert!(rt; matches!(&replies[8], Reply::Refused(Fault::HistoryFull)));
-    assert!(rt; matches!(&replies[9], Reply::Refused(Fault::HistoryFull)));
-    Ok(())
+    answers_in_turn(
+        &rt,
+        rt.alloc(),
+        FEW_EVENTS,
+        &[
+            (MAIN, Action::Start, Told::Started(2)),
+            (OTHER, Action::SetOwn(NAME), Told::NotShareable),
+            (MAIN, Action::SetOwn(NAME), Told::Done),
+            (MAIN, Action::GetConst(NAME), Told::OfMain),
+            (OTHER, Action::GetConst(NAME), Told::NotMain),
+            (OTHER, Action::SetConst(NAME, Operand::Nil), Told::Done),
+            (OTHER, Action::GetConst(NAME), Told::Done),
+            (MAIN, Action::SetConst(Sym(1), Operand::Nil), Told::Done),
+            (
+                MAIN,
+                Action::SetConst(NAME, Operand::Truth(true)),
+                Told::HistoryFull,
+            ),
+            (OTHER, Action::SetOwn(NAME), Told::HistoryFull),
+        ],
+    )
 }

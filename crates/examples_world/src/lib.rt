@@ -6,6 +6,8 @@ mod constants;
 #[cfg(test)]
 mod ends;
 #[cfg(test)]
+mod expect;
+#[cfg(test)]
 mod model;
 #[cfg(test)]
 mod model_constants;
@@ -17,6 +19,8 @@ mod model_ports;
 mod model_steps;
 #[cfg(test)]
 mod moves;
+#[cfg(test)]
+mod plans;
 #[cfg(test)]
 mod ports;
 #[cfg(test)]

@@ -20,6 +20,8 @@ pub enum Holder {
     Hand(usize),
     Inbox(usize, u32),
     Port(usize, u32),
+    /// Each ractor may have it: it is in a published cluster.
+    Cluster(u32),
     Nobody,
 }
 
@@ -64,6 +66,8 @@ pub struct Actor {
     pub waits: Option<u32>,
     /// The objects of the plan in the hand; none where there is no plan.
     pub plan: Vec<usize>,
+    /// Whether that plan is published.
+    pub published: bool,
     pub slots: usize,
     /// Whether it has not ended.
     pub runs: bool,
@@ -98,6 +102,7 @@ pub enum Told {
     EmptyAndClosed,
     WasClosed(bool),
     Started(u32),
+    Published(u32),
     GrabbedLast(bool),
     Settled(Settled),
     NotShown,
@@ -119,8 +124,10 @@ pub struct Model {
     pub actors: Vec<Actor>,
     pub inboxes: Vec<Inbox>,
     pub ports: Vec<Port>,
-    /// By the number of its name, whether a constant has a value that each ractor may read.
-    pub constants: Vec<Option<bool>>,
+    /// By the number of its name, what a constant has: a value that each ractor may read, or none of these.
+    pub constants: Vec<Option<Option<Value>>>,
+    /// How many clusters were published.
+    pub clusters: u32,
     /// How many events the store's history has.
     pub events: usize,
     pub limits: Limits,
@@ -136,6 +143,7 @@ pub fn what_it_tells(reply: &Reply) -> Told {
         Reply::EmptyAndClosed => Told::EmptyAndClosed,
         Reply::WasClosed(already) => Told::WasClosed(*already),
         Reply::Started(number) => Told::Started(u32::from(number.0)),
+        Reply::Published(number) => Told::Published(*number),
         Reply::GrabbedLast(LastKind::Value) => Told::GrabbedLast(false),
         Reply::GrabbedLast(LastKind::Fault) => Told::GrabbedLast(true),
         Reply::Settled(settled) => Told::Settled(*settled),
@@ -193,6 +201,7 @@ impl Model {
             inboxes: Vec::new(alloc),
             ports: Vec::new(alloc),
             constants: Vec::new(alloc),
+            clusters: 0,
             events: 0,
             limits,
         };
@@ -209,6 +218,7 @@ impl Model {
             home: Vec::new(alloc),
             waits: None,
             plan: Vec::new(alloc),
+            published: false,
             slots: 0,
             runs: true,
         })?;
@@ -313,9 +323,28 @@ impl Model {
         Ok(true)
     }
 
-    /// Whether a value leads to an object that is shareable.
+    /// Whether an object is in a published cluster.
+    pub fn is_shared(&self, name: usize) -> bool {
+        match self.objects.get(name) {
+            Some(object) => matches!(object.holder, Holder::Cluster(_)),
+            None => false,
+        }
+    }
+
+    /// Which objects a value leads to that are in no published cluster.
+    pub fn reached_unshared(&self, alloc: Global, value: Value) -> Result<Vec<bool>, AllocError> {
+        let mut found = self.reached(alloc, value)?;
+        for (name, found) in found.iter_mut().enumerate() {
+            if self.is_shared(name) {
+                *found = false;
+            }
+        }
+        Ok(found)
+    }
+
+    /// Whether a value leads to an object that is shareable, and in no published cluster.
     pub fn leads_to_shareable(&self, alloc: Global, value: Value) -> Result<bool, AllocError> {
-        let found = self.reached(alloc, value)?;
+        let found = self.reached_unshared(alloc, value)?;
         for name in 0..self.objects.len() {
             if found.get(name) == Some(&true) && self.is_shareable(alloc, Value::At(name))? {
                 return Ok(true);
@@ -346,7 +375,7 @@ impl Model {
 }
 
 /// The kinds of answers, of which there are as many as this.
-pub const KINDS: usize = 23;
+pub const KINDS: usize = 24;
 
 impl Told {
     /// The number of its kind.
@@ -375,7 +404,8 @@ impl Told {
             Told::Settled(Settled::Taken) => 20,
             Told::Settled(Settled::Shown) => 21,
             Told::Settled(Settled::Closed) => 22,
-            Told::Other => 23,
+            Told::Published(_) => 23,
+            Told::Other => 24,
         }
     }
 }

@@ -215,7 +215,7 @@ impl Model {
         if self.leads_to_shareable(alloc, value)? {
             return Ok(Told::NotEnabled);
         }
-        let found = self.reached(alloc, value)?;
+        let found = self.reached_unshared(alloc, value)?;
         let names = self.names_of_copies(alloc, found.as_slice())?;
         let size = self.copy_all(alloc, found.as_slice(), names.as_slice(), who)?;
         if moves {
@@ -291,6 +291,7 @@ impl Model {
             actor.moved = moved;
             actor.waits = None;
             actor.plan.truncate(0);
+            actor.published = false;
             if !moved {
                 actor.home.truncate(0);
             }
@@ -441,6 +442,8 @@ impl Model {
             Action::Pack(operand) => self.pack(alloc, who, operand, false),
             Action::Detach(operand) => self.pack(alloc, who, operand, true),
             Action::Plan(operand) => self.plan(alloc, who, operand),
+            Action::Publish => Ok(self.publish(who)),
+            Action::Promote => Ok(self.promote(who)),
             Action::PutBack => self.put_back(alloc, who),
             Action::Discard => Ok(self.discard(who)),
             Action::Offer(to) => match place_of(to.0, count) {
@@ -467,11 +470,11 @@ impl Model {
             }),
             Action::Start => self.start(alloc),
             Action::End => Ok(self.end(alloc, who)),
-            Action::SetConst(name, value) => match self.named(who, value) {
-                Some(Value::Plain) => self.set_constant(who, name, true),
-                _ => Ok(Told::NotEnabled),
+            Action::SetConst(name, value) => match self.public(who, value) {
+                Some(value) => self.set_constant(who, name, Some(value)),
+                None => Ok(Told::NotEnabled),
             },
-            Action::SetOwn(name) => self.set_constant(who, name, false),
+            Action::SetOwn(name) => self.set_constant(who, name, None),
             Action::GetConst(name) => self.get_constant(who, name),
         }
     }

@@ -17,9 +17,9 @@ use Rattle.rr_space.proofs.Frames.{owner_cases, object_same}
 use Rattle.rr_space.proofs.Hands.{append_cases, append_left, append_right}
 use Rattle.rr_space.proofs.Remaking.{remaking_is_a_step}
 use Rattle.rr_space.proofs.Sounds.{joined_back, joined_in, none_in, in_first, gets}
-use Rattle.rr_world.specs.Views.{Member, Channels, Assembly}
+use Rattle.rr_world.specs.Views.{Member, Channels, Assembly, seen_slots, seen_through}
 use Rattle.rr_world.specs.Layouts.{cluster_slots, layout, space_slots, hand_slots, inbox_slots, port_slots, message_slots, MemberKnows, IsRead}
-use Rattle.rr_world.specs.Readings.{each_from, actor_in, shells_in, planned_in, root_in, post_in, state_in, parcel_in}
+use Rattle.rr_world.specs.Readings.{each_from, actor_in, shells_in, planned_in, published_names, root_in, post_in, state_in, parcel_in}
 use Rattle.rr_world.specs.Enabling.{StandsAt}
 use Rattle.rr_world.specs.ObjectCases.{new_object}
 use Rattle.rr_world.specs.Allocating.{IsAllocatedBy, Allocs}
@@ -33,13 +33,14 @@ use Rattle.rr_world.specs.Outcomes.{reply_of}
 use Rattle.rr_world.specs.declared.outcome.Outcome.{Outcome}
 use Rattle.rr_world.specs.declared.outcome.Outcome.TheVariants as outcome
 use Rattle.rr_world.proofs.Lists.{eq_cases, set_at, set_off, seen_same, each_set}
-use Rattle.rr_world.proofs.Namings.{actor_same, same_actor, plan_stands, post_same, hand_same, home_stands}
+use Rattle.rr_world.proofs.Namings.{actor_same, same_actor, plan_stands, published_stands, post_same, hand_same, home_stands}
 use Rattle.rr_world.proofs.Knowing.{read_set}
 use Rattle.rr_world.proofs.Enabled.{actor_at}
 use Rattle.rr_world.proofs.Insides.{set_again, same_assembly}
 use Rattle.rr_world.proofs.Staying.{stays, same_state, space_renamed}
 use Rattle.rr_world.proofs.Rooting.{roots_keep}
 use Rattle.rr_world.proofs.Fitting.{waits_same}
+use Rattle.rr_world.proofs.Forwarding.{seen_length, seen_more}
 
 no_triples : (kind : NewObject) (l : Label) (x : Value) → Contains (new_object kind).triples (l, x) → ⊥
 no_triples Text l x has = none_in (l, x) has
@@ -61,19 +62,25 @@ module _ (w w2 : Assembly) (k : ℕ) (m m2 : Member) (kind : NewObject) (at : sl
   rest (Shown d u) q = ap (λ (x : Channels). option_and_then (port_slots u) (slice_get x.ports d)) is
   rest (Shared d) q = ap (λ (x : Channels). option_map cluster_slots (slice_get x.store.clusters d)) is
 
-  was : layout w (Space k) ≡ Some m.space.slots
+  was : layout w (Space k) ≡ Some (seen_slots m)
   unfolding layout
   was = ap (option_map space_slots) at
 
-  now : layout w2 (Space k) ≡ Some (m.space.slots ++ Here (new_object kind) ∷ [])
+  seen_now : seen_slots m2 ≡ seen_slots m ++ Here (new_object kind) ∷ []
+  seen_now = ap (λ x. seen_through x m2.space.slots) A.published ∙ ap (seen_through m.published) A.slots ∙ seen_more m.space m.published (Here (new_object kind) ∷ []) A.fit
+
+  many : length (seen_slots m) ≡ length m.space.slots
+  many = seen_length m.published m.space.slots
+
+  now : layout w2 (Space k) ≡ Some ((seen_slots m) ++ Here (new_object kind) ∷ [])
   unfolding layout
-  now = ap (λ xs. option_map space_slots (slice_get xs k)) rs ∙ ap (option_map space_slots) (set_at w.ractors k m2 (slice_get_within w.ractors k m at)) ∙ ap (λ ss. Some ss) A.slots
+  now = ap (λ xs. option_map space_slots (slice_get xs k)) rs ∙ ap (option_map space_slots) (set_at w.ractors k m2 (slice_get_within w.ractors k m at)) ∙ ap (λ ss. Some ss) seen_now
 
   space_apart : (c : ℕ) → Space k ≡ Shared c → ⊥
   space_apart c e = cc
 
-  size : length (m.space.slots ++ Here (new_object kind) ∷ []) ≡ length m.space.slots + 1
-  size = length-append m.space.slots (Here (new_object kind) ∷ [])
+  size : length ((seen_slots m) ++ Here (new_object kind) ∷ []) ≡ length (seen_slots m) + 1
+  size = length-append (seen_slots m) (Here (new_object kind) ∷ [])
 
   -- what stands in a new slot
   last : (i : ℕ) (x : Slot) → slice_get (Here (new_object kind) ∷ []) i ≡ Some x → (i ≡ 0) × (Here (new_object kind) ≡ x)
@@ -86,65 +93,65 @@ module _ (w w2 : Assembly) (k : ℕ) (m m2 : Member) (kind : NewObject) (at : sl
       differ : (o : Object) → Here o ≡ Led c p → ⊥
       differ o same = cc
 
-  wider : (R : IsSound (layout w) m.space.slots) (x : Value) → IsInLayout (layout w) m.space.slots x → IsInLayout (layout w) (m.space.slots ++ Here (new_object kind) ∷ []) x
+  wider : (R : IsSound (layout w) (seen_slots m)) (x : Value) → IsInLayout (layout w) (seen_slots m) x → IsInLayout (layout w) ((seen_slots m) ++ Here (new_object kind) ∷ []) x
   wider R (Plain n) s = s
   wider R (At (Own n)) s = omega (arith, size, s)
   wider R (At (Published c q)) s = s
 
-  remakes : IsSound (layout w) m.space.slots → Remakes (Space k) 1 m.space.slots (m.space.slots ++ Here (new_object kind) ∷ []) (layout w) (layout w2)
+  remakes : IsSound (layout w) (seen_slots m) → Remakes (Space k) 1 (seen_slots m) ((seen_slots m) ++ Here (new_object kind) ∷ []) (layout w) (layout w2)
   remakes S = record {
     was = inl was;
     now = now;
     rest = rest;
     unshared = space_apart;
     size = size;
-    kept_here = λ i o e. (o, append_left m.space.slots (Here (new_object kind) ∷ []) i (Here o) e);
-    kept_led = λ i c p e. append_left m.space.slots (Here (new_object kind) ∷ []) i (Led c p) e;
-    fresh_here = λ i c p e. ⊎_elim (λ old. slice_get_within m.space.slots i (Led c p) old) (λ new. absurd (not_led new.0 c p new.2)) (append_cases m.space.slots (Here (new_object kind) ∷ []) i (Led c p) e);
+    kept_here = λ i o e. (o, append_left (seen_slots m) (Here (new_object kind) ∷ []) i (Here o) e);
+    kept_led = λ i c p e. append_left (seen_slots m) (Here (new_object kind) ∷ []) i (Led c p) e;
+    fresh_here = λ i c p e. ⊎_elim (λ old. slice_get_within (seen_slots m) i (Led c p) old) (λ new. absurd (not_led new.0 c p new.2)) (append_cases (seen_slots m) (Here (new_object kind) ∷ []) i (Led c p) e);
     sound = record {
       within = λ i o l x e has. ⊎_elim
           (λ old. wider S x (S.within i o l x old has))
           (λ new. let z = (last new.0 (Here o) new.2).1 in let same : new_object kind ≡ o = cc in absurd (no_triples kind l x (subst (λ (y : Object). Contains y.triples (l, x)) (sym same) has)))
-          (append_cases m.space.slots (Here (new_object kind) ∷ []) i (Here o) e);
-      led = λ i c p e. ⊎_elim (λ old. S.led i c p old) (λ new. absurd (not_led new.0 c p new.2)) (append_cases m.space.slots (Here (new_object kind) ∷ []) i (Led c p) e);
+          (append_cases (seen_slots m) (Here (new_object kind) ∷ []) i (Here o) e);
+      led = λ i c p e. ⊎_elim (λ old. S.led i c p old) (λ new. absurd (not_led new.0 c p new.2)) (append_cases (seen_slots m) (Here (new_object kind) ∷ []) i (Led c p) e);
     };
   }
 
   module _ (names : Naming) (bound : ℕ) (g : Objects) (R : IsRead w names bound g) (names2 : Naming) (g2 : Objects)
       (after_reading : IsReading (layout w2) names2 (bound + 1) g2) (N : IsNamed (Space k) names names2)
-      (M : IsRemade (Space k) m.space.slots (m.space.slots ++ Here (new_object kind) ∷ []) names names2 g g2) where
+      (M : IsRemade (Space k) (seen_slots m) ((seen_slots m) ++ Here (new_object kind) ∷ []) names names2 g g2) where
     kept_shared : (c : ℕ) → names2 (Shared c) ≡ names (Shared c)
     kept_shared c = N.rest (Shared c) (λ e. space_apart c (sym e))
 
     abbrev pub name : ℕ
-    name = slice_index (names2 (Space k)) (length m.space.slots)
+    name = slice_index (names2 (Space k)) (length (seen_slots m))
 
-    here_new : slice_get (m.space.slots ++ Here (new_object kind) ∷ []) (length m.space.slots) ≡ Some (Here (new_object kind))
-    here_new = append_right m.space.slots (Here (new_object kind) ∷ []) 0 (length m.space.slots) (Here (new_object kind)) (omega arith) refl
+    here_new : slice_get ((seen_slots m) ++ Here (new_object kind) ∷ []) (length (seen_slots m)) ≡ Some (Here (new_object kind))
+    here_new = append_right (seen_slots m) (Here (new_object kind) ∷ []) 0 (length (seen_slots m)) (Here (new_object kind)) (omega arith) refl
 
     pub is_fresh : g name ≡ None
-    is_fresh = M.fresh (length m.space.slots) (Here (new_object kind)) here_new (omega arith)
+    is_fresh = M.fresh (length (seen_slots m)) (Here (new_object kind)) here_new (omega arith)
 
     pub is_here : g2 name ≡ Some (record { owner = Space k; object = new_object kind })
-    is_here = M.own (length m.space.slots) (new_object kind) here_new ∙ ap (λ (o : Object). Some (record { owner = Space k; object = o })) (alone names2 (Space k) kind)
+    is_here = M.own (length (seen_slots m)) (new_object kind) here_new ∙ ap (λ (o : Object). Some (record { owner = Space k; object = o })) (alone names2 (Space k) kind)
 
-    stand : (i : ℕ) → i < length m.space.slots → slice_index (names2 (Space k)) i ≡ slice_index (names (Space k)) i
-    stand i lt = let x = gets m.space.slots i lt in M.kept i x.0 x.1
+    stand : (i : ℕ) → i < length (seen_slots m) → slice_index (names2 (Space k)) i ≡ slice_index (names (Space k)) i
+    stand i lt = let x = gets (seen_slots m) i lt in M.kept i x.0 x.1
 
     -- an old object is as it was
     pub old_stays : (n : ℕ) (x : Owned) → g n ≡ Some x → g2 n ≡ Some x
     old_stays n x e = ⊎_elim
         (λ mine.
         let st = R.tables.only n x e in
-        let t_is : st.table ≡ m.space.slots = same_Some _ _ (sym st.is_table ∙ ap (layout w) mine ∙ was) in
-        let raw : slice_get m.space.slots st.place ≡ Some (Here st.raw) = ap (λ t. slice_get t st.place) (sym t_is) ∙ st.is_raw in
-        let lt = slice_get_within m.space.slots st.place (Here st.raw) raw in
+        let t_is : st.table ≡ (seen_slots m) = same_Some _ _ (sym st.is_table ∙ ap (layout w) mine ∙ was) in
+        let raw : slice_get (seen_slots m) st.place ≡ Some (Here st.raw) = ap (λ t. slice_get t st.place) (sym t_is) ∙ st.is_raw in
+        let lt = slice_get_within (seen_slots m) st.place (Here st.raw) raw in
         let name_is : slice_index (names (Space k)) st.place ≡ n = ap (λ h. slice_index (names h) st.place) (sym mine) ∙ st.is_name in
-        let old = (R.tables.reads (Space k) m.space.slots was).here st.place st.raw raw in
+        let old = (R.tables.reads (Space k) (seen_slots m) was).here st.place st.raw raw in
         let x_is : record { owner = Space k; object = named names (Space k) st.raw } ≡ x = same_Some _ x (sym old ∙ ap g name_is ∙ e) in
-        let new = M.own st.place st.raw (append_left m.space.slots (Here (new_object kind) ∷ []) st.place (Here st.raw) raw) in
+        let new = M.own st.place st.raw (append_left (seen_slots m) (Here (new_object kind) ∷ []) st.place (Here st.raw) raw) in
         let same : named names2 (Space k) st.raw ≡ named names (Space k) st.raw =
-        object_same (layout w) m.space.slots (Space k) (Space k) names names2 st.place st.raw stand (λ c u e2. kept_shared c) (R.tables.sound (Space k) m.space.slots was) raw in
+        object_same (layout w) (seen_slots m) (Space k) (Space k) names names2 st.place st.raw stand (λ c u e2. kept_shared c) (R.tables.sound (Space k) (seen_slots m) was) raw in
         let there : g2 n ≡ Some (record { owner = Space k; object = named names2 (Space k) st.raw }) = ap g2 (sym name_is ∙ sym (stand st.place lt)) ∙ new in
         let stays_so : g2 n ≡ Some (record { owner = Space k; object = named names (Space k) st.raw }) = subst (λ (o : Object). g2 n ≡ Some (record { owner = Space k; object = o })) same there in
         subst (λ (y : Owned). g2 n ≡ Some y) x_is stays_so)
@@ -157,17 +164,17 @@ module _ (w w2 : Assembly) (k : ℕ) (m m2 : Member) (kind : NewObject) (at : sl
         let st = after_reading.only n y e in
         ⊎_elim
         (λ mine.
-        let t_is : st.table ≡ m.space.slots ++ Here (new_object kind) ∷ [] = same_Some _ _ (sym st.is_table ∙ ap (layout w2) mine ∙ now) in
-        let raw : slice_get (m.space.slots ++ Here (new_object kind) ∷ []) st.place ≡ Some (Here st.raw) = ap (λ t. slice_get t st.place) (sym t_is) ∙ st.is_raw in
+        let t_is : st.table ≡ (seen_slots m) ++ Here (new_object kind) ∷ [] = same_Some _ _ (sym st.is_table ∙ ap (layout w2) mine ∙ now) in
+        let raw : slice_get ((seen_slots m) ++ Here (new_object kind) ∷ []) st.place ≡ Some (Here st.raw) = ap (λ t. slice_get t st.place) (sym t_is) ∙ st.is_raw in
         let name_is : slice_index (names2 (Space k)) st.place ≡ n = ap (λ h. slice_index (names2 h) st.place) (sym mine) ∙ st.is_name in
         ⊎_elim
         (λ old.
-        let lt = slice_get_within m.space.slots st.place (Here st.raw) old in
-        let there = (R.tables.reads (Space k) m.space.slots was).here st.place st.raw old in
+        let lt = slice_get_within (seen_slots m) st.place (Here st.raw) old in
+        let there = (R.tables.reads (Space k) (seen_slots m) was).here st.place st.raw old in
         absurd (none-some _ (sym none ∙ ap g (sym name_is ∙ stand st.place lt) ∙ there)))
-        (λ new. let z = (last new.0 (Here st.raw) new.2).0 in let place : st.place ≡ length m.space.slots = let p = new.1 in omega arith in
+        (λ new. let z = (last new.0 (Here st.raw) new.2).0 in let place : st.place ≡ length (seen_slots m) = let p = new.1 in omega arith in
         sym name_is ∙ ap (slice_index (names2 (Space k))) place)
-        (append_cases m.space.slots (Here (new_object kind) ∷ []) st.place (Here st.raw) raw))
+        (append_cases (seen_slots m) (Here (new_object kind) ∷ []) st.place (Here st.raw) raw))
         (λ other.
         let old : layout w y.owner ≡ Some st.table = sym (rest y.owner other) ∙ st.is_table in
         let there = (R.tables.reads y.owner st.table old).here st.place st.raw st.is_raw in
@@ -210,6 +217,8 @@ module _ (w w2 : Assembly) (k : ℕ) (m m2 : Member) (kind : NewObject) (at : sl
         (in_first (Local (length m.space.slots)) [] r new))
         (Contains-append_cases m.roots (Local (length m.space.slots) ∷ []) r (subst (λ xs. Contains xs r) A.roots has));
     hand = λ p e. K.hand p (sym A.hand ∙ e);
+    plan = λ p e. K.plan p (sym A.plan ∙ e);
+    published = λ p e. K.published p (sym A.published ∙ e);
   }
     where
       fewer : (e : ℕ × List Object) → Contains (joined m2.space.below) e → Contains (joined m.space.below) e
@@ -226,7 +235,7 @@ module _ (w w2 : Assembly) (k : ℕ) (m m2 : Member) (kind : NewObject) (at : sl
 
   pub allocated : (who : RactorNo) → StandsAt who k → HasOutcome (record { who = who; action = Alloc kind }) Done w w2
   allocated who stands names bound g R =
-      let q = remaking_is_a_step (Space k) 1 m.space.slots (m.space.slots ++ Here (new_object kind) ∷ []) (layout w) (layout w2) names bound g (remakes (R.tables.sound (Space k) m.space.slots was)) R.tables in
+      let q = remaking_is_a_step (Space k) 1 (seen_slots m) ((seen_slots m) ++ Here (new_object kind) ∷ []) (layout w) (layout w2) names bound g (remakes (R.tables.sound (Space k) (seen_slots m) was)) R.tables in
       let names2 = q.0 in
       let N = q.3 in
       let kept : (c : ℕ) → names2 (Shared c) ≡ names (Shared c) = kept_shared names bound g R names2 q.1 q.2 N q.4 in
@@ -234,14 +243,17 @@ module _ (w w2 : Assembly) (k : ℕ) (m m2 : Member) (kind : NewObject) (at : sl
       let mails : (n u : ℕ) → names2 (Mail n u) ≡ names (Mail n u) = λ n u. N.rest (Mail n u) (λ z. let y : ⊥ = cc in y) in
       let shows : (n u : ℕ) → names2 (Shown n u) ≡ names (Shown n u) = λ n u. N.rest (Shown n u) (λ z. let y : ⊥ = cc in y) in
       let new = name names bound g R names2 q.1 q.2 N q.4 in
+      let stand_all : (i : ℕ) → i < length m.space.slots → slice_index (names2 (Space k)) i ≡ slice_index (names (Space k)) i = λ i lt. stand names bound g R names2 q.1 q.2 N q.4 i (omega (arith, lt, many)) in
       let roots : map (root_in names2 (Space k)) m2.roots ≡ map (root_in names (Space k)) m.roots ++ At (Own new) ∷ [] =
       ap (map (root_in names2 (Space k))) A.roots ∙ map-append (root_in names2 (Space k)) m.roots (Local (length m.space.slots) ∷ [])
-      ∙ ap (λ vs. vs ++ At (Own new) ∷ []) (roots_keep (length m.space.slots) names names2 (Space k) m.roots A.within (stand names bound g R names2 q.1 q.2 N q.4) kept) in
-      let count : length m2.space.slots ≡ length m.space.slots + 1 = ap length A.slots ∙ size in
+      ∙ ap (λ i. map (root_in names2 (Space k)) m.roots ++ At (Own (slice_index (names2 (Space k)) i)) ∷ []) (sym many)
+      ∙ ap (λ vs. vs ++ At (Own new) ∷ []) (roots_keep (length m.space.slots) names names2 (Space k) m.roots A.within stand_all kept) in
+      let count : length m2.space.slots ≡ length m.space.slots + 1 = ap length A.slots ∙ length-append m.space.slots (Here (new_object kind) ∷ []) in
       let actor : actor_in names2 k m2 ≡ record (actor_in names k m) { roots = (actor_in names k m).roots ++ At (Own new) ∷ []; slots = (actor_in names k m).slots + 1 } =
       same_actor roots (ap (option_map (parcel_in names2 (Hand k))) A.hand ∙ hand_same names names2 (Hand k) m.hand (hands k) kept)
-      (ap (option_map (shells_in names2 k)) A.home ∙ home_stands names names2 k m.space.slots m.hand m.home A.away (stand names bound g R names2 q.1 q.2 N q.4)) A.ticket
-      (ap (option_map (planned_in names2 k)) A.plan ∙ plan_stands names names2 k (length m.space.slots) m.plan A.planned (stand names bound g R names2 q.1 q.2 N q.4)) count A.limit A.next A.limits A.runs in (
+      (ap (option_map (shells_in names2 k)) A.home ∙ home_stands names names2 k m.space.slots m.hand m.home A.away stand_all) A.ticket
+      (ap (option_map (planned_in names2 k)) A.plan ∙ plan_stands names names2 k (length m.space.slots) m.plan A.planned stand_all)
+      (ap (option_map (published_names names2 k)) A.published ∙ published_stands names names2 k m.space m.published A.fit stand_all) count A.limit A.next A.limits A.runs in (
         names2,
         bound + 1,
         q.1,
@@ -265,7 +277,7 @@ module _ (w w2 : Assembly) (k : ℕ) (m m2 : Member) (kind : NewObject) (at : sl
             post = ap (post_in names2) is ∙ post_same names names2 w.channels mails shows kept;
           },
         ),
-        space_renamed w k m (record { who = who; action = Alloc kind }) at N stands (stand names bound g R names2 q.1 q.2 N q.4),
+        space_renamed w k m (record { who = who; action = Alloc kind }) at N stands stand_all,
       )
 
 -- whatever an alloc answers

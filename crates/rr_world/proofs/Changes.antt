@@ -1,5 +1,5 @@
 -- What a change of one object leaves of a ractor.
-use Rattle.std.proofs.Common.{◌≡◌, ◌≤◌, ℕ, zero, suc, arith, ◌++◌, ◌⊎◌, ⊎_elim, inl, inr, List, [], ◌∷◌, length, map, Option, Some, None, IsTrue, Bool, true, false, slice_get, slice_set, Contains, sym, ap, ◌∙◌, subst, refl}
+use Rattle.std.proofs.Common.{◌≡◌, ℕ, zero, suc, arith, ◌++◌, ◌⊎◌, ⊎_elim, inl, inr, List, [], ◌∷◌, length, map, Option, Some, None, IsTrue, Bool, true, false, slice_get, slice_set, Contains, sym, ap, ◌∙◌, subst, refl}
 use Rattle.std.specs.Prelude.{◌&&◌, not}
 use Rattle.std.proofs.lemmas.Option.{none-some, slice_get_within}
 use Rattle.rr_base.specs.declared.limits.Limits.{Limits}
@@ -15,21 +15,21 @@ use Rattle.rr_space.specs.declared.refer.Ref.TheVariants as ref
 use Rattle.rr_space.proofs.Sounds.{joined_back, joined_in, gets}
 use Rattle.rr_space.proofs.Hands.{append_left}
 use Rattle.rr_move.specs.Hands.{message_in, home_in}
-use Rattle.rr_share.specs.declared.planned.Plan.{Plan}
 use Rattle.rr_move.specs.declared.home.Home.{Home}
 use Rattle.rr_move.specs.declared.hand.Hand.{Hand}
 use Rattle.rr_move.specs.declared.hand.Hand.TheVariants.{Empty, Planned, Published, Message, Moved, Shown}
-use Rattle.rr_world.specs.Views.{Member, AreAway, ArePlacesBelow, AreRootsWithin, IsHandFit, plan_in, ticket_in}
+use Rattle.rr_world.specs.Views.{Member, AreAway, AreRootsWithin, IsHandFit, IsPublishedFit, plan_in, published_in, ticket_in}
 use Rattle.rr_world.specs.Enabling.{IsNoShell, IsOpen}
 use Rattle.rr_world.specs.ObjectCases.{with_field}
 use Rattle.rr_world.specs.Changing.{IsMadeOf, IsReadBy}
 use Rattle.rr_world.specs.Packing.{named_ref}
 use Rattle.rr_world.specs.declared.step.Operand.{Operand}
 use Rattle.rr_world.proofs.Fields.{field_cases}
+use Rattle.rr_world.proofs.Forwarding.{IsOut, plan_below, seen_out}
 use Rattle.rr_world.proofs.Lists.{eq_cases, set_off}
 
 abbrev pub member : Table → List Ref → Hand → Limits → Bool → Member
-member space roots hand limits runs = record { space = space; roots = roots; hand = message_in hand; home = home_in hand; ticket = ticket_in hand; plan = plan_in hand; limits = limits; runs = runs }
+member space roots hand limits runs = record { space = space; roots = roots; hand = message_in hand; home = home_in hand; ticket = ticket_in hand; plan = plan_in hand; published = published_in hand; limits = limits; runs = runs }
 
 no_shell : (o : Object) → not (is_shell o.kind) ≡ true → IsNoShell o
 no_shell o holds is = let no : not (is_shell shell) ≡ true = subst (λ (k : Kind). not (is_shell k) ≡ true) is holds in cc
@@ -148,13 +148,13 @@ pub set_away : (a b : Table) (n : ℕ) (x : Slot) (o : Object) (hand : Option Pa
 set_away a b n x o hand home is here whole away = subst (λ ss. AreAway ss hand home) (sym is) (away_set a.slots n x o hand home here whole away)
 
 -- a hand that has a message has nothing else
-pub held_fits : (k : ℕ) (h : Hand) (p : Packed) → message_in h ≡ Some p → IsHandFit k h
-held_fits k Empty p is = (tt, tt)
-held_fits k (Planned plan) p is = absurd (none-some p is)
-held_fits k (Published places published) p is = absurd (none-some p is)
-held_fits k (Message m) p is = (tt, tt)
-held_fits k (Moved d) p is = (tt, tt)
-held_fits k (Shown home ticket) p is = (tt, tt)
+pub held_fits : (t : Table) (h : Hand) (p : Packed) → message_in h ≡ Some p → IsHandFit t h
+held_fits t Empty p is = (tt, tt)
+held_fits t (Planned plan) p is = absurd (none-some p is)
+held_fits t (Published places published) p is = absurd (none-some p is)
+held_fits t (Message m) p is = (tt, tt)
+held_fits t (Moved d) p is = (tt, tt)
+held_fits t (Shown home ticket) p is = (tt, tt)
 
 pub held_plan : (h : Hand) (p : Packed) → message_in h ≡ Some p → plan_in h ≡ None
 held_plan Empty p is = refl
@@ -164,16 +164,13 @@ held_plan (Message m) p is = refl
 held_plan (Moved d) p is = refl
 held_plan (Shown home ticket) p is = refl
 
--- the places of a plan are slots where there are more of them
-places_on : (k j : ℕ) (x : Option Plan) → k ≤ j → ArePlacesBelow k x → ArePlacesBelow j x
-places_on k j None le below = tt
-places_on k j (Some plan) le below = λ n has. let lt = below n has in omega (arith, le, lt)
-
-pub hand_on : (k j : ℕ) (h : Hand) → k ≤ j → IsHandFit k h → IsHandFit j h
-hand_on k j h le fit = (fit.0, places_on k j (plan_in h) le fit.1)
-
-pub set_hand : (a b : Table) (n : ℕ) (x : Slot) (h : Hand) → b.slots ≡ slice_set a.slots n x → IsHandFit (length a.slots) h → IsHandFit (length b.slots) h
-set_hand a b n x h is fit = subst (λ k. IsHandFit k h) (sym (ap length is ∙ set_length a.slots n x)) fit
+pub held_published : (h : Hand) (p : Packed) → message_in h ≡ Some p → published_in h ≡ None
+held_published Empty p is = refl
+held_published (Planned plan) p is = refl
+held_published (Published places published) p is = absurd (none-some p is)
+held_published (Message m) p is = refl
+held_published (Moved d) p is = refl
+held_published (Shown home ticket) p is = refl
 
 -- and waits under no ticket
 pub held_ticket : (h : Hand) (p : Packed) → message_in h ≡ Some p → ticket_in h ≡ None
@@ -211,24 +208,25 @@ kept_known v a b same e has = inl (subst (λ x. Contains (joined x) e) same has)
 pub made : (op : Operand) (may : Object → Type 0) (change : Object → Object) (x v : Ref) (old : Member) (sp new : Table) (rs : List Ref) (hand : Hand) (limits : Limits) (runs : Bool) (n : ℕ) (o : Object)
     → member sp rs hand limits runs ≡ old → named_ref old.roots op ≡ Some v → v ≡ ref.Local n → slice_get sp.slots n ≡ Some (Here o) → may o → new.slots ≡ slice_set sp.slots n (Here (change o))
     → ((e : ℕ × List Object) → Contains (joined new.below) e → Contains (joined sp.below) e ⊎ Contains (below_ref x) e) → new.limit ≡ sp.limit → new.owner ≡ sp.owner → new.next_message ≡ sp.next_message
-    → AreRootsWithin (length sp.slots) rs → AreAway sp.slots (message_in hand) (home_in hand) → ArePlacesBelow (length sp.slots) (plan_in hand) → IsWithin (length sp.slots) x → IsMadeOf op may change x old (member new rs hand limits runs)
-made op may change x v old sp new rs hand limits runs n o is named slot here holds slots below limit owner next within away planned value =
+    → AreRootsWithin (length sp.slots) rs → AreAway sp.slots (message_in hand) (home_in hand) → IsHandFit sp hand → IsOut (published_in hand) n → IsWithin (length sp.slots) x → IsMadeOf op may change x old (member new rs hand limits runs)
+made op may change x v old sp new rs hand limits runs n o is named slot here holds slots below limit owner next within away fit out value =
     subst (λ (m : Member). IsMadeOf op may change x m (member new rs hand limits runs)) is (
       n,
       o,
-      record { named = subst (λ (m : Member). named_ref m.roots op ≡ Some v) (sym is) named ∙ ap (λ r. Some r) slot; here = here },
+      record { named = subst (λ (m : Member). named_ref m.roots op ≡ Some v) (sym is) named ∙ ap (λ r. Some r) slot; here = seen_out sp (published_in hand) n fit.1 out ∙ here },
       holds,
-      record { within = within; value = value; slots = slots; below = below; limit = limit; roots = refl; hand = refl; home = refl; ticket = refl; plan = refl; planned = planned; away = away; next = next; owner = owner; limits = refl; runs = refl },
+      record { within = within; value = value; slots = slots; below = below; limit = limit; roots = refl; hand = refl; home = refl; ticket = refl; plan = refl; planned = plan_below sp (plan_in hand) fit.0; published = refl; fit = fit.1; away = away; next = next; owner = owner; limits = refl; runs = refl },
     )
 
 pub read_by : (op : Operand) (l : Label) (v r : Ref) (old : Member) (sp : Table) (rs all : List Ref) (hand : Hand) (limits : Limits) (runs : Bool) → member sp rs hand limits runs ≡ old → all ≡ rs ++ r ∷ [] → named_ref old.roots op ≡ Some v
-    → IsFirstUnder (triples_at sp v) l (value_of r) → IsWithin (length sp.slots) r → IsKnownFrom sp v r → AreRootsWithin (length sp.slots) rs → IsReadBy op l v r old (member sp all hand limits runs)
-read_by op l v r old sp rs all hand limits runs is more named first root known within =
+    → IsFirstUnder (triples_at sp v) l (value_of r) → IsWithin (length sp.slots) r → IsKnownFrom sp v r → AreRootsWithin (length sp.slots) rs → IsPublishedFit sp (published_in hand) → IsReadBy op l v r old (member sp all hand limits runs)
+read_by op l v r old sp rs all hand limits runs is more named first root known within fit =
     subst (λ (m : Member). IsReadBy op l v r m (member sp all hand limits runs)) is (record {
       within = within;
       named = subst (λ (m : Member). named_ref m.roots op ≡ Some v) (sym is) named;
       first = first;
       root = root;
       known = known;
+      fit = fit;
       now_is = ap (λ xs. member sp xs hand limits runs) more;
     })

@@ -20,7 +20,7 @@ use Rattle.rr_space.proofs.Sounds.{gets, joined_back, joined_in, none_in}
 use Rattle.rr_move.specs.Laws.{NamesStay, TakesOut, TakingOutIsAMove}
 use Rattle.rr_move.specs.declared.home.Detached.{Detached}
 use Rattle.rr_world.specs.Views.{Member, Channels, Assembly}
-use Rattle.rr_world.specs.Layouts.{layout, message_slots, message_below, MemberKnows, IsRead}
+use Rattle.rr_world.specs.Layouts.{layout, message_slots, message_below, IsMessageKnown, MemberKnows, IsRead}
 use Rattle.rr_world.specs.Readings.{each_from, actor_in, shells_in, parcel_in, value_in, root_in, post_in, state_in}
 use Rattle.rr_world.specs.Enabling.{StandsAt}
 use Rattle.rr_world.specs.Moving.{IsMovedBy, Detaches}
@@ -35,7 +35,7 @@ use Rattle.rr_world.proofs.Enabled.{actor_at, free, allowed, tested_at}
 use Rattle.rr_world.proofs.Insides.{set_again, same_assembly}
 use Rattle.rr_world.proofs.Knowing.{knows_either, order_on, read_set}
 use Rattle.rr_world.proofs.Lists.{each_set, eq_cases}
-use Rattle.rr_world.proofs.Namings.{actor_same, same_actor, no_plan_same, post_same}
+use Rattle.rr_world.proofs.Namings.{actor_same, same_actor, no_plan_same, no_published_same, post_same}
 use Rattle.rr_world.proofs.Operands.{value_named, known_named}
 use Rattle.rr_world.proofs.Packs.{not_packed}
 use Rattle.rr_world.proofs.Rooting.{roots_keep}
@@ -45,6 +45,8 @@ use Rattle.rr_world.proofs.Starting.{remade_empty}
 use Rattle.rr_space.proofs.Apart.{readings_are_apart}
 use Rattle.rr_space.proofs.Remaking.{remaking_is_a_step}
 use Rattle.rr_world.proofs.Staying.{stays_read, same_state}
+use Rattle.rr_world.proofs.Forwarding.{seen_plain}
+use Rattle.rr_world.proofs.Messages.{known_message}
 use Rattle.rr_world.proofs.Tables.{space_was, hand_was, space_now, hand_now, rest_now}
 use Rattle.rr_world.proofs.Fitting.{waits_no_more}
 use Rattle.rr_world.specs.Naming.{IsRenamed}
@@ -76,11 +78,20 @@ module _ (w w2 : Assembly) (who : RactorNo) (k : ℕ) (m m2 : Member) (op : Oper
       knows_either (layout w) (joined m.space.below) (below_ref v) (message_below d.message) (λ e has. Contains-append_cases (joined m.space.below) (below_ref v) e (A.moved.below e has))
       (R.knows.ractors k m at).space knows
 
+  no_published : m2.published ≡ None
+  no_published = ap (λ (x : Member). x.published) A.now_is ∙ A.empty.published
+
+  was_space : layout w (Space k) ≡ Some m.space.slots
+  was_space = space_was w w2 k m m2 at rs is ∙ ap (λ (ss : List Slot). Some ss) (seen_plain m A.empty.published)
+
+  now_space : layout w2 (Space k) ≡ Some m2.space.slots
+  now_space = space_now w w2 k m m2 at rs is ∙ ap (λ (ss : List Slot). Some ss) (seen_plain m2 no_published)
+
   takes : IsOfSpace v → (names : Naming) (bound : ℕ) (g : Objects) → IsRead w names bound g → Knows (below_ref v) (layout w) → TakesOut k (value_of v) d m.space m2.space (layout w) (layout w2)
   takes own names bound g R knows = record {
-    space = space_was w w2 k m m2 at rs is;
+    space = was_space;
     hand = hand_was w w2 k m m2 at rs is ∙ ap (option_map message_slots) A.empty.hand;
-    space_after = space_now w w2 k m m2 at rs is;
+    space_after = now_space;
     hand_after = hand_now w w2 k m m2 at rs is ∙ ap (option_map message_slots) held_message;
     rest = rest_now w w2 k m m2 at rs is;
     copy = A.moved.copy;
@@ -90,7 +101,7 @@ module _ (w w2 : Assembly) (who : RactorNo) (k : ℕ) (m m2 : Member) (op : Oper
     message_sealed = A.moved.sealed;
     knows = (R.knows.ractors k m at).space;
     message_knows = known names bound g R knows;
-    there = there w names bound g R k m v at A.moved.well A.moved.within knows own;
+    there = there w names bound g R k m v at A.empty.published A.moved.well A.moved.within knows own;
   }
 
   -- what a move of the value does
@@ -101,7 +112,7 @@ module _ (w w2 : Assembly) (who : RactorNo) (k : ℕ) (m m2 : Member) (op : Oper
   module _ (names : Naming) (bound : ℕ) (g : Objects) (R : IsRead w names bound g) (knows : Knows (below_ref v) (layout w))
       (public : IsPublished (resolve m.space.slots (value_of v))) (shared : IsSharedValue g (root_in names (Space k) v)) where
     no_home : d.home.slots ≡ []
-    no_home = shared_names (space_graph m.space) (message_graph d.message) (resolve m.space.slots (value_of v)) d.message.root d.home.slots (is_sealed w names bound g R k m v at A.moved.well A.moved.within knows) public A.moved.copy.alike
+    no_home = shared_names (space_graph m.space) (message_graph d.message) (resolve m.space.slots (value_of v)) d.message.root d.home.slots (is_sealed w names bound g R k m v at A.empty.published A.moved.well A.moved.within knows) public A.moved.copy.alike
 
     no_objects : d.message.objects ≡ []
     no_objects = empty_list d.message.objects (A.moved.copy.size ∙ ap length no_home)
@@ -117,7 +128,7 @@ module _ (w w2 : Assembly) (who : RactorNo) (k : ℕ) (m m2 : Member) (op : Oper
 
     tables_stay : (h : Owner) → (h ≡ Hand k → ⊥) → layout w2 h ≡ layout w h
     tables_stay h off = ⊎_elim
-        (λ mine. ap (layout w2) mine ∙ space_now w w2 k m m2 at rs is ∙ ap (λ (ss : List Slot). Some ss) slots_stay ∙ sym (space_was w w2 k m m2 at rs is) ∙ ap (layout w) (sym mine))
+        (λ mine. ap (layout w2) mine ∙ now_space ∙ ap (λ (ss : List Slot). Some ss) slots_stay ∙ sym (was_space) ∙ ap (layout w) (sym mine))
         (λ other. rest_now w w2 k m m2 at rs is h other off)
         (owner_cases h (Space k))
 
@@ -148,10 +159,10 @@ module _ (w w2 : Assembly) (who : RactorNo) (k : ℕ) (m m2 : Member) (op : Oper
         let kept : (c : ℕ) → names2 (Shared c) ≡ names (Shared c) = λ c. N.rest (Shared c) (λ z. hand_apart c (sym z)) in
         let spaces : names2 (Space k) ≡ names (Space k) = N.rest (Space k) (λ z. let y : ⊥ = cc in y) in
         let same : (j : ℕ) → g2 j ≡ g j = remade_empty (Hand k) (layout w) (layout w2) names names2 bound (bound + 0) g g2 remakes hand_none R.tables q.2 N q.4 in
-        let before : IsApart g = all_apart w names bound g R k m v at A.moved.well A.moved.within knows in
+        let before : IsApart g = all_apart w names bound g R k m v at A.empty.published A.moved.well A.moved.within knows in
         let after : IsApart g2 = readings_are_apart (layout w2) names2 (bound + 0) g2 q.2 (order_on w w2 (ap (λ (y : Channels). y.store.clusters) is) R.clusters) in
         let stays : IsSharedValue g2 x = shared_stays g g2 (Hand k) hand_apart q.4.others x shared in
-        let name : value_in names (Space k) (resolve m.space.slots (value_of v)) ≡ x = resolved w names bound g R k m v at A.moved.well A.moved.within knows in
+        let name : value_in names (Space k) (resolve m.space.slots (value_of v)) ≡ x = resolved w names bound g R k m v at A.empty.published A.moved.well A.moved.within knows in
         let root : value_in names2 (Hand k) d.message.root ≡ x =
         shared_root names names2 (Space k) (Hand k) kept (resolve m.space.slots (value_of v)) d.message.root d.home.slots public A.moved.copy.alike.roots ∙ name in
         let none : names2 (Hand k) ≡ [] = empty_list (names2 (Hand k)) ((q.2.reads (Hand k) [] hand_empty).size) in
@@ -174,7 +185,7 @@ module _ (w w2 : Assembly) (who : RactorNo) (k : ℕ) (m m2 : Member) (op : Oper
   taken law names bound g R knows = ⊎_elim
       (λ own. law k (value_of v) d m.space m2.space (layout w) (layout w2) names bound g (takes own names bound g R knows) R.tables)
       (λ h. published_taken names bound g R knows h.0 h.1)
-      (held w names bound g R k m v at A.moved.well A.moved.within knows)
+      (held w names bound g R k m v at A.empty.published A.moved.well A.moved.within knows)
 
   moved_knows : (names : Naming) (bound : ℕ) (g : Objects) → IsRead w names bound g → Knows (below_ref v) (layout w) → MemberKnows (layout w) m2
   moved_knows names bound g R knows =
@@ -182,7 +193,9 @@ module _ (w w2 : Assembly) (who : RactorNo) (k : ℕ) (m m2 : Member) (op : Oper
       record {
         space = record { known = λ c os has. K.space.known c os (less_below d.home.slots m.space.below m2.space.below A.moved.emptied.below (c, os) has) };
         roots = λ r has. K.roots r (subst (λ (xs : List Ref). Contains xs r) roots_are has);
-        hand = λ p e. subst (λ (x : Packed). Knows (message_below x) (layout w)) (same_Some d.message p (sym held_message ∙ e)) (known names bound g R knows);
+        hand = λ p e. subst (λ (x : Packed). IsMessageKnown (layout w) x) (same_Some d.message p (sym held_message ∙ e)) (known_message (layout w) d.message A.moved.sound (known names bound g R knows));
+        plan = λ p e. absurd (none-some p (sym (ap (λ (x : Member). x.plan) A.now_is ∙ A.empty.plan) ∙ e));
+        published = λ p e. absurd (none-some p (sym no_published ∙ e));
       }
 
   -- the slots of the home were slots of the space
@@ -208,7 +221,7 @@ module _ (w w2 : Assembly) (who : RactorNo) (k : ℕ) (m m2 : Member) (op : Oper
       ap (λ (x : Member). option_map (shells_in names2 k) x.home) A.now_is
       ∙ ap (λ (ns : List ℕ). Some ns) (map_same (slice_index (names2 (Space k))) (slice_index (names (Space k))) d.home.slots (λ n has. stand n (home_within n has))) in
       let actor : actor_in names2 k m2 ≡ record (actor_in names k m) { hand = Some (parcel_in names2 (Hand k) d.message); home = Some (shells_in names k d.home); next = (actor_in names k m).next + 1 } =
-      same_actor roots (ap (option_map (parcel_in names2 (Hand k))) held_message) home (ap (λ (x : Member). x.ticket) A.now_is) (no_plan_same names names2 k m2.plan m.plan (ap (λ (x : Member). x.plan) A.now_is ∙ A.empty.plan) A.empty.plan) A.moved.emptied.slots.size A.moved.emptied.limit A.moved.next (ap (λ (x : Member). x.limits) A.now_is) (ap (λ (x : Member). x.runs) A.now_is) in (
+      same_actor roots (ap (option_map (parcel_in names2 (Hand k))) held_message) home (ap (λ (x : Member). x.ticket) A.now_is) (no_plan_same names names2 k m2.plan m.plan (ap (λ (x : Member). x.plan) A.now_is ∙ A.empty.plan) A.empty.plan) (no_published_same names names2 k m2.published m.published no_published A.empty.published) A.moved.emptied.slots.size A.moved.emptied.limit A.moved.next (ap (λ (x : Member). x.limits) A.now_is) (ap (λ (x : Member). x.runs) A.now_is) in (
         names2,
         q.1,
         q.2,
@@ -225,10 +238,10 @@ module _ (w w2 : Assembly) (who : RactorNo) (k : ℕ) (m m2 : Member) (op : Oper
             shells_in names k d.home,
             value,
             record {
-              free = free_of w names bound g R k m v at A.moved.well A.moved.within knows A.moved.free;
-              shared = shared_of w names bound g R k m v at A.moved.well A.moved.within knows A.moved.promoted;
+              free = free_of w names bound g R k m v at A.empty.published A.moved.well A.moved.within knows A.moved.free;
+              shared = shared_of w names bound g R k m v at A.empty.published A.moved.well A.moved.within knows A.moved.promoted;
               objects = subst (λ x. IsMoved k x (parcel_in names2 (Hand k) d.message).root (map Own (shells_in names k d.home)) (map Own (names2 (Hand k))) g q.2)
-                  (resolved w names bound g R k m v at A.moved.well A.moved.within knows)
+                  (resolved w names bound g R k m v at A.empty.published A.moved.well A.moved.within knows)
                   (subst (λ (left : List Name). IsMoved k (value_in names (Space k) (resolve m.space.slots (value_of v))) (parcel_in names2 (Hand k) d.message).root left (map Own (names2 (Hand k))) g q.2) (named_slots names (Space k) d.home.slots) q.5);
               size = length-map d.home.slots (slice_index (names (Space k))) ∙ sym d.fits.size;
               sender = A.moved.sender ∙ R.owned k m at;
@@ -242,7 +255,7 @@ module _ (w w2 : Assembly) (who : RactorNo) (k : ℕ) (m m2 : Member) (op : Oper
           ),
         ),
         record {
-          others = λ h off. N.rest h (λ e. off (subst (IsRenamed (length w.ractors) who (Detach op)) (sym e) stands)) (λ e. off (subst (IsRenamed (length w.ractors) who (Detach op)) (sym e) stands));
+          others = λ h off. N.rest h (λ e. off (subst (IsRenamed w who (Detach op)) (sym e) stands)) (λ e. off (subst (IsRenamed w who (Detach op)) (sym e) stands));
           slots = λ j x i there lt off. ⊎_elim
               (λ same.
               let one : x ≡ m = same_Some x m (sym there ∙ ap (slice_get w.ractors) same ∙ at) in
@@ -278,7 +291,7 @@ detached_by law w w2 who k m m2 op (outcome.Refused f) at rs is stands (v, empty
         value,
         (
           ⊎_elim (λ e. inl e)
-              (λ e. inr (⊎_elim (λ z. inl z) (λ z. inr (z.0, shell_of w names bound g R k m v at F.well F.within (known_named (layout w) m.roots op v (R.knows.ractors k m at).roots named) z.1)) e))
+              (λ e. inr (⊎_elim (λ z. inl z) (λ z. inr (z.0, shell_of w names bound g R k m v at empty.published F.well F.within (known_named (layout w) m.roots op v (R.knows.ractors k m at).roots named) z.1)) e))
               F.why,
           same_state (state_in w names g),
         ),

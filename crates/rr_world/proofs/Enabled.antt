@@ -8,7 +8,7 @@ use Rattle.rr_space.specs.Readings.{Naming, Objects, Hand}
 use Rattle.rr_inbox.specs.Inboxes.{Inbox}
 use Rattle.rr_world.specs.Views.{Member, Assembly, HasToDrop, IsFree}
 use Rattle.rr_world.specs.States.{Actor}
-use Rattle.rr_world.specs.Readings.{actor_in, shells_in, planned_in, mailbox_in, parcel_in, state_in}
+use Rattle.rr_world.specs.Readings.{actor_in, shells_in, planned_in, published_names, mailbox_in, parcel_in, state_in}
 use Rattle.rr_world.specs.Enabling.{IsTested, StandsAt, HasInbox, Holds, HoldsPlan, IsFreeHand, Allows, IsPossible}
 use Rattle.rr_world.specs.declared.step.Action.TheVariants.{Offer, Close}
 use Rattle.rr_world.specs.declared.step.Step.{Step}
@@ -59,14 +59,14 @@ pub holds : (names : Naming) (k : ℕ) (m : Member) (p : Packed) → m.hand ≡ 
 holds names k m p is = ap (option_map (parcel_in names (Hand k))) is
 
 pub free : (names : Naming) (k : ℕ) (m : Member) → IsFree m → IsFreeHand (actor_in names k m)
-free names k m is = (ap (option_map (parcel_in names (Hand k))) is.hand, ap (option_map (shells_in names k)) is.home, is.ticket, ap (option_map (planned_in names k)) is.plan)
+free names k m is = (ap (option_map (parcel_in names (Hand k))) is.hand, ap (option_map (shells_in names k)) is.home, is.ticket, ap (option_map (planned_in names k)) is.plan, ap (option_map (published_names names k)) is.published)
 
 pub none_back : {A B : Type 0} (f : A → B) (x : Option A) → option_map f x ≡ None → x ≡ None
 none_back f None e = refl
 none_back f (Some a) e = absurd (none-some (f a) (sym e))
 
 pub free_back : (names : Naming) (k : ℕ) (m : Member) → IsFreeHand (actor_in names k m) → IsFree m
-free_back names k m is = record { hand = none_back (parcel_in names (Hand k)) m.hand is.0; home = none_back (shells_in names k) m.home is.1; ticket = is.2; plan = none_back (planned_in names k) m.plan is.3 }
+free_back names k m is = record { hand = none_back (parcel_in names (Hand k)) m.hand is.0; home = none_back (shells_in names k) m.home is.1; ticket = is.2; plan = none_back (planned_in names k) m.plan is.3; published = none_back (published_names names k) m.published is.4 }
 
 pub no_offer : (w : Assembly) (names : Naming) (g : Objects) (step : Step) (to : RactorNo) → step.action ≡ Offer to → ((k : ℕ) → StandsAt to k → length w.channels.inboxes ≤ k)
     → IsPossible (state_in w names g) step → ⊥

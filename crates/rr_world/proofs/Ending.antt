@@ -12,13 +12,14 @@ use Rattle.rr_space.proofs.Frames.{owner_same, owner_refl}
 use Rattle.rr_space.proofs.Remaking.{remaking_is_a_step}
 use Rattle.rr_world.specs.Views.{Member, Channels, Assembly}
 use Rattle.rr_world.specs.Layouts.{cluster_slots, layout, space_slots, hand_slots, inbox_slots, port_slots, message_slots}
-use Rattle.rr_world.specs.Readings.{each_from, actor_in, parcel_in, root_in, shells_in, planned_in, post_in}
+use Rattle.rr_world.specs.Readings.{each_from, actor_in, parcel_in, root_in, shells_in, planned_in, published_names, post_in}
 use Rattle.rr_world.specs.Enabling.{StandsAt}
 use Rattle.rr_world.specs.ObjectCases.{ended_actor}
 use Rattle.rr_world.specs.Starting.{IsOver}
 use Rattle.rr_world.specs.Runs.{HasOutcome}
 use Rattle.rr_world.specs.declared.step.Action.TheVariants.{End}
 use Rattle.rr_world.specs.declared.step.Reply.TheVariants.{Done}
+use Rattle.rr_world.proofs.Forwarding.{seen_plain}
 use Rattle.rr_world.proofs.Enabled.{actor_at}
 use Rattle.rr_world.proofs.Knowing.{read_set}
 use Rattle.rr_world.proofs.Lists.{set_at, set_off, each_set}
@@ -69,7 +70,7 @@ module _ (w w2 : Assembly) (k : ℕ) (m m2 : Member) (at : slice_get w.ractors k
 
   now : layout w2 (Space k) ≡ Some []
   unfolding layout
-  now = ap (option_map space_slots) there ∙ ap (λ ss. Some ss) A.slots
+  now = ap (option_map space_slots) there ∙ ap (λ ss. Some ss) (seen_plain m2 A.published ∙ A.slots)
 
   was : bare (Space k) ≡ None
   was = without_other (Hand k) spaceless (Space k) apart_both ∙ without_it (Space k) (layout w)
@@ -121,11 +122,11 @@ module _ (w w2 : Assembly) (k : ℕ) (m m2 : Member) (at : slice_get w.ractors k
       let shows : (c u : ℕ) → names2 (Shown c u) ≡ names (Shown c u) = λ c u. N.rest (Shown c u) (λ z. let y : ⊥ = cc in y) in
       let hands : (n : ℕ) → names2 (Hand n) ≡ names (Hand n) = λ n. N.rest (Hand n) (λ z. let y : ⊥ = cc in y) in
       let actor : actor_in names2 k m2 ≡ ended_actor (actor_in names k m).limits =
-      same_actor (ap (map (root_in names2 (Space k))) A.roots) (ap (option_map (parcel_in names2 (Hand k))) A.hand) (ap (option_map (shells_in names2 k)) A.home) A.ticket (ap (option_map (planned_in names2 k)) A.plan) (ap length A.slots) A.limit A.next A.run A.runs in (
+      same_actor (ap (map (root_in names2 (Space k))) A.roots) (ap (option_map (parcel_in names2 (Hand k))) A.hand) (ap (option_map (shells_in names2 k)) A.home) A.ticket (ap (option_map (planned_in names2 k)) A.plan) (ap (option_map (published_names names2 k)) A.published) (ap length A.slots) A.limit A.next A.run A.runs in (
         names2,
         bound + 0,
         q.1,
-        read_set w w2 k m m2 at rs is (A.owner ∙ sym (R.owned k m at)) (waits_homeless m m2 A.home) (bare_knows (layout w) m2 A.below A.roots A.hand) R q.2,
+        read_set w w2 k m m2 at rs is (A.owner ∙ sym (R.owned k m at)) (waits_homeless m m2 A.home) (bare_knows (layout w) m2 A.below A.roots A.hand A.plan A.published) R q.2,
         (
           k,
           actor_in names k m,
@@ -146,5 +147,5 @@ module _ (w w2 : Assembly) (k : ℕ) (m m2 : Member) (at : slice_get w.ractors k
             post = ap (post_in names2) is ∙ post_same names names2 w.channels mails shows kept;
           },
         ),
-        record { others = λ h off. N.rest h (λ e. off (subst (IsRenamed (length w.ractors) who End) (sym e) stands)); slots = λ j x i there lt off. absurd (off refl) },
+        record { others = λ h off. N.rest h (λ e. off (subst (IsRenamed w who End) (sym e) stands)); slots = λ j x i there lt off. absurd (off refl) },
       )

@@ -12,12 +12,13 @@ use Rattle.rr_store.specs.Stores.{Store, constant_of}
 use Rattle.rr_inbox.specs.declared.entry.Entry.{Entry}
 use Rattle.rr_space.proofs.Sounds.{none_in}
 use Rattle.rr_move.specs.declared.home.Home.{Home}
-use Rattle.rr_world.specs.Views.{Member, Assembly}
+use Rattle.rr_world.specs.Views.{Member, Assembly, seen_slots}
 use Rattle.rr_world.specs.Layouts.{MemberKnows, layout, space_slots, hand_slots, cluster_slots, message_slots, inbox_slots, port_inside, port_slots}
 use Rattle.rr_world.specs.Runs.{IsNew, HasReading}
+use Rattle.rr_world.proofs.Forwarding.{seen_plain}
 
-space_empty : (m : Member) (k : ℕ) (t : List Slot) → m.space.slots ≡ [] → option_map space_slots (slice_get (m ∷ []) k) ≡ Some t → t ≡ []
-space_empty m zero t none is = sym (same_Some m.space.slots t is) ∙ none
+space_empty : (m : Member) (k : ℕ) (t : List Slot) → seen_slots m ≡ [] → option_map space_slots (slice_get (m ∷ []) k) ≡ Some t → t ≡ []
+space_empty m zero t none is = sym (same_Some (seen_slots m) t is) ∙ none
 space_empty m (suc k) t none is = absurd (none-some t is)
 
 hand_empty : (m : Member) (k : ℕ) (t : List Slot) → m.hand ≡ None → option_and_then hand_slots (slice_get (m ∷ []) k) ≡ Some t → t ≡ []
@@ -34,7 +35,7 @@ show_empty limit (suc c) u t is = absurd (none-some t is)
 
 all_empty : (limits : Limits) (w : Assembly) → IsNew limits w → (h : Owner) (t : List Slot) → layout w h ≡ Some t → t ≡ []
 unfolding layout
-all_empty limits w N (Space k) t is = space_empty N.main k t N.slots (ap (λ xs. option_map space_slots (slice_get xs k)) (sym N.ractors) ∙ is)
+all_empty limits w N (Space k) t is = space_empty N.main k t (seen_plain N.main N.published ∙ N.slots) (ap (λ xs. option_map space_slots (slice_get xs k)) (sym N.ractors) ∙ is)
 all_empty limits w N (Hand k) t is = hand_empty N.main k t N.hand (ap (λ xs. option_and_then hand_slots (slice_get xs k)) (sym N.ractors) ∙ is)
 all_empty limits w N (Mail c u) t is = mail_empty limits.events c u t (ap (λ xs. option_and_then (inbox_slots u) (slice_get xs c)) (sym N.inboxes) ∙ is)
 all_empty limits w N (Shown c u) t is = show_empty limits.events c u t (ap (λ xs. option_and_then (port_slots u) (slice_get xs c)) (sym N.ports) ∙ is)
@@ -48,6 +49,8 @@ main_knows limits w N = record {
   space = nothing_known (layout w) (joined N.main.space.below) (ap joined N.below);
   roots = λ r has. absurd (none_in r (subst (λ rs. Contains rs r) N.roots has));
   hand = λ p is. absurd (none-some p (sym N.hand ∙ is));
+  plan = λ p is. absurd (none-some p (sym N.plan ∙ is));
+  published = λ p is. absurd (none-some p (sym N.published ∙ is));
 }
 
 only_main : (limits : Limits) (w : Assembly) (N : IsNew limits w) (k : ℕ) (m : Member) → slice_get (N.main ∷ []) k ≡ Some m → MemberKnows (layout w) m

@@ -4,7 +4,7 @@ use Rattle.std.specs.Prelude.{slice_set}
 use Rattle.std.proofs.lemmas.List.Elements.{Contains-append_cases, Contains-append_left, Contains-append_right}
 use Rattle.std.proofs.lemmas.Option.{none-some, same_Some, slice_get_within}
 use Rattle.rr_space.specs.Graph.{Object}
-use Rattle.rr_space.specs.Tables.{Packed, Below, joined}
+use Rattle.rr_space.specs.Tables.{Packed, Below, joined, below_hold}
 use Rattle.rr_space.specs.Parts.{below_ref}
 use Rattle.rr_space.specs.Readings.{Shared, Knows, Layout, Naming, Objects, IsReading, AreClustersInOrder}
 use Rattle.std.specs.Option.{option_map}
@@ -16,7 +16,7 @@ use Rattle.rr_move.specs.declared.home.Home.{Home}
 use Rattle.rr_store.specs.Stores.{constant_of}
 use Rattle.rr_inbox.specs.declared.entry.Entry.{Entry}
 use Rattle.rr_world.specs.Views.{Member, Channels, Assembly, with_inbox}
-use Rattle.rr_world.specs.Layouts.{cluster_slots, layout, message_below, MemberKnows, IsKnowing, AreOwned, IsRead}
+use Rattle.rr_world.specs.Layouts.{cluster_slots, layout, message_below, IsMessageKnown, MemberKnows, IsKnowing, AreOwned, IsRead}
 use Rattle.rr_world.specs.Opening.{IsOpenedBy}
 use Rattle.rr_world.proofs.Fitting.{WaitsAsBefore, fits_set}
 use Rattle.rr_world.proofs.Lists.{eq_cases, set_at, set_off}
@@ -28,6 +28,13 @@ clusters_same w w2 same c = ap (λ xs. option_map cluster_slots (slice_get xs c)
 
 pub knows_on : (w w2 : Assembly) → w2.channels.store.clusters ≡ w.channels.store.clusters → (b : Below) → Knows b (layout w) → Knows b (layout w2)
 knows_on w w2 same b K = record { known = λ c os has. let q = K.known c os has in (q.0, clusters_same w w2 same c ∙ q.1, q.2) }
+
+-- so a message is known still
+pub message_on : (w w2 : Assembly) → w2.channels.store.clusters ≡ w.channels.store.clusters → (m : Packed) → IsMessageKnown (layout w) m → IsMessageKnown (layout w2) m
+message_on w w2 same m K = record {
+  below = knows_on w w2 same (message_below m) K.below;
+  root = λ c p is. let q = K.root c p is in (q.0, q.1, clusters_same w w2 same c ∙ q.2, q.3);
+}
 
 -- and so does their order
 pub order_on : (w w2 : Assembly) → w2.channels.store.clusters ≡ w.channels.store.clusters → AreClustersInOrder (layout w) → AreClustersInOrder (layout w2)
@@ -53,7 +60,9 @@ pub member_on : (w w2 : Assembly) → w2.channels.store.clusters ≡ w.channels.
 member_on w w2 same m K = record {
   space = knows_on w w2 same (joined m.space.below) K.space;
   roots = λ r has. knows_on w w2 same (below_ref r) (K.roots r has);
-  hand = λ p is. knows_on w w2 same (message_below p) (K.hand p is);
+  hand = λ p is. message_on w w2 same p (K.hand p is);
+  plan = λ p is. knows_on w w2 same p.cluster.below (K.plan p is);
+  published = λ p is. knows_on w w2 same (below_hold p.cluster) (K.published p is);
 }
 
 -- the spaces stay whose they are
@@ -69,21 +78,21 @@ pub knows_set : (w w2 : Assembly) (k : ℕ) (m2 : Member) → w2.ractors ≡ sli
 knows_set w w2 k m2 rs is M K = record {
   ractors = λ j m at. member_on w w2 (ap (λ (x : Channels). x.store.clusters) is) m (⊎_elim (λ same. subst (MemberKnows (layout w)) same M) (λ there. K.ractors j m there) (set_cases w.ractors k j m2 m (ap (λ xs. slice_get xs j) (sym rs) ∙ at)));
   store = λ n v here. knows_on w w2 (ap (λ (x : Channels). x.store.clusters) is) (below_ref v) (K.store n v (ap (λ (x : Channels). constant_of x.store n) (sym is) ∙ here));
-  inboxes = λ c i e at has. knows_on w w2 (ap (λ (x : Channels). x.store.clusters) is) (message_below e.message) (K.inboxes c i e (ap (λ (x : Channels). slice_get x.inboxes c) (sym is) ∙ at) has);
-  ports = λ c p e at has. knows_on w w2 (ap (λ (x : Channels). x.store.clusters) is) (message_below e.message) (K.ports c p e (ap (λ (x : Channels). slice_get x.ports c) (sym is) ∙ at) has);
+  inboxes = λ c i e at has. message_on w w2 (ap (λ (x : Channels). x.store.clusters) is) e.message (K.inboxes c i e (ap (λ (x : Channels). slice_get x.inboxes c) (sym is) ∙ at) has);
+  ports = λ c p e at has. message_on w w2 (ap (λ (x : Channels). x.store.clusters) is) e.message (K.ports c p e (ap (λ (x : Channels). slice_get x.ports c) (sym is) ∙ at) has);
 }
 
 -- one ractor and one inbox are others
 pub knows_both : (w w2 : Assembly) (k c : ℕ) (m2 : Member) (i2 : Inbox) → w2.ractors ≡ slice_set w.ractors k m2 → w2.channels ≡ with_inbox w.channels c i2 → MemberKnows (layout w) m2
-    → ((e : Entry) → Contains i2.inside e → Knows (message_below e.message) (layout w)) → IsKnowing w → IsKnowing w2
+    → ((e : Entry) → Contains i2.inside e → IsMessageKnown (layout w) e.message) → IsKnowing w → IsKnowing w2
 knows_both w w2 k c m2 i2 rs is M I K = record {
   ractors = λ j m at. member_on w w2 (ap (λ (x : Channels). x.store.clusters) is) m (⊎_elim (λ same. subst (MemberKnows (layout w)) same M) (λ there. K.ractors j m there) (set_cases w.ractors k j m2 m (ap (λ xs. slice_get xs j) (sym rs) ∙ at)));
   store = λ n v here. knows_on w w2 (ap (λ (x : Channels). x.store.clusters) is) (below_ref v) (K.store n v (ap (λ (x : Channels). constant_of x.store n) (sym is) ∙ here));
-  inboxes = λ d i e at has. knows_on w w2 (ap (λ (x : Channels). x.store.clusters) is) (message_below e.message) (⊎_elim
+  inboxes = λ d i e at has. message_on w w2 (ap (λ (x : Channels). x.store.clusters) is) e.message (⊎_elim
       (λ same. I e (subst (λ (x : Inbox). Contains x.inside e) (sym same) has))
       (λ there. K.inboxes d i e there has)
       (set_cases w.channels.inboxes c d i2 i (ap (λ (x : Channels). slice_get x.inboxes d) (sym is) ∙ at)));
-  ports = λ c p e at has. knows_on w w2 (ap (λ (x : Channels). x.store.clusters) is) (message_below e.message) (K.ports c p e (ap (λ (x : Channels). slice_get x.ports c) (sym is) ∙ at) has);
+  ports = λ c p e at has. message_on w w2 (ap (λ (x : Channels). x.store.clusters) is) e.message (K.ports c p e (ap (λ (x : Channels). slice_get x.ports c) (sym is) ∙ at) has);
 }
 
 -- one inbox is another with the same messages
@@ -91,11 +100,11 @@ pub knows_told : (w w2 : Assembly) (c : ℕ) (i i2 : Inbox) → slice_get w.chan
 knows_told w w2 c i i2 box inside rs is K = record {
   ractors = λ j m at. member_on w w2 (ap (λ (x : Channels). x.store.clusters) is) m (K.ractors j m (ap (λ xs. slice_get xs j) (sym rs) ∙ at));
   store = λ n v here. knows_on w w2 (ap (λ (x : Channels). x.store.clusters) is) (below_ref v) (K.store n v (ap (λ (x : Channels). constant_of x.store n) (sym is) ∙ here));
-  inboxes = λ d x e at has. knows_on w w2 (ap (λ (x : Channels). x.store.clusters) is) (message_below e.message) (⊎_elim
+  inboxes = λ d x e at has. message_on w w2 (ap (λ (x : Channels). x.store.clusters) is) e.message (⊎_elim
       (λ same. K.inboxes c i e box (subst (λ xs. Contains xs e) inside (subst (λ (y : Inbox). Contains y.inside e) (sym same) has)))
       (λ there. K.inboxes d x e there has)
       (set_cases w.channels.inboxes c d i2 x (ap (λ (x : Channels). slice_get x.inboxes d) (sym is) ∙ at)));
-  ports = λ c p e at has. knows_on w w2 (ap (λ (x : Channels). x.store.clusters) is) (message_below e.message) (K.ports c p e (ap (λ (x : Channels). slice_get x.ports c) (sym is) ∙ at) has);
+  ports = λ c p e at has. message_on w w2 (ap (λ (x : Channels). x.store.clusters) is) e.message (K.ports c p e (ap (λ (x : Channels). slice_get x.ports c) (sym is) ∙ at) has);
 }
 
 -- a reading of the World with one ractor in another's place
@@ -113,7 +122,7 @@ read_set w w2 k m m2 at rs is same waits M R tables = record {
 
 -- and with one inbox in another's place
 pub read_both : {names names2 : Naming} {bound bound2 : ℕ} {g g2 : Objects} (w w2 : Assembly) (k c : ℕ) (m m2 : Member) (i2 : Inbox) → slice_get w.ractors k ≡ Some m → w2.ractors ≡ slice_set w.ractors k m2
-    → w2.channels ≡ with_inbox w.channels c i2 → m2.space.owner ≡ m.space.owner → WaitsAsBefore m m2 → MemberKnows (layout w) m2 → ((e : Entry) → Contains i2.inside e → Knows (message_below e.message) (layout w))
+    → w2.channels ≡ with_inbox w.channels c i2 → m2.space.owner ≡ m.space.owner → WaitsAsBefore m m2 → MemberKnows (layout w) m2 → ((e : Entry) → Contains i2.inside e → IsMessageKnown (layout w) e.message)
     → IsRead w names bound g → IsReading (layout w2) names2 bound2 g2 → IsRead w2 names2 bound2 g2
 read_both w w2 k c m m2 i2 at rs is same waits M I R tables = record {
   tables = tables;
@@ -127,15 +136,15 @@ read_both w w2 k c m m2 i2 at rs is same waits M I R tables = record {
 
 -- with the hand empty, less is known
 pub emptied_knows : (tables : Layout) (m : Member) (home : Option Home) (ticket : Option ℕ) → MemberKnows tables m → MemberKnows tables (record m { hand = None; home = home; ticket = ticket })
-emptied_knows tables m home ticket K = record { space = K.space; roots = K.roots; hand = λ p is. absurd (none-some p is) }
+emptied_knows tables m home ticket K = record { space = K.space; roots = K.roots; hand = λ p is. absurd (none-some p is); plan = K.plan; published = K.published }
 
-pub holding_knows : (tables : Layout) (m : Member) (p : Packed) (ticket : Option ℕ) → MemberKnows tables m → Knows (message_below p) tables → MemberKnows tables (record m { hand = Some p; ticket = ticket })
-holding_knows tables m p ticket K L = record { space = K.space; roots = K.roots; hand = λ q is. subst (λ (x : Packed). Knows (message_below x) tables) (same_Some p q is) L }
+pub holding_knows : (tables : Layout) (m : Member) (p : Packed) (ticket : Option ℕ) → MemberKnows tables m → IsMessageKnown tables p → MemberKnows tables (record m { hand = Some p; ticket = ticket })
+holding_knows tables m p ticket K L = record { space = K.space; roots = K.roots; hand = λ q is. subst (λ (x : Packed). IsMessageKnown tables x) (same_Some p q is) L; plan = K.plan; published = K.published }
 
 -- what is opened brings what it knows
 pub opened_knows : (tables : Layout) (p : Packed) (root : Ref) (m m2 : Member) → IsOpenedBy p root m m2 → MemberKnows tables m → MemberKnows tables m2
 opened_knows tables p root m m2 O K =
-    let L = K.hand p O.held in
+    let L = (K.hand p O.held).below in
     record {
       space = knows_either tables (joined m.space.below) (message_below p) (joined m2.space.below) split K.space L;
       roots = λ r has. ⊎_elim
@@ -147,6 +156,8 @@ opened_knows tables p root m m2 O K =
           (in_first root [] r new))
           (Contains-append_cases m.roots (root ∷ []) r (subst (λ (rs : List Ref). Contains rs r) O.roots has));
       hand = λ q is. absurd (none-some q (sym O.hand ∙ is));
+      plan = λ q is. absurd (none-some q (sym O.plan ∙ is));
+      published = λ q is. absurd (none-some q (sym O.published ∙ is));
     }
   where
     split : (e : ℕ × List Object) → Contains (joined m2.space.below) e → Contains (joined m.space.below) e ⊎ Contains (message_below p) e

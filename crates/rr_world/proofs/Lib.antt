@@ -1,6 +1,8 @@
 pub mod Lists
 pub mod Namings
 pub mod Tickets
+pub mod Forwarding
+pub mod Fits
 pub mod Fitting
 pub mod Staying
 pub mod Enabled
@@ -16,6 +18,7 @@ pub mod Fresh
 pub mod Rooting
 pub mod Knowing
 pub mod Published
+pub mod Messages
 pub mod Sharing
 pub mod Operands
 pub mod Seeing
@@ -27,6 +30,7 @@ pub mod Changes
 pub mod Fields
 pub mod Rewrites
 pub mod Making
+pub mod Turned
 pub mod Reading
 pub mod Starting
 pub mod Hands
@@ -34,6 +38,9 @@ pub mod Tables
 pub mod Detaching
 pub mod Returning
 pub mod Storing
+pub mod Grown
+pub mod PlanPublishing
+pub mod PlanPromoting
 pub mod Running
 pub mod Ending
 pub mod PortTelling

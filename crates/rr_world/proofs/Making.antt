@@ -19,7 +19,7 @@ use Rattle.rr_space.proofs.Frames.{named_same}
 use Rattle.rr_space.proofs.Hands.{some_back}
 use Rattle.rr_space.proofs.Renaming.{contains_at, contains_map}
 use Rattle.rr_space.proofs.Sounds.{none_in, in_first}
-use Rattle.rr_world.specs.Views.{Member, Assembly}
+use Rattle.rr_world.specs.Views.{Member, Assembly, seen_slots}
 use Rattle.rr_world.specs.Layouts.{layout, space_slots, IsRead}
 use Rattle.rr_world.specs.Readings.{root_in, value_in, actor_in, state_in}
 use Rattle.rr_world.specs.Enabling.{StandsAt, IsOwn, MayChange, IsNoShell, IsOpen, HasElement, IsValue, IsPossible, named_value}
@@ -36,6 +36,7 @@ use Rattle.rr_world.specs.declared.step.Reply.TheVariants.{NotEnabled, Refused}
 use Rattle.rr_world.specs.Outcomes.{reply_of}
 use Rattle.rr_world.specs.declared.outcome.Outcome.{Outcome}
 use Rattle.rr_world.specs.declared.outcome.Outcome.TheVariants as outcome
+use Rattle.rr_world.proofs.Forwarding.{seen_length}
 use Rattle.rr_world.proofs.Enabled.{actor_at, allowed}
 use Rattle.rr_world.proofs.Fields.{set_renamed, field_values}
 use Rattle.rr_world.proofs.Insides.{set_again, same_assembly}
@@ -76,7 +77,7 @@ map_set f (y ∷ ys) zero x = refl
 map_set f (y ∷ ys) (suc i) x = ap (λ zs. f y ∷ zs) (map_set f ys i x)
 
 module _ (w : Assembly) (names : Naming) (bound : ℕ) (g : Objects) (R : IsRead w names bound g) (k : ℕ) (m : Member) (at : slice_get w.ractors k ≡ Some m) where
-  here_space : layout w (Space k) ≡ Some m.space.slots
+  here_space : layout w (Space k) ≡ Some (seen_slots m)
   unfolding layout
   here_space = ap (option_map space_slots) at
 
@@ -90,17 +91,17 @@ module _ (w : Assembly) (names : Naming) (bound : ℕ) (g : Objects) (R : IsRead
       not_shared : (c : ℕ) (x : Owned) → g n ≡ Some x → x.owner ≡ Shared c → (i : ℕ) × (raw : Object) × IsSlot op m i raw × (slice_index (names (Space k)) i ≡ n)
       not_shared c x here its = let both : Space k ≡ Shared c = sym mine ∙ ap (λ (z : Owned). z.owner) (same_Some y x (sym own ∙ here)) ∙ its in let z : ⊥ = cc in absurd z
 
-      at_slot : (i : ℕ) → i < length m.space.slots → named_ref m.roots op ≡ Some (ref.Local i) → slice_index (names (Space k)) i ≡ n → (x : Option Slot) → slice_get m.space.slots i ≡ x
+      at_slot : (i : ℕ) → i < length (seen_slots m) → named_ref m.roots op ≡ Some (ref.Local i) → slice_index (names (Space k)) i ≡ n → (x : Option Slot) → slice_get (seen_slots m) i ≡ x
           → (j : ℕ) × (raw : Object) × IsSlot op m j raw × (slice_index (names (Space k)) j ≡ n)
-      at_slot i lt is_named name None e = absurd (none_there m.space.slots i lt e)
+      at_slot i lt is_named name None e = absurd (none_there (seen_slots m) i lt e)
         where
           none_there : (xs : List Slot) (j : ℕ) → j < length xs → slice_get xs j ≡ None → ⊥
           none_there [] j l none = absurd (omega arith)
           none_there (y ∷ ys) zero l none = none-some y (sym none)
           none_there (y ∷ ys) (suc j) l none = none_there ys j (omega arith) none
       at_slot i lt is_named name (Some (Led c q)) e =
-          let x = at_place (layout w) names bound g R.tables c q ((R.tables.sound (Space k) m.space.slots here_space).led i c q e) in
-          not_shared c x.0 (ap g (sym name ∙ (R.tables.reads (Space k) m.space.slots here_space).led i c q e) ∙ x.1) x.2
+          let x = at_place (layout w) names bound g R.tables c q ((R.tables.sound (Space k) (seen_slots m) here_space).led i c q e) in
+          not_shared c x.0 (ap g (sym name ∙ (R.tables.reads (Space k) (seen_slots m) here_space).led i c q e) ∙ x.1) x.2
       at_slot i lt is_named name (Some (Here raw)) e = (i, raw, record { named = is_named; here = e }, name)
 
       by : (v : Ref) → named_ref m.roots op ≡ Some v → root_in names (Space k) v ≡ At (Own n) → (i : ℕ) × (raw : Object) × IsSlot op m i raw × (slice_index (names (Space k)) i ≡ n)
@@ -110,7 +111,7 @@ module _ (w : Assembly) (names : Naming) (bound : ℕ) (g : Objects) (R : IsRead
       by (ref.Symbol b) is_named e = absurd (let z : ⊥ = cc in z)
       by (ref.Class b) is_named e = absurd (let z : ⊥ = cc in z)
       by (ref.Ractor b) is_named e = absurd (let z : ⊥ = cc in z)
-      by (ref.Local i) is_named e = at_slot i (ref_within (length m.space.slots) m.roots op (ref.Local i) within is_named) is_named (let z : At (Own (slice_index (names (Space k)) i)) ≡ At (Own n) = e in cc) (slice_get m.space.slots i) refl
+      by (ref.Local i) is_named e = at_slot i (let lt = ref_within (length m.space.slots) m.roots op (ref.Local i) within is_named in omega (arith, lt, seen_length m.published m.space.slots)) is_named (let z : At (Own (slice_index (names (Space k)) i)) ≡ At (Own n) = e in cc) (slice_get (seen_slots m) i) refl
       by (ref.Shared q c) is_named e =
           let known = known_named (layout w) m.roots op (ref.Shared q c) (R.knows.ractors k m at).roots is_named in
           let h = ref_within (length m.space.slots) m.roots op (ref.Shared q c) within is_named in
@@ -124,7 +125,7 @@ module _ (w : Assembly) (names : Naming) (bound : ℕ) (g : Objects) (R : IsRead
   may_back who op may stands within keeps (j, n, o, there, own, holds) =
       let same : j ≡ k = omega (arith, stands, there) in
       let s = slot_named op n _ within own.named own.here (ap Space same) in
-      let read = (R.tables.reads (Space k) m.space.slots here_space).here s.0 s.1 s.2.here in
+      let read = (R.tables.reads (Space k) (seen_slots m) here_space).here s.0 s.1 s.2.here in
       let owned : Some (record { owner = Space k; object = named names (Space k) s.1 }) ≡ Some (record { owner = Space j; object = o }) = sym read ∙ ap g s.3 ∙ own.here in
       let one : named names (Space k) s.1 ≡ o = ap (λ (y : Owned). y.object) (same_Some _ _ owned) in
       (s.0, s.1, s.2, keeps s.1 (subst may (sym one) holds))
@@ -133,7 +134,7 @@ module _ (w : Assembly) (names : Naming) (bound : ℕ) (g : Objects) (R : IsRead
   pub own_slot : (op : Operand) (n : ℕ) (o : Object) → IsSlot op m n o → IsOwn (state_in w names g) k (actor_in names k m) op (slice_index (names (Space k)) n) (named names (Space k) o)
   own_slot op n o s = record {
     named = value_named names (Space k) m.roots op ∙ ap (option_map (root_in names (Space k))) s.named;
-    here = (R.tables.reads (Space k) m.space.slots here_space).here n o s.here;
+    here = (R.tables.reads (Space k) (seen_slots m) here_space).here n o s.here;
   }
 
   pub may_on : (who : RactorNo) (op : Operand) (may : Object → Type 0) → StandsAt who k → ((o : Object) → may o → may (named names (Space k) o)) → MayChangeSlot op may m

@@ -7,7 +7,7 @@ use Rattle.std.proofs.lemmas.Option.{slice_get_within}
 use Rattle.rr_base.specs.declared.event.InboxEvent.{InboxEvent}
 use Rattle.rr_base.specs.declared.limits.Limits.{Limits}
 use Rattle.rr_space.specs.Graph.{Own, Published, Value, Plain, At, Object}
-use Rattle.rr_space.specs.Tables.{Slot, Here, Packed, renamed, behind, here_behind}
+use Rattle.rr_space.specs.Tables.{Table, Slot, Here, Packed, renamed, behind, here_behind}
 use Rattle.rr_space.specs.Views.{emptied}
 use Rattle.rr_space.specs.Parts.{IsWithin}
 use Rattle.rr_space.specs.Readings.{Owner, Space, Hand, Mail, Shown, Shared, Objects, Naming, Layout, IsReading}
@@ -24,14 +24,15 @@ use Rattle.rr_port.specs.Lasts.{message_of, is_fault}
 use Rattle.rr_port.specs.Ports.{Port}
 use Rattle.rr_port.specs.declared.last.LastGiven.{LastGiven}
 use Rattle.rr_port.specs.declared.last.Shown.{Shown as ShownMessage}
-use Rattle.rr_world.specs.Views.{Member, Channels, AreAway, ArePlacesBelow, AreRootsWithin, with_inbox, with_port}
+use Rattle.rr_world.specs.Views.{PublishedPlan, Member, Channels, AreAway, ArePlacesBelow, AreRootsWithin, IsPublishedFit, with_inbox, with_port}
 use Rattle.rr_world.specs.States.{Parcel, Letter, Farewell, Showcase, Mailbox, Actor, Archive, Held, Post, with_box, with_case}
 use Rattle.rr_store.specs.Stores.{Store}
 use Rattle.rr_store.specs.declared.constant.ConstValue.{ConstValue}
 use Rattle.rr_store.specs.declared.constant.ConstValue.TheVariants.{Shareable}
 use Rattle.rr_store.specs.declared.constant.ConstValue.TheVariants as store
 use Rattle.rr_space.specs.Parts.{value_of}
-use Rattle.rr_world.specs.Readings.{value_in, root_in, parcel_in, shells_in, planned_in, letter_in, mailbox_in, shown_in, farewell_in, showcase_in, actor_in, post_in, public_value, constant_in, archive_in, each_from}
+use Rattle.rr_world.specs.Readings.{value_in, root_in, parcel_in, shells_in, planned_in, published_names, letter_in, mailbox_in, shown_in, farewell_in, showcase_in, actor_in, post_in, public_value, constant_in, archive_in, each_from}
+use Rattle.rr_world.proofs.Forwarding.{published_below}
 use Rattle.rr_world.proofs.Lists.{each_same, each_set}
 
 -- clusters have the names that they had
@@ -65,16 +66,16 @@ roots_same names names2 h (r ∷ rs) own shared =
     ∙ ap (λ vs. root_in names h r ∷ vs) (roots_same names names2 h rs own shared)
 
 -- a ractor is what is in it
-abbrev pub actor_with : List Value → Option Parcel → Option (List ℕ) → Option ℕ → Option (List ℕ) → ℕ → ℕ → ℕ → Limits → Bool → Actor
-actor_with vs h o w v s l n z r = record { roots = vs; hand = h; home = o; ticket = w; plan = v; slots = s; limit = l; next = n; limits = z; runs = r }
+abbrev pub actor_with : List Value → Option Parcel → Option (List ℕ) → Option ℕ → Option (List ℕ) → Option (List ℕ) → ℕ → ℕ → ℕ → Limits → Bool → Actor
+actor_with vs h o w v u s l n z r = record { roots = vs; hand = h; home = o; ticket = w; plan = v; published = u; slots = s; limit = l; next = n; limits = z; runs = r }
 
-pub same_actor : {vs ws : List Value} {h i : Option Parcel} {o p : Option (List ℕ)} {w x : Option ℕ} {π ρ : Option (List ℕ)} {s t l j n q : ℕ} {z y : Limits} {r u : Bool} → vs ≡ ws → h ≡ i → o ≡ p → w ≡ x → π ≡ ρ → s ≡ t → l ≡ j → n ≡ q → z ≡ y → r ≡ u
-    → actor_with vs h o w π s l n z r ≡ actor_with ws i p x ρ t j q y u
-same_actor {vs} {ws} {h} {i} {o} {p} {w} {x} {π} {ρ} {s} {t} {l} {j} {n} {q} {z} {y} {r} {u} a b c m planned d e f g k =
-    ap (λ v. actor_with v h o w π s l n z r) a ∙ ap (λ v. actor_with ws v o w π s l n z r) b ∙ ap (λ v. actor_with ws i v w π s l n z r) c ∙ ap (λ v. actor_with ws i p v π s l n z r) m
-    ∙ ap (λ v. actor_with ws i p x v s l n z r) planned
-    ∙ ap (λ v. actor_with ws i p x ρ v l n z r) d ∙ ap (λ v. actor_with ws i p x ρ t v n z r) e ∙ ap (λ v. actor_with ws i p x ρ t j v z r) f ∙ ap (λ v. actor_with ws i p x ρ t j q v r) g
-    ∙ ap (λ v. actor_with ws i p x ρ t j q y v) k
+pub same_actor : {vs ws : List Value} {h i : Option Parcel} {o p : Option (List ℕ)} {w x : Option ℕ} {π ρ φ ψ : Option (List ℕ)} {s t l j n q : ℕ} {z y : Limits} {r u : Bool} → vs ≡ ws → h ≡ i → o ≡ p → w ≡ x → π ≡ ρ → φ ≡ ψ → s ≡ t → l ≡ j → n ≡ q
+    → z ≡ y → r ≡ u → actor_with vs h o w π φ s l n z r ≡ actor_with ws i p x ρ ψ t j q y u
+same_actor {vs} {ws} {h} {i} {o} {p} {w} {x} {π} {ρ} {φ} {ψ} {s} {t} {l} {j} {n} {q} {z} {y} {r} {u} a b c m planned published d e f g k =
+    ap (λ v. actor_with v h o w π φ s l n z r) a ∙ ap (λ v. actor_with ws v o w π φ s l n z r) b ∙ ap (λ v. actor_with ws i v w π φ s l n z r) c ∙ ap (λ v. actor_with ws i p v π φ s l n z r) m
+    ∙ ap (λ v. actor_with ws i p x v φ s l n z r) planned ∙ ap (λ v. actor_with ws i p x ρ v s l n z r) published
+    ∙ ap (λ v. actor_with ws i p x ρ ψ v l n z r) d ∙ ap (λ v. actor_with ws i p x ρ ψ t v n z r) e ∙ ap (λ v. actor_with ws i p x ρ ψ t j v z r) f ∙ ap (λ v. actor_with ws i p x ρ ψ t j q v r) g
+    ∙ ap (λ v. actor_with ws i p x ρ ψ t j q y v) k
 
 pub home_same : (names names2 : Naming) (k : ℕ) (x : Option Home) → names2 (Space k) ≡ names (Space k) → option_map (shells_in names2 k) x ≡ option_map (shells_in names k) x
 home_same names names2 k None own = refl
@@ -90,6 +91,21 @@ pub plan_stands : (names names2 : Naming) (k count : ℕ) (x : Option Plan) → 
 plan_stands names names2 k count None within stand = refl
 plan_stands names names2 k count (Some p) within stand =
     ap (λ (ns : List ℕ). Some ns) (map_same (slice_index (names2 (Space k))) (slice_index (names (Space k))) p.places (λ n has. stand n (within n has)))
+
+-- and so it is with a published plan
+pub published_same : (names names2 : Naming) (k : ℕ) (x : Option PublishedPlan) → names2 (Space k) ≡ names (Space k) → option_map (published_names names2 k) x ≡ option_map (published_names names k) x
+published_same names names2 k None own = refl
+published_same names names2 k (Some p) own = ap (λ ns. Some (map (slice_index ns) p.places)) own
+
+pub published_stands : (names names2 : Naming) (k : ℕ) (t : Table) (x : Option PublishedPlan) → IsPublishedFit t x
+    → ((i : ℕ) → i < length t.slots → slice_index (names2 (Space k)) i ≡ slice_index (names (Space k)) i) → option_map (published_names names2 k) x ≡ option_map (published_names names k) x
+published_stands names names2 k t None fit stand = refl
+published_stands names names2 k t (Some p) fit stand =
+    ap (λ (ns : List ℕ). Some ns) (map_same (slice_index (names2 (Space k))) (slice_index (names (Space k))) p.places (λ n has. stand n (published_below t p fit n has)))
+
+-- where there is none, there is none under other names
+pub no_published_same : (names names2 : Naming) (k : ℕ) (x y : Option PublishedPlan) → x ≡ None → y ≡ None → option_map (published_names names2 k) x ≡ option_map (published_names names k) y
+no_published_same names names2 k x y none none2 = ap (option_map (published_names names2 k)) none ∙ sym (ap (option_map (published_names names k)) none2)
 
 -- where there is no plan, there is none under other names
 pub no_plan_same : (names names2 : Naming) (k : ℕ) (x y : Option Plan) → x ≡ None → y ≡ None → option_map (planned_in names2 k) x ≡ option_map (planned_in names k) y
@@ -107,12 +123,12 @@ home_stands names names2 k slots (Some p) (Some h) away stand =
 pub actor_same : (names names2 : Naming) (k : ℕ) (r : Member) → names2 (Space k) ≡ names (Space k) → names2 (Hand k) ≡ names (Hand k) → KeepsShared names names2
     → actor_in names2 k r ≡ actor_in names k r
 actor_same names names2 k r space hand shared =
-    same_actor (roots_same names names2 (Space k) r.roots space shared) (hand_same names names2 (Hand k) r.hand hand shared) (home_same names names2 k r.home space) refl (plan_same names names2 k r.plan space) refl refl refl refl refl
+    same_actor (roots_same names names2 (Space k) r.roots space shared) (hand_same names names2 (Hand k) r.hand hand shared) (home_same names names2 k r.home space) refl (plan_same names names2 k r.plan space) (published_same names names2 k r.published space) refl refl refl refl refl
 
 -- a ractor with another message in its hand
 pub handed : (names names2 : Naming) (k : ℕ) (r : Member) (p : Packed) (ticket : Option ℕ) → names2 (Space k) ≡ names (Space k) → KeepsShared names names2
     → actor_in names2 k (record r { hand = Some p; ticket = ticket }) ≡ record (actor_in names k r) { hand = Some (parcel_in names2 (Hand k) p); ticket = ticket }
-handed names names2 k r p ticket space shared = same_actor (roots_same names names2 (Space k) r.roots space shared) refl (home_same names names2 k r.home space) refl (plan_same names names2 k r.plan space) refl refl refl refl refl
+handed names names2 k r p ticket space shared = same_actor (roots_same names names2 (Space k) r.roots space shared) refl (home_same names names2 k r.home space) refl (plan_same names names2 k r.plan space) (published_same names names2 k r.published space) refl refl refl refl refl
 
 pub letters_same : (names names2 : Naming) (c : ℕ) (es : List Entry) → ((e : Entry) → Contains es e → names2 (Mail c e.ticket) ≡ names (Mail c e.ticket)) → KeepsShared names names2
     → map (letter_in names2 c) es ≡ map (letter_in names c) es
@@ -138,7 +154,7 @@ constant_same names names2 (Some store.Own) shared = refl
 -- constants have the values that they had
 pub archive_same : (names names2 : Naming) (s : Store) → KeepsShared names names2 → archive_in names2 s ≡ archive_in names s
 archive_same names names2 s shared =
-    ap (λ cs. let a : Archive = record { constants = cs; history = s.history; limit = s.limit } in a)
+    ap (λ cs. let a : Archive = record { clusters = length s.clusters; constants = cs; history = s.history; limit = s.limit } in a)
     (map_same (option_map (constant_in names2)) (option_map (constant_in names)) s.constants (λ c has. constant_same names names2 c shared))
 
 abbrev pub case_with : Option Letter → Option Farewell → Port → Showcase

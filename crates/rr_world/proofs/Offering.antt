@@ -8,14 +8,14 @@ use Rattle.rr_base.specs.declared.name.RactorNo.{RactorNo}
 use Rattle.rr_base.specs.declared.event.InboxEvent.TheVariants as event
 use Rattle.rr_space.specs.Graph.{Object, Label, Value}
 use Rattle.rr_space.specs.Tables.{Packed, Here, here_behind, renamed_triple, behind}
-use Rattle.rr_space.specs.Readings.{Knows, Owner, Space, Hand, Mail, Shown, Shared}
+use Rattle.rr_space.specs.Readings.{Owner, Space, Hand, Mail, Shown, Shared}
 use Rattle.rr_space.specs.Steps.{Goes}
 use Rattle.rr_space.proofs.Hands.{hands_on}
 use Rattle.rr_copy.specs.Messages.{size_of}
 use Rattle.rr_inbox.specs.Inboxes.{Inbox, IsTicketed}
 use Rattle.rr_inbox.specs.declared.entry.Entry.{Entry}
 use Rattle.rr_world.specs.Views.{Member, Channels, Assembly, with_inbox}
-use Rattle.rr_world.specs.Layouts.{cluster_slots, layout, space_slots, hand_slots, inbox_slots, port_slots, message_slots, mail_slots, message_below}
+use Rattle.rr_world.specs.Layouts.{cluster_slots, layout, space_slots, hand_slots, inbox_slots, port_slots, message_slots, mail_slots, IsMessageKnown}
 use Rattle.rr_world.specs.States.{Mailbox, with_box}
 use Rattle.rr_world.specs.Readings.{each_from, actor_in, mailbox_in, parcel_in, letter_in, post_in}
 use Rattle.rr_world.specs.Enabling.{StandsAt}
@@ -115,7 +115,7 @@ module _ (w w2 : Assembly) (who : RactorNo) (k c : ℕ) (m : Member) (i i2 : Inb
             (λ x has. ⊎_elim
             (λ old. R.knows.inboxes c i x box old)
             (λ new. ⊎_elim
-            (λ (same : e ≡ x). subst (λ (y : Entry). Knows (message_below y.message) (layout w)) same ((R.knows.ractors k m at).hand p held))
+            (λ (same : e ≡ x). subst (λ (y : Entry). IsMessageKnown (layout w) y.message) same ((R.knows.ractors k m at).hand p held))
             (λ none. absurd (none_in x none))
             (in_first e [] x new))
             (Contains-append_cases i.inside (e ∷ []) x (subst (λ xs. Contains xs x) L.inside has)))

@@ -13,7 +13,9 @@ use Rattle.rr_world.specs.Laws.{OneValueIsOneName}
 use Rattle.rr_world.specs.Layouts.{layout}
 use Rattle.rr_world.specs.Readings.{value_in}
 use Rattle.rr_world.proofs.Published.{in_place}
-use Rattle.rr_world.proofs.Seeing.{is_space, resolved}
+use Rattle.rr_world.specs.Views.{seen_slots}
+use Rattle.rr_world.proofs.Forwarding.{seen_length}
+use Rattle.rr_world.proofs.Seeing.{space_table, value_resolved}
 
 -- the value is an immediate, an object of the table, or one in a place of a cluster
 abbrev IsLocated : Layout → List Slot → Value → Type 0
@@ -68,10 +70,12 @@ module _ (tables : Layout) (names : Naming) (bound : ℕ) (g : Objects) (R : IsR
 
 pub one_value_is_one_name : OneValueIsOneName
 one_value_is_one_name w names bound g k m a b R at well in_a in_b known_a known_b =
-    let name_a = resolved w names bound g R k m a at well in_a known_a in
-    let name_b = resolved w names bound g R k m b at well in_b known_b in
-    let here = is_space w names bound g R k m a at well in_a known_a in (
+    let name_a = value_resolved w names bound g R k m at (value_of a) in
+    let name_b = value_resolved w names bound g R k m at (value_of b) in
+    let here = space_table w k m at in
+    let within_a = subst (λ n. IsWithin n a) (sym (seen_length m.published m.space.slots)) in_a in
+    let within_b = subst (λ n. IsWithin n b) (sym (seen_length m.published m.space.slots)) in_b in (
       λ same. sym name_a ∙ ap (value_in names (Space k)) same ∙ name_b,
-      λ same. one (layout w) names bound g R.tables k m.space.slots here (resolve m.space.slots (value_of a)) (resolve m.space.slots (value_of b))
-          (located (layout w) names bound g R.tables k m.space.slots here a in_a known_a) (located (layout w) names bound g R.tables k m.space.slots here b in_b known_b) (name_a ∙ same ∙ sym name_b),
+      λ same. one (layout w) names bound g R.tables k (seen_slots m) here (resolve (seen_slots m) (value_of a)) (resolve (seen_slots m) (value_of b))
+          (located (layout w) names bound g R.tables k (seen_slots m) here a within_a known_a) (located (layout w) names bound g R.tables k (seen_slots m) here b within_b known_b) (name_a ∙ same ∙ sym name_b),
     )

@@ -1,11 +1,11 @@
 -- The message in a hand is opened in the ractor's space.
-use Rattle.std.proofs.Common.{◌≡◌, ℕ, ◌+◌, [], ◌∷◌, ◌++◌, length, length-append, map, Some, None, slice_get, ap, ◌∙◌, refl, arith, inl}
+use Rattle.std.proofs.Common.{◌≡◌, ℕ, ◌+◌, [], ◌∷◌, ◌++◌, length, length-append, map, Some, None, slice_get, ap, ◌∙◌, refl, arith, inl, List}
 use Rattle.std.specs.Prelude.{slice_set}
 use Rattle.std.specs.Option.{option_map, option_and_then}
 use Rattle.std.proofs.lemmas.List.{map-append, length-map}
 use Rattle.std.proofs.lemmas.Option.{slice_get_within}
 use Rattle.rr_base.specs.declared.name.RactorNo.{RactorNo}
-use Rattle.rr_space.specs.Tables.{Packed, here_behind}
+use Rattle.rr_space.specs.Tables.{Packed, here_behind, Slot}
 use Rattle.rr_space.specs.Readings.{Owner, Space, Hand, Mail, Shown, Shared}
 use Rattle.rr_space.specs.Steps.{Goes}
 use Rattle.rr_space.specs.declared.refer.Ref.{Ref}
@@ -21,8 +21,9 @@ use Rattle.rr_world.specs.declared.step.Reply.TheVariants.{Done, Refused}
 use Rattle.rr_world.specs.Outcomes.{reply_of}
 use Rattle.rr_world.specs.declared.outcome.Outcome.{Outcome}
 use Rattle.rr_world.specs.declared.outcome.Outcome.TheVariants as outcome
+use Rattle.rr_world.proofs.Forwarding.{seen_plain}
 use Rattle.rr_world.proofs.Lists.{set_at, set_off, each_set}
-use Rattle.rr_world.proofs.Namings.{actor_same, same_actor, no_plan_same, post_same, value_moved, shared_kept, roots_stand}
+use Rattle.rr_world.proofs.Namings.{actor_same, same_actor, no_plan_same, no_published_same, post_same, value_moved, shared_kept, roots_stand}
 use Rattle.rr_world.proofs.Knowing.{read_set, opened_knows}
 use Rattle.rr_world.proofs.Enabled.{actor_at, holds, allowed, holds_not}
 use Rattle.rr_world.proofs.Insides.{set_again, same_assembly}
@@ -43,9 +44,9 @@ module _ (w w2 : Assembly) (k : ℕ) (m m2 : Member) (p : Packed) (root : Ref) (
   unfolding layout
   goes = record {
     from = ap (option_and_then hand_slots) at ∙ ap (option_map message_slots) O.held;
-    to = inl (ap (option_map space_slots) at);
+    to = inl (ap (option_map space_slots) at ∙ ap (λ (ss : List Slot). Some ss) (seen_plain m O.no_published));
     gone = ap (λ xs. option_and_then hand_slots (slice_get xs k)) rs ∙ ap (option_and_then hand_slots) (set_at w.ractors k m2 (slice_get_within w.ractors k m at)) ∙ ap (option_map message_slots) O.hand;
-    come = ap (λ xs. option_map space_slots (slice_get xs k)) rs ∙ ap (option_map space_slots) (set_at w.ractors k m2 (slice_get_within w.ractors k m at)) ∙ ap (λ ss. Some ss) O.opened.slots;
+    come = ap (λ xs. option_map space_slots (slice_get xs k)) rs ∙ ap (option_map space_slots) (set_at w.ractors k m2 (slice_get_within w.ractors k m at)) ∙ ap (λ ss. Some ss) (seen_plain m2 O.published ∙ O.opened.slots);
     rest = rest;
     apart = λ e. let n : ⊥ = cc in n;
     unshared_a = λ d e. let n : ⊥ = cc in n;
@@ -68,7 +69,7 @@ module _ (w w2 : Assembly) (k : ℕ) (m m2 : Member) (p : Packed) (root : Ref) (
       ap length O.opened.slots ∙ length-append m.space.slots (map (here_behind (length m.space.slots)) p.objects)
       ∙ ap (λ n. length m.space.slots + n) (length-map p.objects (here_behind (length m.space.slots))) in
       let actor : actor_in names2 k m2 ≡ record (actor_in names k m) { roots = (actor_in names k m).roots ++ (parcel_in names (Hand k) p).root ∷ []; hand = None; home = None; slots = (actor_in names k m).slots + (parcel_in names (Hand k) p).size } =
-      same_actor roots (ap (option_map (parcel_in names2 (Hand k))) O.hand) (ap (option_map (shells_in names2 k)) O.home) O.ticket (no_plan_same names names2 k m2.plan m.plan O.plan O.no_plan) count O.opened.rest.limit O.opened.rest.next_message O.limits O.runs in (
+      same_actor roots (ap (option_map (parcel_in names2 (Hand k))) O.hand) (ap (option_map (shells_in names2 k)) O.home) O.ticket (no_plan_same names names2 k m2.plan m.plan O.plan O.no_plan) (no_published_same names names2 k m2.published m.published O.published O.no_published) count O.opened.rest.limit O.opened.rest.next_message O.limits O.runs in (
         names2,
         bound,
         q.1,

@@ -22,7 +22,7 @@ use Rattle.rr_space.proofs.Sounds.{gets, joined_in, sound_is_sealed}
 use Rattle.rr_space.proofs.Spaces.{spaces_are_inside, raw_of}
 use Rattle.rr_copy.proofs.Shut.{message_is_shut}
 use Rattle.rr_world.specs.Views.{Member, Channels, Assembly, IsFree}
-use Rattle.rr_world.specs.Layouts.{layout, space_slots, hand_slots, inbox_slots, port_slots, message_slots, cluster_slots, message_below, IsRead}
+use Rattle.rr_world.specs.Layouts.{layout, space_slots, hand_slots, inbox_slots, port_slots, message_slots, cluster_slots, message_below, IsMessageKnown, IsRead}
 use Rattle.rr_world.specs.Readings.{each_from, actor_in, parcel_in, root_in, post_in, state_in}
 use Rattle.rr_world.specs.Enabling.{StandsAt, IsFreeHand, IsValue, MayBePacked}
 use Rattle.rr_world.specs.Packing.{IsPackedFrom, MayNotPack, Packs, named_ref}
@@ -38,6 +38,7 @@ use Rattle.rr_world.proofs.Namings.{actor_same, post_same, handed}
 use Rattle.rr_world.proofs.Published.{place_known}
 use Rattle.rr_world.proofs.Sharing.{empty_list, shared_alike, shared_names, shared_root, shared_stays}
 use Rattle.rr_world.proofs.Knowing.{knows_on, order_on, knows_either, read_set, holding_knows}
+use Rattle.rr_world.proofs.Messages.{known_message}
 use Rattle.rr_world.proofs.Enabled.{actor_at, free, free_back, allowed, tested_at}
 use Rattle.rr_world.proofs.Insides.{set_again, same_assembly}
 use Rattle.rr_world.proofs.Staying.{stays_read, same_state, one_renamed}
@@ -74,6 +75,10 @@ module _ (w w2 : Assembly) (names : Naming) (bound : ℕ) (g : Objects) (R : IsR
   known : Knows (message_below p) (layout w)
   known = knows_either (layout w) (joined m.space.below) (below_ref v) (message_below p) (λ e has. Contains-append_cases (joined m.space.below) (below_ref v) e (P.below e has))
       (R.knows.ractors k m at).space knows
+
+  -- and the root is in a place that there is
+  message_known : IsMessageKnown (layout w) p
+  message_known = known_message (layout w) p P.sound known
 
   here_is : (i : ℕ) (o : Object) → slice_get (map Here p.objects) i ≡ Some (Here o) → i < length p.objects
   here_is i o e = let lt = slice_get_within (map Here p.objects) i (Here o) e in omega (arith, lt, length-map p.objects Here)
@@ -132,16 +137,16 @@ module _ (w w2 : Assembly) (names : Naming) (bound : ℕ) (g : Objects) (R : IsR
 
     own_alike : IsOfSpace v → IsAlike (whole g) (root_in names (Space k) v) (whole g2) (parcel_in names2 (Hand k) p).root (Paired (map (λ n. name_in names (Space k) (Own n)) P.names) (map Own (names2 (Hand k))))
     own_alike own = subst (λ x. IsAlike (whole g) x (whole g2) (parcel_in names2 (Hand k) p).root (Paired (map (λ n. name_in names (Space k) (Own n)) P.names) (map Own (names2 (Hand k)))))
-        (resolved w names bound g R k m v at P.well P.within knows)
+        (resolved w names bound g R k m v at empty.published P.well P.within knows)
         (alike_inside (space_graph m.space) (name_in names (Space k)) (whole g) (message_graph p) (name_in names2 (Hand k)) (whole g2) (resolve m.space.slots (value_of v)) p.root P.names (map Own (names2 (Hand k)))
         (record {
-          left = inside w names bound g R k m v at P.well P.within knows;
+          left = inside w names bound g R k m v at empty.published P.well P.within knows;
           right = inside2;
           left_sealed = sound_is_sealed m.space.slots m.space.below P.well.sound;
           right_sealed = P.sealed;
           published = λ c q. ap (λ ns. Own (slice_index ns q)) (sym (kept_shared c));
         })
-        (there w names bound g R k m v at P.well P.within knows own)
+        (there w names bound g R k m v at empty.published P.well P.within knows own)
         (message_is_shut (layout w2) p P.sound known2).1
         P.copy.alike
         (λ i o e. let raw = raw_of (layout w2) names2 (bound + length p.objects) g2 (Hand k) (table_of p) after_reading now i o e in right_at i (here_is i raw.0 raw.1)))
@@ -150,19 +155,19 @@ module _ (w w2 : Assembly) (names : Naming) (bound : ℕ) (g : Objects) (R : IsR
     published_alike : IsPublished (resolve m.space.slots (value_of v)) → IsSharedValue g (root_in names (Space k) v)
         → IsAlike (whole g) (root_in names (Space k) v) (whole g2) (parcel_in names2 (Hand k) p).root (Paired (map (λ n. name_in names (Space k) (Own n)) P.names) (map Own (names2 (Hand k))))
     published_alike public shared =
-        let none = shared_names (space_graph m.space) (message_graph p) (resolve m.space.slots (value_of v)) p.root P.names (is_sealed w names bound g R k m v at P.well P.within knows) public P.copy.alike in
+        let none = shared_names (space_graph m.space) (message_graph p) (resolve m.space.slots (value_of v)) p.root P.names (is_sealed w names bound g R k m v at empty.published P.well P.within knows) public P.copy.alike in
         let root : (parcel_in names2 (Hand k) p).root ≡ root_in names (Space k) v =
-        shared_root names names2 (Space k) (Hand k) kept_shared (resolve m.space.slots (value_of v)) p.root P.names public P.copy.alike.roots ∙ resolved w names bound g R k m v at P.well P.within knows in
+        shared_root names names2 (Space k) (Hand k) kept_shared (resolve m.space.slots (value_of v)) p.root P.names public P.copy.alike.roots ∙ resolved w names bound g R k m v at empty.published P.well P.within knows in
         let no_names : names2 (Hand k) ≡ [] = empty_list (names2 (Hand k)) (count ∙ P.copy.size ∙ ap length none) in
         let stays : IsSharedValue g2 (root_in names (Space k) v) = shared_stays g g2 (Hand k) (hand_apart) M.others (root_in names (Space k) v) shared in
         let after : IsApart g2 = readings_are_apart (layout w2) names2 (bound + length p.objects) g2 after_reading (order_on w w2 (ap (λ (x : Channels). x.store.clusters) is) R.clusters) in
         subst (λ x. IsAlike (whole g) (root_in names (Space k) v) (whole g2) x (Paired (map (λ n. name_in names (Space k) (Own n)) P.names) (map Own (names2 (Hand k))))) (sym root)
         (subst (λ ns. IsAlike (whole g) (root_in names (Space k) v) (whole g2) (root_in names (Space k) v) (Paired (map (λ n. name_in names (Space k) (Own n)) ns) (map Own (names2 (Hand k))))) (sym none)
         (subst (λ ns. IsAlike (whole g) (root_in names (Space k) v) (whole g2) (root_in names (Space k) v) (Paired [] (map Own ns))) (sym no_names)
-        (shared_alike g g2 (all_apart w names bound g R k m v at P.well P.within knows) after (root_in names (Space k) v) shared stays)))
+        (shared_alike g g2 (all_apart w names bound g R k m v at empty.published P.well P.within knows) after (root_in names (Space k) v) shared stays)))
 
     alike : IsAlike (whole g) (root_in names (Space k) v) (whole g2) (parcel_in names2 (Hand k) p).root (Paired (map (λ n. name_in names (Space k) (Own n)) P.names) (map Own (names2 (Hand k))))
-    alike = ⊎_elim own_alike (λ h. published_alike h.0 h.1) (held w names bound g R k m v at P.well P.within knows)
+    alike = ⊎_elim own_alike (λ h. published_alike h.0 h.1) (held w names bound g R k m v at empty.published P.well P.within knows)
 
     -- a new object stands in the hand
     stands_new : (n : ℕ) (y : Owned) → g n ≡ None → g2 n ≡ Some y → (y.owner ≡ Hand k) × ((i : ℕ) × (i < length p.objects) × (slice_index (names2 (Hand k)) i ≡ n))
@@ -216,7 +221,7 @@ module _ (w w2 : Assembly) (who : RactorNo) (k : ℕ) (m : Member) (op : Operand
         names2,
         bound + length p.objects,
         q.1,
-        read_set w w2 k m (record m { hand = Some p }) at rs is refl (waits_same m (record m { hand = Some p }) refl refl) (holding_knows (layout w) m p m.ticket (R.knows.ractors k m at) (known w w2 names bound g R k m v p at P empty knows rs is)) R q.2,
+        read_set w w2 k m (record m { hand = Some p }) at rs is refl (waits_same m (record m { hand = Some p }) refl refl) (holding_knows (layout w) m p m.ticket (R.knows.ractors k m at) (message_known w w2 names bound g R k m v p at P empty knows rs is)) R q.2,
         (
           k,
           actor_in names k m,
@@ -228,8 +233,8 @@ module _ (w w2 : Assembly) (who : RactorNo) (k : ℕ) (m : Member) (op : Operand
             parcel_in names2 (Hand k) p,
             value,
             record {
-              free = free_of w names bound g R k m v at P.well P.within knows P.free;
-              shared = shared_of w names bound g R k m v at P.well P.within knows P.promoted;
+              free = free_of w names bound g R k m v at empty.published P.well P.within knows P.free;
+              shared = shared_of w names bound g R k m v at empty.published P.well P.within knows P.promoted;
               left = map (λ n. name_in names (Space k) (Own n)) P.names;
               objects = copied w w2 names bound g R k m v p at P empty knows rs is names2 q.1 q.2 N q.4;
               size = length-map P.names (λ n. name_in names (Space k) (Own n)) ∙ sym P.copy.size;
@@ -255,8 +260,8 @@ not_packed w names bound g k m op R at (inr (inl none)) empty value tested =
 not_packed w names bound g k m op R at (inr (inr (v, named, N))) empty value tested =
     let knows = known_named (layout w) m.roots op v (R.knows.ractors k m at).roots named in
     ⊎_elim
-    (λ s. free_of w names bound g R k m v at N.well N.within knows N.free s.0 s.1 s.2 s.3 s.4)
-    (λ s. N.open_left (promoted_of w names bound g R k m v at N.well N.within knows s))
+    (λ s. free_of w names bound g R k m v at (free_back names k m empty).published N.well N.within knows N.free s.0 s.1 s.2 s.3 s.4)
+    (λ s. N.open_left (promoted_of w names bound g R k m v at (free_back names k m empty).published N.well N.within knows s))
     (tested (root_in names (Space k) v) (value_named names (Space k) m.roots op ∙ ap (option_map (root_in names (Space k))) named))
 
 -- whatever a pack answers
@@ -284,6 +289,6 @@ packed_by w w2 who k m m2 op (outcome.Refused f) at rs is stands (v, empty, name
       (
         root_in names (Space k) v,
         value,
-        (⊎_elim (λ e. inl e) (λ e. inr (e.0, shell_of w names bound g R k m v at F.well F.within (known_named (layout w) m.roots op v (R.knows.ractors k m at).roots named) e.1)) F.why, same_state (state_in w names g)),
+        (⊎_elim (λ e. inl e) (λ e. inr (e.0, shell_of w names bound g R k m v at empty.published F.well F.within (known_named (layout w) m.roots op v (R.knows.ractors k m at).roots named) e.1)) F.why, same_state (state_in w names g)),
       ),
     ))

@@ -2,7 +2,7 @@
 use Rattle.std.proofs.Common.{◌≡◌, ℕ, ⊎_elim, inl, inr, List, [], ◌∷◌, map, Some, slice_get, Contains, sym, ap, ◌∙◌, subst, refl, arith}
 use Rattle.std.specs.Prelude.{◌↔◌, slice_index, slice_set}
 use Rattle.std.specs.Option.{option_map, option_and_then}
-use Rattle.std.proofs.lemmas.Option.{none-some}
+use Rattle.std.proofs.lemmas.Option.{none-some, same_Some}
 use Rattle.rr_base.specs.declared.name.RactorNo.{RactorNo}
 use Rattle.rr_space.specs.Parts.{below_ref}
 use Rattle.rr_space.specs.Readings.{Owner, Space, Hand, Mail, Shown, Shared, Objects, Naming, Knows}
@@ -10,7 +10,7 @@ use Rattle.rr_space.specs.declared.refer.Ref.{Ref}
 use Rattle.rr_space.proofs.Frames.{reading_same}
 use Rattle.rr_space.proofs.Renaming.{contains_map, contains_map_back}
 use Rattle.rr_share.specs.declared.planned.Plan.{Plan}
-use Rattle.rr_world.specs.Views.{Member, Channels, Assembly, IsFree}
+use Rattle.rr_world.specs.Views.{Member, Channels, Assembly, IsFree, seen_slots}
 use Rattle.rr_world.specs.Layouts.{layout, space_slots, hand_slots, inbox_slots, port_slots, cluster_slots, MemberKnows, IsRead}
 use Rattle.rr_world.specs.Readings.{each_from, actor_in, planned_in, root_in, post_in, state_in}
 use Rattle.rr_world.specs.States.{Actor}
@@ -39,11 +39,15 @@ kept_seen : (names : Naming) (k : ℕ) (p : Plan) (xs : List ℕ) → p.places �
 kept_seen names k p [] is = refl
 kept_seen names k p (n ∷ ns) is = ap (λ xs. Some (map (slice_index (names (Space k))) xs)) is
 
-module _ (w w2 : Assembly) (k : ℕ) (m m2 : Member) (v : Ref) (p : Plan) (at : slice_get w.ractors k ≡ Some m) (P : IsPlanOf m.space v p.places) (bare : m2 ≡ record m { plan = kept_plan p.places p })
+kept_is : (p : Plan) (xs : List ℕ) (q : Plan) → kept_plan xs p ≡ Some q → p ≡ q
+kept_is p [] q is = absurd (none-some q is)
+kept_is p (n ∷ ns) q is = same_Some p q is
+
+module _ (w w2 : Assembly) (k : ℕ) (m m2 : Member) (v : Ref) (p : Plan) (at : slice_get w.ractors k ≡ Some m) (empty : IsFree m) (P : IsPlanOf m.space v p) (bare : m2 ≡ record m { plan = kept_plan p.places p })
     (rs : w2.ractors ≡ slice_set w.ractors k m2) (is : w2.channels ≡ w.channels) where
   tables : (h : Owner) → layout w2 h ≡ layout w h
   unfolding layout
-  tables (Space j) = ap (λ xs. option_map space_slots (slice_get xs j)) rs ∙ seen_same (option_map space_slots) w.ractors k j m m2 at (ap (λ (x : Member). Some x.space.slots) bare)
+  tables (Space j) = ap (λ xs. option_map space_slots (slice_get xs j)) rs ∙ seen_same (option_map space_slots) w.ractors k j m m2 at (ap (λ (x : Member). Some (seen_slots x)) bare)
   tables (Hand j) = ap (λ xs. option_and_then hand_slots (slice_get xs j)) rs ∙ seen_same (option_and_then hand_slots) w.ractors k j m m2 at (ap hand_slots bare)
   tables (Mail d u) = ap (λ (x : Channels). option_and_then (inbox_slots u) (slice_get x.inboxes d)) is
   tables (Shown d u) = ap (λ (x : Channels). option_and_then (port_slots u) (slice_get x.ports d)) is
@@ -53,7 +57,13 @@ module _ (w w2 : Assembly) (k : ℕ) (m m2 : Member) (v : Ref) (p : Plan) (at : 
   planned_read names bound g R =
       let K = R.knows.ractors k m at in
       read_set w w2 k m m2 at rs is (ap (λ (x : Member). x.space.owner) bare) (waits_same m m2 (ap (λ (x : Member). x.home) bare) (ap (λ (x : Member). x.ticket) bare))
-      (subst (MemberKnows (layout w)) (sym bare) (record { space = K.space; roots = K.roots; hand = K.hand })) R (reading_same (layout w) (layout w2) names bound g tables R.tables)
+      (subst (MemberKnows (layout w)) (sym bare) (record {
+        space = K.space;
+        roots = K.roots;
+        hand = K.hand;
+        plan = λ q is. let same : p ≡ q = kept_is p p.places q is in subst (λ (x : Plan). Knows x.cluster.below (layout w)) same (record { known = λ c os has. K.space.known c os (P.below (c, os) has) });
+        published = K.published;
+      })) R (reading_same (layout w) (layout w2) names bound g tables R.tables)
 
   exact : (names : Naming) (bound : ℕ) (g : Objects) → IsRead w names bound g → Knows (below_ref v) (layout w) → (n : ℕ)
       → Contains (planned_in names k p) n ↔ IsToPublish k (root_in names (Space k) v) (state_in w names g) n
@@ -63,15 +73,15 @@ module _ (w w2 : Assembly) (k : ℕ) (m m2 : Member) (v : Ref) (p : Plan) (at : 
       forth has =
           let z = contains_map_back (slice_index (names (Space k))) p.places n has in
           let q = (P.exact z.0).0 z.1 in
-          subst (IsToPublish k (root_in names (Space k) v) (state_in w names g)) z.2 (planned_here w names bound g R k m v at P.well P.within knows z.0 q.0 q.1)
+          subst (IsToPublish k (root_in names (Space k) v) (state_in w names g)) z.2 (planned_here w names bound g R k m v at empty.published P.well P.within knows z.0 q.0 q.1)
 
       back : IsToPublish k (root_in names (Space k) v) (state_in w names g) n → Contains (planned_in names k p) n
       back T =
-          let z = planned_back w names bound g R k m v at P.well P.within knows n T in
+          let z = planned_back w names bound g R k m v at empty.published P.well P.within knows n T in
           subst (Contains (planned_in names k p)) z.1 (contains_map (slice_index (names (Space k))) p.places z.0 ((P.exact z.0).1 (z.2, z.3)))
 
-  pub planned : (who : RactorNo) (op : Operand) → StandsAt who k → named_ref m.roots op ≡ Some v → IsFree m → HasOutcome (record { who = who; action = action.Plan op }) Done w w2
-  planned who op stands named empty names bound g R =
+  pub planned : (who : RactorNo) (op : Operand) → StandsAt who k → named_ref m.roots op ≡ Some v → HasOutcome (record { who = who; action = action.Plan op }) Done w w2
+  planned who op stands named names bound g R =
       let knows = known_named (layout w) m.roots op v (R.knows.ractors k m at).roots named in
       let value = value_named names (Space k) m.roots op ∙ ap (option_map (root_in names (Space k))) named in (
         names,
@@ -89,7 +99,7 @@ module _ (w w2 : Assembly) (k : ℕ) (m m2 : Member) (v : Ref) (p : Plan) (at : 
             planned_in names k p,
             value,
             record {
-              free = free_of w names bound g R k m v at P.well P.within knows P.free;
+              free = free_of w names bound g R k m v at empty.published P.well P.within knows P.free;
               exact = exact names bound g R knows;
               objects = λ n. refl;
               ractors = ap (each_from (actor_in names) 0) rs ∙ each_set (actor_in names) (actor_in names) 0 w.ractors k k m2 (omega arith) (λ j n x d e f. refl)
@@ -109,7 +119,7 @@ not_planned names k m op (inr none) empty value = none-some value.0 (sym (value_
 -- whatever a plan answers
 pub planned_by : (w w2 : Assembly) (who : RactorNo) (k : ℕ) (m m2 : Member) (op : Operand) (r : Outcome) → slice_get w.ractors k ≡ Some m → w2.ractors ≡ slice_set w.ractors k m2 → w2.channels ≡ w.channels
     → StandsAt who k → Plans op r m m2 → HasOutcome (record { who = who; action = action.Plan op }) (reply_of r) w w2
-planned_by w w2 who k m m2 op outcome.Done at rs is stands (v, p, empty, named, P, same) = planned w w2 k m m2 v p at P same rs is who op stands named empty
+planned_by w w2 who k m m2 op outcome.Done at rs is stands (v, p, empty, named, P, same) = planned w w2 k m m2 v p at empty P same rs is who op stands named
 planned_by w w2 who k m m2 op outcome.NotEnabled at rs is stands (why, same) =
     stays (record { who = who; action = action.Plan op }) NotEnabled w w2 (same_assembly w2.ractors w.ractors w2.channels w.channels (rs ∙ set_again w.ractors w.ractors k m2 m refl at same) is)
     (λ names g. (
@@ -128,6 +138,6 @@ planned_by w w2 who k m m2 op (outcome.Refused f) at rs is stands (v, empty, nam
       (
         root_in names (Space k) v,
         value,
-        (⊎_elim (λ e. inl e) (λ e. inr (e.0, shell_of w names bound g R k m v at F.well F.within (known_named (layout w) m.roots op v (R.knows.ractors k m at).roots named) e.1)) F.why, same_state (state_in w names g)),
+        (⊎_elim (λ e. inl e) (λ e. inr (e.0, shell_of w names bound g R k m v at empty.published F.well F.within (known_named (layout w) m.roots op v (R.knows.ractors k m at).roots named) e.1)) F.why, same_state (state_in w names g)),
       ),
     ))

@@ -3,7 +3,7 @@ use Rattle.std.proofs.Common.{◌≡◌, ℕ, ⊎_elim, inr, [], length, length-
 use Rattle.std.specs.Prelude.{slice_set}
 use Rattle.std.specs.Option.{option_map, option_and_then}
 use Rattle.std.proofs.lemmas.Option.{slice_get_within}
-use Rattle.rr_space.specs.Readings.{Owner, Space, Hand, Mail, Shown, Shared, Naming, Objects, Knows, IsReading}
+use Rattle.rr_space.specs.Readings.{Owner, Space, Hand, Mail, Shown, Shared, Naming, Objects, IsReading}
 use Rattle.rr_space.specs.Steps.{Goes, IsHandedOn, IsNamed}
 use Rattle.rr_space.proofs.Hands.{hands_on}
 use Rattle.rr_inbox.specs.declared.entry.Entry.{Entry}
@@ -11,22 +11,22 @@ use Rattle.rr_port.specs.Ports.{Port}
 use Rattle.rr_store.specs.Stores.{constant_of}
 use Rattle.rr_move.specs.declared.home.Home.{Home}
 use Rattle.rr_world.specs.Views.{Member, Channels, Assembly, with_port}
-use Rattle.rr_world.specs.Layouts.{cluster_slots, layout, space_slots, hand_slots, inbox_slots, port_slots, port_inside, message_slots, message_below, MemberKnows, IsKnowing, DoHomesFit, IsRead}
+use Rattle.rr_world.specs.Layouts.{cluster_slots, layout, space_slots, hand_slots, inbox_slots, port_slots, port_inside, message_slots, MemberKnows, IsKnowing, DoHomesFit, IsRead, IsMessageKnown}
 use Rattle.rr_world.specs.States.{Actor, Parcel, with_case}
 use Rattle.rr_world.specs.Readings.{each_from, actor_in, parcel_in, shells_in, showcase_in, post_in, state_in}
-use Rattle.rr_world.proofs.Knowing.{order_on, knows_on, member_on, set_cases, owned_set, emptied_knows, holding_knows}
+use Rattle.rr_world.proofs.Knowing.{order_on, knows_on, member_on, set_cases, owned_set, emptied_knows, holding_knows, message_on}
 use Rattle.rr_world.proofs.Lists.{eq_cases, set_at, set_off, seen_same, each_set}
 use Rattle.rr_world.proofs.Namings.{KeepsShared, actor_same, handed, post_shown, names_moved, parcel_moved, shared_kept, showcase_same}
 use Rattle.rr_world.proofs.Offering.{objects_stay}
 use Rattle.rr_world.proofs.PortInsides.{IsComing, IsLeaving}
 
 knows_ported : (w w2 : Assembly) (k c : ℕ) (m2 : Member) (p2 : Port) → w2.ractors ≡ slice_set w.ractors k m2 → w2.channels ≡ with_port w.channels c p2 → MemberKnows (layout w) m2
-    → ((e : Entry) → Contains (port_inside p2) e → Knows (message_below e.message) (layout w)) → IsKnowing w → IsKnowing w2
+    → ((e : Entry) → Contains (port_inside p2) e → IsMessageKnown (layout w) e.message) → IsKnowing w → IsKnowing w2
 knows_ported w w2 k c m2 p2 rs is M I K = record {
   ractors = λ j m at. member_on w w2 (ap (λ (x : Channels). x.store.clusters) is) m (⊎_elim (λ same. subst (MemberKnows (layout w)) same M) (λ there. K.ractors j m there) (set_cases w.ractors k j m2 m (ap (λ xs. slice_get xs j) (sym rs) ∙ at)));
   store = λ n v here. knows_on w w2 (ap (λ (x : Channels). x.store.clusters) is) _ (K.store n v (ap (λ (x : Channels). constant_of x.store n) (sym is) ∙ here));
-  inboxes = λ d i e at has. knows_on w w2 (ap (λ (x : Channels). x.store.clusters) is) (message_below e.message) (K.inboxes d i e (ap (λ (x : Channels). slice_get x.inboxes d) (sym is) ∙ at) has);
-  ports = λ d p e at has. knows_on w w2 (ap (λ (x : Channels). x.store.clusters) is) (message_below e.message) (⊎_elim
+  inboxes = λ d i e at has. message_on w w2 (ap (λ (x : Channels). x.store.clusters) is) e.message (K.inboxes d i e (ap (λ (x : Channels). slice_get x.inboxes d) (sym is) ∙ at) has);
+  ports = λ d p e at has. message_on w w2 (ap (λ (x : Channels). x.store.clusters) is) e.message (⊎_elim
       (λ same. I e (subst (λ (x : Port). Contains (port_inside x) e) (sym same) has))
       (λ there. K.ports d p e there has)
       (set_cases w.channels.ports c d p2 p (ap (λ (x : Channels). slice_get x.ports d) (sym is) ∙ at)));
@@ -34,7 +34,7 @@ knows_ported w w2 k c m2 p2 rs is M I K = record {
 
 -- a reading of the World with one ractor and one port in others' places
 read_ported : {names names2 : Naming} {bound bound2 : ℕ} {g g2 : Objects} (w w2 : Assembly) (k c : ℕ) (m m2 : Member) (p2 : Port) → slice_get w.ractors k ≡ Some m → w2.ractors ≡ slice_set w.ractors k m2
-    → w2.channels ≡ with_port w.channels c p2 → m2.space.owner ≡ m.space.owner → MemberKnows (layout w) m2 → ((e : Entry) → Contains (port_inside p2) e → Knows (message_below e.message) (layout w))
+    → w2.channels ≡ with_port w.channels c p2 → m2.space.owner ≡ m.space.owner → MemberKnows (layout w) m2 → ((e : Entry) → Contains (port_inside p2) e → IsMessageKnown (layout w) e.message)
     → (DoHomesFit w → DoHomesFit w2) → IsRead w names bound g → IsReading (layout w2) names2 bound2 g2 → IsRead w2 names2 bound2 g2
 read_ported w w2 k c m m2 p2 at rs is same M I fits R tables = record {
   tables = tables;
@@ -105,7 +105,7 @@ module _ (w w2 : Assembly) (k c : ℕ) (m : Member) (home : Option Home) (ticket
         read_ported w w2 k c m (record m { hand = None; home = home; ticket = ticket }) p2 at rs is refl (emptied_knows (layout w) m home ticket (R.knows.ractors k m at))
             (λ x has. ⊎_elim
             (λ old. R.knows.ports c p x port old)
-            (λ (same : e ≡ x). subst (λ (y : Entry). Knows (message_below y.message) (layout w)) same ((R.knows.ractors k m at).hand e.message held))
+            (λ (same : e ≡ x). subst (λ (y : Entry). IsMessageKnown (layout w) y.message) same ((R.knows.ractors k m at).hand e.message held))
             (C.inside x has))
             fits R q.2,
         record {

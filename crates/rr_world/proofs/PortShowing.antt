@@ -23,7 +23,7 @@ use Rattle.rr_port.specs.Ports.{Port, HasEvents, IsTicketed, told_of_show}
 use Rattle.rr_port.specs.declared.last.LastGiven.{LastGiven}
 use Rattle.rr_port.specs.declared.last.Settled.TheVariants as settled
 use Rattle.rr_port.specs.declared.last.Shown.{Shown as ShownMessage}
-use Rattle.rr_world.specs.Views.{Member, Channels, Assembly, MayHaveBack, IsOfAnother, waits_under, with_port}
+use Rattle.rr_world.specs.Views.{Member, Channels, Assembly, MayHaveBack, IsOfAnother, waits_under, with_port, seen_slots}
 use Rattle.rr_world.specs.Layouts.{cluster_slots, DoHomesFit, IsRead, MemberKnows, layout, space_slots, hand_slots, inbox_slots, port_slots, shown_inside, last_inside}
 use Rattle.rr_world.specs.PortCases.{HasShowRoom, IsShowRefused, IsUnder, IsLetGo}
 use Rattle.rr_world.specs.States.{Letter, Farewell, Showcase, Parcel, Post, Actor, IsSame, with_case}
@@ -249,7 +249,7 @@ module _ (w w2 : Assembly) (k : ℕ) (m m2 : Member) (t : ℕ) (at : slice_get w
   module _ (bare : m2 ≡ record m { home = None; ticket = None }) where
     tables : (h : Owner) → layout w2 h ≡ layout w h
     unfolding layout
-    tables (Space j) = ap (λ xs. option_map space_slots (slice_get xs j)) rs ∙ seen_same (option_map space_slots) w.ractors k j m m2 at (ap (λ (x : Member). Some x.space.slots) bare)
+    tables (Space j) = ap (λ xs. option_map space_slots (slice_get xs j)) rs ∙ seen_same (option_map space_slots) w.ractors k j m m2 at (ap (λ (x : Member). Some (seen_slots x)) bare)
     tables (Hand j) = ap (λ xs. option_and_then hand_slots (slice_get xs j)) rs ∙ seen_same (option_and_then hand_slots) w.ractors k j m m2 at (ap hand_slots bare)
     tables (Mail d u) = ap (λ (x : Channels). option_and_then (inbox_slots u) (slice_get x.inboxes d)) is
     tables (Shown d u) = ap (λ (x : Channels). option_and_then (port_slots u) (slice_get x.ports d)) is
@@ -259,7 +259,7 @@ module _ (w w2 : Assembly) (k : ℕ) (m m2 : Member) (t : ℕ) (at : slice_get w
     bare_read names bound g R =
         let K = R.knows.ractors k m at in
         read_set w w2 k m m2 at rs is (ap (λ (x : Member). x.space.owner) bare) (waits_homeless m m2 (ap (λ (x : Member). x.home) bare))
-        (subst (MemberKnows (layout w)) (sym bare) (record { space = K.space; roots = K.roots; hand = K.hand })) R (reading_same (layout w) (layout w2) names bound g tables R.tables)
+        (subst (MemberKnows (layout w)) (sym bare) (record { space = K.space; roots = K.roots; hand = K.hand; plan = K.plan; published = K.published })) R (reading_same (layout w) (layout w2) names bound g tables R.tables)
 
   pub let_go : (m.ticket ≡ Some t → m2 ≡ record m { home = None; ticket = None }) → ((m.ticket ≡ Some t → ⊥) → m2 ≡ m) → (names : Naming) (bound : ℕ) (g : Objects) → IsRead w names bound g
       → IsRead w2 names bound g × IsLetGo k (actor_in names k m) t (state_in w names g) (state_in w2 names g)

@@ -9,7 +9,7 @@ use Rattle.rr_space.proofs.Frames.{reading_same}
 use Rattle.rr_port.specs.Ports.{Port}
 use Rattle.rr_store.specs.Stores.{constant_of}
 use Rattle.rr_world.specs.Views.{Member, Channels, Assembly, with_port}
-use Rattle.rr_world.specs.Layouts.{cluster_slots, layout, space_slots, hand_slots, inbox_slots, port_slots, port_inside, mail_slots, message_below, IsKnowing}
+use Rattle.rr_world.specs.Layouts.{cluster_slots, layout, space_slots, hand_slots, inbox_slots, port_slots, port_inside, mail_slots, IsKnowing}
 use Rattle.rr_world.specs.States.{IsSame, with_case}
 use Rattle.rr_world.specs.Readings.{each_from, actor_in, showcase_in, post_in, state_in}
 use Rattle.rr_world.specs.Enabling.{StandsAt, HasPort, IsPossible}
@@ -22,7 +22,7 @@ use Rattle.rr_world.specs.declared.step.Reply.TheVariants.{WasClosed}
 use Rattle.rr_world.specs.Enabling.{Allows}
 use Rattle.rr_world.proofs.Enabled.{actor_at}
 use Rattle.rr_world.proofs.Fitting.{WaitsAsBefore, ShowsAsBefore, fits_on, same_as_before, set_as_before, shows_same, shows_still, waits_still}
-use Rattle.rr_world.proofs.Knowing.{order_on, knows_on, member_on, set_cases}
+use Rattle.rr_world.proofs.Knowing.{order_on, knows_on, member_on, set_cases, message_on}
 use Rattle.rr_world.proofs.Lists.{each_at, each_back, seen_same}
 use Rattle.rr_world.proofs.Namings.{post_shown}
 
@@ -55,8 +55,8 @@ module _ (w w2 : Assembly) (c : ℕ) (p p2 : Port) (port : slice_get w.channels.
   told_knows K = record {
     ractors = λ j m at. member_on w w2 (ap (λ (x : Channels). x.store.clusters) is) m (K.ractors j m (ap (λ xs. slice_get xs j) (sym rs) ∙ at));
     store = λ n v here. knows_on w w2 (ap (λ (x : Channels). x.store.clusters) is) _ (K.store n v (ap (λ (x : Channels). constant_of x.store n) (sym is) ∙ here));
-    inboxes = λ d i e at has. knows_on w w2 (ap (λ (x : Channels). x.store.clusters) is) (message_below e.message) (K.inboxes d i e (ap (λ (x : Channels). slice_get x.inboxes d) (sym is) ∙ at) has);
-    ports = λ d x e at has. knows_on w w2 (ap (λ (x : Channels). x.store.clusters) is) (message_below e.message) (⊎_elim
+    inboxes = λ d i e at has. message_on w w2 (ap (λ (x : Channels). x.store.clusters) is) e.message (K.inboxes d i e (ap (λ (x : Channels). slice_get x.inboxes d) (sym is) ∙ at) has);
+    ports = λ d x e at has. message_on w w2 (ap (λ (x : Channels). x.store.clusters) is) e.message (⊎_elim
         (λ same. K.ports c p e port (subst (λ xs. Contains xs e) inside (subst (λ (y : Port). Contains (port_inside y) e) (sym same) has)))
         (λ there. K.ports d x e there has)
         (set_cases w.channels.ports c d p2 x (ap (λ (x : Channels). slice_get x.ports d) (sym is) ∙ at)));

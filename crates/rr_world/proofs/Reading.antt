@@ -21,7 +21,7 @@ use Rattle.rr_space.proofs.Renaming.{contains_at, map_at, mapped_at, contains_ma
 use Rattle.rr_space.proofs.Hands.{some_back}
 use Rattle.rr_space.proofs.Sounds.{gets, joined_in, none_in, in_first}
 use Rattle.rr_space.proofs.Spaces.{known_at}
-use Rattle.rr_world.specs.Views.{Member, Channels, Assembly}
+use Rattle.rr_world.specs.Views.{Member, Channels, Assembly, IsPublishedFit, seen_slots}
 use Rattle.rr_world.specs.Layouts.{layout, space_slots, hand_slots, inbox_slots, port_slots, cluster_slots, MemberKnows, IsRead}
 use Rattle.rr_world.specs.States.{Actor}
 use Rattle.rr_world.specs.Readings.{each_from, actor_in, root_in, post_in, state_in}
@@ -36,6 +36,7 @@ use Rattle.rr_world.specs.declared.step.Reply.TheVariants.{Done}
 use Rattle.rr_world.specs.Outcomes.{reply_of}
 use Rattle.rr_world.specs.declared.outcome.Outcome.{Outcome}
 use Rattle.rr_world.specs.declared.outcome.Outcome.TheVariants as outcome
+use Rattle.rr_world.proofs.Turned.{forward_seen, raw_seen}
 use Rattle.rr_world.proofs.Enabled.{actor_at, allowed}
 use Rattle.rr_world.proofs.Knowing.{knows_fewer, knows_either, read_set}
 use Rattle.rr_world.proofs.Published.{outer_named}
@@ -49,13 +50,13 @@ use Rattle.rr_world.proofs.Fitting.{waits_same}
 abbrev with_root : Member → Ref → Member
 with_root m r = record m { roots = m.roots ++ r ∷ [] }
 
-module _ (w : Assembly) (names : Naming) (bound : ℕ) (g : Objects) (R : IsRead w names bound g) (k : ℕ) (m : Member) (at : slice_get w.ractors k ≡ Some m) where
-  here_space : layout w (Space k) ≡ Some m.space.slots
+module _ (w : Assembly) (names : Naming) (bound : ℕ) (g : Objects) (R : IsRead w names bound g) (k : ℕ) (m : Member) (at : slice_get w.ractors k ≡ Some m) (fit : IsPublishedFit m.space m.published) where
+  here_space : layout w (Space k) ≡ Some (seen_slots m)
   unfolding layout
   here_space = ap (option_map space_slots) at
 
-  reads : TableReads (layout w) names g (Space k) m.space.slots
-  reads = R.tables.reads (Space k) m.space.slots here_space
+  reads : TableReads (layout w) names g (Space k) (seen_slots m)
+  reads = R.tables.reads (Space k) (seen_slots m) here_space
 
   space_known : Knows (joined m.space.below) (layout w)
   space_known = (R.knows.ractors k m at).space
@@ -84,7 +85,8 @@ module _ (w : Assembly) (names : Naming) (bound : ℕ) (g : Objects) (R : IsRead
           → (n : ℕ) × (y : Owned) × (At (Own (slice_index (names (Space k)) i)) ≡ At (Own n)) × (g n ≡ Some y) × (y.object ≡ named names (Space k) o)
       by None b s t is = absurd (none-some o is)
       by (Some (Here raw)) b s t is =
-          (slice_index (names (Space k)) i, record { owner = Space k; object = named names (Space k) raw }, refl, reads.here i raw s, ap (named names (Space k)) (same_Some raw o is))
+          let x = raw_seen w names bound g R k m at fit i raw s in
+          (slice_index (names (Space k)) i, x.0, refl, x.1, x.2 ∙ ap (named names (Space k)) (same_Some raw o is))
       by (Some (Led c q)) None s t is = absurd (none-some o is)
       by (Some (Led c q)) (Some b) s t is =
           let known = knows_fewer (layout w) b (joined m.space.below) (λ x has. joined_in m.space.below i b x t has) space_known in
@@ -92,7 +94,7 @@ module _ (w : Assembly) (names : Naming) (bound : ℕ) (g : Objects) (R : IsRead
             slice_index (names (Space k)) i,
             record { owner = Shared c; object = named names (Shared c) a.1 },
             refl,
-            ap g (reads.led i c q s) ∙ (R.tables.reads (Shared c) a.0 a.2).here q a.1 a.3,
+            ap g (reads.led i c q (forward_seen m fit i c q s)) ∙ (R.tables.reads (Shared c) a.0 a.2).here q a.1 a.3,
             outer_named names (Space k) c a.1 ∙ ap (named names (Space k)) a.4,
           )
 
@@ -182,6 +184,8 @@ module _ (w w2 : Assembly) (who : RactorNo) (k : ℕ) (m m2 : Member) (op : Oper
         (in_first r [] q new))
         (Contains-append_cases m.roots (r ∷ []) q has);
     hand = K.hand;
+    plan = K.plan;
+    published = K.published;
   }
 
   abbrev under : HasUnder op (label_of label) m
@@ -189,7 +193,7 @@ module _ (w w2 : Assembly) (who : RactorNo) (k : ℕ) (m m2 : Member) (op : Oper
 
   read_as : (names : Naming) (bound : ℕ) (g : Objects) → IsRead w names bound g → IsReadAs k (actor_in names k m) op (label_of label) (state_in w names g) (state_in w2 names g)
   read_as names bound g R =
-      let s = under_seen w names bound g R k m at op v (label_of label, value_of r) A.named under.3 in
+      let s = under_seen w names bound g R k m at A.fit op v (label_of label, value_of r) A.named under.3 in
       record {
         name = s.0;
         owned = s.1;
@@ -217,7 +221,7 @@ module _ (w w2 : Assembly) (who : RactorNo) (k : ℕ) (m m2 : Member) (op : Oper
     bound,
     g,
     read_set w w2 k m (with_root m r) at set is refl (waits_same m (with_root m r) refl refl) (root_known (layout w) (R.knows.ractors k m at)) R (reading_same (layout w) (layout w2) names bound g same_tables R.tables),
-    (k, actor_in names k m, stands, actor_at w names g k m at, under_on w names bound g R k m at who op (label_of label) under, read_as names bound g R),
+    (k, actor_in names k m, stands, actor_at w names g k m at, under_on w names bound g R k m at A.fit who op (label_of label) under, read_as names bound g R),
     record { others = λ h off. refl; slots = λ j x i there lt off. refl },
   )
 
@@ -226,8 +230,8 @@ pub read_of : (w w2 : Assembly) (who : RactorNo) (k : ℕ) (m m2 : Member) (op :
     → w2.channels ≡ w.channels → StandsAt who k → Reads op (label_of label) r m m2 → HasOutcome (record { who = who; action = Read op label }) (reply_of r) w w2
 read_of w w2 who k m m2 op label outcome.Done at rs is stands (v, r, A) = read_done w w2 who k m m2 op label v r at rs is stands A
 read_of w w2 who k m m2 op label outcome.NotEnabled at rs is stands a =
-    unmade w w2 who k m m2 (Read op label) at rs is a.3 (λ names bound g R e.
-    a.2 (under_back w names bound g R k m at who op (label_of label) a.0 a.1 (allowed w names g (record { who = who; action = Read op label }) k m stands at e)))
+    unmade w w2 who k m m2 (Read op label) at rs is a.4 (λ names bound g R e.
+    a.3 (under_back w names bound g R k m at a.2 who op (label_of label) a.0 a.1 (allowed w names g (record { who = who; action = Read op label }) k m stands at e)))
 read_of w w2 who k m m2 op label (outcome.Refused f) at rs is stands a =
-    unmade_for w w2 who k m m2 (Read op label) f at rs is a.2 (λ names bound g R.
-    (k, actor_in names k m, stands, actor_at w names g k m at, under_on w names bound g R k m at who op (label_of label) a.1, (a.0, same_state (state_in w names g))))
+    unmade_for w w2 who k m m2 (Read op label) f at rs is a.3 (λ names bound g R.
+    (k, actor_in names k m, stands, actor_at w names g k m at, under_on w names bound g R k m at a.1 who op (label_of label) a.2, (a.0, same_state (state_in w names g))))

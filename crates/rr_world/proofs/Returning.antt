@@ -6,7 +6,7 @@ use Rattle.std.proofs.lemmas.List.Elements.{Contains-append_right}
 use Rattle.std.proofs.lemmas.Option.{none-some, same_Some, slice_get_within}
 use Rattle.rr_base.specs.declared.name.RactorNo.{RactorNo}
 use Rattle.rr_space.specs.Graph.{Object}
-use Rattle.rr_space.specs.Tables.{Packed, Below, joined}
+use Rattle.rr_space.specs.Tables.{Packed, Below, joined, Slot}
 use Rattle.rr_space.specs.Readings.{Space, Hand, Mail, Shown, Shared, Naming, Layout}
 use Rattle.rr_space.specs.declared.refer.Ref.{Ref}
 use Rattle.rr_space.proofs.Keeping.{list_has}
@@ -30,15 +30,25 @@ use Rattle.rr_world.proofs.Enabled.{actor_at, allowed}
 use Rattle.rr_world.proofs.Insides.{set_again, same_assembly}
 use Rattle.rr_world.proofs.Knowing.{knows_either, read_set}
 use Rattle.rr_world.proofs.Lists.{each_set, eq_cases}
-use Rattle.rr_world.proofs.Namings.{actor_same, same_actor, no_plan_same, post_same}
+use Rattle.rr_world.proofs.Namings.{actor_same, same_actor, no_plan_same, no_published_same, post_same}
 use Rattle.rr_world.proofs.Rooting.{roots_keep}
 use Rattle.rr_world.proofs.Staying.{refused}
+use Rattle.rr_world.proofs.Forwarding.{seen_plain}
 use Rattle.rr_world.proofs.Tables.{space_was, hand_was, space_now, hand_now, rest_now}
 use Rattle.rr_world.proofs.Fitting.{waits_homeless}
 use Rattle.rr_world.specs.Naming.{IsRenamed}
 
 module _ (w w2 : Assembly) (who : RactorNo) (k : ℕ) (m m2 : Member) (d : Detached) (at : slice_get w.ractors k ≡ Some m) (A : IsPutBackBy d m m2)
     (rs : w2.ractors ≡ slice_set w.ractors k m2) (is : w2.channels ≡ w.channels) where
+  no_published : m2.published ≡ None
+  no_published = ap (λ (x : Member). x.published) A.now_is ∙ A.no_published
+
+  was_space : layout w (Space k) ≡ Some m.space.slots
+  was_space = space_was w w2 k m m2 at rs is ∙ ap (λ (ss : List Slot). Some ss) (seen_plain m A.no_published)
+
+  now_space : layout w2 (Space k) ≡ Some m2.space.slots
+  now_space = space_now w w2 k m m2 at rs is ∙ ap (λ (ss : List Slot). Some ss) (seen_plain m2 no_published)
+
   gone : m2.hand ≡ None
   gone = ap (λ (x : Member). x.hand) A.now_is
 
@@ -47,9 +57,9 @@ module _ (w w2 : Assembly) (who : RactorNo) (k : ℕ) (m m2 : Member) (d : Detac
 
   puts : PutsBack k d m.space m2.space (layout w) (layout w2)
   puts = record {
-    space = space_was w w2 k m m2 at rs is;
+    space = was_space;
     hand = hand_was w w2 k m m2 at rs is ∙ ap (option_map message_slots) A.held;
-    space_after = space_now w w2 k m m2 at rs is;
+    space_after = now_space;
     hand_after = hand_now w w2 k m m2 at rs is ∙ ap (option_map message_slots) gone;
     rest = rest_now w w2 k m m2 at rs is;
     home = d.fits;
@@ -73,9 +83,11 @@ module _ (w w2 : Assembly) (who : RactorNo) (k : ℕ) (m m2 : Member) (d : Detac
 
   back_knows : (tables : Layout) → MemberKnows tables m → MemberKnows tables m2
   back_knows tables K = record {
-    space = knows_either tables (joined m.space.below) (message_below d.message) (joined m2.space.below) split K.space (K.hand d.message A.held);
+    space = knows_either tables (joined m.space.below) (message_below d.message) (joined m2.space.below) split K.space (K.hand d.message A.held).below;
     roots = λ r has. K.roots r (subst (λ (xs : List Ref). Contains xs r) roots_are has);
     hand = λ p e. absurd (none-some p (sym gone ∙ e));
+    plan = λ p e. absurd (none-some p (sym (ap (λ (x : Member). x.plan) A.now_is ∙ A.no_plan) ∙ e));
+    published = λ p e. absurd (none-some p (sym no_published ∙ e));
   }
 
   pub returned : PuttingBackUndoes → StandsAt who k → HasOutcome (record { who = who; action = PutBack }) Done w w2
@@ -92,7 +104,7 @@ module _ (w w2 : Assembly) (who : RactorNo) (k : ℕ) (m m2 : Member) (d : Detac
       let roots : map (root_in names2 (Space k)) m2.roots ≡ map (root_in names (Space k)) m.roots =
       ap (map (root_in names2 (Space k))) roots_are ∙ roots_keep (length m.space.slots) names names2 (Space k) m.roots A.rooted stand kept in
       let actor : actor_in names2 k m2 ≡ record (actor_in names k m) { hand = None; home = None } =
-      same_actor roots (ap (option_map (parcel_in names2 (Hand k))) gone) (ap (λ (x : Member). option_map (shells_in names2 k) x.home) A.now_is) (ap (λ (x : Member). x.ticket) A.now_is) (no_plan_same names names2 k m2.plan m.plan (ap (λ (x : Member). x.plan) A.now_is ∙ A.no_plan) A.no_plan) A.back.slots.size A.back.rest.limit A.back.rest.next_message
+      same_actor roots (ap (option_map (parcel_in names2 (Hand k))) gone) (ap (λ (x : Member). option_map (shells_in names2 k) x.home) A.now_is) (ap (λ (x : Member). x.ticket) A.now_is) (no_plan_same names names2 k m2.plan m.plan (ap (λ (x : Member). x.plan) A.now_is ∙ A.no_plan) A.no_plan) (no_published_same names names2 k m2.published m.published no_published A.no_published) A.back.slots.size A.back.rest.limit A.back.rest.next_message
       (ap (λ (x : Member). x.limits) A.now_is) (ap (λ (x : Member). x.runs) A.now_is) in
       let hand = ap (option_map (parcel_in names (Hand k))) A.held in
       let home = ap (option_map (shells_in names k)) A.home in (
@@ -122,7 +134,7 @@ module _ (w w2 : Assembly) (who : RactorNo) (k : ℕ) (m m2 : Member) (d : Detac
           ),
         ),
         record {
-          others = λ h off. N.rest h (λ e. off (subst (IsRenamed (length w.ractors) who PutBack) (sym e) stands)) (λ e. off (subst (IsRenamed (length w.ractors) who PutBack) (sym e) stands));
+          others = λ h off. N.rest h (λ e. off (subst (IsRenamed w who PutBack) (sym e) stands)) (λ e. off (subst (IsRenamed w who PutBack) (sym e) stands));
           slots = λ j x i there lt off. ⊎_elim
               (λ same.
               let one : x ≡ m = same_Some x m (sym there ∙ ap (slice_get w.ractors) same ∙ at) in

@@ -14,25 +14,26 @@ use Rattle.rr_space.proofs.Frames.{owner_cases, object_same, within_same}
 use Rattle.rr_space.proofs.Remaking.{remaking_is_a_step}
 use Rattle.rr_space.proofs.Renaming.{contains_map, contains_map_back}
 use Rattle.rr_space.proofs.Sounds.{gets}
-use Rattle.rr_world.specs.Views.{Member, Channels, Assembly}
+use Rattle.rr_world.specs.Views.{Member, Channels, Assembly, seen_slots, seen_through}
 use Rattle.rr_world.specs.Layouts.{cluster_slots, layout, space_slots, hand_slots, inbox_slots, port_slots, message_slots, MemberKnows, IsRead}
-use Rattle.rr_world.specs.Readings.{each_from, actor_in, shells_in, planned_in, root_in, value_in, post_in, state_in, parcel_in}
+use Rattle.rr_world.specs.Readings.{each_from, actor_in, shells_in, planned_in, published_names, root_in, value_in, post_in, state_in, parcel_in}
 use Rattle.rr_world.specs.ObjectCases.{IsChangedTo}
 use Rattle.rr_world.specs.Changing.{IsRewritten}
 use Rattle.rr_world.proofs.Lists.{eq_cases, set_at, set_off, set_back, seen_same, each_set}
-use Rattle.rr_world.proofs.Namings.{actor_same, same_actor, plan_stands, post_same, hand_same, home_stands}
+use Rattle.rr_world.proofs.Namings.{actor_same, same_actor, plan_stands, published_stands, post_same, hand_same, home_stands}
 use Rattle.rr_world.proofs.Knowing.{read_set, knows_either}
 use Rattle.rr_world.proofs.Published.{in_place}
 use Rattle.rr_world.proofs.Enabled.{actor_at}
 use Rattle.rr_world.proofs.Rooting.{roots_keep}
 use Rattle.rr_world.proofs.Changes.{set_length}
 use Rattle.rr_world.proofs.Fitting.{waits_same}
+use Rattle.rr_world.proofs.Forwarding.{IsOut, seen_here, seen_length, seen_set}
 
-module _ (w w2 : Assembly) (k n : ℕ) (m m2 : Member) (o p : Object) (v : Ref) (at : slice_get w.ractors k ≡ Some m) (here : slice_get m.space.slots n ≡ Some (Here o))
+module _ (w w2 : Assembly) (k n : ℕ) (m m2 : Member) (o p : Object) (v : Ref) (at : slice_get w.ractors k ≡ Some m) (here : slice_get (seen_slots m) n ≡ Some (Here o))
     (A : IsRewritten n p v m m2) (rs : w2.ractors ≡ slice_set w.ractors k m2) (is : w2.channels ≡ w.channels)
     (values : (l : Label) (x : Value) → Contains p.triples (l, x) → ((j : Label) × Contains o.triples (j, x)) ⊎ (x ≡ value_of v)) where
   abbrev after : List Slot
-  after = slice_set m.space.slots n (Here p)
+  after = slice_set (seen_slots m) n (Here p)
 
   rest : (h : Owner) → (h ≡ Space k → ⊥) → layout w2 h ≡ layout w h
   unfolding layout
@@ -42,52 +43,62 @@ module _ (w w2 : Assembly) (k n : ℕ) (m m2 : Member) (o p : Object) (v : Ref) 
   rest (Shown d u) q = ap (λ (x : Channels). option_and_then (port_slots u) (slice_get x.ports d)) is
   rest (Shared d) q = ap (λ (x : Channels). option_map cluster_slots (slice_get x.store.clusters d)) is
 
-  was : layout w (Space k) ≡ Some m.space.slots
+  was : layout w (Space k) ≡ Some (seen_slots m)
   unfolding layout
   was = ap (option_map space_slots) at
 
+  -- the slot is none of a published plan
+  out : IsOut m.published n
+  out = seen_here m.space m.published n o A.fit here
+
+  seen_now : seen_slots m2 ≡ after
+  seen_now = ap (λ x. seen_through x m2.space.slots) A.published ∙ ap (seen_through m.published) A.slots ∙ seen_set m.published m.space.slots n (Here p) out
+
+  many : length (seen_slots m) ≡ length m.space.slots
+  many = seen_length m.published m.space.slots
+
   now : layout w2 (Space k) ≡ Some after
   unfolding layout
-  now = ap (λ xs. option_map space_slots (slice_get xs k)) rs ∙ ap (option_map space_slots) (set_at w.ractors k m2 (slice_get_within w.ractors k m at)) ∙ ap (λ ss. Some ss) A.slots
+  now = ap (λ xs. option_map space_slots (slice_get xs k)) rs ∙ ap (option_map space_slots) (set_at w.ractors k m2 (slice_get_within w.ractors k m at)) ∙ ap (λ ss. Some ss) seen_now
 
   space_apart : (c : ℕ) → Space k ≡ Shared c → ⊥
   space_apart c e = cc
 
-  less : n < length m.space.slots
-  less = slice_get_within m.space.slots n (Here o) here
+  less : n < length (seen_slots m)
+  less = slice_get_within (seen_slots m) n (Here o) here
 
-  size : length after ≡ length m.space.slots
-  size = set_length m.space.slots n (Here p)
+  size : length after ≡ length (seen_slots m)
+  size = set_length (seen_slots m) n (Here p)
 
   at_n : slice_get after n ≡ Some (Here p)
-  at_n = set_at m.space.slots n (Here p) less
+  at_n = set_at (seen_slots m) n (Here p) less
 
   -- what stands in a slot now stood there before, or is the new object
-  back : (j : ℕ) (x : Slot) → slice_get after j ≡ Some x → ((j ≡ n) × (Here p ≡ x)) ⊎ ((j ≡ n → ⊥) × (slice_get m.space.slots j ≡ Some x))
+  back : (j : ℕ) (x : Slot) → slice_get after j ≡ Some x → ((j ≡ n) × (Here p ≡ x)) ⊎ ((j ≡ n → ⊥) × (slice_get (seen_slots m) j ≡ Some x))
   back j x e = ⊎_elim
       (λ same. inl (same, same_Some _ x (sym at_n ∙ ap (slice_get after) (sym same) ∙ e)))
-      (λ differ. inr (differ, sym (set_off m.space.slots n j (Here p) differ) ∙ e))
+      (λ differ. inr (differ, sym (set_off (seen_slots m) n j (Here p) differ) ∙ e))
       (eq_cases j n)
 
-  forth : (j : ℕ) (x : Slot) → (j ≡ n → ⊥) → slice_get m.space.slots j ≡ Some x → slice_get after j ≡ Some x
-  forth j x differ e = set_off m.space.slots n j (Here p) differ ∙ e
+  forth : (j : ℕ) (x : Slot) → (j ≡ n → ⊥) → slice_get (seen_slots m) j ≡ Some x → slice_get after j ≡ Some x
+  forth j x differ e = set_off (seen_slots m) n j (Here p) differ ∙ e
 
-  not_led : (c q : ℕ) → slice_get m.space.slots n ≡ Some (Led c q) → ⊥
+  not_led : (c q : ℕ) → slice_get (seen_slots m) n ≡ Some (Led c q) → ⊥
   not_led c q e = let z : Here o ≡ Led c q = same_Some _ _ (sym here ∙ e) in cc
 
   no_new_led : (c q : ℕ) → Here p ≡ Led c q → ⊥
   no_new_led c q e = cc
 
-  wider : (x : Value) → IsInLayout (layout w) m.space.slots x → IsInLayout (layout w) after x
+  wider : (x : Value) → IsInLayout (layout w) (seen_slots m) x → IsInLayout (layout w) after x
   wider (Plain i) s = s
   wider (At (Own i)) s = omega (arith, size, s)
   wider (At (Published c q)) s = s
 
   -- the value that came in leads to a slot of the space
-  valued : Knows (below_ref v) (layout w) → IsInLayout (layout w) m.space.slots (value_of v)
-  valued K = by v A.value K
+  valued : Knows (below_ref v) (layout w) → IsInLayout (layout w) (seen_slots m) (value_of v)
+  valued K = by v (subst (λ j. IsWithin j v) (sym many) A.value) K
     where
-      by : (r : Ref) → IsWithin (length m.space.slots) r → Knows (below_ref r) (layout w) → IsInLayout (layout w) m.space.slots (value_of r)
+      by : (r : Ref) → IsWithin (length (seen_slots m)) r → Knows (below_ref r) (layout w) → IsInLayout (layout w) (seen_slots m) (value_of r)
       by ref.Nil h L = tt
       by (ref.Truth b) h L = tt
       by (ref.Int b) h L = tt
@@ -95,13 +106,13 @@ module _ (w w2 : Assembly) (k n : ℕ) (m m2 : Member) (o p : Object) (v : Ref) 
       by (ref.Class b) h L = tt
       by (ref.Ractor b) h L = tt
       by (ref.Local s) h L = h
-      by (ref.Shared q c) h L = in_place (layout w) (length m.space.slots) (ref.Shared q c) h L
+      by (ref.Shared q c) h L = in_place (layout w) (length (seen_slots m)) (ref.Shared q c) h L
 
   -- each value of the new object is within
-  all_within : IsSound (layout w) m.space.slots → Knows (below_ref v) (layout w) → (l : Label) (x : Value) → Contains p.triples (l, x) → IsInLayout (layout w) m.space.slots x
-  all_within S K l x has = ⊎_elim (λ old. S.within n o old.0 x here old.1) (λ came. subst (IsInLayout (layout w) m.space.slots) (sym came) (valued K)) (values l x has)
+  all_within : IsSound (layout w) (seen_slots m) → Knows (below_ref v) (layout w) → (l : Label) (x : Value) → Contains p.triples (l, x) → IsInLayout (layout w) (seen_slots m) x
+  all_within S K l x has = ⊎_elim (λ old. S.within n o old.0 x here old.1) (λ came. subst (IsInLayout (layout w) (seen_slots m)) (sym came) (valued K)) (values l x has)
 
-  remakes : IsSound (layout w) m.space.slots → Knows (below_ref v) (layout w) → Remakes (Space k) 0 m.space.slots after (layout w) (layout w2)
+  remakes : IsSound (layout w) (seen_slots m) → Knows (below_ref v) (layout w) → Remakes (Space k) 0 (seen_slots m) after (layout w) (layout w2)
   remakes S K = record {
     was = inl was;
     now = now;
@@ -109,7 +120,7 @@ module _ (w w2 : Assembly) (k n : ℕ) (m m2 : Member) (o p : Object) (v : Ref) 
     unshared = space_apart;
     size = omega (arith, size);
     kept_here = λ i x e. ⊎_elim (λ same. (p, ap (slice_get after) same ∙ at_n)) (λ differ. (x, forth i (Here x) differ e)) (eq_cases i n);
-    kept_led = λ i c q e. ⊎_elim (λ same. absurd (not_led c q (ap (slice_get m.space.slots) (sym same) ∙ e))) (λ differ. forth i (Led c q) differ e) (eq_cases i n);
+    kept_led = λ i c q e. ⊎_elim (λ same. absurd (not_led c q (ap (slice_get (seen_slots m)) (sym same) ∙ e))) (λ differ. forth i (Led c q) differ e) (eq_cases i n);
     fresh_here = λ i c q e. let lt = slice_get_within after i (Led c q) e in omega (arith, size, lt);
     sound = record {
       within = λ i x l y e has. wider y (⊎_elim
@@ -124,24 +135,27 @@ module _ (w w2 : Assembly) (k n : ℕ) (m m2 : Member) (o p : Object) (v : Ref) 
       same_here x e = cc
 
   module _ (names : Naming) (bound : ℕ) (g : Objects) (R : IsRead w names bound g) (K : Knows (below_ref v) (layout w)) (names2 : Naming) (g2 : Objects)
-      (after_reading : IsReading (layout w2) names2 (bound + 0) g2) (N : IsNamed (Space k) names names2) (M : IsRemade (Space k) m.space.slots after names names2 g g2) where
-    sound : IsSound (layout w) m.space.slots
-    sound = R.tables.sound (Space k) m.space.slots was
+      (after_reading : IsReading (layout w2) names2 (bound + 0) g2) (N : IsNamed (Space k) names names2) (M : IsRemade (Space k) (seen_slots m) after names names2 g g2) where
+    sound : IsSound (layout w) (seen_slots m)
+    sound = R.tables.sound (Space k) (seen_slots m) was
 
     kept_shared : (c : ℕ) → names2 (Shared c) ≡ names (Shared c)
     kept_shared c = N.rest (Shared c) (λ e. space_apart c (sym e))
 
-    stand : (i : ℕ) → i < length m.space.slots → slice_index (names2 (Space k)) i ≡ slice_index (names (Space k)) i
-    stand i lt = let x = gets m.space.slots i lt in M.kept i x.0 x.1
+    stand : (i : ℕ) → i < length (seen_slots m) → slice_index (names2 (Space k)) i ≡ slice_index (names (Space k)) i
+    stand i lt = let x = gets (seen_slots m) i lt in M.kept i x.0 x.1
 
-    pub value_stays : (x : Value) → IsInLayout (layout w) m.space.slots x → value_in names2 (Space k) x ≡ value_in names (Space k) x
-    value_stays x within = within_same (layout w) m.space.slots (Space k) (Space k) names names2 x stand (λ c u e. kept_shared c) within
+    stand_all : (i : ℕ) → i < length m.space.slots → slice_index (names2 (Space k)) i ≡ slice_index (names (Space k)) i
+    stand_all i lt = stand i (omega (arith, lt, many))
+
+    pub value_stays : (x : Value) → IsInLayout (layout w) (seen_slots m) x → value_in names2 (Space k) x ≡ value_in names (Space k) x
+    value_stays x within = within_same (layout w) (seen_slots m) (Space k) (Space k) names names2 x stand (λ c u e. kept_shared c) within
 
     abbrev name : ℕ
     name = slice_index (names (Space k)) n
 
     stood : g name ≡ Some (record { owner = Space k; object = named names (Space k) o })
-    stood = (R.tables.reads (Space k) m.space.slots was).here n o here
+    stood = (R.tables.reads (Space k) (seen_slots m) was).here n o here
 
     stands : g2 name ≡ Some (record { owner = Space k; object = named names2 (Space k) p })
     stands = ap g2 (sym (stand n less)) ∙ M.own n p at_n
@@ -150,15 +164,15 @@ module _ (w w2 : Assembly) (k n : ℕ) (m m2 : Member) (o p : Object) (v : Ref) 
     old_stays j x differ e = ⊎_elim
         (λ mine.
         let st = R.tables.only j x e in
-        let t_is : st.table ≡ m.space.slots = same_Some _ _ (sym st.is_table ∙ ap (layout w) mine ∙ was) in
-        let raw : slice_get m.space.slots st.place ≡ Some (Here st.raw) = ap (λ t. slice_get t st.place) (sym t_is) ∙ st.is_raw in
-        let lt = slice_get_within m.space.slots st.place (Here st.raw) raw in
+        let t_is : st.table ≡ (seen_slots m) = same_Some _ _ (sym st.is_table ∙ ap (layout w) mine ∙ was) in
+        let raw : slice_get (seen_slots m) st.place ≡ Some (Here st.raw) = ap (λ t. slice_get t st.place) (sym t_is) ∙ st.is_raw in
+        let lt = slice_get_within (seen_slots m) st.place (Here st.raw) raw in
         let name_is : slice_index (names (Space k)) st.place ≡ j = ap (λ h. slice_index (names h) st.place) (sym mine) ∙ st.is_name in
-        let old = (R.tables.reads (Space k) m.space.slots was).here st.place st.raw raw in
+        let old = (R.tables.reads (Space k) (seen_slots m) was).here st.place st.raw raw in
         let x_is : record { owner = Space k; object = named names (Space k) st.raw } ≡ x = same_Some _ x (sym old ∙ ap g name_is ∙ e) in
         let new = M.own st.place st.raw (forth st.place (Here st.raw) (λ q. differ (sym name_is ∙ ap (slice_index (names (Space k))) q)) raw) in
         let same : named names2 (Space k) st.raw ≡ named names (Space k) st.raw =
-        object_same (layout w) m.space.slots (Space k) (Space k) names names2 st.place st.raw stand (λ c u e2. kept_shared c) sound raw in
+        object_same (layout w) (seen_slots m) (Space k) (Space k) names names2 st.place st.raw stand (λ c u e2. kept_shared c) sound raw in
         let there : g2 j ≡ Some (record { owner = Space k; object = named names2 (Space k) st.raw }) = ap g2 (sym name_is ∙ sym (stand st.place lt)) ∙ new in
         let stays_so : g2 j ≡ Some (record { owner = Space k; object = named names (Space k) st.raw }) = subst (λ (y : Object). g2 j ≡ Some (record { owner = Space k; object = y })) same there in
         subst (λ (y : Owned). g2 j ≡ Some y) x_is stays_so)
@@ -172,11 +186,11 @@ module _ (w w2 : Assembly) (k n : ℕ) (m m2 : Member) (o p : Object) (v : Ref) 
         (λ mine.
         let t_is : st.table ≡ after = same_Some _ _ (sym st.is_table ∙ ap (layout w2) mine ∙ now) in
         let raw : slice_get after st.place ≡ Some (Here st.raw) = ap (λ t. slice_get t st.place) (sym t_is) ∙ st.is_raw in
-        let lt : st.place < length m.space.slots = let l = slice_get_within after st.place (Here st.raw) raw in omega (arith, size, l) in
+        let lt : st.place < length (seen_slots m) = let l = slice_get_within after st.place (Here st.raw) raw in omega (arith, size, l) in
         let name_is : slice_index (names (Space k)) st.place ≡ j = sym (stand st.place lt) ∙ ap (λ h. slice_index (names2 h) st.place) (sym mine) ∙ st.is_name in
         ⊎_elim
         (λ new. none-some _ (sym none ∙ ap g (sym name_is ∙ ap (slice_index (names (Space k))) new.0) ∙ stood))
-        (λ old. none-some _ (sym none ∙ ap g (sym name_is) ∙ (R.tables.reads (Space k) m.space.slots was).here st.place st.raw old.1))
+        (λ old. none-some _ (sym none ∙ ap g (sym name_is) ∙ (R.tables.reads (Space k) (seen_slots m) was).here st.place st.raw old.1))
         (back st.place (Here st.raw) raw))
         (λ other.
         let old : layout w y.owner ≡ Some st.table = sym (rest y.owner other) ∙ st.is_table in
@@ -197,7 +211,7 @@ module _ (w w2 : Assembly) (k n : ℕ) (m m2 : Member) (o p : Object) (v : Ref) 
             on (Some y) q = absurd (none_new j y e q)
 
     old_named : named names2 (Space k) o ≡ named names (Space k) o
-    old_named = object_same (layout w) m.space.slots (Space k) (Space k) names names2 n o stand (λ c u e. kept_shared c) sound here
+    old_named = object_same (layout w) (seen_slots m) (Space k) (Space k) names names2 n o stand (λ c u e. kept_shared c) sound here
 
     -- a value of the new object was in the old one, or is the one that came in
     new_value : (vs : List Value) → IsNewValue g vs (root_in names (Space k) v) → (l : Label) (u : Value) → Contains (named names2 (Space k) p).triples (l, u)
@@ -243,11 +257,12 @@ module _ (w w2 : Assembly) (k n : ℕ) (m m2 : Member) (o p : Object) (v : Ref) 
     actor =
         let hands = N.rest (Hand k) (λ z. let y : ⊥ = cc in y) in
         let roots : map (root_in names2 (Space k)) m2.roots ≡ map (root_in names (Space k)) m.roots =
-        ap (map (root_in names2 (Space k))) A.roots ∙ roots_keep (length m.space.slots) names names2 (Space k) m.roots A.within stand kept_shared in
-        let count : length m2.space.slots ≡ length m.space.slots = ap length A.slots ∙ size in
+        ap (map (root_in names2 (Space k))) A.roots ∙ roots_keep (length m.space.slots) names names2 (Space k) m.roots A.within stand_all kept_shared in
+        let count : length m2.space.slots ≡ length m.space.slots = ap length A.slots ∙ set_length m.space.slots n (Here p) in
         same_actor roots (ap (option_map (parcel_in names2 (Hand k))) A.hand ∙ hand_same names names2 (Hand k) m.hand hands kept_shared)
-        (ap (option_map (shells_in names2 k)) A.home ∙ home_stands names names2 k m.space.slots m.hand m.home A.away stand) A.ticket
-        (ap (option_map (planned_in names2 k)) A.plan ∙ plan_stands names names2 k (length m.space.slots) m.plan A.planned stand) count A.limit A.next A.limits A.runs
+        (ap (option_map (shells_in names2 k)) A.home ∙ home_stands names names2 k m.space.slots m.hand m.home A.away stand_all) A.ticket
+        (ap (option_map (planned_in names2 k)) A.plan ∙ plan_stands names names2 k (length m.space.slots) m.plan A.planned stand_all)
+        (ap (option_map (published_names names2 k)) A.published ∙ published_stands names names2 k m.space m.published A.fit stand_all) count A.limit A.next A.limits A.runs
 
     changed_to : ((o.frozen ≡ true) ⊎ (o.kind ≡ shell) → p ≡ o) → IsNewValue g (actor_in names k m).roots (root_in names (Space k) v)
         → IsChangedTo k (actor_in names k m) name (named names (Space k) o) (named names2 (Space k) p) (state_in w names g) (state_in w2 names2 g2)
@@ -273,6 +288,8 @@ module _ (w w2 : Assembly) (k n : ℕ) (m m2 : Member) (o p : Object) (v : Ref) 
     space = knows_either tables (joined m.space.below) (below_ref v) (joined m2.space.below) A.below K.space L;
     roots = λ r has. K.roots r (subst (λ (xs : List Ref). Contains xs r) A.roots has);
     hand = λ q e. K.hand q (sym A.hand ∙ e);
+    plan = λ q e. K.plan q (sym A.plan ∙ e);
+    published = λ q e. K.published q (sym A.published ∙ e);
   }
 
   -- from each reading before there is one after, and the object of that name is another
@@ -283,8 +300,8 @@ module _ (w w2 : Assembly) (k n : ℕ) (m m2 : Member) (o p : Object) (v : Ref) 
       × ((l : Label) (x : Value) → Contains p.triples (l, x) → value_in names2 (Space k) x ≡ value_in names (Space k) x) × IsNamed (Space k) names names2
       × ((i : ℕ) → i < length m.space.slots → slice_index (names2 (Space k)) i ≡ slice_index (names (Space k)) i)
   rewritten names bound g R K shut rooted =
-      let S = R.tables.sound (Space k) m.space.slots was in
-      let q = remaking_is_a_step (Space k) 0 m.space.slots after (layout w) (layout w2) names bound g (remakes S K) R.tables in (
+      let S = R.tables.sound (Space k) (seen_slots m) was in
+      let q = remaking_is_a_step (Space k) 0 (seen_slots m) after (layout w) (layout w2) names bound g (remakes S K) R.tables in (
         q.0,
         bound + 0,
         q.1,
@@ -292,5 +309,5 @@ module _ (w w2 : Assembly) (k n : ℕ) (m m2 : Member) (o p : Object) (v : Ref) 
         changed_to names bound g R K q.0 q.1 q.2 q.3 q.4 shut rooted,
         λ l x has. value_stays names bound g R K q.0 q.1 q.2 q.3 q.4 x (all_within S K l x has),
         q.3,
-        λ i lt. stand names bound g R K q.0 q.1 q.2 q.3 q.4 i lt,
+        λ i lt. stand_all names bound g R K q.0 q.1 q.2 q.3 q.4 i lt,
       )

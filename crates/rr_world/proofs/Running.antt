@@ -10,7 +10,7 @@ use Rattle.rr_world.specs.Cases.{IsCase, IsOutcome}
 use Rattle.rr_world.specs.Runs.{HasOutcome, IsStep}
 use Rattle.rr_world.specs.declared.step.Step.{Step}
 use Rattle.rr_world.specs.declared.step.Reply.{Reply}
-use Rattle.rr_world.specs.declared.step.Reply.TheVariants.{NotEnabled, Done, Offered, Empty, EmptyAndClosed, WasClosed, Refused, Started, Settled, GrabbedLast, OfMain}
+use Rattle.rr_world.specs.declared.step.Reply.TheVariants.{NotEnabled, Done, Offered, Empty, EmptyAndClosed, WasClosed, Refused, Started, Settled, GrabbedLast, OfMain, Published}
 use Rattle.rr_world.proofs.Enabled.{actor_at}
 use Rattle.rr_world.proofs.Lists.{each_back}
 use Rattle.rr_world.proofs.Staying.{same_state}
@@ -27,6 +27,7 @@ case_of step (Settled what) s t runs o = (runs, o)
 case_of step (GrabbedLast l) s t runs o = (runs, o)
 case_of step (Refused f) s t runs o = (runs, o)
 case_of step OfMain s t runs o = (runs, o)
+case_of step (Published n) s t runs o = (runs, o)
 
 -- the outcome of a step of a ractor that runs is a step of the machine
 pub ran : (w w2 : Assembly) (step : Step) (k : ℕ) (r : Reply) → StandsAt step.who k → RunsAt w k → HasOutcome step r w w2 → IsStep step r w w2

@@ -17,11 +17,12 @@ use Rattle.rr_space.proofs.Apart.{readings_are_apart}
 use Rattle.rr_space.proofs.Sounds.{finds, gets, joined_in, sound_is_sealed, sound_is_shut}
 use Rattle.rr_space.proofs.Spaces.{entry_of, known_at, spaces_are_inside, raw_of}
 use Rattle.rr_share.specs.Search.{LeadsToShell}
-use Rattle.rr_world.specs.Views.{Member, Assembly}
+use Rattle.rr_world.specs.Views.{Member, Assembly, seen_slots}
 use Rattle.rr_world.specs.Layouts.{layout, space_slots, IsRead}
 use Rattle.rr_world.specs.Readings.{value_in, root_in, state_in}
 use Rattle.rr_world.specs.Enabling.{AreShareablesShared}
 use Rattle.rr_world.specs.PlanCases.{IsToPublish}
+use Rattle.rr_world.proofs.Forwarding.{seen_plain}
 use Rattle.rr_world.proofs.Published.{in_place, place_shared, leads_shared, shared_solid, owner_shared, sealed_path}
 
 there_end : (g : Graph) (f : Name → Name) (gs : Graph) → Embeds g f gs → (path : List Label) (v : Value) (n : Name) → There g v → Leads g v path (At n) → There g (At n)
@@ -45,30 +46,29 @@ place_there below tables K c p (os, has, lt) =
     let o = gets f.0 p (omega (arith, same, lt)) in
     (o.0, ap (option_and_then (λ (l : List Object). slice_get l p)) f.1 ∙ o.1)
 
-pub space_table : (w : Assembly) (k : ℕ) (m : Member) → slice_get w.ractors k ≡ Some m → layout w (Space k) ≡ Some m.space.slots
+pub space_table : (w : Assembly) (k : ℕ) (m : Member) → slice_get w.ractors k ≡ Some m → layout w (Space k) ≡ Some (seen_slots m)
 unfolding layout
 space_table w k m at = ap (option_map space_slots) at
 
 -- a value has one name with and without its forward followed
 pub value_resolved : (w : Assembly) (names : Naming) (bound : ℕ) (g : Objects) → IsRead w names bound g → (k : ℕ) (m : Member) → slice_get w.ractors k ≡ Some m → (x : Value)
-    → value_in names (Space k) (resolve m.space.slots x) ≡ value_in names (Space k) x
+    → value_in names (Space k) (resolve (seen_slots m) x) ≡ value_in names (Space k) x
 value_resolved w names bound g R k m at (Plain n) = refl
 value_resolved w names bound g R k m at (At (Published d q)) = refl
-value_resolved w names bound g R k m at (At (Own i)) = on (slice_get m.space.slots i) refl
+value_resolved w names bound g R k m at (At (Own i)) = on (slice_get (seen_slots m) i) refl
   where
-    on : (y : Option Slot) → slice_get m.space.slots i ≡ y → value_in names (Space k) (At (resolve_slot (slice_get m.space.slots i) i)) ≡ At (Own (slice_index (names (Space k)) i))
+    on : (y : Option Slot) → slice_get (seen_slots m) i ≡ y → value_in names (Space k) (At (resolve_slot (slice_get (seen_slots m) i) i)) ≡ At (Own (slice_index (names (Space k)) i))
     on None e = ap (λ z. value_in names (Space k) (At (resolve_slot z i))) e
     on (Some (Here o)) e = ap (λ z. value_in names (Space k) (At (resolve_slot z i))) e
-    on (Some (Led d q)) e = ap (λ z. value_in names (Space k) (At (resolve_slot z i))) e ∙ ap (λ z. At (Own z)) (sym ((R.tables.reads (Space k) m.space.slots (space_table w k m at)).led i d q e))
+    on (Some (Led d q)) e = ap (λ z. value_in names (Space k) (At (resolve_slot z i))) e ∙ ap (λ z. At (Own z)) (sym ((R.tables.reads (Space k) (seen_slots m) (space_table w k m at)).led i d q e))
 
-module _ (w : Assembly) (names : Naming) (bound : ℕ) (g : Objects) (R : IsRead w names bound g) (k : ℕ) (m : Member) (v : Ref) (at : slice_get w.ractors k ≡ Some m)
+module _ (w : Assembly) (names : Naming) (bound : ℕ) (g : Objects) (R : IsRead w names bound g) (k : ℕ) (m : Member) (v : Ref) (at : slice_get w.ractors k ≡ Some m) (plain : m.published ≡ None)
     (well : IsWell m.space) (within : IsWithin (length m.space.slots) v) (knows : Knows (below_ref v) (layout w)) where
   pub apart : (c : ℕ) → Space k ≡ Shared c → ⊥
   apart c e = cc
 
   pub is_space : layout w (Space k) ≡ Some m.space.slots
-  unfolding layout
-  is_space = ap (option_map space_slots) at
+  is_space = space_table w k m at ∙ ap (λ (ss : List Slot). Some ss) (seen_plain m plain)
 
   space_known : Knows (joined m.space.below) (layout w)
   space_known = (R.knows.ractors k m at).space
@@ -127,7 +127,7 @@ module _ (w : Assembly) (names : Naming) (bound : ℕ) (g : Objects) (R : IsRead
       by (ref.Shared p c) h K n e = absurd K
 
   pub resolved : value_in names (Space k) (resolve m.space.slots (value_of v)) ≡ root_in names (Space k) v
-  resolved = value_resolved w names bound g R k m at (value_of v)
+  resolved = ap (λ (ss : List Slot). value_in names (Space k) (resolve ss (value_of v))) (sym (seen_plain m plain)) ∙ value_resolved w names bound g R k m at (value_of v)
 
   -- what is reached in the whole graph is reached in the space
   back : IsOfSpace v → (n : Name) → Reaches (whole g) (root_in names (Space k) v) n

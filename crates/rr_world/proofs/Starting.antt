@@ -19,17 +19,18 @@ use Rattle.rr_inbox.specs.Inboxes.{Inbox, new_inbox}
 use Rattle.rr_port.specs.Ports.{Port, new_port}
 use Rattle.rr_store.specs.Stores.{constant_of}
 use Rattle.rr_world.specs.Views.{Member, Channels, Assembly}
-use Rattle.rr_world.specs.Layouts.{cluster_slots, layout, space_slots, hand_slots, inbox_slots, port_slots, port_inside, message_slots, message_below, MemberKnows, IsKnowing, AreOwned, DoHomesFit, HaveInboxes, HavePorts, IsRead}
+use Rattle.rr_world.specs.Layouts.{cluster_slots, layout, space_slots, hand_slots, inbox_slots, port_slots, port_inside, message_slots, MemberKnows, IsKnowing, AreOwned, DoHomesFit, HaveInboxes, HavePorts, IsRead}
 use Rattle.rr_world.specs.States.{Actor}
-use Rattle.rr_world.specs.Readings.{each_from, actor_in, shells_in, planned_in, mailbox_in, showcase_in, parcel_in, root_in, post_in, state_in}
+use Rattle.rr_world.specs.Readings.{each_from, actor_in, shells_in, planned_in, published_names, mailbox_in, showcase_in, parcel_in, root_in, post_in, state_in}
 use Rattle.rr_world.specs.Enabling.{StandsAt}
 use Rattle.rr_world.specs.ObjectCases.{IsStarted, new_actor, new_mailbox, new_showcase}
 use Rattle.rr_world.specs.Starting.{IsBegun}
 use Rattle.rr_world.specs.Runs.{HasOutcome}
 use Rattle.rr_world.specs.declared.step.Action.TheVariants.{Start}
 use Rattle.rr_world.specs.declared.step.Reply.TheVariants.{Started, Refused}
+use Rattle.rr_world.proofs.Forwarding.{seen_plain}
 use Rattle.rr_world.proofs.Enabled.{actor_at}
-use Rattle.rr_world.proofs.Knowing.{order_on, knows_on, member_on}
+use Rattle.rr_world.proofs.Knowing.{order_on, knows_on, member_on, message_on}
 use Rattle.rr_world.proofs.Lists.{each_same}
 use Rattle.rr_world.proofs.Namings.{actor_same, same_actor, archive_same, mailbox_same, ports_same, same_post}
 use Rattle.rr_world.proofs.Staying.{stays, same_state}
@@ -42,17 +43,17 @@ last_cases [] y (suc j) z e = absurd (none-some z e)
 last_cases (x ∷ xs) y zero z e = inl e
 last_cases (x ∷ xs) y (suc j) z e = ⊎_elim (λ old. inl old) (λ new. inr (let w : suc j ≡ suc (length xs) = ap suc new.0 in w, new.1)) (last_cases xs y j z e)
 
-before_last : {A : Type 0} (xs : List A) (y : A) (j : ℕ) → (j ≡ length xs → ⊥) → slice_get (xs ++ y ∷ []) j ≡ slice_get xs j
+pub before_last : {A : Type 0} (xs : List A) (y : A) (j : ℕ) → (j ≡ length xs → ⊥) → slice_get (xs ++ y ∷ []) j ≡ slice_get xs j
 before_last [] y zero differ = absurd (differ refl)
 before_last [] y (suc j) differ = refl
 before_last (x ∷ xs) y zero differ = refl
 before_last (x ∷ xs) y (suc j) differ = before_last xs y j (λ e. differ (ap suc e))
 
-at_last : {A : Type 0} (xs : List A) (y : A) → slice_get (xs ++ y ∷ []) (length xs) ≡ Some y
+pub at_last : {A : Type 0} (xs : List A) (y : A) → slice_get (xs ++ y ∷ []) (length xs) ≡ Some y
 at_last [] y = refl
 at_last (x ∷ xs) y = at_last xs y
 
-none_behind : {A : Type 0} (xs : List A) → slice_get xs (length xs) ≡ None
+pub none_behind : {A : Type 0} (xs : List A) → slice_get xs (length xs) ≡ None
 none_behind [] = refl
 none_behind (x ∷ xs) = none_behind xs
 
@@ -102,11 +103,13 @@ nothing_known : (tables : Layout) (b : Below) → b ≡ [] → Knows b tables
 nothing_known tables b none = record { known = λ c os has. absurd (none_in (c, os) (subst (λ x. Contains x (c, os)) none has)) }
 
 -- a ractor without objects, roots and message knows of no cluster
-pub bare_knows : (tables : Layout) (m : Member) → m.space.below ≡ [] → m.roots ≡ [] → m.hand ≡ None → MemberKnows tables m
-bare_knows tables m below roots hand = record {
+pub bare_knows : (tables : Layout) (m : Member) → m.space.below ≡ [] → m.roots ≡ [] → m.hand ≡ None → m.plan ≡ None → m.published ≡ None → MemberKnows tables m
+bare_knows tables m below roots hand plan published = record {
   space = nothing_known tables (joined m.space.below) (ap joined below);
   roots = λ r has. absurd (none_in r (subst (λ xs. Contains xs r) roots has));
   hand = λ p e. absurd (none-some p (sym hand ∙ e));
+  plan = λ p e. absurd (none-some p (sym plan ∙ e));
+  published = λ p e. absurd (none-some p (sym published ∙ e));
 }
 
 module _ (w w2 : Assembly) (limits : Limits) (m2 : Member) (A : IsBegun limits (length w.ractors + 1) m2) (rs : w2.ractors ≡ w.ractors ++ m2 ∷ []) (is : w2.channels ≡ record w.channels { inboxes = w.channels.inboxes ++ new_inbox limits.events ∷ []; ports = w.channels.ports ++ new_port limits.events ∷ [] }) where
@@ -127,7 +130,7 @@ module _ (w w2 : Assembly) (limits : Limits) (m2 : Member) (A : IsBegun limits (
 
   now : layout w2 (Space place) ≡ Some []
   unfolding layout
-  now = ap (λ xs. option_map space_slots (slice_get xs place)) rs ∙ ap (option_map space_slots) (at_last w.ractors m2) ∙ ap (λ ss. Some ss) A.slots
+  now = ap (λ xs. option_map space_slots (slice_get xs place)) rs ∙ ap (option_map space_slots) (at_last w.ractors m2) ∙ ap (λ ss. Some ss) (seen_plain m2 A.published ∙ A.slots)
 
   space_apart : (c : ℕ) → Space place ≡ Shared c → ⊥
   space_apart c e = cc
@@ -154,7 +157,7 @@ module _ (w w2 : Assembly) (limits : Limits) (m2 : Member) (A : IsBegun limits (
     objects = remade_empty (Space place) (layout w) (layout w2) names names2 bound (bound + 0) g g2 remakes was R.tables after_reading N M
 
     new_one : actor_in names2 place m2 ≡ new_actor limits
-    new_one = same_actor (ap (map (root_in names2 (Space place))) A.roots) (ap (option_map (parcel_in names2 (Hand place))) A.hand) (ap (option_map (shells_in names2 place)) A.home) A.ticket (ap (option_map (planned_in names2 place)) A.plan)
+    new_one = same_actor (ap (map (root_in names2 (Space place))) A.roots) (ap (option_map (parcel_in names2 (Hand place))) A.hand) (ap (option_map (shells_in names2 place)) A.home) A.ticket (ap (option_map (planned_in names2 place)) A.plan) (ap (option_map (published_names names2 place)) A.published)
         (ap length A.slots) A.limit A.next A.run A.runs
 
     started : (number : RactorNo) (a : Actor) → a.limits ≡ limits → StandsAt number place → IsStarted number a (state_in w names g) (state_in w2 names2 g2)
@@ -181,13 +184,13 @@ module _ (w w2 : Assembly) (limits : Limits) (m2 : Member) (A : IsBegun limits (
 
   more_knows : IsKnowing w → IsKnowing w2
   more_knows K = record {
-    ractors = λ j m at. member_on w w2 (ap (λ (x : Channels). x.store.clusters) is) m (⊎_elim (λ old. K.ractors j m old) (λ new. subst (MemberKnows (layout w)) new.1 (bare_knows (layout w) m2 A.below A.roots A.hand)) (last_cases w.ractors m2 j m (ap (λ xs. slice_get xs j) (sym rs) ∙ at)));
+    ractors = λ j m at. member_on w w2 (ap (λ (x : Channels). x.store.clusters) is) m (⊎_elim (λ old. K.ractors j m old) (λ new. subst (MemberKnows (layout w)) new.1 (bare_knows (layout w) m2 A.below A.roots A.hand A.plan A.published)) (last_cases w.ractors m2 j m (ap (λ xs. slice_get xs j) (sym rs) ∙ at)));
     store = λ n v here. knows_on w w2 (ap (λ (x : Channels). x.store.clusters) is) (below_ref v) (K.store n v (ap (λ (x : Channels). constant_of x.store n) (sym is) ∙ here));
-    inboxes = λ c i e at has. knows_on w w2 (ap (λ (x : Channels). x.store.clusters) is) (message_below e.message) (⊎_elim
+    inboxes = λ c i e at has. message_on w w2 (ap (λ (x : Channels). x.store.clusters) is) e.message (⊎_elim
         (λ old. K.inboxes c i e old has)
         (λ new. absurd (none_in e (subst (λ (x : Inbox). Contains x.inside e) (sym new.1) has)))
         (last_cases w.channels.inboxes (new_inbox limits.events) c i (ap (λ (x : Channels). slice_get x.inboxes c) (sym is) ∙ at)));
-    ports = λ c p e at has. knows_on w w2 (ap (λ (x : Channels). x.store.clusters) is) (message_below e.message) (⊎_elim
+    ports = λ c p e at has. message_on w w2 (ap (λ (x : Channels). x.store.clusters) is) e.message (⊎_elim
         (λ old. K.ports c p e old has)
         (λ new. absurd (none_in e (subst (λ (x : Port). Contains (port_inside x) e) (sym new.1) has)))
         (last_cases w.channels.ports (new_port limits.events) c p (ap (λ (x : Channels). slice_get x.ports c) (sym is) ∙ at)));
@@ -227,7 +230,7 @@ module _ (w w2 : Assembly) (limits : Limits) (m2 : Member) (A : IsBegun limits (
         record { tables = q.2; knows = more_knows R.knows; owned = more_owned R.owned; inboxes = more_inboxes R.inboxes; ports = more_ports R.ports; fits = more_fits R.fits; clusters = order_on w w2 (ap (λ (x : Channels). x.store.clusters) is) R.clusters },
         (k, actor_in names k m, stands, actor_at w names g k m at, tt, started names bound g R q.0 q.1 q.2 q.3 q.4 number (actor_in names k m) same next),
         record {
-          others = λ h off. q.3.rest h (λ e. off (subst (IsRenamed (length w.ractors) who Start) (sym e) refl));
+          others = λ h off. q.3.rest h (λ e. off (subst (IsRenamed w who Start) (sym e) refl));
           slots = λ j x i there lt off. ap (λ ns. slice_index ns i) (q.3.rest (Space j) (λ e. let less = slice_get_within w.ractors j x there in let same : j ≡ place = cc in omega (arith, less, same)));
         },
       )

@@ -39,9 +39,9 @@ stays_read step reply w w2 same case names bound g R =
     (sym same) (names, bound, g, R, case names bound g R, record { others = λ h off. refl; slots = λ j x i there lt off. refl })
 
 -- one list of names is another, which is no space's, and the step acts on it
-pub one_renamed : {names names2 : Naming} (w : Assembly) (b : Owner) (step : Step) → IsNamed b names names2 → IsRenamed (length w.ractors) step.who step.action b → ((j : ℕ) → Space j ≡ b → ⊥) → AreNamesKept w step names names2
+pub one_renamed : {names names2 : Naming} (w : Assembly) (b : Owner) (step : Step) → IsNamed b names names2 → IsRenamed w step.who step.action b → ((j : ℕ) → Space j ≡ b → ⊥) → AreNamesKept w step names names2
 one_renamed {names} {names2} w b step N may apart = record {
-  others = λ h off. N.rest h (λ e. off (subst (IsRenamed (length w.ractors) step.who step.action) (sym e) may));
+  others = λ h off. N.rest h (λ e. off (subst (IsRenamed w step.who step.action) (sym e) may));
   slots = λ j x i there lt off. ap (λ ns. slice_index ns i) (N.rest (Space j) (apart j));
 }
 
@@ -49,10 +49,10 @@ own_space : (j k : ℕ) → Space j ≡ Space k → j ≡ k
 own_space j k e = cc
 
 -- the list of a space is another, in which the slots have their names
-pub space_renamed : {names names2 : Naming} (w : Assembly) (k : ℕ) (m : Member) (step : Step) → slice_get w.ractors k ≡ Some m → IsNamed (Space k) names names2 → IsRenamed (length w.ractors) step.who step.action (Space k)
+pub space_renamed : {names names2 : Naming} (w : Assembly) (k : ℕ) (m : Member) (step : Step) → slice_get w.ractors k ≡ Some m → IsNamed (Space k) names names2 → IsRenamed w step.who step.action (Space k)
     → ((i : ℕ) → i < length m.space.slots → slice_index (names2 (Space k)) i ≡ slice_index (names (Space k)) i) → AreNamesKept w step names names2
 space_renamed {names} {names2} w k m step at N may stand = record {
-  others = λ h off. N.rest h (λ e. off (subst (IsRenamed (length w.ractors) step.who step.action) (sym e) may));
+  others = λ h off. N.rest h (λ e. off (subst (IsRenamed w step.who step.action) (sym e) may));
   slots = λ j x i there lt off. ⊎_elim
       (λ same.
       let one : x ≡ m = same_Some x m (sym there ∙ ap (slice_get w.ractors) same ∙ at) in

@@ -27,10 +27,10 @@ use Rattle.rr_store.specs.declared.constant.ConstValue.{ConstValue}
 use Rattle.rr_store.specs.declared.constant.ConstValue.TheVariants.{Shareable}
 use Rattle.rr_store.specs.declared.constant.ConstValue.TheVariants as store
 use Rattle.rr_world.specs.Views.{Member, Channels, Assembly}
-use Rattle.rr_world.specs.Layouts.{layout, space_slots, hand_slots, inbox_slots, port_slots, cluster_slots, message_below, MemberKnows, IsKnowing, IsRead}
+use Rattle.rr_world.specs.Layouts.{layout, space_slots, hand_slots, inbox_slots, port_slots, cluster_slots, MemberKnows, IsKnowing, IsRead}
 use Rattle.rr_world.specs.States.{Actor, Held, constant_at, itself}
-use Rattle.rr_world.specs.Readings.{each_from, actor_in, mailbox_in, showcase_in, root_in, value_in, public_value, constant_in, archive_in, post_in, state_in}
-use Rattle.rr_world.specs.Enabling.{StandsAt, IsPublicValue, named_value}
+use Rattle.rr_world.specs.Readings.{each_from, actor_in, mailbox_in, showcase_in, root_in, value_in, public_value, constant_in, archive_in, post_in, state_in, published_names}
+use Rattle.rr_world.specs.Enabling.{StandsAt, IsPublicValue, named_value, MaySet}
 use Rattle.rr_world.specs.ConstantCases.{IsSetRefused, IsSetOwnRefused, IsGetRefused, IsConstantSet, IsMain}
 use Rattle.rr_world.specs.Getting.{IsOwnRef, IsPublicRef, Joins}
 use Rattle.rr_world.specs.Packing.{named_ref}
@@ -41,9 +41,10 @@ use Rattle.rr_world.specs.declared.step.Reply.TheVariants.{NotEnabled, Done, Ref
 use Rattle.rr_world.specs.Outcomes.{reply_of}
 use Rattle.rr_world.specs.declared.outcome.Outcome.{Outcome}
 use Rattle.rr_world.specs.declared.outcome.Outcome.TheVariants as outcome
-use Rattle.rr_world.proofs.Enabled.{actor_at, allowed}
+use Rattle.rr_world.proofs.Forwarding.{seen_plain}
+use Rattle.rr_world.proofs.Enabled.{actor_at, allowed, none_back}
 use Rattle.rr_world.proofs.Insides.{set_again, same_assembly}
-use Rattle.rr_world.proofs.Knowing.{knows_either, knows_on, member_on, order_on, read_set}
+use Rattle.rr_world.proofs.Knowing.{knows_either, knows_on, member_on, order_on, read_set, message_on}
 use Rattle.rr_world.proofs.Published.{at_place, in_place}
 use Rattle.rr_world.proofs.Seeing.{space_table, value_resolved}
 use Rattle.rr_world.proofs.Lists.{eq_cases, seen_same, each_set}
@@ -106,8 +107,8 @@ module _ (w w2 : Assembly) (name : Sym) (c : ConstValue) (rs : w2.ractors ≡ w.
         (λ same. known v (same_Some c (Shareable v) (sym S.here ∙ ap (constant_of w2.channels.store) (sym (named_one n same)) ∙ here)))
         (λ other. K.store n v (sym (S.others n (λ e. other (ap (λ (s : Sym). s.0) e))) ∙ here))
         (eq_cases n.0 name.0));
-    inboxes = λ d i e at has. knows_on w w2 clusters (message_below e.message) (K.inboxes d i e (ap (λ xs. slice_get xs d) (sym boxes) ∙ at) has);
-    ports = λ d p e at has. knows_on w w2 clusters (message_below e.message) (K.ports d p e (ap (λ xs. slice_get xs d) (sym ports) ∙ at) has);
+    inboxes = λ d i e at has. message_on w w2 clusters e.message (K.inboxes d i e (ap (λ xs. slice_get xs d) (sym boxes) ∙ at) has);
+    ports = λ d p e at has. message_on w w2 clusters e.message (K.ports d p e (ap (λ xs. slice_get xs d) (sym ports) ∙ at) has);
   }
 
   set_read : (names : Naming) (bound : ℕ) (g : Objects) → ((v : Ref) → c ≡ Shareable v → Knows (below_ref v) (layout w)) → IsRead w names bound g → IsRead w2 names bound g
@@ -129,6 +130,7 @@ module _ (w w2 : Assembly) (name : Sym) (c : ConstValue) (rs : w2.ractors ≡ w.
     others = λ n differ.
         let s : Sym = record { 0 = n } in
         seen names w2.channels.store s ∙ ap (option_map (constant_in names)) (S.others s (λ z. differ (ap (λ (x : Sym). x.0) z))) ∙ sym (seen names w.channels.store s);
+    clusters = ap length clusters;
     history = history;
     limit = limit;
     inboxes = ap (each_from (mailbox_in names) 0) boxes;
@@ -145,14 +147,37 @@ pub record IsStored (name : Sym) (c : ConstValue) (e : StoreEvent Sym) (s t : St
   pub limit : t.limit ≡ s.limit
   pub clusters : t.clusters ≡ s.clusters
 
+-- a constant may be set where no published plan is in the hand, and only there
+may_set : (names : Naming) (k : ℕ) (m : Member) → m.published ≡ None → MaySet (actor_in names k m)
+may_set names k m plain = ap (option_map (published_names names k)) plain
+
+may_set_back : (names : Naming) (k : ℕ) (m : Member) → MaySet (actor_in names k m) → m.published ≡ None
+may_set_back names k m may = none_back (published_names names k) m.published may
+
+pub may_not_set : (w w2 : Assembly) (who : RactorNo) (k : ℕ) (m : Member) (name : Sym) (op : Operand) → slice_get w.ractors k ≡ Some m → StandsAt who k → w2 ≡ w → (m.published ≡ None → ⊥)
+    → HasOutcome (record { who = who; action = SetConst name op }) NotEnabled w w2
+may_not_set w w2 who k m name op at stands same waits =
+    stays (record { who = who; action = SetConst name op }) NotEnabled w w2 same (λ names g. (
+      λ e. waits (may_set_back names k m (allowed w names g (record { who = who; action = SetConst name op }) k m stands at e).0),
+      same_state (state_in w names g),
+    ))
+
+pub may_not_set_own : (w w2 : Assembly) (who : RactorNo) (k : ℕ) (m : Member) (name : Sym) → slice_get w.ractors k ≡ Some m → StandsAt who k → w2 ≡ w → (m.published ≡ None → ⊥)
+    → HasOutcome (record { who = who; action = SetOwn name }) NotEnabled w w2
+may_not_set_own w w2 who k m name at stands same waits =
+    stays (record { who = who; action = SetOwn name }) NotEnabled w w2 same (λ names g. (
+      λ e. waits (may_set_back names k m (allowed w names g (record { who = who; action = SetOwn name }) k m stands at e)),
+      same_state (state_in w names g),
+    ))
+
 -- what the operand names, in the machine
-module _ (w : Assembly) (names : Naming) (bound : ℕ) (g : Objects) (R : IsRead w names bound g) (k : ℕ) (m : Member) (op : Operand) (r : Ref) (at : slice_get w.ractors k ≡ Some m) (P : IsPublicRef m op r) where
+module _ (w : Assembly) (names : Naming) (bound : ℕ) (g : Objects) (R : IsRead w names bound g) (k : ℕ) (m : Member) (op : Operand) (r : Ref) (at : slice_get w.ractors k ≡ Some m) (plain : m.published ≡ None) (P : IsPublicRef m op r) where
   public_known : Knows (below_ref r) (layout w)
   public_known = knows_either (layout w) (joined m.space.below) (below_ref P.value) (below_ref r) P.known (R.knows.ractors k m at).space
       (known_named (layout w) m.roots op P.value (R.knows.ractors k m at).roots P.named)
 
   one_name : root_in names (Space k) r ≡ root_in names (Space k) P.value
-  one_name = ap (value_in names (Space k)) P.resolves ∙ value_resolved w names bound g R k m at (value_of P.value)
+  one_name = ap (value_in names (Space k)) (P.resolves ∙ ap (λ (ss : List Slot). resolve ss (value_of P.value)) (sym (seen_plain m plain))) ∙ value_resolved w names bound g R k m at (value_of P.value)
 
   public_is : named_value (actor_in names k m).roots op ≡ Some (root_in names (Space k) r)
   public_is = value_named names (Space k) m.roots op ∙ ap (option_map (root_in names (Space k))) P.named ∙ ap (λ x. Some x) (sym one_name)
@@ -161,12 +186,12 @@ module _ (w : Assembly) (names : Naming) (bound : ℕ) (g : Objects) (R : IsRead
   public_value_is = public_seen (layout w) names bound g (Space k) R.tables r P.public public_known
 
 -- a constant is set to an immediate or a published object
-pub constant_set : (w w2 : Assembly) (who : RactorNo) (k : ℕ) (m : Member) (name : Sym) (op : Operand) (r : Ref) → slice_get w.ractors k ≡ Some m → StandsAt who k → IsPublicRef m op r
+pub constant_set : (w w2 : Assembly) (who : RactorNo) (k : ℕ) (m : Member) (name : Sym) (op : Operand) (r : Ref) → slice_get w.ractors k ≡ Some m → m.published ≡ None → StandsAt who k → IsPublicRef m op r
     → w2.ractors ≡ w.ractors → w2.channels.inboxes ≡ w.channels.inboxes → w2.channels.ports ≡ w.channels.ports → IsStored name (Shareable r) (event.Shared name who) w.channels.store w2.channels.store
     → HasOutcome (record { who = who; action = SetConst name op }) Done w w2
-constant_set w w2 who k m name op r at stands P rs boxes ports T names bound g R =
-    let value = public_is w names bound g R k m op r at P in
-    let known = public_known w names bound g R k m op r at P in (
+constant_set w w2 who k m name op r at plain stands P rs boxes ports T names bound g R =
+    let value = public_is w names bound g R k m op r at plain P in
+    let known = public_known w names bound g R k m op r at plain P in (
       names,
       bound,
       g,
@@ -176,7 +201,7 @@ constant_set w w2 who k m name op r at stands P rs boxes ports T names bound g R
         actor_in names k m,
         stands,
         actor_at w names g k m at,
-        (root_in names (Space k) r, value, public_value_is w names bound g R k m op r at P),
+        (may_set names k m plain, root_in names (Space k) r, value, public_value_is w names bound g R k m op r at plain P),
         (
           root_in names (Space k) r,
           value,
@@ -188,15 +213,15 @@ constant_set w w2 who k m name op r at stands P rs boxes ports T names bound g R
     )
 
 -- the value is an object of the ractor's own, so that it is not set
-pub not_set : (w w2 : Assembly) (who : RactorNo) (k : ℕ) (m : Member) (name : Sym) (op : Operand) → slice_get w.ractors k ≡ Some m → StandsAt who k → w2 ≡ w
+pub not_set : (w w2 : Assembly) (who : RactorNo) (k : ℕ) (m : Member) (name : Sym) (op : Operand) → slice_get w.ractors k ≡ Some m → m.published ≡ None → StandsAt who k → w2 ≡ w
     → ((v : Ref) → named_ref m.roots op ≡ Some v → IsOwnRef m v) → HasOutcome (record { who = who; action = SetConst name op }) NotEnabled w w2
-not_set w w2 who k m name op at stands same none =
+not_set w w2 who k m name op at plain stands same none =
     stays_read (record { who = who; action = SetConst name op }) NotEnabled w w2 same (λ names bound g R. (
       λ e.
           let z = allowed w names g (record { who = who; action = SetConst name op }) k m stands at e in
-          let b = some_back (root_in names (Space k)) (named_ref m.roots op) z.0 (sym (value_named names (Space k) m.roots op) ∙ z.1) in
+          let b = some_back (root_in names (Space k)) (named_ref m.roots op) z.1 (sym (value_named names (Space k) m.roots op) ∙ z.2) in
           let own = none b.0 b.1 in
-          never names bound g R b.0 own.0 own.1.0 own.1.1 (subst (IsPublicValue g) (sym b.2) z.2),
+          never names bound g R b.0 own.0 own.1.0 own.1.1 (subst (IsPublicValue g) (sym b.2) z.3),
       same_state (state_in w names g),
     ))
   where
@@ -204,7 +229,7 @@ not_set w w2 who k m name op at stands same none =
         → IsPublicValue g (At (Own (slice_index (names (Space k)) i))) → ⊥
     standing names bound g R i j (Led c p) here own public = let led : At (Published c p) ≡ At (Own j) = ap (λ z. At (resolve_slot z i)) (sym here) ∙ own in cc
     standing names bound g R i j (Here o) here own (y, its, (c, shared)) =
-        let read = (R.tables.reads (Space k) m.space.slots (space_table w k m at)).here i o here in
+        let read = (R.tables.reads (Space k) m.space.slots (space_table w k m at ∙ ap (λ (ss : List Slot). Some ss) (seen_plain m plain))).here i o here in
         let owned : record { owner = Space k; object = named names (Space k) o } ≡ y = same_Some _ y (sym read ∙ its) in
         let apart : Space k ≡ Shared c = ap (λ (x : Owned). x.owner) owned ∙ shared in
         cc
@@ -221,28 +246,28 @@ not_set w w2 who k m name op at stands same none =
     never names bound g R (ref.Local i) h j own p = let x = gets m.space.slots i h in standing names bound g R i j x.0 x.1 own p
 
 -- a constant is set to what the main ractor keeps
-pub own_set : (w w2 : Assembly) (who : RactorNo) (k : ℕ) (m : Member) (name : Sym) → slice_get w.ractors k ≡ Some m → StandsAt who k → IsMain who
+pub own_set : (w w2 : Assembly) (who : RactorNo) (k : ℕ) (m : Member) (name : Sym) → slice_get w.ractors k ≡ Some m → m.published ≡ None → StandsAt who k → IsMain who
     → w2.ractors ≡ w.ractors → w2.channels.inboxes ≡ w.channels.inboxes → w2.channels.ports ≡ w.channels.ports → IsStored name store.Own (event.Own name who) w.channels.store w2.channels.store
     → HasOutcome (record { who = who; action = SetOwn name }) Done w w2
-own_set w w2 who k m name at stands main rs boxes ports T names bound g R = (
+own_set w w2 who k m name at plain stands main rs boxes ports T names bound g R = (
   names,
   bound,
   g,
   set_read w w2 name store.Own rs boxes ports T.clusters T.set names bound g (λ v e. absurd (let z : ⊥ = cc in z)) R,
-  (k, actor_in names k m, stands, actor_at w names g k m at, tt, (main, set_constant w w2 name store.Own rs boxes ports T.clusters T.set names g (event.Own name who) T.room T.history T.limit)),
+  (k, actor_in names k m, stands, actor_at w names g k m at, may_set names k m plain, (main, set_constant w w2 name store.Own rs boxes ports T.clusters T.set names g (event.Own name who) T.room T.history T.limit)),
   record { others = λ h off. refl; slots = λ j x i there lt off. refl },
 )
 
 -- a set that is refused
-pub set_refused : (w w2 : Assembly) (who : RactorNo) (k : ℕ) (m : Member) (name : Sym) (op : Operand) (r : Ref) (f : Fault) → slice_get w.ractors k ≡ Some m → StandsAt who k → IsPublicRef m op r
+pub set_refused : (w w2 : Assembly) (who : RactorNo) (k : ℕ) (m : Member) (name : Sym) (op : Operand) (r : Ref) (f : Fault) → slice_get w.ractors k ≡ Some m → m.published ≡ None → StandsAt who k → IsPublicRef m op r
     → w2 ≡ w → SetRefusal f w.channels.store who (Shareable r) → HasOutcome (record { who = who; action = SetConst name op }) (Refused f) w w2
-set_refused w w2 who k m name op r f at stands P same why =
+set_refused w w2 who k m name op r f at plain stands P same why =
     stays_read (record { who = who; action = SetConst name op }) (Refused f) w w2 same (λ names bound g R. (
       k,
       actor_in names k m,
       stands,
       actor_at w names g k m at,
-      (root_in names (Space k) r, public_is w names bound g R k m op r at P, public_value_is w names bound g R k m op r at P),
+      (may_set names k m plain, root_in names (Space k) r, public_is w names bound g R k m op r at plain P, public_value_is w names bound g R k m op r at plain P),
       refusal f why names g,
     ))
   where
@@ -263,10 +288,10 @@ set_refused w w2 who k m name op r f at stands P same why =
     refusal (fault.BadTrace line) y names g = absurd y
     refusal fault.NotMine y names g = absurd y
 
-pub own_refused : (w w2 : Assembly) (who : RactorNo) (k : ℕ) (m : Member) (name : Sym) (f : Fault) → slice_get w.ractors k ≡ Some m → StandsAt who k
+pub own_refused : (w w2 : Assembly) (who : RactorNo) (k : ℕ) (m : Member) (name : Sym) (f : Fault) → slice_get w.ractors k ≡ Some m → m.published ≡ None → StandsAt who k
     → w2 ≡ w → SetRefusal f w.channels.store who store.Own → HasOutcome (record { who = who; action = SetOwn name }) (Refused f) w w2
-own_refused w w2 who k m name f at stands same why =
-    stays (record { who = who; action = SetOwn name }) (Refused f) w w2 same (λ names g. (k, actor_in names k m, stands, actor_at w names g k m at, tt, refusal f why names g))
+own_refused w w2 who k m name f at plain stands same why =
+    stays (record { who = who; action = SetOwn name }) (Refused f) w w2 same (λ names g. (k, actor_in names k m, stands, actor_at w names g k m at, may_set names k m plain, refusal f why names g))
   where
     refusal : (f : Fault) → SetRefusal f w.channels.store who store.Own → (names : Naming) (g : Objects) → IsSetOwnRefused who f (state_in w names g) (state_in w names g)
     refusal fault.HistoryFull y names g = (y, same_state (state_in w names g))
@@ -310,6 +335,8 @@ module _ (w w2 : Assembly) (who : RactorNo) (k : ℕ) (m : Member) (name : Sym) 
             (λ new. ⊎_elim (λ (one : v ≡ r). subst (λ (x : Ref). Knows (below_ref x) (layout w)) one (R.knows.store name v here)) (λ none. absurd (none_in r none)) (in_first v [] r new))
             (Contains-append_cases m.roots (v ∷ []) r has);
         hand = K.hand;
+        plan = K.plan;
+        published = K.published;
       }
 
   pub got : HasOutcome (record { who = who; action = GetConst name }) Done w w2

@@ -4,12 +4,12 @@ use Rattle.std.specs.Prelude.{slice_set}
 use Rattle.std.specs.Option.{option_map, option_and_then}
 use Rattle.std.proofs.lemmas.Option.{slice_get_within}
 use Rattle.rr_space.specs.Readings.{Owner, Space, Hand, Mail, Shown, Shared}
-use Rattle.rr_world.specs.Views.{Member, Channels, Assembly}
+use Rattle.rr_world.specs.Views.{Member, Channels, Assembly, seen_slots}
 use Rattle.rr_world.specs.Layouts.{cluster_slots, layout, space_slots, hand_slots, inbox_slots, port_slots, message_slots}
 use Rattle.rr_world.proofs.Lists.{set_at, set_off}
 
 module _ (w w2 : Assembly) (k : ℕ) (m m2 : Member) (at : slice_get w.ractors k ≡ Some m) (rs : w2.ractors ≡ slice_set w.ractors k m2) (is : w2.channels ≡ w.channels) where
-  pub space_was : layout w (Space k) ≡ Some m.space.slots
+  pub space_was : layout w (Space k) ≡ Some (seen_slots m)
   unfolding layout
   space_was = ap (option_map space_slots) at
 
@@ -17,7 +17,7 @@ module _ (w w2 : Assembly) (k : ℕ) (m m2 : Member) (at : slice_get w.ractors k
   unfolding layout
   hand_was = ap (option_and_then hand_slots) at
 
-  pub space_now : layout w2 (Space k) ≡ Some m2.space.slots
+  pub space_now : layout w2 (Space k) ≡ Some (seen_slots m2)
   unfolding layout
   space_now = ap (λ xs. option_map space_slots (slice_get xs k)) rs ∙ ap (option_map space_slots) (set_at w.ractors k m2 (slice_get_within w.ractors k m at))
 

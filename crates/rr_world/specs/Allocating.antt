@@ -4,7 +4,7 @@ use Rattle.rr_base.specs.declared.fault.Fault.TheVariants.{Memory, Limit}
 use Rattle.rr_base.specs.declared.limits.LimitKind.TheVariants.{Slots}
 use Rattle.rr_space.specs.Tables.{Here}
 use Rattle.rr_space.specs.declared.refer.Ref.TheVariants.{Local}
-use Rattle.rr_world.specs.Views.{Member, ArePlacesBelow, AreRootsWithin, AreAway}
+use Rattle.rr_world.specs.Views.{Member, ArePlacesBelow, AreRootsWithin, AreAway, IsPublishedFit}
 use Rattle.rr_world.specs.ObjectCases.{new_object}
 use Rattle.rr_world.specs.declared.step.NewObject.{NewObject}
 use Rattle.rr_world.specs.declared.outcome.Outcome.{Outcome}
@@ -22,6 +22,8 @@ pub record IsAllocatedBy (new : NewObject) (old now : Member) : Type 0 where
   pub ticket : now.ticket ≡ old.ticket
   pub plan : now.plan ≡ old.plan
   pub planned : ArePlacesBelow (length old.space.slots) old.plan
+  pub published : now.published ≡ old.published
+  pub fit : IsPublishedFit old.space old.published
   pub away : AreAway old.space.slots old.hand old.home
   pub next : now.space.next_message ≡ old.space.next_message
   pub owner : now.space.owner ≡ old.space.owner

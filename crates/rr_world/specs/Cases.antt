@@ -7,14 +7,14 @@ use Rattle.rr_world.specs.States as constant
 use Rattle.rr_base.specs.declared.event.StoreEvent.TheVariants as store
 use Rattle.rr_world.specs.declared.step.Action.{Action}
 use Rattle.rr_space.specs.Labels.{label_of}
-use Rattle.rr_world.specs.declared.step.Action.TheVariants.{Alloc, Pack, Plan, Discard, Offer, Accept, Open, Close, ClosePort, ShowLast, Show, Withdraw, Settle, Grab, Freeze, Append, Push, Write, SetField, Read, Start, End, Detach, PutBack, SetConst, SetOwn, GetConst}
+use Rattle.rr_world.specs.declared.step.Action.TheVariants.{Alloc, Pack, Plan, Publish, Promote, Discard, Offer, Accept, Open, Close, ClosePort, ShowLast, Show, Withdraw, Settle, Grab, Freeze, Append, Push, Write, SetField, Read, Start, End, Detach, PutBack, SetConst, SetOwn, GetConst}
 use Rattle.rr_world.specs.declared.step.Step.{Step}
 use Rattle.rr_world.specs.declared.step.Reply.{Reply}
-use Rattle.rr_world.specs.declared.step.Reply.TheVariants.{NotEnabled, Done, Offered, Empty, EmptyAndClosed, WasClosed, Refused, Started, Settled, GrabbedLast, OfMain}
+use Rattle.rr_world.specs.declared.step.Reply.TheVariants.{NotEnabled, Done, Offered, Empty, EmptyAndClosed, WasClosed, Refused, Started, Settled, GrabbedLast, OfMain, Published}
 use Rattle.rr_world.specs.Enabling.{StandsAt, IsRunning, IsPossible, named_value, IsNoShell, IsOpen, HasElement, Allows, IsEnabled}
 use Rattle.rr_world.specs.ObjectCases.{IsAllocated, IsAllocRefused, frozen, appended, pushed, written, with_field, IsMade, IsMemoryRefused, IsReadAs, IsStarted, IsEnded, IsStartRefused}
 use Rattle.rr_world.specs.MessageCases.{IsPacked, IsPackRefusedFor, IsDetached, IsDetachRefusedFor, IsReturned, IsDiscarded, IsOffered, IsOfferRefused, IsAccepted, IsOpenedAs, IsOpenRefused, IsClosedBy}
-use Rattle.rr_world.specs.PlanCases.{IsPlannedAs}
+use Rattle.rr_world.specs.PlanCases.{IsPlannedAs, IsPublishedAs, IsPromotedBy}
 use Rattle.rr_world.specs.PortCases.{IsPortClosedBy, IsLastLeft, IsLastRefused, IsGrabbed, IsShown, IsShowRefused, IsWithdrawn, IsWithdrawRefused, IsSettledAs, is_of_fault, grabbed}
 use Rattle.rr_world.specs.ConstantCases.{IsMain, IsConstantSet, IsSetRefused, IsSetOwnRefused, IsGot, IsGetRefused}
 
@@ -36,6 +36,9 @@ Effect who k a (Detach op) Done s t = (x : Value) × (p : Parcel) × (home : Lis
 Effect who k a (Detach op) (Refused f) s t = (x : Value) × (named_value a.roots op ≡ Some x) × IsDetachRefusedFor a x f s t
 Effect who k a (Plan op) Done s t = (x : Value) × (ns : List ℕ) × (named_value a.roots op ≡ Some x) × IsPlannedAs k a x ns s t
 Effect who k a (Plan op) (Refused f) s t = (x : Value) × (named_value a.roots op ≡ Some x) × IsPackRefusedFor x f s t
+Effect who k a Publish (Published c) s t = (ns : List ℕ) × (a.plan ≡ Some ns) × IsPublishedAs who k a ns c s t
+Effect who k a Publish (Refused f) s t = IsSetRefused f s t
+Effect who k a Promote Done s t = IsPromotedBy k a s t
 Effect who k a PutBack Done s t = (p : Parcel) × (home : List ℕ) × (a.hand ≡ Some p) × (a.home ≡ Some home) × IsReturned k a p home s t
 Effect who k a Discard Done s t = IsDiscarded k a s t
 Effect who k a (Offer to) (Offered n) s t = (c : ℕ) × (b : Mailbox) × (p : Parcel) × InboxIs s to c b × (a.hand ≡ Some p) × IsOffered who k c a p b n s t

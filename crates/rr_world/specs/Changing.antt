@@ -12,7 +12,7 @@ use Rattle.rr_space.specs.declared.kind.Kind.TheVariants.{Array, Text}
 use Rattle.rr_space.specs.declared.kind.Kind.TheVariants as kinds
 use Rattle.rr_space.specs.declared.refer.Ref.{Ref}
 use Rattle.rr_space.specs.declared.refer.Ref.TheVariants.{Nil, Local}
-use Rattle.rr_world.specs.Views.{Member, ArePlacesBelow, AreRootsWithin, AreAway}
+use Rattle.rr_world.specs.Views.{Member, ArePlacesBelow, AreRootsWithin, AreAway, IsPublishedFit, seen_slots}
 use Rattle.rr_world.specs.Enabling.{IsNoShell, IsOpen, HasElement}
 use Rattle.rr_world.specs.ObjectCases.{frozen, appended, pushed, written, with_field}
 use Rattle.rr_world.specs.Packing.{named_ref}
@@ -20,10 +20,10 @@ use Rattle.rr_world.specs.declared.step.Operand.{Operand}
 use Rattle.rr_world.specs.declared.outcome.Outcome.{Outcome}
 use Rattle.rr_world.specs.declared.outcome.Outcome.TheVariants.{NotEnabled, Done, Refused}
 
--- the operand is the slot n of the space, and the object there is o
+-- the operand is the slot n of the space, and the object there, which is the ractor's own still, is o
 pub record IsSlot (op : Operand) (old : Member) (n : ℕ) (o : Object) : Type 0 where
   pub named : named_ref old.roots op ≡ Some (Local n)
-  pub here : slice_get old.space.slots n ≡ Some (Here o)
+  pub here : slice_get (seen_slots old) n ≡ Some (Here o)
 
 abbrev pub MayChangeSlot : Operand → (Object → Type 0) → Member → Type 0
 MayChangeSlot op may old = (n : ℕ) × (o : Object) × IsSlot op old n o × may o
@@ -41,6 +41,8 @@ pub record IsRewritten (n : ℕ) (p : Object) (v : Ref) (old now : Member) : Typ
   pub ticket : now.ticket ≡ old.ticket
   pub plan : now.plan ≡ old.plan
   pub planned : ArePlacesBelow (length old.space.slots) old.plan
+  pub published : now.published ≡ old.published
+  pub fit : IsPublishedFit old.space old.published
   pub away : AreAway old.space.slots old.hand old.home
   pub next : now.space.next_message ≡ old.space.next_message
   pub owner : now.space.owner ≡ old.space.owner
@@ -127,9 +129,10 @@ pub record IsReadBy (op : Operand) (l : Label) (v r : Ref) (old now : Member) : 
   pub first : IsFirstUnder (triples_at old.space v) l (value_of r)
   pub root : IsWithin (length old.space.slots) r
   pub known : IsKnownFrom old.space v r
+  pub fit : IsPublishedFit old.space old.published
   pub now_is : now ≡ record old { roots = old.roots ++ r ∷ [] }
 
 abbrev pub Reads : Operand → Label → Outcome → Member → Member → Type 0
-Reads op l NotEnabled old now = IsWell old.space × HasRootsWithin old × (HasUnder op l old → ⊥) × (now ≡ old)
+Reads op l NotEnabled old now = IsWell old.space × HasRootsWithin old × IsPublishedFit old.space old.published × (HasUnder op l old → ⊥) × (now ≡ old)
 Reads op l Done old now = (v : Ref) × (r : Ref) × IsReadBy op l v r old now
-Reads op l (Refused f) old now = (f ≡ Memory) × HasUnder op l old × (now ≡ old)
+Reads op l (Refused f) old now = (f ≡ Memory) × IsPublishedFit old.space old.published × HasUnder op l old × (now ≡ old)

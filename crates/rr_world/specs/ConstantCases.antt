@@ -22,6 +22,7 @@ pub record IsConstantSet (n : ℕ) (c : Constant) (e : StoreEvent Sym) (s t : St
   pub room : HasStoreRoom s.post.archive
   pub here : constant_at t.post.archive n ≡ Some c
   pub others : (m : ℕ) → (m ≡ n → ⊥) → constant_at t.post.archive m ≡ constant_at s.post.archive m
+  pub clusters : t.post.archive.clusters ≡ s.post.archive.clusters
   pub history : t.post.archive.history ≡ s.post.archive.history ++ e ∷ []
   pub limit : t.post.archive.limit ≡ s.post.archive.limit
   pub inboxes : t.post.inboxes ≡ s.post.inboxes
@@ -29,8 +30,8 @@ pub record IsConstantSet (n : ℕ) (c : Constant) (e : StoreEvent Sym) (s t : St
   pub objects : (m : ℕ) → t.objects m ≡ s.objects m
   pub ractors : t.ractors ≡ s.ractors
 
--- a refused set: the history had no room, or a growth was refused, or another than the main ractor set a value of its own; all is
--- as it was
+-- a refused set or publish: the history had no room, or a growth was refused; or, of a value of its own, another than the main ractor
+-- set it; all is as it was
 abbrev pub IsSetRefused : Fault → State → State → Type 0
 IsSetRefused fault.HistoryFull s t = (HasStoreRoom s.post.archive → ⊥) × IsSame s t
 IsSetRefused fault.Memory s t = HasStoreRoom s.post.archive × IsSame s t

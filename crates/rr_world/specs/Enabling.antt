@@ -7,7 +7,7 @@ use Rattle.rr_share.specs.Search.{LeadsToShell}
 use Rattle.rr_world.specs.States.{Parcel, Mailbox, Showcase, Actor, State}
 use Rattle.rr_world.specs.declared.step.Action.{Action}
 use Rattle.rr_space.specs.Labels.{label_of}
-use Rattle.rr_world.specs.declared.step.Action.TheVariants.{Alloc, Pack, Plan, Discard, Offer, Accept, Open, Close, ClosePort, ShowLast, Show, Withdraw, Settle, Grab, Freeze, Append, Push, Write, SetField, Read, Start, End, Detach, PutBack, SetConst, SetOwn, GetConst}
+use Rattle.rr_world.specs.declared.step.Action.TheVariants.{Alloc, Pack, Plan, Publish, Promote, Discard, Offer, Accept, Open, Close, ClosePort, ShowLast, Show, Withdraw, Settle, Grab, Freeze, Append, Push, Write, SetField, Read, Start, End, Detach, PutBack, SetConst, SetOwn, GetConst}
 use Rattle.rr_world.specs.declared.step.Operand.{Operand}
 use Rattle.rr_world.specs.declared.step.Operand.TheVariants as operand
 use Rattle.rr_world.specs.declared.step.Step.{Step}
@@ -40,9 +40,17 @@ Holds a = (p : Parcel) × (a.hand ≡ Some p)
 abbrev pub HoldsPlan : Actor → Type 0
 HoldsPlan a = (ns : List ℕ) × (a.plan ≡ Some ns)
 
+-- a published plan is in the hand
+abbrev pub HoldsPublished : Actor → Type 0
+HoldsPublished a = (ns : List ℕ) × (a.published ≡ Some ns)
+
 -- nothing is in the hand
 abbrev pub IsFreeHand : Actor → Type 0
-IsFreeHand a = (a.hand ≡ None) × (a.home ≡ None) × (a.ticket ≡ None) × (a.plan ≡ None)
+IsFreeHand a = (a.hand ≡ None) × (a.home ≡ None) × (a.ticket ≡ None) × (a.plan ≡ None) × (a.published ≡ None)
+
+-- a constant is set with a hand that has no published plan
+abbrev pub MaySet : Actor → Type 0
+MaySet a = a.published ≡ None
 
 -- nothing is in the hand, or nothing but the home of the message that was shown under the ticket
 abbrev pub MayTakeBack : Actor → ℕ → Type 0
@@ -104,8 +112,8 @@ IsTested s a (Pack op) = MayBePacked s a op
 IsTested s a (Detach op) = MayBePacked s a op
 IsTested s a _ = Unit {0}
 
--- pack, detach and plan need an empty hand and a value; discard needs a message or a plan in the hand, offer and open a message, put back one with its
--- home, and accept an empty hand; show needs a message in the hand and nothing in the ractor's own port, and withdraw an empty hand
+-- pack, detach and plan need an empty hand and a value; publish needs a plan in the hand, and promote a published one; discard needs a
+-- message or a plan in the hand, offer and open a message, put back one with its home, and accept an empty hand; show needs a message in the hand and nothing in the ractor's own port, and withdraw an empty hand
 -- or the home of what was shown; channels that are named are there; freeze needs an object of its own that is no shell, append, push and write one of a kind that is not
 -- frozen, and read an object that has the label
 abbrev pub Allows : State → Number → Actor → Action → Type 0
@@ -114,6 +122,8 @@ Allows s who a (Pack op) = IsFreeHand a × IsValue a op
 Allows s who a (Detach op) = IsFreeHand a × IsValue a op
 Allows s who a PutBack = HoldsMoved a
 Allows s who a (Plan op) = IsFreeHand a × IsValue a op
+Allows s who a Publish = HoldsPlan a
+Allows s who a Promote = HoldsPublished a
 Allows s who a Discard = Holds a ⊎ HoldsPlan a
 Allows s who a (Offer to) = Holds a × HasInbox s to
 Allows s who a Accept = IsFreeHand a × HasInbox s who
@@ -132,8 +142,8 @@ Allows s who a (Write op i x) = MayChange s who a op (HasElement i) × IsValue a
 Allows s who a (SetField op name x) = MayChange s who a op (IsOpen plain) × IsValue a x
 Allows s who a Start = Unit {0}
 Allows s who a End = Unit {0}
-Allows s who a (SetConst name op) = (x : Value) × (named_value a.roots op ≡ Some x) × IsPublicValue s.objects x
-Allows s who a (SetOwn name) = Unit {0}
+Allows s who a (SetConst name op) = MaySet a × (x : Value) × (named_value a.roots op ≡ Some x) × IsPublicValue s.objects x
+Allows s who a (SetOwn name) = MaySet a
 Allows s who a (GetConst name) = Unit {0}
 Allows s who a (Read op l) = (n : ℕ) × (y : Owned) × (x : Value) × (named_value a.roots op ≡ Some (At (Own n))) × (s.objects n ≡ Some y) × Contains y.object.triples (label_of l, x)
 

@@ -1,8 +1,9 @@
 -- The tables that a World has.
 use Rattle.std.specs.Prelude.{◌≡◌, ◌+◌, ◌++◌, Contains, ℕ, List, [], ◌∷◌, length, map, Option, None, Some, slice_get, nat_eq, cond}
 use Rattle.std.specs.Option.{option_map, option_and_then}
-use Rattle.rr_space.specs.Tables.{Packed, Slot, Here, Below, Whole, joined}
-use Rattle.rr_space.specs.Readings.{Space, Hand, Mail, Shown, Shared, Layout, Knows, Naming, Objects, IsReading, AreClustersInOrder}
+use Rattle.rr_space.specs.Graph.{Published, At}
+use Rattle.rr_space.specs.Tables.{Packed, Slot, Here, Below, Whole, joined, below_hold}
+use Rattle.rr_space.specs.Readings.{Space, Hand, Mail, Shown, Shared, Layout, Knows, HasPlace, Naming, Objects, IsReading, AreClustersInOrder}
 use Rattle.rr_space.specs.Parts.{below_ref}
 use Rattle.rr_space.specs.declared.refer.Ref.{Ref}
 use Rattle.rr_base.specs.declared.name.Sym.{Sym}
@@ -16,13 +17,14 @@ use Rattle.rr_port.specs.declared.last.LastGiven.{LastGiven}
 use Rattle.rr_port.specs.declared.last.Shown.{Shown as ShownMessage}
 use Rattle.rr_move.specs.Homes.{IsHomeOf}
 use Rattle.rr_move.specs.declared.home.Home.{Home}
-use Rattle.rr_world.specs.Views.{Member, Assembly}
+use Rattle.rr_world.specs.Views.{PublishedPlan, Member, Assembly, seen_slots}
+use Rattle.rr_share.specs.declared.planned.Plan.{Plan}
 
 abbrev pub message_slots : Packed → List Slot
 message_slots m = map Here m.objects
 
 abbrev pub space_slots : Member → List Slot
-space_slots r = r.space.slots
+space_slots r = seen_slots r
 
 abbrev pub hand_slots : Member → Option (List Slot)
 hand_slots r = option_map message_slots r.hand
@@ -66,18 +68,25 @@ layout w (Shared c) = option_map cluster_slots (slice_get w.channels.store.clust
 abbrev pub message_below : Packed → Below
 message_below m = m.root_below ++ joined m.below
 
--- what a ractor's objects, its roots and its message know of clusters is what the store has
+-- the clusters that a message leads to are the store's, and so is the one that its root is in
+pub record IsMessageKnown (tables : Layout) (m : Packed) : Type 0 where
+  pub below : Knows (message_below m) tables
+  pub root : (c p : ℕ) → m.root ≡ At (Published c p) → HasPlace tables c p
+
+-- what a ractor's objects, its roots, its message and its plans know of clusters is what the store has
 pub record MemberKnows (tables : Layout) (m : Member) : Type 0 where
   pub space : Knows (joined m.space.below) tables
   pub roots : (r : Ref) → Contains m.roots r → Knows (below_ref r) tables
-  pub hand : (p : Packed) → m.hand ≡ Some p → Knows (message_below p) tables
+  pub hand : (p : Packed) → m.hand ≡ Some p → IsMessageKnown tables p
+  pub plan : (p : Plan) → m.plan ≡ Some p → Knows p.cluster.below tables
+  pub published : (p : PublishedPlan) → m.published ≡ Some p → Knows (below_hold p.cluster) tables
 
 -- the same of each ractor, of each constant and of each message in an inbox or a port
 pub record IsKnowing (w : Assembly) : Type 0 where
   pub ractors : (k : ℕ) (m : Member) → slice_get w.ractors k ≡ Some m → MemberKnows (layout w) m
   pub store : (n : Sym) (v : Ref) → constant_of w.channels.store n ≡ Some (Shareable v) → Knows (below_ref v) (layout w)
-  pub inboxes : (c : ℕ) (i : Inbox) (e : Entry) → slice_get w.channels.inboxes c ≡ Some i → Contains i.inside e → Knows (message_below e.message) (layout w)
-  pub ports : (c : ℕ) (p : Port) (e : Entry) → slice_get w.channels.ports c ≡ Some p → Contains (port_inside p) e → Knows (message_below e.message) (layout w)
+  pub inboxes : (c : ℕ) (i : Inbox) (e : Entry) → slice_get w.channels.inboxes c ≡ Some i → Contains i.inside e → IsMessageKnown (layout w) e.message
+  pub ports : (c : ℕ) (p : Port) (e : Entry) → slice_get w.channels.ports c ≡ Some p → Contains (port_inside p) e → IsMessageKnown (layout w) e.message
 
 -- each ractor's space has the ractor's number, so that its messages tell who sent them
 abbrev pub AreOwned : Assembly → Type 0

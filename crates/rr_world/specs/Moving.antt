@@ -61,6 +61,7 @@ pub record IsPutBackBy (d : Detached) (old now : Member) : Type 0 where
   pub held : old.hand ≡ Some d.message
   pub home : old.home ≡ Some d.home
   pub no_plan : old.plan ≡ None
+  pub no_published : old.published ≡ None
   pub rooted : AreRootsWithin (length old.space.slots) old.roots
   pub shells : (n : ℕ) → Contains d.home.slots n → slice_get old.space.slots n ≡ Some (Here emptied)
   pub count : length d.message.below ≡ length d.message.objects

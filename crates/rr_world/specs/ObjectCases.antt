@@ -97,7 +97,7 @@ pub record IsReadAs (k : ℕ) (a : Actor) (op : Operand) (l : Label) (s t : Stat
 
 -- a ractor without objects, its inbox, and its port
 abbrev pub new_actor : Limits → Actor
-new_actor l = record { roots = []; hand = None; home = None; ticket = None; plan = None; slots = 0; limit = l.slots; next = 1; limits = l; runs = true }
+new_actor l = record { roots = []; hand = None; home = None; ticket = None; plan = None; published = None; slots = 0; limit = l.slots; next = 1; limits = l; runs = true }
 
 abbrev pub new_mailbox : Limits → Mailbox
 new_mailbox l = record { inside = []; closed = false; next = 0; history = []; limit = l.events }

@@ -28,6 +28,8 @@ pub record IsOpenedBy (m : Packed) (root : Ref) (old new : Member) : Type 0 wher
   pub ticket : new.ticket ≡ old.ticket
   pub no_plan : old.plan ≡ None
   pub plan : new.plan ≡ None
+  pub no_published : old.published ≡ None
+  pub published : new.published ≡ None
   pub limits : new.limits ≡ old.limits
   pub runs : new.runs ≡ old.runs
 

@@ -15,7 +15,7 @@ use Rattle.rr_port.specs.Lasts.{message_of, is_fault}
 use Rattle.rr_port.specs.Ports.{Port}
 use Rattle.rr_port.specs.declared.last.LastGiven.{LastGiven}
 use Rattle.rr_port.specs.declared.last.Shown.{Shown as ShownMessage}
-use Rattle.rr_world.specs.Views.{Member, Channels, Assembly}
+use Rattle.rr_world.specs.Views.{PublishedPlan, Member, Channels, Assembly}
 use Rattle.rr_world.specs.States.{Parcel, Letter, Farewell, Showcase, Mailbox, Actor, Archive, Constant, Held, Post, State}
 use Rattle.rr_world.specs.States as constant
 use Rattle.rr_store.specs.Stores.{Store}
@@ -67,6 +67,9 @@ shells_in names k h = map (slice_index (names (Space k))) h.slots
 abbrev pub planned_in : Naming → ℕ → Plan → List ℕ
 planned_in names k p = map (slice_index (names (Space k))) p.places
 
+abbrev pub published_names : Naming → ℕ → PublishedPlan → List ℕ
+published_names names k p = map (slice_index (names (Space k))) p.places
+
 abbrev pub actor_in : Naming → ℕ → Member → Actor
 actor_in names k r = record {
   roots = map (root_in names (Space k)) r.roots;
@@ -74,6 +77,7 @@ actor_in names k r = record {
   home = option_map (shells_in names k) r.home;
   ticket = r.ticket;
   plan = option_map (planned_in names k) r.plan;
+  published = option_map (published_names names k) r.published;
   slots = length r.space.slots;
   limit = r.space.limit;
   next = r.space.next_message;
@@ -92,7 +96,7 @@ constant_in names (store.Shareable v) = Held (public_value names (value_of v))
 constant_in names store.Own = constant.Own
 
 abbrev pub archive_in : Naming → Store → Archive
-archive_in names s = record { constants = map (option_map (constant_in names)) s.constants; history = s.history; limit = s.limit }
+archive_in names s = record { clusters = length s.clusters; constants = map (option_map (constant_in names)) s.constants; history = s.history; limit = s.limit }
 
 abbrev pub post_in : Naming → Channels → Post
 post_in names x = record { inboxes = each_from (mailbox_in names) 0 x.inboxes; ports = each_from (showcase_in names) 0 x.ports; archive = archive_in names x.store }

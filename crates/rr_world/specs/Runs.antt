@@ -58,6 +58,7 @@ pub record IsNew (limits : Limits) (w : Assembly) : Type 0 where
   pub home : main.home ≡ None
   pub ticket : main.ticket ≡ None
   pub plan : main.plan ≡ None
+  pub published : main.published ≡ None
   pub next : main.space.next_message ≡ 1
   pub run : main.limits ≡ limits
   pub runs : main.runs ≡ true

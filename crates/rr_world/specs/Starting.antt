@@ -14,6 +14,7 @@ pub record IsBare (limits : Limits) (number : ℕ) (running : Bool) (m : Member)
   pub home : m.home ≡ None
   pub ticket : m.ticket ≡ None
   pub plan : m.plan ≡ None
+  pub published : m.published ≡ None
   pub next : m.space.next_message ≡ 1
   pub run : m.limits ≡ limits
   pub runs : m.runs ≡ running

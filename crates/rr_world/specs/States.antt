@@ -48,14 +48,15 @@ pub record Showcase : Type 0 where
 
 -- a ractor: the values that it holds, the message in its hand, the names of the shells that its objects left where it was moved,
 -- in their order, the ticket under which that message is shown, where it is no more in the hand, the names of the objects of a
--- plan in the hand, the slots that the ractor has used, the most that it may use, the number of its next moved message, the limits
--- of the run, which it hands on to those that it starts, and whether it runs: it has not ended
+-- plan in the hand, and of a published plan, the slots that the ractor has used, the most that it may use, the number of its next
+-- moved message, the limits of the run, which it hands on to those that it starts, and whether it runs: it has not ended
 pub record Actor : Type 0 where
   pub roots : List Value
   pub hand : Option Parcel
   pub home : Option (List ℕ)
   pub ticket : Option ℕ
   pub plan : Option (List ℕ)
+  pub published : Option (List ℕ)
   pub slots : ℕ
   pub limit : ℕ
   pub next : ℕ
@@ -67,8 +68,9 @@ pub data Constant : Type 0 where
   Held : (value : Value) → Constant
   Own : Constant
 
--- the store: what each constant has, by the number of its name, and what happened with its limit
+-- the store: the number of its clusters, what each constant has, by the number of its name, and what happened with its limit
 pub record Archive : Type 0 where
+  pub clusters : ℕ
   pub constants : List (Option Constant)
   pub history : List (StoreEvent Sym)
   pub limit : ℕ
@@ -92,6 +94,10 @@ with_box p c b = record p { inboxes = slice_set p.inboxes c b }
 -- and with another port in one's place
 abbrev pub with_case : Post → ℕ → Showcase → Post
 with_case p c b = record p { ports = slice_set p.ports c b }
+
+-- and with another store
+abbrev pub with_archive : Post → Archive → Post
+with_archive p a = record p { archive = a }
 
 -- objects with owners, ractors, and what lies between them; number 1 stands first
 pub record State : Type 0 where

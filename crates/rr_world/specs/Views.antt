@@ -1,7 +1,8 @@
 -- What contracts see of a World: plain lists.
 use Rattle.std.specs.Prelude.{◌≡◌, ◌<◌, ◌⊎◌, ℕ, Bool, true, List, [], ◌∷◌, length, Option, None, Some, Contains, slice_get, slice_set}
 use Rattle.rr_base.specs.declared.limits.Limits.{Limits}
-use Rattle.rr_space.specs.Tables.{Table, Packed, Slot, Here}
+use Rattle.rr_space.specs.Tables.{Table, Packed, Slot, Here, Whole}
+use Rattle.rr_space.specs.Moves.{IsPlanned, forwarded}
 use Rattle.rr_space.specs.Views.{emptied}
 use Rattle.rr_space.specs.Parts.{IsWithin}
 use Rattle.rr_space.specs.declared.refer.Ref.{Ref}
@@ -14,9 +15,14 @@ use Rattle.rr_move.specs.declared.home.Home.{Home}
 use Rattle.rr_move.specs.declared.hand.Hand.{Hand}
 use Rattle.rr_move.specs.declared.hand.Hand.TheVariants.{Empty, Planned, Published, Message, Moved, Shown}
 
+-- a plan whose cluster is published, and its slots, which are to be forwards to the places of the cluster
+pub record PublishedPlan : Type 0 where
+  pub places : List ℕ
+  pub cluster : Whole
+
 -- a ractor: its space, its roots, the message in its hand, the home of that message where it was moved out of the space, the
--- ticket under which the message of the home is shown, where it is no more in the hand, the plan in the hand, the limits of the
--- run, and whether it runs: it has not ended
+-- ticket under which the message of the home is shown, where it is no more in the hand, the plan in the hand, the published plan
+-- in the hand, the limits of the run, and whether it runs: it has not ended
 pub record Member : Type 0 where
   pub space : Table
   pub roots : List Ref
@@ -24,6 +30,7 @@ pub record Member : Type 0 where
   pub home : Option Home
   pub ticket : Option ℕ
   pub plan : Option Plan
+  pub published : Option PublishedPlan
   pub limits : Limits
   pub runs : Bool
 
@@ -33,6 +40,7 @@ pub record IsFree (m : Member) : Type 0 where
   pub home : m.home ≡ None
   pub ticket : m.ticket ≡ None
   pub plan : m.plan ≡ None
+  pub published : m.published ≡ None
 
 -- the ticket under which the message of a hand's home is shown
 abbrev pub ticket_in : Hand → Option ℕ
@@ -77,23 +85,40 @@ plan_in (Message p) = None
 plan_in (Moved d) = None
 plan_in (Shown home ticket) = None
 
+-- the published plan in a hand
+abbrev pub published_in : Hand → Option PublishedPlan
+published_in Empty = None
+published_in (Planned plan) = None
+published_in (Published places published) = Some (record { places = places; cluster = published.cluster.now })
+published_in (Message p) = None
+published_in (Moved d) = None
+published_in (Shown home ticket) = None
+
+-- the slots of a space as all others see them: those of a published plan are the forwards already that they are to be
+abbrev pub seen_through : Option PublishedPlan → List Slot → List Slot
+seen_through None slots = slots
+seen_through (Some p) slots = forwarded p.cluster.number p.places slots
+
+abbrev pub seen_slots : Member → List Slot
+seen_slots m = seen_through m.published m.space.slots
+
 -- each place of a plan is one of so many slots
 abbrev pub ArePlacesBelow : ℕ → Option Plan → Type 0
 ArePlacesBelow k None = Unit {0}
 ArePlacesBelow k (Some plan) = (n : ℕ) → Contains plan.places n → n < k
 
--- no published plan is in the hand
-abbrev pub HasNoPublished : Hand → Type 0
-HasNoPublished Empty = Unit {0}
-HasNoPublished (Planned plan) = Unit {0}
-HasNoPublished (Published places published) = ⊥
-HasNoPublished (Message p) = Unit {0}
-HasNoPublished (Moved d) = Unit {0}
-HasNoPublished (Shown home ticket) = Unit {0}
+-- the cluster of a plan has what still stands in the slots of its places
+abbrev pub IsPlanFit : Table → Option Plan → Type 0
+IsPlanFit t None = Unit {0}
+IsPlanFit t (Some plan) = IsPlanned t plan.cluster plan.places
 
--- that, and the places of a plan in the hand are slots
-abbrev pub IsHandFit : ℕ → Hand → Type 0
-IsHandFit k h = HasNoPublished h × ArePlacesBelow k (plan_in h)
+abbrev pub IsPublishedFit : Table → Option PublishedPlan → Type 0
+IsPublishedFit t None = Unit {0}
+IsPublishedFit t (Some p) = IsPlanned t p.cluster p.places
+
+-- a plan in the hand, published or not, is one of the space
+abbrev pub IsHandFit : Table → Hand → Type 0
+IsHandFit t h = IsPlanFit t (plan_in h) × IsPublishedFit t (published_in h)
 
 -- each slot of the home is a shell
 abbrev pub AreShells : List Slot → Home → Type 0

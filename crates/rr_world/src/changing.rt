@@ -32,6 +32,9 @@ impl Ractor {
         let Some(object) = self.named(object) else {
             return Outcome::NotEnabled;
         };
+        if self.is_in_published(object) {
+            return Outcome::NotEnabled;
+        }
         if !self.space.can_freeze(object) {
             return Outcome::NotEnabled;
         }

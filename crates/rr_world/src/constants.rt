@@ -23,6 +23,9 @@ impl World {
         requires within { place < length self.old.ractors }
         ensures { HasOutcome (record { who = who; action = SetConst name value }) result self.old self.new }
     {
+        if self.ractors[place].has_published() {
+            return Reply::NotEnabled;
+        }
         let Some(value) = self.ractors[place].public(value) else {
             return Reply::NotEnabled;
         };
@@ -41,6 +44,9 @@ impl World {
         requires within { place < length self.old.ractors }
         ensures { HasOutcome (record { who = who; action = SetOwn name }) result self.old self.new }
     {
+        if self.ractors[place].has_published() {
+            return Reply::NotEnabled;
+        }
         if let Err(fault) = self.store.set_const(who, name, ConstValue::Own) {
             return Reply::Refused(fault);
         }

@@ -9,6 +9,7 @@ mod outcome;
 mod packing;
 mod planning;
 mod ports;
+mod publishing;
 mod ractor;
 mod showing;
 mod step;

@@ -39,13 +39,13 @@ pub(crate) struct Ractor {
 impl Model for Ractor {
     ghost use Rattle.std.specs.Prelude.{◌≤◌, length};
     ghost use Rattle.rr_move.specs.Hands.{message_in, home_in};
-    ghost use Rattle.rr_world.specs.Views.{Member, AreAway, AreRootsWithin, IsHandFit, plan_in, ticket_in};
+    ghost use Rattle.rr_world.specs.Views.{Member, AreAway, AreRootsWithin, IsHandFit, plan_in, published_in, ticket_in};
 
     ghost Value = { Member };
 
-    ghost view = { λ r. record { space = r.space; roots = r.roots.items; hand = message_in r.hand; home = home_in r.hand; ticket = ticket_in r.hand; plan = plan_in r.hand; limits = r.limits; runs = r.runs } };
+    ghost view = { λ r. record { space = r.space; roots = r.roots.items; hand = message_in r.hand; home = home_in r.hand; ticket = ticket_in r.hand; plan = plan_in r.hand; published = published_in r.hand; limits = r.limits; runs = r.runs } };
 
-    ghost invariant = { λ r. AreRootsWithin (length r.space.slots) r.roots.items × (3 ≤ r.limits.events) × IsHandFit (length r.space.slots) r.hand × AreAway r.space.slots (message_in r.hand) (home_in r.hand) };
+    ghost invariant = { λ r. AreRootsWithin (length r.space.slots) r.roots.items × (3 ≤ r.limits.events) × IsHandFit r.space r.hand × AreAway r.space.slots (message_in r.hand) (home_in r.hand) };
 }
 
 // What a new object is made of.
@@ -75,6 +75,7 @@ impl Ractor {
         ensures home { result.home ≡ None }
         ensures ticket { result.ticket ≡ None }
         ensures plan { result.plan ≡ None }
+        ensures published { result.published ≡ None }
         ensures limits { result.limits ≡ limits }
         ensures runs { result.runs ≡ true }
     {
@@ -124,7 +125,7 @@ impl Ractor {
         ensures some { IfSome result (λ taken. (self.old.hand ≡ Some taken.0) × (self.old.home ≡ taken.1) × (self.new ≡ record self.old { hand = None; home = None })) }
         ensures shells { IfSome result (λ taken. AreAway self.old.space.slots None taken.1) }
         ensures alone { IfSome result (λ _. self.old.ticket ≡ None) }
-        ensures planless { IfSome result (λ _. self.old.plan ≡ None) }
+        ensures planless { IfSome result (λ _. (self.old.plan ≡ None) × (self.old.published ≡ None)) }
         ensures fits { IfSome result (λ taken. ForSome taken.1 (λ home. IsHomeOf home taken.0) × AreAway self.old.space.slots (Some taken.0) taken.1) }
         ensures none { IfNone result ((self.old.hand ≡ None) × (self.new ≡ self.old)) }
     {
@@ -143,7 +144,7 @@ impl Ractor {
     pub(crate) fn hold(&mut self, message: Message, home: Option<Home>)
         requires fits { ForSome home (λ home. IsHomeOf home message) }
         requires away { AreAway self.old.space.slots (Some message) home }
-        ensures { self.new ≡ record self.old { hand = Some message; home = home; ticket = None; plan = None } }
+        ensures { self.new ≡ record self.old { hand = Some message; home = home; ticket = None; plan = None; published = None } }
     {
         self.hand = Hand::of_message(message, home);
     }
@@ -151,7 +152,7 @@ impl Ractor {
     /// Keeps the home of a message that is shown under the ticket. Without a home the hand is empty.
     pub(crate) fn wait(&mut self, home: Option<Home>, ticket: Ticket)
         requires shells { AreAway self.old.space.slots None home }
-        ensures { self.new ≡ record self.old { hand = None; home = home; ticket = waits_under home ticket; plan = None } }
+        ensures { self.new ≡ record self.old { hand = None; home = home; ticket = waits_under home ticket; plan = None; published = None } }
     {
         self.hand = Hand::of_home(home, ticket);
     }

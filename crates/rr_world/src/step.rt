@@ -43,7 +43,12 @@ pub enum Action {
     /// A plan of the ractor's own shareable objects that the value leads to comes into the hand, which has to be empty. Where
     /// there are none, the hand stays empty.
     Plan(Operand),
-    /// The message in the hand goes, and its objects with it; or a plan goes.
+    /// The plan in the hand is published: its objects are shared from then on, as those of a new cluster. The plan stays in the
+    /// hand, to be promoted before anything else is done with the hand or a constant is set.
+    Publish,
+    /// The slots of the published plan in the hand become forwards to its cluster, and the hand is empty.
+    Promote,
+    /// The message in the hand goes, and its objects with it; or a plan goes that is not published.
     Discard,
     /// The message in the hand goes to the end of a ractor's inbox.
     Offer(RactorNo),
@@ -92,9 +97,9 @@ pub enum Action {
     Detach(Operand),
     /// The moved message in the hand comes back into its home: the shells are again what left them.
     PutBack,
-    /// A constant is set to a value, which is an immediate or a published object.
+    /// A constant is set to a value, which is an immediate or a published object. No published plan may be in the hand.
     SetConst(Sym, Operand),
-    /// A constant is set to a value that the main ractor keeps itself.
+    /// A constant is set to a value that the main ractor keeps itself. No published plan may be in the hand.
     SetOwn(Sym),
     /// The value of a constant comes last in the ractor's roots.
     GetConst(Sym),
@@ -126,6 +131,8 @@ pub enum Reply {
     EmptyAndClosed,
     /// The inbox or the port is closed; whether it was closed before.
     WasClosed(bool),
+    /// The cluster of this number was published.
+    Published(u32),
     /// The ractor of this number was started.
     Started(RactorNo),
     /// The step was refused.

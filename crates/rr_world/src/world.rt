@@ -346,6 +346,8 @@ impl World {
             Action::Pack(value) => self.pack(alloc, who, place, value),
             Action::Detach(value) => self.detach(alloc, who, place, value),
             Action::Plan(value) => self.plan(alloc, who, place, value),
+            Action::Publish => self.publish(alloc, who, place),
+            Action::Promote => self.promote(who, place),
             Action::PutBack => self.put_back(who, place),
             Action::Discard => self.discard(who, place),
             Action::Accept => self.accept(who, place),

@@ -7,7 +7,8 @@ use Rattle.rr_space.specs.declared.refer.Ref.{Ref}
 use Rattle.rr_space.specs.declared.refer.Ref.TheVariants.{Local}
 use Rattle.rr_move.specs.Hands.{message_in, home_in}
 use Rattle.rr_world.specs.Views.{AreAway, AreRootsWithin}
-use Rattle.rr_world.proofs.Changes.{away_more, hand_on}
+use Rattle.rr_world.proofs.Changes.{away_more}
+use Rattle.rr_world.proofs.Fits.{hand_more}
 use Rattle.rr_world.proofs.Hands.{alloc_by}
 use Rattle.rr_world.proofs.Rooting.{roots_and_more}
 use Rattle.rr_world.proofs.ractor.Ractor.alloc.Goals as goal
@@ -23,7 +24,7 @@ invariant_of-self-in-Ok c =
           (roots_and_more (length old) (length c.alloc.new.self.slots) c.self.inside.roots.items c.in-Ok.root le c.self.invariant.0
           (subst (λ (r : Ref). IsWithin (length c.alloc.new.self.slots) r) (sym c.in-Ok.ensures.name) (omega (arith, count)))),
       c.self.invariant.1,
-      hand_on (length old) (length c.alloc.new.self.slots) c.self.inside.hand le c.self.invariant.2,
+      hand_more c.self.inside.space c.alloc.new.self (object_of c.empty_node.result) c.self.inside.hand c.in-Ok.ensures.slots c.self.invariant.2,
       subst (λ ss. AreAway ss (message_in c.self.inside.hand) (home_in c.self.inside.hand)) (sym c.in-Ok.ensures.slots) (away_more c.self.inside.space.slots (Here (object_of c.empty_node.result) ∷ []) (message_in c.self.inside.hand) (home_in c.self.inside.hand) c.self.invariant.3),
     )
 
@@ -35,4 +36,4 @@ returns-in-Ok c =
     alloc_by c.args.new c.args.self.now sp c.alloc.new.self c.self.inside.roots.items c.push_reserved.new.self.items c.self.inside.hand c.self.inside.limits c.self.inside.runs c.self.view_is
     (c.in-Ok.ensures.slots ∙ ap (λ (o : Object). sp.slots ++ Here o ∷ []) c.empty_node.ensures.object)
     (c.in-Ok.ensures.below ∙ ap (λ ps. sp.below ++ below_parts ps ∷ []) c.empty_node.ensures.parts)
-    c.alloc.ensures.rest pushed c.self.invariant.0 c.self.invariant.2.1 c.self.invariant.3
+    c.alloc.ensures.rest pushed c.self.invariant.0 c.self.invariant.2 c.self.invariant.3

@@ -1,10 +1,12 @@
-use Rattle.std.proofs.Common.{slice_get, ap, ◌∙◌}
+use Rattle.std.proofs.Common.{slice_get, ap, ◌∙◌, subst}
 use Rattle.rr_space.specs.Graph.{text}
 use Rattle.rr_space.specs.declared.refer.Ref.TheVariants.{Nil}
-use Rattle.rr_world.specs.Views.{Member}
+use Rattle.rr_space.specs.Tables.{Table}
+use Rattle.rr_world.specs.Views.{Member, IsPublishedFit, published_in}
 use Rattle.rr_world.specs.Enabling.{IsOpen}
 use Rattle.rr_world.specs.ObjectCases.{appended}
-use Rattle.rr_world.proofs.Changes.{open_text, set_within, kept_known, made, open_whole, set_away, set_hand}
+use Rattle.rr_world.proofs.Changes.{open_text, set_within, kept_known, made, open_whole, set_away, member}
+use Rattle.rr_world.proofs.Fits.{never_frozen, open_out, seen_slot, set_hand}
 use Rattle.rr_world.proofs.Making.{text_differs}
 use Rattle.rr_world.proofs.ractor.Ractor.append.Goals as goal
 
@@ -14,7 +16,7 @@ invariant_of-self-2 c =
     let here = ap (λ (m : Member). slice_get m.space.slots s.0) c.self.view_is ∙ s.3 in (
       set_within c.self.inside.space c.append_text.new.self s.0 _ c.self.inside.roots.items (c.in_default-append_text.ensures.slots s.0 s.1 s.2 here) c.self.invariant.0,
       c.self.invariant.1,
-      set_hand c.self.inside.space c.append_text.new.self s.0 _ c.self.inside.hand (c.in_default-append_text.ensures.slots s.0 s.1 s.2 here) c.self.invariant.2,
+      set_hand c.self.inside.space c.append_text.new.self s.0 s.1 _ c.self.inside.hand (c.in_default-append_text.ensures.slots s.0 s.1 s.2 here) here (never_frozen s.1 _ s.4) c.self.invariant.2,
       set_away c.self.inside.space c.append_text.new.self s.0 _ s.1 _ _ (c.in_default-append_text.ensures.slots s.0 s.1 s.2 here) here (open_whole text s.1 text_differs s.4) c.self.invariant.3,
     )
 
@@ -24,4 +26,13 @@ returns c =
     let here = ap (λ (m : Member). slice_get m.space.slots s.0) c.self.view_is ∙ s.3 in
     made c.args.text (IsOpen text) (appended c.args.byte) Nil c.in-Some.text c.args.self.now c.self.inside.space c.append_text.new.self c.self.inside.roots.items c.self.inside.hand c.self.inside.limits c.self.inside.runs s.0 s.1
     c.self.view_is c.in-Some.ensures.some.text s.2 here s.4 (c.in_default-append_text.ensures.slots s.0 s.1 s.2 here)
-    (kept_known Nil c.self.inside.space.below c.append_text.new.self.below c.append_text.ensures.below) c.append_text.ensures.rest.limit c.append_text.ensures.rest.owner c.append_text.ensures.rest.next_message c.self.invariant.0 c.self.invariant.3 c.self.invariant.2.1 tt
+    (kept_known Nil c.self.inside.space.below c.append_text.new.self.below c.append_text.ensures.below) c.append_text.ensures.rest.limit c.append_text.ensures.rest.owner c.append_text.ensures.rest.next_message c.self.invariant.0 c.self.invariant.3 c.self.invariant.2 (open_out c.self.inside.space (published_in c.self.inside.hand) s.0 s.1 c.self.invariant.2.1 here s.4) tt
+
+pub returns-in-Err : goal.returns-in-Err
+returns-in-Err c =
+    let fit = subst (λ (m : Member). IsPublishedFit m.space m.published) c.self.view_is c.self.invariant.2.1 in
+    let s = open_text c.args.self.now.space c.in-Some.text c.in-Some.ensures.some.can c.in-Some.ensures.some.kind in (
+      c.in-Err.ensures.fault,
+      seen_slot c.args.text c.args.self.now c.in-Some.text s.0 s.1 fit c.in-Some.ensures.some.text s.2 s.3 s.4,
+      ap (λ (t : Table). member t c.self.inside.roots.items c.self.inside.hand c.self.inside.limits c.self.inside.runs) c.in-Err.ensures.refused ∙ c.self.view_is,
+    )

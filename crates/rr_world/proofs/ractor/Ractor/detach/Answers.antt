@@ -1,4 +1,4 @@
-use Rattle.std.proofs.Common.{◌≡◌, Option, IfSome, Some, sym, ap, ◌∙◌, subst, refl, length}
+use Rattle.std.proofs.Common.{◌≡◌, Option, IfSome, Some, sym, ap, ◌∙◌, subst, refl}
 use Rattle.rr_space.specs.Tables.{Packed}
 use Rattle.rr_move.specs.declared.home.Home.{Home}
 use Rattle.rr_move.specs.declared.home.Detached.{Detached}
@@ -27,6 +27,6 @@ invariant_of-self c =
     let held = c.of_message.ensures.message ∙ ap (λ (p : Packed). Some p) moved.1 in (
       subst (λ k. AreRootsWithin k c.self.inside.roots.items) (sym moved.3.emptied.slots.size) c.self.invariant.0,
       c.self.invariant.1,
-      held_fits (length c.moved_out.new.space.slots) c.of_message.result moved.0.message held,
+      held_fits c.moved_out.new.space c.of_message.result moved.0.message held,
       moved_away moved.0 c.in-Some.value c.self.inside.space c.moved_out.new.space c.of_message.result moved.3 held (c.of_message.ensures.home ∙ ap (λ (h : Home). Some h) moved.2),
     )

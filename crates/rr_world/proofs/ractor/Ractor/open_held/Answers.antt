@@ -15,7 +15,7 @@ invariant_of-self-in-Ok c =
       subst (λ (rs : List Ref). AreRootsWithin (length c.open.new.space.slots) rs) (sym pushed)
           (roots_and_more (length old) (length c.open.new.space.slots) c.self.inside.roots.items c.in-Ok.root le c.self.invariant.0 c.in-Ok.ensures.within),
       c.self.invariant.1,
-      subst (IsHandFit (length c.open.new.space.slots)) (sym c.in-Some.ensures.some.2) (tt, tt),
+      subst (IsHandFit c.open.new.space) (sym c.in-Some.ensures.some.2) (tt, tt),
       subst (λ h. AreAway c.open.new.space.slots (message_in h) (home_in h)) (sym c.in-Some.ensures.some.2) tt,
     )
 
@@ -28,6 +28,6 @@ invariant_of-self-in-Ok-2 c =
       subst (λ (rs : List Ref). AreRootsWithin (length c.open.new.space.slots) rs) (sym pushed)
           (roots_and_more (length old) (length c.open.new.space.slots) c.self.inside.roots.items c.in-Ok.root le c.self.invariant.0 c.in-Ok.ensures.within),
       c.self.invariant.1,
-      subst (IsHandFit (length c.open.new.space.slots)) (sym c.in-Some.ensures.some.2) (tt, tt),
+      subst (IsHandFit c.open.new.space) (sym c.in-Some.ensures.some.2) (tt, tt),
       subst (λ h. AreAway c.open.new.space.slots (message_in h) (home_in h)) (sym c.in-Some.ensures.some.2) tt,
     )

@@ -1,4 +1,4 @@
-use Rattle.std.proofs.Common.{length, sym, subst, refl}
+use Rattle.std.proofs.Common.{sym, subst, refl}
 use Rattle.rr_move.specs.Hands.{message_in, home_in}
 use Rattle.rr_move.specs.declared.hand.Hand.{Hand}
 use Rattle.rr_world.specs.Views.{AreAway, IsHandFit}
@@ -11,7 +11,7 @@ invariant_of-self c =
     let is = planned_hand c.in-Ok.plan c.of_plan.result c.of_plan.ensures.empty c.of_plan.ensures.planned in (
       c.self.invariant.0,
       c.self.invariant.1,
-      subst (IsHandFit (length slots)) (sym is) (planned_fits (length slots) c.in-Ok.plan c.in-Ok.plan.places c.in-Ok.ensures.below),
+      subst (IsHandFit c.self.inside.space) (sym is) (planned_fits c.self.inside.space c.in-Ok.plan c.in-Ok.plan.places c.in-Ok.ensures.plan.planned),
       subst (λ (h : Hand). AreAway slots (message_in h) (home_in h)) (sym is) (planned_away slots c.in-Ok.plan c.in-Ok.plan.places),
     )
 

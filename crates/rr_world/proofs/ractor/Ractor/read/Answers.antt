@@ -3,7 +3,7 @@ use Rattle.std.proofs.lemmas.Option.{same_Some}
 use Rattle.rr_space.specs.Labels.{label_of, triples_at}
 use Rattle.rr_space.specs.Sound.{IsWell}
 use Rattle.rr_space.specs.declared.refer.Ref.{Ref}
-use Rattle.rr_world.specs.Views.{Member, AreRootsWithin}
+use Rattle.rr_world.specs.Views.{Member, AreRootsWithin, IsPublishedFit}
 use Rattle.rr_world.specs.Changing.{HasRootsWithin}
 use Rattle.rr_world.proofs.Changes.{read_by}
 use Rattle.rr_world.proofs.Rooting.{roots_and_more}
@@ -13,6 +13,7 @@ pub returns-in_default-read : goal.returns-in_default-read
 returns-in_default-read c = (
   subst (λ (m : Member). IsWell m.space) c.self.view_is c.len-slots.ensures.well,
   subst HasRootsWithin c.self.view_is c.self.invariant.0,
+  subst (λ (m : Member). IsPublishedFit m.space m.published) c.self.view_is c.self.invariant.2.1,
   λ h.
       let one : h.0 ≡ c.in-Some.object = same_Some _ _ (sym h.2 ∙ sym c.in-Some.ensures.is) in
       let there = subst (λ (m : Member). Contains (triples_at m.space c.in-Some.object) (label_of c.args.label, h.1)) (sym c.self.view_is)
@@ -39,5 +40,5 @@ returns c =
       c.in-Some.object,
       c.in-Some-read.found,
       read_by c.args.object (label_of c.args.label) c.in-Some.object c.in-Some-read.found c.args.self.now c.self.inside.space c.self.inside.roots.items c.push_reserved.new.self.items c.self.inside.hand c.self.inside.limits c.self.inside.runs
-          c.self.view_is pushed (sym c.in-Some.ensures.is) c.in-Some-read.ensures.first c.in-Some-read.ensures.within c.in-Some-read.ensures.known c.self.invariant.0,
+          c.self.view_is pushed (sym c.in-Some.ensures.is) c.in-Some-read.ensures.first c.in-Some-read.ensures.within c.in-Some-read.ensures.known c.self.invariant.0 c.self.invariant.2.1,
     )

@@ -1,10 +1,15 @@
-use Rattle.std.proofs.Common.{◌<◌, length, slice_get, sym, ap, subst, ◌∙◌, arith}
+use Rattle.std.proofs.Common.{◌≡◌, refl, ◌<◌, length, slice_get, sym, ap, subst, ◌∙◌, arith}
 use Rattle.rr_space.specs.Graph.{array}
 use Rattle.rr_space.specs.Parts.{value_of, IsWithin}
-use Rattle.rr_world.specs.Views.{Member}
+use Rattle.rr_world.specs.Views.{Member, IsPublishedFit, published_in}
 use Rattle.rr_world.specs.Enabling.{HasElement}
 use Rattle.rr_world.specs.ObjectCases.{written}
-use Rattle.rr_world.proofs.Changes.{open_array, at_slot, set_within, led_known, made, open_whole, set_away, set_hand}
+use Rattle.rr_world.proofs.Changes.{open_array, at_slot, set_within, led_known, made, open_whole, set_away}
+use Rattle.rr_world.proofs.Fits.{never_frozen, open_out, own_slot, set_hand}
+use Rattle.rr_world.specs.Changing.{HasRootsWithin}
+use Rattle.rr_space.specs.Labels.{triples_at}
+use Rattle.rr_space.specs.declared.refer.Ref.TheVariants.{Local}
+use Rattle.std.proofs.lemmas.Option.{same_Some}
 use Rattle.rr_world.proofs.Making.{array_differs}
 use Rattle.rr_world.proofs.ractor.Ractor.write.Goals as goal
 
@@ -14,7 +19,7 @@ invariant_of-self c =
     let here = ap (λ (m : Member). slice_get m.space.slots s.0) c.self.view_is ∙ s.3 in (
       set_within c.self.inside.space c.write_element.new.self s.0 _ c.self.inside.roots.items (c.write_element.ensures.slots s.0 s.1 s.2 here) c.self.invariant.0,
       c.self.invariant.1,
-      set_hand c.self.inside.space c.write_element.new.self s.0 _ c.self.inside.hand (c.write_element.ensures.slots s.0 s.1 s.2 here) c.self.invariant.2,
+      set_hand c.self.inside.space c.write_element.new.self s.0 s.1 _ c.self.inside.hand (c.write_element.ensures.slots s.0 s.1 s.2 here) here (never_frozen s.1 _ s.4) c.self.invariant.2,
       set_away c.self.inside.space c.write_element.new.self s.0 _ s.1 _ _ (c.write_element.ensures.slots s.0 s.1 s.2 here) here (open_whole array s.1 array_differs s.4) c.self.invariant.3,
     )
 
@@ -28,5 +33,19 @@ returns c =
       c.in-Some.ensures.some.value,
       made c.args.array (HasElement c.args.place) (written c.args.place (value_of c.in-Some.value)) c.in-Some.value c.in-Some.array c.args.self.now c.self.inside.space c.write_element.new.self c.self.inside.roots.items c.self.inside.hand c.self.inside.limits c.self.inside.runs s.0 s.1
           c.self.view_is c.in-Some.ensures.some.array s.2 here (s.4, inside) (c.write_element.ensures.slots s.0 s.1 s.2 here)
-          (led_known c.in-Some.value s.0 c.self.inside.space.below c.write_element.new.self.below (c.write_element.ensures.below s.0 s.2)) c.write_element.ensures.rest.limit c.write_element.ensures.rest.owner c.write_element.ensures.rest.next_message c.self.invariant.0 c.self.invariant.3 c.self.invariant.2.1 within,
+          (led_known c.in-Some.value s.0 c.self.inside.space.below c.write_element.new.self.below (c.write_element.ensures.below s.0 s.2)) c.write_element.ensures.rest.limit c.write_element.ensures.rest.owner c.write_element.ensures.rest.next_message c.self.invariant.0 c.self.invariant.3 c.self.invariant.2 (open_out c.self.inside.space (published_in c.self.inside.hand) s.0 s.1 c.self.invariant.2.1 here s.4) within,
     )
+
+pub returns-then-place-arity : goal.returns-then-place-arity
+returns-then-place-arity c = (
+  subst HasRootsWithin c.self.view_is c.self.invariant.0,
+  λ may named.
+      let fit = subst (λ (m : Member). IsPublishedFit m.space m.published) c.self.view_is c.self.invariant.2.1 in
+      let s = own_slot c.args.array (HasElement c.args.place) c.args.self.now fit may in
+      let one : c.in-Some.array ≡ Local s.0 = same_Some _ _ (sym c.in-Some.ensures.some.array ∙ s.2) in
+      let e = ap length (at_slot c.args.self.now.space c.in-Some.array s.0 s.1 one s.3) in
+      let count = ap (λ (m : Member). length (triples_at m.space c.in-Some.array)) c.self.view_is in
+      let lt = s.4.1 in
+      omega (arith, e, count, lt, c.if-place-arity.true, c.arity.ensures.count),
+  refl,
+)

@@ -55,7 +55,7 @@ returns-in-Message c =
     (subst (λ (x : Inbox). IsTicketed x) box c.history-events.ensures.tickets)
     t.2
     (set_in c.self.inside.ractors.items w.ractors c.args.place c.hold.new.self (record m { hand = Some t.0.message }) vs
-    (c.hold.ensures ∙ ap (λ (x : Packed). let y : Member = record m { hand = Some x; home = None; ticket = None; plan = None } in y) (sym t.1) ∙ ap (λ x. let y : Member = record m { hand = Some t.0.message; home = x; ticket = None; plan = None } in y) (sym none.home) ∙ ap (λ x. let y : Member = record m { hand = Some t.0.message; ticket = x; plan = None } in y) (sym none.ticket) ∙ ap (λ x. let y : Member = record m { hand = Some t.0.message; plan = x } in y) (sym none.plan)))
+    (c.hold.ensures ∙ ap (λ (x : Packed). let y : Member = record m { hand = Some x; home = None; ticket = None; plan = None; published = None } in y) (sym t.1) ∙ ap (λ x. let y : Member = record m { hand = Some t.0.message; home = x; ticket = None; plan = None; published = None } in y) (sym none.home) ∙ ap (λ x. let y : Member = record m { hand = Some t.0.message; ticket = x; plan = None; published = None } in y) (sym none.ticket) ∙ ap (λ x. let y : Member = record m { hand = Some t.0.message; plan = x; published = None } in y) (sym none.plan) ∙ ap (λ x. let y : Member = record m { hand = Some t.0.message; published = x } in y) (sym none.published)))
     (channels_same (ap aside c.self.view_is) (set_in c.self.inside.inboxes.items w.channels.inboxes c.args.place c.accept.new.self (less_first i c.args.who t.0 c.accept.new.self.inside) is
     (t.3 ∙ ap (λ (x : Packed). let y : Inbox = record i { inside = c.accept.new.self.inside; history = i.history ++ event.Accepted t.0.ticket (size_of x) c.args.who ∷ [] } in y) (sym t.1))))
     c.requires.stands

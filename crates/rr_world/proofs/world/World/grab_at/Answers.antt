@@ -40,7 +40,7 @@ returns-in-Ok c =
     (ports_put (ap (λ (v : Assembly). v.channels.store) c.self.view_is) (ap (λ (v : Assembly). v.channels.inboxes) c.self.view_is) (set_in c.self.inside.ports.items w.channels.ports c.args.port c.grab.new.self c.grab.new.self ps refl))
     c.grab.result c.in-Ok.message c.in-Ok.reply (sym c.in-Ok.ensures) c.grab.ensures.grabs
     (set_in c.self.inside.ractors.items w.ractors c.args.place c.hold.new.self (record m { hand = Some c.in-Ok.message }) vs
-    (c.hold.ensures ∙ ap (λ x. let y : Member = record m { hand = Some c.in-Ok.message; home = x; ticket = None; plan = None } in y) (sym none.home) ∙ ap (λ x. let y : Member = record m { hand = Some c.in-Ok.message; ticket = x; plan = None } in y) (sym none.ticket) ∙ ap (λ x. let y : Member = record m { hand = Some c.in-Ok.message; plan = x } in y) (sym none.plan)))
+    (c.hold.ensures ∙ ap (λ x. let y : Member = record m { hand = Some c.in-Ok.message; home = x; ticket = None; plan = None; published = None } in y) (sym none.home) ∙ ap (λ x. let y : Member = record m { hand = Some c.in-Ok.message; ticket = x; plan = None; published = None } in y) (sym none.ticket) ∙ ap (λ x. let y : Member = record m { hand = Some c.in-Ok.message; plan = x; published = None } in y) (sym none.plan) ∙ ap (λ x. let y : Member = record m { hand = Some c.in-Ok.message; published = x } in y) (sym none.published)))
 
 pub returns-in-Err : goal.returns-in-Err
 returns-in-Err c =

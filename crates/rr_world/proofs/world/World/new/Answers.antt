@@ -18,6 +18,7 @@ returns-clause-made c = record {
   home = c.new.ensures.home;
   ticket = c.new.ensures.ticket;
   plan = c.new.ensures.plan;
+  published = c.new.ensures.published;
   next = c.new.ensures.next;
   store = c.new-store.ensures;
   run = c.new.ensures.limits;

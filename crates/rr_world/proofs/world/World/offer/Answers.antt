@@ -72,11 +72,12 @@ returns-in-Err c =
     let at : slice_get w.ractors c.args.place ≡ Some m = read_at c.self.inside.ractors.items w.ractors c.args.place m vs c.requires.within c.index_mut.ensures.value in
     let lt : c.args.place < length c.self.inside.ractors.items = omega (arith, ap length vs, c.requires.within) in
     let again : c.index_mut-in-Err.result.now ≡ record m { hand = None; home = None } = read_set c.self.inside.ractors.items c.args.place c.take.new.self c.index_mut-in-Err.result.now lt c.index_mut-in-Err.ensures.value ∙ c.in-Some.ensures.some.2 in
-    let same : c.hold.new.self ≡ m = c.hold.ensures ∙ ap (λ (x : Member). let y : Member = record x { hand = Some c.in-Err.message; home = c.in-Some.home; ticket = None; plan = None } in y) again
-    ∙ ap (λ h. let y : Member = record m { hand = h; home = c.in-Some.home; ticket = None; plan = None } in y) (ap (λ (x : Packed). Some x) d.back ∙ sym held)
-    ∙ ap (λ h. let y : Member = record m { home = h; ticket = None; plan = None } in y) (sym c.in-Some.ensures.some.1)
-    ∙ ap (λ h. let y : Member = record m { ticket = h; plan = None } in y) (sym c.in-Some.ensures.alone)
-    ∙ ap (λ e. let y : Member = record m { plan = e } in y) (sym c.in-Some.ensures.planless) in
+    let same : c.hold.new.self ≡ m = c.hold.ensures ∙ ap (λ (x : Member). let y : Member = record x { hand = Some c.in-Err.message; home = c.in-Some.home; ticket = None; plan = None; published = None } in y) again
+    ∙ ap (λ h. let y : Member = record m { hand = h; home = c.in-Some.home; ticket = None; plan = None; published = None } in y) (ap (λ (x : Packed). Some x) d.back ∙ sym held)
+    ∙ ap (λ h. let y : Member = record m { home = h; ticket = None; plan = None; published = None } in y) (sym c.in-Some.ensures.some.1)
+    ∙ ap (λ h. let y : Member = record m { ticket = h; plan = None; published = None } in y) (sym c.in-Some.ensures.alone)
+    ∙ ap (λ e. let y : Member = record m { plan = e; published = None } in y) (sym c.in-Some.ensures.planless.0)
+    ∙ ap (λ e. let y : Member = record m { published = e } in y) (sym c.in-Some.ensures.planless.1) in
     offer_refused w _ c.args.who c.args.to c.args.place c.args.inbox m i c.offer.new.self p at
     (read_at c.self.inside.inboxes.items w.channels.inboxes c.args.inbox i is c.requires.is_inbox c.index_mut-2.ensures.value)
     held

@@ -66,9 +66,10 @@ returns-in-Ok c =
     let its : m.home ≡ c.in-Some.home = c.in-Some.ensures.some.1 in
     let again : c.index_mut-in-Ok.result.now ≡ record m { hand = None; home = None } = read_set c.self.inside.ractors.items c.args.place c.take.new.self c.index_mut-in-Ok.result.now lt c.index_mut-in-Ok.ensures.value ∙ c.in-Some.ensures.some.2 in
     let waiting : c.wait.new.self ≡ record m { hand = None; ticket = waits_under m.home c.in-Ok.ticket } = c.wait.ensures
-    ∙ ap (λ (y : Member). let z : Member = record y { hand = None; home = c.in-Some.home; ticket = waits_under c.in-Some.home c.in-Ok.ticket; plan = None } in z) again
-    ∙ ap (λ h. let z : Member = record m { hand = None; home = h; ticket = waits_under h c.in-Ok.ticket; plan = None } in z) (sym its)
-    ∙ ap (λ e. let z : Member = record m { hand = None; ticket = waits_under m.home c.in-Ok.ticket; plan = e } in z) (sym c.in-Some.ensures.planless) in
+    ∙ ap (λ (y : Member). let z : Member = record y { hand = None; home = c.in-Some.home; ticket = waits_under c.in-Some.home c.in-Ok.ticket; plan = None; published = None } in z) again
+    ∙ ap (λ h. let z : Member = record m { hand = None; home = h; ticket = waits_under h c.in-Ok.ticket; plan = None; published = None } in z) (sym its)
+    ∙ ap (λ e. let z : Member = record m { hand = None; ticket = waits_under m.home c.in-Ok.ticket; plan = e; published = None } in z) (sym c.in-Some.ensures.planless.0)
+    ∙ ap (λ e. let z : Member = record m { hand = None; ticket = waits_under m.home c.in-Ok.ticket; published = e } in z) (sym c.in-Some.ensures.planless.1) in
     shown_under w _ c.args.who c.args.place m p c.show.new.self x
     (read_at c.self.inside.ractors.items w.ractors c.args.place m vs c.requires.within c.index_mut.ensures.value)
     (read_at c.self.inside.ports.items w.channels.ports c.args.place p ps within c.index_mut-2.ensures.value)
@@ -108,11 +109,12 @@ returns-in-Err c =
     let asked : c.index.result.now ≡ p = read_twice c.self.inside.ports.items c.args.place c.index.result.now p less c.index.ensures c.index_mut-2.ensures.value in
     let none : p.shown ≡ None = subst (λ (y : Port). y.shown ≡ None) asked (c.if-not-is_free.ensures.0 refl) in
     let again : c.index_mut-in-Err.result.now ≡ record m { hand = None; home = None } = read_set c.self.inside.ractors.items c.args.place c.take.new.self c.index_mut-in-Err.result.now lt c.index_mut-in-Err.ensures.value ∙ c.in-Some.ensures.some.2 in
-    let same : c.hold.new.self ≡ m = c.hold.ensures ∙ ap (λ (y : Member). let z : Member = record y { hand = Some c.in-Err.message; home = c.in-Some.home; ticket = None; plan = None } in z) again
-    ∙ ap (λ h. let z : Member = record m { hand = h; home = c.in-Some.home; ticket = None; plan = None } in z) (ap (λ (y : Packed). Some y) d.back ∙ sym held)
-    ∙ ap (λ h. let z : Member = record m { home = h; ticket = None; plan = None } in z) (sym c.in-Some.ensures.some.1)
-    ∙ ap (λ t. let z : Member = record m { ticket = t; plan = None } in z) (sym c.in-Some.ensures.alone)
-    ∙ ap (λ e. let z : Member = record m { plan = e } in z) (sym c.in-Some.ensures.planless) in
+    let same : c.hold.new.self ≡ m = c.hold.ensures ∙ ap (λ (y : Member). let z : Member = record y { hand = Some c.in-Err.message; home = c.in-Some.home; ticket = None; plan = None; published = None } in z) again
+    ∙ ap (λ h. let z : Member = record m { hand = h; home = c.in-Some.home; ticket = None; plan = None; published = None } in z) (ap (λ (y : Packed). Some y) d.back ∙ sym held)
+    ∙ ap (λ h. let z : Member = record m { home = h; ticket = None; plan = None; published = None } in z) (sym c.in-Some.ensures.some.1)
+    ∙ ap (λ t. let z : Member = record m { ticket = t; plan = None; published = None } in z) (sym c.in-Some.ensures.alone)
+    ∙ ap (λ e. let z : Member = record m { plan = e; published = None } in z) (sym c.in-Some.ensures.planless.0)
+    ∙ ap (λ e. let z : Member = record m { published = e } in z) (sym c.in-Some.ensures.planless.1) in
     show_refused w _ c.args.who c.args.place m p c.show.new.self x at
     (read_at c.self.inside.ports.items w.channels.ports c.args.place p ps within c.index_mut-2.ensures.value)
     held none c.requires.stands

@@ -111,11 +111,12 @@ returns-in-Err c =
     let marked : c.as_last.result ≡ last_as c.args.kind x = c.as_last.ensures in
     let back : c.message_of_last.result ≡ x = c.message_of_last.ensures ∙ ap (λ (z : Fault × Last). message_of z.1) d.refused.0 ∙ ap message_of marked ∙ message_as c.args.kind x in
     let again : c.index_mut-in-Err.result.now ≡ record m { hand = None; home = None } = read_set c.self.inside.ractors.items c.args.place c.take.new.self c.index_mut-in-Err.result.now lt c.index_mut-in-Err.ensures.value ∙ c.in-Some.ensures.some.2 in
-    let same : c.hold.new.self ≡ m = c.hold.ensures ∙ ap (λ (y : Member). let z : Member = record y { hand = Some c.message_of_last.result; home = c.in-Some.home; ticket = None; plan = None } in z) again
-    ∙ ap (λ h. let z : Member = record m { hand = h; home = c.in-Some.home; ticket = None; plan = None } in z) (ap (λ (y : Packed). Some y) back ∙ sym held)
-    ∙ ap (λ h. let z : Member = record m { home = h; ticket = None; plan = None } in z) (sym c.in-Some.ensures.some.1)
-    ∙ ap (λ h. let z : Member = record m { ticket = h; plan = None } in z) (sym c.in-Some.ensures.alone)
-    ∙ ap (λ e. let z : Member = record m { plan = e } in z) (sym c.in-Some.ensures.planless) in
+    let same : c.hold.new.self ≡ m = c.hold.ensures ∙ ap (λ (y : Member). let z : Member = record y { hand = Some c.message_of_last.result; home = c.in-Some.home; ticket = None; plan = None; published = None } in z) again
+    ∙ ap (λ h. let z : Member = record m { hand = h; home = c.in-Some.home; ticket = None; plan = None; published = None } in z) (ap (λ (y : Packed). Some y) back ∙ sym held)
+    ∙ ap (λ h. let z : Member = record m { home = h; ticket = None; plan = None; published = None } in z) (sym c.in-Some.ensures.some.1)
+    ∙ ap (λ h. let z : Member = record m { ticket = h; plan = None; published = None } in z) (sym c.in-Some.ensures.alone)
+    ∙ ap (λ e. let z : Member = record m { plan = e; published = None } in z) (sym c.in-Some.ensures.planless.0)
+    ∙ ap (λ e. let z : Member = record m { published = e } in z) (sym c.in-Some.ensures.planless.1) in
     let late : c.show_last.new.self.history ≡ p.history ++ event.Late (size_of x) c.args.who ∷ [] = d.history ∙ ap (λ (l : Last). p.history ++ event.Late (size_of (message_of l)) c.args.who ∷ []) marked ∙ ap (λ (y : Packed). p.history ++ event.Late (size_of y) c.args.who ∷ []) (message_as c.args.kind x) in
     last_refused_as w _ c.args.who c.args.place c.args.kind m p c.show_last.new.self x at
     (read_at c.self.inside.ports.items w.channels.ports c.args.place p ps within c.index_mut-2.ensures.value)

@@ -68,7 +68,7 @@ returns c =
     let many = ap length vs in
     let l = c.limits-limits.result in
     begun w _ l c.new-3.result
-    (record { owner = c.new-3.ensures.owner ∙ omega (arith, many, c.len-count.ensures); slots = c.new-3.ensures.slots; below = c.new-3.ensures.below; limit = c.new-3.ensures.limit; roots = c.new-3.ensures.roots; hand = c.new-3.ensures.hand; home = c.new-3.ensures.home; ticket = c.new-3.ensures.ticket; plan = c.new-3.ensures.plan; next = c.new-3.ensures.next; run = c.new-3.ensures.limits; runs = c.new-3.ensures.runs })
+    (record { owner = c.new-3.ensures.owner ∙ omega (arith, many, c.len-count.ensures); slots = c.new-3.ensures.slots; below = c.new-3.ensures.below; limit = c.new-3.ensures.limit; roots = c.new-3.ensures.roots; hand = c.new-3.ensures.hand; home = c.new-3.ensures.home; ticket = c.new-3.ensures.ticket; plan = c.new-3.ensures.plan; published = c.new-3.ensures.published; next = c.new-3.ensures.next; run = c.new-3.ensures.limits; runs = c.new-3.ensures.runs })
     (c.push_reserved.ensures.items ∙ ap (λ (rs : List Member). rs ++ c.new-3.result ∷ []) (c.reserve.ensures.items ∙ vs))
     (ports_put (ap (λ (v : Assembly). v.channels.store) c.self.view_is)
     (c.push_reserved-2.ensures.items ∙ ap (λ (bs : List Inbox). bs ++ c.in-Ok.inbox ∷ []) (c.reserve-2.ensures.items ∙ is) ∙ ap (λ (b : Inbox). w.channels.inboxes ++ b ∷ []) c.in-Ok.ensures.made)
