@@ -88,8 +88,8 @@ module _ (at at2 : ℕ → Tree) (list list2 : ℕ → ℕ → List Tree) (i : �
   same_parts (node.Class c) h = refl
   same_parts (node.Constant path) h = refl
   same_parts (node.SetConstant x a) h = let e0 = part a h in cc
-  same_parts (node.Local depth slot x) h = refl
-  same_parts (node.Assign depth slot x a) h = let e0 = part a h in cc
+  same_parts (node.Local depth slot x behind) h = refl
+  same_parts (node.Assign depth slot x behind a) h = let e0 = part a h in cc
   same_parts (node.Field x) h = refl
   same_parts (node.SetField x a) h = let e0 = part a h in cc
   same_parts (node.Global x) h = refl

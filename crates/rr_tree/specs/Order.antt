@@ -7,7 +7,7 @@ use Rattle.rr_tree.specs.declared.node.Node.TheVariants as node
 
 HasPartsBefore-prop : (i : ℕ) (n : Node) → IsProp (HasPartsBefore i n)
 HasPartsBefore-prop i (node.SetConstant x a) = Prim.hlevel props
-HasPartsBefore-prop i (node.Assign depth slot x a) = Prim.hlevel props
+HasPartsBefore-prop i (node.Assign depth slot x behind a) = Prim.hlevel props
 HasPartsBefore-prop i (node.SetField x a) = Prim.hlevel props
 HasPartsBefore-prop i (node.SetGlobal x a) = Prim.hlevel props
 HasPartsBefore-prop i (node.Array first count) = Prim.hlevel props

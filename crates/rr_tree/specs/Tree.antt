@@ -7,8 +7,8 @@ use Rattle.rr_tree.specs.declared.node.Node.{Node}
 use Rattle.rr_tree.specs.declared.node.Node.TheVariants as node
 
 -- Names and texts are by number, in the order in which the source first has them. A variable is how many scopes outside it is,
--- its number among the variables there, and its name. A block and a method are the number of their scope, how many parameters
--- and how many variables they have, and their statements.
+-- its number among the variables there, its name, and how many words of the source stand behind this use. A block and a method
+-- are the number of their scope, how many parameters and how many variables they have, and their statements.
 mutual
   pub data Tree : Type 0 where
     nil : Tree
@@ -20,8 +20,8 @@ mutual
     class_named : ClassId → Tree
     constant : Path → Tree
     set_constant : ℕ → Tree → Tree
-    local : ℕ → ℕ → ℕ → Tree
-    assign : ℕ → ℕ → ℕ → Tree → Tree
+    local : ℕ → ℕ → ℕ → ℕ → Tree
+    assign : ℕ → ℕ → ℕ → ℕ → Tree → Tree
     field : ℕ → Tree
     set_field : ℕ → Tree → Tree
     global : ℕ → Tree
@@ -92,8 +92,8 @@ tree_with at list node.Itself = itself
 tree_with at list (node.Class c) = class_named c
 tree_with at list (node.Constant path) = constant path
 tree_with at list (node.SetConstant x a) = set_constant x.0 (at a)
-tree_with at list (node.Local depth slot x) = local depth slot x.0
-tree_with at list (node.Assign depth slot x a) = assign depth slot x.0 (at a)
+tree_with at list (node.Local depth slot x behind) = local depth slot x.0 behind
+tree_with at list (node.Assign depth slot x behind a) = assign depth slot x.0 behind (at a)
 tree_with at list (node.Field x) = field x.0
 tree_with at list (node.SetField x a) = set_field x.0 (at a)
 tree_with at list (node.Global x) = global x.0
@@ -157,7 +157,7 @@ tree_at ns i = get_or (trees_after [] ns) i nil
 -- the parts of a node stand before this number, and so do the items of its list
 abbrev pub HasPartsBefore : ℕ → Node → Type 0
 HasPartsBefore i (node.SetConstant x a) = a < i
-HasPartsBefore i (node.Assign depth slot x a) = a < i
+HasPartsBefore i (node.Assign depth slot x behind a) = a < i
 HasPartsBefore i (node.SetField x a) = a < i
 HasPartsBefore i (node.SetGlobal x a) = a < i
 HasPartsBefore i (node.Array first count) = first + count ≤ i

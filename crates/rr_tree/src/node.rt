@@ -1,12 +1,13 @@
 //! Nodes, which name their parts by number.
 
+use crate::scope::ScopeId;
 use rr_base::{ClassId, Sym};
 
 /// The number of a node in its program's table.
 pub type NodeId = u32;
 
-/// The number of a block: its scope's among the program's scopes.
-pub type BlockId = u32;
+/// The number of a block's node.
+pub type BlockId = NodeId;
 
 /// An operator of two operands.
 #[derive(Clone, Copy, Debug, PartialEq, Eq, Drop)]
@@ -51,16 +52,20 @@ pub enum Node {
     Class(ClassId),
     Constant(Path),
     SetConstant(Sym, NodeId),
-    /// A local variable: how many scopes outside it is, its number among the variables there, and its name.
+    /// A local variable: how many scopes outside it is, its number among the variables there, its name, and how many words
+    /// of the source stand behind this use, so that of two uses the one with more behind it stands first.
     Local {
         depth: u32,
         slot: u32,
         name: Sym,
+        behind: u32,
     },
+    /// An assignment to a local variable, with what `Local` says of it, and the value.
     Assign {
         depth: u32,
         slot: u32,
         name: Sym,
+        behind: u32,
         value: NodeId,
     },
     /// An instance variable.
@@ -130,7 +135,7 @@ pub enum Node {
     WithBlock(NodeId, NodeId),
     /// A block: its scope, how many parameters and how many variables it has, and its statements.
     Block {
-        scope: BlockId,
+        scope: ScopeId,
         parameters: u32,
         size: u32,
         body: NodeId,
@@ -197,7 +202,7 @@ pub enum Node {
     /// statements.
     Method {
         name: Sym,
-        scope: u32,
+        scope: ScopeId,
         parameters: u32,
         size: u32,
         body: NodeId,
