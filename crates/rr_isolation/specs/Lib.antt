@@ -1,0 +1,4 @@
+pub mod Parts
+pub mod Outer
+pub mod Numbers
+pub mod Finds
