@@ -8,7 +8,11 @@ mod line_rows;
 #[cfg(test)]
 mod methods;
 #[cfg(test)]
+mod pairs;
+#[cfg(test)]
 mod programs;
+#[cfg(test)]
+mod receivers;
 #[cfg(test)]
 mod table;
 #[cfg(test)]

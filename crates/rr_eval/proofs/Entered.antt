@@ -82,7 +82,7 @@ limit p m t tree at left h =
 -- a leaf takes one step and changes nothing
 leaf_of : (c : Context) (w : World) (tree : Tree) (s : State) (n : ℕ) (v : Ref) → leaf_value tree s.memory.calls.frames ≡ Some v → run w (meaning c w) (rule c tree) s n ≡ Ended (Gave v) s n
 leaf_of c w (int z) s n v e = ap (λ x. Ended (Gave x) s n) (cc e)
-leaf_of c w (local depth slot x) s n v e = ap (λ y. Ended (Gave y) s n) (cc e)
+leaf_of c w (local depth slot x behind) s n v e = ap (λ y. Ended (Gave y) s n) (cc e)
 leaf_of c w _ s n v e = cc e
 
 leaf : (c : Context) (w : World) (tree : Tree) (s : State) (n : ℕ) (v : Ref) → leaf_value tree s.memory.calls.frames ≡ Some v → meaning c w tree s (suc n) ≡ Ended (Gave v) s n

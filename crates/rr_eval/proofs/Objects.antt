@@ -168,7 +168,7 @@ rule_keeps c (array list) = values_keep c (DoTarget MakeArray) (items list) []
 rule_keeps c (interpolation list) = values_keep c (DoTarget MakeText) (items list) []
 rule_keeps c (constant (Plain x)) = constant_keeps c (class_named (slice_index_or c.symbols x.0 [])) x
 rule_keeps c (text i) = λ m. (λ k. make_keeps c.program.freezes _ k.table, tt)
-rule_keeps c (local depth slot x) = λ m. tt
+rule_keeps c (local depth slot x behind) = λ m. tt
 rule_keeps c (bare x) = bare_keeps c (own_method c.program x) (printing c x) (record { 0 = x })
 rule_keeps c (call x list) = call_keeps c (own_method c.program x) (printing c x) (awaited c x) (record { 0 = x }) (items list)
 rule_keeps c (logical_and a b) = on_value_keeps _ (λ v. if_keeps (is_truthy v) (Go b Ret) (Ret (Gave v)) (λ a'. tt) tt)
@@ -176,7 +176,7 @@ rule_keeps c (logical_or a b) = on_value_keeps _ (λ v. if_keeps (is_truthy v) (
 rule_keeps c (logical_not a) = on_value_keeps _ (λ v. tt)
 rule_keeps c (negate a) = on_value_keeps _ (λ v. negates c v)
 rule_keeps c (binary op a b) = on_value_keeps _ (λ v. on_value_keeps _ (λ w. operates c op v w))
-rule_keeps c (assign depth slot x a) = on_value_keeps _ (λ v. (λ m. omega arith, tt))
+rule_keeps c (assign depth slot x behind a) = on_value_keeps _ (λ v. (λ m. omega arith, tt))
 rule_keeps c (operator_assign op a b) = update_keeps c op a b (slot_of a)
 rule_keeps c (or_assign a b) = or_keeps c b (slot_of a)
 rule_keeps c (and_assign a b) = and_keeps c b (slot_of a)

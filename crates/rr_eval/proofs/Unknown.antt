@@ -19,7 +19,7 @@ pub record IsNone (n : Node) : Type 0 where
   pub no_constant : (x0 : Path) → n ≡ nodes.Constant x0 → ⊥
   pub no_array : (x0 : ℕ) (x1 : ℕ) → n ≡ nodes.Array x0 x1 → ⊥
   pub no_interpolation : (x0 : ℕ) (x1 : ℕ) → n ≡ nodes.Interpolation x0 x1 → ⊥
-  pub no_local : (x0 : ℕ) (x1 : ℕ) (x2 : Sym) → n ≡ nodes.Local x0 x1 x2 → ⊥
+  pub no_local : (x0 : ℕ) (x1 : ℕ) (x2 : Sym) (x3 : ℕ) → n ≡ nodes.Local x0 x1 x2 x3 → ⊥
   pub no_bare : (x0 : Sym) (x1 : ℕ) → n ≡ nodes.Bare x0 x1 → ⊥
   pub no_call : (x0 : Sym) (x1 : ℕ) (x2 : ℕ) (x3 : ℕ) → n ≡ nodes.Call x0 x1 x2 x3 → ⊥
   pub no_send : (x0 : ℕ) (x1 : Sym) (x2 : ℕ) (x3 : ℕ) (x4 : ℕ) → n ≡ nodes.Send x0 x1 x2 x3 x4 → ⊥
@@ -30,7 +30,7 @@ pub record IsNone (n : Node) : Type 0 where
   pub no_not : (x0 : ℕ) → n ≡ nodes.Not x0 → ⊥
   pub no_negate : (x0 : ℕ) → n ≡ nodes.Negate x0 → ⊥
   pub no_binary : (x0 : BinaryOperator) (x1 : ℕ) (x2 : ℕ) → n ≡ nodes.Binary x0 x1 x2 → ⊥
-  pub no_assign : (x0 : ℕ) (x1 : ℕ) (x2 : Sym) (x3 : ℕ) → n ≡ nodes.Assign x0 x1 x2 x3 → ⊥
+  pub no_assign : (x0 : ℕ) (x1 : ℕ) (x2 : Sym) (x3 : ℕ) (x4 : ℕ) → n ≡ nodes.Assign x0 x1 x2 x3 x4 → ⊥
   pub no_operator_assign : (x0 : BinaryOperator) (x1 : ℕ) (x2 : ℕ) → n ≡ nodes.OperatorAssign x0 x1 x2 → ⊥
   pub no_or_assign : (x0 : ℕ) (x1 : ℕ) → n ≡ nodes.OrAssign x0 x1 → ⊥
   pub no_and_assign : (x0 : ℕ) (x1 : ℕ) → n ≡ nodes.AndAssign x0 x1 → ⊥
@@ -50,7 +50,7 @@ unknown_else (nodes.Class x0) h = absurd (h.no_class x0 refl)
 unknown_else (nodes.Constant x0) h = absurd (h.no_constant x0 refl)
 unknown_else (nodes.Array x0 x1) h = absurd (h.no_array x0 x1 refl)
 unknown_else (nodes.Interpolation x0 x1) h = absurd (h.no_interpolation x0 x1 refl)
-unknown_else (nodes.Local x0 x1 x2) h = absurd (h.no_local x0 x1 x2 refl)
+unknown_else (nodes.Local x0 x1 x2 x3) h = absurd (h.no_local x0 x1 x2 x3 refl)
 unknown_else (nodes.Bare x0 x1) h = absurd (h.no_bare x0 x1 refl)
 unknown_else (nodes.Call x0 x1 x2 x3) h = absurd (h.no_call x0 x1 x2 x3 refl)
 unknown_else (nodes.Send x0 x1 x2 x3 x4) h = absurd (h.no_send x0 x1 x2 x3 x4 refl)
@@ -61,7 +61,7 @@ unknown_else (nodes.Or x0 x1) h = absurd (h.no_or x0 x1 refl)
 unknown_else (nodes.Not x0) h = absurd (h.no_not x0 refl)
 unknown_else (nodes.Negate x0) h = absurd (h.no_negate x0 refl)
 unknown_else (nodes.Binary x0 x1 x2) h = absurd (h.no_binary x0 x1 x2 refl)
-unknown_else (nodes.Assign x0 x1 x2 x3) h = absurd (h.no_assign x0 x1 x2 x3 refl)
+unknown_else (nodes.Assign x0 x1 x2 x3 x4) h = absurd (h.no_assign x0 x1 x2 x3 x4 refl)
 unknown_else (nodes.OperatorAssign x0 x1 x2) h = absurd (h.no_operator_assign x0 x1 x2 refl)
 unknown_else (nodes.OrAssign x0 x1) h = absurd (h.no_or_assign x0 x1 refl)
 unknown_else (nodes.AndAssign x0 x1) h = absurd (h.no_and_assign x0 x1 refl)

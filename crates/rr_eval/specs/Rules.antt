@@ -171,7 +171,7 @@ call_rule c None None false x ts = values ts [] (finish c (Own x))
 
 -- the variable of the method that runs that a target is, where it is one
 abbrev pub slot_of : Tree → Option ℕ
-slot_of (local depth slot x) = Some slot
+slot_of (local depth slot x behind) = Some slot
 slot_of _ = None
 
 -- `a op= b` is `a = a op b`
@@ -200,7 +200,7 @@ rule c (text i) = on_table c (make c.program.freezes (slice_index_or c.texts i [
 rule c (array list) = values (items list) [] (finish c (DoTarget MakeArray))
 -- the parts of a text are evaluated from left to right, and then one text is made of what each is spoken as
 rule c (interpolation list) = values (items list) [] (finish c (DoTarget MakeText))
-rule c (local depth slot x) = read slot
+rule c (local depth slot x behind) = read slot
 rule c (bare x) = bare_rule c (own_method c.program x) (printing c x) (record { 0 = x })
 rule c (call x list) = call_rule c (own_method c.program x) (printing c x) (awaited c x) (record { 0 = x }) (items list)
 rule c (logical_and a b) = with_value a (λ v. if is_truthy v then Go b Ret else Ret (Gave v))
@@ -211,7 +211,7 @@ rule c (index a b) = values (a ∷ b ∷ []) [] (finish c (Call callees.Index))
 rule c (append a b) = values (a ∷ b ∷ []) [] (finish c (Call callees.Append))
 rule c (negate a) = with_value a (negation c)
 rule c (binary op a b) = with_value a (λ v. with_value b (operation c op v))
-rule c (assign depth slot x a) = with_value a (λ v. write slot v)
+rule c (assign depth slot x behind a) = with_value a (λ v. write slot v)
 rule c (operator_assign op a b) = update_rule c op a b (slot_of a)
 rule c (or_assign a b) = or_rule c b (slot_of a)
 rule c (and_assign a b) = and_rule c b (slot_of a)

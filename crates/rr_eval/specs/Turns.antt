@@ -104,7 +104,7 @@ pub record Stands (old new : View) (before after : Table) (f : Fault) : Type 0 w
 -- the value of a tree that takes one step and leaves all as it is
 abbrev pub leaf_value : Tree → List Activated → Option Ref
 leaf_value (int z) frames = Some (Int z)
-leaf_value (local depth slot x) frames = Some (read_last slot frames)
+leaf_value (local depth slot x behind) frames = Some (read_last slot frames)
 leaf_value _ frames = None
 
 -- A turn of at most `budget` steps: what was still to be done is what it did, and then what is still to be done. It stops

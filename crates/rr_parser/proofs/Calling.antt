@@ -1,9 +1,9 @@
 -- What the code made of assignments, of calls and of their blocks.
-use Rattle.std.proofs.Common.{◌≡◌, ℕ, zero, suc, ◌<◌, Bool, List, [], ◌∷◌, length, take, map, Option, Some, None, Result, Ok, Err, refl, sym, ap, ◌∙◌, subst, arith}
+use Rattle.std.proofs.Common.{◌≡◌, ℕ, zero, suc, ◌<◌, Bool, List, ◌∷◌, length, take, map, Option, Some, None, Result, Ok, Err, refl, sym, ap, ◌∙◌, subst, arith, []}
 use Rattle.std.specs.Prelude.{All, IfOk}
 use Rattle.rr_base.specs.declared.name.Sym.{Sym}
 use Rattle.rr_tree.specs.declared.node.Node.{Node}
-use Rattle.rr_tree.specs.Tree.{Tree, listed, call, send, with_block, block, index, pair, symbol, tree_at}
+use Rattle.rr_tree.specs.Tree.{Tree, listed, call, with_block, block, tree_at}
 use Rattle.rr_tree.specs.Nodes.{Extends}
 use Rattle.rr_tree.proofs.Growth.{tree_at-kept, Extends-refl, Extends-trans}
 use Rattle.std.specs.Borrow.{Bor}
@@ -27,10 +27,10 @@ use Rattle.rr_parser.specs.declared.word.WordKind.TheVariants as kind
 use Rattle.rr_parser.specs.Places.{Known, Place, placed, word, at}
 use Rattle.rr_parser.specs.Grammar.Chains.{same, one_of}
 use Rattle.rr_parser.specs.Grammar.Names.{with_local, headed, bracket, command}
-use Rattle.rr_parser.specs.Grammar.Calls.{target, with_target, signed, assigned_to, label, closing, last}
-use Rattle.rr_parser.specs.Reading.Answers.{◌>>=◌, wrong, Answer, Parse, built, ended_by, closed, across, taking_of, trail_on}
+use Rattle.rr_parser.specs.Grammar.Calls.{target, with_target, signed, assigned_to, closing, last}
+use Rattle.rr_parser.specs.Reading.Answers.{◌>>=◌, wrong, Answer, Parse, built, ended_by, closed, taking_of, trail_on}
 use Rattle.rr_parser.specs.Reading.Nesting.{Readers}
-use Rattle.rr_parser.specs.Reading.Calls.{assigned_or, assigned_of, argument_of, pair_by, pair_of, members_of, bracketed_or, bracketed_of, commanded_or, commanded_of, arguments_of, headed_of, operand_of, value_of}
+use Rattle.rr_parser.specs.Reading.Calls.{assigned_or, assigned_of, bracketed_or, bracketed_of, commanded_or, commanded_of, arguments_of, headed_of, operand_of, value_of, listed_of}
 use Rattle.rr_parser.specs.Reading.Bodies.{held_of}
 use Rattle.rr_parser.specs.Meets.{View, nodes, lists, reaches, Made, Fails, Gives, Puts, Marks, Aims, Enters, Leaves, SetsDo, ReadsNames, known_of, place}
 use Rattle.rr_parser.specs.declared.variables.Variable.{Variable}
@@ -45,7 +45,7 @@ use Rattle.rr_parser.specs.declared.word.Reached.{Reached as CodeReached}
 use Rattle.rr_parser.proofs.Shrinking.{ReadersShrink}
 use Rattle.rr_parser.proofs.Trails.{trail_on-ends, trail_on-turn}
 use Rattle.rr_parser.proofs.Looks.{Steps-tail}
-use Rattle.rr_parser.proofs.Making.{made_eq, fails_bind, fails_eq, made_over, seen_at, unseen_at, Goes, gives_from, made_put, closed_tree, closed_wrong, across_tree, across_wrong, across_fails}
+use Rattle.rr_parser.proofs.Making.{fails_bind, fails_eq, made_over, seen_at, unseen_at, Goes, gives_from, made_put, closed_tree, closed_wrong}
 
 -- ---- assignments
 
@@ -79,9 +79,9 @@ unfolding assigned_of
 reads_operand N b p ws e = ap (assigned_or N b (operand_of N b) (place p ws)) (unseen_at p target ws e)
 
 pub made_assignment : (N : Readers) (b : Bool) (old mid m2 new : Parser) (i : Variable) (a id : ℕ) (x : Aim) (words after rest : List Word) → Aims old mid x.target i → target words ≡ Some (x, after)
-    → Made nodes mid m2 a rest (N.value b (place mid after)) → Puts m2 new (signed x.sign x.target i (tree_at m2.nodes.items a)) id → Made nodes old new id rest (value_of N b (place old words))
+    → Made nodes mid m2 a rest (N.value b (place mid after)) → Puts m2 new (signed x.sign x.target i x.behind (tree_at m2.nodes.items a)) id → Made nodes old new id rest (value_of N b (place old words))
 made_assignment N b old mid m2 new i a id x words after rest k e m p =
-    let made : Made nodes mid new id rest (assigning N b x (place mid after)) = made_over (assigned_to x (place mid after)) m p (ap (λ (n : Variable). signed x.sign x.target n (tree_at m2.nodes.items a)) (sym (k.seen after))) in
+    let made : Made nodes mid new id rest (assigning N b x (place mid after)) = made_over (assigned_to x (place mid after)) m p (ap (λ (n : Variable). signed x.sign x.target n x.behind (tree_at m2.nodes.items a)) (sym (k.seen after))) in
     record {
       there = made.there;
       tree = reads_assignment N b (place old words) (place old after) x (seen_at old target words after x e) ∙ ap (assigning N b x) (sym (k.known after)) ∙ made.tree;
@@ -280,44 +280,8 @@ fails_parameters N fence old words (refusal.Unexpected n) h = ap (block_or N fen
 fails_parameters N fence old words (refusal.Number n) h = absurd h
 fails_parameters N fence old words (refusal.LeftOut n) h = absurd h
 
--- a key, its arrow and its value
-pub made_arrow : (N : Readers) (old m1 m2 new : Parser) (a b id : ℕ) (words rest after left : List Word) → label words ≡ None → Made nodes old m1 a rest (argument_of N (place old words))
-    → word kind.Arrow rest ≡ Some (tt, after) → Made nodes m1 m2 b left (argument_of N (place m1 after)) → Puts m2 new (pair (tree_at m2.nodes.items a) (tree_at m2.nodes.items b)) id
-    → Made nodes old new id left (pair_of N (place old words))
-unfolding pair_of
-made_arrow N old m1 m2 new a b id words rest after left none m e k p =
-    made_put old m2 new id left (pair (tree_at m2.nodes.items a) (tree_at m2.nodes.items b)) (pair_of N (place old words))
-    (ap (pair_by N (place old words)) (unseen_at old label words none)
-    ∙ across_tree pair (word kind.Arrow) (argument_of N) old m1 a rest (argument_of N (place old words)) m m2 b after left e k)
-    (Extends-trans old.nodes.items m1.nodes.items m2.nodes.items m.kept k.kept) p
-
-pub wrong_arrow : (N : Readers) (old m1 : Parser) (a : ℕ) (words rest : List Word) → label words ≡ None → Made nodes old m1 a rest (argument_of N (place old words)) → word kind.Arrow rest ≡ None → pair_of N (place old words) ≡ Err wrong
-unfolding pair_of
-wrong_arrow N old m1 a words rest none m e =
-    ap (pair_by N (place old words)) (unseen_at old label words none) ∙ across_wrong pair (word kind.Arrow) (argument_of N) old m1 a rest (argument_of N (place old words)) m e
-
-pub fails_arrow : (N : Readers) (old m1 : Parser) (a : ℕ) (words rest after : List Word) (d : Refusal) → label words ≡ None → Made nodes old m1 a rest (argument_of N (place old words))
-    → word kind.Arrow rest ≡ Some (tt, after) → Fails d (argument_of N (place m1 after)) → Fails d (pair_of N (place old words))
-unfolding pair_of
-fails_arrow N old m1 a words rest after d none m e h =
-    fails_eq d (pair_of N (place old words)) (across pair (word kind.Arrow) (argument_of N) (argument_of N (place old words))) (ap (pair_by N (place old words)) (unseen_at old label words none))
-    (across_fails pair (word kind.Arrow) (argument_of N) old m1 a rest (argument_of N (place old words)) m after d e h)
-
--- a label and its value
-pub made_label : (N : Readers) (old m1 new : Parser) (x : Sym) (a id : ℕ) (words after rest : List Word) → label words ≡ Some (x, after) → Made nodes old m1 a rest (argument_of N (place old after))
-    → Puts m1 new (pair (symbol x.0) (tree_at m1.nodes.items a)) id → Made nodes old new id rest (pair_of N (place old words))
-unfolding pair_of
-made_label N old m1 new x a id words after rest e m p =
-    made_eq (pair_of N (place old words)) (built (pair (symbol x.0)) (argument_of N (place old after))) (ap (pair_by N (place old words)) (seen_at old label words after x e)) (made_over (pair (symbol x.0)) m p refl)
-
-pub fails_label : (N : Readers) (old : Parser) (x : Sym) (words after : List Word) (d : Refusal) → label words ≡ Some (x, after) → Fails d (argument_of N (place old after)) → Fails d (pair_of N (place old words))
-unfolding pair_of
-fails_label N old x words after d e h =
-    fails_eq d (pair_of N (place old words)) (built (pair (symbol x.0)) (argument_of N (place old after))) (ap (pair_by N (place old words)) (seen_at old label words after x e))
-    (fails_bind d (argument_of N (place old after)) (λ q. Ok (pair (symbol x.0) q.0, q.1)) h)
-
 -- members of a list, with what ends it
-pub made_bracketed : (N : Readers) (k : Listed) (old mid : Parser) (es : List ℕ) (words rest after : List Word) → closing k words ≡ None → Made (lists nodes) old mid es rest (members_of N k (place old words)) → last k rest ≡ Some (tt, after)
+pub made_bracketed : (N : Readers) (k : Listed) (old mid : Parser) (es : List ℕ) (words rest after : List Word) → closing k words ≡ None → Made (lists nodes) old mid es rest (listed_of N k (place old words)) → last k rest ≡ Some (tt, after)
     → Made (lists nodes) old mid es after (bracketed_of N k (place old words))
 unfolding bracketed_of
 made_bracketed N k old mid es words rest after none m e = record {
@@ -329,7 +293,7 @@ made_bracketed N k old mid es words rest after none m e = record {
   kept = m.kept;
 }
 
-pub wrong_bracketed : (N : Readers) (k : Listed) (old mid : Parser) (es : List ℕ) (words rest : List Word) → closing k words ≡ None → Made (lists nodes) old mid es rest (members_of N k (place old words)) → last k rest ≡ None
+pub wrong_bracketed : (N : Readers) (k : Listed) (old mid : Parser) (es : List ℕ) (words rest : List Word) → closing k words ≡ None → Made (lists nodes) old mid es rest (listed_of N k (place old words)) → last k rest ≡ None
     → bracketed_of N k (place old words) ≡ Err wrong
 unfolding bracketed_of
 wrong_bracketed N k old mid es words rest none m e =
@@ -337,11 +301,11 @@ wrong_bracketed N k old mid es words rest none m e =
     ∙ ap (λ (q : Answer (List Tree)). q >>= λ l. ended_by l.0 (at (last k) l.1)) m.tree
     ∙ ap (ended_by (map (tree_at mid.nodes.items) es)) (unseen_at mid (last k) rest e)
 
-pub fails_bracketed : (N : Readers) (k : Listed) (old : Parser) (words : List Word) (d : Refusal) → closing k words ≡ None → Fails d (members_of N k (place old words)) → Fails d (bracketed_of N k (place old words))
+pub fails_bracketed : (N : Readers) (k : Listed) (old : Parser) (words : List Word) (d : Refusal) → closing k words ≡ None → Fails d (listed_of N k (place old words)) → Fails d (bracketed_of N k (place old words))
 unfolding bracketed_of
 fails_bracketed N k old words d none h =
-    fails_eq d (bracketed_of N k (place old words)) (members_of N k (place old words) >>= λ l. ended_by l.0 (at (last k) l.1)) (ap (bracketed_or N k (place old words)) (unseen_at old (closing k) words none))
-    (fails_bind d (members_of N k (place old words)) (λ l. ended_by l.0 (at (last k) l.1)) h)
+    fails_eq d (bracketed_of N k (place old words)) (listed_of N k (place old words) >>= λ l. ended_by l.0 (at (last k) l.1)) (ap (bracketed_or N k (place old words)) (unseen_at old (closing k) words none))
+    (fails_bind d (listed_of N k (place old words)) (λ l. ended_by l.0 (at (last k) l.1)) h)
 
 pub empty_bracketed : (N : Readers) (k : Listed) (old : Parser) (es : List ℕ) (words after : List Word) → closing k words ≡ Some (tt, after) → es ≡ [] → Made (lists nodes) old old es after (bracketed_of N k (place old words))
 unfolding bracketed_of

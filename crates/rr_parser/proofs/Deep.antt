@@ -1,7 +1,8 @@
 -- Reading is too deep only where the constructs that are begun pass the limit.
-use Rattle.std.proofs.Common.{◌≡◌, ℕ, zero, suc, inl, inr, Bool, true, false, cond, List, [], Option, Some, None, Ok, Err, refl}
+use Rattle.std.proofs.Common.{◌≡◌, zero, suc, inl, inr, Bool, true, false, cond, List, Option, Some, None, Ok, Err, refl, ℕ, []}
 use Rattle.rr_base.specs.declared.name.Sym.{Sym}
-use Rattle.rr_tree.specs.Tree.{Tree, rescue, clause, ensure, sequence, repeat, array, hash, splat, pair, symbol, logical_not, listed}
+use Rattle.rr_tree.specs.Tree.{Tree, rescue, clause, ensure, sequence, repeat, array, hash, splat, pair, symbol, logical_not, listed, send}
+use Rattle.rr_parser.specs.declared.word.Caught.{Caught}
 use Rattle.rr_parser.specs.declared.word.Aim.{Aim}
 use Rattle.rr_parser.specs.declared.word.Head.{Head}
 use Rattle.rr_parser.specs.declared.word.Listed.{Listed}
@@ -19,7 +20,7 @@ use Rattle.rr_parser.specs.Grammar.Chains.{Chain, same, one_of, and_one}
 use Rattle.rr_parser.specs.Grammar.Nesting.{Nested}
 use Rattle.rr_parser.specs.Grammar.Names.{headed, name, command}
 use Rattle.rr_parser.specs.Grammar.Operators.{connective, joined_by}
-use Rattle.rr_parser.specs.Grammar.Calls.{target, with_target, assigned_to, label, comma, star, closing, last, Argument, Member, Commanded}
+use Rattle.rr_parser.specs.Grammar.Calls.{target, with_target, assigned_to, label, comma, star, closing, last, Argument, Commanded, Adding, AddingTo, Given, entry, contents, item, nothing, only_pairs, with_member}
 use Rattle.rr_parser.specs.Grammar.Sequences.{Negation, Expression, modifier, modified, Statement, Statements}
 use Rattle.rr_parser.specs.Grammar.Interpolations.{text_middle, text_tail, first_piece, and_piece}
 use Rattle.rr_parser.specs.Grammar.Control.{thens, loops, elsif, chosen, unless_chosen, looping, Branch, Branches}
@@ -27,10 +28,9 @@ use Rattle.rr_parser.specs.Grammar.Bodies.{path, Class, Classes, caught, with_ca
 use Rattle.rr_parser.specs.Grammar.Blocks.{parameters, entered}
 use Rattle.rr_parser.specs.Grammar.Definitions.{formals, defined}
 use Rattle.rr_parser.specs.Grammar.{is_enclosed, inside, outside}
-use Rattle.rr_parser.specs.Reading.Answers.{wrong, deep, Answer, Parse, built, ended_by, closed, across, taking_of}
+use Rattle.rr_parser.specs.Reading.Answers.{wrong, deep, Answer, Parse, built, ended_by, closed, across, taking_of, trail_on}
 use Rattle.rr_parser.specs.Reading.Nesting.{Readers}
-use Rattle.rr_parser.specs.Reading.Operators.{ternary_of}
-use Rattle.rr_parser.specs.Reading.Calls.{assigned_or, assigned_of, argument_of, pair_by, pair_of, item_or, item_of, member_of, another, members_of, bracketed_or, bracketed_of, array_of, hash_of, index_of, commanded_or, commanded_of, headed_of, command_or, command_of, phrase_or, phrase_of, operand_of, value_of, settled_of}
+use Rattle.rr_parser.specs.Reading.Calls.{assigned_or, assigned_of, argument_of, member_of, another, members_of, bracketed_or, bracketed_of, array_of, hash_of, index_of, commanded_or, commanded_of, headed_of, command_or, command_of, phrase_or, phrase_of, operand_of, value_of, settled_of, ordered_of, order_or, order_on, adding_of, adding_to, arguments_of, arrow_or, key_on, label_or, listed_of, lone, star_or, star_unless, unlabeled_of}
 use Rattle.rr_parser.specs.Reading.Sequences.{negation_or, negation_of, expression_of, statement_of, ends, row, rows_of, sequence_of, statements_of, group_of}
 use Rattle.rr_parser.specs.Reading.Interpolations.{pieces_of, interpolated_or, interpolated_on, interpolation_of}
 use Rattle.rr_parser.specs.Reading.Control.{both, branch_of, branches_of, otherwise_or, otherwise_of, ended, choice_of, unless_of, loop_of, looped_of}
@@ -38,14 +38,18 @@ use Rattle.rr_parser.specs.Reading.Bodies.{class_or, class_of, several_classes, 
 use Rattle.rr_parser.specs.Reading.Blocks.{left_block, block_or, block_of}
 use Rattle.rr_parser.specs.Reading.Definitions.{left_method, method_or, definition_or, definition_of}
 use Rattle.rr_parser.specs.Reading.{form_of, part_of, readers_inside, readers_outside}
-use Rattle.rr_parser.specs.Fronts.{Fronts, ChainFront, in_one, in_more, ClauseFront, in_clause, ClausesFront, RescuedFront, BodyFront, HeldFront, PairFront, behind_label, in_entry, ItemFront, in_splat, in_plain_item, MemberFront, MembersFront, in_former, in_latter, TakingFront, TernaryFront, AssignedFront, in_value, in_operand, ArgumentFront, CommandedFront, in_arguments, in_argument_command, CommandFront, behind_name, PhraseFront, in_command, in_plain, OperandFront, ValueFront, NegationFront, in_negation, behind_no_negation, ExpressionFront, StatementFront, RowsFront, StatementsFront, PiecesFront, BranchFront, BranchesFront, EndedFront, LoopFront, LoopedFront, BlockFront, in_body, DefinitionFront, in_method, FormFront, PartFront, fronts_inside, fronts_outside, SettledFront}
+use Rattle.rr_parser.specs.Fronts.{Fronts, ChainFront, in_one, in_more, ClauseFront, in_clause, ClausesFront, RescuedFront, BodyFront, HeldFront, behind_label, in_entry, in_splat, MemberFront, MembersFront, in_former, in_latter, TakingFront, AssignedFront, in_value, in_operand, ArgumentFront, CommandedFront, in_arguments, in_argument_command, CommandFront, behind_name, PhraseFront, in_command, in_plain, OperandFront, ValueFront, NegationFront, in_negation, behind_no_negation, ExpressionFront, StatementFront, RowsFront, StatementsFront, PiecesFront, BranchFront, BranchesFront, EndedFront, LoopFront, LoopedFront, BlockFront, in_body, DefinitionFront, in_method, FormFront, PartFront, fronts_inside, fronts_outside, SettledFront, behind_receiver, HeadedFront, in_no_setting, AddingFront, in_head, in_item, in_pair}
 use Rattle.rr_parser.proofs.Told.{told_not, told_star}
 use Rattle.rr_parser.proofs.Looks.{word-next, row-separators}
 use Rattle.rr_parser.proofs.Listing.{another-comma}
 use Rattle.rr_parser.proofs.Chains.{done}
 use Rattle.rr_parser.proofs.SoundOperands.{NestedSound, taking_sound}
-use Rattle.rr_parser.proofs.Sound.{member_sound, argument_sound, commanded_sound, negation_sound, expression_sound, statement_sound, statements_sound, class_sound, classes_sound, clause_sound, clauses_sound, rescued_sound, branch_sound, branches_sound, sound_inside, sound_outside}
-use Rattle.rr_parser.proofs.DeepOperands.{IsDeep, bind_deep, built_deep, ended_not_deep, closed_deep, across_deep, past_loop, NestedDeep, from_deep, taking_deep, enclosed_deep, chain_deep, passed_deep, bang_deep, minus_deep, ternary_deep, settled_deep}
+use Rattle.rr_parser.proofs.Sound.{argument_sound, commanded_sound, negation_sound, expression_sound, statement_sound, statements_sound, class_sound, classes_sound, clause_sound, clauses_sound, rescued_sound, branch_sound, branches_sound, sound_inside, sound_outside, adding_sound}
+use Rattle.rr_parser.proofs.DeepOperands.{IsDeep, bind_deep, built_deep, ended_not_deep, closed_deep, across_deep, past_loop, NestedDeep, from_deep, taking_deep, enclosed_deep, chain_deep, passed_deep, bang_deep, minus_deep, settled_deep, settled_by-deep, reached_deep, IsDeepOn}
+use Rattle.rr_parser.specs.declared.word.Head.TheVariants as heads
+use Rattle.rr_parser.specs.Grammar.Operands.{order, Reached, Postfix}
+use Rattle.rr_parser.specs.Reading.Operands.{then_blocked}
+use Rattle.rr_parser.proofs.Trails.{trail_deep}
 
 -- ---- classes, in which nothing nests
 
@@ -88,42 +92,60 @@ module _ (N : Readers) (R : Nested) (F : Fronts) (sounds : NestedSound N R) (nes
   assigned_deep b q G first s e = assigned_or-deep b q G first s (at target s) refl e
 
   pub argument_deep : IsDeep (argument_of N) (ArgumentFront R F)
-  argument_deep = assigned_deep false (settled_of N false) (SettledFront R F false) (settled_deep N R F sounds nests false)
+  argument_deep = assigned_deep false (settled_of N) (SettledFront R F false) (settled_deep N R F sounds nests)
 
-  pair_by-deep : (s : Place) (o : Option (Sym × Place)) → at label s ≡ o → pair_by N s o ≡ Err deep → (z : Place) × PairFront R F s z
-  pair_by-deep s None f e =
-      let d = across_deep pair (word kind.Arrow) (argument_of N) (argument_of N s) s (Argument R) (ArgumentFront R F) (ArgumentFront R F) (λ a m g. argument_sound N R sounds s m a g) (λ g. argument_deep s g) argument_deep e in
-      (d.0, in_entry d.1)
-  pair_by-deep s (Some x) f e = let d = argument_deep x.1 (built_deep (pair (symbol x.0.0)) (argument_of N x.1) e) in (d.0, behind_label f d.1)
+  lone-deep : (only : Bool) (t : Tree) (m : Place) → lone only t m ≡ Err deep → ⊥
+  lone-deep true t m e = let never : ⊥ = cc in never
+  lone-deep false t m e = let never : ⊥ = cc in never
 
-  pair_deep : IsDeep (pair_of N) (PairFront R F)
-  unfolding pair_of
-  pair_deep s e = pair_by-deep s (at label s) refl e
+  arrow_or-deep : (only : Bool) (s m : Place) (t : Tree) (o : Option (Unit {0} × Place)) → Argument R s t m → at (word kind.Arrow) m ≡ o → arrow_or N only t m o ≡ Err deep → (z : Place) × MemberFront R F only s z
+  arrow_or-deep only s m t None h f e = absurd (lone-deep only t m e)
+  arrow_or-deep only s m t (Some n) h f e = let d = argument_deep n.1 (built_deep (λ v. entry (pair t v)) (argument_of N n.1) e) in (d.0, in_pair (in_entry (in_latter {x = n.0} h f d.1)))
 
-  item_or-deep : (s : Place) (o : Option (Unit {0} × Place)) → at (word star) s ≡ o → item_or N s o ≡ Err deep → (z : Place) × ItemFront R F s z
-  item_or-deep s None f e = let d = argument_deep s e in (d.0, in_plain_item d.1)
-  item_or-deep s (Some m) f e =
-      let d = argument_deep m.1 (built_deep splat (argument_of N m.1) e) in
-      (d.0, in_splat (word-next star told_star s m.1 m.0 f) d.1)
+  key_deep : (only : Bool) → IsDeepOn (key_on N only) (Argument R) (MemberFront R F only)
+  unfolding key_on
+  key_deep only s m t h e = arrow_or-deep only s m t (at (word kind.Arrow) m) h refl e
 
-  item_deep : IsDeep (item_of N) (ItemFront R F)
-  unfolding item_of
-  item_deep s e = item_or-deep s (at (word star) s) refl e
+  star_or-deep : (only : Bool) (s : Place) (o : Option (Unit {0} × Place)) → at (star_unless only) s ≡ o → star_or N only s o ≡ Err deep → (z : Place) × MemberFront R F only s z
+  star_or-deep only s None f e =
+      from_deep (argument_of N) (key_on N only) (Argument R) (MemberFront R F only) (argument_sound N R sounds) (key_deep only) (λ s e. let d = argument_deep s e in (d.0, in_pair (in_entry (in_former d.1)))) s e
+  star_or-deep true s (Some m) f e = absurd cc
+  star_or-deep false s (Some m) f e =
+      let d = argument_deep m.1 (built_deep (λ t. item (splat t)) (argument_of N m.1) e) in
+      (d.0, in_item refl (in_splat (word-next star told_star s m.1 m.0 f) d.1))
 
-  member_deep : (k : Listed) → IsDeep (member_of N k) (MemberFront R F k)
-  member_deep listings.Command = item_deep
-  member_deep listings.Call = item_deep
-  member_deep listings.Array = item_deep
-  member_deep listings.Hash = pair_deep
+  unlabeled_deep : (only : Bool) → IsDeep (unlabeled_of N only) (MemberFront R F only)
+  unfolding unlabeled_of
+  unlabeled_deep only s e = star_or-deep only s (at (star_unless only) s) refl e
+
+  label_or-deep : (only : Bool) (s : Place) (o : Option (Sym × Place)) → at label s ≡ o → label_or N only s o ≡ Err deep → (z : Place) × MemberFront R F only s z
+  label_or-deep only s None f e = unlabeled_deep only s e
+  label_or-deep only s (Some x) f e = let d = argument_deep x.1 (built_deep (λ t. entry (pair (symbol x.0.0) t)) (argument_of N x.1) e) in (d.0, in_pair (behind_label f d.1))
+
+  member_deep : (only : Bool) → IsDeep (member_of N only) (MemberFront R F only)
+  unfolding member_of
+  member_deep only s e = label_or-deep only s (at label s) refl e
+
+  adding_deep : (k : Listed) (u : Unit {0}) (g : Given) → IsDeep (adding_of N k g) (AddingFront R F k u g)
+  unfolding adding_of
+  adding_deep k u g s e = member_deep (only_pairs k g) s (built_deep (with_member g) (member_of N (only_pairs k g) s) e)
 
   members_deep : (k : Listed) → IsDeep (members_of N k) (MembersFront R F k)
   unfolding members_of
-  members_deep k = chain_deep comma (another k) one_of and_one (member_of N k) (Member R k) (MemberFront R F k) (λ m n x e. another-comma k m n x e) (member_sound N R sounds k) (member_deep k)
+  members_deep k =
+      from_deep (adding_of N k nothing) (trail_on (another k) (adding_to N k)) (Adding R k nothing) (MembersFront R F k) (adding_sound N R sounds k nothing)
+      (trail_deep comma (another k) (λ m n x e. another-comma k m n x e) (adding_to N k) (Adding R k nothing) (AddingTo R k) (λ x g n z t e. adding_sound N R sounds k g n z t e)
+      (AddingFront R F k tt nothing) (AddingFront R F k) (λ x g n e. adding_deep k x g n e) (λ r f e. bind_deep r f e))
+      (λ s e. let d = adding_deep k tt nothing s e in (d.0, in_head d.1))
+
+  listed_deep : (k : Listed) → IsDeep (listed_of N k) (MembersFront R F k)
+  unfolding listed_of
+  listed_deep k s e = members_deep k s (built_deep (contents k) (members_of N k s) e)
 
   bracketed_or-deep : (k : Listed) (s : Place) (o : Option (Unit {0} × Place)) → bracketed_or N k s o ≡ Err deep → (z : Place) × MembersFront R F k s z
   bracketed_or-deep k s None e =
-      elim (bind_deep (members_of N k s) (λ l. ended_by l.0 (at (last k) l.1)) e) [
-        | inl g ↦ members_deep k s g
+      elim (bind_deep (listed_of N k s) (λ l. ended_by l.0 (at (last k) l.1)) e) [
+        | inl g ↦ listed_deep k s g
         | inr b ↦ absurd (ended_not_deep b.0.0 (at (last k) b.0.1) b.2)
       ]
   bracketed_or-deep k s (Some x) e = absurd cc
@@ -145,20 +167,23 @@ module _ (N : Readers) (R : Nested) (F : Fronts) (sounds : NestedSound N R) (nes
   index_deep s e = argument_deep s (closed_deep kind.CloseSquare (argument_of N s) e)
 
   commanded_or-deep : (s : Place) (o : Option (Head × Place)) → at (command s.known) s ≡ o → commanded_or N s o ≡ Err deep → (z : Place) × CommandedFront R F s z
-  commanded_or-deep s None f e = let d = members_deep listings.Command s e in (d.0, in_arguments d.1)
+  commanded_or-deep s None f e = let d = listed_deep listings.Command s e in (d.0, in_arguments d.1)
   commanded_or-deep s (Some x) f e = let d = nests.part parts.Command s (built_deep one_of (N.part parts.Command s) e) in (d.0, in_argument_command f d.1)
 
   commanded_deep : IsDeep (commanded_of N) (CommandedFront R F)
   unfolding commanded_of
   commanded_deep s e = commanded_or-deep s (at (command s.known) s) refl e
 
+  -- the arguments of a command, and what stands behind them
+  given_deep : (x : Head) (f : List Tree → Tree) (m : Place) → then_blocked N (behinds.Command x) (built f (arguments_of N x m)) ≡ Err deep → (z : Place) × HeadedFront R F x m z
+  given_deep x f m e =
+      let b = within_head x m.known.takes_do in
+      (passed_deep N R F sounds nests) (behinds.Command x) f (taking_of b (commanded_of N)) (Taking b (Commanded R)) (TakingFront b (CommandedFront R F))
+      (taking_sound b (commanded_of N) (Commanded R) (commanded_sound N R sounds)) (taking_deep b (commanded_of N) (CommandedFront R F) commanded_deep) m e
+
   called_deep : (s m : Place) (x : Head) → at (command s.known) s ≡ Some (x, m) → headed_of N x m ≡ Err deep → (z : Place) × CommandFront R F s z
   unfolding headed_of
-  called_deep s m x f e =
-      let b = within_head x m.known.takes_do in
-      let d = (passed_deep N R F sounds nests) (behinds.Command x) (headed x) (taking_of b (commanded_of N)) (Taking b (Commanded R)) (TakingFront b (CommandedFront R F))
-      (taking_sound b (commanded_of N) (Commanded R) (commanded_sound N R sounds)) (taking_deep b (commanded_of N) (CommandedFront R F) commanded_deep) m e in
-      (d.0, behind_name f d.1)
+  called_deep s m x f e = let d = given_deep x (headed x) m e in (d.0, behind_name f d.1)
 
   command_or-deep : (s : Place) (o : Option (Head × Place)) → at (command s.known) s ≡ o → command_or N o ≡ Err deep → (z : Place) × CommandFront R F s z
   command_or-deep s None f e = absurd cc
@@ -168,8 +193,17 @@ module _ (N : Readers) (R : Nested) (F : Fronts) (sounds : NestedSound N R) (nes
   unfolding command_of
   command_deep s e = command_or-deep s (at (command s.known) s) refl e
 
+  order_or-deep : (s m : Place) (r : Reached) (o : Option (Sym × Place)) → Postfix R s r m → at order m ≡ o → order_or N r m o ≡ Err deep → (z : Place) × PhraseFront R F s z
+  unfolding ordered_of
+  order_or-deep s m r None h f e = let d = (reached_deep N R F sounds nests) true s m r h e in (d.0, in_plain d.1)
+  order_or-deep s m r (Some x) h f e = let d = given_deep (heads.Call x.0) (λ l. send r.tree x.0.0 (listed l)) x.1 e in (d.0, behind_receiver h f d.1)
+
+  order_deep : IsDeepOn (order_on N) (Postfix R) (PhraseFront R F)
+  unfolding order_on
+  order_deep s m r h e = order_or-deep s m r (at order m) h refl e
+
   phrase_or-deep : (s : Place) (o : Option (Head × Place)) → at (command s.known) s ≡ o → phrase_or N s o ≡ Err deep → (z : Place) × PhraseFront R F s z
-  phrase_or-deep s None f e = let d = (settled_deep N R F sounds nests) true s e in (d.0, in_plain d.1)
+  phrase_or-deep s None f e = (settled_by-deep N R F sounds nests) (order_on N) (PhraseFront R F) order_deep (λ s z f. in_plain (in_no_setting f)) s e
   phrase_or-deep s (Some x) f e = let d = called_deep s x.1 x.0 f e in (d.0, in_command d.1)
 
   phrase_deep : IsDeep (phrase_of N) (PhraseFront R F)
@@ -177,7 +211,7 @@ module _ (N : Readers) (R : Nested) (F : Fronts) (sounds : NestedSound N R) (nes
   phrase_deep s e = phrase_or-deep s (at (command s.known) s) refl e
 
   operand_deep : (b : Bool) → IsDeep (operand_of N b) (OperandFront R F b)
-  operand_deep false = settled_deep N R F sounds nests false
+  operand_deep false = settled_deep N R F sounds nests
   operand_deep true = phrase_deep
 
   pub value_deep : (b : Bool) → IsDeep (value_of N b) (ValueFront R F b)
@@ -292,7 +326,7 @@ module _ (N : Readers) (R : Nested) (F : Fronts) (sounds : NestedSound N R) (nes
 
   -- ---- bodies
 
-  clause_or-deep : (s m : Place) (l : List Tree) (o : Option (Option Sym × Place)) → Classes s l m → at caught m ≡ o → clause_or N l o ≡ Err deep → (z : Place) × ClauseFront R F s z
+  clause_or-deep : (s m : Place) (l : List Tree) (o : Option (Option Caught × Place)) → Classes s l m → at caught m ≡ o → clause_or N l o ≡ Err deep → (z : Place) × ClauseFront R F s z
   clause_or-deep s m l None h f e = absurd cc
   clause_or-deep s m l (Some x) h f e =
       let n = with_caught x.0 x.1 in

@@ -1,10 +1,10 @@
 -- Reading operands and operators is too deep only where the constructs that are begun pass the limit.
 use Rattle.rr_parser.specs.declared.word.Sign.{Sign}
 use Rattle.rr_parser.specs.Grammar.Calls.{settled, sign}
-use Rattle.std.proofs.Common.{◌≡◌, ℕ, zero, suc, pos, ◌⊎◌, inl, inr, Bool, true, false, cond, List, [], length, Option, Some, None, Result, Ok, Err, refl}
+use Rattle.std.proofs.Common.{◌≡◌, zero, suc, pos, ◌⊎◌, inl, inr, Bool, true, false, cond, List, length, Option, Some, None, Result, Ok, Err, refl, ℕ, []}
 use Rattle.rr_base.specs.declared.name.Sym.{Sym}
 use Rattle.rr_parser.specs.declared.word.Infix.{Infix}
-use Rattle.rr_tree.specs.Tree.{Tree, nil, int, bare, call, with_block, negate, choose, send, index, logical_not, listed}
+use Rattle.rr_tree.specs.Tree.{Tree, nil, int, bare, call, with_block, negate, choose, send, logical_not, listed}
 use Rattle.rr_parser.specs.declared.word.Tail.{Tail}
 use Rattle.rr_parser.specs.declared.word.Tail.TheVariants as tails
 use Rattle.rr_parser.specs.declared.word.Jump.{Jump}
@@ -20,7 +20,7 @@ use Rattle.rr_parser.specs.Grammar.Fences.{taking, taking_as, opened}
 use Rattle.rr_parser.specs.Places.{Place, Look, word, at, next}
 use Rattle.rr_parser.specs.Grammar.Chains.{Chain, one, more, same}
 use Rattle.rr_parser.specs.Grammar.Nesting.{Nested}
-use Rattle.rr_parser.specs.Grammar.Names.{is_local, variable_of, local_tree, is_allowed, jump_tree, begins_arguments, passed, passed_bare, name, bracket, begins_operands}
+use Rattle.rr_parser.specs.Grammar.Names.{is_local, variable_of, told_behind, local_tree, is_allowed, jump_tree, begins_arguments, passed, passed_bare, name, bracket, begins_operands}
 use Rattle.rr_parser.specs.Grammar.Operands.{fits, fits_below, negated, joined, literal_of, inner_constant, construct_of, tail, Primary, Tailed, Minus, Reached, Spot, plain, at_element, Plain, Postfix, no_minus, no_bang}
 use Rattle.rr_parser.specs.Grammar.Operators.{operator, infixed, connective, joined_by, Binary, Logical}
 use Rattle.rr_parser.specs.Grammar.Control.{outside_loop}
@@ -33,8 +33,8 @@ use Rattle.rr_parser.proofs.Told.{told_bang}
 use Rattle.rr_parser.proofs.Looks.{word-next, next-name, prefix-next}
 use Rattle.rr_parser.proofs.Trails.{trail_deep}
 use Rattle.rr_parser.proofs.Chains.{done, built_ok, IsSound}
-use Rattle.rr_parser.specs.Reading.Calls.{behind_bang, behind_minus, setting_of, settled_of, setting_or, spot_or, reached_on}
-use Rattle.rr_parser.proofs.SoundOperands.{NestedSound, primary_sound, tailed_sound, minus_sound, binary_sound_on, binary_sound, logical_sound_on, logical_sound, postfix_sound, plain_primary_sound}
+use Rattle.rr_parser.specs.Reading.Calls.{behind_bang, behind_minus, setting_of, settled_of, setting_or, spot_or, reached_on, settled_by}
+use Rattle.rr_parser.proofs.SoundOperands.{NestedSound, tailed_sound, minus_sound, binary_sound_on, binary_sound, logical_sound_on, logical_sound, postfix_sound, plain_primary_sound}
 
 abbrev pub IsDeep : {A : Type 0} → Parse A → (Place → Place → Type 0) → Type 0
 IsDeep {A} p F = (s : Place) → p s ≡ Err deep → (z : Place) × F s z
@@ -136,7 +136,7 @@ bare_not_deep : (b : Bool) (x : Sym) (m : Place) → cond b (Err wrong) (done (b
 bare_not_deep true x m e = let never : ⊥ = cc in never
 bare_not_deep false x m e = let never : ⊥ = cc in never
 
-plain_not_deep : (b : Bool) (x : Sym) (m : Place) → cond b (done (local_tree x (variable_of x m)) m) (bare_call x m) ≡ Err deep → ⊥
+plain_not_deep : (b : Bool) (x : Sym) (m : Place) → cond b (done (local_tree x (variable_of x m) (told_behind m.rest)) m) (bare_call x m) ≡ Err deep → ⊥
 plain_not_deep true x m e = let never : ⊥ = cc in never
 plain_not_deep false x m e = bare_not_deep (begins_operands m.rest) x m e
 
@@ -268,7 +268,7 @@ module _ (N : Readers) (R : Nested) (F : Fronts) (sounds : NestedSound N R) (nes
       let d = behind_deep m.0 c m.1 (built_deep plain (block_behind N m.0 c m.1) e) in
       (d.0, in_block f d.1)
 
-  tailed_deep : (x : Tail) (l : Reached) (n : Place) → tailed_of N x l n ≡ Err deep → (z : Place) × TailedFront R F x n z
+  tailed_deep : (x : Tail) (l : Reached) (n : Place) → tailed_of N x l n ≡ Err deep → (z : Place) × TailedFront R F x l n z
   unfolding sent_of sent_call_of element_of
   tailed_deep (tails.Send x) l n e = sent_deep x l n (opened behinds.Call n) refl e
   tailed_deep (tails.Call x) l n e = call_deep (λ q. send l.tree x.0 (listed q)) n (built_deep plain (sent_call_of N l.tree x n) e)
@@ -278,7 +278,7 @@ module _ (N : Readers) (R : Nested) (F : Fronts) (sounds : NestedSound N R) (nes
   unfolding postfix_of
   postfix_deep =
       from_deep (plainly (primary_of N)) (trail_on tail (tailed_of N)) (Plain (Primary R)) (PostfixFront R F) (plain_primary_sound N R sounds)
-      (trail_deep tail (tailed_of N) (Plain (Primary R)) (Tailed R) (tailed_sound N R sounds) (PrimaryFront R F) (TailedFront R F) tailed_deep (λ r f e. bind_deep r f e))
+      (trail_deep tail tail (λ m n x e. e) (tailed_of N) (Plain (Primary R)) (Tailed R) (tailed_sound N R sounds) (PrimaryFront R F) (TailedFront R F) tailed_deep (λ r f e. bind_deep r f e))
       (λ s e. let d = primary_deep s (built_deep plain (primary_of N s) e) in (d.0, in_head d.1))
 
   bang_or-deep : (s : Place) (o : Option (Unit {0} × Place)) → at (word kind.Bang) s ≡ o → bang_or N s o ≡ Err deep → (z : Place) × BangFront R F s z
@@ -384,16 +384,25 @@ module _ (N : Readers) (R : Nested) (F : Fronts) (sounds : NestedSound N R) (nes
   spot_or-deep b s m r None h f e = let d = ternary_deep_on s m r.tree (no_minus (no_bang h)) e in (d.0, in_no_setting d.1)
   spot_or-deep b s m r (Some p) h f e = setting_or-deep b s m r p (at sign m) h f refl e
 
-  behind_bang-deep : (b : Bool) (s : Place) (o : Option (Unit {0} × Place)) → behind_bang N b s o ≡ Err deep → (z : Place) × SettledFront R F b s z
-  behind_bang-deep b s None e =
-      from_deep (postfix_of N) (reached_on N b) (Postfix R) (SettledFront R F b) (postfix_sound N R sounds) (λ s m r h e. spot_or-deep b s m r r.spot h refl e)
-      (λ s e. let d = postfix_deep s e in (d.0, in_no_setting (in_former (logical_front 2 s d.0 (behind_no_minus (behind_no_bang d.1)))))) s e
-  behind_bang-deep b s (Some m) e = let d = ternary_deep s e in (d.0, in_no_setting d.1)
+  pub reached_deep : (b : Bool) → IsDeepOn (reached_on N b) (Postfix R) (SettledFront R F b)
+  reached_deep b s m r h e = spot_or-deep b s m r r.spot h refl e
 
-  behind_minus-deep : (b : Bool) (s : Place) (o : Option (Unit {0} × Place)) → behind_minus N b s o ≡ Err deep → (z : Place) × SettledFront R F b s z
-  behind_minus-deep b s None e = behind_bang-deep b s (at (word kind.Bang) s) e
-  behind_minus-deep b s (Some m) e = let d = ternary_deep s e in (d.0, in_no_setting d.1)
+  -- what goes on from an operand, or an operand with a word before it
+  module _ (on : Reached → Parse Tree) (G : Place → Place → Type 0) (deep_on : IsDeepOn on (Postfix R) G) (in_operand : (s z : Place) → TernaryFront R F s z → G s z) where
+    in_first : IsDeep (postfix_of N) G
+    in_first s e = let d = postfix_deep s e in (d.0, in_operand s d.0 (in_former (logical_front 2 s d.0 (behind_no_minus (behind_no_bang d.1)))))
 
-  pub settled_deep : (b : Bool) → IsDeep (settled_of N b) (SettledFront R F b)
-  unfolding settled_of
-  settled_deep b s e = behind_minus-deep b s (at prefix_minus s) e
+    behind_bang-deep : (s : Place) (o : Option (Unit {0} × Place)) → behind_bang N on s o ≡ Err deep → (z : Place) × G s z
+    behind_bang-deep s None e = from_deep (postfix_of N) on (Postfix R) G (postfix_sound N R sounds) deep_on in_first s e
+    behind_bang-deep s (Some m) e = let d = ternary_deep s e in (d.0, in_operand s d.0 d.1)
+
+    behind_minus-deep : (s : Place) (o : Option (Unit {0} × Place)) → behind_minus N on s o ≡ Err deep → (z : Place) × G s z
+    behind_minus-deep s None e = behind_bang-deep s (at (word kind.Bang) s) e
+    behind_minus-deep s (Some m) e = let d = ternary_deep s e in (d.0, in_operand s d.0 d.1)
+
+    pub settled_by-deep : IsDeep (settled_by N on) G
+    unfolding settled_by
+    settled_by-deep s e = behind_minus-deep s (at prefix_minus s) e
+
+  pub settled_deep : IsDeep (settled_of N) (SettledFront R F false)
+  settled_deep = settled_by-deep (reached_on N false) (SettledFront R F false) (reached_deep false) (λ s z f. in_no_setting f)

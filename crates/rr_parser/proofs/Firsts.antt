@@ -1,5 +1,5 @@
 -- Which words begin what.
-use Rattle.std.proofs.Common.{◌≡◌, ℕ, zero, suc, ◌<◌, Bool, true, false, not, ◌&&◌, List, [], ◌∷◌, Option, Some, None, refl, sym, ap, ◌∙◌, subst, arith}
+use Rattle.std.proofs.Common.{◌≡◌, zero, suc, ◌<◌, Bool, true, false, not, ◌&&◌, List, ◌∷◌, Option, Some, None, refl, sym, ap, ◌∙◌, subst, arith, ℕ, []}
 use Rattle.rr_base.specs.declared.name.Sym.{Sym}
 use Rattle.rr_tree.specs.Tree.{Tree}
 use Rattle.rr_parser.specs.declared.word.Head.{Head}
@@ -25,13 +25,14 @@ use Rattle.rr_parser.specs.Grammar.Nesting.{Nested}
 use Rattle.rr_parser.specs.Grammar.Names.{is_local, name, bracket, is_tight, begins_operand, begins_operands, begins_command, is_allowed, head_of_kind, head, begins_head}
 use Rattle.rr_parser.specs.Grammar.Operands.{joined, literal_of, construct_of, Primary, a_literal, a_constant, a_path, a_negative, a_local, a_bare_call, a_call, a_block_call, a_jump, a_passing, a_passing_call, a_construct, Postfix, Bang, a_bang, no_bang, Minus, a_minus, no_minus, Reached, as_it_is}
 use Rattle.rr_parser.specs.Grammar.Operators.{operator, infixed, connective, joined_by, Binary, a_comparison, a_pair, Logical, Ternary, no_question, a_question}
-use Rattle.rr_parser.specs.Grammar.Calls.{target, Assigned, an_assignment, no_assignment, Argument, a_command, Phrase, by_name, an_operand, Value, closing, target_of_kind, label, star, Item, a_splat, a_plain_item, Member, label_of_kind, last, by_label, by_arrow, Settled, a_setting, no_setting, sign}
+use Rattle.rr_parser.specs.Grammar.Calls.{target, Assigned, an_assignment, no_assignment, Argument, a_command, Phrase, by_name, an_operand, Value, closing, target_of_kind, label, star, label_of_kind, Settled, a_setting, no_setting, sign, by_receiver}
 use Rattle.rr_parser.specs.Grammar.Sequences.{Negation, a_negation, no_negation, Expression, modifier, Statement, modified}
 use Rattle.rr_parser.specs.Reading.Operands.{prefix_minus}
 use Rattle.rr_parser.specs.Reading.Sequences.{ends_at, ends}
 use Rattle.rr_parser.proofs.Looks.{seen_as, none_unless, by_next, one_kind, other-word, name-next, no_prefix, target-next, head-next, command-next}
-use Rattle.rr_parser.proofs.Listing.{closes, ends_member, closing-next, last-next}
+use Rattle.rr_parser.proofs.Listing.{closes, closing-next}
 use Rattle.rr_parser.proofs.Strengths.{strength, strength_in, Stops, stops_by}
+use Rattle.rr_parser.specs.Reading.Calls.{star_unless}
 
 -- ---- the first word
 
@@ -156,10 +157,10 @@ opened_next q s n f e =
     record { kind = w.kind; here = w.here; told = fence_opens q s.known.takes_do w.kind f w.told }
 
 -- a block begins behind what nothing goes on with
-pub opened_stops : (q : Behind) (s n : Place) (f : Fence) → opened q s ≡ Some (f, n) → Stops 29 s
-opened_stops q s n f e = let o = opened_next q s n f e in stops_by o.kind 29 s n o.here (loose o.kind o.told)
+pub opened_stops : (q : Behind) (s n : Place) (f : Fence) → opened q s ≡ Some (f, n) → Stops 31 s
+opened_stops q s n f e = let o = opened_next q s n f e in stops_by o.kind 31 s n o.here (loose o.kind o.told)
   where
-    loose : (k : WordKind) → opens_block k ≡ true → 29 < strength k
+    loose : (k : WordKind) → opens_block k ≡ true → 31 < strength k
     loose kind.OpenBrace g = omega arith
     loose kind.Do g = omega arith
     loose _ g = absurd cc
@@ -271,8 +272,11 @@ ternary_first : (R : Nested) (s z : Place) (t : Tree) → Ternary R s t z → Fi
 ternary_first R s z t (no_question h) = logical_first R 2 s z t h
 ternary_first R s z t (a_question {m = m} {c = c} h e f g i) = logical_first R 2 s m c h
 
+pub postfix_first : (R : Nested) (s z : Place) (r : Reached) → Postfix R s r z → First s
+postfix_first R s z r h = let p = postfix_head R s z r h in primary_first R s p.1 p.0 p.2
+
 pub settled_first : (R : Nested) (b : Bool) (s z : Place) (t : Tree) → Settled R b s t z → First s
-settled_first R b s z t (a_setting {m = m} {r = r} h f g i) = let p = postfix_head R s m r h in primary_first R s p.1 p.0 p.2
+settled_first R b s z t (a_setting {m = m} {r = r} h f g i) = postfix_first R s m r h
 settled_first R b s z t (no_setting h) = ternary_first R s z t h
 
 -- ---- what the first word tells
@@ -371,6 +375,7 @@ head_starts s m x e = let h = head-next s m x e in record { kind = h.0; behind =
 
 pub phrase_starts : (R : Nested) (s z : Place) (t : Tree) → Phrase R s t z → Starts s
 phrase_starts R s z t (by_name (a_command {m = m} {x = x} e h b)) = head_starts s m x (command-next s m x e).0
+phrase_starts R s z t (by_receiver {m = m} {r = r} h e a b) = first_starts s (postfix_first R s m r h)
 phrase_starts R s z t (an_operand h) = first_starts s (settled_first R true s z t h)
 
 pub assigned_starts : (R : Nested) (commands : Bool) (Q : Place → Tree → Place → Type 0) → ((s z : Place) (t : Tree) → Q s t z → Starts s) → (s z : Place) (t : Tree) → Assigned R commands Q s t z → Starts s
@@ -379,45 +384,6 @@ assigned_starts R commands Q begins s z t (no_assignment h) = begins s z t h
 
 pub argument_starts : (R : Nested) (s z : Place) (t : Tree) → Argument R s t z → Starts s
 argument_starts R = assigned_starts R false (Settled R false) (λ s z t h. first_starts s (settled_first R false s z t h))
-
--- a label begins a pair, and else a value does
-label_no_closing : (k : Listed) (s m : Place) (x : Sym) → at label s ≡ Some (x, m) → at (closing k) s ≡ None
-label_no_closing k s m x e = none_unless (at (closing k) s) (λ u z f.
-    let c = closing-next k s z u f in
-    let w = seen_as (λ w. label_of_kind w.kind) s m x e in
-    let g : ◌≡◌ {A = Option Sym} None (Some x) = sym (closing_no_label k c.0 c.2) ∙ ap label_of_kind (one_kind s z m c.0 w.kind c.1 w.here) ∙ w.told in
-    let never : ⊥ = cc in never)
-  where
-    closing_no_label : (k : Listed) (q : WordKind) → closes k q ≡ true → label_of_kind q ≡ None
-    closing_no_label k (kind.Label y) f = not_closing k f
-      where
-        not_closing : (k : Listed) → closes k (kind.Label y) ≡ true → ◌≡◌ {A = Option Sym} (Some y) None
-        not_closing listings.Command f = absurd cc
-        not_closing listings.Call f = absurd cc
-        not_closing listings.Array f = absurd cc
-        not_closing listings.Hash f = absurd cc
-    closing_no_label k _ f = refl
-
-star_closes : (k : Listed) → closes k star ≡ false
-star_closes listings.Command = refl
-star_closes listings.Call = refl
-star_closes listings.Array = refl
-star_closes listings.Hash = refl
-
--- where an item begins, no list ends
-item_no_closing : (R : Nested) (k : Listed) (s z : Place) (t : Tree) → Item R s t z → at (closing k) s ≡ None
-item_no_closing R k s z t (a_splat {m = m} e h) = none_unless (at (closing k) s) (λ u y f.
-    let c = closing-next k s y u f in
-    let g : false ≡ true = sym (star_closes k) ∙ ap (closes k) (one_kind s m y star c.0 e c.1) ∙ c.2 in
-    let never : ⊥ = cc in never)
-item_no_closing R k s z t (a_plain_item h) = starts_no_closing k s (argument_starts R s z t h)
-
-pub member_no_closing : (R : Nested) (k : Listed) (s z : Place) (t : Tree) → Member R k s t z → at (closing k) s ≡ None
-member_no_closing R listings.Command s z t h = item_no_closing R listings.Command s z t h
-member_no_closing R listings.Call s z t h = item_no_closing R listings.Call s z t h
-member_no_closing R listings.Array s z t h = item_no_closing R listings.Array s z t h
-member_no_closing R listings.Hash s z t (by_label {m = m} {x = x} e h) = label_no_closing listings.Hash s m x e
-member_no_closing R listings.Hash s z t (by_arrow {m = m} {k = q} h e i) = starts_no_closing listings.Hash s (argument_starts R s m q h)
 
 start_no_star : (k : WordKind) → starts k ≡ true → is_kind k star ≡ false
 start_no_star (kind.Operator o) e = absurd cc
@@ -431,26 +397,20 @@ start_no_label : (k : WordKind) → starts k ≡ true → label_of_kind k ≡ No
 start_no_label (kind.Label y) e = absurd cc
 start_no_label _ e = refl
 
+-- nor does one stand where a `*` does
+pub star_no_label : (s m : Place) → next s ≡ Some (star, m) → at label s ≡ None
+star_no_label s m e = by_next (λ q. at label q ≡ None) s m star e (λ b. refl)
+
+pub no_star_unless : (only : Bool) (s : Place) → at (word star) s ≡ None → at (star_unless only) s ≡ None
+no_star_unless true s e = refl
+no_star_unless false s e = e
+
 -- where a value begins, no label stands
 pub starts_no_label : (s : Place) → Starts s → at label s ≡ None
 starts_no_label s f = none_unless (at label s) (λ x z e.
     let w = seen_as (λ w. label_of_kind w.kind) s z x e in
     let g : ◌≡◌ {A = Option Sym} None (Some x) = sym (start_no_label f.kind f.told) ∙ ap label_of_kind (one_kind s f.behind z f.kind w.kind f.here w.here) ∙ w.told in
     let never : ⊥ = cc in never)
-
--- what ends a list stops its members
-pub last_stops : (k : Listed) (m z : Place) (u : Unit {0}) → at (last k) m ≡ Some (u, z) → Stops 26 m
-last_stops k m z u e = let h = last-next k m z u e in stops_by h.0 26 m h.1 h.2 (member_stop k h.0 h.3)
-  where
-    member_stop : (k : Listed) (q : WordKind) → ends_member k q ≡ true → 26 < strength q
-    member_stop k kind.Comma f = omega arith
-    member_stop listings.Call kind.Close f = omega arith
-    member_stop listings.Array kind.CloseSquare f = omega arith
-    member_stop listings.Hash kind.CloseBrace f = omega arith
-    member_stop listings.Command _ f = absurd cc
-    member_stop listings.Call _ f = absurd cc
-    member_stop listings.Array _ f = absurd cc
-    member_stop listings.Hash _ f = absurd cc
 
 pub value_starts : (R : Nested) (s z : Place) (t : Tree) → Value R true s t z → Starts s
 value_starts R = assigned_starts R true (Phrase R) (phrase_starts R)

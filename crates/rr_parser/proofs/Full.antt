@@ -1,11 +1,12 @@
 -- What is spelled is read, unless it nests too deep.
-use Rattle.std.proofs.Common.{◌≡◌, ℕ, zero, suc, ◌<◌, inl, inr, Bool, true, false, cond, List, [], Some, None, Ok, refl, sym, ap, ◌∙◌, arith}
-use Rattle.rr_tree.specs.Tree.{Tree, rescue, clause, ensure, sequence, repeat, array, hash, splat, pair, symbol, logical_not, listed}
+use Rattle.std.proofs.Common.{◌≡◌, zero, suc, ◌<◌, inl, inr, Bool, true, false, cond, List, Some, None, Ok, refl, sym, ap, ◌∙◌, arith, ℕ, []}
+use Rattle.rr_tree.specs.Tree.{Tree, rescue, clause, ensure, sequence, repeat, array, hash, splat, pair, symbol, logical_not, listed, send}
 use Rattle.rr_parser.specs.declared.word.Head.{Head}
 use Rattle.rr_parser.specs.declared.word.Listed.{Listed}
 use Rattle.rr_parser.specs.declared.word.Listed.TheVariants as listings
 use Rattle.rr_parser.specs.declared.word.Part.{Part}
 use Rattle.rr_parser.specs.declared.word.Part.TheVariants as parts
+use Rattle.rr_parser.specs.declared.word.WordKind.{WordKind}
 use Rattle.rr_parser.specs.declared.word.WordKind.TheVariants as kind
 use Rattle.rr_parser.specs.declared.word.Behind.{Behind}
 use Rattle.rr_parser.specs.declared.word.Behind.TheVariants as behinds
@@ -17,9 +18,9 @@ use Rattle.rr_parser.specs.Places.{Place, word, at, next, skip, separators}
 use Rattle.rr_parser.specs.Grammar.Chains.{Chain, same, one_of, and_one}
 use Rattle.rr_parser.specs.Grammar.Nesting.{Nested}
 use Rattle.rr_parser.specs.Grammar.Names.{headed, name, command}
-use Rattle.rr_parser.specs.Grammar.Operands.{Blocked, no_block, a_block}
-use Rattle.rr_parser.specs.Grammar.Operators.{connective, joined_by, Ternary}
-use Rattle.rr_parser.specs.Grammar.Calls.{target, with_target, assigned_to, label, comma, closing, last, Assigned, an_assignment, no_assignment, Argument, Pair, by_label, by_arrow, star, Item, a_splat, a_plain_item, Member, Members, Bracketed, no_members, some_members, Array, an_array, Hash, a_hash, Index, of_element, Commanded, Arguments, by_arguments, by_command, Command, a_command, Phrase, by_name, an_operand, Value, Settled}
+use Rattle.rr_parser.specs.Grammar.Operands.{Blocked, no_block, a_block, order, Reached}
+use Rattle.rr_parser.specs.Grammar.Operators.{connective, joined_by}
+use Rattle.rr_parser.specs.Grammar.Calls.{target, with_target, assigned_to, label, comma, closing, last, Assigned, an_assignment, no_assignment, Argument, Pair, by_label, by_arrow, star, Item, a_splat, a_plain_item, Member, Members, Bracketed, no_members, some_members, Array, an_array, Hash, a_hash, Index, of_element, Commanded, Arguments, by_arguments, by_command, Command, a_command, Phrase, by_name, an_operand, Value, Settled, by_receiver, Adding, adding, AddingTo, Given, Listing, a_pair_member, an_item, entry, contents, item, label_of_kind, nothing, only_pairs, with_member}
 use Rattle.rr_parser.specs.Grammar.Sequences.{Negation, a_negation, no_negation, Expression, modifier, modified, Statement, Rows, Statements, no_statements, some_statements, Group, a_group}
 use Rattle.rr_parser.specs.Grammar.Interpolations.{text_middle, first_piece, and_piece, Pieces, Interpolation, an_interpolation}
 use Rattle.rr_parser.specs.Grammar.Control.{thens, loops, elsif, chosen, unless_chosen, Branch, a_branch, Branches, Otherwise, no_else, an_else, Choice, a_choice, Unless, an_unless, Loop, a_loop, looping, outside_loop, Looped, of_loop}
@@ -29,8 +30,7 @@ use Rattle.rr_parser.specs.Grammar.Definitions.{defined, rejoining, method_tree,
 use Rattle.rr_parser.specs.Grammar.{PartOf, inside, outside}
 use Rattle.rr_parser.specs.Reading.Answers.{◌>>=◌, Answer, Parse, built, ended_by, closed, from, across, taking_of}
 use Rattle.rr_parser.specs.Reading.Nesting.{Readers}
-use Rattle.rr_parser.specs.Reading.Operators.{ternary_of}
-use Rattle.rr_parser.specs.Reading.Calls.{assigned_or, assigned_of, argument_of, pair_by, pair_of, item_or, item_of, member_of, another, members_of, bracketed_or, bracketed_of, array_of, hash_of, index_of, commanded_or, commanded_of, arguments_of, headed_of, command_or, command_of, phrase_or, phrase_of, value_of, settled_of}
+use Rattle.rr_parser.specs.Reading.Calls.{assigned_or, assigned_of, argument_of, member_of, another, members_of, bracketed_or, bracketed_of, array_of, hash_of, index_of, commanded_or, commanded_of, arguments_of, headed_of, command_or, command_of, phrase_or, phrase_of, value_of, settled_of, settled_by, ordered_of, order_or, order_on, reached_on, adding_of, adding_to, arrow_or, key_on, label_or, listed_of, lone, star_or, star_unless, unlabeled_of}
 use Rattle.rr_parser.specs.Reading.Sequences.{negation_or, negation_of, expression_of, statement_of, row, rows_of, sequence_of, statements_at, statements_of, group_of}
 use Rattle.rr_parser.specs.Reading.Interpolations.{pieces_of, interpolated_or, interpolated_on, interpolation_of}
 use Rattle.rr_parser.specs.Reading.Control.{both, branch_of, branches_of, otherwise_or, otherwise_of, ended, choice_of, unless_of, loop_of, looped_of}
@@ -38,15 +38,21 @@ use Rattle.rr_parser.specs.Reading.Bodies.{class_or, class_of, several_classes, 
 use Rattle.rr_parser.specs.Reading.Blocks.{left_block, block_or, block_of}
 use Rattle.rr_parser.specs.Reading.Definitions.{left_method, method_or, definition_or, definition_of}
 use Rattle.rr_parser.specs.Reading.{part_of, readers_inside, readers_outside}
-use Rattle.rr_parser.proofs.Told.{told_comma}
-use Rattle.rr_parser.proofs.Looks.{seen, by_next, none_unless, other-word, separators-row, Steps-row}
+use Rattle.rr_parser.proofs.Told.{told_comma, told_arrow}
+use Rattle.rr_parser.proofs.Looks.{seen, by_next, none_unless, other-word, separators-row, Steps-row, seen_as, word-next}
 use Rattle.rr_parser.proofs.Listing.{another-comma, comma-another, last-another, Steps-another}
 use Rattle.rr_parser.proofs.Shrinking.{ReadersShrink, shrinks_nested, Steps-connective, Steps-modifier, Steps-elsif, Steps-comma, Steps-middle, Steps-rescues, class_shrinks}
 use Rattle.rr_parser.proofs.Leading.{Leads, leads_bind, leads_trans, leads_eq, leads_map, IsFull, chain_full, across_full}
 use Rattle.rr_parser.proofs.Strengths.{Stops, stops_by, word_unseen, connective_strength, no_connective_at, modifier_strength, no_modifier_at, comma_strength, separators_stop, thens_stop, loops_stop, ends_behind}
-use Rattle.rr_parser.proofs.Firsts.{next_ends, chain_first, member_no_closing, starts_no_star, starts_no_label, last_stops, settled_first, argument_starts, value_starts, starts_no_not, statement_starts, opened_stops, taking_stops}
+use Rattle.rr_parser.proofs.Firsts.{next_ends, chain_first, starts_no_star, starts_no_label, settled_first, argument_starts, value_starts, starts_no_not, statement_starts, opened_stops, taking_stops, postfix_first, no_star_unless, star_no_label}
+use Rattle.rr_parser.proofs.Closings.{last_stops, MemberStops, adding_no_closing}
 use Rattle.rr_parser.proofs.Stopping.{finished, end_ends, rescue_ends, caught_stop, first_no_command, target_no_command, settled_no_target, phrase_no_target, AtEnd, middle_ends, tail_ends, elsif_ends}
-use Rattle.rr_parser.proofs.FullOperands.{Anywhere, Ends, PartStops, value_stop, NestedFull, word_here, closed_full, taking_full, enclosed_full, same_fence, passed_full, bang_full, minus_full, settled_full}
+use Rattle.rr_parser.proofs.FullOperands.{Anywhere, Ends, PartStops, value_stop, NestedFull, word_here, closed_full, taking_full, enclosed_full, same_fence, passed_full, bang_full, minus_full, settled_full, unprefixed_full}
+use Rattle.rr_parser.specs.declared.word.Head.TheVariants as heads
+use Rattle.rr_base.specs.declared.name.Sym.{Sym}
+use Rattle.rr_parser.proofs.Orders.{order-next, no_order_at}
+use Rattle.rr_parser.specs.Reading.Operands.{then_blocked}
+use Rattle.rr_parser.proofs.Trails.{trail_full, trail_head}
 
 module _ (N : Readers) (R : Nested) (D : Type 0) (shrinks : ReadersShrink N) (nests : NestedFull N R D) where
   -- ---- assignments and calls
@@ -60,37 +66,69 @@ module _ (N : Readers) (R : Nested) (D : Type 0) (shrinks : ReadersShrink N) (ne
   assigned_full b q Q full none s z t (no_assignment h) stops =
       leads_eq (assigned_or N b q s (at target s)) (q s) (Ok (t, z)) (ap (assigned_or N b q s) (none s z t h stops)) (full s z t h stops)
 
-  pub argument_full : IsFull (argument_of N) (Argument R) (Stops 26) D
-  argument_full = assigned_full false (settled_of N false) (Settled R false) (settled_full N R D shrinks nests false) (settled_no_target R false)
+  plain_full : IsFull (settled_of N) (Settled R false) (Stops 27) D
+  plain_full = (settled_full N R D shrinks nests) false (reached_on N false) (λ r m stops. refl)
 
-  pair_full : IsFull (pair_of N) (Pair R) (Stops 26) D
-  unfolding pair_of
-  pair_full s z t (by_label {m = m} {x = x} {t = v} e h) stops =
-      leads_eq (pair_by N s (at label s)) (built (pair (symbol x.0)) (argument_of N m)) (Ok (t, z)) (ap (pair_by N s) e)
-      (leads_bind (argument_of N m) (v, z) (λ q. Ok (pair (symbol x.0) q.0, q.1)) (argument_full m z v h stops))
-  pair_full s z t (by_arrow {m = m} {n = n} {k = k} {t = v} h e i) stops =
-      leads_eq (pair_by N s (at label s)) (across pair (word kind.Arrow) (argument_of N) (argument_of N s)) (Ok (t, z)) (ap (pair_by N s) (starts_no_label s (argument_starts R s m k h)))
-      (across_full pair (word kind.Arrow) (argument_of N) (argument_of N s) k m n z tt v (argument_full s m k h (stops_by kind.Arrow 26 m n e (omega arith))) (word_here kind.Arrow m n e refl) (argument_full n z v i stops))
+  pub argument_full : IsFull (argument_of N) (Argument R) (Stops 27) D
+  argument_full = assigned_full false (settled_of N) (Settled R false) plain_full (settled_no_target R false)
 
-  item_full : IsFull (item_of N) (Item R) (Stops 26) D
-  unfolding item_of
-  item_full s z t (a_splat {m = m} {t = v} e h) stops =
-      leads_eq (item_or N s (at (word star) s)) (built splat (argument_of N m)) (Ok (t, z)) (ap (item_or N s) (word_here star s m e refl))
-      (leads_bind (argument_of N m) (v, z) (λ q. Ok (splat q.0, q.1)) (argument_full m z v h stops))
-  item_full s z t (a_plain_item h) stops =
-      leads_eq (item_or N s (at (word star) s)) (argument_of N s) (Ok (t, z)) (ap (item_or N s) (starts_no_star s (argument_starts R s z t h))) (argument_full s z t h stops)
+  -- an item, where only pairs may not stand
+  lone_full : (only : Bool) (t : Tree) (m : Place) → only ≡ false → lone only t m ≡ Ok (item t, m)
+  lone_full true t m e = absurd cc
+  lone_full false t m e = refl
 
-  member_full : (k : Listed) → IsFull (member_of N k) (Member R k) (Stops 26) D
-  member_full listings.Command = item_full
-  member_full listings.Call = item_full
-  member_full listings.Array = item_full
-  member_full listings.Hash = pair_full
+  star_seen : (only : Bool) (s m : Place) → only ≡ false → next s ≡ Some (star, m) → at (star_unless only) s ≡ Some (tt, m)
+  star_seen true s m e f = absurd cc
+  star_seen false s m e f = word_here star s m f refl
 
-  members_full : (k : Listed) (s z : Place) (l : List Tree) → Members R k s l z → Stops 26 z → at (another k) z ≡ None → Leads (members_of N k s) (Ok (l, z)) D
+  labelless : (only : Bool) (s : Place) → at label s ≡ None → member_of N only s ≡ star_or N only s (at (star_unless only) s)
+  unfolding member_of unlabeled_of
+  labelless only s e = ap (label_or N only s) e
+
+  -- an argument, and what stands behind it
+  keyed_full : (only : Bool) (s m z : Place) (t : Tree) (r : Member) → Argument R s t m → Stops 27 m → Leads (key_on N only t m) (Ok (r, z)) D → Leads (member_of N only s) (Ok (r, z)) D
+  keyed_full only s m z t r h stops l =
+      let begins = argument_starts R s m t h in
+      leads_eq (member_of N only s) (from (argument_of N) (key_on N only) s) (Ok (r, z)) (labelless only s (starts_no_label s begins) ∙ ap (star_or N only s) (no_star_unless only s (starts_no_star s begins)))
+      (leads_trans (from (argument_of N) (key_on N only) s) (key_on N only t m) (Ok (r, z)) (leads_bind (argument_of N s) (t, m) (λ q. key_on N only q.0 q.1) (argument_full s m t h stops)) l)
+
+  item_full : (only : Bool) (s z : Place) (t : Tree) → only ≡ false → Item R s t z → MemberStops z → Leads (member_of N only s) (Ok (item t, z)) D
+  unfolding key_on
+  item_full only s z t o (a_splat {m = m} {t = v} e h) stops =
+      leads_eq (member_of N only s) (built (λ q. item (splat q)) (argument_of N m)) (Ok (item t, z)) (labelless only s (star_no_label s m e) ∙ ap (star_or N only s) (star_seen only s m o e))
+      (leads_bind (argument_of N m) (v, z) (λ q. Ok (item (splat q.0), q.1)) (argument_full m z v h stops.0))
+  item_full only s z t o (a_plain_item h) stops = keyed_full only s z z t (item t) h stops.0 (inl (ap (arrow_or N only t z) stops.1 ∙ lone_full only t z o))
+
+  pair_full : (only : Bool) (s z : Place) (t : Tree) → Pair R s t z → MemberStops z → Leads (member_of N only s) (Ok (entry t, z)) D
+  unfolding member_of key_on
+  pair_full only s z t (by_label {m = m} {x = x} {t = v} e h) stops =
+      leads_eq (label_or N only s (at label s)) (built (λ q. entry (pair (symbol x.0) q)) (argument_of N m)) (Ok (entry t, z)) (ap (label_or N only s) e)
+      (leads_bind (argument_of N m) (v, z) (λ q. Ok (entry (pair (symbol x.0) q.0), q.1)) (argument_full m z v h stops.0))
+  pair_full only s z t (by_arrow {m = m} {n = n} {k = k} {t = v} h e i) stops =
+      keyed_full only s m z k (entry t) h (stops_by kind.Arrow 27 m n e (omega arith))
+      (leads_eq (arrow_or N only k m (at (word kind.Arrow) m)) (built (λ q. entry (pair k q)) (argument_of N n)) (Ok (entry t, z)) (ap (arrow_or N only k m) (word_here kind.Arrow m n e refl))
+      (leads_bind (argument_of N n) (v, z) (λ q. Ok (entry (pair k q.0), q.1)) (argument_full n z v i stops.0)))
+
+  member_full : (only : Bool) → IsFull (member_of N only) (Listing R only) MemberStops D
+  member_full only s z r (an_item {t = t} o h) stops = item_full only s z t o h stops
+  member_full only s z r (a_pair_member {t = t} h) stops = pair_full only s z t h stops
+
+  adding_full : (k : Listed) (g : Given) → IsFull (adding_of N k g) (Adding R k g) MemberStops D
+  unfolding adding_of
+  adding_full k g s z t (adding {m = m} h) stops = leads_bind (member_of N (only_pairs k g) s) (m, z) (λ q. Ok (with_member g q.0, q.1)) (member_full (only_pairs k g) s z m h stops)
+
+  comma_stops : (m n : Place) (u : Unit {0}) → at comma m ≡ Some (u, n) → MemberStops m
+  comma_stops m n u e = (omega (arith, comma_strength m n u e), other-word kind.Arrow kind.Comma m n (word-next kind.Comma told_comma m n u e) refl)
+
+  members_full : (k : Listed) (s z : Place) (g : Given) → Members R k s g z → MemberStops z → at (another k) z ≡ None → Leads (members_of N k s) (Ok (g, z)) D
   unfolding members_of
-  members_full k s z l c stops none =
-      chain_full comma (another k) one_of and_one (member_of N k) (Member R k) (Stops 26) D (Steps-another k) (shrinks.member k)
-      (λ m n x e. omega (arith, comma_strength m n x e)) (λ m n z x r e h. comma-another k m n x e (member_no_closing R k n z r h)) (member_full k) s z l c stops none
+  members_full k s z g c stops none =
+      trail_full comma (another k) (adding_to N k) (Steps-another k) (λ x l n y t e. shrinks.added k l n y t e) (adding_of N k nothing) (Adding R k nothing) (AddingTo R k) D MemberStops comma_stops
+      (λ m n y x l t e h. comma-another k m n x e (adding_no_closing R k l n y t h)) (adding_full k nothing) (λ x l. adding_full k l) s z g c stops none
+
+  listed_full : (k : Listed) (s z : Place) (g : Given) → Members R k s g z → MemberStops z → at (another k) z ≡ None → Leads (listed_of N k s) (Ok (contents k g, z)) D
+  unfolding listed_of
+  listed_full k s z g c stops none = leads_bind (members_of N k s) (g, z) (λ q. Ok (contents k q.0, q.1)) (members_full k s z g c stops none)
 
   -- no comma, no further member
   no_another : (k : Listed) (z : Place) → at comma z ≡ None → at (another k) z ≡ None
@@ -98,17 +136,18 @@ module _ (N : Readers) (R : Nested) (D : Type 0) (shrinks : ReadersShrink N) (ne
       let g : seen u n ≡ None = sym (another-comma k z n u f) ∙ e in
       let never : ⊥ = cc in never)
 
-  commands_full : (s z : Place) (l : List Tree) → Members R listings.Command s l z → Stops 27 z → Leads (members_of N listings.Command s) (Ok (l, z)) D
-  commands_full s z l c stops = members_full listings.Command s z l c (omega (arith, stops)) (no_another listings.Command z (word_unseen kind.Comma told_comma z stops))
+  commands_full : (s z : Place) (g : Given) → Members R listings.Command s g z → Stops 29 z → Leads (listed_of N listings.Command s) (Ok (contents listings.Command g, z)) D
+  commands_full s z g c stops =
+      listed_full listings.Command s z g c (omega (arith, stops), word_unseen kind.Arrow told_arrow z stops) (no_another listings.Command z (word_unseen kind.Comma told_comma z (omega (arith, stops))))
 
   pub bracketed_full : (k : Listed) → IsFull (bracketed_of N k) (Bracketed R k) Anywhere D
   unfolding bracketed_of
   bracketed_full k s z l (no_members e) u = inl (ap (bracketed_or N k s) e)
-  bracketed_full k s z l (some_members {m = m} {u = v} c e) u =
-      let f = chain_first comma one_of and_one (Member R k) s m l c in
-      leads_eq (bracketed_or N k s (at (closing k) s)) (members_of N k s >>= λ q. ended_by q.0 (at (last k) q.1)) (Ok (l, z)) (ap (bracketed_or N k s) (member_no_closing R k s f.1 f.0 f.2))
-      (leads_trans (members_of N k s >>= λ q. ended_by q.0 (at (last k) q.1)) (ended_by l (at (last k) m)) (Ok (l, z))
-      (leads_bind (members_of N k s) (l, m) (λ q. ended_by q.0 (at (last k) q.1)) (members_full k s m l c (last_stops k m z v e) (last-another k m z v e)))
+  bracketed_full k s z l (some_members {m = m} {u = v} {g = g} c e) u =
+      let f = trail_head comma (Adding R k nothing) (AddingTo R k) s m g c in
+      leads_eq (bracketed_or N k s (at (closing k) s)) (listed_of N k s >>= λ q. ended_by q.0 (at (last k) q.1)) (Ok (l, z)) (ap (bracketed_or N k s) (adding_no_closing R k nothing s f.1 f.0 f.2))
+      (leads_trans (listed_of N k s >>= λ q. ended_by q.0 (at (last k) q.1)) (ended_by l (at (last k) m)) (Ok (l, z))
+      (leads_bind (listed_of N k s) (l, m) (λ q. ended_by q.0 (at (last k) q.1)) (listed_full k s m g c (last_stops k m z v e) (last-another k m z v e)))
       (inl (ap (ended_by l) e)))
 
   array_full : IsFull (array_of N) (Array R) Anywhere D
@@ -121,7 +160,7 @@ module _ (N : Readers) (R : Nested) (D : Type 0) (shrinks : ReadersShrink N) (ne
 
   index_full : IsFull (index_of N) (Index R) Anywhere D
   unfolding index_of
-  index_full s z t (of_element {m = m} h e) u = closed_full kind.CloseSquare (argument_of N s) t m z refl (argument_full s m t h (stops_by kind.CloseSquare 26 m z e (omega arith))) e
+  index_full s z t (of_element {m = m} h e) u = closed_full kind.CloseSquare (argument_of N s) t m z refl (argument_full s m t h (stops_by kind.CloseSquare 27 m z e (omega arith))) e
 
   argument_no_command : (s z : Place) (t : Tree) → Argument R s t z → at (command s.known) s ≡ None
   argument_no_command s z t (an_assignment {n = n} {x = x} e h) = target_no_command s n x e
@@ -131,45 +170,77 @@ module _ (N : Readers) (R : Nested) (D : Type 0) (shrinks : ReadersShrink N) (ne
   item_no_command s z t (a_splat {m = m} e h) = by_next (λ q. at (command q.known) q ≡ None) s m star e (λ b. refl)
   item_no_command s z t (a_plain_item h) = argument_no_command s z t h
 
-  pub commanded_full : IsFull (commanded_of N) (Commanded R) (Stops 27) D
+  label_no_command : (s m : Place) (x : Sym) → at label s ≡ Some (x, m) → at (command s.known) s ≡ None
+  label_no_command s m x e = let w = seen_as (λ w. label_of_kind w.kind) s m x e in by_kind w.kind w.here w.told
+    where
+      by_kind : (k : WordKind) → next s ≡ Some (k, m) → label_of_kind k ≡ Some x → at (command s.known) s ≡ None
+      by_kind (kind.Label y) f g = by_next (λ q. at (command q.known) q ≡ None) s m (kind.Label y) f (λ b. refl)
+      by_kind _ f g = absurd cc
+
+  listing_no_command : (only : Bool) (s z : Place) (r : Member) → Listing R only s r z → at (command s.known) s ≡ None
+  listing_no_command only s z r (an_item {t = t} e h) = item_no_command s z t h
+  listing_no_command only s z r (a_pair_member (by_label {m = m} {x = x} e h)) = label_no_command s m x e
+  listing_no_command only s z r (a_pair_member (by_arrow {m = m} {k = q} h e i)) = argument_no_command s m q h
+
+  adding_no_command : (k : Listed) (g : Given) (s z : Place) (t : Given) → Adding R k g s t z → at (command s.known) s ≡ None
+  adding_no_command k g s z t (adding {m = m} h) = listing_no_command (only_pairs k g) s z m h
+
+  pub commanded_full : IsFull (commanded_of N) (Commanded R) (Stops 29) D
   unfolding commanded_of
-  commanded_full s z l (by_arguments c) stops =
-      let f = chain_first comma one_of and_one (Item R) s z l c in
-      leads_eq (commanded_or N s (at (command s.known) s)) (members_of N listings.Command s) (Ok (l, z)) (ap (commanded_or N s) (item_no_command s f.1 f.0 f.2)) (commands_full s z l c stops)
+  commanded_full s z l (by_arguments {g = g} c) stops =
+      let f = trail_head comma (Adding R listings.Command nothing) (AddingTo R listings.Command) s z g c in
+      leads_eq (commanded_or N s (at (command s.known) s)) (listed_of N listings.Command s) (Ok (l, z)) (ap (commanded_or N s) (adding_no_command listings.Command nothing s f.1 f.0 f.2)) (commands_full s z g c stops)
   commanded_full s z l (by_command {t = t} e h) stops =
       leads_eq (commanded_or N s (at (command s.known) s)) (built one_of (N.part parts.Command s)) (Ok (l, z)) (ap (commanded_or N s) e)
       (leads_bind (N.part parts.Command s) (t, z) (λ y. Ok (one_of y.0, y.1)) (nests.part parts.Command s z t h stops))
 
   -- what stands behind the arguments stops them
-  blocked_stops : (q : Behind) (c : Tree) (n z : Place) (t : Tree) → Blocked R q c n t z → Stops 27 z → Stops 27 n
+  blocked_stops : (q : Behind) (c : Tree) (n z : Place) (t : Tree) → Blocked R q c n t z → Stops 29 z → Stops 29 n
   blocked_stops q c n z t (no_block e) stops = stops
   blocked_stops q c n z t (a_block {m = m} {f = f} e h) stops = omega (arith, opened_stops q n m f e)
 
-  called_full : (m n z : Place) (x : Head) (l : List Tree) (t : Tree) → Arguments R x m l n → Blocked R (behinds.Command x) (headed x l) n t z → Stops 27 z → Leads (headed_of N x m) (Ok (t, z)) D
-  unfolding headed_of
-  called_full m n z x l t h b stops =
-      (passed_full N R D shrinks nests) (behinds.Command x) (headed x) (arguments_of N x m) n z l t
-      (taking_full (within_head x m.known.takes_do) (commanded_of N) (Commanded R) (Stops 27) (λ a y. taking_stops 27 a y) commanded_full m n l h (blocked_stops (behinds.Command x) (headed x l) n z t b stops)) b
+  given_full : (f : List Tree → Tree) (m n z : Place) (x : Head) (l : List Tree) (t : Tree) → Arguments R x m l n → Blocked R (behinds.Command x) (f l) n t z → Stops 29 z → Leads (then_blocked N (behinds.Command x) (built f (arguments_of N x m))) (Ok (t, z)) D
+  given_full f m n z x l t h b stops =
+      (passed_full N R D shrinks nests) (behinds.Command x) f (arguments_of N x m) n z l t
+      (taking_full (within_head x m.known.takes_do) (commanded_of N) (Commanded R) (Stops 29) (λ a y. taking_stops 29 a y) commanded_full m n l h (blocked_stops (behinds.Command x) (f l) n z t b stops)) b
 
-  pub command_full : IsFull (command_of N) (Command R) (Stops 27) D
+  called_full : (m n z : Place) (x : Head) (l : List Tree) (t : Tree) → Arguments R x m l n → Blocked R (behinds.Command x) (headed x l) n t z → Stops 29 z → Leads (headed_of N x m) (Ok (t, z)) D
+  unfolding headed_of
+  called_full m n z x l t h b stops = given_full (headed x) m n z x l t h b stops
+
+  pub command_full : IsFull (command_of N) (Command R) (Stops 29) D
   unfolding command_of
   command_full s z t (a_command {m = m} {n = n} {x = x} {l = l} e h b) stops =
       leads_eq (command_or N (at (command s.known) s)) (headed_of N x m) (Ok (t, z)) (ap (command_or N) e) (called_full m n z x l t h b stops)
 
-  phrase_full : IsFull (phrase_of N) (Phrase R) (Stops 27) D
+  -- a command with a receiver, and where there is none
+  order_full : (m n o z : Place) (r : Reached) (x : Sym) (l : List Tree) (t : Tree) → at order m ≡ Some (x, n) → Arguments R (heads.Call x) n l o → Blocked R (behinds.Command (heads.Call x)) (send r.tree x.0 (listed l)) o t z → Stops 29 z
+      → Leads (order_on N r m) (Ok (t, z)) D
+  unfolding order_on ordered_of
+  order_full m n o z r x l t e a b stops = leads_eq (order_or N r m (at order m)) (ordered_of N r.tree x n) (Ok (t, z)) (ap (order_or N r m) e) (given_full (λ q. send r.tree x.0 (listed q)) n o z (heads.Call x) l t a b stops)
+
+  order_still : (r : Reached) (m : Place) → Stops 0 m → order_on N r m ≡ reached_on N true r m
+  unfolding order_on
+  order_still r m stops = ap (order_or N r m) (no_order_at m stops)
+
+  phrase_full : IsFull (phrase_of N) (Phrase R) (Stops 29) D
   unfolding phrase_of
   phrase_full s z t (by_name (a_command {m = m} {n = n} {x = x} {l = l} e h b)) stops =
       leads_eq (phrase_or N s (at (command s.known) s)) (headed_of N x m) (Ok (t, z)) (ap (phrase_or N s) e) (called_full m n z x l t h b stops)
+  phrase_full s z t (by_receiver {m = m} {n = n} {o = o} {r = r} {x = x} {l = l} h e a b) stops =
+      leads_eq (phrase_or N s (at (command s.known) s)) (settled_by N (order_on N) s) (Ok (t, z)) (ap (phrase_or N s) (first_no_command s (postfix_first R s m r h)))
+      ((unprefixed_full N R D shrinks nests) (order_on N) s m z r t h (order-next m n x e).no_tail (order_full m n o z r x l t e a b stops))
   phrase_full s z t (an_operand h) stops =
-      leads_eq (phrase_or N s (at (command s.known) s)) (settled_of N true s) (Ok (t, z)) (ap (phrase_or N s) (first_no_command s (settled_first R true s z t h))) ((settled_full N R D shrinks nests true) s z t h stops)
+      leads_eq (phrase_or N s (at (command s.known) s)) (settled_by N (order_on N) s) (Ok (t, z)) (ap (phrase_or N s) (first_no_command s (settled_first R true s z t h)))
+      ((settled_full N R D shrinks nests) true (order_on N) order_still s z t h stops)
 
   pub value_full : (b : Bool) → IsFull (value_of N b) (Value R b) (Stops (value_stop b)) D
-  value_full false = assigned_full false (settled_of N false) (Settled R false) (settled_full N R D shrinks nests false) (settled_no_target R false)
+  value_full false = assigned_full false (settled_of N) (Settled R false) plain_full (settled_no_target R false)
   value_full true = assigned_full true (phrase_of N) (Phrase R) phrase_full (phrase_no_target R)
 
   -- ---- statements
 
-  pub negation_full : IsFull (negation_of N) (Negation R) (Stops 27) D
+  pub negation_full : IsFull (negation_of N) (Negation R) (Stops 29) D
   unfolding negation_of
   negation_full s z t (a_negation {m = m} {t = v} e h) stops =
       leads_eq (negation_or N s (at (word kind.NotWord) s)) (built logical_not (N.part parts.Not m)) (Ok (t, z)) (ap (negation_or N s) (word_here kind.NotWord s m e refl))
@@ -177,22 +248,22 @@ module _ (N : Readers) (R : Nested) (D : Type 0) (shrinks : ReadersShrink N) (ne
   negation_full s z t (no_negation h) stops =
       leads_eq (negation_or N s (at (word kind.NotWord) s)) (value_of N true s) (Ok (t, z)) (ap (negation_or N s) (starts_no_not s (value_starts R s z t h))) (value_full true s z t h stops)
 
-  pub expression_full : IsFull (expression_of N) (Expression R) (Stops 28) D
+  pub expression_full : IsFull (expression_of N) (Expression R) (Stops 30) D
   unfolding expression_of
   expression_full s z t c stops =
-      chain_full (connective 3) (connective 3) same joined_by (negation_of N) (Negation R) (Stops 27) D (Steps-connective 3) shrinks.negation
+      chain_full (connective 3) (connective 3) same joined_by (negation_of N) (Negation R) (Stops 29) D (Steps-connective 3) shrinks.negation
       (λ m n x e. omega (arith, connective_strength 3 m n x e)) (λ m n z x r e h. e) negation_full s z t c (omega (arith, stops)) (no_connective_at 3 z stops)
 
-  pub statement_full : IsFull (statement_of N) (Statement R) (Stops 29) D
+  pub statement_full : IsFull (statement_of N) (Statement R) (Stops 31) D
   unfolding statement_of
   statement_full s z t c stops =
-      chain_full modifier modifier same modified (expression_of N) (Expression R) (Stops 28) D Steps-modifier shrinks.expression
+      chain_full modifier modifier same modified (expression_of N) (Expression R) (Stops 30) D Steps-modifier shrinks.expression
       (λ m n x e. omega (arith, modifier_strength m n x e)) (λ m n z x r e h. e) expression_full s z t c (omega (arith, stops)) (no_modifier_at z stops)
 
-  rows_full : (s z : Place) (l : List Tree) → Rows R s l z → Stops 29 z → at row z ≡ None → Leads (rows_of N s) (Ok (l, z)) D
+  rows_full : (s z : Place) (l : List Tree) → Rows R s l z → Stops 31 z → at row z ≡ None → Leads (rows_of N s) (Ok (l, z)) D
   unfolding rows_of
   rows_full s z l c stops e =
-      chain_full separators row one_of and_one (statement_of N) (Statement R) (Stops 29) D Steps-row shrinks.statement
+      chain_full separators row one_of and_one (statement_of N) (Statement R) (Stops 31) D Steps-row shrinks.statement
       (λ m n x e. separators_stop m n x e) (λ m n z x r e h. separators-row m n x e (statement_starts R n z r h)) statement_full s z l c stops e
 
   pub statements_full : IsFull (statements_of N) (Statements R) Ends D
@@ -270,7 +341,7 @@ module _ (N : Readers) (R : Nested) (D : Type 0) (shrinks : ReadersShrink N) (ne
   loop_full until s z t (a_loop {m = m} {n = n} {o = o} {c = c} {t = b} {u = u} h e i f) v =
       closed_full kind.End (across (repeat until) loops (statements_of N) (taking_of false (expression_of N) s)) t o z refl
       (across_full (repeat until) loops (statements_of N) (taking_of false (expression_of N) s) c m n o u b
-      (taking_full false (expression_of N) (Expression R) (Stops 28) (λ a y. taking_stops 28 a y) expression_full s m c h (loops_stop m n u e)) e (statements_full n o b i (next_ends o z kind.End true f refl))) f
+      (taking_full false (expression_of N) (Expression R) (Stops 30) (λ a y. taking_stops 30 a y) expression_full s m c h (loops_stop m n u e)) e (statements_full n o b i (next_ends o z kind.End true f refl))) f
 
   looped_full : (until : Bool) → IsFull (looped_of N until) (Looped R until) Anywhere D
   looped_full until s z t (of_loop {z = y} h) u = leads_bind (loop_of N until (looping s)) (t, y) (λ x. Ok (x.0, outside_loop s x.1)) (loop_full until (looping s) y t h tt)
@@ -287,7 +358,7 @@ module _ (N : Readers) (R : Nested) (D : Type 0) (shrinks : ReadersShrink N) (ne
   class_path : (s z : Place) (t : Tree) → Class s t z → (x : Path) × (at path s ≡ Some (x, z))
   class_path s z t (a_class {x = x} e) = (x, e)
 
-  classes_full : IsFull classes_of Classes (Stops 27) D
+  classes_full : IsFull classes_of Classes (Stops 28) D
   classes_full s z l (no_classes e) stops = inl (ap (classes_or s) e)
   classes_full s z l (some_classes c) stops =
       let f = chain_first comma one_of and_one Class s z l c in

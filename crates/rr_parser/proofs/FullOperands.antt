@@ -1,9 +1,9 @@
 -- What is spelled of operands and operators is read, unless it nests too deep.
 use Rattle.rr_parser.specs.declared.word.Sign.{Sign}
 use Rattle.rr_parser.specs.Grammar.Calls.{Settled, a_setting, no_setting, settled, sign}
-use Rattle.std.proofs.Common.{◌≡◌, ℕ, zero, suc, ◌+◌, ◌*◌, inl, inr, pos, Bool, true, false, cond, List, [], Option, Some, None, Ok, Err, refl, sym, ap, ◌∙◌, subst, arith}
+use Rattle.std.proofs.Common.{◌≡◌, zero, suc, ◌+◌, ◌*◌, inl, inr, pos, Bool, true, false, cond, List, Option, Some, None, Ok, Err, refl, sym, ap, ◌∙◌, subst, arith, ℕ, []}
 use Rattle.rr_base.specs.declared.name.Sym.{Sym}
-use Rattle.rr_tree.specs.Tree.{Tree, nil, truth, int, text, bare, call, with_block, negate, choose, send, index, symbol, constant, field, global, itself, logical_not, listed}
+use Rattle.rr_tree.specs.Tree.{Tree, nil, truth, int, text, bare, call, with_block, negate, choose, send, symbol, constant, field, global, itself, logical_not, listed}
 use Rattle.rr_parser.specs.declared.word.Tail.{Tail}
 use Rattle.rr_parser.specs.declared.word.Jump.{Jump}
 use Rattle.rr_parser.specs.declared.word.Passing.{Passing}
@@ -18,7 +18,7 @@ use Rattle.rr_parser.specs.declared.word.Fence.TheVariants as fences
 use Rattle.rr_parser.specs.Grammar.Fences.{Taking, taken, taking, taking_as, fence_end, opened}
 use Rattle.rr_parser.specs.Places.{is_kind, where_true, seen_before, placed, Place, word, at, next}
 use Rattle.rr_parser.specs.Grammar.Nesting.{Nested}
-use Rattle.rr_parser.specs.Grammar.Names.{is_local, variable_of, local_tree, is_allowed, jump_tree, begins_arguments, passed, passed_bare, name, bracket, begins_operands}
+use Rattle.rr_parser.specs.Grammar.Names.{is_local, variable_of, told_behind, local_tree, is_allowed, jump_tree, begins_arguments, passed, passed_bare, name, bracket, begins_operands}
 use Rattle.rr_parser.specs.Grammar.Operands.{fits, fits_below, negated, joined, literal_of, inner_constant, construct_of, Blocked, no_block, a_block, Primary, a_literal, a_constant, a_path, a_negative, a_local, a_bare_call, a_call, a_block_call, a_jump, a_passing, a_passing_call, a_construct, tail, Tailed, a_sent_call, an_index, Postfix, Bang, a_bang, no_bang, Minus, a_minus, no_minus, Spot, Reached, plain, at_element, Plain, as_it_is, an_attribute, a_block_send}
 use Rattle.rr_parser.specs.Grammar.Operators.{operator, infixed, connective, joined_by, Logical, Binary, Equality, a_comparison, a_pair, Ternary, no_question, a_question}
 use Rattle.rr_parser.specs.Reading.Answers.{wrong, deep, Answer, Parse, built, ended_by, closed, across, taking_of, ◌>>=◌, chain_on, from}
@@ -34,7 +34,7 @@ use Rattle.rr_parser.proofs.Trails.{trail_full}
 use Rattle.rr_parser.proofs.Chains.{done, chain_on-ends, ok_place}
 use Rattle.rr_parser.proofs.Leading.{Leads, leads_bind, leads_trans, leads_eq, IsFull, IsFullOn, from_full, onward_bind, onward_full, across_full}
 use Rattle.rr_parser.proofs.Strengths.{Stops, stops_by, word_unseen, operator_strength, no_operator_at, connective_strength, no_connective_at, no_tail_at, sign_strength, strength_in}
-use Rattle.rr_parser.specs.Reading.Calls.{setting_of, settled_of, setting_or, spot_or, reached_on, behind_bang, behind_minus}
+use Rattle.rr_parser.specs.Reading.Calls.{setting_of, setting_or, spot_or, reached_on, behind_bang, behind_minus, settled_by}
 use Rattle.rr_parser.proofs.Firsts.{postfix_no_bang, bang_no_prefix}
 
 abbrev pub Anywhere : Place → Type 0
@@ -47,15 +47,15 @@ Ends z = ends z.rest ≡ true
 abbrev pub PartStops : Part → Place → Type 0
 PartStops parts.Minus = Stops 0
 PartStops parts.Bang = Stops 0
-PartStops parts.Not = Stops 27
-PartStops parts.Command = Stops 27
-PartStops parts.Branch = Stops 26
+PartStops parts.Not = Stops 29
+PartStops parts.Command = Stops 29
+PartStops parts.Branch = Stops 27
 PartStops _ = Anywhere
 
 -- what stops a value
 abbrev pub value_stop : Bool → ℕ
-value_stop false = 26
-value_stop true = 27
+value_stop false = 27
+value_stop true = 29
 
 pub record NestedFull (N : Readers) (R : Nested) (D : Type 0) : Type 0 where
   pub part : (p : Part) → IsFull (N.part p) (R.part p) (PartStops p) D
@@ -174,11 +174,11 @@ module _ (N : Readers) (R : Nested) (D : Type 0) (shrinks : ReadersShrink N) (ne
       leads_eq (name_or N x m (at bracket m)) (block_behind N k (call x.0 (listed [])) n) (Ok (with_block (call x.0 (listed [])) b, z)) (ap (name_or N x m) e ∙ ap (unbracketed_or N x m) f)
       (behind_full k (call x.0 (listed [])) n z b h)
 
-  local_full : (x : Sym) (m : Place) → is_local x m ≡ true → variable_or_call x m ≡ Ok (local_tree x (variable_of x m), m)
-  local_full x m e = ap (λ b. cond b (Ok (local_tree x (variable_of x m), m)) (bare_call x m)) e
+  local_full : (x : Sym) (m : Place) → is_local x m ≡ true → variable_or_call x m ≡ Ok (local_tree x (variable_of x m) (told_behind m.rest), m)
+  local_full x m e = ap (λ b. cond b (Ok (local_tree x (variable_of x m) (told_behind m.rest), m)) (bare_call x m)) e
 
   other_full : (x : Sym) (m : Place) → is_local x m ≡ false → variable_or_call x m ≡ bare_call x m
-  other_full x m e = ap (λ b. cond b (Ok (local_tree x (variable_of x m), m)) (bare_call x m)) e
+  other_full x m e = ap (λ b. cond b (Ok (local_tree x (variable_of x m) (told_behind m.rest), m)) (bare_call x m)) e
 
   bare_full : (x : Sym) (m : Place) → begins_operands m.rest ≡ false → bare_call x m ≡ Ok (bare x.0, m)
   bare_full x m e = ap (λ b. cond b (Err wrong) (Ok (bare x.0, m))) e
@@ -247,9 +247,18 @@ module _ (N : Readers) (R : Nested) (D : Type 0) (shrinks : ReadersShrink N) (ne
   as_it_is_full : (s z : Place) (t : Reached) → Plain (Primary R) s t z → Leads (plainly (primary_of N) s) (Ok (t, z)) D
   as_it_is_full s z t (as_it_is {t = u} h) = leads_bind (primary_of N s) (u, z) (λ q. Ok (plain q.0, q.1)) (primary_full s z u h tt)
 
-  postfix_full : IsFull (postfix_of N) (Postfix R) (Stops 0) D
+  -- where no operand goes on
+  abbrev Tailless : Place → Type 0
+  Tailless z = at tail z ≡ None
+
+  tailless_full : IsFull (postfix_of N) (Postfix R) Tailless D
   unfolding postfix_of
-  postfix_full = trail_full tail (tailed_of N) Steps-tail (λ x l n z t e. shrinks.tailed x l n z t e) (plainly (primary_of N)) (Plain (Primary R)) (Tailed R) D (Stops 0) as_it_is_full tailed_full no_tail_at
+  tailless_full s z r h none =
+      trail_full tail tail (tailed_of N) Steps-tail (λ x l n z t e. shrinks.tailed x l n z t e) (plainly (primary_of N)) (Plain (Primary R)) (Tailed R) D Anywhere (λ m n x e. tt) (λ m n z x l t e g. e)
+      (λ s z t g u. as_it_is_full s z t g) (λ x l n z t g u. tailed_full x l n z t g) s z r h tt none
+
+  postfix_full : IsFull (postfix_of N) (Postfix R) (Stops 0) D
+  postfix_full s z r h stops = tailless_full s z r h (no_tail_at z stops)
 
   pub bang_full : IsFull (bang_of N) (Bang R) (Stops 0) D
   unfolding bang_of
@@ -291,28 +300,28 @@ module _ (N : Readers) (R : Nested) (D : Type 0) (shrinks : ReadersShrink N) (ne
       (leads_eq (pair_or N l m (at (operator 5) m)) (built (infixed o l) (binary_of N 4 n)) (Ok (t, z)) (ap (pair_or N l m) e)
       (leads_bind (binary_of N 4 n) (r, z) (λ x. Ok (infixed o l x.0, x.1)) (binary_full 4 n z r g (omega (arith, stops)))))
 
-  logical_full_on : (level : ℕ) → IsFullOn (Minus R) (Stops 0) (logical_on N level) (Logical R level) (Stops (16 + 4 * level)) D
+  logical_full_on : (level : ℕ) → IsFullOn (Minus R) (Stops 0) (logical_on N level) (Logical R level) (Stops (15 + 5 * level)) D
   unfolding logical_on
   logical_full_on zero s z t h stops = equality_full_on s z t h (omega (arith, stops))
   logical_full_on (suc level) s z t c stops =
-      onward_full (connective (suc level)) joined_by (logical_of N level) (Logical R level) (Stops (16 + 4 * level)) D (Steps-connective (suc level)) (shrinks.logical level)
+      onward_full (connective (suc level)) joined_by (logical_of N level) (Logical R level) (Stops (15 + 5 * level)) D (Steps-connective (suc level)) (shrinks.logical level)
       (λ m n x e. omega (arith, connective_strength (suc level) m n x e))
-      (from_full (minus_of N) (logical_on N level) (Minus R) (Stops 0) (Logical R level) (Stops (16 + 4 * level)) minus_full (logical_full_on level))
+      (from_full (minus_of N) (logical_on N level) (Minus R) (Stops 0) (Logical R level) (Stops (15 + 5 * level)) minus_full (logical_full_on level))
       (Minus R) (Stops 0) (logical_on N level) (logical_full_on level) s z t c (omega (arith, stops)) (no_connective_at (suc level) z stops)
 
-  ternary_full_on : IsFullOn (Minus R) (Stops 0) (ternary_on N) (Ternary R) (Stops 26) D
+  ternary_full_on : IsFullOn (Minus R) (Stops 0) (ternary_on N) (Ternary R) (Stops 27) D
   unfolding ternary_on
   ternary_full_on s z t (no_question h) stops =
       onward_bind (logical_on N 2) (λ c. question_or N c.0 c.1 (at (word kind.Question) c.1)) s t z (Ok (t, z)) (logical_full_on 2 s z t h (omega (arith, stops)))
       (inl (ap (question_or N t z) (word_unseen kind.Question told_question z (omega (arith, stops)))))
   ternary_full_on s z t (a_question {m = m} {n = n} {o = o} {y = y} {c = c} {t = a} {e = b} h e f g i) stops =
-      onward_bind (logical_on N 2) (λ c. question_or N c.0 c.1 (at (word kind.Question) c.1)) s c m (Ok (t, z)) (logical_full_on 2 s m c h (stops_by kind.Question 24 m n e (omega arith)))
+      onward_bind (logical_on N 2) (λ c. question_or N c.0 c.1 (at (word kind.Question) c.1)) s c m (Ok (t, z)) (logical_full_on 2 s m c h (stops_by kind.Question 25 m n e (omega arith)))
       (leads_eq (question_or N c m (at (word kind.Question) m)) (across (choose c) (word kind.Colon) (N.part parts.Branch) (N.part parts.Branch n)) (Ok (t, z)) (ap (question_or N c m) (word_here kind.Question m n e refl))
       (across_full (choose c) (word kind.Colon) (N.part parts.Branch) (N.part parts.Branch n) a o y z tt b
-      (nests.part parts.Branch n o a f (stops_by kind.Colon 26 o y g (omega arith))) (word_here kind.Colon o y g refl) (nests.part parts.Branch y z b i stops)))
+      (nests.part parts.Branch n o a f (stops_by kind.Colon 27 o y g (omega arith))) (word_here kind.Colon o y g refl) (nests.part parts.Branch y z b i stops)))
 
-  pub ternary_full : IsFull (ternary_of N) (Ternary R) (Stops 26) D
-  ternary_full = from_full (minus_of N) (ternary_on N) (Minus R) (Stops 0) (Ternary R) (Stops 26) minus_full ternary_full_on
+  pub ternary_full : IsFull (ternary_of N) (Ternary R) (Stops 27) D
+  ternary_full = from_full (minus_of N) (ternary_on N) (Minus R) (Stops 0) (Ternary R) (Stops 27) minus_full ternary_full_on
 
   -- ---- assignments to an element or an attribute
 
@@ -328,19 +337,19 @@ module _ (N : Readers) (R : Nested) (D : Type 0) (shrinks : ReadersShrink N) (ne
   unfolding equality_on
   equality_still l m stops = ap (λ (q : Answer Tree). q >>= λ x. pair_or N x.0 x.1 (at (operator 5) x.1)) (binary_still 4 l m (omega (arith, stops))) ∙ ap (pair_or N l m) (no_operator_at 5 m stops)
 
-  logical_still : (level : ℕ) (l : Tree) (m : Place) → Stops (16 + 4 * level) m → logical_on N level l m ≡ Ok (l, m)
+  logical_still : (level : ℕ) (l : Tree) (m : Place) → Stops (15 + 5 * level) m → logical_on N level l m ≡ Ok (l, m)
   unfolding logical_on
   logical_still zero l m stops = equality_still l m (omega (arith, stops))
   logical_still (suc level) l m stops =
       ap (λ (q : Answer Tree). q >>= λ x. chain_on (connective (suc level)) joined_by (logical_of N level) x.0 x.1) (logical_still level l m (omega (arith, stops)))
       ∙ chain_on-ends (connective (suc level)) joined_by (logical_of N level) (Steps-connective (suc level)) (shrinks.logical level) l m (no_connective_at (suc level) m stops)
 
-  ternary_still : (l : Tree) (m : Place) → Stops 25 m → ternary_on N l m ≡ Ok (l, m)
+  ternary_still : (l : Tree) (m : Place) → Stops 26 m → ternary_on N l m ≡ Ok (l, m)
   unfolding ternary_on
   ternary_still l m stops = ap (λ (q : Answer Tree). q >>= λ c. question_or N c.0 c.1 (at (word kind.Question) c.1)) (logical_still 2 l m (omega (arith, stops))) ∙ ap (question_or N l m) (word_unseen kind.Question told_question m stops)
 
   -- before the sign of an assignment an operand stands alone, and what stands alone has no such sign behind it
-  sign_full : (b : Bool) (u : Tree) (p : Spot) (y z : Place) (t : Tree) (o : Option (Sign × Place)) → at sign y ≡ o → Leads (ternary_on N u y) (Ok (t, z)) D → Stops 26 z → Leads (setting_or N b u p y o) (Ok (t, z)) D
+  sign_full : (b : Bool) (u : Tree) (p : Spot) (y z : Place) (t : Tree) (o : Option (Sign × Place)) → at sign y ≡ o → Leads (ternary_on N u y) (Ok (t, z)) D → Stops 27 z → Leads (setting_or N b u p y o) (Ok (t, z)) D
   sign_full b u p y z t None f l stops = l
   sign_full b u p y z t (Some q) f l stops =
       let still = ternary_still u y (omega (arith, sign_strength y q.1 q.0 f)) in
@@ -349,36 +358,39 @@ module _ (N : Readers) (R : Nested) (D : Type 0) (shrinks : ReadersShrink N) (ne
         | inr d ↦ (let g : done u y ≡ Err deep = sym still ∙ d.0 in absurd cc)
       ]
 
-  spot_full : (b : Bool) (r : Reached) (y z : Place) (t : Tree) (o : Option Spot) → Leads (ternary_on N r.tree y) (Ok (t, z)) D → Stops 26 z → Leads (spot_or N b r.tree o y) (Ok (t, z)) D
+  spot_full : (b : Bool) (r : Reached) (y z : Place) (t : Tree) (o : Option Spot) → Leads (ternary_on N r.tree y) (Ok (t, z)) D → Stops 27 z → Leads (spot_or N b r.tree o y) (Ok (t, z)) D
   unfolding setting_of
   spot_full b r y z t None l stops = l
   spot_full b r y z t (Some p) l stops = sign_full b r.tree p y z t (at sign y) refl l stops
 
   -- what is read where no word stands before an operand
-  unprefixed_full : (b : Bool) (s m z : Place) (r : Reached) (t : Tree) → Postfix R s r m → Stops 0 m → Leads (reached_on N b r m) (Ok (t, z)) D → Leads (settled_of N b s) (Ok (t, z)) D
-  unfolding settled_of
-  unprefixed_full b s m z r t h stops l =
-      leads_eq (behind_minus N b s (at prefix_minus s)) (from (postfix_of N) (reached_on N b) s) (Ok (t, z)) (ap (behind_minus N b s) (bang_no_prefix R s m r.tree (no_bang h)) ∙ ap (behind_bang N b s) (postfix_no_bang R s m r h))
-      (leads_trans (from (postfix_of N) (reached_on N b) s) (reached_on N b r m) (Ok (t, z)) (leads_bind (postfix_of N s) (r, m) (λ x. reached_on N b x.0 x.1) (postfix_full s m r h stops)) l)
+  pub unprefixed_full : (on : Reached → Parse Tree) (s m z : Place) (r : Reached) (t : Tree) → Postfix R s r m → Tailless m → Leads (on r m) (Ok (t, z)) D → Leads (settled_by N on s) (Ok (t, z)) D
+  unfolding settled_by
+  unprefixed_full on s m z r t h none l =
+      leads_eq (behind_minus N on s (at prefix_minus s)) (from (postfix_of N) on s) (Ok (t, z)) (ap (behind_minus N on s) (bang_no_prefix R s m r.tree (no_bang h)) ∙ ap (behind_bang N on s) (postfix_no_bang R s m r h))
+      (leads_trans (from (postfix_of N) on s) (on r m) (Ok (t, z)) (leads_bind (postfix_of N s) (r, m) (λ x. on x.0 x.1) (tailless_full s m r h none)) l)
 
-  first_full : (b : Bool) (s y z : Place) (u t : Tree) → Minus R s u y → Stops 0 y → Leads (ternary_on N u y) (Ok (t, z)) D → Ternary R s t z → Stops 26 z → Leads (settled_of N b s) (Ok (t, z)) D
-  unfolding settled_of
-  first_full b s y z u t (a_minus {m = m} e f h) alone l w stops =
-      leads_eq (behind_minus N b s (at prefix_minus s)) (ternary_of N s) (Ok (t, z)) (ap (behind_minus N b s) (next-prefix s m e f)) (ternary_full s z t w stops)
-  first_full b s y z u t (no_minus (a_bang {m = m} e h)) alone l w stops =
-      leads_eq (behind_minus N b s (at prefix_minus s)) (ternary_of N s) (Ok (t, z)) (ap (behind_minus N b s) (bang_no_prefix R s y _ (a_bang e h)) ∙ ap (behind_bang N b s) (word_here kind.Bang s m e refl)) (ternary_full s z t w stops)
-  first_full b s y z u t (no_minus (no_bang {r = r} h)) alone l w stops = unprefixed_full b s y z r t h alone (spot_full b r y z t r.spot l stops)
+  first_full : (on : Reached → Parse Tree) (s y z : Place) (u t : Tree) → ((r : Reached) → Leads (ternary_on N r.tree y) (Ok (t, z)) D → Leads (on r y) (Ok (t, z)) D)
+      → Minus R s u y → Stops 0 y → Leads (ternary_on N u y) (Ok (t, z)) D → Ternary R s t z → Stops 27 z → Leads (settled_by N on s) (Ok (t, z)) D
+  unfolding settled_by
+  first_full on s y z u t goes_on (a_minus {m = m} e f h) alone l w stops =
+      leads_eq (behind_minus N on s (at prefix_minus s)) (ternary_of N s) (Ok (t, z)) (ap (behind_minus N on s) (next-prefix s m e f)) (ternary_full s z t w stops)
+  first_full on s y z u t goes_on (no_minus (a_bang {m = m} e h)) alone l w stops =
+      leads_eq (behind_minus N on s (at prefix_minus s)) (ternary_of N s) (Ok (t, z)) (ap (behind_minus N on s) (bang_no_prefix R s y _ (a_bang e h)) ∙ ap (behind_bang N on s) (word_here kind.Bang s m e refl)) (ternary_full s z t w stops)
+  first_full on s y z u t goes_on (no_minus (no_bang {r = r} h)) alone l w stops = unprefixed_full on s y z r t h (no_tail_at y alone) (goes_on r l)
 
-  least_stop : (b : Bool) (z : Place) → Stops (value_stop b) z → Stops 26 z
+  least_stop : (b : Bool) (z : Place) → Stops (value_stop b) z → Stops 27 z
   least_stop true z stops = omega (arith, stops)
   least_stop false z stops = stops
 
-  pub settled_full : (b : Bool) → IsFull (settled_of N b) (Settled R b) (Stops (value_stop b)) D
+  pub settled_full : (b : Bool) (on : Reached → Parse Tree) → ((r : Reached) (m : Place) → Stops 0 m → on r m ≡ reached_on N b r m) → IsFull (settled_by N on) (Settled R b) (Stops (value_stop b)) D
   unfolding setting_of
-  settled_full b s z t (a_setting {m = m} {n = n} {r = r} {p = p} {q = q} {t = v} h f g i) stops =
-      unprefixed_full b s m z r (settled q p r.tree v) h (omega (arith, sign_strength m n q g))
-      (leads_eq (spot_or N b r.tree r.spot m) (built (settled q p r.tree) (N.value b n)) (Ok (settled q p r.tree v, z)) (ap (λ (o : Option Spot). spot_or N b r.tree o m) f ∙ ap (setting_or N b r.tree p m) g)
+  settled_full b on same_on s z t (a_setting {m = m} {n = n} {r = r} {p = p} {q = q} {t = v} h f g i) stops =
+      let alone : Stops 0 m = omega (arith, sign_strength m n q g) in
+      unprefixed_full on s m z r (settled q p r.tree v) h (no_tail_at m alone)
+      (leads_eq (on r m) (built (settled q p r.tree) (N.value b n)) (Ok (settled q p r.tree v, z)) (same_on r m alone ∙ ap (λ (o : Option Spot). spot_or N b r.tree o m) f ∙ ap (setting_or N b r.tree p m) g)
       (leads_bind (N.value b n) (v, z) (λ x. Ok (settled q p r.tree x.0, x.1)) (nests.value b n z v i stops)))
-  settled_full b s z t (no_setting h) stops =
-      let o = ternary_full_on s z t h (least_stop b z stops) in
-      first_full b s o.behind z o.first t o.spelled o.stops o.leads h (least_stop b z stops)
+  settled_full b on same_on s z t (no_setting h) stops =
+      let last = least_stop b z stops in
+      let o = ternary_full_on s z t h last in
+      first_full on s o.behind z o.first t (λ r l. leads_eq (on r o.behind) (reached_on N b r o.behind) (Ok (t, z)) (same_on r o.behind o.stops) (spot_full b r o.behind z t r.spot l last)) o.spelled o.stops o.leads h last

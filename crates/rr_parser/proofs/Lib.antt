@@ -8,7 +8,9 @@ pub mod Shrinking
 pub mod Leading
 pub mod Trails
 pub mod Strengths
+pub mod Orders
 pub mod Firsts
+pub mod Closings
 pub mod Stopping
 pub mod FullOperands
 pub mod Full
@@ -16,6 +18,7 @@ pub mod DeepOperands
 pub mod Deep
 pub mod Making
 pub mod Choosing
+pub mod Gathering
 pub mod Calling
 pub mod Spots
 pub mod Exact

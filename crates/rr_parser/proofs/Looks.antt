@@ -11,7 +11,7 @@ use Rattle.rr_parser.specs.declared.word.WordKind.{WordKind}
 use Rattle.rr_parser.specs.declared.word.WordKind.TheVariants as kind
 use Rattle.rr_parser.specs.declared.word.Word.{Word}
 use Rattle.rr_parser.specs.Places.{Known, Place, Look, seen_before, first_as, unless, where_true, is_kind, word, any_word, placed, at, next, without_separators, skip, behind_separators, separators}
-use Rattle.rr_parser.specs.Grammar.Names.{name_of_kind, name, bracket, begins_operands, head_of_kind, head, begins_head, commanding, command}
+use Rattle.rr_parser.specs.Grammar.Names.{told_behind, name_of_kind, name, bracket, begins_operands, head_of_kind, head, begins_head, commanding, command}
 use Rattle.rr_parser.specs.Grammar.Operands.{joined, square, called, sent, indexed, behind_dot, tail}
 use Rattle.rr_parser.specs.Grammar.Calls.{target_of_kind, sign_of_kind, sign, assigned, named, target_word, target}
 use Rattle.rr_parser.specs.Grammar.Control.{behind_word, then_or_separators, thens, either, loops}
@@ -218,12 +218,12 @@ sign_told _ q e = absurd cc
 pub target-next : (s z : Place) (x : Aim) → at target s ≡ Some (x, z) → TargetAt s x z
 target-next s z x e = by_name (target_word s.rest) refl e
   where
-    by_sign : (y : Target) (m : Place) (o : Option (Sign × List Word)) → sign m.rest ≡ o → m.known ≡ s.known → placed s.known (assigned y o) ≡ Some (x, z)
+    by_sign : (y : Target) (l : ℕ) (m : Place) (o : Option (Sign × List Word)) → sign m.rest ≡ o → m.known ≡ s.known → placed s.known (assigned y l o) ≡ Some (x, z)
         → (y ≡ x.target) × (next m ≡ Some (kind.Assign x.sign, z))
-    by_sign y m None g k h = absurd cc
-    by_sign y m (Some r) g k h =
+    by_sign y l m None g k h = absurd cc
+    by_sign y l m (Some r) g k h =
         let n : Place = record { known = s.known; rest = r.1 } in
-        let a : Aim = record { target = y; sign = r.0 } in
+        let a : Aim = record { target = y; sign = r.0; behind = l } in
         let is : a ≡ x = some_what a x n z h in
         let w = seen_as (λ w. sign_of_kind w.kind) m n r.0 (ap (placed m.known) g ∙ ap (λ (q : Known). Some (r.0, record { known = q; rest = r.1 })) k) in (
           ap (λ (b : Aim). b.target) is,
@@ -234,7 +234,7 @@ target-next s z x e = by_name (target_word s.rest) refl e
     by_name None g h = absurd cc
     by_name (Some y) g h =
         let m : Place = record { known = s.known; rest = y.1 } in
-        let t = by_sign y.0 m (sign y.1) refl refl h in
+        let t = by_sign y.0 (told_behind y.1) m (sign y.1) refl refl h in
         let w = seen_as (λ w. target_of_kind w.kind) s m y.0 (ap (placed s.known) g) in
         record { first = w.kind; m = m; here = w.here; told = w.told ∙ ap (λ (q : Target). Some q) t.0; sign = t.1 }
 

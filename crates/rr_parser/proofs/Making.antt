@@ -63,11 +63,11 @@ entry_ok old mid new x a i r lt p h =
     (ap (λ u. pair u (tree_at mid.nodes.items a)) p.tree ∙ ap (pair (symbol x)) (tree_at-kept old.nodes.items mid.nodes.items a p.kept lt)) h
 
 -- an assignment with an operator, whose target was put behind its right side
-pub operation_ok : (old mid new : Parser) (q : Sign) (o : Operation) (x : Target) (n : Variable) (a i : ℕ) (r : Result ℕ Storage) → q ≡ signs.With o → a < length old.nodes.items → Puts old mid (target_tree x n) i
-    → IfOk r (λ id. Puts mid new (operated o (tree_at mid.nodes.items i) (tree_at mid.nodes.items a)) id) → IfOk r (λ id. Puts old new (signed q x n (tree_at old.nodes.items a)) id)
-operation_ok old mid new q o x n a i r is lt p h =
-    over_ok old mid new (operated o (tree_at mid.nodes.items i) (tree_at mid.nodes.items a)) (target_tree x n) (signed q x n (tree_at old.nodes.items a)) i r p
-    (ap (λ u. operated o u (tree_at mid.nodes.items a)) p.tree ∙ ap (operated o (target_tree x n)) (tree_at-kept old.nodes.items mid.nodes.items a p.kept lt) ∙ ap (λ s. signed s x n (tree_at old.nodes.items a)) (sym is)) h
+pub operation_ok : (old mid new : Parser) (q : Sign) (o : Operation) (x : Target) (n : Variable) (k a i : ℕ) (r : Result ℕ Storage) → q ≡ signs.With o → a < length old.nodes.items → Puts old mid (target_tree x n k) i
+    → IfOk r (λ id. Puts mid new (operated o (tree_at mid.nodes.items i) (tree_at mid.nodes.items a)) id) → IfOk r (λ id. Puts old new (signed q x n k (tree_at old.nodes.items a)) id)
+operation_ok old mid new q o x n k a i r is lt p h =
+    over_ok old mid new (operated o (tree_at mid.nodes.items i) (tree_at mid.nodes.items a)) (target_tree x n k) (signed q x n k (tree_at old.nodes.items a)) i r p
+    (ap (λ u. operated o u (tree_at mid.nodes.items a)) p.tree ∙ ap (operated o (target_tree x n k)) (tree_at-kept old.nodes.items mid.nodes.items a p.kept lt) ∙ ap (λ s. signed s x n k (tree_at old.nodes.items a)) (sym is)) h
 
 -- a statement and its condition, and the nil that was put behind them
 module _ (old mid new : Parser) (a c i : ℕ) (r : Result ℕ Storage) (m : Modifier) (la : a < length old.nodes.items) (lc : c < length old.nodes.items) (p : Puts old mid nil i) where

@@ -99,7 +99,7 @@ row_starts R s z t (a_definition {m = m} e h) = next_ends s m kind.Def false e r
 row_starts R s z t (a_statement {t = v} h) = statement_starts R s z v h
 
 module _ (N : Readers) (R : Nested) (D : Type 0) (shrinks : ReadersShrink N) (shrinks_entry : Shrinks (entry_of N)) (nests : NestedFull N R D) where
-  entry_full : IsFull (entry_of N) (Row R) (Stops 29) D
+  entry_full : IsFull (entry_of N) (Row R) (Stops 31) D
   unfolding entry_of
   entry_full s z t (a_definition {m = m} {t = v} e h) stops =
       leads_eq (entry_or N s (at (word kind.Def) s)) (built defines (N.part parts.Definition m)) (Ok (t, z)) (ap (entry_or N s) (word_here kind.Def s m e refl))
@@ -108,10 +108,10 @@ module _ (N : Readers) (R : Nested) (D : Type 0) (shrinks : ReadersShrink N) (sh
       leads_eq (entry_or N s (at (word kind.Def) s)) (built does (statement_of N s)) (Ok (t, z)) (ap (entry_or N s) (statement_no_def R s z v h))
       (leads_bind (statement_of N s) (v, z) (λ x. Ok (does x.0, x.1)) (statement_full N R D shrinks nests s z v h stops))
 
-  entries_full : (s z : Place) (o : Outline) → Entries R s o z → Stops 29 z → at row z ≡ None → Leads (entries_of N s) (Ok (o, z)) D
+  entries_full : (s z : Place) (o : Outline) → Entries R s o z → Stops 31 z → at row z ≡ None → Leads (entries_of N s) (Ok (o, z)) D
   unfolding entries_of
   entries_full s z o c stops e =
-      chain_full separators row first_entry with_entry (entry_of N) (Row R) (Stops 29) D Steps-row shrinks_entry
+      chain_full separators row first_entry with_entry (entry_of N) (Row R) (Stops 31) D Steps-row shrinks_entry
       (λ m n x e. separators_stop m n x e) (λ m n z x r e h. separators-row m n x e (row_starts R n z r h)) entry_full s z o c stops e
 
   outline_full : IsFull (outline_of N) (Program R) Ends D

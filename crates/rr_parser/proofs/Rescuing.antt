@@ -1,7 +1,6 @@
 -- What the code made of bodies and of their clauses.
 use Rattle.std.proofs.Common.{◌≡◌, ℕ, ◌<◌, Bool, List, ◌++◌, length, map, Option, Some, None, Result, Ok, Err, sym, ap, ◌∙◌, subst}
 use Rattle.std.specs.Prelude.{All, IfOk}
-use Rattle.rr_base.specs.declared.name.Sym.{Sym}
 use Rattle.rr_tree.specs.Tree.{Tree, rescue, clause, ensure, listed, tree_at}
 use Rattle.rr_tree.specs.Nodes.{Extends, item, trees_in}
 use Rattle.rr_tree.proofs.Growth.{tree_at-kept, Extends-trans}
@@ -9,6 +8,7 @@ use Rattle.rr_parser.specs.declared.refusal.Refusal.{Refusal}
 use Rattle.rr_parser.specs.declared.refusal.Refusal.TheVariants as refusal
 use Rattle.rr_parser.specs.declared.refusal.Storage.{Storage}
 use Rattle.rr_parser.specs.declared.parser.Parser.{Parser}
+use Rattle.rr_parser.specs.declared.word.Caught.{Caught}
 use Rattle.rr_parser.specs.declared.word.Word.{Word}
 use Rattle.rr_parser.specs.declared.word.WordKind.TheVariants as kind
 use Rattle.rr_parser.specs.Places.{Place, word, at}
@@ -46,7 +46,7 @@ module _ (old mid new : Parser) (xs : List ℕ) (first count : ℕ) (r : Result 
 -- ---- a clause
 
 -- behind its classes and the name of its variable
-module _ (N : Readers) (old m1 : Parser) (es : List ℕ) (x : Option Sym) (words rest after : List Word) (m : Made (lists nodes) old m1 es rest (classes_of (place old words))) where
+module _ (N : Readers) (old m1 : Parser) (es : List ℕ) (x : Option Caught) (words rest after : List Word) (m : Made (lists nodes) old m1 es rest (classes_of (place old words))) where
   abbrev classes_read : List Tree
   classes_read = map (tree_at m1.nodes.items) es
 
@@ -82,7 +82,7 @@ module _ (N : Readers) (old m1 : Parser) (es : List ℕ) (x : Option Sym) (words
         ∙ ap (λ (l : List ℕ). Ok (clause (listed (map (tree_at m3.nodes.items) l)) (tree_at m3.nodes.items i) (tree_at m3.nodes.items b), place m3 left)) (sym same))
         (Extends-trans old.nodes.items m1.nodes.items m3.nodes.items m.kept kept) p
 
-pub fails_caught : (N : Readers) (old m1 : Parser) (es : List ℕ) (words rest : List Word) (d : Refusal) → Made (lists nodes) old m1 es rest (classes_of (place old words)) → Reads {A = Option Sym} (Err d) (caught rest) → Fails d (clause_of N (place old words))
+pub fails_caught : (N : Readers) (old m1 : Parser) (es : List ℕ) (words rest : List Word) (d : Refusal) → Made (lists nodes) old m1 es rest (classes_of (place old words)) → Reads {A = Option Caught} (Err d) (caught rest) → Fails d (clause_of N (place old words))
 fails_caught N old m1 es words rest (refusal.Storage s) m h = tt
 fails_caught N old m1 es words rest refusal.Nesting m h = absurd h
 fails_caught N old m1 es words rest (refusal.Unexpected n) m h = uncaught_clause N old m1 es None words rest rest m h

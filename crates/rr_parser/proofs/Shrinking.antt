@@ -1,6 +1,7 @@
 -- What is spelled takes no words back, and so reading takes none back.
-use Rattle.std.proofs.Common.{◌≡◌, ℕ, zero, suc, List, [], ◌∷◌, length, Bool, true, false, Option, Some, None, refl, ap, arith, ◌<◌, ◌≤◌}
+use Rattle.std.proofs.Common.{◌≡◌, zero, suc, List, ◌∷◌, length, Bool, true, false, Option, Some, None, refl, ap, arith, ◌<◌, ◌≤◌, ℕ, []}
 use Rattle.rr_tree.specs.Tree.{call, send, listed}
+use Rattle.rr_parser.specs.declared.word.Caught.{Caught}
 use Rattle.rr_parser.specs.declared.word.Tail.{Tail}
 use Rattle.rr_parser.specs.declared.word.Target.{Target}
 use Rattle.rr_parser.specs.declared.word.Listed.{Listed}
@@ -21,10 +22,10 @@ use Rattle.rr_parser.specs.declared.word.Word.{Word}
 use Rattle.rr_tree.specs.Tree.{Tree}
 use Rattle.rr_parser.specs.Grammar.Chains.{same, one_of, and_one}
 use Rattle.rr_parser.specs.Grammar.Nesting.{Nested}
-use Rattle.rr_parser.specs.Grammar.Names.{headed, name, variable, head, bracket}
+use Rattle.rr_parser.specs.Grammar.Names.{told_behind, headed, name, variable, head, bracket}
 use Rattle.rr_parser.specs.Grammar.Operands.{scope_sign, tight_constant, behind_sign, inner_constant, joined, Blocked, no_block, a_block, Primary, a_literal, a_constant, a_path, a_negative, a_local, a_bare_call, a_call, a_block_call, a_jump, a_passing, a_passing_call, a_construct, tail, Tailed, a_sent_call, an_index, Postfix, Bang, a_bang, no_bang, Minus, a_minus, no_minus, Plain, Reached, as_it_is, an_attribute, a_block_send}
 use Rattle.rr_parser.specs.Grammar.Operators.{operator, infixed, connective, joined_by, Logical, Binary, Equality, a_comparison, a_pair, Ternary, no_question, a_question}
-use Rattle.rr_parser.specs.Grammar.Calls.{with_target, label, comma, Assigned, an_assignment, no_assignment, Argument, Pair, by_label, by_arrow, star, Item, a_splat, a_plain_item, Member, Members, Bracketed, no_members, some_members, Array, an_array, Hash, a_hash, Index, of_element, Commanded, by_arguments, by_command, Command, a_command, Phrase, by_name, an_operand, Operand, Value, Settled, sign, a_setting, no_setting}
+use Rattle.rr_parser.specs.Grammar.Calls.{with_target, label, comma, Assigned, an_assignment, no_assignment, Argument, Pair, by_label, by_arrow, star, Item, a_splat, a_plain_item, Members, Bracketed, no_members, some_members, Array, an_array, Hash, a_hash, Index, of_element, Commanded, by_arguments, by_command, Command, a_command, Phrase, by_name, an_operand, Operand, Value, Settled, sign, a_setting, no_setting, by_receiver, Adding, adding, AddingTo, Given, Listing, a_pair_member, an_item, nothing, only_pairs}
 use Rattle.rr_parser.specs.Grammar.Sequences.{Negation, a_negation, no_negation, Expression, modifier, modified, Statement, Rows, Statements, no_statements, some_statements, Group, a_group}
 use Rattle.rr_parser.specs.Grammar.Interpolations.{text_middle, text_tail, first_piece, and_piece, Pieces, Interpolation, an_interpolation}
 use Rattle.rr_parser.specs.Grammar.Control.{thens, elsif, Branch, a_branch, Branches, Otherwise, no_else, an_else, Choice, a_choice, Unless, an_unless, Loop, a_loop, looping, Looped, of_loop}
@@ -34,7 +35,7 @@ use Rattle.rr_parser.specs.Grammar.Definitions.{defined, Definition, of_method}
 use Rattle.rr_parser.specs.Grammar.{FormOf, is_enclosed, Enclosed, PartOf, inside, outside}
 use Rattle.rr_parser.specs.Reading.Nesting.{Readers}
 use Rattle.rr_parser.specs.Reading.Operators.{binary_of, logical_of}
-use Rattle.rr_parser.specs.Reading.Calls.{argument_of, member_of}
+use Rattle.rr_parser.specs.Reading.Calls.{argument_of, adding_of}
 use Rattle.rr_parser.specs.Reading.Sequences.{negation_of, expression_of, statement_of, statements_of}
 use Rattle.rr_parser.specs.Reading.Control.{branch_of}
 use Rattle.rr_parser.specs.Reading.Bodies.{class_of, clause_of}
@@ -47,7 +48,9 @@ use Rattle.rr_parser.proofs.Trails.{trail_shrinking}
 use Rattle.rr_parser.proofs.Chains.{Shrinks, IsShrinking, shrinks_by, chain_shrinking}
 use Rattle.rr_parser.proofs.Formals.{formals-less}
 use Rattle.rr_parser.proofs.SoundOperands.{binary_sound, logical_sound, tailed_sound}
-use Rattle.rr_parser.proofs.Sound.{nested, sound_nested, argument_sound, member_sound, negation_sound, expression_sound, statement_sound, statements_sound, branch_sound, class_sound, clause_sound}
+use Rattle.rr_parser.proofs.Sound.{nested, sound_nested, argument_sound, negation_sound, expression_sound, statement_sound, statements_sound, branch_sound, class_sound, clause_sound, adding_sound}
+use Rattle.rr_parser.specs.declared.word.Head.TheVariants as heads
+use Rattle.rr_parser.proofs.Orders.{Steps-order}
 
 pub record NestedShrinking (R : Nested) : Type 0 where
   pub part : (p : Part) → IsShrinking (R.part p)
@@ -98,21 +101,22 @@ Steps-path s z x e = path-less s.known s.rest x z e
 Steps-variable : Steps variable
 Steps-variable = Steps-first_as _
 
-thens-less : (known : Known) (y x : Option Sym) (ws : List Word) (z : Place) (o : Option (Unit {0} × List Word)) → thens ws ≡ o → placed known (before_thens y o) ≡ Some (x, z) → left z < length ws
+thens-less : (known : Known) (y x : Option Caught) (ws : List Word) (z : Place) (o : Option (Unit {0} × List Word)) → thens ws ≡ o → placed known (before_thens y o) ≡ Some (x, z) → left z < length ws
 thens-less known y x ws z None g e = absurd cc
 thens-less known y x ws z (Some r) g e =
     let s : Place = record { known = known; rest = ws } in
     let n : Place = record { known = known; rest = r.1 } in
     omega (arith, Steps-thens s n r.0 (ap (placed known) g), ap left (some_place y x n z e))
 
-named-less : (known : Known) (x : Option Sym) (ws : List Word) (z : Place) (o : Option (Sym × List Word)) → variable ws ≡ o → placed known (named_thens o) ≡ Some (x, z) → left z < length ws
+named-less : (known : Known) (x : Option Caught) (ws : List Word) (z : Place) (o : Option (Sym × List Word)) → variable ws ≡ o → placed known (named_thens o) ≡ Some (x, z) → left z < length ws
 named-less known x ws z None g e = absurd cc
 named-less known x ws z (Some r) g e =
     let s : Place = record { known = known; rest = ws } in
     let n : Place = record { known = known; rest = r.1 } in
-    omega (arith, Steps-variable s n r.0 (ap (placed known) g), thens-less known (Some r.0) x r.1 z (thens r.1) refl e)
+    let y : Caught = record { name = r.0; behind = told_behind r.1 } in
+    omega (arith, Steps-variable s n r.0 (ap (placed known) g), thens-less known (Some y) x r.1 z (thens r.1) refl e)
 
-caught-less : (s z : Place) (x : Option Sym) (o : Option (Unit {0} × List Word)) → word kind.Arrow s.rest ≡ o → placed s.known (behind_arrow s.rest o) ≡ Some (x, z) → left z < left s
+caught-less : (s z : Place) (x : Option Caught) (o : Option (Unit {0} × List Word)) → word kind.Arrow s.rest ≡ o → placed s.known (behind_arrow s.rest o) ≡ Some (x, z) → left z < left s
 caught-less s z x None g e = thens-less s.known None x s.rest z (thens s.rest) refl e
 caught-less s z x (Some r) g e =
     let n : Place = record { known = s.known; rest = r.1 } in
@@ -173,7 +177,7 @@ classes_shrinking : IsShrinking Classes
 classes_shrinking s z l (no_classes e) = omega arith
 classes_shrinking s z l (some_classes c) = chain_shrinking comma one_of and_one Class Steps-comma class_shrinking s z l c
 
-caught_left : (x : Option Sym) (n : Place) → left (with_caught x n) ≤ left n
+caught_left : (x : Option Caught) (n : Place) → left (with_caught x n) ≤ left n
 caught_left None n = omega arith
 caught_left (Some x) n = omega arith
 
@@ -264,18 +268,19 @@ module _ (R : Nested) (nests : NestedShrinking R) where
   item_shrinking s z t (a_splat {m = m} {t = v} e h) = omega (arith, next-left s m star e, argument_shrinking m z v h)
   item_shrinking s z t (a_plain_item h) = argument_shrinking s z t h
 
-  member_shrinking : (k : Listed) → IsShrinking (Member R k)
-  member_shrinking listings.Command = item_shrinking
-  member_shrinking listings.Call = item_shrinking
-  member_shrinking listings.Array = item_shrinking
-  member_shrinking listings.Hash = pair_shrinking
+  listing_shrinking : (only : Bool) → IsShrinking (Listing R only)
+  listing_shrinking only s z r (an_item {t = t} e h) = item_shrinking s z t h
+  listing_shrinking only s z r (a_pair_member {t = t} h) = pair_shrinking s z t h
+
+  adding_shrinking : (k : Listed) (g : Given) → IsShrinking (Adding R k g)
+  adding_shrinking k g s z t (adding {m = m} h) = listing_shrinking (only_pairs k g) s z m h
 
   members_shrinking : (k : Listed) → IsShrinking (Members R k)
-  members_shrinking k = chain_shrinking comma one_of and_one (Member R k) Steps-comma (member_shrinking k)
+  members_shrinking k = trail_shrinking comma (Adding R k nothing) (AddingTo R k) Steps-comma (adding_shrinking k nothing) (λ x g n z t h. adding_shrinking k g n z t h)
 
   bracketed_shrinking : (k : Listed) → IsShrinking (Bracketed R k)
   bracketed_shrinking k s z l (no_members {u = u} e) = omega (arith, Steps-closing k s z u e)
-  bracketed_shrinking k s z l (some_members {m = m} {u = u} h e) = omega (arith, members_shrinking k s m l h, Steps-last k m z u e)
+  bracketed_shrinking k s z l (some_members {m = m} {u = u} {g = g} h e) = omega (arith, members_shrinking k s m g h, Steps-last k m z u e)
 
   array_shrinking : IsShrinking (Array R)
   array_shrinking s z t (an_array {l = l} h) = bracketed_shrinking listings.Array s z l h
@@ -287,7 +292,7 @@ module _ (R : Nested) (nests : NestedShrinking R) where
   index_shrinking s z t (of_element {m = m} h e) = omega (arith, argument_shrinking s m t h, next-left m z kind.CloseSquare e)
 
   commanded_shrinking : IsShrinking (Commanded R)
-  commanded_shrinking s z l (by_arguments h) = members_shrinking listings.Command s z l h
+  commanded_shrinking s z l (by_arguments {g = g} h) = members_shrinking listings.Command s z g h
   commanded_shrinking s z l (by_command {t = t} e h) = nests.part parts.Command s z t h
 
   command_shrinking : IsShrinking (Command R)
@@ -296,6 +301,14 @@ module _ (R : Nested) (nests : NestedShrinking R) where
 
   phrase_shrinking : IsShrinking (Phrase R)
   phrase_shrinking s z t (by_name h) = command_shrinking s z t h
+  phrase_shrinking s z t (by_receiver {m = m} {n = n} {o = o} {r = r} {x = x} {l = l} h e a b) =
+      omega (
+        arith,
+        postfix_shrinking s m r h,
+        Steps-order m n x e,
+        taking_shrinking (within_head (heads.Call x) n.known.takes_do) (Commanded R) commanded_shrinking n o l a,
+        blocked_shrinking (behinds.Command (heads.Call x)) (send r.tree x.0 (listed l)) o z t b,
+      )
   phrase_shrinking s z t (an_operand h) = settled_shrinking true s z t h
 
   operand_shrinking : (b : Bool) → IsShrinking (Operand R b)
@@ -434,7 +447,7 @@ pub record ReadersShrink (N : Readers) : Type 0 where
   pub binary : (level : ℕ) → Shrinks (binary_of N level)
   pub logical : (level : ℕ) → Shrinks (logical_of N level)
   pub argument : Shrinks (argument_of N)
-  pub member : (k : Listed) → Shrinks (member_of N k)
+  pub added : (k : Listed) (g : Given) → Shrinks (adding_of N k g)
   pub tailed : (x : Tail) (l : Reached) → Shrinks (tailed_of N x l)
   pub negation : Shrinks (negation_of N)
   pub expression : Shrinks (expression_of N)
@@ -453,7 +466,7 @@ shrinks_nested b d =
       binary = λ level. shrinks_by (binary_of N level) (Binary R level) (binary_sound N R sounds level) (binary_shrinking R nests level);
       logical = λ level. shrinks_by (logical_of N level) (Logical R level) (logical_sound N R sounds level) (logical_shrinking R nests level);
       argument = shrinks_by (argument_of N) (Argument R) (argument_sound N R sounds) (argument_shrinking R nests);
-      member = λ k. shrinks_by (member_of N k) (Member R k) (member_sound N R sounds k) (member_shrinking R nests k);
+      added = λ k g. shrinks_by (adding_of N k g) (Adding R k g) (adding_sound N R sounds k g) (adding_shrinking R nests k g);
       tailed = λ x l s z t e. tailed_shrinking R nests x l s z t (tailed_sound N R sounds x l s z t e);
       negation = shrinks_by (negation_of N) (Negation R) (negation_sound N R sounds) (negation_shrinking R nests);
       expression = shrinks_by (expression_of N) (Expression R) (expression_sound N R sounds) (expression_shrinking R nests);

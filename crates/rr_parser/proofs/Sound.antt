@@ -1,8 +1,9 @@
 -- What is read is spelled.
+use Rattle.rr_parser.specs.declared.word.Caught.{Caught}
 use Rattle.rr_parser.specs.declared.word.Sign.{Sign}
-use Rattle.std.proofs.Common.{◌≡◌, ℕ, zero, suc, Bool, true, false, cond, List, [], ◌∷◌, ◌++◌, Option, Some, None, Ok, refl, sym, subst}
+use Rattle.std.proofs.Common.{◌≡◌, zero, suc, Bool, true, false, cond, List, ◌∷◌, ◌++◌, Option, Some, None, Ok, refl, sym, subst, ℕ, []}
 use Rattle.rr_base.specs.declared.name.Sym.{Sym}
-use Rattle.rr_tree.specs.Tree.{Tree, nil, text, interpolation, constant, rescue, clause, ensure, sequence, repeat, array, hash, splat, pair, symbol, logical_not, listed}
+use Rattle.rr_tree.specs.Tree.{Tree, nil, text, interpolation, constant, rescue, clause, ensure, sequence, repeat, array, hash, splat, pair, symbol, logical_not, listed, send}
 use Rattle.rr_parser.specs.declared.word.Aim.{Aim}
 use Rattle.rr_parser.specs.declared.word.Behind.TheVariants as behinds
 use Rattle.rr_parser.specs.declared.word.Fence.{Fence}
@@ -18,9 +19,9 @@ use Rattle.rr_parser.specs.Places.{Place, word, at, next, skip, separators}
 use Rattle.rr_parser.specs.Grammar.Chains.{Chain, same, one_of, and_one}
 use Rattle.rr_parser.specs.Grammar.Nesting.{Nested}
 use Rattle.rr_parser.specs.Grammar.Names.{headed, name, command}
-use Rattle.rr_parser.specs.Grammar.Operands.{Blocked, Reached, Spot, Postfix, no_minus, no_bang}
+use Rattle.rr_parser.specs.Grammar.Operands.{Blocked, Reached, Spot, Postfix, no_minus, no_bang, order}
 use Rattle.rr_parser.specs.Grammar.Operators.{connective, joined_by, Ternary}
-use Rattle.rr_parser.specs.Grammar.Calls.{target, with_target, assigned_to, label, comma, closing, last, Assigned, an_assignment, no_assignment, Argument, Pair, by_label, by_arrow, star, Item, a_splat, a_plain_item, Member, Members, Bracketed, no_members, some_members, Array, an_array, Hash, a_hash, Index, of_element, Commanded, by_arguments, by_command, Command, a_command, Phrase, by_name, an_operand, Operand, Value, Settled, a_setting, no_setting, settled, sign}
+use Rattle.rr_parser.specs.Grammar.Calls.{target, with_target, assigned_to, label, comma, closing, last, Assigned, an_assignment, no_assignment, Argument, by_label, by_arrow, star, a_splat, a_plain_item, Member, Members, Bracketed, no_members, some_members, Array, an_array, Hash, a_hash, Index, of_element, Commanded, by_arguments, by_command, Command, a_command, Phrase, by_name, an_operand, Operand, Value, Settled, a_setting, no_setting, settled, sign, by_receiver, Arguments, Adding, adding, AddingTo, Given, Listing, a_pair_member, an_item, entry, contents, item, nothing, only_pairs, with_member}
 use Rattle.rr_parser.specs.Grammar.Sequences.{Negation, a_negation, no_negation, Expression, modifier, modified, Statement, Rows, Statements, no_statements, some_statements, Group, a_group}
 use Rattle.rr_parser.specs.Grammar.Interpolations.{text_middle, text_tail, first_piece, and_piece, Pieces, Interpolation, an_interpolation}
 use Rattle.rr_parser.specs.Grammar.Control.{thens, loops, elsif, chosen, unless_chosen, Branch, a_branch, Branches, Otherwise, no_else, an_else, Choice, a_choice, Unless, an_unless, Loop, a_loop, looping, outside_loop, Looped, of_loop}
@@ -29,11 +30,10 @@ use Rattle.rr_parser.specs.Grammar.Blocks.{parameters, entered, leaving, block_t
 use Rattle.rr_parser.specs.Grammar.Definitions.{formals, defined, rejoining, method_tree, Definition, of_method}
 use Rattle.rr_parser.specs.Grammar.Fences.{within_head, fence_end}
 use Rattle.rr_parser.specs.Grammar.{FormOf, is_enclosed, PartOf, inside, outside}
-use Rattle.rr_parser.specs.Reading.Answers.{Parse, built, closed, across, taking_of, ended_by}
+use Rattle.rr_parser.specs.Reading.Answers.{Parse, built, closed, across, taking_of, ended_by, trail_on}
 use Rattle.rr_parser.specs.Reading.Nesting.{Readers}
-use Rattle.rr_parser.specs.Reading.Operands.{blocked_of, prefix_minus, postfix_of}
-use Rattle.rr_parser.specs.Reading.Operators.{ternary_of}
-use Rattle.rr_parser.specs.Reading.Calls.{assigned_or, assigned_of, argument_of, pair_by, pair_of, item_or, item_of, member_of, another, members_of, bracketed_or, bracketed_of, array_of, hash_of, index_of, commanded_or, commanded_of, arguments_of, headed_of, command_or, command_of, phrase_or, phrase_of, operand_of, value_of, behind_bang, behind_minus, setting_of, settled_of, setting_or, spot_or, reached_on}
+use Rattle.rr_parser.specs.Reading.Operands.{blocked_of, prefix_minus, postfix_of, then_blocked}
+use Rattle.rr_parser.specs.Reading.Calls.{assigned_or, assigned_of, argument_of, member_of, another, members_of, bracketed_or, bracketed_of, array_of, hash_of, index_of, commanded_or, commanded_of, arguments_of, headed_of, command_or, command_of, phrase_or, phrase_of, operand_of, value_of, behind_bang, behind_minus, setting_of, settled_of, setting_or, spot_or, reached_on, settled_by, ordered_of, order_or, order_on, adding_of, adding_to, arrow_or, key_on, label_or, listed_of, lone, star_or, star_unless, unlabeled_of}
 use Rattle.rr_parser.specs.Reading.Sequences.{negation_or, negation_of, expression_of, statement_of, ends, row, rows_of, sequence_of, statements_of, group_of}
 use Rattle.rr_parser.specs.Reading.Interpolations.{pieces_of, interpolated_or, interpolated_on, interpolation_of}
 use Rattle.rr_parser.specs.Reading.Control.{both, branch_of, branches_of, otherwise_or, otherwise_of, choice_of, unless_of, loop_of, looped_of}
@@ -44,8 +44,10 @@ use Rattle.rr_parser.specs.Reading.{form_of, part_of, readers_inside, readers_ou
 use Rattle.rr_parser.proofs.Told.{told_close, told_else, told_end, told_rescue, told_ensure, told_not, told_arrow, told_star, told_close_square, told_fence}
 use Rattle.rr_parser.proofs.Looks.{word-next, row-separators}
 use Rattle.rr_parser.proofs.Listing.{another-comma}
-use Rattle.rr_parser.proofs.Chains.{bind_ok, built_ok, done, closed_ok, at_answer, across_ok, IsSound, chain_sound, from_sound}
+use Rattle.rr_parser.proofs.Chains.{bind_ok, built_ok, done, closed_ok, at_answer, across_ok, IsSound, chain_sound, from_sound, IsSoundOn}
 use Rattle.rr_parser.proofs.SoundOperands.{NestedSound, sequence_ok, taking_sound, enclosed_sound, blocked_sound, bang_sound, minus_sound, ternary_sound, ternary_sound_on, postfix_sound}
+use Rattle.rr_parser.specs.declared.word.Head.TheVariants as heads
+use Rattle.rr_parser.proofs.Trails.{trail_sound}
 
 -- ---- classes
 
@@ -92,62 +94,89 @@ module _ (N : Readers) (R : Nested) (nests : NestedSound N R) where
   spot_or-sound b s m r None z t h f e = no_setting ((ternary_sound_on N R nests) s m z r.tree t (no_minus (no_bang h)) e)
   spot_or-sound b s m r (Some p) z t h f e = setting_or-sound b s m r p (at sign m) z t h f refl e
 
-  behind_bang-sound : (b : Bool) (s : Place) (o : Option (Unit {0} × Place)) (z : Place) (t : Tree) → behind_bang N b s o ≡ Ok (t, z) → Settled R b s t z
-  behind_bang-sound b s None z t e =
-      from_sound (postfix_of N) (reached_on N b) (Postfix R) (Settled R b) (postfix_sound N R nests) (λ s m z r t h e. spot_or-sound b s m r r.spot z t h refl e) s z t e
-  behind_bang-sound b s (Some m) z t e = no_setting ((ternary_sound N R nests) s z t e)
+  reached_sound : (b : Bool) → IsSoundOn (reached_on N b) (Postfix R) (Settled R b)
+  reached_sound b s m z r t h e = spot_or-sound b s m r r.spot z t h refl e
 
-  behind_minus-sound : (b : Bool) (s : Place) (o : Option (Unit {0} × Place)) (z : Place) (t : Tree) → behind_minus N b s o ≡ Ok (t, z) → Settled R b s t z
-  behind_minus-sound b s None z t e = behind_bang-sound b s (at (word kind.Bang) s) z t e
-  behind_minus-sound b s (Some m) z t e = no_setting ((ternary_sound N R nests) s z t e)
+  -- what goes on from an operand, or an operand with a word before it
+  module _ (on : Reached → Parse Tree) (Q : Place → Tree → Place → Type 0) (sound_on : IsSoundOn on (Postfix R) Q) (as_operand : (s z : Place) (t : Tree) → Ternary R s t z → Q s t z) where
+    behind_bang-sound : (s : Place) (o : Option (Unit {0} × Place)) (z : Place) (t : Tree) → behind_bang N on s o ≡ Ok (t, z) → Q s t z
+    behind_bang-sound s None z t e = from_sound (postfix_of N) on (Postfix R) Q (postfix_sound N R nests) sound_on s z t e
+    behind_bang-sound s (Some m) z t e = as_operand s z t ((ternary_sound N R nests) s z t e)
 
-  settled_sound : (b : Bool) → IsSound (settled_of N b) (Settled R b)
-  unfolding settled_of
-  settled_sound b s z t e = behind_minus-sound b s (at prefix_minus s) z t e
+    behind_minus-sound : (s : Place) (o : Option (Unit {0} × Place)) (z : Place) (t : Tree) → behind_minus N on s o ≡ Ok (t, z) → Q s t z
+    behind_minus-sound s None z t e = behind_bang-sound s (at (word kind.Bang) s) z t e
+    behind_minus-sound s (Some m) z t e = as_operand s z t ((ternary_sound N R nests) s z t e)
+
+    settled_by-sound : IsSound (settled_by N on) Q
+    unfolding settled_by
+    settled_by-sound s z t e = behind_minus-sound s (at prefix_minus s) z t e
+
+  settled_sound : IsSound (settled_of N) (Settled R false)
+  settled_sound = settled_by-sound (reached_on N false) (Settled R false) (reached_sound false) (λ s z t h. no_setting h)
 
   pub argument_sound : IsSound (argument_of N) (Argument R)
-  argument_sound = assigned_sound false (settled_of N false) (Settled R false) (settled_sound false)
+  argument_sound = assigned_sound false (settled_of N) (Settled R false) settled_sound
 
-  pair_by-sound : (s : Place) (o : Option (Sym × Place)) (z : Place) (t : Tree) → at label s ≡ o → pair_by N s o ≡ Ok (t, z) → Pair R s t z
-  pair_by-sound s None z t f e =
-      let a = across_ok pair (word kind.Arrow) (argument_of N) (argument_of N s) z t e in
-      subst (λ (q : Tree). Pair R s q z) (sym a.tree) (by_arrow (argument_sound s a.m a.a a.former) (word-next kind.Arrow told_arrow a.m a.n a.u a.seen) (argument_sound a.n z a.b a.latter))
-  pair_by-sound s (Some x) z t f e =
-      let b = built_ok (pair (symbol x.0.0)) (argument_of N x.1) t z e in
-      subst (λ (q : Tree). Pair R s q z) (sym b.2) (by_label f (argument_sound x.1 z b.0 b.1))
+  lone-sound : (only : Bool) (s m z : Place) (t : Tree) (r : Member) → Argument R s t m → lone only t m ≡ Ok (r, z) → Listing R only s r z
+  lone-sound true s m z t r h e = absurd cc
+  lone-sound false s m z t r h e = at_answer (Listing R false s) (item t) r m z e (an_item refl (a_plain_item h))
 
-  pub pair_sound : IsSound (pair_of N) (Pair R)
-  unfolding pair_of
-  pair_sound s z t e = pair_by-sound s (at label s) z t refl e
+  arrow_or-sound : (only : Bool) (s m : Place) (t : Tree) (o : Option (Unit {0} × Place)) (z : Place) (r : Member) → Argument R s t m → at (word kind.Arrow) m ≡ o → arrow_or N only t m o ≡ Ok (r, z) → Listing R only s r z
+  arrow_or-sound only s m t None z r h f e = lone-sound only s m z t r h e
+  arrow_or-sound only s m t (Some n) z r h f e =
+      let b = built_ok (λ v. entry (pair t v)) (argument_of N n.1) r z e in
+      subst (λ (q : Member). Listing R only s q z) (sym b.2) (a_pair_member (by_arrow h (word-next kind.Arrow told_arrow m n.1 n.0 f) (argument_sound n.1 z b.0 b.1)))
 
-  item_or-sound : (s : Place) (o : Option (Unit {0} × Place)) (z : Place) (t : Tree) → at (word star) s ≡ o → item_or N s o ≡ Ok (t, z) → Item R s t z
-  item_or-sound s None z t f e = a_plain_item (argument_sound s z t e)
-  item_or-sound s (Some m) z t f e =
-      let b = built_ok splat (argument_of N m.1) t z e in
-      subst (λ (q : Tree). Item R s q z) (sym b.2) (a_splat (word-next star told_star s m.1 m.0 f) (argument_sound m.1 z b.0 b.1))
+  key_sound : (only : Bool) → IsSoundOn (key_on N only) (Argument R) (Listing R only)
+  unfolding key_on
+  key_sound only s m z t r h e = arrow_or-sound only s m t (at (word kind.Arrow) m) z r h refl e
 
-  item_sound : IsSound (item_of N) (Item R)
-  unfolding item_of
-  item_sound s z t e = item_or-sound s (at (word star) s) z t refl e
+  star_or-sound : (only : Bool) (s : Place) (o : Option (Unit {0} × Place)) (z : Place) (r : Member) → at (star_unless only) s ≡ o → star_or N only s o ≡ Ok (r, z) → Listing R only s r z
+  star_or-sound only s None z r f e = from_sound (argument_of N) (key_on N only) (Argument R) (Listing R only) argument_sound (key_sound only) s z r e
+  star_or-sound true s (Some m) z r f e = absurd cc
+  star_or-sound false s (Some m) z r f e =
+      let b = built_ok (λ t. item (splat t)) (argument_of N m.1) r z e in
+      subst (λ (q : Member). Listing R false s q z) (sym b.2) (an_item refl (a_splat (word-next star told_star s m.1 m.0 f) (argument_sound m.1 z b.0 b.1)))
 
-  pub member_sound : (k : Listed) → IsSound (member_of N k) (Member R k)
-  member_sound listings.Command = item_sound
-  member_sound listings.Call = item_sound
-  member_sound listings.Array = item_sound
-  member_sound listings.Hash = pair_sound
+  unlabeled_sound : (only : Bool) → IsSound (unlabeled_of N only) (Listing R only)
+  unfolding unlabeled_of
+  unlabeled_sound only s z r e = star_or-sound only s (at (star_unless only) s) z r refl e
+
+  label_or-sound : (only : Bool) (s : Place) (o : Option (Sym × Place)) (z : Place) (r : Member) → at label s ≡ o → label_or N only s o ≡ Ok (r, z) → Listing R only s r z
+  label_or-sound only s None z r f e = unlabeled_sound only s z r e
+  label_or-sound only s (Some x) z r f e =
+      let b = built_ok (λ t. entry (pair (symbol x.0.0) t)) (argument_of N x.1) r z e in
+      subst (λ (q : Member). Listing R only s q z) (sym b.2) (a_pair_member (by_label f (argument_sound x.1 z b.0 b.1)))
+
+  member_sound : (only : Bool) → IsSound (member_of N only) (Listing R only)
+  unfolding member_of
+  member_sound only s z r e = label_or-sound only s (at label s) z r refl e
+
+  pub adding_sound : (k : Listed) (g : Given) → IsSound (adding_of N k g) (Adding R k g)
+  unfolding adding_of
+  adding_sound k g s z t e =
+      let b = built_ok (with_member g) (member_of N (only_pairs k g) s) t z e in
+      subst (λ (q : Given). Adding R k g s q z) (sym b.2) (adding (member_sound (only_pairs k g) s z b.0 b.1))
 
   pub members_sound : (k : Listed) → IsSound (members_of N k) (Members R k)
   unfolding members_of
-  members_sound k = chain_sound comma (another k) one_of and_one (member_of N k) (Member R k) (λ m n x e. another-comma k m n x e) (member_sound k)
+  members_sound k =
+      from_sound (adding_of N k nothing) (trail_on (another k) (adding_to N k)) (Adding R k nothing) (Members R k) (adding_sound k nothing)
+      (trail_sound comma (another k) (λ m n x e. another-comma k m n x e) (adding_to N k) (Adding R k nothing) (AddingTo R k) (λ x g n z t e. adding_sound k g n z t e))
 
-  ended_sound : (k : Listed) (s m : Place) (l : List Tree) (o : Option (Unit {0} × Place)) (z : Place) (t : List Tree) → Members R k s l m → at (last k) m ≡ o → ended_by l o ≡ Ok (t, z) → Bracketed R k s t z
-  ended_sound k s m l None z t h f e = absurd cc
-  ended_sound k s m l (Some x) z t h f e = at_answer (Bracketed R k s) l t x.1 z e (some_members {u = x.0} h f)
+  pub listed_sound : (k : Listed) (s z : Place) (l : List Tree) → listed_of N k s ≡ Ok (l, z) → (g : Given) × Members R k s g z × (l ≡ contents k g)
+  unfolding listed_of
+  listed_sound k s z l e = let b = built_ok (contents k) (members_of N k s) l z e in (b.0, members_sound k s z b.0 b.1, b.2)
+
+  ended_sound : (k : Listed) (s m : Place) (g : Given) (o : Option (Unit {0} × Place)) (z : Place) (t : List Tree) → Members R k s g m → at (last k) m ≡ o → ended_by (contents k g) o ≡ Ok (t, z) → Bracketed R k s t z
+  ended_sound k s m g None z t h f e = absurd cc
+  ended_sound k s m g (Some x) z t h f e = at_answer (Bracketed R k s) (contents k g) t x.1 z e (some_members {u = x.0} h f)
 
   bracketed_or-sound : (k : Listed) (s z : Place) (l : List Tree) (o : Option (Unit {0} × Place)) → at (closing k) s ≡ o → bracketed_or N k s o ≡ Ok (l, z) → Bracketed R k s l z
   bracketed_or-sound k s z l None f e =
-      let b = bind_ok (members_of N k s) (λ q. ended_by q.0 (at (last k) q.1)) (l, z) e in
-      ended_sound k s b.0.1 b.0.0 (at (last k) b.0.1) z l (members_sound k s b.0.1 b.0.0 b.1) refl b.2
+      let b = bind_ok (listed_of N k s) (λ q. ended_by q.0 (at (last k) q.1)) (l, z) e in
+      let c = listed_sound k s b.0.1 b.0.0 b.1 in
+      ended_sound k s b.0.1 c.0 (at (last k) b.0.1) z l c.1 refl (subst (λ (q : List Tree). ended_by q (at (last k) b.0.1) ≡ Ok (l, z)) c.2 b.2)
   bracketed_or-sound k s z l (Some x) f e = at_answer (Bracketed R k s) [] l x.1 z e (no_members {u = x.0} f)
 
   pub bracketed_sound : (k : Listed) → IsSound (bracketed_of N k) (Bracketed R k)
@@ -167,7 +196,7 @@ module _ (N : Readers) (R : Nested) (nests : NestedSound N R) where
   index_sound s z t e = let c = closed_ok kind.CloseSquare told_close_square (argument_of N s) z t e in of_element (argument_sound s c.0 t c.1) c.2
 
   commanded_or-sound : (s z : Place) (l : List Tree) (o : Option (Head × Place)) → at (command s.known) s ≡ o → commanded_or N s o ≡ Ok (l, z) → Commanded R s l z
-  commanded_or-sound s z l None f e = by_arguments (members_sound listings.Command s z l e)
+  commanded_or-sound s z l None f e = let c = listed_sound listings.Command s z l e in subst (λ (q : List Tree). Commanded R s q z) (sym c.2) (by_arguments c.1)
   commanded_or-sound s z l (Some x) f e =
       let b = built_ok one_of (N.part parts.Command s) l z e in
       subst (λ (q : List Tree). Commanded R s q z) (sym b.2) (by_command f (nests.part parts.Command s z b.0 b.1))
@@ -176,13 +205,20 @@ module _ (N : Readers) (R : Nested) (nests : NestedSound N R) where
   unfolding commanded_of
   commanded_sound s z l e = commanded_or-sound s z l (at (command s.known) s) refl e
 
+  -- the arguments of a command, and what stands behind them
+  given_sound : (x : Head) (f : List Tree → Tree) (m z : Place) (t : Tree) → then_blocked N (behinds.Command x) (built f (arguments_of N x m)) ≡ Ok (t, z) → (l : List Tree) × (o : Place) × Arguments R x m l o × Blocked R (behinds.Command x) (f l) o t z
+  given_sound x f m z t e =
+      let c = bind_ok (built f (arguments_of N x m)) (λ c. blocked_of N (behinds.Command x) c.0 c.1) (t, z) e in
+      let b = built_ok f (arguments_of N x m) c.0.0 c.0.1 c.1 in (
+        b.0,
+        c.0.1,
+        taking_sound (within_head x m.known.takes_do) (commanded_of N) (Commanded R) commanded_sound m c.0.1 b.0 b.1,
+        subst (λ (q : Tree). Blocked R (behinds.Command x) q c.0.1 t z) b.2 ((blocked_sound N R nests) (behinds.Command x) c.0.0 c.0.1 z t c.2),
+      )
+
   called_sound : (s : Place) (x : Head × Place) (z : Place) (t : Tree) → at (command s.known) s ≡ Some (x.0, x.1) → headed_of N x.0 x.1 ≡ Ok (t, z) → Command R s t z
   unfolding headed_of
-  called_sound s x z t f e =
-      let c = bind_ok (built (headed x.0) (arguments_of N x.0 x.1)) (λ c. blocked_of N (behinds.Command x.0) c.0 c.1) (t, z) e in
-      let b = built_ok (headed x.0) (arguments_of N x.0 x.1) c.0.0 c.0.1 c.1 in
-      a_command f (taking_sound (within_head x.0 x.1.known.takes_do) (commanded_of N) (Commanded R) commanded_sound x.1 c.0.1 b.0 b.1)
-      (subst (λ (q : Tree). Blocked R (behinds.Command x.0) q c.0.1 t z) b.2 ((blocked_sound N R nests) (behinds.Command x.0) c.0.0 c.0.1 z t c.2))
+  called_sound s x z t f e = let p = given_sound x.0 (headed x.0) x.1 z t e in a_command f p.2 p.3
 
   command_or-sound : (s : Place) (o : Option (Head × Place)) (z : Place) (t : Tree) → at (command s.known) s ≡ o → command_or N o ≡ Ok (t, z) → Command R s t z
   command_or-sound s None z t f e = absurd cc
@@ -192,8 +228,17 @@ module _ (N : Readers) (R : Nested) (nests : NestedSound N R) where
   unfolding command_of
   command_sound s z t e = command_or-sound s (at (command s.known) s) z t refl e
 
+  order_or-sound : (s m : Place) (r : Reached) (o : Option (Sym × Place)) (z : Place) (t : Tree) → Postfix R s r m → at order m ≡ o → order_or N r m o ≡ Ok (t, z) → Phrase R s t z
+  unfolding ordered_of
+  order_or-sound s m r None z t h f e = an_operand (reached_sound true s m z r t h e)
+  order_or-sound s m r (Some x) z t h f e = let p = given_sound (heads.Call x.0) (λ l. send r.tree x.0.0 (listed l)) x.1 z t e in by_receiver h f p.2 p.3
+
+  order_sound : IsSoundOn (order_on N) (Postfix R) (Phrase R)
+  unfolding order_on
+  order_sound s m z r t h e = order_or-sound s m r (at order m) z t h refl e
+
   phrase_or-sound : (s : Place) (o : Option (Head × Place)) (z : Place) (t : Tree) → at (command s.known) s ≡ o → phrase_or N s o ≡ Ok (t, z) → Phrase R s t z
-  phrase_or-sound s None z t f e = an_operand (settled_sound true s z t e)
+  phrase_or-sound s None z t f e = settled_by-sound (order_on N) (Phrase R) order_sound (λ s z t h. an_operand (no_setting h)) s z t e
   phrase_or-sound s (Some x) z t f e = by_name (called_sound s x z t f e)
 
   phrase_sound : IsSound (phrase_of N) (Phrase R)
@@ -201,7 +246,7 @@ module _ (N : Readers) (R : Nested) (nests : NestedSound N R) where
   phrase_sound s z t e = phrase_or-sound s (at (command s.known) s) z t refl e
 
   operand_sound : (b : Bool) → IsSound (operand_of N b) (Operand R b)
-  operand_sound false = settled_sound false
+  operand_sound false = settled_sound
   operand_sound true = phrase_sound
 
   pub value_sound : (b : Bool) → IsSound (value_of N b) (Value R b)
@@ -309,7 +354,7 @@ module _ (N : Readers) (R : Nested) (nests : NestedSound N R) where
 
   -- ---- bodies
 
-  clause_or-sound : (s m : Place) (l : List Tree) (o : Option (Option Sym × Place)) (z : Place) (t : Tree) → Classes s l m → at caught m ≡ o → clause_or N l o ≡ Ok (t, z) → Clause R s t z
+  clause_or-sound : (s m : Place) (l : List Tree) (o : Option (Option Caught × Place)) (z : Place) (t : Tree) → Classes s l m → at caught m ≡ o → clause_or N l o ≡ Ok (t, z) → Clause R s t z
   clause_or-sound s m l None z t h f e = absurd cc
   clause_or-sound s m l (Some x) z t h f e =
       let n = with_caught x.0 x.1 in

@@ -1,8 +1,8 @@
 -- What is read of operands and operators is spelled.
-use Rattle.std.proofs.Common.{◌≡◌, ℕ, zero, suc, pos, Bool, true, false, cond, List, [], Option, Some, None, Ok, Err, refl, sym, subst, ap, ◌∙◌}
+use Rattle.std.proofs.Common.{◌≡◌, zero, suc, pos, Bool, true, false, cond, List, Option, Some, None, Ok, Err, refl, sym, subst, ap, ◌∙◌, ℕ, []}
 use Rattle.rr_base.specs.declared.name.Sym.{Sym}
 use Rattle.rr_parser.specs.declared.word.Infix.{Infix}
-use Rattle.rr_tree.specs.Tree.{Tree, nil, int, bare, call, with_block, negate, sequence, choose, send, index, constant, logical_not, listed}
+use Rattle.rr_tree.specs.Tree.{Tree, nil, int, bare, call, with_block, negate, sequence, choose, send, constant, logical_not, listed}
 use Rattle.rr_tree.specs.declared.node.Path.TheVariants as paths
 use Rattle.rr_parser.specs.declared.word.Tail.{Tail}
 use Rattle.rr_parser.specs.declared.word.Tail.TheVariants as tails
@@ -18,7 +18,7 @@ use Rattle.rr_parser.specs.declared.word.WordKind.TheVariants as kind
 use Rattle.rr_parser.specs.Places.{Place, word, at, next, skip}
 use Rattle.rr_parser.specs.Grammar.Chains.{one, same}
 use Rattle.rr_parser.specs.Grammar.Nesting.{Nested}
-use Rattle.rr_parser.specs.Grammar.Names.{is_local, variable_of, local_tree, is_allowed, jump_tree, begins_arguments, passed, passed_bare, name, bracket, begins_operands}
+use Rattle.rr_parser.specs.Grammar.Names.{is_local, variable_of, told_behind, local_tree, is_allowed, jump_tree, begins_arguments, passed, passed_bare, name, bracket, begins_operands}
 use Rattle.rr_parser.specs.Grammar.Operands.{fits, fits_below, negated, joined, literal_of, inner_constant, construct_of, Blocked, no_block, a_block, Primary, a_literal, a_constant, a_path, a_negative, a_local, a_bare_call, a_call, a_block_call, a_jump, a_passing, a_passing_call, a_construct, tail, Tailed, Reached, plain, at_element, at_attribute, Plain, as_it_is, an_attribute, a_block_send, a_sent_call, an_index, Postfix, Bang, a_bang, no_bang, Minus, a_minus, no_minus}
 use Rattle.rr_parser.specs.Grammar.Operators.{operator, infixed, Binary, Equality, a_comparison, a_pair, connective, joined_by, Logical, Ternary, no_question, a_question}
 use Rattle.rr_parser.specs.Grammar.Fences.{Taking, taken, taking, taking_as, opened}
@@ -88,8 +88,8 @@ module _ (N : Readers) (R : Nested) (nests : NestedSound N R) where
   bare_sound s m x false z t f o b l g e = at_answer (Primary R s) (bare x.0) t m z e (a_bare_call f o b l g)
 
   plain_sound : (s m : Place) (x : Sym) (b : Bool) (z : Place) (t : Tree) → at name s ≡ Some (x, m) → at bracket m ≡ None → opened behinds.Call m ≡ None → is_local x m ≡ b
-      → cond b (done (local_tree x (variable_of x m)) m) (bare_call x m) ≡ done t z → Primary R s t z
-  plain_sound s m x true z t f o b l e = at_answer (Primary R s) (local_tree x (variable_of x m)) t m z e (a_local f o b l)
+      → cond b (done (local_tree x (variable_of x m) (told_behind m.rest)) m) (bare_call x m) ≡ done t z → Primary R s t z
+  plain_sound s m x true z t f o b l e = at_answer (Primary R s) (local_tree x (variable_of x m) (told_behind m.rest)) t m z e (a_local f o b l)
   plain_sound s m x false z t f o b l e = bare_sound s m x (begins_operands m.rest) z t f o b l refl e
 
   blocked_or-sound : (q : Behind) (c : Tree) (s : Place) (o : Option (Fence × Place)) (z : Place) (t : Tree) → opened q s ≡ o → blocked_or N c s o ≡ Ok (t, z) → Blocked R q c s t z
@@ -198,7 +198,7 @@ module _ (N : Readers) (R : Nested) (nests : NestedSound N R) where
 
   pub postfix_sound : IsSound (postfix_of N) (Postfix R)
   unfolding postfix_of
-  postfix_sound = from_sound (plainly (primary_of N)) (trail_on tail (tailed_of N)) (Plain (Primary R)) (Postfix R) plain_primary_sound (trail_sound tail (tailed_of N) (Plain (Primary R)) (Tailed R) tailed_sound)
+  postfix_sound = from_sound (plainly (primary_of N)) (trail_on tail (tailed_of N)) (Plain (Primary R)) (Postfix R) plain_primary_sound (trail_sound tail tail (λ m n x e. e) (tailed_of N) (Plain (Primary R)) (Tailed R) tailed_sound)
 
   bang_or-sound : (s : Place) (o : Option (Unit {0} × Place)) (z : Place) (t : Tree) → at (word kind.Bang) s ≡ o → bang_or N s o ≡ Ok (t, z) → Bang R s t z
   bang_or-sound s None z t f e = let b = built_ok tree_reached (postfix_of N s) t z e in subst (λ (q : Tree). Bang R s q z) (sym b.2) (no_bang (postfix_sound s z b.0 b.1))

@@ -1,12 +1,11 @@
 -- What the code made of elements and attributes, and of assignments to them.
-use Rattle.std.proofs.Common.{◌≡◌, ℕ, ◌<◌, ◌≤◌, Bool, List, [], length, map, Option, Some, None, Result, Ok, Err, refl, sym, ap, ◌∙◌, subst, arith}
-use Rattle.std.specs.Prelude.{IfOk}
+use Rattle.std.proofs.Common.{◌≡◌, ℕ, ◌<◌, ◌≤◌, Bool, List, length, map, Option, Some, None, Result, Ok, Err, sym, ap, ◌∙◌, subst, arith, []}
 use Rattle.std.specs.Borrow.{Bor}
 use Rattle.rr_base.specs.declared.name.Sym.{Sym}
 use Rattle.rr_tree.specs.declared.node.Node.{Node}
 use Rattle.rr_tree.specs.Tree.{Tree, listed, send, index, tree_at}
 use Rattle.rr_tree.specs.Nodes.{Extends}
-use Rattle.rr_tree.proofs.Growth.{tree_at-kept, Extends-refl, Extends-trans, length-kept}
+use Rattle.rr_tree.proofs.Growth.{tree_at-kept, Extends-trans, length-kept}
 use Rattle.rr_parser.specs.declared.word.Behind.TheVariants as behinds
 use Rattle.rr_parser.specs.declared.word.Fence.{Fence}
 use Rattle.rr_parser.specs.declared.word.Part.TheVariants as parts
@@ -19,16 +18,17 @@ use Rattle.rr_parser.specs.declared.word.WordKind.TheVariants as kind
 use Rattle.rr_parser.specs.declared.refusal.Refusal.{Refusal}
 use Rattle.rr_parser.specs.declared.parser.Parser.{Parser}
 use Rattle.rr_parser.specs.Places.{Place, word, at}
-use Rattle.rr_parser.specs.Grammar.Operands.{Spot, element, attribute, Reached, plain, at_element, at_attribute}
-use Rattle.rr_parser.specs.Grammar.Fences.{opening, opened}
+use Rattle.rr_parser.specs.Grammar.Operands.{Spot, element, attribute, Reached, plain, at_element}
+use Rattle.rr_parser.specs.Grammar.Fences.{opening}
 use Rattle.rr_parser.specs.Grammar.Calls.{sign, settled}
 use Rattle.rr_parser.specs.Reading.Answers.{◌>>=◌, Answer, Parse, built, from}
 use Rattle.rr_parser.specs.Reading.Nesting.{Readers}
-use Rattle.rr_parser.specs.Reading.Operands.{block_behind, blocked_of, then_blocked, sent_or, sent_of, sent_call_of, element_of, plainly, tree_reached, postfix_of, prefix_minus}
+use Rattle.rr_parser.specs.Reading.Operands.{block_behind, blocked_of, sent_or, sent_of, sent_call_of, element_of, tree_reached, postfix_of, prefix_minus}
 use Rattle.rr_parser.specs.Reading.Operators.{ternary_on, ternary_of}
-use Rattle.rr_parser.specs.Reading.Calls.{setting_or, setting_of, reached_on, behind_bang, behind_minus, settled_of}
-use Rattle.rr_parser.specs.Meets.{View, nodes, lists, reaches, spot_tree, spot_within, Made, Fails, Gives, GivesReached, Puts, place}
+use Rattle.rr_parser.specs.Reading.Calls.{setting_or, setting_of, behind_bang, behind_minus, settled_by, arguments_of, ordered_of}
+use Rattle.rr_parser.specs.Meets.{nodes, lists, reaches, spot_tree, spot_within, Made, Fails, Gives, Puts, place}
 use Rattle.rr_parser.proofs.Making.{made_eq, fails_bind, fails_eq, made_over, seen_at, unseen_at, same_place, gives_from}
+use Rattle.rr_parser.specs.declared.word.Head.TheVariants as heads
 
 -- ---- what an element or an attribute stands for stays
 
@@ -110,6 +110,18 @@ gives_sent N old m1 m2 new l id x es fs words rest r same lt m p g =
     made_over reads m p (ap (λ (u : Tree). send u x.0 (listed (map (tree_at m1.nodes.items) fs))) (tree_at-kept old.nodes.items m1.nodes.items l m.kept lt) ∙ ap (λ (q : List ℕ). reads (map (tree_at m1.nodes.items) q)) same) in
     gives_from old m2 new id rest (built reads (N.bracketed (place old words))) (λ c s. blocked_of N behinds.Call c s) r made g
 
+-- the same of a command
+pub gives_ordered : (N : Readers) (old m1 m2 new : Parser) (l id : ℕ) (x : Sym) (es fs : List ℕ) (words rest : List Word) (r : Result (ℕ × Bor (List Word)) Refusal) → fs ≡ es → l < length old.nodes.items
+    → Made (lists nodes) old m1 es rest (arguments_of N (heads.Call x) (place old words)) → Puts m1 m2 (send (tree_at m1.nodes.items l) x.0 (listed (map (tree_at m1.nodes.items) fs))) id
+    → Gives m2 new r (blocked_of N (behinds.Command (heads.Call x)) (tree_at m2.nodes.items id) (place m2 rest)) → Gives old new r (ordered_of N (tree_at old.nodes.items l) x (place old words))
+unfolding ordered_of
+gives_ordered N old m1 m2 new l id x es fs words rest r same lt m p g =
+    let given = arguments_of N (heads.Call x) (place old words) in
+    let reads : List Tree → Tree = λ q. send (tree_at old.nodes.items l) x.0 (listed q) in
+    let made : Made nodes old m2 id rest (built reads given) =
+    made_over reads m p (ap (λ (u : Tree). send u x.0 (listed (map (tree_at m1.nodes.items) fs))) (tree_at-kept old.nodes.items m1.nodes.items l m.kept lt) ∙ ap (λ (q : List ℕ). reads (map (tree_at m1.nodes.items) q)) same) in
+    gives_from old m2 new id rest (built reads given) (λ c s. blocked_of N (behinds.Command (heads.Call x)) c s) r made g
+
 -- an operand and its index
 pub made_element : (N : Readers) (old m1 new : Parser) (l a id : ℕ) (words rest : List Word) → l < length old.nodes.items → Made nodes old m1 a rest (N.part parts.Index (place old words)) → Puts m1 new (index (tree_at m1.nodes.items l) (tree_at m1.nodes.items a)) id
     → Made reaches old new (record { node = id; spot = Some (code_spot.Element l a) }) rest (element_of N (tree_at old.nodes.items l) (place old words))
@@ -163,35 +175,35 @@ gives_unsigned N b old new l p words r e g = subst (λ o. Gives old new r (setti
 
 -- ---- what stands before an operand
 
-pub gives_minus : (N : Readers) (b : Bool) (old new : Parser) (words after : List Word) (r : Result (ℕ × Bor (List Word)) Refusal) → prefix_minus words ≡ Some (tt, after) → Gives old new r (ternary_of N (place old words)) → Gives old new r (settled_of N b (place old words))
-unfolding settled_of
-gives_minus N b old new words after r e g = subst (λ o. Gives old new r (behind_minus N b (place old words) o)) (sym (seen_at old prefix_minus words after tt e)) g
+pub gives_minus : (N : Readers) (on : Reached → Parse Tree) (old new : Parser) (words after : List Word) (r : Result (ℕ × Bor (List Word)) Refusal) → prefix_minus words ≡ Some (tt, after) → Gives old new r (ternary_of N (place old words)) → Gives old new r (settled_by N on (place old words))
+unfolding settled_by
+gives_minus N on old new words after r e g = subst (λ o. Gives old new r (behind_minus N on (place old words) o)) (sym (seen_at old prefix_minus words after tt e)) g
 
-reads_behind : (N : Readers) (b : Bool) (old : Parser) (words : List Word) → prefix_minus words ≡ None → settled_of N b (place old words) ≡ behind_bang N b (place old words) (at (word kind.Bang) (place old words))
-unfolding settled_of
-reads_behind N b old words e = ap (behind_minus N b (place old words)) (unseen_at old prefix_minus words e)
+reads_behind : (N : Readers) (on : Reached → Parse Tree) (old : Parser) (words : List Word) → prefix_minus words ≡ None → settled_by N on (place old words) ≡ behind_bang N on (place old words) (at (word kind.Bang) (place old words))
+unfolding settled_by
+reads_behind N on old words e = ap (behind_minus N on (place old words)) (unseen_at old prefix_minus words e)
 
-pub gives_bang : (N : Readers) (b : Bool) (old new : Parser) (words after : List Word) (r : Result (ℕ × Bor (List Word)) Refusal) → prefix_minus words ≡ None → word kind.Bang words ≡ Some (tt, after) → Gives old new r (ternary_of N (place old words))
-    → Gives old new r (settled_of N b (place old words))
-gives_bang N b old new words after r e f g =
-    subst (λ (q : Answer Tree). Gives old new r q) (sym (reads_behind N b old words e ∙ ap (behind_bang N b (place old words)) (seen_at old (word kind.Bang) words after tt f))) g
+pub gives_bang : (N : Readers) (on : Reached → Parse Tree) (old new : Parser) (words after : List Word) (r : Result (ℕ × Bor (List Word)) Refusal) → prefix_minus words ≡ None → word kind.Bang words ≡ Some (tt, after) → Gives old new r (ternary_of N (place old words))
+    → Gives old new r (settled_by N on (place old words))
+gives_bang N on old new words after r e f g =
+    subst (λ (q : Answer Tree). Gives old new r q) (sym (reads_behind N on old words e ∙ ap (behind_bang N on (place old words)) (seen_at old (word kind.Bang) words after tt f))) g
 
-reads_unprefixed : (N : Readers) (b : Bool) (old : Parser) (words : List Word) → prefix_minus words ≡ None → word kind.Bang words ≡ None → settled_of N b (place old words) ≡ from (postfix_of N) (reached_on N b) (place old words)
-reads_unprefixed N b old words e f = reads_behind N b old words e ∙ ap (behind_bang N b (place old words)) (unseen_at old (word kind.Bang) words f)
+reads_unprefixed : (N : Readers) (on : Reached → Parse Tree) (old : Parser) (words : List Word) → prefix_minus words ≡ None → word kind.Bang words ≡ None → settled_by N on (place old words) ≡ from (postfix_of N) on (place old words)
+reads_unprefixed N on old words e f = reads_behind N on old words e ∙ ap (behind_bang N on (place old words)) (unseen_at old (word kind.Bang) words f)
 
-pub fails_unprefixed : (N : Readers) (b : Bool) (old : Parser) (words : List Word) (d : Refusal) → prefix_minus words ≡ None → word kind.Bang words ≡ None → Fails d (postfix_of N (place old words)) → Fails d (settled_of N b (place old words))
-fails_unprefixed N b old words d e f h =
-    fails_eq d (settled_of N b (place old words)) (from (postfix_of N) (reached_on N b) (place old words)) (reads_unprefixed N b old words e f)
-    (fails_bind d (postfix_of N (place old words)) (λ x. reached_on N b x.0 x.1) h)
+pub fails_unprefixed : (N : Readers) (on : Reached → Parse Tree) (old : Parser) (words : List Word) (d : Refusal) → prefix_minus words ≡ None → word kind.Bang words ≡ None → Fails d (postfix_of N (place old words)) → Fails d (settled_by N on (place old words))
+fails_unprefixed N on old words d e f h =
+    fails_eq d (settled_by N on (place old words)) (from (postfix_of N) on (place old words)) (reads_unprefixed N on old words e f)
+    (fails_bind d (postfix_of N (place old words)) (λ x. on x.0 x.1) h)
 
-pub gives_unprefixed : (N : Readers) (b : Bool) (old m1 new : Parser) (e : CodeReached) (words rest : List Word) (r : Result (ℕ × Bor (List Word)) Refusal) → prefix_minus words ≡ None → word kind.Bang words ≡ None
-    → Made reaches old m1 e rest (postfix_of N (place old words)) → Gives m1 new r (reached_on N b (reaches.tree m1.nodes.items e) (place m1 rest)) → Gives old new r (settled_of N b (place old words))
-gives_unprefixed N b old m1 new e words rest r f g m h =
-    subst (λ (q : Answer Tree). Gives old new r q) (sym (reads_unprefixed N b old words f g ∙ ap (λ (q : Answer Reached). q >>= λ x. reached_on N b x.0 x.1) m.tree)) (grown r h)
+pub gives_unprefixed : (N : Readers) (on : Reached → Parse Tree) (old m1 new : Parser) (e : CodeReached) (words rest : List Word) (r : Result (ℕ × Bor (List Word)) Refusal) → prefix_minus words ≡ None → word kind.Bang words ≡ None
+    → Made reaches old m1 e rest (postfix_of N (place old words)) → Gives m1 new r (on (reaches.tree m1.nodes.items e) (place m1 rest)) → Gives old new r (settled_by N on (place old words))
+gives_unprefixed N on old m1 new e words rest r f g m h =
+    subst (λ (q : Answer Tree). Gives old new r q) (sym (reads_unprefixed N on old words f g ∙ ap (λ (q : Answer Reached). q >>= λ x. on x.0 x.1) m.tree)) (grown r h)
   where
-    on : Answer Tree
-    on = reached_on N b (reaches.tree m1.nodes.items e) (place m1 rest)
+    behind : Answer Tree
+    behind = on (reaches.tree m1.nodes.items e) (place m1 rest)
 
-    grown : (r : Result (ℕ × Bor (List Word)) Refusal) → Gives m1 new r on → Gives old new r on
+    grown : (r : Result (ℕ × Bor (List Word)) Refusal) → Gives m1 new r behind → Gives old new r behind
     grown (Ok x) i = record { there = i.there; tree = i.tree; kept = Extends-trans old.nodes.items m1.nodes.items new.nodes.items m.kept i.kept }
     grown (Err d) i = i

@@ -2,6 +2,7 @@
 use Rattle.std.proofs.Common.{◌≡◌, ℕ, zero, suc, ◌+◌, ◌*◌, ◌<◌, ◌≤◌, Bool, true, false, List, Option, Some, None, refl, sym, ap, ◌∙◌, subst, arith}
 use Rattle.rr_base.specs.declared.name.Sym.{Sym}
 use Rattle.rr_tree.specs.Tree.{Tree}
+use Rattle.rr_parser.specs.declared.word.Caught.{Caught}
 use Rattle.rr_parser.specs.declared.word.Head.{Head}
 use Rattle.rr_parser.specs.declared.word.Head.TheVariants as heads
 use Rattle.rr_parser.specs.declared.word.Sign.{Sign}
@@ -17,7 +18,7 @@ use Rattle.rr_parser.specs.Grammar.Nesting.{Nested}
 use Rattle.rr_parser.specs.Grammar.Names.{begins_operands, head, begins_head, command}
 use Rattle.rr_parser.specs.Grammar.Operands.{construct_of, Primary, a_literal, a_constant, a_path, a_negative, a_local, a_bare_call, a_call, a_block_call, a_jump, a_passing, a_passing_call, a_construct, Postfix, a_bang, no_bang, Minus, a_minus, no_minus, Reached, Spot, as_it_is}
 use Rattle.rr_parser.specs.Grammar.Operators.{operator, infixed, connective, joined_by, Binary, a_comparison, a_pair, Logical, Ternary, no_question, a_question}
-use Rattle.rr_parser.specs.Grammar.Calls.{target, a_command, Phrase, by_name, an_operand, target_of_kind, Settled, a_setting, no_setting, sign}
+use Rattle.rr_parser.specs.Grammar.Calls.{target, a_command, Phrase, by_name, an_operand, target_of_kind, Settled, a_setting, no_setting, sign, by_receiver}
 use Rattle.rr_parser.specs.Grammar.Interpolations.{middle_of_kind, text_middle, tail_of_kind, text_tail}
 use Rattle.rr_parser.specs.Grammar.Control.{thens, elsif}
 use Rattle.rr_parser.specs.Grammar.Bodies.{rescues, before_thens, behind_arrow, caught}
@@ -26,6 +27,7 @@ use Rattle.rr_parser.proofs.Told.{told_rescue, told_arrow, told_elsif}
 use Rattle.rr_parser.proofs.Looks.{seen, seen_as, some_what, some_place, none_unless, by_next, one_kind, one_place, word-next, name-next, next-name, target-next, command-next}
 use Rattle.rr_parser.proofs.Strengths.{strength_in, Stops, stops_by, thens_stop, operator_strength, connective_strength, tail_strength}
 use Rattle.rr_parser.proofs.Firsts.{next_ends, opens, First, and_false, bare_no_command, bracket_not_assign, brace_not_assign, by_word, by_integer, by_no_command, by_jump, by_passing, by_bang, by_prefix}
+use Rattle.rr_parser.proofs.Orders.{order_strength}
 
 -- ---- a name that begins no command
 
@@ -70,7 +72,7 @@ target_no_command s n x e = let h = target-next s n x e in by_kind h.first h.m h
 
 -- the sign of an assignment comes
 abbrev Assigns : Place → Type 0
-Assigns z = strength_in (next z) ≡ 26
+Assigns z = strength_in (next z) ≡ 27
 
 module _ (R : Nested) (s m n : Place) (k : WordKind) (x : Target) (sign : Sign) (here : next s ≡ Some (k, m)) (is_target : target_of_kind k ≡ Some x) (assigns : next m ≡ Some (kind.Assign sign, n)) where
   by_place : (z : Place) → m ≡ z → Assigns z
@@ -126,7 +128,7 @@ module _ (R : Nested) (s m n : Place) (k : WordKind) (x : Target) (sign : Sign) 
       let never : ⊥ = omega (arith, tail_strength o q y e, a) in never
 
   -- what is seen at another strength does not come
-  chain_stuck : {X : Type 0} (between : Look X) (w : ℕ) (join : X → Tree → Tree → Tree) (P : Place → Tree → Place → Type 0) → w < 26 → ((o q : Place) (y : X) → at between o ≡ Some (y, q) → strength_in (next o) ≡ w)
+  chain_stuck : {X : Type 0} (between : Look X) (w : ℕ) (join : X → Tree → Tree → Tree) (P : Place → Tree → Place → Type 0) → w < 27 → ((o q : Place) (y : X) → at between o ≡ Some (y, q) → strength_in (next o) ≡ w)
       → ((z : Place) (t : Tree) → P s t z → Assigns z) → (z : Place) (t : Tree) → Chain between same join P s t z → Assigns z
   chain_stuck between w join P lt tells stuck z t (one {t = u} h) = stuck z u h
   chain_stuck between w join P lt tells stuck z t (more {m = o} {n = q} {l = l} {x = y} c e h) =
@@ -143,7 +145,7 @@ module _ (R : Nested) (s m n : Place) (k : WordKind) (x : Target) (sign : Sign) 
       let a = binary_stuck 4 (omega arith) o l h in
       let never : ⊥ = omega (arith, operator_strength 5 o q b e, a) in absurd never
   logical_stuck (suc level) le z t c =
-      chain_stuck (connective (suc level)) (16 + 4 * suc level) joined_by (Logical R level) (omega (arith, le)) (connective_strength (suc level)) (logical_stuck level (omega (arith, le))) z t c
+      chain_stuck (connective (suc level)) (15 + 5 * suc level) joined_by (Logical R level) (omega (arith, le)) (connective_strength (suc level)) (logical_stuck level (omega (arith, le))) z t c
 
   ternary_stuck : (z : Place) (t : Tree) → Ternary R s t z → Assigns z
   ternary_stuck z t (no_question h) = logical_stuck 2 (omega arith) z t h
@@ -151,16 +153,19 @@ module _ (R : Nested) (s m n : Place) (k : WordKind) (x : Target) (sign : Sign) 
       let a = logical_stuck 2 (omega arith) o c h in
       let never : ⊥ = omega (arith, ap strength_in e, a) in absurd never
 
-ternary_no_target : (R : Nested) (s z : Place) (t : Tree) → Ternary R s t z → Stops 26 z → at target s ≡ None
+ternary_no_target : (R : Nested) (s z : Place) (t : Tree) → Ternary R s t z → Stops 27 z → at target s ≡ None
 ternary_no_target R s z t h stops = none_unless (at target s) (λ x n e.
     let k = target-next s n x e in
     let never : ⊥ = omega (arith, ternary_stuck R s k.m n k.first x.target x.sign k.here k.told k.sign z t h, stops) in never)
 
-pub settled_no_target : (R : Nested) (b : Bool) (s z : Place) (t : Tree) → Settled R b s t z → Stops 26 z → at target s ≡ None
+pub settled_no_target : (R : Nested) (b : Bool) (s z : Place) (t : Tree) → Settled R b s t z → Stops 27 z → at target s ≡ None
 settled_no_target R b s z t (a_setting {m = m} {r = r} {p = p} h f g i) stops = none_unless (at target s) (λ x n e. let k = target-next s n x e in postfix_no_spot R s k.m n k.first x.target x.sign k.here k.told k.sign m r p h f)
 settled_no_target R b s z t (no_setting h) stops = ternary_no_target R s z t h stops
 
-pub phrase_no_target : (R : Nested) (s z : Place) (t : Tree) → Phrase R s t z → Stops 27 z → at target s ≡ None
+pub phrase_no_target : (R : Nested) (s z : Place) (t : Tree) → Phrase R s t z → Stops 29 z → at target s ≡ None
+phrase_no_target R s z t (by_receiver {m = m} {n = n} {r = r} {x = x} h e a b) stops = none_unless (at target s) (λ y q f.
+    let k = target-next s q y f in
+    let never : ⊥ = omega (arith, postfix_stuck R s k.m q k.first y.target y.sign k.here k.told k.sign m r h, order_strength m n x e) in never)
 phrase_no_target R s z t (an_operand h) stops = settled_no_target R true s z t h (omega (arith, stops))
 phrase_no_target R s z t (by_name (a_command {m = m} {x = x} e h b)) stops = none_unless (at target s) (λ y n f.
     let g : seen x m ≡ None = sym e ∙ target_no_command s n y f in
@@ -191,12 +196,12 @@ pub rescue_ends : (z n : Place) (u : Unit {0}) → at rescues z ≡ Some (u, n) 
 rescue_ends z n u e = next_ends z n kind.Rescue true (word-next kind.Rescue told_rescue z n u e) refl
 
 -- an arrow, or what stands before statements
-pub caught_stop : (z n : Place) (x : Option Sym) → at caught z ≡ Some (x, n) → Stops 28 z
+pub caught_stop : (z n : Place) (x : Option Caught) → at caught z ≡ Some (x, n) → Stops 28 z
 caught_stop z n x e = by_arrow (word kind.Arrow z.rest) refl e
   where
     by_thens : (o : Option (Unit {0} × List Word)) → thens z.rest ≡ o → placed z.known (before_thens None o) ≡ Some (x, n) → Stops 28 z
     by_thens None g h = absurd cc
-    by_thens (Some r) g h = thens_stop z (record { known = z.known; rest = r.1 }) r.0 (ap (placed z.known) g)
+    by_thens (Some r) g h = omega (arith, thens_stop z (record { known = z.known; rest = r.1 }) r.0 (ap (placed z.known) g))
 
     by_arrow : (o : Option (Unit {0} × List Word)) → word kind.Arrow z.rest ≡ o → placed z.known (behind_arrow z.rest o) ≡ Some (x, n) → Stops 28 z
     by_arrow None g h = by_thens (thens z.rest) refl h

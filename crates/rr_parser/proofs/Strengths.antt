@@ -30,19 +30,20 @@ strength kind.Dot = 0
 strength kind.OpenSquare = 0
 strength kind.Minus = 6
 strength kind.And = 20
-strength kind.Or = 24
-strength kind.Question = 25
-strength (kind.Assign q) = 26
-strength kind.Comma = 27
-strength kind.AndWord = 28
-strength kind.OrWord = 28
-strength kind.If = 29
-strength kind.Unless = 29
-strength (kind.Loop until) = 29
-strength _ = 30
+strength kind.Or = 25
+strength kind.Question = 26
+strength (kind.Assign q) = 27
+strength kind.Comma = 28
+strength kind.Arrow = 29
+strength kind.AndWord = 30
+strength kind.OrWord = 30
+strength kind.If = 31
+strength kind.Unless = 31
+strength (kind.Loop until) = 31
+strength _ = 32
 
 abbrev pub strength_in : Option (WordKind × Place) → ℕ
-strength_in None = 30
+strength_in None = 32
 strength_in (Some k) = strength k.0
 
 -- what comes goes on with nothing that is as tight as this
@@ -89,37 +90,37 @@ no_connective false o x f e = let never : ⊥ = cc in never
 where_level-is : (w l : ℕ) (o x : Connective) → where_level w l o ≡ Some x → w ≡ l
 where_level-is w l o x e = elim (eqb_tells w l) [ inl t ↦ t.1 | inr f ↦ absurd (no_connective (w == l) o x f.0 e) ]
 
-connective_tells : (l : ℕ) (k : WordKind) (x : Connective) → connective_of l k ≡ Some x → strength k ≡ 16 + 4 * l
-connective_tells l kind.And x e = ap (λ n. 16 + 4 * n) (where_level-is 1 l connectives.And x e)
-connective_tells l kind.Or x e = ap (λ n. 16 + 4 * n) (where_level-is 2 l connectives.Or x e)
-connective_tells l kind.AndWord x e = ap (λ n. 16 + 4 * n) (where_level-is 3 l connectives.And x e)
-connective_tells l kind.OrWord x e = ap (λ n. 16 + 4 * n) (where_level-is 3 l connectives.Or x e)
+connective_tells : (l : ℕ) (k : WordKind) (x : Connective) → connective_of l k ≡ Some x → strength k ≡ 15 + 5 * l
+connective_tells l kind.And x e = ap (λ n. 15 + 5 * n) (where_level-is 1 l connectives.And x e)
+connective_tells l kind.Or x e = ap (λ n. 15 + 5 * n) (where_level-is 2 l connectives.Or x e)
+connective_tells l kind.AndWord x e = ap (λ n. 15 + 5 * n) (where_level-is 3 l connectives.And x e)
+connective_tells l kind.OrWord x e = ap (λ n. 15 + 5 * n) (where_level-is 3 l connectives.Or x e)
 connective_tells l _ x e = absurd cc
 
-pub connective_strength : (l : ℕ) (s z : Place) (x : Connective) → at (connective l) s ≡ Some (x, z) → strength_in (next s) ≡ 16 + 4 * l
-connective_strength l = seen_strength (connective_of l) (16 + 4 * l) (connective_tells l)
+pub connective_strength : (l : ℕ) (s z : Place) (x : Connective) → at (connective l) s ≡ Some (x, z) → strength_in (next s) ≡ 15 + 5 * l
+connective_strength l = seen_strength (connective_of l) (15 + 5 * l) (connective_tells l)
 
-pub no_connective_at : (l : ℕ) (s : Place) → Stops (16 + 4 * l) s → at (connective l) s ≡ None
-no_connective_at l = unseen (connective_of l) (16 + 4 * l) (connective_tells l)
+pub no_connective_at : (l : ℕ) (s : Place) → Stops (15 + 5 * l) s → at (connective l) s ≡ None
+no_connective_at l = unseen (connective_of l) (15 + 5 * l) (connective_tells l)
 
-modifier_tells : (k : WordKind) (x : Modifier) → modifier_of k ≡ Some x → strength k ≡ 29
+modifier_tells : (k : WordKind) (x : Modifier) → modifier_of k ≡ Some x → strength k ≡ 31
 modifier_tells kind.If x e = refl
 modifier_tells kind.Unless x e = refl
 modifier_tells (kind.Loop until) x e = refl
 modifier_tells _ x e = absurd cc
 
-sign_tells : (k : WordKind) (q : Sign) → sign_of_kind k ≡ Some q → strength k ≡ 26
+sign_tells : (k : WordKind) (q : Sign) → sign_of_kind k ≡ Some q → strength k ≡ 27
 sign_tells (kind.Assign r) q e = refl
 sign_tells _ q e = absurd cc
 
-pub sign_strength : (s z : Place) (q : Sign) → at sign s ≡ Some (q, z) → strength_in (next s) ≡ 26
-sign_strength = seen_strength sign_of_kind 26 sign_tells
+pub sign_strength : (s z : Place) (q : Sign) → at sign s ≡ Some (q, z) → strength_in (next s) ≡ 27
+sign_strength = seen_strength sign_of_kind 27 sign_tells
 
-pub modifier_strength : (s z : Place) (x : Modifier) → at modifier s ≡ Some (x, z) → strength_in (next s) ≡ 29
-modifier_strength = seen_strength modifier_of 29 modifier_tells
+pub modifier_strength : (s z : Place) (x : Modifier) → at modifier s ≡ Some (x, z) → strength_in (next s) ≡ 31
+modifier_strength = seen_strength modifier_of 31 modifier_tells
 
-pub no_modifier_at : (s : Place) → Stops 29 s → at modifier s ≡ None
-no_modifier_at = unseen modifier_of 29 modifier_tells
+pub no_modifier_at : (s : Place) → Stops 31 s → at modifier s ≡ None
+no_modifier_at = unseen modifier_of 31 modifier_tells
 
 -- ---- what follows an operand
 
@@ -136,27 +137,27 @@ no_tail_at s stops = none_unless (at tail s) (λ x z e. let never : ⊥ = omega 
 
 -- ---- what ends statements
 
-pub comma_strength : (s z : Place) (u : Unit {0}) → at comma s ≡ Some (u, z) → strength_in (next s) ≡ 27
+pub comma_strength : (s z : Place) (u : Unit {0}) → at comma s ≡ Some (u, z) → strength_in (next s) ≡ 28
 comma_strength s z u e = ap strength_in (word-next kind.Comma told_comma s z u e)
 
-pub separators_stop : (z n : Place) (u : Unit {0}) → at separators z ≡ Some (u, n) → Stops 29 z
-separators_stop z n u e = let h = separators-next z n u e in stops_by kind.Separator 29 z h.0 h.1 (omega arith)
+pub separators_stop : (z n : Place) (u : Unit {0}) → at separators z ≡ Some (u, n) → Stops 31 z
+separators_stop z n u e = let h = separators-next z n u e in stops_by kind.Separator 31 z h.0 h.1 (omega arith)
 
-pub thens_stop : (z n : Place) (u : Unit {0}) → at thens z ≡ Some (u, n) → Stops 28 z
+pub thens_stop : (z n : Place) (u : Unit {0}) → at thens z ≡ Some (u, n) → Stops 30 z
 thens_stop z n u e = elim (thens-next z n u e) [
-  | inl h ↦ stops_by kind.Then 28 z h.0 h.1 (omega arith)
-  | inr h ↦ stops_by kind.Separator 28 z h.0 h.1 (omega arith)
+  | inl h ↦ stops_by kind.Then 30 z h.0 h.1 (omega arith)
+  | inr h ↦ stops_by kind.Separator 30 z h.0 h.1 (omega arith)
 ]
 
-pub loops_stop : (z n : Place) (u : Unit {0}) → at loops z ≡ Some (u, n) → Stops 28 z
+pub loops_stop : (z n : Place) (u : Unit {0}) → at loops z ≡ Some (u, n) → Stops 30 z
 loops_stop z n u e = elim (loops-next z n u e) [
-  | inl h ↦ stops_by kind.Do 28 z h.0 h.1 (omega arith)
+  | inl h ↦ stops_by kind.Do 30 z h.0 h.1 (omega arith)
   | inr h ↦ omega (arith, separators_stop z n u h)
 ]
 
 -- at the end of statements, behind separators
 abbrev pub BeforeEnd : Place → Type 0
-BeforeEnd z = Stops 29 z × (at row z ≡ None)
+BeforeEnd z = Stops 31 z × (at row z ≡ None)
 
 at_word : (known : Known) (w : Word) (ws : List Word) (k : WordKind) → w.kind ≡ k → ends (cond (is_kind k kind.Separator) (without_separators ws) (w ∷ ws)) ≡ true
     → BeforeEnd (record { known = known; rest = record { kind = k; blank = w.blank } ∷ ws })

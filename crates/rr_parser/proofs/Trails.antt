@@ -1,5 +1,5 @@
 -- Trails: what follows an operand, time after time.
-use Rattle.std.proofs.Common.{◌≡◌, ℕ, zero, suc, ◌<◌, ◌≤◌, ◌⊎◌, inl, inr, length, Option, Some, None, Ok, Err, refl, sym, ap, ◌∙◌, arith}
+use Rattle.std.proofs.Common.{◌≡◌, zero, suc, ◌<◌, ◌≤◌, ◌⊎◌, inl, inr, length, Option, Some, None, Ok, Err, refl, sym, ap, ◌∙◌, arith, ℕ}
 use Rattle.rr_parser.specs.Places.{Place, Look, at}
 use Rattle.rr_parser.specs.Grammar.Chains.{Trail, at_first, and_then}
 use Rattle.rr_parser.specs.Reading.Answers.{◌>>=◌, deep, Answer, Parse, from, trail_turn, trail_from, trail_on}
@@ -50,51 +50,59 @@ module _ {X A : Type 0} (look : Look X) (q : X → A → Parse A) (steps : Steps
       go_on (Ok r) f = trail_from-enough (length s.rest) (length r.1.rest) r.0 r.1 (omega (arith, steps s m x e, smaller x l m r.1 r.0 f)) (omega arith)
       go_on (Err d) f = refl
 
-  module _ (p : Parse A) (P : Place → A → Place → Type 0) (Q : X → A → Place → A → Place → Type 0) (D : Type 0) (Stops : Place → Type 0) (full : (s z : Place) (t : A) → P s t z → Leads (p s) (Ok (t, z)) D)
-      (later : (x : X) (l : A) (n z : Place) (t : A) → Q x l n t z → Leads (q x l n) (Ok (t, z)) D) where
-    trail_leads : (s z : Place) (t : A) → Trail look P Q s t z → Leads (from p (trail_on look q) s) (trail_on look q t z) D
-    trail_leads s z t (at_first h) = leads_bind (p s) (t, z) (λ x. trail_on look q x.0 x.1) (full s z t h)
-    trail_leads s z t (and_then {m = m} {n = n} {l = l} {x = x} c e h) =
-        leads_trans (from p (trail_on look q) s) (trail_on look q l m) (trail_on look q t z) (trail_leads s m l c)
-        (leads_eq (trail_on look q l m) (q x l n >>= λ r. trail_on look q r.0 r.1) (trail_on look q t z) (trail_on-turn l m n x e)
-        (leads_bind (q x l n) (t, z) (λ r. trail_on look q r.0 r.1) (later x l n z t h)))
+-- what comes first in a trail
+pub trail_head : {X A : Type 0} (look : Look X) (P : Place → A → Place → Type 0) (Q : X → A → Place → A → Place → Type 0) (s z : Place) (t : A) → Trail look P Q s t z → (u : A) × (y : Place) × P s u y
+trail_head look P Q s z t (at_first h) = (t, z, h)
+trail_head look P Q s z t (and_then {m = m} {l = l} c e h) = trail_head look P Q s m l c
 
-    pub trail_full : ((z : Place) → Stops z → at look z ≡ None) → IsFull (from p (trail_on look q)) (Trail look P Q) Stops D
-    trail_full none s z t c stops = leads_trans (from p (trail_on look q) s) (trail_on look q t z) (Ok (t, z)) (trail_leads s z t c) (inl (trail_on-ends t z (none z stops)))
+module _ {X A : Type 0} (between look : Look X) (q : X → A → Parse A) (steps : Steps look) (smaller : (x : X) (l : A) (n z : Place) (t : A) → q x l n ≡ Ok (t, z) → left z ≤ left n)
+    (p : Parse A) (P : Place → A → Place → Type 0) (Q : X → A → Place → A → Place → Type 0) (D : Type 0) (Stops : Place → Type 0)
+    (stops_at : (m n : Place) (x : X) → at between m ≡ Some (x, n) → Stops m)
+    (step_on : (m n z : Place) (x : X) (l t : A) → at between m ≡ Some (x, n) → Q x l n t z → at look m ≡ Some (x, n))
+    (full : IsFull p P Stops D) (later : (x : X) (l : A) → IsFull (q x l) (Q x l) Stops D) where
+  trail_leads : (s z : Place) (t : A) → Trail between P Q s t z → Stops z → Leads (from p (trail_on look q) s) (trail_on look q t z) D
+  trail_leads s z t (at_first h) stops = leads_bind (p s) (t, z) (λ x. trail_on look q x.0 x.1) (full s z t h stops)
+  trail_leads s z t (and_then {m = m} {n = n} {l = l} {x = x} c e h) stops =
+      leads_trans (from p (trail_on look q) s) (trail_on look q l m) (trail_on look q t z) (trail_leads s m l c (stops_at m n x e))
+      (leads_eq (trail_on look q l m) (q x l n >>= λ r. trail_on look q r.0 r.1) (trail_on look q t z) (trail_on-turn look q steps smaller l m n x (step_on m n z x l t e h))
+      (leads_bind (q x l n) (t, z) (λ r. trail_on look q r.0 r.1) (later x l n z t h stops)))
 
-module _ {X A : Type 0} (look : Look X) (q : X → A → Parse A) (P : Place → A → Place → Type 0) (Q : X → A → Place → A → Place → Type 0) (sound : (x : X) (l : A) (n z : Place) (t : A) → q x l n ≡ Ok (t, z) → Q x l n t z) where
-  turn_sound : (go : A → Parse A) (s : Place) (l : A) (m z : Place) (t : A) (o : Option (X × Place)) → at look m ≡ o → Trail look P Q s l m
-      → ((u : A) (n : Place) → Trail look P Q s u n → go u n ≡ Ok (t, z) → Trail look P Q s t z) → trail_turn q go l m o ≡ Ok (t, z) → Trail look P Q s t z
-  turn_sound go s l m z t None f c i e = at_answer (Trail look P Q s) l t m z e c
+  pub trail_full : (s z : Place) (t : A) → Trail between P Q s t z → Stops z → at look z ≡ None → Leads (from p (trail_on look q) s) (Ok (t, z)) D
+  trail_full s z t c stops none = leads_trans (from p (trail_on look q) s) (trail_on look q t z) (Ok (t, z)) (trail_leads s z t c stops) (inl (trail_on-ends look q steps smaller t z none))
+
+module _ {X A : Type 0} (between look : Look X) (tells : (m n : Place) (x : X) → at look m ≡ Some (x, n) → at between m ≡ Some (x, n)) (q : X → A → Parse A) (P : Place → A → Place → Type 0) (Q : X → A → Place → A → Place → Type 0) (sound : (x : X) (l : A) (n z : Place) (t : A) → q x l n ≡ Ok (t, z) → Q x l n t z) where
+  turn_sound : (go : A → Parse A) (s : Place) (l : A) (m z : Place) (t : A) (o : Option (X × Place)) → at look m ≡ o → Trail between P Q s l m
+      → ((u : A) (n : Place) → Trail between P Q s u n → go u n ≡ Ok (t, z) → Trail between P Q s t z) → trail_turn q go l m o ≡ Ok (t, z) → Trail between P Q s t z
+  turn_sound go s l m z t None f c i e = at_answer (Trail between P Q s) l t m z e c
   turn_sound go s l m z t (Some x) f c i e =
       let b = bind_ok (q x.0 l x.1) (λ r. go r.0 r.1) (t, z) e in
-      i b.0.0 b.0.1 (and_then c f (sound x.0 l x.1 b.0.1 b.0.0 b.1)) b.2
+      i b.0.0 b.0.1 (and_then c (tells m x.1 x.0 f) (sound x.0 l x.1 b.0.1 b.0.0 b.1)) b.2
 
-  turns_sound : (n : ℕ) (s : Place) (l : A) (m z : Place) (t : A) → Trail look P Q s l m → trail_from look q n l m ≡ Ok (t, z) → Trail look P Q s t z
+  turns_sound : (n : ℕ) (s : Place) (l : A) (m z : Place) (t : A) → Trail between P Q s l m → trail_from look q n l m ≡ Ok (t, z) → Trail between P Q s t z
   unfolding trail_from
-  turns_sound zero s l m z t c e = at_answer (Trail look P Q s) l t m z e c
+  turns_sound zero s l m z t c e = at_answer (Trail between P Q s) l t m z e c
   turns_sound (suc n) s l m z t c e = turn_sound (trail_from look q n) s l m z t (at look m) refl c (λ u o d f. turns_sound n s u o z t d f) e
 
-  pub trail_sound : IsSoundOn (trail_on look q) P (Trail look P Q)
+  pub trail_sound : IsSoundOn (trail_on look q) P (Trail between P Q)
   unfolding trail_on
   trail_sound s m z l t h e = turns_sound (length m.rest) s l m z t (at_first h) e
 
-  module _ (F : Place → Place → Type 0) (G : X → Place → Place → Type 0) (is_deep : (x : X) (l : A) (n : Place) → q x l n ≡ Err deep → (z : Place) × G x n z)
+  module _ (F : Place → Place → Type 0) (G : X → A → Place → Place → Type 0) (is_deep : (x : X) (l : A) (n : Place) → q x l n ≡ Err deep → (z : Place) × G x l n z)
       (bind_deep : (r : Answer A) (f : A × Place → Answer A) → (r >>= f) ≡ Err deep → (r ≡ Err deep) ⊎ ((x : A × Place) × (r ≡ Ok x) × (f x ≡ Err deep))) where
-    turn_deep : (go : A → Parse A) (s : Place) (l : A) (m : Place) (o : Option (X × Place)) → at look m ≡ o → Trail look P Q s l m
-        → ((u : A) (n : Place) → Trail look P Q s u n → go u n ≡ Err deep → (z : Place) × TrailFront look (Trail look P Q) F G s z) → trail_turn q go l m o ≡ Err deep → (z : Place) × TrailFront look (Trail look P Q) F G s z
+    turn_deep : (go : A → Parse A) (s : Place) (l : A) (m : Place) (o : Option (X × Place)) → at look m ≡ o → Trail between P Q s l m
+        → ((u : A) (n : Place) → Trail between P Q s u n → go u n ≡ Err deep → (z : Place) × TrailFront between (Trail between P Q) F G s z) → trail_turn q go l m o ≡ Err deep → (z : Place) × TrailFront between (Trail between P Q) F G s z
     turn_deep go s l m None f c i e = absurd cc
     turn_deep go s l m (Some x) f c i e =
         elim (bind_deep (q x.0 l x.1) (λ r. go r.0 r.1) e) [
-          | inl g ↦ (let d = is_deep x.0 l x.1 g in (d.0, in_tail c f d.1))
-          | inr b ↦ i b.0.0 b.0.1 (and_then c f (sound x.0 l x.1 b.0.1 b.0.0 b.1)) b.2
+          | inl g ↦ (let d = is_deep x.0 l x.1 g in (d.0, in_tail c (tells m x.1 x.0 f) d.1))
+          | inr b ↦ i b.0.0 b.0.1 (and_then c (tells m x.1 x.0 f) (sound x.0 l x.1 b.0.1 b.0.0 b.1)) b.2
         ]
 
-    turns_deep : (n : ℕ) (s : Place) (l : A) (m : Place) → Trail look P Q s l m → trail_from look q n l m ≡ Err deep → (z : Place) × TrailFront look (Trail look P Q) F G s z
+    turns_deep : (n : ℕ) (s : Place) (l : A) (m : Place) → Trail between P Q s l m → trail_from look q n l m ≡ Err deep → (z : Place) × TrailFront between (Trail between P Q) F G s z
     unfolding trail_from
     turns_deep zero s l m c e = absurd cc
     turns_deep (suc n) s l m c e = turn_deep (trail_from look q n) s l m (at look m) refl c (λ u o d f. turns_deep n s u o d f) e
 
-    pub trail_deep : (s m : Place) (l : A) → P s l m → trail_on look q l m ≡ Err deep → (z : Place) × TrailFront look (Trail look P Q) F G s z
+    pub trail_deep : (s m : Place) (l : A) → P s l m → trail_on look q l m ≡ Err deep → (z : Place) × TrailFront between (Trail between P Q) F G s z
     unfolding trail_on
     trail_deep s m l h e = turns_deep (length m.rest) s l m (at_first h) e

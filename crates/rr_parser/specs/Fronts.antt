@@ -3,6 +3,7 @@ use Rattle.std.specs.Prelude.{◌≡◌, ℕ, zero, suc, List, Bool, true, false
 use Rattle.rr_base.specs.declared.name.Sym.{Sym}
 use Rattle.rr_tree.specs.Tree.{Tree}
 use Rattle.rr_lexer.specs.declared.kind.Token.{Token}
+use Rattle.rr_parser.specs.declared.word.Caught.{Caught}
 use Rattle.rr_parser.specs.declared.word.Tail.{Tail}
 use Rattle.rr_parser.specs.declared.word.Tail.TheVariants as tails
 use Rattle.rr_parser.specs.declared.word.Aim.{Aim}
@@ -11,6 +12,7 @@ use Rattle.rr_parser.specs.declared.word.Behind.TheVariants as behinds
 use Rattle.rr_parser.specs.declared.word.Fence.{Fence}
 use Rattle.rr_parser.specs.declared.word.Fence.TheVariants as fences
 use Rattle.rr_parser.specs.declared.word.Head.{Head}
+use Rattle.rr_parser.specs.declared.word.Head.TheVariants as heads
 use Rattle.rr_parser.specs.declared.word.Listed.{Listed}
 use Rattle.rr_parser.specs.declared.word.Listed.TheVariants as listings
 use Rattle.rr_parser.specs.declared.word.Part.{Part}
@@ -24,9 +26,9 @@ use Rattle.rr_parser.specs.Grammar.Nesting.{Nested}
 use Rattle.rr_parser.specs.Grammar.Fences.{taking, Taking, within_head, opened}
 use Rattle.rr_parser.specs.Grammar.Names.{name, bracket, command}
 use Rattle.rr_parser.specs.declared.word.Sign.{Sign}
-use Rattle.rr_parser.specs.Grammar.Operands.{joined, construct_of, tail, Spot, Reached, Postfix}
+use Rattle.rr_parser.specs.Grammar.Operands.{joined, construct_of, tail, order, Spot, Reached, Postfix}
 use Rattle.rr_parser.specs.Grammar.Operators.{operator, connective, Binary, Logical}
-use Rattle.rr_parser.specs.Grammar.Calls.{sign, target, with_target, label, comma, star, Argument, Members, Commanded}
+use Rattle.rr_parser.specs.Grammar.Calls.{sign, target, with_target, label, comma, star, Argument, Given, nothing, only_pairs, Members, Commanded}
 use Rattle.rr_parser.specs.Grammar.Sequences.{Expression, Statement, Rows, Statements, modifier}
 use Rattle.rr_parser.specs.Grammar.Interpolations.{text_middle, Pieces}
 use Rattle.rr_parser.specs.Grammar.Control.{thens, loops, elsif, looping, Branch, Branches}
@@ -53,9 +55,9 @@ pub data AcrossFront {X A : Type 0} (look : Look X) (P : Place → A → Place �
   in_latter : {s m n z : Place} {a : A} {x : X} → P s a m → at look m ≡ Some (x, n) → G n z → AcrossFront look P F G s z
 
 -- in what comes first, or in what follows it
-pub data TrailFront {X A : Type 0} (look : Look X) (T : Place → A → Place → Type 0) (F : Place → Place → Type 0) (G : X → Place → Place → Type 0) : Place → Place → Type 0 where
+pub data TrailFront {X A : Type 0} (look : Look X) (T : Place → A → Place → Type 0) (F : Place → Place → Type 0) (G : X → A → Place → Place → Type 0) : Place → Place → Type 0 where
   in_head : {s z : Place} → F s z → TrailFront look T F G s z
-  in_tail : {s m n z : Place} {l : A} {x : X} → T s l m → at look m ≡ Some (x, n) → G x n z → TrailFront look T F G s z
+  in_tail : {s m n z : Place} {l : A} {x : X} → T s l m → at look m ≡ Some (x, n) → G x l n z → TrailFront look T F G s z
 
 -- in what is read where calls take the word `do`, or not
 abbrev pub TakingFront : Bool → (Place → Place → Type 0) → Place → Place → Type 0
@@ -83,10 +85,10 @@ pub data PrimaryFront (N : Nested) (F : Fronts) : Place → Place → Type 0 whe
   in_passing : {s m n z : Place} {p : Passing} {u : Unit {0}} → next s ≡ Some (kind.Passing p, m) → at bracket m ≡ Some (u, n) → F.bracketed n z → PrimaryFront N F s z
   in_block_call : {s m z : Place} {x : Sym} → at name s ≡ Some (x, m) → at bracket m ≡ None → BlockedFront F behinds.Call m z → PrimaryFront N F s z
 
-abbrev pub TailedFront : Nested → Fronts → Tail → Place → Place → Type 0
-TailedFront N F (tails.Send x) s z = BlockedFront F behinds.Call s z
-TailedFront N F (tails.Call x) s z = CallFront N F s z
-TailedFront N F tails.Index s z = F.part parts.Index s z
+abbrev pub TailedFront : Nested → Fronts → Tail → Reached → Place → Place → Type 0
+TailedFront N F (tails.Send x) r s z = BlockedFront F behinds.Call s z
+TailedFront N F (tails.Call x) r s z = CallFront N F s z
+TailedFront N F tails.Index r s z = F.part parts.Index s z
 
 abbrev pub PostfixFront : Nested → Fronts → Place → Place → Type 0
 PostfixFront N F = TrailFront tail (Postfix N) (PrimaryFront N F) (TailedFront N F)
@@ -137,14 +139,17 @@ pub data ItemFront (N : Nested) (F : Fronts) : Place → Place → Type 0 where
   in_splat : {s m z : Place} → next s ≡ Some (star, m) → ArgumentFront N F m z → ItemFront N F s z
   in_plain_item : {s z : Place} → ArgumentFront N F s z → ItemFront N F s z
 
-abbrev pub MemberFront : Nested → Fronts → Listed → Place → Place → Type 0
-MemberFront N F listings.Command = ItemFront N F
-MemberFront N F listings.Call = ItemFront N F
-MemberFront N F listings.Array = ItemFront N F
-MemberFront N F listings.Hash = PairFront N F
+-- in a pair; and in an item too, unless only pairs may stand there
+pub data MemberFront (N : Nested) (F : Fronts) (only : Bool) : Place → Place → Type 0 where
+  in_item : {s z : Place} → only ≡ false → ItemFront N F s z → MemberFront N F only s z
+  in_pair : {s z : Place} → PairFront N F s z → MemberFront N F only s z
+
+-- in one member behind those that came
+abbrev pub AddingFront : Nested → Fronts → Listed → Unit {0} → Given → Place → Place → Type 0
+AddingFront N F k u g = MemberFront N F (only_pairs k g)
 
 abbrev pub MembersFront : Nested → Fronts → Listed → Place → Place → Type 0
-MembersFront N F k = ChainFront comma (Members N k) (MemberFront N F k)
+MembersFront N F k = TrailFront comma (Members N k) (AddingFront N F k tt nothing) (AddingFront N F k)
 
 pub data CommandedFront (N : Nested) (F : Fronts) : Place → Place → Type 0 where
   in_arguments : {s z : Place} → MembersFront N F listings.Command s z → CommandedFront N F s z
@@ -158,6 +163,7 @@ pub data CommandFront (N : Nested) (F : Fronts) : Place → Place → Type 0 whe
 
 pub data PhraseFront (N : Nested) (F : Fronts) : Place → Place → Type 0 where
   in_command : {s z : Place} → CommandFront N F s z → PhraseFront N F s z
+  behind_receiver : {s m n z : Place} {r : Reached} {x : Sym} → Postfix N s r m → at order m ≡ Some (x, n) → HeadedFront N F (heads.Call x) n z → PhraseFront N F s z
   in_plain : {s z : Place} → SettledFront N F true s z → PhraseFront N F s z
 
 abbrev pub OperandFront : Nested → Fronts → Bool → Place → Place → Type 0
@@ -203,7 +209,7 @@ abbrev pub LoopedFront : Nested → Fronts → Place → Place → Type 0
 LoopedFront N F s z = LoopFront N F (looping s) z
 
 pub data ClauseFront (N : Nested) (F : Fronts) : Place → Place → Type 0 where
-  in_clause : {s m n z : Place} {l : List Tree} {x : Option Sym} → Classes s l m → at caught m ≡ Some (x, n) → StatementsFront N F (with_caught x n) z → ClauseFront N F s z
+  in_clause : {s m n z : Place} {l : List Tree} {x : Option Caught} → Classes s l m → at caught m ≡ Some (x, n) → StatementsFront N F (with_caught x n) z → ClauseFront N F s z
 
 abbrev pub ClausesFront : Nested → Fronts → Place → Place → Type 0
 ClausesFront N F = ChainFront rescues (Clauses N) (ClauseFront N F)

@@ -1,5 +1,5 @@
 -- What the code owes to reading.
-use Rattle.std.specs.Prelude.{◌≡◌, ℕ, ◌<◌, Bool, List, [], ◌∷◌, ◌++◌, length, take, map, All, Vec, Option, Some, None, Result, Ok, Err}
+use Rattle.std.specs.Prelude.{◌≡◌, ℕ, ◌<◌, Bool, List, ◌∷◌, ◌++◌, length, take, map, All, Vec, Option, Some, None, Result, Ok, Err, []}
 use Rattle.std.specs.declared.alloc.Global.{Global}
 use Rattle.std.specs.Borrow.{Bor}
 use Rattle.rr_base.specs.declared.name.Sym.{Sym}
@@ -19,13 +19,17 @@ use Rattle.rr_parser.specs.Grammar.Names.{find, seen_from, with_variable, with_l
 use Rattle.rr_parser.specs.Grammar.Fences.{with_do}
 use Rattle.rr_parser.specs.Grammar.Blocks.{inner, with_parameters}
 use Rattle.rr_parser.specs.Grammar.Bodies.{with_caught, caught_tree}
-use Rattle.rr_parser.specs.Grammar.Calls.{with_target, target_variable}
+use Rattle.rr_parser.specs.Grammar.Calls.{with_target, target_variable, Member, item, entry, Given}
+use Rattle.rr_parser.specs.declared.members.Member.{Member as CodeMember}
+use Rattle.rr_parser.specs.declared.members.Member.TheVariants as code_member
+use Rattle.rr_parser.specs.declared.members.Given.{Given as CodeGiven}
 use Rattle.rr_parser.specs.Grammar.Definitions.{apart, rejoined}
 use Rattle.rr_parser.specs.Grammar.Programs.{Entry, defines, does, Outline}
 use Rattle.rr_parser.specs.declared.definitions.Outside.{Outside}
 use Rattle.rr_parser.specs.declared.outline.Entry.{Entry as CodeEntry}
 use Rattle.rr_parser.specs.declared.outline.Entry.TheVariants as code_entry
 use Rattle.rr_parser.specs.declared.outline.Outline.{Outline as CodeOutline}
+use Rattle.rr_parser.specs.declared.word.Caught.{Caught}
 use Rattle.rr_parser.specs.declared.word.Target.{Target}
 use Rattle.rr_parser.specs.declared.word.Spot.{Spot as CodeSpot}
 use Rattle.rr_parser.specs.declared.word.Spot.TheVariants as code_spot
@@ -136,6 +140,45 @@ abbrev pub GivesEntry : Parser → Parser → Result (CodeEntry × Bor (List Wor
 GivesEntry old new (Ok x) read = Made entries old new x.0 x.1.now read
 GivesEntry old new (Err e) read = Fails e read
 
+abbrev pub member_tree : List Node → CodeMember → Member
+member_tree ns (code_member.Item i) = item (tree_at ns i)
+member_tree ns (code_member.Pair i) = entry (tree_at ns i)
+
+abbrev pub member_within : ℕ → CodeMember → Type 0
+member_within n (code_member.Item i) = i < n
+member_within n (code_member.Pair i) = i < n
+
+-- a member of a list
+abbrev pub members : View CodeMember Member
+members = record { tree = member_tree; within = member_within }
+
+-- the items and the pairs of a list
+abbrev pub givens : View CodeGiven Given
+givens = record {
+  tree = λ ns g. record { items = map (tree_at ns) g.items.items; pairs = map (tree_at ns) g.pairs.items };
+  within = λ n g. All (λ i. i < n) g.items.items × All (λ i. i < n) g.pairs.items;
+}
+
+abbrev pub GivesMember : Parser → Parser → Result (CodeMember × Bor (List Word)) Refusal → Answer Member → Type 0
+GivesMember old new (Ok x) read = Made members old new x.0 x.1.now read
+GivesMember old new (Err e) read = Fails e read
+
+abbrev pub GivesGiven : Parser → Parser → Result (CodeGiven × Bor (List Word)) Refusal → Answer Given → Type 0
+GivesGiven old new (Ok x) read = Made givens old new x.0 x.1.now read
+GivesGiven old new (Err e) read = Fails e read
+
+-- one member more
+abbrev pub AddsMember : CodeGiven → CodeGiven → CodeMember → Type 0
+AddsMember old new (code_member.Item i) = (new.items.items ≡ old.items.items ++ i ∷ []) × (new.pairs.items ≡ old.pairs.items)
+AddsMember old new (code_member.Pair i) = (new.items.items ≡ old.items.items) × (new.pairs.items ≡ old.pairs.items ++ i ∷ [])
+
+-- Nodes that stand for these trees are there.
+pub record PutsList (old new : Parser) (ts : List Tree) (ids : List ℕ) : Type 0 where
+  pub there : All (λ i. i < length new.nodes.items) ids
+  pub trees : map (tree_at new.nodes.items) ids ≡ ts
+  pub kept : Extends old.nodes.items new.nodes.items
+  pub known : new.known ≡ old.known
+
 -- one row more
 abbrev pub Adds : CodeOutline → CodeOutline → CodeEntry → Type 0
 Adds old new (code_entry.Definition i) = (new.definitions.items ≡ old.definitions.items ++ i ∷ []) × (new.statements.items ≡ old.statements.items)
@@ -171,7 +214,7 @@ pub record Aims (old new : Parser) (x : Target) (v : Variable) : Type 0 where
   pub seen : (ws : List Word) → target_variable x (place new ws) ≡ v
 
 -- The variable that gets an exception became known, if there is one, and a node stands for it.
-pub record Catches (old new : Parser) (x : Option Sym) (id : ℕ) : Type 0 where
+pub record Catches (old new : Parser) (x : Option Caught) (id : ℕ) : Type 0 where
   pub there : id < length new.nodes.items
   pub kept : Extends old.nodes.items new.nodes.items
   pub known : (ws : List Word) → place new ws ≡ with_caught x (place old ws)

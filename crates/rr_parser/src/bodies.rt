@@ -9,11 +9,10 @@ ghost use Rattle.rr_parser.specs.Meets.{Reads, Sees};
 
 use crate::blocks::variable;
 use crate::constants::inner_constant;
-use crate::look::{behind, thens};
+use crate::look::{behind, thens, told_behind};
 use crate::parser::{Parsed, ParsedList, Parser};
 use crate::refusal::{Refusal, Storage};
-use crate::word::{Fence, Word, WordKind};
-use rr_base::Sym;
+use crate::word::{Caught, Fence, Word, WordKind};
 use rr_tree::{Node, NodeId, Path};
 
 /// The path of the constant that a word begins, and the words behind it.
@@ -38,24 +37,27 @@ fn path(words: &[Word]) -> Option<(Path, &[Word])>
 }
 
 /// What stands before the statements of a clause.
-fn before_thens<'w>(name: Option<Sym>, words: &'w [Word]) -> Parsed<'w, Option<Sym>>
-    ensures { Reads result (before_thens name (thens words.now)) }
+fn before_thens<'w>(caught: Option<Caught>, words: &'w [Word]) -> Parsed<'w, Option<Caught>>
+    ensures { Reads result (before_thens caught (thens words.now)) }
 {
     match thens(words) {
-        Some(rest) => Ok((name, rest)),
+        Some(rest) => Ok((caught, rest)),
         None => Err(Refusal::Unexpected(words.len())),
     }
 }
 
 /// The variable that gets the exception, if there is one, and what stands before the statements.
-fn caught<'w>(words: &'w [Word]) -> Parsed<'w, Option<Sym>>
+fn caught<'w>(words: &'w [Word]) -> Parsed<'w, Option<Caught>>
     ensures { Reads result (caught words.now) }
 {
     let Some(rest) = behind(WordKind::Arrow, words) else {
         return before_thens(None, words);
     };
     match variable(rest) {
-        Some((name, rest)) => before_thens(Some(name), rest),
+        Some((name, rest)) => {
+            let behind = told_behind(rest);
+            before_thens(Some(Caught { name, behind }), rest)
+        }
         None => Err(Refusal::Unexpected(rest.len())),
     }
 }
@@ -116,13 +118,13 @@ impl Parser {
     }
 
     /// From here on the name is a local variable, if there is one.
-    fn catch(&mut self, name: Option<Sym>) -> Result<NodeId, Storage>
-        ensures { IfOk result (Catches self.old self.new name) }
+    fn catch(&mut self, caught: Option<Caught>) -> Result<NodeId, Storage>
+        ensures { IfOk result (Catches self.old self.new caught) }
     {
-        match name {
-            Some(name) => {
+        match caught {
+            Some(Caught { name, behind }) => {
                 let variable = self.mark(name)?;
-                self.put_local(name, variable)
+                self.put_local(name, variable, behind)
             }
             None => self.put(Node::Nil),
         }
@@ -135,8 +137,8 @@ impl Parser {
         ensures { Gives self.old self.new result (clause_of (readers inside depth) (place self.old words.now)) }
     {
         let (classes, rest) = self.classes(words)?;
-        let (name, rest) = caught(rest)?;
-        let target = self.catch(name)?;
+        let (caught, rest) = caught(rest)?;
+        let target = self.catch(caught)?;
         let (body, rest) = self.statements(inside, depth, rest)?;
         Ok((self.put_clause(&classes, target, body)?, rest))
     }

@@ -1,15 +1,15 @@
 //! Reading assignments, arguments and commands.
 
 ghost use Rattle.std.specs.Prelude.{◌≡◌};
-ghost use Rattle.rr_parser.specs.Reading.Calls.{item_of, pair_of, member_of, members_of, bracketed_of, array_of, hash_of, index_of, commanded_of, arguments_of, headed_of, command_of, phrase_of, operand_of, value_of};
+ghost use Rattle.rr_parser.specs.Reading.Calls.{bracketed_of, array_of, hash_of, index_of, commanded_of, arguments_of, headed_of, command_of, phrase_of, operand_of, value_of};
 ghost use Rattle.rr_parser.specs.Reading.{readers};
 
 use crate::fences::within_head;
-use crate::look::{another, behind, closing, label, last, target};
+use crate::look::{behind, closing, last, target};
 use crate::parser::{Parsed, ParsedList, Parser};
 use crate::refusal::Refusal;
-use crate::word::{Behind, Head, Infix, Listed, Part, Word, WordKind};
-use rr_tree::{BinaryOperator, Node, NodeId};
+use crate::word::{Behind, Head, Listed, Part, Word, WordKind};
+use rr_tree::NodeId;
 
 impl Parser {
     ghost use Rattle.rr_parser.specs.Meets.{Gives, GivesList, place};
@@ -93,7 +93,7 @@ impl Parser {
 
     /// The arguments of a command: where it is a call, none in them takes the word `do`.
     #[cycle(parser)]
-    fn arguments<'w>(
+    pub fn arguments<'w>(
         &mut self,
         head: Head,
         inside: bool,
@@ -116,83 +116,12 @@ impl Parser {
         ensures { GivesList self.old self.new result (commanded_of (readers inside depth) (place self.old words.now)) }
     {
         if self.command_head(words).is_none() {
-            return self.members(Listed::Command, inside, depth, words);
+            return self.listed(Listed::Command, inside, depth, words);
         }
         let (command, rest) = self.part(Part::Command, inside, depth, words)?;
         let mut items = Vec::new(self.alloc);
         items.push(command)?;
         Ok((items, rest))
-    }
-
-    /// Members of a list, with commas between them.
-    #[cycle(parser)]
-    #[tactic(auto, unfolding(crate::specs::Reading::Calls::members_of, crate::specs::Reading::Answers::chain))]
-    fn members<'w>(
-        &mut self,
-        list: Listed,
-        inside: bool,
-        depth: u32,
-        words: &'w [Word],
-    ) -> ParsedList<'w>
-        ensures { GivesList self.old self.new result (members_of (readers inside depth) list (place self.old words.now)) }
-    {
-        let mut items = Vec::new(self.alloc);
-        let (first, mut rest) = self.member(list, inside, depth, words)?;
-        items.push(first)?;
-        while let Some(after) = another(list, rest) {
-            let (next, after) = self.member(list, inside, depth, after)?;
-            items.push(next)?;
-            rest = after;
-        }
-        Ok((items, rest))
-    }
-
-    #[cycle(parser)]
-    fn member<'w>(
-        &mut self,
-        list: Listed,
-        inside: bool,
-        depth: u32,
-        words: &'w [Word],
-    ) -> Parsed<'w, NodeId>
-        ensures { Gives self.old self.new result (member_of (readers inside depth) list (place self.old words.now)) }
-    {
-        match list {
-            Listed::Command | Listed::Call | Listed::Array => self.item(inside, depth, words),
-            Listed::Hash => self.pair(inside, depth, words),
-        }
-    }
-
-    /// An argument, or a `*` and one whose items are arguments.
-    #[cycle(parser)]
-    #[tactic(auto, unfolding(crate::specs::Reading::Calls::item_of))]
-    fn item<'w>(&mut self, inside: bool, depth: u32, words: &'w [Word]) -> Parsed<'w, NodeId>
-        ensures { Gives self.old self.new result (item_of (readers inside depth) (place self.old words.now)) }
-    {
-        let star = WordKind::Operator(Infix::Binary(BinaryOperator::Multiply));
-        let Some(rest) = behind(star, words) else {
-            return self.value(false, inside, depth, words);
-        };
-        let (items, rest) = self.value(false, inside, depth, rest)?;
-        Ok((self.put(Node::Splat(items))?, rest))
-    }
-
-    /// A key and its value.
-    #[cycle(parser)]
-    #[tactic(auto, unfolding(crate::specs::Reading::Calls::pair_of))]
-    fn pair<'w>(&mut self, inside: bool, depth: u32, words: &'w [Word]) -> Parsed<'w, NodeId>
-        ensures { Gives self.old self.new result (pair_of (readers inside depth) (place self.old words.now)) }
-    {
-        if let Some((key, rest)) = label(words) {
-            let (value, rest) = self.value(false, inside, depth, rest)?;
-            return Ok((self.put_entry(key, value)?, rest));
-        }
-        let (key, rest) = self.value(false, inside, depth, words)?;
-        let Some(after) = behind(WordKind::Arrow, rest) else {
-            return Err(Refusal::Unexpected(rest.len()));
-        };
-        let (value, rest) = self.value(false, inside, depth, after)?;
-        Ok((self.put(Node::Pair(key, value))?, rest))
     }
 
     /// Members of a list, with the word that ends it.
@@ -210,7 +139,7 @@ impl Parser {
         if let Some(rest) = closing(list, words) {
             return Ok((Vec::new(self.alloc), rest));
         }
-        let (items, rest) = self.members(list, inside, depth, words)?;
+        let (items, rest) = self.listed(list, inside, depth, words)?;
         match last(list, rest) {
             Some(rest) => Ok((items, rest)),
             None => Err(Refusal::Unexpected(rest.len())),

@@ -2,8 +2,8 @@
 
 ghost use Rattle.std.specs.Prelude.{◌≡◌, ◌≤◌};
 ghost use Rattle.rr_parser.specs.Places.{word, without_separators, separators};
-ghost use Rattle.rr_parser.specs.Grammar.Names.{name, head, begins_argument, begins_arguments, bracket, begins_operands, begins_operand, is_tight};
-ghost use Rattle.rr_parser.specs.Grammar.Operands.{negated, joined, square, sent, tail};
+ghost use Rattle.rr_parser.specs.Grammar.Names.{told_behind, name, head, begins_argument, begins_arguments, bracket, begins_operands, begins_operand, is_tight};
+ghost use Rattle.rr_parser.specs.Grammar.Operands.{negated, joined, square, sent, tail, order};
 ghost use Rattle.rr_parser.specs.Grammar.Calls.{sign, target_word, target, label, closing, last};
 ghost use Rattle.rr_parser.specs.Grammar.Control.{thens, loops};
 ghost use Rattle.rr_parser.specs.Reading.Operands.{prefix_minus};
@@ -179,6 +179,19 @@ pub(crate) fn tail(words: &[Word]) -> Option<(Tail, &[Word])>
     Some((Tail::Index, rest))
 }
 
+/// A dot and the name of a call that operands follow.
+pub(crate) fn order(words: &[Word]) -> Option<(Sym, &[Word])>
+    ensures { Sees result (order words.now) }
+{
+    let rest = behind(WordKind::Dot, words)?;
+    let (name, rest) = name(rest)?;
+    if begins_operands(rest) {
+        Some((name, rest))
+    } else {
+        None
+    }
+}
+
 /// The word that ends a list.
 pub(crate) fn closing(list: Listed, words: &[Word]) -> Option<&[Word]>
     ensures { SeesRest result (closing list words.now) }
@@ -228,13 +241,26 @@ pub(crate) fn sign(words: &[Word]) -> Option<(Sign, &[Word])>
     }
 }
 
+/// How many words are left, as a use of a variable tells it of those behind it.
+pub(crate) fn told_behind(words: &[Word]) -> u32
+    ensures { result ≡ told_behind words.now }
+{
+    words.len().min(4_294_967_295) as u32
+}
+
 /// What is assigned to, and the sign of the assignment.
 pub(crate) fn target(words: &[Word]) -> Option<(Aim, &[Word])>
     ensures { Sees result (target words.now) }
 {
     let (target, rest) = target_word(words)?;
+    let behind = told_behind(rest);
     let (sign, rest) = sign(rest)?;
-    Some((Aim { target, sign }, rest))
+    let aim = Aim {
+        target,
+        sign,
+        behind,
+    };
+    Some((aim, rest))
 }
 
 /// The words from the first on that is no separator.
@@ -343,6 +369,7 @@ fn begins_operand(kind: WordKind, tight: bool) -> bool
         | WordKind::Nil
         | WordKind::Truth(_)
         | WordKind::Symbol(_)
+        | WordKind::Label(_)
         | WordKind::Constant(_, _)
         | WordKind::Field(_)
         | WordKind::Global(_)

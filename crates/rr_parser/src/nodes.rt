@@ -333,11 +333,16 @@ impl Parser {
     }
 
     /// Puts a target as what reads it. A local variable is seen so.
-    fn put_target(&mut self, target: Target, variable: Variable) -> Result<NodeId, Storage>
-        ensures { IfOk result (λ id. Puts self.old self.new (target_tree target variable) id) }
+    fn put_target(
+        &mut self,
+        target: Target,
+        variable: Variable,
+        behind: u32,
+    ) -> Result<NodeId, Storage>
+        ensures { IfOk result (λ id. Puts self.old self.new (target_tree target variable behind) id) }
     {
         match target {
-            Target::Variable(name) => self.put_local(name, variable),
+            Target::Variable(name) => self.put_local(name, variable, behind),
             Target::Field(name) => self.put(Node::Field(name)),
             Target::Global(name) => self.put(Node::Global(name)),
         }
@@ -347,16 +352,18 @@ impl Parser {
         &mut self,
         target: Target,
         variable: Variable,
+        behind: u32,
         value: NodeId,
     ) -> Result<NodeId, Storage>
         requires { value < length self.old.nodes.items }
-        ensures { IfOk result (λ id. Puts self.old self.new (set_target target variable (tree_at self.old.nodes.items value)) id) }
+        ensures { IfOk result (λ id. Puts self.old self.new (set_target target variable behind (tree_at self.old.nodes.items value)) id) }
     {
         match target {
             Target::Variable(name) => self.put(Node::Assign {
                 depth: variable.depth,
                 slot: variable.slot,
                 name,
+                behind,
                 value,
             }),
             Target::Field(name) => self.put(Node::SetField(name, value)),
@@ -393,24 +400,31 @@ impl Parser {
         value: NodeId,
     ) -> Result<NodeId, Storage>
         requires { value < length self.old.nodes.items }
-        ensures { IfOk result (λ id. Puts self.old self.new (signed aim.sign aim.target variable (tree_at self.old.nodes.items value)) id) }
+        ensures { IfOk result (λ id. Puts self.old self.new (signed aim.sign aim.target variable aim.behind (tree_at self.old.nodes.items value)) id) }
     {
         match aim.sign {
-            Sign::Plain => self.put_plain_assignment(aim.target, variable, value),
+            Sign::Plain => self.put_plain_assignment(aim.target, variable, aim.behind, value),
             Sign::With(operation) => {
-                let target = self.put_target(aim.target, variable)?;
+                let target = self.put_target(aim.target, variable, aim.behind)?;
                 self.put_operation(operation, target, value)
             }
         }
     }
 
-    pub fn put_local(&mut self, name: Sym, variable: Variable) -> Result<NodeId, Storage>
-        ensures { IfOk result (λ id. Puts self.old self.new (local_tree name variable) id) }
+    /// Puts a use of a local variable that is seen so, behind which so many words stand.
+    pub fn put_local(
+        &mut self,
+        name: Sym,
+        variable: Variable,
+        behind: u32,
+    ) -> Result<NodeId, Storage>
+        ensures { IfOk result (λ id. Puts self.old self.new (local_tree name variable behind) id) }
     {
         self.put(Node::Local {
             depth: variable.depth,
             slot: variable.slot,
             name,
+            behind,
         })
     }
 

@@ -6,7 +6,9 @@ ghost use Rattle.rr_parser.specs.Reading.Operands.{jump_at, passing_of, primary_
 ghost use Rattle.rr_parser.specs.Reading.{readers};
 
 use crate::fences::opening;
-use crate::look::{begins_arguments, begins_operands, behind, bracket, prefix_minus, tail};
+use crate::look::{
+    begins_arguments, begins_operands, behind, bracket, prefix_minus, tail, told_behind,
+};
 use crate::parser::{Parsed, Parser};
 use crate::refusal::Refusal;
 use crate::word::{Behind, Fence, Jump, Part, Passing, Reached, Spot, Tail, Word, WordKind};
@@ -268,7 +270,7 @@ impl Parser {
         ensures { Gives self.old self.new result (variable_or_call name (place self.old words.now)) }
     {
         if let Some(variable) = self.known.variable(name) {
-            return Ok((self.put_local(name, variable)?, words));
+            return Ok((self.put_local(name, variable, told_behind(words))?, words));
         }
         if begins_operands(words) {
             return Err(Refusal::Unexpected(words.len()));

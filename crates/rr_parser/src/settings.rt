@@ -3,7 +3,7 @@
 ghost use Rattle.std.specs.Prelude.{◌≡◌, ◌<◌, length, IfOk};
 ghost use Rattle.rr_tree.specs.Tree.{tree_at};
 ghost use Rattle.rr_parser.specs.Grammar.Calls.{set_spot, settled};
-ghost use Rattle.rr_parser.specs.Reading.Calls.{setting_of, reached_on, settled_of};
+ghost use Rattle.rr_parser.specs.Reading.Calls.{setting_of, reached_on, settled_by, operand_on};
 ghost use Rattle.rr_parser.specs.Reading.{readers};
 
 use crate::look::{behind, prefix_minus, sign};
@@ -58,9 +58,9 @@ impl Parser {
         }
     }
 
-    /// An operand, or an assignment to it.
+    /// An operand, or an assignment to it; and a command with a receiver too where commands may stand.
     #[cycle(parser)]
-    #[tactic(auto, unfolding(crate::specs::Reading::Calls::settled_of))]
+    #[tactic(auto, unfolding(crate::specs::Reading::Calls::settled_by))]
     pub fn settled<'w>(
         &mut self,
         commands: bool,
@@ -68,7 +68,7 @@ impl Parser {
         depth: u32,
         words: &'w [Word],
     ) -> Parsed<'w, NodeId>
-        ensures { Gives self.old self.new result (settled_of (readers inside depth) commands (place self.old words.now)) }
+        ensures { Gives self.old self.new result (settled_by (readers inside depth) (operand_on (readers inside depth) commands) (place self.old words.now)) }
     {
         if prefix_minus(words).is_some() {
             return self.ternary(inside, depth, words);
@@ -83,6 +83,26 @@ impl Parser {
     /// What stands behind an operand.
     #[cycle(parser)]
     fn behind_operand<'w>(
+        &mut self,
+        operand: Reached,
+        commands: bool,
+        inside: bool,
+        depth: u32,
+        words: &'w [Word],
+    ) -> Parsed<'w, NodeId>
+        requires { reaches.within (length self.old.nodes.items) operand }
+        ensures { Gives self.old self.new result (operand_on (readers inside depth) commands (reaches.tree self.old.nodes.items operand) (place self.old words.now)) }
+    {
+        if commands {
+            self.behind_order(operand, inside, depth, words)
+        } else {
+            self.reached(operand, false, inside, depth, words)
+        }
+    }
+
+    /// What stands behind an operand that is no receiver of a command.
+    #[cycle(parser)]
+    pub fn reached<'w>(
         &mut self,
         operand: Reached,
         commands: bool,

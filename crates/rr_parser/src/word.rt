@@ -88,11 +88,19 @@ pub(crate) enum Sign {
     With(Operation),
 }
 
-/// What is assigned to, and how.
+/// What is assigned to, and how, and how many words stand behind the target.
 #[derive(Clone, Copy, Debug, PartialEq, Eq, Drop)]
 pub(crate) struct Aim {
     pub target: Target,
     pub sign: Sign,
+    pub behind: u32,
+}
+
+/// The variable that gets an exception, and how many words stand behind its name.
+#[derive(Clone, Copy, Debug, PartialEq, Eq, Drop)]
+pub(crate) struct Caught {
+    pub name: Sym,
+    pub behind: u32,
 }
 
 /// What is assigned to.

@@ -4,6 +4,7 @@ use Rattle.rr_base.specs.declared.name.Sym.{Sym}
 use Rattle.rr_tree.specs.declared.node.Path.{Path}
 use Rattle.rr_tree.specs.declared.node.Path.TheVariants as paths
 use Rattle.rr_tree.specs.Tree.{Tree, nil, constant, rescue, clause, ensure, listed}
+use Rattle.rr_parser.specs.declared.word.Caught.{Caught}
 use Rattle.rr_parser.specs.declared.word.Fence.{Fence}
 use Rattle.rr_parser.specs.declared.word.Fence.TheVariants as fences
 use Rattle.rr_parser.specs.declared.word.WordKind.{WordKind}
@@ -12,7 +13,7 @@ use Rattle.rr_parser.specs.declared.word.Word.{Word}
 use Rattle.rr_parser.specs.Places.{Place, Look, first_as, word, at, next}
 use Rattle.rr_parser.specs.Grammar.Chains.{Chain, one_of, and_one}
 use Rattle.rr_parser.specs.Grammar.Nesting.{Nested}
-use Rattle.rr_parser.specs.Grammar.Names.{local_tree, variable_of, with_local, variable}
+use Rattle.rr_parser.specs.Grammar.Names.{told_behind, local_tree, variable_of, with_local, variable}
 use Rattle.rr_parser.specs.Grammar.Operands.{inner_constant}
 use Rattle.rr_parser.specs.Grammar.Calls.{comma}
 use Rattle.rr_parser.specs.Grammar.Sequences.{Statements}
@@ -43,35 +44,35 @@ pub data Classes : Place → List Tree → Place → Type 0 where
 
 -- ---- clauses
 
-abbrev pub before_thens : Option Sym → Option (Unit {0} × List Word) → Option (Option Sym × List Word)
+abbrev pub before_thens : Option Caught → Option (Unit {0} × List Word) → Option (Option Caught × List Word)
 before_thens x None = None
 before_thens x (Some r) = Some (x, r.1)
 
-abbrev pub named_thens : Option (Sym × List Word) → Option (Option Sym × List Word)
+abbrev pub named_thens : Option (Sym × List Word) → Option (Option Caught × List Word)
 named_thens None = None
-named_thens (Some x) = before_thens (Some x.0) (thens x.1)
+named_thens (Some x) = before_thens (Some (record { name = x.0; behind = told_behind x.1 })) (thens x.1)
 
-abbrev pub behind_arrow : List Word → Option (Unit {0} × List Word) → Option (Option Sym × List Word)
+abbrev pub behind_arrow : List Word → Option (Unit {0} × List Word) → Option (Option Caught × List Word)
 behind_arrow ws None = before_thens None (thens ws)
 behind_arrow ws (Some r) = named_thens (variable r.1)
 
 -- An arrow and the variable that gets the exception, or neither; and what stands before the statements.
-abbrev pub caught : Look (Option Sym)
+abbrev pub caught : Look (Option Caught)
 caught ws = behind_arrow ws (word kind.Arrow ws)
 
 -- the place, where that variable is known
-abbrev pub with_caught : Option Sym → Place → Place
+abbrev pub with_caught : Option Caught → Place → Place
 with_caught None s = s
-with_caught (Some x) s = with_local x s
+with_caught (Some x) s = with_local x.name s
 
 -- the variable as it is seen there, and nil where there is none
-abbrev pub caught_tree : Option Sym → Place → Tree
+abbrev pub caught_tree : Option Caught → Place → Tree
 caught_tree None s = nil
-caught_tree (Some x) s = local_tree x (variable_of x s)
+caught_tree (Some x) s = local_tree x.name (variable_of x.name s) x.behind
 
 -- a clause, behind the word `rescue`
 pub data Clause (N : Nested) : Place → Tree → Place → Type 0 where
-  a_clause : {s m n z : Place} {l : List Tree} {x : Option Sym} {t : Tree} → Classes s l m → at caught m ≡ Some (x, n) → Statements N (with_caught x n) t z → Clause N s (clause (listed l) (caught_tree x (with_caught x n)) t) z
+  a_clause : {s m n z : Place} {l : List Tree} {x : Option Caught} {t : Tree} → Classes s l m → at caught m ≡ Some (x, n) → Statements N (with_caught x n) t z → Clause N s (clause (listed l) (caught_tree x (with_caught x n)) t) z
 
 abbrev pub rescues : Look (Unit {0})
 rescues = word kind.Rescue

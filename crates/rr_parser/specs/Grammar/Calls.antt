@@ -1,7 +1,7 @@
 -- Assignments, arguments and commands.
-use Rattle.std.specs.Prelude.{◌≡◌, List, [], ◌∷◌, Bool, true, false, Option, Some, None}
+use Rattle.std.specs.Prelude.{◌≡◌, ℕ, List, ◌∷◌, ◌++◌, Bool, true, false, Option, Some, None, []}
 use Rattle.rr_base.specs.declared.name.Sym.{Sym}
-use Rattle.rr_tree.specs.Tree.{Tree, field, global, operator_assign, append_assign, or_assign, and_assign, assign, set_field, set_global, set_index, set_attribute, symbol, array, hash, splat, pair, listed}
+use Rattle.rr_tree.specs.Tree.{Tree, field, global, operator_assign, append_assign, or_assign, and_assign, assign, set_field, set_global, set_index, set_attribute, symbol, array, hash, pairs, send, splat, pair, listed}
 use Rattle.rr_tree.specs.declared.node.BinaryOperator.TheVariants as op
 use Rattle.rr_parser.specs.declared.word.WordKind.TheVariants as kind
 use Rattle.rr_parser.specs.declared.word.Word.{Word}
@@ -12,6 +12,7 @@ use Rattle.rr_parser.specs.declared.word.Operation.{Operation}
 use Rattle.rr_parser.specs.declared.word.Operation.TheVariants as operations
 use Rattle.rr_parser.specs.declared.word.Behind.TheVariants as behinds
 use Rattle.rr_parser.specs.declared.word.Head.{Head}
+use Rattle.rr_parser.specs.declared.word.Head.TheVariants as heads
 use Rattle.rr_parser.specs.declared.word.Sign.{Sign}
 use Rattle.rr_parser.specs.declared.word.Sign.TheVariants as signs
 use Rattle.rr_parser.specs.declared.word.Aim.{Aim}
@@ -21,12 +22,12 @@ use Rattle.rr_parser.specs.declared.word.Listed.{Listed}
 use Rattle.rr_parser.specs.declared.word.Listed.TheVariants as listings
 use Rattle.rr_parser.specs.declared.word.Part.TheVariants as parts
 use Rattle.rr_parser.specs.Places.{Place, Look, first_as, word, at, next}
-use Rattle.rr_parser.specs.Grammar.Chains.{Chain, one_of, and_one}
+use Rattle.rr_parser.specs.Grammar.Chains.{Trail}
 use Rattle.rr_parser.specs.Grammar.Nesting.{Nested}
 use Rattle.rr_parser.specs.Grammar.Fences.{Taking, within_head}
 use Rattle.rr_parser.specs.declared.variables.Variable.{Variable}
-use Rattle.rr_parser.specs.Grammar.Names.{variable_of, local_tree, with_local, headed, command}
-use Rattle.rr_parser.specs.Grammar.Operands.{Blocked, Spot, element, attribute, Reached, Postfix}
+use Rattle.rr_parser.specs.Grammar.Names.{variable_of, told_behind, local_tree, with_local, headed, command}
+use Rattle.rr_parser.specs.Grammar.Operands.{order, Blocked, Spot, element, attribute, Reached, Postfix}
 use Rattle.rr_parser.specs.Grammar.Operators.{Ternary}
 
 -- what is assigned to
@@ -44,18 +45,18 @@ sign_of_kind _ = None
 abbrev pub sign : Look Sign
 sign = first_as (λ w. sign_of_kind w.kind)
 
-abbrev pub assigned : Target → Option (Sign × List Word) → Option (Aim × List Word)
-assigned x None = None
-assigned x (Some r) = Some (record { target = x; sign = r.0 }, r.1)
+abbrev pub assigned : Target → ℕ → Option (Sign × List Word) → Option (Aim × List Word)
+assigned x n None = None
+assigned x n (Some r) = Some (record { target = x; sign = r.0; behind = n }, r.1)
 
 abbrev pub named : Option (Target × List Word) → Option (Aim × List Word)
 named None = None
-named (Some x) = assigned x.0 (sign x.1)
+named (Some x) = assigned x.0 (told_behind x.1) (sign x.1)
 
 abbrev pub target_word : Look Target
 target_word = first_as (λ w. target_of_kind w.kind)
 
--- what is assigned to, and the sign of the assignment
+-- what is assigned to, the sign of the assignment, and how many words stand behind the target
 abbrev pub target : Look Aim
 target ws = named (target_word ws)
 
@@ -65,16 +66,16 @@ with_target (targets.Variable x) s = with_local x s
 with_target (targets.Field x) s = s
 with_target (targets.Global x) s = s
 
--- the target as what reads it, where a local variable is seen so
-abbrev pub target_tree : Target → Variable → Tree
-target_tree (targets.Variable x) v = local_tree x v
-target_tree (targets.Field x) v = field x.0
-target_tree (targets.Global x) v = global x.0
+-- the target as what reads it, where a local variable is seen so, and so many words stand behind it
+abbrev pub target_tree : Target → Variable → ℕ → Tree
+target_tree (targets.Variable x) v n = local_tree x v n
+target_tree (targets.Field x) v n = field x.0
+target_tree (targets.Global x) v n = global x.0
 
-abbrev pub set_target : Target → Variable → Tree → Tree
-set_target (targets.Variable x) v t = assign v.depth v.slot x.0 t
-set_target (targets.Field x) v t = set_field x.0 t
-set_target (targets.Global x) v t = set_global x.0 t
+abbrev pub set_target : Target → Variable → ℕ → Tree → Tree
+set_target (targets.Variable x) v n t = assign v.depth v.slot x.0 n t
+set_target (targets.Field x) v n t = set_field x.0 t
+set_target (targets.Global x) v n t = set_global x.0 t
 
 -- an assignment with an operator, to what is read so
 abbrev pub operated : Operation → Tree → Tree → Tree
@@ -83,10 +84,10 @@ operated (operations.Infix infixes.Append) x t = append_assign x t
 operated (operations.Connective connectives.Or) x t = or_assign x t
 operated (operations.Connective connectives.And) x t = and_assign x t
 
--- the tree of an assignment, where a local variable is seen so
-abbrev pub signed : Sign → Target → Variable → Tree → Tree
-signed signs.Plain x v t = set_target x v t
-signed (signs.With o) x v t = operated o (target_tree x v) t
+-- the tree of an assignment, where a local variable is seen so, and so many words stand behind it
+abbrev pub signed : Sign → Target → Variable → ℕ → Tree → Tree
+signed signs.Plain x v n t = set_target x v n t
+signed (signs.With o) x v n t = operated o (target_tree x v n) t
 
 -- how a target that is a local variable is seen
 abbrev pub target_variable : Target → Place → Variable
@@ -96,7 +97,7 @@ target_variable (targets.Global x) s = record { depth = 0; slot = 0 }
 
 -- the tree of an assignment, at the place where the target is known
 abbrev pub assigned_to : Aim → Place → Tree → Tree
-assigned_to a s t = signed a.sign a.target (target_variable a.target s) t
+assigned_to a s t = signed a.sign a.target (target_variable a.target s) a.behind t
 
 abbrev pub comma : Look (Unit {0})
 comma = word kind.Comma
@@ -145,15 +146,62 @@ pub data Item (N : Nested) : Place → Tree → Place → Type 0 where
   a_splat : {s m z : Place} {t : Tree} → next s ≡ Some (star, m) → Argument N m t z → Item N s (splat t) z
   a_plain_item : {s z : Place} {t : Tree} → Argument N s t z → Item N s t z
 
-abbrev pub Member : Nested → Listed → Place → Tree → Place → Type 0
-Member N listings.Command = Item N
-Member N listings.Call = Item N
-Member N listings.Array = Item N
-Member N listings.Hash = Pair N
+-- a member of a list: an argument, or a pair
+pub data Member : Type 0 where
+  item : Tree → Member
+  entry : Tree → Member
+
+-- the items of a list, and the pairs behind them
+pub record Given : Type 0 where
+  pub items : List Tree
+  pub pairs : List Tree
+
+abbrev pub nothing : Given
+nothing = record { items = []; pairs = [] }
+
+-- one member more
+abbrev pub with_member : Given → Member → Given
+with_member g (item t) = record { items = g.items ++ t ∷ []; pairs = g.pairs }
+with_member g (entry t) = record { items = g.items; pairs = g.pairs ++ t ∷ [] }
+
+abbrev pub is_filled : List Tree → Bool
+is_filled [] = false
+is_filled (t ∷ ts) = true
+
+-- only pairs stand in a hash, and behind a pair
+abbrev pub only_pairs : Listed → Given → Bool
+only_pairs listings.Command g = is_filled g.pairs
+only_pairs listings.Call g = is_filled g.pairs
+only_pairs listings.Array g = is_filled g.pairs
+only_pairs listings.Hash g = true
+
+-- a pair; and an item too, unless only pairs may stand there
+pub data Listing (N : Nested) (only : Bool) : Place → Member → Place → Type 0 where
+  an_item : {s z : Place} {t : Tree} → only ≡ false → Item N s t z → Listing N only s (item t) z
+  a_pair_member : {s z : Place} {t : Tree} → Pair N s t z → Listing N only s (entry t) z
+
+-- one member behind those that came
+pub data Adding (N : Nested) (k : Listed) (g : Given) : Place → Given → Place → Type 0 where
+  adding : {s z : Place} {m : Member} → Listing N (only_pairs k g) s m z → Adding N k g s (with_member g m) z
+
+abbrev pub AddingTo : Nested → Listed → Unit {0} → Given → Place → Given → Place → Type 0
+AddingTo N k u g = Adding N k g
 
 -- one member or more, with commas between them
-abbrev pub Members : Nested → Listed → Place → List Tree → Place → Type 0
-Members N k = Chain comma one_of and_one (Member N k)
+abbrev pub Members : Nested → Listed → Place → Given → Place → Type 0
+Members N k = Trail comma (Adding N k nothing) (AddingTo N k)
+
+-- behind items pairs are one hash, the last argument
+abbrev pub with_pairs : List Tree → List Tree → List Tree
+with_pairs items [] = items
+with_pairs items (t ∷ ts) = items ++ pairs (listed (t ∷ ts)) ∷ []
+
+-- what a list has
+abbrev pub contents : Listed → Given → List Tree
+contents listings.Command g = with_pairs g.items g.pairs
+contents listings.Call g = with_pairs g.items g.pairs
+contents listings.Array g = with_pairs g.items g.pairs
+contents listings.Hash g = g.pairs
 
 -- the word that ends a list
 abbrev pub closing : Listed → Look (Unit {0})
@@ -173,7 +221,7 @@ last k ws = closing k (behind_comma ws (comma ws))
 -- members and the word that ends them
 pub data Bracketed (N : Nested) (k : Listed) : Place → List Tree → Place → Type 0 where
   no_members : {s z : Place} {u : Unit {0}} → at (closing k) s ≡ Some (u, z) → Bracketed N k s [] z
-  some_members : {s m z : Place} {u : Unit {0}} {l : List Tree} → Members N k s l m → at (last k) m ≡ Some (u, z) → Bracketed N k s l z
+  some_members : {s m z : Place} {u : Unit {0}} {g : Given} → Members N k s g m → at (last k) m ≡ Some (u, z) → Bracketed N k s (contents k g) z
 
 pub data Array (N : Nested) : Place → Tree → Place → Type 0 where
   an_array : {s z : Place} {l : List Tree} → Bracketed N listings.Array s l z → Array N s (array (listed l)) z
@@ -186,7 +234,7 @@ pub data Index (N : Nested) : Place → Tree → Place → Type 0 where
 
 -- what stands behind the name of a command: arguments, or a command
 pub data Commanded (N : Nested) : Place → List Tree → Place → Type 0 where
-  by_arguments : {s z : Place} {l : List Tree} → Members N listings.Command s l z → Commanded N s l z
+  by_arguments : {s z : Place} {g : Given} → Members N listings.Command s g z → Commanded N s (contents listings.Command g) z
   by_command : {s m z : Place} {x : Head} {t : Tree} → at (command s.known) s ≡ Some (x, m) → N.part parts.Command s t z → Commanded N s (t ∷ []) z
 
 -- the same, where the command gets a `do` block and no call in it does
@@ -198,6 +246,9 @@ pub data Command (N : Nested) : Place → Tree → Place → Type 0 where
 
 pub data Phrase (N : Nested) : Place → Tree → Place → Type 0 where
   by_name : {s z : Place} {t : Tree} → Command N s t z → Phrase N s t z
+  -- a command with a receiver
+  by_receiver : {s m n o z : Place} {r : Reached} {x : Sym} {l : List Tree} {t : Tree} → Postfix N s r m → at order m ≡ Some (x, n) → Arguments N (heads.Call x) n l o
+      → Blocked N (behinds.Command (heads.Call x)) (send r.tree x.0 (listed l)) o t z → Phrase N s t z
   an_operand : {s z : Place} {t : Tree} → Settled N true s t z → Phrase N s t z
 
 -- an operand; and a command too, where commands may stand

@@ -1,5 +1,5 @@
 -- What a name stands for, and what its neighbours say about it.
-use Rattle.std.specs.Prelude.{ℕ, ◌==◌, ◌+◌, ◌-◌, List, [], ◌∷◌, ◌++◌, Bool, true, false, not, ◌&&◌, ◌||◌, Option, Some, None, is_some, if◌then◌else◌}
+use Rattle.std.specs.Prelude.{ℕ, ◌==◌, ◌+◌, ◌-◌, min, length, List, [], ◌∷◌, ◌++◌, Bool, true, false, not, ◌&&◌, ◌||◌, Option, Some, None, is_some, if◌then◌else◌}
 use Rattle.rr_base.specs.declared.name.Sym.{Sym}
 use Rattle.rr_tree.specs.Tree.{Tree, Trees, nil, local, call, array, yield, super, forwarding_super, break, next, return, splat, listed}
 use Rattle.rr_parser.specs.declared.locals.Local.{Local}
@@ -40,8 +40,13 @@ seen_from k (Some l) = record { depth = k.level - l.level; slot = l.slot }
 abbrev pub variable_of : Sym → Place → Variable
 variable_of x s = seen_from s.known (find x.0 s.known.locals)
 
-abbrev pub local_tree : Sym → Variable → Tree
-local_tree x v = local v.depth v.slot x.0
+-- how many words stand behind a use of a variable, which a tree tells in 32 bits; a greater number is told as the greatest
+abbrev pub told_behind : List Word → ℕ
+told_behind ws = min (length ws) 4294967295
+
+-- a use of a variable that is seen so, behind which so many words stand
+abbrev pub local_tree : Sym → Variable → ℕ → Tree
+local_tree x v n = local v.depth v.slot x.0 n
 
 -- a name that is no variable yet becomes one of the place's own scope and gets the next number there
 abbrev pub with_variable : Known → Sym → Option Local → Known
@@ -90,6 +95,7 @@ begins_operand (kind.Name x marked) tight = true
 begins_operand kind.Nil tight = true
 begins_operand (kind.Truth b) tight = true
 begins_operand (kind.Symbol x) tight = true
+begins_operand (kind.Label x) tight = true
 begins_operand (kind.Constant x outer) tight = true
 begins_operand (kind.Field x) tight = true
 begins_operand (kind.Global x) tight = true

@@ -19,7 +19,7 @@ use Rattle.rr_parser.specs.Places.{Place, Look, where_true, is_kind, word, tight
 use Rattle.rr_parser.specs.Grammar.Chains.{Trail}
 use Rattle.rr_parser.specs.Grammar.Nesting.{Nested}
 use Rattle.rr_parser.specs.Grammar.Fences.{opened}
-use Rattle.rr_parser.specs.Grammar.Names.{is_local, variable_of, local_tree, is_allowed, jump_tree, begins_arguments, passed, passed_bare, name, bracket, begins_operands}
+use Rattle.rr_parser.specs.Grammar.Names.{is_local, variable_of, told_behind, local_tree, is_allowed, jump_tree, begins_arguments, passed, passed_bare, name, bracket, begins_operands}
 
 -- ---- integers
 
@@ -100,7 +100,7 @@ pub data Primary (N : Nested) : Place → Tree → Place → Type 0 where
   a_constant : {s z : Place} {x : Sym} {outer : Bool} → next s ≡ Some (kind.Constant x outer, z) → at (inner_constant outer) z ≡ None → Primary N s (constant (paths.Plain x)) z
   a_path : {s m z : Place} {x y : Sym} {outer : Bool} → next s ≡ Some (kind.Constant x outer, m) → at (inner_constant outer) m ≡ Some (y, z) → Primary N s (constant (paths.Ractor y)) z
   a_negative : {s m z : Place} {n : ℕ} → next s ≡ Some (kind.Minus, m) → at joined m ≡ Some (n, z) → fits_below n ≡ true → Primary N s (int (negated n)) z
-  a_local : {s z : Place} {x : Sym} → at name s ≡ Some (x, z) → at bracket z ≡ None → opened behinds.Call z ≡ None → is_local x z ≡ true → Primary N s (local_tree x (variable_of x z)) z
+  a_local : {s z : Place} {x : Sym} → at name s ≡ Some (x, z) → at bracket z ≡ None → opened behinds.Call z ≡ None → is_local x z ≡ true → Primary N s (local_tree x (variable_of x z) (told_behind z.rest)) z
   -- a call with no arguments
   a_bare_call : {s z : Place} {x : Sym} → at name s ≡ Some (x, z) → at bracket z ≡ None → opened behinds.Call z ≡ None → is_local x z ≡ false → begins_operands z.rest ≡ false → Primary N s (bare x.0) z
   -- a call with arguments in brackets
@@ -139,6 +139,18 @@ behind_dot ws (Some r) = sent (name r.1)
 -- A dot and a name, unless operands follow, which make a command of it; or a bracket with no blank before it.
 abbrev pub tail : Look Tail
 tail ws = behind_dot ws (word kind.Dot ws)
+
+abbrev pub before_operands : Option (Sym × List Word) → Option (Sym × List Word)
+before_operands None = None
+before_operands (Some x) = if begins_operands x.1 then Some (x.0, x.1) else None
+
+abbrev pub order_behind : Option (Unit {0} × List Word) → Option (Sym × List Word)
+order_behind None = None
+order_behind (Some r) = before_operands (name r.1)
+
+-- A dot and the name of a call that operands follow: what stands before it is the receiver of a command.
+abbrev pub order : Look Sym
+order ws = order_behind (word kind.Dot ws)
 
 -- what stands behind an operand and can be assigned to: an element, or an attribute
 pub data Spot : Type 0 where

@@ -1,8 +1,8 @@
 -- Reading statements with the clauses that rescue them, and with those that always follow.
 use Rattle.std.specs.Prelude.{Bool, List, [], Option, Some, None, Ok, Err}
-use Rattle.rr_base.specs.declared.name.Sym.{Sym}
 use Rattle.rr_tree.specs.declared.node.Path.{Path}
 use Rattle.rr_tree.specs.Tree.{Tree, constant, rescue, clause, ensure, listed}
+use Rattle.rr_parser.specs.declared.word.Caught.{Caught}
 use Rattle.rr_parser.specs.declared.word.Fence.{Fence}
 use Rattle.rr_parser.specs.declared.word.Fence.TheVariants as fences
 use Rattle.rr_parser.specs.declared.word.WordKind.TheVariants as kind
@@ -32,7 +32,7 @@ classes_or s (Some x) = several_classes s
 abbrev pub classes_of : Parse (List Tree)
 classes_of s = classes_or s (at path s)
 
-abbrev pub clause_or : Readers → List Tree → Option (Option Sym × Place) → Answer Tree
+abbrev pub clause_or : Readers → List Tree → Option (Option Caught × Place) → Answer Tree
 clause_or N l None = Err wrong
 clause_or N l (Some x) = built (clause (listed l) (caught_tree x.0 (with_caught x.0 x.1))) (statements_of N (with_caught x.0 x.1))
 

@@ -16,7 +16,7 @@ use Rattle.rr_parser.specs.declared.word.Part.{Part}
 use Rattle.rr_parser.specs.declared.word.Part.TheVariants as parts
 use Rattle.rr_tree.specs.declared.node.Path.TheVariants as paths
 use Rattle.rr_parser.specs.Places.{Place, Look, word, at, next}
-use Rattle.rr_parser.specs.Grammar.Names.{is_local, variable_of, local_tree, is_allowed, jump_tree, begins_arguments, passed, passed_bare, bracket, begins_operands}
+use Rattle.rr_parser.specs.Grammar.Names.{is_local, variable_of, told_behind, local_tree, is_allowed, jump_tree, begins_arguments, passed, passed_bare, bracket, begins_operands}
 use Rattle.rr_parser.specs.Grammar.Fences.{opened}
 use Rattle.rr_parser.specs.Grammar.Operands.{fits, fits_below, negated, joined, literal_of, inner_constant, construct_of, tail, Reached, plain, at_element, at_attribute}
 use Rattle.rr_parser.specs.Reading.Answers.{◌>>=◌, wrong, Answer, Parse, built, from, trail_on}
@@ -29,7 +29,7 @@ abbrev pub bare_call : Sym → Place → Answer Tree
 bare_call x m = if begins_operands m.rest then Err wrong else Ok (bare x.0, m)
 
 abbrev pub variable_or_call : Sym → Place → Answer Tree
-variable_or_call x m = if is_local x m then Ok (local_tree x (variable_of x m), m) else bare_call x m
+variable_or_call x m = if is_local x m then Ok (local_tree x (variable_of x m) (told_behind m.rest), m) else bare_call x m
 
 -- a call with its block
 abbrev pub block_behind : Readers → Fence → Tree → Parse Tree

@@ -7,7 +7,7 @@ use Rattle.rr_parser.specs.Grammar.Sequences.{modifier, modified}
 use Rattle.rr_parser.specs.Grammar.Control.{elsif}
 use Rattle.rr_parser.specs.Reading.Answers.{Parse}
 use Rattle.rr_parser.specs.Reading.Operators.{binary_of, logical_of}
-use Rattle.rr_parser.specs.Reading.Calls.{another, member_of}
+use Rattle.rr_parser.specs.Reading.Calls.{another, adding_to}
 use Rattle.rr_parser.specs.Reading.Sequences.{negation_of, expression_of, statement_of, statements_of, row}
 use Rattle.rr_parser.specs.Grammar.Bodies.{rescues}
 use Rattle.rr_parser.specs.Grammar.Interpolations.{text_middle, and_piece}
@@ -15,34 +15,35 @@ use Rattle.rr_parser.specs.Reading.Interpolations.{pieces_of}
 use Rattle.rr_parser.specs.Reading.Control.{branch_of}
 use Rattle.rr_parser.specs.Reading.Bodies.{clause_of}
 use Rattle.rr_parser.specs.Reading.{readers}
-use Rattle.rr_parser.specs.Meets.{Gives, GivesList, nodes, pairs, lists, place}
+use Rattle.rr_parser.specs.Meets.{Gives, GivesList, nodes, pairs, lists, givens, place}
 use Rattle.rr_parser.proofs.Looks.{Steps-row}
 use Rattle.rr_parser.proofs.Listing.{Steps-another}
 use Rattle.rr_parser.proofs.Shrinking.{Steps-operator, Steps-connective, Steps-modifier, Steps-elsif, Steps-middle, Steps-rescues, shrinks_nested}
 use Rattle.rr_parser.proofs.Making.{stable_nodes, stable_pairs, goes_ends, goes_fails, goes_smaller, list_on, operators_on, nested_part, nested_bracketed, gives_outside}
 use Rattle.rr_parser.proofs.Choosing.{made_alternatives, made_pair, made_branch, made_loop, made_choice, made_unless}
-use Rattle.rr_parser.proofs.Spots.{gives_sent, made_element, made_attribute, made_setting}
-use Rattle.rr_parser.proofs.Calling.{gives_headed, made_behind, made_arrow, trail_fails, trail_smaller, trail_goes, trail_ends}
+use Rattle.rr_parser.proofs.Spots.{gives_sent, made_element, made_attribute, made_setting, gives_ordered}
+use Rattle.rr_parser.proofs.Gathering.{turns_fail, turns_smaller, turns_go, turns_end, made_key, made_added}
+use Rattle.rr_parser.proofs.Calling.{gives_headed, made_behind, trail_fails, trail_smaller, trail_goes, trail_ends}
 use Rattle.rr_parser.proofs.Rescuing.{made_clause, made_rescued, made_ensured}
 use Rattle.rr_parser.proofs.Interpolating.{pieces_begin, pieces_on, made_interpolation}
 use Rattle.rr_parser.proofs.parser.Parser.+parser.Goals as goal
 
-pub members-returns-in_err-next : goal.members-returns-in_err-next
-members-returns-in_err-next t c =
-    let p = err_from_is_err_and c.from_residual-in_err-next.result c.from_residual-in_err-next.ensures.1 in
-    rw (p.1, p.2) (goes_fails (lists nodes) nodes (another c.args.list) and_one (member_of (readers c.args.inside c.args.depth) c.args.list) (Steps-another c.args.list) ((shrinks_nested c.args.inside c.args.depth).member c.args.list) _ _ _ _ _ _ _ _ c.loop-after.invariant c.in-Some.ensures c.in_err-next.ensures)
+pub members-returns-in_err-more : goal.members-returns-in_err-more
+members-returns-in_err-more t c =
+    let p = err_from_is_err_and c.from_residual-in_err-more.result c.from_residual-in_err-more.ensures.1 in
+    rw (p.1, p.2) (turns_fail givens (another c.args.list) (adding_to (readers c.args.inside c.args.depth) c.args.list) (Steps-another c.args.list) (λ x l n z t e. (shrinks_nested c.args.inside c.args.depth).added c.args.list l n z t e) _ _ _ _ _ _ _ _ c.loop-after.invariant c.in-Some.ensures c.in_err-more.ensures)
 
 pub members-loop-after-smaller : goal.members-loop-after-smaller
 members-loop-after-smaller t c =
-    goes_smaller (lists nodes) nodes (another c.args.list) and_one (member_of (readers c.args.inside c.args.depth) c.args.list) (Steps-another c.args.list) ((shrinks_nested c.args.inside c.args.depth).member c.args.list) _ _ _ _ _ _ _ c.in-Some.ensures c.in_ok-next.ensures
+    turns_smaller givens (another c.args.list) (adding_to (readers c.args.inside c.args.depth) c.args.list) (Steps-another c.args.list) (λ x l n z t e. (shrinks_nested c.args.inside c.args.depth).added c.args.list l n z t e) _ _ c.loop-after.given c.in_ok-more.more _ _ _ _ c.in-Some.ensures c.in_ok-more.ensures
 
 pub members-loop-after-preserved : goal.members-loop-after-preserved
 members-loop-after-preserved t c =
-    list_on nodes stable_nodes (another c.args.list) (member_of (readers c.args.inside c.args.depth) c.args.list) (Steps-another c.args.list) ((shrinks_nested c.args.inside c.args.depth).member c.args.list) _ _ _ _ _ _ _ _ _ _ _ c.loop-after.invariant c.in-Some.ensures c.in_ok-next.ensures c.in_ok-push-2.ensures.items
+    turns_go givens (another c.args.list) (adding_to (readers c.args.inside c.args.depth) c.args.list) (Steps-another c.args.list) (λ x l n z t e. (shrinks_nested c.args.inside c.args.depth).added c.args.list l n z t e) _ _ _ _ _ _ _ _ _ _ c.loop-after.invariant c.in-Some.ensures c.in_ok-more.ensures
 
 pub members-returns : goal.members-returns
 members-returns t c =
-    goes_ends (lists nodes) nodes (another c.args.list) and_one (member_of (readers c.args.inside c.args.depth) c.args.list) (Steps-another c.args.list) ((shrinks_nested c.args.inside c.args.depth).member c.args.list) _ _ _ _ _ c.loop-after.invariant c.in_default.ensures
+    turns_end givens (another c.args.list) (adding_to (readers c.args.inside c.args.depth) c.args.list) (Steps-another c.args.list) (λ x l n z t e. (shrinks_nested c.args.inside c.args.depth).added c.args.list l n z t e) _ _ _ _ _ c.loop-after.invariant c.in_default.ensures
 
 pub rows-returns-in_err-next : goal.rows-returns-in_err-next
 rows-returns-in_err-next t c =
@@ -207,9 +208,9 @@ pub element-returns : goal.element-returns
 element-returns t c =
     made_element (readers c.args.inside c.args.depth) c.args.self.now c.part.new.self c.put.new.self _ _ _ _ _ c.requires c.in_ok-index.ensures c.in_ok-node.ensures.puts
 
-pub pair-returns : goal.pair-returns
-pair-returns t c =
-    made_arrow (readers c.args.inside c.args.depth) c.args.self.now c.value-2.new.self c.value-3.new.self c.put.new.self _ _ _ _ _ _ _ c.in_default.ensures c.in_ok-key.ensures c.in-Some-behind.ensures c.in_ok-value-2.ensures c.in_ok-put.ensures.puts
+pub behind_key-returns : goal.behind_key-returns
+behind_key-returns t c =
+    made_key (readers c.args.inside c.args.depth) c.args.only c.args.self.now c.value.new.self c.put.new.self _ _ _ _ _ _ c.requires c.in-Some.ensures c.in_ok-value.ensures c.in_ok-put.ensures.puts
 
 pub block_behind-returns : goal.block_behind-returns
 block_behind-returns t c =
@@ -244,7 +245,7 @@ clauses-returns t c =
 
 pub clause-returns : goal.clause-returns
 clause-returns t c =
-    made_clause (readers c.args.inside c.args.depth) c.args.self.now c.classes.new.self c.in_ok-classes.classes.items _ _ _ _ c.in_ok-classes.ensures c.in_ok-name.ensures c.catch.new.self _ c.in_ok-target.ensures c.statements.new.self c.put_clause.new.self
+    made_clause (readers c.args.inside c.args.depth) c.args.self.now c.classes.new.self c.in_ok-classes.classes.items _ _ _ _ c.in_ok-classes.ensures c.in_ok-caught.ensures c.catch.new.self _ c.in_ok-target.ensures c.statements.new.self c.put_clause.new.self
     c.deref.result.now _ _ _ c.deref.ensures.value c.in_ok-body.ensures c.in_ok-put_clause.ensures
 
 pub rescued-returns : goal.rescued-returns
@@ -291,3 +292,12 @@ sent-returns-in_default t c =
 pub setting-returns : goal.setting-returns
 setting-returns t c =
     made_setting (readers c.args.inside c.args.depth) c.args.commands c.args.self.now c.right_side.new.self c.put_setting.new.self _ _ _ c.args.spot _ _ _ _ c.requires.target c.requires.spot c.in-Some.ensures c.in_ok-value.ensures c.in_ok-put_setting.ensures
+
+pub ordered-returns : goal.ordered-returns
+ordered-returns t c =
+    gives_ordered (readers c.args.inside c.args.depth) c.args.self.now c.arguments.new.self c.put_send.new.self c.blocked.new.self _ _ c.args.name c.in_ok-items.items.items c.deref.result.now _ _ c.blocked.result c.deref.ensures.value c.requires c.in_ok-items.ensures
+    c.in_ok-command.ensures c.blocked.ensures
+
+pub added-returns : goal.added-returns
+added-returns t c =
+    made_added (readers c.args.inside c.args.depth) c.args.list c.args.self.now c.member.new.self c.args.given _ _ _ _ _ c.requires (c.only_pairs-only.ensures c.args.self.now.nodes.items) c.in_ok-member.ensures c.in_ok-more.ensures

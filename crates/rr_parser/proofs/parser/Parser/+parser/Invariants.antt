@@ -8,7 +8,7 @@ use Rattle.rr_parser.specs.Grammar.Control.{elsif}
 use Rattle.rr_parser.specs.Reading.Answers.{chain_on, trail_on}
 use Rattle.rr_parser.specs.Reading.Operators.{binary_on, binary_of, logical_on, logical_of}
 use Rattle.rr_parser.specs.Reading.Operands.{tailed_of, postfix_of}
-use Rattle.rr_parser.specs.Reading.Calls.{another, member_of, members_of}
+use Rattle.rr_parser.specs.Reading.Calls.{another, adding_to, members_of}
 use Rattle.rr_parser.specs.Reading.Sequences.{negation_of, expression_of, statement_of, statements_of, rows_of, row}
 use Rattle.rr_parser.specs.Grammar.Bodies.{rescues}
 use Rattle.rr_parser.specs.Grammar.Interpolations.{text_middle, and_piece}
@@ -16,7 +16,7 @@ use Rattle.rr_parser.specs.Reading.Interpolations.{pieces_of}
 use Rattle.rr_parser.specs.Reading.Control.{branch_of, branches_of}
 use Rattle.rr_parser.specs.Reading.Bodies.{clause_of, clauses_of}
 use Rattle.rr_parser.specs.Reading.{readers}
-use Rattle.rr_parser.specs.Meets.{place, nodes, pairs, lists, reaches}
+use Rattle.rr_parser.specs.Meets.{place, nodes, pairs, lists, givens, reaches}
 use Rattle.rr_parser.proofs.Making.{Goes}
 use Rattle.rr_parser.proofs.parser.Parser.+parser.Given as goal
 
@@ -54,55 +54,55 @@ abbrev pub decreases-ternary : goal.decreases-ternary
 decreases-ternary l = 128 * l.depth + cond l.inside 0 64 + 25
 
 abbrev pub decreases-commanded : goal.decreases-commanded
-decreases-commanded l = 128 * l.depth + cond l.inside 0 64 + 34
+decreases-commanded l = 128 * l.depth + cond l.inside 0 64 + 36
 
 abbrev pub decreases-bracketed : goal.decreases-bracketed
-decreases-bracketed l = 128 * l.depth + cond l.inside 0 64 + 33
+decreases-bracketed l = 128 * l.depth + cond l.inside 0 64 + 36
 
 abbrev pub decreases-phrase : goal.decreases-phrase
-decreases-phrase l = 128 * l.depth + cond l.inside 0 64 + 37
+decreases-phrase l = 128 * l.depth + cond l.inside 0 64 + 42
 
 abbrev pub decreases-command : goal.decreases-command
-decreases-command l = 128 * l.depth + cond l.inside 0 64 + 37
+decreases-command l = 128 * l.depth + cond l.inside 0 64 + 42
 
 abbrev pub decreases-negation : goal.decreases-negation
-decreases-negation l = 128 * l.depth + cond l.inside 0 64 + 40
+decreases-negation l = 128 * l.depth + cond l.inside 0 64 + 45
 
 abbrev pub decreases-expression : goal.decreases-expression
-decreases-expression l = 128 * l.depth + cond l.inside 0 64 + 41
+decreases-expression l = 128 * l.depth + cond l.inside 0 64 + 46
 
 abbrev pub decreases-statement : goal.decreases-statement
-decreases-statement l = 128 * l.depth + cond l.inside 0 64 + 42
+decreases-statement l = 128 * l.depth + cond l.inside 0 64 + 47
 
 abbrev pub decreases-rows : goal.decreases-rows
-decreases-rows l = 128 * l.depth + cond l.inside 0 64 + 43
+decreases-rows l = 128 * l.depth + cond l.inside 0 64 + 48
 
 abbrev pub decreases-statements : goal.decreases-statements
-decreases-statements l = 128 * l.depth + cond l.inside 0 64 + 44
+decreases-statements l = 128 * l.depth + cond l.inside 0 64 + 49
 
 abbrev pub decreases-group : goal.decreases-group
-decreases-group l = 128 * l.depth + cond l.inside 0 64 + 45
+decreases-group l = 128 * l.depth + cond l.inside 0 64 + 50
 
 abbrev pub decreases-otherwise : goal.decreases-otherwise
-decreases-otherwise l = 128 * l.depth + cond l.inside 0 64 + 45
+decreases-otherwise l = 128 * l.depth + cond l.inside 0 64 + 50
 
 abbrev pub decreases-branch : goal.decreases-branch
-decreases-branch l = 128 * l.depth + cond l.inside 0 64 + 45
+decreases-branch l = 128 * l.depth + cond l.inside 0 64 + 50
 
 abbrev pub decreases-repeat : goal.decreases-repeat
-decreases-repeat l = 128 * l.depth + cond l.inside 0 64 + 45
+decreases-repeat l = 128 * l.depth + cond l.inside 0 64 + 50
 
 abbrev pub decreases-branches : goal.decreases-branches
-decreases-branches l = 128 * l.depth + cond l.inside 0 64 + 46
+decreases-branches l = 128 * l.depth + cond l.inside 0 64 + 51
 
 abbrev pub decreases-choice : goal.decreases-choice
-decreases-choice l = 128 * l.depth + cond l.inside 0 64 + 47
+decreases-choice l = 128 * l.depth + cond l.inside 0 64 + 52
 
 abbrev pub decreases-unless : goal.decreases-unless
-decreases-unless l = 128 * l.depth + cond l.inside 0 64 + 47
+decreases-unless l = 128 * l.depth + cond l.inside 0 64 + 52
 
 abbrev pub decreases-part_within : goal.decreases-part_within
-decreases-part_within l = 128 * l.depth + cond l.inside 0 64 + 52
+decreases-part_within l = 128 * l.depth + cond l.inside 0 64 + 57
 
 abbrev pub decreases-binary_on : goal.decreases-binary_on
 decreases-binary_on l = 128 * l.depth + cond l.inside 0 64 + (2 * l.level + 8)
@@ -117,30 +117,30 @@ abbrev pub decreases-logical : goal.decreases-logical
 decreases-logical l = 128 * l.depth + cond l.inside 0 64 + (2 * l.level + 20)
 
 abbrev pub decreases-operand : goal.decreases-operand
-decreases-operand l = 128 * l.depth + cond l.inside 0 64 + cond l.commands 38 28
+decreases-operand l = 128 * l.depth + cond l.inside 0 64 + cond l.commands 43 29
 
 abbrev pub decreases-value : goal.decreases-value
-decreases-value l = 128 * l.depth + cond l.inside 0 64 + cond l.commands 39 29
+decreases-value l = 128 * l.depth + cond l.inside 0 64 + cond l.commands 44 30
 
 abbrev pub decreases-headed : goal.decreases-headed
-decreases-headed l = 128 * l.depth + cond l.inside 0 64 + 36
+decreases-headed l = 128 * l.depth + cond l.inside 0 64 + 38
 
 abbrev pub decreases-arguments : goal.decreases-arguments
-decreases-arguments l = 128 * l.depth + cond l.inside 0 64 + 35
+decreases-arguments l = 128 * l.depth + cond l.inside 0 64 + 37
 
 abbrev pub decreases-condition : goal.decreases-condition
-decreases-condition l = 128 * l.depth + cond l.inside 0 64 + 42
+decreases-condition l = 128 * l.depth + cond l.inside 0 64 + 47
 
 abbrev pub decreases-form : goal.decreases-form
-decreases-form l = 128 * l.depth + cond l.inside 0 64 + 51
+decreases-form l = 128 * l.depth + cond l.inside 0 64 + 56
 
 abbrev pub decreases-call_arguments : goal.decreases-call_arguments
-decreases-call_arguments l = 128 * l.depth + cond l.inside 0 64 + 34
+decreases-call_arguments l = 128 * l.depth + cond l.inside 0 64 + 37
 
 abbrev pub invariant-members-loop-after : goal.invariant-members-loop-after
 invariant-members-loop-after l =
-    Goes (lists nodes) l.fn.self l.self l.items.items (members_of (readers l.inside l.depth) l.list (place l.fn.self l.fn.words))
-    (chain_on (another l.list) and_one (member_of (readers l.inside l.depth) l.list) (map (tree_at l.self.nodes.items) l.items.items) (place l.self l.rest))
+    Goes givens l.fn.self l.self l.given (members_of (readers l.inside l.depth) l.list (place l.fn.self l.fn.words))
+    (trail_on (another l.list) (adding_to (readers l.inside l.depth) l.list) (givens.tree l.self.nodes.items l.given) (place l.self l.rest))
 
 abbrev pub decreases-members-loop-after : goal.decreases-members-loop-after
 decreases-members-loop-after l = length l.rest
@@ -213,26 +213,20 @@ decreases-tailed l = 128 * l.depth + cond l.inside 0 64 + 5
 abbrev pub decreases-postfix : goal.decreases-postfix
 decreases-postfix l = 128 * l.depth + cond l.inside 0 64 + 6
 
-abbrev pub decreases-item : goal.decreases-item
-decreases-item l = 128 * l.depth + cond l.inside 0 64 + 30
-
-abbrev pub decreases-pair : goal.decreases-pair
-decreases-pair l = 128 * l.depth + cond l.inside 0 64 + 30
-
 abbrev pub decreases-member : goal.decreases-member
-decreases-member l = 128 * l.depth + cond l.inside 0 64 + 31
+decreases-member l = 128 * l.depth + cond l.inside 0 64 + 32
 
 abbrev pub decreases-members : goal.decreases-members
-decreases-members l = 128 * l.depth + cond l.inside 0 64 + 32
+decreases-members l = 128 * l.depth + cond l.inside 0 64 + 34
 
 abbrev pub decreases-array : goal.decreases-array
-decreases-array l = 128 * l.depth + cond l.inside 0 64 + 34
+decreases-array l = 128 * l.depth + cond l.inside 0 64 + 37
 
 abbrev pub decreases-hash : goal.decreases-hash
-decreases-hash l = 128 * l.depth + cond l.inside 0 64 + 34
+decreases-hash l = 128 * l.depth + cond l.inside 0 64 + 37
 
 abbrev pub decreases-index : goal.decreases-index
-decreases-index l = 128 * l.depth + cond l.inside 0 64 + 34
+decreases-index l = 128 * l.depth + cond l.inside 0 64 + 37
 
 abbrev pub decreases-block_behind : goal.decreases-block_behind
 decreases-block_behind l = 128 * l.depth + cond l.inside 0 64 + 1
@@ -241,34 +235,34 @@ abbrev pub decreases-blocked : goal.decreases-blocked
 decreases-blocked l = 128 * l.depth + cond l.inside 0 64 + 2
 
 abbrev pub decreases-block : goal.decreases-block
-decreases-block l = 128 * l.depth + cond l.inside 0 64 + 50
+decreases-block l = 128 * l.depth + cond l.inside 0 64 + 55
 
 abbrev pub decreases-looped : goal.decreases-looped
-decreases-looped l = 128 * l.depth + cond l.inside 0 64 + 46
+decreases-looped l = 128 * l.depth + cond l.inside 0 64 + 51
 
 abbrev pub decreases-passing : goal.decreases-passing
 decreases-passing l = 128 * l.depth + cond l.inside 0 64 + 3
 
 abbrev pub decreases-definition : goal.decreases-definition
-decreases-definition l = 128 * l.depth + cond l.inside 0 64 + 50
+decreases-definition l = 128 * l.depth + cond l.inside 0 64 + 55
 
 abbrev pub decreases-clause : goal.decreases-clause
-decreases-clause l = 128 * l.depth + cond l.inside 0 64 + 45
+decreases-clause l = 128 * l.depth + cond l.inside 0 64 + 50
 
 abbrev pub decreases-clauses : goal.decreases-clauses
-decreases-clauses l = 128 * l.depth + cond l.inside 0 64 + 46
+decreases-clauses l = 128 * l.depth + cond l.inside 0 64 + 51
 
 abbrev pub decreases-rescued : goal.decreases-rescued
-decreases-rescued l = 128 * l.depth + cond l.inside 0 64 + 47
+decreases-rescued l = 128 * l.depth + cond l.inside 0 64 + 52
 
 abbrev pub decreases-body : goal.decreases-body
-decreases-body l = 128 * l.depth + cond l.inside 0 64 + 48
+decreases-body l = 128 * l.depth + cond l.inside 0 64 + 53
 
 abbrev pub decreases-begun : goal.decreases-begun
-decreases-begun l = 128 * l.depth + cond l.inside 0 64 + 49
+decreases-begun l = 128 * l.depth + cond l.inside 0 64 + 54
 
 abbrev pub decreases-held : goal.decreases-held
-decreases-held l = 128 * l.depth + cond l.inside 0 64 + 49
+decreases-held l = 128 * l.depth + cond l.inside 0 64 + 54
 
 abbrev pub invariant-clauses-loop-after : goal.invariant-clauses-loop-after
 invariant-clauses-loop-after l =
@@ -279,10 +273,10 @@ abbrev pub decreases-clauses-loop-after : goal.decreases-clauses-loop-after
 decreases-clauses-loop-after l = length l.rest
 
 abbrev pub decreases-pieces : goal.decreases-pieces
-decreases-pieces l = 128 * l.depth + cond l.inside 0 64 + 45
+decreases-pieces l = 128 * l.depth + cond l.inside 0 64 + 50
 
 abbrev pub decreases-interpolation : goal.decreases-interpolation
-decreases-interpolation l = 128 * l.depth + cond l.inside 0 64 + 46
+decreases-interpolation l = 128 * l.depth + cond l.inside 0 64 + 51
 
 abbrev pub invariant-pieces-loop-middle : goal.invariant-pieces-loop-middle
 invariant-pieces-loop-middle l =
@@ -308,7 +302,25 @@ abbrev pub decreases-setting : goal.decreases-setting
 decreases-setting l = 128 * l.depth + cond l.inside 0 64 + 25
 
 abbrev pub decreases-behind_operand : goal.decreases-behind_operand
-decreases-behind_operand l = 128 * l.depth + cond l.inside 0 64 + 26
+decreases-behind_operand l = 128 * l.depth + cond l.inside 0 64 + cond l.commands 40 27
 
 abbrev pub decreases-settled : goal.decreases-settled
-decreases-settled l = 128 * l.depth + cond l.inside 0 64 + 27
+decreases-settled l = 128 * l.depth + cond l.inside 0 64 + cond l.commands 41 28
+
+abbrev pub decreases-ordered : goal.decreases-ordered
+decreases-ordered l = 128 * l.depth + cond l.inside 0 64 + 38
+
+abbrev pub decreases-behind_order : goal.decreases-behind_order
+decreases-behind_order l = 128 * l.depth + cond l.inside 0 64 + 39
+
+abbrev pub decreases-reached : goal.decreases-reached
+decreases-reached l = 128 * l.depth + cond l.inside 0 64 + 26
+
+abbrev pub decreases-behind_key : goal.decreases-behind_key
+decreases-behind_key l = 128 * l.depth + cond l.inside 0 64 + 31
+
+abbrev pub decreases-added : goal.decreases-added
+decreases-added l = 128 * l.depth + cond l.inside 0 64 + 33
+
+abbrev pub decreases-listed : goal.decreases-listed
+decreases-listed l = 128 * l.depth + cond l.inside 0 64 + 35
