@@ -8,7 +8,13 @@ mod ends;
 #[cfg(test)]
 mod expect;
 #[cfg(test)]
+mod hands;
+#[cfg(test)]
+mod missing;
+#[cfg(test)]
 mod model;
+#[cfg(test)]
+mod model_changes;
 #[cfg(test)]
 mod model_constants;
 #[cfg(test)]

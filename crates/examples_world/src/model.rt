@@ -3,7 +3,7 @@
 
 use rr_base::{Fault, LimitKind, Limits};
 use rr_space::Label;
-use rr_world::{LastKind, Operand, Reply, Settled};
+use rr_world::{LastKind, Operand, RaisedPart, Reply, Settled};
 use std::alloc::{AllocError, Global};
 
 /// A value: an immediate, which no step tells from another, or an object by its name.
@@ -29,16 +29,21 @@ pub enum Holder {
 pub enum Kind {
     Text,
     Array,
+    Hash,
     Plain,
+    Exception,
     /// What was moved away leaves it.
     Shell,
 }
 
-/// What a value stands under: an element by its place, a field by its name.
+/// What a value stands under: an element by its place, a field by its name, or a part of an exception.
 #[derive(Clone, Copy, Debug, PartialEq, Eq, Drop)]
 pub enum Mark {
     Place(usize),
     Field(u32),
+    Message,
+    Cause,
+    Ractor,
 }
 
 #[derive(Drop)]
@@ -166,7 +171,19 @@ pub fn mark_of(label: Label) -> Option<Mark> {
     match label {
         Label::Place(place) => Some(Mark::Place(place)),
         Label::Field(name) => Some(Mark::Field(name.0)),
+        Label::Message => Some(Mark::Message),
+        Label::Cause => Some(Mark::Cause),
+        Label::Ractor => Some(Mark::Ractor),
         _ => None,
+    }
+}
+
+/// What a part of an exception stands under.
+pub fn mark_of_part(part: RaisedPart) -> Mark {
+    match part {
+        RaisedPart::Message => Mark::Message,
+        RaisedPart::Cause => Mark::Cause,
+        RaisedPart::Ractor => Mark::Ractor,
     }
 }
 

@@ -1,18 +1,10 @@
 //! The steps of the plain model.
 
 use crate::model::{
-    Holder, Inbox, Kind, Mark, Model, Object, Parcel, Told, Value, first_under, mark_of, put,
+    Holder, Inbox, Kind, Mark, Model, Object, Parcel, Told, Value, mark_of, mark_of_part,
 };
-use rr_world::{Action, LastKind, NewObject, Operand, Step};
+use rr_world::{Action, LastKind, Operand, Step};
 use std::alloc::{AllocError, Global};
-
-fn kind_of(new: NewObject) -> Kind {
-    match new {
-        NewObject::Text => Kind::Text,
-        NewObject::Array => Kind::Array,
-        NewObject::Object(_) => Kind::Plain,
-    }
-}
 
 /// The place of a ractor or an inbox of this number, counted from 1.
 fn place_of(number: u16, count: usize) -> Option<usize> {
@@ -30,84 +22,6 @@ fn has_room(inbox: &Inbox, limit: u32) -> bool {
 }
 
 impl Model {
-    fn alloc(&mut self, alloc: Global, who: usize, new: NewObject) -> Result<Told, AllocError> {
-        let name = self.objects.len();
-        let Some(actor) = self.actors.get_mut(who) else {
-            return Ok(Told::NotEnabled);
-        };
-        if actor.slots >= self.limits.slots as usize {
-            return Ok(Told::TooManySlots);
-        }
-        actor.slots = actor.slots.saturating_add(1);
-        actor.roots.push(Value::At(name))?;
-        self.objects.push(Object {
-            holder: Holder::Ractor(who),
-            kind: kind_of(new),
-            frozen: false,
-            parts: Vec::new(alloc),
-        })?;
-        Ok(Told::Done)
-    }
-
-    fn freeze(&mut self, who: usize, operand: Operand) -> Told {
-        let Some(name) = self.own(who, operand) else {
-            return Told::NotEnabled;
-        };
-        match self.objects.get_mut(name) {
-            Some(object) if object.kind != Kind::Shell => {
-                object.frozen = true;
-                Told::Done
-            }
-            _ => Told::NotEnabled,
-        }
-    }
-
-    /// A value comes under the next place of an array, under one of its places, or into a field.
-    fn change(
-        &mut self,
-        who: usize,
-        operand: Operand,
-        kind: Kind,
-        mark: Option<Mark>,
-        value: Operand,
-    ) -> Result<Told, AllocError> {
-        let (Some(name), Some(value)) = (self.open(who, operand, kind), self.named(who, value))
-        else {
-            return Ok(Told::NotEnabled);
-        };
-        let Some(object) = self.objects.get_mut(name) else {
-            return Ok(Told::NotEnabled);
-        };
-        let mark = match mark {
-            Some(Mark::Place(place)) if place >= object.parts.len() => return Ok(Told::NotEnabled),
-            Some(mark) => mark,
-            None => Mark::Place(object.parts.len()),
-        };
-        put(object, mark, value)?;
-        Ok(Told::Done)
-    }
-
-    fn read(
-        &mut self,
-        who: usize,
-        operand: Operand,
-        mark: Option<Mark>,
-    ) -> Result<Told, AllocError> {
-        let (Some(Value::At(name)), Some(mark)) = (self.named(who, operand), mark) else {
-            return Ok(Told::NotEnabled);
-        };
-        let Some(object) = self.objects.get(name) else {
-            return Ok(Told::NotEnabled);
-        };
-        let Some(value) = first_under(object, mark) else {
-            return Ok(Told::NotEnabled);
-        };
-        if let Some(actor) = self.actors.get_mut(who) {
-            actor.roots.push(value)?;
-        }
-        Ok(Told::Done)
-    }
-
     /// The names that the copies of the objects have that were found: the next ones, in their order.
     fn names_of_copies(&self, alloc: Global, found: &[bool]) -> Result<Vec<usize>, AllocError> {
         let mut names = Vec::new(alloc);
@@ -421,10 +335,18 @@ impl Model {
         match step.action {
             Action::Alloc(new) => self.alloc(alloc, who, new),
             Action::Freeze(operand) => Ok(self.freeze(who, operand)),
-            Action::Append(text, _) => Ok(match self.open(who, text, Kind::Text) {
-                Some(_) => Told::Done,
-                None => Told::NotEnabled,
-            }),
+            Action::Append(text, _) => Ok(self.rewrite(who, text)),
+            Action::Clear(text) => Ok(self.rewrite(who, text)),
+            Action::Take(array, place) => Ok(self.take(who, array, place as usize)),
+            Action::SetRaised(exception, part, value) => {
+                self.change(
+                    who,
+                    exception,
+                    Kind::Exception,
+                    Some(mark_of_part(part)),
+                    value,
+                )
+            }
             Action::Push(array, value) => self.change(who, array, Kind::Array, None, value),
             Action::Write(array, place, value) => {
                 self.change(

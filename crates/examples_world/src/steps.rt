@@ -3,7 +3,7 @@
 use crate::expect::{MAIN, OTHER, answers_in_turn};
 use crate::model::Told;
 use rr_base::{ClassId, Limits, RactorNo, Sym};
-use rr_world::{Action, Label, LastKind, NewObject, Operand, Reply, Step, World};
+use rr_world::{Action, Label, LastKind, NewObject, Operand, RaisedPart, Reply, Step, World};
 use std::test::Fail;
 
 const TWO_RACTORS: Limits = Limits {
@@ -260,6 +260,98 @@ fn fields_of_an_object_are_set(rt: HostRuntime) -> Result<(), Fail> {
             (
                 MAIN,
                 Action::Read(Operand::Root(0), Label::Field(Sym(8))),
+                Told::NotEnabled,
+            ),
+        ],
+    )
+}
+
+#[test]
+fn an_element_that_goes_lets_the_others_close_up(rt: HostRuntime) -> Result<(), Fail> {
+    answers_in_turn(
+        &rt,
+        rt.alloc(),
+        Limits::DEFAULT,
+        &[
+            (MAIN, Action::Alloc(NewObject::Array), Told::Done),
+            (MAIN, Action::Alloc(NewObject::Text), Told::Done),
+            (
+                MAIN,
+                Action::Push(Operand::Root(0), Operand::Nil),
+                Told::Done,
+            ),
+            (
+                MAIN,
+                Action::Push(Operand::Root(0), Operand::Root(1)),
+                Told::Done,
+            ),
+            (MAIN, Action::Take(Operand::Root(0), 2), Told::NotEnabled),
+            (MAIN, Action::Take(Operand::Root(0), 0), Told::Done),
+            (
+                MAIN,
+                Action::Read(Operand::Root(0), Label::Place(1)),
+                Told::NotEnabled,
+            ),
+            (
+                MAIN,
+                Action::Read(Operand::Root(0), Label::Place(0)),
+                Told::Done,
+            ),
+            (MAIN, Action::Append(Operand::Root(2), b'a'), Told::Done),
+            (MAIN, Action::Clear(Operand::Root(2)), Told::Done),
+            (MAIN, Action::Take(Operand::Root(0), 0), Told::Done),
+            (MAIN, Action::Take(Operand::Root(0), 0), Told::NotEnabled),
+        ],
+    )
+}
+
+#[test]
+fn the_parts_of_an_exception_are_set(rt: HostRuntime) -> Result<(), Fail> {
+    answers_in_turn(
+        &rt,
+        rt.alloc(),
+        Limits::DEFAULT,
+        &[
+            (
+                MAIN,
+                Action::Alloc(NewObject::Exception(ClassId::EXCEPTION)),
+                Told::Done,
+            ),
+            (MAIN, Action::Alloc(NewObject::Text), Told::Done),
+            (
+                MAIN,
+                Action::SetRaised(Operand::Root(0), RaisedPart::Message, Operand::Root(1)),
+                Told::Done,
+            ),
+            (
+                MAIN,
+                Action::SetRaised(Operand::Root(0), RaisedPart::Cause, Operand::Root(0)),
+                Told::Done,
+            ),
+            (
+                MAIN,
+                Action::SetRaised(Operand::Root(0), RaisedPart::Ractor, Operand::Ractor(MAIN)),
+                Told::Done,
+            ),
+            (
+                MAIN,
+                Action::Read(Operand::Root(0), Label::Message),
+                Told::Done,
+            ),
+            (MAIN, Action::Append(Operand::Root(2), b'a'), Told::Done),
+            (
+                MAIN,
+                Action::Read(Operand::Root(0), Label::Cause),
+                Told::Done,
+            ),
+            (
+                MAIN,
+                Action::Read(Operand::Root(3), Label::Ractor),
+                Told::Done,
+            ),
+            (
+                MAIN,
+                Action::Append(Operand::Root(4), b'a'),
                 Told::NotEnabled,
             ),
         ],

@@ -5,7 +5,7 @@ ghost use Rattle.std.specs.Prelude.{◌≤◌};
 use crate::model::{Holder, KINDS, Model, Value, what_it_tells};
 use rr_base::{ClassId, Limits, RactorNo, Sym};
 use rr_space::Label;
-use rr_world::{Action, LastKind, NewObject, Operand, Step, World};
+use rr_world::{Action, LastKind, NewObject, Operand, RaisedPart, Step, World};
 use std::alloc::{AllocError, Global};
 use std::process::Abort;
 use std::test::Fail;
@@ -57,31 +57,49 @@ impl Dice {
     }
 
     fn label(&mut self) -> Label {
-        match self.below(3) {
-            0 => Label::Field(Sym(self.below(3))),
+        match self.below(8) {
+            0 => Label::Message,
+            1 => Label::Cause,
+            2 => Label::Ractor,
+            3 | 4 => Label::Field(Sym(self.below(3))),
             _ => Label::Place(self.below(3) as usize),
         }
     }
 
     fn new_object(&mut self) -> NewObject {
-        match self.below(4) {
-            0 => NewObject::Text,
-            1 => NewObject::Object(ClassId::OBJECT),
+        match self.below(8) {
+            0 | 1 => NewObject::Text,
+            2 => NewObject::Object(ClassId::OBJECT),
+            3 => NewObject::Exception(ClassId::EXCEPTION),
+            4 => NewObject::Hash,
             _ => NewObject::Array,
         }
     }
 
     /// A step on objects.
     fn change(&mut self) -> Action {
-        match self.below(8) {
+        match self.below(10) {
             0 if self.below(3) == 0 => Action::Freeze(self.operand()),
             0 | 1 => Action::Append(self.operand(), b'a'),
+            8 => Action::Take(self.operand(), self.below(3)),
+            9 => self.other_change(),
             2 => Action::Write(self.operand(), self.below(3), self.operand()),
             3 => Action::SetField(self.operand(), Sym(self.below(3)), self.operand()),
             4 => Action::Read(self.operand(), self.label()),
             5 => Action::Alloc(self.new_object()),
             _ => Action::Push(self.operand(), self.operand()),
         }
+    }
+
+    /// A text is cleared, or a part of an exception set.
+    fn other_change(&mut self) -> Action {
+        let part = match self.below(4) {
+            0 => return Action::Clear(self.operand()),
+            1 => RaisedPart::Message,
+            2 => RaisedPart::Cause,
+            _ => RaisedPart::Ractor,
+        };
+        Action::SetRaised(self.operand(), part, self.operand())
     }
 
     /// A step on constants.
@@ -253,6 +271,42 @@ fn are_apart(model: &Model, alloc: Global) -> Result<bool, AllocError> {
     Ok(true)
 }
 
+/// What a walk is read out by at its end: the labels that it may have put something under.
+const LABELS: [Label; 9] = [
+    Label::Place(0),
+    Label::Place(1),
+    Label::Place(2),
+    Label::Field(Sym(0)),
+    Label::Field(Sym(1)),
+    Label::Field(Sym(2)),
+    Label::Message,
+    Label::Cause,
+    Label::Ractor,
+];
+
+/// Reads what stands under each label in the first roots of each ractor, and in what was read so, from both.
+fn read_out(
+    rt: &impl Abort,
+    alloc: Global,
+    world: &mut World,
+    model: &mut Model,
+) -> Result<(), Fail> {
+    for who in 1..9 {
+        for root in 0..40 {
+            for label in LABELS {
+                let step = Step {
+                    who: RactorNo(who),
+                    action: Action::Read(Operand::Root(root), label),
+                };
+                let reply = world.step(alloc, &step);
+                let wanted = model.step(alloc, &step)?;
+                assert_eq!(rt; (who, root, what_it_tells(&reply)), (who, root, wanted));
+            }
+        }
+    }
+    Ok(())
+}
+
 fn walk(
     rt: &impl Abort,
     alloc: Global,
@@ -278,7 +332,7 @@ fn walk(
             assert!(rt; are_apart(&model, alloc)?);
         }
     }
-    Ok(())
+    read_out(rt, alloc, &mut world, &mut model)
 }
 
 #[test]

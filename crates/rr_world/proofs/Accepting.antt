@@ -12,7 +12,7 @@ use Rattle.rr_copy.specs.Messages.{size_of}
 use Rattle.rr_inbox.specs.Inboxes.{Inbox, IsTicketed}
 use Rattle.rr_inbox.specs.declared.entry.Entry.{Entry}
 use Rattle.rr_world.specs.Views.{Member, Channels, Assembly, IsFree, with_inbox}
-use Rattle.rr_world.specs.Layouts.{cluster_slots, layout, space_slots, hand_slots, inbox_slots, port_slots, message_slots, mail_slots}
+use Rattle.rr_world.specs.Layouts.{cluster_slots, layout, space_slots, hand_slots, inbox_slots, port_slots, message_slots, mail_slots, AreFound}
 use Rattle.rr_world.specs.States.{Actor, Parcel, with_box}
 use Rattle.rr_world.specs.Readings.{each_from, actor_in, mailbox_in, parcel_in, letter_in, post_in, state_in}
 use Rattle.rr_world.specs.Enabling.{StandsAt}
@@ -28,6 +28,7 @@ use Rattle.rr_world.proofs.Enabled.{actor_at, mailbox_at, free}
 use Rattle.rr_world.proofs.Offering.{objects_stay}
 use Rattle.rr_world.proofs.Staying.{same_state, one_renamed}
 use Rattle.rr_world.proofs.Fitting.{waits_same}
+use Rattle.rr_world.proofs.Holding.{found_fewer}
 
 in_later : (e : Entry) (es : List Entry) (x : Entry) → Contains es x → Contains (e ∷ es) x
 in_later e es x (j, lt, is) = (suc j, omega arith, is)
@@ -87,7 +88,8 @@ module _ (w w2 : Assembly) (who : RactorNo) (k : ℕ) (m : Member) (i : Inbox) (
         names2,
         bound,
         q.1,
-        read_both w w2 k k m (record m { hand = Some e.message }) (less_first i who e es) at rs is refl (waits_same m (record m { hand = Some e.message }) refl refl)
+        read_both w w2 k k m (record m { hand = Some e.message }) (less_first i who e es) at rs is refl (waits_same m (record m { hand = Some e.message }) refl refl) (R.held.roots k m at)
+            (found_fewer e es (first_differs i e es tickets first) (in_later e es) (subst AreFound first (R.held.inboxes k i box)))
             (holding_knows (layout w) m e.message m.ticket (R.knows.ractors k m at) (R.knows.inboxes k i e box (subst (λ xs. Contains xs e) (sym first) (0, omega arith, refl))))
             (λ x has. R.knows.inboxes k i x box (subst (λ xs. Contains xs x) (sym first) (in_later e es x has)))
             R q.2,

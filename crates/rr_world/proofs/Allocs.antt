@@ -6,18 +6,18 @@ use Rattle.std.proofs.lemmas.List.{map-append}
 use Rattle.std.proofs.lemmas.List.Elements.{Contains-append_cases}
 use Rattle.std.proofs.lemmas.Option.{none-some, same_Some, slice_get_within}
 use Rattle.rr_base.specs.declared.name.RactorNo.{RactorNo}
-use Rattle.rr_space.specs.Graph.{Own, Published, Value, Plain, At, Label, Object}
+use Rattle.rr_space.specs.Graph.{Own, Published, Value, Plain, At, Label, Message, Cause, Ractor, Object, Immediate, Nil}
 use Rattle.rr_space.specs.Tables.{Slot, Here, Led, Below, joined}
 use Rattle.rr_space.specs.Parts.{below_ref}
 use Rattle.rr_space.specs.Readings.{Owner, Space, Hand, Mail, Shown, Shared, Owned, Objects, Naming, Layout, IsReading, IsSound, IsInLayout, Knows, named}
-use Rattle.rr_space.specs.Steps.{Remakes, IsRemade, IsNamed, IsChange}
+use Rattle.rr_space.specs.Steps.{Remakes, IsRemade, IsNamed, IsChange, IsNewValue}
 use Rattle.rr_space.specs.declared.refer.Ref.{Ref}
 use Rattle.rr_space.specs.declared.refer.Ref.TheVariants.{Local}
 use Rattle.rr_space.proofs.Frames.{owner_cases, object_same}
 use Rattle.rr_space.proofs.Hands.{append_cases, append_left, append_right}
 use Rattle.rr_space.proofs.Remaking.{remaking_is_a_step}
 use Rattle.rr_space.proofs.Sounds.{joined_back, joined_in, none_in, in_first, gets}
-use Rattle.rr_world.specs.Views.{Member, Channels, Assembly, seen_slots, seen_through}
+use Rattle.rr_world.specs.Views.{Member, Channels, Assembly, seen_slots, seen_through, AreRootsWithin}
 use Rattle.rr_world.specs.Layouts.{cluster_slots, layout, space_slots, hand_slots, inbox_slots, port_slots, message_slots, MemberKnows, IsRead}
 use Rattle.rr_world.specs.Readings.{each_from, actor_in, shells_in, planned_in, published_names, root_in, post_in, state_in, parcel_in}
 use Rattle.rr_world.specs.Enabling.{StandsAt}
@@ -38,19 +38,33 @@ use Rattle.rr_world.proofs.Knowing.{read_set}
 use Rattle.rr_world.proofs.Enabled.{actor_at}
 use Rattle.rr_world.proofs.Insides.{set_again, same_assembly}
 use Rattle.rr_world.proofs.Staying.{stays, same_state, space_renamed}
-use Rattle.rr_world.proofs.Rooting.{roots_keep}
+use Rattle.rr_world.proofs.Rooting.{roots_keep, roots_and_more}
 use Rattle.rr_world.proofs.Fitting.{waits_same}
 use Rattle.rr_world.proofs.Forwarding.{seen_length, seen_more}
 
-no_triples : (kind : NewObject) (l : Label) (x : Value) → Contains (new_object kind).triples (l, x) → ⊥
-no_triples Text l x has = none_in (l, x) has
-no_triples Array l x has = none_in (l, x) has
-no_triples (new.Object c) l x has = none_in (l, x) has
+-- what a new object has is an immediate
+plain_triples : (kind : NewObject) (l : Label) (x : Value) → Contains (new_object kind).triples (l, x) → (i : Immediate) × (x ≡ Plain i)
+plain_triples Text l x has = absurd (none_in (l, x) has)
+plain_triples Array l x has = absurd (none_in (l, x) has)
+plain_triples new.Hash l x has = absurd (none_in (l, x) has)
+plain_triples (new.Object c) l x has = absurd (none_in (l, x) has)
+plain_triples (new.Exception c) l x has = ⊎_elim
+    (λ one. (Nil, sym (ap (λ (t : Label × Value). t.1) one)))
+    (λ more. ⊎_elim
+    (λ one. (Nil, sym (ap (λ (t : Label × Value). t.1) one)))
+    (λ last. ⊎_elim
+    (λ one. (Nil, sym (ap (λ (t : Label × Value). t.1) one)))
+    (λ none. absurd (none_in (l, x) none))
+    (in_first (Ractor, Plain Nil) [] (l, x) last))
+    (in_first (Cause, Plain Nil) ((Ractor, Plain Nil) ∷ []) (l, x) more))
+    (in_first (Message, Plain Nil) ((Cause, Plain Nil) ∷ (Ractor, Plain Nil) ∷ []) (l, x) has)
 
 alone : (names : Naming) (h : Owner) (kind : NewObject) → named names h (new_object kind) ≡ new_object kind
 alone names h Text = refl
 alone names h Array = refl
+alone names h new.Hash = refl
 alone names h (new.Object c) = refl
+alone names h (new.Exception c) = refl
 
 module _ (w w2 : Assembly) (k : ℕ) (m m2 : Member) (kind : NewObject) (at : slice_get w.ractors k ≡ Some m) (A : IsAllocatedBy kind m m2)
     (rs : w2.ractors ≡ slice_set w.ractors k m2) (is : w2.channels ≡ w.channels) where
@@ -111,7 +125,8 @@ module _ (w w2 : Assembly) (k : ℕ) (m m2 : Member) (kind : NewObject) (at : sl
     sound = record {
       within = λ i o l x e has. ⊎_elim
           (λ old. wider S x (S.within i o l x old has))
-          (λ new. let z = (last new.0 (Here o) new.2).1 in let same : new_object kind ≡ o = cc in absurd (no_triples kind l x (subst (λ (y : Object). Contains y.triples (l, x)) (sym same) has)))
+          (λ new. let z = (last new.0 (Here o) new.2).1 in let same : new_object kind ≡ o = cc in let p = plain_triples kind l x (subst (λ (y : Object). Contains y.triples (l, x)) (sym same) has) in
+          subst (IsInLayout (layout w) ((seen_slots m) ++ Here (new_object kind) ∷ [])) (sym p.1) tt)
           (append_cases (seen_slots m) (Here (new_object kind) ∷ []) i (Here o) e);
       led = λ i c p e. ⊎_elim (λ old. S.led i c p old) (λ new. absurd (not_led new.0 c p new.2)) (append_cases (seen_slots m) (Here (new_object kind) ∷ []) i (Led c p) e);
     };
@@ -201,7 +216,8 @@ module _ (w w2 : Assembly) (k : ℕ) (m m2 : Member) (kind : NewObject) (at : sl
       fresh = λ n y none e. ap (λ (z : Owned). z.owner) (same_Some y _ (sym e ∙ ap g2 (only_new n y none e) ∙ is_here));
       values = λ n y l v e mine has. ⊎_elim
           (λ same. let y_is : record { owner = Space k; object = new_object kind } ≡ y = same_Some _ y (sym is_here ∙ ap g2 (sym same) ∙ e) in
-          absurd (no_triples kind l v (subst (λ (z : Owned). Contains z.object.triples (l, v)) (sym y_is) has)))
+          let p = plain_triples kind l v (subst (λ (z : Owned). Contains z.object.triples (l, v)) (sym y_is) has) in
+          inl (subst (IsNewValue g vs) (sym p.1) tt))
           (λ differ. inr (y, l, sym (others n differ) ∙ e, has))
           (eq_cases n name);
     }
@@ -249,6 +265,8 @@ module _ (w w2 : Assembly) (k : ℕ) (m m2 : Member) (kind : NewObject) (at : sl
       ∙ ap (λ i. map (root_in names2 (Space k)) m.roots ++ At (Own (slice_index (names2 (Space k)) i)) ∷ []) (sym many)
       ∙ ap (λ vs. vs ++ At (Own new) ∷ []) (roots_keep (length m.space.slots) names names2 (Space k) m.roots A.within stand_all kept) in
       let count : length m2.space.slots ≡ length m.space.slots + 1 = ap length A.slots ∙ length-append m.space.slots (Here (new_object kind) ∷ []) in
+      let within : AreRootsWithin (length m2.space.slots) m2.roots =
+      subst (λ (xs : List Ref). AreRootsWithin (length m2.space.slots) xs) (sym A.roots) (roots_and_more (length m.space.slots) (length m2.space.slots) m.roots (Local (length m.space.slots)) (omega (arith, count)) A.within (omega (arith, count))) in
       let actor : actor_in names2 k m2 ≡ record (actor_in names k m) { roots = (actor_in names k m).roots ++ At (Own new) ∷ []; slots = (actor_in names k m).slots + 1 } =
       same_actor roots (ap (option_map (parcel_in names2 (Hand k))) A.hand ∙ hand_same names names2 (Hand k) m.hand (hands k) kept)
       (ap (option_map (shells_in names2 k)) A.home ∙ home_stands names names2 k m.space.slots m.hand m.home A.away stand_all) A.ticket
@@ -257,7 +275,7 @@ module _ (w w2 : Assembly) (k : ℕ) (m m2 : Member) (kind : NewObject) (at : sl
         names2,
         bound + 1,
         q.1,
-        read_set w w2 k m m2 at rs is A.owner (waits_same m m2 A.home A.ticket) (allocated_knows (layout w) (R.knows.ractors k m at)) R q.2,
+        read_set w w2 k m m2 at rs is A.owner (waits_same m m2 A.home A.ticket) within (allocated_knows (layout w) (R.knows.ractors k m at)) R q.2,
         (
           k,
           actor_in names k m,
@@ -265,6 +283,7 @@ module _ (w w2 : Assembly) (k : ℕ) (m m2 : Member) (kind : NewObject) (at : sl
           actor_at w names g k m at,
           tt,
           record {
+            room = A.room;
             name = new;
             fresh = is_fresh names bound g R names2 q.1 q.2 N q.4;
             here = is_here names bound g R names2 q.1 q.2 N q.4;

@@ -1,20 +1,16 @@
 -- A run with one more step.
-use Rattle.std.proofs.Common.{ℕ, List, [], ◌∷◌, ◌++◌, sym, subst, refl}
-use Rattle.rr_space.specs.Readings.{Objects, Naming, IsApart}
-use Rattle.rr_space.proofs.Apart.{readings_are_apart}
+use Rattle.std.proofs.Common.{List, [], ◌∷◌, ◌++◌, sym, subst, refl}
 use Rattle.rr_world.specs.Views.{Assembly}
-use Rattle.rr_world.specs.Layouts.{layout, IsRead}
 use Rattle.rr_world.specs.States.{State}
 use Rattle.rr_world.specs.Readings.{state_in}
 use Rattle.rr_world.specs.Cases.{IsCase}
+use Rattle.rr_world.specs.Holding.{AreHoldersApart}
 use Rattle.rr_world.specs.Runs.{Chain, IsStep, IsRun}
 use Rattle.rr_world.specs.declared.step.Step.{Step}
 use Rattle.rr_world.specs.declared.step.Reply.{Reply}
+use Rattle.rr_world.proofs.Holders.{holders_apart}
 
-pub apart : (w : Assembly) (names : Naming) (bound : ℕ) (g : Objects) → IsRead w names bound g → IsApart g
-apart w names bound g R = readings_are_apart (layout w) names bound g R.tables R.clusters
-
-pub chain_on : (ss : List Step) (rs : List Reply) (x : Step) (r : Reply) (s mid t : State) → Chain ss rs s mid → IsCase x r mid t → IsApart t.objects
+pub chain_on : (ss : List Step) (rs : List Reply) (x : Step) (r : Reply) (s mid t : State) → Chain ss rs s mid → IsCase x r mid t → AreHoldersApart t
     → Chain (ss ++ x ∷ []) (rs ++ r ∷ []) s t
 chain_on [] [] x r s mid t c e a = (t, subst (λ (z : State). IsCase x r z t) (sym c) e, a, refl)
 chain_on [] (q ∷ rs) x r s mid t c e a = absurd c
@@ -28,4 +24,4 @@ pub run_on : (w u v : Assembly) (ss : List Step) (rs : List Reply) (x : Step) (r
 run_on w u v ss rs x r run step names bound g R =
     let a = run names bound g R in
     let b = step a.0 a.1 a.2 a.3 in
-    (b.0, b.1, b.2, b.3, chain_on ss rs x r (state_in w names g) (state_in u a.0 a.2) (state_in v b.0 b.2) a.4 b.4 (apart v b.0 b.1 b.2 b.3))
+    (b.0, b.1, b.2, b.3, chain_on ss rs x r (state_in w names g) (state_in u a.0 a.2) (state_in v b.0 b.2) a.4 b.4 (holders_apart v b.0 b.1 b.2 b.3))

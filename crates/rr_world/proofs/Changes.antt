@@ -3,10 +3,10 @@ use Rattle.std.proofs.Common.{◌≡◌, ℕ, zero, suc, arith, ◌++◌, ◌⊎
 use Rattle.std.specs.Prelude.{◌&&◌, not}
 use Rattle.std.proofs.lemmas.Option.{none-some, slice_get_within}
 use Rattle.rr_base.specs.declared.limits.Limits.{Limits}
-use Rattle.rr_space.specs.Graph.{Kind, text, array, hash, plain, exception, shell, Object, Label, Field}
+use Rattle.rr_space.specs.Graph.{Kind, text, array, hash, plain, exception, shell, Object, Label, Field, Value}
 use Rattle.rr_space.specs.Tables.{Table, Packed, Slot, Here, Led, Below, joined}
 use Rattle.rr_space.specs.Parts.{value_of, below_ref, IsWithin}
-use Rattle.rr_space.specs.Labels.{triples_at, triples_of, IsFirstUnder}
+use Rattle.rr_space.specs.Labels.{triples_at, triples_of, IsFirstUnder, raised_place}
 use Rattle.rr_space.specs.Kinds.{kind_at, kind_named, object_kind}
 use Rattle.rr_space.specs.Views.{emptied, can_freeze_at, can_write_at, slot_object, is_shell, is_whole, is_open, IsLedBy, IsKnownFrom, IsFirstAt, label_part}
 use Rattle.rr_space.specs.declared.kind.Kind.TheVariants as kinds
@@ -20,13 +20,14 @@ use Rattle.rr_move.specs.declared.hand.Hand.{Hand}
 use Rattle.rr_move.specs.declared.hand.Hand.TheVariants.{Empty, Planned, Published, Message, Moved, Shown}
 use Rattle.rr_world.specs.Views.{Member, AreAway, AreRootsWithin, IsHandFit, IsPublishedFit, plan_in, published_in, ticket_in}
 use Rattle.rr_world.specs.Enabling.{IsNoShell, IsOpen}
-use Rattle.rr_world.specs.ObjectCases.{with_field}
+use Rattle.rr_world.specs.ObjectCases.{with_field, with_part, part_label}
 use Rattle.rr_world.specs.Changing.{IsMadeOf, IsReadBy}
 use Rattle.rr_world.specs.Packing.{named_ref}
 use Rattle.rr_world.specs.declared.step.Operand.{Operand}
 use Rattle.rr_world.proofs.Fields.{field_cases}
 use Rattle.rr_world.proofs.Forwarding.{IsOut, plan_below, seen_out}
 use Rattle.rr_world.proofs.Lists.{eq_cases, set_off}
+use Rattle.rr_world.specs.declared.step.RaisedPart.{RaisedPart}
 
 abbrev pub member : Table → List Ref → Hand → Limits → Bool → Member
 member space roots hand limits runs = record { space = space; roots = roots; hand = message_in hand; home = home_in hand; ticket = ticket_in hand; plan = plan_in hand; published = published_in hand; limits = limits; runs = runs }
@@ -74,6 +75,14 @@ is_plain hash e = cc
 is_plain exception e = cc
 is_plain shell e = cc
 
+is_exception : (k : Kind) → kind_named k ≡ kinds.Exception → k ≡ exception
+is_exception exception e = refl
+is_exception text e = cc
+is_exception array e = cc
+is_exception hash e = cc
+is_exception plain e = cc
+is_exception shell e = cc
+
 not_frozen : (a b : Bool) → a && not b ≡ true → b ≡ false
 not_frozen true false e = refl
 not_frozen true true e = cc
@@ -105,6 +114,14 @@ open_array t v holds is = let s = open_slot t v holds in (s.0, s.1, s.2, s.3, (i
 
 pub open_plain : (t : Table) (v : Ref) → IsTrue (can_write_at t v) → kind_at t v ≡ kinds.Object → (n : ℕ) × (o : Object) × (v ≡ ref.Local n) × (slice_get t.slots n ≡ Some (Here o)) × IsOpen plain o
 open_plain t v holds is = let s = open_slot t v holds in (s.0, s.1, s.2, s.3, (is_plain s.1.kind (sym s.4 ∙ is), s.5))
+
+pub open_exception : (t : Table) (v : Ref) → IsTrue (can_write_at t v) → kind_at t v ≡ kinds.Exception → (n : ℕ) × (o : Object) × (v ≡ ref.Local n) × (slice_get t.slots n ≡ Some (Here o)) × IsOpen exception o
+open_exception t v holds is = let s = open_slot t v holds in (s.0, s.1, s.2, s.3, (is_exception s.1.kind (sym s.4 ∙ is), s.5))
+
+-- a part of an exception is set, by its label
+pub part_set : (slots : List Slot) (n : ℕ) (o : Object) (part : RaisedPart) (l : Label) (x : Value) → l ≡ part_label part
+    → slice_set slots n (Here (record o { triples = slice_set o.triples (raised_place l) (l, x) })) ≡ slice_set slots n (Here (with_part part x o))
+part_set slots n o part l x is = ap (λ z. slice_set slots n (Here (record o { triples = slice_set o.triples (raised_place z) (z, x) }))) is
 
 -- the triples of an object, with a field set
 pub field_set : (name : ℕ) (v : Ref) (n : ℕ) (o : Object) (a b : Table)

@@ -50,6 +50,7 @@ use Rattle.rr_world.proofs.Messages.{known_message}
 use Rattle.rr_world.proofs.Tables.{space_was, hand_was, space_now, hand_now, rest_now}
 use Rattle.rr_world.proofs.Fitting.{waits_no_more}
 use Rattle.rr_world.specs.Naming.{IsRenamed}
+use Rattle.rr_world.proofs.Holding.{same_rooted}
 
 -- names of slots, one after another
 named_slots : (names : Naming) (h : Owner) (ns : List ℕ) → map (λ n. name_in names h (Own n)) ns ≡ map Own (map (slice_index (names h)) ns)
@@ -225,7 +226,7 @@ module _ (w w2 : Assembly) (who : RactorNo) (k : ℕ) (m m2 : Member) (op : Oper
         names2,
         q.1,
         q.2,
-        read_set w w2 k m m2 at rs is A.moved.emptied.owner (waits_no_more m m2 (ap (λ (x : Member). x.ticket) A.now_is ∙ A.empty.ticket)) (moved_knows names bound g R knows) R q.3,
+        read_set w w2 k m m2 at rs is A.moved.emptied.owner (waits_no_more m m2 (ap (λ (x : Member). x.ticket) A.now_is ∙ A.empty.ticket)) (same_rooted m m2 A.moved.emptied.slots.size (ap (λ (x : Member). x.roots) A.now_is) (R.held.roots k m at)) (moved_knows names bound g R knows) R q.3,
         (
           k,
           actor_in names k m,

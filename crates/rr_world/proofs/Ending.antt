@@ -1,5 +1,5 @@
 -- A ractor ends.
-use Rattle.std.proofs.Common.{◌≡◌, ℕ, ◌+◌, ⊎_elim, inl, inr, Bool, true, false, cond, [], length, map, Some, None, slice_get, sym, ap, ◌∙◌, refl, arith, subst}
+use Rattle.std.proofs.Common.{◌≡◌, ℕ, ◌+◌, ⊎_elim, inl, inr, Bool, true, false, cond, [], length, map, Some, None, slice_get, sym, ap, ◌∙◌, refl, arith, subst, List}
 use Rattle.std.specs.Prelude.{slice_set}
 use Rattle.std.specs.Option.{option_map, option_and_then}
 use Rattle.std.proofs.lemmas.Option.{none-some, slice_get_within}
@@ -10,7 +10,7 @@ use Rattle.rr_space.specs.Steps.{Goneby, Remakes}
 use Rattle.rr_space.proofs.Drops.{dropping_is_a_step}
 use Rattle.rr_space.proofs.Frames.{owner_same, owner_refl}
 use Rattle.rr_space.proofs.Remaking.{remaking_is_a_step}
-use Rattle.rr_world.specs.Views.{Member, Channels, Assembly}
+use Rattle.rr_world.specs.Views.{Member, Channels, Assembly, AreRootsWithin}
 use Rattle.rr_world.specs.Layouts.{cluster_slots, layout, space_slots, hand_slots, inbox_slots, port_slots, message_slots}
 use Rattle.rr_world.specs.Readings.{each_from, actor_in, parcel_in, root_in, shells_in, planned_in, published_names, post_in}
 use Rattle.rr_world.specs.Enabling.{StandsAt}
@@ -27,6 +27,7 @@ use Rattle.rr_world.proofs.Namings.{actor_same, same_actor, post_same}
 use Rattle.rr_world.proofs.Starting.{bare_knows, remade_empty}
 use Rattle.rr_world.proofs.Fitting.{waits_homeless}
 use Rattle.rr_world.specs.Naming.{IsRenamed}
+use Rattle.rr_space.specs.declared.refer.Ref.{Ref}
 
 -- the same tables, without that of one owner
 abbrev without : Owner → Layout → Layout
@@ -126,7 +127,7 @@ module _ (w w2 : Assembly) (k : ℕ) (m m2 : Member) (at : slice_get w.ractors k
         names2,
         bound + 0,
         q.1,
-        read_set w w2 k m m2 at rs is (A.owner ∙ sym (R.owned k m at)) (waits_homeless m m2 A.home) (bare_knows (layout w) m2 A.below A.roots A.hand A.plan A.published) R q.2,
+        read_set w w2 k m m2 at rs is (A.owner ∙ sym (R.owned k m at)) (waits_homeless m m2 A.home) (subst (λ (xs : List Ref). AreRootsWithin (length m2.space.slots) xs) (sym A.roots) tt) (bare_knows (layout w) m2 A.below A.roots A.hand A.plan A.published) R q.2,
         (
           k,
           actor_in names k m,

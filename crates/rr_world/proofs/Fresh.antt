@@ -12,10 +12,11 @@ use Rattle.rr_store.specs.Stores.{Store, constant_of}
 use Rattle.rr_inbox.specs.declared.entry.Entry.{Entry}
 use Rattle.rr_space.proofs.Sounds.{none_in}
 use Rattle.rr_move.specs.declared.home.Home.{Home}
-use Rattle.rr_world.specs.Views.{Member, Assembly, seen_slots}
+use Rattle.rr_world.specs.Views.{Member, Assembly, seen_slots, AreRootsWithin}
 use Rattle.rr_world.specs.Layouts.{MemberKnows, layout, space_slots, hand_slots, cluster_slots, message_slots, inbox_slots, port_inside, port_slots}
 use Rattle.rr_world.specs.Runs.{IsNew, HasReading}
 use Rattle.rr_world.proofs.Forwarding.{seen_plain}
+use Rattle.rr_space.specs.declared.refer.Ref.{Ref}
 
 space_empty : (m : Member) (k : ℕ) (t : List Slot) → seen_slots m ≡ [] → option_map space_slots (slice_get (m ∷ []) k) ≡ Some t → t ≡ []
 space_empty m zero t none is = sym (same_Some (seen_slots m) t is) ∙ none
@@ -61,6 +62,10 @@ main_owned : (limits : Limits) (w : Assembly) (N : IsNew limits w) (k : ℕ) (m 
 main_owned limits w N zero m is = ap (λ (x : Member). x.space.owner) (sym (same_Some N.main m is)) ∙ N.owner
 main_owned limits w N (suc k) m is = absurd (none-some m is)
 
+main_rooted : (limits : Limits) (w : Assembly) (N : IsNew limits w) (k : ℕ) (m : Member) → slice_get (N.main ∷ []) k ≡ Some m → AreRootsWithin (length m.space.slots) m.roots
+main_rooted limits w N zero m is = subst (λ (xs : List Ref). AreRootsWithin (length m.space.slots) xs) (sym N.roots ∙ ap (λ (x : Member). x.roots) (same_Some N.main m is)) tt
+main_rooted limits w N (suc k) m is = absurd (none-some m is)
+
 no_mail : (limit c : ℕ) (i : Inbox) (e : Entry) → slice_get (new_inbox limit ∷ []) c ≡ Some i → Contains i.inside e → ⊥
 no_mail limit zero i e is has = none_in e (subst (λ (x : Inbox). Contains x.inside e) (sym (same_Some (new_inbox limit) i is)) has)
 no_mail limit (suc c) i e is has = none-some i is
@@ -88,6 +93,11 @@ new_is_read limits w N =
           ports = λ c p x at has. absurd (no_show limits.events c p x (ap (λ xs. slice_get xs c) (sym N.ports) ∙ at) has);
         };
         owned = λ k m at. main_owned limits w N k m (ap (λ xs. slice_get xs k) (sym N.ractors) ∙ at);
+        held = record {
+          roots = λ k m at. main_rooted limits w N k m (ap (λ xs. slice_get xs k) (sym N.ractors) ∙ at);
+          inboxes = λ c i at x has. absurd (no_mail limits.events c i x (ap (λ xs. slice_get xs c) (sym N.inboxes) ∙ at) has);
+          ports = λ c p at x has. absurd (no_show limits.events c p x (ap (λ xs. slice_get xs c) (sym N.ports) ∙ at) has);
+        };
         inboxes = ap length N.inboxes ∙ sym (ap length N.ractors);
         ports = ap length N.ports ∙ sym (ap length N.ractors);
         fits = λ k m p h e at port home ticket shown. absurd (only_homeless limits w N k m h (ap (λ xs. slice_get xs k) (sym N.ractors) ∙ at) home);

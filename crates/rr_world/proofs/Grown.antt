@@ -60,7 +60,7 @@ module _ (w w2 : Assembly) (x : Whole) (more : w2.channels.store.clusters ≡ w.
   place_grown d q (u, o, is, at) = (u, o, grown d u is, at)
 
   pub message_grown : (m : Packed) → IsMessageKnown (layout w) m → IsMessageKnown (layout w2) m
-  message_grown m K = record { below = knows_grown (message_below m) K.below; root = λ d q is. place_grown d q (K.root d q is) }
+  message_grown m K = record { below = knows_grown (message_below m) K.below; own = K.own; root = λ d q is. place_grown d q (K.root d q is) }
 
   pub member_grown : (m : Member) → MemberKnows (layout w) m → MemberKnows (layout w2) m
   member_grown m K = record {

@@ -1,5 +1,5 @@
 -- What the tables of a World know of clusters, step by step.
-use Rattle.std.proofs.Common.{◌≡◌, ℕ, ◌+◌, zero, suc, ◌⊎◌, ⊎_elim, inl, inr, List, [], ◌∷◌, length, length-set, Option, Some, None, slice_get, Contains, sym, ap, ◌∙◌, subst}
+use Rattle.std.proofs.Common.{◌≡◌, ℕ, ◌+◌, ◌⊎◌, ⊎_elim, inl, inr, List, [], ◌∷◌, length, length-set, Option, Some, None, slice_get, Contains, sym, ap, ◌∙◌, subst}
 use Rattle.std.specs.Prelude.{slice_set}
 use Rattle.std.proofs.lemmas.List.Elements.{Contains-append_cases, Contains-append_left, Contains-append_right}
 use Rattle.std.proofs.lemmas.Option.{none-some, same_Some, slice_get_within}
@@ -15,11 +15,12 @@ use Rattle.rr_inbox.specs.Inboxes.{Inbox}
 use Rattle.rr_move.specs.declared.home.Home.{Home}
 use Rattle.rr_store.specs.Stores.{constant_of}
 use Rattle.rr_inbox.specs.declared.entry.Entry.{Entry}
-use Rattle.rr_world.specs.Views.{Member, Channels, Assembly, with_inbox}
-use Rattle.rr_world.specs.Layouts.{cluster_slots, layout, message_below, IsMessageKnown, MemberKnows, IsKnowing, AreOwned, IsRead}
+use Rattle.rr_world.specs.Views.{Member, Channels, Assembly, AreRootsWithin, with_inbox}
+use Rattle.rr_world.specs.Layouts.{cluster_slots, layout, message_below, IsMessageKnown, MemberKnows, IsKnowing, AreFound, AreOwned, IsRead}
 use Rattle.rr_world.specs.Opening.{IsOpenedBy}
 use Rattle.rr_world.proofs.Fitting.{WaitsAsBefore, fits_set}
-use Rattle.rr_world.proofs.Lists.{eq_cases, set_at, set_off}
+use Rattle.rr_world.proofs.Lists.{eq_cases, set_at, set_cases, set_off}
+use Rattle.rr_world.proofs.Holding.{rooted_set, inboxes_same, inboxes_set, ports_same}
 
 -- the tables of the clusters stay, where the store keeps them
 pub clusters_same : (w w2 : Assembly) → w2.channels.store.clusters ≡ w.channels.store.clusters → (c : ℕ) → layout w2 (Shared c) ≡ layout w (Shared c)
@@ -33,6 +34,7 @@ knows_on w w2 same b K = record { known = λ c os has. let q = K.known c os has 
 pub message_on : (w w2 : Assembly) → w2.channels.store.clusters ≡ w.channels.store.clusters → (m : Packed) → IsMessageKnown (layout w) m → IsMessageKnown (layout w2) m
 message_on w w2 same m K = record {
   below = knows_on w w2 same (message_below m) K.below;
+  own = K.own;
   root = λ c p is. let q = K.root c p is in (q.0, q.1, clusters_same w w2 same c ∙ q.2, q.3);
 }
 
@@ -48,13 +50,6 @@ knows_fewer tables a b fewer K = record { known = λ c os has. K.known c os (few
 
 pub knows_either : (tables : Layout) (a b d : Below) → ((e : ℕ × List Object) → Contains d e → Contains a e ⊎ Contains b e) → Knows a tables → Knows b tables → Knows d tables
 knows_either tables a b d either K L = record { known = λ c os has. ⊎_elim (K.known c os) (L.known c os) (either (c, os) has) }
-
-pub set_cases : {A : Type 0} (xs : List A) (i j : ℕ) (x z : A) → slice_get (slice_set xs i x) j ≡ Some z → (x ≡ z) ⊎ (slice_get xs j ≡ Some z)
-set_cases [] i j x z e = absurd (none-some z e)
-set_cases (y ∷ ys) zero zero x z e = inl (same_Some x z e)
-set_cases (y ∷ ys) zero (suc j) x z e = inr e
-set_cases (y ∷ ys) (suc i) zero x z e = inr e
-set_cases (y ∷ ys) (suc i) (suc j) x z e = set_cases ys i j x z e
 
 pub member_on : (w w2 : Assembly) → w2.channels.store.clusters ≡ w.channels.store.clusters → (m : Member) → MemberKnows (layout w) m → MemberKnows (layout w2) m
 member_on w w2 same m K = record {
@@ -109,11 +104,16 @@ knows_told w w2 c i i2 box inside rs is K = record {
 
 -- a reading of the World with one ractor in another's place
 pub read_set : {names names2 : Naming} {bound bound2 : ℕ} {g g2 : Objects} (w w2 : Assembly) (k : ℕ) (m m2 : Member) → slice_get w.ractors k ≡ Some m → w2.ractors ≡ slice_set w.ractors k m2
-    → w2.channels ≡ w.channels → m2.space.owner ≡ m.space.owner → WaitsAsBefore m m2 → MemberKnows (layout w) m2 → IsRead w names bound g → IsReading (layout w2) names2 bound2 g2 → IsRead w2 names2 bound2 g2
-read_set w w2 k m m2 at rs is same waits M R tables = record {
+    → w2.channels ≡ w.channels → m2.space.owner ≡ m.space.owner → WaitsAsBefore m m2 → AreRootsWithin (length m2.space.slots) m2.roots → MemberKnows (layout w) m2 → IsRead w names bound g → IsReading (layout w2) names2 bound2 g2 → IsRead w2 names2 bound2 g2
+read_set w w2 k m m2 at rs is same waits within M R tables = record {
   tables = tables;
   knows = knows_set w w2 k m2 rs is M R.knows;
   owned = owned_set w w2 k m m2 at rs same R.owned;
+  held = record {
+    roots = rooted_set w.ractors w2.ractors k m2 rs within R.held.roots;
+    inboxes = inboxes_same w.channels w2.channels (ap (λ (x : Channels). x.inboxes) is) R.held.inboxes;
+    ports = ports_same w.channels w2.channels (ap (λ (x : Channels). x.ports) is) R.held.ports;
+  };
   inboxes = ap (λ (x : Channels). length x.inboxes) is ∙ R.inboxes ∙ sym (length-set w.ractors k m2) ∙ sym (ap length rs);
   ports = ap (λ (x : Channels). length x.ports) is ∙ R.ports ∙ sym (length-set w.ractors k m2) ∙ sym (ap length rs);
   fits = fits_set w w2 k m m2 at rs (ap (λ (x : Channels). x.ports) is) waits R.fits;
@@ -122,12 +122,17 @@ read_set w w2 k m m2 at rs is same waits M R tables = record {
 
 -- and with one inbox in another's place
 pub read_both : {names names2 : Naming} {bound bound2 : ℕ} {g g2 : Objects} (w w2 : Assembly) (k c : ℕ) (m m2 : Member) (i2 : Inbox) → slice_get w.ractors k ≡ Some m → w2.ractors ≡ slice_set w.ractors k m2
-    → w2.channels ≡ with_inbox w.channels c i2 → m2.space.owner ≡ m.space.owner → WaitsAsBefore m m2 → MemberKnows (layout w) m2 → ((e : Entry) → Contains i2.inside e → IsMessageKnown (layout w) e.message)
+    → w2.channels ≡ with_inbox w.channels c i2 → m2.space.owner ≡ m.space.owner → WaitsAsBefore m m2 → AreRootsWithin (length m2.space.slots) m2.roots → AreFound i2.inside → MemberKnows (layout w) m2 → ((e : Entry) → Contains i2.inside e → IsMessageKnown (layout w) e.message)
     → IsRead w names bound g → IsReading (layout w2) names2 bound2 g2 → IsRead w2 names2 bound2 g2
-read_both w w2 k c m m2 i2 at rs is same waits M I R tables = record {
+read_both w w2 k c m m2 i2 at rs is same waits within found M I R tables = record {
   tables = tables;
   knows = knows_both w w2 k c m2 i2 rs is M I R.knows;
   owned = owned_set w w2 k m m2 at rs same R.owned;
+  held = record {
+    roots = rooted_set w.ractors w2.ractors k m2 rs within R.held.roots;
+    inboxes = inboxes_set w.channels w2.channels c i2 (ap (λ (x : Channels). x.inboxes) is) found R.held.inboxes;
+    ports = ports_same w.channels w2.channels (ap (λ (x : Channels). x.ports) is) R.held.ports;
+  };
   inboxes = ap (λ (x : Channels). length x.inboxes) is ∙ length-set w.channels.inboxes c i2 ∙ R.inboxes ∙ sym (length-set w.ractors k m2) ∙ sym (ap length rs);
   ports = ap (λ (x : Channels). length x.ports) is ∙ R.ports ∙ sym (length-set w.ractors k m2) ∙ sym (ap length rs);
   fits = fits_set w w2 k m m2 at rs (ap (λ (x : Channels). x.ports) is) waits R.fits;

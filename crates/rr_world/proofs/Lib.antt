@@ -12,10 +12,12 @@ pub mod Offering
 pub mod Accepting
 pub mod Telling
 pub mod Insides
+pub mod Holders
 pub mod Chains
 pub mod Refusals
 pub mod Fresh
 pub mod Rooting
+pub mod Holding
 pub mod Knowing
 pub mod Published
 pub mod Messages
@@ -29,6 +31,7 @@ pub mod Allocs
 pub mod Changes
 pub mod Fields
 pub mod Rewrites
+pub mod Taking
 pub mod Making
 pub mod Turned
 pub mod Reading

@@ -1,5 +1,5 @@
 -- Lists with one element in the place of another, and lists whose elements know their places.
-use Rattle.std.proofs.Common.{◌≡◌, ℕ, zero, suc, ◌+◌, ◌<◌, ◌⊎◌, List, [], ◌∷◌, length, slice_get, Option, Some, sym, ap, ◌∙◌, refl, arith}
+use Rattle.std.proofs.Common.{◌≡◌, ℕ, zero, suc, ◌+◌, ◌<◌, ◌⊎◌, inl, inr, List, [], ◌∷◌, length, slice_get, Option, Some, sym, ap, ◌∙◌, refl, arith}
 use Rattle.std.specs.Prelude.{slice_set}
 use Rattle.std.proofs.lemmas.Option.{none-some, same_Some}
 use Rattle.rr_world.specs.Readings.{each_from}
@@ -18,6 +18,13 @@ set_off (y ∷ xs) zero zero x differ = absurd (differ refl)
 set_off (y ∷ xs) zero (suc j) x differ = refl
 set_off (y ∷ xs) (suc i) zero x differ = refl
 set_off (y ∷ xs) (suc i) (suc j) x differ = set_off xs i j x (λ e. differ (omega arith))
+
+pub set_cases : {A : Type 0} (xs : List A) (i j : ℕ) (x z : A) → slice_get (slice_set xs i x) j ≡ Some z → (x ≡ z) ⊎ (slice_get xs j ≡ Some z)
+set_cases [] i j x z e = absurd (none-some z e)
+set_cases (y ∷ ys) zero zero x z e = inl (same_Some x z e)
+set_cases (y ∷ ys) zero (suc j) x z e = inr e
+set_cases (y ∷ ys) (suc i) zero x z e = inr e
+set_cases (y ∷ ys) (suc i) (suc j) x z e = set_cases ys i j x z e
 
 pub set_twice : {A : Type 0} (xs : List A) (i : ℕ) (x y : A) → slice_set (slice_set xs i x) i y ≡ slice_set xs i y
 set_twice [] i x y = refl

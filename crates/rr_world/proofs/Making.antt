@@ -8,7 +8,7 @@ use Rattle.std.proofs.lemmas.Option.{none-some, same_Some}
 use Rattle.rr_base.specs.declared.name.RactorNo.{RactorNo}
 use Rattle.rr_base.specs.declared.fault.Fault.{Fault}
 use Rattle.rr_base.specs.declared.name.Sym.{Sym}
-use Rattle.rr_space.specs.Graph.{Kind, text, array, plain, shell, Own, Published, Value, Plain, At, Label, Place, Name, Object}
+use Rattle.rr_space.specs.Graph.{Kind, text, array, plain, shell, Own, Published, Value, Plain, At, Label, Place, Name, Object, exception}
 use Rattle.rr_space.specs.Tables.{Slot, Here, Led, renamed_triple}
 use Rattle.rr_space.specs.Parts.{value_of, below_ref}
 use Rattle.rr_space.specs.Readings.{Owner, Space, Shared, Owned, Objects, Naming, Layout, Knows, named, name_in, whole}
@@ -23,15 +23,15 @@ use Rattle.rr_world.specs.Views.{Member, Assembly, seen_slots}
 use Rattle.rr_world.specs.Layouts.{layout, space_slots, IsRead}
 use Rattle.rr_world.specs.Readings.{root_in, value_in, actor_in, state_in}
 use Rattle.rr_world.specs.Enabling.{StandsAt, IsOwn, MayChange, IsNoShell, IsOpen, HasElement, IsValue, IsPossible, named_value}
-use Rattle.rr_world.specs.ObjectCases.{IsMade, frozen, appended, pushed, written, with_field}
+use Rattle.rr_world.specs.ObjectCases.{IsMade, frozen, appended, pushed, written, with_field, cleared, without, with_part, part_label}
 use Rattle.rr_world.specs.Cases.{IsOutcome}
-use Rattle.rr_world.specs.Changing.{IsSlot, MayChangeSlot, IsMadeOf, IsNamedRef, HasRootsWithin, Freezes, Appends, Pushes, Writes, Sets}
+use Rattle.rr_world.specs.Changing.{IsSlot, MayChangeSlot, IsMadeOf, IsNamedRef, HasRootsWithin, Freezes, Appends, Pushes, Writes, Sets, Clears, Takes, SetsRaised}
 use Rattle.rr_world.specs.Packing.{named_ref}
 use Rattle.rr_world.specs.Runs.{HasOutcome}
 use Rattle.rr_world.specs.declared.step.Operand.{Operand}
 use Rattle.rr_world.specs.declared.step.Operand.TheVariants as operand
 use Rattle.rr_world.specs.declared.step.Action.{Action}
-use Rattle.rr_world.specs.declared.step.Action.TheVariants.{Freeze, Append, Push, Write, SetField}
+use Rattle.rr_world.specs.declared.step.Action.TheVariants.{Freeze, Append, Push, Write, SetField, Clear, Take, SetRaised}
 use Rattle.rr_world.specs.declared.step.Reply.TheVariants.{NotEnabled, Refused}
 use Rattle.rr_world.specs.Outcomes.{reply_of}
 use Rattle.rr_world.specs.declared.outcome.Outcome.{Outcome}
@@ -44,6 +44,9 @@ use Rattle.rr_world.proofs.Published.{at_place, in_place}
 use Rattle.rr_world.proofs.Operands.{value_named, known_named, ref_within}
 use Rattle.rr_world.proofs.Rewrites.{rewritten}
 use Rattle.rr_world.proofs.Staying.{stays_read, same_state, space_renamed}
+use Rattle.rr_space.specs.Labels.{raised_place}
+use Rattle.rr_world.specs.declared.step.RaisedPart.{RaisedPart}
+use Rattle.rr_world.proofs.Taking.{left_values, without_same}
 
 -- a root's value is an immediate or one that the roots reach
 root_reached : (g : Objects) (names : Naming) (h : Owner) (rs : List Ref) (v : Ref) → Contains rs v → IsNewValue g (map (root_in names h) rs) (root_in names h v)
@@ -200,6 +203,9 @@ array_differs e = cc
 pub plain_differs : plain ≡ shell → ⊥
 plain_differs e = cc
 
+pub exception_differs : exception ≡ shell → ⊥
+exception_differs e = cc
+
 pushed_values : (v : Value) (o : Object) (l : Label) (x : Value) → Contains (pushed v o).triples (l, x) → ((j : Label) × Contains o.triples (j, x)) ⊎ (x ≡ v)
 pushed_values v o l x has = ⊎_elim
     (λ old. inl (l, old))
@@ -230,6 +236,9 @@ field_same names h x v o = ap (λ ts. let y : Object = record o { triples = ts }
 
 written_same : (names : Naming) (h : Owner) (i : ℕ) (v : Ref) (o : Object) → named names h (written i (value_of v) o) ≡ written i (root_in names h v) (named names h o)
 written_same names h i v o = ap (λ ts. let x : Object = record o { triples = ts } in x) (map_set (renamed_triple (name_in names h)) o.triples i (Place i, value_of v))
+
+part_same : (names : Naming) (h : Owner) (part : RaisedPart) (v : Ref) (o : Object) → named names h (with_part part (value_of v) o) ≡ with_part part (root_in names h v) (named names h o)
+part_same names h part v o = ap (λ ts. let x : Object = record o { triples = ts } in x) (map_set (renamed_triple (name_in names h)) o.triples (raised_place (part_label part)) (part_label part, value_of v))
 
 has_on : (names : Naming) (h : Owner) (i : ℕ) (o : Object) → HasElement i o → HasElement i (named names h o)
 has_on names h i o (opened, lt) = (opened, omega (arith, lt, length-map o.triples (renamed_triple (name_in names h))))
@@ -375,3 +384,55 @@ set_by w w2 who k m m2 op name value (outcome.Refused f) at rs is stands a =
       (may_on w names bound g R k m at who op (IsOpen plain) stands (λ o whole. whole) a.1, (root_in names (Space k) a.2.0, value_on w names bound g R k m at value a.2.0 a.2.1)),
       (a.0, same_state (state_in w names g)),
     ))
+
+-- whatever clearing a text answers
+pub cleared_by : (w w2 : Assembly) (who : RactorNo) (k : ℕ) (m m2 : Member) (op : Operand) (r : Outcome) → slice_get w.ractors k ≡ Some m → w2.ractors ≡ slice_set w.ractors k m2 → w2.channels ≡ w.channels
+    → StandsAt who k → Clears op r m m2 → HasOutcome (record { who = who; action = Clear op }) (reply_of r) w w2
+cleared_by w w2 who k m m2 op outcome.Done at rs is stands a = λ names bound g R.
+    let q = making w w2 k m m2 at rs is op (IsOpen text) cleared cleared ref.Nil a names bound g R (no_below (layout w)) tt (λ o whole. whole)
+    (λ o opened shut. open_never text o (cleared o) text_differs opened shut) (λ o l x has. inl (l, has)) (λ o. refl) in
+    (q.0, q.1, q.2, q.3, (k, actor_in names k m, stands, actor_at w names g k m at, may_on w names bound g R k m at who op (IsOpen text) stands (λ o whole. whole) (a.0, a.1, a.2, a.3), q.4), space_renamed w k m (record { who = who; action = Clear op }) at q.5 stands q.6)
+cleared_by w w2 who k m m2 op outcome.NotEnabled at rs is stands a =
+    unmade w w2 who k m m2 (Clear op) at rs is a.2 (λ names bound g R e.
+    a.1 (may_back w names bound g R k m at who op (IsOpen text) stands a.0 (λ o whole. whole) (allowed w names g (record { who = who; action = Clear op }) k m stands at e)))
+cleared_by w w2 who k m m2 op (outcome.Refused f) at rs is stands a = absurd a
+
+-- whatever taking an element answers
+pub taken_by : (w w2 : Assembly) (who : RactorNo) (k : ℕ) (m m2 : Member) (op : Operand) (i : ℕ) (r : Outcome) → slice_get w.ractors k ≡ Some m → w2.ractors ≡ slice_set w.ractors k m2 → w2.channels ≡ w.channels
+    → StandsAt who k → Takes op i r m m2 → HasOutcome (record { who = who; action = Take op i }) (reply_of r) w w2
+taken_by w w2 who k m m2 op i outcome.Done at rs is stands a = λ names bound g R.
+    let q = making w w2 k m m2 at rs is op (HasElement i) (without i) (without i) ref.Nil a names bound g R (no_below (layout w)) tt (λ o has. has_on names (Space k) i o has)
+    (λ o has shut. open_never array o (without i o) array_differs has.0 shut) (λ o l x has. inl (left_values o i l x has)) (λ o. without_same names (Space k) i o) in
+    (q.0, q.1, q.2, q.3, (k, actor_in names k m, stands, actor_at w names g k m at, may_on w names bound g R k m at who op (HasElement i) stands (λ o has. has_on names (Space k) i o has) (a.0, a.1, a.2, a.3), q.4), space_renamed w k m (record { who = who; action = Take op i }) at q.5 stands q.6)
+taken_by w w2 who k m m2 op i outcome.NotEnabled at rs is stands a =
+    unmade w w2 who k m m2 (Take op i) at rs is a.2 (λ names bound g R e.
+    a.1 (may_back w names bound g R k m at who op (HasElement i) stands a.0 (λ o has. has_back names (Space k) i o has) (allowed w names g (record { who = who; action = Take op i }) k m stands at e)))
+taken_by w w2 who k m m2 op i (outcome.Refused f) at rs is stands a = absurd a
+
+-- whatever setting a part of an exception answers
+pub raised_by : (w w2 : Assembly) (who : RactorNo) (k : ℕ) (m m2 : Member) (op : Operand) (part : RaisedPart) (value : Operand) (r : Outcome) → slice_get w.ractors k ≡ Some m → w2.ractors ≡ slice_set w.ractors k m2 → w2.channels ≡ w.channels
+    → StandsAt who k → SetsRaised op part value r m m2 → HasOutcome (record { who = who; action = SetRaised op part value }) (reply_of r) w w2
+raised_by w w2 who k m m2 op part value outcome.Done at rs is stands (v, is_named, a) = λ names bound g R.
+    let q = making w w2 k m m2 at rs is op (IsOpen exception) (with_part part (value_of v)) (with_part part (root_in names (Space k) v)) v a names bound g R
+    (known_named (layout w) m.roots value v (R.knows.ractors k m at).roots is_named) (named_new g names (Space k) m.roots value v is_named) (λ o whole. whole)
+    (λ o opened shut. open_never exception o (with_part part (value_of v) o) exception_differs opened shut)
+    (λ o l x has. set_values o.triples (raised_place (part_label part)) (part_label part, value_of v) l x has) (λ o. part_same names (Space k) part v o) in (
+      q.0,
+      q.1,
+      q.2,
+      q.3,
+      (
+        k,
+        actor_in names k m,
+        stands,
+        actor_at w names g k m at,
+        (may_on w names bound g R k m at who op (IsOpen exception) stands (λ o whole. whole) (a.0, a.1, a.2, a.3), (root_in names (Space k) v, value_on w names bound g R k m at value v is_named)),
+        (root_in names (Space k) v, value_on w names bound g R k m at value v is_named, q.4),
+      ),
+      space_renamed w k m (record { who = who; action = SetRaised op part value }) at q.5 stands q.6,
+    )
+raised_by w w2 who k m m2 op part value outcome.NotEnabled at rs is stands a =
+    unmade w w2 who k m m2 (SetRaised op part value) at rs is a.2 (λ names bound g R e.
+    let z = allowed w names g (record { who = who; action = SetRaised op part value }) k m stands at e in
+    a.1 (may_back w names bound g R k m at who op (IsOpen exception) stands a.0 (λ o whole. whole) z.0) (value_back w names bound g R k m at value z.1))
+raised_by w w2 who k m m2 op part value (outcome.Refused f) at rs is stands a = absurd a

@@ -11,6 +11,7 @@ use Rattle.rr_world.proofs.Published.{place_known}
 pub known_message : (tables : Layout) (m : Packed) → IsMessageSound m → Knows (message_below m) tables → IsMessageKnown tables m
 known_message tables m S K = record {
   below = K;
+  own = λ i is. subst (IsStanding (length m.objects) m.root_below) is S.root;
   root = λ c p is.
       let s = subst (IsStanding (length m.objects) m.root_below) is S.root in
       place_known tables (message_below m) c p K (s.0, Contains-append_left m.root_below (joined m.below) (c, s.0) s.1, s.2);

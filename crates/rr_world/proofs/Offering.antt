@@ -2,20 +2,20 @@
 use Rattle.std.proofs.Common.{◌≡◌, Contains, ℕ, ◌+◌, ⊎_elim, inr, List, [], ◌∷◌, ◌++◌, map, Some, None, slice_get, sym, ap, ◌∙◌, subst, refl, arith, false}
 use Rattle.std.specs.Prelude.{slice_set}
 use Rattle.std.specs.Option.{option_map, option_and_then}
-use Rattle.std.proofs.lemmas.List.{map-append}
+use Rattle.std.proofs.lemmas.List.{map-append, length-map}
 use Rattle.std.proofs.lemmas.Option.{slice_get_within}
 use Rattle.rr_base.specs.declared.name.RactorNo.{RactorNo}
 use Rattle.rr_base.specs.declared.event.InboxEvent.TheVariants as event
 use Rattle.rr_space.specs.Graph.{Object, Label, Value}
 use Rattle.rr_space.specs.Tables.{Packed, Here, here_behind, renamed_triple, behind}
-use Rattle.rr_space.specs.Readings.{Owner, Space, Hand, Mail, Shown, Shared}
+use Rattle.rr_space.specs.Readings.{Owner, Space, Hand, Mail, Shown, Shared, Naming}
 use Rattle.rr_space.specs.Steps.{Goes}
 use Rattle.rr_space.proofs.Hands.{hands_on}
 use Rattle.rr_copy.specs.Messages.{size_of}
-use Rattle.rr_inbox.specs.Inboxes.{Inbox, IsTicketed}
+use Rattle.rr_inbox.specs.Inboxes.{Inbox, IsTicketed, HasEvents}
 use Rattle.rr_inbox.specs.declared.entry.Entry.{Entry}
 use Rattle.rr_world.specs.Views.{Member, Channels, Assembly, with_inbox}
-use Rattle.rr_world.specs.Layouts.{cluster_slots, layout, space_slots, hand_slots, inbox_slots, port_slots, message_slots, mail_slots, IsMessageKnown}
+use Rattle.rr_world.specs.Layouts.{cluster_slots, layout, space_slots, hand_slots, inbox_slots, port_slots, message_slots, mail_slots, IsMessageKnown, AreFound}
 use Rattle.rr_world.specs.States.{Mailbox, with_box}
 use Rattle.rr_world.specs.Readings.{each_from, actor_in, mailbox_in, parcel_in, letter_in, post_in}
 use Rattle.rr_world.specs.Enabling.{StandsAt}
@@ -31,6 +31,8 @@ use Rattle.rr_world.proofs.Knowing.{read_both, emptied_knows}
 use Rattle.rr_world.proofs.Enabled.{actor_at, mailbox_at, holds}
 use Rattle.rr_world.proofs.Fitting.{waits_homeless}
 use Rattle.rr_world.proofs.Staying.{one_renamed}
+use Rattle.rr_world.proofs.Holding.{found_more}
+use Rattle.rr_world.specs.MessageCases.{HasRoom}
 
 triples_stay : (ts : List (Label × Value)) → map (renamed_triple (behind 0)) ts ≡ ts
 triples_stay [] = refl
@@ -41,8 +43,13 @@ pub objects_stay : (os : List Object) → map Here os ≡ map (here_behind 0) os
 objects_stay [] = refl
 objects_stay (o ∷ os) = ap (λ ts. Here (record o { triples = ts }) ∷ map Here os) (sym (triples_stay o.triples)) ∙ ap (λ us. here_behind 0 o ∷ us) (objects_stay os)
 
+-- an inbox has room in its history, where the machine's has
+pub room_seen : (names : Naming) (c : ℕ) (i : Inbox) → HasEvents i → HasRoom (mailbox_in names c i)
+room_seen names c i h = omega (arith, length-map i.inside (letter_in names c), h)
+
 -- an inbox with a message more
 pub record IsLonger (who : RactorNo) (p : Packed) (i i2 : Inbox) : Type 0 where
+  pub room : HasEvents i
   pub unshut : i.closed ≡ false
   pub tickets : IsTicketed i
   pub inside : i2.inside ≡ i.inside ++ record { ticket = i.next; message = p } ∷ []
@@ -111,7 +118,8 @@ module _ (w w2 : Assembly) (who : RactorNo) (k c : ℕ) (m : Member) (i i2 : Inb
         names2,
         bound,
         q.1,
-        read_both w w2 k c m (record m { hand = None; home = None }) i2 at rs is refl (waits_homeless m (record m { hand = None; home = None }) refl) (emptied_knows (layout w) m None m.ticket (R.knows.ractors k m at))
+        read_both w w2 k c m (record m { hand = None; home = None }) i2 at rs is refl (waits_homeless m (record m { hand = None; home = None }) refl) (R.held.roots k m at)
+            (subst AreFound (sym L.inside) (found_more i.inside e fresh (R.held.inboxes c i box))) (emptied_knows (layout w) m None m.ticket (R.knows.ractors k m at))
             (λ x has. ⊎_elim
             (λ old. R.knows.inboxes c i x box old)
             (λ new. ⊎_elim
@@ -133,6 +141,7 @@ module _ (w w2 : Assembly) (who : RactorNo) (k c : ℕ) (m : Member) (i i2 : Inb
             (there, mailbox_at w names g c i box),
             holds names k m p held,
             record {
+              room = room_seen names c i L.room;
               unshut = L.unshut;
               ticket = refl;
               objects = q.4;

@@ -1,5 +1,5 @@
 -- The message in a hand is opened in the ractor's space.
-use Rattle.std.proofs.Common.{◌≡◌, ℕ, ◌+◌, [], ◌∷◌, ◌++◌, length, length-append, map, Some, None, slice_get, ap, ◌∙◌, refl, arith, inl, List}
+use Rattle.std.proofs.Common.{◌≡◌, ℕ, ◌+◌, [], ◌∷◌, ◌++◌, length, length-append, map, Some, None, slice_get, ap, ◌∙◌, refl, arith, inl, List, sym, subst}
 use Rattle.std.specs.Prelude.{slice_set}
 use Rattle.std.specs.Option.{option_map, option_and_then}
 use Rattle.std.proofs.lemmas.List.{map-append, length-map}
@@ -10,7 +10,7 @@ use Rattle.rr_space.specs.Readings.{Owner, Space, Hand, Mail, Shown, Shared}
 use Rattle.rr_space.specs.Steps.{Goes}
 use Rattle.rr_space.specs.declared.refer.Ref.{Ref}
 use Rattle.rr_space.proofs.Hands.{hands_on}
-use Rattle.rr_world.specs.Views.{Member, Channels, Assembly}
+use Rattle.rr_world.specs.Views.{Member, Channels, Assembly, AreRootsWithin}
 use Rattle.rr_world.specs.Layouts.{cluster_slots, layout, space_slots, hand_slots, inbox_slots, port_slots, message_slots}
 use Rattle.rr_world.specs.Readings.{each_from, actor_in, shells_in, parcel_in, value_in, root_in, post_in, state_in}
 use Rattle.rr_world.specs.Enabling.{StandsAt}
@@ -29,6 +29,7 @@ use Rattle.rr_world.proofs.Enabled.{actor_at, holds, allowed, holds_not}
 use Rattle.rr_world.proofs.Insides.{set_again, same_assembly}
 use Rattle.rr_world.proofs.Staying.{refused, stays, same_state, space_renamed}
 use Rattle.rr_world.proofs.Fitting.{waits_homeless}
+use Rattle.rr_world.proofs.Rooting.{roots_and_more}
 
 module _ (w w2 : Assembly) (k : ℕ) (m m2 : Member) (p : Packed) (root : Ref) (at : slice_get w.ractors k ≡ Some m) (O : IsOpenedBy p root m m2)
     (rs : w2.ractors ≡ slice_set w.ractors k m2) (is : w2.channels ≡ w.channels) where
@@ -68,12 +69,14 @@ module _ (w w2 : Assembly) (k : ℕ) (m m2 : Member) (p : Packed) (root : Ref) (
       let count : length m2.space.slots ≡ length m.space.slots + length p.objects =
       ap length O.opened.slots ∙ length-append m.space.slots (map (here_behind (length m.space.slots)) p.objects)
       ∙ ap (λ n. length m.space.slots + n) (length-map p.objects (here_behind (length m.space.slots))) in
+      let within : AreRootsWithin (length m2.space.slots) m2.roots =
+      subst (λ (xs : List Ref). AreRootsWithin (length m2.space.slots) xs) (sym O.roots) (roots_and_more (length m.space.slots) (length m2.space.slots) m.roots root (omega (arith, count)) O.within O.rooted) in
       let actor : actor_in names2 k m2 ≡ record (actor_in names k m) { roots = (actor_in names k m).roots ++ (parcel_in names (Hand k) p).root ∷ []; hand = None; home = None; slots = (actor_in names k m).slots + (parcel_in names (Hand k) p).size } =
       same_actor roots (ap (option_map (parcel_in names2 (Hand k))) O.hand) (ap (option_map (shells_in names2 k)) O.home) O.ticket (no_plan_same names names2 k m2.plan m.plan O.plan O.no_plan) (no_published_same names names2 k m2.published m.published O.published O.no_published) count O.opened.rest.limit O.opened.rest.next_message O.limits O.runs in (
         names2,
         bound,
         q.1,
-        read_set w w2 k m m2 at rs is O.opened.rest.owner (waits_homeless m m2 O.home) (opened_knows (layout w) p root m m2 O (R.knows.ractors k m at)) R q.2,
+        read_set w w2 k m m2 at rs is O.opened.rest.owner (waits_homeless m m2 O.home) within (opened_knows (layout w) p root m m2 O (R.knows.ractors k m at)) R q.2,
         (
           k,
           actor_in names k m,
@@ -84,6 +87,7 @@ module _ (w w2 : Assembly) (k : ℕ) (m m2 : Member) (p : Packed) (root : Ref) (
             parcel_in names (Hand k) p,
             holds names k m p O.held,
             record {
+              room = let n = O.room in omega (arith, count, n, O.opened.rest.limit);
               objects = q.4;
               ractors = ap (each_from (actor_in names2) 0) rs
                   ∙ each_set (actor_in names) (actor_in names2) 0 w.ractors k k m2 (omega arith)

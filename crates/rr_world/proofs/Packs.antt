@@ -221,7 +221,7 @@ module _ (w w2 : Assembly) (who : RactorNo) (k : ℕ) (m : Member) (op : Operand
         names2,
         bound + length p.objects,
         q.1,
-        read_set w w2 k m (record m { hand = Some p }) at rs is refl (waits_same m (record m { hand = Some p }) refl refl) (holding_knows (layout w) m p m.ticket (R.knows.ractors k m at) (message_known w w2 names bound g R k m v p at P empty knows rs is)) R q.2,
+        read_set w w2 k m (record m { hand = Some p }) at rs is refl (waits_same m (record m { hand = Some p }) refl refl) (R.held.roots k m at) (holding_knows (layout w) m p m.ticket (R.knows.ractors k m at) (message_known w w2 names bound g R k m v p at P empty knows rs is)) R q.2,
         (
           k,
           actor_in names k m,

@@ -32,6 +32,7 @@ use Rattle.rr_world.proofs.Lists.{each_set, seen_same}
 use Rattle.rr_world.proofs.Namings.{same_actor}
 use Rattle.rr_world.proofs.Sharing.{same_elements}
 use Rattle.rr_world.proofs.Staying.{same_state, stays}
+use Rattle.rr_world.proofs.Holding.{same_rooted}
 
 module _ (w w2 : Assembly) (k : ℕ) (m m2 : Member) (p : PublishedPlan) (at : slice_get w.ractors k ≡ Some m) (A : IsPromotedIn p m m2) (rs : w2.ractors ≡ slice_set w.ractors k m2) (is : w2.channels ≡ w.channels) where
   slots_are : m2.space.slots ≡ seen_through (Some p) m.space.slots
@@ -74,7 +75,7 @@ module _ (w w2 : Assembly) (k : ℕ) (m m2 : Member) (p : PublishedPlan) (at : s
     names,
     bound,
     g,
-    read_set w w2 k m m2 at rs is A.promoted.rest.owner (waits_same m m2 (ap (λ (x : Member). x.home) A.now_is) (ap (λ (x : Member). x.ticket) A.now_is)) (promoted_knows (layout w) (R.knows.ractors k m at)) R (reading_same (layout w) (layout w2) names bound g tables R.tables),
+    read_set w w2 k m m2 at rs is A.promoted.rest.owner (waits_same m m2 (ap (λ (x : Member). x.home) A.now_is) (ap (λ (x : Member). x.ticket) A.now_is)) (same_rooted m m2 A.promoted.slots.size (ap (λ (x : Member). x.roots) A.now_is) (R.held.roots k m at)) (promoted_knows (layout w) (R.knows.ractors k m at)) R (reading_same (layout w) (layout w2) names bound g tables R.tables),
     (
       k,
       actor_in names k m,

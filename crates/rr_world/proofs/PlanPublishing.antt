@@ -38,12 +38,13 @@ use Rattle.rr_world.proofs.Enabled.{actor_at}
 use Rattle.rr_world.proofs.Fitting.{fits_set, waits_same}
 use Rattle.rr_world.proofs.Forwarding.{seen_forwards, seen_length, seen_plain}
 use Rattle.rr_world.proofs.Grown.{actor_kept, cluster_now, constants_kept, inboxes_kept, knows_grown, member_grown, message_grown, others_same, place_grown, ports_kept, vacant}
-use Rattle.rr_world.proofs.Knowing.{owned_set, set_cases}
-use Rattle.rr_world.proofs.Lists.{each_set, eq_cases, seen_same, set_at, set_off}
+use Rattle.rr_world.proofs.Knowing.{owned_set}
+use Rattle.rr_world.proofs.Lists.{each_set, eq_cases, seen_same, set_at, set_off, set_cases}
 use Rattle.rr_world.proofs.Namings.{same_post}
 use Rattle.rr_world.proofs.Published.{at_place, place_known}
 use Rattle.rr_world.proofs.Seeing.{space_table}
 use Rattle.rr_world.proofs.Staying.{one_renamed, same_state, stays}
+use Rattle.rr_world.proofs.Holding.{rooted_set, inboxes_same, ports_same}
 
 -- the store has the cluster behind the others, and the history tells of it
 pub record IsPublishedInto (who : RactorNo) (x : Whole) (s t : Store) : Type 0 where
@@ -255,6 +256,11 @@ module _ (w w2 : Assembly) (who : RactorNo) (k : ℕ) (m m1 : Member) (p : Plan)
           tables = q.2;
           knows = knowing R.knows;
           owned = owned_set w w2 k m m2 at rs refl R.owned;
+          held = record {
+            roots = rooted_set w.ractors w2.ractors k m2 rs (R.held.roots k m at) R.held.roots;
+            inboxes = inboxes_same w.channels w2.channels boxes R.held.inboxes;
+            ports = ports_same w.channels w2.channels ports R.held.ports;
+          };
           inboxes = ap length boxes ∙ R.inboxes ∙ sym (length-set w.ractors k m2) ∙ sym (ap length rs);
           ports = ap length ports ∙ R.ports ∙ sym (length-set w.ractors k m2) ∙ sym (ap length rs);
           fits = fits_set w w2 k m m2 at rs ports (waits_same m m2 refl refl) R.fits;

@@ -1,5 +1,5 @@
 -- A plan comes into a hand.
-use Rattle.std.proofs.Common.{◌≡◌, ℕ, ⊎_elim, inl, inr, List, [], ◌∷◌, map, Some, slice_get, Contains, sym, ap, ◌∙◌, subst, refl, arith}
+use Rattle.std.proofs.Common.{◌≡◌, ℕ, ⊎_elim, inl, inr, List, [], ◌∷◌, map, Some, slice_get, Contains, sym, ap, ◌∙◌, subst, refl, arith, length}
 use Rattle.std.specs.Prelude.{◌↔◌, slice_index, slice_set}
 use Rattle.std.specs.Option.{option_map, option_and_then}
 use Rattle.std.proofs.lemmas.Option.{none-some, same_Some}
@@ -8,7 +8,7 @@ use Rattle.rr_space.specs.Parts.{below_ref}
 use Rattle.rr_space.specs.Readings.{Owner, Space, Hand, Mail, Shown, Shared, Objects, Naming, Knows}
 use Rattle.rr_space.specs.declared.refer.Ref.{Ref}
 use Rattle.rr_space.proofs.Frames.{reading_same}
-use Rattle.rr_space.proofs.Renaming.{contains_map, contains_map_back}
+use Rattle.rr_space.proofs.Renaming.{contains_map, contains_map_back, mapped_at}
 use Rattle.rr_share.specs.declared.planned.Plan.{Plan}
 use Rattle.rr_world.specs.Views.{Member, Channels, Assembly, IsFree, seen_slots}
 use Rattle.rr_world.specs.Layouts.{layout, space_slots, hand_slots, inbox_slots, port_slots, cluster_slots, MemberKnows, IsRead}
@@ -31,8 +31,12 @@ use Rattle.rr_world.proofs.Enabled.{actor_at, free, free_back, allowed}
 use Rattle.rr_world.proofs.Insides.{set_again, same_assembly}
 use Rattle.rr_world.proofs.Staying.{stays, stays_read, same_state}
 use Rattle.rr_world.proofs.Operands.{value_named, known_named}
-use Rattle.rr_world.proofs.Seeing.{free_of, shell_of, planned_here, planned_back}
+use Rattle.rr_world.proofs.Seeing.{free_of, shell_of, planned_here, planned_back, space_table}
 use Rattle.rr_world.proofs.Fitting.{waits_same}
+use Rattle.rr_world.proofs.Holding.{same_rooted}
+use Rattle.rr_space.specs.Graph.{IsAt}
+use Rattle.rr_space.specs.Tables.{Slot}
+use Rattle.rr_world.proofs.Forwarding.{seen_plain}
 
 -- what is kept of a plan has the names of its places
 kept_seen : (names : Naming) (k : ℕ) (p : Plan) (xs : List ℕ) → p.places ≡ xs → option_map (planned_in names k) (kept_plan xs p) ≡ kept_names (map (slice_index (names (Space k))) xs)
@@ -56,7 +60,7 @@ module _ (w w2 : Assembly) (k : ℕ) (m m2 : Member) (v : Ref) (p : Plan) (at : 
   planned_read : (names : Naming) (bound : ℕ) (g : Objects) → IsRead w names bound g → IsRead w2 names bound g
   planned_read names bound g R =
       let K = R.knows.ractors k m at in
-      read_set w w2 k m m2 at rs is (ap (λ (x : Member). x.space.owner) bare) (waits_same m m2 (ap (λ (x : Member). x.home) bare) (ap (λ (x : Member). x.ticket) bare))
+      read_set w w2 k m m2 at rs is (ap (λ (x : Member). x.space.owner) bare) (waits_same m m2 (ap (λ (x : Member). x.home) bare) (ap (λ (x : Member). x.ticket) bare)) (same_rooted m m2 (ap (λ (x : Member). length x.space.slots) bare) (ap (λ (x : Member). x.roots) bare) (R.held.roots k m at))
       (subst (MemberKnows (layout w)) (sym bare) (record {
         space = K.space;
         roots = K.roots;
@@ -80,6 +84,17 @@ module _ (w w2 : Assembly) (k : ℕ) (m m2 : Member) (v : Ref) (p : Plan) (at : 
           let z = planned_back w names bound g R k m v at empty.published P.well P.within knows n T in
           subst (Contains (planned_in names k p)) z.1 (contains_map (slice_index (names (Space k))) p.places z.0 ((P.exact z.0).1 (z.2, z.3)))
 
+  -- no two places of the plan have one name
+  distinct : (names : Naming) (bound : ℕ) (g : Objects) → IsRead w names bound g → (n i j : ℕ) → IsAt (planned_in names k p) n i → IsAt (planned_in names k p) n j → i ≡ j
+  distinct names bound g R n i j first second =
+      let a = mapped_at (slice_index (names (Space k))) p.places i n first in
+      let b = mapped_at (slice_index (names (Space k))) p.places j n second in
+      let x = P.planned.same a.0 i a.1 in
+      let y = P.planned.same b.0 j b.1 in
+      let table = space_table w k m at ∙ ap (λ (ss : List Slot). Some ss) (seen_plain m empty.published) in
+      let one : a.0 ≡ b.0 = (R.tables.reads (Space k) m.space.slots table).one a.0 b.0 x.0 y.0 x.2 y.2 (a.2 ∙ sym b.2) in
+      P.planned.distinct a.0 i j a.1 (subst (λ z. IsAt p.places z j) (sym one) b.1)
+
   pub planned : (who : RactorNo) (op : Operand) → StandsAt who k → named_ref m.roots op ≡ Some v → HasOutcome (record { who = who; action = action.Plan op }) Done w w2
   planned who op stands named names bound g R =
       let knows = known_named (layout w) m.roots op v (R.knows.ractors k m at).roots named in
@@ -101,6 +116,7 @@ module _ (w w2 : Assembly) (k : ℕ) (m m2 : Member) (v : Ref) (p : Plan) (at : 
             record {
               free = free_of w names bound g R k m v at empty.published P.well P.within knows P.free;
               exact = exact names bound g R knows;
+              distinct = distinct names bound g R;
               objects = λ n. refl;
               ractors = ap (each_from (actor_in names) 0) rs ∙ each_set (actor_in names) (actor_in names) 0 w.ractors k k m2 (omega arith) (λ j n x d e f. refl)
                   ∙ ap (λ (x : Member). slice_set (each_from (actor_in names) 0 w.ractors) k (actor_in names k x)) bare

@@ -10,15 +10,16 @@ use Rattle.rr_inbox.specs.declared.entry.Entry.{Entry}
 use Rattle.rr_port.specs.Ports.{Port}
 use Rattle.rr_store.specs.Stores.{constant_of}
 use Rattle.rr_move.specs.declared.home.Home.{Home}
-use Rattle.rr_world.specs.Views.{Member, Channels, Assembly, with_port}
-use Rattle.rr_world.specs.Layouts.{cluster_slots, layout, space_slots, hand_slots, inbox_slots, port_slots, port_inside, message_slots, MemberKnows, IsKnowing, DoHomesFit, IsRead, IsMessageKnown}
+use Rattle.rr_world.specs.Views.{Member, Channels, Assembly, with_port, AreRootsWithin}
+use Rattle.rr_world.specs.Layouts.{cluster_slots, layout, space_slots, hand_slots, inbox_slots, port_slots, port_inside, message_slots, MemberKnows, IsKnowing, DoHomesFit, IsRead, IsMessageKnown, AreFound}
 use Rattle.rr_world.specs.States.{Actor, Parcel, with_case}
 use Rattle.rr_world.specs.Readings.{each_from, actor_in, parcel_in, shells_in, showcase_in, post_in, state_in}
-use Rattle.rr_world.proofs.Knowing.{order_on, knows_on, member_on, set_cases, owned_set, emptied_knows, holding_knows, message_on}
-use Rattle.rr_world.proofs.Lists.{eq_cases, set_at, set_off, seen_same, each_set}
+use Rattle.rr_world.proofs.Knowing.{order_on, knows_on, member_on, owned_set, emptied_knows, holding_knows, message_on}
+use Rattle.rr_world.proofs.Lists.{eq_cases, set_at, set_off, seen_same, each_set, set_cases}
 use Rattle.rr_world.proofs.Namings.{KeepsShared, actor_same, handed, post_shown, names_moved, parcel_moved, shared_kept, showcase_same}
 use Rattle.rr_world.proofs.Offering.{objects_stay}
 use Rattle.rr_world.proofs.PortInsides.{IsComing, IsLeaving}
+use Rattle.rr_world.proofs.Holding.{rooted_set, inboxes_same, ports_set, coming_found, leaving_found}
 
 knows_ported : (w w2 : Assembly) (k c : ℕ) (m2 : Member) (p2 : Port) → w2.ractors ≡ slice_set w.ractors k m2 → w2.channels ≡ with_port w.channels c p2 → MemberKnows (layout w) m2
     → ((e : Entry) → Contains (port_inside p2) e → IsMessageKnown (layout w) e.message) → IsKnowing w → IsKnowing w2
@@ -34,12 +35,17 @@ knows_ported w w2 k c m2 p2 rs is M I K = record {
 
 -- a reading of the World with one ractor and one port in others' places
 read_ported : {names names2 : Naming} {bound bound2 : ℕ} {g g2 : Objects} (w w2 : Assembly) (k c : ℕ) (m m2 : Member) (p2 : Port) → slice_get w.ractors k ≡ Some m → w2.ractors ≡ slice_set w.ractors k m2
-    → w2.channels ≡ with_port w.channels c p2 → m2.space.owner ≡ m.space.owner → MemberKnows (layout w) m2 → ((e : Entry) → Contains (port_inside p2) e → IsMessageKnown (layout w) e.message)
+    → w2.channels ≡ with_port w.channels c p2 → m2.space.owner ≡ m.space.owner → AreRootsWithin (length m2.space.slots) m2.roots → AreFound (port_inside p2) → MemberKnows (layout w) m2 → ((e : Entry) → Contains (port_inside p2) e → IsMessageKnown (layout w) e.message)
     → (DoHomesFit w → DoHomesFit w2) → IsRead w names bound g → IsReading (layout w2) names2 bound2 g2 → IsRead w2 names2 bound2 g2
-read_ported w w2 k c m m2 p2 at rs is same M I fits R tables = record {
+read_ported w w2 k c m m2 p2 at rs is same within found M I fits R tables = record {
   tables = tables;
   knows = knows_ported w w2 k c m2 p2 rs is M I R.knows;
   owned = owned_set w w2 k m m2 at rs same R.owned;
+  held = record {
+    roots = rooted_set w.ractors w2.ractors k m2 rs within R.held.roots;
+    inboxes = inboxes_same w.channels w2.channels (ap (λ (x : Channels). x.inboxes) is) R.held.inboxes;
+    ports = ports_set w.channels w2.channels c p2 (ap (λ (x : Channels). x.ports) is) found R.held.ports;
+  };
   inboxes = ap (λ (x : Channels). length x.inboxes) is ∙ R.inboxes ∙ sym (length-set w.ractors k m2) ∙ sym (ap length rs);
   ports = ap (λ (x : Channels). length x.ports) is ∙ length-set w.channels.ports c p2 ∙ R.ports ∙ sym (length-set w.ractors k m2) ∙ sym (ap length rs);
   fits = fits R.fits;
@@ -102,7 +108,7 @@ module _ (w w2 : Assembly) (k c : ℕ) (m : Member) (home : Option Home) (ticket
       let mails : (n u : ℕ) → names2 (Mail n u) ≡ names (Mail n u) = λ n u. N.rest (Mail n u) (λ z. let y : ⊥ = cc in y) in (
         names2,
         q.1,
-        read_ported w w2 k c m (record m { hand = None; home = home; ticket = ticket }) p2 at rs is refl (emptied_knows (layout w) m home ticket (R.knows.ractors k m at))
+        read_ported w w2 k c m (record m { hand = None; home = home; ticket = ticket }) p2 at rs is refl (R.held.roots k m at) (coming_found p p2 e C (R.held.ports c p port)) (emptied_knows (layout w) m home ticket (R.knows.ractors k m at))
             (λ x has. ⊎_elim
             (λ old. R.knows.ports c p x port old)
             (λ (same : e ≡ x). subst (λ (y : Entry). IsMessageKnown (layout w) y.message) same ((R.knows.ractors k m at).hand e.message held))
@@ -177,7 +183,7 @@ module _ (w w2 : Assembly) (k c : ℕ) (m : Member) (ticket : Option ℕ) (p p2 
       handed names names2 k m e.message ticket (spaces k) kept ∙ ap (λ (x : Parcel). let a : Actor = record (actor_in names k m) { hand = Some x; ticket = ticket } in a) moved in (
         names2,
         q.1,
-        read_ported w w2 k c m (record m { hand = Some e.message; ticket = ticket }) p2 at rs is refl
+        read_ported w w2 k c m (record m { hand = Some e.message; ticket = ticket }) p2 at rs is refl (R.held.roots k m at) (leaving_found p p2 e L (R.held.ports c p port))
             (holding_knows (layout w) m e.message ticket (R.knows.ractors k m at) (R.knows.ports c p e port L.has))
             (λ x has. R.knows.ports c p x port (L.inside x has))
             fits R q.2,

@@ -9,7 +9,7 @@ use Rattle.rr_space.proofs.Frames.{reading_same}
 use Rattle.rr_port.specs.Ports.{Port}
 use Rattle.rr_store.specs.Stores.{constant_of}
 use Rattle.rr_world.specs.Views.{Member, Channels, Assembly, with_port}
-use Rattle.rr_world.specs.Layouts.{cluster_slots, layout, space_slots, hand_slots, inbox_slots, port_slots, port_inside, mail_slots, IsKnowing}
+use Rattle.rr_world.specs.Layouts.{cluster_slots, layout, space_slots, hand_slots, inbox_slots, port_slots, port_inside, mail_slots, IsKnowing, AreFound}
 use Rattle.rr_world.specs.States.{IsSame, with_case}
 use Rattle.rr_world.specs.Readings.{each_from, actor_in, showcase_in, post_in, state_in}
 use Rattle.rr_world.specs.Enabling.{StandsAt, HasPort, IsPossible}
@@ -22,9 +22,10 @@ use Rattle.rr_world.specs.declared.step.Reply.TheVariants.{WasClosed}
 use Rattle.rr_world.specs.Enabling.{Allows}
 use Rattle.rr_world.proofs.Enabled.{actor_at}
 use Rattle.rr_world.proofs.Fitting.{WaitsAsBefore, ShowsAsBefore, fits_on, same_as_before, set_as_before, shows_same, shows_still, waits_still}
-use Rattle.rr_world.proofs.Knowing.{order_on, knows_on, member_on, set_cases, message_on}
-use Rattle.rr_world.proofs.Lists.{each_at, each_back, seen_same}
+use Rattle.rr_world.proofs.Knowing.{order_on, knows_on, member_on, message_on}
+use Rattle.rr_world.proofs.Lists.{each_at, each_back, seen_same, set_cases}
 use Rattle.rr_world.proofs.Namings.{post_shown}
+use Rattle.rr_world.proofs.Holding.{rooted_same, inboxes_same, ports_set}
 
 pub showcase_at : (w : Assembly) (names : Naming) (g : Objects) (c : ℕ) (p : Port) → slice_get w.channels.ports c ≡ Some p
     → slice_get (state_in w names g).post.ports c ≡ Some (showcase_in names c p)
@@ -74,6 +75,11 @@ module _ (w w2 : Assembly) (c : ℕ) (p p2 : Port) (port : slice_get w.channels.
       tables = reading_same (layout w) (layout w2) names bound g tables R.tables;
       knows = told_knows R.knows;
       owned = λ j m at. R.owned j m (ap (λ xs. slice_get xs j) (sym rs) ∙ at);
+      held = record {
+        roots = rooted_same w.ractors w2.ractors rs R.held.roots;
+        inboxes = inboxes_same w.channels w2.channels (ap (λ (x : Channels). x.inboxes) is) R.held.inboxes;
+        ports = ports_set w.channels w2.channels c p2 (ap (λ (x : Channels). x.ports) is) (subst AreFound (sym inside) (R.held.ports c p port)) R.held.ports;
+      };
       inboxes = ap (λ (x : Channels). length x.inboxes) is ∙ R.inboxes ∙ sym (ap length rs);
       ports = ap (λ (x : Channels). length x.ports) is ∙ length-set w.channels.ports c p2 ∙ R.ports ∙ sym (ap length rs);
       fits = fits_on w w2 (same_as_before WaitsAsBefore w.ractors w2.ractors rs waits_still)

@@ -46,6 +46,7 @@ use Rattle.rr_world.proofs.Making.{value_on, unmade, unmade_for}
 use Rattle.rr_world.proofs.Operands.{known_named, ref_within, value_named}
 use Rattle.rr_world.proofs.Staying.{same_state}
 use Rattle.rr_world.proofs.Fitting.{waits_same}
+use Rattle.rr_world.proofs.Rooting.{roots_and_more}
 
 abbrev with_root : Member → Ref → Member
 with_root m r = record m { roots = m.roots ++ r ∷ [] }
@@ -220,7 +221,7 @@ module _ (w w2 : Assembly) (who : RactorNo) (k : ℕ) (m m2 : Member) (op : Oper
     names,
     bound,
     g,
-    read_set w w2 k m (with_root m r) at set is refl (waits_same m (with_root m r) refl refl) (root_known (layout w) (R.knows.ractors k m at)) R (reading_same (layout w) (layout w2) names bound g same_tables R.tables),
+    read_set w w2 k m (with_root m r) at set is refl (waits_same m (with_root m r) refl refl) (roots_and_more (length m.space.slots) (length m.space.slots) m.roots r (omega arith) A.within A.root) (root_known (layout w) (R.knows.ractors k m at)) R (reading_same (layout w) (layout w2) names bound g same_tables R.tables),
     (k, actor_in names k m, stands, actor_at w names g k m at, under_on w names bound g R k m at A.fit who op (label_of label) under, read_as names bound g R),
     record { others = λ h off. refl; slots = λ j x i there lt off. refl },
   )

@@ -23,6 +23,7 @@ use Rattle.rr_world.proofs.Lists.{set_back}
 use Rattle.rr_world.proofs.Namings.{box_with, same_box}
 use Rattle.rr_world.proofs.Enabled.{actor_at, mailbox_at, holds}
 use Rattle.rr_world.proofs.Telling.{told}
+use Rattle.rr_world.proofs.Offering.{room_seen}
 
 -- an inbox whose messages stay, with other events
 pub record IsTold (i i2 : Inbox) (es : List InboxEvent) : Type 0 where
@@ -36,9 +37,6 @@ told_box : (names : Naming) (c : ℕ) (i i2 : Inbox) (es : List InboxEvent) → 
 told_box names c i i2 es t =
     ap (λ xs. box_with (map (letter_in names c) xs) i2.closed i2.next i2.history i2.limit) t.inside
     ∙ same_box _ _ _ _ _ _ _ _ _ t.closed t.next t.history t.limit
-
-room_seen : (names : Naming) (c : ℕ) (i : Inbox) → HasEvents i → HasRoom (mailbox_in names c i)
-room_seen names c i h = omega (arith, length-map i.inside (letter_in names c), h)
 
 no_room_seen : (names : Naming) (c : ℕ) (i : Inbox) → (HasEvents i → ⊥) → HasRoom (mailbox_in names c i) → ⊥
 no_room_seen names c i none h = none (omega (arith, length-map i.inside (letter_in names c), h))

@@ -37,6 +37,7 @@ use Rattle.rr_world.proofs.Forwarding.{seen_plain}
 use Rattle.rr_world.proofs.Tables.{space_was, hand_was, space_now, hand_now, rest_now}
 use Rattle.rr_world.proofs.Fitting.{waits_homeless}
 use Rattle.rr_world.specs.Naming.{IsRenamed}
+use Rattle.rr_world.proofs.Holding.{same_rooted}
 
 module _ (w w2 : Assembly) (who : RactorNo) (k : ℕ) (m m2 : Member) (d : Detached) (at : slice_get w.ractors k ≡ Some m) (A : IsPutBackBy d m m2)
     (rs : w2.ractors ≡ slice_set w.ractors k m2) (is : w2.channels ≡ w.channels) where
@@ -111,7 +112,7 @@ module _ (w w2 : Assembly) (who : RactorNo) (k : ℕ) (m m2 : Member) (d : Detac
         names2,
         bound,
         q.1,
-        read_set w w2 k m m2 at rs is A.back.rest.owner (waits_homeless m m2 (ap (λ (x : Member). x.home) A.now_is)) (back_knows (layout w) (R.knows.ractors k m at)) R q.2,
+        read_set w w2 k m m2 at rs is A.back.rest.owner (waits_homeless m m2 (ap (λ (x : Member). x.home) A.now_is)) (same_rooted m m2 A.back.slots.size (ap (λ (x : Member). x.roots) A.now_is) (R.held.roots k m at)) (back_knows (layout w) (R.knows.ractors k m at)) R q.2,
         (
           k,
           actor_in names k m,

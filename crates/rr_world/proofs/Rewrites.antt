@@ -28,6 +28,7 @@ use Rattle.rr_world.proofs.Rooting.{roots_keep}
 use Rattle.rr_world.proofs.Changes.{set_length}
 use Rattle.rr_world.proofs.Fitting.{waits_same}
 use Rattle.rr_world.proofs.Forwarding.{IsOut, seen_here, seen_length, seen_set}
+use Rattle.rr_world.proofs.Holding.{same_rooted}
 
 module _ (w w2 : Assembly) (k n : ℕ) (m m2 : Member) (o p : Object) (v : Ref) (at : slice_get w.ractors k ≡ Some m) (here : slice_get (seen_slots m) n ≡ Some (Here o))
     (A : IsRewritten n p v m m2) (rs : w2.ractors ≡ slice_set w.ractors k m2) (is : w2.channels ≡ w.channels)
@@ -305,7 +306,7 @@ module _ (w w2 : Assembly) (k n : ℕ) (m m2 : Member) (o p : Object) (v : Ref) 
         q.0,
         bound + 0,
         q.1,
-        read_set w w2 k m m2 at rs is A.owner (waits_same m m2 A.home A.ticket) (rewritten_knows (layout w) K (R.knows.ractors k m at)) R q.2,
+        read_set w w2 k m m2 at rs is A.owner (waits_same m m2 A.home A.ticket) (same_rooted m m2 (ap length A.slots ∙ set_length m.space.slots n (Here p)) A.roots (R.held.roots k m at)) (rewritten_knows (layout w) K (R.knows.ractors k m at)) R q.2,
         changed_to names bound g R K q.0 q.1 q.2 q.3 q.4 shut rooted,
         λ l x has. value_stays names bound g R K q.0 q.1 q.2 q.3 q.4 x (all_within S K l x has),
         q.3,

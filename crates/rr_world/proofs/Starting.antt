@@ -1,5 +1,5 @@
 -- A ractor starts, and its inbox with it.
-use Rattle.std.proofs.Common.{◌≡◌, ℕ, zero, suc, ◌+◌, ◌≤◌, ◌⊎◌, ⊎_elim, inl, inr, List, [], ◌∷◌, ◌++◌, length, length-append, map, Option, Some, None, slice_get, Contains, sym, ap, ◌∙◌, subst, refl, arith}
+use Rattle.std.proofs.Common.{◌≡◌, ℕ, zero, suc, ◌+◌, ◌≤◌, ◌⊎◌, ⊎_elim, inl, inr, List, [], ◌∷◌, ◌++◌, length, length-append, map, Option, Some, None, slice_get, Contains, sym, ap, ◌∙◌, subst, refl, arith, ◌<◌}
 use Rattle.std.specs.Prelude.{slice_index}
 use Rattle.std.specs.Option.{option_map, option_and_then}
 use Rattle.std.proofs.lemmas.Option.{none-some, same_Some, slice_get_within}
@@ -18,8 +18,8 @@ use Rattle.rr_space.specs.Parts.{below_ref}
 use Rattle.rr_inbox.specs.Inboxes.{Inbox, new_inbox}
 use Rattle.rr_port.specs.Ports.{Port, new_port}
 use Rattle.rr_store.specs.Stores.{constant_of}
-use Rattle.rr_world.specs.Views.{Member, Channels, Assembly}
-use Rattle.rr_world.specs.Layouts.{cluster_slots, layout, space_slots, hand_slots, inbox_slots, port_slots, port_inside, message_slots, MemberKnows, IsKnowing, AreOwned, DoHomesFit, HaveInboxes, HavePorts, IsRead}
+use Rattle.rr_world.specs.Views.{Member, Channels, Assembly, AreRootsWithin}
+use Rattle.rr_world.specs.Layouts.{cluster_slots, layout, space_slots, hand_slots, inbox_slots, port_slots, port_inside, message_slots, MemberKnows, IsKnowing, AreOwned, DoHomesFit, HaveInboxes, HavePorts, IsRead, IsHeldWithin}
 use Rattle.rr_world.specs.States.{Actor}
 use Rattle.rr_world.specs.Readings.{each_from, actor_in, shells_in, planned_in, published_names, mailbox_in, showcase_in, parcel_in, root_in, post_in, state_in}
 use Rattle.rr_world.specs.Enabling.{StandsAt}
@@ -35,6 +35,7 @@ use Rattle.rr_world.proofs.Lists.{each_same}
 use Rattle.rr_world.proofs.Namings.{actor_same, same_actor, archive_same, mailbox_same, ports_same, same_post}
 use Rattle.rr_world.proofs.Staying.{stays, same_state}
 use Rattle.rr_world.specs.Naming.{IsRenamed}
+use Rattle.rr_space.specs.declared.refer.Ref.{Ref}
 
 -- what stands in a list with one more
 pub last_cases : {A : Type 0} (xs : List A) (y : A) (j : ℕ) (z : A) → slice_get (xs ++ y ∷ []) j ≡ Some z → (slice_get xs j ≡ Some z) ⊎ ((j ≡ length xs) × (y ≡ z))
@@ -160,8 +161,9 @@ module _ (w w2 : Assembly) (limits : Limits) (m2 : Member) (A : IsBegun limits (
     new_one = same_actor (ap (map (root_in names2 (Space place))) A.roots) (ap (option_map (parcel_in names2 (Hand place))) A.hand) (ap (option_map (shells_in names2 place)) A.home) A.ticket (ap (option_map (planned_in names2 place)) A.plan) (ap (option_map (published_names names2 place)) A.published)
         (ap length A.slots) A.limit A.next A.run A.runs
 
-    started : (number : RactorNo) (a : Actor) → a.limits ≡ limits → StandsAt number place → IsStarted number a (state_in w names g) (state_in w2 names2 g2)
-    started number a same stands = record {
+    started : (number : RactorNo) (a : Actor) → a.limits ≡ limits → length w.ractors < a.limits.ractors → StandsAt number place → IsStarted number a (state_in w names g) (state_in w2 names2 g2)
+    started number a same room stands = record {
+      room = omega (arith, room, each_length (actor_in names) 0 w.ractors);
       next = subst (StandsAt number) (sym (each_length (actor_in names) 0 w.ractors)) stands;
       objects = objects;
       ractors = ap (each_from (actor_in names2) 0) rs
@@ -202,6 +204,22 @@ module _ (w w2 : Assembly) (limits : Limits) (m2 : Member) (A : IsBegun limits (
       (λ new. ap (λ (x : Member). x.space.owner) (sym new.1) ∙ A.owner ∙ ap (λ n. n + 1) (sym new.0))
       (last_cases w.ractors m2 j m (ap (λ xs. slice_get xs j) (sym rs) ∙ at))
 
+  more_held : IsHeldWithin w → IsHeldWithin w2
+  more_held H = record {
+    roots = λ j m at. ⊎_elim
+        (λ old. H.roots j m old)
+        (λ new. subst (λ (x : Member). AreRootsWithin (length x.space.slots) x.roots) new.1 (subst (λ (xs : List Ref). AreRootsWithin (length m2.space.slots) xs) (sym A.roots) tt))
+        (last_cases w.ractors m2 j m (ap (λ xs. slice_get xs j) (sym rs) ∙ at));
+    inboxes = λ c i at e has. ⊎_elim
+        (λ old. H.inboxes c i old e has)
+        (λ new. absurd (none_in e (subst (λ (x : Inbox). Contains x.inside e) (sym new.1) has)))
+        (last_cases w.channels.inboxes (new_inbox limits.events) c i (ap (λ (x : Channels). slice_get x.inboxes c) (sym is) ∙ at));
+    ports = λ c p at e has. ⊎_elim
+        (λ old. H.ports c p old e has)
+        (λ new. absurd (none_in e (subst (λ (x : Port). Contains (port_inside x) e) (sym new.1) has)))
+        (last_cases w.channels.ports (new_port limits.events) c p (ap (λ (x : Channels). slice_get x.ports c) (sym is) ∙ at));
+  }
+
   more_inboxes : HaveInboxes w → HaveInboxes w2
   more_inboxes even = ap (λ (x : Channels). length x.inboxes) is ∙ length-append w.channels.inboxes (new_inbox limits.events ∷ []) ∙ ap (λ n. n + 1) even
       ∙ sym (length-append w.ractors (m2 ∷ [])) ∙ sym (ap length rs)
@@ -220,15 +238,15 @@ module _ (w w2 : Assembly) (limits : Limits) (m2 : Member) (A : IsBegun limits (
       (last_cases w.ractors m2 j m (ap (λ xs. slice_get xs j) (sym rs) ∙ at))
 
   -- the ractor at k, whose limits these are, starts another
-  pub begun : (who number : RactorNo) (k : ℕ) (m : Member) → slice_get w.ractors k ≡ Some m → m.limits ≡ limits → StandsAt who k → StandsAt number place
+  pub begun : (who number : RactorNo) (k : ℕ) (m : Member) → slice_get w.ractors k ≡ Some m → m.limits ≡ limits → length w.ractors < m.limits.ractors → StandsAt who k → StandsAt number place
       → HasOutcome (record { who = who; action = Start }) (Started number) w w2
-  begun who number k m at same stands next names bound g R =
+  begun who number k m at same room stands next names bound g R =
       let q = remaking_is_a_step (Space place) 0 [] [] (layout w) (layout w2) names bound g remakes R.tables in (
         q.0,
         bound + 0,
         q.1,
-        record { tables = q.2; knows = more_knows R.knows; owned = more_owned R.owned; inboxes = more_inboxes R.inboxes; ports = more_ports R.ports; fits = more_fits R.fits; clusters = order_on w w2 (ap (λ (x : Channels). x.store.clusters) is) R.clusters },
-        (k, actor_in names k m, stands, actor_at w names g k m at, tt, started names bound g R q.0 q.1 q.2 q.3 q.4 number (actor_in names k m) same next),
+        record { tables = q.2; knows = more_knows R.knows; owned = more_owned R.owned; held = more_held R.held; inboxes = more_inboxes R.inboxes; ports = more_ports R.ports; fits = more_fits R.fits; clusters = order_on w w2 (ap (λ (x : Channels). x.store.clusters) is) R.clusters },
+        (k, actor_in names k m, stands, actor_at w names g k m at, tt, started names bound g R q.0 q.1 q.2 q.3 q.4 number (actor_in names k m) same room next),
         record {
           others = λ h off. q.3.rest h (λ e. off (subst (IsRenamed w who Start) (sym e) refl));
           slots = λ j x i there lt off. ap (λ ns. slice_index ns i) (q.3.rest (Space j) (λ e. let less = slice_get_within w.ractors j x there in let same : j ≡ place = cc in omega (arith, less, same)));
@@ -237,7 +255,7 @@ module _ (w w2 : Assembly) (limits : Limits) (m2 : Member) (A : IsBegun limits (
 
 -- a refused start
 pub start_refused : (w w2 : Assembly) (who : RactorNo) (k : ℕ) (m : Member) (f : Fault) → slice_get w.ractors k ≡ Some m → w2 ≡ w → StandsAt who k
-    → (f ≡ fault.Memory) ⊎ ((f ≡ fault.Limit kind.Ractors) × (m.limits.ractors ≤ length w.ractors)) → HasOutcome (record { who = who; action = Start }) (Refused f) w w2
+    → ((f ≡ fault.Memory) × (length w.ractors < m.limits.ractors)) ⊎ ((f ≡ fault.Limit kind.Ractors) × (m.limits.ractors ≤ length w.ractors)) → HasOutcome (record { who = who; action = Start }) (Refused f) w w2
 start_refused w w2 who k m f at same stands why =
     stays (record { who = who; action = Start }) (Refused f) w w2 same
     (λ names g. (
@@ -247,7 +265,7 @@ start_refused w w2 who k m f at same stands why =
       actor_at w names g k m at,
       tt,
       (
-        ⊎_elim (λ z. inl z) (λ z. inr (z.0, let le = z.1 in omega (arith, le, each_length (actor_in names) 0 w.ractors))) why,
+        ⊎_elim (λ z. inl (z.0, let lt = z.1 in omega (arith, lt, each_length (actor_in names) 0 w.ractors))) (λ z. inr (z.0, let le = z.1 in omega (arith, le, each_length (actor_in names) 0 w.ractors))) why,
         same_state (state_in w names g),
       ),
     ))

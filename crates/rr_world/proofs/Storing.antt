@@ -51,6 +51,8 @@ use Rattle.rr_world.proofs.Lists.{eq_cases, seen_same, each_set}
 use Rattle.rr_world.proofs.Operands.{known_named, value_named}
 use Rattle.rr_world.proofs.Staying.{stays, stays_read, same_state}
 use Rattle.rr_world.proofs.Fitting.{waits_same, fits_same}
+use Rattle.rr_world.proofs.Rooting.{roots_and_more, within_more}
+use Rattle.rr_world.proofs.Holding.{rooted_same, inboxes_same, ports_same}
 
 get_mapped : {A B : Type 0} (f : A → B) (xs : List A) (i : ℕ) → slice_get (map f xs) i ≡ option_map f (slice_get xs i)
 get_mapped f [] i = refl
@@ -116,6 +118,11 @@ module _ (w w2 : Assembly) (name : Sym) (c : ConstValue) (rs : w2.ractors ≡ w.
     tables = reading_same (layout w) (layout w2) names bound g same_tables R.tables;
     knows = set_knows known R.knows;
     owned = λ j m at. R.owned j m (ap (λ xs. slice_get xs j) (sym rs) ∙ at);
+    held = record {
+      roots = rooted_same w.ractors w2.ractors rs R.held.roots;
+      inboxes = inboxes_same w.channels w2.channels boxes R.held.inboxes;
+      ports = ports_same w.channels w2.channels ports R.held.ports;
+    };
     inboxes = ap length boxes ∙ R.inboxes ∙ sym (ap length rs);
     ports = ap length ports ∙ R.ports ∙ sym (ap length rs);
     fits = fits_same w w2 rs ports R.fits;
@@ -344,7 +351,8 @@ module _ (w w2 : Assembly) (who : RactorNo) (k : ℕ) (m : Member) (name : Sym) 
     names,
     bound,
     g,
-    read_set w w2 k m (joined_by m v) at rs is refl (waits_same m (joined_by m v) refl refl) (got_knows names bound g R) R (reading_same (layout w) (layout w2) names bound g got_tables R.tables),
+    read_set w w2 k m (joined_by m v) at rs is refl (waits_same m (joined_by m v) refl refl)
+        (roots_and_more (length m.space.slots) (length m.space.slots) m.roots v (omega arith) (R.held.roots k m at) (within_more 0 (length m.space.slots) v (omega arith) public)) (got_knows names bound g R) R (reading_same (layout w) (layout w2) names bound g got_tables R.tables),
     (
       k,
       actor_in names k m,

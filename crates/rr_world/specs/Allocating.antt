@@ -1,5 +1,5 @@
 -- What a new object leaves of a ractor.
-use Rattle.std.specs.Prelude.{◌≡◌, ◌⊎◌, ◌++◌, ◌∷◌, [], length}
+use Rattle.std.specs.Prelude.{◌≡◌, ◌<◌, ◌⊎◌, ◌++◌, ◌∷◌, [], length}
 use Rattle.rr_base.specs.declared.fault.Fault.TheVariants.{Memory, Limit}
 use Rattle.rr_base.specs.declared.limits.LimitKind.TheVariants.{Slots}
 use Rattle.rr_space.specs.Tables.{Here}
@@ -12,6 +12,7 @@ use Rattle.rr_world.specs.declared.outcome.Outcome.TheVariants.{Done, Refused}
 
 -- the object stands in the next slot, and comes last in the roots
 pub record IsAllocatedBy (new : NewObject) (old now : Member) : Type 0 where
+  pub room : length old.space.slots < old.space.limit
   pub within : AreRootsWithin (length old.space.slots) old.roots
   pub slots : now.space.slots ≡ old.space.slots ++ Here (new_object new) ∷ []
   pub below : now.space.below ≡ old.space.below ++ [] ∷ []

@@ -1,7 +1,7 @@
 -- What a change of one object, or a read, leaves of a ractor.
 use Rattle.std.specs.Prelude.{◌≡◌, ℕ, ◌⊎◌, ◌++◌, List, ◌∷◌, [], length, IsTrue, Some, Contains, slice_get, slice_set}
 use Rattle.rr_base.specs.declared.fault.Fault.TheVariants.{Memory}
-use Rattle.rr_space.specs.Graph.{Object, Label, Value, text, array, plain}
+use Rattle.rr_space.specs.Graph.{Object, Label, Value, text, array, plain, exception}
 use Rattle.rr_space.specs.Tables.{Here, joined}
 use Rattle.rr_space.specs.Parts.{value_of, below_ref, IsWithin}
 use Rattle.rr_space.specs.Kinds.{kind_at}
@@ -14,11 +14,12 @@ use Rattle.rr_space.specs.declared.refer.Ref.{Ref}
 use Rattle.rr_space.specs.declared.refer.Ref.TheVariants.{Nil, Local}
 use Rattle.rr_world.specs.Views.{Member, ArePlacesBelow, AreRootsWithin, AreAway, IsPublishedFit, seen_slots}
 use Rattle.rr_world.specs.Enabling.{IsNoShell, IsOpen, HasElement}
-use Rattle.rr_world.specs.ObjectCases.{frozen, appended, pushed, written, with_field}
+use Rattle.rr_world.specs.ObjectCases.{frozen, appended, cleared, pushed, written, without, with_field, with_part}
 use Rattle.rr_world.specs.Packing.{named_ref}
 use Rattle.rr_world.specs.declared.step.Operand.{Operand}
 use Rattle.rr_world.specs.declared.outcome.Outcome.{Outcome}
 use Rattle.rr_world.specs.declared.outcome.Outcome.TheVariants.{NotEnabled, Done, Refused}
+use Rattle.rr_world.specs.declared.step.RaisedPart.{RaisedPart}
 
 -- the operand is the slot n of the space, and the object there, which is the ractor's own still, is o
 pub record IsSlot (op : Operand) (old : Member) (n : ℕ) (o : Object) : Type 0 where
@@ -75,6 +76,11 @@ Appends op byte NotEnabled old now = HasRootsWithin old × (MayBeAppended op old
 Appends op byte Done old now = IsMadeOf op (IsOpen text) (appended byte) Nil old now
 Appends op byte (Refused f) old now = (f ≡ Memory) × MayBeAppended op old × (now ≡ old)
 
+abbrev pub Clears : Operand → Outcome → Member → Member → Type 0
+Clears op NotEnabled old now = HasRootsWithin old × (MayBeAppended op old → ⊥) × (now ≡ old)
+Clears op Done old now = IsMadeOf op (IsOpen text) cleared Nil old now
+Clears op _ old now = ⊥
+
 -- the operand is this value
 abbrev pub IsNamedRef : Operand → Member → Type 0
 IsNamedRef op old = (v : Ref) × (named_ref old.roots op ≡ Some v)
@@ -101,6 +107,11 @@ Writes op i x NotEnabled old now = HasRootsWithin old × (MayChangeSlot op (HasE
 Writes op i x Done old now = (v : Ref) × (named_ref old.roots x ≡ Some v) × IsMadeOf op (HasElement i) (written i (value_of v)) v old now
 Writes op i x _ old now = ⊥
 
+abbrev pub Takes : Operand → ℕ → Outcome → Member → Member → Type 0
+Takes op i NotEnabled old now = HasRootsWithin old × (MayChangeSlot op (HasElement i) old → ⊥) × (now ≡ old)
+Takes op i Done old now = IsMadeOf op (HasElement i) (without i) Nil old now
+Takes op i _ old now = ⊥
+
 -- the operand is a plain object of the space that is not frozen
 abbrev pub MayBeSet : Operand → Member → Type 0
 MayBeSet op old = MayChangeSlot op (IsOpen plain) old
@@ -117,6 +128,23 @@ abbrev pub Sets : Operand → ℕ → Operand → Outcome → Member → Member 
 Sets op name x NotEnabled old now = HasRootsWithin old × (MayBeSet op old → IsNamedRef x old → ⊥) × (now ≡ old)
 Sets op name x Done old now = (v : Ref) × (named_ref old.roots x ≡ Some v) × IsMadeOf op (IsOpen plain) (with_field name (value_of v)) v old now
 Sets op name x (Refused f) old now = (f ≡ Memory) × MayBeSet op old × IsNamedRef x old × (now ≡ old)
+
+-- the operand is an exception of the space that is not frozen
+abbrev pub MayBeRaised : Operand → Member → Type 0
+MayBeRaised op old = MayChangeSlot op (IsOpen exception) old
+
+-- the operands are an exception that is not frozen, and a value
+pub record AreRaisable (op x : Operand) (old : Member) (a v : Ref) : Type 0 where
+  pub exception : named_ref old.roots op ≡ Some a
+  pub value : named_ref old.roots x ≡ Some v
+  pub can : IsTrue (can_write_at old.space a)
+  pub kind : kind_at old.space a ≡ kinds.Exception
+  pub within : IsWithin (length old.space.slots) v
+
+abbrev pub SetsRaised : Operand → RaisedPart → Operand → Outcome → Member → Member → Type 0
+SetsRaised op part x NotEnabled old now = HasRootsWithin old × (MayBeRaised op old → IsNamedRef x old → ⊥) × (now ≡ old)
+SetsRaised op part x Done old now = (v : Ref) × (named_ref old.roots x ≡ Some v) × IsMadeOf op (IsOpen exception) (with_part part (value_of v)) v old now
+SetsRaised op part x _ old now = ⊥
 
 -- something stands under the label in the object that the operand is
 abbrev pub HasUnder : Operand → Label → Member → Type 0

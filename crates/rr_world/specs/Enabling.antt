@@ -1,13 +1,13 @@
 -- Which steps are enabled.
 use Rattle.std.specs.Prelude.{◌≡◌, true, ℕ, ◌+◌, ◌<◌, ◌⊎◌, false, List, length, Contains, Option, Some, None, slice_get}
 use Rattle.rr_base.specs.declared.name.RactorNo.{RactorNo as Number}
-use Rattle.rr_space.specs.Graph.{Kind, Object, text, array, plain, shell, Own, Published, Value, Plain, At, Nil, Truth, Integer, SymbolNo, ClassNo, RactorNo, Reaches, IsShareable}
+use Rattle.rr_space.specs.Graph.{Kind, Object, text, array, plain, exception, shell, Own, Published, Value, Plain, At, Nil, Truth, Integer, SymbolNo, ClassNo, RactorNo, Reaches, IsShareable}
 use Rattle.rr_space.specs.Readings.{Space, Owned, Objects, IsShared, whole}
 use Rattle.rr_share.specs.Search.{LeadsToShell}
 use Rattle.rr_world.specs.States.{Parcel, Mailbox, Showcase, Actor, State}
 use Rattle.rr_world.specs.declared.step.Action.{Action}
 use Rattle.rr_space.specs.Labels.{label_of}
-use Rattle.rr_world.specs.declared.step.Action.TheVariants.{Alloc, Pack, Plan, Publish, Promote, Discard, Offer, Accept, Open, Close, ClosePort, ShowLast, Show, Withdraw, Settle, Grab, Freeze, Append, Push, Write, SetField, Read, Start, End, Detach, PutBack, SetConst, SetOwn, GetConst}
+use Rattle.rr_world.specs.declared.step.Action.TheVariants.{Alloc, Pack, Plan, Publish, Promote, Discard, Offer, Accept, Open, Close, ClosePort, ShowLast, Show, Withdraw, Settle, Grab, Freeze, Append, Clear, Push, Write, Take, SetField, SetRaised, Read, Start, End, Detach, PutBack, SetConst, SetOwn, GetConst}
 use Rattle.rr_world.specs.declared.step.Operand.{Operand}
 use Rattle.rr_world.specs.declared.step.Operand.TheVariants as operand
 use Rattle.rr_world.specs.declared.step.Step.{Step}
@@ -114,7 +114,7 @@ IsTested s a _ = Unit {0}
 
 -- pack, detach and plan need an empty hand and a value; publish needs a plan in the hand, and promote a published one; discard needs a
 -- message or a plan in the hand, offer and open a message, put back one with its home, and accept an empty hand; show needs a message in the hand and nothing in the ractor's own port, and withdraw an empty hand
--- or the home of what was shown; channels that are named are there; freeze needs an object of its own that is no shell, append, push and write one of a kind that is not
+-- or the home of what was shown; channels that are named are there; freeze needs an object of its own that is no shell, append, clear, push, write, take and the settings one of a kind that is not
 -- frozen, and read an object that has the label
 abbrev pub Allows : State → Number → Actor → Action → Type 0
 Allows s who a (Alloc new) = Unit {0}
@@ -137,9 +137,12 @@ Allows s who a (Settle ticket) = HasPort s who
 Allows s who a (Grab to) = IsFreeHand a × HasPort s to
 Allows s who a (Freeze op) = MayChange s who a op IsNoShell
 Allows s who a (Append op byte) = MayChange s who a op (IsOpen text)
+Allows s who a (Clear op) = MayChange s who a op (IsOpen text)
 Allows s who a (Push op x) = MayChange s who a op (IsOpen array) × IsValue a x
 Allows s who a (Write op i x) = MayChange s who a op (HasElement i) × IsValue a x
+Allows s who a (Take op i) = MayChange s who a op (HasElement i)
 Allows s who a (SetField op name x) = MayChange s who a op (IsOpen plain) × IsValue a x
+Allows s who a (SetRaised op part x) = MayChange s who a op (IsOpen exception) × IsValue a x
 Allows s who a Start = Unit {0}
 Allows s who a End = Unit {0}
 Allows s who a (SetConst name op) = MaySet a × (x : Value) × (named_value a.roots op ≡ Some x) × IsPublicValue s.objects x

@@ -1,7 +1,7 @@
 -- The tables that a World has.
-use Rattle.std.specs.Prelude.{◌≡◌, ◌+◌, ◌++◌, Contains, ℕ, List, [], ◌∷◌, length, map, Option, None, Some, slice_get, nat_eq, cond}
+use Rattle.std.specs.Prelude.{◌≡◌, ◌+◌, ◌<◌, ◌++◌, Contains, ℕ, List, [], ◌∷◌, length, map, Option, None, Some, slice_get, nat_eq, cond}
 use Rattle.std.specs.Option.{option_map, option_and_then}
-use Rattle.rr_space.specs.Graph.{Published, At}
+use Rattle.rr_space.specs.Graph.{Own, Published, At}
 use Rattle.rr_space.specs.Tables.{Packed, Slot, Here, Below, Whole, joined, below_hold}
 use Rattle.rr_space.specs.Readings.{Space, Hand, Mail, Shown, Shared, Layout, Knows, HasPlace, Naming, Objects, IsReading, AreClustersInOrder}
 use Rattle.rr_space.specs.Parts.{below_ref}
@@ -17,7 +17,7 @@ use Rattle.rr_port.specs.declared.last.LastGiven.{LastGiven}
 use Rattle.rr_port.specs.declared.last.Shown.{Shown as ShownMessage}
 use Rattle.rr_move.specs.Homes.{IsHomeOf}
 use Rattle.rr_move.specs.declared.home.Home.{Home}
-use Rattle.rr_world.specs.Views.{PublishedPlan, Member, Assembly, seen_slots}
+use Rattle.rr_world.specs.Views.{PublishedPlan, Member, Channels, Assembly, AreRootsWithin, seen_slots}
 use Rattle.rr_share.specs.declared.planned.Plan.{Plan}
 
 abbrev pub message_slots : Packed → List Slot
@@ -68,9 +68,10 @@ layout w (Shared c) = option_map cluster_slots (slice_get w.channels.store.clust
 abbrev pub message_below : Packed → Below
 message_below m = m.root_below ++ joined m.below
 
--- the clusters that a message leads to are the store's, and so is the one that its root is in
+-- the clusters that a message leads to are the store's, and its root is an immediate, an object of it, or one that the store has
 pub record IsMessageKnown (tables : Layout) (m : Packed) : Type 0 where
   pub below : Knows (message_below m) tables
+  pub own : (i : ℕ) → m.root ≡ At (Own i) → i < length m.objects
   pub root : (c p : ℕ) → m.root ≡ At (Published c p) → HasPlace tables c p
 
 -- what a ractor's objects, its roots, its message and its plans know of clusters is what the store has
@@ -105,13 +106,35 @@ abbrev pub DoHomesFit : Assembly → Type 0
 DoHomesFit w = (k : ℕ) (m : Member) (p : Port) (h : Home) (e : ShownMessage) → slice_get w.ractors k ≡ Some m → slice_get w.channels.ports k ≡ Some p
     → m.home ≡ Some h → m.ticket ≡ Some e.ticket → p.shown ≡ Some e → IsHomeOf h e.message
 
+-- each root of a ractor leads to a slot of its space, or to a place that its cluster has
+abbrev pub AreRooted : List Member → Type 0
+AreRooted ms = (k : ℕ) (m : Member) → slice_get ms k ≡ Some m → AreRootsWithin (length m.space.slots) m.roots
+
+-- each message of the list is the one that its ticket finds
+abbrev pub AreFound : List Entry → Type 0
+AreFound es = (e : Entry) → Contains es e → mail_slots e.ticket es ≡ Some (message_slots e.message)
+
+-- so it is in each inbox, and in each port
+abbrev pub AreInboxesFound : Channels → Type 0
+AreInboxesFound x = (c : ℕ) (i : Inbox) → slice_get x.inboxes c ≡ Some i → AreFound i.inside
+
+abbrev pub ArePortsFound : Channels → Type 0
+ArePortsFound x = (c : ℕ) (p : Port) → slice_get x.ports c ≡ Some p → AreFound (port_inside p)
+
+-- what ractors and messages hold has a place in their tables
+pub record IsHeldWithin (w : Assembly) : Type 0 where
+  pub roots : AreRooted w.ractors
+  pub inboxes : AreInboxesFound w.channels
+  pub ports : ArePortsFound w.channels
+
 -- a reading of the World: its tables are read as a whole graph, what they know of clusters is what the store has, each
--- space is its ractor's, there are as many inboxes and ports as ractors, homes fit what is shown, and clusters are frozen and lead
--- to earlier ones alone
+-- space is its ractor's, what is held has a place in the tables, there are as many inboxes and ports as ractors, homes fit what is
+-- shown, and clusters are frozen and lead to earlier ones alone
 pub record IsRead (w : Assembly) (names : Naming) (bound : ℕ) (g : Objects) : Type 0 where
   pub tables : IsReading (layout w) names bound g
   pub knows : IsKnowing w
   pub owned : AreOwned w
+  pub held : IsHeldWithin w
   pub inboxes : HaveInboxes w
   pub ports : HavePorts w
   pub fits : DoHomesFit w

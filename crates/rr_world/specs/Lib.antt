@@ -11,6 +11,7 @@ pub mod PortCases
 pub mod Leaving
 pub mod Cases
 pub mod Naming
+pub mod Holding
 pub mod Runs
 pub mod Laws
 pub mod Outcomes

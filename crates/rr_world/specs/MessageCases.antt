@@ -55,9 +55,17 @@ pub record IsDiscarded (k : ℕ) (a : Actor) (s t : State) : Type 0 where
   pub ractors : t.ractors ≡ slice_set s.ractors k (record a { hand = None; home = None; plan = None })
   pub post : t.post ≡ s.post
 
--- offer, Ok: it was open; the message is last under the next ticket, and the owner of its objects turns from hand to message; a
+-- the events that the history of an inbox owes: one for each message inside, and one for the close while it is open
+abbrev pub owed_by : Mailbox → ℕ
+owed_by b = length b.inside + cond b.closed 0 1
+
+abbrev pub HasRoom : Mailbox → Type 0
+HasRoom b = length b.history + owed_by b + 2 ≤ b.limit
+
+-- offer, Ok: the history had room, and the inbox was open; the message is last under the next ticket, and the owner of its objects turns from hand to message; a
 -- home goes
 pub record IsOffered (who : Number) (k c : ℕ) (a : Actor) (p : Parcel) (b : Mailbox) (t : ℕ) (old new : State) : Type 0 where
+  pub room : HasRoom b
   pub unshut : b.closed ≡ false
   pub ticket : t ≡ b.next
   pub objects : IsHandedOn (Hand k) (Mail c t) old.objects new.objects
@@ -67,13 +75,6 @@ pub record IsOffered (who : Number) (k c : ℕ) (a : Actor) (p : Parcel) (b : Ma
     next = b.next + 1;
     history = b.history ++ event.Offered t p.size who ∷ [];
   })
-
--- the events that the history of an inbox owes: one for each message inside, and one for the close while it is open
-abbrev pub owed_by : Mailbox → ℕ
-owed_by b = length b.inside + cond b.closed 0 1
-
-abbrev pub HasRoom : Mailbox → Type 0
-HasRoom b = length b.history + owed_by b + 2 ≤ b.limit
 
 -- a refused offer: the history had no room, or a growth was refused, and all is as it was; or the inbox was closed, and its
 -- history has the refusal
@@ -91,8 +92,9 @@ pub record IsAccepted (who : Number) (k : ℕ) (a : Actor) (e : Letter) (es : Li
   pub ractors : t.ractors ≡ slice_set s.ractors k (record a { hand = Some e.parcel })
   pub post : t.post ≡ with_box s.post k (record b { inside = es; history = b.history ++ event.Accepted e.ticket e.parcel.size who ∷ [] })
 
--- open: the owner turns from hand to ractor; the root joins its roots; a home goes
+-- open: the objects pass no limit of slots; the owner turns from hand to ractor; the root joins its roots; a home goes
 pub record IsOpenedAs (k : ℕ) (a : Actor) (p : Parcel) (s t : State) : Type 0 where
+  pub room : a.slots + p.size ≤ a.limit
   pub objects : IsHandedOn (Hand k) (Space k) s.objects t.objects
   pub ractors : t.ractors ≡ slice_set s.ractors k (record a { roots = a.roots ++ p.root ∷ []; hand = None; home = None; slots = a.slots + p.size })
   pub post : t.post ≡ s.post

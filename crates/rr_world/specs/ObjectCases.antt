@@ -1,29 +1,35 @@
 -- The cases of the graph machine that change objects, and those in which a ractor starts or ends.
-use Rattle.std.specs.Prelude.{◌≡◌, ℕ, ◌+◌, ◌≤◌, ◌⊎◌, true, false, Bool, if◌then◌else◌, nat_eq, List, [], ◌∷◌, ◌++◌, length, Some, None, slice_set}
+use Rattle.std.specs.Prelude.{◌≡◌, ℕ, ◌+◌, ◌<◌, ◌≤◌, ◌⊎◌, true, false, Bool, if◌then◌else◌, nat_eq, List, [], ◌∷◌, ◌++◌, length, Some, None, slice_set, map, remove}
 use Rattle.rr_base.specs.declared.name.RactorNo.{RactorNo as Number}
 use Rattle.rr_base.specs.declared.fault.Fault.{Fault}
 use Rattle.rr_base.specs.declared.fault.Fault.TheVariants as fault
 use Rattle.rr_base.specs.declared.limits.Limits.{Limits}
 use Rattle.rr_base.specs.declared.limits.LimitKind.TheVariants as kind
-use Rattle.rr_space.specs.Graph.{Object, text, array, plain, Label, Place, Field, KeyAt, ValueAt, Message, Cause, Ractor, Own, Value, At}
+use Rattle.rr_space.specs.Graph.{Object, text, array, hash, plain, exception, Label, Place, Field, KeyAt, ValueAt, Message, Cause, Ractor, Own, Value, Plain, At, Nil}
 use Rattle.rr_space.specs.Readings.{Owner, Space, Hand, Owned}
 use Rattle.rr_space.specs.Steps.{IsChange}
 use Rattle.rr_world.specs.States.{Mailbox, Showcase, Actor, State, IsSame}
-use Rattle.rr_space.specs.Labels.{IsFirstUnder}
-use Rattle.rr_base.specs.declared.name.TheConstants.ClassId.{ARRAY, STRING}
+use Rattle.rr_space.specs.Labels.{IsFirstUnder, raised_place}
+use Rattle.rr_base.specs.declared.name.TheConstants.ClassId.{ARRAY, HASH, STRING}
 use Rattle.rr_world.specs.declared.step.NewObject.{NewObject}
 use Rattle.rr_world.specs.declared.step.NewObject.TheVariants as new
 use Rattle.rr_world.specs.declared.step.Operand.{Operand}
 use Rattle.rr_world.specs.Enabling.{StandsAt, named_value, IsOwn}
+use Rattle.rr_space.specs.Views.{placed_from}
+use Rattle.rr_world.specs.declared.step.RaisedPart.{RaisedPart}
+use Rattle.rr_world.specs.declared.step.RaisedPart.TheVariants as part
 
--- a new object: not frozen, without bytes and values
+-- a new object: not frozen, without bytes and values, but that the message, the cause and the ractor of an exception are nil
 abbrev pub new_object : NewObject → Object
 new_object new.Text = record { kind = text; class = STRING.0; bytes = []; frozen = false; triples = [] }
 new_object new.Array = record { kind = array; class = ARRAY.0; bytes = []; frozen = false; triples = [] }
+new_object new.Hash = record { kind = hash; class = HASH.0; bytes = []; frozen = false; triples = [] }
 new_object (new.Object c) = record { kind = plain; class = c.0; bytes = []; frozen = false; triples = [] }
+new_object (new.Exception c) = record { kind = exception; class = c.0; bytes = []; frozen = false; triples = (Message, Plain Nil) ∷ (Cause, Plain Nil) ∷ (Ractor, Plain Nil) ∷ [] }
 
--- alloc, a change by the ractor: one new object comes, last in the roots, and nothing else changes
+-- alloc, a change by the ractor: the space was not full; one new object comes, last in the roots, and nothing else changes
 pub record IsAllocated (k : ℕ) (a : Actor) (new : NewObject) (s t : State) : Type 0 where
+  pub room : a.slots < a.limit
   pub name : ℕ
   pub fresh : s.objects name ≡ None
   pub here : t.objects name ≡ Some (record { owner = Space k; object = new_object new })
@@ -36,7 +42,7 @@ pub record IsAllocated (k : ℕ) (a : Actor) (new : NewObject) (s t : State) : T
 abbrev pub IsAllocRefused : Actor → Fault → State → State → Type 0
 IsAllocRefused a f s t = ((f ≡ fault.Memory) ⊎ ((f ≡ fault.Limit kind.Slots) × (a.slots ≡ a.limit))) × IsSame s t
 
--- freeze, append, push, write, set a field, changes by the ractor: its object under the name n, which was o, is p, and nothing else changes
+-- freeze, append, clear, push, write, take, set a field, set a part of an exception, changes by the ractor: its object under the name n, which was o, is p, and nothing else changes
 pub record IsChangedTo (k : ℕ) (a : Actor) (n : ℕ) (o p : Object) (s t : State) : Type 0 where
   pub was : s.objects n ≡ Some (record { owner = Space k; object = o })
   pub now : t.objects n ≡ Some (record { owner = Space k; object = p })
@@ -51,11 +57,30 @@ frozen o = record o { frozen = true }
 abbrev pub appended : ℕ → Object → Object
 appended byte o = record o { bytes = o.bytes ++ byte ∷ [] }
 
+abbrev pub cleared : Object → Object
+cleared o = record o { bytes = [] }
+
 abbrev pub pushed : Value → Object → Object
 pushed x o = record o { triples = o.triples ++ (Place (length o.triples), x) ∷ [] }
 
 abbrev pub written : ℕ → Value → Object → Object
 written i x o = record o { triples = slice_set o.triples i (Place i, x) }
+
+abbrev pub value_under : Label × Value → Value
+value_under t = t.1
+
+-- an array without the element at the place; those behind it close up
+abbrev pub without : ℕ → Object → Object
+without i o = record o { triples = placed_from 0 (remove (map value_under o.triples) i) }
+
+abbrev pub part_label : RaisedPart → Label
+part_label part.Message = Message
+part_label part.Cause = Cause
+part_label part.Ractor = Ractor
+
+-- a value in the place of a part of an exception
+abbrev pub with_part : RaisedPart → Value → Object → Object
+with_part p x o = record o { triples = slice_set o.triples (raised_place (part_label p)) (part_label p, x) }
 
 -- the label is the field of this name
 abbrev pub is_field : ℕ → Label → Bool
@@ -105,16 +130,18 @@ new_mailbox l = record { inside = []; closed = false; next = 0; history = []; li
 abbrev pub new_showcase : Limits → Showcase
 new_showcase l = record { shown = None; last = None; given = false; closed = false; next = 0; history = []; limit = l.events }
 
--- start: a ractor without objects comes with the next number, and its inbox and its port; the graph stays
+-- start: there are fewer ractors than may be; one without objects comes with the next number, and its inbox and its port; the graph
+-- stays
 pub record IsStarted (number : Number) (a : Actor) (s t : State) : Type 0 where
+  pub room : length s.ractors < a.limits.ractors
   pub next : StandsAt number (length s.ractors)
   pub objects : (n : ℕ) → t.objects n ≡ s.objects n
   pub ractors : t.ractors ≡ s.ractors ++ new_actor a.limits ∷ []
   pub post : t.post ≡ record s.post { inboxes = s.post.inboxes ++ new_mailbox a.limits ∷ []; ports = s.post.ports ++ new_showcase a.limits ∷ [] }
 
--- a refused start: a growth was refused, or there are as many ractors as may be; all is as it was
+-- a refused start: there are as many ractors as may be, or there are not, and a growth was refused; all is as it was
 abbrev pub IsStartRefused : Actor → Fault → State → State → Type 0
-IsStartRefused a f s t = ((f ≡ fault.Memory) ⊎ ((f ≡ fault.Limit kind.Ractors) × (a.limits.ractors ≤ length s.ractors))) × IsSame s t
+IsStartRefused a f s t = (((f ≡ fault.Memory) × (length s.ractors < a.limits.ractors)) ⊎ ((f ≡ fault.Limit kind.Ractors) × (a.limits.ractors ≤ length s.ractors))) × IsSame s t
 
 -- a ractor that has ended is one without objects that does not run
 abbrev pub ended_actor : Limits → Actor

@@ -1,11 +1,11 @@
 -- What opening the message in a hand leaves of a ractor.
-use Rattle.std.specs.Prelude.{◌≡◌, ◌+◌, ◌<◌, ◌⊎◌, ◌++◌, ◌∷◌, [], length, None, Some}
+use Rattle.std.specs.Prelude.{◌≡◌, ◌+◌, ◌<◌, ◌≤◌, ◌⊎◌, ◌++◌, ◌∷◌, [], length, None, Some}
 use Rattle.rr_base.specs.declared.fault.Fault.{Fault}
 use Rattle.rr_base.specs.declared.fault.Fault.TheVariants.{Memory, Limit}
 use Rattle.rr_base.specs.declared.limits.LimitKind.TheVariants.{Slots}
 use Rattle.rr_space.specs.Tables.{Packed}
 use Rattle.rr_space.specs.Moves.{IsOpened}
-use Rattle.rr_space.specs.Parts.{value_of, below_ref}
+use Rattle.rr_space.specs.Parts.{value_of, below_ref, IsWithin}
 use Rattle.rr_space.specs.declared.refer.Ref.{Ref}
 use Rattle.rr_copy.specs.Messages.{size_of}
 use Rattle.rr_world.specs.Views.{Member, AreRootsWithin}
@@ -19,9 +19,11 @@ OpenRefusal fault m old = (fault ≡ Memory) ⊎ ((fault ≡ Limit Slots) × (ol
 -- the message in the hand is opened in the space, and its root comes last
 pub record IsOpenedBy (m : Packed) (root : Ref) (old new : Member) : Type 0 where
   pub held : old.hand ≡ Some m
+  pub room : length new.space.slots ≤ new.space.limit
   pub within : AreRootsWithin (length old.space.slots) old.roots
   pub opened : IsOpened m old.space new.space (value_of root)
   pub below : below_ref root ≡ m.root_below
+  pub rooted : IsWithin (length new.space.slots) root
   pub roots : new.roots ≡ old.roots ++ root ∷ []
   pub hand : new.hand ≡ None
   pub home : new.home ≡ None

@@ -2,7 +2,7 @@
 use Rattle.std.specs.Prelude.{◌≡◌, ◌↔◌, ℕ, ◌+◌, List, [], ◌∷◌, ◌++◌, length, Option, Some, None, Contains, slice_set}
 use Rattle.rr_base.specs.declared.name.RactorNo.{RactorNo as Number}
 use Rattle.rr_base.specs.declared.event.StoreEvent.TheVariants as store
-use Rattle.rr_space.specs.Graph.{Own, Value, At, Reaches, IsShareable, IsFreeOfShells}
+use Rattle.rr_space.specs.Graph.{Own, Value, At, IsAt, Reaches, IsShareable, IsFreeOfShells}
 use Rattle.rr_space.specs.Readings.{Space, Owned, whole}
 use Rattle.rr_space.specs.Steps.{MayBePublished, IsPublished}
 use Rattle.rr_world.specs.States.{Actor, State, with_archive}
@@ -22,10 +22,11 @@ pub record IsToPublish (k : ℕ) (x : Value) (s : State) (n : ℕ) : Type 0 wher
   pub shareable : IsShareable (whole s.objects) (At (Own n))
 
 -- plan: the value leads to no shell; the plan comes into the hand with exactly the ractor's own shareable objects that the value
--- leads to, and where there are none the hand stays empty. The graph stays
+-- leads to, each once, and where there are none the hand stays empty. The graph stays
 pub record IsPlannedAs (k : ℕ) (a : Actor) (x : Value) (ns : List ℕ) (s t : State) : Type 0 where
   pub free : IsFreeOfShells (whole s.objects) x
   pub exact : (n : ℕ) → Contains ns n ↔ IsToPublish k x s n
+  pub distinct : (n i j : ℕ) → IsAt ns n i → IsAt ns n j → i ≡ j
   pub objects : (n : ℕ) → t.objects n ≡ s.objects n
   pub ractors : t.ractors ≡ slice_set s.ractors k (record a { plan = kept_names ns })
   pub post : t.post ≡ s.post

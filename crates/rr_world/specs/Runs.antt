@@ -1,7 +1,7 @@
 -- Runs of the graph machine, and what it is for a World to make one.
 use Rattle.std.specs.Prelude.{◌≡◌, ℕ, true, List, [], ◌∷◌, None}
 use Rattle.rr_base.specs.declared.limits.Limits.{Limits}
-use Rattle.rr_space.specs.Readings.{Objects, Naming, IsApart}
+use Rattle.rr_space.specs.Readings.{Objects, Naming}
 use Rattle.rr_inbox.specs.Inboxes.{new_inbox}
 use Rattle.rr_port.specs.Ports.{new_port}
 use Rattle.rr_store.specs.Stores.{new_store}
@@ -11,6 +11,7 @@ use Rattle.rr_world.specs.States.{State}
 use Rattle.rr_world.specs.Readings.{state_in}
 use Rattle.rr_world.specs.Cases.{IsOutcome, IsCase}
 use Rattle.rr_world.specs.Naming.{AreNamesKept}
+use Rattle.rr_world.specs.Holding.{AreHoldersApart}
 use Rattle.rr_world.specs.declared.step.Step.{Step}
 use Rattle.rr_world.specs.declared.step.Reply.{Reply}
 
@@ -19,7 +20,7 @@ abbrev pub Chain : List Step → List Reply → State → State → Type 0
 Chain [] [] s t = s ≡ t
 Chain [] (r ∷ rs) s t = ⊥
 Chain (x ∷ xs) [] s t = ⊥
-Chain (x ∷ xs) (r ∷ rs) s t = (mid : State) × IsCase x r s mid × IsApart mid.objects × Chain xs rs mid t
+Chain (x ∷ xs) (r ∷ rs) s t = (mid : State) × IsCase x r s mid × AreHoldersApart mid × Chain xs rs mid t
 
 -- from each reading of the World before there is one after, and the reply is the outcome of the step, if the ractor runs; and
 -- names are kept

@@ -1,28 +1,47 @@
 //! Changes of one object of a ractor, and reads.
 
-ghost use Rattle.std.specs.Prelude.{IfSome, IfNone};
+ghost use Rattle.std.specs.Prelude.{◌≡◌, IfSome, IfNone, IsTrue};
 ghost use Rattle.rr_world.specs.Changing.{
   Appends,
+  AreRaisable,
   AreSettable,
   AreWritable,
+  Clears,
   Freezes,
   IsNamedRef,
   IsWritableText,
   MayBeAppended,
   MayBePushed,
+  MayBeRaised,
   MayBeSet,
   Pushes,
   Reads,
   Sets,
+  SetsRaised,
+  Takes,
   Writes,
 };
-ghost use Rattle.rr_space.specs.Labels.{label_of};
+ghost use Rattle.rr_space.specs.Labels.{is_raised_label, label_of};
+ghost use Rattle.rr_world.specs.ObjectCases.{part_label};
 
 use crate::outcome::Outcome;
 use crate::ractor::Ractor;
-use crate::step::Operand;
+use crate::step::{Operand, RaisedPart};
 use rr_base::{Fault, Sym};
 use rr_space::{Kind, Label, Ref};
+use std::alloc::Global;
+
+// The label that a part of an exception stands under.
+fn label_of_part(part: RaisedPart) -> Label
+    ensures is { label_of result ≡ part_label part }
+    ensures raised { IsTrue (is_raised_label (label_of result)) }
+{
+    match part {
+        RaisedPart::Message => Label::Message,
+        RaisedPart::Cause => Label::Cause,
+        RaisedPart::Ractor => Label::Ractor,
+    }
+}
 
 impl Ractor {
     /// Freezes one object.
@@ -67,6 +86,17 @@ impl Ractor {
         Outcome::Done
     }
 
+    /// Takes all bytes out of a text.
+    pub(crate) fn clear_text(&mut self, alloc: Global, text: Operand) -> Outcome
+        ensures { Clears text result self.old self.new }
+    {
+        let Some(text) = self.writable_text(text) else {
+            return Outcome::NotEnabled;
+        };
+        self.space.write_text(text, Vec::new(alloc));
+        Outcome::Done
+    }
+
     // The array and the value that the operands are, where the array may be written.
     fn writable_array(&self, array: Operand, value: Operand) -> Option<(Ref, Ref)>
         ensures some { IfSome result (λ p. AreWritable array value self.now p.0 p.1) }
@@ -106,6 +136,21 @@ impl Ractor {
         self.space.write_element(array, place as usize, value);
         Outcome::Done
     }
+
+    /// Takes an element out of an array.
+    pub(crate) fn take_element(&mut self, array: Operand, place: u32) -> Outcome
+        ensures { Takes array place result self.old self.new }
+    {
+        let Some((array, _)) = self.writable_array(array, Operand::Nil) else {
+            return Outcome::NotEnabled;
+        };
+        if place as usize >= self.space.arity(array) {
+            return Outcome::NotEnabled;
+        }
+        let _element = self.space.take_element(array, place as usize);
+        Outcome::Done
+    }
+
     // The plain object and the value that the operands are, where the object may be written.
     fn writable_object(&self, object: Operand, value: Operand) -> Option<(Ref, Ref)>
         ensures some { IfSome result (λ p. AreSettable object value self.now p.0 p.1) }
@@ -129,6 +174,36 @@ impl Ractor {
         if let Err(fault) = self.space.write_field(object, name, value) {
             return Outcome::Refused(fault);
         }
+        Outcome::Done
+    }
+
+    // The exception and the value that the operands are, where the exception may be written.
+    fn writable_exception(&self, exception: Operand, value: Operand) -> Option<(Ref, Ref)>
+        ensures some { IfSome result (λ p. AreRaisable exception value self.now p.0 p.1) }
+        ensures none { IfNone result (MayBeRaised exception self.now → IsNamedRef value self.now → ⊥) }
+    {
+        let exception = self.named(exception)?;
+        let value = self.named(value)?;
+        if !self.space.can_write(exception) || self.space.kind_of(exception) != Kind::Exception {
+            return None;
+        }
+        Some((exception, value))
+    }
+
+    /// Sets a part of an exception.
+    pub(crate) fn set_raised(
+        &mut self,
+        exception: Operand,
+        part: RaisedPart,
+        value: Operand,
+    ) -> Outcome
+        ensures { SetsRaised exception part value result self.old self.new }
+    {
+        let Some((exception, value)) = self.writable_exception(exception, value) else {
+            return Outcome::NotEnabled;
+        };
+        self.space
+            .write_raised(exception, label_of_part(part), value);
         Outcome::Done
     }
 

@@ -18,5 +18,5 @@ mod world;
 pub use laws::shown_by_names;
 pub use rr_port::Settled;
 pub use rr_space::Label;
-pub use step::{Action, LastKind, NewObject, Operand, Reply, Step};
+pub use step::{Action, LastKind, NewObject, Operand, RaisedPart, Reply, Step};
 pub use world::World;

@@ -1,11 +1,12 @@
 //! A ractor: its space, the values that it holds, and its hand.
 
-ghost use Rattle.std.specs.Prelude.{◌≡◌, ◌≤◌, ◌↔◌, [], true, IsTrue, Some, None};
-ghost use Rattle.std.specs.Prelude.{length, IfSome, IfNone};
+ghost use Rattle.std.specs.Prelude.{◌≡◌, ◌<◌, ◌≤◌, ◌↔◌, ◌⊎◌, ◌++◌, ◌∷◌, ℕ, [], true, IsTrue, Some, None};
+ghost use Rattle.std.specs.Prelude.{length, IfSome, IfNone, IfOk, IfErr};
 ghost use Rattle.std.specs.Option.{ForSome};
 ghost use Rattle.std.specs.Bool.{OnTrue, OnFalse};
 ghost use Rattle.rr_space.specs.Parts.{IsWithin};
-ghost use Rattle.rr_space.specs.Views.{AreFieldsDistinct, node_parts, object_of};
+ghost use Rattle.rr_space.specs.Tables.{Here, IsRestKept};
+ghost use Rattle.rr_space.specs.Views.{AreFieldsDistinct, IsNodeWithin, below_node, object_of};
 ghost use Rattle.rr_world.specs.Allocating.{Allocs};
 ghost use Rattle.rr_world.specs.ObjectCases.{new_object};
 ghost use Rattle.rr_world.specs.Opening.{Opened};
@@ -15,14 +16,15 @@ ghost use Rattle.rr_world.specs.Getting.{IsOwnRef, IsPublicRef, Joins};
 ghost use Rattle.rr_world.specs.Starting.{IsOver};
 ghost use Rattle.rr_space.specs.declared.refer.Ref.{Ref};
 ghost use Rattle.rr_move.specs.Homes.{IsHomeOf};
+ghost use Rattle.rr_world.specs.declared.step.NewObject.TheVariants.{Exception};
 
 use crate::outcome::Outcome;
 use crate::packing::copy_of;
 use crate::step::{NewObject, Operand};
-use rr_base::{Fault, Limits, RactorNo, Ticket};
+use rr_base::{ClassId, Fault, LimitKind, Limits, RactorNo, Ticket};
 use rr_copy::{Message, open};
 use rr_move::{Hand, Home};
-use rr_space::{Items, Node, Ref, Space};
+use rr_space::{Entries, Items, Node, Raised, Ref, Space};
 use std::alloc::Global;
 use std::marker::Model;
 
@@ -48,17 +50,59 @@ impl Model for Ractor {
     ghost invariant = { λ r. AreRootsWithin (length r.space.slots) r.roots.items × (3 ≤ r.limits.events) × IsHandFit r.space r.hand × AreAway r.space.slots (message_in r.hand) (home_in r.hand) };
 }
 
-// What a new object is made of.
-fn empty_node(alloc: Global, new: NewObject) -> Node
-    ensures object { object_of result ≡ new_object new }
-    ensures parts { node_parts result ≡ [] }
-    ensures fields { AreFieldsDistinct result }
+// An exception without message, cause, ractor and fields. `Memory` is the only fault.
+fn bare_exception(alloc: Global, class: ClassId) -> Result<Node, Fault>
+    ensures object { IfOk result (λ node. object_of node ≡ new_object (Exception class)) }
+    ensures below { IfOk result (λ node. below_node node ≡ []) }
+    ensures within { (k : ℕ) → IfOk result (λ node. IsNodeWithin k node) }
+    ensures fields { IfOk result AreFieldsDistinct }
+    ensures fault { IfErr result (λ fault. fault ≡ Fault.Memory) }
+{
+    let raised = Raised {
+        message: Ref::Nil,
+        cause: Ref::Nil,
+        ractor: Ref::Nil,
+        fields: Vec::new(alloc),
+    };
+    Ok(Node::Exception(class, Box::new(alloc, raised)?))
+}
+
+// What a new object is made of. `Memory` is the only fault.
+fn empty_node(alloc: Global, new: NewObject) -> Result<Node, Fault>
+    ensures object { IfOk result (λ node. object_of node ≡ new_object new) }
+    ensures below { IfOk result (λ node. below_node node ≡ []) }
+    ensures within { (k : ℕ) → IfOk result (λ node. IsNodeWithin k node) }
+    ensures fields { IfOk result AreFieldsDistinct }
+    ensures fault { IfErr result (λ fault. fault ≡ Fault.Memory) }
 {
     match new {
-        NewObject::Text => Node::Text(Vec::new(alloc)),
-        NewObject::Array => Node::Array(Items::new(alloc)),
-        NewObject::Object(class) => Node::Object(class, Vec::new(alloc)),
+        NewObject::Text => Ok(Node::Text(Vec::new(alloc))),
+        NewObject::Array => Ok(Node::Array(Items::new(alloc))),
+        NewObject::Hash => {
+            let entries = Box::new(alloc, Entries::new(alloc))?;
+            Ok(Node::Hash(entries))
+        }
+        NewObject::Object(class) => Ok(Node::Object(class, Vec::new(alloc))),
+        NewObject::Exception(class) => bare_exception(alloc, class),
     }
+}
+
+// A new object in a space.
+//
+// The faults leave the space as it was: `Limit(Slots)`, where it is full, and `Memory`.
+fn alloc_empty(alloc: Global, space: &mut Space, new: NewObject) -> Result<Ref, Fault>
+    ensures name { IfOk result (λ root. root ≡ Ref.Local (length space.old.slots)) }
+    ensures slots { IfOk result (λ _. space.new.slots ≡ space.old.slots ++ Here (new_object new) ∷ []) }
+    ensures below { IfOk result (λ _. space.new.below ≡ space.old.below ++ [] ∷ []) }
+    ensures rest { IsRestKept space.old space.new }
+    ensures room { IfOk result (λ _. length space.old.slots < space.old.limit) }
+    ensures refused { IfErr result (λ _. space.new ≡ space.old) }
+    ensures fault { IfErr result (λ fault. (fault ≡ Fault.Memory) ⊎ ((fault ≡ Fault.Limit LimitKind.Slots) × (length space.old.slots ≡ space.old.limit))) }
+{
+    // With the number of slots comes that there are no more than there may be.
+    let _slots = space.len();
+    let node = empty_node(alloc, new)?;
+    space.alloc(node)
 }
 
 impl Ractor {
@@ -242,7 +286,7 @@ impl Ractor {
         if self.roots.reserve(1).is_err() {
             return Outcome::Refused(Fault::Memory);
         }
-        match self.space.alloc(empty_node(alloc, new)) {
+        match alloc_empty(alloc, &mut self.space, new) {
             Ok(root) => {
                 self.roots.push_reserved(root);
                 Outcome::Done
@@ -285,6 +329,8 @@ impl Ractor {
         match open(&mut self.space, message) {
             Ok(root) => {
                 self.roots.push_reserved(root);
+                // With the number of slots comes that there are no more than there may be.
+                let _slots = self.space.len();
                 Outcome::Done
             }
             Err((fault, message)) => {

@@ -21,8 +21,11 @@ pub enum Operand {
 pub enum NewObject {
     Text,
     Array,
+    Hash,
     /// A plain object of the class.
     Object(ClassId),
+    /// An exception of the class. Its message, its cause and its ractor are nil.
+    Exception(ClassId),
 }
 
 /// What a ractor leaves at its end: the value of its block, or the exception that ended it.
@@ -30,6 +33,16 @@ pub enum NewObject {
 pub enum LastKind {
     Value,
     Fault,
+}
+
+/// A part that every exception has.
+#[derive(Clone, Copy, Drop)]
+pub enum RaisedPart {
+    Message,
+    /// The exception that was being rescued.
+    Cause,
+    /// Of a remote error the ractor that ended by it.
+    Ractor,
 }
 
 /// What a ractor does in one step.
@@ -78,13 +91,19 @@ pub enum Action {
     Freeze(Operand),
     /// A byte comes behind those of the ractor's own text, which is not frozen.
     Append(Operand, u8),
+    /// The ractor's own text, which is not frozen, has no bytes any more.
+    Clear(Operand),
     /// A value comes behind the elements of the ractor's own array, which is not frozen.
     Push(Operand, Operand),
     /// A value comes in the place of an element, by its number from 0, of the ractor's own array, which is not frozen.
     Write(Operand, u32, Operand),
+    /// An element, by its number from 0, goes from the ractor's own array, which is not frozen; those behind it close up.
+    Take(Operand, u32),
     /// A value comes into a field of the ractor's own plain object, which is not frozen: in the place of what was there, or
     /// behind the others.
     SetField(Operand, Sym, Operand),
+    /// A value comes in the place of a part of the ractor's own exception, which is not frozen.
+    SetRaised(Operand, RaisedPart, Operand),
     /// A ractor starts, under the limits of the run, and its inbox and its port with it.
     Start,
     /// The ractor ends: its objects, its roots and what is in its hand go, and it makes no step any more. Its inbox and its port

@@ -5,10 +5,10 @@ ghost use Rattle.rr_world.specs.Enabling.{StandsAt};
 ghost use Rattle.rr_world.specs.Runs.{HasReading, IsNew, IsRun, IsStep, HasOutcome};
 ghost use Rattle.rr_world.specs.Views.{RunsAt};
 ghost use Rattle.rr_world.specs.declared.step.Action.TheVariants.{Alloc, Pack, Plan, Discard, Offer, Accept, Open, Close};
-ghost use Rattle.rr_world.specs.declared.step.Action.TheVariants.{Freeze, Append, Push, Write, SetField, Start, End, Read, Detach, PutBack};
+ghost use Rattle.rr_world.specs.declared.step.Action.TheVariants.{Freeze, Append, Clear, Push, Write, Take, SetField, SetRaised, Start, End, Read, Detach, PutBack};
 
 use crate::ractor::Ractor;
-use crate::step::{Action, NewObject, Operand, Reply, Step};
+use crate::step::{Action, NewObject, Operand, RaisedPart, Reply, Step};
 use rr_base::{Fault, LimitKind, Limits, RactorNo, Sym};
 use rr_inbox::{Front, InboxState};
 use rr_move::shown_by_moving;
@@ -222,6 +222,16 @@ impl World {
         ractor.append(text, byte).reply()
     }
 
+    // A text has no bytes any more.
+    fn clear_text(&mut self, alloc: Global, who: RactorNo, place: usize, text: Operand) -> Reply
+        requires stands { StandsAt who place }
+        requires within { place < length self.old.ractors }
+        ensures { HasOutcome (record { who = who; action = Clear text }) result self.old self.new }
+    {
+        let ractor = &mut self.ractors[place];
+        ractor.clear_text(alloc, text).reply()
+    }
+
     // A value comes behind the elements of an array.
     fn push(&mut self, who: RactorNo, place: usize, array: Operand, value: Operand) -> Reply
         requires stands { StandsAt who place }
@@ -247,6 +257,33 @@ impl World {
     {
         let ractor = &mut self.ractors[place];
         ractor.write(array, at, value).reply()
+    }
+
+    // An element goes from an array.
+    fn take_element(&mut self, who: RactorNo, place: usize, array: Operand, at: u32) -> Reply
+        requires stands { StandsAt who place }
+        requires within { place < length self.old.ractors }
+        ensures { HasOutcome (record { who = who; action = Take array at }) result self.old self.new }
+    {
+        let ractor = &mut self.ractors[place];
+        ractor.take_element(array, at).reply()
+    }
+
+    // A part of an exception is set.
+    fn set_raised(
+        &mut self,
+        who: RactorNo,
+        place: usize,
+        exception: Operand,
+        part: RaisedPart,
+        value: Operand,
+    ) -> Reply
+        requires stands { StandsAt who place }
+        requires within { place < length self.old.ractors }
+        ensures { HasOutcome (record { who = who; action = SetRaised exception part value }) result self.old self.new }
+    {
+        let ractor = &mut self.ractors[place];
+        ractor.set_raised(exception, part, value).reply()
     }
 
     // A field of an object is set.
@@ -359,8 +396,13 @@ impl World {
             Action::GetConst(name) => self.get_const(who, place, name),
             Action::Freeze(object) => self.freeze(who, place, object),
             Action::Append(text, byte) => self.append(who, place, text, byte),
+            Action::Clear(text) => self.clear_text(alloc, who, place, text),
             Action::Push(array, value) => self.push(who, place, array, value),
             Action::Write(array, at, value) => self.write(who, place, array, at, value),
+            Action::Take(array, at) => self.take_element(who, place, array, at),
+            Action::SetRaised(exception, part, value) => self.set_raised(
+                who, place, exception, part, value,
+            ),
             Action::SetField(object, name, value) => self.set_field(
                 who, place, object, name, value,
             ),

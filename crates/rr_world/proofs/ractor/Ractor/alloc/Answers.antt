@@ -1,8 +1,7 @@
 use Rattle.std.proofs.Common.{◌≡◌, ◌≤◌, ◌+◌, ◌++◌, ◌∷◌, [], List, length, length-append, ap, sym, ◌∙◌, subst, arith}
-use Rattle.rr_space.specs.Graph.{Object}
-use Rattle.rr_space.specs.Parts.{IsWithin, below_parts}
+use Rattle.rr_space.specs.Parts.{IsWithin}
 use Rattle.rr_space.specs.Tables.{Here}
-use Rattle.rr_space.specs.Views.{object_of}
+use Rattle.rr_world.specs.ObjectCases.{new_object}
 use Rattle.rr_space.specs.declared.refer.Ref.{Ref}
 use Rattle.rr_space.specs.declared.refer.Ref.TheVariants.{Local}
 use Rattle.rr_move.specs.Hands.{message_in, home_in}
@@ -16,16 +15,16 @@ use Rattle.rr_world.proofs.ractor.Ractor.alloc.Goals as goal
 pub invariant_of-self-in-Ok : goal.invariant_of-self-in-Ok
 invariant_of-self-in-Ok c =
     let old = c.self.inside.space.slots in
-    let count : length c.alloc.new.self.slots ≡ length old + 1 = ap length c.in-Ok.ensures.slots ∙ length-append old (Here (object_of c.empty_node.result) ∷ []) in
-    let le : length old ≤ length c.alloc.new.self.slots = omega (arith, count) in
+    let count : length c.alloc_empty.new.space.slots ≡ length old + 1 = ap length c.in-Ok.ensures.slots ∙ length-append old (Here (new_object c.args.new) ∷ []) in
+    let le : length old ≤ length c.alloc_empty.new.space.slots = omega (arith, count) in
     let pushed : c.push_reserved.new.self.items ≡ c.self.inside.roots.items ++ c.in-Ok.root ∷ [] =
     c.push_reserved.ensures.items ∙ ap (λ (rs : List Ref). rs ++ c.in-Ok.root ∷ []) c.reserve.ensures.items in (
-      subst (λ (rs : List Ref). AreRootsWithin (length c.alloc.new.self.slots) rs) (sym pushed)
-          (roots_and_more (length old) (length c.alloc.new.self.slots) c.self.inside.roots.items c.in-Ok.root le c.self.invariant.0
-          (subst (λ (r : Ref). IsWithin (length c.alloc.new.self.slots) r) (sym c.in-Ok.ensures.name) (omega (arith, count)))),
+      subst (λ (rs : List Ref). AreRootsWithin (length c.alloc_empty.new.space.slots) rs) (sym pushed)
+          (roots_and_more (length old) (length c.alloc_empty.new.space.slots) c.self.inside.roots.items c.in-Ok.root le c.self.invariant.0
+          (subst (λ (r : Ref). IsWithin (length c.alloc_empty.new.space.slots) r) (sym c.in-Ok.ensures.name) (omega (arith, count)))),
       c.self.invariant.1,
-      hand_more c.self.inside.space c.alloc.new.self (object_of c.empty_node.result) c.self.inside.hand c.in-Ok.ensures.slots c.self.invariant.2,
-      subst (λ ss. AreAway ss (message_in c.self.inside.hand) (home_in c.self.inside.hand)) (sym c.in-Ok.ensures.slots) (away_more c.self.inside.space.slots (Here (object_of c.empty_node.result) ∷ []) (message_in c.self.inside.hand) (home_in c.self.inside.hand) c.self.invariant.3),
+      hand_more c.self.inside.space c.alloc_empty.new.space (new_object c.args.new) c.self.inside.hand c.in-Ok.ensures.slots c.self.invariant.2,
+      subst (λ ss. AreAway ss (message_in c.self.inside.hand) (home_in c.self.inside.hand)) (sym c.in-Ok.ensures.slots) (away_more c.self.inside.space.slots (Here (new_object c.args.new) ∷ []) (message_in c.self.inside.hand) (home_in c.self.inside.hand) c.self.invariant.3),
     )
 
 pub returns-in-Ok : goal.returns-in-Ok
@@ -33,7 +32,6 @@ returns-in-Ok c =
     let sp = c.self.inside.space in
     let pushed : c.push_reserved.new.self.items ≡ c.self.inside.roots.items ++ Local (length sp.slots) ∷ [] =
     c.push_reserved.ensures.items ∙ ap (λ (rs : List Ref). rs ++ c.in-Ok.root ∷ []) c.reserve.ensures.items ∙ ap (λ (r : Ref). c.self.inside.roots.items ++ r ∷ []) c.in-Ok.ensures.name in
-    alloc_by c.args.new c.args.self.now sp c.alloc.new.self c.self.inside.roots.items c.push_reserved.new.self.items c.self.inside.hand c.self.inside.limits c.self.inside.runs c.self.view_is
-    (c.in-Ok.ensures.slots ∙ ap (λ (o : Object). sp.slots ++ Here o ∷ []) c.empty_node.ensures.object)
-    (c.in-Ok.ensures.below ∙ ap (λ ps. sp.below ++ below_parts ps ∷ []) c.empty_node.ensures.parts)
-    c.alloc.ensures.rest pushed c.self.invariant.0 c.self.invariant.2 c.self.invariant.3
+    alloc_by c.args.new c.args.self.now sp c.alloc_empty.new.space c.self.inside.roots.items c.push_reserved.new.self.items c.self.inside.hand c.self.inside.limits c.self.inside.runs c.self.view_is
+    c.in-Ok.ensures.room c.in-Ok.ensures.slots c.in-Ok.ensures.below
+    c.alloc_empty.ensures.rest pushed c.self.invariant.0 c.self.invariant.2 c.self.invariant.3

@@ -119,3 +119,15 @@ returns-in-Grab c =
 pub returns-in-ClosePort : goal.returns-in-ClosePort
 returns-in-ClosePort c =
     subst (λ (a : Action). HasOutcome (record { who = c.args.who; action = a }) c.close_port.result c.args.self.now c.close_port.new.self) (sym c.in-ClosePort.is) c.close_port.ensures
+
+pub returns-in-Clear : goal.returns-in-Clear
+returns-in-Clear c =
+    subst (λ (a : Action). HasOutcome (record { who = c.args.who; action = a }) c.clear_text.result c.args.self.now c.clear_text.new.self) (sym c.in-Clear.is) c.clear_text.ensures
+
+pub returns-in-Take : goal.returns-in-Take
+returns-in-Take c =
+    subst (λ (a : Action). HasOutcome (record { who = c.args.who; action = a }) c.take_element.result c.args.self.now c.take_element.new.self) (sym c.in-Take.is) c.take_element.ensures
+
+pub returns-in-SetRaised : goal.returns-in-SetRaised
+returns-in-SetRaised c =
+    subst (λ (a : Action). HasOutcome (record { who = c.args.who; action = a }) c.set_raised.result c.args.self.now c.set_raised.new.self) (sym c.in-SetRaised.is) c.set_raised.ensures

@@ -47,6 +47,7 @@ returns-in-Ok c =
     (read_at c.self.inside.inboxes.items w.channels.inboxes c.args.inbox i is c.requires.is_inbox c.index_mut-2.ensures.value)
     c.in-Some.ensures.some.0
     (record {
+      room = d.ticket.2;
       unshut = d.ticket.1;
       tickets = subst (λ (x : Inbox). IsTicketed x) one c.history-events.ensures.tickets;
       inside = d.inside;

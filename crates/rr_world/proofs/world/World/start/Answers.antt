@@ -21,7 +21,7 @@ returns-in_default c =
     let vs : c.self.inside.ractors.items ≡ w.ractors = ap (λ (v : Assembly). v.ractors) c.self.view_is in
     start_refused w _ c.args.who c.args.place c.index.result.now _
     (read_at c.self.inside.ractors.items w.ractors c.args.place c.index.result.now vs c.requires.within c.index.ensures)
-    refl c.requires.stands (inl refl)
+    refl c.requires.stands (inl (refl, let l = ap (λ l. l.ractors) c.limits-limits.ensures.is in let t = c.if-count-limits.false in omega (arith, ap length vs, l, t, c.len-count.ensures)))
 
 pub returns-then-is_err : goal.returns-then-is_err
 returns-then-is_err c =
@@ -30,7 +30,7 @@ returns-then-is_err c =
     let is : c.self.inside.inboxes.items ≡ w.channels.inboxes = ap (λ (v : Assembly). v.channels.inboxes) c.self.view_is in
     start_refused w _ c.args.who c.args.place c.index.result.now _
     (read_at c.self.inside.ractors.items w.ractors c.args.place c.index.result.now vs c.requires.within c.index.ensures)
-    (same_assembly c.reserve.new.self.items w.ractors (channels (c.self.inside.store, c.self.inside.ports.items) c.self.inside.inboxes.items) w.channels (c.reserve.ensures.items ∙ vs) (channels_same (ap aside c.self.view_is) is)) c.requires.stands (inl refl)
+    (same_assembly c.reserve.new.self.items w.ractors (channels (c.self.inside.store, c.self.inside.ports.items) c.self.inside.inboxes.items) w.channels (c.reserve.ensures.items ∙ vs) (channels_same (ap aside c.self.view_is) is)) c.requires.stands (inl (refl, let l = ap (λ l. l.ractors) c.limits-limits.ensures.is in let t = c.if-count-limits.false in omega (arith, ap length vs, l, t, c.len-count.ensures)))
 
 pub returns-then-is_err-2 : goal.returns-then-is_err-2
 returns-then-is_err-2 c =
@@ -39,7 +39,7 @@ returns-then-is_err-2 c =
     let is : c.self.inside.inboxes.items ≡ w.channels.inboxes = ap (λ (v : Assembly). v.channels.inboxes) c.self.view_is in
     start_refused w _ c.args.who c.args.place c.index.result.now _
     (read_at c.self.inside.ractors.items w.ractors c.args.place c.index.result.now vs c.requires.within c.index.ensures)
-    (same_assembly c.reserve.new.self.items w.ractors (channels (c.self.inside.store, c.self.inside.ports.items) c.reserve-2.new.self.items) w.channels (c.reserve.ensures.items ∙ vs) (channels_same (ap aside c.self.view_is) (c.reserve-2.ensures.items ∙ is))) c.requires.stands (inl refl)
+    (same_assembly c.reserve.new.self.items w.ractors (channels (c.self.inside.store, c.self.inside.ports.items) c.reserve-2.new.self.items) w.channels (c.reserve.ensures.items ∙ vs) (channels_same (ap aside c.self.view_is) (c.reserve-2.ensures.items ∙ is))) c.requires.stands (inl (refl, let l = ap (λ l. l.ractors) c.limits-limits.ensures.is in let t = c.if-count-limits.false in omega (arith, ap length vs, l, t, c.len-count.ensures)))
 
 pub returns-then-is_err-3 : goal.returns-then-is_err-3
 returns-then-is_err-3 c =
@@ -49,7 +49,7 @@ returns-then-is_err-3 c =
     let ps : c.self.inside.ports.items ≡ w.channels.ports = ap (λ (v : Assembly). v.channels.ports) c.self.view_is in
     start_refused w _ c.args.who c.args.place c.index.result.now _
     (read_at c.self.inside.ractors.items w.ractors c.args.place c.index.result.now vs c.requires.within c.index.ensures)
-    (same_assembly c.reserve.new.self.items w.ractors (channels (c.self.inside.store, c.reserve-3.new.self.items) c.reserve-2.new.self.items) w.channels (c.reserve.ensures.items ∙ vs) (ports_put (ap (λ (v : Assembly). v.channels.store) c.self.view_is) (c.reserve-2.ensures.items ∙ is) (c.reserve-3.ensures.items ∙ ps))) c.requires.stands (inl refl)
+    (same_assembly c.reserve.new.self.items w.ractors (channels (c.self.inside.store, c.reserve-3.new.self.items) c.reserve-2.new.self.items) w.channels (c.reserve.ensures.items ∙ vs) (ports_put (ap (λ (v : Assembly). v.channels.store) c.self.view_is) (c.reserve-2.ensures.items ∙ is) (c.reserve-3.ensures.items ∙ ps))) c.requires.stands (inl (refl, let l = ap (λ l. l.ractors) c.limits-limits.ensures.is in let t = c.if-count-limits.false in omega (arith, ap length vs, l, t, c.len-count.ensures)))
 
 pub returns-in_default-new : goal.returns-in_default-new
 returns-in_default-new c =
@@ -57,7 +57,7 @@ returns-in_default-new c =
     let vs : c.self.inside.ractors.items ≡ w.ractors = ap (λ (v : Assembly). v.ractors) c.self.view_is in
     start_refused w _ c.args.who c.args.place c.index.result.now _
     (read_at c.self.inside.ractors.items w.ractors c.args.place c.index.result.now vs c.requires.within c.index.ensures)
-    refl c.requires.stands (inl refl)
+    refl c.requires.stands (inl (refl, let l = ap (λ l. l.ractors) c.limits-limits.ensures.is in let t = c.if-count-limits.false in omega (arith, ap length vs, l, t, c.len-count.ensures)))
 
 pub returns : goal.returns
 returns c =
@@ -75,4 +75,6 @@ returns c =
     (c.push_reserved-3.ensures.items ∙ ap (λ (ps : List Port). ps ++ c.in-Ok-new.port ∷ []) (c.reserve-3.ensures.items ∙ ps) ∙ ap (λ (p : Port). w.channels.ports ++ p ∷ []) c.in-Ok-new.ensures.made))
     c.args.who _ c.args.place c.index.result.now
     (read_at c.self.inside.ractors.items w.ractors c.args.place c.index.result.now vs c.requires.within c.index.ensures)
-    (sym c.limits-limits.ensures.is) c.requires.stands (omega (arith, many, c.len-count.ensures))
+    (sym c.limits-limits.ensures.is)
+    (let n = ap (λ l. l.ractors) c.limits-limits.ensures.is in let t = c.if-count-limits.false in omega (arith, many, n, t, c.len-count.ensures))
+    c.requires.stands (omega (arith, many, c.len-count.ensures))
