@@ -19,8 +19,8 @@ use rr_base::{Fault, LimitKind};
 use std::alloc::Global;
 
 impl Space {
-    /// The place of the pair of a hash that has this key, in order of insertion; none where the hash has no such pair. In a
-    /// published hash the pairs are tried one by one.
+    /// The place of the pair of a hash that has this key, in order of insertion; none where the hash has no such pair. A
+    /// published hash of many pairs has an index; one of few is searched pair by pair.
     pub fn find(&self, hash: Ref, key: &Key) -> Option<usize>
         ensures own { (ks : List HashKey) → keys_at self.now hash ≡ Some ks → MatchOption result (Contains ks (key_of key.now) → ⊥) (IsFirstAt ks (key_of key.now)) }
         ensures none { (kind_at self.now hash ≡ Kind.Hash → ⊥) → result ≡ None }
