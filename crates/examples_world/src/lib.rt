@@ -18,6 +18,8 @@ mod model_changes;
 #[cfg(test)]
 mod model_constants;
 #[cfg(test)]
+mod model_pairs;
+#[cfg(test)]
 mod model_plans;
 #[cfg(test)]
 mod model_ports;
@@ -25,6 +27,8 @@ mod model_ports;
 mod model_steps;
 #[cfg(test)]
 mod moves;
+#[cfg(test)]
+mod pairs;
 #[cfg(test)]
 mod plans;
 #[cfg(test)]

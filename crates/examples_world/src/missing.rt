@@ -7,7 +7,7 @@ use rr_world::{Action, Label, LastKind, NewObject, Operand, RaisedPart};
 use std::test::Fail;
 
 /// Each step, on a text, its own channels and constants.
-const EACH: [Action; 32] = [
+const EACH: [Action; 34] = [
     Action::Alloc(NewObject::Text),
     Action::Freeze(Operand::Root(0)),
     Action::Append(Operand::Root(0), b'a'),
@@ -17,6 +17,8 @@ const EACH: [Action; 32] = [
     Action::Take(Operand::Root(0), 0),
     Action::SetRaised(Operand::Root(0), RaisedPart::Cause, Operand::Nil),
     Action::SetField(Operand::Root(0), Sym(7), Operand::Nil),
+    Action::SetPair(Operand::Root(0), Operand::Nil, Operand::Nil),
+    Action::DeletePair(Operand::Root(0), 0),
     Action::Read(Operand::Root(0), Label::Place(0)),
     Action::Pack(Operand::Nil),
     Action::Detach(Operand::Nil),
@@ -196,6 +198,7 @@ fn a_frozen_object_is_not_changed(rt: HostRuntime) -> Result<(), Fail> {
             Action::Push(Operand::Root(1), Operand::Nil),
             Action::Write(Operand::Root(1), 0, Operand::Nil),
             Action::SetField(Operand::Root(2), Sym(7), Operand::Nil),
+            Action::SetField(Operand::Root(3), Sym(7), Operand::Nil),
             Action::Clear(Operand::Root(0)),
             Action::Take(Operand::Root(1), 0),
             Action::SetRaised(Operand::Root(3), RaisedPart::Ractor, Operand::Nil),

@@ -6,10 +6,15 @@ use rr_space::Label;
 use rr_world::{LastKind, Operand, RaisedPart, Reply, Settled};
 use std::alloc::{AllocError, Global};
 
-/// A value: an immediate, which no step tells from another, or an object by its name.
+/// A value: an immediate, or an object by its name.
 #[derive(Clone, Copy, Debug, PartialEq, Eq, Drop)]
 pub enum Value {
-    Plain,
+    Nil,
+    Truth(bool),
+    Int(i64),
+    Symbol(u32),
+    Class(u32),
+    Ractor(u16),
     At(usize),
 }
 
@@ -36,11 +41,14 @@ pub enum Kind {
     Shell,
 }
 
-/// What a value stands under: an element by its place, a field by its name, or a part of an exception.
+/// What a value stands under: an element by its place, a field by its name, the key or the value of a pair by its place, or a
+/// part of an exception.
 #[derive(Clone, Copy, Debug, PartialEq, Eq, Drop)]
 pub enum Mark {
     Place(usize),
     Field(u32),
+    Key(usize),
+    Value(usize),
     Message,
     Cause,
     Ractor,
@@ -51,6 +59,8 @@ pub struct Object {
     pub holder: Holder,
     pub kind: Kind,
     pub frozen: bool,
+    /// Of a text.
+    pub bytes: Vec<u8>,
     pub parts: Vec<(Mark, Value)>,
 }
 
@@ -171,10 +181,11 @@ pub fn mark_of(label: Label) -> Option<Mark> {
     match label {
         Label::Place(place) => Some(Mark::Place(place)),
         Label::Field(name) => Some(Mark::Field(name.0)),
+        Label::Key(place) => Some(Mark::Key(place)),
+        Label::Value(place) => Some(Mark::Value(place)),
         Label::Message => Some(Mark::Message),
         Label::Cause => Some(Mark::Cause),
         Label::Ractor => Some(Mark::Ractor),
-        _ => None,
     }
 }
 
@@ -263,7 +274,12 @@ impl Model {
                 let actor = self.actors.get(who)?;
                 actor.roots.get(number as usize).copied()
             }
-            _ => Some(Value::Plain),
+            Operand::Nil => Some(Value::Nil),
+            Operand::Truth(holds) => Some(Value::Truth(holds)),
+            Operand::Int(number) => Some(Value::Int(number)),
+            Operand::Symbol(symbol) => Some(Value::Symbol(symbol.0)),
+            Operand::Class(class) => Some(Value::Class(class.0)),
+            Operand::Ractor(ractor) => Some(Value::Ractor(ractor.0)),
         }
     }
 

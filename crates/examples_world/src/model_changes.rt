@@ -18,9 +18,9 @@ fn kind_of(new: NewObject) -> Kind {
 fn parts_of(alloc: Global, new: NewObject) -> Result<Vec<(Mark, Value)>, AllocError> {
     let mut parts = Vec::new(alloc);
     if let NewObject::Exception(_) = new {
-        parts.push((Mark::Message, Value::Plain))?;
-        parts.push((Mark::Cause, Value::Plain))?;
-        parts.push((Mark::Ractor, Value::Plain))?;
+        parts.push((Mark::Message, Value::Nil))?;
+        parts.push((Mark::Cause, Value::Nil))?;
+        parts.push((Mark::Ractor, Value::Nil))?;
     }
     Ok(parts)
 }
@@ -40,6 +40,7 @@ impl Model {
             holder: Holder::Ractor(who),
             kind: kind_of(new),
             frozen: false,
+            bytes: Vec::new(alloc),
             parts: parts_of(alloc, new)?,
         })?;
         Ok(Told::Done)
@@ -58,12 +59,26 @@ impl Model {
         }
     }
 
-    /// A text has other bytes, of which the model knows nothing.
-    pub fn rewrite(&mut self, who: usize, text: Operand) -> Told {
-        match self.open(who, text, Kind::Text) {
-            Some(_) => Told::Done,
-            None => Told::NotEnabled,
+    /// A byte comes behind those of a text.
+    pub fn append(&mut self, who: usize, text: Operand, byte: u8) -> Result<Told, AllocError> {
+        let Some(name) = self.open(who, text, Kind::Text) else {
+            return Ok(Told::NotEnabled);
+        };
+        if let Some(object) = self.objects.get_mut(name) {
+            object.bytes.push(byte)?;
         }
+        Ok(Told::Done)
+    }
+
+    /// A text has no bytes any more.
+    pub fn clear(&mut self, who: usize, text: Operand) -> Told {
+        let Some(name) = self.open(who, text, Kind::Text) else {
+            return Told::NotEnabled;
+        };
+        if let Some(object) = self.objects.get_mut(name) {
+            object.bytes.truncate(0);
+        }
+        Told::Done
     }
 
     /// A value comes under the next place of an array, under one of its places, into a field, or in the place of a part of
@@ -90,6 +105,21 @@ impl Model {
         };
         put(object, mark, value)?;
         Ok(Told::Done)
+    }
+
+    /// A value comes into a field of a plain object or of an exception.
+    pub fn set_field(
+        &mut self,
+        who: usize,
+        object: Operand,
+        name: u32,
+        value: Operand,
+    ) -> Result<Told, AllocError> {
+        let kind = match self.open(who, object, Kind::Exception) {
+            Some(_) => Kind::Exception,
+            None => Kind::Plain,
+        };
+        self.change(who, object, kind, Some(Mark::Field(name)), value)
     }
 
     /// An element goes from an array, and those behind it close up.

@@ -139,7 +139,10 @@ impl Model {
         let Some(actor) = self.actors.get_mut(who) else {
             return Told::NotEnabled;
         };
-        if actor.hand.is_some() || actor.waits.is_some_and(|waits| waits != ticket) {
+        if actor.hand.is_some()
+            || !actor.plan.is_empty()
+            || actor.waits.is_some_and(|waits| waits != ticket)
+        {
             return Told::NotEnabled;
         }
         match self.ports.get_mut(who) {

@@ -39,7 +39,7 @@ impl Model {
     fn copied(value: Value, names: &[usize]) -> Value {
         match value {
             Value::At(name) => names.get(name).map_or(value, |name| Value::At(*name)),
-            Value::Plain => Value::Plain,
+            plain => plain,
         }
     }
 
@@ -62,6 +62,7 @@ impl Model {
             holder: Holder::Hand(hand),
             kind: object.kind,
             frozen: object.frozen,
+            bytes: object.bytes.as_slice().to_vec(alloc)?,
             parts,
         }))
     }
@@ -100,6 +101,7 @@ impl Model {
             {
                 object.kind = Kind::Shell;
                 object.frozen = false;
+                object.bytes = Vec::new(alloc);
                 object.parts = Vec::new(alloc);
                 if let Some(actor) = self.actors.get_mut(who) {
                     actor.home.push((name, *copy))?;
@@ -163,12 +165,14 @@ impl Model {
             return Ok(());
         };
         let (kind, frozen) = (left.kind, left.frozen);
+        let bytes = left.bytes.as_slice().to_vec(alloc)?;
         for (mark, value) in &left.parts {
             parts.push((*mark, Model::returned(*value, home)))?;
         }
         if let Some(object) = self.objects.get_mut(name) {
             object.kind = kind;
             object.frozen = frozen;
+            object.bytes = bytes;
             object.parts = parts;
         }
         Ok(())
@@ -335,8 +339,10 @@ impl Model {
         match step.action {
             Action::Alloc(new) => self.alloc(alloc, who, new),
             Action::Freeze(operand) => Ok(self.freeze(who, operand)),
-            Action::Append(text, _) => Ok(self.rewrite(who, text)),
-            Action::Clear(text) => Ok(self.rewrite(who, text)),
+            Action::Append(text, byte) => self.append(who, text, byte),
+            Action::Clear(text) => Ok(self.clear(who, text)),
+            Action::SetPair(hash, key, value) => self.set_pair(who, hash, key, value),
+            Action::DeletePair(hash, place) => Ok(self.delete_pair(who, hash, place as usize)),
             Action::Take(array, place) => Ok(self.take(who, array, place as usize)),
             Action::SetRaised(exception, part, value) => {
                 self.change(
@@ -357,9 +363,7 @@ impl Model {
                     value,
                 )
             }
-            Action::SetField(object, name, value) => {
-                self.change(who, object, Kind::Plain, Some(Mark::Field(name.0)), value)
-            }
+            Action::SetField(object, name, value) => self.set_field(who, object, name.0, value),
             Action::Read(operand, label) => self.read(who, operand, mark_of(label)),
             Action::Pack(operand) => self.pack(alloc, who, operand, false),
             Action::Detach(operand) => self.pack(alloc, who, operand, true),

@@ -306,7 +306,7 @@ fn an_element_that_goes_lets_the_others_close_up(rt: HostRuntime) -> Result<(), 
 }
 
 #[test]
-fn the_parts_of_an_exception_are_set(rt: HostRuntime) -> Result<(), Fail> {
+fn the_parts_and_a_field_of_an_exception_are_set(rt: HostRuntime) -> Result<(), Fail> {
     answers_in_turn(
         &rt,
         rt.alloc(),
@@ -331,6 +331,16 @@ fn the_parts_of_an_exception_are_set(rt: HostRuntime) -> Result<(), Fail> {
             (
                 MAIN,
                 Action::SetRaised(Operand::Root(0), RaisedPart::Ractor, Operand::Ractor(MAIN)),
+                Told::Done,
+            ),
+            (
+                MAIN,
+                Action::SetField(Operand::Root(0), Sym(7), Operand::Int(1)),
+                Told::Done,
+            ),
+            (
+                MAIN,
+                Action::SetField(Operand::Root(0), Sym(7), Operand::Root(1)),
                 Told::Done,
             ),
             (

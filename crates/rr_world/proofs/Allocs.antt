@@ -41,6 +41,7 @@ use Rattle.rr_world.proofs.Staying.{stays, same_state, space_renamed}
 use Rattle.rr_world.proofs.Rooting.{roots_keep, roots_and_more}
 use Rattle.rr_world.proofs.Fitting.{waits_same}
 use Rattle.rr_world.proofs.Forwarding.{seen_length, seen_more}
+use Rattle.rr_world.proofs.KeyTables.{new_keys}
 
 -- what a new object has is an immediate
 plain_triples : (kind : NewObject) (l : Label) (x : Value) → Contains (new_object kind).triples (l, x) → (i : Immediate) × (x ≡ Plain i)
@@ -235,6 +236,7 @@ module _ (w w2 : Assembly) (k : ℕ) (m m2 : Member) (kind : NewObject) (at : sl
     hand = λ p e. K.hand p (sym A.hand ∙ e);
     plan = λ p e. K.plan p (sym A.plan ∙ e);
     published = λ p e. K.published p (sym A.published ∙ e);
+    keyed = new_keys tables kind m.space.slots m2.space.slots m.space.keys m2.space.keys A.slots A.keys A.even K.keyed;
   }
     where
       fewer : (e : ℕ × List Object) → Contains (joined m2.space.below) e → Contains (joined m.space.below) e

@@ -1,6 +1,7 @@
 -- What a change of one object leaves of a ractor.
 use Rattle.std.proofs.Common.{◌≡◌, ℕ, zero, suc, arith, ◌++◌, ◌⊎◌, ⊎_elim, inl, inr, List, [], ◌∷◌, length, map, Option, Some, None, IsTrue, Bool, true, false, slice_get, slice_set, Contains, sym, ap, ◌∙◌, subst, refl}
 use Rattle.std.specs.Prelude.{◌&&◌, not}
+use Rattle.std.proofs.lemmas.List.Elements.{Contains-append_cases}
 use Rattle.std.proofs.lemmas.Option.{none-some, slice_get_within}
 use Rattle.rr_base.specs.declared.limits.Limits.{Limits}
 use Rattle.rr_space.specs.Graph.{Kind, text, array, hash, plain, exception, shell, Object, Label, Field, Value}
@@ -8,20 +9,21 @@ use Rattle.rr_space.specs.Tables.{Table, Packed, Slot, Here, Led, Below, joined}
 use Rattle.rr_space.specs.Parts.{value_of, below_ref, IsWithin}
 use Rattle.rr_space.specs.Labels.{triples_at, triples_of, IsFirstUnder, raised_place}
 use Rattle.rr_space.specs.Kinds.{kind_at, kind_named, object_kind}
-use Rattle.rr_space.specs.Views.{emptied, can_freeze_at, can_write_at, slot_object, is_shell, is_whole, is_open, IsLedBy, IsKnownFrom, IsFirstAt, label_part}
+use Rattle.rr_space.specs.Views.{emptied, can_freeze_at, can_write_at, slot_object, is_shell, is_whole, is_open, IsLedAlso, IsLedBy, IsKnownFrom, IsFirstAt, label_part}
 use Rattle.rr_space.specs.declared.kind.Kind.TheVariants as kinds
 use Rattle.rr_space.specs.declared.refer.Ref.{Ref}
 use Rattle.rr_space.specs.declared.refer.Ref.TheVariants as ref
-use Rattle.rr_space.proofs.Sounds.{joined_back, joined_in, gets}
+use Rattle.rr_space.proofs.Renaming.{contains_at}
+use Rattle.rr_space.proofs.Sounds.{joined_back, joined_in, gets, none_in}
 use Rattle.rr_space.proofs.Hands.{append_left}
 use Rattle.rr_move.specs.Hands.{message_in, home_in}
 use Rattle.rr_move.specs.declared.home.Home.{Home}
 use Rattle.rr_move.specs.declared.hand.Hand.{Hand}
 use Rattle.rr_move.specs.declared.hand.Hand.TheVariants.{Empty, Planned, Published, Message, Moved, Shown}
 use Rattle.rr_world.specs.Views.{Member, AreAway, AreRootsWithin, IsHandFit, IsPublishedFit, plan_in, published_in, ticket_in}
-use Rattle.rr_world.specs.Enabling.{IsNoShell, IsOpen}
+use Rattle.rr_world.specs.Enabling.{IsNoShell, IsOpen, HasFields}
 use Rattle.rr_world.specs.ObjectCases.{with_field, with_part, part_label}
-use Rattle.rr_world.specs.Changing.{IsMadeOf, IsReadBy}
+use Rattle.rr_world.specs.Changing.{IsMadeOf, IsReadBy, LeadTo, DoKeysStay}
 use Rattle.rr_world.specs.Packing.{named_ref}
 use Rattle.rr_world.specs.declared.step.Operand.{Operand}
 use Rattle.rr_world.proofs.Fields.{field_cases}
@@ -66,6 +68,14 @@ is_array hash e = cc
 is_array plain e = cc
 is_array exception e = cc
 is_array shell e = cc
+
+is_hash : (k : Kind) → kind_named k ≡ kinds.Hash → k ≡ hash
+is_hash hash e = refl
+is_hash text e = cc
+is_hash array e = cc
+is_hash plain e = cc
+is_hash exception e = cc
+is_hash shell e = cc
 
 is_plain : (k : Kind) → kind_named k ≡ kinds.Object → k ≡ plain
 is_plain plain e = refl
@@ -112,11 +122,20 @@ open_text t v holds is = let s = open_slot t v holds in (s.0, s.1, s.2, s.3, (is
 pub open_array : (t : Table) (v : Ref) → IsTrue (can_write_at t v) → kind_at t v ≡ kinds.Array → (n : ℕ) × (o : Object) × (v ≡ ref.Local n) × (slice_get t.slots n ≡ Some (Here o)) × IsOpen array o
 open_array t v holds is = let s = open_slot t v holds in (s.0, s.1, s.2, s.3, (is_array s.1.kind (sym s.4 ∙ is), s.5))
 
-pub open_plain : (t : Table) (v : Ref) → IsTrue (can_write_at t v) → kind_at t v ≡ kinds.Object → (n : ℕ) × (o : Object) × (v ≡ ref.Local n) × (slice_get t.slots n ≡ Some (Here o)) × IsOpen plain o
+pub open_hash : (t : Table) (v : Ref) → IsTrue (can_write_at t v) → kind_at t v ≡ kinds.Hash → (n : ℕ) × (o : Object) × (v ≡ ref.Local n) × (slice_get t.slots n ≡ Some (Here o)) × IsOpen hash o
+open_hash t v holds is = let s = open_slot t v holds in (s.0, s.1, s.2, s.3, (is_hash s.1.kind (sym s.4 ∙ is), s.5))
+
+open_plain : (t : Table) (v : Ref) → IsTrue (can_write_at t v) → kind_at t v ≡ kinds.Object → (n : ℕ) × (o : Object) × (v ≡ ref.Local n) × (slice_get t.slots n ≡ Some (Here o)) × IsOpen plain o
 open_plain t v holds is = let s = open_slot t v holds in (s.0, s.1, s.2, s.3, (is_plain s.1.kind (sym s.4 ∙ is), s.5))
 
 pub open_exception : (t : Table) (v : Ref) → IsTrue (can_write_at t v) → kind_at t v ≡ kinds.Exception → (n : ℕ) × (o : Object) × (v ≡ ref.Local n) × (slice_get t.slots n ≡ Some (Here o)) × IsOpen exception o
 open_exception t v holds is = let s = open_slot t v holds in (s.0, s.1, s.2, s.3, (is_exception s.1.kind (sym s.4 ∙ is), s.5))
+
+-- one with fields
+pub open_fields : (t : Table) (v : Ref) → IsTrue (can_write_at t v) → (kind_at t v ≡ kinds.Object) ⊎ (kind_at t v ≡ kinds.Exception)
+    → (n : ℕ) × (o : Object) × (v ≡ ref.Local n) × (slice_get t.slots n ≡ Some (Here o)) × HasFields o
+open_fields t v holds (inl is) = let s = open_plain t v holds is in (s.0, s.1, s.2, s.3, inl s.4)
+open_fields t v holds (inr is) = let s = open_exception t v holds is in (s.0, s.1, s.2, s.3, inr s.4)
 
 -- a part of an exception is set, by its label
 pub part_set : (slots : List Slot) (n : ℕ) (o : Object) (part : RaisedPart) (l : Label) (x : Value) → l ≡ part_label part
@@ -207,32 +226,43 @@ pub open_whole : (kind : Kind) (o : Object) → (kind ≡ shell → ⊥) → IsO
 open_whole kind o differ opened is = differ (sym opened.0 ∙ is)
 
 -- what a space leads to after a write it led to before, or came with the value
-pub led_known : (v : Ref) (n : ℕ) (a b : List Below) → IsLedBy v n a b → (e : ℕ × List Object) → Contains (joined b) e → Contains (joined a) e ⊎ Contains (below_ref v) e
-led_known v n a b L e has =
+pub led_among : (vs : List Ref) (more : Below) (n : ℕ) (a b : List Below) → IsLedAlso more n a b → ((e : ℕ × List Object) → Contains more e → LeadTo vs e)
+    → (e : ℕ × List Object) → Contains (joined b) e → Contains (joined a) e ⊎ LeadTo vs e
+led_among vs more n a b L among e has =
     let z = joined_back b e has in
     ⊎_elim
     (λ same.
     let at : slice_get b n ≡ Some z.1 = ap (slice_get b) (sym same) ∙ z.2 in
     let old = gets a n (let lt = slice_get_within b n z.1 at in omega (arith, L.size, lt)) in
-    ⊎_elim (λ was. inl (joined_in a n old.0 e old.1 was)) (λ came. inr came) (L.same old.0 z.1 e old.1 at z.3))
+    ⊎_elim (λ was. inl (joined_in a n old.0 e old.1 was)) (λ came. inr (among e came)) (L.same old.0 z.1 e old.1 at z.3))
     (λ other. inl (joined_in a z.0 z.1 e (sym (L.others z.0 other) ∙ z.2) z.3))
     (eq_cases z.0 n)
 
-pub kept_known : (v : Ref) (a b : List Below) → b ≡ a → (e : ℕ × List Object) → Contains (joined b) e → Contains (joined a) e ⊎ Contains (below_ref v) e
-kept_known v a b same e has = inl (subst (λ x. Contains (joined x) e) same has)
+pub led_known : (v : Ref) (n : ℕ) (a b : List Below) → IsLedBy v n a b → (e : ℕ × List Object) → Contains (joined b) e → Contains (joined a) e ⊎ LeadTo (v ∷ []) e
+led_known v n a b L = led_among (v ∷ []) (below_ref v) n a b L (λ e has. (v, contains_at (v ∷ []) 0 v refl, has))
+
+pub led_both : (r v : Ref) (n : ℕ) (a b : List Below) → IsLedAlso (below_ref r ++ below_ref v) n a b → (e : ℕ × List Object) → Contains (joined b) e → Contains (joined a) e ⊎ LeadTo (r ∷ v ∷ []) e
+led_both r v n a b L = led_among (r ∷ v ∷ []) (below_ref r ++ below_ref v) n a b L
+    (λ e has. ⊎_elim (λ one. (r, contains_at (r ∷ v ∷ []) 0 r refl, one)) (λ two. (v, contains_at (r ∷ v ∷ []) 1 v refl, two)) (Contains-append_cases (below_ref r) (below_ref v) e has))
+
+pub led_less : (n : ℕ) (a b : List Below) → IsLedAlso [] n a b → (e : ℕ × List Object) → Contains (joined b) e → Contains (joined a) e ⊎ LeadTo [] e
+led_less n a b L = led_among [] [] n a b L (λ e has. absurd (none_in e has))
+
+pub kept_known : (a b : List Below) → b ≡ a → (e : ℕ × List Object) → Contains (joined b) e → Contains (joined a) e ⊎ LeadTo [] e
+kept_known a b same e has = inl (subst (λ x. Contains (joined x) e) same has)
 
 -- an object of the space is made another
-pub made : (op : Operand) (may : Object → Type 0) (change : Object → Object) (x v : Ref) (old : Member) (sp new : Table) (rs : List Ref) (hand : Hand) (limits : Limits) (runs : Bool) (n : ℕ) (o : Object)
+pub made : (op : Operand) (may : Object → Type 0) (change : Object → Object) (vs : List Ref) (v : Ref) (old : Member) (sp new : Table) (rs : List Ref) (hand : Hand) (limits : Limits) (runs : Bool) (n : ℕ) (o : Object)
     → member sp rs hand limits runs ≡ old → named_ref old.roots op ≡ Some v → v ≡ ref.Local n → slice_get sp.slots n ≡ Some (Here o) → may o → new.slots ≡ slice_set sp.slots n (Here (change o))
-    → ((e : ℕ × List Object) → Contains (joined new.below) e → Contains (joined sp.below) e ⊎ Contains (below_ref x) e) → new.limit ≡ sp.limit → new.owner ≡ sp.owner → new.next_message ≡ sp.next_message
-    → AreRootsWithin (length sp.slots) rs → AreAway sp.slots (message_in hand) (home_in hand) → IsHandFit sp hand → IsOut (published_in hand) n → IsWithin (length sp.slots) x → IsMadeOf op may change x old (member new rs hand limits runs)
-made op may change x v old sp new rs hand limits runs n o is named slot here holds slots below limit owner next within away fit out value =
-    subst (λ (m : Member). IsMadeOf op may change x m (member new rs hand limits runs)) is (
+    → ((e : ℕ × List Object) → Contains (joined new.below) e → Contains (joined sp.below) e ⊎ LeadTo vs e) → new.limit ≡ sp.limit → new.owner ≡ sp.owner → new.next_message ≡ sp.next_message
+    → AreRootsWithin (length sp.slots) rs → AreAway sp.slots (message_in hand) (home_in hand) → IsHandFit sp hand → IsOut (published_in hand) n → AreRootsWithin (length sp.slots) vs → DoKeysStay vs sp new → IsMadeOf op may change vs old (member new rs hand limits runs)
+made op may change vs v old sp new rs hand limits runs n o is named slot here holds slots below limit owner next within away fit out values keyed =
+    subst (λ (m : Member). IsMadeOf op may change vs m (member new rs hand limits runs)) is (
       n,
       o,
       record { named = subst (λ (m : Member). named_ref m.roots op ≡ Some v) (sym is) named ∙ ap (λ r. Some r) slot; here = seen_out sp (published_in hand) n fit.1 out ∙ here },
       holds,
-      record { within = within; value = value; slots = slots; below = below; limit = limit; roots = refl; hand = refl; home = refl; ticket = refl; plan = refl; planned = plan_below sp (plan_in hand) fit.0; published = refl; fit = fit.1; away = away; next = next; owner = owner; limits = refl; runs = refl },
+      record { within = within; values = values; slots = slots; below = below; keyed = keyed; limit = limit; roots = refl; hand = refl; home = refl; ticket = refl; plan = refl; planned = plan_below sp (plan_in hand) fit.0; published = refl; fit = fit.1; away = away; next = next; owner = owner; limits = refl; runs = refl },
     )
 
 pub read_by : (op : Operand) (l : Label) (v r : Ref) (old : Member) (sp : Table) (rs all : List Ref) (hand : Hand) (limits : Limits) (runs : Bool) → member sp rs hand limits runs ≡ old → all ≡ rs ++ r ∷ [] → named_ref old.roots op ≡ Some v

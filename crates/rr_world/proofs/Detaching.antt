@@ -51,6 +51,7 @@ use Rattle.rr_world.proofs.Tables.{space_was, hand_was, space_now, hand_now, res
 use Rattle.rr_world.proofs.Fitting.{waits_no_more}
 use Rattle.rr_world.specs.Naming.{IsRenamed}
 use Rattle.rr_world.proofs.Holding.{same_rooted}
+use Rattle.rr_world.proofs.KeyMoves.{copied_keys, emptied_keys}
 
 -- names of slots, one after another
 named_slots : (names : Naming) (h : Owner) (ns : List ℕ) → map (λ n. name_in names h (Own n)) ns ≡ map Own (map (slice_index (names h)) ns)
@@ -194,9 +195,11 @@ module _ (w w2 : Assembly) (who : RactorNo) (k : ℕ) (m m2 : Member) (op : Oper
       record {
         space = record { known = λ c os has. K.space.known c os (less_below d.home.slots m.space.below m2.space.below A.moved.emptied.below (c, os) has) };
         roots = λ r has. K.roots r (subst (λ (xs : List Ref). Contains xs r) roots_are has);
-        hand = λ p e. subst (λ (x : Packed). IsMessageKnown (layout w) x) (same_Some d.message p (sym held_message ∙ e)) (known_message (layout w) d.message A.moved.sound (known names bound g R knows));
+        hand = λ p e. subst (λ (x : Packed). IsMessageKnown (layout w) x) (same_Some d.message p (sym held_message ∙ e))
+            (known_message (layout w) d.message A.moved.sound (known names bound g R knows) (copied_keys (layout w) m.space (value_of v) d.home.slots d.message A.moved.copy K.keyed));
         plan = λ p e. absurd (none-some p (sym (ap (λ (x : Member). x.plan) A.now_is ∙ A.empty.plan) ∙ e));
         published = λ p e. absurd (none-some p (sym no_published ∙ e));
+        keyed = emptied_keys (layout w) m.space (value_of v) d.home.slots d.message A.moved.copy K.keyed m2.space A.moved.emptied;
       }
 
   -- the slots of the home were slots of the space

@@ -44,7 +44,7 @@ module _ (w w2 : Assembly) (k : ℕ) (m : Member) (at : slice_get w.ractors k �
         names,
         bound,
         q.0,
-        read_set w w2 k m (record m { hand = None; home = None; plan = None }) at rs is refl (waits_homeless m (record m { hand = None; home = None; plan = None }) refl) (R.held.roots k m at) (record { space = K.space; roots = K.roots; hand = λ p e. absurd (none-some p e); plan = λ p e. absurd (none-some p e); published = K.published }) R q.1,
+        read_set w w2 k m (record m { hand = None; home = None; plan = None }) at rs is refl (waits_homeless m (record m { hand = None; home = None; plan = None }) refl) (R.held.roots k m at) (record { space = K.space; roots = K.roots; hand = λ p e. absurd (none-some p e); plan = λ p e. absurd (none-some p e); published = K.published; keyed = K.keyed }) R q.1,
         (
           k,
           actor_in names k m,

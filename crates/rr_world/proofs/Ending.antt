@@ -127,7 +127,7 @@ module _ (w w2 : Assembly) (k : ℕ) (m m2 : Member) (at : slice_get w.ractors k
         names2,
         bound + 0,
         q.1,
-        read_set w w2 k m m2 at rs is (A.owner ∙ sym (R.owned k m at)) (waits_homeless m m2 A.home) (subst (λ (xs : List Ref). AreRootsWithin (length m2.space.slots) xs) (sym A.roots) tt) (bare_knows (layout w) m2 A.below A.roots A.hand A.plan A.published) R q.2,
+        read_set w w2 k m m2 at rs is (A.owner ∙ sym (R.owned k m at)) (waits_homeless m m2 A.home) (subst (λ (xs : List Ref). AreRootsWithin (length m2.space.slots) xs) (sym A.roots) tt) (bare_knows (layout w) m2 A.slots A.below A.roots A.hand A.plan A.published) R q.2,
         (
           k,
           actor_in names k m,

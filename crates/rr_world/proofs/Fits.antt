@@ -1,9 +1,10 @@
 -- A plan in a hand is one of the space still, while other objects change and new ones come.
 use Rattle.std.specs.Prelude.{◌&&◌, not}
-use Rattle.std.proofs.Common.{◌≡◌, ℕ, zero, suc, ⊎_elim, List, [], ◌∷◌, ◌++◌, Option, Some, None, Bool, IsTrue, true, false, slice_get, slice_set, Contains, sym, ap, ◌∙◌, subst, refl}
+use Rattle.std.proofs.Common.{◌≡◌, ℕ, zero, suc, ◌⊎◌, ⊎_elim, inl, inr, List, [], ◌∷◌, ◌++◌, Option, Some, None, Bool, IsTrue, true, false, slice_get, slice_set, Contains, sym, ap, ◌∙◌, subst, refl}
 use Rattle.std.proofs.lemmas.Option.{none-some, same_Some, slice_get_within}
 use Rattle.rr_space.specs.Graph.{Own, Published, Value, Plain, At, Label, Kind, text, array, hash, plain, exception, shell, Object, Matches, IsAt}
 use Rattle.rr_space.specs.Kinds.{kind_at, kind_named, object_kind}
+use Rattle.rr_space.specs.declared.kind.Kind.TheVariants as kinds
 use Rattle.rr_space.specs.Views.{can_freeze_at, can_write_at, is_open, is_shell, is_whole, slot_object}
 use Rattle.rr_space.specs.declared.refer.Ref.{Ref}
 use Rattle.rr_space.specs.declared.refer.Ref.TheVariants.{Local}
@@ -13,7 +14,7 @@ use Rattle.rr_space.proofs.Frames.{map_same}
 use Rattle.rr_space.proofs.Hands.{append_left, append_cases}
 use Rattle.rr_share.specs.declared.planned.Plan.{Plan}
 use Rattle.rr_move.specs.declared.hand.Hand.{Hand}
-use Rattle.rr_world.specs.Enabling.{IsNoShell, IsOpen}
+use Rattle.rr_world.specs.Enabling.{IsNoShell, IsOpen, HasFields}
 use Rattle.rr_world.specs.ObjectCases.{frozen}
 use Rattle.rr_world.specs.Changing.{MayChangeSlot}
 use Rattle.rr_world.specs.Packing.{named_ref}
@@ -109,6 +110,15 @@ hand_more a b o h is fit = hand_on a b h (subst (IsFrozenKept a.slots) (sym is) 
 pub never_frozen : {kind : Kind} (o p : Object) → IsOpen kind o → o.frozen ≡ true → p ≡ o
 never_frozen o p opened frozen = absurd (let z : true ≡ false = sym frozen ∙ opened.1 in let y : ⊥ = cc in y)
 
+-- what has fields and is not frozen is open
+pub fields_open : (o : Object) → HasFields o → IsOpen o.kind o
+fields_open o (inl opened) = (refl, opened.1)
+fields_open o (inr opened) = (refl, opened.1)
+
+pub fields_whole : (o : Object) → HasFields o → IsNoShell o
+fields_whole o (inl opened) is = let z : plain ≡ shell = sym opened.0 ∙ is in cc
+fields_whole o (inr opened) is = let z : exception ≡ shell = sym opened.0 ∙ is in cc
+
 pub open_out : {kind : Kind} (t : Table) (x : Option PublishedPlan) (n : ℕ) (o : Object) → IsPublishedFit t x → slice_get t.slots n ≡ Some (Here o) → IsOpen kind o → IsOut x n
 open_out t x n o fit at opened = thawed_out t x n o fit at (λ frozen. let z : true ≡ false = sym frozen ∙ opened.1 in let y : ⊥ = cc in y)
 
@@ -148,6 +158,12 @@ own_open kind op m r differ fit is may =
     whole : (o : Object) → IsOpen kind o → not (is_shell o.kind) && not o.frozen ≡ true
     whole o opened = ap (λ (b : Bool). not (is_shell o.kind) && not b) opened.1 ∙ ap (λ (b : Bool). b && true) (no_shell o.kind (λ e. differ (sym opened.0 ∙ e)))
 
+-- one with fields may be written too, and is of one of the two kinds
+pub own_fields : (op : Operand) (m : Member) (r : Ref) → IsPublishedFit m.space m.published → Some r ≡ named_ref m.roots op → MayChangeSlot op HasFields m
+    → IsTrue (can_write_at m.space r) × ((kind_at m.space r ≡ kinds.Object) ⊎ (kind_at m.space r ≡ kinds.Exception))
+own_fields op m r fit is (n, o, s, inl opened) = let both = own_open plain op m r (λ e. cc) fit is (n, o, s, opened) in (both.0, inl both.1)
+own_fields op m r fit is (n, o, s, inr opened) = let both = own_open exception op m r (λ e. cc) fit is (n, o, s, opened) in (both.0, inr both.1)
+
 -- an object that may be frozen
 pub own_whole : (op : Operand) (m : Member) (r : Ref) → IsPublishedFit m.space m.published → Some r ≡ named_ref m.roots op → MayChangeSlot op IsNoShell m → IsTrue (can_freeze_at m.space r) × (IsInPublished m r → ⊥)
 own_whole op m r fit is may =
@@ -174,3 +190,8 @@ pub seen_slot : {kind : Kind} (op : Operand) (m : Member) (v : Ref) (n : ℕ) (o
     → IsOpen kind o → MayChangeSlot op (IsOpen kind) m
 seen_slot op m v n o fit named slot here opened =
     (n, o, record { named = named ∙ ap (λ r. Some r) slot; here = seen_out m.space m.published n fit (open_out m.space m.published n o fit here opened) ∙ here }, opened)
+
+pub seen_fields : (op : Operand) (m : Member) (v : Ref) (n : ℕ) (o : Object) → IsPublishedFit m.space m.published → named_ref m.roots op ≡ Some v → v ≡ Local n → slice_get m.space.slots n ≡ Some (Here o)
+    → HasFields o → MayChangeSlot op HasFields m
+seen_fields op m v n o fit named slot here opened =
+    (n, o, record { named = named ∙ ap (λ r. Some r) slot; here = seen_out m.space m.published n fit (open_out m.space m.published n o fit here (fields_open o opened)) ∙ here }, opened)

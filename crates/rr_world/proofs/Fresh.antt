@@ -16,6 +16,7 @@ use Rattle.rr_world.specs.Views.{Member, Assembly, seen_slots, AreRootsWithin}
 use Rattle.rr_world.specs.Layouts.{MemberKnows, layout, space_slots, hand_slots, cluster_slots, message_slots, inbox_slots, port_inside, port_slots}
 use Rattle.rr_world.specs.Runs.{IsNew, HasReading}
 use Rattle.rr_world.proofs.Forwarding.{seen_plain}
+use Rattle.rr_world.proofs.KeyTables.{no_keys}
 use Rattle.rr_space.specs.declared.refer.Ref.{Ref}
 
 space_empty : (m : Member) (k : ℕ) (t : List Slot) → seen_slots m ≡ [] → option_map space_slots (slice_get (m ∷ []) k) ≡ Some t → t ≡ []
@@ -52,6 +53,7 @@ main_knows limits w N = record {
   hand = λ p is. absurd (none-some p (sym N.hand ∙ is));
   plan = λ p is. absurd (none-some p (sym N.plan ∙ is));
   published = λ p is. absurd (none-some p (sym N.published ∙ is));
+  keyed = no_keys (layout w) N.main.space.slots N.main.space.keys N.slots;
 }
 
 only_main : (limits : Limits) (w : Assembly) (N : IsNew limits w) (k : ℕ) (m : Member) → slice_get (N.main ∷ []) k ≡ Some m → MemberKnows (layout w) m

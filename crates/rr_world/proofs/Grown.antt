@@ -25,11 +25,12 @@ use Rattle.rr_store.specs.declared.constant.ConstValue.TheVariants.{Shareable}
 use Rattle.rr_store.specs.declared.constant.ConstValue.TheVariants as store
 use Rattle.rr_world.specs.Views.{Member, Assembly}
 use Rattle.rr_world.specs.States.{Letter, Farewell, Held}
-use Rattle.rr_world.specs.Layouts.{cluster_slots, layout, message_below, shown_inside, last_inside, port_inside, IsMessageKnown, MemberKnows, IsKnowing}
+use Rattle.rr_world.specs.Layouts.{cluster_slots, layout, message_slots, message_below, shown_inside, last_inside, port_inside, IsMessageKnown, MemberKnows, IsKnowing}
 use Rattle.rr_world.specs.Readings.{each_from, value_in, root_in, parcel_in, letter_in, mailbox_in, shown_in, farewell_in, showcase_in, actor_in, public_value, constant_in}
 use Rattle.rr_world.proofs.Lists.{each_same}
 use Rattle.rr_world.proofs.Namings.{box_with, case_with, parcel_with, same_actor, home_same, plan_same, published_same}
 use Rattle.rr_world.proofs.Starting.{at_last, before_last, none_behind}
+use Rattle.rr_world.proofs.KeyTables.{keys_on}
 
 module _ (w w2 : Assembly) (x : Whole) (more : w2.channels.store.clusters ≡ w.channels.store.clusters ++ x ∷ []) where
   abbrev pub number : ℕ
@@ -60,7 +61,7 @@ module _ (w w2 : Assembly) (x : Whole) (more : w2.channels.store.clusters ≡ w.
   place_grown d q (u, o, is, at) = (u, o, grown d u is, at)
 
   pub message_grown : (m : Packed) → IsMessageKnown (layout w) m → IsMessageKnown (layout w2) m
-  message_grown m K = record { below = knows_grown (message_below m) K.below; own = K.own; root = λ d q is. place_grown d q (K.root d q is) }
+  message_grown m K = record { below = knows_grown (message_below m) K.below; own = K.own; root = λ d q is. place_grown d q (K.root d q is); keyed = keys_on (layout w) (layout w2) (message_slots m) m.keys grown K.keyed }
 
   pub member_grown : (m : Member) → MemberKnows (layout w) m → MemberKnows (layout w2) m
   member_grown m K = record {
@@ -69,6 +70,7 @@ module _ (w w2 : Assembly) (x : Whole) (more : w2.channels.store.clusters ≡ w.
     hand = λ p is. message_grown p (K.hand p is);
     plan = λ p is. knows_grown p.cluster.below (K.plan p is);
     published = λ p is. knows_grown (below_hold p.cluster) (K.published p is);
+    keyed = keys_on (layout w) (layout w2) m.space.slots m.space.keys grown K.keyed;
   }
 
   module _ (names names2 : Naming) (N : IsNamed (Shared number) names names2) where

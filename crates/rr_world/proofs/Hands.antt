@@ -151,14 +151,16 @@ moved_away d v sp new now moved held home =
 
 -- a new object comes behind the slots, and last in the roots
 pub alloc_by : (new : NewObject) (old : Member) (sp now : Table) (rs all : List Ref) (hand : Hand) (limits : Limits) (runs : Bool) → member sp rs hand limits runs ≡ old
-    → length sp.slots < sp.limit → now.slots ≡ sp.slots ++ Here (new_object new) ∷ [] → now.below ≡ sp.below ++ [] ∷ [] → IsRestKept sp now → all ≡ rs ++ Local (length sp.slots) ∷ []
+    → length sp.slots < sp.limit → now.slots ≡ sp.slots ++ Here (new_object new) ∷ [] → now.below ≡ sp.below ++ [] ∷ [] → now.keys ≡ sp.keys ++ [] ∷ [] → length sp.keys ≡ length sp.slots → IsRestKept sp now → all ≡ rs ++ Local (length sp.slots) ∷ []
     → AreRootsWithin (length sp.slots) rs → IsHandFit sp hand → AreAway sp.slots (message_in hand) (home_in hand) → IsAllocatedBy new old (member now all hand limits runs)
-alloc_by new old sp now rs all hand limits runs is room slots below rest roots within fit away =
+alloc_by new old sp now rs all hand limits runs is room slots below keys even rest roots within fit away =
     subst (λ (m : Member). IsAllocatedBy new m (member now all hand limits runs)) is (record {
       room = room;
       within = within;
       slots = slots;
       below = below;
+      keys = keys;
+      even = even;
       limit = rest.limit;
       roots = roots;
       hand = refl;

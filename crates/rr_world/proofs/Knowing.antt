@@ -5,7 +5,7 @@ use Rattle.std.proofs.lemmas.List.Elements.{Contains-append_cases, Contains-appe
 use Rattle.std.proofs.lemmas.Option.{none-some, same_Some, slice_get_within}
 use Rattle.rr_space.specs.Graph.{Object}
 use Rattle.rr_space.specs.Tables.{Packed, Below, joined, below_hold}
-use Rattle.rr_space.specs.Parts.{below_ref}
+use Rattle.rr_space.specs.Parts.{value_of, below_ref}
 use Rattle.rr_space.specs.Readings.{Shared, Knows, Layout, Naming, Objects, IsReading, AreClustersInOrder}
 use Rattle.std.specs.Option.{option_map}
 use Rattle.rr_space.specs.declared.refer.Ref.{Ref}
@@ -16,9 +16,10 @@ use Rattle.rr_move.specs.declared.home.Home.{Home}
 use Rattle.rr_store.specs.Stores.{constant_of}
 use Rattle.rr_inbox.specs.declared.entry.Entry.{Entry}
 use Rattle.rr_world.specs.Views.{Member, Channels, Assembly, AreRootsWithin, with_inbox}
-use Rattle.rr_world.specs.Layouts.{cluster_slots, layout, message_below, IsMessageKnown, MemberKnows, IsKnowing, AreFound, AreOwned, IsRead}
+use Rattle.rr_world.specs.Layouts.{cluster_slots, layout, message_slots, message_below, IsMessageKnown, MemberKnows, IsKnowing, AreFound, AreOwned, IsRead}
 use Rattle.rr_world.specs.Opening.{IsOpenedBy}
 use Rattle.rr_world.proofs.Fitting.{WaitsAsBefore, fits_set}
+use Rattle.rr_world.proofs.KeyTables.{keys_on, opened_keys}
 use Rattle.rr_world.proofs.Lists.{eq_cases, set_at, set_cases, set_off}
 use Rattle.rr_world.proofs.Holding.{rooted_set, inboxes_same, inboxes_set, ports_same}
 
@@ -36,6 +37,7 @@ message_on w w2 same m K = record {
   below = knows_on w w2 same (message_below m) K.below;
   own = K.own;
   root = λ c p is. let q = K.root c p is in (q.0, q.1, clusters_same w w2 same c ∙ q.2, q.3);
+  keyed = keys_on (layout w) (layout w2) (message_slots m) m.keys (λ c u is. clusters_same w w2 same c ∙ is) K.keyed;
 }
 
 -- and so does their order
@@ -58,6 +60,7 @@ member_on w w2 same m K = record {
   hand = λ p is. message_on w w2 same p (K.hand p is);
   plan = λ p is. knows_on w w2 same p.cluster.below (K.plan p is);
   published = λ p is. knows_on w w2 same (below_hold p.cluster) (K.published p is);
+  keyed = keys_on (layout w) (layout w2) m.space.slots m.space.keys (λ c u is. clusters_same w w2 same c ∙ is) K.keyed;
 }
 
 -- the spaces stay whose they are
@@ -141,10 +144,10 @@ read_both w w2 k c m m2 i2 at rs is same waits within found M I R tables = recor
 
 -- with the hand empty, less is known
 pub emptied_knows : (tables : Layout) (m : Member) (home : Option Home) (ticket : Option ℕ) → MemberKnows tables m → MemberKnows tables (record m { hand = None; home = home; ticket = ticket })
-emptied_knows tables m home ticket K = record { space = K.space; roots = K.roots; hand = λ p is. absurd (none-some p is); plan = K.plan; published = K.published }
+emptied_knows tables m home ticket K = record { space = K.space; roots = K.roots; hand = λ p is. absurd (none-some p is); plan = K.plan; published = K.published; keyed = K.keyed }
 
 pub holding_knows : (tables : Layout) (m : Member) (p : Packed) (ticket : Option ℕ) → MemberKnows tables m → IsMessageKnown tables p → MemberKnows tables (record m { hand = Some p; ticket = ticket })
-holding_knows tables m p ticket K L = record { space = K.space; roots = K.roots; hand = λ q is. subst (λ (x : Packed). IsMessageKnown tables x) (same_Some p q is) L; plan = K.plan; published = K.published }
+holding_knows tables m p ticket K L = record { space = K.space; roots = K.roots; hand = λ q is. subst (λ (x : Packed). IsMessageKnown tables x) (same_Some p q is) L; plan = K.plan; published = K.published; keyed = K.keyed }
 
 -- what is opened brings what it knows
 pub opened_knows : (tables : Layout) (p : Packed) (root : Ref) (m m2 : Member) → IsOpenedBy p root m m2 → MemberKnows tables m → MemberKnows tables m2
@@ -163,6 +166,7 @@ opened_knows tables p root m m2 O K =
       hand = λ q is. absurd (none-some q (sym O.hand ∙ is));
       plan = λ q is. absurd (none-some q (sym O.plan ∙ is));
       published = λ q is. absurd (none-some q (sym O.published ∙ is));
+      keyed = opened_keys tables p m.space m2.space (value_of root) O.opened O.even K.keyed (K.hand p O.held).keyed;
     }
   where
     split : (e : ℕ × List Object) → Contains (joined m2.space.below) e → Contains (joined m.space.below) e ⊎ Contains (message_below p) e

@@ -18,6 +18,9 @@ pub mod Refusals
 pub mod Fresh
 pub mod Rooting
 pub mod Holding
+pub mod KeyTables
+pub mod KeyMoves
+pub mod Clusters
 pub mod Knowing
 pub mod Published
 pub mod Messages
@@ -35,6 +38,8 @@ pub mod Taking
 pub mod Making
 pub mod Turned
 pub mod Reading
+pub mod PairTriples
+pub mod Pairing
 pub mod Starting
 pub mod Hands
 pub mod Tables

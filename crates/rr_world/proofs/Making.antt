@@ -8,10 +8,10 @@ use Rattle.std.proofs.lemmas.Option.{none-some, same_Some}
 use Rattle.rr_base.specs.declared.name.RactorNo.{RactorNo}
 use Rattle.rr_base.specs.declared.fault.Fault.{Fault}
 use Rattle.rr_base.specs.declared.name.Sym.{Sym}
-use Rattle.rr_space.specs.Graph.{Kind, text, array, plain, shell, Own, Published, Value, Plain, At, Label, Place, Name, Object, exception}
+use Rattle.rr_space.specs.Graph.{Kind, text, array, hash, plain, shell, Own, Published, Value, Plain, At, Label, Place, Name, Object, exception}
 use Rattle.rr_space.specs.Tables.{Slot, Here, Led, renamed_triple}
 use Rattle.rr_space.specs.Parts.{value_of, below_ref}
-use Rattle.rr_space.specs.Readings.{Owner, Space, Shared, Owned, Objects, Naming, Layout, Knows, named, name_in, whole}
+use Rattle.rr_space.specs.Readings.{Owner, Space, Shared, Owned, Objects, Naming, Knows, named, name_in, whole}
 use Rattle.rr_space.specs.Steps.{IsNewValue, IsNamed}
 use Rattle.rr_space.specs.declared.refer.Ref.{Ref}
 use Rattle.rr_space.specs.declared.refer.Ref.TheVariants as ref
@@ -22,7 +22,7 @@ use Rattle.rr_space.proofs.Sounds.{none_in, in_first}
 use Rattle.rr_world.specs.Views.{Member, Assembly, seen_slots}
 use Rattle.rr_world.specs.Layouts.{layout, space_slots, IsRead}
 use Rattle.rr_world.specs.Readings.{root_in, value_in, actor_in, state_in}
-use Rattle.rr_world.specs.Enabling.{StandsAt, IsOwn, MayChange, IsNoShell, IsOpen, HasElement, IsValue, IsPossible, named_value}
+use Rattle.rr_world.specs.Enabling.{StandsAt, IsOwn, MayChange, IsNoShell, IsOpen, HasElement, HasFields, IsValue, IsPossible, named_value}
 use Rattle.rr_world.specs.ObjectCases.{IsMade, frozen, appended, pushed, written, with_field, cleared, without, with_part, part_label}
 use Rattle.rr_world.specs.Cases.{IsOutcome}
 use Rattle.rr_world.specs.Changing.{IsSlot, MayChangeSlot, IsMadeOf, IsNamedRef, HasRootsWithin, Freezes, Appends, Pushes, Writes, Sets, Clears, Takes, SetsRaised}
@@ -74,7 +74,7 @@ named_new g names h rs (operand.Class b) v is = subst (λ r. IsNewValue g (map (
 named_new g names h rs (operand.Ractor b) v is = subst (λ r. IsNewValue g (map (root_in names h) rs) (root_in names h r)) (same_Some _ v is) tt
 named_new g names h rs (operand.Root n) v is = root_reached g names h rs v (contains_at rs n v is)
 
-map_set : {A B : Type 0} (f : A → B) (xs : List A) (i : ℕ) (x : A) → map f (slice_set xs i x) ≡ slice_set (map f xs) i (f x)
+pub map_set : {A B : Type 0} (f : A → B) (xs : List A) (i : ℕ) (x : A) → map f (slice_set xs i x) ≡ slice_set (map f xs) i (f x)
 map_set f [] i x = refl
 map_set f (y ∷ ys) zero x = refl
 map_set f (y ∷ ys) (suc i) x = ap (λ zs. f y ∷ zs) (map_set f ys i x)
@@ -150,18 +150,22 @@ module _ (w : Assembly) (names : Naming) (bound : ℕ) (g : Objects) (R : IsRead
   pub value_back : (op : Operand) → IsValue (actor_in names k m) op → IsNamedRef op m
   value_back op (x, is) = let b = some_back (root_in names (Space k)) (named_ref m.roots op) x (sym (value_named names (Space k) m.roots op) ∙ is) in (b.0, b.1)
 
+-- what a list of one has
+pub only : (v u : Ref) → Contains (v ∷ []) u → v ≡ u
+only v u has = ⊎_elim (λ one. one) (λ none. absurd (none_in u none)) (in_first v [] u has)
+
 module _ (w w2 : Assembly) (k : ℕ) (m m2 : Member) (at : slice_get w.ractors k ≡ Some m) (rs : w2.ractors ≡ slice_set w.ractors k m2) (is : w2.channels ≡ w.channels) where
-  -- a change of an object of the space is one of the machine's
-  pub making : (op : Operand) (may : Object → Type 0) (raw change : Object → Object) (v : Ref) → IsMadeOf op may raw v m m2 → (names : Naming) (bound : ℕ) (g : Objects) → IsRead w names bound g
-      → Knows (below_ref v) (layout w) → IsNewValue g (actor_in names k m).roots (root_in names (Space k) v)
-      → ((o : Object) → may o → may (named names (Space k) o)) → ((o : Object) → may o → (o.frozen ≡ true) ⊎ (o.kind ≡ shell) → raw o ≡ o)
-      → ((o : Object) (l : Label) (x : Value) → Contains (raw o).triples (l, x) → ((j : Label) × Contains o.triples (j, x)) ⊎ (x ≡ value_of v))
+  -- a change of an object of the space is one of the machine's, of an object that may be changed there
+  pub making : (op : Operand) (may : Object → Type 0) (raw change : Object → Object) (vs : List Ref) → IsMadeOf op may raw vs m m2 → (names : Naming) (bound : ℕ) (g : Objects) → IsRead w names bound g
+      → ((v : Ref) → Contains vs v → Knows (below_ref v) (layout w)) → ((v : Ref) → Contains vs v → IsNewValue g (actor_in names k m).roots (root_in names (Space k) v))
+      → (may2 : Object → Type 0) → ((n : ℕ) (o : Object) → IsSlot op m n o → may o → may2 (named names (Space k) o)) → ((o : Object) → may o → (o.frozen ≡ true) ⊎ (o.kind ≡ shell) → raw o ≡ o)
+      → ((o : Object) (l : Label) (x : Value) → Contains (raw o).triples (l, x) → ((j : Label) × Contains o.triples (j, x)) ⊎ ((v : Ref) × Contains vs v × (x ≡ value_of v)))
       → ((o : Object) → named names (Space k) (raw o) ≡ change (named names (Space k) o))
       → (names2 : Naming) × (bound2 : ℕ) × (g2 : Objects) × IsRead w2 names2 bound2 g2
-      × IsMade k (actor_in names k m) op may change (state_in w names g) (state_in w2 names2 g2) × IsNamed (Space k) names names2
+      × IsMade k (actor_in names k m) op may2 change (state_in w names g) (state_in w2 names2 g2) × IsNamed (Space k) names names2
       × ((i : ℕ) → i < length m.space.slots → slice_index (names2 (Space k)) i ≡ slice_index (names (Space k)) i)
-  making op may raw change v (n, o, slot, holds, A) names bound g R K rooted keeps shut values same =
-      let q = rewritten w w2 k n m m2 o (raw o) v at slot.here A rs is (values o) names bound g R K (shut o holds) rooted in
+  making op may raw change vs (n, o, slot, holds, A) names bound g R K rooted may2 keeps shut values same =
+      let q = rewritten w w2 k n m m2 o (raw o) vs at slot.here A rs is (values o) names bound g R K (shut o holds) rooted in
       let now : named q.0 (Space k) (raw o) ≡ change (named names (Space k) o) = named_same (name_in q.0 (Space k)) (name_in names (Space k)) (raw o) q.5 ∙ same o in
       let changed = q.4 in (
         q.0,
@@ -172,7 +176,7 @@ module _ (w w2 : Assembly) (k : ℕ) (m m2 : Member) (at : slice_get w.ractors k
           slice_index (names (Space k)) n,
           named names (Space k) o,
           own_slot w names bound g R k m at op n o slot,
-          keeps o holds,
+          keeps n o slot holds,
           record {
             was = changed.was;
             now = changed.now ∙ ap (λ (p : Object). Some (record { owner = Space k; object = p })) now;
@@ -186,11 +190,37 @@ module _ (w w2 : Assembly) (k : ℕ) (m m2 : Member) (at : slice_get w.ractors k
         q.7,
       )
 
+  -- so it is of one that no value comes into
+  pub making_none : (op : Operand) (may : Object → Type 0) (raw change : Object → Object) → IsMadeOf op may raw [] m m2 → (names : Naming) (bound : ℕ) (g : Objects) → IsRead w names bound g
+      → ((o : Object) → may o → may (named names (Space k) o)) → ((o : Object) → may o → (o.frozen ≡ true) ⊎ (o.kind ≡ shell) → raw o ≡ o)
+      → ((o : Object) (l : Label) (x : Value) → Contains (raw o).triples (l, x) → (j : Label) × Contains o.triples (j, x))
+      → ((o : Object) → named names (Space k) (raw o) ≡ change (named names (Space k) o))
+      → (names2 : Naming) × (bound2 : ℕ) × (g2 : Objects) × IsRead w2 names2 bound2 g2
+      × IsMade k (actor_in names k m) op may change (state_in w names g) (state_in w2 names2 g2) × IsNamed (Space k) names names2
+      × ((i : ℕ) → i < length m.space.slots → slice_index (names2 (Space k)) i ≡ slice_index (names (Space k)) i)
+  making_none op may raw change a names bound g R keeps shut values same =
+      making op may raw change [] a names bound g R (λ v has. absurd (none_in v has)) (λ v has. absurd (none_in v has)) may (λ n o slot holds. keeps o holds) shut (λ o l x has. inl (values o l x has)) same
+
+  -- and of one that the value of an operand comes into
+  pub making_one : (op : Operand) (may : Object → Type 0) (raw change : Object → Object) (value : Operand) (v : Ref) → named_ref m.roots value ≡ Some v → IsMadeOf op may raw (v ∷ []) m m2
+      → (names : Naming) (bound : ℕ) (g : Objects) → IsRead w names bound g
+      → ((o : Object) → may o → may (named names (Space k) o)) → ((o : Object) → may o → (o.frozen ≡ true) ⊎ (o.kind ≡ shell) → raw o ≡ o)
+      → ((o : Object) (l : Label) (x : Value) → Contains (raw o).triples (l, x) → ((j : Label) × Contains o.triples (j, x)) ⊎ (x ≡ value_of v))
+      → ((o : Object) → named names (Space k) (raw o) ≡ change (named names (Space k) o))
+      → (names2 : Naming) × (bound2 : ℕ) × (g2 : Objects) × IsRead w2 names2 bound2 g2
+      × IsMade k (actor_in names k m) op may change (state_in w names g) (state_in w2 names2 g2) × IsNamed (Space k) names names2
+      × ((i : ℕ) → i < length m.space.slots → slice_index (names2 (Space k)) i ≡ slice_index (names (Space k)) i)
+  making_one op may raw change value v is_named a names bound g R keeps shut values same =
+      making op may raw change (v ∷ []) a names bound g R
+      (λ u has. subst (λ (r : Ref). Knows (below_ref r) (layout w)) (only v u has) (known_named (layout w) m.roots value v (R.knows.ractors k m at).roots is_named))
+      (λ u has. subst (λ (r : Ref). IsNewValue g (map (root_in names (Space k)) m.roots) (root_in names (Space k) r)) (only v u has) (named_new g names (Space k) m.roots value v is_named))
+      may (λ n o slot holds. keeps o holds) shut (λ o l x has. ⊎_elim (λ old. inl old) (λ new. inr (v, contains_at (v ∷ []) 0 v refl, new)) (values o l x has)) same
+
 frozen_same : (o : Object) → IsNoShell o → (o.frozen ≡ true) ⊎ (o.kind ≡ shell) → frozen o ≡ o
 frozen_same o whole (inl e) = ap (λ b. let x : Object = record o { frozen = b } in x) (sym e)
 frozen_same o whole (inr e) = absurd (whole e)
 
-open_never : (kind : Kind) (o p : Object) → (kind ≡ shell → ⊥) → IsOpen kind o → (o.frozen ≡ true) ⊎ (o.kind ≡ shell) → p ≡ o
+pub open_never : (kind : Kind) (o p : Object) → (kind ≡ shell → ⊥) → IsOpen kind o → (o.frozen ≡ true) ⊎ (o.kind ≡ shell) → p ≡ o
 open_never kind o p differ (is, thawed) (inl e) = absurd (let z : false ≡ true = sym thawed ∙ e in cc)
 open_never kind o p differ (is, thawed) (inr e) = absurd (differ (sym is ∙ e))
 
@@ -200,11 +230,14 @@ text_differs e = cc
 pub array_differs : array ≡ shell → ⊥
 array_differs e = cc
 
-pub plain_differs : plain ≡ shell → ⊥
+plain_differs : plain ≡ shell → ⊥
 plain_differs e = cc
 
 pub exception_differs : exception ≡ shell → ⊥
 exception_differs e = cc
+
+pub hash_differs : hash ≡ shell → ⊥
+hash_differs e = cc
 
 pushed_values : (v : Value) (o : Object) (l : Label) (x : Value) → Contains (pushed v o).triples (l, x) → ((j : Label) × Contains o.triples (j, x)) ⊎ (x ≡ v)
 pushed_values v o l x has = ⊎_elim
@@ -215,7 +248,7 @@ pushed_values v o l x has = ⊎_elim
 later : (a : Label × Value) (xs : List (Label × Value)) (y : Label × Value) → Contains xs y → Contains (a ∷ xs) y
 later a xs y (n, lt, e) = (suc n, omega (arith, lt), e)
 
-set_values : (ts : List (Label × Value)) (i : ℕ) (t : Label × Value) (l : Label) (x : Value) → Contains (slice_set ts i t) (l, x) → ((j : Label) × Contains ts (j, x)) ⊎ (x ≡ t.1)
+pub set_values : (ts : List (Label × Value)) (i : ℕ) (t : Label × Value) (l : Label) (x : Value) → Contains (slice_set ts i t) (l, x) → ((j : Label) × Contains ts (j, x)) ⊎ (x ≡ t.1)
 set_values [] i t l x has = absurd (none_in (l, x) has)
 set_values (s ∷ ts) zero t l x has = ⊎_elim
     (λ one. inr (sym (ap (λ (z : Label × Value). z.1) one)))
@@ -260,14 +293,11 @@ pub unmade_for : (w w2 : Assembly) (who : RactorNo) (k : ℕ) (m m2 : Member) (a
 unmade_for w w2 who k m m2 action f at rs is same case =
     stays_read (record { who = who; action = action }) (Refused f) w w2 (same_assembly w2.ractors w.ractors w2.channels w.channels (rs ∙ set_again w.ractors w.ractors k m2 m refl at same) is) case
 
-no_below : (tables : Layout) → Knows (below_ref ref.Nil) tables
-no_below tables = record { known = λ c os has. absurd (none_in (c, os) has) }
-
 -- whatever a freeze answers
 pub frozen_by : (w w2 : Assembly) (who : RactorNo) (k : ℕ) (m m2 : Member) (op : Operand) (r : Outcome) → slice_get w.ractors k ≡ Some m → w2.ractors ≡ slice_set w.ractors k m2 → w2.channels ≡ w.channels
     → StandsAt who k → Freezes op r m m2 → HasOutcome (record { who = who; action = Freeze op }) (reply_of r) w w2
 frozen_by w w2 who k m m2 op outcome.Done at rs is stands a = λ names bound g R.
-    let q = making w w2 k m m2 at rs is op IsNoShell frozen frozen ref.Nil a names bound g R (no_below (layout w)) tt (λ o whole. whole) (λ o whole shut. frozen_same o whole shut) (λ o l x has. inl (l, has)) (λ o. refl) in
+    let q = making_none w w2 k m m2 at rs is op IsNoShell frozen frozen a names bound g R (λ o whole. whole) (λ o whole shut. frozen_same o whole shut) (λ o l x has. (l, has)) (λ o. refl) in
     (q.0, q.1, q.2, q.3, (k, actor_in names k m, stands, actor_at w names g k m at, may_on w names bound g R k m at who op IsNoShell stands (λ o whole. whole) (a.0, a.1, a.2, a.3), q.4), space_renamed w k m (record { who = who; action = Freeze op }) at q.5 stands q.6)
 frozen_by w w2 who k m m2 op outcome.NotEnabled at rs is stands a =
     unmade w w2 who k m m2 (Freeze op) at rs is a.2 (λ names bound g R e.
@@ -278,8 +308,8 @@ frozen_by w w2 who k m m2 op (outcome.Refused f) at rs is stands a = absurd a
 pub appended_by : (w w2 : Assembly) (who : RactorNo) (k : ℕ) (m m2 : Member) (op : Operand) (byte : ℕ) (r : Outcome) → slice_get w.ractors k ≡ Some m → w2.ractors ≡ slice_set w.ractors k m2 → w2.channels ≡ w.channels
     → StandsAt who k → Appends op byte r m m2 → HasOutcome (record { who = who; action = Append op byte }) (reply_of r) w w2
 appended_by w w2 who k m m2 op byte outcome.Done at rs is stands a = λ names bound g R.
-    let q = making w w2 k m m2 at rs is op (IsOpen text) (appended byte) (appended byte) ref.Nil a names bound g R (no_below (layout w)) tt (λ o whole. whole)
-    (λ o opened shut. open_never text o (appended byte o) text_differs opened shut) (λ o l x has. inl (l, has)) (λ o. refl) in
+    let q = making_none w w2 k m m2 at rs is op (IsOpen text) (appended byte) (appended byte) a names bound g R (λ o whole. whole)
+    (λ o opened shut. open_never text o (appended byte o) text_differs opened shut) (λ o l x has. (l, has)) (λ o. refl) in
     (q.0, q.1, q.2, q.3, (k, actor_in names k m, stands, actor_at w names g k m at, may_on w names bound g R k m at who op (IsOpen text) stands (λ o whole. whole) (a.0, a.1, a.2, a.3), q.4), space_renamed w k m (record { who = who; action = Append op byte }) at q.5 stands q.6)
 appended_by w w2 who k m m2 op byte outcome.NotEnabled at rs is stands a =
     unmade w w2 who k m m2 (Append op byte) at rs is a.2 (λ names bound g R e.
@@ -292,8 +322,8 @@ appended_by w w2 who k m m2 op byte (outcome.Refused f) at rs is stands a =
 pub pushed_by : (w w2 : Assembly) (who : RactorNo) (k : ℕ) (m m2 : Member) (op value : Operand) (r : Outcome) → slice_get w.ractors k ≡ Some m → w2.ractors ≡ slice_set w.ractors k m2 → w2.channels ≡ w.channels
     → StandsAt who k → Pushes op value r m m2 → HasOutcome (record { who = who; action = Push op value }) (reply_of r) w w2
 pushed_by w w2 who k m m2 op value outcome.Done at rs is stands (v, is_named, a) = λ names bound g R.
-    let q = making w w2 k m m2 at rs is op (IsOpen array) (pushed (value_of v)) (pushed (root_in names (Space k) v)) v a names bound g R
-    (known_named (layout w) m.roots value v (R.knows.ractors k m at).roots is_named) (named_new g names (Space k) m.roots value v is_named) (λ o whole. whole)
+    let q = making_one w w2 k m m2 at rs is op (IsOpen array) (pushed (value_of v)) (pushed (root_in names (Space k) v)) value v is_named a names bound g R
+    (λ o whole. whole)
     (λ o opened shut. open_never array o (pushed (value_of v) o) array_differs opened shut) (λ o l x has. pushed_values (value_of v) o l x has) (λ o. pushed_same names (Space k) v o) in (
       q.0,
       q.1,
@@ -327,8 +357,8 @@ pushed_by w w2 who k m m2 op value (outcome.Refused f) at rs is stands a =
 pub written_by : (w w2 : Assembly) (who : RactorNo) (k : ℕ) (m m2 : Member) (op : Operand) (i : ℕ) (value : Operand) (r : Outcome) → slice_get w.ractors k ≡ Some m → w2.ractors ≡ slice_set w.ractors k m2 → w2.channels ≡ w.channels
     → StandsAt who k → Writes op i value r m m2 → HasOutcome (record { who = who; action = Write op i value }) (reply_of r) w w2
 written_by w w2 who k m m2 op i value outcome.Done at rs is stands (v, is_named, a) = λ names bound g R.
-    let q = making w w2 k m m2 at rs is op (HasElement i) (written i (value_of v)) (written i (root_in names (Space k) v)) v a names bound g R
-    (known_named (layout w) m.roots value v (R.knows.ractors k m at).roots is_named) (named_new g names (Space k) m.roots value v is_named) (λ o has. has_on names (Space k) i o has)
+    let q = making_one w w2 k m m2 at rs is op (HasElement i) (written i (value_of v)) (written i (root_in names (Space k) v)) value v is_named a names bound g R
+    (λ o has. has_on names (Space k) i o has)
     (λ o has shut. open_never array o (written i (value_of v) o) array_differs has.0 shut) (λ o l x has. set_values o.triples i (Place i, value_of v) l x has) (λ o. written_same names (Space k) i v o) in (
       q.0,
       q.1,
@@ -350,13 +380,17 @@ written_by w w2 who k m m2 op i value outcome.NotEnabled at rs is stands a =
     a.1 (may_back w names bound g R k m at who op (HasElement i) stands a.0 (λ o has. has_back names (Space k) i o has) z.0) (value_back w names bound g R k m at value z.1))
 written_by w w2 who k m m2 op i value (outcome.Refused f) at rs is stands a = absurd a
 
+fields_never : (o p : Object) → HasFields o → (o.frozen ≡ true) ⊎ (o.kind ≡ shell) → p ≡ o
+fields_never o p (inl opened) shut = open_never plain o p plain_differs opened shut
+fields_never o p (inr opened) shut = open_never exception o p exception_differs opened shut
+
 -- whatever setting a field answers
 pub set_by : (w w2 : Assembly) (who : RactorNo) (k : ℕ) (m m2 : Member) (op : Operand) (name : Sym) (value : Operand) (r : Outcome) → slice_get w.ractors k ≡ Some m → w2.ractors ≡ slice_set w.ractors k m2 → w2.channels ≡ w.channels
     → StandsAt who k → Sets op name.0 value r m m2 → HasOutcome (record { who = who; action = SetField op name value }) (reply_of r) w w2
 set_by w w2 who k m m2 op name value outcome.Done at rs is stands (v, is_named, a) = λ names bound g R.
-    let q = making w w2 k m m2 at rs is op (IsOpen plain) (with_field name.0 (value_of v)) (with_field name.0 (root_in names (Space k) v)) v a names bound g R
-    (known_named (layout w) m.roots value v (R.knows.ractors k m at).roots is_named) (named_new g names (Space k) m.roots value v is_named) (λ o whole. whole)
-    (λ o opened shut. open_never plain o (with_field name.0 (value_of v) o) plain_differs opened shut) (λ o l x has. field_values name.0 (value_of v) o.triples l x has) (λ o. field_same names (Space k) name.0 v o) in (
+    let q = making_one w w2 k m m2 at rs is op HasFields (with_field name.0 (value_of v)) (with_field name.0 (root_in names (Space k) v)) value v is_named a names bound g R
+    (λ o whole. whole)
+    (λ o opened shut. fields_never o (with_field name.0 (value_of v) o) opened shut) (λ o l x has. field_values name.0 (value_of v) o.triples l x has) (λ o. field_same names (Space k) name.0 v o) in (
       q.0,
       q.1,
       q.2,
@@ -366,7 +400,7 @@ set_by w w2 who k m m2 op name value outcome.Done at rs is stands (v, is_named, 
         actor_in names k m,
         stands,
         actor_at w names g k m at,
-        (may_on w names bound g R k m at who op (IsOpen plain) stands (λ o whole. whole) (a.0, a.1, a.2, a.3), (root_in names (Space k) v, value_on w names bound g R k m at value v is_named)),
+        (may_on w names bound g R k m at who op HasFields stands (λ o whole. whole) (a.0, a.1, a.2, a.3), (root_in names (Space k) v, value_on w names bound g R k m at value v is_named)),
         (root_in names (Space k) v, value_on w names bound g R k m at value v is_named, q.4),
       ),
       space_renamed w k m (record { who = who; action = SetField op name value }) at q.5 stands q.6,
@@ -374,14 +408,14 @@ set_by w w2 who k m m2 op name value outcome.Done at rs is stands (v, is_named, 
 set_by w w2 who k m m2 op name value outcome.NotEnabled at rs is stands a =
     unmade w w2 who k m m2 (SetField op name value) at rs is a.2 (λ names bound g R e.
     let z = allowed w names g (record { who = who; action = SetField op name value }) k m stands at e in
-    a.1 (may_back w names bound g R k m at who op (IsOpen plain) stands a.0 (λ o whole. whole) z.0) (value_back w names bound g R k m at value z.1))
+    a.1 (may_back w names bound g R k m at who op HasFields stands a.0 (λ o whole. whole) z.0) (value_back w names bound g R k m at value z.1))
 set_by w w2 who k m m2 op name value (outcome.Refused f) at rs is stands a =
     unmade_for w w2 who k m m2 (SetField op name value) f at rs is a.3 (λ names bound g R. (
       k,
       actor_in names k m,
       stands,
       actor_at w names g k m at,
-      (may_on w names bound g R k m at who op (IsOpen plain) stands (λ o whole. whole) a.1, (root_in names (Space k) a.2.0, value_on w names bound g R k m at value a.2.0 a.2.1)),
+      (may_on w names bound g R k m at who op HasFields stands (λ o whole. whole) a.1, (root_in names (Space k) a.2.0, value_on w names bound g R k m at value a.2.0 a.2.1)),
       (a.0, same_state (state_in w names g)),
     ))
 
@@ -389,8 +423,8 @@ set_by w w2 who k m m2 op name value (outcome.Refused f) at rs is stands a =
 pub cleared_by : (w w2 : Assembly) (who : RactorNo) (k : ℕ) (m m2 : Member) (op : Operand) (r : Outcome) → slice_get w.ractors k ≡ Some m → w2.ractors ≡ slice_set w.ractors k m2 → w2.channels ≡ w.channels
     → StandsAt who k → Clears op r m m2 → HasOutcome (record { who = who; action = Clear op }) (reply_of r) w w2
 cleared_by w w2 who k m m2 op outcome.Done at rs is stands a = λ names bound g R.
-    let q = making w w2 k m m2 at rs is op (IsOpen text) cleared cleared ref.Nil a names bound g R (no_below (layout w)) tt (λ o whole. whole)
-    (λ o opened shut. open_never text o (cleared o) text_differs opened shut) (λ o l x has. inl (l, has)) (λ o. refl) in
+    let q = making_none w w2 k m m2 at rs is op (IsOpen text) cleared cleared a names bound g R (λ o whole. whole)
+    (λ o opened shut. open_never text o (cleared o) text_differs opened shut) (λ o l x has. (l, has)) (λ o. refl) in
     (q.0, q.1, q.2, q.3, (k, actor_in names k m, stands, actor_at w names g k m at, may_on w names bound g R k m at who op (IsOpen text) stands (λ o whole. whole) (a.0, a.1, a.2, a.3), q.4), space_renamed w k m (record { who = who; action = Clear op }) at q.5 stands q.6)
 cleared_by w w2 who k m m2 op outcome.NotEnabled at rs is stands a =
     unmade w w2 who k m m2 (Clear op) at rs is a.2 (λ names bound g R e.
@@ -401,8 +435,8 @@ cleared_by w w2 who k m m2 op (outcome.Refused f) at rs is stands a = absurd a
 pub taken_by : (w w2 : Assembly) (who : RactorNo) (k : ℕ) (m m2 : Member) (op : Operand) (i : ℕ) (r : Outcome) → slice_get w.ractors k ≡ Some m → w2.ractors ≡ slice_set w.ractors k m2 → w2.channels ≡ w.channels
     → StandsAt who k → Takes op i r m m2 → HasOutcome (record { who = who; action = Take op i }) (reply_of r) w w2
 taken_by w w2 who k m m2 op i outcome.Done at rs is stands a = λ names bound g R.
-    let q = making w w2 k m m2 at rs is op (HasElement i) (without i) (without i) ref.Nil a names bound g R (no_below (layout w)) tt (λ o has. has_on names (Space k) i o has)
-    (λ o has shut. open_never array o (without i o) array_differs has.0 shut) (λ o l x has. inl (left_values o i l x has)) (λ o. without_same names (Space k) i o) in
+    let q = making_none w w2 k m m2 at rs is op (HasElement i) (without i) (without i) a names bound g R (λ o has. has_on names (Space k) i o has)
+    (λ o has shut. open_never array o (without i o) array_differs has.0 shut) (λ o l x has. left_values o i l x has) (λ o. without_same names (Space k) i o) in
     (q.0, q.1, q.2, q.3, (k, actor_in names k m, stands, actor_at w names g k m at, may_on w names bound g R k m at who op (HasElement i) stands (λ o has. has_on names (Space k) i o has) (a.0, a.1, a.2, a.3), q.4), space_renamed w k m (record { who = who; action = Take op i }) at q.5 stands q.6)
 taken_by w w2 who k m m2 op i outcome.NotEnabled at rs is stands a =
     unmade w w2 who k m m2 (Take op i) at rs is a.2 (λ names bound g R e.
@@ -413,8 +447,8 @@ taken_by w w2 who k m m2 op i (outcome.Refused f) at rs is stands a = absurd a
 pub raised_by : (w w2 : Assembly) (who : RactorNo) (k : ℕ) (m m2 : Member) (op : Operand) (part : RaisedPart) (value : Operand) (r : Outcome) → slice_get w.ractors k ≡ Some m → w2.ractors ≡ slice_set w.ractors k m2 → w2.channels ≡ w.channels
     → StandsAt who k → SetsRaised op part value r m m2 → HasOutcome (record { who = who; action = SetRaised op part value }) (reply_of r) w w2
 raised_by w w2 who k m m2 op part value outcome.Done at rs is stands (v, is_named, a) = λ names bound g R.
-    let q = making w w2 k m m2 at rs is op (IsOpen exception) (with_part part (value_of v)) (with_part part (root_in names (Space k) v)) v a names bound g R
-    (known_named (layout w) m.roots value v (R.knows.ractors k m at).roots is_named) (named_new g names (Space k) m.roots value v is_named) (λ o whole. whole)
+    let q = making_one w w2 k m m2 at rs is op (IsOpen exception) (with_part part (value_of v)) (with_part part (root_in names (Space k) v)) value v is_named a names bound g R
+    (λ o whole. whole)
     (λ o opened shut. open_never exception o (with_part part (value_of v) o) exception_differs opened shut)
     (λ o l x has. set_values o.triples (raised_place (part_label part)) (part_label part, value_of v) l x has) (λ o. part_same names (Space k) part v o) in (
       q.0,

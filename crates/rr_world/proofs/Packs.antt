@@ -45,6 +45,7 @@ use Rattle.rr_world.proofs.Staying.{stays_read, same_state, one_renamed}
 use Rattle.rr_world.proofs.Operands.{value_named, known_named}
 use Rattle.rr_world.proofs.Seeing.{IsOfSpace, held, all_apart, is_sealed, inside, there, resolved, shared_of, promoted_of, free_of, shell_of}
 use Rattle.rr_world.proofs.Fitting.{waits_same}
+use Rattle.rr_world.proofs.KeyMoves.{copied_keys}
 
 -- the table that a message is
 abbrev table_of : Packed → Table
@@ -78,7 +79,7 @@ module _ (w w2 : Assembly) (names : Naming) (bound : ℕ) (g : Objects) (R : IsR
 
   -- and the root is in a place that there is
   message_known : IsMessageKnown (layout w) p
-  message_known = known_message (layout w) p P.sound known
+  message_known = known_message (layout w) p P.sound known (copied_keys (layout w) m.space (value_of v) P.names p P.copy (R.knows.ractors k m at).keyed)
 
   here_is : (i : ℕ) (o : Object) → slice_get (map Here p.objects) i ≡ Some (Here o) → i < length p.objects
   here_is i o e = let lt = slice_get_within (map Here p.objects) i (Here o) e in omega (arith, lt, length-map p.objects Here)

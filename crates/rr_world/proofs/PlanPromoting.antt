@@ -33,6 +33,7 @@ use Rattle.rr_world.proofs.Namings.{same_actor}
 use Rattle.rr_world.proofs.Sharing.{same_elements}
 use Rattle.rr_world.proofs.Staying.{same_state, stays}
 use Rattle.rr_world.proofs.Holding.{same_rooted}
+use Rattle.rr_world.proofs.KeyMoves.{promoted_keys}
 
 module _ (w w2 : Assembly) (k : ℕ) (m m2 : Member) (p : PublishedPlan) (at : slice_get w.ractors k ≡ Some m) (A : IsPromotedIn p m m2) (rs : w2.ractors ≡ slice_set w.ractors k m2) (is : w2.channels ≡ w.channels) where
   slots_are : m2.space.slots ≡ seen_through (Some p) m.space.slots
@@ -59,6 +60,7 @@ module _ (w w2 : Assembly) (k : ℕ) (m m2 : Member) (p : PublishedPlan) (at : s
     hand = λ q e. absurd (none-some q (sym A.empty.hand ∙ e));
     plan = λ q e. absurd (none-some q (sym A.empty.plan ∙ e));
     published = λ q e. absurd (none-some q (sym A.empty.published ∙ e));
+    keyed = promoted_keys t p.cluster p.places m.space m2.space A.planned A.promoted (K.published p A.held) K.keyed;
   }
     where
       known : (c : ℕ) (os : List Object) → (n : ℕ) × (b : Below) × (slice_get m2.space.below n ≡ Some b) × Contains b (c, os) → (raws : List Object) × (t (Shared c) ≡ Some (map Here raws)) × (map (numbered_object c) raws ≡ os)

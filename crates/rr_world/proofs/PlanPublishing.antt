@@ -152,6 +152,7 @@ module _ (w w2 : Assembly) (who : RactorNo) (k : ℕ) (m m1 : Member) (p : Plan)
             hand = M.hand;
             plan = λ q is. absurd (none-some q is);
             published = λ q is. subst (λ (y : PublishedPlan). Knows (below_hold y.cluster) (layout w2)) (same_Some (published_plan w.channels.store p) q is) hold;
+            keyed = M.keyed;
           }
 
   -- a cluster that there was is an earlier one

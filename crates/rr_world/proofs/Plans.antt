@@ -67,6 +67,7 @@ module _ (w w2 : Assembly) (k : ℕ) (m m2 : Member) (v : Ref) (p : Plan) (at : 
         hand = K.hand;
         plan = λ q is. let same : p ≡ q = kept_is p p.places q is in subst (λ (x : Plan). Knows x.cluster.below (layout w)) same (record { known = λ c os has. K.space.known c os (P.below (c, os) has) });
         published = K.published;
+        keyed = K.keyed;
       })) R (reading_same (layout w) (layout w2) names bound g tables R.tables)
 
   exact : (names : Naming) (bound : ℕ) (g : Objects) → IsRead w names bound g → Knows (below_ref v) (layout w) → (n : ℕ)

@@ -261,7 +261,7 @@ module _ (w w2 : Assembly) (k : ℕ) (m m2 : Member) (t : ℕ) (at : slice_get w
         let K = R.knows.ractors k m at in
         read_set w w2 k m m2 at rs is (ap (λ (x : Member). x.space.owner) bare) (waits_homeless m m2 (ap (λ (x : Member). x.home) bare))
         (same_rooted m m2 (ap (λ (x : Member). length x.space.slots) bare) (ap (λ (x : Member). x.roots) bare) (R.held.roots k m at))
-        (subst (MemberKnows (layout w)) (sym bare) (record { space = K.space; roots = K.roots; hand = K.hand; plan = K.plan; published = K.published })) R (reading_same (layout w) (layout w2) names bound g tables R.tables)
+        (subst (MemberKnows (layout w)) (sym bare) (record { space = K.space; roots = K.roots; hand = K.hand; plan = K.plan; published = K.published; keyed = K.keyed })) R (reading_same (layout w) (layout w2) names bound g tables R.tables)
 
   pub let_go : (m.ticket ≡ Some t → m2 ≡ record m { home = None; ticket = None }) → ((m.ticket ≡ Some t → ⊥) → m2 ≡ m) → (names : Naming) (bound : ℕ) (g : Objects) → IsRead w names bound g
       → IsRead w2 names bound g × IsLetGo k (actor_in names k m) t (state_in w names g) (state_in w2 names g)

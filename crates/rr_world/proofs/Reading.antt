@@ -63,7 +63,7 @@ module _ (w : Assembly) (names : Naming) (bound : ℕ) (g : Objects) (R : IsRead
   space_known = (R.knows.ractors k m at).space
 
   -- the object that a value leads to stands in the whole graph, under the value's name
-  object_seen : (v : Ref) → Knows (below_ref v) (layout w) → (o : Object) → object_at m.space v ≡ Some o
+  pub object_seen : (v : Ref) → Knows (below_ref v) (layout w) → (o : Object) → object_at m.space v ≡ Some o
       → (n : ℕ) × (y : Owned) × (root_in names (Space k) v ≡ At (Own n)) × (g n ≡ Some y) × (y.object ≡ named names (Space k) o)
   object_seen ref.Nil K o e = absurd (none-some o e)
   object_seen (ref.Truth b) K o e = absurd (none-some o e)
@@ -128,7 +128,7 @@ module _ (w : Assembly) (names : Naming) (bound : ℕ) (g : Objects) (R : IsRead
       (s.0, s.1, _, s.2, s.3, subst (λ ts. Contains ts (l, renamed (name_in names (Space k)) x)) (sym s.4) (contains_map (renamed_triple (name_in names (Space k))) (triples_at m.space v) (l, x) has))
 
   -- a value that has a name in the machine is an object
-  object_there : (v : Ref) (n : ℕ) → IsWell m.space → IsWithin (length m.space.slots) v → root_in names (Space k) v ≡ At (Own n) → (o : Object) × (object_at m.space v ≡ Some o)
+  pub object_there : (v : Ref) (n : ℕ) → IsWell m.space → IsWithin (length m.space.slots) v → root_in names (Space k) v ≡ At (Own n) → (o : Object) × (object_at m.space v ≡ Some o)
   object_there ref.Nil n well h e = let z : ⊥ = cc in absurd z
   object_there (ref.Truth b) n well h e = let z : ⊥ = cc in absurd z
   object_there (ref.Int b) n well h e = let z : ⊥ = cc in absurd z
@@ -187,6 +187,7 @@ module _ (w w2 : Assembly) (who : RactorNo) (k : ℕ) (m m2 : Member) (op : Oper
     hand = K.hand;
     plan = K.plan;
     published = K.published;
+    keyed = K.keyed;
   }
 
   abbrev under : HasUnder op (label_of label) m

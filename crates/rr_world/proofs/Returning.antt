@@ -38,6 +38,7 @@ use Rattle.rr_world.proofs.Tables.{space_was, hand_was, space_now, hand_now, res
 use Rattle.rr_world.proofs.Fitting.{waits_homeless}
 use Rattle.rr_world.specs.Naming.{IsRenamed}
 use Rattle.rr_world.proofs.Holding.{same_rooted}
+use Rattle.rr_world.proofs.KeyMoves.{returned_keys}
 
 module _ (w w2 : Assembly) (who : RactorNo) (k : ℕ) (m m2 : Member) (d : Detached) (at : slice_get w.ractors k ≡ Some m) (A : IsPutBackBy d m m2)
     (rs : w2.ractors ≡ slice_set w.ractors k m2) (is : w2.channels ≡ w.channels) where
@@ -89,6 +90,7 @@ module _ (w w2 : Assembly) (who : RactorNo) (k : ℕ) (m m2 : Member) (d : Detac
     hand = λ p e. absurd (none-some p (sym gone ∙ e));
     plan = λ p e. absurd (none-some p (sym (ap (λ (x : Member). x.plan) A.now_is ∙ A.no_plan) ∙ e));
     published = λ p e. absurd (none-some p (sym no_published ∙ e));
+    keyed = returned_keys tables d.home.slots d.message m.space m2.space A.back d.fits.size A.shells K.keyed (K.hand d.message A.held).keyed;
   }
 
   pub returned : PuttingBackUndoes → StandsAt who k → HasOutcome (record { who = who; action = PutBack }) Done w w2

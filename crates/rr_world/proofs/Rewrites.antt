@@ -4,7 +4,7 @@ use Rattle.std.specs.Prelude.{slice_index, slice_set}
 use Rattle.std.specs.Option.{option_map, option_and_then}
 use Rattle.std.proofs.lemmas.Option.{none-some, same_Some, slice_get_within}
 use Rattle.rr_space.specs.Graph.{Own, Published, Value, Plain, At, Label, Object, shell}
-use Rattle.rr_space.specs.Tables.{Slot, Here, Led, joined, renamed, renamed_triple}
+use Rattle.rr_space.specs.Tables.{Slot, Here, Led, renamed, renamed_triple}
 use Rattle.rr_space.specs.Parts.{value_of, below_ref, IsWithin}
 use Rattle.rr_space.specs.Readings.{Owner, Space, Hand, Mail, Shown, Shared, Owned, Objects, Naming, Layout, IsReading, IsSound, IsInLayout, Knows, named, name_in}
 use Rattle.rr_space.specs.Steps.{Remakes, IsRemade, IsNamed, IsChange, IsNewValue}
@@ -12,7 +12,7 @@ use Rattle.rr_space.specs.declared.refer.Ref.{Ref}
 use Rattle.rr_space.specs.declared.refer.Ref.TheVariants as ref
 use Rattle.rr_space.proofs.Frames.{owner_cases, object_same, within_same}
 use Rattle.rr_space.proofs.Remaking.{remaking_is_a_step}
-use Rattle.rr_space.proofs.Renaming.{contains_map, contains_map_back}
+use Rattle.rr_space.proofs.Renaming.{at_contains, contains_map, contains_map_back}
 use Rattle.rr_space.proofs.Sounds.{gets}
 use Rattle.rr_world.specs.Views.{Member, Channels, Assembly, seen_slots, seen_through}
 use Rattle.rr_world.specs.Layouts.{cluster_slots, layout, space_slots, hand_slots, inbox_slots, port_slots, message_slots, MemberKnows, IsRead}
@@ -21,18 +21,25 @@ use Rattle.rr_world.specs.ObjectCases.{IsChangedTo}
 use Rattle.rr_world.specs.Changing.{IsRewritten}
 use Rattle.rr_world.proofs.Lists.{eq_cases, set_at, set_off, set_back, seen_same, each_set}
 use Rattle.rr_world.proofs.Namings.{actor_same, same_actor, plan_stands, published_stands, post_same, hand_same, home_stands}
-use Rattle.rr_world.proofs.Knowing.{read_set, knows_either}
+use Rattle.rr_world.proofs.Knowing.{read_set}
 use Rattle.rr_world.proofs.Published.{in_place}
 use Rattle.rr_world.proofs.Enabled.{actor_at}
+use Rattle.rr_world.proofs.Operands.{root_within}
 use Rattle.rr_world.proofs.Rooting.{roots_keep}
 use Rattle.rr_world.proofs.Changes.{set_length}
 use Rattle.rr_world.proofs.Fitting.{waits_same}
 use Rattle.rr_world.proofs.Forwarding.{IsOut, seen_here, seen_length, seen_set}
 use Rattle.rr_world.proofs.Holding.{same_rooted}
 
-module _ (w w2 : Assembly) (k n : ℕ) (m m2 : Member) (o p : Object) (v : Ref) (at : slice_get w.ractors k ≡ Some m) (here : slice_get (seen_slots m) n ≡ Some (Here o))
-    (A : IsRewritten n p v m m2) (rs : w2.ractors ≡ slice_set w.ractors k m2) (is : w2.channels ≡ w.channels)
-    (values : (l : Label) (x : Value) → Contains p.triples (l, x) → ((j : Label) × Contains o.triples (j, x)) ⊎ (x ≡ value_of v)) where
+module _ (w w2 : Assembly) (k n : ℕ) (m m2 : Member) (o p : Object) (vs : List Ref) (at : slice_get w.ractors k ≡ Some m) (here : slice_get (seen_slots m) n ≡ Some (Here o))
+    (A : IsRewritten n p vs m m2) (rs : w2.ractors ≡ slice_set w.ractors k m2) (is : w2.channels ≡ w.channels)
+    (values : (l : Label) (x : Value) → Contains p.triples (l, x) → ((j : Label) × Contains o.triples (j, x)) ⊎ ((v : Ref) × Contains vs v × (x ≡ value_of v))) where
+  abbrev known : Type 0
+  known = (v : Ref) → Contains vs v → Knows (below_ref v) (layout w)
+
+  abbrev reached : Objects → List Value → Naming → Type 0
+  reached g us names = (v : Ref) → Contains vs v → IsNewValue g us (root_in names (Space k) v)
+
   abbrev after : List Slot
   after = slice_set (seen_slots m) n (Here p)
 
@@ -95,9 +102,9 @@ module _ (w w2 : Assembly) (k n : ℕ) (m m2 : Member) (o p : Object) (v : Ref) 
   wider (At (Own i)) s = omega (arith, size, s)
   wider (At (Published c q)) s = s
 
-  -- the value that came in leads to a slot of the space
-  valued : Knows (below_ref v) (layout w) → IsInLayout (layout w) (seen_slots m) (value_of v)
-  valued K = by v (subst (λ j. IsWithin j v) (sym many) A.value) K
+  -- a value that came in leads to a slot of the space
+  valued : known → (v : Ref) → Contains vs v → IsInLayout (layout w) (seen_slots m) (value_of v)
+  valued K v has = let x = at_contains vs v has in by v (subst (λ j. IsWithin j v) (sym many) (root_within (length m.space.slots) vs x.0 v A.values x.1)) (K v has)
     where
       by : (r : Ref) → IsWithin (length (seen_slots m)) r → Knows (below_ref r) (layout w) → IsInLayout (layout w) (seen_slots m) (value_of r)
       by ref.Nil h L = tt
@@ -110,10 +117,10 @@ module _ (w w2 : Assembly) (k n : ℕ) (m m2 : Member) (o p : Object) (v : Ref) 
       by (ref.Shared q c) h L = in_place (layout w) (length (seen_slots m)) (ref.Shared q c) h L
 
   -- each value of the new object is within
-  all_within : IsSound (layout w) (seen_slots m) → Knows (below_ref v) (layout w) → (l : Label) (x : Value) → Contains p.triples (l, x) → IsInLayout (layout w) (seen_slots m) x
-  all_within S K l x has = ⊎_elim (λ old. S.within n o old.0 x here old.1) (λ came. subst (IsInLayout (layout w) (seen_slots m)) (sym came) (valued K)) (values l x has)
+  all_within : IsSound (layout w) (seen_slots m) → known → (l : Label) (x : Value) → Contains p.triples (l, x) → IsInLayout (layout w) (seen_slots m) x
+  all_within S K l x has = ⊎_elim (λ old. S.within n o old.0 x here old.1) (λ came. subst (IsInLayout (layout w) (seen_slots m)) (sym came.2) (valued K came.0 came.1)) (values l x has)
 
-  remakes : IsSound (layout w) (seen_slots m) → Knows (below_ref v) (layout w) → Remakes (Space k) 0 (seen_slots m) after (layout w) (layout w2)
+  remakes : IsSound (layout w) (seen_slots m) → known → Remakes (Space k) 0 (seen_slots m) after (layout w) (layout w2)
   remakes S K = record {
     was = inl was;
     now = now;
@@ -135,7 +142,7 @@ module _ (w w2 : Assembly) (k n : ℕ) (m m2 : Member) (o p : Object) (v : Ref) 
       same_here : (x : Object) → Here p ≡ Here x → p ≡ x
       same_here x e = cc
 
-  module _ (names : Naming) (bound : ℕ) (g : Objects) (R : IsRead w names bound g) (K : Knows (below_ref v) (layout w)) (names2 : Naming) (g2 : Objects)
+  module _ (names : Naming) (bound : ℕ) (g : Objects) (R : IsRead w names bound g) (K : known) (names2 : Naming) (g2 : Objects)
       (after_reading : IsReading (layout w2) names2 (bound + 0) g2) (N : IsNamed (Space k) names names2) (M : IsRemade (Space k) (seen_slots m) after names names2 g g2) where
     sound : IsSound (layout w) (seen_slots m)
     sound = R.tables.sound (Space k) (seen_slots m) was
@@ -214,10 +221,10 @@ module _ (w w2 : Assembly) (k n : ℕ) (m m2 : Member) (o p : Object) (v : Ref) 
     old_named : named names2 (Space k) o ≡ named names (Space k) o
     old_named = object_same (layout w) (seen_slots m) (Space k) (Space k) names names2 n o stand (λ c u e. kept_shared c) sound here
 
-    -- a value of the new object was in the old one, or is the one that came in
-    new_value : (vs : List Value) → IsNewValue g vs (root_in names (Space k) v) → (l : Label) (u : Value) → Contains (named names2 (Space k) p).triples (l, u)
-        → IsNewValue g vs u ⊎ ((x : Owned) × (j : Label) × (g name ≡ Some x) × Contains x.object.triples (j, u))
-    new_value vs rooted l u has =
+    -- a value of the new object was in the old one, or is one that came in
+    new_value : (us : List Value) → reached g us names → (l : Label) (u : Value) → Contains (named names2 (Space k) p).triples (l, u)
+        → IsNewValue g us u ⊎ ((x : Owned) × (j : Label) × (g name ≡ Some x) × Contains x.object.triples (j, u))
+    new_value us rooted l u has =
         let b = contains_map_back (renamed_triple (name_in names2 (Space k))) p.triples (l, u) has in
         let u_is : renamed (name_in names2 (Space k)) b.0.1 ≡ u = ap (λ (t : Label × Value). t.1) b.2 in
         let old_is : value_in names (Space k) b.0.1 ≡ u = sym (value_stays b.0.1 (all_within sound K b.0.0 b.0.1 b.1)) ∙ u_is in
@@ -228,11 +235,11 @@ module _ (w w2 : Assembly) (k n : ℕ) (m m2 : Member) (o p : Object) (v : Ref) 
           stood,
           subst (λ x. Contains (named names (Space k) o).triples (old.0, x)) old_is (contains_map (renamed_triple (name_in names (Space k))) o.triples (old.0, b.0.1) old.1),
         ))
-        (λ came. inl (subst (IsNewValue g vs) (ap (value_in names (Space k)) (sym came) ∙ old_is) rooted))
+        (λ came. inl (subst (IsNewValue g us) (ap (value_in names (Space k)) (sym came.2) ∙ old_is) (rooted came.0 came.1)))
         (values b.0.0 b.0.1 b.1)
 
-    change : ((o.frozen ≡ true) ⊎ (o.kind ≡ shell) → p ≡ o) → (vs : List Value) → IsNewValue g vs (root_in names (Space k) v) → IsChange k vs g g2
-    change shut vs rooted = record {
+    change : ((o.frozen ≡ true) ⊎ (o.kind ≡ shell) → p ≡ o) → (us : List Value) → reached g us names → IsChange k us g g2
+    change shut us rooted = record {
       others = λ j x e differ. old_stays j x (λ same. differ (ap (λ (y : Owned). y.owner) (same_Some x _ (sym e ∙ ap g same ∙ stood)))) e;
       closed = λ j x e closed. ⊎_elim
           (λ same.
@@ -249,7 +256,7 @@ module _ (w w2 : Assembly) (k n : ℕ) (m m2 : Member) (o p : Object) (v : Ref) 
       values = λ j y l u e mine has. ⊎_elim
           (λ same.
           let y_is : record { owner = Space k; object = named names2 (Space k) p } ≡ y = same_Some _ y (sym stands ∙ ap g2 (sym same) ∙ e) in
-          ⊎_elim (λ z. inl z) (λ z. inr (z.0, z.1, ap g same ∙ z.2, z.3)) (new_value vs rooted l u (subst (λ (z : Owned). Contains z.object.triples (l, u)) (sym y_is) has)))
+          ⊎_elim (λ z. inl z) (λ z. inr (z.0, z.1, ap g same ∙ z.2, z.3)) (new_value us rooted l u (subst (λ (z : Owned). Contains z.object.triples (l, u)) (sym y_is) has)))
           (λ differ. inr (y, l, sym (others j differ) ∙ e, has))
           (eq_cases j name);
     }
@@ -265,7 +272,7 @@ module _ (w w2 : Assembly) (k n : ℕ) (m m2 : Member) (o p : Object) (v : Ref) 
         (ap (option_map (planned_in names2 k)) A.plan ∙ plan_stands names names2 k (length m.space.slots) m.plan A.planned stand_all)
         (ap (option_map (published_names names2 k)) A.published ∙ published_stands names names2 k m.space m.published A.fit stand_all) count A.limit A.next A.limits A.runs
 
-    changed_to : ((o.frozen ≡ true) ⊎ (o.kind ≡ shell) → p ≡ o) → IsNewValue g (actor_in names k m).roots (root_in names (Space k) v)
+    changed_to : ((o.frozen ≡ true) ⊎ (o.kind ≡ shell) → p ≡ o) → reached g (actor_in names k m).roots names
         → IsChangedTo k (actor_in names k m) name (named names (Space k) o) (named names2 (Space k) p) (state_in w names g) (state_in w2 names2 g2)
     changed_to shut rooted =
         let hands : (i : ℕ) → names2 (Hand i) ≡ names (Hand i) = λ i. N.rest (Hand i) (λ z. let y : ⊥ = cc in y) in
@@ -284,18 +291,19 @@ module _ (w w2 : Assembly) (k n : ℕ) (m m2 : Member) (o p : Object) (v : Ref) 
           post = ap (post_in names2) is ∙ post_same names names2 w.channels mails shows kept_shared;
         }
 
-  rewritten_knows : (tables : Layout) → Knows (below_ref v) tables → MemberKnows tables m → MemberKnows tables m2
+  rewritten_knows : (tables : Layout) → ((v : Ref) → Contains vs v → Knows (below_ref v) tables) → MemberKnows tables m → MemberKnows tables m2
   rewritten_knows tables L K = record {
-    space = knows_either tables (joined m.space.below) (below_ref v) (joined m2.space.below) A.below K.space L;
+    space = record { known = λ c os has. ⊎_elim (λ old. K.space.known c os old) (λ came. (L came.0 came.1).known c os came.2) (A.below (c, os) has) };
     roots = λ r has. K.roots r (subst (λ (xs : List Ref). Contains xs r) A.roots has);
     hand = λ q e. K.hand q (sym A.hand ∙ e);
     plan = λ q e. K.plan q (sym A.plan ∙ e);
     published = λ q e. K.published q (sym A.published ∙ e);
+    keyed = A.keyed tables K.space L K.keyed;
   }
 
   -- from each reading before there is one after, and the object of that name is another
-  pub rewritten : (names : Naming) (bound : ℕ) (g : Objects) → IsRead w names bound g → Knows (below_ref v) (layout w) → ((o.frozen ≡ true) ⊎ (o.kind ≡ shell) → p ≡ o)
-      → IsNewValue g (actor_in names k m).roots (root_in names (Space k) v)
+  pub rewritten : (names : Naming) (bound : ℕ) (g : Objects) → IsRead w names bound g → known → ((o.frozen ≡ true) ⊎ (o.kind ≡ shell) → p ≡ o)
+      → reached g (actor_in names k m).roots names
       → (names2 : Naming) × (bound2 : ℕ) × (g2 : Objects) × IsRead w2 names2 bound2 g2
       × IsChangedTo k (actor_in names k m) (slice_index (names (Space k)) n) (named names (Space k) o) (named names2 (Space k) p) (state_in w names g) (state_in w2 names2 g2)
       × ((l : Label) (x : Value) → Contains p.triples (l, x) → value_in names2 (Space k) x ≡ value_in names (Space k) x) × IsNamed (Space k) names names2

@@ -34,6 +34,7 @@ use Rattle.rr_world.proofs.Knowing.{order_on, knows_on, member_on, message_on}
 use Rattle.rr_world.proofs.Lists.{each_same}
 use Rattle.rr_world.proofs.Namings.{actor_same, same_actor, archive_same, mailbox_same, ports_same, same_post}
 use Rattle.rr_world.proofs.Staying.{stays, same_state}
+use Rattle.rr_world.proofs.KeyTables.{no_keys}
 use Rattle.rr_world.specs.Naming.{IsRenamed}
 use Rattle.rr_space.specs.declared.refer.Ref.{Ref}
 
@@ -104,13 +105,14 @@ nothing_known : (tables : Layout) (b : Below) → b ≡ [] → Knows b tables
 nothing_known tables b none = record { known = λ c os has. absurd (none_in (c, os) (subst (λ x. Contains x (c, os)) none has)) }
 
 -- a ractor without objects, roots and message knows of no cluster
-pub bare_knows : (tables : Layout) (m : Member) → m.space.below ≡ [] → m.roots ≡ [] → m.hand ≡ None → m.plan ≡ None → m.published ≡ None → MemberKnows tables m
-bare_knows tables m below roots hand plan published = record {
+pub bare_knows : (tables : Layout) (m : Member) → m.space.slots ≡ [] → m.space.below ≡ [] → m.roots ≡ [] → m.hand ≡ None → m.plan ≡ None → m.published ≡ None → MemberKnows tables m
+bare_knows tables m slots below roots hand plan published = record {
   space = nothing_known tables (joined m.space.below) (ap joined below);
   roots = λ r has. absurd (none_in r (subst (λ xs. Contains xs r) roots has));
   hand = λ p e. absurd (none-some p (sym hand ∙ e));
   plan = λ p e. absurd (none-some p (sym plan ∙ e));
   published = λ p e. absurd (none-some p (sym published ∙ e));
+  keyed = no_keys tables m.space.slots m.space.keys slots;
 }
 
 module _ (w w2 : Assembly) (limits : Limits) (m2 : Member) (A : IsBegun limits (length w.ractors + 1) m2) (rs : w2.ractors ≡ w.ractors ++ m2 ∷ []) (is : w2.channels ≡ record w.channels { inboxes = w.channels.inboxes ++ new_inbox limits.events ∷ []; ports = w.channels.ports ++ new_port limits.events ∷ [] }) where
@@ -186,7 +188,7 @@ module _ (w w2 : Assembly) (limits : Limits) (m2 : Member) (A : IsBegun limits (
 
   more_knows : IsKnowing w → IsKnowing w2
   more_knows K = record {
-    ractors = λ j m at. member_on w w2 (ap (λ (x : Channels). x.store.clusters) is) m (⊎_elim (λ old. K.ractors j m old) (λ new. subst (MemberKnows (layout w)) new.1 (bare_knows (layout w) m2 A.below A.roots A.hand A.plan A.published)) (last_cases w.ractors m2 j m (ap (λ xs. slice_get xs j) (sym rs) ∙ at)));
+    ractors = λ j m at. member_on w w2 (ap (λ (x : Channels). x.store.clusters) is) m (⊎_elim (λ old. K.ractors j m old) (λ new. subst (MemberKnows (layout w)) new.1 (bare_knows (layout w) m2 A.slots A.below A.roots A.hand A.plan A.published)) (last_cases w.ractors m2 j m (ap (λ xs. slice_get xs j) (sym rs) ∙ at)));
     store = λ n v here. knows_on w w2 (ap (λ (x : Channels). x.store.clusters) is) (below_ref v) (K.store n v (ap (λ (x : Channels). constant_of x.store n) (sym is) ∙ here));
     inboxes = λ c i e at has. message_on w w2 (ap (λ (x : Channels). x.store.clusters) is) e.message (⊎_elim
         (λ old. K.inboxes c i e old has)

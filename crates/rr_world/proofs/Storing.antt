@@ -344,6 +344,7 @@ module _ (w w2 : Assembly) (who : RactorNo) (k : ℕ) (m : Member) (name : Sym) 
         hand = K.hand;
         plan = K.plan;
         published = K.published;
+        keyed = K.keyed;
       }
 
   pub got : HasOutcome (record { who = who; action = GetConst name }) Done w w2

@@ -12,7 +12,7 @@ use Rattle.rr_world.specs.ObjectCases.{value_under, without}
 use Rattle.rr_space.specs.Parts.{value_of}
 use Rattle.rr_space.specs.declared.refer.Ref.{Ref}
 
-later : {X : Type 0} (a : X) (xs : List X) (y : X) → Contains xs y → Contains (a ∷ xs) y
+pub later : {X : Type 0} (a : X) (xs : List X) (y : X) → Contains xs y → Contains (a ∷ xs) y
 later a xs y (n, lt, e) = (suc n, omega (arith, lt), e)
 
 -- what is placed is what was in the list
@@ -23,7 +23,7 @@ in_placed k (v ∷ vs) l x has = ⊎_elim
     (λ old. later v vs x (in_placed (k + 1) vs l x old))
     (in_first (Place k, v) (placed_from (k + 1) vs) (l, x) has)
 
-in_rest : (vs : List Value) (i : ℕ) (x : Value) → Contains (remove vs i) x → Contains vs x
+pub in_rest : {X : Type 0} (vs : List X) (i : ℕ) (x : X) → Contains (remove vs i) x → Contains vs x
 in_rest [] zero x has = has
 in_rest [] (suc i) x has = has
 in_rest (v ∷ vs) zero x has = later v vs x has

@@ -16,6 +16,8 @@ pub record IsAllocatedBy (new : NewObject) (old now : Member) : Type 0 where
   pub within : AreRootsWithin (length old.space.slots) old.roots
   pub slots : now.space.slots ≡ old.space.slots ++ Here (new_object new) ∷ []
   pub below : now.space.below ≡ old.space.below ++ [] ∷ []
+  pub keys : now.space.keys ≡ old.space.keys ++ [] ∷ []
+  pub even : length old.space.keys ≡ length old.space.slots
   pub limit : now.space.limit ≡ old.space.limit
   pub roots : now.roots ≡ old.roots ++ Local (length old.space.slots) ∷ []
   pub hand : now.hand ≡ old.hand

@@ -1,18 +1,18 @@
 -- The cases of the graph machine, one after another.
 use Rattle.std.specs.Prelude.{◌≡◌, ℕ, true, false, List, [], Some, None, slice_get}
 use Rattle.rr_base.specs.declared.name.RactorNo.{RactorNo as Number}
-use Rattle.rr_space.specs.Graph.{text, array, plain, exception, Value}
+use Rattle.rr_space.specs.Graph.{text, array, exception, Value}
 use Rattle.rr_world.specs.States.{Farewell, Parcel, Letter, Mailbox, Showcase, Actor, Held, State, IsSame, constant_at}
 use Rattle.rr_world.specs.States as constant
 use Rattle.rr_base.specs.declared.event.StoreEvent.TheVariants as store
 use Rattle.rr_world.specs.declared.step.Action.{Action}
 use Rattle.rr_space.specs.Labels.{label_of}
-use Rattle.rr_world.specs.declared.step.Action.TheVariants.{Alloc, Pack, Plan, Publish, Promote, Discard, Offer, Accept, Open, Close, ClosePort, ShowLast, Show, Withdraw, Settle, Grab, Freeze, Append, Clear, Push, Write, Take, SetField, SetRaised, Read, Start, End, Detach, PutBack, SetConst, SetOwn, GetConst}
+use Rattle.rr_world.specs.declared.step.Action.TheVariants.{Alloc, Pack, Plan, Publish, Promote, Discard, Offer, Accept, Open, Close, ClosePort, ShowLast, Show, Withdraw, Settle, Grab, Freeze, Append, Clear, Push, Write, Take, SetField, SetRaised, SetPair, DeletePair, Read, Start, End, Detach, PutBack, SetConst, SetOwn, GetConst}
 use Rattle.rr_world.specs.declared.step.Step.{Step}
 use Rattle.rr_world.specs.declared.step.Reply.{Reply}
 use Rattle.rr_world.specs.declared.step.Reply.TheVariants.{NotEnabled, Done, Offered, Empty, EmptyAndClosed, WasClosed, Refused, Started, Settled, GrabbedLast, OfMain, Published}
-use Rattle.rr_world.specs.Enabling.{StandsAt, IsRunning, IsPossible, named_value, IsNoShell, IsOpen, HasElement, Allows, IsEnabled}
-use Rattle.rr_world.specs.ObjectCases.{IsAllocated, IsAllocRefused, frozen, appended, cleared, pushed, written, without, with_field, with_part, IsMade, IsMemoryRefused, IsReadAs, IsStarted, IsEnded, IsStartRefused}
+use Rattle.rr_world.specs.Enabling.{StandsAt, IsRunning, IsPossible, named_value, IsNoShell, IsOpen, HasElement, HasFields, HasPair, Allows, IsEnabled}
+use Rattle.rr_world.specs.ObjectCases.{IsAllocated, IsAllocRefused, frozen, appended, cleared, pushed, written, without, with_field, with_part, without_pair, IsMade, IsPairSet, IsMemoryRefused, IsReadAs, IsStarted, IsEnded, IsStartRefused}
 use Rattle.rr_world.specs.MessageCases.{IsPacked, IsPackRefusedFor, IsDetached, IsDetachRefusedFor, IsReturned, IsDiscarded, IsOffered, IsOfferRefused, IsAccepted, IsOpenedAs, IsOpenRefused, IsClosedBy}
 use Rattle.rr_world.specs.PlanCases.{IsPlannedAs, IsPublishedAs, IsPromotedBy}
 use Rattle.rr_world.specs.PortCases.{IsPortClosedBy, IsLastLeft, IsLastRefused, IsGrabbed, IsShown, IsShowRefused, IsWithdrawn, IsWithdrawRefused, IsSettledAs, is_of_fault, grabbed}
@@ -71,9 +71,12 @@ Effect who k a (Push op x) Done s t = (y : Value) × (named_value a.roots x ≡ 
 Effect who k a (Push op x) (Refused f) s t = IsMemoryRefused f s t
 Effect who k a (Write op i x) Done s t = (y : Value) × (named_value a.roots x ≡ Some y) × IsMade k a op (HasElement i) (written i y) s t
 Effect who k a (Take op i) Done s t = IsMade k a op (HasElement i) (without i) s t
-Effect who k a (SetField op name x) Done s t = (y : Value) × (named_value a.roots x ≡ Some y) × IsMade k a op (IsOpen plain) (with_field name.0 y) s t
+Effect who k a (SetField op name x) Done s t = (y : Value) × (named_value a.roots x ≡ Some y) × IsMade k a op HasFields (with_field name.0 y) s t
 Effect who k a (SetField op name x) (Refused f) s t = IsMemoryRefused f s t
 Effect who k a (SetRaised op part x) Done s t = (y : Value) × (named_value a.roots x ≡ Some y) × IsMade k a op (IsOpen exception) (with_part part y) s t
+Effect who k a (SetPair op key x) Done s t = (y z : Value) × (named_value a.roots key ≡ Some y) × (named_value a.roots x ≡ Some z) × IsPairSet k a op y z s t
+Effect who k a (SetPair op key x) (Refused f) s t = IsMemoryRefused f s t
+Effect who k a (DeletePair op i) Done s t = IsMade k a op (HasPair i) (without_pair i) s t
 Effect who k a (SetConst name op) Done s t = (x : Value) × (named_value a.roots op ≡ Some x) × IsConstantSet name.0 (Held x) (store.Shared name who) s t
 Effect who k a (SetConst name op) (Refused f) s t = IsSetRefused f s t
 Effect who k a (SetOwn name) Done s t = IsMain who × IsConstantSet name.0 constant.Own (store.Own name who) s t

@@ -1,13 +1,15 @@
 -- Which steps are enabled.
-use Rattle.std.specs.Prelude.{◌≡◌, true, ℕ, ◌+◌, ◌<◌, ◌⊎◌, false, List, length, Contains, Option, Some, None, slice_get}
+use Rattle.std.specs.Prelude.{◌≡◌, true, ℕ, ◌+◌, ◌*◌, ◌<◌, ◌⊎◌, false, List, length, Contains, Option, Some, None, IsSome, slice_get}
 use Rattle.rr_base.specs.declared.name.RactorNo.{RactorNo as Number}
-use Rattle.rr_space.specs.Graph.{Kind, Object, text, array, plain, exception, shell, Own, Published, Value, Plain, At, Nil, Truth, Integer, SymbolNo, ClassNo, RactorNo, Reaches, IsShareable}
+use Rattle.rr_space.specs.Graph.{Kind, Object, text, array, hash, plain, exception, shell, Own, Published, Value, Plain, At, Nil, Truth, Integer, SymbolNo, ClassNo, RactorNo, Reaches, IsShareable}
+use Rattle.rr_space.specs.Tables.{HashKey, PlainKey}
+use Rattle.rr_space.specs.Lookups.{key_of_frozen}
 use Rattle.rr_space.specs.Readings.{Space, Owned, Objects, IsShared, whole}
 use Rattle.rr_share.specs.Search.{LeadsToShell}
 use Rattle.rr_world.specs.States.{Parcel, Mailbox, Showcase, Actor, State}
 use Rattle.rr_world.specs.declared.step.Action.{Action}
 use Rattle.rr_space.specs.Labels.{label_of}
-use Rattle.rr_world.specs.declared.step.Action.TheVariants.{Alloc, Pack, Plan, Publish, Promote, Discard, Offer, Accept, Open, Close, ClosePort, ShowLast, Show, Withdraw, Settle, Grab, Freeze, Append, Clear, Push, Write, Take, SetField, SetRaised, Read, Start, End, Detach, PutBack, SetConst, SetOwn, GetConst}
+use Rattle.rr_world.specs.declared.step.Action.TheVariants.{Alloc, Pack, Plan, Publish, Promote, Discard, Offer, Accept, Open, Close, ClosePort, ShowLast, Show, Withdraw, Settle, Grab, Freeze, Append, Clear, Push, Write, Take, SetField, SetRaised, SetPair, DeletePair, Read, Start, End, Detach, PutBack, SetConst, SetOwn, GetConst}
 use Rattle.rr_world.specs.declared.step.Operand.{Operand}
 use Rattle.rr_world.specs.declared.step.Operand.TheVariants as operand
 use Rattle.rr_world.specs.declared.step.Step.{Step}
@@ -86,11 +88,36 @@ IsNoShell o = o.kind ≡ shell → ⊥
 abbrev pub IsOpen : Kind → Object → Type 0
 IsOpen kind o = (o.kind ≡ kind) × (o.frozen ≡ false)
 
+-- an object is one with fields, a plain one or an exception, that is not frozen
+abbrev pub HasFields : Object → Type 0
+HasFields o = IsOpen plain o ⊎ IsOpen exception o
+
 abbrev pub HasElement : ℕ → Object → Type 0
 HasElement i o = IsOpen array o × (i < length o.triples)
 
+-- an object is a hash that is not frozen, with a pair at a place; it is such a hash with so many pairs
+abbrev pub HasPair : ℕ → Object → Type 0
+HasPair i o = IsOpen hash o × (2 * i + 1 < length o.triples)
+
+abbrev pub HasPairs : ℕ → Object → Type 0
+HasPairs n o = IsOpen hash o × (length o.triples ≡ 2 * n)
+
 abbrev pub IsValue : Actor → Operand → Type 0
 IsValue a op = (x : Value) × (named_value a.roots op ≡ Some x)
+
+-- the key of a hash that a value is: an immediate, or the bytes of the frozen text that it names
+abbrev pub owned_key : Option Owned → Option HashKey
+owned_key (Some y) = key_of_frozen (Some y.object)
+owned_key None = None
+
+abbrev pub key_in : Objects → Value → Option HashKey
+key_in g (Plain i) = Some (PlainKey i)
+key_in g (At (Own n)) = owned_key (g n)
+key_in g (At (Published c p)) = None
+
+-- the operand is a value that can be a key
+abbrev pub IsKeyValue : State → Actor → Operand → Type 0
+IsKeyValue s a op = (x : Value) × (named_value a.roots op ≡ Some x) × IsSome (key_in s.objects x)
 
 -- the value is an immediate or Shared
 abbrev pub IsPublicValue : Objects → Value → Type 0
@@ -114,8 +141,8 @@ IsTested s a _ = Unit {0}
 
 -- pack, detach and plan need an empty hand and a value; publish needs a plan in the hand, and promote a published one; discard needs a
 -- message or a plan in the hand, offer and open a message, put back one with its home, and accept an empty hand; show needs a message in the hand and nothing in the ractor's own port, and withdraw an empty hand
--- or the home of what was shown; channels that are named are there; freeze needs an object of its own that is no shell, append, clear, push, write, take and the settings one of a kind that is not
--- frozen, and read an object that has the label
+-- or the home of what was shown; channels that are named are there; freeze needs an object of its own that is no shell, append, clear, push, write, take, delete a pair and the settings one of a kind that is not
+-- frozen, set a pair a key besides, and read an object that has the label
 abbrev pub Allows : State → Number → Actor → Action → Type 0
 Allows s who a (Alloc new) = Unit {0}
 Allows s who a (Pack op) = IsFreeHand a × IsValue a op
@@ -141,8 +168,10 @@ Allows s who a (Clear op) = MayChange s who a op (IsOpen text)
 Allows s who a (Push op x) = MayChange s who a op (IsOpen array) × IsValue a x
 Allows s who a (Write op i x) = MayChange s who a op (HasElement i) × IsValue a x
 Allows s who a (Take op i) = MayChange s who a op (HasElement i)
-Allows s who a (SetField op name x) = MayChange s who a op (IsOpen plain) × IsValue a x
+Allows s who a (SetField op name x) = MayChange s who a op HasFields × IsValue a x
 Allows s who a (SetRaised op part x) = MayChange s who a op (IsOpen exception) × IsValue a x
+Allows s who a (SetPair op key x) = MayChange s who a op (IsOpen hash) × IsKeyValue s a key × IsValue a x
+Allows s who a (DeletePair op i) = MayChange s who a op (HasPair i)
 Allows s who a Start = Unit {0}
 Allows s who a End = Unit {0}
 Allows s who a (SetConst name op) = MaySet a × (x : Value) × (named_value a.roots op ≡ Some x) × IsPublicValue s.objects x

@@ -1,9 +1,11 @@
 -- The tables that a World has.
-use Rattle.std.specs.Prelude.{◌≡◌, ◌+◌, ◌<◌, ◌++◌, Contains, ℕ, List, [], ◌∷◌, length, map, Option, None, Some, slice_get, nat_eq, cond}
+use Rattle.std.specs.Prelude.{◌≡◌, ◌+◌, ◌<◌, ◌≤◌, ◌++◌, Contains, ℕ, List, [], ◌∷◌, length, map, Option, None, Some, slice_get, nat_eq, cond}
 use Rattle.std.specs.Option.{option_map, option_and_then}
-use Rattle.rr_space.specs.Graph.{Own, Published, At}
-use Rattle.rr_space.specs.Tables.{Packed, Slot, Here, Below, Whole, joined, below_hold}
+use Rattle.rr_space.specs.Graph.{Own, Published, At, Object, text}
+use Rattle.rr_space.specs.Tables.{Packed, Slot, Here, Below, Whole, HashKey, joined, below_hold, numbered_object}
 use Rattle.rr_space.specs.Readings.{Space, Hand, Mail, Shown, Shared, Layout, Knows, HasPlace, Naming, Objects, IsReading, AreClustersInOrder}
+use Rattle.rr_space.specs.KeyObjects.{AreKeysNamed}
+use Rattle.rr_space.specs.Lookups.{IsOneEach}
 use Rattle.rr_space.specs.Parts.{below_ref}
 use Rattle.rr_space.specs.declared.refer.Ref.{Ref}
 use Rattle.rr_base.specs.declared.name.Sym.{Sym}
@@ -64,23 +66,39 @@ layout w (Mail c t) = option_and_then (inbox_slots t) (slice_get w.channels.inbo
 layout w (Shown c t) = option_and_then (port_slots t) (slice_get w.channels.ports c)
 layout w (Shared c) = option_map cluster_slots (slice_get w.channels.store.clusters c)
 
+-- the list has each cluster that is published, and no number twice
+pub record HasAllClusters (tables : Layout) (below : Below) : Type 0 where
+  pub one : IsOneEach below
+  pub all : (c : ℕ) (raws : List Object) → tables (Shared c) ≡ Some (map Here raws) → Contains below (c, map (numbered_object c) raws)
+
+-- in a table of these slots each key of a hash is the key that its key object is, by the published clusters; each slot has its list
+-- of keys; and texts lead to nothing
+pub record AreKeysKnown (tables : Layout) (slots : List Slot) (keys : List (List HashKey)) : Type 0 where
+  pub count : length slots ≤ length keys
+  pub texts : (n : ℕ) (o : Object) → slice_get slots n ≡ Some (Here o) → o.kind ≡ text → o.triples ≡ []
+  pub named : (below : Below) → HasAllClusters tables below → AreKeysNamed below slots keys
+
 -- the clusters that a message leads to
 abbrev pub message_below : Packed → Below
 message_below m = m.root_below ++ joined m.below
 
--- the clusters that a message leads to are the store's, and its root is an immediate, an object of it, or one that the store has
+-- the clusters that a message leads to are the store's, its root is an immediate, an object of it, or one that the store has, and the
+-- keys of its hashes are those of their key objects
 pub record IsMessageKnown (tables : Layout) (m : Packed) : Type 0 where
   pub below : Knows (message_below m) tables
   pub own : (i : ℕ) → m.root ≡ At (Own i) → i < length m.objects
   pub root : (c p : ℕ) → m.root ≡ At (Published c p) → HasPlace tables c p
+  pub keyed : AreKeysKnown tables (message_slots m) m.keys
 
--- what a ractor's objects, its roots, its message and its plans know of clusters is what the store has
+-- what a ractor's objects, its roots, its message and its plans know of clusters is what the store has, and the keys of its hashes
+-- are those of their key objects
 pub record MemberKnows (tables : Layout) (m : Member) : Type 0 where
   pub space : Knows (joined m.space.below) tables
   pub roots : (r : Ref) → Contains m.roots r → Knows (below_ref r) tables
   pub hand : (p : Packed) → m.hand ≡ Some p → IsMessageKnown tables p
   pub plan : (p : Plan) → m.plan ≡ Some p → Knows p.cluster.below tables
   pub published : (p : PublishedPlan) → m.published ≡ Some p → Knows (below_hold p.cluster) tables
+  pub keyed : AreKeysKnown tables m.space.slots m.space.keys
 
 -- the same of each ractor, of each constant and of each message in an inbox or a port
 pub record IsKnowing (w : Assembly) : Type 0 where
@@ -127,9 +145,9 @@ pub record IsHeldWithin (w : Assembly) : Type 0 where
   pub inboxes : AreInboxesFound w.channels
   pub ports : ArePortsFound w.channels
 
--- a reading of the World: its tables are read as a whole graph, what they know of clusters is what the store has, each
--- space is its ractor's, what is held has a place in the tables, there are as many inboxes and ports as ractors, homes fit what is
--- shown, and clusters are frozen and lead to earlier ones alone
+-- a reading of the World: its tables are read as a whole graph, what they know of clusters is what the store has, each key of a
+-- hash is the key that its key object is, each space is its ractor's, what is held has a place in the tables, there are as many
+-- inboxes and ports as ractors, homes fit what is shown, and clusters are frozen and lead to earlier ones alone
 pub record IsRead (w : Assembly) (names : Naming) (bound : ℕ) (g : Objects) : Type 0 where
   pub tables : IsReading (layout w) names bound g
   pub knows : IsKnowing w

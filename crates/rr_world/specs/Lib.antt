@@ -20,6 +20,7 @@ pub mod Packing
 pub mod Planning
 pub mod Allocating
 pub mod Changing
+pub mod Pairing
 pub mod Starting
 pub mod Moving
 pub mod Getting

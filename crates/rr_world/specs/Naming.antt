@@ -5,7 +5,7 @@ use Rattle.rr_space.specs.Readings.{Owner, Space, Hand, Mail, Shown, Shared, Nam
 use Rattle.rr_world.specs.Views.{Member, Assembly}
 use Rattle.rr_world.specs.Enabling.{StandsAt}
 use Rattle.rr_world.specs.declared.step.Action.{Action}
-use Rattle.rr_world.specs.declared.step.Action.TheVariants.{Alloc, Pack, Publish, Offer, Accept, Open, ShowLast, Show, Withdraw, Grab, Freeze, Append, Clear, Push, Write, Take, SetField, SetRaised, Start, End, Detach, PutBack}
+use Rattle.rr_world.specs.declared.step.Action.TheVariants.{Alloc, Pack, Publish, Offer, Accept, Open, ShowLast, Show, Withdraw, Grab, Freeze, Append, Clear, Push, Write, Take, SetField, SetRaised, SetPair, DeletePair, Start, End, Detach, PutBack}
 use Rattle.rr_world.specs.declared.step.Step.{Step}
 
 -- the ractor's space where an object of it changes or objects come into it or begin anew; its hand where a message comes into it or goes home;
@@ -21,6 +21,8 @@ IsRenamed w who (Write op i x) (Space k) = StandsAt who k
 IsRenamed w who (Take op i) (Space k) = StandsAt who k
 IsRenamed w who (SetField op name x) (Space k) = StandsAt who k
 IsRenamed w who (SetRaised op part x) (Space k) = StandsAt who k
+IsRenamed w who (SetPair op key x) (Space k) = StandsAt who k
+IsRenamed w who (DeletePair op i) (Space k) = StandsAt who k
 IsRenamed w who Open (Space k) = StandsAt who k
 IsRenamed w who (Detach op) (Space k) = StandsAt who k
 IsRenamed w who PutBack (Space k) = StandsAt who k

@@ -1,12 +1,13 @@
 -- The cases of the graph machine that change objects, and those in which a ractor starts or ends.
-use Rattle.std.specs.Prelude.{◌≡◌, ℕ, ◌+◌, ◌<◌, ◌≤◌, ◌⊎◌, true, false, Bool, if◌then◌else◌, nat_eq, List, [], ◌∷◌, ◌++◌, length, Some, None, slice_set, map, remove}
+use Rattle.std.specs.Prelude.{◌≡◌, ℕ, ◌+◌, ◌*◌, ◌<◌, ◌≤◌, ◌⊎◌, true, false, Bool, if◌then◌else◌, nat_eq, List, [], ◌∷◌, ◌++◌, length, Some, None, slice_get, slice_set, map, remove}
 use Rattle.rr_base.specs.declared.name.RactorNo.{RactorNo as Number}
 use Rattle.rr_base.specs.declared.fault.Fault.{Fault}
 use Rattle.rr_base.specs.declared.fault.Fault.TheVariants as fault
 use Rattle.rr_base.specs.declared.limits.Limits.{Limits}
 use Rattle.rr_base.specs.declared.limits.LimitKind.TheVariants as kind
 use Rattle.rr_space.specs.Graph.{Object, text, array, hash, plain, exception, Label, Place, Field, KeyAt, ValueAt, Message, Cause, Ractor, Own, Value, Plain, At, Nil}
-use Rattle.rr_space.specs.Readings.{Owner, Space, Hand, Owned}
+use Rattle.rr_space.specs.Readings.{Owner, Space, Hand, Owned, Objects}
+use Rattle.rr_space.specs.Tables.{HashKey}
 use Rattle.rr_space.specs.Steps.{IsChange}
 use Rattle.rr_world.specs.States.{Mailbox, Showcase, Actor, State, IsSame}
 use Rattle.rr_space.specs.Labels.{IsFirstUnder, raised_place}
@@ -14,8 +15,8 @@ use Rattle.rr_base.specs.declared.name.TheConstants.ClassId.{ARRAY, HASH, STRING
 use Rattle.rr_world.specs.declared.step.NewObject.{NewObject}
 use Rattle.rr_world.specs.declared.step.NewObject.TheVariants as new
 use Rattle.rr_world.specs.declared.step.Operand.{Operand}
-use Rattle.rr_world.specs.Enabling.{StandsAt, named_value, IsOwn}
-use Rattle.rr_space.specs.Views.{placed_from}
+use Rattle.rr_world.specs.Enabling.{StandsAt, named_value, IsOwn, IsOpen, HasPairs, key_in}
+use Rattle.rr_space.specs.Views.{placed_from, paired_from}
 use Rattle.rr_world.specs.declared.step.RaisedPart.{RaisedPart}
 use Rattle.rr_world.specs.declared.step.RaisedPart.TheVariants as part
 
@@ -42,7 +43,7 @@ pub record IsAllocated (k : ℕ) (a : Actor) (new : NewObject) (s t : State) : T
 abbrev pub IsAllocRefused : Actor → Fault → State → State → Type 0
 IsAllocRefused a f s t = ((f ≡ fault.Memory) ⊎ ((f ≡ fault.Limit kind.Slots) × (a.slots ≡ a.limit))) × IsSame s t
 
--- freeze, append, clear, push, write, take, set a field, set a part of an exception, changes by the ractor: its object under the name n, which was o, is p, and nothing else changes
+-- freeze, append, clear, push, write, take, set a field, set a part of an exception, set and delete a pair, changes by the ractor: its object under the name n, which was o, is p, and nothing else changes
 pub record IsChangedTo (k : ℕ) (a : Actor) (n : ℕ) (o p : Object) (s t : State) : Type 0 where
   pub was : s.objects n ≡ Some (record { owner = Space k; object = o })
   pub now : t.objects n ≡ Some (record { owner = Space k; object = p })
@@ -72,6 +73,24 @@ value_under t = t.1
 -- an array without the element at the place; those behind it close up
 abbrev pub without : ℕ → Object → Object
 without i o = record o { triples = placed_from 0 (remove (map value_under o.triples) i) }
+
+-- a value in the place of that of a pair of a hash
+abbrev pub with_value : ℕ → Value → Object → Object
+with_value i x o = record o { triples = slice_set o.triples (2 * i + 1) (ValueAt i, x) }
+
+-- a key and a value behind the n pairs of a hash
+abbrev pub with_pair : ℕ → Value → Value → Object → Object
+with_pair n key x o = record o { triples = o.triples ++ (KeyAt n, key) ∷ (ValueAt n, x) ∷ [] }
+
+-- what stands in turn as keys and values, in pairs
+abbrev pub pairs_of : List (Label × Value) → List (Value × Value)
+pairs_of [] = []
+pairs_of (k ∷ []) = []
+pairs_of (k ∷ v ∷ ts) = (k.1, v.1) ∷ pairs_of ts
+
+-- a hash without the pair at the place; those behind it close up
+abbrev pub without_pair : ℕ → Object → Object
+without_pair i o = record o { triples = paired_from 0 (remove (pairs_of o.triples) i) }
 
 abbrev pub part_label : RaisedPart → Label
 part_label part.Message = Message
@@ -103,6 +122,26 @@ with_field x v o = record o { triples = set_in x v o.triples }
 -- the ractor's own object that the operand is, where it may be changed, is what the change makes of it
 abbrev pub IsMade : ℕ → Actor → Operand → (Object → Type 0) → (Object → Object) → State → State → Type 0
 IsMade k a op may change s t = (n : ℕ) × (o : Object) × IsOwn s k a op n o × may o × IsChangedTo k a n o (change o) s t
+
+-- two values are one key of a hash: one immediate, or frozen texts of the same bytes
+abbrev pub AreOneKey : Objects → Value → Value → Type 0
+AreOneKey g x y = (key : HashKey) × (key_in g x ≡ Some key) × (key_in g y ≡ Some key)
+
+-- the key object of the pair at the place is the key
+abbrev pub HasKeyAt : Objects → Value → ℕ → Object → Type 0
+HasKeyAt g key i o = (p : Value × Value) × (slice_get (pairs_of o.triples) i ≡ Some p) × AreOneKey g p.0 key
+
+-- the pair at the place, and no other, of a hash that is not frozen has the key; no pair of such a hash, which has n, has it
+abbrev pub IsPairOfKey : Objects → Value → ℕ → Object → Type 0
+IsPairOfKey g key i o = IsOpen hash o × HasKeyAt g key i o × ((j : ℕ) → HasKeyAt g key j o → j ≡ i)
+
+abbrev pub HasNoPairOfKey : Objects → Value → ℕ → Object → Type 0
+HasNoPairOfKey g key n o = HasPairs n o × ((j : ℕ) → HasKeyAt g key j o → ⊥)
+
+-- set a pair: the pair of the hash that has the key gets the value, and its key object stays; or no pair has it, and a pair of the
+-- key and the value comes behind all
+abbrev pub IsPairSet : ℕ → Actor → Operand → Value → Value → State → State → Type 0
+IsPairSet k a op key x s t = ((i : ℕ) × IsMade k a op (IsPairOfKey s.objects key i) (with_value i x) s t) ⊎ ((n : ℕ) × IsMade k a op (HasNoPairOfKey s.objects key n) (with_pair n key x) s t)
 
 -- a change for which a growth was refused: all is as it was
 abbrev pub IsMemoryRefused : Fault → State → State → Type 0

@@ -21,6 +21,7 @@ pub record IsOpenedBy (m : Packed) (root : Ref) (old new : Member) : Type 0 wher
   pub held : old.hand ≡ Some m
   pub room : length new.space.slots ≤ new.space.limit
   pub within : AreRootsWithin (length old.space.slots) old.roots
+  pub even : length old.space.keys ≡ length old.space.slots
   pub opened : IsOpened m old.space new.space (value_of root)
   pub below : below_ref root ≡ m.root_below
   pub rooted : IsWithin (length new.space.slots) root

@@ -15,12 +15,30 @@ use Rattle.rr_world.specs.Holding.{AreHoldersApart}
 use Rattle.rr_world.specs.declared.step.Step.{Step}
 use Rattle.rr_world.specs.declared.step.Reply.{Reply}
 
--- each step begins where the one before ended, and after each what two holders both reach is shared
-abbrev pub Chain : List Step → List Reply → State → State → Type 0
-Chain [] [] s t = s ≡ t
-Chain [] (r ∷ rs) s t = ⊥
-Chain (x ∷ xs) [] s t = ⊥
-Chain (x ∷ xs) (r ∷ rs) s t = (mid : State) × IsCase x r s mid × AreHoldersApart mid × Chain xs rs mid t
+-- a World, and what it is read as
+pub record Reading : Type 0 where
+  pub world : Assembly
+  pub names : Naming
+  pub bound : ℕ
+  pub objects : Objects
+
+abbrev pub state_of : Reading → State
+state_of a = state_in a.world a.names a.objects
+
+-- a step between two readings: the states and the reply are a step of the machine; what two holders both reach after it is shared;
+-- and what had a name before it has that name still
+pub record IsStepTo (step : Step) (reply : Reply) (a b : Reading) : Type 0 where
+  pub read : IsRead b.world b.names b.bound b.objects
+  pub case : IsCase step reply (state_of a) (state_of b)
+  pub apart : AreHoldersApart (state_of b)
+  pub kept : AreNamesKept a.world step a.names b.names
+
+-- each step begins at the reading where the one before ended
+abbrev pub Chain : List Step → List Reply → Reading → Reading → Type 0
+Chain [] [] a b = a ≡ b
+Chain [] (r ∷ rs) a b = ⊥
+Chain (x ∷ xs) [] a b = ⊥
+Chain (x ∷ xs) (r ∷ rs) a b = (mid : Reading) × IsStepTo x r a mid × Chain xs rs mid b
 
 -- from each reading of the World before there is one after, and the reply is the outcome of the step, if the ractor runs; and
 -- names are kept
@@ -36,11 +54,12 @@ IsStep step reply old new = (names : Naming) (bound : ℕ) (g : Objects) → IsR
     → (names2 : Naming) × (bound2 : ℕ) × (g2 : Objects) × IsRead new names2 bound2 g2
     × IsCase step reply (state_in old names g) (state_in new names2 g2) × AreNamesKept old step names names2
 
--- from each reading of the World before there is one after, and the steps and replies are a run between the two states
+-- from each reading of the World before there is one after, and the steps and replies are a run between the two: from step to step
+-- names are kept
 abbrev pub IsRun : List Step → List Reply → Assembly → Assembly → Type 0
 IsRun steps replies old new = (names : Naming) (bound : ℕ) (g : Objects) → IsRead old names bound g
     → (names2 : Naming) × (bound2 : ℕ) × (g2 : Objects) × IsRead new names2 bound2 g2
-    × Chain steps replies (state_in old names g) (state_in new names2 g2)
+    × Chain steps replies (record { world = old; names = names; bound = bound; objects = g }) (record { world = new; names = names2; bound = bound2; objects = g2 })
 
 -- the World has a reading
 abbrev pub HasReading : Assembly → Type 0

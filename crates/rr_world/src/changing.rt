@@ -151,20 +151,23 @@ impl Ractor {
         Outcome::Done
     }
 
-    // The plain object and the value that the operands are, where the object may be written.
+    // The object with fields and the value that the operands are, where the object may be written.
     fn writable_object(&self, object: Operand, value: Operand) -> Option<(Ref, Ref)>
         ensures some { IfSome result (λ p. AreSettable object value self.now p.0 p.1) }
         ensures none { IfNone result (MayBeSet object self.now → IsNamedRef value self.now → ⊥) }
     {
         let object = self.named(object)?;
         let value = self.named(value)?;
-        if !self.space.can_write(object) || self.space.kind_of(object) != Kind::Object {
+        if !self.space.can_write(object) {
             return None;
         }
-        Some((object, value))
+        match self.space.kind_of(object) {
+            Kind::Object | Kind::Exception => Some((object, value)),
+            _ => None,
+        }
     }
 
-    /// Sets a field of a plain object.
+    /// Sets a field of a plain object or of an exception.
     pub(crate) fn set_field(&mut self, object: Operand, name: Sym, value: Operand) -> Outcome
         ensures { Sets object name.0 value result self.old self.new }
     {

@@ -7,6 +7,7 @@ mod laws;
 mod moving;
 mod outcome;
 mod packing;
+mod pairs;
 mod planning;
 mod ports;
 mod publishing;

@@ -6,7 +6,7 @@ ghost use Rattle.std.specs.Option.{ForSome};
 ghost use Rattle.std.specs.Bool.{OnTrue, OnFalse};
 ghost use Rattle.rr_space.specs.Parts.{IsWithin};
 ghost use Rattle.rr_space.specs.Tables.{Here, IsRestKept};
-ghost use Rattle.rr_space.specs.Views.{AreFieldsDistinct, IsNodeWithin, below_node, object_of};
+ghost use Rattle.rr_space.specs.Views.{AreFieldsDistinct, IsNodeWithin, below_node, node_keys, object_of};
 ghost use Rattle.rr_world.specs.Allocating.{Allocs};
 ghost use Rattle.rr_world.specs.ObjectCases.{new_object};
 ghost use Rattle.rr_world.specs.Opening.{Opened};
@@ -54,6 +54,7 @@ impl Model for Ractor {
 fn bare_exception(alloc: Global, class: ClassId) -> Result<Node, Fault>
     ensures object { IfOk result (λ node. object_of node ≡ new_object (Exception class)) }
     ensures below { IfOk result (λ node. below_node node ≡ []) }
+    ensures keys { IfOk result (λ node. node_keys node ≡ []) }
     ensures within { (k : ℕ) → IfOk result (λ node. IsNodeWithin k node) }
     ensures fields { IfOk result AreFieldsDistinct }
     ensures fault { IfErr result (λ fault. fault ≡ Fault.Memory) }
@@ -71,6 +72,7 @@ fn bare_exception(alloc: Global, class: ClassId) -> Result<Node, Fault>
 fn empty_node(alloc: Global, new: NewObject) -> Result<Node, Fault>
     ensures object { IfOk result (λ node. object_of node ≡ new_object new) }
     ensures below { IfOk result (λ node. below_node node ≡ []) }
+    ensures keys { IfOk result (λ node. node_keys node ≡ []) }
     ensures within { (k : ℕ) → IfOk result (λ node. IsNodeWithin k node) }
     ensures fields { IfOk result AreFieldsDistinct }
     ensures fault { IfErr result (λ fault. fault ≡ Fault.Memory) }
@@ -94,12 +96,14 @@ fn alloc_empty(alloc: Global, space: &mut Space, new: NewObject) -> Result<Ref, 
     ensures name { IfOk result (λ root. root ≡ Ref.Local (length space.old.slots)) }
     ensures slots { IfOk result (λ _. space.new.slots ≡ space.old.slots ++ Here (new_object new) ∷ []) }
     ensures below { IfOk result (λ _. space.new.below ≡ space.old.below ++ [] ∷ []) }
+    ensures keys { IfOk result (λ _. space.new.keys ≡ space.old.keys ++ [] ∷ []) }
+    ensures even { length space.old.keys ≡ length space.old.slots }
     ensures rest { IsRestKept space.old space.new }
     ensures room { IfOk result (λ _. length space.old.slots < space.old.limit) }
     ensures refused { IfErr result (λ _. space.new ≡ space.old) }
     ensures fault { IfErr result (λ fault. (fault ≡ Fault.Memory) ⊎ ((fault ≡ Fault.Limit LimitKind.Slots) × (length space.old.slots ≡ space.old.limit))) }
 {
-    // With the number of slots comes that there are no more than there may be.
+    // With the number of slots comes that there are no more than there may be, and that each has its list of keys.
     let _slots = space.len();
     let node = empty_node(alloc, new)?;
     space.alloc(node)
@@ -319,6 +323,8 @@ impl Ractor {
     pub(crate) fn open_held(&mut self) -> Outcome
         ensures { Opened result self.old self.new }
     {
+        // With the number of slots comes that each has its list of keys.
+        let _before = self.space.len();
         let Some((message, home)) = self.hand.take_message() else {
             return Outcome::NotEnabled;
         };

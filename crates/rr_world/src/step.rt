@@ -99,11 +99,16 @@ pub enum Action {
     Write(Operand, u32, Operand),
     /// An element, by its number from 0, goes from the ractor's own array, which is not frozen; those behind it close up.
     Take(Operand, u32),
-    /// A value comes into a field of the ractor's own plain object, which is not frozen: in the place of what was there, or
-    /// behind the others.
+    /// A value comes into a field of the ractor's own plain object or exception, which is not frozen: in the place of what was
+    /// there, or behind the others.
     SetField(Operand, Sym, Operand),
     /// A value comes in the place of a part of the ractor's own exception, which is not frozen.
     SetRaised(Operand, RaisedPart, Operand),
+    /// A value comes under a key in the ractor's own hash, which is not frozen: in the place of what was there, or in a new pair
+    /// behind the others, whose key object is the second operand. It has to be an immediate or a frozen text.
+    SetPair(Operand, Operand, Operand),
+    /// A pair, by its number from 0, goes from the ractor's own hash, which is not frozen; those behind it close up.
+    DeletePair(Operand, u32),
     /// A ractor starts, under the limits of the run, and its inbox and its port with it.
     Start,
     /// The ractor ends: its objects, its roots and what is in its hand go, and it makes no step any more. Its inbox and its port

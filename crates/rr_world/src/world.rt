@@ -406,6 +406,8 @@ impl World {
             Action::SetField(object, name, value) => self.set_field(
                 who, place, object, name, value,
             ),
+            Action::SetPair(hash, key, value) => self.set_pair(alloc, who, place, hash, key, value),
+            Action::DeletePair(hash, at) => self.delete_pair(who, place, hash, at),
             Action::Read(object, label) => self.read(who, place, object, label),
             Action::Offer(to) => match place_of(to, self.inboxes.len()) {
                 Some(inbox) => self.offer(who, place, to, inbox),

@@ -33,5 +33,5 @@ returns-in-Ok c =
     let pushed : c.push_reserved.new.self.items ≡ c.self.inside.roots.items ++ Local (length sp.slots) ∷ [] =
     c.push_reserved.ensures.items ∙ ap (λ (rs : List Ref). rs ++ c.in-Ok.root ∷ []) c.reserve.ensures.items ∙ ap (λ (r : Ref). c.self.inside.roots.items ++ r ∷ []) c.in-Ok.ensures.name in
     alloc_by c.args.new c.args.self.now sp c.alloc_empty.new.space c.self.inside.roots.items c.push_reserved.new.self.items c.self.inside.hand c.self.inside.limits c.self.inside.runs c.self.view_is
-    c.in-Ok.ensures.room c.in-Ok.ensures.slots c.in-Ok.ensures.below
+    c.in-Ok.ensures.room c.in-Ok.ensures.slots c.in-Ok.ensures.below c.in-Ok.ensures.keys c.alloc_empty.ensures.even
     c.alloc_empty.ensures.rest pushed c.self.invariant.0 c.self.invariant.2 c.self.invariant.3

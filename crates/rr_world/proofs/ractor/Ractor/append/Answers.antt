@@ -1,6 +1,5 @@
-use Rattle.std.proofs.Common.{slice_get, ap, ◌∙◌, subst}
+use Rattle.std.proofs.Common.{[], slice_get, ap, ◌∙◌, subst, refl}
 use Rattle.rr_space.specs.Graph.{text}
-use Rattle.rr_space.specs.declared.refer.Ref.TheVariants.{Nil}
 use Rattle.rr_space.specs.Tables.{Table}
 use Rattle.rr_world.specs.Views.{Member, IsPublishedFit, published_in}
 use Rattle.rr_world.specs.Enabling.{IsOpen}
@@ -8,6 +7,7 @@ use Rattle.rr_world.specs.ObjectCases.{appended}
 use Rattle.rr_world.proofs.Changes.{open_text, set_within, kept_known, made, open_whole, set_away, member}
 use Rattle.rr_world.proofs.Fits.{never_frozen, open_out, seen_slot, set_hand}
 use Rattle.rr_world.proofs.Making.{text_differs}
+use Rattle.rr_world.proofs.KeyTables.{text_stays}
 use Rattle.rr_world.proofs.ractor.Ractor.append.Goals as goal
 
 pub invariant_of-self-2 : goal.invariant_of-self-2
@@ -24,9 +24,10 @@ pub returns : goal.returns
 returns c =
     let s = open_text c.args.self.now.space c.in-Some.text c.in-Some.ensures.some.can c.in-Some.ensures.some.kind in
     let here = ap (λ (m : Member). slice_get m.space.slots s.0) c.self.view_is ∙ s.3 in
-    made c.args.text (IsOpen text) (appended c.args.byte) Nil c.in-Some.text c.args.self.now c.self.inside.space c.append_text.new.self c.self.inside.roots.items c.self.inside.hand c.self.inside.limits c.self.inside.runs s.0 s.1
+    made c.args.text (IsOpen text) (appended c.args.byte) [] c.in-Some.text c.args.self.now c.self.inside.space c.append_text.new.self c.self.inside.roots.items c.self.inside.hand c.self.inside.limits c.self.inside.runs s.0 s.1
     c.self.view_is c.in-Some.ensures.some.text s.2 here s.4 (c.in_default-append_text.ensures.slots s.0 s.1 s.2 here)
-    (kept_known Nil c.self.inside.space.below c.append_text.new.self.below c.append_text.ensures.below) c.append_text.ensures.rest.limit c.append_text.ensures.rest.owner c.append_text.ensures.rest.next_message c.self.invariant.0 c.self.invariant.3 c.self.invariant.2 (open_out c.self.inside.space (published_in c.self.inside.hand) s.0 s.1 c.self.invariant.2.1 here s.4) tt
+    (kept_known c.self.inside.space.below c.append_text.new.self.below c.append_text.ensures.below) c.append_text.ensures.rest.limit c.append_text.ensures.rest.owner c.append_text.ensures.rest.next_message c.self.invariant.0 c.self.invariant.3 c.self.invariant.2 (open_out c.self.inside.space (published_in c.self.inside.hand) s.0 s.1 c.self.invariant.2.1 here s.4) tt
+    (text_stays [] c.self.inside.space c.append_text.new.self s.0 s.1 (appended c.args.byte s.1) here (c.in_default-append_text.ensures.slots s.0 s.1 s.2 here) c.append_text.ensures.keys s.4 refl refl)
 
 pub returns-in-Err : goal.returns-in-Err
 returns-in-Err c =

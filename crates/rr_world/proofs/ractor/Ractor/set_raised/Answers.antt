@@ -1,4 +1,4 @@
-use Rattle.std.proofs.Common.{length, slice_get, sym, ap, subst, ◌∙◌}
+use Rattle.std.proofs.Common.{◌∷◌, [], length, slice_get, sym, ap, subst, ◌∙◌, refl}
 use Rattle.rr_space.specs.Graph.{exception}
 use Rattle.rr_space.specs.Parts.{value_of, IsWithin}
 use Rattle.rr_world.specs.Views.{Member, published_in}
@@ -7,6 +7,7 @@ use Rattle.rr_world.specs.ObjectCases.{with_part}
 use Rattle.rr_world.proofs.Changes.{open_exception, part_set, set_within, led_known, made, open_whole, set_away}
 use Rattle.rr_world.proofs.Fits.{never_frozen, open_out, set_hand}
 use Rattle.rr_world.proofs.Making.{exception_differs}
+use Rattle.rr_world.proofs.KeyTables.{exception_stays}
 use Rattle.rr_world.proofs.ractor.Ractor.set_raised.Goals as goal
 
 pub invariant_of-self : goal.invariant_of-self
@@ -26,8 +27,10 @@ returns c =
     let within = subst (λ (m : Member). IsWithin (length m.space.slots) c.in-Some.value) (sym c.self.view_is) c.in-Some.ensures.some.within in (
       c.in-Some.value,
       c.in-Some.ensures.some.value,
-      made c.args.exception (IsOpen exception) (with_part c.args.part (value_of c.in-Some.value)) c.in-Some.value c.in-Some.exception c.args.self.now c.self.inside.space c.write_raised.new.self c.self.inside.roots.items c.self.inside.hand c.self.inside.limits c.self.inside.runs s.0 s.1
+      made c.args.exception (IsOpen exception) (with_part c.args.part (value_of c.in-Some.value)) (c.in-Some.value ∷ []) c.in-Some.exception c.args.self.now c.self.inside.space c.write_raised.new.self c.self.inside.roots.items c.self.inside.hand c.self.inside.limits c.self.inside.runs s.0 s.1
           c.self.view_is c.in-Some.ensures.some.exception s.2 here s.4
           (c.write_raised.ensures.slots s.0 s.1 s.2 here ∙ part_set c.self.inside.space.slots s.0 s.1 c.args.part _ (value_of c.in-Some.value) c.label_of_part.ensures.is)
-          (led_known c.in-Some.value s.0 c.self.inside.space.below c.write_raised.new.self.below (c.write_raised.ensures.below s.0 s.2)) c.write_raised.ensures.rest.limit c.write_raised.ensures.rest.owner c.write_raised.ensures.rest.next_message c.self.invariant.0 c.self.invariant.3 c.self.invariant.2 (open_out c.self.inside.space (published_in c.self.inside.hand) s.0 s.1 c.self.invariant.2.1 here s.4) within,
+          (led_known c.in-Some.value s.0 c.self.inside.space.below c.write_raised.new.self.below (c.write_raised.ensures.below s.0 s.2)) c.write_raised.ensures.rest.limit c.write_raised.ensures.rest.owner c.write_raised.ensures.rest.next_message c.self.invariant.0 c.self.invariant.3 c.self.invariant.2 (open_out c.self.inside.space (published_in c.self.inside.hand) s.0 s.1 c.self.invariant.2.1 here s.4) (within, tt)
+          (exception_stays (c.in-Some.value ∷ []) c.self.inside.space c.write_raised.new.self s.0 s.1 (with_part c.args.part (value_of c.in-Some.value) s.1) here
+          (c.write_raised.ensures.slots s.0 s.1 s.2 here ∙ part_set c.self.inside.space.slots s.0 s.1 c.args.part _ (value_of c.in-Some.value) c.label_of_part.ensures.is) c.write_raised.ensures.keys s.4 refl),
     )

@@ -1,4 +1,4 @@
-use Rattle.std.proofs.Common.{◌≡◌, refl, ◌<◌, length, slice_get, sym, ap, subst, ◌∙◌, arith}
+use Rattle.std.proofs.Common.{[], ◌≡◌, refl, ◌<◌, length, slice_get, sym, ap, subst, ◌∙◌, arith}
 use Rattle.rr_space.specs.Graph.{array}
 use Rattle.rr_space.specs.Labels.{triples_at}
 use Rattle.rr_space.specs.declared.refer.Ref.TheVariants.{Local, Nil}
@@ -7,10 +7,11 @@ use Rattle.rr_world.specs.Views.{Member, IsPublishedFit, published_in}
 use Rattle.rr_world.specs.Enabling.{HasElement}
 use Rattle.rr_world.specs.ObjectCases.{without}
 use Rattle.rr_world.specs.Changing.{HasRootsWithin}
-use Rattle.rr_world.proofs.Changes.{open_array, at_slot, set_within, led_known, made, open_whole, set_away}
+use Rattle.rr_world.proofs.Changes.{open_array, at_slot, set_within, led_less, made, open_whole, set_away}
 use Rattle.rr_world.proofs.Fits.{never_frozen, open_out, own_slot, set_hand}
 use Rattle.rr_world.proofs.Making.{array_differs}
 use Rattle.rr_world.proofs.Taking.{taken_slots}
+use Rattle.rr_world.proofs.KeyTables.{array_stays}
 use Rattle.rr_world.proofs.ractor.Ractor.take_element.Goals as goal
 
 pub returns-in_default : goal.returns-in_default
@@ -53,6 +54,7 @@ returns c =
     let inside : c.args.place < length s.1.triples = let e = ap length (at_slot c.self.inside.space c.in-Some.array s.0 s.1 s.2 here) in let f = c.if-place-arity.false in omega (arith, e, f, c.arity.ensures.count) in
     let there : c.args.place < length (triples_at c.self.inside.space c.in-Some.array) = let f = c.if-place-arity.false in omega (arith, f, c.arity.ensures.count) in
     let slots = taken_slots c.take_element-element.result c.self.inside.space.slots c.take_element-element.new.self.slots s.0 c.args.place s.1 (c.take_element-element.ensures.some.1 there) (c.take_element-element.ensures.slots s.0 s.1 s.2 here) in
-    made c.args.array (HasElement c.args.place) (without c.args.place) Nil c.in-Some.array c.args.self.now c.self.inside.space c.take_element-element.new.self c.self.inside.roots.items c.self.inside.hand c.self.inside.limits c.self.inside.runs s.0 s.1
+    made c.args.array (HasElement c.args.place) (without c.args.place) [] c.in-Some.array c.args.self.now c.self.inside.space c.take_element-element.new.self c.self.inside.roots.items c.self.inside.hand c.self.inside.limits c.self.inside.runs s.0 s.1
     c.self.view_is c.in-Some.ensures.some.array s.2 here (s.4, inside) slots
-    (led_known Nil s.0 c.self.inside.space.below c.take_element-element.new.self.below (c.take_element-element.ensures.below s.0 s.2)) c.take_element-element.ensures.rest.limit c.take_element-element.ensures.rest.owner c.take_element-element.ensures.rest.next_message c.self.invariant.0 c.self.invariant.3 c.self.invariant.2 (open_out c.self.inside.space (published_in c.self.inside.hand) s.0 s.1 c.self.invariant.2.1 here s.4) tt
+    (led_less s.0 c.self.inside.space.below c.take_element-element.new.self.below (c.take_element-element.ensures.below s.0 s.2)) c.take_element-element.ensures.rest.limit c.take_element-element.ensures.rest.owner c.take_element-element.ensures.rest.next_message c.self.invariant.0 c.self.invariant.3 c.self.invariant.2 (open_out c.self.inside.space (published_in c.self.inside.hand) s.0 s.1 c.self.invariant.2.1 here s.4) tt
+    (array_stays [] c.self.inside.space c.take_element-element.new.self s.0 s.1 (without c.args.place s.1) here slots c.take_element-element.ensures.keys s.4 refl)

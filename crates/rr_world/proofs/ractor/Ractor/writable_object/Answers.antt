@@ -1,26 +1,23 @@
-use Rattle.std.proofs.Common.{◌≡◌, true, false, ap, ◌∙◌, subst}
-use Rattle.rr_space.specs.Graph.{plain}
+use Rattle.std.proofs.Common.{◌≡◌, true, false, ⊎_elim, ap, ◌∙◌, subst}
 use Rattle.rr_space.specs.Kinds.{kind_at}
 use Rattle.rr_space.specs.Views.{can_write_at}
-use Rattle.std.specs.Prelude.{not}
-use denote.Enum.Bare.{sameb}
-use Rattle.rr_space.specs.contracts.kind.Kind.{the_type}
-use Rattle.rr_space.specs.declared.kind.Kind.{Kind as ValueKind}
-use Rattle.rr_space.specs.declared.kind.Kind.TheVariants as kinds
 use Rattle.rr_world.specs.Views.{Member, IsPublishedFit}
-use Rattle.rr_world.proofs.Fits.{own_open}
-use Rattle.rr_world.proofs.Making.{plain_differs}
-use Rattle.rr_world.proofs.ractor.Ractor.writable_object.Goals.{then-not-can_write-via-then-not-can_write, then-not-can_write-via-else-not-can_write+then-ne}
+use Rattle.rr_world.proofs.Fits.{own_fields}
 use Rattle.rr_world.proofs.ractor.Ractor.writable_object.Goals as goal
 
 pub returns-then-not-can_write-clause-none : goal.returns-then-not-can_write-clause-none
 returns-then-not-can_write-clause-none c h named =
     let fit = subst (λ (m : Member). IsPublishedFit m.space m.published) c.self.view_is c.self.invariant.2.1 in
-    let both = own_open plain c.args.object c.args.self.now c.in_ok-object.object plain_differs fit c.in_ok-object.ensures.is h in
+    let both = own_fields c.args.object c.args.self.now c.in_ok-object.object fit c.in_ok-object.ensures.is h in
     let can : can_write_at c.self.inside.space c.in_ok-object.object ≡ true = ap (λ (m : Member). can_write_at m.space c.in_ok-object.object) c.self.view_is ∙ both.0 in
-    elim c.then-not-can_write.branch [
-      | then-not-can_write-via-then-not-can_write w ↦ let z : false ≡ true = w.if-not-can_write.ensures ∙ can in cc
-      | then-not-can_write-via-else-not-can_write+then-ne w ↦
-          let k : w.kind_of.result ≡ kinds.Object = w.kind_of.ensures ∙ ap (λ (m : Member). kind_at m.space c.in_ok-object.object) c.self.view_is ∙ both.1 in
-          let z : true ≡ false = w.if-ne.ensures ∙ ap (λ (x : ValueKind). not (sameb the_type x kinds.Object)) k in cc
-    ]
+    let z : false ≡ true = c.if-not-can_write.ensures ∙ can in cc
+
+pub returns-in_default : goal.returns-in_default
+returns-in_default c = record {
+  some = tt;
+  none = λ h named.
+  let fit = subst (λ (m : Member). IsPublishedFit m.space m.published) c.self.view_is c.self.invariant.2.1 in
+  let both = own_fields c.args.object c.args.self.now c.in_ok-object.object fit c.in_ok-object.ensures.is h in
+  let seen = c.kind_of.ensures ∙ ap (λ (m : Member). kind_at m.space c.in_ok-object.object) c.self.view_is in
+  ⊎_elim (λ is. c.in_default.not-Object (seen ∙ is)) (λ is. c.in_default.not-Exception (seen ∙ is)) both.1;
+}

@@ -1,4 +1,4 @@
-use Rattle.std.proofs.Common.{◌≡◌, refl, ◌<◌, length, slice_get, sym, ap, subst, ◌∙◌, arith}
+use Rattle.std.proofs.Common.{◌∷◌, [], ◌≡◌, refl, ◌<◌, length, slice_get, sym, ap, subst, ◌∙◌, arith}
 use Rattle.rr_space.specs.Graph.{array}
 use Rattle.rr_space.specs.Parts.{value_of, IsWithin}
 use Rattle.rr_world.specs.Views.{Member, IsPublishedFit, published_in}
@@ -11,6 +11,7 @@ use Rattle.rr_space.specs.Labels.{triples_at}
 use Rattle.rr_space.specs.declared.refer.Ref.TheVariants.{Local}
 use Rattle.std.proofs.lemmas.Option.{same_Some}
 use Rattle.rr_world.proofs.Making.{array_differs}
+use Rattle.rr_world.proofs.KeyTables.{array_stays}
 use Rattle.rr_world.proofs.ractor.Ractor.write.Goals as goal
 
 pub invariant_of-self : goal.invariant_of-self
@@ -31,9 +32,10 @@ returns c =
     let within = subst (λ (m : Member). IsWithin (length m.space.slots) c.in-Some.value) (sym c.self.view_is) c.in-Some.ensures.some.within in (
       c.in-Some.value,
       c.in-Some.ensures.some.value,
-      made c.args.array (HasElement c.args.place) (written c.args.place (value_of c.in-Some.value)) c.in-Some.value c.in-Some.array c.args.self.now c.self.inside.space c.write_element.new.self c.self.inside.roots.items c.self.inside.hand c.self.inside.limits c.self.inside.runs s.0 s.1
+      made c.args.array (HasElement c.args.place) (written c.args.place (value_of c.in-Some.value)) (c.in-Some.value ∷ []) c.in-Some.array c.args.self.now c.self.inside.space c.write_element.new.self c.self.inside.roots.items c.self.inside.hand c.self.inside.limits c.self.inside.runs s.0 s.1
           c.self.view_is c.in-Some.ensures.some.array s.2 here (s.4, inside) (c.write_element.ensures.slots s.0 s.1 s.2 here)
-          (led_known c.in-Some.value s.0 c.self.inside.space.below c.write_element.new.self.below (c.write_element.ensures.below s.0 s.2)) c.write_element.ensures.rest.limit c.write_element.ensures.rest.owner c.write_element.ensures.rest.next_message c.self.invariant.0 c.self.invariant.3 c.self.invariant.2 (open_out c.self.inside.space (published_in c.self.inside.hand) s.0 s.1 c.self.invariant.2.1 here s.4) within,
+          (led_known c.in-Some.value s.0 c.self.inside.space.below c.write_element.new.self.below (c.write_element.ensures.below s.0 s.2)) c.write_element.ensures.rest.limit c.write_element.ensures.rest.owner c.write_element.ensures.rest.next_message c.self.invariant.0 c.self.invariant.3 c.self.invariant.2 (open_out c.self.inside.space (published_in c.self.inside.hand) s.0 s.1 c.self.invariant.2.1 here s.4) (within, tt)
+          (array_stays (c.in-Some.value ∷ []) c.self.inside.space c.write_element.new.self s.0 s.1 (written c.args.place (value_of c.in-Some.value) s.1) here (c.write_element.ensures.slots s.0 s.1 s.2 here) c.write_element.ensures.keys s.4 refl),
     )
 
 pub returns-then-place-arity : goal.returns-then-place-arity

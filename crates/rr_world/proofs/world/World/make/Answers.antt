@@ -131,3 +131,11 @@ returns-in-Take c =
 pub returns-in-SetRaised : goal.returns-in-SetRaised
 returns-in-SetRaised c =
     subst (λ (a : Action). HasOutcome (record { who = c.args.who; action = a }) c.set_raised.result c.args.self.now c.set_raised.new.self) (sym c.in-SetRaised.is) c.set_raised.ensures
+
+pub returns-in-SetPair : goal.returns-in-SetPair
+returns-in-SetPair c =
+    subst (λ (a : Action). HasOutcome (record { who = c.args.who; action = a }) c.set_pair.result c.args.self.now c.set_pair.new.self) (sym c.in-SetPair.is) c.set_pair.ensures
+
+pub returns-in-DeletePair : goal.returns-in-DeletePair
+returns-in-DeletePair c =
+    subst (λ (a : Action). HasOutcome (record { who = c.args.who; action = a }) c.delete_pair.result c.args.self.now c.delete_pair.new.self) (sym c.in-DeletePair.is) c.delete_pair.ensures
