@@ -2,9 +2,15 @@
 #![tactic(auto)]
 
 #[cfg(test)]
+mod classes;
+#[cfg(test)]
+mod constants;
+#[cfg(test)]
 mod contents;
 #[cfg(test)]
 mod line_rows;
+#[cfg(test)]
+mod method_names;
 #[cfg(test)]
 mod methods;
 #[cfg(test)]
@@ -13,6 +19,8 @@ mod pairs;
 mod programs;
 #[cfg(test)]
 mod receivers;
+#[cfg(test)]
+mod several;
 #[cfg(test)]
 mod table;
 #[cfg(test)]

@@ -114,14 +114,14 @@ def f; rescue A => 5; end -> 1:20 unexpected token
 def f; rescue A => e f; end -> 1:22 unexpected token
 def f; rescue => A; end -> 1:18 unexpected token
 def f; rescue => a?; end -> 1:18 unexpected token
-def f; rescue Ractor ::Error; end -> 1:22 unexpected token
-def f; rescue A::B; end -> 1:16 unexpected token
+def f; rescue Ractor ::Error; end -> 1:22 left out
+def f; rescue A::B; end -> 1:16 left out
 def f; rescue -> 1:14 unexpected end
 def f; rescue; -> 1:15 unexpected end
 def f; ensure -> 1:14 unexpected end
 ";
 
-fn check_rows(rt: &impl Abort, alloc: Global, rows: &str) -> Result<(), AllocError> {
+pub fn check_rows(rt: &impl Abort, alloc: Global, rows: &str) -> Result<(), AllocError> {
     for row in rows.lines() {
         let (source, want) = split_row(row);
         let bytes = source_of(alloc, source)?;

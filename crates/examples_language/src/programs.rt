@@ -296,13 +296,20 @@ f 1 do end.c -> 1:11 unexpected token
 x = 1 do end -> 1:7 unexpected token
 return 1 do end -> 1:10 unexpected token
 f do break; end; break -> 1:18 unexpected token
-A::B -> 1:2 unexpected token
-Ractor::b -> 1:7 unexpected token
-Ractor:: -> 1:7 unexpected token
-Ractor::Port::A -> 1:13 unexpected token
-Ractor ::Port -> 1:8 unexpected token
-Ractor:: Port -> 1:7 unexpected token
-Ractors::Port -> 1:8 unexpected token
+A::B -> 1:2 left out
+Ractor::b -> 1:7 left out
+Ractor:: -> 1:7 left out
+Ractor::Port::A -> 1:13 left out
+Ractor ::Port -> 1:8 left out
+Ractor:: Port -> 1:7 left out
+Ractors::Port -> 1:8 left out
+::A -> 1:1 left out
+1 + ::A -> 1:5 left out
+puts a::b -> 1:7 left out
+a.B -> 1:2 left out
+a.B(1) -> 1:2 left out
+a.b.C = 1 -> 1:4 left out
+f(1).A -> 1:5 left out
 rescue -> 1:1 unexpected token
 1 rescue 2 -> 1:3 unexpected token
 ensure -> 1:1 unexpected token
@@ -447,6 +454,15 @@ f(a: [1]) -> 2
 [a: 1] -> 1
 f do g do 1 end end -> 2
 while f do g do 1 end end -> 2
+a, b = 1, 2 -> 0
+a, b = 1, c = 2 -> 1
+a, b = c = d = 1 -> 2
+a, b = puts puts 1 -> 1
+a = (b, c = 1) -> 2
+a, b = (c, d = 1), 2 -> 2
+a[0], b = 1, c = 2 -> 1
+a[b[0]], c = 1 -> 2
+a, b[c[0]] = 1 -> 2
 begin 1 end -> 1
 begin begin 1 end; rescue; [2] end -> 2
 \"#{1}\" -> 1

@@ -9,12 +9,10 @@ use Rattle.rr_tree.proofs.Growth.{tree_at-kept, Extends-refl, Extends-trans}
 use Rattle.std.specs.Borrow.{Bor}
 use Rattle.rr_parser.specs.declared.refusal.Storage.{Storage}
 use Rattle.rr_parser.specs.declared.word.Tail.{Tail}
-use Rattle.rr_parser.specs.declared.word.Tail.TheVariants as tails
 use Rattle.rr_parser.specs.declared.word.Behind.{Behind}
 use Rattle.rr_parser.specs.declared.word.Behind.TheVariants as behinds
 use Rattle.rr_parser.specs.declared.word.Fence.{Fence}
 use Rattle.rr_parser.specs.declared.word.Head.{Head}
-use Rattle.rr_parser.specs.declared.word.Aim.{Aim}
 use Rattle.rr_parser.specs.declared.word.Target.{Target}
 use Rattle.rr_parser.specs.declared.word.Target.TheVariants as targets
 use Rattle.rr_parser.specs.declared.word.Listed.{Listed}
@@ -23,11 +21,10 @@ use Rattle.rr_parser.specs.declared.word.Word.{Word}
 use Rattle.rr_parser.specs.declared.refusal.Refusal.{Refusal}
 use Rattle.rr_parser.specs.declared.refusal.Refusal.TheVariants as refusal
 use Rattle.rr_parser.specs.declared.parser.Parser.{Parser}
-use Rattle.rr_parser.specs.declared.word.WordKind.TheVariants as kind
 use Rattle.rr_parser.specs.Places.{Known, Place, placed, word, at}
 use Rattle.rr_parser.specs.Grammar.Chains.{same, one_of}
 use Rattle.rr_parser.specs.Grammar.Names.{with_local, headed, bracket, command}
-use Rattle.rr_parser.specs.Grammar.Calls.{target, with_target, signed, assigned_to, closing, last}
+use Rattle.rr_parser.specs.Grammar.Calls.{target, closing, last}
 use Rattle.rr_parser.specs.Reading.Answers.{◌>>=◌, wrong, Answer, Parse, built, ended_by, closed, taking_of, trail_on}
 use Rattle.rr_parser.specs.Reading.Nesting.{Readers}
 use Rattle.rr_parser.specs.Reading.Calls.{assigned_or, assigned_of, bracketed_or, bracketed_of, commanded_or, commanded_of, arguments_of, headed_of, operand_of, value_of, listed_of}
@@ -66,34 +63,9 @@ aims_field p x = record { nodes = refl; known = λ ws. refl; seen = λ ws. refl 
 pub aims_global : (p : Parser) (x : Sym) → Aims p p (targets.Global x) (record { depth = 0; slot = 0 })
 aims_global p x = record { nodes = refl; known = λ ws. refl; seen = λ ws. refl }
 
--- reading an assignment where the target is known
-abbrev assigning : Readers → Bool → Aim → Place → Answer Tree
-assigning N b x s = built (assigned_to x s) (N.value b s)
-
-reads_assignment : (N : Readers) (b : Bool) (s n : Place) (x : Aim) → at target s ≡ Some (x, n) → value_of N b s ≡ assigning N b x (with_target x.target n)
-unfolding assigned_of
-reads_assignment N b s n x e = ap (assigned_or N b (operand_of N b) s) e
-
 pub reads_operand : (N : Readers) (b : Bool) (p : Parser) (ws : List Word) → target ws ≡ None → value_of N b (place p ws) ≡ operand_of N b (place p ws)
 unfolding assigned_of
 reads_operand N b p ws e = ap (assigned_or N b (operand_of N b) (place p ws)) (unseen_at p target ws e)
-
-pub made_assignment : (N : Readers) (b : Bool) (old mid m2 new : Parser) (i : Variable) (a id : ℕ) (x : Aim) (words after rest : List Word) → Aims old mid x.target i → target words ≡ Some (x, after)
-    → Made nodes mid m2 a rest (N.value b (place mid after)) → Puts m2 new (signed x.sign x.target i x.behind (tree_at m2.nodes.items a)) id → Made nodes old new id rest (value_of N b (place old words))
-made_assignment N b old mid m2 new i a id x words after rest k e m p =
-    let made : Made nodes mid new id rest (assigning N b x (place mid after)) = made_over (assigned_to x (place mid after)) m p (ap (λ (n : Variable). signed x.sign x.target n x.behind (tree_at m2.nodes.items a)) (sym (k.seen after))) in
-    record {
-      there = made.there;
-      tree = reads_assignment N b (place old words) (place old after) x (seen_at old target words after x e) ∙ ap (assigning N b x) (sym (k.known after)) ∙ made.tree;
-      kept = subst (λ (ns : List Node). Extends ns new.nodes.items) k.nodes made.kept;
-    }
-
-pub fails_assignment : (N : Readers) (b : Bool) (old mid : Parser) (i : Variable) (x : Aim) (words after : List Word) (d : Refusal) → Aims old mid x.target i → target words ≡ Some (x, after)
-    → Fails d (N.value b (place mid after)) → Fails d (value_of N b (place old words))
-fails_assignment N b old mid i x words after d k e h =
-    fails_eq d (value_of N b (place old words)) (assigning N b x (place mid after))
-    (reads_assignment N b (place old words) (place old after) x (seen_at old target words after x e) ∙ ap (assigning N b x) (sym (k.known after)))
-    (fails_bind d (N.value b (place mid after)) (λ q. Ok (assigned_to x (place mid after) q.0, q.1)) h)
 
 -- ---- what follows an operand
 
@@ -279,6 +251,7 @@ fails_parameters N fence old words refusal.Nesting h = absurd h
 fails_parameters N fence old words (refusal.Unexpected n) h = ap (block_or N fence (place old words)) (unseen_at old parameters words h)
 fails_parameters N fence old words (refusal.Number n) h = absurd h
 fails_parameters N fence old words (refusal.LeftOut n) h = absurd h
+fails_parameters N fence old words (refusal.Constant n) h = absurd h
 
 -- members of a list, with what ends it
 pub made_bracketed : (N : Readers) (k : Listed) (old mid : Parser) (es : List ℕ) (words rest after : List Word) → closing k words ≡ None → Made (lists nodes) old mid es rest (listed_of N k (place old words)) → last k rest ≡ Some (tt, after)

@@ -18,7 +18,7 @@ use Rattle.rr_parser.specs.declared.parser.Parser.{Parser}
 use Rattle.rr_parser.specs.declared.word.WordKind.{WordKind}
 use Rattle.rr_parser.specs.declared.word.WordKind.TheVariants as kind
 use Rattle.rr_parser.specs.Places.{Known, Place, without_separators, word, at, skip}
-use Rattle.rr_parser.specs.Grammar.Names.{with_loop, jump_tree, is_splat, jump_value, headed}
+use Rattle.rr_parser.specs.Grammar.Names.{with_loop, jump_tree, is_splat, one_value, headed}
 use Rattle.rr_parser.specs.Grammar.Operators.{operator, infixed}
 use Rattle.rr_parser.specs.Grammar.Control.{thens, loops, chosen, unless_chosen, outside_loop}
 use Rattle.rr_parser.specs.Reading.Answers.{◌>>=◌, wrong, Answer, built, ended_by, closed, across, taking_of}
@@ -214,30 +214,30 @@ module _ (N : Readers) (until : Bool) (old s0 : Parser) (words : List Word) (b :
     kept = subst (λ (ns : List Node). Extends old.nodes.items ns) (sym e.nodes) (subst (λ (ns : List Node). Extends ns m1.nodes.items) b.nodes m.kept);
   }
 
-pub value_none : (f : ℕ → Tree) (xs : List ℕ) → length xs ≡ 0 → jump_value (map f xs) ≡ nil
+pub value_none : (f : ℕ → Tree) (xs : List ℕ) → length xs ≡ 0 → one_value (map f xs) ≡ nil
 value_none f [] e = refl
 value_none f (x ∷ xs) e = let never : ⊥ = omega (arith, e) in absurd never
 
-pub value_one : (f : ℕ → Tree) (xs : List ℕ) (d : ℕ) → length xs ≡ 1 → is_splat (f (get_or xs 0 d)) ≡ false → jump_value (map f xs) ≡ f (get_or xs 0 d)
+pub value_one : (f : ℕ → Tree) (xs : List ℕ) (d : ℕ) → length xs ≡ 1 → is_splat (f (get_or xs 0 d)) ≡ false → one_value (map f xs) ≡ f (get_or xs 0 d)
 value_one f [] d e g = let never : ⊥ = omega (arith, e) in absurd never
 value_one f (x ∷ []) d e g = ap (λ b. cond b (array (listed (f x ∷ []))) (f x)) g
 value_one f (x ∷ y ∷ xs) d e g = let never : ⊥ = omega (arith, e) in absurd never
 
-pub value_splat : (f : ℕ → Tree) (xs : List ℕ) (d : ℕ) → length xs ≡ 1 → is_splat (f (get_or xs 0 d)) ≡ true → jump_value (map f xs) ≡ array (listed (map f xs))
+pub value_splat : (f : ℕ → Tree) (xs : List ℕ) (d : ℕ) → length xs ≡ 1 → is_splat (f (get_or xs 0 d)) ≡ true → one_value (map f xs) ≡ array (listed (map f xs))
 value_splat f [] d e g = let never : ⊥ = omega (arith, e) in absurd never
 value_splat f (x ∷ []) d e g = ap (λ b. cond b (array (listed (f x ∷ []))) (f x)) g
 value_splat f (x ∷ y ∷ xs) d e g = let never : ⊥ = omega (arith, e) in absurd never
 
-pub value_more : (f : ℕ → Tree) (xs : List ℕ) → (length xs ≡ 0 → ⊥) → (length xs ≡ 1 → ⊥) → jump_value (map f xs) ≡ array (listed (map f xs))
+pub value_more : (f : ℕ → Tree) (xs : List ℕ) → (length xs ≡ 0 → ⊥) → (length xs ≡ 1 → ⊥) → one_value (map f xs) ≡ array (listed (map f xs))
 value_more f [] a b = absurd (a refl)
 value_more f (x ∷ []) a b = absurd (b refl)
 value_more f (x ∷ y ∷ xs) a b = refl
 
 -- a jump and its value
-pub jumped_ok : (old mid new : Parser) (j : Jump) (h : Head) (l : List Tree) (i : ℕ) (r : Result ℕ Storage) → h ≡ heads.Jump j → Puts old mid (jump_value l) i → IfOk r (λ id. Puts mid new (jump_tree j (tree_at mid.nodes.items i)) id)
+pub jumped_ok : (old mid new : Parser) (j : Jump) (h : Head) (l : List Tree) (i : ℕ) (r : Result ℕ Storage) → h ≡ heads.Jump j → Puts old mid (one_value l) i → IfOk r (λ id. Puts mid new (jump_tree j (tree_at mid.nodes.items i)) id)
     → IfOk r (λ id. Puts old new (headed h l) id)
 jumped_ok old mid new j h l i r is p q =
-    over_ok old mid new (jump_tree j (tree_at mid.nodes.items i)) (jump_value l) (headed h l) i r p (ap (jump_tree j) p.tree ∙ ap (λ (x : Head). headed x l) (sym is)) q
+    over_ok old mid new (jump_tree j (tree_at mid.nodes.items i)) (one_value l) (headed h l) i r p (ap (jump_tree j) p.tree ∙ ap (λ (x : Head). headed x l) (sym is)) q
 
 pub bare_jump_ok : (old mid new : Parser) (j : Jump) (i : ℕ) (r : Result ℕ Storage) → Puts old mid nil i → IfOk r (λ id. Puts mid new (jump_tree j (tree_at mid.nodes.items i)) id) → IfOk r (λ id. Puts old new (jump_tree j nil) id)
 bare_jump_ok old mid new j i r p q = over_ok old mid new (jump_tree j (tree_at mid.nodes.items i)) nil (jump_tree j nil) i r p (ap (jump_tree j) p.tree) q

@@ -1,55 +1,55 @@
 -- Reading is too deep only where the constructs that are begun pass the limit.
-use Rattle.std.proofs.Common.{◌≡◌, zero, suc, inl, inr, Bool, true, false, cond, List, Option, Some, None, Ok, Err, refl, ℕ, []}
+use Rattle.std.proofs.Common.{◌≡◌, zero, suc, inl, inr, Bool, true, false, cond, List, Option, Some, None, Ok, Err, refl, ℕ, [], ◌∙◌, ap, ◌∷◌}
 use Rattle.rr_base.specs.declared.name.Sym.{Sym}
-use Rattle.rr_tree.specs.Tree.{Tree, rescue, clause, ensure, sequence, repeat, array, hash, splat, pair, symbol, logical_not, listed, send}
+use Rattle.rr_tree.specs.Tree.{Tree, rescue, clause, ensure, sequence, repeat, logical_not, listed}
 use Rattle.rr_parser.specs.declared.word.Caught.{Caught}
-use Rattle.rr_parser.specs.declared.word.Aim.{Aim}
-use Rattle.rr_parser.specs.declared.word.Head.{Head}
-use Rattle.rr_parser.specs.declared.word.Listed.{Listed}
+use Rattle.rr_parser.specs.declared.word.Modifier.{Modifier}
 use Rattle.rr_parser.specs.declared.word.Listed.TheVariants as listings
 use Rattle.rr_parser.specs.declared.word.Part.{Part}
 use Rattle.rr_parser.specs.declared.word.Part.TheVariants as parts
 use Rattle.rr_parser.specs.declared.word.WordKind.TheVariants as kind
-use Rattle.rr_parser.specs.declared.word.Behind.TheVariants as behinds
 use Rattle.rr_parser.specs.declared.word.Fence.{Fence}
 use Rattle.rr_parser.specs.declared.word.Fence.TheVariants as fences
 use Rattle.rr_tree.specs.declared.node.Path.{Path}
-use Rattle.rr_parser.specs.Grammar.Fences.{Taking, within_head, fence_end}
-use Rattle.rr_parser.specs.Places.{Place, word, at, skip, separators}
+use Rattle.rr_parser.specs.Grammar.Fences.{Taking, fence_end}
+use Rattle.rr_parser.specs.Places.{Place, word, at, skip, separators, next}
 use Rattle.rr_parser.specs.Grammar.Chains.{Chain, same, one_of, and_one}
 use Rattle.rr_parser.specs.Grammar.Nesting.{Nested}
-use Rattle.rr_parser.specs.Grammar.Names.{headed, name, command}
 use Rattle.rr_parser.specs.Grammar.Operators.{connective, joined_by}
-use Rattle.rr_parser.specs.Grammar.Calls.{target, with_target, assigned_to, label, comma, star, closing, last, Argument, Commanded, Adding, AddingTo, Given, entry, contents, item, nothing, only_pairs, with_member}
-use Rattle.rr_parser.specs.Grammar.Sequences.{Negation, Expression, modifier, modified, Statement, Statements}
+use Rattle.rr_parser.specs.Grammar.Calls.{comma}
+use Rattle.rr_parser.specs.Grammar.Several.{several, Targeted, Targets, assigned_to_several, a_spot, plain_sign}
+use Rattle.rr_parser.specs.Grammar.Sequences.{Simple, Modifying, Negation, Expression, modifier, modified, Statement, Statements}
 use Rattle.rr_parser.specs.Grammar.Interpolations.{text_middle, text_tail, first_piece, and_piece}
 use Rattle.rr_parser.specs.Grammar.Control.{thens, loops, elsif, chosen, unless_chosen, looping, Branch, Branches}
 use Rattle.rr_parser.specs.Grammar.Bodies.{path, Class, Classes, caught, with_caught, caught_tree, Clause, rescues, Clauses, Rescued, loop_word}
 use Rattle.rr_parser.specs.Grammar.Blocks.{parameters, entered}
-use Rattle.rr_parser.specs.Grammar.Definitions.{formals, defined}
+use Rattle.rr_parser.specs.Grammar.Definitions.{method_name, formals, defined}
 use Rattle.rr_parser.specs.Grammar.{is_enclosed, inside, outside}
-use Rattle.rr_parser.specs.Reading.Answers.{wrong, deep, Answer, Parse, built, ended_by, closed, across, taking_of, trail_on}
+use Rattle.rr_parser.specs.Reading.Answers.{◌>>=◌, wrong, deep, Answer, built, closed, across, taking_of, trail_on, chain}
 use Rattle.rr_parser.specs.Reading.Nesting.{Readers}
-use Rattle.rr_parser.specs.Reading.Calls.{assigned_or, assigned_of, argument_of, member_of, another, members_of, bracketed_or, bracketed_of, array_of, hash_of, index_of, commanded_or, commanded_of, headed_of, command_or, command_of, phrase_or, phrase_of, operand_of, value_of, settled_of, ordered_of, order_or, order_on, adding_of, adding_to, arguments_of, arrow_or, key_on, label_or, listed_of, lone, star_or, star_unless, unlabeled_of}
-use Rattle.rr_parser.specs.Reading.Sequences.{negation_or, negation_of, expression_of, statement_of, ends, row, rows_of, sequence_of, statements_of, group_of}
+use Rattle.rr_parser.specs.Reading.Calls.{bracketed_of}
+use Rattle.rr_parser.specs.Reading.Several.{targeted_of, targets_of, behind_first, several_on, several_or, several_of}
+use Rattle.rr_parser.specs.Reading.Sequences.{simple_or, simple_of, modifying_of, negation_or, negation_of, expression_of, statement_of, ends, row, rows_of, sequence_of, statements_of, group_of, connected_on, expression_on, is_led, simple_at, spotted_on, spotted_or}
 use Rattle.rr_parser.specs.Reading.Interpolations.{pieces_of, interpolated_or, interpolated_on, interpolation_of}
 use Rattle.rr_parser.specs.Reading.Control.{both, branch_of, branches_of, otherwise_or, otherwise_of, ended, choice_of, unless_of, loop_of, looped_of}
 use Rattle.rr_parser.specs.Reading.Bodies.{class_or, class_of, several_classes, classes_or, classes_of, clause_or, clause_on, clause_of, clauses_of, rescued_or, rescued_on, rescued_of, ensured_or, ensured_on, body_of, unlooped, ended_body, unlooped_on, begun_of, held_of}
 use Rattle.rr_parser.specs.Reading.Blocks.{left_block, block_or, block_of}
 use Rattle.rr_parser.specs.Reading.Definitions.{left_method, method_or, definition_or, definition_of}
 use Rattle.rr_parser.specs.Reading.{form_of, part_of, readers_inside, readers_outside}
-use Rattle.rr_parser.specs.Fronts.{Fronts, ChainFront, in_one, in_more, ClauseFront, in_clause, ClausesFront, RescuedFront, BodyFront, HeldFront, behind_label, in_entry, in_splat, MemberFront, MembersFront, in_former, in_latter, TakingFront, AssignedFront, in_value, in_operand, ArgumentFront, CommandedFront, in_arguments, in_argument_command, CommandFront, behind_name, PhraseFront, in_command, in_plain, OperandFront, ValueFront, NegationFront, in_negation, behind_no_negation, ExpressionFront, StatementFront, RowsFront, StatementsFront, PiecesFront, BranchFront, BranchesFront, EndedFront, LoopFront, LoopedFront, BlockFront, in_body, DefinitionFront, in_method, FormFront, PartFront, fronts_inside, fronts_outside, SettledFront, behind_receiver, HeadedFront, in_no_setting, AddingFront, in_head, in_item, in_pair}
-use Rattle.rr_parser.proofs.Told.{told_not, told_star}
+use Rattle.rr_parser.specs.Fronts.{SimpleFront, in_rights, in_expression, ModifyingFront, AcrossFront, Fronts, ChainFront, in_one, in_more, ClauseFront, in_clause, ClausesFront, RescuedFront, BodyFront, HeldFront, MembersFront, in_former, in_latter, TakingFront, NegationFront, in_negation, behind_no_negation, ExpressionFront, StatementFront, RowsFront, StatementsFront, PiecesFront, BranchFront, BranchesFront, EndedFront, LoopFront, LoopedFront, BlockFront, in_body, DefinitionFront, in_method, FormFront, PartFront, fronts_inside, fronts_outside, in_head, TargetsFront, in_targets}
+use Rattle.rr_parser.proofs.Told.{told_plain_sign, told_not, told_comma}
 use Rattle.rr_parser.proofs.Looks.{word-next, row-separators}
-use Rattle.rr_parser.proofs.Listing.{another-comma}
 use Rattle.rr_parser.proofs.Chains.{done}
-use Rattle.rr_parser.proofs.SoundOperands.{NestedSound, taking_sound}
-use Rattle.rr_parser.proofs.Sound.{argument_sound, commanded_sound, negation_sound, expression_sound, statement_sound, statements_sound, class_sound, classes_sound, clause_sound, clauses_sound, rescued_sound, branch_sound, branches_sound, sound_inside, sound_outside, adding_sound}
-use Rattle.rr_parser.proofs.DeepOperands.{IsDeep, bind_deep, built_deep, ended_not_deep, closed_deep, across_deep, past_loop, NestedDeep, from_deep, taking_deep, enclosed_deep, chain_deep, passed_deep, bang_deep, minus_deep, settled_deep, settled_by-deep, reached_deep, IsDeepOn}
-use Rattle.rr_parser.specs.declared.word.Head.TheVariants as heads
-use Rattle.rr_parser.specs.Grammar.Operands.{order, Reached, Postfix}
-use Rattle.rr_parser.specs.Reading.Operands.{then_blocked}
+use Rattle.rr_parser.proofs.SoundOperands.{NestedSound, taking_sound, postfix_sound}
+use Rattle.rr_parser.proofs.SoundCalls.{targeted_sound, targets_sound}
+use Rattle.rr_parser.proofs.Sound.{simple_sound, modifying_sound, negation_sound, expression_sound, statement_sound, statements_sound, class_sound, classes_sound, clause_sound, clauses_sound, rescued_sound, branch_sound, branches_sound, sound_inside, sound_outside}
+use Rattle.rr_parser.proofs.ClassDeep.{class_body_deep}
+use Rattle.rr_parser.proofs.DeepOperands.{IsDeep, bind_deep, built_deep, closed_deep, across_deep, past_loop, NestedDeep, from_deep, taking_deep, enclosed_deep, chain_deep, bang_deep, minus_deep}
 use Rattle.rr_parser.proofs.Trails.{trail_deep}
+use Rattle.rr_parser.proofs.DeepCalls.{argument_deep, bracketed_deep, array_deep, hash_deep, index_deep, command_deep, value_deep, rights_deep, operand_within, targeted_deep, targets_deep}
+use Rattle.rr_parser.specs.Grammar.Operands.{Reached, Spot}
+use Rattle.rr_parser.proofs.Beginnings.{expression_from}
+use Rattle.rr_parser.specs.Reading.Operands.{postfix_of}
 
 -- ---- classes, in which nothing nests
 
@@ -79,148 +79,10 @@ classes_not_deep : (s : Place) → classes_of s ≡ Err deep → ⊥
 classes_not_deep s e = classes_or-deep s (at path s) e
 
 module _ (N : Readers) (R : Nested) (F : Fronts) (sounds : NestedSound N R) (nests : NestedDeep N F) where
-  -- ---- assignments and calls
-
-  assigned_or-deep : (b : Bool) (q : Parse Tree) (G : Place → Place → Type 0) → IsDeep q G → (s : Place) (o : Option (Aim × Place)) → at target s ≡ o → assigned_or N b q s o ≡ Err deep → (z : Place) × AssignedFront F b G s z
-  assigned_or-deep b q G first s None f e = let d = first s e in (d.0, in_operand d.1)
-  assigned_or-deep b q G first s (Some x) f e =
-      let d = nests.value b (with_target x.0.target x.1) (built_deep (assigned_to x.0 (with_target x.0.target x.1)) (N.value b (with_target x.0.target x.1)) e) in
-      (d.0, in_value f d.1)
-
-  assigned_deep : (b : Bool) (q : Parse Tree) (G : Place → Place → Type 0) → IsDeep q G → IsDeep (assigned_of N b q) (AssignedFront F b G)
-  unfolding assigned_of
-  assigned_deep b q G first s e = assigned_or-deep b q G first s (at target s) refl e
-
-  pub argument_deep : IsDeep (argument_of N) (ArgumentFront R F)
-  argument_deep = assigned_deep false (settled_of N) (SettledFront R F false) (settled_deep N R F sounds nests)
-
-  lone-deep : (only : Bool) (t : Tree) (m : Place) → lone only t m ≡ Err deep → ⊥
-  lone-deep true t m e = let never : ⊥ = cc in never
-  lone-deep false t m e = let never : ⊥ = cc in never
-
-  arrow_or-deep : (only : Bool) (s m : Place) (t : Tree) (o : Option (Unit {0} × Place)) → Argument R s t m → at (word kind.Arrow) m ≡ o → arrow_or N only t m o ≡ Err deep → (z : Place) × MemberFront R F only s z
-  arrow_or-deep only s m t None h f e = absurd (lone-deep only t m e)
-  arrow_or-deep only s m t (Some n) h f e = let d = argument_deep n.1 (built_deep (λ v. entry (pair t v)) (argument_of N n.1) e) in (d.0, in_pair (in_entry (in_latter {x = n.0} h f d.1)))
-
-  key_deep : (only : Bool) → IsDeepOn (key_on N only) (Argument R) (MemberFront R F only)
-  unfolding key_on
-  key_deep only s m t h e = arrow_or-deep only s m t (at (word kind.Arrow) m) h refl e
-
-  star_or-deep : (only : Bool) (s : Place) (o : Option (Unit {0} × Place)) → at (star_unless only) s ≡ o → star_or N only s o ≡ Err deep → (z : Place) × MemberFront R F only s z
-  star_or-deep only s None f e =
-      from_deep (argument_of N) (key_on N only) (Argument R) (MemberFront R F only) (argument_sound N R sounds) (key_deep only) (λ s e. let d = argument_deep s e in (d.0, in_pair (in_entry (in_former d.1)))) s e
-  star_or-deep true s (Some m) f e = absurd cc
-  star_or-deep false s (Some m) f e =
-      let d = argument_deep m.1 (built_deep (λ t. item (splat t)) (argument_of N m.1) e) in
-      (d.0, in_item refl (in_splat (word-next star told_star s m.1 m.0 f) d.1))
-
-  unlabeled_deep : (only : Bool) → IsDeep (unlabeled_of N only) (MemberFront R F only)
-  unfolding unlabeled_of
-  unlabeled_deep only s e = star_or-deep only s (at (star_unless only) s) refl e
-
-  label_or-deep : (only : Bool) (s : Place) (o : Option (Sym × Place)) → at label s ≡ o → label_or N only s o ≡ Err deep → (z : Place) × MemberFront R F only s z
-  label_or-deep only s None f e = unlabeled_deep only s e
-  label_or-deep only s (Some x) f e = let d = argument_deep x.1 (built_deep (λ t. entry (pair (symbol x.0.0) t)) (argument_of N x.1) e) in (d.0, in_pair (behind_label f d.1))
-
-  member_deep : (only : Bool) → IsDeep (member_of N only) (MemberFront R F only)
-  unfolding member_of
-  member_deep only s e = label_or-deep only s (at label s) refl e
-
-  adding_deep : (k : Listed) (u : Unit {0}) (g : Given) → IsDeep (adding_of N k g) (AddingFront R F k u g)
-  unfolding adding_of
-  adding_deep k u g s e = member_deep (only_pairs k g) s (built_deep (with_member g) (member_of N (only_pairs k g) s) e)
-
-  members_deep : (k : Listed) → IsDeep (members_of N k) (MembersFront R F k)
-  unfolding members_of
-  members_deep k =
-      from_deep (adding_of N k nothing) (trail_on (another k) (adding_to N k)) (Adding R k nothing) (MembersFront R F k) (adding_sound N R sounds k nothing)
-      (trail_deep comma (another k) (λ m n x e. another-comma k m n x e) (adding_to N k) (Adding R k nothing) (AddingTo R k) (λ x g n z t e. adding_sound N R sounds k g n z t e)
-      (AddingFront R F k tt nothing) (AddingFront R F k) (λ x g n e. adding_deep k x g n e) (λ r f e. bind_deep r f e))
-      (λ s e. let d = adding_deep k tt nothing s e in (d.0, in_head d.1))
-
-  listed_deep : (k : Listed) → IsDeep (listed_of N k) (MembersFront R F k)
-  unfolding listed_of
-  listed_deep k s e = members_deep k s (built_deep (contents k) (members_of N k s) e)
-
-  bracketed_or-deep : (k : Listed) (s : Place) (o : Option (Unit {0} × Place)) → bracketed_or N k s o ≡ Err deep → (z : Place) × MembersFront R F k s z
-  bracketed_or-deep k s None e =
-      elim (bind_deep (listed_of N k s) (λ l. ended_by l.0 (at (last k) l.1)) e) [
-        | inl g ↦ listed_deep k s g
-        | inr b ↦ absurd (ended_not_deep b.0.0 (at (last k) b.0.1) b.2)
-      ]
-  bracketed_or-deep k s (Some x) e = absurd cc
-
-  pub bracketed_deep : (k : Listed) → IsDeep (bracketed_of N k) (MembersFront R F k)
-  unfolding bracketed_of
-  bracketed_deep k s e = bracketed_or-deep k s (at (closing k) s) e
-
-  array_deep : IsDeep (array_of N) (MembersFront R F listings.Array)
-  unfolding array_of
-  array_deep s e = bracketed_deep listings.Array s (built_deep (λ l. array (listed l)) (bracketed_of N listings.Array s) e)
-
-  hash_deep : IsDeep (hash_of N) (MembersFront R F listings.Hash)
-  unfolding hash_of
-  hash_deep s e = bracketed_deep listings.Hash s (built_deep (λ l. hash (listed l)) (bracketed_of N listings.Hash s) e)
-
-  index_deep : IsDeep (index_of N) (ArgumentFront R F)
-  unfolding index_of
-  index_deep s e = argument_deep s (closed_deep kind.CloseSquare (argument_of N s) e)
-
-  commanded_or-deep : (s : Place) (o : Option (Head × Place)) → at (command s.known) s ≡ o → commanded_or N s o ≡ Err deep → (z : Place) × CommandedFront R F s z
-  commanded_or-deep s None f e = let d = listed_deep listings.Command s e in (d.0, in_arguments d.1)
-  commanded_or-deep s (Some x) f e = let d = nests.part parts.Command s (built_deep one_of (N.part parts.Command s) e) in (d.0, in_argument_command f d.1)
-
-  commanded_deep : IsDeep (commanded_of N) (CommandedFront R F)
-  unfolding commanded_of
-  commanded_deep s e = commanded_or-deep s (at (command s.known) s) refl e
-
-  -- the arguments of a command, and what stands behind them
-  given_deep : (x : Head) (f : List Tree → Tree) (m : Place) → then_blocked N (behinds.Command x) (built f (arguments_of N x m)) ≡ Err deep → (z : Place) × HeadedFront R F x m z
-  given_deep x f m e =
-      let b = within_head x m.known.takes_do in
-      (passed_deep N R F sounds nests) (behinds.Command x) f (taking_of b (commanded_of N)) (Taking b (Commanded R)) (TakingFront b (CommandedFront R F))
-      (taking_sound b (commanded_of N) (Commanded R) (commanded_sound N R sounds)) (taking_deep b (commanded_of N) (CommandedFront R F) commanded_deep) m e
-
-  called_deep : (s m : Place) (x : Head) → at (command s.known) s ≡ Some (x, m) → headed_of N x m ≡ Err deep → (z : Place) × CommandFront R F s z
-  unfolding headed_of
-  called_deep s m x f e = let d = given_deep x (headed x) m e in (d.0, behind_name f d.1)
-
-  command_or-deep : (s : Place) (o : Option (Head × Place)) → at (command s.known) s ≡ o → command_or N o ≡ Err deep → (z : Place) × CommandFront R F s z
-  command_or-deep s None f e = absurd cc
-  command_or-deep s (Some x) f e = called_deep s x.1 x.0 f e
-
-  pub command_deep : IsDeep (command_of N) (CommandFront R F)
-  unfolding command_of
-  command_deep s e = command_or-deep s (at (command s.known) s) refl e
-
-  order_or-deep : (s m : Place) (r : Reached) (o : Option (Sym × Place)) → Postfix R s r m → at order m ≡ o → order_or N r m o ≡ Err deep → (z : Place) × PhraseFront R F s z
-  unfolding ordered_of
-  order_or-deep s m r None h f e = let d = (reached_deep N R F sounds nests) true s m r h e in (d.0, in_plain d.1)
-  order_or-deep s m r (Some x) h f e = let d = given_deep (heads.Call x.0) (λ l. send r.tree x.0.0 (listed l)) x.1 e in (d.0, behind_receiver h f d.1)
-
-  order_deep : IsDeepOn (order_on N) (Postfix R) (PhraseFront R F)
-  unfolding order_on
-  order_deep s m r h e = order_or-deep s m r (at order m) h refl e
-
-  phrase_or-deep : (s : Place) (o : Option (Head × Place)) → at (command s.known) s ≡ o → phrase_or N s o ≡ Err deep → (z : Place) × PhraseFront R F s z
-  phrase_or-deep s None f e = (settled_by-deep N R F sounds nests) (order_on N) (PhraseFront R F) order_deep (λ s z f. in_plain (in_no_setting f)) s e
-  phrase_or-deep s (Some x) f e = let d = called_deep s x.1 x.0 f e in (d.0, in_command d.1)
-
-  phrase_deep : IsDeep (phrase_of N) (PhraseFront R F)
-  unfolding phrase_of
-  phrase_deep s e = phrase_or-deep s (at (command s.known) s) refl e
-
-  operand_deep : (b : Bool) → IsDeep (operand_of N b) (OperandFront R F b)
-  operand_deep false = settled_deep N R F sounds nests
-  operand_deep true = phrase_deep
-
-  pub value_deep : (b : Bool) → IsDeep (value_of N b) (ValueFront R F b)
-  value_deep b = assigned_deep b (operand_of N b) (OperandFront R F b) (operand_deep b)
-
   -- ---- statements
 
   negation_or-deep : (s : Place) (o : Option (Unit {0} × Place)) → at (word kind.NotWord) s ≡ o → negation_or N s o ≡ Err deep → (z : Place) × NegationFront R F s z
-  negation_or-deep s None f e = let d = value_deep true s e in (d.0, behind_no_negation d.1)
+  negation_or-deep s None f e = let d = (value_deep N R F sounds nests) true s e in (d.0, behind_no_negation d.1)
   negation_or-deep s (Some m) f e =
       let d = nests.part parts.Not m.1 (built_deep logical_not (N.part parts.Not m.1) e) in
       (d.0, in_negation (word-next kind.NotWord told_not s m.1 m.0 f) d.1)
@@ -230,12 +92,68 @@ module _ (N : Readers) (R : Nested) (F : Fronts) (sounds : NestedSound N R) (nes
   negation_deep s e = negation_or-deep s (at (word kind.NotWord) s) refl e
 
   expression_deep : IsDeep (expression_of N) (ExpressionFront R F)
-  unfolding expression_of
+  unfolding expression_of connected_on chain
   expression_deep = chain_deep (connective 3) (connective 3) same joined_by (negation_of N) (Negation R) (NegationFront R F) (λ m n x e. e) (negation_sound N R sounds) negation_deep
+
+  in_the_expression : (s : Place) → expression_of N s ≡ Err deep → (z : Place) × SimpleFront R F s z
+  in_the_expression s e = let d = expression_deep s e in (d.0, in_expression d.1)
+
+  several_on-deep : (s m n : Place) (t : Tree) → Targeted R s t m → next m ≡ Some (kind.Comma, n) → several_on N t n ≡ Err deep → (z : Place) × SimpleFront R F s z
+  unfolding several_on
+  several_on-deep s m n t h c e =
+      let d = across_deep (λ l v. assigned_to_several (t ∷ l) v) (word plain_sign) N.values (targets_of N n) n (Targets R) (TargetsFront R F) F.values (λ a o g. (targets_sound N R sounds) n o a g) (λ g. (targets_deep N R F sounds nests) n g)
+      nests.values e in
+      behind d.0 d.1
+    where
+      behind : (z : Place) → AcrossFront (word plain_sign) (Targets R) (TargetsFront R F) F.values n z → (z : Place) × SimpleFront R F s z
+      behind z (in_former g) = (z, in_targets h c g)
+      behind z (in_latter {m = o} {n = y} {x = u} b f g) = (z, in_rights h c b (word-next plain_sign told_plain_sign o y u f) g)
+
+  several_or-deep : (s m : Place) (t : Tree) (o : Option (Unit {0} × Place)) → Targeted R s t m → at comma m ≡ o → several_or N t o ≡ Err deep → (z : Place) × SimpleFront R F s z
+  several_or-deep s m t None h f e = absurd cc
+  several_or-deep s m t (Some n) h f e = several_on-deep s m n.1 t h (word-next kind.Comma told_comma m n.1 n.0 f) e
+
+  several_deep : IsDeep (several_of N) (SimpleFront R F)
+  unfolding several_of
+  several_deep =
+      from_deep (targeted_of N) (behind_first N) (Targeted R) (SimpleFront R F) (targeted_sound N R sounds) (λ s m t h e. several_or-deep s m t (at comma m) h refl e)
+      (λ s e. let d = (targeted_deep N R F sounds nests) s e in (d.0, in_expression (in_one (behind_no_negation ((operand_within N R F sounds nests) s d.0 d.1)))))
+
+  module _ (s m : Place) (t : Reached) (led : is_led s.known s.rest ≡ false) (read : postfix_of N s ≡ Ok (t, m)) where
+    from_operand : expression_on N t m ≡ Err deep → (z : Place) × SimpleFront R F s z
+    from_operand e = in_the_expression s (expression_from N s led ∙ ap (λ (q : Answer Reached). q >>= λ x. expression_on N x.0 x.1) read ∙ e)
+
+    spotted_or-deep : (p : Option Spot) (o : Option (Unit {0} × Place)) → t.spot ≡ p → at comma m ≡ o → spotted_or N t m p o ≡ Err deep → (z : Place) × SimpleFront R F s z
+    spotted_or-deep None o f g e = from_operand e
+    spotted_or-deep (Some p) None f g e = from_operand e
+    spotted_or-deep (Some p) (Some n) f g e = several_on-deep s m n.1 t.tree (a_spot ((postfix_sound N R sounds) s m t read) f) (word-next kind.Comma told_comma m n.1 n.0 g) e
+
+  simple_at-deep : (b : Bool) (s : Place) → is_led s.known s.rest ≡ b → simple_at N b s ≡ Err deep → (z : Place) × SimpleFront R F s z
+  unfolding spotted_on
+  simple_at-deep true s f e = in_the_expression s e
+  simple_at-deep false s f e =
+      elim (bind_deep (postfix_of N s) (λ x. spotted_on N x.0 x.1) e) [
+        | inl g ↦ in_the_expression s (expression_from N s f ∙ ap (λ (q : Answer Reached). q >>= λ x. expression_on N x.0 x.1) g)
+        | inr b ↦ spotted_or-deep s b.0.1 b.0.0 f b.1 b.0.0.spot (at comma b.0.1) refl refl b.2
+      ]
+
+  simple_or-deep : (s : Place) (o : Option (Unit {0} × Place)) → simple_or N s o ≡ Err deep → (z : Place) × SimpleFront R F s z
+  simple_or-deep s None e = simple_at-deep (is_led s.known s.rest) s refl e
+  simple_or-deep s (Some x) e = several_deep s e
+
+  simple_deep : IsDeep (simple_of N) (SimpleFront R F)
+  unfolding simple_of
+  simple_deep s e = simple_or-deep s (at several s) e
+
+  modifying_deep : (x : Modifier) (l : Tree) → IsDeep (modifying_of N x l) (ModifyingFront R F x l)
+  modifying_deep x l s e = expression_deep s (built_deep (modified x l) (expression_of N s) e)
 
   pub statement_deep : IsDeep (statement_of N) (StatementFront R F)
   unfolding statement_of
-  statement_deep = chain_deep modifier modifier same modified (expression_of N) (Expression R) (ExpressionFront R F) (λ m n x e. e) (expression_sound N R sounds) expression_deep
+  statement_deep =
+      from_deep (simple_of N) (trail_on modifier (modifying_of N)) (Simple R) (StatementFront R F) (simple_sound N R sounds)
+      (trail_deep modifier modifier (λ m n x e. e) (modifying_of N) (Simple R) (Modifying R) (modifying_sound N R sounds) (SimpleFront R F) (ModifyingFront R F) modifying_deep (λ r f e. bind_deep r f e))
+      (λ s e. let d = simple_deep s e in (d.0, in_head d.1))
 
   rows_deep : IsDeep (rows_of N) (RowsFront R F)
   unfolding rows_of
@@ -404,26 +322,26 @@ module _ (N : Readers) (R : Nested) (F : Fronts) (sounds : NestedSound N R) (nes
   left_method-deep s x xs n (Err wrong) e = absurd cc
   left_method-deep s x xs n (Err deep) e = refl
 
-  method_or-deep : (s m : Place) (x : Sym) (o : Option (List Sym × Place)) → at name s ≡ Some (x, m) → at formals m ≡ o → method_or N s x o ≡ Err deep → (z : Place) × DefinitionFront R F s z
+  method_or-deep : (s m : Place) (x : Sym) (o : Option (List Sym × Place)) → at method_name s ≡ Some (x, m) → at formals m ≡ o → method_or N s x o ≡ Err deep → (z : Place) × DefinitionFront R F s z
   method_or-deep s m x None f g e = absurd cc
   method_or-deep s m x (Some n) f g e =
       let body = closed kind.End (body_of N (defined n.0 n.1)) in
       let d = body_deep (defined n.0 n.1) (closed_deep kind.End (body_of N (defined n.0 n.1)) (left_method-deep s x n.0 n.1 body e)) in
       (d.0, in_method f g d.1)
 
-  definition_or-deep : (s : Place) (o : Option (Sym × Place)) → at name s ≡ o → definition_or N s o ≡ Err deep → (z : Place) × DefinitionFront R F s z
+  definition_or-deep : (s : Place) (o : Option (Sym × Place)) → at method_name s ≡ o → definition_or N s o ≡ Err deep → (z : Place) × DefinitionFront R F s z
   definition_or-deep s None f e = absurd cc
   definition_or-deep s (Some m) f e = method_or-deep s m.1 m.0 (at formals m.1) f refl e
 
   definition_deep : IsDeep (definition_of N) (DefinitionFront R F)
   unfolding definition_of
-  definition_deep s e = definition_or-deep s (at name s) refl e
+  definition_deep s e = definition_or-deep s (at method_name s) refl e
 
   form_deep : (p : Part) → IsDeep (form_of N p) (FormFront R F p)
   form_deep parts.Group = group_deep
-  form_deep parts.Array = array_deep
-  form_deep parts.Hash = hash_deep
-  form_deep parts.Index = index_deep
+  form_deep parts.Array = (array_deep N R F sounds nests)
+  form_deep parts.Hash = (hash_deep N R F sounds nests)
+  form_deep parts.Index = (index_deep N R F sounds nests)
   form_deep parts.Choice = choice_deep
   form_deep parts.Unless = unless_deep
   form_deep (parts.Loop until) = looped_deep until
@@ -431,29 +349,32 @@ module _ (N : Readers) (R : Nested) (F : Fronts) (sounds : NestedSound N R) (nes
   form_deep parts.Minus = (minus_deep N R F sounds nests)
   form_deep parts.Bang = (bang_deep N R F sounds nests)
   form_deep parts.Not = negation_deep
-  form_deep parts.Command = command_deep
-  form_deep parts.Branch = argument_deep
+  form_deep parts.Command = (command_deep N R F sounds nests)
+  form_deep parts.Branch = (argument_deep N R F sounds nests)
   form_deep (parts.Interpolation i) = interpolation_deep i
   form_deep (parts.Block k) = block_deep k
   form_deep parts.Definition = definition_deep
+  form_deep (parts.Class x c) = class_body_deep N R F sounds nests x c
 
   pub part_deep : (p : Part) → IsDeep (part_of N p) (PartFront R F p)
   part_deep p = enclosed_deep (is_enclosed p) (form_of N p) (FormFront R F p) (form_deep p)
 
 pub deep_inside : (d : ℕ) → NestedDeep (readers_inside d) (fronts_inside d)
 unfolding readers_inside fronts_inside
-deep_inside zero = record { part = λ p s e. (s, refl); bracketed = λ s e. (s, refl); value = λ b s e. (s, refl) }
+deep_inside zero = record { part = λ p s e. (s, refl); bracketed = λ s e. (s, refl); value = λ b s e. (s, refl); values = λ s e. (s, refl) }
 deep_inside (suc d) = record {
   part = part_deep (readers_inside d) (inside d) (fronts_inside d) (sound_inside d) (deep_inside d);
   bracketed = taking_deep true (bracketed_of (readers_inside d) listings.Call) (MembersFront (inside d) (fronts_inside d) listings.Call) (bracketed_deep (readers_inside d) (inside d) (fronts_inside d) (sound_inside d) (deep_inside d) listings.Call);
   value = value_deep (readers_inside d) (inside d) (fronts_inside d) (sound_inside d) (deep_inside d);
+  values = rights_deep (readers_inside d) (inside d) (fronts_inside d) (sound_inside d) (deep_inside d);
 }
 
 pub deep_outside : (d : ℕ) → NestedDeep (readers_outside d) (fronts_outside d)
 unfolding readers_outside fronts_outside
-deep_outside zero = record { part = λ p s e. (s, refl); bracketed = λ s e. (s, refl); value = value_deep (readers_inside zero) (inside zero) (fronts_inside zero) (sound_inside zero) (deep_inside zero) }
+deep_outside zero = record { part = λ p s e. (s, refl); bracketed = λ s e. (s, refl); value = value_deep (readers_inside zero) (inside zero) (fronts_inside zero) (sound_inside zero) (deep_inside zero); values = rights_deep (readers_inside zero) (inside zero) (fronts_inside zero) (sound_inside zero) (deep_inside zero) }
 deep_outside (suc d) = record {
   part = part_deep (readers_outside d) (outside d) (fronts_outside d) (sound_outside d) (deep_outside d);
   bracketed = taking_deep true (bracketed_of (readers_outside d) listings.Call) (MembersFront (outside d) (fronts_outside d) listings.Call) (bracketed_deep (readers_outside d) (outside d) (fronts_outside d) (sound_outside d) (deep_outside d) listings.Call);
   value = value_deep (readers_inside (suc d)) (inside (suc d)) (fronts_inside (suc d)) (sound_inside (suc d)) (deep_inside (suc d));
+  values = rights_deep (readers_inside (suc d)) (inside (suc d)) (fronts_inside (suc d)) (sound_inside (suc d)) (deep_inside (suc d));
 }

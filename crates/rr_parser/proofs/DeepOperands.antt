@@ -1,4 +1,5 @@
 -- Reading operands and operators is too deep only where the constructs that are begun pass the limit.
+use Rattle.rr_parser.specs.declared.word.Naming.{Naming}
 use Rattle.rr_parser.specs.declared.word.Sign.{Sign}
 use Rattle.rr_parser.specs.Grammar.Calls.{settled, sign}
 use Rattle.std.proofs.Common.{◌≡◌, zero, suc, pos, ◌⊎◌, inl, inr, Bool, true, false, cond, List, length, Option, Some, None, Result, Ok, Err, refl, ℕ, []}
@@ -157,6 +158,7 @@ pub record NestedDeep (N : Readers) (F : Fronts) : Type 0 where
   pub part : (p : Part) → IsDeep (N.part p) (F.part p)
   pub bracketed : IsDeep N.bracketed F.bracketed
   pub value : (b : Bool) → IsDeep (N.value b) (F.value b)
+  pub values : IsDeep N.values F.values
 
 abbrev taken_back : {A : Type 0} → Place → Answer A → Answer A
 taken_back s r = r >>= λ x. Ok (x.0, taking_as s x.1)
@@ -219,7 +221,7 @@ module _ (N : Readers) (R : Nested) (F : Fronts) (sounds : NestedSound N R) (nes
   unfolding int_at
   int_deep s m n e = absurd (int_not_deep (fits n) n m e)
 
-  constant_deep : (s m : Place) (x : Sym) (outer : Bool) → constant_at x outer m ≡ Err deep → (z : Place) × PrimaryFront R F s z
+  constant_deep : (s m : Place) (x : Sym) (outer : Naming) → constant_at x outer m ≡ Err deep → (z : Place) × PrimaryFront R F s z
   unfolding constant_at
   constant_deep s m x outer e = absurd (constant_not_deep x m (at (inner_constant outer) m) e)
 
@@ -274,7 +276,7 @@ module _ (N : Readers) (R : Nested) (F : Fronts) (sounds : NestedSound N R) (nes
   tailed_deep (tails.Call x) l n e = call_deep (λ q. send l.tree x.0 (listed q)) n (built_deep plain (sent_call_of N l.tree x n) e)
   tailed_deep tails.Index l n e = nests.part parts.Index n (built_deep (at_element l.tree) (N.part parts.Index n) e)
 
-  postfix_deep : IsDeep (postfix_of N) (PostfixFront R F)
+  pub postfix_deep : IsDeep (postfix_of N) (PostfixFront R F)
   unfolding postfix_of
   postfix_deep =
       from_deep (plainly (primary_of N)) (trail_on tail (tailed_of N)) (Plain (Primary R)) (PostfixFront R F) (plain_primary_sound N R sounds)
@@ -309,7 +311,7 @@ module _ (N : Readers) (R : Nested) (F : Fronts) (sounds : NestedSound N R) (nes
   binary_front zero s z f = f
   binary_front (suc level) s z f = in_one (binary_front level s z f)
 
-  logical_front : (level : ℕ) (s z : Place) → MinusFront R F s z → LogicalFront R F level s z
+  pub logical_front : (level : ℕ) (s z : Place) → MinusFront R F s z → LogicalFront R F level s z
   logical_front zero s z f = in_former (binary_front 4 s z f)
   logical_front (suc level) s z f = in_one (logical_front level s z f)
 

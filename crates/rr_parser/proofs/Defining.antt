@@ -16,9 +16,9 @@ use Rattle.rr_parser.specs.declared.word.Word.{Word}
 use Rattle.rr_parser.specs.declared.word.WordKind.TheVariants as kind
 use Rattle.rr_parser.specs.Places.{Known, Place, word, at}
 use Rattle.rr_parser.specs.Variables.{known_in}
-use Rattle.rr_parser.specs.Grammar.Names.{name, bracket, passed, passed_bare, begins_operands}
+use Rattle.rr_parser.specs.Grammar.Names.{bracket, passed, passed_bare, begins_operands}
 use Rattle.rr_parser.specs.Grammar.Blocks.{with_parameters}
-use Rattle.rr_parser.specs.Grammar.Definitions.{formals, apart, defined, rejoined, rejoining, method_tree}
+use Rattle.rr_parser.specs.Grammar.Definitions.{method_name, formals, apart, defined, rejoined, rejoining, method_tree}
 use Rattle.rr_parser.specs.Reading.Answers.{wrong, built, ended_by, closed}
 use Rattle.rr_parser.specs.Reading.Nesting.{Readers}
 use Rattle.rr_parser.specs.Reading.Operands.{passing_or, passing_of}
@@ -38,14 +38,14 @@ entered_apart old set grown xs locals begun e f g h =
     ∙ ap (λ (ls : List Local). with_parameters xs (record { locals = ls; level = 0; count = 0; begun = begun; in_loop = false; in_method = true; takes_do = true })) g
     ∙ ap (λ (n : ℕ). with_parameters xs (record { locals = []; level = 0; count = 0; begun = n; in_loop = false; in_method = true; takes_do = true })) h
 
-module _ (N : Readers) (old s1 : Parser) (x : Sym) (xs : List Sym) (k : Outside) (words after rest : List Word) (e : name words ≡ Some (x, after)) (f : formals after ≡ Some (xs, rest)) (n : Defines old s1 xs k) where
+module _ (N : Readers) (old s1 : Parser) (x : Sym) (xs : List Sym) (k : Outside) (words after rest : List Word) (e : method_name words ≡ Some (x, after)) (f : formals after ≡ Some (xs, rest)) (n : Defines old s1 xs k) where
   defined_place : place s1 rest ≡ defined xs (place old rest)
   defined_place = ap (λ (q : Known). record { known = q; rest = rest }) n.known
 
   reads_method : definition_of N (place old words) ≡ left_method (place old words) x xs (place old rest) (closed kind.End (body_of N (place s1 rest)))
   unfolding definition_of
   reads_method =
-      ap (definition_or N (place old words)) (seen_at old name words after x e)
+      ap (definition_or N (place old words)) (seen_at old method_name words after x e)
       ∙ ap (method_or N (place old words) x) (seen_at old formals after rest xs f)
       ∙ ap (λ (q : Place). left_method (place old words) x xs (place old rest) (closed kind.End (body_of N q))) (sym defined_place)
 
@@ -83,13 +83,14 @@ module _ (N : Readers) (old s1 : Parser) (x : Sym) (xs : List Sym) (k : Outside)
         ∙ ap (λ (q : Known). Ok (method x.0 k.number k.parameters size (tree_at s3.nodes.items t), record { known = q; rest = behind })) (sym (rejoined_known s3 l)))
         (subst (λ (ns : List Node). Extends old.nodes.items ns) (sym l.nodes) (subst (λ (ns : List Node). Extends ns s2.nodes.items) n.nodes m.kept)) p
 
-pub fails_formals : (N : Readers) (old : Parser) (x : Sym) (words after : List Word) (d : Refusal) → name words ≡ Some (x, after) → ReadsNames (Err d) (formals after) → Fails d (definition_of N (place old words))
+pub fails_formals : (N : Readers) (old : Parser) (x : Sym) (words after : List Word) (d : Refusal) → method_name words ≡ Some (x, after) → ReadsNames (Err d) (formals after) → Fails d (definition_of N (place old words))
 unfolding definition_of
 fails_formals N old x words after (refusal.Storage s) e h = tt
 fails_formals N old x words after refusal.Nesting e h = absurd h
-fails_formals N old x words after (refusal.Unexpected n) e h = ap (definition_or N (place old words)) (seen_at old name words after x e) ∙ ap (method_or N (place old words) x) (unseen_at old formals after h)
+fails_formals N old x words after (refusal.Unexpected n) e h = ap (definition_or N (place old words)) (seen_at old method_name words after x e) ∙ ap (method_or N (place old words) x) (unseen_at old formals after h)
 fails_formals N old x words after (refusal.Number n) e h = absurd h
 fails_formals N old x words after (refusal.LeftOut n) e h = absurd h
+fails_formals N old x words after (refusal.Constant n) e h = absurd h
 
 -- ---- what passes arguments on
 

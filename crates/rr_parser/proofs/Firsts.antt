@@ -6,7 +6,6 @@ use Rattle.rr_parser.specs.declared.word.Head.{Head}
 use Rattle.rr_parser.specs.declared.word.Head.TheVariants as heads
 use Rattle.rr_parser.specs.declared.word.Jump.{Jump}
 use Rattle.rr_parser.specs.declared.word.Passing.{Passing}
-use Rattle.rr_parser.specs.declared.word.Sign.{Sign}
 use Rattle.rr_parser.specs.declared.word.Aim.{Aim}
 use Rattle.rr_parser.specs.declared.word.Target.{Target}
 use Rattle.rr_parser.specs.declared.word.Listed.{Listed}
@@ -19,20 +18,23 @@ use Rattle.rr_parser.specs.declared.word.Behind.{Behind}
 use Rattle.rr_parser.specs.declared.word.Behind.TheVariants as behinds
 use Rattle.rr_parser.specs.declared.word.Fence.{Fence}
 use Rattle.rr_parser.specs.Grammar.Fences.{with_do, taking, fence_of, opened}
-use Rattle.rr_parser.specs.Places.{Known, Place, Look, seen_before, unless, where_true, is_kind, placed, word, at, next}
+use Rattle.rr_parser.specs.Places.{Known, Place, Look, seen_before, unless, where_true, is_kind, placed, word, at, next, first_as}
 use Rattle.rr_parser.specs.Grammar.Chains.{Chain, one, more, at_first, and_then, same}
 use Rattle.rr_parser.specs.Grammar.Nesting.{Nested}
 use Rattle.rr_parser.specs.Grammar.Names.{is_local, name, bracket, is_tight, begins_operand, begins_operands, begins_command, is_allowed, head_of_kind, head, begins_head}
 use Rattle.rr_parser.specs.Grammar.Operands.{joined, literal_of, construct_of, Primary, a_literal, a_constant, a_path, a_negative, a_local, a_bare_call, a_call, a_block_call, a_jump, a_passing, a_passing_call, a_construct, Postfix, Bang, a_bang, no_bang, Minus, a_minus, no_minus, Reached, as_it_is}
 use Rattle.rr_parser.specs.Grammar.Operators.{operator, infixed, connective, joined_by, Binary, a_comparison, a_pair, Logical, Ternary, no_question, a_question}
-use Rattle.rr_parser.specs.Grammar.Calls.{target, Assigned, an_assignment, no_assignment, Argument, a_command, Phrase, by_name, an_operand, Value, closing, target_of_kind, label, star, label_of_kind, Settled, a_setting, no_setting, sign, by_receiver}
-use Rattle.rr_parser.specs.Grammar.Sequences.{Negation, a_negation, no_negation, Expression, modifier, Statement, modified}
+use Rattle.rr_parser.specs.Grammar.Calls.{target, Assigned, an_assignment, no_assignment, Argument, a_command, Phrase, by_name, an_operand, Value, closing, target_of_kind, label, star, label_of_kind, Settled, a_setting, no_setting, by_receiver}
+use Rattle.rr_parser.specs.Grammar.Several.{Targeted, a_target, a_spot}
+use Rattle.rr_parser.specs.Grammar.Sequences.{Negation, a_negation, no_negation, Simple, to_several, no_several, modifier, Modifying, Statement}
 use Rattle.rr_parser.specs.Reading.Operands.{prefix_minus}
 use Rattle.rr_parser.specs.Reading.Sequences.{ends_at, ends}
-use Rattle.rr_parser.proofs.Looks.{seen_as, none_unless, by_next, one_kind, other-word, name-next, no_prefix, target-next, head-next, command-next}
+use Rattle.rr_parser.proofs.Looks.{seen_as, none_unless, by_next, one_kind, other-word, name-next, no_prefix, target-next, head-next, command-next, unseen_kind}
 use Rattle.rr_parser.proofs.Listing.{closes, closing-next}
+use Rattle.rr_parser.proofs.Trails.{trail_head}
 use Rattle.rr_parser.proofs.Strengths.{strength, strength_in, Stops, stops_by}
 use Rattle.rr_parser.specs.Reading.Calls.{star_unless}
+use Rattle.rr_parser.specs.Grammar.Classes.{class_word, opening_of_kind}
 
 -- ---- the first word
 
@@ -127,16 +129,16 @@ bracket_no_operands z n u e = by_words z.known z.rest e
     by_words known [] f = absurd cc
     by_words known (w ∷ ws) f = by_blank w.blank known w ws refl f
 
-pub bracket_not_assign : (z n o : Place) (u : Unit {0}) (sign : Sign) → at bracket z ≡ Some (u, n) → next z ≡ Some (kind.Assign sign, o) → ⊥
-bracket_not_assign z n o u sign e f =
+pub bracket_not_other : (z n o : Place) (u : Unit {0}) (q : WordKind) → is_kind q kind.Open ≡ false → at bracket z ≡ Some (u, n) → next z ≡ Some (q, o) → ⊥
+bracket_not_other z n o u q other e f =
     let w = seen_as (λ w. unless w.blank (where_true (is_kind w.kind kind.Open))) z n u e in
     let t = bracket_told w.blank w.kind u w.told in
-    let k = one_kind z n o w.kind (kind.Assign sign) w.here f in
-    let g : false ≡ true = ap (λ q. is_kind q kind.Open) (sym k) ∙ t in
+    let k = one_kind z n o w.kind q w.here f in
+    let g : false ≡ true = sym other ∙ ap (λ q. is_kind q kind.Open) (sym k) ∙ t in
     let never : ⊥ = cc in never
 
 -- a word that begins a block
-abbrev opens_block : WordKind → Bool
+abbrev pub opens_block : WordKind → Bool
 opens_block kind.OpenBrace = true
 opens_block kind.Do = true
 opens_block _ = false
@@ -173,11 +175,11 @@ brace_no_operands z n f e = let o = opened_next behinds.Call z n f e in by_next 
     by_kind kind.Do g b ws = and_false b
     by_kind _ g b ws = absurd cc
 
-pub brace_not_assign : (z n o : Place) (f : Fence) (sign : Sign) → opened behinds.Call z ≡ Some (f, n) → next z ≡ Some (kind.Assign sign, o) → ⊥
-brace_not_assign z n o f sign e g =
+pub fence_not_other : (z n o : Place) (f : Fence) (q : WordKind) → opens_block q ≡ false → opened behinds.Call z ≡ Some (f, n) → next z ≡ Some (q, o) → ⊥
+fence_not_other z n o f q other e g =
     let b = opened_next behinds.Call z n f e in
-    let k = one_kind z n o b.kind (kind.Assign sign) b.here g in
-    let h : true ≡ false = sym b.told ∙ ap opens_block k in
+    let k = one_kind z n o b.kind q b.here g in
+    let h : true ≡ false = sym b.told ∙ ap opens_block k ∙ other in
     let never : ⊥ = cc in never
 
 -- what is known of `do` stops nothing
@@ -355,14 +357,19 @@ starts_no_closing k s f = none_unless (at (closing k) s) (λ u z e.
     let g : false ≡ true = sym (start_no_closing k f.kind f.told) ∙ ap (closes k) q ∙ c.2 in
     let never : ⊥ = cc in never)
 
+target_start : (k : WordKind) (x : Target) → target_of_kind k ≡ Some x → starts k ≡ true
+target_start (kind.Name y b) x f = refl
+target_start (kind.Field y) x f = refl
+target_start (kind.Global y) x f = refl
+target_start (kind.Constant y n) x f = refl
+target_start _ x f = absurd cc
+
 pub target_starts : (s z : Place) (x : Aim) → at target s ≡ Some (x, z) → Starts s
 target_starts s z x e = let h = target-next s z x e in record { kind = h.first; behind = h.m; here = h.here; told = target_start h.first x.target h.told }
-  where
-    target_start : (k : WordKind) (x : Target) → target_of_kind k ≡ Some x → starts k ≡ true
-    target_start (kind.Name y b) x f = refl
-    target_start (kind.Field y) x f = refl
-    target_start (kind.Global y) x f = refl
-    target_start _ x f = absurd cc
+
+targeted_starts : (R : Nested) (s z : Place) (t : Tree) → Targeted R s t z → Starts s
+targeted_starts R s z t (a_target {m = m} {x = x} e f) = let w = seen_as (λ w. target_of_kind w.kind) s m x e in record { kind = w.kind; behind = m; here = w.here; told = target_start w.kind x w.told }
+targeted_starts R s z t (a_spot {r = r} h f) = first_starts s (postfix_first R s z r h)
 
 head_starts : (s m : Place) (x : Head) → at head s ≡ Some (x, m) → Starts s
 head_starts s m x e = let h = head-next s m x e in record { kind = h.0; behind = m; here = h.1; told = head_start h.0 x h.2 }
@@ -379,7 +386,7 @@ phrase_starts R s z t (by_receiver {m = m} {r = r} h e a b) = first_starts s (po
 phrase_starts R s z t (an_operand h) = first_starts s (settled_first R true s z t h)
 
 pub assigned_starts : (R : Nested) (commands : Bool) (Q : Place → Tree → Place → Type 0) → ((s z : Place) (t : Tree) → Q s t z → Starts s) → (s z : Place) (t : Tree) → Assigned R commands Q s t z → Starts s
-assigned_starts R commands Q begins s z t (an_assignment {n = n} {x = x} e h) = target_starts s n x e
+assigned_starts R commands Q begins s z t (an_assignment {n = n} {x = x} e f h) = target_starts s n x e
 assigned_starts R commands Q begins s z t (no_assignment h) = begins s z t h
 
 pub argument_starts : (R : Nested) (s z : Place) (t : Tree) → Argument R s t z → Starts s
@@ -419,23 +426,36 @@ pub negation_starts : (R : Nested) (s z : Place) (t : Tree) → Negation R s t z
 negation_starts R s z t (a_negation {m = m} e h) = next_ends s m kind.NotWord false e refl
 negation_starts R s z t (no_negation h) = starts_no_end s (value_starts R s z t h)
 
-pub statement_starts : (R : Nested) (s z : Place) (t : Tree) → Statement R s t z → ends s.rest ≡ false
-statement_starts R s z t c =
-    let f = chain_first modifier same modified (Expression R) s z t c in
-    let g = chain_first (connective 3) same joined_by (Negation R) s f.1 f.0 f.2 in
-    negation_starts R s g.1 g.0 g.2
+simple_starts : (R : Nested) (s z : Place) (t : Tree) → Simple R s t z → ends s.rest ≡ false
+simple_starts R s z t (to_several {m = m} {t = v} a c b f h) = starts_no_end s (targeted_starts R s m v a)
+simple_starts R s z t (no_several c) = let g = chain_first (connective 3) same joined_by (Negation R) s z t c in negation_starts R s g.1 g.0 g.2
 
--- a statement begins with no definition
-start_no_def : (k : WordKind) → starts k ≡ true → is_kind k kind.Def ≡ false
+pub statement_starts : (R : Nested) (s z : Place) (t : Tree) → Statement R s t z → ends s.rest ≡ false
+statement_starts R s z t c = let f = trail_head modifier (Simple R) (Modifying R) s z t c in simple_starts R s f.1 f.0 f.2
+
+-- a statement begins with no word that begins no operand, as `def` and `class`
+module _ {X : Type 0} (f : WordKind → Option X) (no_not : f kind.NotWord ≡ None) (no_start : (k : WordKind) → starts k ≡ true → f k ≡ None) (R : Nested) where
+  negation_unseen : (s z : Place) (t : Tree) → Negation R s t z → at (first_as (λ w. f w.kind)) s ≡ None
+  negation_unseen s z t (a_negation {m = m} e h) = unseen_kind f kind.NotWord s m e no_not
+  negation_unseen s z t (no_negation h) = let g = value_starts R s z t h in unseen_kind f g.kind s g.behind g.here (no_start g.kind g.told)
+
+  simple_unseen : (s z : Place) (t : Tree) → Simple R s t z → at (first_as (λ w. f w.kind)) s ≡ None
+  simple_unseen s z t (to_several {m = m} {t = v} a c b h i) = let g = targeted_starts R s m v a in unseen_kind f g.kind s g.behind g.here (no_start g.kind g.told)
+  simple_unseen s z t (no_several c) = let g = chain_first (connective 3) same joined_by (Negation R) s z t c in negation_unseen s g.1 g.0 g.2
+
+  statement_unseen : (s z : Place) (t : Tree) → Statement R s t z → at (first_as (λ w. f w.kind)) s ≡ None
+  statement_unseen s z t c = let g = trail_head modifier (Simple R) (Modifying R) s z t c in simple_unseen s g.1 g.0 g.2
+
+start_no_def : (k : WordKind) → starts k ≡ true → where_true (is_kind k kind.Def) ≡ None
 start_no_def kind.Def e = absurd cc
 start_no_def _ e = refl
 
-negation_no_def : (R : Nested) (s z : Place) (t : Tree) → Negation R s t z → at (word kind.Def) s ≡ None
-negation_no_def R s z t (a_negation {m = m} e h) = other-word kind.Def kind.NotWord s m e refl
-negation_no_def R s z t (no_negation h) = let f = value_starts R s z t h in other-word kind.Def f.kind s f.behind f.here (start_no_def f.kind f.told)
+start_no_class : (k : WordKind) → starts k ≡ true → opening_of_kind k ≡ None
+start_no_class (kind.Class o) e = absurd cc
+start_no_class _ e = refl
 
 pub statement_no_def : (R : Nested) (s z : Place) (t : Tree) → Statement R s t z → at (word kind.Def) s ≡ None
-statement_no_def R s z t c =
-    let f = chain_first modifier same modified (Expression R) s z t c in
-    let g = chain_first (connective 3) same joined_by (Negation R) s f.1 f.0 f.2 in
-    negation_no_def R s g.1 g.0 g.2
+statement_no_def R = statement_unseen (λ k. where_true (is_kind k kind.Def)) refl start_no_def R
+
+pub statement_no_class : (R : Nested) (s z : Place) (t : Tree) → Statement R s t z → at class_word s ≡ None
+statement_no_class R = statement_unseen opening_of_kind refl start_no_class R

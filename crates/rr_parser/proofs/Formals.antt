@@ -1,13 +1,26 @@
--- The parameters of a method.
-use Rattle.std.proofs.Common.{◌≡◌, ℕ, ◌≤◌, ◌<◌, List, [], length, Option, Some, None, ap, arith, refl}
+-- The name and the parameters of a method.
+use Rattle.std.proofs.Common.{◌≡◌, ℕ, ◌≤◌, ◌<◌, List, [], length, drop, Option, Some, None, ap, arith, refl}
+use Rattle.std.proofs.lemmas.List.{length-drop}
 use Rattle.rr_base.specs.declared.name.Sym.{Sym}
 use Rattle.rr_parser.specs.declared.word.WordKind.{WordKind}
 use Rattle.rr_parser.specs.declared.word.WordKind.TheVariants as kind
 use Rattle.rr_parser.specs.declared.word.Word.{Word}
 use Rattle.rr_parser.specs.Places.{Known, Place, placed, word, at}
-use Rattle.rr_parser.specs.Grammar.Definitions.{names_unless, some_names, with_separator, separated, behind_bracket, formals}
-use Rattle.rr_parser.proofs.Looks.{left, Steps-word, placed_some}
+use Rattle.rr_parser.specs.Grammar.Definitions.{naming, past_name, method_name, names_unless, some_names, with_separator, separated, behind_bracket, formals}
+use Rattle.rr_parser.proofs.Looks.{Steps, left, Steps-first_as, Steps-word, placed_some}
 use Rattle.rr_parser.proofs.Listing.{names_to-less, same_rest}
+
+same_words : (x y : Sym) (r q : List Word) → ◌≡◌ {A = Option (Sym × List Word)} (Some (x, r)) (Some (y, q)) → r ≡ q
+same_words x y r q e = let h : ◌≡◌ {A = Sym × List Word} (x, r) (y, q) = cc in ap (λ (p : Sym × List Word). p.1) h
+
+past_name-less : (known : Known) (ws : List Word) (o : Option ((Sym × ℕ) × List Word)) (x : Sym) (r : List Word) → naming ws ≡ o → past_name o ≡ Some (x, r) → length r < length ws
+past_name-less known ws None x r f e = absurd cc
+past_name-less known ws (Some p) x r f e =
+    let less = Steps-first_as _ (record { known = known; rest = ws }) (record { known = known; rest = p.1 }) p.0 (ap (placed known) f) in
+    omega (arith, less, length-drop p.0.1 p.1, ap length (same_words p.0.0 x (drop p.0.1 p.1) r e))
+
+pub Steps-method_name : Steps method_name
+Steps-method_name s m x e = let p = placed_some s.known (method_name s.rest) x m e in past_name-less s.known s.rest (naming s.rest) x m.rest refl p.0
 
 word-less : (known : Known) (k : WordKind) (ws r : List Word) (u : Unit {0}) → word k ws ≡ Some (u, r) → length r < length ws
 word-less known k ws r u e = Steps-word k (record { known = known; rest = ws }) (record { known = known; rest = r }) u (ap (placed known) e)

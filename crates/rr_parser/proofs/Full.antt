@@ -1,243 +1,61 @@
 -- What is spelled is read, unless it nests too deep.
-use Rattle.std.proofs.Common.{◌≡◌, zero, suc, ◌<◌, inl, inr, Bool, true, false, cond, List, Some, None, Ok, refl, sym, ap, ◌∙◌, arith, ℕ, []}
-use Rattle.rr_tree.specs.Tree.{Tree, rescue, clause, ensure, sequence, repeat, array, hash, splat, pair, symbol, logical_not, listed, send}
-use Rattle.rr_parser.specs.declared.word.Head.{Head}
-use Rattle.rr_parser.specs.declared.word.Listed.{Listed}
+use Rattle.std.proofs.Common.{◌≡◌, zero, suc, ◌<◌, inl, inr, Bool, true, false, cond, List, Some, None, Ok, refl, ap, ◌∙◌, arith, ℕ, [], sym, ◌∷◌, Option, Err}
+use Rattle.rr_tree.specs.Tree.{Tree, rescue, clause, ensure, sequence, repeat, logical_not, listed}
 use Rattle.rr_parser.specs.declared.word.Listed.TheVariants as listings
 use Rattle.rr_parser.specs.declared.word.Part.{Part}
 use Rattle.rr_parser.specs.declared.word.Part.TheVariants as parts
-use Rattle.rr_parser.specs.declared.word.WordKind.{WordKind}
 use Rattle.rr_parser.specs.declared.word.WordKind.TheVariants as kind
-use Rattle.rr_parser.specs.declared.word.Behind.{Behind}
-use Rattle.rr_parser.specs.declared.word.Behind.TheVariants as behinds
 use Rattle.rr_parser.specs.declared.word.Fence.{Fence}
 use Rattle.rr_parser.specs.declared.word.Fence.TheVariants as fences
 use Rattle.rr_tree.specs.declared.node.Path.{Path}
-use Rattle.rr_parser.specs.Grammar.Fences.{Taking, within_head, fence_end}
+use Rattle.rr_parser.specs.Grammar.Fences.{Taking, fence_end}
 use Rattle.rr_parser.specs.Places.{Place, word, at, next, skip, separators}
 use Rattle.rr_parser.specs.Grammar.Chains.{Chain, same, one_of, and_one}
 use Rattle.rr_parser.specs.Grammar.Nesting.{Nested}
-use Rattle.rr_parser.specs.Grammar.Names.{headed, name, command}
-use Rattle.rr_parser.specs.Grammar.Operands.{Blocked, no_block, a_block, order, Reached}
 use Rattle.rr_parser.specs.Grammar.Operators.{connective, joined_by}
-use Rattle.rr_parser.specs.Grammar.Calls.{target, with_target, assigned_to, label, comma, closing, last, Assigned, an_assignment, no_assignment, Argument, Pair, by_label, by_arrow, star, Item, a_splat, a_plain_item, Member, Members, Bracketed, no_members, some_members, Array, an_array, Hash, a_hash, Index, of_element, Commanded, Arguments, by_arguments, by_command, Command, a_command, Phrase, by_name, an_operand, Value, Settled, by_receiver, Adding, adding, AddingTo, Given, Listing, a_pair_member, an_item, entry, contents, item, label_of_kind, nothing, only_pairs, with_member}
-use Rattle.rr_parser.specs.Grammar.Sequences.{Negation, a_negation, no_negation, Expression, modifier, modified, Statement, Rows, Statements, no_statements, some_statements, Group, a_group}
+use Rattle.rr_parser.specs.Grammar.Calls.{comma, Bracketed, Array, Hash, Index, Value}
+use Rattle.rr_parser.specs.declared.word.Modifier.{Modifier}
+use Rattle.rr_parser.specs.Grammar.Several.{several, assigned_to_several, Rights, Targeted, Targets, a_spot, a_target, plain_sign}
+use Rattle.rr_parser.specs.Grammar.Sequences.{Simple, to_several, no_several, Modifying, by_condition, Negation, a_negation, no_negation, Expression, modifier, modified, Statement, Rows, Statements, no_statements, some_statements, Group, a_group}
 use Rattle.rr_parser.specs.Grammar.Interpolations.{text_middle, first_piece, and_piece, Pieces, Interpolation, an_interpolation}
 use Rattle.rr_parser.specs.Grammar.Control.{thens, loops, elsif, chosen, unless_chosen, Branch, a_branch, Branches, Otherwise, no_else, an_else, Choice, a_choice, Unless, an_unless, Loop, a_loop, looping, outside_loop, Looped, of_loop}
 use Rattle.rr_parser.specs.Grammar.Bodies.{path, Class, a_class, Classes, no_classes, some_classes, with_caught, caught_tree, Clause, a_clause, rescues, Clauses, Rescued, no_rescue, a_rescue, Body, no_ensure, an_ensure, Begun, a_begun, Held, between_braces, until_end}
 use Rattle.rr_parser.specs.Grammar.Blocks.{parameters, entered, leaving, block_tree, Block, of_statements}
-use Rattle.rr_parser.specs.Grammar.Definitions.{defined, rejoining, method_tree, Definition, of_method}
+use Rattle.rr_parser.specs.Grammar.Classes.{ClassBody}
+use Rattle.rr_parser.specs.Grammar.Definitions.{method_name, defined, rejoining, method_tree, Definition, of_method}
 use Rattle.rr_parser.specs.Grammar.{PartOf, inside, outside}
-use Rattle.rr_parser.specs.Reading.Answers.{◌>>=◌, Answer, Parse, built, ended_by, closed, from, across, taking_of}
+use Rattle.rr_parser.specs.Reading.Answers.{◌>>=◌, Answer, Parse, built, closed, from, across, taking_of, Refused, chain, chain_on, deep}
 use Rattle.rr_parser.specs.Reading.Nesting.{Readers}
-use Rattle.rr_parser.specs.Reading.Calls.{assigned_or, assigned_of, argument_of, member_of, another, members_of, bracketed_or, bracketed_of, array_of, hash_of, index_of, commanded_or, commanded_of, arguments_of, headed_of, command_or, command_of, phrase_or, phrase_of, value_of, settled_of, settled_by, ordered_of, order_or, order_on, reached_on, adding_of, adding_to, arrow_or, key_on, label_or, listed_of, lone, star_or, star_unless, unlabeled_of}
-use Rattle.rr_parser.specs.Reading.Sequences.{negation_or, negation_of, expression_of, statement_of, row, rows_of, sequence_of, statements_at, statements_of, group_of}
+use Rattle.rr_parser.specs.Reading.Calls.{bracketed_of, array_of, hash_of, index_of, value_of, order_on, order_or}
+use Rattle.rr_parser.specs.Reading.Several.{targets_of, rights_of, behind_first, several_on, several_or, targeted_of, several_of}
+use Rattle.rr_parser.specs.Reading.Sequences.{simple_or, simple_of, modifying_of, negation_or, negation_of, expression_of, statement_of, row, rows_of, sequence_of, statements_at, statements_of, group_of, connected_on, expression_on, is_led, simple_at, spotted_on, spotted_or}
 use Rattle.rr_parser.specs.Reading.Interpolations.{pieces_of, interpolated_or, interpolated_on, interpolation_of}
 use Rattle.rr_parser.specs.Reading.Control.{both, branch_of, branches_of, otherwise_or, otherwise_of, ended, choice_of, unless_of, loop_of, looped_of}
 use Rattle.rr_parser.specs.Reading.Bodies.{class_or, class_of, several_classes, classes_or, classes_of, clause_or, clause_on, clause_of, clauses_of, rescued_or, rescued_on, rescued_of, ensured_or, ensured_on, body_of, unlooped, ended_body, unlooped_on, begun_of, held_of}
 use Rattle.rr_parser.specs.Reading.Blocks.{left_block, block_or, block_of}
+use Rattle.rr_parser.specs.Reading.Classes.{class_body_of}
 use Rattle.rr_parser.specs.Reading.Definitions.{left_method, method_or, definition_or, definition_of}
 use Rattle.rr_parser.specs.Reading.{part_of, readers_inside, readers_outside}
-use Rattle.rr_parser.proofs.Told.{told_comma, told_arrow}
-use Rattle.rr_parser.proofs.Looks.{seen, by_next, none_unless, other-word, separators-row, Steps-row, seen_as, word-next}
-use Rattle.rr_parser.proofs.Listing.{another-comma, comma-another, last-another, Steps-another}
-use Rattle.rr_parser.proofs.Shrinking.{ReadersShrink, shrinks_nested, Steps-connective, Steps-modifier, Steps-elsif, Steps-comma, Steps-middle, Steps-rescues, class_shrinks}
+use Rattle.rr_parser.proofs.Told.{told_comma}
+use Rattle.rr_parser.proofs.Looks.{other-word, separators-row, Steps-row, none_unless, target-several}
+use Rattle.rr_parser.proofs.Steps.{Steps-connective, Steps-modifier, Steps-elsif, Steps-comma, Steps-middle, Steps-rescues}
+use Rattle.rr_parser.proofs.Shrinking.{ReadersShrink, shrinks_nested, class_shrinks}
 use Rattle.rr_parser.proofs.Leading.{Leads, leads_bind, leads_trans, leads_eq, leads_map, IsFull, chain_full, across_full}
-use Rattle.rr_parser.proofs.Strengths.{Stops, stops_by, word_unseen, connective_strength, no_connective_at, modifier_strength, no_modifier_at, comma_strength, separators_stop, thens_stop, loops_stop, ends_behind}
-use Rattle.rr_parser.proofs.Firsts.{next_ends, chain_first, starts_no_star, starts_no_label, settled_first, argument_starts, value_starts, starts_no_not, statement_starts, opened_stops, taking_stops, postfix_first, no_star_unless, star_no_label}
-use Rattle.rr_parser.proofs.Closings.{last_stops, MemberStops, adding_no_closing}
-use Rattle.rr_parser.proofs.Stopping.{finished, end_ends, rescue_ends, caught_stop, first_no_command, target_no_command, settled_no_target, phrase_no_target, AtEnd, middle_ends, tail_ends, elsif_ends}
-use Rattle.rr_parser.proofs.FullOperands.{Anywhere, Ends, PartStops, value_stop, NestedFull, word_here, closed_full, taking_full, enclosed_full, same_fence, passed_full, bang_full, minus_full, settled_full, unprefixed_full}
-use Rattle.rr_parser.specs.declared.word.Head.TheVariants as heads
-use Rattle.rr_base.specs.declared.name.Sym.{Sym}
-use Rattle.rr_parser.proofs.Orders.{order-next, no_order_at}
-use Rattle.rr_parser.specs.Reading.Operands.{then_blocked}
-use Rattle.rr_parser.proofs.Trails.{trail_full, trail_head}
+use Rattle.rr_parser.proofs.Strengths.{Stops, word_unseen, connective_strength, no_connective_at, modifier_strength, no_modifier_at, separators_stop, thens_stop, loops_stop, ends_behind, comma_strength, stops_by, strength_in}
+use Rattle.rr_parser.proofs.Firsts.{next_ends, chain_first, value_starts, starts_no_not, statement_starts, taking_stops, bang_no_prefix, first_starts, postfix_first, postfix_no_bang}
+use Rattle.rr_parser.proofs.Stopping.{expression_no_several, finished, end_ends, rescue_ends, caught_stop, AtEnd, middle_ends, tail_ends, elsif_ends, first_no_command, spot_no_aim, spot_no_several}
+use Rattle.rr_parser.proofs.FullOperands.{Anywhere, Ends, PartStops, value_stop, NestedFull, word_here, closed_full, taking_full, enclosed_full, same_fence, bang_full, minus_full, postfix_full, reached_alone}
+use Rattle.rr_parser.proofs.FullCalls.{targets_full, argument_full, bracketed_full, array_full, hash_full, index_full, command_full, value_full, rights_full, targeted_before}
+use Rattle.rr_parser.proofs.ClassFull.{class_body_full}
+use Rattle.rr_parser.proofs.Trails.{trail_full}
+use Rattle.rr_parser.specs.Grammar.Operands.{Postfix, Reached, Spot, no_bang}
+use Rattle.rr_parser.proofs.Chains.{chain_on-ends, done, ok_place}
+use Rattle.rr_parser.proofs.Beginnings.{expression_from, not_led}
+use Rattle.rr_parser.proofs.Orders.{no_order_at}
+use Rattle.rr_parser.proofs.Prefixes.{not_prefixed}
+use Rattle.rr_parser.specs.Reading.Operands.{postfix_of}
 
 module _ (N : Readers) (R : Nested) (D : Type 0) (shrinks : ReadersShrink N) (nests : NestedFull N R D) where
-  -- ---- assignments and calls
-
-  assigned_full : (b : Bool) (q : Parse Tree) (Q : Place → Tree → Place → Type 0) → IsFull q Q (Stops (value_stop b)) D → ((s z : Place) (t : Tree) → Q s t z → Stops (value_stop b) z → at target s ≡ None)
-      → IsFull (assigned_of N b q) (Assigned R b Q) (Stops (value_stop b)) D
-  unfolding assigned_of
-  assigned_full b q Q full none s z t (an_assignment {n = n} {x = x} {t = v} e h) stops =
-      leads_eq (assigned_or N b q s (at target s)) (built (assigned_to x (with_target x.target n)) (N.value b (with_target x.target n))) (Ok (t, z)) (ap (assigned_or N b q s) e)
-      (leads_bind (N.value b (with_target x.target n)) (v, z) (λ y. Ok (assigned_to x (with_target x.target n) y.0, y.1)) (nests.value b (with_target x.target n) z v h stops))
-  assigned_full b q Q full none s z t (no_assignment h) stops =
-      leads_eq (assigned_or N b q s (at target s)) (q s) (Ok (t, z)) (ap (assigned_or N b q s) (none s z t h stops)) (full s z t h stops)
-
-  plain_full : IsFull (settled_of N) (Settled R false) (Stops 27) D
-  plain_full = (settled_full N R D shrinks nests) false (reached_on N false) (λ r m stops. refl)
-
-  pub argument_full : IsFull (argument_of N) (Argument R) (Stops 27) D
-  argument_full = assigned_full false (settled_of N) (Settled R false) plain_full (settled_no_target R false)
-
-  -- an item, where only pairs may not stand
-  lone_full : (only : Bool) (t : Tree) (m : Place) → only ≡ false → lone only t m ≡ Ok (item t, m)
-  lone_full true t m e = absurd cc
-  lone_full false t m e = refl
-
-  star_seen : (only : Bool) (s m : Place) → only ≡ false → next s ≡ Some (star, m) → at (star_unless only) s ≡ Some (tt, m)
-  star_seen true s m e f = absurd cc
-  star_seen false s m e f = word_here star s m f refl
-
-  labelless : (only : Bool) (s : Place) → at label s ≡ None → member_of N only s ≡ star_or N only s (at (star_unless only) s)
-  unfolding member_of unlabeled_of
-  labelless only s e = ap (label_or N only s) e
-
-  -- an argument, and what stands behind it
-  keyed_full : (only : Bool) (s m z : Place) (t : Tree) (r : Member) → Argument R s t m → Stops 27 m → Leads (key_on N only t m) (Ok (r, z)) D → Leads (member_of N only s) (Ok (r, z)) D
-  keyed_full only s m z t r h stops l =
-      let begins = argument_starts R s m t h in
-      leads_eq (member_of N only s) (from (argument_of N) (key_on N only) s) (Ok (r, z)) (labelless only s (starts_no_label s begins) ∙ ap (star_or N only s) (no_star_unless only s (starts_no_star s begins)))
-      (leads_trans (from (argument_of N) (key_on N only) s) (key_on N only t m) (Ok (r, z)) (leads_bind (argument_of N s) (t, m) (λ q. key_on N only q.0 q.1) (argument_full s m t h stops)) l)
-
-  item_full : (only : Bool) (s z : Place) (t : Tree) → only ≡ false → Item R s t z → MemberStops z → Leads (member_of N only s) (Ok (item t, z)) D
-  unfolding key_on
-  item_full only s z t o (a_splat {m = m} {t = v} e h) stops =
-      leads_eq (member_of N only s) (built (λ q. item (splat q)) (argument_of N m)) (Ok (item t, z)) (labelless only s (star_no_label s m e) ∙ ap (star_or N only s) (star_seen only s m o e))
-      (leads_bind (argument_of N m) (v, z) (λ q. Ok (item (splat q.0), q.1)) (argument_full m z v h stops.0))
-  item_full only s z t o (a_plain_item h) stops = keyed_full only s z z t (item t) h stops.0 (inl (ap (arrow_or N only t z) stops.1 ∙ lone_full only t z o))
-
-  pair_full : (only : Bool) (s z : Place) (t : Tree) → Pair R s t z → MemberStops z → Leads (member_of N only s) (Ok (entry t, z)) D
-  unfolding member_of key_on
-  pair_full only s z t (by_label {m = m} {x = x} {t = v} e h) stops =
-      leads_eq (label_or N only s (at label s)) (built (λ q. entry (pair (symbol x.0) q)) (argument_of N m)) (Ok (entry t, z)) (ap (label_or N only s) e)
-      (leads_bind (argument_of N m) (v, z) (λ q. Ok (entry (pair (symbol x.0) q.0), q.1)) (argument_full m z v h stops.0))
-  pair_full only s z t (by_arrow {m = m} {n = n} {k = k} {t = v} h e i) stops =
-      keyed_full only s m z k (entry t) h (stops_by kind.Arrow 27 m n e (omega arith))
-      (leads_eq (arrow_or N only k m (at (word kind.Arrow) m)) (built (λ q. entry (pair k q)) (argument_of N n)) (Ok (entry t, z)) (ap (arrow_or N only k m) (word_here kind.Arrow m n e refl))
-      (leads_bind (argument_of N n) (v, z) (λ q. Ok (entry (pair k q.0), q.1)) (argument_full n z v i stops.0)))
-
-  member_full : (only : Bool) → IsFull (member_of N only) (Listing R only) MemberStops D
-  member_full only s z r (an_item {t = t} o h) stops = item_full only s z t o h stops
-  member_full only s z r (a_pair_member {t = t} h) stops = pair_full only s z t h stops
-
-  adding_full : (k : Listed) (g : Given) → IsFull (adding_of N k g) (Adding R k g) MemberStops D
-  unfolding adding_of
-  adding_full k g s z t (adding {m = m} h) stops = leads_bind (member_of N (only_pairs k g) s) (m, z) (λ q. Ok (with_member g q.0, q.1)) (member_full (only_pairs k g) s z m h stops)
-
-  comma_stops : (m n : Place) (u : Unit {0}) → at comma m ≡ Some (u, n) → MemberStops m
-  comma_stops m n u e = (omega (arith, comma_strength m n u e), other-word kind.Arrow kind.Comma m n (word-next kind.Comma told_comma m n u e) refl)
-
-  members_full : (k : Listed) (s z : Place) (g : Given) → Members R k s g z → MemberStops z → at (another k) z ≡ None → Leads (members_of N k s) (Ok (g, z)) D
-  unfolding members_of
-  members_full k s z g c stops none =
-      trail_full comma (another k) (adding_to N k) (Steps-another k) (λ x l n y t e. shrinks.added k l n y t e) (adding_of N k nothing) (Adding R k nothing) (AddingTo R k) D MemberStops comma_stops
-      (λ m n y x l t e h. comma-another k m n x e (adding_no_closing R k l n y t h)) (adding_full k nothing) (λ x l. adding_full k l) s z g c stops none
-
-  listed_full : (k : Listed) (s z : Place) (g : Given) → Members R k s g z → MemberStops z → at (another k) z ≡ None → Leads (listed_of N k s) (Ok (contents k g, z)) D
-  unfolding listed_of
-  listed_full k s z g c stops none = leads_bind (members_of N k s) (g, z) (λ q. Ok (contents k q.0, q.1)) (members_full k s z g c stops none)
-
-  -- no comma, no further member
-  no_another : (k : Listed) (z : Place) → at comma z ≡ None → at (another k) z ≡ None
-  no_another k z e = none_unless (at (another k) z) (λ u n f.
-      let g : seen u n ≡ None = sym (another-comma k z n u f) ∙ e in
-      let never : ⊥ = cc in never)
-
-  commands_full : (s z : Place) (g : Given) → Members R listings.Command s g z → Stops 29 z → Leads (listed_of N listings.Command s) (Ok (contents listings.Command g, z)) D
-  commands_full s z g c stops =
-      listed_full listings.Command s z g c (omega (arith, stops), word_unseen kind.Arrow told_arrow z stops) (no_another listings.Command z (word_unseen kind.Comma told_comma z (omega (arith, stops))))
-
-  pub bracketed_full : (k : Listed) → IsFull (bracketed_of N k) (Bracketed R k) Anywhere D
-  unfolding bracketed_of
-  bracketed_full k s z l (no_members e) u = inl (ap (bracketed_or N k s) e)
-  bracketed_full k s z l (some_members {m = m} {u = v} {g = g} c e) u =
-      let f = trail_head comma (Adding R k nothing) (AddingTo R k) s m g c in
-      leads_eq (bracketed_or N k s (at (closing k) s)) (listed_of N k s >>= λ q. ended_by q.0 (at (last k) q.1)) (Ok (l, z)) (ap (bracketed_or N k s) (adding_no_closing R k nothing s f.1 f.0 f.2))
-      (leads_trans (listed_of N k s >>= λ q. ended_by q.0 (at (last k) q.1)) (ended_by l (at (last k) m)) (Ok (l, z))
-      (leads_bind (listed_of N k s) (l, m) (λ q. ended_by q.0 (at (last k) q.1)) (listed_full k s m g c (last_stops k m z v e) (last-another k m z v e)))
-      (inl (ap (ended_by l) e)))
-
-  array_full : IsFull (array_of N) (Array R) Anywhere D
-  unfolding array_of
-  array_full s z t (an_array {l = l} h) u = leads_bind (bracketed_of N listings.Array s) (l, z) (λ q. Ok (array (listed q.0), q.1)) (bracketed_full listings.Array s z l h tt)
-
-  hash_full : IsFull (hash_of N) (Hash R) Anywhere D
-  unfolding hash_of
-  hash_full s z t (a_hash {l = l} h) u = leads_bind (bracketed_of N listings.Hash s) (l, z) (λ q. Ok (hash (listed q.0), q.1)) (bracketed_full listings.Hash s z l h tt)
-
-  index_full : IsFull (index_of N) (Index R) Anywhere D
-  unfolding index_of
-  index_full s z t (of_element {m = m} h e) u = closed_full kind.CloseSquare (argument_of N s) t m z refl (argument_full s m t h (stops_by kind.CloseSquare 27 m z e (omega arith))) e
-
-  argument_no_command : (s z : Place) (t : Tree) → Argument R s t z → at (command s.known) s ≡ None
-  argument_no_command s z t (an_assignment {n = n} {x = x} e h) = target_no_command s n x e
-  argument_no_command s z t (no_assignment h) = first_no_command s (settled_first R false s z t h)
-
-  item_no_command : (s z : Place) (t : Tree) → Item R s t z → at (command s.known) s ≡ None
-  item_no_command s z t (a_splat {m = m} e h) = by_next (λ q. at (command q.known) q ≡ None) s m star e (λ b. refl)
-  item_no_command s z t (a_plain_item h) = argument_no_command s z t h
-
-  label_no_command : (s m : Place) (x : Sym) → at label s ≡ Some (x, m) → at (command s.known) s ≡ None
-  label_no_command s m x e = let w = seen_as (λ w. label_of_kind w.kind) s m x e in by_kind w.kind w.here w.told
-    where
-      by_kind : (k : WordKind) → next s ≡ Some (k, m) → label_of_kind k ≡ Some x → at (command s.known) s ≡ None
-      by_kind (kind.Label y) f g = by_next (λ q. at (command q.known) q ≡ None) s m (kind.Label y) f (λ b. refl)
-      by_kind _ f g = absurd cc
-
-  listing_no_command : (only : Bool) (s z : Place) (r : Member) → Listing R only s r z → at (command s.known) s ≡ None
-  listing_no_command only s z r (an_item {t = t} e h) = item_no_command s z t h
-  listing_no_command only s z r (a_pair_member (by_label {m = m} {x = x} e h)) = label_no_command s m x e
-  listing_no_command only s z r (a_pair_member (by_arrow {m = m} {k = q} h e i)) = argument_no_command s m q h
-
-  adding_no_command : (k : Listed) (g : Given) (s z : Place) (t : Given) → Adding R k g s t z → at (command s.known) s ≡ None
-  adding_no_command k g s z t (adding {m = m} h) = listing_no_command (only_pairs k g) s z m h
-
-  pub commanded_full : IsFull (commanded_of N) (Commanded R) (Stops 29) D
-  unfolding commanded_of
-  commanded_full s z l (by_arguments {g = g} c) stops =
-      let f = trail_head comma (Adding R listings.Command nothing) (AddingTo R listings.Command) s z g c in
-      leads_eq (commanded_or N s (at (command s.known) s)) (listed_of N listings.Command s) (Ok (l, z)) (ap (commanded_or N s) (adding_no_command listings.Command nothing s f.1 f.0 f.2)) (commands_full s z g c stops)
-  commanded_full s z l (by_command {t = t} e h) stops =
-      leads_eq (commanded_or N s (at (command s.known) s)) (built one_of (N.part parts.Command s)) (Ok (l, z)) (ap (commanded_or N s) e)
-      (leads_bind (N.part parts.Command s) (t, z) (λ y. Ok (one_of y.0, y.1)) (nests.part parts.Command s z t h stops))
-
-  -- what stands behind the arguments stops them
-  blocked_stops : (q : Behind) (c : Tree) (n z : Place) (t : Tree) → Blocked R q c n t z → Stops 29 z → Stops 29 n
-  blocked_stops q c n z t (no_block e) stops = stops
-  blocked_stops q c n z t (a_block {m = m} {f = f} e h) stops = omega (arith, opened_stops q n m f e)
-
-  given_full : (f : List Tree → Tree) (m n z : Place) (x : Head) (l : List Tree) (t : Tree) → Arguments R x m l n → Blocked R (behinds.Command x) (f l) n t z → Stops 29 z → Leads (then_blocked N (behinds.Command x) (built f (arguments_of N x m))) (Ok (t, z)) D
-  given_full f m n z x l t h b stops =
-      (passed_full N R D shrinks nests) (behinds.Command x) f (arguments_of N x m) n z l t
-      (taking_full (within_head x m.known.takes_do) (commanded_of N) (Commanded R) (Stops 29) (λ a y. taking_stops 29 a y) commanded_full m n l h (blocked_stops (behinds.Command x) (f l) n z t b stops)) b
-
-  called_full : (m n z : Place) (x : Head) (l : List Tree) (t : Tree) → Arguments R x m l n → Blocked R (behinds.Command x) (headed x l) n t z → Stops 29 z → Leads (headed_of N x m) (Ok (t, z)) D
-  unfolding headed_of
-  called_full m n z x l t h b stops = given_full (headed x) m n z x l t h b stops
-
-  pub command_full : IsFull (command_of N) (Command R) (Stops 29) D
-  unfolding command_of
-  command_full s z t (a_command {m = m} {n = n} {x = x} {l = l} e h b) stops =
-      leads_eq (command_or N (at (command s.known) s)) (headed_of N x m) (Ok (t, z)) (ap (command_or N) e) (called_full m n z x l t h b stops)
-
-  -- a command with a receiver, and where there is none
-  order_full : (m n o z : Place) (r : Reached) (x : Sym) (l : List Tree) (t : Tree) → at order m ≡ Some (x, n) → Arguments R (heads.Call x) n l o → Blocked R (behinds.Command (heads.Call x)) (send r.tree x.0 (listed l)) o t z → Stops 29 z
-      → Leads (order_on N r m) (Ok (t, z)) D
-  unfolding order_on ordered_of
-  order_full m n o z r x l t e a b stops = leads_eq (order_or N r m (at order m)) (ordered_of N r.tree x n) (Ok (t, z)) (ap (order_or N r m) e) (given_full (λ q. send r.tree x.0 (listed q)) n o z (heads.Call x) l t a b stops)
-
-  order_still : (r : Reached) (m : Place) → Stops 0 m → order_on N r m ≡ reached_on N true r m
-  unfolding order_on
-  order_still r m stops = ap (order_or N r m) (no_order_at m stops)
-
-  phrase_full : IsFull (phrase_of N) (Phrase R) (Stops 29) D
-  unfolding phrase_of
-  phrase_full s z t (by_name (a_command {m = m} {n = n} {x = x} {l = l} e h b)) stops =
-      leads_eq (phrase_or N s (at (command s.known) s)) (headed_of N x m) (Ok (t, z)) (ap (phrase_or N s) e) (called_full m n z x l t h b stops)
-  phrase_full s z t (by_receiver {m = m} {n = n} {o = o} {r = r} {x = x} {l = l} h e a b) stops =
-      leads_eq (phrase_or N s (at (command s.known) s)) (settled_by N (order_on N) s) (Ok (t, z)) (ap (phrase_or N s) (first_no_command s (postfix_first R s m r h)))
-      ((unprefixed_full N R D shrinks nests) (order_on N) s m z r t h (order-next m n x e).no_tail (order_full m n o z r x l t e a b stops))
-  phrase_full s z t (an_operand h) stops =
-      leads_eq (phrase_or N s (at (command s.known) s)) (settled_by N (order_on N) s) (Ok (t, z)) (ap (phrase_or N s) (first_no_command s (settled_first R true s z t h)))
-      ((settled_full N R D shrinks nests) true (order_on N) order_still s z t h stops)
-
-  pub value_full : (b : Bool) → IsFull (value_of N b) (Value R b) (Stops (value_stop b)) D
-  value_full false = assigned_full false (settled_of N) (Settled R false) plain_full (settled_no_target R false)
-  value_full true = assigned_full true (phrase_of N) (Phrase R) phrase_full (phrase_no_target R)
-
   -- ---- statements
 
   pub negation_full : IsFull (negation_of N) (Negation R) (Stops 29) D
@@ -246,19 +64,103 @@ module _ (N : Readers) (R : Nested) (D : Type 0) (shrinks : ReadersShrink N) (ne
       leads_eq (negation_or N s (at (word kind.NotWord) s)) (built logical_not (N.part parts.Not m)) (Ok (t, z)) (ap (negation_or N s) (word_here kind.NotWord s m e refl))
       (leads_bind (N.part parts.Not m) (v, z) (λ x. Ok (logical_not x.0, x.1)) (nests.part parts.Not m z v h stops))
   negation_full s z t (no_negation h) stops =
-      leads_eq (negation_or N s (at (word kind.NotWord) s)) (value_of N true s) (Ok (t, z)) (ap (negation_or N s) (starts_no_not s (value_starts R s z t h))) (value_full true s z t h stops)
+      leads_eq (negation_or N s (at (word kind.NotWord) s)) (value_of N true s) (Ok (t, z)) (ap (negation_or N s) (starts_no_not s (value_starts R s z t h))) ((value_full N R D shrinks nests) true s z t h stops)
 
   pub expression_full : IsFull (expression_of N) (Expression R) (Stops 30) D
-  unfolding expression_of
+  unfolding expression_of connected_on chain
   expression_full s z t c stops =
       chain_full (connective 3) (connective 3) same joined_by (negation_of N) (Negation R) (Stops 29) D (Steps-connective 3) shrinks.negation
       (λ m n x e. omega (arith, connective_strength 3 m n x e)) (λ m n z x r e h. e) negation_full s z t c (omega (arith, stops)) (no_connective_at 3 z stops)
 
+  -- ---- several targets
+
+  several_on-full : (n o y z : Place) (t v : Tree) (l : List Tree) → Targets R n l o → next o ≡ Some (plain_sign, y) → R.values y v z → Stops 30 z → Leads (several_on N t n) (Ok (assigned_to_several (t ∷ l) v, z)) D
+  unfolding several_on
+  several_on-full n o y z t v l c f h stops =
+      across_full (λ l v. assigned_to_several (t ∷ l) v) (word plain_sign) N.values (targets_of N n) l o y z tt v ((targets_full N R D shrinks nests) n o y l c f) (word_here plain_sign o y f refl) (nests.values y z v h (omega (arith, stops)))
+
+  -- where a comma comes an operand stands alone
+  order_alone : (t : Reached) (m n : Place) (u : Unit {0}) → at comma m ≡ Some (u, n) → order_on N t m ≡ Ok (t.tree, m)
+  unfolding order_on
+  order_alone t m n u e = ap (order_or N t m) (no_order_at m (omega (arith, comma_strength m n u e))) ∙ (reached_alone N R D shrinks nests) true t m (omega (arith, comma_strength m n u e))
+
+  operand_alone : (t : Reached) (m n : Place) (u : Unit {0}) → at comma m ≡ Some (u, n) → expression_on N t m ≡ Ok (t.tree, m)
+  unfolding expression_on connected_on
+  operand_alone t m n u e =
+      ap (λ (q : Answer Tree). q >>= λ x. chain_on (connective 3) joined_by (negation_of N) x.0 x.1) (order_alone t m n u e)
+      ∙ chain_on-ends (connective 3) joined_by (negation_of N) (Steps-connective 3) shrinks.negation t.tree m
+      (none_unless (at (connective 3) m) (λ x y f. let never : ⊥ = omega (arith, connective_strength 3 m y x f, comma_strength m n u e) in never))
+
+  -- an expression that is read from behind its first operand
+  module _ (s z : Place) (t : Tree) (led : is_led s.known s.rest ≡ false) (full : Leads (expression_of N s) (Ok (t, z)) D) (stops : Stops 30 z) where
+    refused_full : (e : Refused) → postfix_of N s ≡ Err e → Leads (from (postfix_of N) (spotted_on N) s) (Ok (t, z)) D
+    refused_full e g =
+        leads_eq (from (postfix_of N) (spotted_on N) s) (expression_of N s) (Ok (t, z))
+        (ap (λ (q : Answer Reached). q >>= λ x. spotted_on N x.0 x.1) g ∙ sym (expression_from N s led ∙ ap (λ (q : Answer Reached). q >>= λ x. expression_on N x.0 x.1) g)) full
+
+    operand_full : (r : Reached) (m : Place) → postfix_of N s ≡ Ok (r, m) → Leads (expression_on N r m) (Ok (t, z)) D
+    operand_full r m g = leads_eq (expression_on N r m) (expression_of N s) (Ok (t, z)) (sym (expression_from N s led ∙ ap (λ (q : Answer Reached). q >>= λ x. expression_on N x.0 x.1) g)) full
+
+    spotted_or-full : (r : Reached) (m : Place) (p : Option Spot) (o : Option (Unit {0} × Place)) → postfix_of N s ≡ Ok (r, m) → at comma m ≡ o → Leads (spotted_or N r m p o) (Ok (t, z)) D
+    spotted_or-full r m None o g f = operand_full r m g
+    spotted_or-full r m (Some p) None g f = operand_full r m g
+    spotted_or-full r m (Some p) (Some n) g f =
+        let alone = operand_alone r m n.1 n.0 f in
+        elim (operand_full r m g) [
+          | inl e ↦ (let never : ⊥ = omega (arith, stops, comma_strength m n.1 n.0 f, ap (λ (x : Place). strength_in (next x)) (ok_place r.tree t m z (sym alone ∙ e))) in absurd never)
+          | inr d ↦ (let e : done r.tree m ≡ Err deep = sym alone ∙ d.0 in absurd cc)
+        ]
+
+    by_read : (q : Answer Reached) → postfix_of N s ≡ q → Leads (from (postfix_of N) (spotted_on N) s) (Ok (t, z)) D
+    unfolding spotted_on
+    by_read (Err e) g = refused_full e g
+    by_read (Ok x) g =
+        leads_eq (from (postfix_of N) (spotted_on N) s) (spotted_or N x.0 x.1 x.0.spot (at comma x.1)) (Ok (t, z)) (ap (λ (q : Answer Reached). q >>= λ y. spotted_on N y.0 y.1) g)
+        (spotted_or-full x.0 x.1 x.0.spot (at comma x.1) g refl)
+
+  expression_at : (b : Bool) (s z : Place) (t : Tree) → is_led s.known s.rest ≡ b → Expression R s t z → Stops 30 z → Leads (simple_at N b s) (Ok (t, z)) D
+  expression_at true s z t f h stops = expression_full s z t h stops
+  expression_at false s z t f h stops = by_read s z t f (expression_full s z t h stops) stops (postfix_of N s) refl
+
+  -- several targets, the first of which is a word
+  worded_full : (s m n z : Place) (t u : Tree) → Targeted R s t m → next m ≡ Some (kind.Comma, n) → Leads (several_on N t n) (Ok (u, z)) D → Leads (several_of N s) (Ok (u, z)) D
+  unfolding several_of
+  worded_full s m n z t u h c l =
+      leads_trans (several_of N s) (behind_first N t m) (Ok (u, z)) (leads_bind (targeted_of N s) (t, m) (λ x. behind_first N x.0 x.1) ((targeted_before N R D shrinks nests) s m n t h c))
+      (leads_eq (behind_first N t m) (several_on N t n) (Ok (u, z)) (ap (several_or N t) (word_here kind.Comma m n c refl)) l)
+
+  spot_not_led : (s m : Place) (r : Reached) (p : Spot) → Postfix R s r m → r.spot ≡ Some p → is_led s.known s.rest ≡ false
+  spot_not_led s m r p h f =
+      let first = postfix_first R s m r h in
+      not_led s (starts_no_not s (first_starts s first)) (first_no_command s first) (not_prefixed s (spot_no_aim R s m r p h f) (bang_no_prefix R s m r.tree (no_bang h)) (postfix_no_bang R s m r h))
+
+  -- and where it is an element or an attribute
+  spotted_full : (s m n z : Place) (r : Reached) (p : Spot) (u : Tree) → Postfix R s r m → r.spot ≡ Some p → next m ≡ Some (kind.Comma, n) → Leads (several_on N r.tree n) (Ok (u, z)) D → Leads (simple_at N (is_led s.known s.rest) s) (Ok (u, z)) D
+  unfolding spotted_on
+  spotted_full s m n z r p u h f c l =
+      leads_eq (simple_at N (is_led s.known s.rest) s) (from (postfix_of N) (spotted_on N) s) (Ok (u, z)) (ap (λ b. simple_at N b s) (spot_not_led s m r p h f))
+      (leads_trans (from (postfix_of N) (spotted_on N) s) (spotted_on N r m) (Ok (u, z)) (leads_bind (postfix_of N s) (r, m) (λ x. spotted_on N x.0 x.1) ((postfix_full N R D shrinks nests) s m r h (stops_by kind.Comma 0 m n c (omega arith))))
+      (leads_eq (spotted_on N r m) (several_on N r.tree n) (Ok (u, z)) (ap (λ o. spotted_or N r m o (at comma m)) f ∙ ap (spotted_or N r m (Some p)) (word_here kind.Comma m n c refl)) l))
+
+  simple_full : IsFull (simple_of N) (Simple R) (Stops 30) D
+  unfolding simple_of
+  simple_full s z u (to_several {m = m} {n = n} {o = o} {y = y} {t = t} {v = v} {l = l} (a_target {m = k} {x = x} e g) c b f h) stops =
+      leads_eq (simple_or N s (at several s)) (several_of N s) (Ok (u, z)) (ap (simple_or N s) (target-several s k n x tt e (word_here kind.Comma m n c refl)))
+      (worded_full s m n z t u (a_target e g) c (several_on-full n o y z t v l b f h stops))
+  simple_full s z u (to_several {m = m} {n = n} {o = o} {y = y} {v = v} {l = l} (a_spot {r = r} {p = p} k g) c b f h) stops =
+      leads_eq (simple_or N s (at several s)) (simple_at N (is_led s.known s.rest) s) (Ok (u, z)) (ap (simple_or N s) (spot_no_several R s m r p k g))
+      (spotted_full s m n z r p u k g c (several_on-full n o y z r.tree v l b f h stops))
+  simple_full s z t (no_several h) stops =
+      leads_eq (simple_or N s (at several s)) (simple_at N (is_led s.known s.rest) s) (Ok (t, z)) (ap (simple_or N s) (expression_no_several R s z t h stops)) (expression_at (is_led s.known s.rest) s z t refl h stops)
+
+  modifying_full : (x : Modifier) (l : Tree) → IsFull (modifying_of N x l) (Modifying R x l) (Stops 30) D
+  modifying_full x l s z t (by_condition {c = c} h) stops = leads_bind (expression_of N s) (c, z) (λ q. Ok (modified x l q.0, q.1)) (expression_full s z c h stops)
+
   pub statement_full : IsFull (statement_of N) (Statement R) (Stops 31) D
   unfolding statement_of
   statement_full s z t c stops =
-      chain_full modifier modifier same modified (expression_of N) (Expression R) (Stops 30) D Steps-modifier shrinks.expression
-      (λ m n x e. omega (arith, modifier_strength m n x e)) (λ m n z x r e h. e) expression_full s z t c (omega (arith, stops)) (no_modifier_at z stops)
+      trail_full modifier modifier (modifying_of N) Steps-modifier (λ x l n z t e. shrinks.modifying x l n z t e) (simple_of N) (Simple R) (Modifying R) D (Stops 30)
+      (λ m n x e. omega (arith, modifier_strength m n x e)) (λ m n z x l t e h. e) simple_full modifying_full s z t c (omega (arith, stops)) (no_modifier_at z stops)
 
   rows_full : (s z : Place) (l : List Tree) → Rows R s l z → Stops 31 z → at row z ≡ None → Leads (rows_of N s) (Ok (l, z)) D
   unfolding rows_of
@@ -434,15 +336,15 @@ module _ (N : Readers) (R : Nested) (D : Type 0) (shrinks : ReadersShrink N) (ne
   unfolding definition_of
   definition_full s z t (of_method {m = m} {n = n} {o = o} {z = y} {x = x} {xs = xs} {t = b} e f h g) u =
       let body = closed kind.End (body_of N (defined xs n)) in
-      leads_eq (definition_or N s (at name s)) (left_method s x xs n body) (Ok (method_tree x xs n y b, rejoining s y)) (ap (definition_or N s) e ∙ ap (method_or N s x) f)
+      leads_eq (definition_or N s (at method_name s)) (left_method s x xs n body) (Ok (method_tree x xs n y b, rejoining s y)) (ap (definition_or N s) e ∙ ap (method_or N s x) f)
       (leads_bind body (b, y) (λ q. Ok (method_tree x xs n q.1 q.0, rejoining s q.1))
       (closed_full kind.End (body_of N (defined xs n)) b o y refl (body_full (defined xs n) o b h (y, g)) g))
 
   pub part_full : (p : Part) → IsFull (part_of N p) (PartOf R p) (PartStops p) D
   part_full parts.Group = enclosed_full (group_of N) (Group R) group_full
-  part_full parts.Array = enclosed_full (array_of N) (Array R) array_full
-  part_full parts.Hash = enclosed_full (hash_of N) (Hash R) hash_full
-  part_full parts.Index = enclosed_full (index_of N) (Index R) index_full
+  part_full parts.Array = enclosed_full (array_of N) (Array R) (array_full N R D shrinks nests)
+  part_full parts.Hash = enclosed_full (hash_of N) (Hash R) (hash_full N R D shrinks nests)
+  part_full parts.Index = enclosed_full (index_of N) (Index R) (index_full N R D shrinks nests)
   part_full parts.Choice = enclosed_full (choice_of N) (Choice R) choice_full
   part_full parts.Unless = enclosed_full (unless_of N) (Unless R) unless_full
   part_full (parts.Loop until) = enclosed_full (looped_of N until) (Looped R until) (looped_full until)
@@ -450,11 +352,12 @@ module _ (N : Readers) (R : Nested) (D : Type 0) (shrinks : ReadersShrink N) (ne
   part_full parts.Minus = (minus_full N R D shrinks nests)
   part_full parts.Bang = (bang_full N R D shrinks nests)
   part_full parts.Not = negation_full
-  part_full parts.Command = command_full
-  part_full parts.Branch = argument_full
+  part_full parts.Command = (command_full N R D shrinks nests)
+  part_full parts.Branch = (argument_full N R D shrinks nests)
   part_full (parts.Interpolation i) = enclosed_full (interpolation_of N i) (Interpolation R i) (interpolation_full i)
   part_full (parts.Block k) = enclosed_full (block_of N k) (Block R k) (block_full k)
   part_full parts.Definition = enclosed_full (definition_of N) (Definition R) definition_full
+  part_full (parts.Class x c) = enclosed_full (class_body_of N x c) (ClassBody R x c) (class_body_full N R D shrinks.definition nests x c)
 
 -- ---- all depths
 
@@ -463,9 +366,9 @@ full_map p P Stops f h s z t i stops = leads_map (p s) (Ok (t, z)) f (h s z t i 
 
 full_inside : (k d : ℕ) → NestedFull (readers_inside k) (inside d) (k < d)
 unfolding readers_inside inside
-full_inside zero zero = record { part = λ p s z t h stops. absurd h; bracketed = λ s z t h stops. absurd h; value = λ b s z t h stops. absurd h }
-full_inside zero (suc d) = record { part = λ p s z t h stops. inr (refl, omega arith); bracketed = λ s z t h stops. inr (refl, omega arith); value = λ b s z t h stops. inr (refl, omega arith) }
-full_inside (suc k) zero = record { part = λ p s z t h stops. absurd h; bracketed = λ s z t h stops. absurd h; value = λ b s z t h stops. absurd h }
+full_inside zero zero = record { part = λ p s z t h stops. absurd h; bracketed = λ s z t h stops. absurd h; value = λ b s z t h stops. absurd h; values = λ s z t h stops. absurd h }
+full_inside zero (suc d) = record { part = λ p s z t h stops. inr (refl, omega arith); bracketed = λ s z t h stops. inr (refl, omega arith); value = λ b s z t h stops. inr (refl, omega arith); values = λ s z t h stops. inr (refl, omega arith) }
+full_inside (suc k) zero = record { part = λ p s z t h stops. absurd h; bracketed = λ s z t h stops. absurd h; value = λ b s z t h stops. absurd h; values = λ s z t h stops. absurd h }
 full_inside (suc k) (suc d) =
     let i = full_inside k d in
     let j = shrinks_nested true k in
@@ -474,16 +377,20 @@ full_inside (suc k) (suc d) =
       part = λ p. full_map (part_of (readers_inside k) p) (PartOf (inside d) p) (PartStops p) deeper (part_full (readers_inside k) (inside d) (k < d) j i p);
       bracketed = full_map (taking_of true (bracketed_of (readers_inside k) listings.Call)) (Taking true (Bracketed (inside d) listings.Call)) Anywhere deeper (enclosed_full (bracketed_of (readers_inside k) listings.Call) (Bracketed (inside d) listings.Call) (bracketed_full (readers_inside k) (inside d) (k < d) j i listings.Call));
       value = λ b. full_map (value_of (readers_inside k) b) (Value (inside d) b) (Stops (value_stop b)) deeper (value_full (readers_inside k) (inside d) (k < d) j i b);
+      values = full_map (rights_of (readers_inside k)) (Rights (inside d)) (Stops 29) deeper (rights_full (readers_inside k) (inside d) (k < d) j i);
     }
 
 inner_full : (k d : ℕ) (b : Bool) → IsFull (value_of (readers_inside k) b) (Value (inside d) b) (Stops (value_stop b)) (k < d)
 inner_full k d = value_full (readers_inside k) (inside d) (k < d) (shrinks_nested true k) (full_inside k d)
 
+inner_rights_full : (k d : ℕ) → IsFull (rights_of (readers_inside k)) (Rights (inside d)) (Stops 29) (k < d)
+inner_rights_full k d = rights_full (readers_inside k) (inside d) (k < d) (shrinks_nested true k) (full_inside k d)
+
 pub full_outside : (k d : ℕ) → NestedFull (readers_outside k) (outside d) (k < d)
 unfolding readers_outside outside
-full_outside zero zero = record { part = λ p s z t h stops. absurd h; bracketed = λ s z t h stops. absurd h; value = inner_full zero zero }
-full_outside zero (suc d) = record { part = λ p s z t h stops. inr (refl, omega arith); bracketed = λ s z t h stops. inr (refl, omega arith); value = inner_full zero (suc d) }
-full_outside (suc k) zero = record { part = λ p s z t h stops. absurd h; bracketed = λ s z t h stops. absurd h; value = inner_full (suc k) zero }
+full_outside zero zero = record { part = λ p s z t h stops. absurd h; bracketed = λ s z t h stops. absurd h; value = inner_full zero zero; values = inner_rights_full zero zero }
+full_outside zero (suc d) = record { part = λ p s z t h stops. inr (refl, omega arith); bracketed = λ s z t h stops. inr (refl, omega arith); value = inner_full zero (suc d); values = inner_rights_full zero (suc d) }
+full_outside (suc k) zero = record { part = λ p s z t h stops. absurd h; bracketed = λ s z t h stops. absurd h; value = inner_full (suc k) zero; values = inner_rights_full (suc k) zero }
 full_outside (suc k) (suc d) =
     let i = full_outside k d in
     let j = shrinks_nested false k in
@@ -492,4 +399,5 @@ full_outside (suc k) (suc d) =
       part = λ p. full_map (part_of (readers_outside k) p) (PartOf (outside d) p) (PartStops p) deeper (part_full (readers_outside k) (outside d) (k < d) j i p);
       bracketed = full_map (taking_of true (bracketed_of (readers_outside k) listings.Call)) (Taking true (Bracketed (outside d) listings.Call)) Anywhere deeper (enclosed_full (bracketed_of (readers_outside k) listings.Call) (Bracketed (outside d) listings.Call) (bracketed_full (readers_outside k) (outside d) (k < d) j i listings.Call));
       value = inner_full (suc k) (suc d);
+      values = inner_rights_full (suc k) (suc d);
     }

@@ -1,4 +1,5 @@
 -- What is spelled of operands and operators is read, unless it nests too deep.
+use Rattle.rr_parser.specs.declared.word.Naming.{Naming}
 use Rattle.rr_parser.specs.declared.word.Sign.{Sign}
 use Rattle.rr_parser.specs.Grammar.Calls.{Settled, a_setting, no_setting, settled, sign}
 use Rattle.std.proofs.Common.{◌≡◌, zero, suc, ◌+◌, ◌*◌, inl, inr, pos, Bool, true, false, cond, List, Option, Some, None, Ok, Err, refl, sym, ap, ◌∙◌, subst, arith, ℕ, []}
@@ -27,12 +28,13 @@ use Rattle.rr_parser.specs.Reading.Operands.{call_of, bare_call, variable_or_cal
 use Rattle.rr_parser.specs.Reading.Operators.{binary_on, binary_of, pair_or, equality_on, logical_on, logical_of, question_or, ternary_on, ternary_of}
 use Rattle.rr_parser.specs.Reading.Sequences.{ends_at, ends}
 use Rattle.rr_parser.proofs.Told.{told_question}
-use Rattle.rr_parser.proofs.Looks.{Steps-tail, by_next, name-next, next-prefix}
-use Rattle.rr_parser.proofs.Shrinking.{ReadersShrink, Steps-operator, Steps-connective}
+use Rattle.rr_parser.proofs.Looks.{Steps-tail, by_next, name-next, next-prefix, none_unless}
+use Rattle.rr_parser.proofs.Steps.{Steps-operator, Steps-connective}
+use Rattle.rr_parser.proofs.Shrinking.{ReadersShrink}
 use Rattle.rr_tree.specs.declared.node.Path.TheVariants as paths
 use Rattle.rr_parser.proofs.Trails.{trail_full}
 use Rattle.rr_parser.proofs.Chains.{done, chain_on-ends, ok_place}
-use Rattle.rr_parser.proofs.Leading.{Leads, leads_bind, leads_trans, leads_eq, IsFull, IsFullOn, from_full, onward_bind, onward_full, across_full}
+use Rattle.rr_parser.proofs.Leading.{Leads, leads_bind, leads_trans, leads_eq, IsFull, Onward, IsFullOn, from_full, onward_bind, onward_full, across_full}
 use Rattle.rr_parser.proofs.Strengths.{Stops, stops_by, word_unseen, operator_strength, no_operator_at, connective_strength, no_connective_at, no_tail_at, sign_strength, strength_in}
 use Rattle.rr_parser.specs.Reading.Calls.{setting_of, setting_or, spot_or, reached_on, behind_bang, behind_minus, settled_by}
 use Rattle.rr_parser.proofs.Firsts.{postfix_no_bang, bang_no_prefix}
@@ -61,6 +63,7 @@ pub record NestedFull (N : Readers) (R : Nested) (D : Type 0) : Type 0 where
   pub part : (p : Part) → IsFull (N.part p) (R.part p) (PartStops p) D
   pub bracketed : IsFull N.bracketed R.bracketed Anywhere D
   pub value : (b : Bool) → IsFull (N.value b) (R.value b) (Stops (value_stop b)) D
+  pub values : IsFull N.values R.values (Stops 29) D
 
 -- a word of this kind is seen
 pub word_here : (k : WordKind) (s z : Place) → next s ≡ Some (k, z) → is_kind k k ≡ true → at (word k) s ≡ Some (tt, z)
@@ -134,11 +137,11 @@ module _ (N : Readers) (R : Nested) (D : Type 0) (shrinks : ReadersShrink N) (ne
   construct_anywhere (kind.TextHead i) p z f = subst (λ q. PartStops q z) (same_part (parts.Interpolation i) p f) tt
   construct_anywhere _ p z f = absurd cc
 
-  plain_constant_full : (x : Sym) (outer : Bool) (z : Place) → at (inner_constant outer) z ≡ None → constant_at x outer z ≡ done (constant (paths.Plain x)) z
+  plain_constant_full : (x : Sym) (outer : Naming) (z : Place) → at (inner_constant outer) z ≡ None → constant_at x outer z ≡ done (constant (paths.Plain x)) z
   unfolding constant_at
   plain_constant_full x outer z f = ap (constant_or x z) f
 
-  path_full : (x y : Sym) (outer : Bool) (m z : Place) → at (inner_constant outer) m ≡ Some (y, z) → constant_at x outer m ≡ done (constant (paths.Ractor y)) z
+  path_full : (x y : Sym) (outer : Naming) (m z : Place) → at (inner_constant outer) m ≡ Some (y, z) → constant_at x outer m ≡ done (constant (paths.Ractor y)) z
   unfolding constant_at
   path_full x y outer m z f = ap (constant_or x m) f
 
@@ -251,13 +254,13 @@ module _ (N : Readers) (R : Nested) (D : Type 0) (shrinks : ReadersShrink N) (ne
   abbrev Tailless : Place → Type 0
   Tailless z = at tail z ≡ None
 
-  tailless_full : IsFull (postfix_of N) (Postfix R) Tailless D
+  pub tailless_full : IsFull (postfix_of N) (Postfix R) Tailless D
   unfolding postfix_of
   tailless_full s z r h none =
       trail_full tail tail (tailed_of N) Steps-tail (λ x l n z t e. shrinks.tailed x l n z t e) (plainly (primary_of N)) (Plain (Primary R)) (Tailed R) D Anywhere (λ m n x e. tt) (λ m n z x l t e g. e)
       (λ s z t g u. as_it_is_full s z t g) (λ x l n z t g u. tailed_full x l n z t g) s z r h tt none
 
-  postfix_full : IsFull (postfix_of N) (Postfix R) (Stops 0) D
+  pub postfix_full : IsFull (postfix_of N) (Postfix R) (Stops 0) D
   postfix_full s z r h stops = tailless_full s z r h (no_tail_at z stops)
 
   pub bang_full : IsFull (bang_of N) (Bang R) (Stops 0) D
@@ -394,3 +397,36 @@ module _ (N : Readers) (R : Nested) (D : Type 0) (shrinks : ReadersShrink N) (ne
       let last = least_stop b z stops in
       let o = ternary_full_on s z t h last in
       first_full on s o.behind z o.first t (λ r l. leads_eq (on r o.behind) (reached_on N b r o.behind) (Ok (t, z)) (same_on r o.behind o.stops) (spot_full b r o.behind z t r.spot l last)) o.spelled o.stops o.leads h last
+
+  pub reached_alone : (b : Bool) (r : Reached) (m : Place) → Stops 27 m → reached_on N b r m ≡ Ok (r.tree, m)
+  unfolding setting_of
+  reached_alone b r m stops = by_spot r.spot
+    where
+      by_spot : (o : Option Spot) → spot_or N b r.tree o m ≡ Ok (r.tree, m)
+      by_spot None = ternary_still r.tree m (omega (arith, stops))
+      by_spot (Some p) =
+          ap (setting_or N b r.tree p m) (none_unless (at sign m) (λ q n e. let never : ⊥ = omega (arith, sign_strength m n q e, stops) in never))
+          ∙ ternary_still r.tree m (omega (arith, stops))
+
+  -- where no word stands before an operand, reading leads on from it
+  setting_onward : (s m n z : Place) (r : Reached) (p : Spot) (q : Sign) (v : Tree) → Postfix R s r m → r.spot ≡ Some p → at sign m ≡ Some (q, n) → R.value false n v z → Stops 27 z
+      → Onward (Postfix R) (Stops 0) (reached_on N false) D s (Ok (settled q p r.tree v, z))
+  unfolding setting_of
+  setting_onward s m n z r p q v h f g i stops = record {
+    first = r;
+    behind = m;
+    spelled = h;
+    stops = omega (arith, sign_strength m n q g);
+    leads =
+        leads_eq (reached_on N false r m) (built (settled q p r.tree) (N.value false n)) (Ok (settled q p r.tree v, z)) (ap (λ (o : Option Spot). spot_or N false r.tree o m) f ∙ ap (setting_or N false r.tree p m) g)
+        (leads_bind (N.value false n) (v, z) (λ x. Ok (settled q p r.tree x.0, x.1)) (nests.value false n z v i stops));
+  }
+
+  operand_onward : (s y z : Place) (u t : Tree) → at prefix_minus s ≡ None → at (word kind.Bang) s ≡ None → Minus R s u y → Stops 0 y → Leads (ternary_on N u y) (Ok (t, z)) D → Stops 27 z → Onward (Postfix R) (Stops 0) (reached_on N false) D s (Ok (t, z))
+  operand_onward s y z u t none bangless (a_minus {m = m} e f h) alone l stops = let never : ◌≡◌ {A = Option (Unit {0} × Place)} (Some (tt, m)) None = sym (next-prefix s m e f) ∙ none in absurd cc
+  operand_onward s y z u t none bangless (no_minus (a_bang {m = m} e h)) alone l stops = let never : ◌≡◌ {A = Option (Unit {0} × Place)} (Some (tt, m)) None = sym (word_here kind.Bang s m e refl) ∙ bangless in absurd cc
+  operand_onward s y z u t none bangless (no_minus (no_bang {r = r} h)) alone l stops = record { first = r; behind = y; spelled = h; stops = alone; leads = spot_full false r y z t r.spot l stops }
+
+  pub unprefixed_onward : (s z : Place) (t : Tree) → at prefix_minus s ≡ None → at (word kind.Bang) s ≡ None → Settled R false s t z → Stops 27 z → Onward (Postfix R) (Stops 0) (reached_on N false) D s (Ok (t, z))
+  unprefixed_onward s z t minus bang (a_setting {m = m} {n = n} {r = r} {p = p} {q = q} {t = v} h f g i) stops = setting_onward s m n z r p q v h f g i stops
+  unprefixed_onward s z t minus bang (no_setting h) stops = let o = ternary_full_on s z t h stops in operand_onward s o.behind z o.first t minus bang o.spelled o.stops o.leads stops

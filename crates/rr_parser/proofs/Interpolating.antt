@@ -15,7 +15,7 @@ use Rattle.rr_parser.specs.Reading.Answers.{◌>>=◌, wrong, Answer, Parse, cha
 use Rattle.rr_parser.specs.Reading.Nesting.{Readers}
 use Rattle.rr_parser.specs.Reading.Interpolations.{pieces_of, interpolated_or, interpolated_on, interpolation_of}
 use Rattle.rr_parser.specs.Meets.{nodes, lists, Made, Fails, Puts, place}
-use Rattle.rr_parser.proofs.Shrinking.{Steps-middle}
+use Rattle.rr_parser.proofs.Steps.{Steps-middle}
 use Rattle.rr_parser.proofs.Chains.{Shrinks, chain_on-turn}
 use Rattle.rr_parser.proofs.Making.{Goes, made_put, fails_bind, seen_at, unseen_at, stable_nodes, kept_list, grown_list, same_place}
 

@@ -27,6 +27,10 @@ pub leads_map : {A : Type 0} {C D : Type 0} (r q : Result A Refused) → (C → 
 leads_map r q f (inl e) = inl e
 leads_map r q f (inr e) = inr (e.0, f e.1)
 
+pub leads_built : {A B : Type 0} {D : Type 0} (f : A → B) (r q : Answer A) → Leads r q D → Leads (built f r) (built f q) D
+leads_built f r q (inl e) = inl (ap (built f) e)
+leads_built f r q (inr e) = inr (ap (built f) e.0, e.1)
+
 -- all that P spells is read, where what follows stops it
 abbrev pub IsFull : {A : Type 0} → Parse A → (Place → A → Place → Type 0) → (Place → Type 0) → Type 0 → Type 0
 IsFull {A} p P Stops D = (s z : Place) (t : A) → P s t z → Stops z → Leads (p s) (Ok (t, z)) D

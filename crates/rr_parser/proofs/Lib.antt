@@ -1,9 +1,15 @@
 pub mod Told
+pub mod Classes
 pub mod Looks
 pub mod Listing
 pub mod Chains
+pub mod Prefixes
+pub mod Beginnings
 pub mod SoundOperands
+pub mod SoundCalls
+pub mod ClassSound
 pub mod Sound
+pub mod Steps
 pub mod Shrinking
 pub mod Leading
 pub mod Trails
@@ -13,8 +19,12 @@ pub mod Firsts
 pub mod Closings
 pub mod Stopping
 pub mod FullOperands
+pub mod FullCalls
+pub mod ClassFull
 pub mod Full
 pub mod DeepOperands
+pub mod DeepCalls
+pub mod ClassDeep
 pub mod Deep
 pub mod Making
 pub mod Choosing
@@ -30,6 +40,9 @@ pub mod Programs
 pub mod Defining
 pub mod Outlines
 pub mod Rescuing
+pub mod Opening
+pub mod Openings
 pub mod Interpolating
 pub mod Splats
+pub mod Assigning
 mod Indexing

@@ -4,20 +4,27 @@ use Rattle.rr_base.specs.declared.name.Sym.{Sym}
 use Rattle.rr_parser.specs.declared.word.Tail.{Tail}
 use Rattle.rr_parser.specs.declared.word.Tail.TheVariants as tails
 use Rattle.rr_parser.specs.declared.word.Head.{Head}
+use Rattle.rr_parser.specs.declared.word.Naming.{Naming}
+use Rattle.rr_parser.specs.declared.word.Naming.TheVariants as namings
+use Rattle.rr_parser.specs.declared.word.Opening.{Opening}
 use Rattle.rr_parser.specs.declared.word.Sign.{Sign}
 use Rattle.rr_parser.specs.declared.word.Aim.{Aim}
 use Rattle.rr_parser.specs.declared.word.Target.{Target}
+use Rattle.rr_parser.specs.declared.word.Target.TheVariants as targets
 use Rattle.rr_parser.specs.declared.word.WordKind.{WordKind}
 use Rattle.rr_parser.specs.declared.word.WordKind.TheVariants as kind
 use Rattle.rr_parser.specs.declared.word.Word.{Word}
 use Rattle.rr_parser.specs.Places.{Known, Place, Look, seen_before, first_as, unless, where_true, is_kind, word, any_word, placed, at, next, without_separators, skip, behind_separators, separators}
 use Rattle.rr_parser.specs.Grammar.Names.{told_behind, name_of_kind, name, bracket, begins_operands, head_of_kind, head, begins_head, commanding, command}
-use Rattle.rr_parser.specs.Grammar.Operands.{joined, square, called, sent, indexed, behind_dot, tail}
-use Rattle.rr_parser.specs.Grammar.Calls.{target_of_kind, sign_of_kind, sign, assigned, named, target_word, target}
+use Rattle.rr_parser.specs.Grammar.Operands.{joined, scope_sign, behind_sign, inner_constant, square, called, sent, indexed, behind_dot, tail}
+use Rattle.rr_parser.specs.Grammar.Calls.{target_of_kind, sign_of_kind, sign, assigned, named, target_word, target, with_target}
+use Rattle.rr_parser.specs.Grammar.Several.{past_target, several}
+use Rattle.rr_parser.specs.Grammar.Classes.{word_behind, row_of, opening_of_kind, class_word}
 use Rattle.rr_parser.specs.Grammar.Control.{behind_word, then_or_separators, thens, either, loops}
 use Rattle.rr_parser.specs.Reading.Operands.{without_integer, no_integer, prefix_minus}
+use Rattle.rr_parser.specs.Reading.Several.{ends_target, where_ended, lone_target}
 use Rattle.rr_parser.specs.Reading.Sequences.{ends, before_row, row}
-use Rattle.rr_parser.proofs.Told.{Told, told_dot, told_open_square, told_separator, told_then, told_minus, told_do}
+use Rattle.rr_parser.proofs.Told.{Told, told_comma, told_path, told_dot, told_open_square, told_separator, told_then, told_minus, told_do}
 
 abbrev pub seen : {X : Type 0} → X → Place → Option (X × Place)
 seen x z = Some (x, z)
@@ -109,6 +116,23 @@ word-next k told s z u e =
 pub other-word : (k q : WordKind) (s z : Place) → next s ≡ Some (q, z) → is_kind q k ≡ false → at (word k) s ≡ None
 other-word k q s z e f = by_next (λ p. at (word k) p ≡ None) s z q e (λ b. ap (λ t. placed z.known (seen_before (where_true t) z.rest)) f)
 
+-- the next word is none that f tells of
+pub unseen_kind : {X : Type 0} (f : WordKind → Option X) (k : WordKind) (s z : Place) → next s ≡ Some (k, z) → f k ≡ None → at (first_as (λ w. f w.kind)) s ≡ None
+unseen_kind f k s z e h = by_next (λ p. at (first_as (λ w. f w.kind)) p ≡ None) s z k e (λ b. ap (λ o. placed z.known (seen_before o z.rest)) h)
+
+-- the word `class`
+opening_told : (k : WordKind) (o : Opening) → opening_of_kind k ≡ Some o → k ≡ kind.Class o
+opening_told (kind.Class p) o e = cc
+opening_told _ o e = absurd cc
+
+pub class-next : (s z : Place) (o : Opening) → at class_word s ≡ Some (o, z) → next s ≡ Some (kind.Class o, z)
+class-next s z o e =
+    let w = seen_as (λ w. opening_of_kind w.kind) s z o e in
+    w.here ∙ ap (λ (q : WordKind). Some (q, z)) (opening_told w.kind o w.told)
+
+pub next-class : (s z : Place) (o : Opening) → next s ≡ Some (kind.Class o, z) → at class_word s ≡ Some (o, z)
+next-class s z o e = by_next (λ q. at class_word q ≡ Some (o, z)) s z (kind.Class o) e (λ c. refl)
+
 -- a name, and whether it ends with a mark
 name_told : (k : WordKind) (x : Sym) → name_of_kind k ≡ Some x → (b : Bool) × (k ≡ kind.Name x b)
 name_told (kind.Name y b) x e = (b, cc)
@@ -144,6 +168,21 @@ separators-next s z u e = by_word (word kind.Separator s.rest) refl e
 
 pub next-separators : (s n : Place) → next s ≡ Some (kind.Separator, n) → at separators s ≡ Some (tt, skip n)
 next-separators s n e = by_next (λ q. at separators q ≡ Some (tt, skip n)) s n kind.Separator e (λ b. refl)
+
+-- separators, and a word of a kind
+pub row-parts : (k : WordKind) (s z : Place) (u : Unit {0}) → at (row_of k) s ≡ Some (u, z) → (v : Unit {0}) × (m : Place) × (at separators s ≡ Some (v, m)) × (at (word k) m ≡ Some (u, z))
+row-parts k s z u e = by_words (separators s.rest) refl e
+  where
+    by_words : (o : Option (Unit {0} × List Word)) → separators s.rest ≡ o → placed s.known (word_behind k o) ≡ Some (u, z) → (v : Unit {0}) × (m : Place) × (at separators s ≡ Some (v, m)) × (at (word k) m ≡ Some (u, z))
+    by_words None g h = absurd cc
+    by_words (Some r) g h = (r.0, record { known = s.known; rest = r.1 }, ap (placed s.known) g, h)
+
+-- behind separators stands one word
+pub other-row : (k q : WordKind) → Told q → is_kind q k ≡ false → (s z : Place) (u : Unit {0}) → at (row_of q) s ≡ Some (u, z) → at (row_of k) s ≡ None
+other-row k q told differs s z u e =
+    let r = row-parts q s z u e in
+    let h = placed_some s.known (separators s.rest) r.0 r.1 r.2 in
+    ap (λ o. placed s.known (word_behind k o)) h.0 ∙ ap (λ (n : Known). placed n (word k r.1.rest)) h.1 ∙ other-word k q r.1 z (word-next q told r.1 z u r.3) differs
 
 pub row-separators : (s z : Place) (u : Unit {0}) → at row s ≡ Some (u, z) → (at separators s ≡ Some (u, z)) × (ends z.rest ≡ false)
 row-separators s z u e = by_words (separators s.rest) refl e
@@ -238,6 +277,56 @@ target-next s z x e = by_name (target_word s.rest) refl e
         let w = seen_as (λ w. target_of_kind w.kind) s m y.0 (ap (placed s.known) g) in
         record { first = w.kind; m = m; here = w.here; told = w.told ∙ ap (λ (q : Target). Some q) t.0; sign = t.1 }
 
+-- the first word of several targets, and the comma behind it
+pub record SeveralAt (s : Place) : Type 0 where
+  pub first : WordKind
+  pub target : Target
+  pub m : Place
+  pub n : Place
+  pub here : next s ≡ Some (first, m)
+  pub told : target_of_kind first ≡ Some target
+  pub comma : next m ≡ Some (kind.Comma, n)
+
+pub several-next : (s z : Place) (u : Unit {0}) → at several s ≡ Some (u, z) → SeveralAt s
+several-next s z u e = by_target (target_word s.rest) refl e
+  where
+    by_target : (o : Option (Target × List Word)) → target_word s.rest ≡ o → placed s.known (past_target o) ≡ Some (u, z) → SeveralAt s
+    by_target None g h = absurd cc
+    by_target (Some y) g h =
+        let m : Place = record { known = s.known; rest = y.1 } in
+        let w = seen_as (λ w. target_of_kind w.kind) s m y.0 (ap (placed s.known) g) in
+        record { first = w.kind; target = y.0; m = m; n = z; here = w.here; told = w.told; comma = word-next kind.Comma told_comma m z u h }
+
+-- a target that is a word, where a comma or the sign stands behind it
+pub lone-target : (s z : Place) (x : Target) → at lone_target s ≡ Some (x, z) → (at target_word s ≡ Some (x, z)) × (ends_target z.rest ≡ true)
+lone-target s z x e = by_target (target_word s.rest) refl e
+  where
+    by_test : (y : Target × List Word) (b : Bool) → ends_target y.1 ≡ b → placed s.known (cond b (Some (y.0, y.1)) None) ≡ Some (x, z) → (placed s.known (Some y) ≡ Some (x, z)) × (ends_target z.rest ≡ true)
+    by_test y true g h = (h, ap (λ (q : Place). ends_target q.rest) (sym (some_place y.0 x (record { known = s.known; rest = y.1 }) z h)) ∙ g)
+    by_test y false g h = absurd cc
+
+    by_target : (o : Option (Target × List Word)) → target_word s.rest ≡ o → placed s.known (where_ended o) ≡ Some (x, z) → (placed s.known (target_word s.rest) ≡ Some (x, z)) × (ends_target z.rest ≡ true)
+    by_target None g h = absurd cc
+    by_target (Some y) g h = let t = by_test y (ends_target y.1) refl h in (ap (placed s.known) g ∙ t.0, t.1)
+
+pub target-lone : (s z : Place) (x : Target) → at target_word s ≡ Some (x, z) → ends_target z.rest ≡ true → at lone_target s ≡ Some (x, z)
+target-lone s z x e f =
+    let h = placed_some s.known (target_word s.rest) x z e in
+    ap (λ o. placed s.known (where_ended o)) h.0 ∙ ap (λ b. placed s.known (cond b (Some (x, z.rest)) None)) f ∙ ap (λ k. placed k (Some (x, z.rest))) h.1
+
+-- what becomes known takes no words
+pub rest_target : (x : Target) (s : Place) → (with_target x s).rest ≡ s.rest
+rest_target (targets.Variable y) s = refl
+rest_target (targets.Field y) s = refl
+rest_target (targets.Global y) s = refl
+rest_target (targets.Constant y n) s = refl
+
+pub target-several : (s m n : Place) (x : Target) (u : Unit {0}) → at target_word s ≡ Some (x, m) → at (word kind.Comma) (with_target x m) ≡ Some (u, n) → at several s ≡ Some (u, record { known = s.known; rest = n.rest })
+target-several s m n x u e f =
+    let h = placed_some s.known (target_word s.rest) x m e in
+    let c = placed_some (with_target x m).known (word kind.Comma (with_target x m).rest) u n f in
+    ap (λ o. placed s.known (past_target o)) h.0 ∙ ap (λ ws. placed s.known (word kind.Comma ws)) (sym (rest_target x m)) ∙ ap (placed s.known) c.0
+
 pub head-next : (s z : Place) (x : Head) → at head s ≡ Some (x, z) → (k : WordKind) × (next s ≡ Some (k, z)) × (head_of_kind k ≡ Some x)
 head-next s z x e = let w = seen_as (λ w. head_of_kind w.kind) s z x e in (w.kind, w.here, w.told)
 
@@ -257,6 +346,20 @@ command-next s z x e = by_name (head s.rest) refl e
           ap (placed s.known) g ∙ ap (λ (q : Head). Some (q, m)) t.0 ∙ ap (λ (q : Place). Some (x, q)) t.1,
           ap (λ (q : Place). begins_head x q) (sym t.1) ∙ ap (λ (q : Head). begins_head q m) (sym t.0) ∙ t.2,
         )
+
+-- the sign of a path, behind which another constant stands
+pub path-next : (n : Naming) (s z : Place) (x : Sym) → at (inner_constant n) s ≡ Some (x, z) → (m : Place) × (next s ≡ Some (kind.Path, m))
+path-next namings.Class s z x e = absurd cc
+path-next namings.Free s z x e = absurd cc
+path-next namings.Opened s z x e = absurd cc
+path-next namings.Ractor s z x e = by_sign (scope_sign s.rest) refl e
+  where
+    by_sign : (o : Option (Unit {0} × List Word)) → scope_sign s.rest ≡ o → placed s.known (behind_sign o) ≡ Some (x, z) → (m : Place) × (next s ≡ Some (kind.Path, m))
+    by_sign None g h = absurd cc
+    by_sign (Some r) g h =
+        let m : Place = record { known = s.known; rest = r.1 } in
+        let w = seen_as (λ w. unless w.blank (where_true (is_kind w.kind kind.Path))) s m r.0 (ap (placed s.known) g) in
+        (m, w.here ∙ ap (λ (q : WordKind). Some (q, m)) (told_path w.kind (unless_true w.blank (is_kind w.kind kind.Path) r.0 w.told)))
 
 -- the word `do`, or separators
 pub loops-next : (s z : Place) (u : Unit {0}) → at loops s ≡ Some (u, z) → ((n : Place) × (next s ≡ Some (kind.Do, n)) × (n ≡ z)) ⊎ (at separators s ≡ Some (u, z))
@@ -292,6 +395,9 @@ pub Steps-separators : Steps separators
 Steps-separators s m u e =
     let h = separators-next s m u e in
     omega (arith, next-left s h.0 kind.Separator h.1, left-without_separators h.0.rest, ap left h.2)
+
+pub Steps-row_of : (k : WordKind) → Steps (row_of k)
+Steps-row_of k s m u e = let r = row-parts k s m u e in omega (arith, Steps-separators s r.1 r.0 r.2, Steps-word k r.1 m u r.3)
 
 pub Steps-row : Steps row
 Steps-row s m u e = Steps-separators s m u (row-separators s m u e).0

@@ -139,6 +139,7 @@ fails_bind refusal.Nesting r f h = ap (λ q. q >>= f) h
 fails_bind (refusal.Unexpected n) r f h = ap (λ q. q >>= f) h
 fails_bind (refusal.Number n) r f h = ap (λ q. q >>= f) h
 fails_bind (refusal.LeftOut n) r f h = ap (λ q. q >>= f) h
+fails_bind (refusal.Constant n) r f h = ap (λ q. q >>= f) h
 
 pub fails_eq : {A : Type 0} (e : Refusal) (r q : Result A Refused) → r ≡ q → Fails e q → Fails e r
 fails_eq (refusal.Storage s) r q g h = tt
@@ -146,6 +147,7 @@ fails_eq refusal.Nesting r q g h = g ∙ h
 fails_eq (refusal.Unexpected n) r q g h = g ∙ h
 fails_eq (refusal.Number n) r q g h = g ∙ h
 fails_eq (refusal.LeftOut n) r q g h = g ∙ h
+fails_eq (refusal.Constant n) r q g h = g ∙ h
 
 -- one node over what was read
 pub made_over : {E A : Type 0} {v : View E A} {old mid new : Parser} {e : E} {id : ℕ} {rest : List Word} {read : Answer A} {t : Tree} (f : A → Tree) → Made v old mid e rest read → Puts mid new t id

@@ -1,10 +1,19 @@
 -- Names and texts by number.
-use Rattle.std.proofs.Common.{◌≡◌, ℕ, zero, suc, ◌+◌, ◌<◌, ◌||◌, not, Bool, true, false, cond, List, [], ◌∷◌, ◌++◌, length, get_or, take, map, refl, sym, ap, ◌∙◌}
-use Rattle.std.specs.Prelude.{Vec, slice_get, Some}
+use Rattle.std.proofs.Common.{◌≡◌, ℕ, zero, suc, ◌+◌, ◌<◌, ◌||◌, not, Bool, true, false, cond, List, [], ◌∷◌, ◌++◌, length, get_or, take, map, fold, refl, sym, ap, ◌∙◌}
+use Rattle.std.specs.Prelude.{Vec, slice_get, Option, Some, None}
 use Rattle.std.specs.List.{list_any, position_or_len}
 use Rattle.std.specs.Borrow.{Bor}
 use Rattle.std.specs.declared.alloc.Global.{Global}
-use Rattle.std.proofs.lemmas.List.{map-append, take_more}
+use Rattle.std.proofs.lemmas.List.{map-append, take_more, append_assoc}
+use Rattle.rr_lexer.specs.declared.kind.Kind.{Kind}
+use Rattle.rr_lexer.specs.declared.kind.Kind.TheVariants as kinds
+use Rattle.rr_lexer.specs.declared.kind.Token.{Token}
+use Rattle.rr_lexer.specs.Lines.{is_def}
+use Rattle.rr_parser.specs.declared.method_names.MethodName.{MethodName}
+use Rattle.rr_parser.specs.declared.word.Word.{Word}
+use Rattle.rr_parser.specs.MethodNames.{operator_name, name_from, method_name_at}
+use Rattle.rr_parser.specs.Words.{with_symbol_of, with_text, symbols_behind, word_with, words_behind}
+use Rattle.rr_parser.specs.Numbering.{with_text_of}
 
 abbrev now : Bor (List ℕ) → List ℕ
 now k = k.now
@@ -42,3 +51,54 @@ symbols_more ks i vs new v k lt e f g h =
     ∙ ap (λ (x : List ℕ). map now (take i ks) ++ x ∷ []) (g ∙ ap now (got ks i k h))
     ∙ sym (map-append now (take i ks) (get_or ks i k ∷ []))
     ∙ ap (map now) (sym (take_more ks i k lt))
+
+-- ---- words
+
+none_or_same : (source : List ℕ) (texts : List (List ℕ)) (t : Token) (m : Option MethodName) → with_text source texts t t.kind ≡ texts → with_text_of source texts t m ≡ with_text source texts t t.kind
+none_or_same source texts t None e = refl
+none_or_same source texts t (Some m) e = sym e
+
+name_from-text : (source : List ℕ) (texts : List (List ℕ)) (t : Token) (us : List Token) (k : Kind) → t.kind ≡ k → with_text_of source texts t (name_from t k us) ≡ with_text source texts t t.kind
+name_from-text source texts t us kinds.Name e = sym (ap (with_text source texts t) e)
+name_from-text source texts t us (kinds.Op o) e = none_or_same source texts t (operator_name t o us) (ap (with_text source texts t) e)
+name_from-text source texts t us _ e = refl
+
+-- what begins a method's name is no text
+pub name_is_no_text : (source : List ℕ) (texts : List (List ℕ)) (def : Bool) (t : Token) (us : List Token) → with_text_of source texts t (method_name_at def t us) ≡ with_text source texts t t.kind
+name_is_no_text source texts true t us = name_from-text source texts t us t.kind refl
+name_is_no_text source texts false t us = refl
+
+module _ (source : List ℕ) (names more : List (List ℕ)) (texts held : List (List ℕ)) (def behind : Bool) (t : Token) (us l : List Token) (m : Option MethodName) (here : l ≡ t ∷ us) (is : m ≡ method_name_at def t us)
+    (e : more ≡ with_symbol_of source names t m) (f : held ≡ with_text_of source texts t m) (g : behind ≡ is_def t.kind) where
+  symbols_now : more ≡ with_symbol_of source names t (method_name_at def t us)
+  symbols_now = e ∙ ap (with_symbol_of source names t) is
+
+  texts_now : held ≡ with_text source texts t t.kind
+  texts_now = f ∙ ap (with_text_of source texts t) is ∙ name_is_no_text source texts def t us
+
+  pub words_more : (ws new : List Word) (w : Word) (all : List Word) → ws ++ words_behind source names texts def l ≡ all → new ≡ ws ++ w ∷ [] → w ≡ word_with source names (length texts) t m
+      → new ++ words_behind source more held behind us ≡ all
+  words_more ws new w all h i j =
+      let next = word_with source names (length texts) t (method_name_at def t us) in
+      let known = with_symbol_of source names t (method_name_at def t us) in
+      ap (λ (q : List Word). q ++ words_behind source more held behind us) i
+      ∙ append_assoc ws (w ∷ []) (words_behind source more held behind us)
+      ∙ ap (λ (v : Word). ws ++ v ∷ words_behind source more held behind us) (j ∙ ap (word_with source names (length texts) t) is)
+      ∙ ap (λ (q : List (List ℕ)). ws ++ next ∷ words_behind source q held behind us) symbols_now
+      ∙ ap (λ (q : List (List ℕ)). ws ++ next ∷ words_behind source known q behind us) texts_now
+      ∙ ap (λ (b : Bool). ws ++ next ∷ words_behind source known (with_text source texts t t.kind) b us) g
+      ∙ ap (λ (q : List Token). ws ++ words_behind source names texts def q) (sym here)
+      ∙ h
+
+  pub symbols_on : (all : List (List ℕ)) → symbols_behind source names def l ≡ all → symbols_behind source more behind us ≡ all
+  symbols_on all h =
+      ap (λ (q : List (List ℕ)). symbols_behind source q behind us) symbols_now
+      ∙ ap (λ (b : Bool). symbols_behind source (with_symbol_of source names t (method_name_at def t us)) b us) g
+      ∙ ap (symbols_behind source names def) (sym here)
+      ∙ h
+
+  pub texts_on : (all : List (List ℕ)) → fold (λ q token. with_text source q token token.kind) texts l ≡ all → fold (λ q token. with_text source q token token.kind) held us ≡ all
+  texts_on all h =
+      ap (λ (q : List (List ℕ)). fold (λ q token. with_text source q token token.kind) q us) texts_now
+      ∙ ap (fold (λ q token. with_text source q token token.kind) texts) (sym here)
+      ∙ h

@@ -1,5 +1,5 @@
 -- What begins a command behind its receiver.
-use Rattle.std.proofs.Common.{◌≡◌, ◌<◌, Bool, true, false, cond, ◌&&◌, List, [], ◌∷◌, length, Option, Some, None, refl, sym, ap, ◌∙◌, arith}
+use Rattle.std.proofs.Common.{◌≡◌, Bool, true, false, cond, ◌&&◌, List, [], ◌∷◌, Option, Some, None, refl, ap, ◌∙◌, arith}
 use Rattle.rr_base.specs.declared.name.Sym.{Sym}
 use Rattle.rr_parser.specs.declared.word.Tail.TheVariants as tails
 use Rattle.rr_parser.specs.declared.word.WordKind.TheVariants as kind
@@ -8,7 +8,7 @@ use Rattle.rr_parser.specs.Places.{Place, seen_before, unless, placed, word, at,
 use Rattle.rr_parser.specs.Grammar.Names.{name_of_kind, name, bracket, begins_operands}
 use Rattle.rr_parser.specs.Grammar.Operands.{called, sent, behind_dot, tail, before_operands, order_behind, order}
 use Rattle.rr_parser.proofs.Told.{told_dot}
-use Rattle.rr_parser.proofs.Looks.{left, Steps, Steps-first_as, some_place, some_what, none_unless, next-left, word-next}
+use Rattle.rr_parser.proofs.Looks.{Steps, Steps-first_as, some_place, some_what, none_unless, next-left, word-next}
 use Rattle.rr_parser.proofs.Strengths.{Stops, strength_in}
 
 -- a dot comes, and a name behind it that operands follow

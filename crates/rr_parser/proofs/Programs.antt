@@ -1,27 +1,35 @@
 -- Programs: what is read is spelled, and what is spelled is read, unless it nests too deep.
 use Rattle.std.proofs.Common.{◌≡◌, ℕ, ◌<◌, inl, inr, Bool, true, false, cond, List, [], ◌∷◌, Option, Some, None, Ok, Err, refl, sym, ap, ◌∙◌, subst, arith}
+use Rattle.rr_base.specs.declared.name.ClassId.{ClassId}
+use Rattle.rr_base.specs.declared.name.Sym.{Sym}
+use Rattle.rr_tree.specs.declared.node.Path.{Path}
+use Rattle.rr_parser.specs.declared.word.Opening.{Opening}
+use Rattle.rr_parser.specs.declared.word.Opening.TheVariants as openings
+use Rattle.rr_parser.specs.declared.word.Part.{Part}
 use Rattle.rr_parser.specs.declared.word.Part.TheVariants as parts
 use Rattle.rr_parser.specs.declared.word.WordKind.TheVariants as kind
 use Rattle.rr_parser.specs.declared.word.Word.{Word}
-use Rattle.rr_parser.specs.Places.{Place, word, at, skip, separators, start}
+use Rattle.rr_parser.specs.Places.{Place, word, at, skip, separators, start, next}
 use Rattle.rr_parser.specs.Grammar.Nesting.{Nested}
-use Rattle.rr_parser.specs.Grammar.Programs.{Entry, defines, does, Row, a_definition, a_statement, Outline, with_entry, first_entry, Entries, Main, main_of, Program, no_rows, some_rows}
+use Rattle.rr_parser.specs.Grammar.Classes.{class_word, class_head}
+use Rattle.rr_parser.specs.Grammar.Programs.{Entry, defines, does, Row, a_definition, a_class, a_statement, Outline, with_entry, first_entry, Entries, Main, main_of, Program, no_rows, some_rows}
 use Rattle.rr_parser.specs.Grammar.{outside, WordsSpell}
 use Rattle.rr_parser.specs.Reading.Answers.{◌>>=◌, wrong, deep, Answer, built}
 use Rattle.rr_parser.specs.Reading.Nesting.{Readers}
 use Rattle.rr_parser.specs.Reading.Sequences.{statement_of, ends, row}
-use Rattle.rr_parser.specs.Reading.Programs.{entry_or, entry_of, entries_of, outlined, outline_at, outline_of}
+use Rattle.rr_parser.specs.Reading.Programs.{class_on, class_under, class_or, entry_or, entry_of, entries_of, outlined, outline_at, outline_of}
 use Rattle.rr_parser.specs.Reading.{readers_outside, readers, whole_of, program_of}
-use Rattle.rr_parser.specs.Fronts.{Fronts, fronts_outside, RowFront, in_definition, in_statement, ProgramFront}
+use Rattle.rr_parser.specs.Fronts.{Fronts, fronts_outside, RowFront, in_definition, in_class, in_statement, ProgramFront}
 use Rattle.rr_parser.proofs.Told.{told_def}
-use Rattle.rr_parser.proofs.Looks.{word-next, next-left, row-separators, separators-row, Steps-row}
+use Rattle.rr_parser.proofs.Looks.{word-next, other-word, class-next, next-class, next-left, row-separators, separators-row, Steps-row}
+use Rattle.rr_parser.proofs.Steps.{Steps-class_head}
 use Rattle.rr_parser.proofs.Chains.{Shrinks, IsSound, IsShrinking, shrinks_by, bind_ok, built_ok, done, ok_place, ok_what, at_answer, chain_sound}
 use Rattle.rr_parser.proofs.SoundOperands.{NestedSound}
 use Rattle.rr_parser.proofs.Sound.{statement_sound, sound_outside, nested, sound_nested}
 use Rattle.rr_parser.proofs.Shrinking.{NestedShrinking, statement_shrinking, shrinking_nested, ReadersShrink, shrinks_nested}
 use Rattle.rr_parser.proofs.Leading.{Leads, leads_bind, leads_trans, leads_eq, IsFull, chain_full}
 use Rattle.rr_parser.proofs.Strengths.{Stops, separators_stop, ends_behind}
-use Rattle.rr_parser.proofs.Firsts.{next_ends, chain_first, statement_starts, statement_no_def}
+use Rattle.rr_parser.proofs.Firsts.{next_ends, chain_first, statement_starts, statement_no_def, statement_no_class}
 use Rattle.rr_parser.proofs.FullOperands.{Ends, NestedFull, word_here}
 use Rattle.rr_parser.proofs.Full.{statement_full, full_outside}
 use Rattle.rr_parser.proofs.DeepOperands.{IsDeep, bind_deep, built_deep, NestedDeep, chain_deep}
@@ -32,10 +40,26 @@ outlined_ok (Ok x) z t e = (x.1, ap (λ (q : Outline). done q x.1) (ok_what x.0 
 outlined_ok (Err d) z t e = absurd cc
 
 module _ (N : Readers) (R : Nested) (sounds : NestedSound N R) where
-  entry_or-sound : (s : Place) (o : Option (Unit {0} × Place)) (z : Place) (t : Entry) → at (word kind.Def) s ≡ o → entry_or N s o ≡ Ok (t, z) → Row R s t z
-  entry_or-sound s None z t f e =
+  class_on-sound : (s m : Place) (c : ClassId) (o : Option ((Sym × Option Path) × Place)) (z : Place) (t : Entry) → next s ≡ Some (kind.Class (openings.Below c), m) → at class_head m ≡ o → class_on N c o ≡ Ok (t, z) → Row R s t z
+  class_on-sound s m c None z t h f e = absurd cc
+  class_on-sound s m c (Some n) z t h f e =
+      let p : Part = parts.Class n.0.0 c in
+      let b = built_ok defines (N.part p n.1) t z e in
+      subst (λ (q : Entry). Row R s q z) (sym b.2) (a_class h f (sounds.part p n.1 z b.0 b.1))
+
+  class_under-sound : (s m : Place) (o : Opening) (z : Place) (t : Entry) → next s ≡ Some (kind.Class o, m) → class_under N o m ≡ Ok (t, z) → Row R s t z
+  class_under-sound s m (openings.Below c) z t h e = class_on-sound s m c (at class_head m) z t h refl e
+  class_under-sound s m openings.Unknown z t h e = absurd cc
+  class_under-sound s m openings.Closed z t h e = absurd cc
+
+  class_or-sound : (s : Place) (o : Option (Opening × Place)) (z : Place) (t : Entry) → at class_word s ≡ o → class_or N s o ≡ Ok (t, z) → Row R s t z
+  class_or-sound s None z t f e =
       let b = built_ok does (statement_of N s) t z e in
       subst (λ (q : Entry). Row R s q z) (sym b.2) (a_statement (statement_sound N R sounds s z b.0 b.1))
+  class_or-sound s (Some m) z t f e = class_under-sound s m.1 m.0 z t (class-next s m.1 m.0 f) e
+
+  entry_or-sound : (s : Place) (o : Option (Unit {0} × Place)) (z : Place) (t : Entry) → at (word kind.Def) s ≡ o → entry_or N s o ≡ Ok (t, z) → Row R s t z
+  entry_or-sound s None z t f e = class_or-sound s (at class_word s) z t refl e
   entry_or-sound s (Some m) z t f e =
       let b = built_ok defines (N.part parts.Definition m.1) t z e in
       subst (λ (q : Entry). Row R s q z) (sym b.2) (a_definition (word-next kind.Def told_def s m.1 m.0 f) (sounds.part parts.Definition m.1 z b.0 b.1))
@@ -59,8 +83,24 @@ module _ (N : Readers) (R : Nested) (sounds : NestedSound N R) where
   outline_sound s z t e = outline_test (ends (skip s).rest) s z t e
 
   module _ (F : Fronts) (deeps : NestedDeep N F) where
+    class_on-deep : (s m : Place) (c : ClassId) (o : Option ((Sym × Option Path) × Place)) → next s ≡ Some (kind.Class (openings.Below c), m) → at class_head m ≡ o → class_on N c o ≡ Err deep → (z : Place) × RowFront R F s z
+    class_on-deep s m c None h f e = absurd cc
+    class_on-deep s m c (Some n) h f e =
+        let p : Part = parts.Class n.0.0 c in
+        let d = deeps.part p n.1 (built_deep defines (N.part p n.1) e) in
+        (d.0, in_class h f d.1)
+
+    class_under-deep : (s m : Place) (o : Opening) → next s ≡ Some (kind.Class o, m) → class_under N o m ≡ Err deep → (z : Place) × RowFront R F s z
+    class_under-deep s m (openings.Below c) h e = class_on-deep s m c (at class_head m) h refl e
+    class_under-deep s m openings.Unknown h e = absurd cc
+    class_under-deep s m openings.Closed h e = absurd cc
+
+    class_or-deep : (s : Place) (o : Option (Opening × Place)) → at class_word s ≡ o → class_or N s o ≡ Err deep → (z : Place) × RowFront R F s z
+    class_or-deep s None f e = let d = statement_deep N R F sounds deeps s (built_deep does (statement_of N s) e) in (d.0, in_statement d.1)
+    class_or-deep s (Some m) f e = class_under-deep s m.1 m.0 (class-next s m.1 m.0 f) e
+
     entry_or-deep : (s : Place) (o : Option (Unit {0} × Place)) → at (word kind.Def) s ≡ o → entry_or N s o ≡ Err deep → (z : Place) × RowFront R F s z
-    entry_or-deep s None f e = let d = statement_deep N R F sounds deeps s (built_deep does (statement_of N s) e) in (d.0, in_statement d.1)
+    entry_or-deep s None f e = class_or-deep s (at class_word s) refl e
     entry_or-deep s (Some m) f e =
         let d = deeps.part parts.Definition m.1 (built_deep defines (N.part parts.Definition m.1) e) in
         (d.0, in_definition (word-next kind.Def told_def s m.1 m.0 f) d.1)
@@ -88,6 +128,7 @@ module _ (N : Readers) (R : Nested) (sounds : NestedSound N R) where
 
 row_shrinking : (R : Nested) → NestedShrinking R → IsShrinking (Row R)
 row_shrinking R nests s z t (a_definition {m = m} {t = v} e h) = omega (arith, next-left s m kind.Def e, nests.part parts.Definition m z v h)
+row_shrinking R nests s z t (a_class {m = m} {n = n} {c = c} {x = x} {t = v} e f h) = omega (arith, next-left s m (kind.Class (openings.Below c)) e, Steps-class_head m n x f, nests.part (parts.Class x.0 c) n z v h)
 row_shrinking R nests s z t (a_statement {t = v} h) = statement_shrinking R nests s z v h
 
 -- reading a row takes no words back
@@ -96,6 +137,7 @@ entry_shrinks b d = shrinks_by (entry_of (readers b d)) (Row (nested b d)) (entr
 
 row_starts : (R : Nested) (s z : Place) (t : Entry) → Row R s t z → ends s.rest ≡ false
 row_starts R s z t (a_definition {m = m} e h) = next_ends s m kind.Def false e refl
+row_starts R s z t (a_class {m = m} {c = c} e f h) = next_ends s m (kind.Class (openings.Below c)) false e refl
 row_starts R s z t (a_statement {t = v} h) = statement_starts R s z v h
 
 module _ (N : Readers) (R : Nested) (D : Type 0) (shrinks : ReadersShrink N) (shrinks_entry : Shrinks (entry_of N)) (nests : NestedFull N R D) where
@@ -104,8 +146,13 @@ module _ (N : Readers) (R : Nested) (D : Type 0) (shrinks : ReadersShrink N) (sh
   entry_full s z t (a_definition {m = m} {t = v} e h) stops =
       leads_eq (entry_or N s (at (word kind.Def) s)) (built defines (N.part parts.Definition m)) (Ok (t, z)) (ap (entry_or N s) (word_here kind.Def s m e refl))
       (leads_bind (N.part parts.Definition m) (v, z) (λ x. Ok (defines x.0, x.1)) (nests.part parts.Definition m z v h tt))
+  entry_full s z t (a_class {m = m} {n = n} {c = c} {x = x} {t = v} e f h) stops =
+      let p : Part = parts.Class x.0 c in
+      leads_eq (entry_or N s (at (word kind.Def) s)) (built defines (N.part p n)) (Ok (t, z))
+      (ap (entry_or N s) (other-word kind.Def (kind.Class (openings.Below c)) s m e refl) ∙ ap (class_or N s) (next-class s m (openings.Below c) e) ∙ ap (class_on N c) f)
+      (leads_bind (N.part p n) (v, z) (λ x. Ok (defines x.0, x.1)) (nests.part p n z v h tt))
   entry_full s z t (a_statement {t = v} h) stops =
-      leads_eq (entry_or N s (at (word kind.Def) s)) (built does (statement_of N s)) (Ok (t, z)) (ap (entry_or N s) (statement_no_def R s z v h))
+      leads_eq (entry_or N s (at (word kind.Def) s)) (built does (statement_of N s)) (Ok (t, z)) (ap (entry_or N s) (statement_no_def R s z v h) ∙ ap (class_or N s) (statement_no_class R s z v h))
       (leads_bind (statement_of N s) (v, z) (λ x. Ok (does x.0, x.1)) (statement_full N R D shrinks nests s z v h stops))
 
   entries_full : (s z : Place) (o : Outline) → Entries R s o z → Stops 31 z → at row z ≡ None → Leads (entries_of N s) (Ok (o, z)) D

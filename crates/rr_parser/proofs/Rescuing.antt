@@ -88,6 +88,7 @@ fails_caught N old m1 es words rest refusal.Nesting m h = absurd h
 fails_caught N old m1 es words rest (refusal.Unexpected n) m h = uncaught_clause N old m1 es None words rest rest m h
 fails_caught N old m1 es words rest (refusal.Number n) m h = absurd h
 fails_caught N old m1 es words rest (refusal.LeftOut n) m h = absurd h
+fails_caught N old m1 es words rest (refusal.Constant n) m h = absurd h
 
 -- ---- what is rescued
 

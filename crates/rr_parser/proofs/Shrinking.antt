@@ -1,6 +1,8 @@
 -- What is spelled takes no words back, and so reading takes none back.
-use Rattle.std.proofs.Common.{◌≡◌, zero, suc, List, ◌∷◌, length, Bool, true, false, Option, Some, None, refl, ap, arith, ◌<◌, ◌≤◌, ℕ, []}
+use Rattle.std.proofs.Common.{zero, suc, Bool, true, false, Option, Some, None, arith, ◌≤◌, ℕ}
 use Rattle.rr_tree.specs.Tree.{call, send, listed}
+use Rattle.rr_base.specs.declared.name.Sym.{Sym}
+use Rattle.rr_base.specs.declared.name.ClassId.{ClassId}
 use Rattle.rr_parser.specs.declared.word.Caught.{Caught}
 use Rattle.rr_parser.specs.declared.word.Tail.{Tail}
 use Rattle.rr_parser.specs.declared.word.Target.{Target}
@@ -8,164 +10,56 @@ use Rattle.rr_parser.specs.declared.word.Listed.{Listed}
 use Rattle.rr_parser.specs.declared.word.Listed.TheVariants as listings
 use Rattle.rr_parser.specs.declared.word.Part.{Part}
 use Rattle.rr_parser.specs.declared.word.Part.TheVariants as parts
-use Rattle.rr_parser.specs.declared.word.WordKind.{WordKind}
 use Rattle.rr_parser.specs.declared.word.WordKind.TheVariants as kind
-use Rattle.rr_tree.specs.declared.node.Path.{Path}
-use Rattle.rr_tree.specs.declared.node.Path.TheVariants as paths
 use Rattle.rr_parser.specs.declared.word.Behind.{Behind}
 use Rattle.rr_parser.specs.declared.word.Behind.TheVariants as behinds
 use Rattle.rr_parser.specs.declared.word.Fence.{Fence}
-use Rattle.rr_parser.specs.Grammar.Fences.{Taking, taken, taking, within_head, opening, fence_end}
-use Rattle.rr_base.specs.declared.name.Sym.{Sym}
-use Rattle.rr_parser.specs.Places.{Known, Place, placed, word, skip, separators}
-use Rattle.rr_parser.specs.declared.word.Word.{Word}
+use Rattle.rr_parser.specs.Grammar.Fences.{Taking, taken, taking, within_head, fence_end}
+use Rattle.rr_parser.specs.Places.{Place, skip, separators}
 use Rattle.rr_tree.specs.Tree.{Tree}
 use Rattle.rr_parser.specs.Grammar.Chains.{same, one_of, and_one}
 use Rattle.rr_parser.specs.Grammar.Nesting.{Nested}
-use Rattle.rr_parser.specs.Grammar.Names.{told_behind, headed, name, variable, head, bracket}
-use Rattle.rr_parser.specs.Grammar.Operands.{scope_sign, tight_constant, behind_sign, inner_constant, joined, Blocked, no_block, a_block, Primary, a_literal, a_constant, a_path, a_negative, a_local, a_bare_call, a_call, a_block_call, a_jump, a_passing, a_passing_call, a_construct, tail, Tailed, a_sent_call, an_index, Postfix, Bang, a_bang, no_bang, Minus, a_minus, no_minus, Plain, Reached, as_it_is, an_attribute, a_block_send}
+use Rattle.rr_parser.specs.Grammar.Names.{headed}
+use Rattle.rr_parser.specs.Grammar.Operands.{Blocked, no_block, a_block, Primary, a_literal, a_constant, a_path, a_negative, a_local, a_bare_call, a_call, a_block_call, a_jump, a_passing, a_passing_call, a_construct, tail, Tailed, a_sent_call, an_index, Postfix, Bang, a_bang, no_bang, Minus, a_minus, no_minus, Plain, Reached, as_it_is, an_attribute, a_block_send}
 use Rattle.rr_parser.specs.Grammar.Operators.{operator, infixed, connective, joined_by, Logical, Binary, Equality, a_comparison, a_pair, Ternary, no_question, a_question}
-use Rattle.rr_parser.specs.Grammar.Calls.{with_target, label, comma, Assigned, an_assignment, no_assignment, Argument, Pair, by_label, by_arrow, star, Item, a_splat, a_plain_item, Members, Bracketed, no_members, some_members, Array, an_array, Hash, a_hash, Index, of_element, Commanded, by_arguments, by_command, Command, a_command, Phrase, by_name, an_operand, Operand, Value, Settled, sign, a_setting, no_setting, by_receiver, Adding, adding, AddingTo, Given, Listing, a_pair_member, an_item, nothing, only_pairs}
-use Rattle.rr_parser.specs.Grammar.Sequences.{Negation, a_negation, no_negation, Expression, modifier, modified, Statement, Rows, Statements, no_statements, some_statements, Group, a_group}
-use Rattle.rr_parser.specs.Grammar.Interpolations.{text_middle, text_tail, first_piece, and_piece, Pieces, Interpolation, an_interpolation}
-use Rattle.rr_parser.specs.Grammar.Control.{thens, elsif, Branch, a_branch, Branches, Otherwise, no_else, an_else, Choice, a_choice, Unless, an_unless, Loop, a_loop, looping, Looped, of_loop}
-use Rattle.rr_parser.specs.Grammar.Bodies.{path_from, path_of_kind, path, Class, a_class, Classes, no_classes, some_classes, before_thens, named_thens, behind_arrow, caught, with_caught, Clause, a_clause, rescues, Clauses, Rescued, no_rescue, a_rescue, Body, no_ensure, an_ensure, Begun, a_begun, Held, between_braces, until_end}
+use Rattle.rr_parser.specs.Grammar.Calls.{with_target, comma, Assigned, an_assignment, no_assignment, Argument, Pair, by_label, by_arrow, star, Item, a_splat, a_plain_item, Members, Bracketed, no_members, some_members, Array, an_array, Hash, a_hash, Index, of_element, Commanded, by_arguments, by_command, Command, a_command, Phrase, by_name, an_operand, Operand, Value, Settled, a_setting, no_setting, by_receiver, Adding, adding, AddingTo, Given, Listing, a_pair_member, an_item, nothing, only_pairs}
+use Rattle.rr_parser.specs.declared.word.Modifier.{Modifier}
+use Rattle.rr_parser.specs.Grammar.Several.{Targeted, a_target, Targets, Rights, by_values, by_named, by_sent, plain_sign, a_spot}
+use Rattle.rr_parser.specs.Grammar.Sequences.{Simple, to_several, no_several, Modifying, by_condition, Negation, a_negation, no_negation, Expression, modifier, Statement, Rows, Statements, no_statements, some_statements, Group, a_group}
+use Rattle.rr_parser.specs.Grammar.Interpolations.{text_middle, first_piece, and_piece, Pieces, Interpolation, an_interpolation}
+use Rattle.rr_parser.specs.Grammar.Control.{elsif, Branch, a_branch, Branches, Otherwise, no_else, an_else, Choice, a_choice, Unless, an_unless, Loop, a_loop, looping, Looped, of_loop}
+use Rattle.rr_parser.specs.Grammar.Bodies.{Class, a_class, Classes, no_classes, some_classes, with_caught, Clause, a_clause, rescues, Clauses, Rescued, no_rescue, a_rescue, Body, no_ensure, an_ensure, Begun, a_begun, Held, between_braces, until_end}
 use Rattle.rr_parser.specs.Grammar.Blocks.{entered, Block, of_statements}
+use Rattle.rr_parser.specs.Grammar.Classes.{row_of, Methods, Inner, no_methods, some_methods, ClassBody, a_class_body}
 use Rattle.rr_parser.specs.Grammar.Definitions.{defined, Definition, of_method}
 use Rattle.rr_parser.specs.Grammar.{FormOf, is_enclosed, Enclosed, PartOf, inside, outside}
 use Rattle.rr_parser.specs.Reading.Nesting.{Readers}
 use Rattle.rr_parser.specs.Reading.Operators.{binary_of, logical_of}
 use Rattle.rr_parser.specs.Reading.Calls.{argument_of, adding_of}
-use Rattle.rr_parser.specs.Reading.Sequences.{negation_of, expression_of, statement_of, statements_of}
+use Rattle.rr_parser.specs.Reading.Several.{targeted_of}
+use Rattle.rr_parser.specs.Reading.Sequences.{modifying_of, negation_of, expression_of, statement_of, statements_of}
 use Rattle.rr_parser.specs.Reading.Control.{branch_of}
 use Rattle.rr_parser.specs.Reading.Bodies.{class_of, clause_of}
 use Rattle.rr_parser.specs.Reading.{readers}
-use Rattle.rr_parser.proofs.Looks.{Steps, Steps-first_as, Steps-word, Steps-separators, Steps-thens, Steps-loops, Steps-target, Steps-tail, command-next, next-left, left, some_place, left-without_separators}
+use Rattle.rr_parser.proofs.Looks.{Steps-separators, Steps-thens, Steps-loops, Steps-target, Steps-tail, command-next, next-left, left, left-without_separators, Steps-row_of}
 use Rattle.rr_parser.proofs.Listing.{Steps-last, Steps-closing, parameters-less}
 use Rattle.rr_parser.specs.declared.word.Target.TheVariants as targets
 use Rattle.rr_parser.specs.Reading.Operands.{tailed_of}
 use Rattle.rr_parser.proofs.Trails.{trail_shrinking}
 use Rattle.rr_parser.proofs.Chains.{Shrinks, IsShrinking, shrinks_by, chain_shrinking}
-use Rattle.rr_parser.proofs.Formals.{formals-less}
+use Rattle.rr_parser.proofs.Formals.{Steps-method_name, formals-less}
 use Rattle.rr_parser.proofs.SoundOperands.{binary_sound, logical_sound, tailed_sound}
-use Rattle.rr_parser.proofs.Sound.{nested, sound_nested, argument_sound, negation_sound, expression_sound, statement_sound, statements_sound, branch_sound, class_sound, clause_sound, adding_sound}
+use Rattle.rr_parser.proofs.SoundCalls.{targeted_sound, argument_sound, adding_sound}
+use Rattle.rr_parser.proofs.Sound.{nested, sound_nested, modifying_sound, negation_sound, expression_sound, statement_sound, statements_sound, branch_sound, class_sound, clause_sound}
 use Rattle.rr_parser.specs.declared.word.Head.TheVariants as heads
 use Rattle.rr_parser.proofs.Orders.{Steps-order}
+use Rattle.rr_parser.proofs.Steps.{Steps-joined, Steps-inner_constant, Steps-path, Steps-caught, Steps-rescues, Steps-middle, Steps-text_tail, Steps-name, Steps-opening, Steps-head, Steps-bracket, Steps-connective, Steps-operator, Steps-sign, Steps-label, Steps-modifier, Steps-comma, Steps-elsif, Steps-target_word}
 
 pub record NestedShrinking (R : Nested) : Type 0 where
   pub part : (p : Part) → IsShrinking (R.part p)
   pub bracketed : IsShrinking R.bracketed
   pub value : (b : Bool) → IsShrinking (R.value b)
-
-pub Steps-joined : Steps joined
-Steps-joined = Steps-first_as _
-
-Steps-scope_sign : Steps scope_sign
-Steps-scope_sign = Steps-first_as _
-
-Steps-tight_constant : Steps tight_constant
-Steps-tight_constant = Steps-first_as _
-
-inner_steps : (s z : Place) (x : Sym) (o : Option (Unit {0} × List Word)) → scope_sign s.rest ≡ o → placed s.known (behind_sign o) ≡ Some (x, z) → left z < left s
-inner_steps s z x None g e = absurd cc
-inner_steps s z x (Some r) g e =
-    let m : Place = record { known = s.known; rest = r.1 } in
-    omega (arith, Steps-scope_sign s m r.0 (ap (placed s.known) g), Steps-tight_constant m z x e)
-
-Steps-inner_constant : (b : Bool) → Steps (inner_constant b)
-Steps-inner_constant false s z x e = absurd cc
-Steps-inner_constant true s z x e = inner_steps s z x (scope_sign s.rest) refl e
-
--- ---- classes and clauses
-
-path-less : (known : Known) (ws : List Word) (x : Path) (z : Place) → placed known (path ws) ≡ Some (x, z) → left z < length ws
-path-less known [] x z e = absurd cc
-path-less known (w ∷ ws) x z e = by_kind w.kind e
-  where
-    by_inner : (y : Sym) (outer : Bool) (o : Option (Sym × List Word)) → inner_constant outer ws ≡ o → placed known (Some (path_from y ws o)) ≡ Some (x, z) → left z < suc (length ws)
-    by_inner y outer None g h =
-        let n : Place = record { known = known; rest = ws } in
-        omega (arith, ap left (some_place (paths.Plain y) x n z h))
-    by_inner y outer (Some r) g h =
-        let s : Place = record { known = known; rest = ws } in
-        let n : Place = record { known = known; rest = r.1 } in
-        omega (arith, Steps-inner_constant outer s n r.0 (ap (placed known) g), ap left (some_place (paths.Ractor r.0) x n z h))
-
-    by_kind : (k : WordKind) → placed known (path_of_kind k ws) ≡ Some (x, z) → left z < suc (length ws)
-    by_kind (kind.Constant y outer) h = by_inner y outer (inner_constant outer ws) refl h
-    by_kind _ h = absurd cc
-
-Steps-path : Steps path
-Steps-path s z x e = path-less s.known s.rest x z e
-
-Steps-variable : Steps variable
-Steps-variable = Steps-first_as _
-
-thens-less : (known : Known) (y x : Option Caught) (ws : List Word) (z : Place) (o : Option (Unit {0} × List Word)) → thens ws ≡ o → placed known (before_thens y o) ≡ Some (x, z) → left z < length ws
-thens-less known y x ws z None g e = absurd cc
-thens-less known y x ws z (Some r) g e =
-    let s : Place = record { known = known; rest = ws } in
-    let n : Place = record { known = known; rest = r.1 } in
-    omega (arith, Steps-thens s n r.0 (ap (placed known) g), ap left (some_place y x n z e))
-
-named-less : (known : Known) (x : Option Caught) (ws : List Word) (z : Place) (o : Option (Sym × List Word)) → variable ws ≡ o → placed known (named_thens o) ≡ Some (x, z) → left z < length ws
-named-less known x ws z None g e = absurd cc
-named-less known x ws z (Some r) g e =
-    let s : Place = record { known = known; rest = ws } in
-    let n : Place = record { known = known; rest = r.1 } in
-    let y : Caught = record { name = r.0; behind = told_behind r.1 } in
-    omega (arith, Steps-variable s n r.0 (ap (placed known) g), thens-less known (Some y) x r.1 z (thens r.1) refl e)
-
-caught-less : (s z : Place) (x : Option Caught) (o : Option (Unit {0} × List Word)) → word kind.Arrow s.rest ≡ o → placed s.known (behind_arrow s.rest o) ≡ Some (x, z) → left z < left s
-caught-less s z x None g e = thens-less s.known None x s.rest z (thens s.rest) refl e
-caught-less s z x (Some r) g e =
-    let n : Place = record { known = s.known; rest = r.1 } in
-    omega (arith, Steps-word kind.Arrow s n r.0 (ap (placed s.known) g), named-less s.known x r.1 z (variable r.1) refl e)
-
-Steps-caught : Steps caught
-Steps-caught s z x e = caught-less s z x (word kind.Arrow s.rest) refl e
-
-pub Steps-rescues : Steps rescues
-Steps-rescues = Steps-word kind.Rescue
-
-pub Steps-middle : Steps text_middle
-Steps-middle = Steps-first_as _
-
-Steps-text_tail : Steps text_tail
-Steps-text_tail = Steps-first_as _
-
-pub Steps-name : Steps name
-Steps-name = Steps-first_as _
-
-pub Steps-opening : (q : Behind) (b : Bool) → Steps (opening q b)
-Steps-opening q b = Steps-first_as _
-
-pub Steps-head : Steps head
-Steps-head = Steps-first_as _
-
-pub Steps-bracket : Steps bracket
-Steps-bracket = Steps-first_as _
-
-pub Steps-connective : (level : ℕ) → Steps (connective level)
-Steps-connective level = Steps-first_as _
-
-pub Steps-operator : (level : ℕ) → Steps (operator level)
-Steps-operator level = Steps-first_as _
-
-pub Steps-sign : Steps sign
-Steps-sign = Steps-first_as _
-
-pub Steps-label : Steps label
-Steps-label = Steps-first_as _
-
-pub Steps-modifier : Steps modifier
-Steps-modifier = Steps-first_as _
-
-pub Steps-comma : Steps comma
-Steps-comma = Steps-word kind.Comma
-
-pub Steps-elsif : Steps elsif
-Steps-elsif = Steps-word kind.Elsif
+  pub values : IsShrinking R.values
 
 class_shrinking : IsShrinking Class
 class_shrinking s z t (a_class {x = x} e) = omega (arith, Steps-path s z x e)
@@ -180,6 +74,12 @@ classes_shrinking s z l (some_classes c) = chain_shrinking comma one_of and_one 
 caught_left : (x : Option Caught) (n : Place) → left (with_caught x n) ≤ left n
 caught_left None n = omega arith
 caught_left (Some x) n = omega arith
+
+target_left : (x : Target) (n : Place) → left (with_target x n) ≤ left n
+target_left (targets.Variable x) n = omega arith
+target_left (targets.Field x) n = omega arith
+target_left (targets.Global x) n = omega arith
+target_left (targets.Constant x k) n = omega arith
 
 taking_shrinking : {A : Type 0} (b : Bool) (P : Place → A → Place → Type 0) → IsShrinking P → IsShrinking (Taking b P)
 taking_shrinking b P smaller s z t (taken {z = y} h) = smaller (taking b s) y t h
@@ -244,13 +144,8 @@ module _ (R : Nested) (nests : NestedShrinking R) where
   ternary_shrinking s z t (a_question {m = m} {n = n} {o = o} {y = y} {c = c} {t = a} {e = b} h e f g i) =
       omega (arith, logical_shrinking 2 s m c h, next-left m n kind.Question e, nests.part parts.Branch n o a f, next-left o y kind.Colon g, nests.part parts.Branch y z b i)
 
-  target_left : (x : Target) (n : Place) → left (with_target x n) ≤ left n
-  target_left (targets.Variable x) n = omega arith
-  target_left (targets.Field x) n = omega arith
-  target_left (targets.Global x) n = omega arith
-
   assigned_shrinking : (commands : Bool) (Q : Place → Tree → Place → Type 0) → IsShrinking Q → IsShrinking (Assigned R commands Q)
-  assigned_shrinking commands Q smaller s z t (an_assignment {n = n} {x = x} {t = v} e h) = omega (arith, Steps-target s n x e, target_left x.target n, nests.value commands (with_target x.target n) z v h)
+  assigned_shrinking commands Q smaller s z t (an_assignment {n = n} {x = x} {t = v} e f h) = omega (arith, Steps-target s n x e, target_left x.target n, nests.value commands (with_target x.target n) z v h)
   assigned_shrinking commands Q smaller s z t (no_assignment h) = smaller s z t h
 
   settled_shrinking : (b : Bool) → IsShrinking (Settled R b)
@@ -325,8 +220,28 @@ module _ (R : Nested) (nests : NestedShrinking R) where
   expression_shrinking : IsShrinking (Expression R)
   expression_shrinking = chain_shrinking (connective 3) same joined_by (Negation R) (Steps-connective 3) negation_shrinking
 
+  targeted_shrinking : IsShrinking (Targeted R)
+  targeted_shrinking s z t (a_target {m = m} {x = x} e f) = omega (arith, Steps-target_word s m x e, target_left x m)
+  targeted_shrinking s z t (a_spot {r = r} h f) = postfix_shrinking s z r h
+
+  targets_shrinking : IsShrinking (Targets R)
+  targets_shrinking = chain_shrinking comma one_of and_one (Targeted R) Steps-comma targeted_shrinking
+
+  rights_shrinking : IsShrinking (Rights R)
+  rights_shrinking s z t (by_values {l = l} c) = chain_shrinking comma one_of and_one (Argument R) Steps-comma argument_shrinking s z l c
+  rights_shrinking s z t (by_named h) = command_shrinking s z t h
+  rights_shrinking s z t (by_sent h e a b) = phrase_shrinking s z t (by_receiver h e a b)
+
+  simple_shrinking : IsShrinking (Simple R)
+  simple_shrinking s z t (to_several {m = m} {n = n} {o = o} {y = y} {t = v} {v = w} {l = l} a c b f h) =
+      omega (arith, targeted_shrinking s m v a, next-left m n kind.Comma c, targets_shrinking n o l b, next-left o y plain_sign f, nests.values y z w h)
+  simple_shrinking s z t (no_several h) = expression_shrinking s z t h
+
+  modifying_shrinking : (x : Modifier) (l : Tree) (n z : Place) (t : Tree) → Modifying R x l n t z → left z ≤ left n
+  modifying_shrinking x l n z t (by_condition {c = c} h) = expression_shrinking n z c h
+
   pub statement_shrinking : IsShrinking (Statement R)
-  statement_shrinking = chain_shrinking modifier same modified (Expression R) Steps-modifier expression_shrinking
+  statement_shrinking = trail_shrinking modifier (Simple R) (Modifying R) Steps-modifier simple_shrinking modifying_shrinking
 
   rows_shrinking : IsShrinking (Rows R)
   rows_shrinking = chain_shrinking separators one_of and_one (Statement R) Steps-separators statement_shrinking
@@ -395,7 +310,17 @@ module _ (R : Nested) (nests : NestedShrinking R) where
 
   definition_shrinking : IsShrinking (Definition R)
   definition_shrinking s z t (of_method {m = m} {n = n} {o = o} {z = y} {x = x} {xs = xs} {t = b} e f h g) =
-      omega (arith, Steps-name s m x e, formals-less m n xs f, body_shrinking (defined xs n) o b h, next-left o y kind.End g)
+      omega (arith, Steps-method_name s m x e, formals-less m n xs f, body_shrinking (defined xs n) o b h, next-left o y kind.End g)
+
+  methods_shrinking : IsShrinking (Methods R)
+  methods_shrinking = chain_shrinking (row_of kind.Def) one_of and_one (R.part parts.Definition) (Steps-row_of kind.Def) (nests.part parts.Definition)
+
+  inner_shrinking : IsShrinking (Inner R)
+  inner_shrinking s z t no_methods = omega arith
+  inner_shrinking s z t (some_methods {m = m} {u = u} e c) = omega (arith, Steps-row_of kind.Def s m u e, methods_shrinking m z t c)
+
+  class_body_shrinking : (x : Sym) (c : ClassId) → IsShrinking (ClassBody R x c)
+  class_body_shrinking x c s z t (a_class_body {m = m} {u = u} {l = l} h e) = omega (arith, inner_shrinking s m l h, Steps-row_of kind.End m z u e)
 
   form_shrinking : (p : Part) → IsShrinking (FormOf R p)
   form_shrinking parts.Group = group_shrinking
@@ -414,26 +339,29 @@ module _ (R : Nested) (nests : NestedShrinking R) where
   form_shrinking (parts.Interpolation i) = interpolation_shrinking i
   form_shrinking (parts.Block k) = block_shrinking k
   form_shrinking parts.Definition = definition_shrinking
+  form_shrinking (parts.Class x c) = class_body_shrinking x c
 
   part_shrinking : (p : Part) → IsShrinking (PartOf R p)
   part_shrinking p = enclosed_shrinking (is_enclosed p) (FormOf R p) (form_shrinking p)
 
 shrinking_inside : (d : ℕ) → NestedShrinking (inside d)
 unfolding inside
-shrinking_inside zero = record { part = λ p s z t h. absurd h; bracketed = λ s z t h. absurd h; value = λ b s z t h. absurd h }
+shrinking_inside zero = record { part = λ p s z t h. absurd h; bracketed = λ s z t h. absurd h; value = λ b s z t h. absurd h; values = λ s z t h. absurd h }
 shrinking_inside (suc d) = record {
   part = part_shrinking (inside d) (shrinking_inside d);
   bracketed = taking_shrinking true (Bracketed (inside d) listings.Call) (bracketed_shrinking (inside d) (shrinking_inside d) listings.Call);
   value = value_shrinking (inside d) (shrinking_inside d);
+  values = rights_shrinking (inside d) (shrinking_inside d);
 }
 
 shrinking_outside : (d : ℕ) → NestedShrinking (outside d)
 unfolding outside
-shrinking_outside zero = record { part = λ p s z t h. absurd h; bracketed = λ s z t h. absurd h; value = value_shrinking (inside zero) (shrinking_inside zero) }
+shrinking_outside zero = record { part = λ p s z t h. absurd h; bracketed = λ s z t h. absurd h; value = value_shrinking (inside zero) (shrinking_inside zero); values = rights_shrinking (inside zero) (shrinking_inside zero) }
 shrinking_outside (suc d) = record {
   part = part_shrinking (outside d) (shrinking_outside d);
   bracketed = taking_shrinking true (Bracketed (outside d) listings.Call) (bracketed_shrinking (outside d) (shrinking_outside d) listings.Call);
   value = value_shrinking (inside (suc d)) (shrinking_inside (suc d));
+  values = rights_shrinking (inside (suc d)) (shrinking_inside (suc d));
 }
 
 pub shrinking_nested : (b : Bool) (d : ℕ) → NestedShrinking (nested b d)
@@ -451,10 +379,13 @@ pub record ReadersShrink (N : Readers) : Type 0 where
   pub tailed : (x : Tail) (l : Reached) → Shrinks (tailed_of N x l)
   pub negation : Shrinks (negation_of N)
   pub expression : Shrinks (expression_of N)
+  pub targeted : Shrinks (targeted_of N)
+  pub modifying : (x : Modifier) (l : Tree) → Shrinks (modifying_of N x l)
   pub statement : Shrinks (statement_of N)
   pub statements : Shrinks (statements_of N)
   pub branch : Shrinks (branch_of N)
   pub clause : Shrinks (clause_of N)
+  pub definition : Shrinks (N.part parts.Definition)
 
 pub shrinks_nested : (b : Bool) (d : ℕ) → ReadersShrink (readers b d)
 shrinks_nested b d =
@@ -470,8 +401,11 @@ shrinks_nested b d =
       tailed = λ x l s z t e. tailed_shrinking R nests x l s z t (tailed_sound N R sounds x l s z t e);
       negation = shrinks_by (negation_of N) (Negation R) (negation_sound N R sounds) (negation_shrinking R nests);
       expression = shrinks_by (expression_of N) (Expression R) (expression_sound N R sounds) (expression_shrinking R nests);
+      targeted = shrinks_by (targeted_of N) (Targeted R) (targeted_sound N R sounds) (targeted_shrinking R nests);
+      modifying = λ x l n z t e. modifying_shrinking R nests x l n z t (modifying_sound N R sounds x l n z t e);
       statement = shrinks_by (statement_of N) (Statement R) (statement_sound N R sounds) (statement_shrinking R nests);
       statements = shrinks_by (statements_of N) (Statements R) (statements_sound N R sounds) (statements_shrinking R nests);
       branch = shrinks_by (branch_of N) (Branch R) (branch_sound N R sounds) (branch_shrinking R nests);
       clause = shrinks_by (clause_of N) (Clause R) (clause_sound N R sounds) (clause_shrinking R nests);
+      definition = shrinks_by (N.part parts.Definition) (R.part parts.Definition) (sounds.part parts.Definition) (nests.part parts.Definition);
     }

@@ -1,6 +1,7 @@
 -- What is read of operands and operators is spelled.
 use Rattle.std.proofs.Common.{◌≡◌, zero, suc, pos, Bool, true, false, cond, List, Option, Some, None, Ok, Err, refl, sym, subst, ap, ◌∙◌, ℕ, []}
 use Rattle.rr_base.specs.declared.name.Sym.{Sym}
+use Rattle.rr_parser.specs.declared.word.Naming.{Naming}
 use Rattle.rr_parser.specs.declared.word.Infix.{Infix}
 use Rattle.rr_tree.specs.Tree.{Tree, nil, int, bare, call, with_block, negate, sequence, choose, send, constant, logical_not, listed}
 use Rattle.rr_tree.specs.declared.node.Path.TheVariants as paths
@@ -38,6 +39,7 @@ pub record NestedSound (N : Readers) (R : Nested) : Type 0 where
   pub part : (p : Part) → IsSound (N.part p) (R.part p)
   pub bracketed : IsSound N.bracketed R.bracketed
   pub value : (b : Bool) → IsSound (N.value b) (R.value b)
+  pub values : IsSound N.values R.values
 
 pub sequence_ok : (r : Answer (List Tree)) (z : Place) (t : Tree) → sequence_of r ≡ Ok (t, z) → (l : List Tree) × (m : Place) × (r ≡ Ok (l, m)) × (sequence (listed l) ≡ t) × (skip m ≡ z)
 sequence_ok (Ok x) z t e = (x.0, x.1, refl, ok_what (sequence (listed x.0)) t (skip x.1) z e, ok_place (sequence (listed x.0)) t (skip x.1) z e)
@@ -74,11 +76,11 @@ module _ (N : Readers) (R : Nested) (nests : NestedSound N R) where
   unfolding negative_of
   negative_sound s m z t f e = negative_in-sound s m (at joined m) z t f refl e
 
-  constant_or-sound : (s m : Place) (x : Sym) (outer : Bool) (o : Option (Sym × Place)) (z : Place) (t : Tree) → next s ≡ Some (kind.Constant x outer, m) → at (inner_constant outer) m ≡ o → constant_or x m o ≡ Ok (t, z) → Primary R s t z
+  constant_or-sound : (s m : Place) (x : Sym) (outer : Naming) (o : Option (Sym × Place)) (z : Place) (t : Tree) → next s ≡ Some (kind.Constant x outer, m) → at (inner_constant outer) m ≡ o → constant_or x m o ≡ Ok (t, z) → Primary R s t z
   constant_or-sound s m x outer None z t f g e = at_answer (Primary R s) (constant (paths.Plain x)) t m z e (a_constant f g)
   constant_or-sound s m x outer (Some y) z t f g e = at_answer (Primary R s) (constant (paths.Ractor y.0)) t y.1 z e (a_path f g)
 
-  constant_sound : (s m : Place) (x : Sym) (outer : Bool) (z : Place) (t : Tree) → next s ≡ Some (kind.Constant x outer, m) → constant_at x outer m ≡ Ok (t, z) → Primary R s t z
+  constant_sound : (s m : Place) (x : Sym) (outer : Naming) (z : Place) (t : Tree) → next s ≡ Some (kind.Constant x outer, m) → constant_at x outer m ≡ Ok (t, z) → Primary R s t z
   unfolding constant_at
   constant_sound s m x outer z t f e = constant_or-sound s m x outer (at (inner_constant outer) m) z t f refl e
 

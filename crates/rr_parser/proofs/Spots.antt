@@ -1,5 +1,5 @@
 -- What the code made of elements and attributes, and of assignments to them.
-use Rattle.std.proofs.Common.{◌≡◌, ℕ, ◌<◌, ◌≤◌, Bool, List, length, map, Option, Some, None, Result, Ok, Err, sym, ap, ◌∙◌, subst, arith, []}
+use Rattle.std.proofs.Common.{◌≡◌, ℕ, ◌<◌, Bool, List, length, map, Option, Some, None, Result, Ok, Err, sym, ap, ◌∙◌, subst, arith, []}
 use Rattle.std.specs.Borrow.{Bor}
 use Rattle.rr_base.specs.declared.name.Sym.{Sym}
 use Rattle.rr_tree.specs.declared.node.Node.{Node}

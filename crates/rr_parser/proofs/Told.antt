@@ -3,6 +3,7 @@ use Rattle.std.proofs.Common.{◌≡◌, true, refl}
 use Rattle.std.proofs.lemmas.Bool.{false≢true}
 use Rattle.rr_tree.specs.declared.node.BinaryOperator.TheVariants as op
 use Rattle.rr_parser.specs.declared.word.Infix.TheVariants as infixes
+use Rattle.rr_parser.specs.declared.word.Sign.TheVariants as signs
 use Rattle.rr_parser.specs.declared.word.WordKind.{WordKind}
 use Rattle.rr_parser.specs.declared.word.WordKind.TheVariants as kind
 use Rattle.rr_parser.specs.declared.word.Fence.{Fence}
@@ -10,6 +11,7 @@ use Rattle.rr_parser.specs.declared.word.Fence.TheVariants as fences
 use Rattle.rr_parser.specs.Places.{is_kind}
 use Rattle.rr_parser.specs.Grammar.Fences.{fence_end}
 use Rattle.rr_parser.specs.Grammar.Calls.{star}
+use Rattle.rr_parser.specs.Grammar.Several.{plain_sign}
 
 abbrev pub Told : WordKind → Type 0
 Told k = (q : WordKind) → is_kind q k ≡ true → q ≡ k
@@ -94,6 +96,10 @@ pub told_close_brace : Told kind.CloseBrace
 told_close_brace kind.CloseBrace e = refl
 told_close_brace _ e = absurd (false≢true e)
 
+pub told_path : Told kind.Path
+told_path kind.Path e = refl
+told_path _ e = absurd (false≢true e)
+
 pub told_open_square : Told kind.OpenSquare
 told_open_square kind.OpenSquare e = refl
 told_open_square _ e = absurd (false≢true e)
@@ -101,6 +107,10 @@ told_open_square _ e = absurd (false≢true e)
 pub told_star : Told star
 told_star (kind.Operator (infixes.Binary op.Multiply)) e = refl
 told_star _ e = absurd (false≢true e)
+
+pub told_plain_sign : Told plain_sign
+told_plain_sign (kind.Assign signs.Plain) e = refl
+told_plain_sign _ e = absurd (false≢true e)
 
 pub told_fence : (f : Fence) → Told (fence_end f)
 told_fence fences.Brace = told_close_brace

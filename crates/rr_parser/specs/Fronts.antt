@@ -1,6 +1,8 @@
 -- Where constructs are begun and not ended: what stands before is spelled, and the innermost has just begun.
 use Rattle.std.specs.Prelude.{◌≡◌, ℕ, zero, suc, List, Bool, true, false, Option, Some, None}
 use Rattle.rr_base.specs.declared.name.Sym.{Sym}
+use Rattle.rr_base.specs.declared.name.ClassId.{ClassId}
+use Rattle.rr_tree.specs.declared.node.Path.{Path}
 use Rattle.rr_tree.specs.Tree.{Tree}
 use Rattle.rr_lexer.specs.declared.kind.Token.{Token}
 use Rattle.rr_parser.specs.declared.word.Caught.{Caught}
@@ -15,13 +17,16 @@ use Rattle.rr_parser.specs.declared.word.Head.{Head}
 use Rattle.rr_parser.specs.declared.word.Head.TheVariants as heads
 use Rattle.rr_parser.specs.declared.word.Listed.{Listed}
 use Rattle.rr_parser.specs.declared.word.Listed.TheVariants as listings
+use Rattle.rr_parser.specs.declared.word.Modifier.{Modifier}
 use Rattle.rr_parser.specs.declared.word.Part.{Part}
 use Rattle.rr_parser.specs.declared.word.Passing.{Passing}
+use Rattle.rr_parser.specs.declared.word.Opening.TheVariants as openings
 use Rattle.rr_parser.specs.declared.word.Part.TheVariants as parts
 use Rattle.rr_parser.specs.declared.word.WordKind.{WordKind}
 use Rattle.rr_parser.specs.declared.word.WordKind.TheVariants as kind
 use Rattle.rr_parser.specs.Words.{words_of}
 use Rattle.rr_parser.specs.Places.{Place, Look, word, at, next, skip, separators, start}
+use Rattle.rr_parser.specs.Grammar.Chains.{Chain, one_of, and_one}
 use Rattle.rr_parser.specs.Grammar.Nesting.{Nested}
 use Rattle.rr_parser.specs.Grammar.Fences.{taking, Taking, within_head, opened}
 use Rattle.rr_parser.specs.Grammar.Names.{name, bracket, command}
@@ -29,12 +34,14 @@ use Rattle.rr_parser.specs.declared.word.Sign.{Sign}
 use Rattle.rr_parser.specs.Grammar.Operands.{joined, construct_of, tail, order, Spot, Reached, Postfix}
 use Rattle.rr_parser.specs.Grammar.Operators.{operator, connective, Binary, Logical}
 use Rattle.rr_parser.specs.Grammar.Calls.{sign, target, with_target, label, comma, star, Argument, Given, nothing, only_pairs, Members, Commanded}
+use Rattle.rr_parser.specs.Grammar.Several.{plain_sign, Targeted, Targets}
 use Rattle.rr_parser.specs.Grammar.Sequences.{Expression, Statement, Rows, Statements, modifier}
 use Rattle.rr_parser.specs.Grammar.Interpolations.{text_middle, Pieces}
 use Rattle.rr_parser.specs.Grammar.Control.{thens, loops, elsif, looping, Branch, Branches}
 use Rattle.rr_parser.specs.Grammar.Bodies.{Classes, caught, with_caught, rescues, Clauses, Rescued}
 use Rattle.rr_parser.specs.Grammar.Blocks.{parameters, entered}
-use Rattle.rr_parser.specs.Grammar.Definitions.{formals, defined}
+use Rattle.rr_parser.specs.Grammar.Classes.{class_head, row_of, Methods}
+use Rattle.rr_parser.specs.Grammar.Definitions.{method_name, formals, defined}
 use Rattle.rr_parser.specs.Grammar.Programs.{Entries}
 use Rattle.rr_parser.specs.Grammar.{inside, outside, is_enclosed}
 
@@ -43,6 +50,7 @@ pub record Fronts : Type 1 where
   pub part : Part → Place → Place → Type 0
   pub bracketed : Place → Place → Type 0
   pub value : Bool → Place → Place → Type 0
+  pub values : Place → Place → Type 0
 
 -- in the first of a chain, or in a later one, where those before it are spelled
 pub data ChainFront {X S : Type 0} (between : Look X) (C : Place → S → Place → Type 0) (F : Place → Place → Type 0) : Place → Place → Type 0 where
@@ -180,8 +188,26 @@ pub data NegationFront (N : Nested) (F : Fronts) : Place → Place → Type 0 wh
 abbrev pub ExpressionFront : Nested → Fronts → Place → Place → Type 0
 ExpressionFront N F = ChainFront (connective 3) (Expression N) (NegationFront N F)
 
+-- in the right side of several targets: in an argument, or in a command
+pub data RightsFront (N : Nested) (F : Fronts) : Place → Place → Type 0 where
+  in_values : {s z : Place} → ChainFront comma (Chain comma one_of and_one (Argument N)) (ArgumentFront N F) s z → RightsFront N F s z
+  in_named : {s z : Place} → CommandFront N F s z → RightsFront N F s z
+  in_sent : {s m n z : Place} {r : Reached} {x : Sym} → Postfix N s r m → at order m ≡ Some (x, n) → HeadedFront N F (heads.Call x) n z → RightsFront N F s z
+
+abbrev pub TargetsFront : Nested → Fronts → Place → Place → Type 0
+TargetsFront N F = ChainFront comma (Targets N) (PostfixFront N F)
+
+-- in the targets behind the first, in that right side, or in an expression
+pub data SimpleFront (N : Nested) (F : Fronts) : Place → Place → Type 0 where
+  in_targets : {s m n z : Place} {t : Tree} → Targeted N s t m → next m ≡ Some (kind.Comma, n) → TargetsFront N F n z → SimpleFront N F s z
+  in_rights : {s m n o y z : Place} {t : Tree} {l : List Tree} → Targeted N s t m → next m ≡ Some (kind.Comma, n) → Targets N n l o → next o ≡ Some (plain_sign, y) → F.values y z → SimpleFront N F s z
+  in_expression : {s z : Place} → ExpressionFront N F s z → SimpleFront N F s z
+
+abbrev pub ModifyingFront : Nested → Fronts → Modifier → Tree → Place → Place → Type 0
+ModifyingFront N F x l = ExpressionFront N F
+
 abbrev pub StatementFront : Nested → Fronts → Place → Place → Type 0
-StatementFront N F = ChainFront modifier (Statement N) (ExpressionFront N F)
+StatementFront N F = TrailFront modifier (Statement N) (SimpleFront N F) (ModifyingFront N F)
 
 abbrev pub RowsFront : Nested → Fronts → Place → Place → Type 0
 RowsFront N F = ChainFront separators (Rows N) (StatementFront N F)
@@ -228,7 +254,11 @@ pub data BlockFront (N : Nested) (F : Fronts) (f : Fence) : Place → Place → 
   in_body : {s m z : Place} {xs : List Sym} → at parameters s ≡ Some (xs, m) → HeldFront N F f (entered xs m) z → BlockFront N F f s z
 
 pub data DefinitionFront (N : Nested) (F : Fronts) : Place → Place → Type 0 where
-  in_method : {s m n z : Place} {x : Sym} {xs : List Sym} → at name s ≡ Some (x, m) → at formals m ≡ Some (xs, n) → BodyFront N F (defined xs n) z → DefinitionFront N F s z
+  in_method : {s m n z : Place} {x : Sym} {xs : List Sym} → at method_name s ≡ Some (x, m) → at formals m ≡ Some (xs, n) → BodyFront N F (defined xs n) z → DefinitionFront N F s z
+
+-- in a definition of a class
+pub data ClassFront (N : Nested) (F : Fronts) : Place → Place → Type 0 where
+  in_methods : {s m z : Place} {u : Unit {0}} → at (row_of kind.Def) s ≡ Some (u, m) → ChainFront (row_of kind.Def) (Methods N) (F.part parts.Definition) m z → ClassFront N F s z
 
 -- in a part, without its own say about `do`
 abbrev pub FormFront : Nested → Fronts → Part → Place → Place → Type 0
@@ -248,23 +278,25 @@ FormFront N F parts.Branch = ArgumentFront N F
 FormFront N F (parts.Interpolation i) = PiecesFront N F i
 FormFront N F (parts.Block f) = BlockFront N F f
 FormFront N F parts.Definition = DefinitionFront N F
+FormFront N F (parts.Class x c) = ClassFront N F
 
 abbrev pub PartFront : Nested → Fronts → Part → Place → Place → Type 0
 PartFront N F p = EnclosedFront (is_enclosed p) (FormFront N F p)
 
 -- Inside the right side of an assignment so many constructs more are begun, and then one that has just begun.
 unfoldable pub fronts_inside : ℕ → Fronts
-fronts_inside zero = record { part = λ p s z. s ≡ z; bracketed = λ s z. s ≡ z; value = λ b s z. s ≡ z }
-fronts_inside (suc d) = record { part = PartFront (inside d) (fronts_inside d); bracketed = TakingFront true (MembersFront (inside d) (fronts_inside d) listings.Call); value = ValueFront (inside d) (fronts_inside d) }
+fronts_inside zero = record { part = λ p s z. s ≡ z; bracketed = λ s z. s ≡ z; value = λ b s z. s ≡ z; values = λ s z. s ≡ z }
+fronts_inside (suc d) = record { part = PartFront (inside d) (fronts_inside d); bracketed = TakingFront true (MembersFront (inside d) (fronts_inside d) listings.Call); value = ValueFront (inside d) (fronts_inside d); values = RightsFront (inside d) (fronts_inside d) }
 
 -- The same outside of all right sides. A right side there does not count.
 unfoldable pub fronts_outside : ℕ → Fronts
-fronts_outside zero = record { part = λ p s z. s ≡ z; bracketed = λ s z. s ≡ z; value = ValueFront (inside zero) (fronts_inside zero) }
-fronts_outside (suc d) = record { part = PartFront (outside d) (fronts_outside d); bracketed = TakingFront true (MembersFront (outside d) (fronts_outside d) listings.Call); value = ValueFront (inside (suc d)) (fronts_inside (suc d)) }
+fronts_outside zero = record { part = λ p s z. s ≡ z; bracketed = λ s z. s ≡ z; value = ValueFront (inside zero) (fronts_inside zero); values = RightsFront (inside zero) (fronts_inside zero) }
+fronts_outside (suc d) = record { part = PartFront (outside d) (fronts_outside d); bracketed = TakingFront true (MembersFront (outside d) (fronts_outside d) listings.Call); value = ValueFront (inside (suc d)) (fronts_inside (suc d)); values = RightsFront (inside (suc d)) (fronts_inside (suc d)) }
 
 -- in a row of a program
 pub data RowFront (N : Nested) (F : Fronts) : Place → Place → Type 0 where
   in_definition : {s m z : Place} → next s ≡ Some (kind.Def, m) → F.part parts.Definition m z → RowFront N F s z
+  in_class : {s m n z : Place} {c : ClassId} {x : Sym × Option Path} → next s ≡ Some (kind.Class (openings.Below c), m) → at class_head m ≡ Some (x, n) → F.part (parts.Class x.0 c) n z → RowFront N F s z
   in_statement : {s z : Place} → StatementFront N F s z → RowFront N F s z
 
 abbrev pub ProgramFront : Nested → Fronts → Place → Place → Type 0

@@ -12,12 +12,14 @@ use Rattle.rr_parser.specs.Grammar.Nesting.{Nested}
 use Rattle.rr_parser.specs.Grammar.Fences.{Taking}
 use Rattle.rr_parser.specs.Grammar.Operands.{Bang, Minus}
 use Rattle.rr_parser.specs.Grammar.Calls.{Argument, Array, Hash, Index, Bracketed, Command, Value}
+use Rattle.rr_parser.specs.Grammar.Several.{Rights}
 use Rattle.rr_parser.specs.Grammar.Sequences.{Negation, Group}
 use Rattle.rr_parser.specs.Grammar.Interpolations.{Interpolation}
 use Rattle.rr_parser.specs.Grammar.Control.{Choice, Unless, Looped}
 use Rattle.rr_parser.specs.Grammar.Bodies.{Begun}
 use Rattle.rr_parser.specs.Grammar.Blocks.{Block}
 use Rattle.rr_parser.specs.Grammar.Definitions.{Definition}
+use Rattle.rr_parser.specs.Grammar.Classes.{ClassBody}
 use Rattle.rr_parser.specs.Grammar.Programs.{Outline, Main, main_of, Program}
 pub mod Chains
 pub mod Nesting
@@ -26,12 +28,14 @@ pub mod Names
 pub mod Operands
 pub mod Operators
 pub mod Calls
+pub mod Several
 pub mod Sequences
 pub mod Interpolations
 pub mod Control
 pub mod Bodies
 pub mod Blocks
 pub mod Definitions
+pub mod Classes
 pub mod Programs
 
 -- what each part is, without its own say about `do`
@@ -52,6 +56,7 @@ FormOf N parts.Branch = Argument N
 FormOf N (parts.Interpolation i) = Interpolation N i
 FormOf N (parts.Block f) = Block N f
 FormOf N parts.Definition = Definition N
+FormOf N (parts.Class x c) = ClassBody N x c
 
 -- what ends with a word of its own, so that calls in it take the word `do`
 abbrev pub is_enclosed : Part → Bool
@@ -72,13 +77,13 @@ PartOf N p = Enclosed (is_enclosed p) (FormOf N p)
 
 -- What nests no deeper than a number inside the right side of an assignment. There, each further right side counts.
 unfoldable pub inside : ℕ → Nested
-inside zero = record { part = λ p s t z. ⊥; bracketed = λ s l z. ⊥; value = λ b s t z. ⊥ }
-inside (suc d) = record { part = PartOf (inside d); bracketed = Taking true (Bracketed (inside d) listings.Call); value = Value (inside d) }
+inside zero = record { part = λ p s t z. ⊥; bracketed = λ s l z. ⊥; value = λ b s t z. ⊥; values = λ s t z. ⊥ }
+inside (suc d) = record { part = PartOf (inside d); bracketed = Taking true (Bracketed (inside d) listings.Call); value = Value (inside d); values = Rights (inside d) }
 
 -- The same outside of all right sides. A right side there does not count.
 unfoldable pub outside : ℕ → Nested
-outside zero = record { part = λ p s t z. ⊥; bracketed = λ s l z. ⊥; value = Value (inside zero) }
-outside (suc d) = record { part = PartOf (outside d); bracketed = Taking true (Bracketed (outside d) listings.Call); value = Value (inside (suc d)) }
+outside zero = record { part = λ p s t z. ⊥; bracketed = λ s l z. ⊥; value = Value (inside zero); values = Rights (inside zero) }
+outside (suc d) = record { part = PartOf (outside d); bracketed = Taking true (Bracketed (outside d) listings.Call); value = Value (inside (suc d)); values = Rights (inside (suc d)) }
 
 -- the words spell a program, with constructs nested no deeper than a number
 abbrev pub WordsSpell : ℕ → List Word → Main → Type 0

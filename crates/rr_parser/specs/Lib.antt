@@ -1,3 +1,6 @@
+pub mod MethodNames
+pub mod BuiltIn
+pub mod Opened
 pub mod Words
 pub mod Numbering
 pub mod Places

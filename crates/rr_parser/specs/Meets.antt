@@ -103,6 +103,7 @@ Fails refusal.Nesting read = read ≡ Err deep
 Fails (refusal.Unexpected n) read = read ≡ Err wrong
 Fails (refusal.Number n) read = read ≡ Err wrong
 Fails (refusal.LeftOut n) read = read ≡ Err wrong
+Fails (refusal.Constant n) read = read ≡ Err wrong
 
 -- What a function of the parser returned is what reading gives, unless storage ran out.
 abbrev pub Gives : Parser → Parser → Result (ℕ × Bor (List Word)) Refusal → Answer Tree → Type 0

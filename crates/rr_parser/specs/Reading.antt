@@ -10,12 +10,14 @@ use Rattle.rr_parser.specs.Reading.Answers.{◌>>=◌, Refused, wrong, deep, Par
 use Rattle.rr_parser.specs.Reading.Nesting.{Readers}
 use Rattle.rr_parser.specs.Reading.Operands.{bang_of, minus_of}
 use Rattle.rr_parser.specs.Reading.Calls.{argument_of, bracketed_of, array_of, hash_of, index_of, command_of, value_of}
+use Rattle.rr_parser.specs.Reading.Several.{rights_of}
 use Rattle.rr_parser.specs.Reading.Sequences.{negation_of, group_of}
 use Rattle.rr_parser.specs.Reading.Interpolations.{interpolation_of}
 use Rattle.rr_parser.specs.Reading.Control.{choice_of, unless_of, looped_of}
 use Rattle.rr_parser.specs.Reading.Bodies.{begun_of}
 use Rattle.rr_parser.specs.Reading.Blocks.{block_of}
 use Rattle.rr_parser.specs.Reading.Definitions.{definition_of}
+use Rattle.rr_parser.specs.Reading.Classes.{class_body_of}
 use Rattle.rr_parser.specs.Reading.Programs.{outline_of}
 use Rattle.rr_parser.specs.Grammar.Programs.{Outline, Main, main_of}
 use Rattle.rr_parser.specs.Grammar.{is_enclosed}
@@ -24,12 +26,14 @@ pub mod Nesting
 pub mod Operands
 pub mod Operators
 pub mod Calls
+pub mod Several
 pub mod Sequences
 pub mod Interpolations
 pub mod Control
 pub mod Bodies
 pub mod Blocks
 pub mod Definitions
+pub mod Classes
 pub mod Programs
 
 -- a part, without its own say about `do`
@@ -50,17 +54,18 @@ form_of N parts.Branch = argument_of N
 form_of N (parts.Interpolation i) = interpolation_of N i
 form_of N (parts.Block f) = block_of N f
 form_of N parts.Definition = definition_of N
+form_of N (parts.Class x c) = class_body_of N x c
 
 abbrev pub part_of : Readers → Part → Parse Tree
 part_of N p = enclosed_of (is_enclosed p) (form_of N p)
 
 unfoldable pub readers_inside : ℕ → Readers
-readers_inside zero = record { part = λ p s. Err deep; bracketed = λ s. Err deep; value = λ b s. Err deep }
-readers_inside (suc d) = record { part = part_of (readers_inside d); bracketed = taking_of true (bracketed_of (readers_inside d) listings.Call); value = value_of (readers_inside d) }
+readers_inside zero = record { part = λ p s. Err deep; bracketed = λ s. Err deep; value = λ b s. Err deep; values = λ s. Err deep }
+readers_inside (suc d) = record { part = part_of (readers_inside d); bracketed = taking_of true (bracketed_of (readers_inside d) listings.Call); value = value_of (readers_inside d); values = rights_of (readers_inside d) }
 
 unfoldable pub readers_outside : ℕ → Readers
-readers_outside zero = record { part = λ p s. Err deep; bracketed = λ s. Err deep; value = value_of (readers_inside zero) }
-readers_outside (suc d) = record { part = part_of (readers_outside d); bracketed = taking_of true (bracketed_of (readers_outside d) listings.Call); value = value_of (readers_inside (suc d)) }
+readers_outside zero = record { part = λ p s. Err deep; bracketed = λ s. Err deep; value = value_of (readers_inside zero); values = rights_of (readers_inside zero) }
+readers_outside (suc d) = record { part = part_of (readers_outside d); bracketed = taking_of true (bracketed_of (readers_outside d) listings.Call); value = value_of (readers_inside (suc d)); values = rights_of (readers_inside (suc d)) }
 
 -- inside the right side of an assignment or not, with constructs nested no deeper than a number
 abbrev pub readers : Bool → ℕ → Readers

@@ -1,7 +1,9 @@
 -- Words from tokens, with names and texts by number.
-use Rattle.std.specs.Prelude.{ℕ, ◌-◌, ◌==◌, ◌||◌, Bool, List, [], ◌∷◌, ◌++◌, true, false, Option, Some, None, length, fold, bytes_eq, codes, slice_index, if◌then◌else◌}
+use Rattle.std.specs.Prelude.{ℕ, ◌-◌, ◌==◌, ◌||◌, Bool, List, [], ◌∷◌, ◌++◌, map, true, false, Option, Some, None, length, fold, bytes_eq, slice_index, if◌then◌else◌}
 use Rattle.std.specs.List.{list_any, position_or_len}
 use Rattle.rr_base.specs.declared.name.Sym.{Sym}
+use Rattle.rr_base.specs.declared.class.BuiltInClass.{BuiltInClass}
+use Rattle.rr_base.specs.declared.class.BuiltInClass.TheVariants as built_in
 use Rattle.rr_lexer.specs.declared.kind.Kind.{Kind}
 use Rattle.rr_lexer.specs.declared.kind.Kind.TheVariants as kinds
 use Rattle.rr_lexer.specs.declared.kind.Keyword.{Keyword}
@@ -10,16 +12,25 @@ use Rattle.rr_lexer.specs.declared.kind.Op.{Op}
 use Rattle.rr_lexer.specs.declared.kind.Op.TheVariants as ops
 use Rattle.rr_lexer.specs.declared.kind.Token.{Token}
 use Rattle.rr_lexer.specs.Contents.{word_of, name_of, int_value_of, contents_of}
+use Rattle.rr_lexer.specs.Lines.{is_def}
+use Rattle.rr_tree.specs.declared.class.Class.{Class}
 use Rattle.rr_tree.specs.declared.node.BinaryOperator.TheVariants as op
 use Rattle.rr_parser.specs.declared.word.Connective.TheVariants as connectives
 use Rattle.rr_parser.specs.declared.word.Infix.TheVariants as infixes
 use Rattle.rr_parser.specs.declared.word.Jump.TheVariants as jumps
+use Rattle.rr_parser.specs.declared.word.Naming.{Naming}
+use Rattle.rr_parser.specs.declared.word.Naming.TheVariants as namings
+use Rattle.rr_parser.specs.declared.word.Opening.TheVariants as openings
 use Rattle.rr_parser.specs.declared.word.Operation.TheVariants as operations
 use Rattle.rr_parser.specs.declared.word.Passing.TheVariants as passings
 use Rattle.rr_parser.specs.declared.word.Sign.TheVariants as signs
 use Rattle.rr_parser.specs.declared.word.WordKind.{WordKind}
 use Rattle.rr_parser.specs.declared.word.WordKind.TheVariants as kind
 use Rattle.rr_parser.specs.declared.word.Word.{Word}
+use Rattle.rr_parser.specs.declared.method_names.MethodName.{MethodName}
+use Rattle.rr_parser.specs.BuiltIn.{class_named}
+use Rattle.rr_parser.specs.MethodNames.{method_name_at}
+use Rattle.rr_parser.specs.Opened.{with_classes, opened_words, opened_classes, class_of_entry}
 
 abbrev pub keyword_kind : Keyword → WordKind
 keyword_kind keywords.Nil = kind.Nil
@@ -38,6 +49,7 @@ keyword_kind keywords.Return = kind.Jump jumps.Return
 keyword_kind keywords.Yield = kind.Passing passings.Yield
 keyword_kind keywords.SuperWord = kind.Passing passings.Super
 keyword_kind keywords.Def = kind.Def
+keyword_kind keywords.Class = kind.Class openings.Unknown
 keyword_kind keywords.And = kind.AndWord
 keyword_kind keywords.Or = kind.OrWord
 keyword_kind keywords.Not = kind.NotWord
@@ -47,7 +59,6 @@ keyword_kind keywords.Else = kind.Else
 keyword_kind keywords.Rescue = kind.Rescue
 keyword_kind keywords.Ensure = kind.Ensure
 keyword_kind keywords.End = kind.End
-keyword_kind _ = kind.Other
 
 abbrev pub op_kind : Op → WordKind
 op_kind ops.Open = kind.Open
@@ -105,9 +116,20 @@ with_symbol source names token kinds.Symbol = with_name names (token_name source
 with_symbol source names token kinds.Label = with_name names (token_name source token kinds.Label)
 with_symbol source names token _ = names
 
--- the texts of the names among the tokens, each once, in the order of their first places
+-- the names, where a method's name comes, or another token
+abbrev pub with_symbol_of : List ℕ → List (List ℕ) → Token → Option MethodName → List (List ℕ)
+with_symbol_of source names token None = with_symbol source names token token.kind
+with_symbol_of source names token (Some m) = with_name names (token_name source m.token m.token.kind)
+
+-- the texts of the names among the tokens, behind these names, where `def` stands before the tokens or not
+abbrev pub symbols_behind : List ℕ → List (List ℕ) → Bool → List Token → List (List ℕ)
+symbols_behind source names def [] = names
+symbols_behind source names def (t ∷ ts) = symbols_behind source (with_symbol_of source names t (method_name_at def t ts)) (is_def t.kind) ts
+
+-- The texts of the names among the tokens, each once, in the order of their first places. Behind `def` the tokens of a method's
+-- name are one name.
 abbrev pub symbols_of : List ℕ → List Token → List (List ℕ)
-symbols_of source tokens = fold (λ names token. with_symbol source names token token.kind) [] tokens
+symbols_of source tokens = symbols_behind source [] false tokens
 
 abbrev pub with_text : List ℕ → List (List ℕ) → Token → Kind → List (List ℕ)
 with_text source texts token kinds.Text = texts ++ contents_of (word_of source token) ∷ []
@@ -134,14 +156,16 @@ number_of names name = record { 0 = position_or_len (bytes_eq name) names }
 abbrev pub is_marked : List ℕ → Bool
 is_marked name = let last = slice_index name (length name - 1) in last == 63 || last == 33
 
--- the constant that has constants of its own
-abbrev pub is_ractor : List ℕ → Bool
-is_ractor name = bytes_eq name (codes "Ractor")
+-- what the name of a constant is before a program sets it, by the built-in class that has it
+abbrev pub naming_of : Option BuiltInClass → Naming
+naming_of None = namings.Free
+naming_of (Some built_in.Ractor) = namings.Ractor
+naming_of (Some _) = namings.Class
 
 -- what a token is as a word, behind these names and so many texts
 abbrev pub word_kind : List ℕ → List (List ℕ) → ℕ → Token → Kind → WordKind
 word_kind source names texts token kinds.Name = kind.Name (number_of names (token_name source token kinds.Name)) (is_marked (token_name source token kinds.Name))
-word_kind source names texts token kinds.Constant = kind.Constant (number_of names (token_name source token kinds.Constant)) (is_ractor (token_name source token kinds.Constant))
+word_kind source names texts token kinds.Constant = kind.Constant (number_of names (token_name source token kinds.Constant)) (naming_of (class_named (token_name source token kinds.Constant)))
 word_kind source names texts token kinds.InstanceVariable = kind.Field (number_of names (token_name source token kinds.InstanceVariable))
 word_kind source names texts token kinds.GlobalVariable = kind.Global (number_of names (token_name source token kinds.GlobalVariable))
 word_kind source names texts token kinds.Symbol = kind.Symbol (number_of names (token_name source token kinds.Symbol))
@@ -159,13 +183,30 @@ word_kind source names texts token kinds.OpenBrace = kind.OpenBrace
 word_kind source names texts token kinds.CloseBrace = kind.CloseBrace
 word_kind source names texts token _ = kind.Other
 
-abbrev pub word_with : List ℕ → List (List ℕ) → ℕ → Token → Word
-word_with source names texts token = record { kind = word_kind source names texts token token.kind; blank = token.blank }
+-- The same where a method's name begins, which is one word; the tokens behind its first one stand for what they are else.
+abbrev pub word_kind_of : List ℕ → List (List ℕ) → ℕ → Token → Option MethodName → WordKind
+word_kind_of source names texts token None = word_kind source names texts token token.kind
+word_kind_of source names texts token (Some m) = kind.MethodName (number_of names (token_name source m.token m.token.kind)) m.more
 
-abbrev pub words_behind : List ℕ → List Token → List Token → List Word
-words_behind source before [] = []
-words_behind source before (t ∷ ts) = word_with source (symbols_of source before) (length (texts_of source before)) t ∷ words_behind source (before ++ t ∷ []) ts
+abbrev pub word_with : List ℕ → List (List ℕ) → ℕ → Token → Option MethodName → Word
+word_with source names texts token method = record { kind = word_kind_of source names texts token method; blank = token.blank }
 
--- a word for each token, whose numbers come from the tokens before it
+-- the words of tokens, behind these names and texts, where `def` stands before the tokens or not
+abbrev pub words_behind : List ℕ → List (List ℕ) → List (List ℕ) → Bool → List Token → List Word
+words_behind source names texts def [] = []
+words_behind source names texts def (t ∷ ts) =
+    word_with source names (length texts) t (method_name_at def t ts)
+    ∷ words_behind source (with_symbol_of source names t (method_name_at def t ts)) (with_text source texts t t.kind) (is_def t.kind) ts
+
+-- the same, where the names of the program's classes are told from other constants
+abbrev pub told_words : List ℕ → List Token → List Word
+told_words source tokens = with_classes (words_behind source [] [] false tokens)
+
+-- A word for each token, whose numbers come from the tokens before it. Each word `class` is told the superclass, which stands
+-- earlier.
 abbrev pub words_of : List ℕ → List Token → List Word
-words_of source tokens = words_behind source [] tokens
+words_of source tokens = opened_words (symbols_of source tokens) [] (told_words source tokens)
+
+-- the classes of the program, each once, in the order in which they first stand
+abbrev pub classes_of : List ℕ → List Token → List Class
+classes_of source tokens = map class_of_entry (opened_classes (symbols_of source tokens) [] (told_words source tokens))

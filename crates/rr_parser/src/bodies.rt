@@ -29,7 +29,7 @@ fn path_of_kind(kind: WordKind, words: &[Word]) -> Option<(Path, &[Word])>
 }
 
 /// The path of a constant.
-fn path(words: &[Word]) -> Option<(Path, &[Word])>
+pub(crate) fn path(words: &[Word]) -> Option<(Path, &[Word])>
     ensures { Sees result (path words.now) }
 {
     let (word, rest) = words.split_first()?;

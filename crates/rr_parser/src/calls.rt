@@ -29,6 +29,9 @@ impl Parser {
         let Some((aim, rest)) = target(words) else {
             return self.operand(commands, inside, depth, words);
         };
+        if !self.settable(aim.target) {
+            return Err(Refusal::Constant(words.len()));
+        }
         let variable = self.aim(aim.target)?;
         let (value, rest) = self.right_side(commands, inside, depth, rest)?;
         Ok((self.put_assignment(aim, variable, value)?, rest))
@@ -77,7 +80,7 @@ impl Parser {
     /// A command from behind its first word on, with the block that may stand behind it.
     #[cycle(parser)]
     #[tactic(auto, unfolding(crate::specs::Reading::Calls::headed_of))]
-    fn headed<'w>(
+    pub fn headed<'w>(
         &mut self,
         head: Head,
         inside: bool,

@@ -6,7 +6,7 @@ ghost use Rattle.rr_parser.specs.Reading.Operands.{constant_at};
 ghost use Rattle.rr_parser.specs.Meets.{Sees, SeesRest};
 
 use crate::parser::{Parsed, Parser};
-use crate::word::{Word, WordKind};
+use crate::word::{Naming, Word, WordKind};
 use rr_base::Sym;
 use rr_tree::{Node, NodeId, Path};
 
@@ -43,10 +43,10 @@ fn tight_constant(words: &[Word]) -> Option<(Sym, &[Word])>
 }
 
 /// `::` and a constant, directly behind a constant that has others.
-pub(crate) fn inner_constant(outer: bool, words: &[Word]) -> Option<(Sym, &[Word])>
+pub(crate) fn inner_constant(outer: Naming, words: &[Word]) -> Option<(Sym, &[Word])>
     ensures { Sees result (inner_constant outer words.now) }
 {
-    if !outer {
+    if outer != Naming::Ractor {
         return None;
     }
     let rest = scope_sign(words)?;
@@ -58,7 +58,12 @@ impl Parser {
 
     /// A constant, and the one behind it and `::`.
     #[tactic(auto, unfolding(crate::specs::Reading::Operands::constant_at))]
-    pub fn constant<'w>(&mut self, name: Sym, outer: bool, words: &'w [Word]) -> Parsed<'w, NodeId>
+    pub fn constant<'w>(
+        &mut self,
+        name: Sym,
+        outer: Naming,
+        words: &'w [Word],
+    ) -> Parsed<'w, NodeId>
         ensures { Gives self.old self.new result (constant_at name outer (place self.old words.now)) }
     {
         match inner_constant(outer, words) {

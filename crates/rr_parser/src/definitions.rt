@@ -1,14 +1,14 @@
 //! Reading definitions.
 
-ghost use Rattle.std.specs.Prelude.{◌≡◌, IfOk};
-ghost use Rattle.rr_parser.specs.Grammar.Definitions.{some_names, formals};
+ghost use Rattle.std.specs.Prelude.{◌≡◌, drop, IfOk};
+ghost use Rattle.rr_parser.specs.Grammar.Definitions.{method_name, some_names, formals};
 ghost use Rattle.rr_parser.specs.Reading.Definitions.{definition_of};
 ghost use Rattle.rr_parser.specs.Reading.{readers};
-ghost use Rattle.rr_parser.specs.Meets.{ReadsNames};
+ghost use Rattle.rr_parser.specs.Meets.{ReadsNames, Sees};
 
 use crate::blocks::names_to;
 use crate::locals::Locals;
-use crate::look::{behind, name};
+use crate::look::behind;
 use crate::names::number;
 use crate::parser::{Parsed, Parser};
 use crate::refusal::{Refusal, Storage};
@@ -25,6 +25,32 @@ pub(crate) struct Outside {
     pub number: u32,
     pub parameters: u32,
     pub variables: Variables,
+}
+
+/// The words without so many first ones, none where there are fewer.
+fn without(count: u32, words: &[Word]) -> &[Word]
+    ensures { result.now ≡ drop count words.now }
+{
+    match words.get(count as usize..) {
+        Some(rest) => rest,
+        None => &[],
+    }
+}
+
+/// The name of a method, with all its words.
+fn method_name(words: &[Word]) -> Option<(Sym, &[Word])>
+    ensures { Sees result (method_name words.now) }
+{
+    match words {
+        [
+            Word {
+                kind: WordKind::MethodName(name, more),
+                ..
+            },
+            rest @ ..,
+        ] => Some((*name, without(*more, rest))),
+        _ => None,
+    }
 }
 
 /// Names with commas between them, or none, up to a word of this kind.
@@ -103,7 +129,7 @@ impl Parser {
     ) -> Parsed<'w, NodeId>
         ensures { Gives self.old self.new result (definition_of (readers inside depth) (place self.old words.now)) }
     {
-        let Some((name, rest)) = name(words) else {
+        let Some((name, rest)) = method_name(words) else {
             return Err(Refusal::Unexpected(words.len()));
         };
         let (parameters, rest) = formals(self.alloc, rest)?;

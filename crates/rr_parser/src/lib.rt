@@ -3,7 +3,9 @@
 
 mod blocks;
 mod bodies;
+mod built_in;
 mod calls;
+mod class_bodies;
 mod constants;
 mod control;
 mod definitions;
@@ -13,8 +15,10 @@ mod interpolations;
 mod locals;
 mod look;
 mod members;
+mod method_names;
 mod names;
 mod nodes;
+mod opened;
 mod operands;
 mod operators;
 mod outline;
@@ -23,6 +27,7 @@ mod program;
 mod receivers;
 mod refusal;
 mod settings;
+mod several;
 mod statements;
 mod variables;
 mod word;

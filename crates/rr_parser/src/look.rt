@@ -5,9 +5,12 @@ ghost use Rattle.rr_parser.specs.Places.{word, without_separators, separators};
 ghost use Rattle.rr_parser.specs.Grammar.Names.{told_behind, name, head, begins_argument, begins_arguments, bracket, begins_operands, begins_operand, is_tight};
 ghost use Rattle.rr_parser.specs.Grammar.Operands.{negated, joined, square, sent, tail, order};
 ghost use Rattle.rr_parser.specs.Grammar.Calls.{sign, target_word, target, label, closing, last};
+ghost use Rattle.rr_parser.specs.Grammar.Several.{several};
+ghost use Rattle.rr_parser.specs.Grammar.Classes.{row_of};
 ghost use Rattle.rr_parser.specs.Grammar.Control.{thens, loops};
 ghost use Rattle.rr_parser.specs.Reading.Operands.{prefix_minus};
 ghost use Rattle.rr_parser.specs.Reading.Calls.{another};
+ghost use Rattle.rr_parser.specs.Reading.Several.{ends_target, lone_target};
 ghost use Rattle.rr_parser.specs.Reading.Sequences.{ends_at, ends, row};
 ghost use Rattle.rr_parser.specs.Meets.{Sees, SeesRest};
 
@@ -69,7 +72,7 @@ pub(crate) fn head(words: &[Word]) -> Option<(Head, &[Word])>
 }
 
 /// What is assigned to.
-fn target_word(words: &[Word]) -> Option<(Target, &[Word])>
+pub(crate) fn target_word(words: &[Word]) -> Option<(Target, &[Word])>
     ensures { Sees result (target_word words.now) }
 {
     let (word, rest) = words.split_first()?;
@@ -77,6 +80,7 @@ fn target_word(words: &[Word]) -> Option<(Target, &[Word])>
         WordKind::Name(name, false) => Some((Target::Variable(name), rest)),
         WordKind::Field(name) => Some((Target::Field(name), rest)),
         WordKind::Global(name) => Some((Target::Global(name), rest)),
+        WordKind::Constant(name, naming) => Some((Target::Constant(name, naming), rest)),
         _ => None,
     }
 }
@@ -263,6 +267,34 @@ pub(crate) fn target(words: &[Word]) -> Option<(Aim, &[Word])>
     Some((aim, rest))
 }
 
+/// A target that is a word, and a comma.
+pub(crate) fn several(words: &[Word]) -> Option<&[Word]>
+    ensures { SeesRest result (several words.now) }
+{
+    let (_, rest) = target_word(words)?;
+    behind(WordKind::Comma, rest)
+}
+
+/// Whether a comma comes, or the sign of a plain assignment.
+fn ends_target(words: &[Word]) -> bool
+    ensures { result ≡ ends_target words.now }
+{
+    behind(WordKind::Comma, words).is_some()
+        || behind(WordKind::Assign(Sign::Plain), words).is_some()
+}
+
+/// A target that is a word, of several.
+pub(crate) fn lone_target(words: &[Word]) -> Option<(Target, &[Word])>
+    ensures { Sees result (lone_target words.now) }
+{
+    let (target, rest) = target_word(words)?;
+    if ends_target(rest) {
+        Some((target, rest))
+    } else {
+        None
+    }
+}
+
 /// The words from the first on that is no separator.
 pub(crate) fn without_separators(words: &[Word]) -> &[Word]
     ensures { result.now ≡ without_separators words.now }
@@ -287,6 +319,14 @@ fn separators(words: &[Word]) -> Option<&[Word]>
 {
     let rest = behind(WordKind::Separator, words)?;
     Some(without_separators(rest))
+}
+
+/// The words behind separators and a word of this kind.
+pub(crate) fn row_of(kind: WordKind, words: &[Word]) -> Option<&[Word]>
+    ensures { SeesRest result (row_of kind words.now) }
+{
+    let rest = separators(words)?;
+    behind(kind, rest)
 }
 
 fn ends_at(kind: WordKind) -> bool

@@ -2,14 +2,20 @@
 
 ghost use Rattle.std.specs.Prelude.{◌≡◌, ◌∷◌, [], ◌++◌, length, map, IfOk, OnOk};
 ghost use Rattle.rr_lexer.specs.Contents.{word_of, contents_of};
-ghost use Rattle.rr_parser.specs.Words.{keyword_kind, op_kind, is_marked, is_ractor, with_name, number_of, with_symbol, with_text, word_with, words_of, symbols_of, texts_of};
+ghost use Rattle.rr_parser.specs.BuiltIn.{class_named};
+ghost use Rattle.rr_parser.specs.Words.{keyword_kind, op_kind, is_marked, naming_of, token_name, with_name, number_of, with_symbol, with_symbol_of, with_text, word_kind, word_with, words_of, symbols_of, texts_of, classes_of};
 
+use crate::built_in::class_named;
+use crate::method_names::{MethodName, is_def, method_name_at};
+use crate::opened::{Opened, open, with_classes};
 use crate::refusal::Storage;
-use crate::word::{Connective, Infix, Jump, Operation, Passing, Sign, Word, WordKind};
+use crate::word::{
+    Connective, Infix, Jump, Naming, Opening, Operation, Passing, Sign, Word, WordKind,
+};
 use indexmap::IndexSet;
-use rr_base::Sym;
+use rr_base::{BuiltInClass, Sym};
 use rr_lexer::{Keyword, Kind, Op, Token, int_value, name, text_contents};
-use rr_tree::BinaryOperator;
+use rr_tree::{BinaryOperator, Class};
 use std::alloc::Global;
 
 /// The words of a source, and what their numbers stand for.
@@ -18,6 +24,7 @@ pub(crate) struct Words {
     pub words: Vec<Word>,
     pub symbols: Vec<Vec<u8>>,
     pub texts: Vec<Vec<u8>>,
+    pub classes: Vec<Class>,
 }
 
 fn keyword_kind(keyword: Keyword) -> WordKind
@@ -40,6 +47,7 @@ fn keyword_kind(keyword: Keyword) -> WordKind
         Keyword::Yield => WordKind::Passing(Passing::Yield),
         Keyword::SuperWord => WordKind::Passing(Passing::Super),
         Keyword::Def => WordKind::Def,
+        Keyword::Class => WordKind::Class(Opening::Unknown),
         Keyword::And => WordKind::AndWord,
         Keyword::Or => WordKind::OrWord,
         Keyword::Not => WordKind::NotWord,
@@ -49,7 +57,6 @@ fn keyword_kind(keyword: Keyword) -> WordKind
         Keyword::Rescue => WordKind::Rescue,
         Keyword::Ensure => WordKind::Ensure,
         Keyword::End => WordKind::End,
-        _ => WordKind::Other,
     }
 }
 
@@ -114,11 +121,15 @@ fn is_marked(name: &[u8]) -> bool
     matches!(name.last(), Some(b'?' | b'!'))
 }
 
-/// Whether a constant is the class of ractors, which has constants of its own.
-fn is_ractor(name: &[u8]) -> bool
-    ensures { result ≡ is_ractor name.now }
+/// What the name of a constant is before a program sets it.
+fn naming(name: &[u8]) -> Naming
+    ensures { result ≡ naming_of (class_named name.now) }
 {
-    name == b"Ractor".as_slice()
+    match class_named(name) {
+        Some(BuiltInClass::Ractor) => Naming::Ractor,
+        Some(_) => Naming::Class,
+        None => Naming::Free,
+    }
 }
 
 /// The names and the texts that have come, each with its number.
@@ -139,7 +150,7 @@ pub(crate) fn number(count: usize) -> Result<u32, Storage>
 }
 
 impl<'s> Numbering<'s> {
-    ghost use Rattle.rr_parser.specs.Numbering.{names_of, texts_held};
+    ghost use Rattle.rr_parser.specs.Numbering.{names_of, texts_held, with_text_of};
 
     fn name(&mut self, name: &'s [u8]) -> Result<Sym, Storage>
         ensures names { OnOk result (names_of self.new ≡ with_name (names_of self.old) name.now) }
@@ -161,20 +172,20 @@ impl<'s> Numbering<'s> {
         Ok(place)
     }
 
-    /// The word that stands for a token.
-    fn word(&mut self, alloc: Global, source: &'s [u8], token: Token) -> Result<Word, Storage>
-        ensures word { IfOk result (λ w. w ≡ word_with source.now (names_of self.old) (length (texts_held self.old)) token) }
+    /// What a token is as a word.
+    fn kind(&mut self, alloc: Global, source: &'s [u8], token: Token) -> Result<WordKind, Storage>
+        ensures kind { IfOk result (λ k. k ≡ word_kind source.now (names_of self.old) (length (texts_held self.old)) token token.kind) }
         ensures names { OnOk result (names_of self.new ≡ with_symbol source.now (names_of self.old) token token.kind) }
         ensures texts { OnOk result (texts_held self.new ≡ with_text source.now (texts_held self.old) token token.kind) }
     {
-        let kind = match token.kind {
+        Ok(match token.kind {
             Kind::Name => {
                 let name = name(source, token);
                 WordKind::Name(self.name(name)?, is_marked(name))
             }
             Kind::Constant => {
                 let name = name(source, token);
-                WordKind::Constant(self.name(name)?, is_ractor(name))
+                WordKind::Constant(self.name(name)?, naming(name))
             }
             Kind::InstanceVariable => WordKind::Field(self.name(name(source, token))?),
             Kind::GlobalVariable => WordKind::Global(self.name(name(source, token))?),
@@ -194,6 +205,34 @@ impl<'s> Numbering<'s> {
             Kind::OpenBrace => WordKind::OpenBrace,
             Kind::CloseBrace => WordKind::CloseBrace,
             _ => WordKind::Other,
+        })
+    }
+
+    /// The word that begins the name of a method.
+    fn method_name(&mut self, source: &'s [u8], method: MethodName) -> Result<WordKind, Storage>
+        ensures kind { IfOk result (λ k. k ≡ WordKind.MethodName (number_of (names_of self.old) (token_name source.now method.token method.token.kind)) method.more) }
+        ensures names { OnOk result (names_of self.new ≡ with_name (names_of self.old) (token_name source.now method.token method.token.kind)) }
+        ensures texts { self.new.texts.items ≡ self.old.texts.items }
+    {
+        let name = self.name(name(source, method.token))?;
+        Ok(WordKind::MethodName(name, method.more))
+    }
+
+    /// The word that stands for a token, which may be the first one of a method's name.
+    fn word(
+        &mut self,
+        alloc: Global,
+        source: &'s [u8],
+        token: Token,
+        method: Option<MethodName>,
+    ) -> Result<Word, Storage>
+        ensures word { IfOk result (λ w. w ≡ word_with source.now (names_of self.old) (length (texts_held self.old)) token method) }
+        ensures names { OnOk result (names_of self.new ≡ with_symbol_of source.now (names_of self.old) token method) }
+        ensures texts { OnOk result (texts_held self.new ≡ with_text_of source.now (texts_held self.old) token method) }
+    {
+        let kind = match method {
+            Some(method) => self.method_name(source, method)?,
+            None => self.kind(alloc, source, token)?,
         };
         Ok(Word {
             kind,
@@ -218,20 +257,29 @@ pub(crate) fn read_words(alloc: Global, source: &[u8], tokens: &[Token]) -> Resu
     ensures words { IfOk result (λ w. w.words.items ≡ words_of source.now tokens.now) }
     ensures symbols { IfOk result (λ w. map (λ s. s.items) w.symbols.items ≡ symbols_of source.now tokens.now) }
     ensures texts { IfOk result (λ w. map (λ s. s.items) w.texts.items ≡ texts_of source.now tokens.now) }
+    ensures classes { IfOk result (λ w. w.classes.items ≡ classes_of source.now tokens.now) }
 {
     let mut numbering = Numbering {
         names: IndexSet::new(alloc),
         texts: Vec::new(alloc),
     };
     let mut words = Vec::with_capacity(alloc, tokens.len())?;
-    for token in tokens {
-        words.push(numbering.word(alloc, source, *token)?)?;
+    let mut behind_def = false;
+    let mut left = tokens;
+    while let Some((token, rest)) = left.split_first() {
+        let method = method_name_at(behind_def, *token, rest);
+        words.push(numbering.word(alloc, source, *token, method)?)?;
+        behind_def = is_def(token.kind);
+        left = rest;
     }
     let symbols = symbols(alloc, &numbering.names)?;
     let Numbering { names: _, texts } = numbering;
+    let told = with_classes(alloc, &words)?;
+    let Opened { words, classes } = open(alloc, &symbols, &told)?;
     Ok(Words {
         words,
         symbols,
         texts,
+        classes,
     })
 }

@@ -4,7 +4,7 @@ ghost use Rattle.std.specs.Prelude.{◌≡◌, ◌<◌, ◌≤◌, ◌++◌, Lis
 ghost use Rattle.rr_tree.specs.Tree.{Tree, nil, tree_at, sequence, interpolation, bare, call, send, array, hash, pair, symbol, rescue, clause, listed, HasPartsBefore};
 ghost use Rattle.rr_tree.specs.Nodes.{IsNoItem, node_tree, item};
 ghost use Rattle.rr_parser.specs.Grammar.Operators.{infixed, joined_by};
-ghost use Rattle.rr_parser.specs.Grammar.Names.{local_tree, jump_tree, is_splat, jump_value, passed, passed_bare, headed};
+ghost use Rattle.rr_parser.specs.Grammar.Names.{local_tree, jump_tree, is_splat, one_value, passed, passed_bare, headed};
 ghost use Rattle.rr_parser.specs.Grammar.Calls.{target_tree, set_target, operated, signed};
 ghost use Rattle.rr_parser.specs.Grammar.Sequences.{modified};
 ghost use Rattle.rr_parser.specs.Grammar.Control.{chosen};
@@ -18,7 +18,7 @@ use crate::word::{
     Aim, Connective, Head, Infix, Jump, Modifier, Operation, Passing, Sign, Target, Word,
 };
 use rr_base::Sym;
-use rr_tree::{Node, NodeId};
+use rr_tree::{Node, NodeId, Path};
 
 /// Whether it stands for a value whose items are arguments.
 fn is_splat(node: Node) -> bool
@@ -235,10 +235,10 @@ impl Parser {
         is_splat(self.nodes[id as usize])
     }
 
-    /// Puts the value of a jump: the one that there is, or an array of them.
-    fn put_value(&mut self, items: &[NodeId]) -> Result<NodeId, Storage>
+    /// Puts what stands for these values as one: the one that there is, or an array of them.
+    pub fn put_value(&mut self, items: &[NodeId]) -> Result<NodeId, Storage>
         requires { All (λ i. i < length self.old.nodes.items) items.now }
-        ensures { IfOk result (λ id. Puts self.old self.new (jump_value (map (tree_at self.old.nodes.items) items.now)) id) }
+        ensures { IfOk result (λ id. Puts self.old self.new (one_value (map (tree_at self.old.nodes.items) items.now)) id) }
     {
         if items.is_empty() {
             return self.put(Node::Nil);
@@ -333,7 +333,7 @@ impl Parser {
     }
 
     /// Puts a target as what reads it. A local variable is seen so.
-    fn put_target(
+    pub fn put_target(
         &mut self,
         target: Target,
         variable: Variable,
@@ -345,6 +345,7 @@ impl Parser {
             Target::Variable(name) => self.put_local(name, variable, behind),
             Target::Field(name) => self.put(Node::Field(name)),
             Target::Global(name) => self.put(Node::Global(name)),
+            Target::Constant(name, _) => self.put(Node::Constant(Path::Plain(name))),
         }
     }
 
@@ -368,6 +369,7 @@ impl Parser {
             }),
             Target::Field(name) => self.put(Node::SetField(name, value)),
             Target::Global(name) => self.put(Node::SetGlobal(name, value)),
+            Target::Constant(name, _) => self.put(Node::SetConstant(name, value)),
         }
     }
 

@@ -1,14 +1,18 @@
 //! Reading the rows of a program: definitions and statements.
 
 ghost use Rattle.std.specs.Prelude.{◌≡◌, [], false, OnOk};
-ghost use Rattle.rr_parser.specs.Reading.Programs.{entry_of, entries_of, outline_of};
+ghost use Rattle.rr_parser.specs.Places.{at};
+ghost use Rattle.rr_parser.specs.Grammar.Classes.{class_head};
+ghost use Rattle.rr_parser.specs.Reading.Programs.{class_on, class_under, entry_of, entries_of, outline_of};
 ghost use Rattle.rr_parser.specs.Reading.{readers};
 ghost use Rattle.rr_parser.specs.Meets.{Adds};
 
+use crate::class_bodies::{class_head, class_word, unopened};
 use crate::look::{behind, ends, row, without_separators};
 use crate::parser::{Parsed, Parser};
 use crate::refusal::Storage;
-use crate::word::{Part, Word, WordKind};
+use crate::word::{Opening, Part, Word, WordKind};
+use rr_base::ClassId;
 use rr_tree::NodeId;
 use std::alloc::Global;
 
@@ -83,11 +87,46 @@ impl Parser {
     fn entry<'w>(&mut self, depth: u32, words: &'w [Word]) -> Parsed<'w, Entry>
         ensures { GivesEntry self.old self.new result (entry_of (readers false depth) (place self.old words.now)) }
     {
-        let Some(rest) = behind(WordKind::Def, words) else {
-            let (statement, rest) = self.statement(false, depth, words)?;
-            return Ok((Entry::Statement(statement), rest));
+        if let Some(rest) = behind(WordKind::Def, words) {
+            let (definition, rest) = self.part(Part::Definition, false, depth, rest)?;
+            return Ok((Entry::Definition(definition), rest));
+        }
+        if let Some((opening, rest)) = class_word(words) {
+            return self.class_under(opening, depth, rest);
+        }
+        let (statement, rest) = self.statement(false, depth, words)?;
+        Ok((Entry::Statement(statement), rest))
+    }
+
+    /// A class that stands below this one, behind the word `class`.
+    fn class_on<'w>(
+        &mut self,
+        superclass: ClassId,
+        depth: u32,
+        words: &'w [Word],
+    ) -> Parsed<'w, Entry>
+        ensures { GivesEntry self.old self.new result (class_on (readers false depth) superclass (at class_head (place self.old words.now))) }
+    {
+        let Some(((name, _), rest)) = class_head(words) else {
+            return Err(unopened(false, words));
         };
-        let (definition, rest) = self.part(Part::Definition, false, depth, rest)?;
-        Ok((Entry::Definition(definition), rest))
+        let (class, rest) = self.part(Part::Class(name, superclass), false, depth, rest)?;
+        Ok((Entry::Definition(class), rest))
+    }
+
+    /// A class of which this is told, behind the word `class`.
+    fn class_under<'w>(
+        &mut self,
+        opening: Opening,
+        depth: u32,
+        words: &'w [Word],
+    ) -> Parsed<'w, Entry>
+        ensures { GivesEntry self.old self.new result (class_under (readers false depth) opening (place self.old words.now)) }
+    {
+        match opening {
+            Opening::Below(superclass) => self.class_on(superclass, depth, words),
+            Opening::Unknown => Err(unopened(false, words)),
+            Opening::Closed => Err(unopened(true, words)),
+        }
     }
 }

@@ -3,6 +3,7 @@
 ghost use Rattle.std.specs.Prelude.{◌≡◌, true, IfOk};
 ghost use Rattle.rr_tree.specs.Tree.{IsOrdered};
 ghost use Rattle.rr_tree.specs.Order.{IsOrdered-prop};
+ghost use Rattle.rr_parser.specs.Grammar.Calls.{is_settable};
 ghost use Rattle.rr_parser.specs.Grammar.Names.{command, begins_head, is_allowed};
 ghost use Rattle.rr_parser.specs.declared.word.Listed.TheVariants.{Call};
 ghost use Rattle.rr_parser.specs.Reading.Answers.{taking_of};
@@ -14,7 +15,7 @@ use crate::locals::Locals;
 use crate::look::{begins_arguments, begins_operands, head};
 use crate::refusal::{Refusal, Storage};
 use crate::variables::{Scope, Variable, Variables};
-use crate::word::{Head, Jump, Listed, Part, Target, Word};
+use crate::word::{Head, Jump, Listed, Naming, Part, Target, Word};
 use rr_base::Sym;
 use rr_tree::{Node, NodeId};
 use std::alloc::Global;
@@ -53,7 +54,9 @@ impl Parser {
     {
         match target {
             Target::Variable(name) => self.mark(name),
-            Target::Field(_) | Target::Global(_) => Ok(Variable { depth: 0, slot: 0 }),
+            Target::Field(_) | Target::Global(_) | Target::Constant(_, _) => {
+                Ok(Variable { depth: 0, slot: 0 })
+            }
         }
     }
 
@@ -83,6 +86,16 @@ impl Parser {
         ensures { SetsDo self.old self.new takes_do }
     {
         self.known.set_do(takes_do);
+    }
+
+    /// Whether the target is assigned to there.
+    pub fn settable(&self, target: Target) -> bool
+        ensures { result ≡ is_settable target (known_of self.now) }
+    {
+        match target {
+            Target::Variable(_) | Target::Field(_) | Target::Global(_) => true,
+            Target::Constant(_, naming) => naming == Naming::Free && !self.known.in_method,
+        }
     }
 
     /// Whether a jump may stand there.
@@ -184,6 +197,9 @@ impl Parser {
             Part::Interpolation(head) => self.interpolation(head, inside, depth, words),
             Part::Block(fence) => self.block(fence, inside, depth, words),
             Part::Definition => self.definition(inside, depth, words),
+            Part::Class(name, superclass) => {
+                self.class_body(name, superclass, inside, depth, words)
+            }
         }
     }
 
@@ -235,5 +251,25 @@ impl Parser {
             return Err(Refusal::Nesting);
         }
         self.value(commands, true, depth - 1, words)
+    }
+
+    /// The right side of several targets.
+    #[cycle(parser)]
+    #[tactic(auto, unfolding(crate::specs::Reading::readers_inside, crate::specs::Reading::readers_outside))]
+    pub fn right_sides<'w>(
+        &mut self,
+        inside: bool,
+        depth: u32,
+        words: &'w [Word],
+    ) -> Parsed<'w, NodeId>
+        ensures { Gives self.old self.new result ((readers inside depth).values (place self.old words.now)) }
+    {
+        if !inside {
+            return self.rights(true, depth, words);
+        }
+        if depth == 0 {
+            return Err(Refusal::Nesting);
+        }
+        self.rights(true, depth - 1, words)
     }
 }

@@ -5,12 +5,12 @@ ghost use Rattle.rr_base.specs.declared.fault.SyntaxKind.{SyntaxKind};
 ghost use Rattle.rr_tree.specs.Tree.{Tree, tree_at, IsOrdered};
 ghost use Rattle.rr_lexer.specs.Freezes.{freezes};
 ghost use Rattle.rr_tree.specs.Order.{IsOrdered-prop};
-ghost use Rattle.rr_parser.specs.Words.{words_of, symbols_of, texts_of};
+ghost use Rattle.rr_parser.specs.Words.{words_of, symbols_of, texts_of, classes_of};
 ghost use Rattle.rr_parser.specs.Fronts.{NestsBeyond};
 ghost use Rattle.rr_parser.specs.Grammar.{Spells, SpellsWithin, SpellsProgram};
 ghost use Rattle.rr_parser.specs.Reading.{program_of};
 ghost use Rattle.rr_parser.specs.Meets.{Fails};
-ghost use Rattle.rr_parser.specs.Faults.{IsParseFault, IsFaultOf, IsSyntax};
+ghost use Rattle.rr_parser.specs.Faults.{last_tokens, kind_behind_dot, unexpected_kind, IsParseFault, IsFaultOf, IsSyntax};
 
 use crate::locals::Locals;
 use crate::names::read_words;
@@ -20,7 +20,7 @@ use crate::refusal::{Refusal, Storage};
 use crate::variables::Variables;
 use crate::word::Word;
 use rr_base::{Fault, LimitKind, SyntaxKind};
-use rr_lexer::{Token, freezes_literals, line_and_column};
+use rr_lexer::{Kind, Op, Token, freezes_literals, line_and_column};
 use rr_tree::{Node, NodeId, Program};
 use std::alloc::Global;
 
@@ -81,30 +81,75 @@ fn read_nodes(alloc: Global, words: &[Word], depth: u32) -> Result<Nodes, Refusa
     })
 }
 
-/// The fault at the first of the tokens that are left, or behind the source.
-fn fault_at(source: &[u8], tokens: &[Token], left: usize, kind: SyntaxKind) -> Fault
-    ensures { IsSyntax result }
+/// So many tokens, the last ones.
+fn last_tokens(left: usize, tokens: &[Token]) -> &[Token]
+    ensures { result.now ≡ last_tokens left tokens.now }
 {
-    let place = if left == 0 || left > tokens.len() {
-        source.len()
-    } else {
-        tokens[tokens.len() - left].start as usize
+    let skipped = tokens.len().saturating_sub(left);
+    match tokens.get(skipped..) {
+        Some(rest) => rest,
+        None => &[],
+    }
+}
+
+/// How a dot is refused with which nothing goes on, where these tokens stand behind it.
+fn kind_behind_dot(tokens: &[Token]) -> SyntaxKind
+    ensures { result ≡ kind_behind_dot tokens.now }
+{
+    match tokens {
+        [
+            Token {
+                kind: Kind::Constant,
+                ..
+            },
+            ..
+        ] => SyntaxKind::LeftOut,
+        _ => SyntaxKind::UnexpectedToken,
+    }
+}
+
+/// How tokens are refused with which nothing goes on.
+fn unexpected_kind(tokens: &[Token]) -> SyntaxKind
+    ensures { result ≡ unexpected_kind tokens.now }
+{
+    let Some((token, rest)) = tokens.split_first() else {
+        return SyntaxKind::UnexpectedEnd;
+    };
+    match token.kind {
+        Kind::Op(Op::Path) => SyntaxKind::LeftOut,
+        Kind::Op(Op::Dot) => kind_behind_dot(rest),
+        _ => SyntaxKind::UnexpectedToken,
+    }
+}
+
+/// The fault at the first of these tokens, or behind the source.
+fn fault_at(source: &[u8], tokens: &[Token], kind: SyntaxKind) -> Fault
+    ensures { IsSyntax kind result }
+{
+    let place = match tokens.first() {
+        Some(token) => token.start as usize,
+        None => source.len(),
     };
     let (line, column) = line_and_column(source, place);
     Fault::Syntax { line, column, kind }
 }
 
 fn fault_of(source: &[u8], tokens: &[Token], refusal: Refusal) -> Fault
-    ensures { IsFaultOf refusal result }
+    ensures { IsFaultOf tokens.now refusal result }
 {
     match refusal {
         Refusal::Storage(Storage::Memory) => Fault::Memory,
         Refusal::Storage(Storage::Slots) => Fault::Limit(LimitKind::Slots),
         Refusal::Nesting => Fault::Limit(LimitKind::Nesting),
-        Refusal::Unexpected(0) => fault_at(source, tokens, 0, SyntaxKind::UnexpectedEnd),
-        Refusal::Unexpected(left) => fault_at(source, tokens, left, SyntaxKind::UnexpectedToken),
-        Refusal::Number(left) => fault_at(source, tokens, left, SyntaxKind::Number),
-        Refusal::LeftOut(left) => fault_at(source, tokens, left, SyntaxKind::LeftOut),
+        Refusal::Unexpected(left) => {
+            let rest = last_tokens(left, tokens);
+            fault_at(source, rest, unexpected_kind(rest))
+        }
+        Refusal::Number(left) => fault_at(source, last_tokens(left, tokens), SyntaxKind::Number),
+        Refusal::LeftOut(left) => fault_at(source, last_tokens(left, tokens), SyntaxKind::LeftOut),
+        Refusal::Constant(left) => {
+            fault_at(source, last_tokens(left, tokens), SyntaxKind::Constant)
+        }
     }
 }
 
@@ -119,6 +164,7 @@ pub(crate) fn read(
     ensures symbols { IfOk result (λ p. map (λ s. s.items) p.symbols.items ≡ symbols_of source.now tokens.now) }
     ensures texts { IfOk result (λ p. map (λ s. s.items) p.texts.items ≡ texts_of source.now tokens.now) }
     ensures freezes { IfOk result (λ p. p.freezes ≡ freezes source.now tokens.now) }
+    ensures classes { IfOk result (λ p. p.classes.items ≡ classes_of source.now tokens.now) }
 {
     let words = read_words(alloc, source, tokens)?;
     let Nodes {
@@ -134,7 +180,7 @@ pub(crate) fn read(
         texts: words.texts,
         freezes: freezes_literals(source, tokens),
         definitions,
-        classes: Vec::new(alloc),
+        classes: words.classes,
         methods: Vec::new(alloc),
         scopes: Vec::new(alloc),
         sites,
@@ -157,6 +203,7 @@ pub fn parse(alloc: Global, source: &[u8], tokens: &[Token]) -> Result<Program, 
     ensures symbols { IfOk result (λ p. map (λ s. s.items) p.symbols.items ≡ symbols_of source.now tokens.now) }
     ensures texts { IfOk result (λ p. map (λ s. s.items) p.texts.items ≡ texts_of source.now tokens.now) }
     ensures freezes { IfOk result (λ p. p.freezes ≡ freezes source.now tokens.now) }
+    ensures classes { IfOk result (λ p. p.classes.items ≡ classes_of source.now tokens.now) }
     // Where the tokens are refused, they spell no tree.
     ensures refused { (line column : ℕ) (kind : SyntaxKind) → result ≡ Err (Fault.Syntax line column kind) → (t : Tree) → Spells source.now tokens.now t → ⊥ }
     // Where they nest too deep, they spell none within the limit.

@@ -36,7 +36,7 @@ impl Parser {
     /// A command from behind its receiver and its name on, with the block that may stand behind it.
     #[cycle(parser)]
     #[tactic(auto, unfolding(crate::specs::Reading::Calls::ordered_of))]
-    fn ordered<'w>(
+    pub fn ordered<'w>(
         &mut self,
         receiver: NodeId,
         name: Sym,

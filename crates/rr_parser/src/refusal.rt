@@ -23,6 +23,8 @@ pub(crate) enum Refusal {
     Number(usize),
     /// The first of the words that are left begins what the language leaves out.
     LeftOut(usize),
+    /// The first of the words that are left is a constant that is not set there.
+    Constant(usize),
 }
 
 impl From<AllocError> for Storage {

@@ -1,6 +1,6 @@
 //! Words: tokens as the grammar sees them, with names and texts by number.
 
-use rr_base::Sym;
+use rr_base::{ClassId, Sym};
 use rr_tree::{BinaryOperator, NodeId};
 
 /// What joins two conditions.
@@ -103,12 +103,38 @@ pub(crate) struct Caught {
     pub behind: u32,
 }
 
+/// What the name of a constant is before a program sets it.
+#[derive(Clone, Copy, Debug, PartialEq, Eq, Drop)]
+pub(crate) enum Naming {
+    /// Free to be set.
+    Free,
+    /// The name of a built-in class.
+    Class,
+    /// The name of the class of ractors, behind which another constant may stand.
+    Ractor,
+    /// The name of a class of the program.
+    Opened,
+}
+
+/// What the head of a class tells of its superclass.
+#[derive(Clone, Copy, Debug, PartialEq, Eq, Drop)]
+pub(crate) enum Opening {
+    /// The class stands below this one.
+    Below(ClassId),
+    /// No class with the path stands earlier, or the class stands below another one already.
+    Unknown,
+    /// The path is that of a built-in class below which no class of a program stands.
+    Closed,
+}
+
 /// What is assigned to.
 #[derive(Clone, Copy, Debug, PartialEq, Eq, Drop)]
 pub(crate) enum Target {
     Variable(Sym),
     Field(Sym),
     Global(Sym),
+    /// A constant, and what its name is already.
+    Constant(Sym, Naming),
 }
 
 /// What stands behind an operand and can be assigned to.
@@ -170,6 +196,8 @@ pub(crate) enum Part {
     Block(Fence),
     /// What stands behind `def`, with its `end`.
     Definition,
+    /// What stands behind the head of a class with this name and this superclass, with its `end`.
+    Class(Sym, ClassId),
 }
 
 /// What a word is.
@@ -187,14 +215,16 @@ pub(crate) enum WordKind {
     TextTail(u32),
     /// A name, and whether it ends with `?` or `!`: such a name is no target.
     Name(Sym, bool),
+    /// The first word of the name of a method that `def` defines, and how many words more it has.
+    MethodName(Sym, u32),
     Nil,
     Truth(bool),
     /// `:name`
     Symbol(Sym),
     /// `name:`, the key of a pair.
     Label(Sym),
-    /// A constant, and whether it is `Ractor`, behind which another one may stand.
-    Constant(Sym, bool),
+    /// A constant, and what its name is there already.
+    Constant(Sym, Naming),
     /// An instance variable.
     Field(Sym),
     Global(Sym),
@@ -225,6 +255,8 @@ pub(crate) enum WordKind {
     /// `yield`, or `super`.
     Passing(Passing),
     Def,
+    /// `class`, and what is told of the superclass.
+    Class(Opening),
     Then,
     Elsif,
     Else,

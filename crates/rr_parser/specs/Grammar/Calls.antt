@@ -1,7 +1,7 @@
 -- Assignments, arguments and commands.
-use Rattle.std.specs.Prelude.{◌≡◌, ℕ, List, ◌∷◌, ◌++◌, Bool, true, false, Option, Some, None, []}
+use Rattle.std.specs.Prelude.{◌≡◌, ℕ, List, ◌∷◌, ◌++◌, Bool, true, false, not, Option, Some, None, []}
 use Rattle.rr_base.specs.declared.name.Sym.{Sym}
-use Rattle.rr_tree.specs.Tree.{Tree, field, global, operator_assign, append_assign, or_assign, and_assign, assign, set_field, set_global, set_index, set_attribute, symbol, array, hash, pairs, send, splat, pair, listed}
+use Rattle.rr_tree.specs.Tree.{Tree, field, global, constant, set_constant, operator_assign, append_assign, or_assign, and_assign, assign, set_field, set_global, set_index, set_attribute, symbol, array, hash, pairs, send, splat, pair, listed}
 use Rattle.rr_tree.specs.declared.node.BinaryOperator.TheVariants as op
 use Rattle.rr_parser.specs.declared.word.WordKind.TheVariants as kind
 use Rattle.rr_parser.specs.declared.word.Word.{Word}
@@ -18,10 +18,12 @@ use Rattle.rr_parser.specs.declared.word.Sign.TheVariants as signs
 use Rattle.rr_parser.specs.declared.word.Aim.{Aim}
 use Rattle.rr_parser.specs.declared.word.Target.{Target}
 use Rattle.rr_parser.specs.declared.word.Target.TheVariants as targets
+use Rattle.rr_parser.specs.declared.word.Naming.TheVariants as namings
+use Rattle.rr_tree.specs.declared.node.Path.TheVariants as paths
 use Rattle.rr_parser.specs.declared.word.Listed.{Listed}
 use Rattle.rr_parser.specs.declared.word.Listed.TheVariants as listings
 use Rattle.rr_parser.specs.declared.word.Part.TheVariants as parts
-use Rattle.rr_parser.specs.Places.{Place, Look, first_as, word, at, next}
+use Rattle.rr_parser.specs.Places.{Known, Place, Look, first_as, word, at, next}
 use Rattle.rr_parser.specs.Grammar.Chains.{Trail}
 use Rattle.rr_parser.specs.Grammar.Nesting.{Nested}
 use Rattle.rr_parser.specs.Grammar.Fences.{Taking, within_head}
@@ -35,6 +37,7 @@ abbrev pub target_of_kind : WordKind → Option Target
 target_of_kind (kind.Name x false) = Some (targets.Variable x)
 target_of_kind (kind.Field x) = Some (targets.Field x)
 target_of_kind (kind.Global x) = Some (targets.Global x)
+target_of_kind (kind.Constant x n) = Some (targets.Constant x n)
 target_of_kind _ = None
 
 abbrev pub sign_of_kind : WordKind → Option Sign
@@ -65,17 +68,30 @@ abbrev pub with_target : Target → Place → Place
 with_target (targets.Variable x) s = with_local x s
 with_target (targets.Field x) s = s
 with_target (targets.Global x) s = s
+with_target (targets.Constant x n) s = s
+
+-- a constant is set outside of methods, unless a class has its name
+abbrev pub is_settable : Target → Known → Bool
+is_settable (targets.Variable x) k = true
+is_settable (targets.Field x) k = true
+is_settable (targets.Global x) k = true
+is_settable (targets.Constant x namings.Free) k = not k.in_method
+is_settable (targets.Constant x namings.Class) k = false
+is_settable (targets.Constant x namings.Ractor) k = false
+is_settable (targets.Constant x namings.Opened) k = false
 
 -- the target as what reads it, where a local variable is seen so, and so many words stand behind it
 abbrev pub target_tree : Target → Variable → ℕ → Tree
 target_tree (targets.Variable x) v n = local_tree x v n
 target_tree (targets.Field x) v n = field x.0
 target_tree (targets.Global x) v n = global x.0
+target_tree (targets.Constant x k) v n = constant (paths.Plain x)
 
 abbrev pub set_target : Target → Variable → ℕ → Tree → Tree
 set_target (targets.Variable x) v n t = assign v.depth v.slot x.0 n t
 set_target (targets.Field x) v n t = set_field x.0 t
 set_target (targets.Global x) v n t = set_global x.0 t
+set_target (targets.Constant x k) v n t = set_constant x.0 t
 
 -- an assignment with an operator, to what is read so
 abbrev pub operated : Operation → Tree → Tree → Tree
@@ -94,6 +110,7 @@ abbrev pub target_variable : Target → Place → Variable
 target_variable (targets.Variable x) s = variable_of x s
 target_variable (targets.Field x) s = record { depth = 0; slot = 0 }
 target_variable (targets.Global x) s = record { depth = 0; slot = 0 }
+target_variable (targets.Constant x n) s = record { depth = 0; slot = 0 }
 
 -- the tree of an assignment, at the place where the target is known
 abbrev pub assigned_to : Aim → Place → Tree → Tree
@@ -119,7 +136,7 @@ pub data Settled (N : Nested) (commands : Bool) : Place → Tree → Place → T
 
 -- An assignment, or a Q. The variable is known on the right side already.
 pub data Assigned (N : Nested) (commands : Bool) (Q : Place → Tree → Place → Type 0) : Place → Tree → Place → Type 0 where
-  an_assignment : {s n z : Place} {x : Aim} {t : Tree} → at target s ≡ Some (x, n) → N.value commands (with_target x.target n) t z → Assigned N commands Q s (assigned_to x (with_target x.target n) t) z
+  an_assignment : {s n z : Place} {x : Aim} {t : Tree} → at target s ≡ Some (x, n) → is_settable x.target n.known ≡ true → N.value commands (with_target x.target n) t z → Assigned N commands Q s (assigned_to x (with_target x.target n) t) z
   no_assignment : {s z : Place} {t : Tree} → Q s t z → Assigned N commands Q s t z
 
 abbrev pub Argument : Nested → Place → Tree → Place → Type 0

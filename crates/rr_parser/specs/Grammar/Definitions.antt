@@ -1,15 +1,30 @@
 -- Definitions of methods, and the scopes that they are.
-use Rattle.std.specs.Prelude.{◌≡◌, ◌+◌, List, [], length, false, true, Option, Some, None}
+use Rattle.std.specs.Prelude.{◌≡◌, ◌+◌, ℕ, List, [], length, drop, false, true, Option, Some, None}
 use Rattle.rr_base.specs.declared.name.Sym.{Sym}
 use Rattle.rr_tree.specs.Tree.{Tree, method}
 use Rattle.rr_parser.specs.declared.word.WordKind.{WordKind}
 use Rattle.rr_parser.specs.declared.word.WordKind.TheVariants as kind
 use Rattle.rr_parser.specs.declared.word.Word.{Word}
-use Rattle.rr_parser.specs.Places.{Known, Place, Look, word, at, next}
+use Rattle.rr_parser.specs.Places.{Known, Place, Look, first_as, word, at, next}
 use Rattle.rr_parser.specs.Grammar.Nesting.{Nested}
-use Rattle.rr_parser.specs.Grammar.Names.{name}
 use Rattle.rr_parser.specs.Grammar.Blocks.{names_to, with_parameters}
 use Rattle.rr_parser.specs.Grammar.Bodies.{Body}
+
+-- the name that a word begins, and how many words more it has
+abbrev pub naming_of_kind : WordKind → Option (Sym × ℕ)
+naming_of_kind (kind.MethodName x n) = Some (x, n)
+naming_of_kind _ = None
+
+abbrev pub naming : Look (Sym × ℕ)
+naming = first_as (λ w. naming_of_kind w.kind)
+
+abbrev pub past_name : Option ((Sym × ℕ) × List Word) → Option (Sym × List Word)
+past_name None = None
+past_name (Some r) = Some (r.0.0, drop r.0.1 r.1)
+
+-- the name of a method, with all its words
+abbrev pub method_name : Look Sym
+method_name ws = past_name (naming ws)
 
 abbrev pub names_unless : WordKind → List Word → Option (Unit {0} × List Word) → Option (List Sym × List Word)
 names_unless k ws None = names_to k ws
@@ -56,5 +71,5 @@ method_tree x xs m n t = method x.0 (defined xs m).known.begun (length xs) n.kno
 
 -- the definition of a method, behind the word `def`
 pub data Definition (N : Nested) : Place → Tree → Place → Type 0 where
-  of_method : {s m n o z : Place} {x : Sym} {xs : List Sym} {t : Tree} → at name s ≡ Some (x, m) → at formals m ≡ Some (xs, n) → Body N (defined xs n) t o → next o ≡ Some (kind.End, z)
+  of_method : {s m n o z : Place} {x : Sym} {xs : List Sym} {t : Tree} → at method_name s ≡ Some (x, m) → at formals m ≡ Some (xs, n) → Body N (defined xs n) t o → next o ≡ Some (kind.End, z)
       → Definition N s (method_tree x xs n z t) (rejoining s z)

@@ -136,11 +136,11 @@ abbrev pub is_splat : Tree → Bool
 is_splat (splat t) = true
 is_splat _ = false
 
--- the value of a jump: several are an array, and so are the items of one
-abbrev pub jump_value : List Tree → Tree
-jump_value [] = nil
-jump_value (t ∷ []) = if is_splat t then array (listed (t ∷ [])) else t
-jump_value (t ∷ u ∷ ts) = array (listed (t ∷ u ∷ ts))
+-- what stands for these values as one: several are an array, and so are the items of one
+abbrev pub one_value : List Tree → Tree
+one_value [] = nil
+one_value (t ∷ []) = if is_splat t then array (listed (t ∷ [])) else t
+one_value (t ∷ u ∷ ts) = array (listed (t ∷ u ∷ ts))
 
 -- a word that begins the value of a jump, whether a blank stands before it or not
 abbrev pub begins_argument : WordKind → Bool
@@ -179,7 +179,7 @@ begins_head (heads.Passing p) s = s.known.in_method && begins_operands s.rest
 
 abbrev pub headed : Head → List Tree → Tree
 headed (heads.Call x) l = call x.0 (listed l)
-headed (heads.Jump j) l = jump_tree j (jump_value l)
+headed (heads.Jump j) l = jump_tree j (one_value l)
 headed (heads.Passing p) l = passed p (listed l)
 
 abbrev pub commanding : Known → Option (Head × List Word) → Option (Head × List Word)

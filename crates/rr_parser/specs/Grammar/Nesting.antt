@@ -11,3 +11,5 @@ pub record Nested : Type 1 where
   pub bracketed : Place → List Tree → Place → Type 0
   -- the right side of an assignment, where a command may stand or not
   pub value : Bool → Place → Tree → Place → Type 0
+  -- the right side of an assignment to several targets
+  pub values : Place → Tree → Place → Type 0

@@ -4,6 +4,8 @@ use Rattle.rr_base.specs.declared.name.Sym.{Sym}
 use Rattle.rr_tree.specs.Tree.{Tree, nil, truth, int, text, bare, call, send, with_block, index, symbol, constant, field, global, itself, negate, logical_not, listed}
 use Rattle.rr_parser.specs.declared.word.WordKind.{WordKind}
 use Rattle.rr_parser.specs.declared.word.WordKind.TheVariants as kind
+use Rattle.rr_parser.specs.declared.word.Naming.{Naming}
+use Rattle.rr_parser.specs.declared.word.Naming.TheVariants as namings
 use Rattle.rr_parser.specs.declared.word.Jump.{Jump}
 use Rattle.rr_parser.specs.declared.word.Passing.{Passing}
 use Rattle.rr_parser.specs.declared.word.Part.{Part}
@@ -74,9 +76,11 @@ behind_sign None = None
 behind_sign (Some r) = tight_constant r.1
 
 -- `::` and a constant, directly behind a constant that has others
-abbrev pub inner_constant : Bool → Look Sym
-inner_constant false ws = None
-inner_constant true ws = behind_sign (scope_sign ws)
+abbrev pub inner_constant : Naming → Look Sym
+inner_constant namings.Ractor ws = behind_sign (scope_sign ws)
+inner_constant namings.Class ws = None
+inner_constant namings.Free ws = None
+inner_constant namings.Opened ws = None
 
 -- the construct that a word begins
 abbrev pub construct_of : WordKind → Option Part
@@ -97,8 +101,8 @@ pub data Blocked (N : Nested) (q : Behind) (c : Tree) : Place → Tree → Place
 
 pub data Primary (N : Nested) : Place → Tree → Place → Type 0 where
   a_literal : {s z : Place} {k : WordKind} {t : Tree} → next s ≡ Some (k, z) → literal_of k ≡ Some t → Primary N s t z
-  a_constant : {s z : Place} {x : Sym} {outer : Bool} → next s ≡ Some (kind.Constant x outer, z) → at (inner_constant outer) z ≡ None → Primary N s (constant (paths.Plain x)) z
-  a_path : {s m z : Place} {x y : Sym} {outer : Bool} → next s ≡ Some (kind.Constant x outer, m) → at (inner_constant outer) m ≡ Some (y, z) → Primary N s (constant (paths.Ractor y)) z
+  a_constant : {s z : Place} {x : Sym} {outer : Naming} → next s ≡ Some (kind.Constant x outer, z) → at (inner_constant outer) z ≡ None → Primary N s (constant (paths.Plain x)) z
+  a_path : {s m z : Place} {x y : Sym} {outer : Naming} → next s ≡ Some (kind.Constant x outer, m) → at (inner_constant outer) m ≡ Some (y, z) → Primary N s (constant (paths.Ractor y)) z
   a_negative : {s m z : Place} {n : ℕ} → next s ≡ Some (kind.Minus, m) → at joined m ≡ Some (n, z) → fits_below n ≡ true → Primary N s (int (negated n)) z
   a_local : {s z : Place} {x : Sym} → at name s ≡ Some (x, z) → at bracket z ≡ None → opened behinds.Call z ≡ None → is_local x z ≡ true → Primary N s (local_tree x (variable_of x z) (told_behind z.rest)) z
   -- a call with no arguments

@@ -1,12 +1,17 @@
--- Programs: definitions and statements.
-use Rattle.std.specs.Prelude.{◌≡◌, List, [], ◌∷◌, ◌++◌, Some}
+-- Programs: classes, definitions and statements.
+use Rattle.std.specs.Prelude.{◌≡◌, List, [], ◌∷◌, ◌++◌, Option, Some}
+use Rattle.rr_base.specs.declared.name.ClassId.{ClassId}
+use Rattle.rr_base.specs.declared.name.Sym.{Sym}
+use Rattle.rr_tree.specs.declared.node.Path.{Path}
 use Rattle.rr_tree.specs.Tree.{Tree, sequence, listed}
+use Rattle.rr_parser.specs.declared.word.Opening.TheVariants as openings
 use Rattle.rr_parser.specs.declared.word.Part.TheVariants as parts
 use Rattle.rr_parser.specs.declared.word.WordKind.TheVariants as kind
-use Rattle.rr_parser.specs.Places.{Place, next, skip, separators}
+use Rattle.rr_parser.specs.Places.{Place, at, next, skip, separators}
 use Rattle.rr_parser.specs.Grammar.Chains.{Chain}
 use Rattle.rr_parser.specs.Grammar.Nesting.{Nested}
 use Rattle.rr_parser.specs.Grammar.Sequences.{Statement}
+use Rattle.rr_parser.specs.Grammar.Classes.{class_head}
 
 -- a row of a program: what it defines, or what it does
 pub data Entry : Type 0 where
@@ -15,6 +20,7 @@ pub data Entry : Type 0 where
 
 pub data Row (N : Nested) : Place → Entry → Place → Type 0 where
   a_definition : {s m z : Place} {t : Tree} → next s ≡ Some (kind.Def, m) → N.part parts.Definition m t z → Row N s (defines t) z
+  a_class : {s m n z : Place} {c : ClassId} {x : Sym × Option Path} {t : Tree} → next s ≡ Some (kind.Class (openings.Below c), m) → at class_head m ≡ Some (x, n) → N.part (parts.Class x.0 c) n t z → Row N s (defines t) z
   a_statement : {s z : Place} {t : Tree} → Statement N s t z → Row N s (does t) z
 
 -- the definitions of a program and its statements, each in their order

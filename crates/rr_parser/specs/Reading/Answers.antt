@@ -1,6 +1,5 @@
 -- What reading answers, and reading one thing after another.
 use Rattle.std.specs.Prelude.{ℕ, zero, suc, length, Bool, true, false, Option, Some, None, Result, Ok, Err}
-use Rattle.rr_tree.specs.Tree.{Tree}
 use Rattle.rr_parser.specs.declared.word.WordKind.{WordKind}
 use Rattle.rr_parser.specs.Places.{Place, Look, word, at}
 use Rattle.rr_parser.specs.Grammar.Fences.{taking, taking_as}

@@ -1,5 +1,5 @@
 -- Reading assignments, arguments and commands.
-use Rattle.std.specs.Prelude.{List, Bool, true, false, Option, Some, None, is_some, Ok, Err, []}
+use Rattle.std.specs.Prelude.{List, Bool, true, false, Option, Some, None, is_some, Ok, Err, [], if◌then◌else◌}
 use Rattle.rr_base.specs.declared.name.Sym.{Sym}
 use Rattle.rr_tree.specs.Tree.{Tree, array, hash, send, symbol, splat, pair, listed}
 use Rattle.rr_parser.specs.declared.word.Part.TheVariants as parts
@@ -17,7 +17,7 @@ use Rattle.rr_parser.specs.Grammar.Names.{headed, command}
 use Rattle.rr_parser.specs.Grammar.Fences.{within_head}
 use Rattle.rr_parser.specs.declared.word.Sign.{Sign}
 use Rattle.rr_parser.specs.Grammar.Operands.{order, Spot, Reached}
-use Rattle.rr_parser.specs.Grammar.Calls.{sign, settled, target, with_target, assigned_to, label, comma, star, closing, last, Member, item, entry, Given, nothing, with_member, only_pairs, contents}
+use Rattle.rr_parser.specs.Grammar.Calls.{sign, settled, is_settable, target, with_target, assigned_to, label, comma, star, closing, last, Member, item, entry, Given, nothing, with_member, only_pairs, contents}
 use Rattle.rr_parser.specs.Reading.Answers.{◌>>=◌, wrong, Answer, Parse, built, ended_by, closed, from, taking_of, trail_on}
 use Rattle.rr_parser.specs.Reading.Nesting.{Readers}
 use Rattle.rr_parser.specs.Reading.Operands.{then_blocked, postfix_of, prefix_minus}
@@ -56,7 +56,7 @@ settled_of N = settled_by N (reached_on N false)
 
 abbrev pub assigned_or : Readers → Bool → Parse Tree → Place → Option (Aim × Place) → Answer Tree
 assigned_or N commands q s None = q s
-assigned_or N commands q s (Some x) = built (assigned_to x.0 (with_target x.0.target x.1)) (N.value commands (with_target x.0.target x.1))
+assigned_or N commands q s (Some x) = if is_settable x.0.target x.1.known then built (assigned_to x.0 (with_target x.0.target x.1)) (N.value commands (with_target x.0.target x.1)) else Err wrong
 
 unfoldable pub assigned_of : Readers → Bool → Parse Tree → Parse Tree
 assigned_of N commands q s = assigned_or N commands q s (at target s)

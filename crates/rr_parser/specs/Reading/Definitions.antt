@@ -4,8 +4,7 @@ use Rattle.rr_base.specs.declared.name.Sym.{Sym}
 use Rattle.rr_tree.specs.Tree.{Tree}
 use Rattle.rr_parser.specs.declared.word.WordKind.TheVariants as kind
 use Rattle.rr_parser.specs.Places.{Place, at}
-use Rattle.rr_parser.specs.Grammar.Names.{name}
-use Rattle.rr_parser.specs.Grammar.Definitions.{formals, defined, rejoining, method_tree}
+use Rattle.rr_parser.specs.Grammar.Definitions.{method_name, formals, defined, rejoining, method_tree}
 use Rattle.rr_parser.specs.Reading.Answers.{◌>>=◌, wrong, Answer, Parse, closed}
 use Rattle.rr_parser.specs.Reading.Nesting.{Readers}
 use Rattle.rr_parser.specs.Reading.Bodies.{body_of}
@@ -23,4 +22,4 @@ definition_or N s None = Err wrong
 definition_or N s (Some m) = method_or N s m.0 (at formals m.1)
 
 unfoldable pub definition_of : Readers → Parse Tree
-definition_of N s = definition_or N s (at name s)
+definition_of N s = definition_or N s (at method_name s)

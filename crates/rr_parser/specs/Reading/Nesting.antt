@@ -8,3 +8,4 @@ pub record Readers : Type 0 where
   pub part : Part → Parse Tree
   pub bracketed : Parse (List Tree)
   pub value : Bool → Parse Tree
+  pub values : Parse Tree

@@ -1,5 +1,5 @@
 -- Reading operands.
-use Rattle.std.specs.Prelude.{ℕ, Bool, pos, [], List, Option, Some, None, Ok, Err, if◌then◌else◌}
+use Rattle.std.specs.Prelude.{ℕ, pos, [], List, Option, Some, None, Ok, Err, if◌then◌else◌}
 use Rattle.rr_base.specs.declared.name.Sym.{Sym}
 use Rattle.rr_tree.specs.Tree.{Tree, nil, int, bare, call, send, with_block, constant, negate, logical_not, listed}
 use Rattle.rr_parser.specs.declared.word.WordKind.{WordKind}
@@ -10,6 +10,7 @@ use Rattle.rr_parser.specs.declared.word.Behind.TheVariants as behinds
 use Rattle.rr_parser.specs.declared.word.Fence.{Fence}
 use Rattle.rr_parser.specs.declared.word.Tail.{Tail}
 use Rattle.rr_parser.specs.declared.word.Tail.TheVariants as tails
+use Rattle.rr_parser.specs.declared.word.Naming.{Naming}
 use Rattle.rr_parser.specs.declared.word.Jump.{Jump}
 use Rattle.rr_parser.specs.declared.word.Passing.{Passing}
 use Rattle.rr_parser.specs.declared.word.Part.{Part}
@@ -71,7 +72,7 @@ abbrev pub constant_or : Sym → Place → Option (Sym × Place) → Answer Tree
 constant_or x m None = Ok (constant (paths.Plain x), m)
 constant_or x m (Some y) = Ok (constant (paths.Ractor y.0), y.1)
 
-unfoldable pub constant_at : Sym → Bool → Parse Tree
+unfoldable pub constant_at : Sym → Naming → Parse Tree
 constant_at x outer m = constant_or x m (at (inner_constant outer) m)
 
 abbrev pub jump_at : Jump → Place → Answer Tree

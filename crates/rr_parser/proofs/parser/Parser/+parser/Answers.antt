@@ -1,4 +1,5 @@
-use Rattle.std.proofs.Common.{List, ◌-◌, sym, ◌∙◌, subst, arith}
+use Rattle.std.proofs.Common.{List, [], ◌∷◌, ◌++◌, ◌-◌, ap, sym, ◌∙◌, subst, arith}
+use Rattle.rr_parser.specs.Reading.Several.{targeted_of}
 use Rattle.std.proofs.lemmas.Result.{err_from_is_err_and}
 use Rattle.rr_tree.specs.Tree.{Tree}
 use Rattle.rr_parser.specs.Grammar.Chains.{and_one}
@@ -7,8 +8,9 @@ use Rattle.rr_parser.specs.Grammar.Sequences.{modifier, modified}
 use Rattle.rr_parser.specs.Grammar.Control.{elsif}
 use Rattle.rr_parser.specs.Reading.Answers.{Parse}
 use Rattle.rr_parser.specs.Reading.Operators.{binary_of, logical_of}
-use Rattle.rr_parser.specs.Reading.Calls.{another, adding_to}
-use Rattle.rr_parser.specs.Reading.Sequences.{negation_of, expression_of, statement_of, statements_of, row}
+use Rattle.rr_parser.specs.Grammar.Calls.{comma}
+use Rattle.rr_parser.specs.Reading.Calls.{argument_of, another, adding_to}
+use Rattle.rr_parser.specs.Reading.Sequences.{modifying_of, negation_of, expression_of, statement_of, statements_of, row}
 use Rattle.rr_parser.specs.Grammar.Bodies.{rescues}
 use Rattle.rr_parser.specs.Grammar.Interpolations.{text_middle, and_piece}
 use Rattle.rr_parser.specs.Reading.Interpolations.{pieces_of}
@@ -16,9 +18,10 @@ use Rattle.rr_parser.specs.Reading.Control.{branch_of}
 use Rattle.rr_parser.specs.Reading.Bodies.{clause_of}
 use Rattle.rr_parser.specs.Reading.{readers}
 use Rattle.rr_parser.specs.Meets.{Gives, GivesList, nodes, pairs, lists, givens, place}
-use Rattle.rr_parser.proofs.Looks.{Steps-row}
+use Rattle.rr_parser.proofs.Looks.{Steps-row, Steps-row_of}
 use Rattle.rr_parser.proofs.Listing.{Steps-another}
-use Rattle.rr_parser.proofs.Shrinking.{Steps-operator, Steps-connective, Steps-modifier, Steps-elsif, Steps-middle, Steps-rescues, shrinks_nested}
+use Rattle.rr_parser.proofs.Steps.{Steps-comma, Steps-operator, Steps-connective, Steps-modifier, Steps-elsif, Steps-middle, Steps-rescues}
+use Rattle.rr_parser.proofs.Shrinking.{shrinks_nested}
 use Rattle.rr_parser.proofs.Making.{stable_nodes, stable_pairs, goes_ends, goes_fails, goes_smaller, list_on, operators_on, nested_part, nested_bracketed, gives_outside}
 use Rattle.rr_parser.proofs.Choosing.{made_alternatives, made_pair, made_branch, made_loop, made_choice, made_unless}
 use Rattle.rr_parser.proofs.Spots.{gives_sent, made_element, made_attribute, made_setting, gives_ordered}
@@ -26,6 +29,11 @@ use Rattle.rr_parser.proofs.Gathering.{turns_fail, turns_smaller, turns_go, turn
 use Rattle.rr_parser.proofs.Calling.{gives_headed, made_behind, trail_fails, trail_smaller, trail_goes, trail_ends}
 use Rattle.rr_parser.proofs.Rescuing.{made_clause, made_rescued, made_ensured}
 use Rattle.rr_parser.proofs.Interpolating.{pieces_begin, pieces_on, made_interpolation}
+use Rattle.rr_parser.proofs.Assigning.{made_several, values_begin, gives_rights_outside, made_modifying, fails_modifying}
+use Rattle.rr_parser.specs.declared.word.Part.TheVariants as parts
+use Rattle.rr_parser.specs.declared.word.WordKind.TheVariants as kind
+use Rattle.rr_parser.specs.Grammar.Classes.{row_of}
+use Rattle.rr_parser.proofs.Opening.{made_class}
 use Rattle.rr_parser.proofs.parser.Parser.+parser.Goals as goal
 
 pub members-returns-in_err-more : goal.members-returns-in_err-more
@@ -82,7 +90,8 @@ branches-returns t c =
 pub statement-returns-in_err-condition : goal.statement-returns-in_err-condition
 statement-returns-in_err-condition t c =
     let p = err_from_is_err_and c.from_residual-in_err-condition.result c.from_residual-in_err-condition.ensures.1 in
-    rw (p.1, p.2) (goes_fails nodes nodes modifier modified (expression_of (readers c.args.inside c.args.depth)) Steps-modifier (shrinks_nested c.args.inside c.args.depth).expression _ _ _ _ _ _ _ _ c.loop-modifier.invariant c.in-Some.ensures c.in_err-condition.ensures)
+    rw (p.1, p.2) (turns_fail nodes modifier (modifying_of (readers c.args.inside c.args.depth)) Steps-modifier (λ x l n z t e. (shrinks_nested c.args.inside c.args.depth).modifying x l n z t e) _ _ _ _ _ _ _ _ c.loop-modifier.invariant c.in-Some.ensures
+    (fails_modifying (readers c.args.inside c.args.depth) c.loop-modifier.self _ _ _ _ c.in_err-condition.ensures))
 
 pub statement-loop-modifier-smaller : goal.statement-loop-modifier-smaller
 statement-loop-modifier-smaller t c =
@@ -90,27 +99,73 @@ statement-loop-modifier-smaller t c =
 
 pub statement-loop-modifier-preserved : goal.statement-loop-modifier-preserved
 statement-loop-modifier-preserved t c =
-    operators_on modifier modified (expression_of (readers c.args.inside c.args.depth)) Steps-modifier (shrinks_nested c.args.inside c.args.depth).expression _ _ _ _ _ _ _ _ _ _ _ _ c.loop-modifier.invariant c.in-Some.ensures c.in_ok-condition.ensures c.in_ok-statement-2.ensures
+    turns_go nodes modifier (modifying_of (readers c.args.inside c.args.depth)) Steps-modifier (λ x l n z t e. (shrinks_nested c.args.inside c.args.depth).modifying x l n z t e) _ _ _ _ _ _ _ _ _ _ c.loop-modifier.invariant c.in-Some.ensures
+    (made_modifying (readers c.args.inside c.args.depth) _ _ _ _ _ _ _ _ _ c.loop-modifier.invariant.there c.in_ok-condition.ensures c.in_ok-statement-2.ensures)
 
 pub statement-returns : goal.statement-returns
 statement-returns t c =
-    goes_ends nodes nodes modifier modified (expression_of (readers c.args.inside c.args.depth)) Steps-modifier (shrinks_nested c.args.inside c.args.depth).expression _ _ _ _ _ c.loop-modifier.invariant c.in_default.ensures
+    turns_end nodes modifier (modifying_of (readers c.args.inside c.args.depth)) Steps-modifier (λ x l n z t e. (shrinks_nested c.args.inside c.args.depth).modifying x l n z t e) _ _ _ _ _ c.loop-modifier.invariant c.in_default.ensures
 
-pub expression-returns-in_err-right : goal.expression-returns-in_err-right
-expression-returns-in_err-right t c =
-    let p = err_from_is_err_and c.from_residual-in_err-right.result c.from_residual-in_err-right.ensures.1 in
+pub several_on-returns : goal.several_on-returns
+several_on-returns t c =
+    made_several (readers c.args.inside c.args.depth) c.args.self.now c.targets.new.self c.right_sides.new.self c.put_several.new.self c.args.first c.in_ok-targets.targets.items c.deref.result.now _ _ _ _ _ _ c.requires c.deref.ensures.value
+    c.in_ok-targets.ensures c.in-Some.ensures c.in_ok-value.ensures c.in_ok-put_several.ensures
+
+pub targets-returns-in_err-next : goal.targets-returns-in_err-next
+targets-returns-in_err-next t c =
+    let p = err_from_is_err_and c.from_residual-in_err-next.result c.from_residual-in_err-next.ensures.1 in
+    rw (p.1, p.2) (goes_fails (lists nodes) nodes comma and_one (targeted_of (readers c.args.inside c.args.depth)) Steps-comma (shrinks_nested c.args.inside c.args.depth).targeted _ _ _ _ _ _ _ _ c.loop-after.invariant c.in-Some.ensures c.in_err-next.ensures)
+
+pub targets-loop-after-smaller : goal.targets-loop-after-smaller
+targets-loop-after-smaller t c =
+    goes_smaller (lists nodes) nodes comma and_one (targeted_of (readers c.args.inside c.args.depth)) Steps-comma (shrinks_nested c.args.inside c.args.depth).targeted _ _ _ _ _ _ _ c.in-Some.ensures c.in_ok-next.ensures
+
+pub targets-loop-after-preserved : goal.targets-loop-after-preserved
+targets-loop-after-preserved t c =
+    list_on nodes stable_nodes comma (targeted_of (readers c.args.inside c.args.depth)) Steps-comma (shrinks_nested c.args.inside c.args.depth).targeted _ _ _ _ _ _ _ _ _ _ _ c.loop-after.invariant c.in-Some.ensures c.in_ok-next.ensures c.in_ok-push-2.ensures.items
+
+pub targets-returns : goal.targets-returns
+targets-returns t c =
+    goes_ends (lists nodes) nodes comma and_one (targeted_of (readers c.args.inside c.args.depth)) Steps-comma (shrinks_nested c.args.inside c.args.depth).targeted _ _ _ _ _ c.loop-after.invariant c.in_default.ensures
+
+pub right_sides-returns-then-not-inside : goal.right_sides-returns-then-not-inside
+right_sides-returns-then-not-inside t c = gives_rights_outside c.args.self.now c.rights.new.self c.rights.result c.args.inside c.args.depth _ c.if-not-inside.true c.rights.ensures
+
+pub arguments_from-loop-after-init : goal.arguments_from-loop-after-init
+arguments_from-loop-after-init t c = values_begin (readers c.args.inside c.args.depth) _ c.args.first _ _ c.requires (c.in_ok-push.ensures.items ∙ ap (λ l. l ++ c.args.first ∷ []) c.new-items.ensures.items)
+
+pub arguments_from-returns-in_err-next : goal.arguments_from-returns-in_err-next
+arguments_from-returns-in_err-next t c =
+    let p = err_from_is_err_and c.from_residual-in_err-next.result c.from_residual-in_err-next.ensures.1 in
+    rw (p.1, p.2) (goes_fails (lists nodes) nodes comma and_one (argument_of (readers c.args.inside c.args.depth)) Steps-comma (shrinks_nested c.args.inside c.args.depth).argument _ _ _ _ _ _ _ _ c.loop-after.invariant c.in-Some.ensures c.in_err-next.ensures)
+
+pub arguments_from-loop-after-smaller : goal.arguments_from-loop-after-smaller
+arguments_from-loop-after-smaller t c =
+    goes_smaller (lists nodes) nodes comma and_one (argument_of (readers c.args.inside c.args.depth)) Steps-comma (shrinks_nested c.args.inside c.args.depth).argument _ _ _ _ _ _ _ c.in-Some.ensures c.in_ok-next.ensures
+
+pub arguments_from-loop-after-preserved : goal.arguments_from-loop-after-preserved
+arguments_from-loop-after-preserved t c =
+    list_on nodes stable_nodes comma (argument_of (readers c.args.inside c.args.depth)) Steps-comma (shrinks_nested c.args.inside c.args.depth).argument _ _ _ _ _ _ _ _ _ _ _ c.loop-after.invariant c.in-Some.ensures c.in_ok-next.ensures c.in_ok-push-2.ensures.items
+
+pub arguments_from-returns : goal.arguments_from-returns
+arguments_from-returns t c =
+    goes_ends (lists nodes) nodes comma and_one (argument_of (readers c.args.inside c.args.depth)) Steps-comma (shrinks_nested c.args.inside c.args.depth).argument _ _ _ _ _ c.loop-after.invariant c.in_default.ensures
+
+pub connected-returns-in_err-right : goal.connected-returns-in_err-right
+connected-returns-in_err-right t c =
+    let p = err_from_is_err_and c.from_residual.result c.from_residual.ensures.1 in
     rw (p.1, p.2) (goes_fails nodes nodes (connective 3) joined_by (negation_of (readers c.args.inside c.args.depth)) (Steps-connective 3) (shrinks_nested c.args.inside c.args.depth).negation _ _ _ _ _ _ _ _ c.loop-connective.invariant c.in-Some.ensures c.in_err-right.ensures)
 
-pub expression-loop-connective-smaller : goal.expression-loop-connective-smaller
-expression-loop-connective-smaller t c =
+pub connected-loop-connective-smaller : goal.connected-loop-connective-smaller
+connected-loop-connective-smaller t c =
     goes_smaller nodes nodes (connective 3) joined_by (negation_of (readers c.args.inside c.args.depth)) (Steps-connective 3) (shrinks_nested c.args.inside c.args.depth).negation _ _ _ _ _ _ _ c.in-Some.ensures c.in_ok-right.ensures
 
-pub expression-loop-connective-preserved : goal.expression-loop-connective-preserved
-expression-loop-connective-preserved t c =
-    operators_on (connective 3) joined_by (negation_of (readers c.args.inside c.args.depth)) (Steps-connective 3) (shrinks_nested c.args.inside c.args.depth).negation _ _ _ _ _ _ _ _ _ _ _ _ c.loop-connective.invariant c.in-Some.ensures c.in_ok-right.ensures c.in_ok-left-2.ensures
+pub connected-loop-connective-preserved : goal.connected-loop-connective-preserved
+connected-loop-connective-preserved t c =
+    operators_on (connective 3) joined_by (negation_of (readers c.args.inside c.args.depth)) (Steps-connective 3) (shrinks_nested c.args.inside c.args.depth).negation _ _ _ _ _ _ _ _ _ _ _ _ c.loop-connective.invariant c.in-Some.ensures c.in_ok-right.ensures c.in_ok-left.ensures
 
-pub expression-returns : goal.expression-returns
-expression-returns t c =
+pub connected-returns : goal.connected-returns
+connected-returns t c =
     goes_ends nodes nodes (connective 3) joined_by (negation_of (readers c.args.inside c.args.depth)) (Steps-connective 3) (shrinks_nested c.args.inside c.args.depth).negation _ _ _ _ _ c.loop-connective.invariant c.in_default.ensures
 
 pub binary_on-returns-in_err-right : goal.binary_on-returns-in_err-right
@@ -301,3 +356,24 @@ ordered-returns t c =
 pub added-returns : goal.added-returns
 added-returns t c =
     made_added (readers c.args.inside c.args.depth) c.args.list c.args.self.now c.member.new.self c.args.given _ _ _ _ _ c.requires (c.only_pairs-only.ensures c.args.self.now.nodes.items) c.in_ok-member.ensures c.in_ok-more.ensures
+
+pub methods-returns-in_err-next : goal.methods-returns-in_err-next
+methods-returns-in_err-next t c =
+    let p = err_from_is_err_and c.from_residual-in_err-next.result c.from_residual-in_err-next.ensures.1 in
+    rw (p.1, p.2) (goes_fails (lists nodes) nodes (row_of kind.Def) and_one ((readers c.args.inside c.args.depth).part parts.Definition) (Steps-row_of kind.Def) (shrinks_nested c.args.inside c.args.depth).definition _ _ _ _ _ _ _ _ c.loop-after.invariant c.in-Some.ensures c.in_err-next.ensures)
+
+pub methods-loop-after-smaller : goal.methods-loop-after-smaller
+methods-loop-after-smaller t c =
+    goes_smaller (lists nodes) nodes (row_of kind.Def) and_one ((readers c.args.inside c.args.depth).part parts.Definition) (Steps-row_of kind.Def) (shrinks_nested c.args.inside c.args.depth).definition _ _ _ _ _ _ _ c.in-Some.ensures c.in_ok-next.ensures
+
+pub methods-loop-after-preserved : goal.methods-loop-after-preserved
+methods-loop-after-preserved t c =
+    list_on nodes stable_nodes (row_of kind.Def) ((readers c.args.inside c.args.depth).part parts.Definition) (Steps-row_of kind.Def) (shrinks_nested c.args.inside c.args.depth).definition _ _ _ _ _ _ _ _ _ _ _ c.loop-after.invariant c.in-Some.ensures c.in_ok-next.ensures c.in_ok-push-2.ensures.items
+
+pub methods-returns : goal.methods-returns
+methods-returns t c =
+    goes_ends (lists nodes) nodes (row_of kind.Def) and_one ((readers c.args.inside c.args.depth).part parts.Definition) (Steps-row_of kind.Def) (shrinks_nested c.args.inside c.args.depth).definition _ _ _ _ _ c.loop-after.invariant c.in_default.ensures
+
+pub class_body-returns : goal.class_body-returns
+class_body-returns t c =
+    made_class (readers c.args.inside c.args.depth) c.args.name c.args.superclass c.args.self.now _ c.inner.new.self c.in_ok-methods.methods.items _ c.in_ok-methods.ensures c.put_class.new.self c.deref.result.now _ _ c.deref.ensures.value c.in-Some.ensures c.in_ok-put_class.ensures

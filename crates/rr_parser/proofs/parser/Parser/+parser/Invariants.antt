@@ -1,20 +1,26 @@
-use Rattle.std.proofs.Common.{cond, ◌<◌, ◌≤◌, length, ◌+◌, ◌-◌, ◌*◌, map}
+use Rattle.std.proofs.Common.{cond, [], ◌∷◌, ◌<◌, ◌≤◌, length, ◌+◌, ◌-◌, ◌*◌, map}
 use Rattle.rr_tree.specs.Tree.{tree_at}
 use Rattle.rr_parser.specs.Grammar.Chains.{and_one}
 use Rattle.rr_parser.specs.Grammar.Operators.{operator, infixed, connective, joined_by}
 use Rattle.rr_parser.specs.Grammar.Operands.{tail}
-use Rattle.rr_parser.specs.Grammar.Sequences.{modifier, modified}
+use Rattle.rr_parser.specs.Grammar.Sequences.{modifier}
 use Rattle.rr_parser.specs.Grammar.Control.{elsif}
 use Rattle.rr_parser.specs.Reading.Answers.{chain_on, trail_on}
 use Rattle.rr_parser.specs.Reading.Operators.{binary_on, binary_of, logical_on, logical_of}
 use Rattle.rr_parser.specs.Reading.Operands.{tailed_of, postfix_of}
-use Rattle.rr_parser.specs.Reading.Calls.{another, adding_to, members_of}
-use Rattle.rr_parser.specs.Reading.Sequences.{negation_of, expression_of, statement_of, statements_of, rows_of, row}
+use Rattle.rr_parser.specs.Grammar.Calls.{comma}
+use Rattle.rr_parser.specs.Reading.Calls.{argument_of, another, adding_to, members_of}
+use Rattle.rr_parser.specs.Reading.Several.{values_on, targeted_of, targets_of}
+use Rattle.rr_parser.specs.Reading.Sequences.{modifying_of, negation_of, statement_of, statements_of, rows_of, row, connected_on}
 use Rattle.rr_parser.specs.Grammar.Bodies.{rescues}
 use Rattle.rr_parser.specs.Grammar.Interpolations.{text_middle, and_piece}
 use Rattle.rr_parser.specs.Reading.Interpolations.{pieces_of}
 use Rattle.rr_parser.specs.Reading.Control.{branch_of, branches_of}
 use Rattle.rr_parser.specs.Reading.Bodies.{clause_of, clauses_of}
+use Rattle.rr_parser.specs.declared.word.Part.TheVariants as parts
+use Rattle.rr_parser.specs.declared.word.WordKind.TheVariants as kind
+use Rattle.rr_parser.specs.Grammar.Classes.{row_of}
+use Rattle.rr_parser.specs.Reading.Classes.{methods_of}
 use Rattle.rr_parser.specs.Reading.{readers}
 use Rattle.rr_parser.specs.Meets.{place, nodes, pairs, lists, givens, reaches}
 use Rattle.rr_parser.proofs.Making.{Goes}
@@ -28,6 +34,64 @@ decreases-inner_arguments l = 128 * l.depth + cond l.inside 0 64 + 0
 
 abbrev pub decreases-right_side : goal.decreases-right_side
 decreases-right_side l = 128 * l.depth + cond l.inside 0 64 + 0
+
+abbrev pub decreases-right_sides : goal.decreases-right_sides
+decreases-right_sides l = 128 * l.depth + cond l.inside 0 64 + 0
+
+abbrev pub decreases-rights : goal.decreases-rights
+decreases-rights l = 128 * l.depth + cond l.inside 0 64 + 40
+
+abbrev pub decreases-behind_receiver : goal.decreases-behind_receiver
+decreases-behind_receiver l = 128 * l.depth + cond l.inside 0 64 + 39
+
+abbrev pub decreases-right : goal.decreases-right
+decreases-right l = 128 * l.depth + cond l.inside 0 64 + 32
+
+abbrev pub decreases-arguments_from : goal.decreases-arguments_from
+decreases-arguments_from l = 128 * l.depth + cond l.inside 0 64 + 31
+
+abbrev pub decreases-targeted_spot : goal.decreases-targeted_spot
+decreases-targeted_spot l = 128 * l.depth + cond l.inside 0 64 + 7
+
+abbrev pub decreases-targeted : goal.decreases-targeted
+decreases-targeted l = 128 * l.depth + cond l.inside 0 64 + 8
+
+abbrev pub decreases-targets : goal.decreases-targets
+decreases-targets l = 128 * l.depth + cond l.inside 0 64 + 9
+
+abbrev pub invariant-targets-loop-after : goal.invariant-targets-loop-after
+invariant-targets-loop-after l =
+    Goes (lists nodes) l.fn.self l.self l.targets.items (targets_of (readers l.inside l.depth) (place l.fn.self l.fn.words))
+    (chain_on comma and_one (targeted_of (readers l.inside l.depth)) (map (tree_at l.self.nodes.items) l.targets.items) (place l.self l.rest))
+
+abbrev pub decreases-targets-loop-after : goal.decreases-targets-loop-after
+decreases-targets-loop-after l = length l.rest
+
+abbrev pub decreases-several_on : goal.decreases-several_on
+decreases-several_on l = 128 * l.depth + cond l.inside 0 64 + 10
+
+abbrev pub decreases-several : goal.decreases-several
+decreases-several l = 128 * l.depth + cond l.inside 0 64 + 11
+
+abbrev pub decreases-connected : goal.decreases-connected
+decreases-connected l = 128 * l.depth + cond l.inside 0 64 + 46
+
+abbrev pub decreases-expression_on : goal.decreases-expression_on
+decreases-expression_on l = 128 * l.depth + cond l.inside 0 64 + 47
+
+abbrev pub decreases-spotted : goal.decreases-spotted
+decreases-spotted l = 128 * l.depth + cond l.inside 0 64 + 48
+
+abbrev pub decreases-simple : goal.decreases-simple
+decreases-simple l = 128 * l.depth + cond l.inside 0 64 + 49
+
+abbrev pub invariant-arguments_from-loop-after : goal.invariant-arguments_from-loop-after
+invariant-arguments_from-loop-after l =
+    Goes (lists nodes) l.fn.self l.self l.items.items (values_on (readers l.inside l.depth) (tree_at l.fn.self.nodes.items l.first ∷ []) (place l.fn.self l.fn.words))
+    (chain_on comma and_one (argument_of (readers l.inside l.depth)) (map (tree_at l.self.nodes.items) l.items.items) (place l.self l.rest))
+
+abbrev pub decreases-arguments_from-loop-after : goal.decreases-arguments_from-loop-after
+decreases-arguments_from-loop-after l = length l.rest
 
 abbrev pub decreases-name : goal.decreases-name
 decreases-name l = 128 * l.depth + cond l.inside 0 64 + 3
@@ -69,40 +133,40 @@ abbrev pub decreases-negation : goal.decreases-negation
 decreases-negation l = 128 * l.depth + cond l.inside 0 64 + 45
 
 abbrev pub decreases-expression : goal.decreases-expression
-decreases-expression l = 128 * l.depth + cond l.inside 0 64 + 46
+decreases-expression l = 128 * l.depth + cond l.inside 0 64 + 47
 
 abbrev pub decreases-statement : goal.decreases-statement
-decreases-statement l = 128 * l.depth + cond l.inside 0 64 + 47
+decreases-statement l = 128 * l.depth + cond l.inside 0 64 + 50
 
 abbrev pub decreases-rows : goal.decreases-rows
-decreases-rows l = 128 * l.depth + cond l.inside 0 64 + 48
+decreases-rows l = 128 * l.depth + cond l.inside 0 64 + 51
 
 abbrev pub decreases-statements : goal.decreases-statements
-decreases-statements l = 128 * l.depth + cond l.inside 0 64 + 49
+decreases-statements l = 128 * l.depth + cond l.inside 0 64 + 52
 
 abbrev pub decreases-group : goal.decreases-group
-decreases-group l = 128 * l.depth + cond l.inside 0 64 + 50
+decreases-group l = 128 * l.depth + cond l.inside 0 64 + 53
 
 abbrev pub decreases-otherwise : goal.decreases-otherwise
-decreases-otherwise l = 128 * l.depth + cond l.inside 0 64 + 50
+decreases-otherwise l = 128 * l.depth + cond l.inside 0 64 + 53
 
 abbrev pub decreases-branch : goal.decreases-branch
-decreases-branch l = 128 * l.depth + cond l.inside 0 64 + 50
+decreases-branch l = 128 * l.depth + cond l.inside 0 64 + 53
 
 abbrev pub decreases-repeat : goal.decreases-repeat
-decreases-repeat l = 128 * l.depth + cond l.inside 0 64 + 50
+decreases-repeat l = 128 * l.depth + cond l.inside 0 64 + 53
 
 abbrev pub decreases-branches : goal.decreases-branches
-decreases-branches l = 128 * l.depth + cond l.inside 0 64 + 51
+decreases-branches l = 128 * l.depth + cond l.inside 0 64 + 54
 
 abbrev pub decreases-choice : goal.decreases-choice
-decreases-choice l = 128 * l.depth + cond l.inside 0 64 + 52
+decreases-choice l = 128 * l.depth + cond l.inside 0 64 + 55
 
 abbrev pub decreases-unless : goal.decreases-unless
-decreases-unless l = 128 * l.depth + cond l.inside 0 64 + 52
+decreases-unless l = 128 * l.depth + cond l.inside 0 64 + 55
 
 abbrev pub decreases-part_within : goal.decreases-part_within
-decreases-part_within l = 128 * l.depth + cond l.inside 0 64 + 57
+decreases-part_within l = 128 * l.depth + cond l.inside 0 64 + 60
 
 abbrev pub decreases-binary_on : goal.decreases-binary_on
 decreases-binary_on l = 128 * l.depth + cond l.inside 0 64 + (2 * l.level + 8)
@@ -129,10 +193,10 @@ abbrev pub decreases-arguments : goal.decreases-arguments
 decreases-arguments l = 128 * l.depth + cond l.inside 0 64 + 37
 
 abbrev pub decreases-condition : goal.decreases-condition
-decreases-condition l = 128 * l.depth + cond l.inside 0 64 + 47
+decreases-condition l = 128 * l.depth + cond l.inside 0 64 + 50
 
 abbrev pub decreases-form : goal.decreases-form
-decreases-form l = 128 * l.depth + cond l.inside 0 64 + 56
+decreases-form l = 128 * l.depth + cond l.inside 0 64 + 59
 
 abbrev pub decreases-call_arguments : goal.decreases-call_arguments
 decreases-call_arguments l = 128 * l.depth + cond l.inside 0 64 + 37
@@ -172,18 +236,18 @@ decreases-branches-loop-after l = length l.rest
 abbrev pub invariant-statement-loop-modifier : goal.invariant-statement-loop-modifier
 invariant-statement-loop-modifier l =
     Goes nodes l.fn.self l.self l.statement (statement_of (readers l.inside l.depth) (place l.fn.self l.fn.words))
-    (chain_on modifier modified (expression_of (readers l.inside l.depth)) (tree_at l.self.nodes.items l.statement) (place l.self l.rest))
+    (trail_on modifier (modifying_of (readers l.inside l.depth)) (tree_at l.self.nodes.items l.statement) (place l.self l.rest))
 
 abbrev pub decreases-statement-loop-modifier : goal.decreases-statement-loop-modifier
 decreases-statement-loop-modifier l = length l.rest
 
-abbrev pub invariant-expression-loop-connective : goal.invariant-expression-loop-connective
-invariant-expression-loop-connective l =
-    Goes nodes l.fn.self l.self l.left (expression_of (readers l.inside l.depth) (place l.fn.self l.fn.words))
+abbrev pub invariant-connected-loop-connective : goal.invariant-connected-loop-connective
+invariant-connected-loop-connective l =
+    Goes nodes l.fn.self l.self l.left (connected_on (readers l.inside l.depth) (tree_at l.fn.self.nodes.items l.first) (place l.fn.self l.fn.words))
     (chain_on (connective 3) joined_by (negation_of (readers l.inside l.depth)) (tree_at l.self.nodes.items l.left) (place l.self l.rest))
 
-abbrev pub decreases-expression-loop-connective : goal.decreases-expression-loop-connective
-decreases-expression-loop-connective l = length l.rest
+abbrev pub decreases-connected-loop-connective : goal.decreases-connected-loop-connective
+decreases-connected-loop-connective l = length l.rest
 
 abbrev pub invariant-binary_on-loop-operator : goal.invariant-binary_on-loop-operator
 invariant-binary_on-loop-operator l = record {
@@ -235,34 +299,34 @@ abbrev pub decreases-blocked : goal.decreases-blocked
 decreases-blocked l = 128 * l.depth + cond l.inside 0 64 + 2
 
 abbrev pub decreases-block : goal.decreases-block
-decreases-block l = 128 * l.depth + cond l.inside 0 64 + 55
+decreases-block l = 128 * l.depth + cond l.inside 0 64 + 58
 
 abbrev pub decreases-looped : goal.decreases-looped
-decreases-looped l = 128 * l.depth + cond l.inside 0 64 + 51
+decreases-looped l = 128 * l.depth + cond l.inside 0 64 + 54
 
 abbrev pub decreases-passing : goal.decreases-passing
 decreases-passing l = 128 * l.depth + cond l.inside 0 64 + 3
 
 abbrev pub decreases-definition : goal.decreases-definition
-decreases-definition l = 128 * l.depth + cond l.inside 0 64 + 55
+decreases-definition l = 128 * l.depth + cond l.inside 0 64 + 58
 
 abbrev pub decreases-clause : goal.decreases-clause
-decreases-clause l = 128 * l.depth + cond l.inside 0 64 + 50
+decreases-clause l = 128 * l.depth + cond l.inside 0 64 + 53
 
 abbrev pub decreases-clauses : goal.decreases-clauses
-decreases-clauses l = 128 * l.depth + cond l.inside 0 64 + 51
+decreases-clauses l = 128 * l.depth + cond l.inside 0 64 + 54
 
 abbrev pub decreases-rescued : goal.decreases-rescued
-decreases-rescued l = 128 * l.depth + cond l.inside 0 64 + 52
+decreases-rescued l = 128 * l.depth + cond l.inside 0 64 + 55
 
 abbrev pub decreases-body : goal.decreases-body
-decreases-body l = 128 * l.depth + cond l.inside 0 64 + 53
+decreases-body l = 128 * l.depth + cond l.inside 0 64 + 56
 
 abbrev pub decreases-begun : goal.decreases-begun
-decreases-begun l = 128 * l.depth + cond l.inside 0 64 + 54
+decreases-begun l = 128 * l.depth + cond l.inside 0 64 + 57
 
 abbrev pub decreases-held : goal.decreases-held
-decreases-held l = 128 * l.depth + cond l.inside 0 64 + 54
+decreases-held l = 128 * l.depth + cond l.inside 0 64 + 57
 
 abbrev pub invariant-clauses-loop-after : goal.invariant-clauses-loop-after
 invariant-clauses-loop-after l =
@@ -273,10 +337,10 @@ abbrev pub decreases-clauses-loop-after : goal.decreases-clauses-loop-after
 decreases-clauses-loop-after l = length l.rest
 
 abbrev pub decreases-pieces : goal.decreases-pieces
-decreases-pieces l = 128 * l.depth + cond l.inside 0 64 + 50
+decreases-pieces l = 128 * l.depth + cond l.inside 0 64 + 53
 
 abbrev pub decreases-interpolation : goal.decreases-interpolation
-decreases-interpolation l = 128 * l.depth + cond l.inside 0 64 + 51
+decreases-interpolation l = 128 * l.depth + cond l.inside 0 64 + 54
 
 abbrev pub invariant-pieces-loop-middle : goal.invariant-pieces-loop-middle
 invariant-pieces-loop-middle l =
@@ -324,3 +388,20 @@ decreases-added l = 128 * l.depth + cond l.inside 0 64 + 33
 
 abbrev pub decreases-listed : goal.decreases-listed
 decreases-listed l = 128 * l.depth + cond l.inside 0 64 + 35
+
+abbrev pub invariant-methods-loop-after : goal.invariant-methods-loop-after
+invariant-methods-loop-after l =
+    Goes (lists nodes) l.fn.self l.self l.methods.items (methods_of (readers l.inside l.depth) (place l.fn.self l.fn.words))
+    (chain_on (row_of kind.Def) and_one ((readers l.inside l.depth).part parts.Definition) (map (tree_at l.self.nodes.items) l.methods.items) (place l.self l.rest))
+
+abbrev pub decreases-methods-loop-after : goal.decreases-methods-loop-after
+decreases-methods-loop-after l = length l.rest
+
+abbrev pub decreases-methods : goal.decreases-methods
+decreases-methods l = 128 * l.depth + cond l.inside 0 64 + 56
+
+abbrev pub decreases-inner : goal.decreases-inner
+decreases-inner l = 128 * l.depth + cond l.inside 0 64 + 57
+
+abbrev pub decreases-class_body : goal.decreases-class_body
+decreases-class_body l = 128 * l.depth + cond l.inside 0 64 + 58

@@ -3,7 +3,8 @@ use Rattle.rr_parser.specs.Grammar.Chains.{and_one}
 use Rattle.rr_parser.specs.Grammar.Calls.{comma}
 use Rattle.rr_parser.specs.Reading.Bodies.{class_of}
 use Rattle.rr_parser.specs.Meets.{nodes, lists}
-use Rattle.rr_parser.proofs.Shrinking.{Steps-comma, class_shrinks}
+use Rattle.rr_parser.proofs.Steps.{Steps-comma}
+use Rattle.rr_parser.proofs.Shrinking.{class_shrinks}
 use Rattle.rr_parser.proofs.Making.{stable_nodes, list_on, goes_ends, goes_fails, goes_smaller}
 use Rattle.rr_parser.proofs.parser.Parser.class_list.Goals as goal
 

@@ -1,0 +1,9 @@
+use Rattle.rr_parser.proofs.Numbers.{words_more, symbols_on, texts_on}
+use Rattle.rr_parser.proofs.names.read_words.Goals as goal
+
+pub loop-token-preserved : goal.loop-token-preserved
+loop-token-preserved c = record {
+  words = words_more c.args.source.now _ _ _ _ _ _ _ _ _ _ c.in-Some.ensures.cases.0 c.method_name_at-method.ensures c.in_ok-word.ensures.names c.in_ok-word.ensures.texts c.is_def-behind_def.ensures _ _ _ _ c.loop-token.invariant.words c.in_ok-push.ensures.items c.in_ok-word.ensures.word;
+  names = symbols_on c.args.source.now _ _ _ _ _ _ _ _ _ _ c.in-Some.ensures.cases.0 c.method_name_at-method.ensures c.in_ok-word.ensures.names c.in_ok-word.ensures.texts c.is_def-behind_def.ensures _ c.loop-token.invariant.names;
+  texts = texts_on c.args.source.now _ _ _ _ _ _ _ _ _ _ c.in-Some.ensures.cases.0 c.method_name_at-method.ensures c.in_ok-word.ensures.names c.in_ok-word.ensures.texts c.is_def-behind_def.ensures _ c.loop-token.invariant.texts;
+}
