@@ -12,13 +12,21 @@ mod calls;
 #[cfg(test)]
 mod containers;
 #[cfg(test)]
+mod hashes;
+#[cfg(test)]
 mod interpolations;
 #[cfg(test)]
 mod large;
 #[cfg(test)]
 mod limits;
 #[cfg(test)]
+mod loops;
+#[cfg(test)]
 mod methods;
+#[cfg(test)]
+mod raising;
+#[cfg(test)]
+mod rescuing;
 #[cfg(test)]
 mod rows;
 #[cfg(test)]

@@ -14,8 +14,11 @@ use Rattle.std.proofs.lemmas.List.Elements.{All-weaker}
 use Rattle.rr_text.specs.Reads.{IsReadWith, IsAmong}
 use Rattle.rr_builtin.proofs.Among.{among_of, none_in}
 use Rattle.rr_eval.specs.declared.call.Call.{Call}
+use Rattle.rr_eval.specs.declared.call.Callee.{Callee}
+use Rattle.rr_eval.specs.declared.call.Callee.TheVariants.{SetIndex}
 use Rattle.rr_builtin.specs.Acts.{Act, Answers, Makes, Freezes, Appends, Pushes, Takes, MakesArray, Puts, SetsValue, AddsPair, AddsText, TakesPair, MakesObject, Outcome, outcome_of, performed, changed, changed_slot, froze, froze_slot, added, with_key, array_object, with_pair, without_pair, without_key, key_count, IsRefAmong, IsBuiltWithin, IsBuiltAmong, IsDone, Acts}
 use Rattle.rr_builtin.specs.Calls.{call_act}
+use Rattle.rr_builtin.specs.News.{empty_hash}
 use Rattle.rr_builtin.specs.declared.method.BuiltInMethod.{BuiltInMethod}
 use Rattle.rr_builtin.specs.declared.built.Built.{Built}
 use Rattle.rr_builtin.specs.declared.built.Built.TheVariants as built
@@ -24,16 +27,15 @@ use Rattle.rr_eval.specs.declared.problem.Response.{Response}
 use Rattle.rr_eval.specs.declared.problem.Response.TheVariants as response
 use Rattle.rr_eval.specs.Context.{Context}
 use Rattle.rr_eval.specs.Callees.{method_of}
-use Rattle.rr_eval.specs.Calls.{sent, unpublished, reply_with}
-use Rattle.rr_eval.specs.Tasks.{task_reply, array_reply, text_reply, joined_texts, inspected_reply, given_by, unless_lacking, lack_of, texts_of}
+use Rattle.rr_eval.specs.Calls.{sent, unpublished, reply_with, call_reply}
+use Rattle.rr_eval.specs.Tasks.{task_reply, array_reply, text_reply, joined_texts, inspected_reply, given_by, unless_lacking, lack_of, texts_of, given_or_ended, on_given, empty_reply, filled, hash_reply}
 use Rattle.rr_eval.specs.Responses.{ref_of, response_from, response_of}
 use Rattle.rr_eval.specs.Requests.{Adds, arguments_of}
 use Rattle.rr_eval.specs.Runs.{alone}
 use Rattle.rr_eval.specs.Script.{Does, Calls, Reply}
 use Rattle.rr_eval.specs.declared.call.Task.{Task}
-use Rattle.rr_eval.specs.declared.call.Task.TheVariants.{Puts as PutsTask, Inspect, Print, MakeArray, MakeText}
+use Rattle.rr_eval.specs.declared.call.Task.TheVariants.{Puts as PutsTask, Inspect, Print, MakeArray, MakeText, MakeHash}
 use Rattle.rr_builtin.specs.declared.problem.Problem.{Problem as BuiltInProblem}
-use Rattle.rr_text.specs.Forms.{Names}
 use Rattle.rr_text.specs.Names.{names_of}
 use Rattle.rr_eval.specs.Within.{reach, IsReached, IsCallReached, IsResponseReached}
 use Rattle.rr_eval.proofs.Holding.{ref_reached, ref_among}
@@ -178,23 +180,58 @@ inspected_adds (v ∷ w ∷ vs) t = array_adds (v ∷ w ∷ vs) t
 text_adds : (bytes : List ℕ) (t : Table) → count t ≤ count (text_reply bytes t).table
 text_adds bytes t = omega (arith, length-append t.slots (Here (text_object bytes) ∷ []))
 
-given_adds : (task : Task) (s : List ℕ) (vs : List Ref) (t : Table) → count t ≤ count (given_by task s vs t).table
-given_adds MakeText s vs t = text_adds s t
-given_adds MakeArray s vs t = array_adds vs t
-given_adds Inspect s vs t = inspected_adds vs t
-given_adds PutsTask s vs t = omega arith
-given_adds Print s vs t = omega arith
+-- what is done next takes no object away
+abbrev pub AddsNext : (Ref → Table → Reply) → Type 0
+AddsNext next = (v : Ref) (u : Table) → count u ≤ count (next v u).table
+
+ended_adds : (r : Response) (t : Table) (next : Ref → Table → Reply) → AddsNext next → count t ≤ count (given_or_ended r t next).table
+ended_adds (response.Gives v) t next h = h v t
+ended_adds (response.Throws e) t next h = omega arith
+ended_adds (response.Fails e) t next h = omega arith
+
+pub on_given_adds : (reply : Reply) (next : Ref → Table → Reply) → AddsNext next → count reply.table ≤ count (on_given reply next).table
+on_given_adds reply next h = ended_adds reply.response reply.table next h
+
+call_adds : (c : Context) (v : Ref) (callee : Callee) (args : List Ref) (t : Table) → count t ≤ count (call_reply c v callee args t).table
+call_adds c v callee args t = sent_adds c [] v (method_of c callee) args t
+
+pub filled_adds : (c : Context) (h : Ref) (vs : List Ref) (t : Table) → count t ≤ count (filled c h vs t).table
+filled_adds c h [] t = omega arith
+filled_adds c h (k ∷ []) t = omega arith
+filled_adds c h (k ∷ v ∷ vs) t =
+    let first = call_adds c h SetIndex (k ∷ v ∷ []) t in
+    let more = on_given_adds (call_reply c h SetIndex (k ∷ v ∷ []) t) (λ put u. filled c h vs u) (λ put u. filled_adds c h vs u) in
+    omega arith
+
+pub empty_adds : (t : Table) → count t ≤ count (empty_reply t).table
+empty_adds t = act_adds (MakesObject empty_hash []) refs.Nil t
+
+hash_adds : (c : Context) (vs : List Ref) (t : Table) → count t ≤ count (hash_reply c vs t).table
+hash_adds c vs t =
+    let first = empty_adds t in
+    let more = on_given_adds (empty_reply t) (λ h u. filled c h vs u) (λ h u. filled_adds c h vs u) in
+    omega arith
+
+given_adds : (task : Task) (c : Context) (s : List ℕ) (vs : List Ref) (t : Table) → count t ≤ count (given_by task c s vs t).table
+given_adds MakeText c s vs t = text_adds s t
+given_adds MakeArray c s vs t = array_adds vs t
+given_adds MakeHash c s vs t = hash_adds c vs t
+given_adds Inspect c s vs t = inspected_adds vs t
+given_adds PutsTask c s vs t = omega arith
+given_adds Print c s vs t = omega arith
 
 lacking_adds : (lack : Option BuiltInProblem) (t : Table) (reply : Reply) → count t ≤ count reply.table → count t ≤ count (unless_lacking lack t reply).table
 lacking_adds None t reply le = le
 lacking_adds (Some problem) t reply le = omega arith
 
-task_adds : (task : Task) (names : Names) (vs : List Ref) (t : Table) → count t ≤ count (task_reply task names vs t).table
-task_adds task names vs t = lacking_adds (lack_of (texts_of task names t vs)) t (given_by task (joined_texts (texts_of task names t vs)) vs t) (given_adds task (joined_texts (texts_of task names t vs)) vs t)
+task_adds : (task : Task) (c : Context) (vs : List Ref) (t : Table) → count t ≤ count (task_reply task c vs t).table
+task_adds task c vs t =
+    let texts = texts_of task (names_of c.program) t vs in
+    lacking_adds (lack_of texts) t (given_by task c (joined_texts texts) vs t) (given_adds task c (joined_texts texts) vs t)
 
 -- a script that runs alone takes no object away
 pub alone_adds : (c : Context) → Adds (alone c)
-alone_adds c asked (Does task vs u) t = task_adds task (names_of c.program) vs t
+alone_adds c asked (Does task vs u) t = task_adds task c vs t
 alone_adds c asked (Calls v callee args) t = sent_adds c [] v (method_of c callee) args t
 
 -- a space without objects leads to no cluster

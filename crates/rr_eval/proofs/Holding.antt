@@ -10,17 +10,17 @@ use Rattle.rr_space.specs.Parts.{IsWithin}
 use Rattle.rr_space.specs.Tables.{Below}
 use Rattle.rr_builtin.specs.Acts.{IsRefAmong}
 use Rattle.rr_space.specs.Views.{field_number}
-use Rattle.rr_frames.specs.Frames.{Stack, Frame as Activated, frame_at, no_frame, read_last, write_last, laid, left}
+use Rattle.rr_frames.specs.Frames.{Stack, Frame as Activated, frame_at, no_frame, read_last, write_last, laid, left, list_of}
 use Rattle.rr_space.specs.declared.refer.Ref.{Ref}
 use Rattle.rr_space.specs.declared.refer.Ref.TheVariants as refs
 use Rattle.rr_eval.specs.declared.problem.Answer.{Answer}
-use Rattle.rr_eval.specs.declared.problem.Answer.TheVariants.{Gave, Raised, Returned}
+use Rattle.rr_eval.specs.declared.problem.Answer.TheVariants.{Gave, Raised, Broke, Done, Returned}
 use Rattle.rr_eval.specs.declared.problem.Response.{Response}
 use Rattle.rr_eval.specs.declared.problem.Response.TheVariants.{Gives, Throws, Fails}
 use Rattle.rr_eval.specs.declared.frame.Frame.{Frame}
 use Rattle.rr_eval.specs.declared.frame.Frame.TheVariants as frames
 use Rattle.rr_eval.specs.declared.frame.Control.{Control}
-use Rattle.rr_eval.specs.declared.frame.Control.TheVariants.{Enter, Operate, Give, Throw, Raise}
+use Rattle.rr_eval.specs.declared.frame.Control.TheVariants.{Enter, Operate, Give, Throw, Raise, RaiseValue}
 use Rattle.rr_eval.specs.View.{View}
 use Rattle.rr_eval.specs.Frames.{below_of}
 use Rattle.rr_frames.specs.declared.activation.Activation.{Activation}
@@ -37,6 +37,13 @@ ref_more k l cs le (refs.Symbol s) h = tt
 ref_more k l cs le (refs.Class c) h = tt
 ref_more k l cs le (refs.Ractor r) h = tt
 
+answer_more : (k l : ℕ) (cs : Option Below) → k ≤ l → (a : Answer) → IsAnswerReached (reach k cs) a → IsAnswerReached (reach l cs) a
+answer_more k l cs le (Gave v) h = ref_more k l cs le v h
+answer_more k l cs le (Raised e) h = ref_more k l cs le e h
+answer_more k l cs le (Broke v) h = ref_more k l cs le v h
+answer_more k l cs le (Done v) h = ref_more k l cs le v h
+answer_more k l cs le (Returned v) h = ref_more k l cs le v h
+
 frame_more : (k l : ℕ) (cs : Option Below) → k ≤ l → (f : Frame) → IsFrameReached (reach k cs) f → IsFrameReached (reach l cs) f
 frame_more k l cs le (frames.Right op v) h = ref_more k l cs le v h
 frame_more k l cs le frames.Not h = tt
@@ -48,19 +55,28 @@ frame_more k l cs le frames.Negation h = tt
 frame_more k l cs le (frames.Left op b) h = tt
 frame_more k l cs le (frames.Store x) h = tt
 frame_more k l cs le (frames.Branch b d) h = tt
+frame_more k l cs le frames.Break h = tt
+frame_more k l cs le frames.Next h = tt
 frame_more k l cs le frames.Return h = tt
 frame_more k l cs le frames.Back h = tt
 frame_more k l cs le (frames.Rest end count) h = tt
 frame_more k l cs le (frames.Argument target end count base) h = tt
+frame_more k l cs le (frames.Key next end count base) h = tt
+frame_more k l cs le (frames.Value end count base) h = tt
+frame_more k l cs le (frames.Element b end) h = tt
+frame_more k l cs le (frames.Rescue end count otherwise) h = tt
+frame_more k l cs le (frames.Class r) h = ref_more k l cs le r.exception h
+frame_more k l cs le (frames.Handling old) h = ref_more k l cs le old h
+frame_more k l cs le (frames.Ensure part) h = tt
+frame_more k l cs le (frames.Kept a) h = answer_more k l cs le a h
 
 control_more : (k l : ℕ) (cs : Option Below) → k ≤ l → (c : Control) → IsControlReached (reach k cs) c → IsControlReached (reach l cs) c
 control_more k l cs le (Enter part) h = tt
 control_more k l cs le (Operate op a b) h = tt
-control_more k l cs le (Give (Gave v)) h = ref_more k l cs le v h
-control_more k l cs le (Give (Raised e)) h = ref_more k l cs le e h
-control_more k l cs le (Give (Returned v)) h = ref_more k l cs le v h
+control_more k l cs le (Give a) h = answer_more k l cs le a h
 control_more k l cs le (Throw e) h = tt
 control_more k l cs le (Raise class message) h = ref_more k l cs le message h
+control_more k l cs le (RaiseValue v message) h = (ref_more k l cs le v h.0, All-weaker (IsReached (reach k cs)) (IsReached (reach l cs)) (ref_more k l cs le) (list_of message) h.1)
 
 pub reached_more : (k l : ℕ) (cs : Option Below) → k ≤ l → (m : View) → AreReached (reach k cs) m → AreReached (reach l cs) m
 unfolding AreReached
@@ -69,6 +85,7 @@ reached_more k l cs le m h = record {
   frames = All-weaker (IsFrameReached (reach k cs)) (IsFrameReached (reach l cs)) (frame_more k l cs le) m.frames h.frames;
   held = All-weaker (IsReached (reach k cs)) (IsReached (reach l cs)) (ref_more k l cs le) m.held h.held;
   calls = All-weaker (AreVariablesReached (reach k cs)) (AreVariablesReached (reach l cs)) (λ f. All-weaker (IsReached (reach k cs)) (IsReached (reach l cs)) (ref_more k l cs le) f.variables) m.calls.frames h.calls;
+  rescuing = ref_more k l cs le m.rescuing h.rescuing;
 }
 
 pub within_more : (k l : ℕ) → k ≤ l → (m : View) → AreWithin k m → AreWithin l m
@@ -127,7 +144,7 @@ all_at P xs i d none h = elim (nat_lt i (length xs)) as (λ b. nat_lt i (length 
   | false ↦ λ e. let past : length xs ≤ i = grind (arith, nat_tests) in subst P (sym (get_or-eq_default xs d past)) none
 ] refl
 
-all_nil : {A : Type 0} (P : A → Type 0) → All P []
+pub all_nil : {A : Type 0} (P : A → Type 0) → All P []
 all_nil P = λ i d lt. absurd (omega (arith, lt))
 
 -- parts of lists
@@ -187,23 +204,27 @@ left_within k fs h = all_take (AreVariablesReached k) (length fs - 1) fs h
 -- other fields as they are
 pub with_control : (k : Reach) (m : View) (c : Control) → AreReached k m → IsControlReached k c → AreReached k (record m { control = c })
 unfolding AreReached
-with_control k m c h here = record { control = here; frames = h.frames; held = h.held; calls = h.calls }
+with_control k m c h here = record { control = here; frames = h.frames; held = h.held; calls = h.calls; rescuing = h.rescuing }
 
 pub with_frame : (k : Reach) (m : View) (f : Frame) (c : Control) → AreReached k m → IsFrameReached k f → IsControlReached k c → AreReached k (record m { control = c; frames = m.frames ++ f ∷ [] })
 unfolding AreReached
-with_frame k m f c h frame here = record { control = here; frames = All-push (IsFrameReached k) m.frames f h.frames frame; held = h.held; calls = h.calls }
+with_frame k m f c h frame here = record { control = here; frames = All-push (IsFrameReached k) m.frames f h.frames frame; held = h.held; calls = h.calls; rescuing = h.rescuing }
+
+pub with_value : (k : Reach) (m : View) (held : List Ref) (v : Ref) → held ≡ m.held ++ v ∷ [] → AreReached k m → IsReached k v → AreReached k (record m { held = held })
+unfolding AreReached
+with_value k m held v e h value = record { control = h.control; frames = h.frames; held = subst (All (IsReached k)) (sym e) (All-push (IsReached k) m.held v h.held value); calls = h.calls; rescuing = h.rescuing }
 
 pub with_left : (k : Reach) (m : View) (n : ℕ) → AreReached k m → AreReached k (record m { left = n })
 unfolding AreReached
-with_left k m n h = record { control = h.control; frames = h.frames; held = h.held; calls = h.calls }
+with_left k m n h = record { control = h.control; frames = h.frames; held = h.held; calls = h.calls; rescuing = h.rescuing }
 
 pub with_frames : (k : Reach) (m : View) (fs : List Frame) → fs ≡ m.frames → AreReached k m → AreReached k (record m { frames = fs })
 unfolding AreReached
-with_frames k m fs e h = record { control = h.control; frames = subst (All (IsFrameReached k)) (sym e) h.frames; held = h.held; calls = h.calls }
+with_frames k m fs e h = record { control = h.control; frames = subst (All (IsFrameReached k)) (sym e) h.frames; held = h.held; calls = h.calls; rescuing = h.rescuing }
 
 pub with_calls : (k : Reach) (m : View) (calls : Stack) (c : Control) → AreReached k m → All (AreVariablesReached k) calls.frames → IsControlReached k c → AreReached k (record m { control = c; calls = calls })
 unfolding AreReached
-with_calls k m calls c h variables here = record { control = here; frames = h.frames; held = h.held; calls = variables }
+with_calls k m calls c h variables here = record { control = here; frames = h.frames; held = h.held; calls = variables; rescuing = h.rescuing }
 
 pub with_variable : (k : Reach) (m : View) (calls : Stack) (slot : ℕ) (v : Ref) (c : Control) → calls ≡ record m.calls { frames = write_last slot v m.calls.frames } → AreReached k m → IsReached k v → IsControlReached k c → AreReached k (record m { control = c; calls = calls })
 unfolding AreReached
@@ -235,18 +256,31 @@ held_reached k m h = h.held
 -- the values below a frame
 below_reached : (P : Ref → Type 0) (f : Frame) (held : List Ref) → All P held → All P (below_of f held)
 below_reached P (frames.Argument target end count base) held h = all_take P base held h
+below_reached P (frames.Key next end count base) held h = all_take P base held h
+below_reached P (frames.Value end count base) held h = all_take P base held h
 below_reached P _ held h = h
+
+-- without the values of a frame
+pub with_cleared : (k : Reach) (m : View) (f : Frame) (held : List Ref) (c : Control) → held ≡ below_of f m.held → AreReached k m → IsControlReached k c → AreReached k (record m { control = c; held = held })
+unfolding AreReached
+with_cleared k m f held c cleared h here = record { control = here; frames = h.frames; held = subst (All (IsReached k)) (sym cleared) (below_reached (IsReached k) f m.held h.held); calls = h.calls; rescuing = h.rescuing }
+
+-- a value that is raised, and its message
+pub raise_value_reached : (k : Reach) (m : View) (v : Ref) (message : Option Ref) → m.control ≡ RaiseValue v message → AreReached k m → IsReached k v × All (IsReached k) (list_of message)
+unfolding AreReached
+raise_value_reached k m v message e h = subst (IsControlReached k) e h.control
 
 -- a method's frame, with the values of its parameters
 pub enter_reached : (k : Reach) (m : View) (f : Frame) (fs : List Frame) (held : List Ref) (calls : Stack) (parameters size body : ℕ) (vs : List Ref) (a : Activation) → fs ≡ m.frames ++ frames.Back ∷ [] → held ≡ below_of f m.held
     → calls.frames ≡ m.calls.frames ++ record { variables = laid parameters size vs; activation = a } ∷ [] → AreReached k m → All (IsReached k) vs
-    → AreReached k (record { control = Enter body; frames = fs; held = held; calls = calls; left = m.left })
+    → AreReached k (record { control = Enter body; frames = fs; held = held; calls = calls; rescuing = m.rescuing; left = m.left })
 unfolding AreReached
 enter_reached k m f fs held calls parameters size body vs a pushed cleared entered h values = record {
   control = tt;
   frames = subst (All (IsFrameReached k)) (sym pushed) (All-push (IsFrameReached k) m.frames frames.Back h.frames tt);
   held = subst (All (IsReached k)) (sym cleared) (below_reached (IsReached k) f m.held h.held);
   calls = subst (All (AreVariablesReached k)) (sym entered) (entered_within k m.calls.frames (record { variables = laid parameters size vs; activation = a }) h.calls (laid_within k parameters size vs values));
+  rescuing = h.rescuing;
 }
 
 -- other frames of methods
@@ -254,11 +288,32 @@ pub same_calls : (k : Reach) (m : View) (calls : Stack) → calls ≡ m.calls �
 same_calls k m calls e h = subst (λ s. AreReached k (record m { calls = s })) (sym e) h
 
 -- a machine that begins
-pub first_reached : (k : Reach) (m : View) → IsControlReached k m.control → m.frames ≡ [] → m.held ≡ [] → All (AreVariablesReached k) m.calls.frames → AreReached k m
+pub first_reached : (k : Reach) (m : View) → IsControlReached k m.control → m.frames ≡ [] → m.held ≡ [] → All (AreVariablesReached k) m.calls.frames → IsReached k m.rescuing → AreReached k m
 unfolding AreReached
-first_reached k m control frames held calls = record {
+first_reached k m control frames held calls rescuing = record {
   control = control;
   frames = subst (All (IsFrameReached k)) (sym frames) (all_nil (IsFrameReached k));
   held = subst (All (IsReached k)) (sym held) (all_nil (IsReached k));
   calls = calls;
+  rescuing = rescuing;
+}
+
+-- the exception that is being rescued
+pub rescuing_reached : (k : Reach) (m : View) → AreReached k m → IsReached k m.rescuing
+unfolding AreReached
+rescuing_reached k m h = h.rescuing
+
+pub with_rescuing : (k : Reach) (m : View) (e : Ref) (c : Control) → AreReached k m → IsReached k e → IsControlReached k c → AreReached k (record m { control = c; rescuing = e })
+unfolding AreReached
+with_rescuing k m e c h value here = record { control = here; frames = h.frames; held = h.held; calls = h.calls; rescuing = value }
+
+-- a clause takes an exception
+pub caught_reached : (k : Reach) (m : View) (fs : List Frame) (calls : Stack) (e : Ref) (c : Control) → fs ≡ m.frames ++ frames.Handling m.rescuing ∷ [] → AreReached k m → All (AreVariablesReached k) calls.frames → IsReached k e → IsControlReached k c → AreReached k (record m { control = c; frames = fs; calls = calls; rescuing = e })
+unfolding AreReached
+caught_reached k m fs calls e c pushed h variables value here = record {
+  control = here;
+  frames = subst (All (IsFrameReached k)) (sym pushed) (All-push (IsFrameReached k) m.frames (frames.Handling m.rescuing) h.frames h.rescuing);
+  held = h.held;
+  calls = variables;
+  rescuing = value;
 }

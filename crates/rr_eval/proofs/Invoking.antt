@@ -1,5 +1,5 @@
 -- A method is called, and it ends.
-use Rattle.std.proofs.Common.{◌≡◌, ℕ, ◌∙◌, sym, ap, refl, nat_lt, nat_eq, true, false, if◌then◌else◌, List, [], ◌∷◌, ◌++◌, length, reverse, Some, Result, Ok, Err, OnOk, IfErr, subst}
+use Rattle.std.proofs.Common.{◌≡◌, ℕ, ◌∙◌, sym, ap, refl, nat_lt, nat_eq, Bool, true, false, if◌then◌else◌, List, [], ◌∷◌, ◌++◌, length, reverse, Some, Result, Ok, Err, OnOk, IfErr, subst}
 use Rattle.rr_base.specs.declared.fault.Fault.{Fault}
 use Rattle.rr_base.specs.declared.name.Sym.{Sym}
 use Rattle.rr_space.specs.Tables.{Table}
@@ -7,12 +7,13 @@ use Rattle.rr_frames.specs.Frames.{Stack, Frame as Activated}
 use Rattle.rr_space.specs.declared.refer.Ref.{Ref}
 use Rattle.rr_builtin.specs.declared.problem.Problem.TheVariants.{Count, TooDeep}
 use Rattle.rr_eval.specs.declared.problem.Problem.TheVariants.{BuiltIn}
-use Rattle.rr_eval.specs.declared.problem.Answer.TheVariants.{Raised, Returned}
+use Rattle.rr_eval.specs.declared.problem.Answer.{Answer}
+use Rattle.rr_eval.specs.declared.problem.Answer.TheVariants.{Gave, Raised, Broke, Done, Returned}
 use Rattle.rr_eval.specs.declared.frame.Frame.{Frame}
 use Rattle.rr_eval.specs.declared.frame.Frame.TheVariants as frames
-use Rattle.rr_eval.specs.Script.{State, Ret, Go, See, Do}
+use Rattle.rr_eval.specs.Script.{State, Script, Ret, Go, See, Do}
 use Rattle.rr_eval.specs.Methods.{Method}
-use Rattle.rr_eval.specs.Rules.{Context, throw, entered, own_rule, back, method_frame}
+use Rattle.rr_eval.specs.Rules.{Context, throw, on_value, entered, own_rule, back, method_frame}
 use Rattle.rr_eval.specs.Frames.{Code, means, runs_in, resumed, unwind, Nested}
 use Rattle.rr_eval.specs.Turns.{IsNested, Stands}
 use Rattle.rr_eval.specs.View.{View}
@@ -22,14 +23,35 @@ use Rattle.rr_eval.proofs.Unwind.{rest_push}
 pub stack_is : (s : Stack) (fs : List Activated) (limit : ℕ) → s.frames ≡ fs → s.limit ≡ limit → s ≡ record { frames = fs; limit = limit }
 stack_is s fs limit e f = ap (λ x. record { frames = x; limit = s.limit }) e ∙ ap (λ x. record { frames = fs; limit = x }) f
 
--- what passes through a frame that is no method's
-pub raised_passes : (c : Code) (f : Frame) (stand : List Ref) (e : Ref) → (f ≡ frames.Back → ⊥) → resumed c f stand (Raised e) ≡ Ret (Raised e)
-raised_passes c frames.Back stand e other = absurd (other refl)
-raised_passes c _ stand e other = refl
+-- what passes
+pub value_passes : (next : Ref → Script) (a : Answer) → ((v : Ref) → a ≡ Gave v → ⊥) → on_value next a ≡ Ret a
+value_passes next (Gave v) other = absurd (other v refl)
+value_passes next (Raised e) other = refl
+value_passes next (Broke v) other = refl
+value_passes next (Done v) other = refl
+value_passes next (Returned v) other = refl
 
-pub return_passes : (c : Code) (f : Frame) (stand : List Ref) (v : Ref) → (f ≡ frames.Back → ⊥) → resumed c f stand (Returned v) ≡ Ret (Returned v)
-return_passes c frames.Back stand v other = absurd (other refl)
-return_passes c _ stand v other = refl
+-- a frame that lets pass what is no value
+pub record IsUsual (f : Frame) : Type 0 where
+  pub no_back : f ≡ frames.Back → ⊥
+  pub no_condition : (until : Bool) (body loop : ℕ) → f ≡ frames.Condition until body loop → ⊥
+  pub no_body : (loop : ℕ) → f ≡ frames.Body loop → ⊥
+  pub no_rescue : (end count otherwise : ℕ) → f ≡ frames.Rescue end count otherwise → ⊥
+  pub no_handling : (old : Ref) → f ≡ frames.Handling old → ⊥
+  pub no_ensure : (part : ℕ) → f ≡ frames.Ensure part → ⊥
+
+pub answer_passes : (c : Code) (f : Frame) (stand : List Ref) (a : Answer) → IsUsual f → ((v : Ref) → a ≡ Gave v → ⊥) → resumed c f stand a ≡ Ret a
+answer_passes c frames.Back stand a usual other = absurd (usual.no_back refl)
+answer_passes c (frames.Condition until body loop) stand a usual other = absurd (usual.no_condition until body loop refl)
+answer_passes c (frames.Body loop) stand a usual other = absurd (usual.no_body loop refl)
+answer_passes c (frames.Rescue end count otherwise) stand a usual other = absurd (usual.no_rescue end count otherwise refl)
+answer_passes c (frames.Handling old) stand a usual other = absurd (usual.no_handling old refl)
+answer_passes c (frames.Ensure part) stand a usual other = absurd (usual.no_ensure part refl)
+answer_passes c f stand (Gave v) usual other = absurd (other v refl)
+answer_passes c _ stand (Raised e) usual other = refl
+answer_passes c _ stand (Broke v) usual other = refl
+answer_passes c _ stand (Done v) usual other = refl
+answer_passes c _ stand (Returned v) usual other = refl
 
 -- the statements of a method begin, where there may be one more frame
 pub enters : (c : Code) (fs : List Frame) (held : List Ref) (m : Method) (vs : List Ref) (new : Stack) (s : State) (n : ℕ) → nat_lt (length s.memory.calls.frames) s.memory.calls.limit ≡ true

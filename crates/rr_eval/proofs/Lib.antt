@@ -1,6 +1,7 @@
 pub mod Trees
 pub mod Classes
 pub mod Lists
+pub mod Pairing
 pub mod Pieces
 pub mod Depth
 pub mod Unknown
@@ -18,6 +19,9 @@ pub mod Serving
 pub mod Reading
 pub mod Calling
 pub mod Replying
+pub mod Filling
 pub mod Literals
 pub mod Defining
 pub mod Invoking
+pub mod Raises
+pub mod Trying

@@ -14,7 +14,8 @@ use Rattle.rr_eval.specs.declared.call.Target.TheVariants.{Do, Call as CallTarge
 use Rattle.rr_eval.specs.declared.call.Target.{Target}
 use Rattle.rr_eval.specs.Methods.{own_method}
 use Rattle.rr_eval.specs.declared.call.Task.TheVariants.{MakeArray, MakeText}
-use Rattle.rr_eval.specs.Rules.{Context, rule, statements, values, on_value, finish, printing, awaited, call_rule, not_here}
+use Rattle.rr_eval.specs.Rules.{Context, rule, statements, values, on_value, finish, printing, raises, awaited, call_rule, not_here}
+use Rattle.rr_eval.specs.Rescuing.{rescue_rule}
 use Rattle.rr_eval.specs.Nodes.{evaluated_tree, is_unknown}
 use Rattle.rr_eval.specs.Frames.{Code, resumed}
 use Rattle.rr_eval.proofs.Trees.{items_listed}
@@ -39,8 +40,8 @@ values_from c target first (suc more) held h =
     let e : first ≡ first + suc more - suc more = omega arith in
     ap (λ m. Go (tree_at c.nodes first) (resumed c (Argument target (first + suc more) m held) [])) k ∙ ap (λ p. Go (tree_at c.nodes p) (resumed c (Argument target (first + suc more) more held) [])) e
 
-pub call_is : (ns : List Node) (c : Context) (x : Sym) (first count site : ℕ) → call_rule c (own_method c.program x.0) (printing c x.0) (awaited c x.0) x (trees_before ns (first + count) count) ≡ rule c (evaluated_tree ns (Call x first count site))
-call_is ns c x first count site = ap (call_rule c (own_method c.program x.0) (printing c x.0) (awaited c x.0) x) (sym (items_listed (trees_before ns (first + count) count)))
+pub call_is : (ns : List Node) (c : Context) (x : Sym) (first count site : ℕ) → call_rule c (own_method c.program x.0) (printing c x.0) (raises c x.0) (awaited c x.0) x (trees_before ns (first + count) count) ≡ rule c (evaluated_tree ns (Call x first count site))
+call_is ns c x first count site = ap (call_rule c (own_method c.program x.0) (printing c x.0) (raises c x.0) (awaited c x.0) x) (sym (items_listed (trees_before ns (first + count) count)))
 
 pub array_is : (ns : List Node) (c : Context) (first count : ℕ) → values (trees_before ns (first + count) count) [] (finish c (Do MakeArray)) ≡ rule c (evaluated_tree ns (nodes.Array first count))
 array_is ns c first count = ap (λ ts. values ts [] (finish c (Do MakeArray))) (sym (items_listed (trees_before ns (first + count) count)))
@@ -51,6 +52,11 @@ interpolation_is ns c first count = ap (λ ts. values ts [] (finish c (Do MakeTe
 pub send_is : (ns : List Node) (c : Context) (a : ℕ) (x : Sym) (first count site : ℕ)
     → values (tree_at ns a ∷ trees_before ns (first + count) count) [] (finish c (CallTarget (callees.Name x))) ≡ rule c (evaluated_tree ns (Send a x first count site))
 send_is ns c a x first count site = ap (λ ts. values (tree_at ns a ∷ ts) [] (finish c (CallTarget (callees.Name x)))) (sym (items_listed (trees_before ns (first + count) count)))
+
+-- statements and the clauses that rescue them
+pub rescue_is : (ns : List Node) (c : Context) (a first count b : ℕ)
+    → Go (tree_at ns a) (rescue_rule c (trees_before ns (first + count) count) (tree_at ns b)) ≡ rule c (evaluated_tree ns (nodes.Rescue a first count b))
+rescue_is ns c a first count b = ap (λ ts. Go (tree_at ns a) (rescue_rule c ts (tree_at ns b))) (sym (items_listed (trees_before ns (first + count) count)))
 
 -- what is not evaluated yet
 pub unknown_rule : (ns : List Node) (c : Context) (n : Node) → is_unknown n ≡ true → rule c (evaluated_tree ns n) ≡ not_here c
@@ -63,6 +69,8 @@ unknown_rule ns c (nodes.Class k) e = absurd cc
 unknown_rule ns c (nodes.Constant (Plain x)) e = absurd cc
 unknown_rule ns c (nodes.Constant (Ractor x)) e = refl
 unknown_rule ns c (nodes.Array first count) e = absurd cc
+unknown_rule ns c (nodes.Hash first count) e = absurd cc
+unknown_rule ns c (nodes.Pairs first count) e = absurd cc
 unknown_rule ns c (nodes.Interpolation first count) e = absurd cc
 unknown_rule ns c (nodes.Local depth slot x behind) e = absurd cc
 unknown_rule ns c (nodes.Bare x site) e = absurd cc
@@ -70,6 +78,7 @@ unknown_rule ns c (nodes.Call x first count site) e = absurd cc
 unknown_rule ns c (nodes.Send a x first count site) e = absurd cc
 unknown_rule ns c (nodes.Index a b) e = absurd cc
 unknown_rule ns c (nodes.Append a b) e = absurd cc
+unknown_rule ns c (nodes.SetIndex a b d) e = absurd cc
 unknown_rule ns c (nodes.And a b) e = absurd cc
 unknown_rule ns c (nodes.Or a b) e = absurd cc
 unknown_rule ns c (nodes.Not a) e = absurd cc
@@ -83,5 +92,9 @@ unknown_rule ns c (nodes.Choose a b d) e = absurd cc
 unknown_rule ns c (nodes.Loop until a b) e = absurd cc
 unknown_rule ns c (nodes.Sequence first count) e = absurd cc
 unknown_rule ns c (nodes.Item a) e = absurd cc
+unknown_rule ns c (nodes.Break a) e = absurd cc
+unknown_rule ns c (nodes.Next a) e = absurd cc
 unknown_rule ns c (nodes.Return a) e = absurd cc
+unknown_rule ns c (nodes.Rescue a first count b) e = absurd cc
+unknown_rule ns c (nodes.Ensure a b) e = absurd cc
 unknown_rule ns c _ e = refl

@@ -1,10 +1,10 @@
 -- An evaluation takes no object away.
-use Rattle.std.proofs.Common.{◌≡◌, nat_eq, nat_lt, slice_index_or, ap, sym, subst, if◌then◌else◌, ◌≤◌, ℕ, zero, suc, Bool, arith, List, [], ◌∷◌, ◌++◌, length, length-append, reverse, Option, Some, None, true, false}
+use Rattle.std.proofs.Common.{◌≡◌, nat_eq, nat_lt, slice_index_or, ap, sym, subst, if◌then◌else◌, ◌≤◌, ◌-◌, ℕ, zero, suc, Bool, arith, List, [], ◌∷◌, ◌++◌, length, length-append, reverse, Option, Some, None, true, false}
 use Rattle.rr_base.specs.Classes.{class_id}
 use Rattle.rr_eval.specs.Constants.{class_named}
 use Rattle.rr_base.specs.declared.class.BuiltInClass.{BuiltInClass}
 use Rattle.rr_base.specs.declared.name.Sym.{Sym}
-use Rattle.rr_base.specs.declared.name.TheConstants.ClassId.{OBJECT, RACTOR}
+use Rattle.rr_base.specs.declared.name.TheConstants.ClassId.{OBJECT, RACTOR, RUNTIME_ERROR, STANDARD_ERROR}
 use Rattle.rr_tree.specs.declared.node.Path.TheVariants.{Plain}
 use Rattle.rr_base.specs.declared.name.ClassId.{ClassId}
 use Rattle.rr_space.specs.Tables.{Table, Here}
@@ -14,25 +14,25 @@ use Rattle.rr_space.specs.declared.refer.Ref.TheVariants.{Int, Local}
 use Rattle.rr_space.specs.declared.refer.Ref.TheVariants as refs
 use Rattle.rr_builtin.specs.Objects.{is_truthy}
 use Rattle.rr_eval.specs.Values.{goes_on}
-use Rattle.rr_tree.specs.Tree.{tree_at, Tree, nil, truth, int, text, symbol, class_named as class_tree, constant, array, interpolation, send, index, append, local, bare, call, logical_and, logical_or, logical_not, negate, binary, assign, choose, repeat, sequence, return, operator_assign, or_assign, and_assign}
+use Rattle.rr_tree.specs.Tree.{tree_at, Tree, nil, truth, int, text, symbol, class_named as class_tree, constant, array, hash, pairs, interpolation, send, index, set_index, append, local, bare, call, logical_and, logical_or, logical_not, negate, binary, assign, choose, repeat, sequence, break, next as next_tree, return, rescue, ensure, operator_assign, or_assign, and_assign}
 use Rattle.rr_frames.specs.Frames.{read_last}
 use Rattle.rr_tree.specs.declared.node.BinaryOperator.{BinaryOperator}
 use Rattle.rr_tree.specs.declared.program.Program.{Program}
 use Rattle.rr_eval.specs.declared.problem.Answer.{Answer}
-use Rattle.rr_eval.specs.declared.problem.Answer.TheVariants.{Gave, Raised, Returned}
+use Rattle.rr_eval.specs.declared.problem.Answer.TheVariants.{Gave, Raised, Broke, Done, Returned}
 use Rattle.rr_eval.specs.declared.call.Callee.TheVariants as callees
 use Rattle.rr_eval.specs.declared.call.Target.{Target}
-use Rattle.rr_eval.specs.declared.call.Target.TheVariants.{Do as DoTarget, Call, Own}
+use Rattle.rr_eval.specs.declared.call.Target.TheVariants.{Do as DoTarget, Call, Own, Raise}
 use Rattle.rr_eval.specs.declared.call.Task.{Task}
-use Rattle.rr_eval.specs.declared.call.Task.TheVariants.{MakeArray, MakeText}
+use Rattle.rr_eval.specs.declared.call.Task.TheVariants.{MakeArray, MakeText, MakeHash}
 use Rattle.rr_eval.specs.declared.problem.Response.{Response}
 use Rattle.rr_eval.specs.declared.problem.Response.TheVariants.{Gives, Throws, Fails}
 use Rattle.rr_eval.specs.declared.problem.Problem.{Problem}
-use Rattle.rr_eval.specs.declared.problem.Problem.TheVariants.{BuiltIn, MissingMethod, MissingName, MissingConstant, NotHere}
-use Rattle.rr_builtin.specs.declared.problem.Problem.TheVariants.{Count, TooDeep}
+use Rattle.rr_eval.specs.declared.problem.Problem.TheVariants.{BuiltIn, MissingMethod, MissingName, MissingConstant, NotRaisable, Unhandled, NotHere}
+use Rattle.rr_builtin.specs.declared.problem.Problem.TheVariants.{Count, TooDeep, Moved, WrongType}
 use Rattle.rr_builtin.specs.declared.problem.Receiver.TheVariants.{Instance}
 use Rattle.rr_eval.specs.declared.frame.Frame.{Frame}
-use Rattle.rr_eval.specs.declared.frame.Frame.TheVariants.{Not, Negation, And, Or, Left, Right, Store, Branch, Condition, Body, Return, Back, Rest, Argument}
+use Rattle.rr_eval.specs.declared.frame.Frame.TheVariants.{Not, Negation, And, Or, Left, Right, Store, Branch, Condition, Body, Break, Next, Return, Back, Rest, Argument, Key, Value, Element, Rescue, Class, Handling, Ensure, Kept}
 use Rattle.rr_eval.specs.Script.{Memory, State, Script, Ret, Go, See, Do, Ask, Asked, Reply, World, Outcome, Ended, Spent, Waits, Evaluation, run, after, taken, objects_of}
 use Rattle.rr_eval.specs.Requests.{Course, Adds, AddsTo, asking}
 use Rattle.rr_base.specs.declared.fault.Fault.{Fault}
@@ -41,12 +41,20 @@ use Rattle.rr_eval.specs.Acts.{Passes}
 use Rattle.rr_eval.specs.Turns.{context_of, code_of, state_of, after_script, asking_then}
 use Rattle.rr_builtin.specs.Acts.{with_text}
 use Rattle.rr_eval.specs.Operators.{make, integers, opposite}
-use Rattle.rr_eval.specs.Rules.{Context, items, throw, raise, settled, on_value, with_value, on_table, operation, negation, statements, values, finish, printing, awaited, bare_rule, constant_rule, not_here, call_rule, own_rule, back, slot_of, update_rule, or_rule, and_rule, write, rule, eval}
+use Rattle.rr_eval.specs.Rules.{Context, items, throw, raise, settled, on_value, with_value, in_loop, turn_rule, on_table, operation, negation, statements, values, pair_parts, finish, printing, raises, awaited, bare_rule, constant_rule, not_here, call_rule, own_rule, back, slot_of, update_rule, or_rule, and_rule, write, rule, eval}
 use Rattle.rr_eval.specs.Methods.{Method, own_method}
+use Rattle.rr_eval.specs.Raising.{message_or_nil, raise_new, raise_kind, raise_again, raise_rule}
+use Rattle.rr_eval.specs.Rescuing.{class_parts, taken_by, with_caught, fitted, tried_classes, tried_clause, tried, else_rule, rescue_rule, ensure_rule, target_part}
+use Rattle.rr_builtin.specs.Classes.{descends}
+use Rattle.rr_space.specs.Kinds.{class_at}
+use Rattle.rr_builtin.specs.News.{is_exception_class}
+use Rattle.rr_space.specs.Kinds.{kind_at}
+use Rattle.rr_space.specs.declared.kind.Kind.{Kind}
+use Rattle.rr_space.specs.declared.kind.Kind.TheVariants as kinds
 use Rattle.rr_tree.specs.Nodes.{trees_before}
 use Rattle.rr_eval.specs.Messages.{message, exception_class}
 use Rattle.rr_eval.specs.Exceptions.{exception_object, with_exception}
-use Rattle.rr_eval.specs.Frames.{Code, means, runs_in, resumed, stand_of, below_of, unwind}
+use Rattle.rr_eval.specs.Frames.{Code, means, runs_in, taker, behind_class, resumed, stand_of, below_of, unwind}
 
 -- the objects of a table
 abbrev count : Table → ℕ
@@ -67,13 +75,22 @@ Keeps (Ask q next) = (r : Response) → Keeps (next r)
 on_value_keeps : (next : Ref → Script) → ((v : Ref) → Keeps (next v)) → (a : Answer) → Keeps (on_value next a)
 on_value_keeps next h (Gave v) = h v
 on_value_keeps next h (Raised e) = tt
+on_value_keeps next h (Broke v) = tt
+on_value_keeps next h (Done v) = tt
 on_value_keeps next h (Returned v) = tt
 
-exception_keeps : (class : ClassId) (message : Ref) (t : Table) → count t ≤ count (with_exception class message t)
-exception_keeps class message t = omega (arith, length-append t.slots (Here (exception_object class message) ∷ []))
+loop_keeps : (again : Script) (next : Ref → Script) → Keeps again → ((v : Ref) → Keeps (next v)) → (a : Answer) → Keeps (in_loop again next a)
+loop_keeps again next kept h (Gave v) = h v
+loop_keeps again next kept h (Raised e) = tt
+loop_keeps again next kept h (Broke v) = tt
+loop_keeps again next kept h (Done v) = kept
+loop_keeps again next kept h (Returned v) = tt
+
+exception_keeps : (class : ClassId) (message cause : Ref) (t : Table) → count t ≤ count (with_exception class message cause t)
+exception_keeps class message cause t = omega (arith, length-append t.slots (Here (exception_object class message cause) ∷ []))
 
 raise_keeps : (class : ClassId) (message : Ref) → Keeps (raise class message)
-raise_keeps class message = λ m. (λ k. exception_keeps class message k.table, tt)
+raise_keeps class message = λ m. (λ k. exception_keeps class message k.rescuing k.table, tt)
 
 throw_keeps : (c : Context) (e : Problem) → Keeps (throw c e)
 throw_keeps c e = λ m. (λ k. make_keeps false (message c e) k.table, raise_keeps (class_id (exception_class e)) (Local (length m.table.slots)))
@@ -105,11 +122,39 @@ own_keeps c x (Some m) vs =
     (λ k. if_keeps (nat_lt (length k.calls.frames) k.calls.limit) _ _ (λ l. omega arith, λ a. back_keeps a) (throw_keeps c (BuiltIn TooDeep)))
     (throw_keeps c (BuiltIn (Count (length vs) m.parameters m.parameters)))
 
+raise_new_keeps : (c : Context) (v : Ref) (message : Option Ref) → Keeps (raise_new c v message)
+raise_new_keeps c (refs.Class k) message = if_keeps (is_exception_class c.program k.0) (raise k (message_or_nil message)) (throw c NotRaisable) (raise_keeps k (message_or_nil message)) (throw_keeps c NotRaisable)
+raise_new_keeps c refs.Nil message = throw_keeps c NotRaisable
+raise_new_keeps c (refs.Truth b) message = throw_keeps c NotRaisable
+raise_new_keeps c (Int z) message = throw_keeps c NotRaisable
+raise_new_keeps c (refs.Symbol s) message = throw_keeps c NotRaisable
+raise_new_keeps c (refs.Ractor r) message = throw_keeps c NotRaisable
+raise_new_keeps c (Local n) message = throw_keeps c NotRaisable
+raise_new_keeps c (refs.Shared p o) message = throw_keeps c NotRaisable
+
+raise_kind_keeps : (c : Context) (v : Ref) (message : Option Ref) (kind : Kind) → Keeps (raise_kind c v message kind)
+raise_kind_keeps c v message kinds.Shell = throw_keeps c (BuiltIn Moved)
+raise_kind_keeps c v None kinds.Text = raise_keeps RUNTIME_ERROR v
+raise_kind_keeps c v None kinds.Exception = tt
+raise_kind_keeps c v None _ = raise_new_keeps c v None
+raise_kind_keeps c v (Some w) _ = raise_new_keeps c v (Some w)
+
+again_keeps : (c : Context) (e : Ref) → Keeps (raise_again c e)
+again_keeps c refs.Nil = throw_keeps c Unhandled
+again_keeps c _ = tt
+
+raise_rule_keeps : (c : Context) (vs : List Ref) → Keeps (raise_rule c vs)
+raise_rule_keeps c [] = λ m. again_keeps c m.rescuing
+raise_rule_keeps c (v ∷ []) = λ m. raise_kind_keeps c v None (kind_at m.table v)
+raise_rule_keeps c (v ∷ w ∷ []) = λ m. raise_kind_keeps c v (Some w) (kind_at m.table v)
+raise_rule_keeps c (v ∷ w ∷ x ∷ vs) = throw_keeps c (BuiltIn (Count (length (v ∷ w ∷ x ∷ vs)) 0 2))
+
 finish_keeps : (c : Context) (target : Target) (vs : List Ref) → Keeps (finish c target vs)
 finish_keeps c (DoTarget task) vs = λ m. settled_keeps c
 finish_keeps c (Call callee) [] = tt
 finish_keeps c (Call callee) (v ∷ vs) = settled_keeps c
 finish_keeps c (Own x) vs = own_keeps c x (own_method c.program x.0) vs
+finish_keeps c Raise vs = raise_rule_keeps c vs
 
 statements_keep : (ts : List Tree) → Keeps (statements ts)
 statements_keep [] = tt
@@ -120,24 +165,25 @@ values_keep : (c : Context) (target : Target) (ts : List Tree) (stand : List Ref
 values_keep c target [] stand = finish_keeps c target stand
 values_keep c target (t ∷ ts) stand = on_value_keeps (λ v. values ts (stand ++ v ∷ []) (finish c target)) (λ v. values_keep c target ts (stand ++ v ∷ []))
 
-round_keeps : (b : Bool) (body loop : Tree) → Keeps (if b then with_value body (λ w. Go loop Ret) else Ret (Gave refs.Nil))
-round_keeps true body loop = on_value_keeps _ (λ w. λ a. tt)
-round_keeps false body loop = tt
+turn_keeps : (until : Bool) (body : Tree) (again : Script) → Keeps again → (v : Ref) → Keeps (turn_rule until body again v)
+turn_keeps until body again kept v = if_keeps (goes_on until v) _ (Ret (Gave refs.Nil)) (loop_keeps again (λ w. again) kept (λ w. kept)) tt
 
-bare_keeps : (c : Context) (m : Option Method) (task : Option Task) (x : Sym) → Keeps (bare_rule c m task x)
-bare_keeps c (Some m) task x = finish_keeps c (Own x) []
-bare_keeps c None (Some task) x = finish_keeps c (DoTarget task) []
-bare_keeps c None None x = throw_keeps c (MissingName x)
+bare_keeps : (c : Context) (m : Option Method) (task : Option Task) (raises : Bool) (x : Sym) → Keeps (bare_rule c m task raises x)
+bare_keeps c (Some m) task raises x = finish_keeps c (Own x) []
+bare_keeps c None (Some task) raises x = finish_keeps c (DoTarget task) []
+bare_keeps c None None true x = finish_keeps c Raise []
+bare_keeps c None None false x = throw_keeps c (MissingName x)
 
 constant_keeps : (c : Context) (class : Option BuiltInClass) (x : Sym) → Keeps (constant_rule c class x)
 constant_keeps c (Some k) x = if_keeps (nat_eq (class_id k).0 RACTOR.0) (not_here c) (Ret (Gave (refs.Class (class_id k)))) (throw_keeps c NotHere) tt
 constant_keeps c None x = throw_keeps c (MissingConstant x)
 
-call_keeps : (c : Context) (m : Option Method) (task : Option Task) (later : Bool) (x : Sym) (ts : List Tree) → Keeps (call_rule c m task later x ts)
-call_keeps c (Some m) task later x ts = values_keep c (Own x) ts []
-call_keeps c None (Some task) later x ts = values_keep c (DoTarget task) ts []
-call_keeps c None None true x ts = throw_keeps c NotHere
-call_keeps c None None false x ts = values_keep c (Own x) ts []
+call_keeps : (c : Context) (m : Option Method) (task : Option Task) (raises later : Bool) (x : Sym) (ts : List Tree) → Keeps (call_rule c m task raises later x ts)
+call_keeps c (Some m) task raises later x ts = values_keep c (Own x) ts []
+call_keeps c None (Some task) raises later x ts = values_keep c (DoTarget task) ts []
+call_keeps c None None true later x ts = values_keep c Raise ts []
+call_keeps c None None false true x ts = throw_keeps c NotHere
+call_keeps c None None false false x ts = values_keep c (Own x) ts []
 
 -- a variable that gets a value
 written_keeps : (slot : ℕ) (t : Tree) → Keeps (with_value t (λ v. write slot v))
@@ -155,6 +201,49 @@ and_keeps : (c : Context) (b : Tree) (slot : Option ℕ) → Keeps (and_rule c b
 and_keeps c b (Some slot) = λ m. if_keeps (is_truthy (read_last slot m.calls.frames)) (with_value b (λ v. write slot v)) (Ret (Gave (read_last slot m.calls.frames))) (written_keeps slot b) tt
 and_keeps c b None = throw_keeps c NotHere
 
+caught_keeps : (slot : Option ℕ) (e : Ref) (m : Memory) → count m.table ≤ count (with_caught slot e m).table
+caught_keeps None e m = omega arith
+caught_keeps (Some x) e m = omega arith
+
+taken_keep : (t : Tree) (e : Ref) → Keeps (taken_by t e)
+taken_keep t e = λ m. (λ k. caught_keeps (slot_of (target_part t)) e k, λ a. (λ k. omega arith, tt))
+
+fitted_keeps : (c : Context) (e v : Ref) (take other : Script) → Keeps take → Keeps other → Keeps (fitted c e v take other)
+fitted_keeps c e (refs.Class k) take other kept rest = λ m. if_keeps (descends c.program (class_at m.table e).0 k.0) take other kept rest
+fitted_keeps c e refs.Nil take other kept rest = λ m. throw_keeps c (BuiltIn (WrongType (class_at m.table refs.Nil)))
+fitted_keeps c e (refs.Truth b) take other kept rest = λ m. throw_keeps c (BuiltIn (WrongType (class_at m.table (refs.Truth b))))
+fitted_keeps c e (Int z) take other kept rest = λ m. throw_keeps c (BuiltIn (WrongType (class_at m.table (Int z))))
+fitted_keeps c e (refs.Symbol s) take other kept rest = λ m. throw_keeps c (BuiltIn (WrongType (class_at m.table (refs.Symbol s))))
+fitted_keeps c e (refs.Ractor r) take other kept rest = λ m. throw_keeps c (BuiltIn (WrongType (class_at m.table (refs.Ractor r))))
+fitted_keeps c e (Local n) take other kept rest = λ m. throw_keeps c (BuiltIn (WrongType (class_at m.table (Local n))))
+fitted_keeps c e (refs.Shared p o) take other kept rest = λ m. throw_keeps c (BuiltIn (WrongType (class_at m.table (refs.Shared p o))))
+
+classes_keep : (c : Context) (e : Ref) (ts : List Tree) (take other : Script) → Keeps take → Keeps other → Keeps (tried_classes c e ts take other)
+classes_keep c e [] take other kept rest = rest
+classes_keep c e (t ∷ ts) take other kept rest = on_value_keeps _ (λ v. fitted_keeps c e v take (tried_classes c e ts take other) kept (classes_keep c e ts take other kept rest))
+
+clause_keeps : (c : Context) (e : Ref) (ts : List Tree) (take other : Script) → Keeps take → Keeps other → Keeps (tried_clause c e ts take other)
+clause_keeps c e [] take other kept rest = fitted_keeps c e (refs.Class STANDARD_ERROR) take other kept rest
+clause_keeps c e (t ∷ ts) take other kept rest = classes_keep c e (t ∷ ts) take other kept rest
+
+tried_keeps : (c : Context) (e : Ref) (ts : List Tree) → Keeps (tried c e ts)
+tried_keeps c e [] = tt
+tried_keeps c e (t ∷ ts) = clause_keeps c e (class_parts t) (taken_by t e) (tried c e ts) (taken_keep t e) (tried_keeps c e ts)
+
+else_keeps : (t : Tree) (v : Ref) → Keeps (else_rule t v)
+else_keeps nil v = tt
+else_keeps _ v = λ a. tt
+
+rescue_keeps : (c : Context) (clauses : List Tree) (otherwise : Tree) (a : Answer) → Keeps (rescue_rule c clauses otherwise a)
+rescue_keeps c clauses otherwise (Gave v) = else_keeps otherwise v
+rescue_keeps c clauses otherwise (Raised e) = tried_keeps c e clauses
+rescue_keeps c clauses otherwise (Broke v) = tt
+rescue_keeps c clauses otherwise (Done v) = tt
+rescue_keeps c clauses otherwise (Returned v) = tt
+
+ensure_keeps : (t : Tree) (a : Answer) → Keeps (ensure_rule t a)
+ensure_keeps t a = on_value_keeps _ (λ v. tt)
+
 rule_keeps : (c : Context) (tree : Tree) → Keeps (rule c tree)
 rule_keeps c nil = tt
 rule_keeps c (truth b) = tt
@@ -164,13 +253,16 @@ rule_keeps c (class_tree k) = tt
 rule_keeps c (send a x list) = values_keep c (Call (callees.Name (record { 0 = x }))) (a ∷ items list) []
 rule_keeps c (index a b) = values_keep c (Call callees.Index) (a ∷ b ∷ []) []
 rule_keeps c (append a b) = values_keep c (Call callees.Append) (a ∷ b ∷ []) []
+rule_keeps c (set_index a b d) = values_keep c (Call callees.SetIndex) (a ∷ b ∷ d ∷ []) []
 rule_keeps c (array list) = values_keep c (DoTarget MakeArray) (items list) []
+rule_keeps c (hash list) = values_keep c (DoTarget MakeHash) (pair_parts (items list)) []
+rule_keeps c (pairs list) = values_keep c (DoTarget MakeHash) (pair_parts (items list)) []
 rule_keeps c (interpolation list) = values_keep c (DoTarget MakeText) (items list) []
 rule_keeps c (constant (Plain x)) = constant_keeps c (class_named (slice_index_or c.symbols x.0 [])) x
 rule_keeps c (text i) = λ m. (λ k. make_keeps c.program.freezes _ k.table, tt)
 rule_keeps c (local depth slot x behind) = λ m. tt
-rule_keeps c (bare x) = bare_keeps c (own_method c.program x) (printing c x) (record { 0 = x })
-rule_keeps c (call x list) = call_keeps c (own_method c.program x) (printing c x) (awaited c x) (record { 0 = x }) (items list)
+rule_keeps c (bare x) = bare_keeps c (own_method c.program x) (printing c x) (raises c x) (record { 0 = x })
+rule_keeps c (call x list) = call_keeps c (own_method c.program x) (printing c x) (raises c x) (awaited c x) (record { 0 = x }) (items list)
 rule_keeps c (logical_and a b) = on_value_keeps _ (λ v. if_keeps (is_truthy v) (Go b Ret) (Ret (Gave v)) (λ a'. tt) tt)
 rule_keeps c (logical_or a b) = on_value_keeps _ (λ v. if_keeps (is_truthy v) (Ret (Gave v)) (Go b Ret) tt (λ a'. tt))
 rule_keeps c (logical_not a) = on_value_keeps _ (λ v. tt)
@@ -181,9 +273,13 @@ rule_keeps c (operator_assign op a b) = update_keeps c op a b (slot_of a)
 rule_keeps c (or_assign a b) = or_keeps c b (slot_of a)
 rule_keeps c (and_assign a b) = and_keeps c b (slot_of a)
 rule_keeps c (choose a b d) = on_value_keeps _ (λ v. λ a'. tt)
-rule_keeps c (repeat until a b) = on_value_keeps _ (λ v. round_keeps (goes_on until v) b (repeat until a b))
+rule_keeps c (repeat until a b) = loop_keeps (Go (repeat until a b) Ret) _ (λ x. tt) (turn_keeps until b (Go (repeat until a b) Ret) (λ x. tt))
 rule_keeps c (sequence list) = statements_keep (items list)
+rule_keeps c (break a) = on_value_keeps _ (λ v. tt)
+rule_keeps c (next_tree a) = on_value_keeps _ (λ v. tt)
 rule_keeps c (return a) = on_value_keeps _ (λ v. tt)
+rule_keeps c (rescue a list b) = rescue_keeps c (items list) b
+rule_keeps c (ensure a b) = ensure_keeps b
 rule_keeps c _ = throw_keeps c NotHere
 
 resumed_keeps : (c : Code) (f : Frame) (stand : List Ref) (a : Answer) → Keeps (resumed c f stand a)
@@ -195,12 +291,25 @@ resumed_keeps c (Left op b) stand = on_value_keeps _ (λ v. on_value_keeps _ (λ
 resumed_keeps c (Right op v) stand = on_value_keeps _ (λ w. operates c.context op v w)
 resumed_keeps c (Store x) stand = on_value_keeps _ (λ v. (λ m. omega arith, tt))
 resumed_keeps c (Branch b d) stand = on_value_keeps _ (λ v. λ a. tt)
-resumed_keeps c (Condition until body loop) stand = on_value_keeps _ (λ v. round_keeps (goes_on until v) (tree_at c.nodes body) (tree_at c.nodes loop))
-resumed_keeps c (Body loop) stand = on_value_keeps _ (λ w. λ a. tt)
+resumed_keeps c (Condition until body loop) stand = loop_keeps (Go (tree_at c.nodes loop) Ret) _ (λ x. tt) (turn_keeps until (tree_at c.nodes body) (Go (tree_at c.nodes loop) Ret) (λ x. tt))
+resumed_keeps c (Body loop) stand = loop_keeps (Go (tree_at c.nodes loop) Ret) _ (λ x. tt) (λ w. λ x. tt)
+resumed_keeps c Break stand = on_value_keeps _ (λ v. tt)
+resumed_keeps c Next stand = on_value_keeps _ (λ v. tt)
 resumed_keeps c Return stand = on_value_keeps _ (λ v. tt)
 resumed_keeps c Back stand = back_keeps
 resumed_keeps c (Rest end more) stand = on_value_keeps _ (λ v. statements_keep (trees_before c.nodes end more))
 resumed_keeps c (Argument target end more base) stand = on_value_keeps _ (λ v. values_keep c.context target (trees_before c.nodes end more) (stand ++ v ∷ []))
+resumed_keeps c (Key next end more base) stand = on_value_keeps _ (λ v. values_keep c.context (DoTarget MakeHash) (tree_at c.nodes next ∷ pair_parts (trees_before c.nodes end more)) (stand ++ v ∷ []))
+resumed_keeps c (Value end more base) stand = on_value_keeps _ (λ v. values_keep c.context (DoTarget MakeHash) (pair_parts (trees_before c.nodes end more)) (stand ++ v ∷ []))
+resumed_keeps c (Element b end) stand = on_value_keeps _ (λ v. values_keep c.context (Call callees.SetIndex) (tree_at c.nodes b ∷ trees_before c.nodes end 1) (v ∷ []))
+resumed_keeps c (Rescue end more otherwise) stand = rescue_keeps c.context (trees_before c.nodes end more) (tree_at c.nodes otherwise)
+resumed_keeps c (Class r) stand =
+    let other = tried c.context r.exception (trees_before c.nodes r.end r.clauses) in
+    let kept = taken_keep (tree_at c.nodes (r.end - suc r.clauses)) r.exception in
+    on_value_keeps _ (λ v. fitted_keeps c.context r.exception v (taker c r) (behind_class c r) kept (classes_keep c.context r.exception (trees_before c.nodes r.last r.classes) (taker c r) other kept (tried_keeps c.context r.exception (trees_before c.nodes r.end r.clauses))))
+resumed_keeps c (Handling old) stand = λ a. (λ m. omega arith, tt)
+resumed_keeps c (Ensure part) stand = ensure_keeps (tree_at c.nodes part)
+resumed_keeps c (Kept a) stand = on_value_keeps _ (λ v. tt)
 
 -- an evaluation that takes no object away
 abbrev KeepsAll : Evaluation → Type 0
@@ -269,10 +378,10 @@ throw_passes p m t e f h n adds passes = λ is.
     let kept = script_keeps p m made (raise (class_id (exception_class e)) (Local (length t.slots))) h n adds (raise_keeps (class_id (exception_class e)) (Local (length t.slots))) in
     omega arith
 
-pub raise_passes : (p : Program) (m : View) (t : Table) (class : ClassId) (message : Ref) (f : Fault) (h : Course) (n : ℕ) → Adds h.world → Passes f t.limit (length (with_exception class message t).slots) → Passes f t.limit (objects_of (after_script p m t (raise class message) h n))
+pub raise_passes : (p : Program) (m : View) (t : Table) (class : ClassId) (message : Ref) (f : Fault) (h : Course) (n : ℕ) → Adds h.world → Passes f t.limit (length (with_exception class message m.rescuing t).slots) → Passes f t.limit (objects_of (after_script p m t (raise class message) h n))
 raise_passes p m t class message f h n adds passes = λ is.
     let more = passes is in
-    let made = with_exception class message t in
+    let made = with_exception class message m.rescuing t in
     let kept = script_keeps p m made (Ret (Raised (Local (length t.slots)))) h n adds tt in
     omega arith
 

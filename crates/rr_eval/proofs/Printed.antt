@@ -9,9 +9,10 @@ use Rattle.rr_eval.specs.declared.problem.Answer.{Answer}
 use Rattle.rr_eval.specs.declared.problem.Response.{Response}
 use Rattle.rr_eval.specs.declared.frame.Frame.{Frame}
 use Rattle.rr_eval.specs.declared.frame.Control.{Control}
-use Rattle.rr_eval.specs.declared.frame.Control.TheVariants.{Enter, Operate, Give, Throw, Raise}
+use Rattle.rr_eval.specs.declared.frame.Control.TheVariants.{Enter, Operate, Give, Throw, Raise, RaiseValue}
 use Rattle.rr_eval.specs.Script.{State, Script, Ret, Go, See, Do, Ask, Asked, Reply, World, Outcome, Ended, Spent, Waits, Evaluation, run, after, taken}
 use Rattle.rr_eval.specs.Rules.{Context, throw, raise, settled, rule, eval}
+use Rattle.rr_eval.specs.Raising.{raise_value}
 use Rattle.rr_eval.specs.Requests.{Course}
 use Rattle.rr_eval.specs.Frames.{Code, means, runs_in, resumed, stand_of, below_of, unwind, start}
 use Rattle.rr_eval.specs.View.{View}
@@ -79,6 +80,7 @@ module _ (own : Context) where
   start_grows c (Give a) s n = beginning-refl (text_asked own s.asked)
   start_grows c (Throw e) s n = run_grows c.world (means c) (meaning_grows c) (throw c.context e) s n
   start_grows c (Raise class message) s n = run_grows c.world (means c) (meaning_grows c) (raise class message) s n
+  start_grows c (RaiseValue v message) s n = run_grows c.world (means c) (meaning_grows c) (raise_value c.context v message) s n
 
   -- what is still to be done prints behind what was printed
   pub remaining_grows : (p : Program) (m : View) (t : Table) (h : Course) → IsBeginning (text_asked own h.asked) (text_of own (remaining p m t h))

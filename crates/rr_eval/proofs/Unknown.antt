@@ -18,6 +18,8 @@ pub record IsNone (n : Node) : Type 0 where
   pub no_class : (x0 : ClassId) → n ≡ nodes.Class x0 → ⊥
   pub no_constant : (x0 : Path) → n ≡ nodes.Constant x0 → ⊥
   pub no_array : (x0 : ℕ) (x1 : ℕ) → n ≡ nodes.Array x0 x1 → ⊥
+  pub no_hash : (x0 : ℕ) (x1 : ℕ) → n ≡ nodes.Hash x0 x1 → ⊥
+  pub no_pairs : (x0 : ℕ) (x1 : ℕ) → n ≡ nodes.Pairs x0 x1 → ⊥
   pub no_interpolation : (x0 : ℕ) (x1 : ℕ) → n ≡ nodes.Interpolation x0 x1 → ⊥
   pub no_local : (x0 : ℕ) (x1 : ℕ) (x2 : Sym) (x3 : ℕ) → n ≡ nodes.Local x0 x1 x2 x3 → ⊥
   pub no_bare : (x0 : Sym) (x1 : ℕ) → n ≡ nodes.Bare x0 x1 → ⊥
@@ -25,6 +27,7 @@ pub record IsNone (n : Node) : Type 0 where
   pub no_send : (x0 : ℕ) (x1 : Sym) (x2 : ℕ) (x3 : ℕ) (x4 : ℕ) → n ≡ nodes.Send x0 x1 x2 x3 x4 → ⊥
   pub no_index : (x0 : ℕ) (x1 : ℕ) → n ≡ nodes.Index x0 x1 → ⊥
   pub no_append : (x0 : ℕ) (x1 : ℕ) → n ≡ nodes.Append x0 x1 → ⊥
+  pub no_set_index : (x0 : ℕ) (x1 : ℕ) (x2 : ℕ) → n ≡ nodes.SetIndex x0 x1 x2 → ⊥
   pub no_and : (x0 : ℕ) (x1 : ℕ) → n ≡ nodes.And x0 x1 → ⊥
   pub no_or : (x0 : ℕ) (x1 : ℕ) → n ≡ nodes.Or x0 x1 → ⊥
   pub no_not : (x0 : ℕ) → n ≡ nodes.Not x0 → ⊥
@@ -38,7 +41,11 @@ pub record IsNone (n : Node) : Type 0 where
   pub no_loop : (x0 : Bool) (x1 : ℕ) (x2 : ℕ) → n ≡ nodes.Loop x0 x1 x2 → ⊥
   pub no_sequence : (x0 : ℕ) (x1 : ℕ) → n ≡ nodes.Sequence x0 x1 → ⊥
   pub no_item : (x0 : ℕ) → n ≡ nodes.Item x0 → ⊥
+  pub no_break : (x0 : ℕ) → n ≡ nodes.Break x0 → ⊥
+  pub no_next : (x0 : ℕ) → n ≡ nodes.Next x0 → ⊥
   pub no_return : (x0 : ℕ) → n ≡ nodes.Return x0 → ⊥
+  pub no_rescue : (x0 : ℕ) (x1 : ℕ) (x2 : ℕ) (x3 : ℕ) → n ≡ nodes.Rescue x0 x1 x2 x3 → ⊥
+  pub no_ensure : (x0 : ℕ) (x1 : ℕ) → n ≡ nodes.Ensure x0 x1 → ⊥
 
 pub unknown_else : (n : Node) → IsNone n → is_unknown n ≡ true
 unknown_else nodes.Nil h = absurd (h.no_nil refl)
@@ -49,6 +56,8 @@ unknown_else (nodes.Symbol x0) h = absurd (h.no_symbol x0 refl)
 unknown_else (nodes.Class x0) h = absurd (h.no_class x0 refl)
 unknown_else (nodes.Constant x0) h = absurd (h.no_constant x0 refl)
 unknown_else (nodes.Array x0 x1) h = absurd (h.no_array x0 x1 refl)
+unknown_else (nodes.Hash x0 x1) h = absurd (h.no_hash x0 x1 refl)
+unknown_else (nodes.Pairs x0 x1) h = absurd (h.no_pairs x0 x1 refl)
 unknown_else (nodes.Interpolation x0 x1) h = absurd (h.no_interpolation x0 x1 refl)
 unknown_else (nodes.Local x0 x1 x2 x3) h = absurd (h.no_local x0 x1 x2 x3 refl)
 unknown_else (nodes.Bare x0 x1) h = absurd (h.no_bare x0 x1 refl)
@@ -56,6 +65,7 @@ unknown_else (nodes.Call x0 x1 x2 x3) h = absurd (h.no_call x0 x1 x2 x3 refl)
 unknown_else (nodes.Send x0 x1 x2 x3 x4) h = absurd (h.no_send x0 x1 x2 x3 x4 refl)
 unknown_else (nodes.Index x0 x1) h = absurd (h.no_index x0 x1 refl)
 unknown_else (nodes.Append x0 x1) h = absurd (h.no_append x0 x1 refl)
+unknown_else (nodes.SetIndex x0 x1 x2) h = absurd (h.no_set_index x0 x1 x2 refl)
 unknown_else (nodes.And x0 x1) h = absurd (h.no_and x0 x1 refl)
 unknown_else (nodes.Or x0 x1) h = absurd (h.no_or x0 x1 refl)
 unknown_else (nodes.Not x0) h = absurd (h.no_not x0 refl)
@@ -69,5 +79,9 @@ unknown_else (nodes.Choose x0 x1 x2) h = absurd (h.no_choose x0 x1 x2 refl)
 unknown_else (nodes.Loop x0 x1 x2) h = absurd (h.no_loop x0 x1 x2 refl)
 unknown_else (nodes.Sequence x0 x1) h = absurd (h.no_sequence x0 x1 refl)
 unknown_else (nodes.Item x0) h = absurd (h.no_item x0 refl)
+unknown_else (nodes.Break x0) h = absurd (h.no_break x0 refl)
+unknown_else (nodes.Next x0) h = absurd (h.no_next x0 refl)
 unknown_else (nodes.Return x0) h = absurd (h.no_return x0 refl)
+unknown_else (nodes.Rescue x0 x1 x2 x3) h = absurd (h.no_rescue x0 x1 x2 x3 refl)
+unknown_else (nodes.Ensure x0 x1) h = absurd (h.no_ensure x0 x1 refl)
 unknown_else _ h = refl

@@ -5,7 +5,7 @@ use Rattle.rr_space.specs.declared.refer.Ref.{Ref}
 use Rattle.rr_tree.specs.Tree.{tree_at}
 use Rattle.rr_eval.specs.declared.problem.Answer.{Answer}
 use Rattle.rr_eval.specs.declared.frame.Frame.{Frame}
-use Rattle.rr_eval.specs.declared.frame.Frame.TheVariants.{Left, Argument}
+use Rattle.rr_eval.specs.declared.frame.Frame.TheVariants.{Left, Argument, Key, Value}
 use Rattle.rr_eval.specs.declared.frame.Control.TheVariants.{Enter, Give}
 use Rattle.rr_eval.specs.Script.{State, Ret, Go, Outcome, Ended, Spent, Waits, after}
 use Rattle.rr_eval.specs.Rules.{values, finish}
@@ -37,6 +37,14 @@ asking_frame c fs (Argument target e k b) held o new =
     ap (λ h. unwind c (reverse fs) h (after o (λ a. runs_in c (resumed c (Argument target e k b) [] a)))) (sym (take_all b held (omega arith)))
     ∙ ap (λ h. unwind c (reverse fs) (take b held) (after o (λ a. runs_in c (resumed c (Argument target e k b) h a)))) (sym (drop_all b held (omega arith)))
     ∙ sym (rest_push c fs (Argument target e k b) held o)
+asking_frame c fs (Key x e k b) held o new =
+    ap (λ h. unwind c (reverse fs) h (after o (λ a. runs_in c (resumed c (Key x e k b) [] a)))) (sym (take_all b held (omega arith)))
+    ∙ ap (λ h. unwind c (reverse fs) (take b held) (after o (λ a. runs_in c (resumed c (Key x e k b) h a)))) (sym (drop_all b held (omega arith)))
+    ∙ sym (rest_push c fs (Key x e k b) held o)
+asking_frame c fs (Value e k b) held o new =
+    ap (λ h. unwind c (reverse fs) h (after o (λ a. runs_in c (resumed c (Value e k b) [] a)))) (sym (take_all b held (omega arith)))
+    ∙ ap (λ h. unwind c (reverse fs) (take b held) (after o (λ a. runs_in c (resumed c (Value e k b) h a)))) (sym (drop_all b held (omega arith)))
+    ∙ sym (rest_push c fs (Value e k b) held o)
 asking_frame c fs (Left op b) held o new = sym (rest_push c fs (Left op b) held o)
 asking_frame c fs f held o new = sym (rest_push c fs f held o)
 
@@ -57,8 +65,19 @@ nested_pop fs f held nested = subst (λ l. Nested l held) (reverse-append fs (f 
 
 pub nested_new : (fs : List Frame) (f : Frame) (held : List Ref) → IsNew f (length held) → Nested (reverse fs) held → Nested (reverse (fs ++ f ∷ [])) held
 nested_new fs (Argument target e k b) held new nested = nested_push fs (Argument target e k b) held (omega arith) (subst (λ h. Nested (reverse fs) h) (sym (take_all b held (omega arith))) nested)
+nested_new fs (Key x e k b) held new nested = nested_push fs (Key x e k b) held (omega arith) (subst (λ h. Nested (reverse fs) h) (sym (take_all b held (omega arith))) nested)
+nested_new fs (Value e k b) held new nested = nested_push fs (Value e k b) held (omega arith) (subst (λ h. Nested (reverse fs) h) (sym (take_all b held (omega arith))) nested)
 nested_new fs (Left op b) held new nested = nested_push fs (Left op b) held (omega arith) nested
 nested_new fs f held new nested = nested_push fs f held (omega arith) nested
+
+-- a value is kept behind those that stand from a base on, and a frame over them all waits
+pub kept_over : (c : Code) (fs : List Frame) (f : Frame) (base : ℕ) (held : List Ref) (v : Ref) (o : Outcome) → ((h : List Ref) → below_of f h ≡ take base h) → ((h : List Ref) → stand_of f h ≡ drop base h) → base ≤ length held
+    → unwind c (reverse fs) (take base held) (after o (λ a. runs_in c (resumed c f (drop base held ++ v ∷ []) a))) ≡ unwind c (reverse (fs ++ f ∷ [])) (held ++ v ∷ []) o
+kept_over c fs f base held v o below stand le =
+    let all = held ++ v ∷ [] in
+    ap (λ h. unwind c (reverse fs) h (after o (λ a. runs_in c (resumed c f (drop base held ++ v ∷ []) a)))) (sym (take-append-le base held (v ∷ []) le) ∙ sym (below all))
+    ∙ ap (λ h. unwind c (reverse fs) (below_of f all) (after o (λ a. runs_in c (resumed c f h a)))) (sym (drop-append-le base held (v ∷ []) le) ∙ sym (stand all))
+    ∙ sym (rest_push c fs f all o)
 
 -- the value of an argument is kept, and the next one is evaluated
 pub kept : (c : Code) (fs : List Frame) (target : Target) (end count place base : ℕ) (held : List Ref) (v : Ref) (s : State) (n : ℕ) → 0 < count → place ≡ end - count → base ≤ length held → unwind c (reverse fs) (take base held) (runs_in c (values (trees_before c.nodes end count) (drop base held ++ v ∷ []) (finish c.context target)) s n) ≡ outcome_of c (fs ++ Argument target end (count - 1) base ∷ []) (held ++ v ∷ []) (Enter place) s n
@@ -78,9 +97,10 @@ kept c fs target end (suc more) place base held v s n h at le =
 -- a frame that is put back, where all else stands
 pub frame_back : (m n : View) (t : Table) (f : Frame) (fault : Fault) (fs : List Frame) → Stands m n t t fault → fs ≡ n.frames ++ f ∷ [] → record m { frames = m.frames ++ f ∷ [] } ≡ record n { frames = fs }
 frame_back m n t f fault fs is e =
-    ap (λ x. record { control = m.control; frames = x ++ f ∷ []; held = m.held; calls = m.calls; left = m.left }) (sym is.frames)
-    ∙ ap (λ x. record { control = m.control; frames = x; held = m.held; calls = m.calls; left = m.left }) (sym e)
-    ∙ ap (λ x. record { control = x; frames = fs; held = m.held; calls = m.calls; left = m.left }) (sym is.control)
-    ∙ ap (λ x. record { control = n.control; frames = fs; held = x; calls = m.calls; left = m.left }) (sym is.held)
-    ∙ ap (λ x. record { control = n.control; frames = fs; held = n.held; calls = x; left = m.left }) (sym is.calls)
-    ∙ ap (λ x. record { control = n.control; frames = fs; held = n.held; calls = n.calls; left = x }) (sym is.left)
+    ap (λ x. record { control = m.control; frames = x ++ f ∷ []; held = m.held; calls = m.calls; rescuing = m.rescuing; left = m.left }) (sym is.frames)
+    ∙ ap (λ x. record { control = m.control; frames = x; held = m.held; calls = m.calls; rescuing = m.rescuing; left = m.left }) (sym e)
+    ∙ ap (λ x. record { control = x; frames = fs; held = m.held; calls = m.calls; rescuing = m.rescuing; left = m.left }) (sym is.control)
+    ∙ ap (λ x. record { control = n.control; frames = fs; held = x; calls = m.calls; rescuing = m.rescuing; left = m.left }) (sym is.held)
+    ∙ ap (λ x. record { control = n.control; frames = fs; held = n.held; calls = x; rescuing = m.rescuing; left = m.left }) (sym is.calls)
+    ∙ ap (λ x. record { control = n.control; frames = fs; held = n.held; calls = n.calls; rescuing = x; left = m.left }) (sym is.rescuing)
+    ∙ ap (λ x. record { control = n.control; frames = fs; held = n.held; calls = n.calls; rescuing = n.rescuing; left = x }) (sym is.left)

@@ -4,9 +4,13 @@ use Rattle.std.specs.Str.{bytes_eq}
 use Rattle.std.specs.Option.{is_some}
 use Rattle.rr_builtin.specs.Methods.{named_among, object_methods}
 
+-- `raise`
+abbrev pub is_raise : List ℕ → Bool
+is_raise name = bytes_eq name (codes "raise")
+
 -- a method that only `self` has
 abbrev pub is_of_self : List ℕ → Bool
-is_of_self name = bytes_eq name (codes "raise") || bytes_eq name (codes "loop") || bytes_eq name (codes "block_given?")
+is_of_self name = bytes_eq name (codes "loop") || bytes_eq name (codes "block_given?")
 
 -- a method that all values have
 abbrev pub is_of_all : List ℕ → Bool

@@ -14,6 +14,7 @@ callee_name c (callees.Operator op) = operator_name op
 callee_name c callees.Opposite = codes "-@"
 callee_name c callees.Index = codes "[]"
 callee_name c callees.Append = codes "<<"
+callee_name c callees.SetIndex = codes "[]="
 callee_name c (callees.Name x) = slice_index_or c.symbols x.0 []
 
 -- the built-in method, where there is one
@@ -22,4 +23,5 @@ method_of c (callees.Operator op) = Some (methods.Operator op)
 method_of c callees.Opposite = Some (methods.Number number.Opposite)
 method_of c callees.Index = Some (methods.Content content.At)
 method_of c callees.Append = Some (methods.Content content.Append)
+method_of c callees.SetIndex = Some (methods.Content content.SetAt)
 method_of c (callees.Name x) = method_named (slice_index_or c.symbols x.0 [])

@@ -1,19 +1,24 @@
 -- What the frames of the machine stand for.
-use Rattle.std.specs.Prelude.{◌≡◌, ℕ, ◌≤◌, List, [], ◌∷◌, ◌++◌, if◌then◌else◌, not, length, take, drop, reverse, Option, Some, None}
+use Rattle.std.specs.Prelude.{◌≡◌, ℕ, suc, ◌-◌, ◌≤◌, List, [], ◌∷◌, ◌++◌, if◌then◌else◌, not, length, take, drop, reverse, Option, Some, None}
 use Rattle.rr_space.specs.declared.refer.Ref.{Ref}
-use Rattle.rr_space.specs.declared.refer.Ref.TheVariants.{Nil, Truth}
+use Rattle.rr_space.specs.declared.refer.Ref.TheVariants.{Truth}
 use Rattle.rr_tree.specs.Tree.{Tree, binary, tree_at}
 use Rattle.rr_tree.specs.declared.node.Node.{Node}
+use Rattle.rr_eval.specs.declared.call.Callee.TheVariants.{SetIndex}
+use Rattle.rr_eval.specs.declared.call.Target.TheVariants.{Do as DoTarget, Call}
+use Rattle.rr_eval.specs.declared.call.Task.TheVariants.{MakeHash}
 use Rattle.rr_eval.specs.declared.problem.Answer.{Answer}
-use Rattle.rr_eval.specs.declared.problem.Answer.TheVariants.{Gave, Returned}
+use Rattle.rr_eval.specs.declared.problem.Answer.TheVariants.{Gave, Broke, Done, Returned}
 use Rattle.rr_eval.specs.declared.frame.Frame.{Frame}
-use Rattle.rr_eval.specs.declared.frame.Frame.TheVariants.{Not, Negation, And, Or, Left, Right, Store, Branch, Condition, Body, Return, Back, Rest, Argument}
+use Rattle.rr_eval.specs.declared.frame.Trial.{Trial}
+use Rattle.rr_eval.specs.declared.frame.Frame.TheVariants.{Not, Negation, And, Or, Left, Right, Store, Branch, Condition, Body, Break, Next, Return, Back, Rest, Argument, Key, Value, Element, Rescue, Class, Handling, Ensure, Kept}
 use Rattle.rr_eval.specs.declared.frame.Control.{Control}
-use Rattle.rr_eval.specs.declared.frame.Control.TheVariants.{Enter, Operate, Give, Throw, Raise}
+use Rattle.rr_eval.specs.declared.frame.Control.TheVariants.{Enter, Operate, Give, Throw, Raise, RaiseValue}
 use Rattle.rr_eval.specs.Script.{State, Script, Ret, Go, World, Evaluation, Outcome, Ended, run, after}
 use Rattle.rr_builtin.specs.Objects.{is_truthy}
-use Rattle.rr_eval.specs.Values.{goes_on}
-use Rattle.rr_eval.specs.Rules.{Context, throw, raise, on_value, with_value, operation, negation, write, statements, values, finish, back, concluded, meaning}
+use Rattle.rr_eval.specs.Rules.{Context, throw, raise, on_value, with_value, in_loop, turn_rule, operation, negation, write, statements, values, pair_parts, finish, back, concluded, meaning}
+use Rattle.rr_eval.specs.Raising.{raise_value}
+use Rattle.rr_eval.specs.Rescuing.{taken_by, restored, fitted, tried_classes, tried, rescue_rule, ensure_rule}
 use Rattle.rr_tree.specs.Nodes.{trees_before}
 
 -- a program: its nodes, what its trees refer to, and the environment that it runs in
@@ -29,6 +34,13 @@ means c = meaning c.context c.world
 abbrev pub runs_in : Code → Script → State → ℕ → Outcome
 runs_in c = run c.world (means c)
 
+-- a class of a clause: the clause takes the exception, or what stands behind the class is tried
+abbrev pub taker : Code → Trial → Script
+taker c r = taken_by (tree_at c.nodes (r.end - suc r.clauses)) r.exception
+
+abbrev pub behind_class : Code → Trial → Script
+behind_class c r = tried_classes c.context r.exception (trees_before c.nodes r.last r.classes) (taker c r) (tried c.context r.exception (trees_before c.nodes r.end r.clauses))
+
 -- what a frame does with the answer that it waits for; `stand` are the values that stand for it
 abbrev pub resumed : Code → Frame → List Ref → Answer → Script
 resumed c Not stand = on_value (λ v. Ret (Gave (Truth (not (is_truthy v)))))
@@ -39,25 +51,41 @@ resumed c (Left op b) stand = on_value (λ v. with_value (tree_at c.nodes b) (op
 resumed c (Right op v) stand = on_value (operation c.context op v)
 resumed c (Store x) stand = on_value (λ v. write x v)
 resumed c (Branch b d) stand = on_value (λ v. Go (if is_truthy v then tree_at c.nodes b else tree_at c.nodes d) Ret)
-resumed c (Condition until body loop) stand = on_value (λ v. if goes_on until v then with_value (tree_at c.nodes body) (λ w. Go (tree_at c.nodes loop) Ret) else Ret (Gave Nil))
-resumed c (Body loop) stand = on_value (λ w. Go (tree_at c.nodes loop) Ret)
+resumed c (Condition until body loop) stand = in_loop (Go (tree_at c.nodes loop) Ret) (turn_rule until (tree_at c.nodes body) (Go (tree_at c.nodes loop) Ret))
+resumed c (Body loop) stand = in_loop (Go (tree_at c.nodes loop) Ret) (λ w. Go (tree_at c.nodes loop) Ret)
+resumed c Break stand = on_value (λ v. Ret (Broke v))
+resumed c Next stand = on_value (λ v. Ret (Done v))
 resumed c Return stand = on_value (λ v. Ret (Returned v))
 resumed c Back stand = back
 resumed c (Rest end count) stand = on_value (λ v. statements (trees_before c.nodes end count))
 resumed c (Argument target end count base) stand = on_value (λ v. values (trees_before c.nodes end count) (stand ++ v ∷ []) (finish c.context target))
+resumed c (Key next end count base) stand = on_value (λ v. values (tree_at c.nodes next ∷ pair_parts (trees_before c.nodes end count)) (stand ++ v ∷ []) (finish c.context (DoTarget MakeHash)))
+resumed c (Value end count base) stand = on_value (λ v. values (pair_parts (trees_before c.nodes end count)) (stand ++ v ∷ []) (finish c.context (DoTarget MakeHash)))
+resumed c (Element b end) stand = on_value (λ v. values (tree_at c.nodes b ∷ trees_before c.nodes end 1) (v ∷ []) (finish c.context (Call SetIndex)))
+resumed c (Rescue end count otherwise) stand = rescue_rule c.context (trees_before c.nodes end count) (tree_at c.nodes otherwise)
+resumed c (Class r) stand = on_value (λ v. fitted c.context r.exception v (taker c r) (behind_class c r))
+resumed c (Handling old) stand = restored old
+resumed c (Ensure part) stand = ensure_rule (tree_at c.nodes part)
+resumed c (Kept a) stand = on_value (λ v. Ret a)
 
 -- the values that stand for a frame, and those below
 abbrev pub stand_of : Frame → List Ref → List Ref
 stand_of (Argument target end count base) held = drop base held
+stand_of (Key next end count base) held = drop base held
+stand_of (Value end count base) held = drop base held
 stand_of _ held = []
 
 abbrev pub below_of : Frame → List Ref → List Ref
 below_of (Argument target end count base) held = take base held
+below_of (Key next end count base) held = take base held
+below_of (Value end count base) held = take base held
 below_of _ held = held
 
 -- a new frame has no values yet
 abbrev pub IsNew : Frame → ℕ → Type 0
 IsNew (Argument target end count base) n = base ≡ n
+IsNew (Key next end count base) n = base ≡ n
+IsNew (Value end count base) n = base ≡ n
 IsNew _ n = Unit {0}
 
 -- what the frames, the topmost first, do with an outcome, and what comes after all of them
@@ -68,6 +96,8 @@ unwind c (f ∷ fs) held o = unwind c fs (below_of f held) (after o (λ a. runs_
 -- where a frame's values begin
 abbrev pub base_of : Frame → ℕ
 base_of (Argument target end count base) = base
+base_of (Key next end count base) = base
+base_of (Value end count base) = base
 base_of _ = 0
 
 -- each frame's values begin within those that its upper frames leave
@@ -80,6 +110,14 @@ abbrev pub IsRareFrame : Frame → Type 0
 IsRareFrame Negation = Unit {0}
 IsRareFrame (Right op w) = Unit {0}
 IsRareFrame (Argument target end count base) = Unit {0}
+IsRareFrame (Key next end count base) = Unit {0}
+IsRareFrame (Value end count base) = Unit {0}
+IsRareFrame (Element b end) = Unit {0}
+IsRareFrame (Rescue end count otherwise) = Unit {0}
+IsRareFrame (Class r) = Unit {0}
+IsRareFrame (Handling old) = Unit {0}
+IsRareFrame (Ensure part) = Unit {0}
+IsRareFrame (Kept a) = Unit {0}
 IsRareFrame _ = ⊥
 
 -- what comes first
@@ -89,6 +127,7 @@ start c (Operate op a b) s n = means c (binary op (tree_at c.nodes a) (tree_at c
 start c (Give a) s n = Ended a s n
 start c (Throw e) s n = runs_in c (throw c.context e) s n
 start c (Raise class message) s n = runs_in c (raise class message) s n
+start c (RaiseValue v message) s n = runs_in c (raise_value c.context v message) s n
 
 -- the tree that comes first, where one does
 abbrev pub first_tree : List Node → Control → Option Tree

@@ -16,6 +16,9 @@ pub mod Requests
 pub mod Calls
 pub mod Tasks
 pub mod Awaited
+pub mod Basics
+pub mod Raising
+pub mod Rescuing
 pub mod Rules
 pub mod Nodes
 pub mod Frames

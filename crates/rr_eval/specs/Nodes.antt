@@ -1,7 +1,7 @@
 -- The tree of a node, by the numbers of its parts.
 use Rattle.std.specs.Prelude.{◌+◌, ◌<◌, ◌^◌, Bool, true, false, List}
 use Rattle.rr_tree.specs.Nodes.{node_tree, trees_before}
-use Rattle.rr_tree.specs.Tree.{Tree, sequence, array, interpolation, call, send, listed, tree_at}
+use Rattle.rr_tree.specs.Tree.{Tree, sequence, array, hash, pairs, interpolation, call, send, rescue, clause, listed, tree_at}
 use Rattle.rr_tree.specs.declared.node.Node.{Node}
 use Rattle.rr_tree.specs.declared.node.Path.TheVariants.{Plain}
 use Rattle.rr_tree.specs.declared.node.Node.TheVariants as node
@@ -10,9 +10,13 @@ use Rattle.rr_tree.specs.declared.node.Node.TheVariants as node
 abbrev pub evaluated_tree : List Node → Node → Tree
 evaluated_tree ns (node.Sequence first count) = sequence (listed (trees_before ns (first + count) count))
 evaluated_tree ns (node.Array first count) = array (listed (trees_before ns (first + count) count))
+evaluated_tree ns (node.Hash first count) = hash (listed (trees_before ns (first + count) count))
+evaluated_tree ns (node.Pairs first count) = pairs (listed (trees_before ns (first + count) count))
 evaluated_tree ns (node.Interpolation first count) = interpolation (listed (trees_before ns (first + count) count))
 evaluated_tree ns (node.Call x first count site) = call x.0 (listed (trees_before ns (first + count) count))
 evaluated_tree ns (node.Send a x first count site) = send (tree_at ns a) x.0 (listed (trees_before ns (first + count) count))
+evaluated_tree ns (node.Rescue a first count b) = rescue (tree_at ns a) (listed (trees_before ns (first + count) count)) (tree_at ns b)
+evaluated_tree ns (node.Clause first count a b) = clause (listed (trees_before ns (first + count) count)) (tree_at ns a) (tree_at ns b)
 evaluated_tree ns n = node_tree ns n
 
 -- a node that is evaluated: no item of a list, and its own list, or its last part, ends at a number
@@ -20,17 +24,24 @@ abbrev pub IsEvaluated : Node → Type 0
 IsEvaluated (node.Item a) = ⊥
 IsEvaluated (node.Sequence first count) = first + count < 2 ^ 32
 IsEvaluated (node.Array first count) = first + count < 2 ^ 32
+IsEvaluated (node.Hash first count) = first + count < 2 ^ 32
+IsEvaluated (node.Pairs first count) = first + count < 2 ^ 32
 IsEvaluated (node.Interpolation first count) = first + count < 2 ^ 32
 IsEvaluated (node.Call x first count site) = first + count < 2 ^ 32
 IsEvaluated (node.Send a x first count site) = first + count < 2 ^ 32
+IsEvaluated (node.Rescue a first count b) = first + count < 2 ^ 32
+IsEvaluated (node.Clause first count a b) = first + count < 2 ^ 32
 IsEvaluated (node.Index a b) = b + 1 < 2 ^ 32
 IsEvaluated (node.Append a b) = b + 1 < 2 ^ 32
+IsEvaluated (node.SetIndex a b d) = d + 1 < 2 ^ 32
 IsEvaluated _ = Unit {0}
 
 -- a node whose evaluation needs the objects, the program's names or memory
 abbrev pub IsRareNode : Node → Type 0
 IsRareNode (node.Text i) = Unit {0}
 IsRareNode (node.Array first count) = Unit {0}
+IsRareNode (node.Hash first count) = Unit {0}
+IsRareNode (node.Pairs first count) = Unit {0}
 IsRareNode (node.Interpolation first count) = Unit {0}
 IsRareNode (node.Bare x site) = Unit {0}
 IsRareNode (node.Call x first count site) = Unit {0}
@@ -46,6 +57,8 @@ is_unknown (node.Symbol x) = false
 is_unknown (node.Class k) = false
 is_unknown (node.Constant (Plain x)) = false
 is_unknown (node.Array first count) = false
+is_unknown (node.Hash first count) = false
+is_unknown (node.Pairs first count) = false
 is_unknown (node.Interpolation first count) = false
 is_unknown (node.Local depth slot x behind) = false
 is_unknown (node.Bare x site) = false
@@ -53,6 +66,7 @@ is_unknown (node.Call x first count site) = false
 is_unknown (node.Send a x first count site) = false
 is_unknown (node.Index a b) = false
 is_unknown (node.Append a b) = false
+is_unknown (node.SetIndex a b d) = false
 is_unknown (node.And a b) = false
 is_unknown (node.Or a b) = false
 is_unknown (node.Not a) = false
@@ -66,5 +80,9 @@ is_unknown (node.Choose a b d) = false
 is_unknown (node.Loop until a b) = false
 is_unknown (node.Sequence first count) = false
 is_unknown (node.Item a) = false
+is_unknown (node.Break a) = false
+is_unknown (node.Next a) = false
 is_unknown (node.Return a) = false
+is_unknown (node.Rescue a first count b) = false
+is_unknown (node.Ensure a b) = false
 is_unknown _ = true

@@ -1,114 +1,61 @@
 -- The rules of the language, each on a whole tree.
 use Rattle.std.specs.Prelude.{ℕ, ◌+◌, nat_eq, nat_lt, zero, suc, Bool, true, false, not, List, [], ◌∷◌, ◌++◌, if◌then◌else◌, slice_index_or, length, Option, Some, None}
 use Rattle.rr_base.specs.Classes.{class_id}
-use Rattle.rr_base.specs.declared.name.ClassId.{ClassId}
 use Rattle.rr_space.specs.Tables.{Table}
 use Rattle.rr_space.specs.declared.refer.Ref.{Ref}
-use Rattle.rr_space.specs.declared.refer.Ref.TheVariants.{Nil, Truth, Int, Symbol, Class, Local}
-use Rattle.rr_tree.specs.Tree.{Tree, Trees, nil, truth, int, text, symbol, class_named as class_tree, constant, array, interpolation, local, bare, call, send, index, append, logical_and, logical_or, logical_not, negate, binary, assign, choose, repeat, sequence, return, operator_assign, or_assign, and_assign, empty, then_one}
+use Rattle.rr_space.specs.declared.refer.Ref.TheVariants.{Nil, Truth, Int, Symbol, Class}
+use Rattle.rr_tree.specs.Tree.{Tree, nil, truth, int, text, symbol, class_named as class_tree, constant, array, hash, pairs, pair, interpolation, local, bare, call, send, index, set_index, append, logical_and, logical_or, logical_not, negate, binary, assign, choose, repeat, sequence, break, next, return, rescue, ensure, operator_assign, or_assign, and_assign}
 use Rattle.rr_tree.specs.declared.node.BinaryOperator.{BinaryOperator}
-use Rattle.rr_builtin.specs.Acts.{with_text}
 use Rattle.rr_builtin.specs.Objects.{is_truthy}
-use Rattle.rr_eval.specs.declared.call.Callee.{Callee}
 use Rattle.rr_eval.specs.declared.call.Callee.TheVariants as callees
 use Rattle.rr_eval.specs.declared.call.Target.{Target}
-use Rattle.rr_eval.specs.declared.call.Target.TheVariants.{Do as DoTarget, Call, Own}
+use Rattle.rr_eval.specs.declared.call.Target.TheVariants.{Do as DoTarget, Call, Own, Raise}
 use Rattle.rr_eval.specs.declared.call.Task.{Task}
-use Rattle.rr_eval.specs.declared.call.Task.TheVariants.{MakeArray, MakeText}
+use Rattle.rr_eval.specs.declared.call.Task.TheVariants.{MakeArray, MakeText, MakeHash}
 use Rattle.rr_eval.specs.declared.problem.Answer.{Answer}
-use Rattle.rr_eval.specs.declared.problem.Answer.TheVariants.{Gave, Raised, Returned}
-use Rattle.rr_eval.specs.declared.problem.Response.{Response}
-use Rattle.rr_eval.specs.declared.problem.Response.TheVariants.{Gives, Throws, Fails}
-use Rattle.rr_eval.specs.declared.problem.Problem.{Problem}
-use Rattle.rr_eval.specs.declared.problem.Problem.TheVariants.{BuiltIn, MissingMethod, MissingName, MissingConstant, NotHere}
+use Rattle.rr_eval.specs.declared.problem.Answer.TheVariants.{Gave, Raised, Broke, Done, Returned}
+use Rattle.rr_eval.specs.declared.problem.Problem.TheVariants.{BuiltIn, MissingMethod, MissingName, MissingConstant}
 use Rattle.rr_builtin.specs.declared.problem.Problem.TheVariants.{Count, TooDeep}
 use Rattle.rr_builtin.specs.declared.problem.Receiver.TheVariants.{Instance}
-use Rattle.rr_frames.specs.Frames.{Stack, Frame as Activated, no_frame, laid, read_last, write_last, left}
+use Rattle.rr_frames.specs.Frames.{Stack, Frame as Activated, no_frame, laid, read_last, left}
 use Rattle.rr_eval.specs.Methods.{Method, own_method, definitions_of, are_methods}
-use Rattle.rr_eval.specs.Script.{State, Script, Ret, Go, See, Do, Ask, Does, Calls, Memory, World, Outcome, Ended, Spent, Waits, Evaluation, run}
+use Rattle.rr_eval.specs.Script.{State, Script, Ret, Go, See, Do, Ask, Does, Memory, World, Outcome, Ended, Spent, Waits, Evaluation, run}
 use Rattle.rr_eval.specs.Values.{goes_on}
-use Rattle.rr_eval.specs.Operators.{make, integers, opposite}
-use Rattle.rr_eval.specs.Messages.{message, exception_class}
-use Rattle.rr_eval.specs.Exceptions.{with_exception}
+use Rattle.rr_eval.specs.Operators.{make}
 use Rattle.rr_eval.specs.Tasks.{task_named}
-use Rattle.rr_eval.specs.Awaited.{is_awaited}
+use Rattle.rr_eval.specs.Awaited.{is_awaited, is_raise}
+use Rattle.rr_eval.specs.Raising.{raise_rule}
+use Rattle.rr_eval.specs.Rescuing.{rescue_rule, ensure_rule}
 use Rattle.rr_eval.specs.Constants.{class_named}
 use Rattle.rr_base.specs.declared.class.BuiltInClass.{BuiltInClass}
 use Rattle.rr_base.specs.declared.name.Sym.{Sym}
 use Rattle.rr_base.specs.declared.name.TheConstants.ClassId.{OBJECT, RACTOR}
 use Rattle.rr_tree.specs.declared.node.Path.TheVariants.{Plain}
 pub use Rattle.rr_eval.specs.Context.{Context}
+pub use Rattle.rr_eval.specs.Basics.{items, on_value, with_value, read, write, raise, throw, settled, send_to, operation, negation, on_table, statements, values, slot_of, not_here}
 
--- the trees of a list
-abbrev pub items : Trees → List Tree
-items empty = []
-items (then_one list t) = items list ++ t ∷ []
+-- the key and the value of a pair; any other part of a hash stands for both
+abbrev pub key_part : Tree → Tree
+key_part (pair a b) = a
+key_part t = t
 
--- goes on with a value; an exception and a `return` pass
-abbrev pub on_value : (Ref → Script) → Answer → Script
-on_value next (Gave v) = next v
-on_value next (Raised e) = Ret (Raised e)
-on_value next (Returned v) = Ret (Returned v)
+abbrev pub value_part : Tree → Tree
+value_part (pair a b) = b
+value_part t = t
 
--- evaluates a tree and goes on with its value
-abbrev pub with_value : Tree → (Ref → Script) → Script
-with_value t next = Go t (on_value next)
+-- the keys and the values of pairs, in the order in which they are evaluated
+abbrev pub pair_parts : List Tree → List Tree
+pair_parts [] = []
+pair_parts (t ∷ ts) = key_part t ∷ value_part t ∷ pair_parts ts
 
--- the value of a variable of the method that runs
-abbrev pub read : ℕ → Script
-read x = See (λ m. Ret (Gave (read_last x m.calls.frames)))
-
--- gives a variable of the method that runs a value
-abbrev pub write : ℕ → Ref → Script
-write x v = Do (λ m. record m { calls = record m.calls { frames = write_last x v m.calls.frames } }) (Ret (Gave v))
-
--- makes an exception of a class, with a message, and raises it
-abbrev pub raise : ClassId → Ref → Script
-raise class message = See (λ m. Do (λ k. record k { table = with_exception class message k.table }) (Ret (Raised (Local (length m.table.slots)))))
-
--- the same, where the message is made first
-abbrev pub throw : Context → Problem → Script
-throw c e = See (λ m. Do (λ k. record k { table = with_text (message c e) k.table }) (raise (class_id (exception_class e)) (Local (length m.table.slots))))
-
--- what an operation or a request came to: its value, or its exception
-abbrev pub settled : Context → Response → Script
-settled c (Gives v) = Ret (Gave v)
-settled c (Throws e) = Ret (Raised e)
-settled c (Fails e) = throw c e
-
--- asks for a call of a method
-abbrev pub send_to : Context → Callee → Ref → List Ref → Script
-send_to c callee receiver arguments = Ask (Calls receiver callee arguments) (settled c)
-
--- an operator: of two integers here, and any other as a call
-abbrev pub operation : Context → BinaryOperator → Ref → Ref → Script
-operation c op (Int x) (Int y) = settled c (integers op x y)
-operation c op v w = send_to c (callees.Operator op) v (w ∷ [])
-
--- unary minus
-abbrev pub negation : Context → Ref → Script
-negation c (Int x) = settled c (opposite x)
-negation c v = send_to c callees.Opposite v []
-
--- an operation on the objects
-abbrev pub on_table : Context → (Table → Response × Table) → Script
-on_table c act = See (λ m. Do (λ k. record k { table = (act k.table).1 }) (settled c (act m.table).0))
-
--- statements, one after the other; the last one's answer
-abbrev pub statements : List Tree → Script
-statements [] = Ret (Gave Nil)
-statements (t ∷ []) = Go t Ret
-statements (t ∷ u ∷ ts) = with_value t (λ v. statements (u ∷ ts))
-
--- the values of trees from left to right, after those that stand
-abbrev pub values : List Tree → List Ref → (List Ref → Script) → Script
-values [] stand next = next stand
-values (t ∷ ts) stand next = with_value t (λ v. values ts (stand ++ v ∷ []) next)
-
--- A `return` ends with the method, which has its value.
+-- A `return` ends with the method, which has its value. No `break` and no `next` stands outside of a loop or block; one would
+-- end the method too.
 abbrev pub ended : Answer → Answer
+ended (Gave v) = Gave v
+ended (Raised e) = Raised e
+ended (Broke v) = Gave v
+ended (Done v) = Gave v
 ended (Returned v) = Gave v
-ended a = a
 
 -- a method ends, and its frame goes
 abbrev pub back : Answer → Script
@@ -130,49 +77,47 @@ abbrev pub own_rule : Context → Sym → Option Method → List Ref → Script
 own_rule c x None vs = throw c (MissingMethod (callees.Name x) (Instance OBJECT))
 own_rule c x (Some m) vs = if nat_eq (length vs) m.parameters then See (λ k. entered c m vs k.calls) else throw c (BuiltIn (Count (length vs) m.parameters m.parameters))
 
--- what is done with values: they are printed or put into an array or a text, or the first of them is sent the others, or a method of
--- the program is called with them
+-- what is done with values: they are printed or put into an array, a text or a hash, or the first of them is sent the others, or a method of
+-- the program is called with them, or they say what is raised
 abbrev pub finish : Context → Target → List Ref → Script
 finish c (DoTarget task) vs = See (λ m. Ask (Does task vs m.table) (settled c))
 finish c (Call callee) [] = Ret (Gave Nil)
 finish c (Call callee) (v ∷ vs) = send_to c callee v vs
 finish c (Own x) vs = own_rule c x (own_method c.program x.0) vs
+finish c Raise vs = raise_rule c vs
 
 -- what a name prints by: `puts`, `p` and `print`
 abbrev pub printing : Context → ℕ → Option Task
 printing c x = task_named (slice_index_or c.symbols x [])
 
+-- whether a name is `raise`
+abbrev pub raises : Context → ℕ → Bool
+raises c x = is_raise (slice_index_or c.symbols x [])
+
 -- whether a name is that of a method of `self` that is not evaluated yet
 abbrev pub awaited : Context → ℕ → Bool
 awaited c x = is_awaited (slice_index_or c.symbols x [])
 
--- what is not evaluated yet
-abbrev pub not_here : Context → Script
-not_here c = throw c NotHere
-
--- a bare name: one of a method of the program, one that prints, or another
-abbrev pub bare_rule : Context → Option Method → Option Task → Sym → Script
-bare_rule c (Some m) task x = finish c (Own x) []
-bare_rule c None (Some task) x = finish c (DoTarget task) []
-bare_rule c None None x = throw c (MissingName x)
+-- a bare name: one of a method of the program, one that prints, `raise`, or another
+abbrev pub bare_rule : Context → Option Method → Option Task → Bool → Sym → Script
+bare_rule c (Some m) task raises x = finish c (Own x) []
+bare_rule c None (Some task) raises x = finish c (DoTarget task) []
+bare_rule c None None true x = finish c Raise []
+bare_rule c None None false x = throw c (MissingName x)
 
 -- a constant is a built-in class; no other is set
 abbrev pub constant_rule : Context → Option BuiltInClass → Sym → Script
 constant_rule c (Some k) x = if nat_eq (class_id k).0 RACTOR.0 then not_here c else Ret (Gave (Class (class_id k)))
 constant_rule c None x = throw c (MissingConstant x)
 
--- A call with arguments: of a method of the program, of a name that prints, or of a method that is not evaluated yet. No method
--- has another name, so that its call raises, once its arguments are evaluated.
-abbrev pub call_rule : Context → Option Method → Option Task → Bool → Sym → List Tree → Script
-call_rule c (Some m) task later x ts = values ts [] (finish c (Own x))
-call_rule c None (Some task) later x ts = values ts [] (finish c (DoTarget task))
-call_rule c None None true x ts = not_here c
-call_rule c None None false x ts = values ts [] (finish c (Own x))
-
--- the variable of the method that runs that a target is, where it is one
-abbrev pub slot_of : Tree → Option ℕ
-slot_of (local depth slot x behind) = Some slot
-slot_of _ = None
+-- A call with arguments: of a method of the program, of a name that prints, of `raise`, or of a method that is not evaluated
+-- yet. No method has another name, so that its call raises, once its arguments are evaluated.
+abbrev pub call_rule : Context → Option Method → Option Task → Bool → Bool → Sym → List Tree → Script
+call_rule c (Some m) task raises later x ts = values ts [] (finish c (Own x))
+call_rule c None (Some task) raises later x ts = values ts [] (finish c (DoTarget task))
+call_rule c None None true later x ts = values ts [] (finish c Raise)
+call_rule c None None false true x ts = not_here c
+call_rule c None None false false x ts = values ts [] (finish c (Own x))
 
 -- `a op= b` is `a = a op b`
 abbrev pub update_rule : Context → BinaryOperator → Tree → Tree → Option ℕ → Script
@@ -188,6 +133,21 @@ abbrev pub and_rule : Context → Tree → Option ℕ → Script
 and_rule c b (Some slot) = See (λ m. let v = read_last slot m.calls.frames in if is_truthy v then with_value b (λ w. write slot w) else Ret (Gave v))
 and_rule c b None = not_here c
 
+-- A part of a loop, which is evaluated again: `break` ends the loop, which has its value, and `next` begins its next turn.
+abbrev pub in_loop : Script → (Ref → Script) → Answer → Script
+in_loop again go_on (Gave v) = go_on v
+in_loop again go_on (Raised e) = Ret (Raised e)
+in_loop again go_on (Broke v) = Ret (Gave v)
+in_loop again go_on (Done v) = again
+in_loop again go_on (Returned v) = Ret (Returned v)
+
+-- A loop without `break` has the value nil.
+abbrev pub turn_rule : Bool → Tree → Script → Ref → Script
+turn_rule until body again v = if goes_on until v then Go body (in_loop again (λ w. again)) else Ret (Gave Nil)
+
+abbrev pub loop_rule : Bool → Tree → Tree → Script → Script
+loop_rule until condition body again = Go condition (in_loop again (turn_rule until body again))
+
 -- The rule of each kind of tree. No block is evaluated yet, so each variable is one of the method that runs, or of the program.
 abbrev pub rule : Context → Tree → Script
 rule c nil = Ret (Gave Nil)
@@ -198,17 +158,21 @@ rule c (class_tree k) = Ret (Gave (Class k))
 rule c (constant (Plain x)) = constant_rule c (class_named (slice_index_or c.symbols x.0 [])) x
 rule c (text i) = on_table c (make c.program.freezes (slice_index_or c.texts i []))
 rule c (array list) = values (items list) [] (finish c (DoTarget MakeArray))
+-- the key of each pair is evaluated before its value, and all of them before the hash is made; pairs without braces are a hash too
+rule c (hash list) = values (pair_parts (items list)) [] (finish c (DoTarget MakeHash))
+rule c (pairs list) = values (pair_parts (items list)) [] (finish c (DoTarget MakeHash))
 -- the parts of a text are evaluated from left to right, and then one text is made of what each is spoken as
 rule c (interpolation list) = values (items list) [] (finish c (DoTarget MakeText))
 rule c (local depth slot x behind) = read slot
-rule c (bare x) = bare_rule c (own_method c.program x) (printing c x) (record { 0 = x })
-rule c (call x list) = call_rule c (own_method c.program x) (printing c x) (awaited c x) (record { 0 = x }) (items list)
+rule c (bare x) = bare_rule c (own_method c.program x) (printing c x) (raises c x) (record { 0 = x })
+rule c (call x list) = call_rule c (own_method c.program x) (printing c x) (raises c x) (awaited c x) (record { 0 = x }) (items list)
 rule c (logical_and a b) = with_value a (λ v. if is_truthy v then Go b Ret else Ret (Gave v))
 rule c (logical_or a b) = with_value a (λ v. if is_truthy v then Ret (Gave v) else Go b Ret)
 rule c (logical_not a) = with_value a (λ v. Ret (Gave (Truth (not (is_truthy v)))))
 rule c (send a x list) = values (a ∷ items list) [] (finish c (Call (callees.Name (record { 0 = x }))))
 rule c (index a b) = values (a ∷ b ∷ []) [] (finish c (Call callees.Index))
 rule c (append a b) = values (a ∷ b ∷ []) [] (finish c (Call callees.Append))
+rule c (set_index a b d) = values (a ∷ b ∷ d ∷ []) [] (finish c (Call callees.SetIndex))
 rule c (negate a) = with_value a (negation c)
 rule c (binary op a b) = with_value a (λ v. with_value b (operation c op v))
 rule c (assign depth slot x behind a) = with_value a (λ v. write slot v)
@@ -217,9 +181,13 @@ rule c (or_assign a b) = or_rule c b (slot_of a)
 rule c (and_assign a b) = and_rule c b (slot_of a)
 rule c (choose a b d) = with_value a (λ v. Go (if is_truthy v then b else d) Ret)
 -- each turn of a loop evaluates the loop again
-rule c (repeat until a b) = with_value a (λ v. if goes_on until v then with_value b (λ w. Go (repeat until a b) Ret) else Ret (Gave Nil))
+rule c (repeat until a b) = loop_rule until a b (Go (repeat until a b) Ret)
 rule c (sequence list) = statements (items list)
+rule c (break a) = with_value a (λ v. Ret (Broke v))
+rule c (next a) = with_value a (λ v. Ret (Done v))
 rule c (return a) = with_value a (λ v. Ret (Returned v))
+rule c (rescue a list b) = Go a (rescue_rule c (items list) b)
+rule c (ensure a b) = Go a (ensure_rule b)
 rule c _ = not_here c
 
 -- evaluations not deeper than `depth`, each of them one step
@@ -253,7 +221,7 @@ program_frame c = method_frame (record { name = 0; parameters = 0; size = length
 
 -- the memory of a program that begins, which may call so many methods in one another
 abbrev pub first_memory : Context → ℕ → Table → Memory
-first_memory c most table = record { calls = record { frames = program_frame c ∷ []; limit = most + 1 }; table = table }
+first_memory c most table = record { calls = record { frames = program_frame c ∷ []; limit = most + 1 }; table = table; rescuing = Nil }
 
 -- a script begins with its variables unset, with no object, and with nothing asked
 abbrev pub start_state : Context → ℕ → Table → State

@@ -48,7 +48,7 @@ text_of c (Waits s) = text_asked c s.asked
 
 -- what a script that runs alone is replied: nothing is published
 abbrev pub reply_to : Context → Asked → Table → Reply
-reply_to c (Does task vs u) t = task_reply task (names_of c.program) vs t
+reply_to c (Does task vs u) t = task_reply task c vs t
 reply_to c (Calls receiver callee arguments) t = call_reply c receiver callee arguments t
 
 -- the environment of a script that runs alone: what is to be printed is printed, and a method that is called does what it does

@@ -9,10 +9,12 @@ use Rattle.rr_eval.specs.declared.call.Task.{Task}
 use Rattle.rr_eval.specs.declared.problem.Answer.{Answer}
 use Rattle.rr_eval.specs.declared.problem.Response.{Response}
 
--- the frames of the methods that run, with their variables, and the objects
+-- the frames of the methods that run, with their variables, the objects, and the exception that is being rescued, nil where
+-- none is
 pub record Memory : Type 0 where
   pub calls : Stack
   pub table : Table
+  pub rescuing : Ref
 
 -- what a rule asks of the environment: to do something with values, with the objects then; to call a method of a receiver
 pub data Asked : Type 0 where

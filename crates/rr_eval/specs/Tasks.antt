@@ -1,4 +1,4 @@
--- What an environment does with values where nothing is published: it prints them, or makes an array or a text of them.
+-- What an environment does with values where nothing is published: it prints them, or makes an array, a text or a hash of them.
 use Rattle.std.specs.Prelude.{ℕ, false, List, [], ◌∷◌, ◌++◌, codes, map, Option, Some, None, if◌then◌else◌}
 use Rattle.std.specs.Str.{bytes_eq}
 use Rattle.rr_space.specs.Parts.{value_of}
@@ -7,15 +7,20 @@ use Rattle.rr_space.specs.declared.refer.Ref.{Ref}
 use Rattle.rr_space.specs.declared.refer.Ref.TheVariants.{Nil}
 use Rattle.rr_text.specs.Walk.{Walked, Wrote, Deep}
 use Rattle.rr_text.specs.Forms.{Names, spoken, inspected, lines, within_text}
-use Rattle.rr_builtin.specs.Acts.{MakesArray, performed}
+use Rattle.rr_text.specs.Names.{names_of}
+use Rattle.rr_builtin.specs.Acts.{MakesArray, MakesObject, performed}
+use Rattle.rr_builtin.specs.News.{empty_hash}
 use Rattle.rr_builtin.specs.Objects.{printed_text}
 use Rattle.rr_builtin.specs.declared.problem.Problem.{Problem as BuiltInProblem}
 use Rattle.rr_builtin.specs.declared.problem.Problem.TheVariants.{Moved, TooDeep}
+use Rattle.rr_eval.specs.declared.call.Callee.TheVariants.{SetIndex}
 use Rattle.rr_eval.specs.declared.call.Task.{Task}
-use Rattle.rr_eval.specs.declared.call.Task.TheVariants.{Puts, Inspect, Print, MakeArray, MakeText}
+use Rattle.rr_eval.specs.declared.call.Task.TheVariants.{Puts, Inspect, Print, MakeArray, MakeText, MakeHash}
 use Rattle.rr_eval.specs.declared.problem.Problem.TheVariants.{BuiltIn, NotHere}
+use Rattle.rr_eval.specs.declared.problem.Response.{Response}
 use Rattle.rr_eval.specs.declared.problem.Response.TheVariants.{Gives, Fails}
-use Rattle.rr_eval.specs.Calls.{reply_with}
+use Rattle.rr_eval.specs.Calls.{call_reply, reply_with}
+use Rattle.rr_eval.specs.Context.{Context}
 use Rattle.rr_eval.specs.Operators.{make}
 use Rattle.rr_eval.specs.Script.{Reply}
 
@@ -35,6 +40,7 @@ written_by _ names t v = printed_text names [] spoken t v
 -- what is written of values, from left to right; `puts` of none is a line end
 abbrev pub texts_of : Task → Names → Table → List Ref → List Walked
 texts_of MakeArray names t vs = []
+texts_of MakeHash names t vs = []
 texts_of Puts names t [] = Wrote (10 ∷ []) ∷ []
 texts_of task names t vs = map (written_by task names t) vs
 
@@ -71,6 +77,28 @@ array_reply vs t = reply_with NotHere t (performed (MakesArray (map value_of vs)
 abbrev pub value_reply : Ref → Table → Reply
 value_reply v t = record { response = Gives v; table = t }
 
+-- goes on with the value that was given, and with the objects then; an exception ends all
+abbrev pub given_or_ended : Response → Table → (Ref → Table → Reply) → Reply
+given_or_ended (Gives v) t next = next v t
+given_or_ended ended t next = record { response = ended; table = t }
+
+abbrev pub on_given : Reply → (Ref → Table → Reply) → Reply
+on_given reply next = given_or_ended reply.response reply.table next
+
+-- a new hash without pairs
+abbrev pub empty_reply : Table → Reply
+empty_reply t = reply_with NotHere t (performed (MakesObject empty_hash []) Nil t)
+
+-- the hash, after keys and values, which stand by turns, were put into it as the call `h[k] = v` puts them
+abbrev pub filled : Context → Ref → List Ref → Table → Reply
+filled c h [] t = value_reply h t
+filled c h (k ∷ []) t = value_reply h t
+filled c h (k ∷ v ∷ vs) t = on_given (call_reply c h SetIndex (k ∷ v ∷ []) t) (λ put u. filled c h vs u)
+
+-- a new hash of keys and values, which stand by turns
+abbrev pub hash_reply : Context → List Ref → Table → Reply
+hash_reply c vs t = on_given (empty_reply t) (λ h u. filled c h vs u)
+
 -- `p` gives its argument, an array of several, and nil for none; `puts` and `print` give nil
 abbrev pub inspected_reply : List Ref → Table → Reply
 inspected_reply [] t = value_reply Nil t
@@ -78,16 +106,17 @@ inspected_reply (v ∷ []) t = value_reply v t
 inspected_reply (v ∷ w ∷ vs) t = array_reply (v ∷ w ∷ vs) t
 
 -- what a task gives, where these are the texts of the values, one after the other
-abbrev pub given_by : Task → List ℕ → List Ref → Table → Reply
-given_by MakeText s vs t = text_reply s t
-given_by MakeArray s vs t = array_reply vs t
-given_by Inspect s vs t = inspected_reply vs t
-given_by _ s vs t = value_reply Nil t
+abbrev pub given_by : Task → Context → List ℕ → List Ref → Table → Reply
+given_by MakeText c s vs t = text_reply s t
+given_by MakeArray c s vs t = array_reply vs t
+given_by MakeHash c s vs t = hash_reply c vs t
+given_by Inspect c s vs t = inspected_reply vs t
+given_by _ c s vs t = value_reply Nil t
 
 abbrev pub unless_lacking : Option BuiltInProblem → Table → Reply → Reply
 unless_lacking None t reply = reply
 unless_lacking (Some problem) t reply = record { response = Fails (BuiltIn problem); table = t }
 
 -- the reply: an exception, where a value has no text
-abbrev pub task_reply : Task → Names → List Ref → Table → Reply
-task_reply task names vs t = unless_lacking (lack_of (texts_of task names t vs)) t (given_by task (joined_texts (texts_of task names t vs)) vs t)
+abbrev pub task_reply : Task → Context → List Ref → Table → Reply
+task_reply task c vs t = unless_lacking (lack_of (texts_of task (names_of c.program) t vs)) t (given_by task c (joined_texts (texts_of task (names_of c.program) t vs)) vs t)

@@ -10,9 +10,9 @@ use Rattle.rr_eval.specs.Exceptions.{with_exception}
 use Rattle.rr_eval.specs.Messages.{message, exception_class}
 use Rattle.rr_builtin.specs.Acts.{with_text}
 
--- the objects with the message and the exception of a problem
-abbrev pub thrown : Context → Problem → Table → Table
-thrown c e t = with_exception (class_id (exception_class e)) (Local (length t.slots)) (with_text (message c e) t)
+-- the objects with the message and the exception of a problem, whose cause is the exception that is being rescued
+abbrev pub thrown : Context → Problem → Ref → Table → Table
+thrown c e cause t = with_exception (class_id (exception_class e)) (Local (length t.slots)) cause (with_text (message c e) t)
 
 -- that exception
 abbrev pub thrown_at : Context → Problem → Table → Ref

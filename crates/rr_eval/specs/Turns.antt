@@ -8,10 +8,10 @@ use Rattle.rr_space.specs.declared.refer.Ref.TheVariants.{Int}
 use Rattle.rr_tree.specs.Tree.{Tree, int, local}
 use Rattle.rr_tree.specs.declared.program.Program.{Program}
 use Rattle.rr_eval.specs.declared.problem.Answer.{Answer}
-use Rattle.rr_eval.specs.declared.problem.Answer.TheVariants.{Gave, Raised}
+use Rattle.rr_eval.specs.declared.problem.Answer.TheVariants.{Gave, Raised, Broke, Done, Returned}
 use Rattle.rr_eval.specs.declared.frame.Frame.{Frame}
 use Rattle.rr_eval.specs.declared.frame.Control.{Control}
-use Rattle.rr_eval.specs.declared.frame.Control.TheVariants.{Enter, Operate, Give, Throw, Raise}
+use Rattle.rr_eval.specs.declared.frame.Control.TheVariants.{Enter, Operate, Give, Throw, Raise, RaiseValue}
 use Rattle.rr_eval.specs.declared.engine.Turn.{Turn}
 use Rattle.rr_eval.specs.declared.engine.Turn.TheVariants as turns
 use Rattle.rr_eval.specs.Acts.{IsRefusal}
@@ -35,9 +35,9 @@ context_of p = record { symbols = contents p.symbols.items; texts = contents p.t
 abbrev pub code_of : Program → World → Code
 code_of p w = record { nodes = p.nodes.items; context = context_of p; world = w }
 
--- the frames of methods and the objects, after this was asked
+-- the frames of methods, the objects and the exception that is being rescued, after this was asked
 abbrev pub state_of : View → Table → Course → State
-state_of m t h = record { memory = record { calls = m.calls; table = t }; asked = h.asked }
+state_of m t h = record { memory = record { calls = m.calls; table = t; rescuing = m.rescuing }; asked = h.asked }
 
 -- what is still to be done with n steps, after this was asked
 abbrev pub remaining_with : Program → View → Table → Course → ℕ → Outcome
@@ -71,6 +71,14 @@ abbrev pub first_control : Bool → ℕ → Control
 first_control true root = Enter root
 first_control false root = Throw NotHere
 
+-- how a turn stops where all ends with an answer
+abbrev pub stop_of : Answer → Turn
+stop_of (Gave v) = turns.Done v
+stop_of (Raised e) = turns.Raised e
+stop_of (Broke v) = turns.Done v
+stop_of (Done v) = turns.Done v
+stop_of (Returned v) = turns.Done v
+
 -- the machine goes on with a response
 abbrev pub answered : View → Response → View
 answered m r = record m { control = control_of r }
@@ -97,6 +105,7 @@ pub record Stands (old new : View) (before after : Table) (f : Fault) : Type 0 w
   pub frames : new.frames ≡ old.frames
   pub held : new.held ≡ old.held
   pub calls : new.calls ≡ old.calls
+  pub rescuing : new.rescuing ≡ old.rescuing
   pub left : new.left ≡ old.left
   pub objects : after ≡ before
   pub refusal : IsRefusal f
@@ -131,6 +140,7 @@ waits (Operate op a b) = 0
 waits (Give a) = 2
 waits (Raise class message) = 3
 waits (Throw e) = 4
+waits (RaiseValue v message) = 4
 
 abbrev pub size : View → ℕ
 size m = 3 * length m.frames + waits m.control

@@ -1,7 +1,7 @@
 -- Each reference that the machine holds leads somewhere.
 use Rattle.std.specs.Prelude.{ℕ, ◌<◌, length, List, Option, Some, None, Contains}
 use Rattle.std.specs.List.{All}
-use Rattle.rr_frames.specs.Frames.{Frame as Activated}
+use Rattle.rr_frames.specs.Frames.{Frame as Activated, list_of}
 use Rattle.rr_space.specs.Graph.{Object}
 use Rattle.rr_space.specs.Sound.{IsHold}
 use Rattle.rr_space.specs.Tables.{Below, Table, Whole, below_hold}
@@ -10,13 +10,13 @@ use Rattle.rr_space.specs.declared.refer.Ref.TheVariants.{Local, Shared}
 use Rattle.rr_text.specs.Reads.{IsReadWith}
 use Rattle.rr_eval.specs.declared.call.Call.{Call}
 use Rattle.rr_eval.specs.declared.problem.Answer.{Answer}
-use Rattle.rr_eval.specs.declared.problem.Answer.TheVariants.{Gave, Raised, Returned}
+use Rattle.rr_eval.specs.declared.problem.Answer.TheVariants.{Gave, Raised, Broke, Done, Returned}
 use Rattle.rr_eval.specs.declared.problem.Response.{Response}
 use Rattle.rr_eval.specs.declared.problem.Response.TheVariants.{Gives, Throws, Fails}
 use Rattle.rr_eval.specs.declared.frame.Frame.{Frame}
-use Rattle.rr_eval.specs.declared.frame.Frame.TheVariants.{Right}
+use Rattle.rr_eval.specs.declared.frame.Frame.TheVariants.{Right, Class, Handling, Kept}
 use Rattle.rr_eval.specs.declared.frame.Control.{Control}
-use Rattle.rr_eval.specs.declared.frame.Control.TheVariants.{Give, Raise}
+use Rattle.rr_eval.specs.declared.frame.Control.TheVariants.{Give, Raise, RaiseValue}
 use Rattle.rr_eval.specs.declared.request.Request.{Request}
 use Rattle.rr_eval.specs.declared.request.Request.TheVariants as requests
 use Rattle.rr_eval.specs.declared.engine.Turn.{Turn}
@@ -48,6 +48,8 @@ IsReached k _ = Unit {0}
 abbrev pub IsAnswerReached : Reach → Answer → Type 0
 IsAnswerReached k (Gave v) = IsReached k v
 IsAnswerReached k (Raised e) = IsReached k e
+IsAnswerReached k (Broke v) = IsReached k v
+IsAnswerReached k (Done v) = IsReached k v
 IsAnswerReached k (Returned v) = IsReached k v
 
 abbrev pub IsResponseReached : Reach → Response → Type 0
@@ -61,11 +63,15 @@ AreVariablesReached k f = All (IsReached k) f.variables
 
 abbrev pub IsFrameReached : Reach → Frame → Type 0
 IsFrameReached k (Right op v) = IsReached k v
+IsFrameReached k (Class r) = IsReached k r.exception
+IsFrameReached k (Handling old) = IsReached k old
+IsFrameReached k (Kept a) = IsAnswerReached k a
 IsFrameReached k _ = Unit {0}
 
 abbrev pub IsControlReached : Reach → Control → Type 0
 IsControlReached k (Give a) = IsAnswerReached k a
 IsControlReached k (Raise class message) = IsReached k message
+IsControlReached k (RaiseValue v message) = IsReached k v × All (IsReached k) (list_of message)
 IsControlReached k _ = Unit {0}
 
 -- the receiver and the arguments of a call
@@ -99,6 +105,7 @@ pub record RefsReached (k : Reach) (m : View) : Type 0 where
   pub frames : All (IsFrameReached k) m.frames
   pub held : All (IsReached k) m.held
   pub calls : All (AreVariablesReached k) m.calls.frames
+  pub rescuing : IsReached k m.rescuing
 
 -- the same, as one fact
 unfoldable pub AreReached : Reach → View → Type 0

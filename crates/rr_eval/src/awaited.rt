@@ -1,13 +1,20 @@
 //! The names by which `self` has methods that are not evaluated yet.
 
 ghost use Rattle.std.specs.Prelude.{◌≡◌};
-ghost use Rattle.rr_eval.specs.Awaited.{is_of_self, is_of_all, is_awaited};
+ghost use Rattle.rr_eval.specs.Awaited.{is_raise, is_of_self, is_of_all, is_awaited};
 
-/// Whether it is a name that only `self` has a method of.
+/// Whether it is `raise`.
+pub fn is_raise(name: &[u8]) -> bool
+    ensures { result ≡ is_raise name.now }
+{
+    name == b"raise".as_slice()
+}
+
+/// Whether it is a name that only `self` has a method of, and is not evaluated yet.
 fn is_of_self(name: &[u8]) -> bool
     ensures { result ≡ is_of_self name.now }
 {
-    name == b"raise".as_slice() || name == b"loop".as_slice() || name == b"block_given?".as_slice()
+    name == b"loop".as_slice() || name == b"block_given?".as_slice()
 }
 
 /// Whether it is the name of a method that all values have.

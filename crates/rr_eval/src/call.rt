@@ -22,6 +22,8 @@ pub enum Callee {
     Index,
     /// `<<`.
     Append,
+    /// `[]=`.
+    SetIndex,
     /// A method by its name.
     Name(Sym),
 }
@@ -39,6 +41,8 @@ pub enum Task {
     MakeArray,
     /// A new text is made of what they are spoken as.
     MakeText,
+    /// They become the keys and the values of a new hash, by turns, as `hash[key] = value` puts each pair.
+    MakeHash,
 }
 
 /// What is done with values that were evaluated from left to right.
@@ -49,6 +53,8 @@ pub enum Target {
     Call(Callee),
     /// They are the arguments of the program's method of this name.
     Own(Sym),
+    /// They are the arguments of `raise`.
+    Raise,
 }
 
 /// Values, as the arguments of a call. No more than two of them take no memory.

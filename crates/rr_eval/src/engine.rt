@@ -15,7 +15,7 @@ ghost use Rattle.rr_eval.specs.Changes.{Changes};
 ghost use Rattle.rr_eval.specs.Frames.{below_of, base_of, Nested, first_tree};
 ghost use Rattle.rr_eval.specs.Rules.{ended};
 ghost use Rattle.rr_eval.specs.Nodes.{evaluated_tree, IsEvaluated, IsRareNode};
-ghost use Rattle.rr_eval.specs.Turns.{context_of, state_of, remaining, remaining_with, after_script, after_answer, continuing, IsNested, Stands, leaf_value, Turned, size, sized, waits, power, Falls};
+ghost use Rattle.rr_eval.specs.Turns.{context_of, state_of, remaining, remaining_with, after_script, after_answer, continuing, IsNested, Stands, leaf_value, stop_of, Turned, size, sized, waits, power, Falls};
 ghost use Rattle.rr_eval.specs.Views.{view_of};
 ghost use Rattle.rr_eval.specs.Within.{Reach, reach, IsReached, IsAnswerReached, IsFrameReached, AreVariablesReached, IsAskedReached, IsTurnReached, AreReached, AreWithin, KeepsReach, KeepsRead};
 ghost use Rattle.std.specs.List.{All};
@@ -41,6 +41,8 @@ pub struct Engine {
     pub held: Vec<Ref>,
     /// The frames of the program and of the methods that run, with their variables.
     pub calls: Frames,
+    /// The exception that is being rescued; nil where none is.
+    pub rescuing: Ref,
     /// The steps that are left.
     pub left: u64,
     pub alloc: Global,
@@ -59,6 +61,19 @@ pub enum Turn {
     Raised(Ref),
     /// No step is left.
     StepLimit,
+}
+
+/// How a turn stops where all ends with an answer.
+fn stop_of(answer: Answer) -> Turn
+    ensures is { result ≡ stop_of answer }
+{
+    match answer {
+        Answer::Gave(value) => Turn::Done(value),
+        Answer::Raised(exception) => Turn::Raised(exception),
+        Answer::Broke(value) => Turn::Done(value),
+        Answer::Done(value) => Turn::Done(value),
+        Answer::Returned(value) => Turn::Done(value),
+    }
 }
 
 /// One more item, where there is room.
@@ -306,25 +321,22 @@ impl Engine {
                         return Ok(Turn::Done(value));
                     };
                     if !self.resume(&prepared.program, frame, value, stop)
-                        && let Some(request) = self.resume_rare(prepared, frame, value)?
+                        && let Some(request) = self.resume_rare(prepared, space, frame, value)?
                     {
                         return Ok(Turn::Ask(request));
                     }
                 }
-                Control::Give(Answer::Raised(exception)) => {
-                    let Some(frame) = self.pop_frame(Answer::Raised(exception)) else {
-                        return Ok(Turn::Raised(exception));
+                Control::Give(answer) => {
+                    let Some(frame) = self.pop_frame(answer) else {
+                        return Ok(stop_of(answer));
                     };
-                    self.pass(frame, exception);
-                }
-                Control::Give(Answer::Returned(value)) => {
-                    let Some(frame) = self.pop_frame(Answer::Returned(value)) else {
-                        return Ok(Turn::Done(value));
-                    };
-                    self.leave(frame, value);
+                    self.pass(&prepared.program, space, frame, answer);
                 }
                 Control::Throw(problem) => self.throw(&prepared.program, space, problem)?,
                 Control::Raise(class, message) => self.raise(space, class, message)?,
+                Control::RaiseValue(value, message) => {
+                    self.raise_value(&prepared.program, space, value, message)?
+                }
                 Control::Operate(op, a, b) => {
                     if self.left == 0 {
                         return Ok(Turn::StepLimit);

@@ -2,7 +2,7 @@
 
 ghost use Rattle.std.specs.Prelude.{◌≡◌, ◌≤◌, length};
 ghost use Rattle.std.specs.List.{All};
-ghost use Rattle.rr_eval.specs.Frames.{base_of, stand_of};
+ghost use Rattle.rr_eval.specs.Frames.{base_of, stand_of, below_of};
 ghost use Rattle.rr_eval.specs.Within.{Reach, IsReached};
 
 use crate::call::Target;
@@ -10,6 +10,20 @@ use crate::problem::{Answer, Problem};
 use rr_base::ClassId;
 use rr_space::Ref;
 use rr_tree::{BinaryOperator, NodeId};
+
+/// A class of a clause that is tried on an exception, and what is tried behind it.
+#[derive(Clone, Copy)]
+pub struct Trial {
+    pub exception: Ref,
+    /// The number behind the last class of the clause.
+    pub last: NodeId,
+    /// How many classes of the clause stand behind this one.
+    pub classes: u32,
+    /// The number behind the last clause.
+    pub end: NodeId,
+    /// How many clauses stand behind this one.
+    pub clauses: u32,
+}
 
 /// What waits for the answer of a part.
 #[derive(Clone, Copy)]
@@ -34,6 +48,10 @@ pub enum Frame {
     Condition(bool, NodeId, NodeId),
     /// The body of a loop, and the loop itself.
     Body(NodeId),
+    /// `break`.
+    Break,
+    /// `next`.
+    Next,
     /// `return`.
     Return,
     /// The body of a method, whose variables go with it.
@@ -43,6 +61,25 @@ pub enum Frame {
     /// Values for a target: the number behind the last part, how many parts are still to be evaluated, and where the values
     /// of the others begin.
     Argument(Target, NodeId, u32, usize),
+    /// The key of a pair of a new hash: its value, which is evaluated next, the number behind the last pair, how many pairs
+    /// are still to be evaluated behind this one, and where the keys and values so far begin.
+    Key(NodeId, NodeId, u32, usize),
+    /// The value of a pair of a new hash: the number behind the last pair, how many pairs are still to be evaluated, and
+    /// where the keys and values so far begin.
+    Value(NodeId, u32, usize),
+    /// The receiver of an assignment to an element: the index, and the number behind the value that is assigned.
+    Element(NodeId, NodeId),
+    /// Statements that clauses rescue: the number behind the last clause, how many there are, and what follows where
+    /// nothing is raised.
+    Rescue(NodeId, u32, NodeId),
+    /// A class of a clause that is tried on an exception.
+    Class(Trial),
+    /// The statements of a clause, with the exception that was being rescued before.
+    Handling(Ref),
+    /// Statements, with those that always follow.
+    Ensure(NodeId),
+    /// Statements that always follow, with what those before came to.
+    Kept(Answer),
 }
 
 /// What comes next.
@@ -56,6 +93,8 @@ pub enum Control {
     Throw(Problem),
     /// An exception of a class, with the message that was made for it, which is made and raised.
     Raise(ClassId, Ref),
+    /// `raise` of a value, with a message where one is given.
+    RaiseValue(Ref, Option<Ref>),
 }
 
 /// The values that stand for a frame.
@@ -66,6 +105,21 @@ pub fn standing(held: &Vec<Ref>, frame: Frame) -> &[Ref]
 {
     match frame {
         Frame::Argument(_, _, _, base) => &held[base..],
+        Frame::Key(_, _, _, base) => &held[base..],
+        Frame::Value(_, _, base) => &held[base..],
         _ => &[],
+    }
+}
+
+/// Takes away the values that stand for a frame.
+#[inline(always)]
+pub fn clear(held: &mut Vec<Ref>, frame: Frame)
+    ensures { held.new.items ≡ below_of frame held.old.items }
+{
+    match frame {
+        Frame::Argument(_, _, _, base) => held.truncate(base),
+        Frame::Key(_, _, _, base) => held.truncate(base),
+        Frame::Value(_, _, base) => held.truncate(base),
+        _ => (),
     }
 }

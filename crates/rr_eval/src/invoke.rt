@@ -17,10 +17,9 @@ ghost use Rattle.rr_eval.specs.Within.{Reach, AreReached, IsReached};
 
 use crate::call::Callee;
 use crate::engine::{Engine, push_within};
-use crate::frame::{Control, Frame, standing};
+use crate::frame::{Control, Frame, clear, standing};
 use crate::prepared::{Definition, Prepared};
 use crate::problem::Problem;
-use crate::resume::clear;
 use rr_base::{ClassId, Fault, LimitKind, Sym};
 use rr_builtin::{Problem as BuiltInProblem, Receiver};
 use rr_frames::{Activation, Given};

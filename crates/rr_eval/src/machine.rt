@@ -5,6 +5,7 @@ ghost use Rattle.rr_base.specs.declared.fault.Fault.{Fault};
 ghost use Rattle.rr_eval.specs.Methods.{are_methods, definitions_of};
 ghost use Rattle.std.specs.List.{All};
 ghost use Rattle.rr_space.specs.Tables.{Table, Below};
+ghost use Rattle.rr_space.specs.declared.refer.Ref.{Ref};
 ghost use Rattle.rr_tree.specs.declared.program.Program.{Program};
 ghost use Rattle.rr_tree.specs.Tree.{Tree, tree_at, listed};
 ghost use Rattle.rr_eval.specs.Acts.{Passes};
@@ -26,7 +27,7 @@ use crate::prepared::Prepared;
 use crate::problem::{Problem, Response};
 use rr_base::{Fault, Limits};
 use rr_frames::{Frames, Shape};
-use rr_space::Space;
+use rr_space::{Ref, Space};
 use rr_tree::Program;
 use std::alloc::Global;
 use std::marker::Model;
@@ -66,7 +67,7 @@ fn first_control(prepared: &Prepared) -> Control
 
 /// The frame of a program, whose variables are unset, where so many methods may be called in one another.
 fn first_calls(alloc: Global, program: &Program, most: u32) -> Result<Frames, Fault>
-    ensures calls { IfOk result (λ calls. (t : Table) → record { calls = calls; table = t } ≡ first_memory (context_of program.now) most t) }
+    ensures calls { IfOk result (λ calls. (t : Table) → record { calls = calls; table = t; rescuing = Ref.Nil } ≡ first_memory (context_of program.now) most t) }
     ensures within { IfOk result (λ calls. (k : Reach) → All (AreVariablesReached k) calls.frames) }
     ensures fault { IfErr result (λ f. f ≡ Fault.Memory) }
 {
@@ -101,6 +102,7 @@ impl Machine {
             frames: Vec::new(alloc),
             held: Vec::new(alloc),
             calls: first_calls(alloc, &prepared.program, limits.frames)?,
+            rescuing: Ref::Nil,
             left: limits.steps,
             alloc,
         };
@@ -154,8 +156,9 @@ pub fn rules_hold()
     ensures lists { (trees : List Tree) → items (listed trees) ≡ trees }
 {}
 
-/// An exception that is thrown is made with its message, and what is told of it has that message and its class.
+/// An exception that is thrown is made with its message and with the exception that is being rescued as its cause, and what is
+/// told of it has that message and its class.
 pub fn exceptions_hold()
-    ensures thrown { (c : Context) (w : World) (go : Evaluation) (e : Problem) (s : State) (n : ℕ) → run w go (throw c e) s n ≡ Ended (Answer.Raised (thrown_at c e s.memory.table)) (record s { memory = record s.memory { table = thrown c e s.memory.table } }) n }
-    ensures told { (c : Context) (e : Problem) (t : Table) (told : List ℕ) → IsTold (thrown c e t) (thrown_at c e t) told → told ≡ report c e }
+    ensures thrown { (c : Context) (w : World) (go : Evaluation) (e : Problem) (s : State) (n : ℕ) → run w go (throw c e) s n ≡ Ended (Answer.Raised (thrown_at c e s.memory.table)) (record s { memory = record s.memory { table = thrown c e s.memory.rescuing s.memory.table } }) n }
+    ensures told { (c : Context) (e : Problem) (cause : Ref) (t : Table) (told : List ℕ) → IsTold (thrown c e cause t) (thrown_at c e t) told → told ≡ report c e }
 {}

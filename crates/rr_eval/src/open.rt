@@ -14,7 +14,7 @@ ghost use Rattle.rr_eval.specs.Changes.{Changes};
 ghost use Rattle.rr_eval.specs.Constants.{class_named};
 ghost use Rattle.rr_eval.specs.Methods.{own_method};
 ghost use Rattle.rr_eval.specs.Operators.{make};
-ghost use Rattle.rr_eval.specs.Rules.{rule, statements, values, on_table, finish, printing, awaited, bare_rule, call_rule, constant_rule};
+ghost use Rattle.rr_eval.specs.Rules.{rule, statements, values, on_table, finish, printing, raises, awaited, bare_rule, call_rule, constant_rule};
 ghost use Rattle.rr_tree.specs.Nodes.{trees_before};
 ghost use Rattle.rr_eval.specs.Nodes.{evaluated_tree, IsEvaluated, IsRareNode, is_unknown};
 ghost use Rattle.rr_eval.specs.Frames.{resumed, IsNew};
@@ -22,7 +22,7 @@ ghost use Rattle.rr_eval.specs.Turns.{context_of, code_of, IsNested, after_scrip
 ghost use Rattle.rr_eval.specs.Views.{view_of};
 ghost use Rattle.rr_eval.specs.Within.{Reach, AreReached, AreWithin, IsFrameReached, IsAskedReached, KeepsReach, KeepsRead};
 
-use crate::awaited::is_awaited;
+use crate::awaited::{is_awaited, is_raise};
 use crate::call::{Arguments, Callee, Target, Task};
 use crate::constant::class_named;
 use crate::engine::{Engine, push_within};
@@ -262,7 +262,8 @@ impl Engine {
         }
     }
 
-    /// Evaluates a call with arguments of a name that is no method's. Such a call raises, once its arguments are evaluated.
+    /// Evaluates a call with arguments of `raise`, or of a name that is no method's. Such a call raises, once its arguments are
+    /// evaluated.
     #[tactic(auto, unfolding(crate::specs::Within::AreReached))]
     fn open_missing(
         &mut self,
@@ -273,7 +274,7 @@ impl Engine {
     ) -> Result<Option<Request>, Fault>
         requires small { first + count < 2 ^ 32 }
         requires nested { IsNested (view_of self.old) }
-        ensures goes { IfOk result (λ q. (t : Table) (h : Course) (n : ℕ) → after_script prepared.now.program (view_of self.old) t (call_rule (context_of prepared.now.program) None None (awaited (context_of prepared.now.program) name.0) name (trees_before prepared.now.program.nodes.items (first + count) count)) h n ≡ continuing prepared.now.program (view_of self.new) t q h n) }
+        ensures goes { IfOk result (λ q. (t : Table) (h : Course) (n : ℕ) → after_script prepared.now.program (view_of self.old) t (call_rule (context_of prepared.now.program) None None (raises (context_of prepared.now.program) name.0) (awaited (context_of prepared.now.program) name.0) name (trees_before prepared.now.program.nodes.items (first + count) count)) h n ≡ continuing prepared.now.program (view_of self.new) t q h n) }
         ensures nested { IsNested (view_of self.new) }
         ensures within { (k : Reach) → AreReached k (view_of self.old) → AreReached k (view_of self.new) }
         ensures left { self.new.left ≡ self.old.left }
@@ -282,6 +283,12 @@ impl Engine {
         ensures size { IfOk result (λ q. sized q (view_of self.new) ≤ 3 * length self.old.frames.items + 4) }
         ensures fault { IfErr result (λ f. f ≡ Fault.Memory) }
     {
+        if is_raise(prepared.program.symbol_bytes(name)) {
+            return match self.open_raise(first, count) {
+                Ok(()) => Ok(None),
+                Err(fault) => Err(fault),
+            };
+        }
         if is_awaited(prepared.program.symbol_bytes(name)) {
             self.control = Control::Throw(Problem::NotHere);
             return Ok(None);
@@ -292,7 +299,7 @@ impl Engine {
         }
     }
 
-    /// Evaluates a call with arguments: of a method of the program, of a name that prints, or of another, which raises.
+    /// Evaluates a call with arguments: of a method of the program, of a name that prints, of `raise`, or of another, which raises.
     #[tactic(auto, unfolding(crate::specs::Within::AreReached))]
     fn open_call(
         &mut self,
@@ -303,7 +310,7 @@ impl Engine {
     ) -> Result<Option<Request>, Fault>
         requires small { first + count < 2 ^ 32 }
         requires nested { IsNested (view_of self.old) }
-        ensures goes { IfOk result (λ q. (t : Table) (h : Course) (n : ℕ) → after_script prepared.now.program (view_of self.old) t (call_rule (context_of prepared.now.program) (own_method prepared.now.program name.0) (printing (context_of prepared.now.program) name.0) (awaited (context_of prepared.now.program) name.0) name (trees_before prepared.now.program.nodes.items (first + count) count)) h n ≡ continuing prepared.now.program (view_of self.new) t q h n) }
+        ensures goes { IfOk result (λ q. (t : Table) (h : Course) (n : ℕ) → after_script prepared.now.program (view_of self.old) t (call_rule (context_of prepared.now.program) (own_method prepared.now.program name.0) (printing (context_of prepared.now.program) name.0) (raises (context_of prepared.now.program) name.0) (awaited (context_of prepared.now.program) name.0) name (trees_before prepared.now.program.nodes.items (first + count) count)) h n ≡ continuing prepared.now.program (view_of self.new) t q h n) }
         ensures nested { IsNested (view_of self.new) }
         ensures within { (k : Reach) → AreReached k (view_of self.old) → AreReached k (view_of self.new) }
         ensures left { self.new.left ≡ self.old.left }
@@ -322,11 +329,11 @@ impl Engine {
         }
     }
 
-    /// Evaluates a bare name: that of a method of the program, one that prints, or one that is missing.
+    /// Evaluates a bare name: that of a method of the program, one that prints, `raise`, or one that is missing.
     #[tactic(auto, unfolding(crate::specs::Within::AreReached))]
     fn open_bare(&mut self, prepared: &Prepared, name: Sym) -> Result<Option<Request>, Fault>
         requires nested { IsNested (view_of self.old) }
-        ensures goes { IfOk result (λ q. (t : Table) (h : Course) (n : ℕ) → after_script prepared.now.program (view_of self.old) t (bare_rule (context_of prepared.now.program) (own_method prepared.now.program name.0) (printing (context_of prepared.now.program) name.0) name) h n ≡ continuing prepared.now.program (view_of self.new) t q h n) }
+        ensures goes { IfOk result (λ q. (t : Table) (h : Course) (n : ℕ) → after_script prepared.now.program (view_of self.old) t (bare_rule (context_of prepared.now.program) (own_method prepared.now.program name.0) (printing (context_of prepared.now.program) name.0) (raises (context_of prepared.now.program) name.0) name) h n ≡ continuing prepared.now.program (view_of self.new) t q h n) }
         ensures nested { IsNested (view_of self.new) }
         ensures within { (k : Reach) → AreReached k (view_of self.old) → AreReached k (view_of self.new) }
         ensures left { self.new.left ≡ self.old.left }
@@ -342,7 +349,7 @@ impl Engine {
             },
             (None, Some(task)) => Ok(Some(Request::Do(task, Arguments::Without))),
             (None, None) => {
-                self.control = Control::Throw(Problem::MissingName(name));
+                self.open_name(&prepared.program, name);
                 Ok(None)
             }
         }
@@ -389,6 +396,8 @@ impl Engine {
             Node::Text(i) => self.open_text(&prepared.program, space, i),
             Node::Array { first, count } => self.open_values(Task::MakeArray, first, count),
             Node::Interpolation { first, count } => self.open_values(Task::MakeText, first, count),
+            Node::Hash { first, count } => self.open_pairs(&prepared.program, first, count),
+            Node::Pairs { first, count } => self.open_pairs(&prepared.program, first, count),
             Node::Bare { name, .. } => self.open_bare(prepared, name),
             Node::Call {
                 name,
@@ -438,13 +447,27 @@ impl Engine {
             } => self.open_send(Callee::Name(name), receiver, first + count, count),
             Node::Index(a, b) => self.open_send(Callee::Index, a, b + 1, 1),
             Node::Append(a, b) => self.open_send(Callee::Append, a, b + 1, 1),
+            Node::SetIndex {
+                receiver,
+                index,
+                value,
+            } => self.enter_above(Frame::Element(index, value + 1), receiver),
             Node::Assign { slot, value, .. } => self.enter_above(Frame::Store(slot), value),
             Node::OperatorAssign(op, target, value) => {
                 self.open_update(program, op, target, value);
             }
             Node::OrAssign(target, value) => self.open_or_assign(program, target, value),
             Node::AndAssign(target, value) => self.open_and_assign(program, target, value),
+            Node::Break(value) => self.enter_above(Frame::Break, value),
+            Node::Next(value) => self.enter_above(Frame::Next, value),
             Node::Return(value) => self.enter_above(Frame::Return, value),
+            Node::Rescue {
+                body,
+                first,
+                count,
+                otherwise,
+            } => self.enter_above(Frame::Rescue(first + count, count, otherwise), body),
+            Node::Ensure(body, part) => self.enter_above(Frame::Ensure(part), body),
             Node::Choose(a, b, d) => self.enter_above(Frame::Branch(b, d), a),
             Node::Loop {
                 until,
@@ -456,6 +479,8 @@ impl Engine {
             Node::Text(_)
             | Node::Array { .. }
             | Node::Interpolation { .. }
+            | Node::Hash { .. }
+            | Node::Pairs { .. }
             | Node::Bare { .. }
             | Node::Call { .. } => {
                 return false;

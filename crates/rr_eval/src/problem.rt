@@ -1,5 +1,9 @@
 //! How an evaluation ends, and what an exception says.
 
+ghost use Rattle.std.specs.Prelude.{◌≡◌};
+ghost use Rattle.rr_eval.specs.Rules.{ended};
+ghost use Rattle.rr_eval.specs.Within.{Reach, IsAnswerReached};
+
 use crate::call::Callee;
 use rr_base::Sym;
 use rr_builtin::{Problem as BuiltInProblem, Receiver};
@@ -16,6 +20,10 @@ pub enum Problem {
     MissingName(Sym),
     /// NameError: a constant that was never set.
     MissingConstant(Sym),
+    /// TypeError: what would be raised is neither an exception nor a class of exceptions.
+    NotRaisable,
+    /// RuntimeError: nothing is given that would be raised.
+    Unhandled,
     /// RuntimeError: what is not evaluated yet.
     NotHere,
 }
@@ -26,6 +34,10 @@ pub enum Answer {
     Gave(Ref),
     /// With an exception, which is an object.
     Raised(Ref),
+    /// With the value of a `break`, which ends the loop.
+    Broke(Ref),
+    /// With the value of a `next`, which ends the loop's turn.
+    Done(Ref),
     /// With the value of a `return`, which leaves the method.
     Returned(Ref),
 }
@@ -38,4 +50,18 @@ pub enum Response {
     Throws(Ref),
     /// Why it raises an exception, which the machine makes then.
     Fails(Problem),
+}
+
+/// What a method ends with, whose statements end so.
+pub fn ended(answer: Answer) -> Answer
+    ensures is { result ≡ ended answer }
+    ensures within { (k : Reach) → IsAnswerReached k answer → IsAnswerReached k result }
+{
+    match answer {
+        Answer::Gave(value) => Answer::Gave(value),
+        Answer::Raised(exception) => Answer::Raised(exception),
+        Answer::Broke(value) => Answer::Gave(value),
+        Answer::Done(value) => Answer::Gave(value),
+        Answer::Returned(value) => Answer::Gave(value),
+    }
 }

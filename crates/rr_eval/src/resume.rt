@@ -18,7 +18,7 @@ ghost use Rattle.rr_eval.specs.Within.{Reach, IsReached, IsFrameReached, IsCallR
 
 use crate::call::{Arguments, Call, Callee, Target, Task, arguments_of, call_of};
 use crate::engine::{Engine, push_within};
-use crate::frame::{Control, Frame, standing};
+use crate::frame::{Control, Frame, clear, standing};
 use crate::operator::{on_integers, opposite};
 use crate::prepared::Prepared;
 use crate::problem::Answer;
@@ -26,19 +26,8 @@ use crate::request::Request;
 use crate::value::goes_on;
 use rr_base::Fault;
 use rr_builtin::is_truthy;
-use rr_space::Ref;
+use rr_space::{Ref, Space};
 use rr_tree::{BinaryOperator, NodeId, Program};
-
-/// Takes away the values that stand for a frame.
-#[inline(always)]
-pub fn clear(held: &mut Vec<Ref>, frame: Frame)
-    ensures { held.new.items ≡ below_of frame held.old.items }
-{
-    match frame {
-        Frame::Argument(_, _, _, base) => held.truncate(base),
-        _ => (),
-    }
-}
 
 impl Engine {
     /// An operator on an integer and its right operand, which is evaluated in one step, where it is an integer that needs
@@ -193,6 +182,14 @@ impl Engine {
                 self.begin(end, count);
                 true
             }
+            Frame::Break => {
+                self.control = Control::Give(Answer::Broke(value));
+                true
+            }
+            Frame::Next => {
+                self.control = Control::Give(Answer::Done(value));
+                true
+            }
             Frame::Return => {
                 self.control = Control::Give(Answer::Returned(value));
                 true
@@ -201,7 +198,16 @@ impl Engine {
                 self.end_method(value);
                 true
             }
-            Frame::Negation | Frame::Argument(_, _, _, _) => false,
+            Frame::Negation
+            | Frame::Argument(_, _, _, _)
+            | Frame::Key(_, _, _, _)
+            | Frame::Value(_, _, _)
+            | Frame::Element(_, _)
+            | Frame::Rescue(_, _, _)
+            | Frame::Class(_)
+            | Frame::Handling(_)
+            | Frame::Ensure(_)
+            | Frame::Kept(_) => false,
         }
     }
 
@@ -286,7 +292,7 @@ impl Engine {
 
     /// Asks for a task with the values that stand for a frame, and with one more.
     #[tactic(auto, unfolding(crate::specs::Within::AreReached))]
-    fn ask(&mut self, task: Task, frame: Frame, value: Ref) -> Result<Option<Request>, Fault>
+    pub fn ask(&mut self, task: Task, frame: Frame, value: Ref) -> Result<Option<Request>, Fault>
         requires room { length self.old.frames.items < vec_capacity self.old.frames }
         requires base { base_of frame ≤ length self.old.held.items }
         requires nested { Nested (reverse self.old.frames.items) (below_of frame self.old.held.items) }
@@ -354,6 +360,10 @@ impl Engine {
                 Ok(()) => Ok(None),
                 Err(fault) => Err(fault),
             },
+            Target::Raise => {
+                self.finish_raise(frame, value);
+                Ok(None)
+            }
         }
     }
 
@@ -395,6 +405,7 @@ impl Engine {
     fn resume_value(
         &mut self,
         prepared: &Prepared,
+        space: &Space,
         frame: Frame,
         value: Ref,
     ) -> Result<Option<Request>, Fault>
@@ -402,7 +413,7 @@ impl Engine {
         requires base { base_of frame ≤ length self.old.held.items }
         requires nested { Nested (reverse self.old.frames.items) (below_of frame self.old.held.items) }
         requires rare { IsRareFrame frame }
-        ensures goes { IfOk result (λ q. (t : Table) (h : Course) (n : ℕ) → after_answer prepared.now.program (view_of self.old) t frame (Answer.Gave value) h n ≡ continuing prepared.now.program (view_of self.new) t q h n) }
+        ensures goes { IfOk result (λ q. (h : Course) (n : ℕ) → after_answer prepared.now.program (view_of self.old) space.now frame (Answer.Gave value) h n ≡ continuing prepared.now.program (view_of self.new) space.now q h n) }
         ensures nested { OnOk result (IsNested (view_of self.new)) }
         ensures within { (k : Reach) → AreReached k (view_of self.old) → IsFrameReached k frame → IsReached k value → AreReached k (view_of self.new) }
         ensures asks { (k : Reach) → AreReached k (view_of self.old) → IsFrameReached k frame → IsReached k value → IfOk result (IsAskedReached k) }
@@ -418,6 +429,32 @@ impl Engine {
             Frame::Argument(target, end, count, base) => {
                 self.resume_values(prepared, target, end, count, base, value)
             }
+            Frame::Key(next, end, count, base) => self.keep_key(next, end, count, base, value),
+            Frame::Value(end, count, base) => {
+                self.resume_pairs(&prepared.program, end, count, base, value)
+            }
+            Frame::Element(index, end) => self.keep_receiver(index, end, value),
+            Frame::Rescue(_, _, otherwise) => {
+                self.go_else(&prepared.program, otherwise, value);
+                Ok(None)
+            }
+            Frame::Class(trial) => {
+                self.resume_class(&prepared.program, space, trial, value);
+                Ok(None)
+            }
+            Frame::Handling(old) => {
+                self.rescuing = old;
+                self.control = Control::Give(Answer::Gave(value));
+                Ok(None)
+            }
+            Frame::Ensure(part) => {
+                self.enter_above(Frame::Kept(Answer::Gave(value)), part);
+                Ok(None)
+            }
+            Frame::Kept(answer) => {
+                self.control = Control::Give(answer);
+                Ok(None)
+            }
             _ => unreachable!(),
         }
     }
@@ -429,6 +466,7 @@ impl Engine {
     pub fn resume_rare(
         &mut self,
         prepared: &Prepared,
+        space: &Space,
         frame: Frame,
         value: Ref,
     ) -> Result<Option<Request>, Fault>
@@ -437,61 +475,21 @@ impl Engine {
         requires base { base_of frame ≤ length self.old.held.items }
         requires nested { Nested (reverse self.old.frames.items) (below_of frame self.old.held.items) }
         requires rare { IsRareFrame frame }
-        ensures goes { IfOk result (λ q. (t : Table) (h : Course) → after_answer prepared.now.program (view_of self.old) t frame (Answer.Gave value) h self.old.left ≡ continuing prepared.now.program (view_of self.new) t q h self.new.left) }
+        ensures goes { IfOk result (λ q. (h : Course) → after_answer prepared.now.program (view_of self.old) space.now frame (Answer.Gave value) h self.old.left ≡ continuing prepared.now.program (view_of self.new) space.now q h self.new.left) }
         ensures nested { IsNested (view_of self.new) }
         ensures within { (k : Reach) → AreReached k (view_of self.old) → IsFrameReached k frame → IsReached k value → AreReached k (view_of self.new) }
         ensures asks { (k : Reach) → AreReached k (view_of self.old) → IsFrameReached k frame → IsReached k value → IfOk result (IsAskedReached k) }
         ensures left { self.new.left ≡ self.old.left }
         ensures size { IfOk result (λ q. sized q (view_of self.new) ≤ 3 * length self.old.frames.items + 4) }
         ensures fault { IfErr result (λ f. f ≡ Fault.Memory) }
-        ensures back { IfErr result (λ _. (t : Table) (h : Course) → after_answer prepared.now.program (view_of self.old) t frame (Answer.Gave value) h self.old.left ≡ remaining prepared.now.program (view_of self.new) t h) }
+        ensures back { IfErr result (λ _. (h : Course) → after_answer prepared.now.program (view_of self.old) space.now frame (Answer.Gave value) h self.old.left ≡ remaining prepared.now.program (view_of self.new) space.now h) }
     {
-        match self.resume_value(prepared, frame, value) {
+        match self.resume_value(prepared, space, frame, value) {
             Ok(request) => Ok(request),
             Err(fault) => {
                 push_within(&mut self.frames, frame);
                 Err(fault)
             }
-        }
-    }
-
-    /// Passes an exception through a frame, which is taken off the stack. A method ends with it.
-    #[tactic(auto, unfolding(crate::specs::Within::AreReached))]
-    #[inline(never)]
-    pub fn pass(&mut self, frame: Frame, exception: Ref)
-        requires control { self.old.control ≡ Control.Give (Answer.Raised exception) }
-        requires base { base_of frame ≤ length self.old.held.items }
-        requires nested { Nested (reverse self.old.frames.items) (below_of frame self.old.held.items) }
-        ensures goes { (p : Program) (t : Table) (h : Course) → after_answer p (view_of self.old) t frame (Answer.Raised exception) h self.old.left ≡ remaining p (view_of self.new) t h }
-        ensures nested { IsNested (view_of self.new) }
-        ensures within { (k : Reach) → AreReached k (view_of self.old) → AreReached k (view_of self.new) }
-        ensures left { self.new.left ≡ self.old.left }
-        ensures size { size (view_of self.new) ≡ 3 * length self.old.frames.items + 2 }
-    {
-        match frame {
-            Frame::Back => self.calls.pop(),
-            _ => clear(&mut self.held, frame),
-        }
-    }
-
-    /// Passes what a `return` gives through a frame, which is taken off the stack. A method ends with it as its value.
-    #[tactic(auto, unfolding(crate::specs::Within::AreReached))]
-    pub fn leave(&mut self, frame: Frame, value: Ref)
-        requires control { self.old.control ≡ Control.Give (Answer.Returned value) }
-        requires base { base_of frame ≤ length self.old.held.items }
-        requires nested { Nested (reverse self.old.frames.items) (below_of frame self.old.held.items) }
-        ensures goes { (p : Program) (t : Table) (h : Course) → after_answer p (view_of self.old) t frame (Answer.Returned value) h self.old.left ≡ remaining p (view_of self.new) t h }
-        ensures nested { IsNested (view_of self.new) }
-        ensures within { (k : Reach) → AreReached k (view_of self.old) → AreReached k (view_of self.new) }
-        ensures left { self.new.left ≡ self.old.left }
-        ensures size { size (view_of self.new) ≡ 3 * length self.old.frames.items + 2 }
-    {
-        match frame {
-            Frame::Back => {
-                self.calls.pop();
-                self.control = Control::Give(Answer::Gave(value));
-            }
-            _ => clear(&mut self.held, frame),
         }
     }
 }

@@ -45,6 +45,7 @@ fn method_of(program: &Program, methods: &Methods, callee: Callee) -> Option<Bui
         Callee::Opposite => Some(BuiltInMethod::Number(NumberMethod::Opposite)),
         Callee::Index => Some(BuiltInMethod::Content(ContentMethod::At)),
         Callee::Append => Some(BuiltInMethod::Content(ContentMethod::Append)),
+        Callee::SetIndex => Some(BuiltInMethod::Content(ContentMethod::SetAt)),
         Callee::Name(name) => methods.find(name),
     }
 }
@@ -128,6 +129,44 @@ pub fn response_from(missing: Problem, built: Built) -> Response
     }
 }
 
+/// Serves a call of a built-in method, where there is one and nothing is published. A refused growth leaves the objects as
+/// they were.
+pub fn serve_method(
+    alloc: Global,
+    space: &mut Space,
+    program: &Program,
+    call: &Call,
+    method: Option<BuiltInMethod>,
+) -> Result<Response, Fault>
+    requires method { method ≡ method_of (context_of program.now) call.now.callee }
+    requires read { IsReadWith space.old [] }
+    requires reached { IsCallReached (reach (length space.old.slots) (Some [])) call.now }
+    ensures reply { IfOk result (λ r. call_reply (context_of program.now) call.now.receiver call.now.callee (arguments_of call.now.arguments) space.old ≡ record { response = r; table = space.new }) }
+    ensures read { IsReadWith space.new [] }
+    ensures reached { IfOk result (IsResponseReached (reach (length space.new.slots) (Some []))) }
+    ensures grows { length space.old.slots ≤ length space.new.slots }
+    ensures limit { space.new.limit ≡ space.old.limit }
+    ensures refused { IfErr result IsRefusal }
+    ensures full { IfErr result (λ f. Passes f space.old.limit (length (call_reply (context_of program.now) call.now.receiver call.now.callee (arguments_of call.now.arguments) space.old).table.slots)) }
+{
+    let _before = space.len();
+    let missing = Problem::MissingMethod(call.callee, receiver_of(space, call.receiver));
+    match send_with(
+        alloc,
+        space,
+        program,
+        call.receiver,
+        method,
+        &call.arguments,
+    ) {
+        Ok(built) => {
+            let _after = space.len();
+            Ok(response_from(missing, built))
+        }
+        Err(fault) => Err(fault),
+    }
+}
+
 /// Serves a call where nothing is published. A refused growth leaves the objects as they were.
 fn serve_call(
     alloc: Global,
@@ -147,23 +186,8 @@ fn serve_call(
     ensures refused { IfErr result IsRefusal }
     ensures full { IfErr result (λ f. Passes f space.old.limit (length (call_reply (context_of program.now) call.now.receiver call.now.callee (arguments_of call.now.arguments) space.old).table.slots)) }
 {
-    let _before = space.len();
     let method = method_of(program, methods, call.callee);
-    let missing = Problem::MissingMethod(call.callee, receiver_of(space, call.receiver));
-    match send_with(
-        alloc,
-        space,
-        program,
-        call.receiver,
-        method,
-        &call.arguments,
-    ) {
-        Ok(built) => {
-            let _after = space.len();
-            Ok(response_from(missing, built))
-        }
-        Err(fault) => Err(fault),
-    }
+    serve_method(alloc, space, program, call, method)
 }
 
 /// Does a task with these values.
@@ -177,8 +201,8 @@ fn serve_values(
     requires read { IsReadWith space.old [] }
     requires reached { All (IsReached (reach (length space.old.slots) (Some []))) (arguments_of values.now) }
     ensures piece { IfOk result (λ served. served.piece.items ≡ piece_of task (names_of program.now) space.old (arguments_of values.now)) }
-    ensures replied { IfOk result (λ served. IsReplied (task_reply task (names_of program.now) (arguments_of values.now) space.old) space.old served.response space.new) }
-    ensures refused { IfErr result (IsRefused (task_reply task (names_of program.now) (arguments_of values.now) space.old) space.old) }
+    ensures replied { IfOk result (λ served. IsReplied (task_reply task (context_of program.now) (arguments_of values.now) space.old) space.old served.response space.new) }
+    ensures refused { IfErr result (IsRefused (task_reply task (context_of program.now) (arguments_of values.now) space.old) space.old) }
 {
     match values {
         Arguments::Without => serve_task(alloc, space, program, task, &[]),
@@ -190,7 +214,8 @@ fn serve_values(
     }
 }
 
-/// Serves a request where nothing is published. A refused growth leaves the objects as they were.
+/// Serves a request where nothing is published. A refused growth leaves the objects as they were, beside a new hash and some
+/// of its keys, to which nothing leads.
 pub fn serve(
     alloc: Global,
     space: &mut Space,

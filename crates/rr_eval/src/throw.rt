@@ -77,7 +77,7 @@ impl Engine {
         }
     }
 
-    /// Makes an exception, whose message is there, and raises it. A refused growth leaves all as it is.
+    /// Makes an exception, whose message is there, and raises it. Its cause is the exception that is being rescued. A refused growth leaves all as it is.
     #[tactic(auto, unfolding(crate::specs::Within::AreReached))]
     #[inline(never)]
     pub fn raise(&mut self, space: &mut Space, class: ClassId, message: Ref) -> Result<(), Fault>
@@ -95,7 +95,7 @@ impl Engine {
         ensures changed { Changes space.old space.new }
         ensures full { IfErr result (λ f. (p : Program) (h : Course) → Adds h.world → Passes f space.old.limit (objects_of (remaining p (view_of self.old) space.old h))) }
     {
-        match make_exception(self.alloc, space, class, message) {
+        match make_exception(self.alloc, space, class, message, self.rescuing) {
             Ok(exception) => {
                 self.control = Control::Give(Answer::Raised(exception));
                 Ok(())

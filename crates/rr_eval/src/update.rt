@@ -17,7 +17,7 @@ use rr_builtin::is_truthy;
 use rr_tree::{BinaryOperator, Node, NodeId, Program};
 
 /// The number of the variable that a target is, where it is one.
-fn slot_of(program: &Program, target: NodeId) -> Option<u32>
+pub fn slot_of(program: &Program, target: NodeId) -> Option<u32>
     ensures { result ≡ slot_of (tree_at program.now.nodes.items target) }
 {
     match evaluated_node(program, target) {

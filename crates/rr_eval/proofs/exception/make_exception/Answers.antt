@@ -15,17 +15,20 @@ pub returns-in-Ok-clause-changed : goal.returns-in-Ok-clause-changed
 returns-in-Ok-clause-changed c = append_changes c.args.space.now c.alloc.new.self _ c.in-Ok.ensures.slots c.in-Ok.ensures.rest.limit c.in-Ok.ensures.rest.owner
 
 pub returns-in-Ok-clause-read : goal.returns-in-Ok-clause-read
-returns-in-Ok-clause-read c = λ below read among.
+returns-in-Ok-clause-read c = λ below read among caused.
     let old = c.args.space.now.below in
     let raised = c.in_ok-raised.raised.value in
     let are = c.in_ok-raised.ensures in
     let same =
     ap (λ m. old ++ (below_ref m ++ (below_ref raised.cause ++ (below_ref raised.ractor ++ below_parts (map field_part raised.fields.items)))) ∷ []) are.message
     ∙ ap (λ m. old ++ (below_ref c.args.message ++ (below_ref m ++ (below_ref raised.ractor ++ below_parts (map field_part raised.fields.items)))) ∷ []) are.cause
-    ∙ ap (λ m. old ++ (below_ref c.args.message ++ (below_ref Nil ++ (below_ref m ++ below_parts (map field_part raised.fields.items)))) ∷ []) are.ractor
-    ∙ ap (λ fs. old ++ (below_ref c.args.message ++ (below_ref Nil ++ (below_ref Nil ++ below_parts (map field_part fs)))) ∷ []) are.fields in
-    read_more below c.args.space.now c.alloc.new.self (below_parts (exception_parts c.args.message)) read (c.in-Ok.ensures.below ∙ same)
-    (λ e has. ⊎_elim (among_of below c.args.message among e) (λ none. none_in e none) (Contains-append_cases (below_ref c.args.message) [] e has))
+    ∙ ap (λ m. old ++ (below_ref c.args.message ++ (below_ref c.args.cause ++ (below_ref m ++ below_parts (map field_part raised.fields.items)))) ∷ []) are.ractor
+    ∙ ap (λ fs. old ++ (below_ref c.args.message ++ (below_ref c.args.cause ++ (below_ref Nil ++ below_parts (map field_part fs)))) ∷ []) are.fields in
+    let rest = below_ref c.args.cause ++ [] in
+    read_more below c.args.space.now c.alloc.new.self (below_parts (exception_parts c.args.message c.args.cause)) read (c.in-Ok.ensures.below ∙ same)
+    (λ e has. ⊎_elim (among_of below c.args.message among e)
+    (λ in_rest. ⊎_elim (among_of below c.args.cause caused e) (λ none. none_in e none) (Contains-append_cases (below_ref c.args.cause) [] e in_rest))
+    (Contains-append_cases (below_ref c.args.message) rest e has))
 
 pub returns-in-Err-clause-changed : goal.returns-in-Err-clause-changed
 returns-in-Err-clause-changed c = same_changes c.args.space.now c.alloc.new.self c.in-Err.ensures.refused

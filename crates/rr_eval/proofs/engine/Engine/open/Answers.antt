@@ -1,14 +1,12 @@
 -- A sequence has these statements.
-use Rattle.std.proofs.Common.{◌≡◌, if◌then◌else◌, sym, ap, ◌∙◌}
-use Rattle.rr_space.specs.declared.refer.Ref.TheVariants.{Nil}
+use Rattle.std.proofs.Common.{◌≡◌, sym, ap, ◌∙◌}
 use Rattle.rr_tree.specs.Tree.{tree_at, repeat}
-use Rattle.rr_eval.specs.declared.problem.Answer.TheVariants.{Gave}
 use Rattle.rr_eval.specs.Script.{Go, Ret}
-use Rattle.rr_eval.specs.Values.{goes_on}
-use Rattle.rr_eval.specs.Rules.{rule, with_value}
+use Rattle.rr_eval.specs.Rules.{rule, loop_rule}
 use Rattle.rr_eval.specs.Nodes.{evaluated_tree}
 use Rattle.rr_eval.specs.Turns.{context_of, after_script}
-use Rattle.rr_eval.proofs.Lists.{sequence_rule, send_is}
+use Rattle.rr_eval.proofs.Lists.{sequence_rule, send_is, rescue_is}
+use Rattle.rr_eval.proofs.Pairing.{set_index_is}
 use Rattle.rr_eval.proofs.Unknown.{unknown_else}
 use Rattle.rr_eval.specs.Views.{view_of}
 use Rattle.rr_eval.proofs.engine.Engine.open.Goals as goal
@@ -30,7 +28,7 @@ returns-in-Loop-clause-goes c = λ _ t h n.
     let b = tree_at ns c.in-Loop.body in
     let there : tree_at ns c.args.here ≡ repeat until a b = c.requires.tree ∙ ap (evaluated_tree ns) c.in-Loop.is in
     ap (λ x. after_script p m t (rule (context_of p) (evaluated_tree ns x)) h n) c.in-Loop.is
-    ∙ ap (λ loop. after_script p m t (with_value a (λ v. if goes_on until v then with_value b (λ w. Go loop Ret) else Ret (Gave Nil))) h n) (sym there)
+    ∙ ap (λ loop. after_script p m t (loop_rule until a b (Go loop Ret)) h n) (sym there)
     ∙ c.enter_above-in-Loop.ensures.goes p t h n
 
 pub returns-in-Send-clause-goes : goal.returns-in-Send-clause-goes
@@ -39,6 +37,13 @@ returns-in-Send-clause-goes c = λ _ t h n.
     let ns = p.nodes.items in
     let script = ap (λ x. rule (context_of p) (evaluated_tree ns x)) c.in-Send.is ∙ sym (send_is ns (context_of p) c.in-Send.receiver c.in-Send.name c.in-Send.first c.in-Send.count c.in-Send.site) in
     ap (λ r. after_script p (view_of c.args.self.now) t r h n) script ∙ c.open_send.ensures.goes p t h n
+
+pub returns-in-SetIndex-clause-goes : goal.returns-in-SetIndex-clause-goes
+returns-in-SetIndex-clause-goes c = λ _ t h n.
+    let p = c.args.program.now in
+    let ns = p.nodes.items in
+    let script = ap (λ x. rule (context_of p) (evaluated_tree ns x)) c.in-SetIndex.is ∙ sym (set_index_is ns (context_of p) c.in-SetIndex.receiver c.in-SetIndex.index c.in-SetIndex.value) in
+    ap (λ r. after_script p (view_of c.args.self.now) t r h n) script ∙ c.enter_above-in-SetIndex.ensures.goes p t h n
 
 pub returns-in-And-clause-within : goal.returns-in-And-clause-within
 returns-in-And-clause-within c k h = c.enter_above.ensures.within k h tt
@@ -64,8 +69,30 @@ returns-in-Choose-clause-within c k h = c.enter_above-in-Choose.ensures.within k
 pub returns-in-Loop-clause-within : goal.returns-in-Loop-clause-within
 returns-in-Loop-clause-within c k h = c.enter_above-in-Loop.ensures.within k h tt
 
+pub returns-in-SetIndex-clause-within : goal.returns-in-SetIndex-clause-within
+returns-in-SetIndex-clause-within c k h = c.enter_above-in-SetIndex.ensures.within k h tt
+
+pub returns-in-Break-clause-within : goal.returns-in-Break-clause-within
+returns-in-Break-clause-within c k h = c.enter_above-in-Break.ensures.within k h tt
+
+pub returns-in-Next-clause-within : goal.returns-in-Next-clause-within
+returns-in-Next-clause-within c k h = c.enter_above-in-Next.ensures.within k h tt
+
 pub returns-in-Return-clause-within : goal.returns-in-Return-clause-within
 returns-in-Return-clause-within c k h = c.enter_above-in-Return.ensures.within k h tt
+
+pub returns-in-Rescue-clause-goes : goal.returns-in-Rescue-clause-goes
+returns-in-Rescue-clause-goes c = λ _ t h n.
+    let p = c.args.program.now in
+    let ns = p.nodes.items in
+    let script = ap (λ x. rule (context_of p) (evaluated_tree ns x)) c.in-Rescue.is ∙ sym (rescue_is ns (context_of p) c.in-Rescue.body c.in-Rescue.first c.in-Rescue.count c.in-Rescue.otherwise) in
+    ap (λ r. after_script p (view_of c.args.self.now) t r h n) script ∙ c.enter_above-in-Rescue.ensures.goes p t h n
+
+pub returns-in-Rescue-clause-within : goal.returns-in-Rescue-clause-within
+returns-in-Rescue-clause-within c k h = c.enter_above-in-Rescue.ensures.within k h tt
+
+pub returns-in-Ensure-clause-within : goal.returns-in-Ensure-clause-within
+returns-in-Ensure-clause-within c k h = c.enter_above-in-Ensure.ensures.within k h tt
 
 pub returns-in-OrAssign-clause-within : goal.returns-in-OrAssign-clause-within
 returns-in-OrAssign-clause-within c k h = c.open_or_assign.ensures.within k h
@@ -88,6 +115,8 @@ open_unknown-requires-clause-unknown c =
       no_class = is.not-Class;
       no_constant = is.not-Constant;
       no_array = is.not-Array;
+      no_hash = is.not-Hash;
+      no_pairs = is.not-Pairs;
       no_interpolation = is.not-Interpolation;
       no_local = is.not-Local;
       no_bare = is.not-Bare;
@@ -95,6 +124,7 @@ open_unknown-requires-clause-unknown c =
       no_send = is.not-Send;
       no_index = is.not-Index;
       no_append = is.not-Append;
+      no_set_index = is.not-SetIndex;
       no_and = is.not-And;
       no_or = is.not-Or;
       no_not = is.not-Not;
@@ -108,5 +138,9 @@ open_unknown-requires-clause-unknown c =
       no_loop = is.not-Loop;
       no_sequence = is.not-Sequence;
       no_item = is.not-Item;
+      no_break = is.not-Break;
+      no_next = is.not-Next;
       no_return = is.not-Return;
+      no_rescue = is.not-Rescue;
+      no_ensure = is.not-Ensure;
     })

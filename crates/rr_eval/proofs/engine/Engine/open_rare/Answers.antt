@@ -16,6 +16,7 @@ use Rattle.rr_eval.specs.View.{View}
 use Rattle.rr_eval.specs.Views.{view_of}
 use Rattle.rr_eval.specs.Within.{reach}
 use Rattle.rr_eval.proofs.Lists.{call_is, array_is, interpolation_is}
+use Rattle.rr_eval.proofs.Pairing.{hash_is, pairs_is}
 use Rattle.std.proofs.Common.{length}
 use Rattle.rr_eval.proofs.engine.Engine.open_rare.Goals as goal
 
@@ -63,3 +64,23 @@ returns-in-Bare-clause-within c cs = c.open_bare.ensures.within (reach (length c
 
 pub returns-in-Call-clause-within : goal.returns-in-Call-clause-within
 returns-in-Call-clause-within c cs = c.open_call.ensures.within (reach (length c.args.space.now.slots) cs)
+
+pub returns-in-Hash-clause-goes : goal.returns-in-Hash-clause-goes
+returns-in-Hash-clause-goes c =
+    let p = c.args.prepared.now.program in
+    let ns = p.nodes.items in
+    by_rule c.open_pairs.result p (view_of c.args.self.now) (view_of c.open_pairs.new.self) c.args.space.now _ _
+    (hash_is ns (context_of p) c.in-Hash.first c.in-Hash.count ∙ ap (λ x. rule (context_of p) (evaluated_tree ns x)) (sym c.in-Hash.is)) c.open_pairs.ensures.goes
+
+pub returns-in-Pairs-clause-goes : goal.returns-in-Pairs-clause-goes
+returns-in-Pairs-clause-goes c =
+    let p = c.args.prepared.now.program in
+    let ns = p.nodes.items in
+    by_rule c.open_pairs-in-Pairs.result p (view_of c.args.self.now) (view_of c.open_pairs-in-Pairs.new.self) c.args.space.now _ _
+    (pairs_is ns (context_of p) c.in-Pairs.first c.in-Pairs.count ∙ ap (λ x. rule (context_of p) (evaluated_tree ns x)) (sym c.in-Pairs.is)) c.open_pairs-in-Pairs.ensures.goes
+
+pub returns-in-Hash-clause-within : goal.returns-in-Hash-clause-within
+returns-in-Hash-clause-within c cs = c.open_pairs.ensures.within (reach (length c.args.space.now.slots) cs)
+
+pub returns-in-Pairs-clause-within : goal.returns-in-Pairs-clause-within
+returns-in-Pairs-clause-within c cs = c.open_pairs-in-Pairs.ensures.within (reach (length c.args.space.now.slots) cs)

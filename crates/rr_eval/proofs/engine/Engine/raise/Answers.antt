@@ -6,7 +6,7 @@ use Rattle.rr_eval.specs.Rules.{raise}
 use Rattle.rr_eval.specs.Frames.{outcome_of}
 use Rattle.rr_eval.specs.Turns.{code_of, state_of, remaining, after_script}
 use Rattle.rr_eval.specs.Within.{reach}
-use Rattle.rr_eval.proofs.Holding.{ref_among, raised_reached}
+use Rattle.rr_eval.proofs.Holding.{ref_among, raised_reached, rescuing_reached}
 use Rattle.rr_eval.proofs.Objects.{raise_passes}
 use Rattle.rr_eval.specs.Views.{view_of}
 use Rattle.rr_eval.proofs.engine.Engine.raise.Goals as goal
@@ -22,4 +22,4 @@ returns-in-Err-clause-full c p h adds =
 pub returns-in-Ok-clause-read : goal.returns-in-Ok-clause-read
 returns-in-Ok-clause-read c below read reached =
     let k = length c.args.space.now.slots in
-    c.in-Ok.ensures.read below read (ref_among k below c.args.message (raised_reached (reach k (Some below)) (view_of c.args.self.now) c.args.class c.args.message c.requires.control reached))
+    c.in-Ok.ensures.read below read (ref_among k below c.args.message (raised_reached (reach k (Some below)) (view_of c.args.self.now) c.args.class c.args.message c.requires.control reached)) (ref_among k below c.args.self.now.rescuing (rescuing_reached (reach k (Some below)) (view_of c.args.self.now) reached))

@@ -23,7 +23,8 @@ returns-in-Err-clause-within c k h frame value =
     subst (AreReached k) back (with_frame k m c.args.frame m.control h frame (subst (IsControlReached k) (sym c.requires.control) value))
 
 pub returns-in-Err-clause-back : goal.returns-in-Err-clause-back
-returns-in-Err-clause-back c t h =
+returns-in-Err-clause-back c h =
+    let t = c.args.space.now in
     let p = c.args.prepared.now.program in
     let m = view_of c.args.self.now in
     let back = frame_back m (view_of c.resume_value.new.self) t c.args.frame c.in-Err.fault c.push_within.new.items.items (c.in-Err.ensures.err t) c.push_within.ensures in

@@ -1,6 +1,10 @@
 -- What is held stays within.
 use Rattle.std.proofs.Common.{subst}
+use Rattle.rr_eval.specs.declared.frame.Control.TheVariants.{Give}
+use Rattle.rr_eval.specs.declared.problem.Answer.TheVariants.{Gave}
+use Rattle.rr_eval.specs.Views.{view_of}
 use Rattle.rr_eval.specs.Within.{IsFrameReached}
+use Rattle.rr_eval.proofs.Holding.{with_control, with_rescuing}
 use Rattle.rr_eval.proofs.engine.Engine.resume_value.Goals as goal
 
 pub returns-in-Argument-clause-within : goal.returns-in-Argument-clause-within
@@ -11,3 +15,15 @@ returns-in-Negation-clause-asks c k h frame value = c.negate.ensures.asks k valu
 
 pub returns-in-Right-clause-asks : goal.returns-in-Right-clause-asks
 returns-in-Right-clause-asks c k h frame value = c.operate.ensures.asks k (subst (IsFrameReached k) c.in-Right.is frame) value
+
+pub returns-in-Key-clause-asks : goal.returns-in-Key-clause-asks
+returns-in-Key-clause-asks c k h frame value = c.keep_key.ensures.asks k
+
+pub returns-in-Element-clause-asks : goal.returns-in-Element-clause-asks
+returns-in-Element-clause-asks c k h frame value = c.keep_receiver.ensures.asks k
+
+pub returns-in-Handling-clause-within : goal.returns-in-Handling-clause-within
+returns-in-Handling-clause-within c k h frame value = with_rescuing k (view_of c.args.self.now) c.in-Handling.old (Give (Gave c.args.value)) h (subst (IsFrameReached k) c.in-Handling.is frame) value
+
+pub returns-in-Kept-clause-within : goal.returns-in-Kept-clause-within
+returns-in-Kept-clause-within c k h frame value = with_control k (view_of c.args.self.now) (Give c.in-Kept.answer) h (subst (IsFrameReached k) c.in-Kept.is frame)

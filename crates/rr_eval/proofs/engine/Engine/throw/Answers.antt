@@ -1,5 +1,10 @@
 -- The message would be one object too many.
-use Rattle.std.proofs.Common.{◌≡◌, subst, sym, ap, length}
+use Rattle.std.proofs.Common.{◌≡◌, ◌<◌, subst, sym, ap, arith, length, length-append, [], ◌∷◌}
+use Rattle.rr_space.specs.Lookups.{text_object}
+use Rattle.rr_space.specs.Tables.{Table, Here}
+use Rattle.rr_eval.specs.declared.frame.Control.TheVariants.{Raise}
+use Rattle.rr_eval.specs.Within.{reach, IsReached}
+use Rattle.rr_eval.proofs.Holding.{with_control, reached_more}
 use Rattle.rr_eval.specs.Acts.{Passes}
 use Rattle.rr_eval.specs.Script.{objects_of}
 use Rattle.rr_builtin.specs.Acts.{with_text}
@@ -22,3 +27,12 @@ returns-in-Err-clause-full c h adds =
 
 pub returns-in-Ok-clause-read : goal.returns-in-Ok-clause-read
 returns-in-Ok-clause-read c below read reached = c.in-Ok.ensures.read below read
+
+pub returns-in-Ok-clause-within : goal.returns-in-Ok-clause-within
+returns-in-Ok-clause-within c clusters h =
+    let m = view_of c.args.self.now in
+    let t = c.args.space.now in
+    let k = length t.slots in
+    let l = length c.make_text.new.space.slots in
+    let more : k < l = omega (arith, ap (λ (x : Table). length x.slots) c.in-Ok.ensures.made, length-append t.slots (Here (text_object c.in_ok-text.text.items) ∷ [])) in
+    with_control (reach l clusters) m (Raise c.id.result c.in-Ok.message) (reached_more k l clusters (omega arith) m h) (subst (IsReached (reach l clusters)) (sym c.in-Ok.ensures.name) more)

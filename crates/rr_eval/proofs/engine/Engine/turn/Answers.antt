@@ -1,6 +1,5 @@
 -- The step limit.
 use Rattle.std.proofs.Common.{◌∙◌, ap, arith, length, subst}
-use Rattle.rr_tree.specs.Tree.{tree_at, binary}
 use Rattle.rr_eval.specs.Frames.{first_tree}
 use Rattle.rr_eval.proofs.Entered.{limit}
 use Rattle.rr_eval.specs.Within.{reach, IsAskedReached}

@@ -1,5 +1,6 @@
 -- The machine begins with the statements of the program.
 use Rattle.std.proofs.Common.{◌∙◌, ap, reverse}
+use Rattle.rr_space.specs.declared.refer.Ref.TheVariants.{Nil}
 use Rattle.rr_tree.specs.Tree.{tree_at}
 use Rattle.rr_eval.specs.Methods.{are_methods, definitions_of}
 use Rattle.rr_eval.specs.Rules.{concluded, statements_of}
@@ -11,7 +12,7 @@ use Rattle.rr_eval.proofs.Holding.{first_reached}
 use Rattle.rr_eval.proofs.machine.Machine.new.Goals as goal
 
 pub returns-clause-within : goal.returns-clause-within
-returns-clause-within c k = first_reached k _ (c.first_control.ensures.within k) c.new.ensures.items c.new-2.ensures.items (c.in_ok-first_calls.ensures.within k)
+returns-clause-within c k = first_reached k _ (c.first_control.ensures.within k) c.new.ensures.items c.new-2.ensures.items (c.in_ok-first_calls.ensures.within k) tt
 
 pub returns-clause-whole : goal.returns-clause-whole
 returns-clause-whole c t h =
@@ -20,7 +21,7 @@ returns-clause-whole c t h =
     let n = c.args.limits.steps in
     let simple = are_methods (definitions_of p) in
     let tree = tree_at p.nodes.items p.root in
-    let s : State = record { memory = record { calls = c.in_ok-first_calls.field-0; table = t }; asked = h.asked } in
+    let s : State = record { memory = record { calls = c.in_ok-first_calls.field-0; table = t; rescuing = Nil }; asked = h.asked } in
     ap (λ fs. unwind code (reverse fs) c.new-2.result.items (start code c.first_control.result s n)) c.new.ensures.items
     ∙ ap (λ k. concluded (start code k s n)) c.first_control.ensures.is
     ∙ ap concluded (first_start p h.world simple p.root s n)

@@ -1,0 +1,101 @@
+-- What rules are made of.
+use Rattle.std.specs.Prelude.{ℕ, List, [], ◌∷◌, ◌++◌, length, Option, Some, None}
+use Rattle.rr_base.specs.Classes.{class_id}
+use Rattle.rr_base.specs.declared.name.ClassId.{ClassId}
+use Rattle.rr_space.specs.Tables.{Table}
+use Rattle.rr_space.specs.declared.refer.Ref.{Ref}
+use Rattle.rr_space.specs.declared.refer.Ref.TheVariants.{Nil, Int, Local}
+use Rattle.rr_tree.specs.Tree.{Tree, Trees, local, empty, then_one}
+use Rattle.rr_tree.specs.declared.node.BinaryOperator.{BinaryOperator}
+use Rattle.rr_builtin.specs.Acts.{with_text}
+use Rattle.rr_frames.specs.Frames.{read_last, write_last}
+use Rattle.rr_eval.specs.declared.call.Callee.{Callee}
+use Rattle.rr_eval.specs.declared.call.Callee.TheVariants as callees
+use Rattle.rr_eval.specs.declared.problem.Answer.{Answer}
+use Rattle.rr_eval.specs.declared.problem.Answer.TheVariants.{Gave, Raised, Broke, Done, Returned}
+use Rattle.rr_eval.specs.declared.problem.Problem.{Problem}
+use Rattle.rr_eval.specs.declared.problem.Problem.TheVariants.{NotHere}
+use Rattle.rr_eval.specs.declared.problem.Response.{Response}
+use Rattle.rr_eval.specs.declared.problem.Response.TheVariants.{Gives, Throws, Fails}
+use Rattle.rr_eval.specs.Context.{Context}
+use Rattle.rr_eval.specs.Exceptions.{with_exception}
+use Rattle.rr_eval.specs.Messages.{message, exception_class}
+use Rattle.rr_eval.specs.Operators.{integers, opposite}
+use Rattle.rr_eval.specs.Script.{Script, Ret, Go, See, Do, Ask, Calls}
+
+-- the trees of a list
+abbrev pub items : Trees → List Tree
+items empty = []
+items (then_one list t) = items list ++ t ∷ []
+
+-- goes on with a value; an exception, a `break`, a `next` and a `return` pass
+abbrev pub on_value : (Ref → Script) → Answer → Script
+on_value go_on (Gave v) = go_on v
+on_value go_on (Raised e) = Ret (Raised e)
+on_value go_on (Broke v) = Ret (Broke v)
+on_value go_on (Done v) = Ret (Done v)
+on_value go_on (Returned v) = Ret (Returned v)
+
+-- evaluates a tree and goes on with its value
+abbrev pub with_value : Tree → (Ref → Script) → Script
+with_value t go_on = Go t (on_value go_on)
+
+-- the value of a variable of the method that runs
+abbrev pub read : ℕ → Script
+read x = See (λ m. Ret (Gave (read_last x m.calls.frames)))
+
+-- gives a variable of the method that runs a value
+abbrev pub write : ℕ → Ref → Script
+write x v = Do (λ m. record m { calls = record m.calls { frames = write_last x v m.calls.frames } }) (Ret (Gave v))
+
+-- makes an exception of a class, with a message, and raises it; its cause is the exception that is being rescued
+abbrev pub raise : ClassId → Ref → Script
+raise class message = See (λ m. Do (λ k. record k { table = with_exception class message k.rescuing k.table }) (Ret (Raised (Local (length m.table.slots)))))
+
+-- the same, where the message is made first
+abbrev pub throw : Context → Problem → Script
+throw c e = See (λ m. Do (λ k. record k { table = with_text (message c e) k.table }) (raise (class_id (exception_class e)) (Local (length m.table.slots))))
+
+-- what an operation or a request came to: its value, or its exception
+abbrev pub settled : Context → Response → Script
+settled c (Gives v) = Ret (Gave v)
+settled c (Throws e) = Ret (Raised e)
+settled c (Fails e) = throw c e
+
+-- asks for a call of a method
+abbrev pub send_to : Context → Callee → Ref → List Ref → Script
+send_to c callee receiver arguments = Ask (Calls receiver callee arguments) (settled c)
+
+-- an operator: of two integers here, and any other as a call
+abbrev pub operation : Context → BinaryOperator → Ref → Ref → Script
+operation c op (Int x) (Int y) = settled c (integers op x y)
+operation c op v w = send_to c (callees.Operator op) v (w ∷ [])
+
+-- unary minus
+abbrev pub negation : Context → Ref → Script
+negation c (Int x) = settled c (opposite x)
+negation c v = send_to c callees.Opposite v []
+
+-- an operation on the objects
+abbrev pub on_table : Context → (Table → Response × Table) → Script
+on_table c act = See (λ m. Do (λ k. record k { table = (act k.table).1 }) (settled c (act m.table).0))
+
+-- statements, one after the other; the last one's answer
+abbrev pub statements : List Tree → Script
+statements [] = Ret (Gave Nil)
+statements (t ∷ []) = Go t Ret
+statements (t ∷ u ∷ ts) = with_value t (λ v. statements (u ∷ ts))
+
+-- the values of trees from left to right, after those that stand
+abbrev pub values : List Tree → List Ref → (List Ref → Script) → Script
+values [] stand go_on = go_on stand
+values (t ∷ ts) stand go_on = with_value t (λ v. values ts (stand ++ v ∷ []) go_on)
+
+-- the variable of the method that runs that a target is, where it is one
+abbrev pub slot_of : Tree → Option ℕ
+slot_of (local depth slot x behind) = Some slot
+slot_of _ = None
+
+-- what is not evaluated yet
+abbrev pub not_here : Context → Script
+not_here c = throw c NotHere
