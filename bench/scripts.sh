@@ -15,6 +15,13 @@ script("blanks", "# " + "x" * 78 + "\n" + ("#" + " a comment of eighty bytes" * 
 script("pushes", "a = []\ni = 0\nwhile i < 1000000\n  a << i\n  i = i + 1\nend\ns = 0\ni = 0\nwhile i < 1000000\n  s = s + a[i]\n  i = i + 1\nend\nputs s\n")
 script("sort", "a = []\nx = 12345\nwhile a.size < 200000\n  x = (x * 1103515245 + 12345) % 2147483648\n  a << x\nend\nputs a.sort[0]\n")
 script("inspect", "a = []\ni = 0\nwhile i < 100000\n  a << i\n  i = i + 1\nend\nputs a.inspect.size\n")
+script("append", "a = \"\"\ni = 0\nwhile i < 100000\n  a << \"ten bytes,\"\n  i = i + 1\nend\nputs a.size\n")
+script("pieces", "i = 0\nn = 0\nwhile i < 100000\n  a = \"line #{i} of #{n}\"\n  n = n + a.size\n  i = i + 1\nend\nputs n\n")
+script("integers", "h = {}\ni = 0\nwhile i < 1000000\n  h[i] = i\n  i = i + 1\nend\ns = 0\ni = 0\nwhile i < 1000000\n  s = s + h[i]\n  i = i + 1\nend\nputs s\n")
+script("symbols", "h = {a: 0, b: 0}\ni = 0\nwhile i < 1000000\n  h[:a] = h[:b]\n  h[:b] = i\n  i = i + 1\nend\nputs h[:a]\n")
+script("keys", "h = {}\ni = 0\nwhile i < 200000\n  h[\"key #{i}\"] = i\n  i = i + 1\nend\ns = 0\ni = 0\nwhile i < 200000\n  s = s + h[\"key #{i}\"]\n  i = i + 1\nend\nputs s\n")
+script("sort_texts", "a = []\nx = 12345\nwhile a.size < 50000\n  x = (x * 1103515245 + 12345) % 2147483648\n  a << \"text #{x}\"\nend\nputs a.sort[0]\n")
+script("join", "a = []\ni = 0\nwhile i < 100000\n  a << i\n  i = i + 1\nend\nputs a.join(\", \").size\n")
 script("fib", "def fib(n)\n  return n if n < 2\n  fib(n - 1) + fib(n - 2)\nend\nputs fib(27)\n")
 script("four", "def f(a, b, c, d)\n  a + b + c + d\nend\ni = 0\ns = 0\nwhile i < 1000000\n  s = f(i, 1, 2, s) - s\n  i = i + 1\nend\nputs s\n")
 PY

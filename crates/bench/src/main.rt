@@ -5,6 +5,7 @@ mod changes;
 mod channels;
 mod clock;
 mod moves;
+mod names;
 mod objects;
 mod scripts;
 mod tokens;
@@ -19,6 +20,7 @@ fn main(rt: HostRuntime) -> io::Result<()> {
     match name {
         "script" => scripts::measure(&rt, file),
         "tokens" => tokens::measure(&rt, file),
+        "names" => names::measure(&rt, file),
         "inbox" => channels::measure_inbox(&rt),
         "text" => channels::measure_text(&rt),
         "world" => world::measure(&rt),
@@ -38,6 +40,7 @@ fn measure_objects(rt: &HostRuntime, name: &str) -> io::Result<()> {
 fn explain(rt: &HostRuntime) -> io::Result<()> {
     println!(rt; "script FILE: its tokens, its tree, its steps")?;
     println!(rt; "tokens FILE: its tokens alone")?;
+    println!(rt; "names FILE: the outer names of its last block")?;
     println!(rt; "objects: ten million arrays of two integers, made and read")?;
     println!(rt;
         "changes: a text that grows, an array that is shifted, pairs deleted, a published hash"

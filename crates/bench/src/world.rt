@@ -50,17 +50,39 @@ impl Dice {
         }
     }
 
-    fn action(&mut self) -> Action {
-        match self.below(10) {
+    /// A step that makes an object or changes one.
+    fn change(&mut self) -> Action {
+        match self.below(8) {
             0 => Action::Alloc(NewObject::Text),
             1 => Action::Alloc(NewObject::Array),
-            2 | 3 => Action::Push(self.root(), self.element()),
-            4 => Action::Append(self.root(), b'a'),
-            5 => Action::Pack(self.root()),
-            6 => Action::Detach(self.root()),
-            7 => Action::Offer(self.ractor()),
-            8 => Action::Accept,
+            2 => Action::Alloc(NewObject::Hash),
+            3 | 4 => Action::Push(self.root(), self.element()),
+            5 => Action::SetPair(self.root(), Operand::Int(7), self.element()),
+            6 => Action::DeletePair(self.root(), 0),
+            _ => Action::Append(self.root(), b'a'),
+        }
+    }
+
+    /// A step with the hand, an inbox, a port or the store.
+    fn send(&mut self) -> Action {
+        match self.below(12) {
+            0 | 1 => Action::Pack(self.root()),
+            2 | 3 => Action::Detach(self.root()),
+            4 => Action::Offer(self.ractor()),
+            5 => Action::Accept,
+            6 => Action::Show,
+            7 => Action::Grab(self.ractor()),
+            8 => Action::Plan(self.root()),
+            9 => Action::Publish,
+            10 => Action::Promote,
             _ => Action::Open,
+        }
+    }
+
+    fn action(&mut self) -> Action {
+        match self.below(2) {
+            0 => self.change(),
+            _ => self.send(),
         }
     }
 
