@@ -16,8 +16,8 @@ pub returns-in_default : goal.returns-in_default
 returns-in_default c = record {
   some = tt;
   none = λ h named.
-  let fit = subst (λ (m : Member). IsPublishedFit m.space m.published) c.self.view_is c.self.invariant.2.1 in
-  let both = own_fields c.args.object c.args.self.now c.in_ok-object.object fit c.in_ok-object.ensures.is h in
-  let seen = c.kind_of.ensures ∙ ap (λ (m : Member). kind_at m.space c.in_ok-object.object) c.self.view_is in
-  ⊎_elim (λ is. c.in_default.not-Object (seen ∙ is)) (λ is. c.in_default.not-Exception (seen ∙ is)) both.1;
+      let fit = subst (λ (m : Member). IsPublishedFit m.space m.published) c.self.view_is c.self.invariant.2.1 in
+      let both = own_fields c.args.object c.args.self.now c.in_ok-object.object fit c.in_ok-object.ensures.is h in
+      let seen = c.kind_of.ensures ∙ ap (λ (m : Member). kind_at m.space c.in_ok-object.object) c.self.view_is in
+      ⊎_elim (λ is. c.in_default.not-Object (seen ∙ is)) (λ is. c.in_default.not-Exception (seen ∙ is)) both.1;
 }
