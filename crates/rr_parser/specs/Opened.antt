@@ -1,7 +1,7 @@
 -- The classes of a program among its words: their names, and what their heads tell.
-use Rattle.std.specs.Prelude.{ℕ, ◌+◌, nat_eq, Bool, false, true, List, [], ◌∷◌, ◌++◌, map, slice_index_or, position, codes, Option, Some, None, option_map, if◌then◌else◌}
+use Rattle.std.specs.Prelude.{ℕ, ◌+◌, nat_eq, Bool, false, true, not, List, [], ◌∷◌, ◌++◌, map, filter, slice_index_or, position, codes, Option, Some, None, option_map, option_to_list, if◌then◌else◌}
 use Rattle.std.specs.List.{list_any}
-use Rattle.std.specs.Map.{keys_of, lookup}
+use Rattle.std.specs.Map.{lookup}
 use Rattle.indexmap.specs.IndexMap.{insert_entry}
 use Rattle.rr_base.specs.Classes.{class_id}
 use Rattle.rr_base.specs.declared.class.BuiltInClass.{BuiltInClass}
@@ -38,17 +38,15 @@ is_class _ = false
 abbrev pub class_behind : Word → List Word → Option ℕ
 class_behind w ws = if is_class w.kind then first_constant ws else None
 
+-- the constants that stand behind the word `class` somewhere
+abbrev pub classes_in : List Word → List ℕ
+classes_in [] = []
+classes_in (w ∷ ws) = option_to_list (class_behind w ws) ++ classes_in ws
+
+-- these names, with one more where it is new
 abbrev pub with_number : List ℕ → Option ℕ → List ℕ
 with_number xs None = xs
 with_number xs (Some x) = if list_any (nat_eq x) xs then xs else xs ++ x ∷ []
-
-abbrev pub classes_among : List ℕ → List Word → List ℕ
-classes_among xs [] = xs
-classes_among xs (w ∷ ws) = classes_among (with_number xs (class_behind w ws)) ws
-
--- the constants that stand behind the word `class` somewhere, each once
-abbrev pub classes_in : List Word → List ℕ
-classes_in ws = classes_among [] ws
 
 abbrev pub naming_by : Bool → Naming → Naming
 naming_by own namings.Free = if own then namings.Opened else namings.Free
@@ -68,14 +66,36 @@ with_classes ws = map (word_by (λ x. list_any (nat_eq x) (classes_in ws))) ws
 
 -- ---- superclasses
 
--- The classes of a program that stand before a place, each by the number of its name and with its superclass, in the order in which
--- they first stand.
-abbrev pub Earlier : Type 0
-Earlier = List (ℕ × ClassId)
+-- the head of a class: the number of its name, and the path of its superclass, if one is given
+abbrev pub Head : Type 0
+Head = ℕ × Option Path
 
--- the number of a class of the program: its place, behind those of the built-in classes
-abbrev pub own_class : Earlier → ℕ → Option ClassId
-own_class cs x = option_map (λ i. record { 0 = i + 32 }) (position (nat_eq x) (keys_of cs))
+abbrev pub head_of : Option ((Sym × Option Path) × List Word) → List Head
+head_of None = []
+head_of (Some h) = (h.0.0.0, h.0.1) ∷ []
+
+-- the head behind a word, where that is the word `class`
+abbrev pub head_behind : WordKind → List Word → List Head
+head_behind (kind.Class o) ws = head_of (class_head ws)
+head_behind k ws = []
+
+-- the heads of classes, in their order
+abbrev pub heads_in : List Word → List Head
+heads_in [] = []
+heads_in (w ∷ ws) = head_behind w.kind ws ++ heads_in ws
+
+-- numbers, each once, in the order in which they first stand
+abbrev pub each_once : List ℕ → List ℕ
+each_once [] = []
+each_once (x ∷ xs) = x ∷ filter (λ y. not (nat_eq y x)) (each_once xs)
+
+-- the names of the classes with these heads
+abbrev pub names_of : List Head → List ℕ
+names_of hs = each_once (map (λ h. h.0) hs)
+
+-- the number of the class of a name among these: its place, behind the built-in classes
+abbrev pub own_class : List ℕ → ℕ → Option ClassId
+own_class xs x = option_map (λ i. record { 0 = i + 32 }) (position (nat_eq x) xs)
 
 abbrev pub name_text : List (List ℕ) → Sym → List ℕ
 name_text names x = slice_index_or names x.0 []
@@ -104,10 +124,10 @@ abbrev pub below_own : Option ClassId → Opening → Opening
 below_own None o = o
 below_own (Some c) o = openings.Below c
 
--- what the path of a superclass tells
-abbrev pub below_path : List (List ℕ) → Earlier → Path → Opening
-below_path names cs (paths.Plain x) = below_own (own_class cs x.0) (below_built_in (class_named (name_text names x)))
-below_path names cs (paths.Ractor x) = below_built_in (class_named (codes "Ractor::" ++ name_text names x))
+-- what the path of a superclass tells behind classes with these names
+abbrev pub below_path : List (List ℕ) → List ℕ → Path → Opening
+below_path names xs (paths.Plain x) = below_own (own_class xs x.0) (below_built_in (class_named (name_text names x)))
+below_path names xs (paths.Ractor x) = below_built_in (class_named (codes "Ractor::" ++ name_text names x))
 
 abbrev pub is_opening : Opening → Opening → Bool
 is_opening = (opening_equality.ghosts).eq
@@ -119,33 +139,51 @@ opening_by None (Some o) = o
 opening_by (Some c) None = openings.Below c
 opening_by (Some c) (Some o) = if is_opening o (openings.Below c) then o else openings.Unknown
 
-abbrev pub opening_of : List (List ℕ) → Earlier → Option ((Sym × Option Path) × List Word) → Opening
-opening_of names cs None = openings.Unknown
-opening_of names cs (Some h) = opening_by (lookup (nat_eq h.0.0.0) cs) (option_map (below_path names cs) h.0.1)
+-- the superclass that is told; a head that does not tell one is refused
+abbrev pub superclass_of : Opening → ClassId
+superclass_of (openings.Below c) = c
+superclass_of _ = class_id built_in.Object
 
-abbrev pub with_opening : Earlier → Option ((Sym × Option Path) × List Word) → Opening → Earlier
-with_opening cs (Some h) (openings.Below c) = insert_entry nat_eq cs h.0.0.0 c
-with_opening cs _ o = cs
+-- what a head tells of a class that is new, behind classes with these names
+abbrev pub new_opening : List (List ℕ) → List ℕ → Option Path → Opening
+new_opening names xs path = opening_by None (option_map (below_path names xs) path)
+
+-- classes, each by the number of its name and with its superclass
+abbrev pub Earlier : Type 0
+Earlier = List (ℕ × ClassId)
+
+-- The classes with heads, behind other heads: each once, by its first head, which tells its superclass among the classes whose heads
+-- stand before.
+abbrev pub classes_behind : List (List ℕ) → List Head → List Head → Earlier
+classes_behind names before [] = []
+classes_behind names before (h ∷ hs) =
+    (h.0, superclass_of (new_opening names (names_of before) h.1)) ∷ filter (λ e. not (nat_eq e.0 h.0)) (classes_behind names (before ++ h ∷ []) hs)
+
+abbrev pub classes_by : List (List ℕ) → List Head → Earlier
+classes_by names hs = classes_behind names [] hs
+
+-- what is told of a class with a head, behind other heads
+abbrev pub opening_of : List (List ℕ) → List Head → Option ((Sym × Option Path) × List Word) → Opening
+opening_of names hs None = openings.Unknown
+opening_of names hs (Some h) = opening_by (lookup (nat_eq h.0.0.0) (classes_by names hs)) (option_map (below_path names (names_of hs)) h.0.1)
 
 -- the word, where these words stand behind it
-abbrev pub opened_kind : List (List ℕ) → Earlier → WordKind → List Word → WordKind
-opened_kind names cs (kind.Class o) ws = kind.Class (opening_of names cs (class_head ws))
-opened_kind names cs k ws = k
+abbrev pub opened_kind : List (List ℕ) → List Head → WordKind → List Word → WordKind
+opened_kind names hs (kind.Class o) ws = kind.Class (opening_of names hs (class_head ws))
+opened_kind names hs k ws = k
 
--- the classes behind it
-abbrev pub earlier_by : List (List ℕ) → Earlier → WordKind → List Word → Earlier
-earlier_by names cs (kind.Class o) ws = with_opening cs (class_head ws) (opening_of names cs (class_head ws))
-earlier_by names cs k ws = cs
+-- the words behind these heads, where each `class` is told its superclass
+abbrev pub opened_words : List (List ℕ) → List Head → List Word → List Word
+opened_words names hs [] = []
+opened_words names hs (w ∷ ws) = record { kind = opened_kind names hs w.kind ws; blank = w.blank } ∷ opened_words names (hs ++ head_behind w.kind ws) ws
 
--- the words, where each `class` is told its superclass
-abbrev pub opened_words : List (List ℕ) → Earlier → List Word → List Word
-opened_words names cs [] = []
-opened_words names cs (w ∷ ws) = record { kind = opened_kind names cs w.kind ws; blank = w.blank } ∷ opened_words names (earlier_by names cs w.kind ws) ws
+-- the classes, with one more where its name is new
+abbrev pub with_class_by : Option ClassId → Earlier → ℕ → ClassId → Earlier
+with_class_by None cs x c = insert_entry nat_eq cs x c
+with_class_by (Some d) cs x c = cs
 
--- the classes behind the words
-abbrev pub opened_classes : List (List ℕ) → Earlier → List Word → Earlier
-opened_classes names cs [] = cs
-opened_classes names cs (w ∷ ws) = opened_classes names (earlier_by names cs w.kind ws) ws
+abbrev pub with_class : Earlier → ℕ → ClassId → Earlier
+with_class cs x c = with_class_by (lookup (nat_eq x) cs) cs x c
 
 -- a class of the program
 abbrev pub class_of_entry : ℕ × ClassId → Class

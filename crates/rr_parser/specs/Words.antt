@@ -30,7 +30,7 @@ use Rattle.rr_parser.specs.declared.word.Word.{Word}
 use Rattle.rr_parser.specs.declared.method_names.MethodName.{MethodName}
 use Rattle.rr_parser.specs.BuiltIn.{class_named}
 use Rattle.rr_parser.specs.MethodNames.{method_name_at}
-use Rattle.rr_parser.specs.Opened.{with_classes, opened_words, opened_classes, class_of_entry}
+use Rattle.rr_parser.specs.Opened.{with_classes, heads_in, classes_by, opened_words, class_of_entry}
 
 abbrev pub keyword_kind : Keyword → WordKind
 keyword_kind keywords.Nil = kind.Nil
@@ -207,6 +207,6 @@ told_words source tokens = with_classes (words_behind source [] [] false tokens)
 abbrev pub words_of : List ℕ → List Token → List Word
 words_of source tokens = opened_words (symbols_of source tokens) [] (told_words source tokens)
 
--- the classes of the program, each once, in the order in which they first stand
+-- the classes of the program, each once, in the order in which they first stand, with the superclass that the first head tells
 abbrev pub classes_of : List ℕ → List Token → List Class
-classes_of source tokens = map class_of_entry (opened_classes (symbols_of source tokens) [] (told_words source tokens))
+classes_of source tokens = map class_of_entry (classes_by (symbols_of source tokens) (heads_in (told_words source tokens)))

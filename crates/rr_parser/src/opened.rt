@@ -1,11 +1,12 @@
 //! The classes of a program among its words: their names, and what their heads tell.
 
-ghost use Rattle.std.specs.Prelude.{◌≡◌, ◌++◌, [], nat_eq, codes, map, option_map, IfOk, OnOk};
-ghost use Rattle.std.specs.Map.{lookup};
+ghost use Rattle.std.specs.Prelude.{◌≡◌, ℕ, List, ◌++◌, [], nat_eq, codes, map, option_map, IfOk, OnOk};
+ghost use Rattle.std.specs.List.{list_any};
+ghost use Rattle.std.specs.Map.{keys_of, lookup};
 ghost use Rattle.indexmap.specs.IndexSet.{contains};
 ghost use Rattle.rr_parser.specs.BuiltIn.{class_named};
 ghost use Rattle.rr_parser.specs.Grammar.Classes.{class_head};
-ghost use Rattle.rr_parser.specs.Opened.{first_constant, class_behind, with_number, classes_in, kind_by, with_classes, has_below, below_built_in, opening_by, name_text, own_class, below_path, opening_of, with_opening, opened_kind, earlier_by, opened_words, opened_classes, class_of_entry};
+ghost use Rattle.rr_parser.specs.Opened.{Head, first_constant, class_behind, with_number, classes_in, kind_by, with_classes, has_below, below_built_in, opening_by, name_text, own_class, below_path, superclass_of, head_of, head_behind, heads_in, classes_by, opening_of, opened_kind, opened_words, with_class, class_of_entry};
 
 use crate::built_in::class_named;
 use crate::class_bodies::class_head;
@@ -54,7 +55,7 @@ fn note(names: &mut IndexSet<u32>, number: Option<u32>) -> Result<(), Storage>
 
 /// The constants that stand behind the word `class` somewhere.
 fn classes_in(alloc: Global, words: &[Word]) -> Result<IndexSet<u32>, Storage>
-    ensures { IfOk result (λ s. s.keys ≡ classes_in words.now) }
+    ensures { IfOk result (λ s. (x : ℕ) → list_any (nat_eq x) s.keys ≡ list_any (nat_eq x) (classes_in words.now)) }
 {
     let mut names = IndexSet::new(alloc);
     let mut left = words;
@@ -162,6 +163,16 @@ fn opening_by(earlier: Option<ClassId>, given: Option<Opening>) -> Opening
     }
 }
 
+/// The superclass that is told; a head that does not tell one is refused.
+fn superclass_of(opening: Opening) -> ClassId
+    ensures { result ≡ superclass_of opening }
+{
+    match opening {
+        Opening::Below(class) => class,
+        _ => ClassId::OBJECT,
+    }
+}
+
 /// The built-in class of a name behind `Ractor::`.
 fn ractor_class(alloc: Global, name: &[u8]) -> Result<Option<BuiltInClass>, Storage>
     ensures { IfOk result (λ k. k ≡ class_named (codes "Ractor::" ++ name.now)) }
@@ -184,7 +195,7 @@ impl Openings<'_> {
 
     /// The class of the program with a name, if it has come.
     fn own_class(&self, name: Sym) -> Result<Option<ClassId>, Storage>
-        ensures { IfOk result (λ c. c ≡ own_class self.now.classes.entries name.0) }
+        ensures { IfOk result (λ c. c ≡ own_class (keys_of self.now.classes.entries) name.0) }
     {
         let Some(place) = self.classes.get_index_of(&name.0) else {
             return Ok(None);
@@ -197,7 +208,7 @@ impl Openings<'_> {
 
     /// What the path of a superclass tells.
     fn below_path(&self, path: Path) -> Result<Opening, Storage>
-        ensures { IfOk result (λ o. o ≡ below_path (map (λ s. s.items) self.now.symbols.now) self.now.classes.entries path) }
+        ensures { IfOk result (λ o. o ≡ below_path (map (λ s. s.items) self.now.symbols.now) (keys_of self.now.classes.entries) path) }
     {
         match path {
             Path::Plain(name) => match self.own_class(name)? {
@@ -213,7 +224,7 @@ impl Openings<'_> {
 
     /// What the path of a superclass tells, if one is given.
     fn given(&self, path: Option<Path>) -> Result<Option<Opening>, Storage>
-        ensures { IfOk result (λ o. o ≡ option_map (below_path (map (λ s. s.items) self.now.symbols.now) self.now.classes.entries) path) }
+        ensures { IfOk result (λ o. o ≡ option_map (below_path (map (λ s. s.items) self.now.symbols.now) (keys_of self.now.classes.entries)) path) }
     {
         match path {
             Some(path) => Ok(Some(self.below_path(path)?)),
@@ -223,33 +234,42 @@ impl Openings<'_> {
 
     /// What is told of a class with this name.
     fn opening(&self, name: Sym, path: Option<Path>) -> Result<Opening, Storage>
-        ensures { IfOk result (λ o. o ≡ opening_by (lookup (nat_eq name.0) self.now.classes.entries) (option_map (below_path (map (λ s. s.items) self.now.symbols.now) self.now.classes.entries) path)) }
+        ensures { IfOk result (λ o. o ≡ opening_by (lookup (nat_eq name.0) self.now.classes.entries) (option_map (below_path (map (λ s. s.items) self.now.symbols.now) (keys_of self.now.classes.entries)) path)) }
     {
         let given = self.given(path)?;
         let earlier = self.classes.get(&name.0).copied();
         Ok(opening_by(earlier, given))
     }
 
+    /// Adds a class where its name is new.
+    fn add(&mut self, name: Sym, opening: Opening) -> Result<(), Storage>
+        ensures classes { OnOk result (self.new.classes.entries ≡ with_class self.old.classes.entries name.0 (superclass_of opening)) }
+        ensures symbols { self.new.symbols ≡ self.old.symbols }
+    {
+        if self.classes.get(&name.0).is_none() {
+            self.classes.insert(name.0, superclass_of(opening))?;
+        }
+        Ok(())
+    }
+
     /// The word `class`, where these words stand behind it.
     fn class(&mut self, words: &[Word]) -> Result<WordKind, Storage>
-        ensures kind { IfOk result (λ k. k ≡ WordKind.Class (opening_of (map (λ s. s.items) self.old.symbols.now) self.old.classes.entries (class_head words.now))) }
-        ensures classes { OnOk result (self.new.classes.entries ≡ with_opening self.old.classes.entries (class_head words.now) (opening_of (map (λ s. s.items) self.old.symbols.now) self.old.classes.entries (class_head words.now))) }
+        ensures kind { (hs : List Head) → self.old.classes.entries ≡ classes_by (map (λ s. s.items) self.old.symbols.now) hs → IfOk result (λ k. k ≡ WordKind.Class (opening_of (map (λ s. s.items) self.old.symbols.now) hs (class_head words.now))) }
+        ensures classes { (hs : List Head) → self.old.classes.entries ≡ classes_by (map (λ s. s.items) self.old.symbols.now) hs → OnOk result (self.new.classes.entries ≡ classes_by (map (λ s. s.items) self.old.symbols.now) (hs ++ head_of (class_head words.now))) }
         ensures symbols { self.new.symbols ≡ self.old.symbols }
     {
         let Some(((name, path), _)) = class_head(words) else {
             return Ok(WordKind::Class(Opening::Unknown));
         };
         let opening = self.opening(name, path)?;
-        if let Opening::Below(superclass) = opening {
-            self.classes.insert(name.0, superclass)?;
-        }
+        self.add(name, opening)?;
         Ok(WordKind::Class(opening))
     }
 
     /// The word, where these words stand behind it.
     fn kind(&mut self, kind: WordKind, words: &[Word]) -> Result<WordKind, Storage>
-        ensures kind { IfOk result (λ k. k ≡ opened_kind (map (λ s. s.items) self.old.symbols.now) self.old.classes.entries kind words.now) }
-        ensures classes { OnOk result (self.new.classes.entries ≡ earlier_by (map (λ s. s.items) self.old.symbols.now) self.old.classes.entries kind words.now) }
+        ensures kind { (hs : List Head) → self.old.classes.entries ≡ classes_by (map (λ s. s.items) self.old.symbols.now) hs → IfOk result (λ k. k ≡ opened_kind (map (λ s. s.items) self.old.symbols.now) hs kind words.now) }
+        ensures classes { (hs : List Head) → self.old.classes.entries ≡ classes_by (map (λ s. s.items) self.old.symbols.now) hs → OnOk result (self.new.classes.entries ≡ classes_by (map (λ s. s.items) self.old.symbols.now) (hs ++ head_behind kind words.now)) }
         ensures symbols { self.new.symbols ≡ self.old.symbols }
     {
         match kind {
@@ -275,7 +295,7 @@ fn classes(alloc: Global, entries: &IndexMap<u32, ClassId>) -> Result<Vec<Class>
 /// The words, where each `class` is told its superclass, and the classes of the program.
 pub(crate) fn open(alloc: Global, symbols: &[Vec<u8>], words: &[Word]) -> Result<Opened, Storage>
     ensures words { IfOk result (λ o. o.words.items ≡ opened_words (map (λ s. s.items) symbols.now) [] words.now) }
-    ensures classes { IfOk result (λ o. o.classes.items ≡ map class_of_entry (opened_classes (map (λ s. s.items) symbols.now) [] words.now)) }
+    ensures classes { IfOk result (λ o. o.classes.items ≡ map class_of_entry (classes_by (map (λ s. s.items) symbols.now) (heads_in words.now))) }
 {
     let mut openings = Openings {
         alloc,
