@@ -1,11 +1,7 @@
--- Names of fields that differ.
-use Rattle.std.proofs.Common.{nat_eq, [], ◌∷◌, refl}
-use Rattle.std.specs.List.{IsDistinct, AllByRecursion}
+-- One field alone.
+use Rattle.std.proofs.Common.{nat_eq, [], ◌∷◌}
+use Rattle.std.specs.List.{IsDistinct}
 
-pub one_field : IsDistinct nat_eq (1 ∷ [])
+pub one_field : IsDistinct nat_eq (3 ∷ [])
 unfolding IsDistinct
 one_field = (tt, tt)
-
-pub two_fields : IsDistinct nat_eq (3 ∷ 2 ∷ [])
-unfolding IsDistinct
-two_fields = ((refl, tt), (tt, tt))

@@ -3,11 +3,10 @@
 ghost use Rattle.rr_space.specs.Moves.{IsPlanned};
 
 use rr_base::{Fault, RactorNo};
-use rr_share::{
-    Plan, deep_freeze, is_shareable, plan, promote, reached, reached_objects, shareable_objects,
-};
+use rr_share::{Plan, deep_freeze, is_shareable, plan, promote, reached, shareable_objects};
 use rr_space::{Cluster, Items, Kind, Node, Published, Ref, Sealed, SlotSet, Space};
 use std::alloc::Global;
+use std::process::Abort;
 use std::test::Fail;
 
 /// One graph to a line: what it shows, its slots, the slots that slot 0 leads to as they are met, whether it is
@@ -35,7 +34,18 @@ a published text|p||yes||frozen
 a shell that nothing leads to|a s|0|no||frozen
 a shell behind two arrays|a1 f2 s|0 1 2|no||shell
 the second of two ways is open|f12 T f3 t|0 1 2 3|no|1|frozen
-two ways to an open array|f12 f3 f3 a|0 1 2 3|no||frozen";
+two ways to an open array|f12 f3 f3 a|0 1 2 3|no||frozen
+a frozen cycle|f1 f0|0 1|yes|0 1|frozen
+an open cycle|a1 a0|0 1|no||frozen
+a frozen array that leads back to an open one|f1 a0|0 1|no||frozen
+frozen arrays over a frozen text|f1 f2 T|0 1 2|yes|0 1 2|frozen
+frozen arrays over an open text|f1 f2 t|0 1 2|no||frozen
+a frozen array over a shell|f1 s|0 1|no||shell
+an open text beside a frozen array|f t|0|yes|0|frozen
+a knot|a11 a0|0 1|no||frozen
+one text twice|a11 t|0 1|no||frozen
+two equal texts|a12 t t|0 1 2|no||frozen
+a long way round|f3 t f0 f2 f1|0 3 2|yes|0 3 2|frozen";
 
 /// A text, or an array that leads to nothing yet.
 fn begin(alloc: Global, space: &mut Space, word: &str) -> Result<(), Fail> {
@@ -140,17 +150,6 @@ fn are(found: &SlotSet, list: &str) -> bool {
     place == found.len()
 }
 
-/// Which slots are frozen, one bit each.
-fn frozen_slots(space: &Space) -> u32 {
-    let mut bits = 0u32;
-    for slot in 0..10u32 {
-        if space.is_frozen(Ref::Local(slot)) {
-            bits |= 1 << slot;
-        }
-    }
-    bits
-}
-
 /// What a deep freeze of slot 0 answers, in a word.
 fn freeze_first(alloc: Global, space: &mut Space) -> Result<&'static str, Fail> {
     if space.len() == 0 {
@@ -168,61 +167,57 @@ struct Row<'a> {
     name: &'a str,
     slots: &'a str,
     found: &'a str,
-    shareable: bool,
+    shareable: &'a str,
     objects: &'a str,
     answer: &'a str,
 }
 
-fn parse_row(line: &str) -> Result<Row<'_>, Fail> {
-    let (name, rest) = line.split_once("|").ok_or("a row without slots")?;
-    let (slots, rest) = rest.split_once("|").ok_or("a row without what is found")?;
-    let (found, rest) = rest
-        .split_once("|")
-        .ok_or("a row without whether it is shareable")?;
-    let (shareable, rest) = rest.split_once("|").ok_or("a row without shareable slots")?;
-    let (objects, answer) = rest.split_once("|").ok_or("a row without an answer")?;
-    Ok(Row {
-        name,
-        slots,
-        found,
-        shareable: shareable == "yes",
-        objects,
-        answer,
-    })
+fn parse_row(alloc: Global, line: &str) -> Result<Row<'_>, Fail> {
+    let cells: Vec<&str> = line.split("|").collect(alloc)?;
+    match cells.as_slice() {
+        [name, slots, found, shareable, objects, answer] => Ok(Row {
+            name,
+            slots,
+            found,
+            shareable,
+            objects,
+            answer,
+        }),
+        _ => Err(Fail::from("a row of another form")),
+    }
+}
+
+fn check(rt: &impl Abort, holds: bool, what: &str, row: &Row<'_>) {
+    assert!(rt; holds, "{what}: {}", row.name);
+}
+
+/// What searches of slot 0 answer.
+fn check_searches(
+    rt: &impl Abort,
+    alloc: Global,
+    space: &Space,
+    row: &Row<'_>,
+) -> Result<(), Fail> {
+    let root = Ref::Local(0);
+    let found = reached(alloc, space, root)?;
+    check(rt, are(&found, row.found), "found", row);
+    let yes = is_shareable(alloc, space, root)?;
+    check(rt, yes == (row.shareable == "yes"), "whether", row);
+    let objects = shareable_objects(alloc, space, root)?;
+    check(rt, are(&objects, row.objects), "shareable", row);
+    Ok(())
 }
 
 #[test]
 fn small_graphs(rt: HostRuntime) -> Result<(), Fail> {
-    let root = Ref::Local(0);
     for line in ROWS.lines() {
-        let row = parse_row(line)?;
+        let row = parse_row(rt.alloc(), line)?;
         let mut space = space_of(rt.alloc(), row.slots)?;
-        assert!(rt;
-            are(&reached(rt.alloc(), &space, root)?, row.found),
-            "found: {}",
-            row.name
-        );
-        assert_eq!(rt;
-            is_shareable(rt.alloc(), &space, root)?,
-            row.shareable,
-            "{}",
-            row.name
-        );
-        let objects = shareable_objects(rt.alloc(), &space, root)?;
-        assert!(rt; are(&objects, row.objects), "shareable: {}", row.name);
-        let before = frozen_slots(&space);
+        check_searches(&rt, rt.alloc(), &space, &row)?;
         let answer = freeze_first(rt.alloc(), &mut space)?;
-        assert_eq!(rt; answer, row.answer, "{}", row.name);
-        if answer == "frozen" {
-            assert!(rt;
-                is_shareable(rt.alloc(), &space, root)?,
-                "frozen: {}",
-                row.name
-            );
-            assert!(rt; reached_objects(rt.alloc(), &space, root).is_ok());
-        } else {
-            assert_eq!(rt; frozen_slots(&space), before, "{}", row.name);
-        }
+        check(&rt, answer == row.answer, "frozen", &row);
+        let yes = is_shareable(rt.alloc(), &space, Ref::Local(0))?;
+        check(&rt, yes == (answer == "frozen"), "shareable then", &row);
     }
     Ok(())
 }
@@ -239,50 +234,38 @@ fn publish_plan(alloc: Global, space: &mut Space, plan: Plan) -> Result<(), Fail
     Ok(())
 }
 
+/// Publishes what is shareable of slot 0, and answers a word as for a deep freeze.
+fn publish_first(
+    rt: &impl Abort,
+    alloc: Global,
+    space: &mut Space,
+    row: &Row<'_>,
+) -> Result<&'static str, Fail> {
+    if space.len() == 0 {
+        return Err(Fail::from("no slots"));
+    }
+    match plan(alloc, space, Ref::Local(0)) {
+        Ok(plan) => {
+            check(rt, are(&plan.places, row.objects), "planned", row);
+            publish_plan(alloc, space, plan)?;
+            Ok("frozen")
+        }
+        Err(Fault::HoldsShell) => Ok("shell"),
+        Err(_) => Err(Fail::from("another fault")),
+    }
+}
+
 #[test]
 fn what_is_planned_is_published(rt: HostRuntime) -> Result<(), Fail> {
-    let root = Ref::Local(0);
     for line in ROWS.lines() {
-        let row = parse_row(line)?;
+        let row = parse_row(rt.alloc(), line)?;
         let mut space = space_of(rt.alloc(), row.slots)?;
-        if space.len() == 0 {
-            return Err(Fail::from("no slots"));
-        }
-        match plan(rt.alloc(), &space, root) {
-            Ok(plan) => {
-                assert!(rt; are(&plan.places, row.objects), "planned: {}", row.name);
-                assert_eq!(rt; plan.cluster.len(), plan.places.len(), "{}", row.name);
-                publish_plan(rt.alloc(), &mut space, plan)?;
-                let left = shareable_objects(rt.alloc(), &space, root)?;
-                assert!(rt; left.is_empty(), "left: {}", row.name);
-                assert_eq!(rt; "frozen", row.answer, "{}", row.name);
-            }
-            Err(fault) => {
-                assert_eq!(rt; fault, Fault::HoldsShell, "{}", row.name);
-                assert_eq!(rt; "shell", row.answer, "{}", row.name);
-            }
-        }
+        let answer = publish_first(&rt, rt.alloc(), &mut space, &row)?;
+        check(&rt, answer == row.answer, "published", &row);
+        let left = shareable_objects(rt.alloc(), &space, Ref::Local(0))?;
+        let none = left.is_empty() || answer == "shell";
+        check(&rt, none, "left", &row);
     }
-    Ok(())
-}
-
-#[test]
-fn what_is_no_object_is_shareable(rt: HostRuntime) -> Result<(), Fail> {
-    let space = Space::new(rt.alloc(), RactorNo(1), 10);
-    assert!(rt; is_shareable(rt.alloc(), &space, Ref::Int(7))?);
-    assert!(rt; is_shareable(rt.alloc(), &space, Ref::Nil)?);
-    assert!(rt; shareable_objects(rt.alloc(), &space, Ref::Nil)?.is_empty());
-    assert!(rt; reached_objects(rt.alloc(), &space, Ref::Nil)?.is_empty());
-    Ok(())
-}
-
-#[test]
-fn what_is_no_object_is_frozen_already(rt: HostRuntime) -> Result<(), Fail> {
-    let mut space = space_of(rt.alloc(), "a1 t")?;
-    for value in [Ref::Nil, Ref::Truth(true), Ref::Int(7)] {
-        deep_freeze(rt.alloc(), &mut space, value)?;
-    }
-    assert_eq!(rt; frozen_slots(&space), 0);
     Ok(())
 }
 
@@ -297,17 +280,21 @@ fn chain(alloc: Global, count: u32) -> Result<Space, Fail> {
     Ok(space)
 }
 
+fn freeze_last(alloc: Global, space: &mut Space) -> Result<(), Fail> {
+    match space.len() {
+        0 => Err(Fail::from("no slots")),
+        count => Ok(deep_freeze(alloc, space, Ref::Local(count as u32 - 1))?),
+    }
+}
+
 #[test]
 fn a_long_chain_takes_no_stack(rt: HostRuntime) -> Result<(), Fail> {
-    let last = 99_999;
-    let root = Ref::Local(last);
+    let root = Ref::Local(99_999);
     let mut space = chain(rt.alloc(), 100_000)?;
     assert!(rt; shareable_objects(rt.alloc(), &space, root)?.is_empty());
-    assert_eq!(rt; reached(rt.alloc(), &space, root)?.len(), 100_000);
-    if (last as usize) < space.len() {
-        deep_freeze(rt.alloc(), &mut space, root)?;
-    }
+    assert!(rt; reached(rt.alloc(), &space, root)?.len() == 100_000);
+    freeze_last(rt.alloc(), &mut space)?;
     assert!(rt; space.is_frozen(Ref::Local(0)));
-    assert_eq!(rt; shareable_objects(rt.alloc(), &space, root)?.len(), 100_000);
+    assert!(rt; shareable_objects(rt.alloc(), &space, root)?.len() == 100_000);
     Ok(())
 }

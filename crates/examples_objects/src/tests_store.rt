@@ -3,7 +3,7 @@
 ghost use Rattle.std.specs.Prelude.{◌≡◌, length, IfOk};
 
 use rr_base::{Fault, RactorNo, StoreEvent, Sym};
-use rr_space::{Cluster, Ref, Sealed};
+use rr_space::{Cluster, Published, Ref, Sealed};
 use rr_store::{ConstValue, StoreState};
 use std::alloc::Global;
 use std::process::Abort;
@@ -43,50 +43,42 @@ fn check_history(
     Ok(())
 }
 
-// The integer that a constant has.
-fn integer(store: &StoreState, who: RactorNo, name: Sym) -> Option<i64> {
-    match store.get_const(who, name) {
-        Ok(ConstValue::Shareable(Ref::Int(number))) => Some(number),
-        _ => None,
-    }
+fn set(store: &mut StoreState, who: RactorNo, name: Sym, value: i64) -> Result<(), Fault> {
+    store.set_const(who, name, ConstValue::Shareable(Ref::Int(value)))
 }
 
-fn is_refused(got: Result<ConstValue, Fault>, wanted: Fault) -> bool {
-    match got {
-        Ok(_) => false,
-        Err(fault) => fault == wanted,
+fn set_own(store: &mut StoreState, who: RactorNo, name: Sym) -> Result<(), Fault> {
+    store.set_const(who, name, ConstValue::Own)
+}
+
+// The integer that a constant has; none where it is main's own.
+fn integer(store: &StoreState, who: RactorNo, name: Sym) -> Result<Option<i64>, Fault> {
+    match store.get_const(who, name)? {
+        ConstValue::Shareable(Ref::Int(number)) => Ok(Some(number)),
+        _ => Ok(None),
     }
 }
 
 #[test]
 fn constants_of_main_and_of_others(rt: HostRuntime) -> Result<(), Fail> {
     let mut store = StoreState::new(rt.alloc(), 100);
-    assert!(rt; is_refused(store.get_const(MAIN, A), Fault::Unknown(A)));
-    store.set_const(MAIN, A, ConstValue::Shareable(Ref::Int(3)))?;
-    store.set_const(MAIN, B, ConstValue::Own)?;
-    assert_eq!(rt; integer(&store, OTHER, A), Some(3));
-    assert!(rt; is_refused(store.get_const(OTHER, B), Fault::NotMain));
-    assert!(rt; matches!(store.get_const(MAIN, B), Ok(ConstValue::Own)));
-    assert!(rt; is_refused(store.get_const(OTHER, Sym(2)), Fault::Unknown(Sym(2))));
-    assert_eq!(rt;
-        store.set_const(OTHER, A, ConstValue::Own).err(),
-        Some(Fault::NotShareable)
-    );
-    assert_eq!(rt; integer(&store, OTHER, A), Some(3));
-    store.set_const(OTHER, B, ConstValue::Shareable(Ref::Int(4)))?;
-    store.set_const(MAIN, A, ConstValue::Shareable(Ref::Int(5)))?;
-    assert_eq!(rt; integer(&store, OTHER, A), Some(5));
-    assert_eq!(rt; integer(&store, OTHER, B), Some(4));
-    check_history(
-        &rt,
-        rt.alloc(),
-        &store,
-        "shared 0 1\nown 1 1\nshared 1 2\nshared 0 1\n",
-    )
+    set(&mut store, MAIN, A, 3)?;
+    set_own(&mut store, MAIN, B)?;
+    assert!(rt; integer(&store, OTHER, A)? == Some(3));
+    assert!(rt; integer(&store, MAIN, B)?.is_none());
+    assert!(rt; integer(&store, OTHER, B) == Err(Fault::NotMain));
+    assert!(rt; integer(&store, OTHER, Sym(2)) == Err(Fault::Unknown(Sym(2))));
+    assert!(rt; set_own(&mut store, OTHER, A) == Err(Fault::NotShareable));
+    set(&mut store, OTHER, B, 4)?;
+    set(&mut store, MAIN, A, 5)?;
+    assert!(rt; integer(&store, OTHER, A)? == Some(5));
+    assert!(rt; integer(&store, OTHER, B)? == Some(4));
+    let wanted = "shared 0 1\nown 1 1\nshared 1 2\nshared 0 1\n";
+    check_history(&rt, rt.alloc(), &store, wanted)
 }
 
 // A cluster of one text.
-fn text(alloc: Global, bytes: &[u8]) -> Result<Cluster, Fail>
+fn text(alloc: Global, bytes: &[u8]) -> Result<Cluster, Fault>
     ensures { IfOk result (λ cluster. length cluster.own ≡ 1) }
 {
     let mut nodes = Vec::new(alloc);
@@ -94,61 +86,53 @@ fn text(alloc: Global, bytes: &[u8]) -> Result<Cluster, Fail>
     Ok(Cluster::new(alloc, nodes)?)
 }
 
+fn publish(
+    alloc: Global,
+    store: &mut StoreState,
+    who: RactorNo,
+    bytes: &[u8],
+) -> Result<Published, Fault> {
+    match store.publish(alloc, who, text(alloc, bytes)?) {
+        Ok(published) => Ok(published),
+        Err((fault, _)) => Err(fault),
+    }
+}
+
+fn check_text(rt: &impl Abort, store: &StoreState, name: Sym, wanted: &[u8]) -> Result<(), Fail> {
+    match store.get_const(OTHER, name)? {
+        ConstValue::Shareable(Ref::Shared(place, cluster)) => {
+            assert!(rt; cluster.text_bytes(place) == wanted);
+            Ok(())
+        }
+        _ => Err(Fail::from("the constant is no published text")),
+    }
+}
+
 #[test]
 fn clusters_get_the_next_number(rt: HostRuntime) -> Result<(), Fail> {
     let mut store = StoreState::new(rt.alloc(), 3);
-    let Ok(first) = store.publish(rt.alloc(), MAIN, text(rt.alloc(), b"first")?) else {
-        return Err(Fail::from("the first cluster was refused"));
-    };
-    let Ok(second) = store.publish(rt.alloc(), OTHER, text(rt.alloc(), b"second")?) else {
-        return Err(Fail::from("the second cluster was refused"));
-    };
-    assert_eq!(rt; first.number(), 0);
-    assert_eq!(rt; second.number(), 1);
-    assert_eq!(rt; second.cluster.len(), 1);
+    let first = publish(rt.alloc(), &mut store, MAIN, b"first")?;
+    let second = publish(rt.alloc(), &mut store, OTHER, b"second")?;
+    assert!(rt; first.number() == 0);
+    assert!(rt; second.number() == 1);
+    assert!(rt; second.cluster.len() == 1);
     store.set_const(MAIN, A, ConstValue::Shareable(second.at(0)))?;
-    match store.get_const(OTHER, A) {
-        Ok(ConstValue::Shareable(Ref::Shared(place, cluster))) => {
-            assert_eq!(rt; cluster.text_bytes(place), b"second".as_slice());
-        }
-        _ => return Err(Fail::from("the constant is not the second text")),
-    }
-    match store.publish(rt.alloc(), MAIN, text(rt.alloc(), b"third")?) {
-        Err((fault, cluster)) => {
-            assert_eq!(rt; fault, Fault::HistoryFull);
-            assert_eq!(rt; cluster.text_bytes(0), b"third".as_slice());
-        }
-        Ok(_) => return Err(Fail::from("a full history took an event")),
-    }
-    assert_eq!(rt;
-        store
-            .set_const(MAIN, B, ConstValue::Shareable(Ref::Nil))
-            .err(),
-        Some(Fault::HistoryFull)
-    );
-    check_history(
-        &rt,
-        rt.alloc(),
-        &store,
-        "published 0 1 1\npublished 1 1 2\nshared 0 1\n",
-    )
+    check_text(&rt, &store, A, b"second")?;
+    let refused = publish(rt.alloc(), &mut store, MAIN, b"third");
+    assert!(rt; matches!(refused, Err(Fault::HistoryFull)));
+    let wanted = "published 0 1 1\npublished 1 1 2\nshared 0 1\n";
+    check_history(&rt, rt.alloc(), &store, wanted)
 }
 
 #[test]
 fn many_constants(rt: HostRuntime) -> Result<(), Fail> {
     let mut store = StoreState::new(rt.alloc(), 1_000_000);
     for k in 0..1000u32 {
-        let name = Sym(k * 97);
-        store.set_const(OTHER, name, ConstValue::Shareable(Ref::Int(k as i64)))?;
+        set(&mut store, OTHER, Sym(k * 97), k as i64)?;
     }
     for k in 0..1000u32 {
-        assert_eq!(rt; integer(&store, MAIN, Sym(k * 97)), Some(k as i64));
-        assert!(rt;
-            is_refused(
-                store.get_const(MAIN, Sym(k * 97 + 1)),
-                Fault::Unknown(Sym(k * 97 + 1))
-            )
-        );
+        assert!(rt; integer(&store, MAIN, Sym(k * 97))? == Some(k as i64));
+        assert!(rt; integer(&store, MAIN, Sym(k * 97 + 1)).is_err());
     }
     Ok(())
 }

@@ -1,8 +1,9 @@
 //! What writes leave: the usual path of each call.
 
 use rr_base::{ClassId, RactorNo, Sym};
-use rr_space::{Entries, Items, Key, Kind, Label, Node, Ref, Space};
+use rr_space::{Entries, Items, Key, Kind, Node, Ref, Space};
 use std::alloc::Global;
+use std::process::Abort;
 use std::test::Fail;
 
 fn set(space: &mut Space, hash: Ref, key: i64, value: i64) -> Result<(), Fail> {
@@ -33,16 +34,18 @@ fn take(space: &mut Space, array: Ref, place: usize) -> Option<Ref> {
     None
 }
 
-/// A new object without fields.
-fn object(alloc: Global, space: &mut Space) -> Result<Ref, Fail> {
-    Ok(space.alloc(Node::Object(ClassId::ARRAY, Vec::new(alloc)))?)
-}
-
 fn set_field(space: &mut Space, object: Ref, name: Sym, value: i64) -> Result<(), Fail> {
     if space.can_write(object) && space.kind_of(object) == Kind::Object {
         return Ok(space.write_field(object, name, Ref::Int(value))?);
     }
     Err(Fail::from("no object that may be written"))
+}
+
+fn append(space: &mut Space, text: Ref, bytes: &[u8]) -> Result<(), Fail> {
+    if space.can_write(text) && space.kind_of(text) == Kind::Text {
+        return Ok(space.append_text(text, bytes)?);
+    }
+    Err(Fail::from("no text that may be written"))
 }
 
 /// The integers that an object leads to, in order.
@@ -56,20 +59,25 @@ fn integers(alloc: Global, space: &Space, value: Ref) -> Result<Vec<i64>, Fail> 
     Ok(found)
 }
 
-fn append(space: &mut Space, text: Ref, bytes: &[u8]) -> Result<(), Fail> {
-    if space.can_write(text) && space.kind_of(text) == Kind::Text {
-        return Ok(space.append_text(text, bytes)?);
-    }
-    Err(Fail::from("no text that may be written"))
+fn check(
+    rt: &impl Abort,
+    alloc: Global,
+    space: &Space,
+    value: Ref,
+    wanted: &[i64],
+) -> Result<(), Fail> {
+    let found = integers(alloc, space, value)?;
+    assert!(rt; found.as_slice() == wanted);
+    Ok(())
 }
 
 #[test]
 fn bytes_come_behind_those_that_are_there(rt: HostRuntime) -> Result<(), Fail> {
     let mut space = Space::new(rt.alloc(), RactorNo(1), 10);
     let text = space.alloc(Node::Text(b"ab".to_vec(rt.alloc())?))?;
-    append(&mut space, text, b"")?;
-    append(&mut space, text, b"c")?;
-    append(&mut space, text, b"de")?;
+    for bytes in [b"".as_slice(), b"c".as_slice(), b"de".as_slice()] {
+        append(&mut space, text, bytes)?;
+    }
     assert!(rt; space.text_bytes(text) == b"abcde".as_slice());
     Ok(())
 }
@@ -79,29 +87,13 @@ fn pairs_keep_the_order_of_insertion(rt: HostRuntime) -> Result<(), Fail> {
     let mut space = Space::new(rt.alloc(), RactorNo(1), 10);
     let entries = Box::new(rt.alloc(), Entries::new(rt.alloc()))?;
     let hash = space.alloc(Node::Hash(entries))?;
-    set(&mut space, hash, 5, 50)?;
-    set(&mut space, hash, 3, 30)?;
-    set(&mut space, hash, 4, 40)?;
-    set(&mut space, hash, 3, 31)?;
-    let all = integers(rt.alloc(), &space, hash)?;
-    assert!(rt; all.as_slice() == [5, 50, 3, 31, 4, 40].as_slice());
-    assert_eq!(rt; space.find(hash, &Key::Int(4)), Some(2));
-    assert!(rt; matches!(space.read(hash, Label::Key(2)), Some(Ref::Int(4))));
-    assert!(rt; matches!(space.read(hash, Label::Value(1)), Some(Ref::Int(31))));
-    assert!(rt; space.read(hash, Label::Value(3)).is_none());
-    assert!(rt; space.read(hash, Label::Place(0)).is_none());
-    assert!(rt;
-        matches!(
-            unset(&mut space, hash, 0),
-            Some((Ref::Int(5), Ref::Int(50)))
-        )
-    );
+    for (key, value) in [(5, 50), (3, 30), (4, 40), (3, 31)] {
+        set(&mut space, hash, key, value)?;
+    }
+    check(&rt, rt.alloc(), &space, hash, &[5, 50, 3, 31, 4, 40])?;
+    assert!(rt; unset(&mut space, hash, 0).is_some());
     assert!(rt; unset(&mut space, hash, 2).is_none());
-    let left = integers(rt.alloc(), &space, hash)?;
-    assert!(rt; left.as_slice() == [3, 31, 4, 40].as_slice());
-    assert_eq!(rt; space.find(hash, &Key::Int(4)), Some(1));
-    assert_eq!(rt; space.find(hash, &Key::Int(5)), None);
-    Ok(())
+    check(&rt, rt.alloc(), &space, hash, &[3, 31, 4, 40])
 }
 
 #[test]
@@ -111,23 +103,22 @@ fn elements_close_up(rt: HostRuntime) -> Result<(), Fail> {
     for item in 0..5i64 {
         push(&mut space, array, item)?;
     }
-    assert!(rt; matches!(take(&mut space, array, 1), Some(Ref::Int(1))));
+    assert!(rt; take(&mut space, array, 1).is_some());
     assert!(rt; take(&mut space, array, 4).is_none());
-    let left = integers(rt.alloc(), &space, array)?;
-    assert!(rt; left.as_slice() == [0, 2, 3, 4].as_slice());
-    assert!(rt; matches!(space.read(array, Label::Place(3)), Some(Ref::Int(4))));
-    Ok(())
+    check(&rt, rt.alloc(), &space, array, &[0, 2, 3, 4])
+}
+
+/// A new object without fields.
+fn object(alloc: Global, space: &mut Space) -> Result<Ref, Fail> {
+    Ok(space.alloc(Node::Object(ClassId::ARRAY, Vec::new(alloc)))?)
 }
 
 #[test]
 fn fields_keep_the_order_of_their_first_writing(rt: HostRuntime) -> Result<(), Fail> {
     let mut space = Space::new(rt.alloc(), RactorNo(1), 10);
     let object = object(rt.alloc(), &mut space)?;
-    set_field(&mut space, object, Sym(7), 1)?;
-    set_field(&mut space, object, Sym(3), 2)?;
-    set_field(&mut space, object, Sym(7), 3)?;
-    let all = integers(rt.alloc(), &space, object)?;
-    assert!(rt; all.as_slice() == [3, 2].as_slice());
-    assert!(rt; matches!(space.read(object, Label::Field(Sym(3))), Some(Ref::Int(2))));
-    Ok(())
+    for (name, value) in [(7, 1), (3, 2), (7, 3)] {
+        set_field(&mut space, object, Sym(name), value)?;
+    }
+    check(&rt, rt.alloc(), &space, object, &[3, 2])
 }

@@ -1,8 +1,0 @@
-use Rattle.std.proofs.Common.{ap, ◌∙◌}
-use Rattle.rr_space.specs.Views.{field_number}
-use Rattle.rr_space.specs.declared.refer.Raised.{Raised}
-use Rattle.examples_objects.proofs.NoFields.{none_twice}
-use Rattle.examples_objects.proofs.raised.exception.Goals as goal
-
-pub alloc-requires-clause-fields : goal.alloc-requires-clause-fields
-alloc-requires-clause-fields c = none_twice field_number _ (ap (λ (r : Raised). r.fields.items) c.in_ok-new.ensures.ok ∙ c.new.ensures.items)
