@@ -4,10 +4,6 @@
 #[cfg(test)]
 mod graphs;
 #[cfg(test)]
-mod hands;
-#[cfg(test)]
-mod ledger;
-#[cfg(test)]
 mod long;
 #[cfg(test)]
 mod plans;

@@ -1,9 +1,6 @@
 //! A long chain, and a value that is moved many times.
 
-ghost use Rattle.std.specs.Prelude.{length, IfOk};
-ghost use Rattle.rr_space.specs.Parts.{IsWithin};
-
-use crate::spaces::{moved, opened};
+use crate::spaces::{moved, opened, sent};
 use rr_base::RactorNo;
 use rr_move::reattach;
 use rr_space::{Items, Node, Ref, Space};
@@ -13,15 +10,23 @@ use std::test::Fail;
 
 const LONG: u32 = 100_000;
 
-// Arrays in one another, with nil in the innermost.
-fn chain(alloc: Global, space: &mut Space) -> Result<Ref, Fail>
-    ensures { IfOk result (λ r. IsWithin (length space.new.slots) r) }
-{
-    let mut value = Ref::Nil;
+// Adds an array of the object before it, or of nil where there is none.
+fn wrap(alloc: Global, space: &mut Space) -> Result<(), Fail> {
+    let inner = match space.len() {
+        0 => Ref::Nil,
+        count => Ref::Local(count as u32 - 1),
+    };
+    space.alloc(Node::Array(Items::one(alloc, inner)))?;
+    Ok(())
+}
+
+// A space of arrays in one another, with nil in the innermost.
+fn chain(alloc: Global) -> Result<Space, Fail> {
+    let mut space = Space::new(alloc, RactorNo(1), LONG);
     for _ in 0..LONG {
-        value = space.alloc(Node::Array(Items::one(alloc, value)))?;
+        wrap(alloc, &mut space)?;
     }
-    Ok(value)
+    Ok(space)
 }
 
 fn is_chain(space: &Space, chain: Ref) -> bool {
@@ -35,26 +40,27 @@ fn is_chain(space: &Space, chain: Ref) -> bool {
     matches!(value, Ref::Nil)
 }
 
+// The chain is moved out of the space, and put back.
+fn check_back(rt: &impl Abort, alloc: Global, space: &mut Space, value: Ref) -> Result<(), Fail> {
+    let detached = moved(rt, alloc, space, value)?;
+    assert!(rt; !is_chain(space, value));
+    reattach(space, detached);
+    assert!(rt; is_chain(space, value));
+    Ok(())
+}
+
 #[test]
 fn a_long_chain_is_moved_and_put_back(rt: HostRuntime) -> Result<(), Fail> {
-    let mut here = Space::new(rt.alloc(), RactorNo(1), LONG);
-    let value = chain(rt.alloc(), &mut here)?;
-    let (message, _) = moved(&rt, rt.alloc(), &mut here, value)?.message();
+    let mut here = chain(rt.alloc())?;
+    let message = sent(&rt, rt.alloc(), &mut here, Ref::Local(LONG - 1))?;
     assert!(rt; message.size() == LONG);
     let mut there = Space::new(rt.alloc(), RactorNo(2), LONG);
     let value = opened(&mut there, message)?;
-    let detached = moved(&rt, rt.alloc(), &mut there, value)?;
-    assert!(rt; !is_chain(&there, value));
-    reattach(&mut there, detached);
-    assert!(rt; is_chain(&there, value));
-    Ok(())
+    check_back(&rt, rt.alloc(), &mut there, value)
 }
 
 // Takes what is in the first slot out and puts it back.
 fn there_and_back(rt: &impl Abort, alloc: Global, space: &mut Space) -> Result<(), Fail> {
-    if space.len() == 0 {
-        return Err(Fail::from("no object"));
-    }
     let detached = moved(rt, alloc, space, Ref::Local(0))?;
     reattach(space, detached);
     Ok(())
