@@ -17,7 +17,7 @@ use rr_tree::NodeId;
 use std::alloc::Global;
 
 /// A row of a program, by its node.
-#[derive(Clone, Copy, Debug, PartialEq, Eq, Drop)]
+#[derive(Clone, Copy, PartialEq, Eq, Drop)]
 pub(crate) enum Entry {
     Definition(NodeId),
     Statement(NodeId),

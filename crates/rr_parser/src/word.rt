@@ -4,14 +4,14 @@ use rr_base::{ClassId, Sym};
 use rr_tree::{BinaryOperator, NodeId};
 
 /// What joins two conditions.
-#[derive(Clone, Copy, Debug, PartialEq, Eq, Drop)]
+#[derive(Clone, Copy, PartialEq, Eq, Drop)]
 pub(crate) enum Connective {
     And,
     Or,
 }
 
 /// What stands behind a statement and says whether, or how often, it is done.
-#[derive(Clone, Copy, Debug, PartialEq, Eq, Drop)]
+#[derive(Clone, Copy, PartialEq, Eq, Drop)]
 pub(crate) enum Modifier {
     If,
     Unless,
@@ -19,7 +19,7 @@ pub(crate) enum Modifier {
 }
 
 /// What follows an operand and makes another one of it.
-#[derive(Clone, Copy, Debug, PartialEq, Eq, Drop)]
+#[derive(Clone, Copy, PartialEq, Eq, Drop)]
 pub(crate) enum Tail {
     /// A call without arguments.
     Send(Sym),
@@ -30,7 +30,7 @@ pub(crate) enum Tail {
 }
 
 /// What stands between two operands.
-#[derive(Clone, Copy, Debug, PartialEq, Eq, Drop)]
+#[derive(Clone, Copy, PartialEq, Eq, Drop)]
 pub(crate) enum Infix {
     Binary(BinaryOperator),
     /// `<<`
@@ -38,7 +38,7 @@ pub(crate) enum Infix {
 }
 
 /// What leaves a loop, a block or a method.
-#[derive(Clone, Copy, Debug, PartialEq, Eq, Drop)]
+#[derive(Clone, Copy, PartialEq, Eq, Drop)]
 pub(crate) enum Jump {
     Break,
     Next,
@@ -46,14 +46,14 @@ pub(crate) enum Jump {
 }
 
 /// What passes arguments on: to the block of the method, or to the method of the superclass.
-#[derive(Clone, Copy, Debug, PartialEq, Eq, Drop)]
+#[derive(Clone, Copy, PartialEq, Eq, Drop)]
 pub(crate) enum Passing {
     Yield,
     Super,
 }
 
 /// What begins a command: the name of a call, a jump, or what passes arguments on.
-#[derive(Clone, Copy, Debug, PartialEq, Eq, Drop)]
+#[derive(Clone, Copy, PartialEq, Eq, Drop)]
 pub(crate) enum Head {
     Call(Sym),
     Jump(Jump),
@@ -61,35 +61,35 @@ pub(crate) enum Head {
 }
 
 /// What a block stands behind: a call, whose arguments stand in brackets or are none, or a command.
-#[derive(Clone, Copy, Debug, PartialEq, Eq, Drop)]
+#[derive(Clone, Copy, PartialEq, Eq, Drop)]
 pub(crate) enum Behind {
     Call,
     Command(Head),
 }
 
 /// What a block stands between: braces, or `do` and `end`.
-#[derive(Clone, Copy, Debug, PartialEq, Eq, Drop)]
+#[derive(Clone, Copy, PartialEq, Eq, Drop)]
 pub(crate) enum Fence {
     Brace,
     Do,
 }
 
 /// What stands before the `=` of an assignment with an operator.
-#[derive(Clone, Copy, Debug, PartialEq, Eq, Drop)]
+#[derive(Clone, Copy, PartialEq, Eq, Drop)]
 pub(crate) enum Operation {
     Infix(Infix),
     Connective(Connective),
 }
 
 /// The sign of an assignment.
-#[derive(Clone, Copy, Debug, PartialEq, Eq, Drop)]
+#[derive(Clone, Copy, PartialEq, Eq, Drop)]
 pub(crate) enum Sign {
     Plain,
     With(Operation),
 }
 
 /// What is assigned to, and how, and how many words stand behind the target.
-#[derive(Clone, Copy, Debug, PartialEq, Eq, Drop)]
+#[derive(Clone, Copy, PartialEq, Eq, Drop)]
 pub(crate) struct Aim {
     pub target: Target,
     pub sign: Sign,
@@ -97,14 +97,14 @@ pub(crate) struct Aim {
 }
 
 /// The variable that gets an exception, and how many words stand behind its name.
-#[derive(Clone, Copy, Debug, PartialEq, Eq, Drop)]
+#[derive(Clone, Copy, PartialEq, Eq, Drop)]
 pub(crate) struct Caught {
     pub name: Sym,
     pub behind: u32,
 }
 
 /// What the name of a constant is before a program sets it.
-#[derive(Clone, Copy, Debug, PartialEq, Eq, Drop)]
+#[derive(Clone, Copy, PartialEq, Eq, Drop)]
 pub(crate) enum Naming {
     /// Free to be set.
     Free,
@@ -117,7 +117,7 @@ pub(crate) enum Naming {
 }
 
 /// What the head of a class tells of its superclass.
-#[derive(Clone, Copy, Debug, PartialEq, Eq, Drop)]
+#[derive(Clone, Copy, PartialEq, Eq, Drop)]
 pub(crate) enum Opening {
     /// The class stands below this one.
     Below(ClassId),
@@ -128,7 +128,7 @@ pub(crate) enum Opening {
 }
 
 /// What is assigned to.
-#[derive(Clone, Copy, Debug, PartialEq, Eq, Drop)]
+#[derive(Clone, Copy, PartialEq, Eq, Drop)]
 pub(crate) enum Target {
     Variable(Sym),
     Field(Sym),
@@ -138,21 +138,21 @@ pub(crate) enum Target {
 }
 
 /// What stands behind an operand and can be assigned to.
-#[derive(Clone, Copy, Debug, PartialEq, Eq, Drop)]
+#[derive(Clone, Copy, PartialEq, Eq, Drop)]
 pub(crate) enum Spot {
     Element { receiver: NodeId, index: NodeId },
     Attribute { receiver: NodeId, name: Sym },
 }
 
 /// An operand that was read, and how it can be assigned to, if it can.
-#[derive(Clone, Copy, Debug, PartialEq, Eq, Drop)]
+#[derive(Clone, Copy, PartialEq, Eq, Drop)]
 pub(crate) struct Reached {
     pub node: NodeId,
     pub spot: Option<Spot>,
 }
 
 /// What has members with commas between them.
-#[derive(Clone, Copy, Debug, PartialEq, Eq, Drop)]
+#[derive(Clone, Copy, PartialEq, Eq, Drop)]
 pub(crate) enum Listed {
     /// A command, whose arguments no bracket ends.
     Command,
@@ -162,7 +162,7 @@ pub(crate) enum Listed {
 }
 
 /// What is one construct more that is open.
-#[derive(Clone, Copy, Debug, PartialEq, Eq, Drop)]
+#[derive(Clone, Copy, PartialEq, Eq, Drop)]
 pub(crate) enum Part {
     /// Statements, with the bracket behind them.
     Group,
@@ -201,7 +201,7 @@ pub(crate) enum Part {
 }
 
 /// What a word is.
-#[derive(Clone, Copy, Debug, PartialEq, Eq, Drop)]
+#[derive(Clone, Copy, PartialEq, Eq, Drop)]
 pub(crate) enum WordKind {
     /// An integer without a sign.
     Int(u64),
@@ -287,7 +287,7 @@ pub(crate) enum WordKind {
 }
 
 /// A word, which stands for one token.
-#[derive(Clone, Copy, Debug, PartialEq, Eq, Drop)]
+#[derive(Clone, Copy, PartialEq, Eq, Drop)]
 pub(crate) struct Word {
     pub kind: WordKind,
     /// Whether anything stands between it and the word before.
