@@ -16,7 +16,7 @@ use rr_tree::{BinaryOperator, Node, NodeId};
 use std::alloc::Global;
 
 /// A member of a list, by its node.
-#[derive(Clone, Copy, PartialEq, Eq, Drop)]
+#[derive(Clone, Copy, Drop)]
 pub(crate) enum Member {
     Item(NodeId),
     Pair(NodeId),

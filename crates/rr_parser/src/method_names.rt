@@ -7,7 +7,7 @@ ghost use Rattle.rr_parser.specs.MethodNames.{names_method, through, with_assign
 use rr_lexer::{Keyword, Kind, Op, Token};
 
 /// The name of a method, as one token, and how many tokens more than one spell it.
-#[derive(Clone, Copy, PartialEq, Eq, Drop)]
+#[derive(Clone, Copy, Drop)]
 pub(crate) struct MethodName {
     pub token: Token,
     pub more: u32,

@@ -17,7 +17,7 @@ use rr_tree::NodeId;
 use std::alloc::Global;
 
 /// A row of a program, by its node.
-#[derive(Clone, Copy, PartialEq, Eq, Drop)]
+#[derive(Clone, Copy, Drop)]
 pub(crate) enum Entry {
     Definition(NodeId),
     Statement(NodeId),

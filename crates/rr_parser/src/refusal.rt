@@ -3,7 +3,7 @@
 use std::alloc::{AllocError, AllocFailed};
 
 /// Why there is no place for a node or a word.
-#[derive(Clone, Copy, PartialEq, Eq, Drop)]
+#[derive(Clone, Copy, Drop)]
 pub(crate) enum Storage {
     /// The allocator refused a growth.
     Memory,
@@ -12,7 +12,7 @@ pub(crate) enum Storage {
 }
 
 /// Why words are refused. A place is told by how many words are left there.
-#[derive(Clone, Copy, PartialEq, Eq, Drop)]
+#[derive(Clone, Copy, Drop)]
 pub(crate) enum Refusal {
     Storage(Storage),
     /// More constructs than the limit are open.

@@ -12,14 +12,14 @@ use crate::refusal::Storage;
 use rr_base::Sym;
 
 /// A local variable as it is seen at a place: how many scopes outside it is, and its number there.
-#[derive(Clone, Copy, PartialEq, Eq, Drop)]
+#[derive(Clone, Copy, Drop)]
 pub(crate) struct Variable {
     pub depth: u32,
     pub slot: u32,
 }
 
 /// A scope that is open: its number, how many parameters it has, and what was known before it.
-#[derive(Clone, Copy, PartialEq, Eq, Drop)]
+#[derive(Clone, Copy, Drop)]
 pub(crate) struct Scope {
     pub number: u32,
     pub parameters: u32,

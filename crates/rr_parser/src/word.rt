@@ -11,7 +11,7 @@ pub(crate) enum Connective {
 }
 
 /// What stands behind a statement and says whether, or how often, it is done.
-#[derive(Clone, Copy, PartialEq, Eq, Drop)]
+#[derive(Clone, Copy, Drop)]
 pub(crate) enum Modifier {
     If,
     Unless,
@@ -19,7 +19,7 @@ pub(crate) enum Modifier {
 }
 
 /// What follows an operand and makes another one of it.
-#[derive(Clone, Copy, PartialEq, Eq, Drop)]
+#[derive(Clone, Copy, Drop)]
 pub(crate) enum Tail {
     /// A call without arguments.
     Send(Sym),
@@ -68,7 +68,7 @@ pub(crate) enum Behind {
 }
 
 /// What a block stands between: braces, or `do` and `end`.
-#[derive(Clone, Copy, PartialEq, Eq, Drop)]
+#[derive(Clone, Copy, Drop)]
 pub(crate) enum Fence {
     Brace,
     Do,
@@ -89,7 +89,7 @@ pub(crate) enum Sign {
 }
 
 /// What is assigned to, and how, and how many words stand behind the target.
-#[derive(Clone, Copy, PartialEq, Eq, Drop)]
+#[derive(Clone, Copy, Drop)]
 pub(crate) struct Aim {
     pub target: Target,
     pub sign: Sign,
@@ -97,7 +97,7 @@ pub(crate) struct Aim {
 }
 
 /// The variable that gets an exception, and how many words stand behind its name.
-#[derive(Clone, Copy, PartialEq, Eq, Drop)]
+#[derive(Clone, Copy, Drop)]
 pub(crate) struct Caught {
     pub name: Sym,
     pub behind: u32,
@@ -128,7 +128,7 @@ pub(crate) enum Opening {
 }
 
 /// What is assigned to.
-#[derive(Clone, Copy, PartialEq, Eq, Drop)]
+#[derive(Clone, Copy, Drop)]
 pub(crate) enum Target {
     Variable(Sym),
     Field(Sym),
@@ -138,21 +138,21 @@ pub(crate) enum Target {
 }
 
 /// What stands behind an operand and can be assigned to.
-#[derive(Clone, Copy, PartialEq, Eq, Drop)]
+#[derive(Clone, Copy, Drop)]
 pub(crate) enum Spot {
     Element { receiver: NodeId, index: NodeId },
     Attribute { receiver: NodeId, name: Sym },
 }
 
 /// An operand that was read, and how it can be assigned to, if it can.
-#[derive(Clone, Copy, PartialEq, Eq, Drop)]
+#[derive(Clone, Copy, Drop)]
 pub(crate) struct Reached {
     pub node: NodeId,
     pub spot: Option<Spot>,
 }
 
 /// What has members with commas between them.
-#[derive(Clone, Copy, PartialEq, Eq, Drop)]
+#[derive(Clone, Copy, Drop)]
 pub(crate) enum Listed {
     /// A command, whose arguments no bracket ends.
     Command,
@@ -162,7 +162,7 @@ pub(crate) enum Listed {
 }
 
 /// What is one construct more that is open.
-#[derive(Clone, Copy, PartialEq, Eq, Drop)]
+#[derive(Clone, Copy, Drop)]
 pub(crate) enum Part {
     /// Statements, with the bracket behind them.
     Group,
@@ -287,7 +287,7 @@ pub(crate) enum WordKind {
 }
 
 /// A word, which stands for one token.
-#[derive(Clone, Copy, PartialEq, Eq, Drop)]
+#[derive(Clone, Copy, Drop)]
 pub(crate) struct Word {
     pub kind: WordKind,
     /// Whether anything stands between it and the word before.
