@@ -1,6 +1,7 @@
 //! The rounds against a plain program of them.
 
 use rr_select::{Act, Answer, Choice, Ending};
+use std::alloc::Global;
 use std::test::Fail;
 
 // A round among three ports and an inbox, with a value of its own and without.
@@ -64,36 +65,37 @@ fn plain_act(round: &[Act], answers: &[Answer]) -> Option<Act> {
     round.get(at).copied()
 }
 
+// Whether the acts of a select are those of the plain program before each of nine answers, the digits of a number.
+fn follows(alloc: Global, own: bool, order: u32) -> Result<bool, Fail> {
+    let round = if own {
+        WITH_OWN.as_slice()
+    } else {
+        WITHOUT.as_slice()
+    };
+    let mut choice = Choice::new(4, own);
+    let mut answers = Vec::new(alloc);
+    let mut rest = order;
+    for _ in 0..9 {
+        let act = choice.act();
+        if plain_act(round, answers.as_slice()) != Some(act) {
+            return Ok(false);
+        }
+        let answer = answer_to(act, rest);
+        rest /= 4;
+        answers.push(answer)?;
+        choice.next(answer);
+    }
+    Ok(true)
+}
+
 #[test]
 fn every_order_of_eight_answers_over_three_ports_and_an_inbox(rt: HostRuntime) -> Result<(), Fail> {
-    for own in [false, true] {
-        let round = if own {
-            WITH_OWN.as_slice()
-        } else {
-            WITHOUT.as_slice()
-        };
-        for order in 0..65_536u32 {
-            let mut choice = Choice::new(4, own);
-            let mut answers = Vec::new(rt.alloc());
-            let mut rest = order;
-            for _ in 0..8 {
-                let act = choice.act();
-                assert_eq!(rt;
-                    Some(act),
-                    plain_act(round, answers.as_slice()),
-                    "in order {order}"
-                );
-                let answer = answer_to(act, rest);
-                rest /= 4;
-                answers.push(answer)?;
-                let next = choice.next(answer);
-                assert_eq!(rt;
-                    Some(next),
-                    plain_act(round, answers.as_slice()),
-                    "after order {order}"
-                );
-            }
-        }
+    for order in 0..65_536u32 {
+        assert!(rt; follows(rt.alloc(), true, order)?, "in order {order}");
+        assert!(rt;
+            follows(rt.alloc(), false, order)?,
+            "without an own value, in order {order}"
+        );
     }
     Ok(())
 }
@@ -101,13 +103,17 @@ fn every_order_of_eight_answers_over_three_ports_and_an_inbox(rt: HostRuntime) -
 #[test]
 fn nothing_listed_shows_the_own_value_and_sleeps(rt: HostRuntime) -> Result<(), Fail> {
     let mut choice = Choice::new(0, true);
-    assert_eq!(rt; choice.act(), Act::Offer);
-    assert_eq!(rt; choice.next(Answer::Shown), Act::Sleep);
-    assert_eq!(rt; choice.next(Answer::Woken), Act::Withdraw);
-    assert_eq!(rt; choice.next(Answer::Back), Act::Offer);
-    assert_eq!(rt; choice.next(Answer::Shown), Act::Sleep);
-    assert_eq!(rt; choice.next(Answer::Woken), Act::Withdraw);
-    assert_eq!(rt; choice.next(Answer::Taken), Act::End(Ending::Yielded));
-    assert_eq!(rt; choice.next(Answer::Gave), Act::End(Ending::Yielded));
+    assert!(rt; choice.act() == Act::Offer);
+    for (answer, act) in [
+        (Answer::Shown, Act::Sleep),
+        (Answer::Woken, Act::Withdraw),
+        (Answer::Back, Act::Offer),
+        (Answer::Shown, Act::Sleep),
+        (Answer::Woken, Act::Withdraw),
+        (Answer::Taken, Act::End(Ending::Yielded)),
+        (Answer::Gave, Act::End(Ending::Yielded)),
+    ] {
+        assert!(rt; choice.next(answer) == act);
+    }
     Ok(())
 }

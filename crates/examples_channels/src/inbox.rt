@@ -1,7 +1,8 @@
 //! Inboxes and their histories.
 
+use crate::lines::tell;
 use crate::message::message;
-use rr_base::{Fault, InboxEvent, RactorNo};
+use rr_base::{Fault, InboxEvent, RactorNo, Ticket};
 use rr_copy::Message;
 use rr_inbox::{Front, InboxState};
 use std::alloc::Global;
@@ -13,18 +14,19 @@ const MAIN: RactorNo = RactorNo(1);
 const OTHER: RactorNo = RactorNo(2);
 
 // An event as a trace has it: what happened, ticket, size, who.
-fn line(alloc: Global, event: InboxEvent) -> Result<String, Fail> {
-    let line = match event {
+fn tell_event(alloc: Global, text: &mut String, event: InboxEvent) -> Result<(), Fail> {
+    match event {
         InboxEvent::Offered { ticket, size, who } => {
-            format!(in alloc; "offered {ticket} {size} {}\n", who.0)
+            tell(alloc, text, "offered", &[ticket, size, u32::from(who.0)])
         }
         InboxEvent::Accepted { ticket, size, who } => {
-            format!(in alloc; "accepted {ticket} {size} {}\n", who.0)
+            tell(alloc, text, "accepted", &[ticket, size, u32::from(who.0)])
         }
-        InboxEvent::Refused { size, who } => format!(in alloc; "refused {size} {}\n", who.0),
-        InboxEvent::Closed { who } => format!(in alloc; "closed {}\n", who.0),
-    };
-    Ok(line?)
+        InboxEvent::Refused { size, who } => {
+            tell(alloc, text, "refused", &[size, u32::from(who.0)])
+        }
+        InboxEvent::Closed { who } => tell(alloc, text, "closed", &[u32::from(who.0)]),
+    }
 }
 
 fn check_history(
@@ -35,35 +37,43 @@ fn check_history(
 ) -> Result<(), Fail> {
     let mut told = String::new(alloc);
     for event in inbox.history() {
-        told.push_str(line(alloc, *event)?.as_str())?;
+        tell_event(alloc, &mut told, *event)?;
     }
     assert_eq!(rt; told.as_str(), wanted);
     Ok(())
 }
 
+// The main ractor offers a message of that size.
+fn offer(
+    rt: &impl Abort,
+    alloc: Global,
+    inbox: &mut InboxState,
+    size: u32,
+) -> Result<Ticket, Fault> {
+    let message = message(rt, alloc, MAIN, size)?;
+    match inbox.offer(MAIN, message) {
+        Ok(ticket) => Ok(ticket),
+        Err((fault, _)) => Err(fault),
+    }
+}
+
+// The size of the message that the other ractor takes.
+fn accept(inbox: &mut InboxState) -> Result<u32, Fail> {
+    match inbox.accept(OTHER) {
+        Front::Message(message) => Ok(message.size()),
+        Front::Empty => Err(Fail::from("no message came")),
+        Front::EmptyAndClosed => Err(Fail::from("the inbox is closed")),
+    }
+}
+
 #[test]
 fn two_messages_one_taken_and_one_refused(rt: HostRuntime) -> Result<(), Fail> {
     let mut inbox = InboxState::new(rt.alloc(), 100)?;
-    assert_eq!(rt;
-        inbox.offer(MAIN, message(&rt, rt.alloc(), MAIN, 2)?).ok(),
-        Some(0)
-    );
-    assert_eq!(rt;
-        inbox.offer(MAIN, message(&rt, rt.alloc(), MAIN, 3)?).ok(),
-        Some(1)
-    );
-    match inbox.accept(OTHER) {
-        Front::Message(message) => assert_eq!(rt; message.size(), 2),
-        _ => return Err(Fail::from("no message came")),
-    }
+    assert!(rt; offer(&rt, rt.alloc(), &mut inbox, 2)? == 0);
+    assert!(rt; offer(&rt, rt.alloc(), &mut inbox, 3)? == 1);
+    assert!(rt; accept(&mut inbox)? == 2);
     assert!(rt; !inbox.close(OTHER));
-    match inbox.offer(MAIN, message(&rt, rt.alloc(), MAIN, 1)?) {
-        Err((fault, message)) => {
-            assert_eq!(rt; fault, Fault::Closed);
-            assert_eq!(rt; message.size(), 1);
-        }
-        Ok(_) => return Err(Fail::from("a closed inbox took a message")),
-    }
+    assert!(rt; offer(&rt, rt.alloc(), &mut inbox, 1) == Err(Fault::Closed));
     let wanted = "offered 0 2 1\noffered 1 3 1\naccepted 0 2 2\nclosed 2\nrefused 1 1\n";
     check_history(&rt, rt.alloc(), &inbox, wanted)
 }
@@ -71,38 +81,36 @@ fn two_messages_one_taken_and_one_refused(rt: HostRuntime) -> Result<(), Fail> {
 #[test]
 fn a_history_of_four_events(rt: HostRuntime) -> Result<(), Fail> {
     let mut inbox = InboxState::new(rt.alloc(), 4)?;
-    assert!(rt;
-        inbox
-            .offer(MAIN, message(&rt, rt.alloc(), MAIN, 0)?)
-            .is_ok()
-    );
-    for _ in 0..2 {
-        match inbox.offer(MAIN, message(&rt, rt.alloc(), MAIN, 0)?) {
-            Err((fault, _)) => assert_eq!(rt; fault, Fault::HistoryFull),
-            Ok(_) => return Err(Fail::from("a full history took an event")),
-        }
-        let _ = inbox.accept(OTHER);
-    }
+    assert!(rt; offer(&rt, rt.alloc(), &mut inbox, 0)? == 0);
+    assert!(rt; offer(&rt, rt.alloc(), &mut inbox, 0) == Err(Fault::HistoryFull));
+    assert!(rt; accept(&mut inbox)? == 0);
+    assert!(rt; offer(&rt, rt.alloc(), &mut inbox, 0) == Err(Fault::HistoryFull));
     assert!(rt; !inbox.close(OTHER));
     assert!(rt; inbox.close(OTHER));
-    assert!(rt; matches!(inbox.accept(OTHER), Front::EmptyAndClosed));
-    check_history(
-        &rt,
-        rt.alloc(),
-        &inbox,
-        "offered 0 0 1\naccepted 0 0 2\nclosed 2\n",
-    )
+    let wanted = "offered 0 0 1\naccepted 0 0 2\nclosed 2\n";
+    check_history(&rt, rt.alloc(), &inbox, wanted)
+}
+
+// A new inbox, made again where a growth was refused.
+fn new_again(rt: &impl Abort, alloc: Global) -> Result<InboxState, Fault> {
+    match InboxState::new(alloc, 100) {
+        Ok(inbox) => Ok(inbox),
+        Err(fault) => {
+            assert!(rt; fault == Fault::Memory);
+            InboxState::new(alloc, 100)
+        }
+    }
 }
 
 // An offer, and where a growth was refused the same offer once more, with the message that came back.
-fn offer_again(rt: &impl Abort, inbox: &mut InboxState, message: Message, ticket: u32) {
+fn offer_again(rt: &impl Abort, inbox: &mut InboxState, message: Message) {
     let size = message.size();
     let events = inbox.history().len();
     if let Err((fault, back)) = inbox.offer(MAIN, message) {
-        assert_eq!(rt; fault, Fault::Memory);
-        assert_eq!(rt; back.size(), size);
-        assert_eq!(rt; inbox.history().len(), events);
-        assert_eq!(rt; inbox.offer(MAIN, back).ok(), Some(ticket));
+        assert!(rt; fault == Fault::Memory);
+        assert!(rt; back.size() == size);
+        assert!(rt; inbox.history().len() == events);
+        assert!(rt; inbox.offer(MAIN, back).is_ok());
     }
 }
 
@@ -110,29 +118,18 @@ fn offer_again(rt: &impl Abort, inbox: &mut InboxState, message: Message, ticket
 // does, for N from 1 on.
 #[test]
 fn a_refused_growth_leaves_the_inbox_and_the_message(rt: HostRuntime) -> Result<(), Fail> {
-    let mut inbox = match InboxState::new(rt.alloc(), 100) {
-        Ok(inbox) => inbox,
-        Err(fault) => {
-            assert_eq!(rt; fault, Fault::Memory);
-            InboxState::new(rt.alloc(), 100)?
-        }
-    };
+    let mut inbox = new_again(&rt, rt.alloc())?;
     for ticket in 0..6 {
         let size = if ticket == 0 { 1 } else { 0 };
         let Ok(message) = message(&rt, rt.alloc(), MAIN, size) else {
             return Ok(());
         };
-        offer_again(&rt, &mut inbox, message, ticket);
+        offer_again(&rt, &mut inbox, message);
     }
-    for ticket in 0..6 {
-        match inbox.accept(OTHER) {
-            Front::Message(message) => {
-                assert_eq!(rt; message.size(), if ticket == 0 { 1 } else { 0 })
-            }
-            _ => return Err(Fail::from("a message is lost")),
-        }
+    assert!(rt; accept(&mut inbox)? == 1);
+    for _ in 1..6 {
+        assert!(rt; accept(&mut inbox)? == 0);
     }
-    assert!(rt; !inbox.close(OTHER));
-    assert_eq!(rt; inbox.history().len(), 13);
+    assert!(rt; inbox.history().len() == 12);
     Ok(())
 }

@@ -8,6 +8,8 @@ mod choice;
 #[cfg(test)]
 mod inbox;
 #[cfg(test)]
+mod lines;
+#[cfg(test)]
 mod message;
 #[cfg(test)]
 mod port;
