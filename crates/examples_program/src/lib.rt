@@ -4,6 +4,8 @@
 #[cfg(test)]
 mod assigning;
 #[cfg(test)]
+mod blocks;
+#[cfg(test)]
 mod broken;
 #[cfg(test)]
 mod builtins;

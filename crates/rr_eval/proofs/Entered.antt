@@ -36,15 +36,15 @@ first_is c (RaiseValue v message) tree e s n = absurd (cc e)
 pub stepped : (p : Program) (m : View) (t : Table) (n : ℕ) (tree : Tree) → first_tree p.nodes.items m.control ≡ Some tree → m.left ≡ suc n → (h : Course) → remaining p m t h ≡ after_script p m t (rule (context_of p) tree) h n
 stepped p m t n tree at left h =
     ap (unwind (code_of p h.world) (reverse m.frames) m.held)
-    (first_is (code_of p h.world) m.control tree at (state_of m t h) m.left
-    ∙ ap (λ k. means (code_of p h.world) tree (state_of m t h) k) left
-    ∙ meaning_rule (context_of p) h.world tree (state_of m t h) n)
+    (first_is (code_of p h.world) m.control tree at (state_of p m t h) m.left
+    ∙ ap (λ k. means (code_of p h.world) tree (state_of p m t h) k) left
+    ∙ meaning_rule (context_of p) h.world tree (state_of p m t h) n)
 
 pub entered : (p : Program) (m : View) (t : Table) (here n : ℕ) (node : Node) (script : Script) → m.control ≡ Enter here → m.left ≡ suc n → tree_at p.nodes.items here ≡ evaluated_tree p.nodes.items node → script ≡ rule (context_of p) (evaluated_tree p.nodes.items node) → (h : Course) → remaining p m t h ≡ after_script p m t script h n
 entered p m t here n node script at left there is h =
-    ap (λ k. outcome_of (code_of p h.world) m.frames m.held k (state_of m t h) m.left) at
-    ∙ ap (λ k. outcome_of (code_of p h.world) m.frames m.held (Enter here) (state_of m t h) k) left
-    ∙ ap (unwind (code_of p h.world) (reverse m.frames) m.held) (meaning_rule (context_of p) h.world (tree_at p.nodes.items here) (state_of m t h) n)
+    ap (λ k. outcome_of (code_of p h.world) m.frames m.held k (state_of p m t h) m.left) at
+    ∙ ap (λ k. outcome_of (code_of p h.world) m.frames m.held (Enter here) (state_of p m t h) k) left
+    ∙ ap (unwind (code_of p h.world) (reverse m.frames) m.held) (meaning_rule (context_of p) h.world (tree_at p.nodes.items here) (state_of p m t h) n)
     ∙ ap (λ tree. after_script p m t (rule (context_of p) tree) h n) there
     ∙ ap (λ r. after_script p m t r h n) (sym is)
 
@@ -65,20 +65,20 @@ settled_start p w (Fails e) s n = refl
 pub replied : (p : Program) (m : View) (a : Response) → Replied p m a
 replied p m a = record {
   goes = λ t u q h e.
-      ap (λ r. unwind (code_of p h.world) (reverse m.frames) m.held (taken r (state_of m t (asking q h)) (λ x v. runs_in (code_of p h.world) (settled (context_of p) x) v m.left))) e
-      ∙ ap (unwind (code_of p h.world) (reverse m.frames) m.held) (settled_start p h.world a (state_of m u (asking q h)) m.left);
+      ap (λ r. unwind (code_of p h.world) (reverse m.frames) m.held (taken r (state_of p m t (asking q h)) (λ x v. runs_in (code_of p h.world) (settled (context_of p) x) v m.left))) e
+      ∙ ap (unwind (code_of p h.world) (reverse m.frames) m.held) (settled_start p h.world a (state_of p m u (asking q h)) m.left);
   none = λ t q h e.
-      ap (λ r. unwind (code_of p h.world) (reverse m.frames) m.held (taken r (state_of m t (asking q h)) (λ x v. runs_in (code_of p h.world) (settled (context_of p) x) v m.left))) e
-      ∙ unwind_waits (code_of p h.world) (reverse m.frames) m.held (state_of m t (asking q h));
+      ap (λ r. unwind (code_of p h.world) (reverse m.frames) m.held (taken r (state_of p m t (asking q h)) (λ x v. runs_in (code_of p h.world) (settled (context_of p) x) v m.left))) e
+      ∙ unwind_waits (code_of p h.world) (reverse m.frames) m.held (state_of p m t (asking q h));
 }
 
 -- without steps a part is out of steps
-pub limit : (p : Program) (m : View) (t : Table) (tree : Tree) → first_tree p.nodes.items m.control ≡ Some tree → m.left ≡ 0 → (h : Course) → remaining p m t h ≡ Spent (state_of m t h)
+pub limit : (p : Program) (m : View) (t : Table) (tree : Tree) → first_tree p.nodes.items m.control ≡ Some tree → m.left ≡ 0 → (h : Course) → remaining p m t h ≡ Spent (state_of p m t h)
 limit p m t tree at left h =
     ap (unwind (code_of p h.world) (reverse m.frames) m.held)
-    (first_is (code_of p h.world) m.control tree at (state_of m t h) m.left
-    ∙ ap (λ k. means (code_of p h.world) tree (state_of m t h) k) left)
-    ∙ unwind_spent (code_of p h.world) (reverse m.frames) m.held (state_of m t h)
+    (first_is (code_of p h.world) m.control tree at (state_of p m t h) m.left
+    ∙ ap (λ k. means (code_of p h.world) tree (state_of p m t h) k) left)
+    ∙ unwind_spent (code_of p h.world) (reverse m.frames) m.held (state_of p m t h)
 
 -- a leaf takes one step and changes nothing
 leaf_of : (c : Context) (w : World) (tree : Tree) (s : State) (n : ℕ) (v : Ref) → leaf_value tree s.memory.calls.frames ≡ Some v → run w (meaning c w) (rule c tree) s n ≡ Ended (Gave v) s n
@@ -94,7 +94,7 @@ pub leaves : (p : Program) (m : View) (t : Table) (n a b : ℕ) (op : BinaryOper
 leaves p m t n a b op x y at left first second h =
     let c = context_of p in
     let ns = p.nodes.items in
-    let s = state_of m t h in
+    let s = state_of p m t h in
     stepped p m t (suc (suc n)) (binary op (tree_at ns a) (tree_at ns b)) at left h
     ∙ ap (unwind (code_of p h.world) (reverse m.frames) m.held)
     (ap (λ o. after o (λ r. run h.world (meaning c h.world) (on_value (λ v. with_value (tree_at ns b) (operation c op v)) r))) (leaf c h.world (tree_at ns a) s (suc n) (Int x) first)
@@ -106,7 +106,7 @@ leaf_right p m t n b op x y left there h =
     let c = context_of p in
     let ns = p.nodes.items in
     ap (after_script p m t (resumed (code_of p h.world) (Left op b) [] (Gave (Int x))) h) left
-    ∙ ap (λ o. unwind (code_of p h.world) (reverse m.frames) m.held (after o (λ r. run h.world (meaning c h.world) (on_value (operation c op (Int x)) r)))) (leaf c h.world (tree_at ns b) (state_of m t h) n (Int y) there)
+    ∙ ap (λ o. unwind (code_of p h.world) (reverse m.frames) m.held (after o (λ r. run h.world (meaning c h.world) (on_value (operation c op (Int x)) r)))) (leaf c h.world (tree_at ns b) (state_of p m t h) n (Int y) there)
 
 -- what a program does first
 pub first_start : (p : Program) (w : World) (simple : Bool) (root : ℕ) (s : State) (n : ℕ) → start (code_of p w) (first_control simple root) s n ≡ statements_of (context_of p) w simple (tree_at p.nodes.items root) s n

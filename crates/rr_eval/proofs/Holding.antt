@@ -10,11 +10,11 @@ use Rattle.rr_space.specs.Parts.{IsWithin}
 use Rattle.rr_space.specs.Tables.{Below}
 use Rattle.rr_builtin.specs.Acts.{IsRefAmong}
 use Rattle.rr_space.specs.Views.{field_number}
-use Rattle.rr_frames.specs.Frames.{Stack, Frame as Activated, frame_at, no_frame, read_last, write_last, laid, left, list_of}
+use Rattle.rr_frames.specs.Frames.{Stack, Frame as Activated, frame_at, no_frame, laid, left, list_of}
 use Rattle.rr_space.specs.declared.refer.Ref.{Ref}
 use Rattle.rr_space.specs.declared.refer.Ref.TheVariants as refs
 use Rattle.rr_eval.specs.declared.problem.Answer.{Answer}
-use Rattle.rr_eval.specs.declared.problem.Answer.TheVariants.{Gave, Raised, Broke, Done, Returned}
+use Rattle.rr_eval.specs.declared.problem.Answer.TheVariants.{Gave, Raised, Broke, Done, Returned, Ends}
 use Rattle.rr_eval.specs.declared.problem.Response.{Response}
 use Rattle.rr_eval.specs.declared.problem.Response.TheVariants.{Gives, Throws, Fails}
 use Rattle.rr_eval.specs.declared.frame.Frame.{Frame}
@@ -22,8 +22,12 @@ use Rattle.rr_eval.specs.declared.frame.Frame.TheVariants as frames
 use Rattle.rr_eval.specs.declared.frame.Control.{Control}
 use Rattle.rr_eval.specs.declared.frame.Control.TheVariants.{Enter, Operate, Give, Throw, Raise, RaiseValue}
 use Rattle.rr_eval.specs.View.{View}
-use Rattle.rr_eval.specs.Frames.{below_of}
+use Rattle.rr_eval.specs.declared.call_stack.Entry.TheVariants.{OfMethod, OfBlock}
+use Rattle.rr_eval.specs.Frames.{below_of, waits_for}
 use Rattle.rr_frames.specs.declared.activation.Activation.{Activation}
+use Rattle.rr_eval.specs.Variables.{top, outer, read_variable, write_variable}
+use Rattle.rr_eval.specs.declared.call_stack.Variable.{Variable}
+use Rattle.rr_eval.specs.declared.call_stack.Entry.{Entry}
 use Rattle.rr_eval.specs.Within.{Reach, reach, AreVariablesReached, IsReached, IsAnswerReached, IsFrameReached, IsControlReached, IsResponseReached, AreReached, AreWithin}
 
 -- more slots
@@ -43,6 +47,7 @@ answer_more k l cs le (Raised e) h = ref_more k l cs le e h
 answer_more k l cs le (Broke v) h = ref_more k l cs le v h
 answer_more k l cs le (Done v) h = ref_more k l cs le v h
 answer_more k l cs le (Returned v) h = ref_more k l cs le v h
+answer_more k l cs le (Ends number v) h = ref_more k l cs le v h
 
 frame_more : (k l : ℕ) (cs : Option Below) → k ≤ l → (f : Frame) → IsFrameReached (reach k cs) f → IsFrameReached (reach l cs) f
 frame_more k l cs le (frames.Right op v) h = ref_more k l cs le v h
@@ -59,6 +64,7 @@ frame_more k l cs le frames.Break h = tt
 frame_more k l cs le frames.Next h = tt
 frame_more k l cs le frames.Return h = tt
 frame_more k l cs le frames.Back h = tt
+frame_more k l cs le frames.Past h = tt
 frame_more k l cs le (frames.Rest end count) h = tt
 frame_more k l cs le (frames.Argument target end count base) h = tt
 frame_more k l cs le (frames.Key next end count base) h = tt
@@ -174,15 +180,17 @@ pub frame_within : (k : Reach) (fs : List Activated) (number : ℕ) → All (Are
 frame_within k fs number h = all_at (AreVariablesReached k) fs number no_frame (all_nil (IsReached k)) h
 
 -- the value of a variable
-pub variable_within : (k : Reach) (fs : List Activated) (slot : ℕ) → All (AreVariablesReached k) fs → IsReached k (read_last slot fs)
-variable_within k fs slot h = all_at (IsReached k) (frame_at (length fs - 1) fs).variables slot refs.Nil tt (frame_within k fs (length fs - 1) h)
+pub variable_within : (k : Reach) (fs : List Activated) (x : Variable) → All (AreVariablesReached k) fs → IsReached k (read_variable x fs)
+variable_within k fs x h =
+    let number = outer x.depth (top fs) fs in
+    all_at (IsReached k) (frame_at number fs).variables x.slot refs.Nil tt (frame_within k fs number h)
 
 -- a variable has another value
-pub written_within : (k : Reach) (fs : List Activated) (slot : ℕ) (v : Ref) → All (AreVariablesReached k) fs → IsReached k v → All (AreVariablesReached k) (write_last slot v fs)
-written_within k fs slot v h value =
-    let number = length fs - 1 in
+pub written_within : (k : Reach) (fs : List Activated) (x : Variable) (v : Ref) → All (AreVariablesReached k) fs → IsReached k v → All (AreVariablesReached k) (write_variable x v fs)
+written_within k fs x v h value =
+    let number = outer x.depth (top fs) fs in
     let old = frame_at number fs in
-    All-set (AreVariablesReached k) fs number (record old { variables = set old.variables slot v }) (All-set (IsReached k) old.variables slot v value (frame_within k fs number h)) h
+    All-set (AreVariablesReached k) fs number (record old { variables = set old.variables x.slot v }) (All-set (IsReached k) old.variables x.slot v value (frame_within k fs number h)) h
 
 -- the variables of a new frame
 replicated : (k : Reach) (n : ℕ) → All (IsReached k) (replicate n refs.Nil)
@@ -226,9 +234,9 @@ pub with_calls : (k : Reach) (m : View) (calls : Stack) (c : Control) → AreRea
 unfolding AreReached
 with_calls k m calls c h variables here = record { control = here; frames = h.frames; held = h.held; calls = variables; rescuing = h.rescuing }
 
-pub with_variable : (k : Reach) (m : View) (calls : Stack) (slot : ℕ) (v : Ref) (c : Control) → calls ≡ record m.calls { frames = write_last slot v m.calls.frames } → AreReached k m → IsReached k v → IsControlReached k c → AreReached k (record m { control = c; calls = calls })
+pub with_variable : (k : Reach) (m : View) (calls : Stack) (x : Variable) (v : Ref) (c : Control) → calls.frames ≡ write_variable x v m.calls.frames → AreReached k m → IsReached k v → IsControlReached k c → AreReached k (record m { control = c; calls = calls })
 unfolding AreReached
-with_variable k m calls slot v c e h value here = with_calls k m calls c h (subst (λ (s : Stack). All (AreVariablesReached k) s.frames) (sym e) (written_within k m.calls.frames slot v h.calls value)) here
+with_variable k m calls x v c e h value here = with_calls k m calls c h (subst (All (AreVariablesReached k)) (sym e) (written_within k m.calls.frames x v h.calls value)) here
 
 pub calls_reached : (k : Reach) (m : View) → AreReached k m → All (AreVariablesReached k) m.calls.frames
 unfolding AreReached
@@ -270,14 +278,19 @@ pub raise_value_reached : (k : Reach) (m : View) (v : Ref) (message : Option Ref
 unfolding AreReached
 raise_value_reached k m v message e h = subst (IsControlReached k) e h.control
 
--- a method's frame, with the values of its parameters
-pub enter_reached : (k : Reach) (m : View) (f : Frame) (fs : List Frame) (held : List Ref) (calls : Stack) (parameters size body : ℕ) (vs : List Ref) (a : Activation) → fs ≡ m.frames ++ frames.Back ∷ [] → held ≡ below_of f m.held
+-- a frame that waits for a body
+waiting_reached : (k : Reach) (entry : Entry) → IsFrameReached k (waits_for entry)
+waiting_reached k (OfMethod takes) = tt
+waiting_reached k (OfBlock home) = tt
+
+-- a new frame, with the values of its parameters
+pub enter_reached : (k : Reach) (m : View) (f : Frame) (fs : List Frame) (held : List Ref) (calls : Stack) (blocks : List (Option ℕ)) (entry : Entry) (parameters size body : ℕ) (vs : List Ref) (a : Activation) → fs ≡ m.frames ++ waits_for entry ∷ [] → held ≡ below_of f m.held
     → calls.frames ≡ m.calls.frames ++ record { variables = laid parameters size vs; activation = a } ∷ [] → AreReached k m → All (IsReached k) vs
-    → AreReached k (record { control = Enter body; frames = fs; held = held; calls = calls; rescuing = m.rescuing; left = m.left })
+    → AreReached k (record { control = Enter body; frames = fs; held = held; calls = calls; blocks = blocks; rescuing = m.rescuing; left = m.left })
 unfolding AreReached
-enter_reached k m f fs held calls parameters size body vs a pushed cleared entered h values = record {
+enter_reached k m f fs held calls blocks entry parameters size body vs a pushed cleared entered h values = record {
   control = tt;
-  frames = subst (All (IsFrameReached k)) (sym pushed) (All-push (IsFrameReached k) m.frames frames.Back h.frames tt);
+  frames = subst (All (IsFrameReached k)) (sym pushed) (All-push (IsFrameReached k) m.frames (waits_for entry) h.frames (waiting_reached k entry));
   held = subst (All (IsReached k)) (sym cleared) (below_reached (IsReached k) f m.held h.held);
   calls = subst (All (AreVariablesReached k)) (sym entered) (entered_within k m.calls.frames (record { variables = laid parameters size vs; activation = a }) h.calls (laid_within k parameters size vs values));
   rescuing = h.rescuing;
@@ -317,3 +330,16 @@ caught_reached k m fs calls e c pushed h variables value here = record {
   calls = variables;
   rescuing = value;
 }
+
+pub caught_variable : (k : Reach) (m : View) (calls : Stack) (x : Variable) (e : Ref) → calls.frames ≡ write_variable x e m.calls.frames → AreReached k m → IsReached k e → AreReached k (record m { calls = calls; rescuing = e })
+unfolding AreReached
+caught_variable k m calls x e written h value = record { control = h.control; frames = h.frames; held = h.held; calls = subst (All (AreVariablesReached k)) (sym written) (written_within k m.calls.frames x e h.calls value); rescuing = value }
+
+-- the last frame goes
+pub left_reached : (k : Reach) (m : View) (calls : Stack) (blocks : List (Option ℕ)) → calls.frames ≡ left m.calls.frames → AreReached k m → AreReached k (record m { calls = calls; blocks = blocks })
+unfolding AreReached
+left_reached k m calls blocks e h = record { control = h.control; frames = h.frames; held = h.held; calls = subst (All (AreVariablesReached k)) (sym e) (left_within k m.calls.frames h.calls); rescuing = h.rescuing }
+
+-- a growth of the frames was refused, where there is room for a block
+pub refused_reached : (k : Reach) (m : View) (calls : Stack) (blocks : List (Option ℕ)) → calls ≡ m.calls → blocks ≡ m.blocks → AreReached k m → AreReached k (record m { calls = calls; blocks = blocks })
+refused_reached k m calls blocks e same h = subst (λ b. AreReached k (record m { calls = calls; blocks = b })) (sym same) (subst (λ s. AreReached k (record m { calls = s })) (sym e) h)

@@ -1,21 +1,32 @@
 -- A method is called, and it ends.
-use Rattle.std.proofs.Common.{◌≡◌, ℕ, ◌∙◌, sym, ap, refl, nat_lt, nat_eq, Bool, true, false, if◌then◌else◌, List, [], ◌∷◌, ◌++◌, length, reverse, Some, Result, Ok, Err, OnOk, IfErr, subst}
+use Rattle.std.proofs.Common.{◌≡◌, ◌<◌, ℕ, zero, suc, arith, slice_get, ◌-◌, ◌∙◌, take, slice_index_or, Option, None, sym, ap, refl, nat_lt, nat_eq, Bool, true, false, if◌then◌else◌, List, [], ◌∷◌, ◌++◌, length, reverse, Some, Result, Ok, Err, OnOk, IfErr, subst}
 use Rattle.rr_base.specs.declared.fault.Fault.{Fault}
 use Rattle.rr_base.specs.declared.name.Sym.{Sym}
 use Rattle.rr_space.specs.Tables.{Table}
-use Rattle.rr_frames.specs.Frames.{Stack, Frame as Activated}
+use Rattle.rr_frames.specs.Frames.{Stack, Frame as Activated, frame_at, no_frame, laid, left}
+use Rattle.std.proofs.lemmas.Bool.Decides.{nat_tests}
+use Rattle.std.specs.Option.{option_map}
+use Rattle.std.proofs.lemmas.List.{map_push, take-map, length-map}
+use Rattle.std.proofs.Math.ListN.{get_or-map}
+use Rattle.rr_tree.specs.Tree.{Tree, tree_at}
+use Rattle.rr_tree.specs.declared.node.Node.{Node}
+use Rattle.rr_eval.specs.declared.call_stack.Entry.{Entry}
+use Rattle.rr_eval.specs.declared.call_stack.Entry.TheVariants.{OfMethod, OfBlock}
 use Rattle.rr_space.specs.declared.refer.Ref.{Ref}
 use Rattle.rr_builtin.specs.declared.problem.Problem.TheVariants.{Count, TooDeep}
 use Rattle.rr_eval.specs.declared.problem.Problem.TheVariants.{BuiltIn}
 use Rattle.rr_eval.specs.declared.problem.Answer.{Answer}
-use Rattle.rr_eval.specs.declared.problem.Answer.TheVariants.{Gave, Raised, Broke, Done, Returned}
+use Rattle.rr_eval.specs.declared.problem.Answer.TheVariants.{Gave, Raised, Broke, Done, Returned, Ends}
 use Rattle.rr_eval.specs.declared.frame.Frame.{Frame}
 use Rattle.rr_eval.specs.declared.frame.Frame.TheVariants as frames
-use Rattle.rr_eval.specs.Script.{State, Script, Ret, Go, See, Do}
+use Rattle.rr_eval.specs.Script.{State, Script, Ret, Go, See, Do, Outcome, after}
 use Rattle.rr_eval.specs.Methods.{Method}
-use Rattle.rr_eval.specs.Rules.{Context, throw, on_value, entered, own_rule, back, method_frame}
-use Rattle.rr_eval.specs.Frames.{Code, means, runs_in, resumed, unwind, Nested}
-use Rattle.rr_eval.specs.Turns.{IsNested, Stands}
+use Rattle.rr_eval.specs.Rules.{Context, throw, on_value, entered, own_rule, framed, with_frame, left_by, activation_in}
+use Rattle.rr_eval.specs.Frames.{Code, means, runs_in, resumed, unwind, waits_for, Nested}
+use Rattle.rr_eval.specs.Turns.{IsNested, Stands, blocks_of, state_of}
+use Rattle.rr_eval.specs.Blocks.{without_frame}
+use Rattle.rr_eval.specs.Requests.{Course}
+use Rattle.rr_tree.specs.declared.program.Program.{Program}
 use Rattle.rr_eval.specs.View.{View}
 use Rattle.rr_eval.proofs.Unwind.{rest_push}
 
@@ -30,10 +41,12 @@ value_passes next (Raised e) other = refl
 value_passes next (Broke v) other = refl
 value_passes next (Done v) other = refl
 value_passes next (Returned v) other = refl
+value_passes next (Ends number v) other = refl
 
 -- a frame that lets pass what is no value
 pub record IsUsual (f : Frame) : Type 0 where
   pub no_back : f ≡ frames.Back → ⊥
+  pub no_past : f ≡ frames.Past → ⊥
   pub no_condition : (until : Bool) (body loop : ℕ) → f ≡ frames.Condition until body loop → ⊥
   pub no_body : (loop : ℕ) → f ≡ frames.Body loop → ⊥
   pub no_rescue : (end count otherwise : ℕ) → f ≡ frames.Rescue end count otherwise → ⊥
@@ -42,6 +55,7 @@ pub record IsUsual (f : Frame) : Type 0 where
 
 pub answer_passes : (c : Code) (f : Frame) (stand : List Ref) (a : Answer) → IsUsual f → ((v : Ref) → a ≡ Gave v → ⊥) → resumed c f stand a ≡ Ret a
 answer_passes c frames.Back stand a usual other = absurd (usual.no_back refl)
+answer_passes c frames.Past stand a usual other = absurd (usual.no_past refl)
 answer_passes c (frames.Condition until body loop) stand a usual other = absurd (usual.no_condition until body loop refl)
 answer_passes c (frames.Body loop) stand a usual other = absurd (usual.no_body loop refl)
 answer_passes c (frames.Rescue end count otherwise) stand a usual other = absurd (usual.no_rescue end count otherwise refl)
@@ -52,27 +66,92 @@ answer_passes c _ stand (Raised e) usual other = refl
 answer_passes c _ stand (Broke v) usual other = refl
 answer_passes c _ stand (Done v) usual other = refl
 answer_passes c _ stand (Returned v) usual other = refl
+answer_passes c _ stand (Ends number v) usual other = refl
 
--- the statements of a method begin, where there may be one more frame
-pub enters : (c : Code) (fs : List Frame) (held : List Ref) (m : Method) (vs : List Ref) (new : Stack) (s : State) (n : ℕ) → nat_lt (length s.memory.calls.frames) s.memory.calls.limit ≡ true
-    → new ≡ record s.memory.calls { frames = s.memory.calls.frames ++ method_frame m vs ∷ [] }
-    → unwind c (reverse fs) held (runs_in c (entered c.context m vs s.memory.calls) s n) ≡ unwind c (reverse (fs ++ frames.Back ∷ [])) held (means c m.body (record s { memory = record s.memory { calls = new } }) n)
-enters c fs held m vs new s n room e =
-    ap (λ b. unwind c (reverse fs) held (runs_in c (if b then Do (λ k. record k { calls = record k.calls { frames = k.calls.frames ++ method_frame m vs ∷ [] } }) (Go m.body back) else throw c.context (BuiltIn TooDeep)) s n)) room
-    ∙ sym (rest_push c fs frames.Back held (means c m.body (record s { memory = record s.memory { calls = record s.memory.calls { frames = s.memory.calls.frames ++ method_frame m vs ∷ [] } } }) n))
-    ∙ ap (λ k. unwind c (reverse (fs ++ frames.Back ∷ [])) held (means c m.body (record s { memory = record s.memory { calls = k } }) n)) (sym e)
+-- a body in a frame of its own begins, where there may be one more
+waiting_push : (c : Code) (fs : List Frame) (entry : Entry) (held : List Ref) (o : Outcome) → unwind c (reverse fs) held (after o (λ a. runs_in c (left_by entry a))) ≡ unwind c (reverse (fs ++ waits_for entry ∷ [])) held o
+waiting_push c fs (OfMethod takes) held o = sym (rest_push c fs frames.Back held o)
+waiting_push c fs (OfBlock home) held o = sym (rest_push c fs frames.Past held o)
+
+pub enters : (c : Code) (fs : List Frame) (held : List Ref) (entry : Entry) (parameters size : ℕ) (vs : List Ref) (block : Option ℕ) (body : ℕ) (new : Stack) (blocks more : List (Option ℕ)) (s : State) (n : ℕ)
+    → nat_lt (length s.memory.calls.frames) s.memory.calls.limit ≡ true → s.memory.blocks ≡ blocks_of c.nodes blocks → more ≡ blocks ++ block ∷ []
+    → new.frames ≡ s.memory.calls.frames ++ record { variables = laid parameters size vs; activation = activation_in entry s.memory.calls.frames } ∷ [] → new.limit ≡ s.memory.calls.limit
+    → unwind c (reverse fs) held (runs_in c (framed c.context entry parameters size vs (option_map (tree_at c.nodes) block) (tree_at c.nodes body) s.memory.calls) s n)
+    ≡ unwind c (reverse (fs ++ waits_for entry ∷ [])) held (means c (tree_at c.nodes body) (record s { memory = record s.memory { calls = new; blocks = blocks_of c.nodes more } }) n)
+unfolding blocks_of
+enters c fs held entry parameters size vs block body new blocks more s n room are push frames limit =
+    let f : Activated = record { variables = laid parameters size vs; activation = activation_in entry s.memory.calls.frames } in
+    let tree = tree_at c.nodes body in
+    let b = option_map (tree_at c.nodes) block in
+    let calls = stack_is new (s.memory.calls.frames ++ f ∷ []) s.memory.calls.limit frames limit in
+    let all : blocks_of c.nodes more ≡ s.memory.blocks ++ b ∷ [] = ap (blocks_of c.nodes) push ∙ map_push (option_map (tree_at c.nodes)) blocks block ∙ ap (λ l. l ++ b ∷ []) (sym are) in
+    ap (λ x. unwind c (reverse fs) held (runs_in c (if x then Do (with_frame f b) (Go tree (left_by entry)) else throw c.context (BuiltIn TooDeep)) s n)) room
+    ∙ waiting_push c fs entry held (means c tree (record s { memory = with_frame f b s.memory }) n)
+    ∙ ap (λ k. unwind c (reverse (fs ++ waits_for entry ∷ [])) held (means c tree (record s { memory = record s.memory { calls = k; blocks = s.memory.blocks ++ b ∷ [] } }) n)) (sym calls)
+    ∙ ap (λ l. unwind c (reverse (fs ++ waits_for entry ∷ [])) held (means c tree (record s { memory = record s.memory { calls = new; blocks = l } }) n)) (sym all)
 
 -- there may be no more
-pub too_deep : (c : Context) (m : Method) (vs : List Ref) (s : Stack) → nat_lt (length s.frames) s.limit ≡ false → throw c (BuiltIn TooDeep) ≡ entered c m vs s
-too_deep c m vs s full =
-    ap (λ b. if b then Do (λ k. record k { calls = record k.calls { frames = k.calls.frames ++ method_frame m vs ∷ [] } }) (Go m.body back) else throw c (BuiltIn TooDeep)) (sym full)
+pub too_deep : (c : Context) (entry : Entry) (parameters size : ℕ) (vs : List Ref) (b : Option Tree) (body : Tree) (s : Stack) → nat_lt (length s.frames) s.limit ≡ false → throw c (BuiltIn TooDeep) ≡ framed c entry parameters size vs b body s
+too_deep c entry parameters size vs b body s full =
+    ap (λ x. if x then Do (with_frame (record { variables = laid parameters size vs; activation = activation_in entry s.frames }) b) (Go body (left_by entry)) else throw c (BuiltIn TooDeep)) (sym full)
 
 -- as many values as the method has parameters, or not
-pub as_many : (c : Context) (x : Sym) (m : Method) (vs : List Ref) → nat_eq (length vs) m.parameters ≡ true → See (λ k. entered c m vs k.calls) ≡ own_rule c x (Some m) vs
-as_many c x m vs same = ap (λ b. if b then See (λ k. entered c m vs k.calls) else throw c (BuiltIn (Count (length vs) m.parameters m.parameters))) (sym same)
+pub as_many : (c : Context) (x : Sym) (m : Method) (b : Option Tree) (vs : List Ref) → nat_eq (length vs) m.parameters ≡ true → See (λ k. entered c m b vs k.calls) ≡ own_rule c x (Some m) b vs
+as_many c x m b vs same = ap (λ t. if t then See (λ k. entered c m b vs k.calls) else throw c (BuiltIn (Count (length vs) m.parameters m.parameters))) (sym same)
 
-pub others : (c : Context) (x : Sym) (m : Method) (vs : List Ref) → nat_eq (length vs) m.parameters ≡ false → throw c (BuiltIn (Count (length vs) m.parameters m.parameters)) ≡ own_rule c x (Some m) vs
-others c x m vs not = ap (λ b. if b then See (λ k. entered c m vs k.calls) else throw c (BuiltIn (Count (length vs) m.parameters m.parameters))) (sym not)
+pub others : (c : Context) (x : Sym) (m : Method) (b : Option Tree) (vs : List Ref) → nat_eq (length vs) m.parameters ≡ false → throw c (BuiltIn (Count (length vs) m.parameters m.parameters)) ≡ own_rule c x (Some m) b vs
+others c x m b vs not = ap (λ t. if t then See (λ k. entered c m b vs k.calls) else throw c (BuiltIn (Count (length vs) m.parameters m.parameters))) (sym not)
+
+-- an element of a list, whatever stands past its end
+pub same_there : {A : Type 0} (xs : List A) (i : ℕ) (d e : A) → i < length xs → slice_index_or xs i d ≡ slice_index_or xs i e
+same_there [] i d e lt = absurd (omega (arith, lt))
+same_there (x ∷ xs) zero d e lt = refl
+same_there (x ∷ xs) (suc i) d e lt = same_there xs i d e (omega (arith, lt))
+
+-- what stands past the end of a list
+past_or : {A : Type 0} (xs : List A) (i : ℕ) (d : A) → slice_get xs i ≡ None → slice_index_or xs i d ≡ d
+past_or [] i d is = refl
+past_or (y ∷ ys) zero d is = absurd (cc is)
+past_or (y ∷ ys) (suc i) d is = past_or ys i d is
+
+unmapped : {A B : Type 0} (f : A → B) (o : Option A) → option_map f o ≡ None → o ≡ None
+unmapped f None is = refl
+unmapped f (Some x) is = absurd (cc is)
+
+-- without the last one of blocks
+pub blocks_left : (ns : List Node) (blocks : List (Option ℕ)) → take (length (blocks_of ns blocks) - 1) (blocks_of ns blocks) ≡ blocks_of ns (take (length blocks - 1) blocks)
+unfolding blocks_of
+blocks_left ns blocks =
+    ap (λ n. take (n - 1) (blocks_of ns blocks)) (length-map blocks (option_map (tree_at ns)))
+    ∙ take-map (option_map (tree_at ns)) (length blocks - 1) blocks
+
+-- the block of a frame
+pub block_there : (ns : List Node) (blocks : List (Option ℕ)) (number : ℕ) → slice_index_or (blocks_of ns blocks) number None ≡ option_map (tree_at ns) (slice_index_or blocks number None)
+unfolding blocks_of
+block_there ns blocks number = get_or-map (option_map (tree_at ns)) blocks number None
+
+-- what a frame has beside its variables, past the frames
+pub no_frame_there : (fs : List Activated) (number : ℕ) → option_map (λ f. f.activation) (slice_get fs number) ≡ None → (frame_at number fs).activation ≡ activation_in (OfMethod false) []
+no_frame_there fs number is = ap (λ f. f.activation) (past_or fs number no_frame (unmapped (λ f. f.activation) (slice_get fs number) is))
+
+-- there may be one more frame
+pub has_room : (s : Stack) → length s.frames < s.limit → nat_lt (length s.frames) s.limit ≡ true
+has_room s lt = grind (arith, nat_tests)
+
+-- the program was given none
+pub no_blocks : (ns : List Node) → blocks_of ns (None ∷ []) ≡ None ∷ []
+unfolding blocks_of
+no_blocks ns = refl
+
+-- the last frame goes
+pub leaves : (p : Program) (m n : View) (t : Table) (h : Course) → n.calls.frames ≡ left m.calls.frames → n.calls.limit ≡ m.calls.limit → n.blocks ≡ take (length m.blocks - 1) m.blocks → n.rescuing ≡ m.rescuing
+    → record (state_of p m t h) { memory = without_frame (state_of p m t h).memory } ≡ state_of p n t h
+leaves p m n t h frames limit blocks rescuing =
+    let ns = p.nodes.items in
+    let calls = stack_is n.calls (left m.calls.frames) m.calls.limit frames limit in
+    ap (λ b. record { memory = record { calls = record { frames = left m.calls.frames; limit = m.calls.limit }; blocks = b; table = t; rescuing = m.rescuing }; asked = h.asked }) (blocks_left ns m.blocks ∙ ap (blocks_of ns) (sym blocks))
+    ∙ ap (λ k. record { memory = record { calls = k; blocks = blocks_of ns n.blocks; table = t; rescuing = m.rescuing }; asked = h.asked }) (sym calls)
+    ∙ ap (λ r. record { memory = record { calls = n.calls; blocks = blocks_of ns n.blocks; table = t; rescuing = r }; asked = h.asked }) (sym rescuing)
 
 -- what holds where something was done
 pub on_ok : {A : Type 0} (r : Result A Fault) (P Q : Type 0) → (P → Q) → OnOk r P → OnOk r Q

@@ -1,6 +1,6 @@
 -- Statements and arguments, taken one by one.
 use Rattle.std.proofs.Common.{◌≡◌, ℕ, zero, suc, ◌+◌, ◌-◌, ◌≤◌, ◌∙◌, sym, ap, refl, arith, true, List, [], ◌∷◌}
-use Rattle.rr_tree.specs.Tree.{tree_at}
+use Rattle.rr_tree.specs.Tree.{Tree, tree_at}
 use Rattle.rr_tree.specs.declared.node.Node.{Node}
 use Rattle.rr_tree.specs.declared.node.Path.TheVariants.{Plain, Ractor}
 use Rattle.rr_tree.specs.declared.node.Node.TheVariants.{Sequence, Call, Send}
@@ -10,13 +10,13 @@ use Rattle.rr_base.specs.declared.name.Sym.{Sym}
 use Rattle.rr_eval.specs.declared.frame.Frame.TheVariants.{Argument}
 use Rattle.rr_eval.specs.Script.{Go}
 use Rattle.rr_eval.specs.declared.call.Callee.TheVariants as callees
-use Rattle.rr_eval.specs.declared.call.Target.TheVariants.{Do, Call as CallTarget}
+use Rattle.rr_eval.specs.declared.call.Target.TheVariants.{Do, Call as CallTarget, Yield}
 use Rattle.rr_eval.specs.declared.call.Target.{Target}
 use Rattle.rr_eval.specs.Methods.{own_method}
 use Rattle.rr_eval.specs.declared.call.Task.TheVariants.{MakeArray, MakeText}
-use Rattle.rr_eval.specs.Rules.{Context, rule, statements, values, on_value, finish, printing, raises, awaited, call_rule, not_here}
+use Rattle.rr_eval.specs.Rules.{Context, rule, statements, values, on_value, finish, printing, raises, awaited, call_rule, block_call_rule, block_rule, not_here}
 use Rattle.rr_eval.specs.Rescuing.{rescue_rule}
-use Rattle.rr_eval.specs.Nodes.{evaluated_tree, is_unknown}
+use Rattle.rr_eval.specs.Nodes.{evaluated_tree, IsEvaluated, is_unknown}
 use Rattle.rr_eval.specs.Frames.{Code, resumed}
 use Rattle.rr_eval.proofs.Trees.{items_listed}
 
@@ -53,6 +53,20 @@ pub send_is : (ns : List Node) (c : Context) (a : ℕ) (x : Sym) (first count si
     → values (tree_at ns a ∷ trees_before ns (first + count) count) [] (finish c (CallTarget (callees.Name x))) ≡ rule c (evaluated_tree ns (Send a x first count site))
 send_is ns c a x first count site = ap (λ ts. values (tree_at ns a ∷ ts) [] (finish c (CallTarget (callees.Name x)))) (sym (items_listed (trees_before ns (first + count) count)))
 
+-- the values that `yield` gives
+pub yield_is : (ns : List Node) (c : Context) (first count : ℕ) → values (trees_before ns (first + count) count) [] (finish c Yield) ≡ rule c (evaluated_tree ns (nodes.Yield first count))
+yield_is ns c first count = ap (λ ts. values ts [] (finish c Yield)) (sym (items_listed (trees_before ns (first + count) count)))
+
+-- a call with a block
+pub block_call_is : (ns : List Node) (c : Context) (x : Sym) (first count site : ℕ) (b : Tree) → block_call_rule c (own_method c.program x.0) x (trees_before ns (first + count) count) b ≡ block_rule c (evaluated_tree ns (Call x first count site)) b
+block_call_is ns c x first count site b = ap (λ ts. block_call_rule c (own_method c.program x.0) x ts b) (sym (items_listed (trees_before ns (first + count) count)))
+
+-- what takes no block yet
+pub no_block_call : (ns : List Node) (c : Context) (n : Node) (b : Tree) → IsEvaluated n → ((x : Sym) (first count site : ℕ) → n ≡ Call x first count site → ⊥) → not_here c ≡ block_rule c (evaluated_tree ns n) b
+no_block_call ns c (Call x first count site) b is other = absurd (other x first count site refl)
+no_block_call ns c (nodes.Item a) b is other = absurd is
+no_block_call ns c _ b is other = refl
+
 -- statements and the clauses that rescue them
 pub rescue_is : (ns : List Node) (c : Context) (a first count b : ℕ)
     → Go (tree_at ns a) (rescue_rule c (trees_before ns (first + count) count) (tree_at ns b)) ≡ rule c (evaluated_tree ns (nodes.Rescue a first count b))
@@ -76,6 +90,9 @@ unknown_rule ns c (nodes.Local depth slot x behind) e = absurd cc
 unknown_rule ns c (nodes.Bare x site) e = absurd cc
 unknown_rule ns c (nodes.Call x first count site) e = absurd cc
 unknown_rule ns c (nodes.Send a x first count site) e = absurd cc
+unknown_rule ns c (nodes.WithBlock a b) e = absurd cc
+unknown_rule ns c (nodes.Block scope parameters size a) e = absurd cc
+unknown_rule ns c (nodes.Yield first count) e = absurd cc
 unknown_rule ns c (nodes.Index a b) e = absurd cc
 unknown_rule ns c (nodes.Append a b) e = absurd cc
 unknown_rule ns c (nodes.SetIndex a b d) e = absurd cc

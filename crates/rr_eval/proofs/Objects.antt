@@ -14,25 +14,34 @@ use Rattle.rr_space.specs.declared.refer.Ref.TheVariants.{Int, Local}
 use Rattle.rr_space.specs.declared.refer.Ref.TheVariants as refs
 use Rattle.rr_builtin.specs.Objects.{is_truthy}
 use Rattle.rr_eval.specs.Values.{goes_on}
-use Rattle.rr_tree.specs.Tree.{tree_at, Tree, nil, truth, int, text, symbol, class_named as class_tree, constant, array, hash, pairs, interpolation, send, index, set_index, append, local, bare, call, logical_and, logical_or, logical_not, negate, binary, assign, choose, repeat, sequence, break, next as next_tree, return, rescue, ensure, operator_assign, or_assign, and_assign}
-use Rattle.rr_frames.specs.Frames.{read_last}
+use Rattle.rr_tree.specs.Tree.{tree_at, Tree, nil, truth, int, text, symbol, class_named as class_tree, constant, array, hash, pairs, interpolation, send, index, set_index, append, local, bare, call, logical_and, logical_or, logical_not, negate, binary, assign, choose, repeat, sequence, with_block, block, yield, break, next as next_tree, return, rescue, ensure, operator_assign, or_assign, and_assign}
+use Rattle.rr_frames.specs.Frames.{Stack}
+use Rattle.std.specs.Option.{option_map, is_some}
+use Rattle.rr_frames.specs.declared.activation.Given.{Given}
+use Rattle.rr_frames.specs.declared.activation.Given.TheVariants as given
+use Rattle.rr_frames.specs.declared.activation.Shape.{Shape}
+use Rattle.rr_eval.specs.declared.call_stack.Entry.{Entry}
+use Rattle.rr_eval.specs.declared.call_stack.Entry.TheVariants.{OfMethod, OfBlock}
+use Rattle.rr_eval.specs.declared.call_stack.Variable.{Variable}
+use Rattle.rr_eval.specs.Variables.{read_variable}
+use Rattle.rr_eval.specs.Blocks.{spreads, shape_in, tree_in, called_as}
 use Rattle.rr_tree.specs.declared.node.BinaryOperator.{BinaryOperator}
 use Rattle.rr_tree.specs.declared.program.Program.{Program}
 use Rattle.rr_eval.specs.declared.problem.Answer.{Answer}
-use Rattle.rr_eval.specs.declared.problem.Answer.TheVariants.{Gave, Raised, Broke, Done, Returned}
+use Rattle.rr_eval.specs.declared.problem.Answer.TheVariants.{Gave, Raised, Broke, Done, Returned, Ends}
 use Rattle.rr_eval.specs.declared.call.Callee.TheVariants as callees
 use Rattle.rr_eval.specs.declared.call.Target.{Target}
-use Rattle.rr_eval.specs.declared.call.Target.TheVariants.{Do as DoTarget, Call, Own, Raise}
+use Rattle.rr_eval.specs.declared.call.Target.TheVariants.{Do as DoTarget, Call, Own, Yield, Raise}
 use Rattle.rr_eval.specs.declared.call.Task.{Task}
 use Rattle.rr_eval.specs.declared.call.Task.TheVariants.{MakeArray, MakeText, MakeHash}
 use Rattle.rr_eval.specs.declared.problem.Response.{Response}
 use Rattle.rr_eval.specs.declared.problem.Response.TheVariants.{Gives, Throws, Fails}
 use Rattle.rr_eval.specs.declared.problem.Problem.{Problem}
-use Rattle.rr_eval.specs.declared.problem.Problem.TheVariants.{BuiltIn, MissingMethod, MissingName, MissingConstant, NotRaisable, Unhandled, NotHere}
+use Rattle.rr_eval.specs.declared.problem.Problem.TheVariants.{BuiltIn, MissingMethod, MissingName, MissingConstant, NotRaisable, Unhandled, NoBlock, Jump, NotHere}
 use Rattle.rr_builtin.specs.declared.problem.Problem.TheVariants.{Count, TooDeep, Moved, WrongType}
 use Rattle.rr_builtin.specs.declared.problem.Receiver.TheVariants.{Instance}
 use Rattle.rr_eval.specs.declared.frame.Frame.{Frame}
-use Rattle.rr_eval.specs.declared.frame.Frame.TheVariants.{Not, Negation, And, Or, Left, Right, Store, Branch, Condition, Body, Break, Next, Return, Back, Rest, Argument, Key, Value, Element, Rescue, Class, Handling, Ensure, Kept}
+use Rattle.rr_eval.specs.declared.frame.Frame.TheVariants.{Not, Negation, And, Or, Left, Right, Store, Branch, Condition, Body, Break, Next, Return, Back, Past, Rest, Argument, Key, Value, Element, Rescue, Class, Handling, Ensure, Kept}
 use Rattle.rr_eval.specs.Script.{Memory, State, Script, Ret, Go, See, Do, Ask, Asked, Reply, World, Outcome, Ended, Spent, Waits, Evaluation, run, after, taken, objects_of}
 use Rattle.rr_eval.specs.Requests.{Course, Adds, AddsTo, asking}
 use Rattle.rr_base.specs.declared.fault.Fault.{Fault}
@@ -41,7 +50,7 @@ use Rattle.rr_eval.specs.Acts.{Passes}
 use Rattle.rr_eval.specs.Turns.{context_of, code_of, state_of, after_script, asking_then}
 use Rattle.rr_builtin.specs.Acts.{with_text}
 use Rattle.rr_eval.specs.Operators.{make, integers, opposite}
-use Rattle.rr_eval.specs.Rules.{Context, items, throw, raise, settled, on_value, with_value, in_loop, turn_rule, on_table, operation, negation, statements, values, pair_parts, finish, printing, raises, awaited, bare_rule, constant_rule, not_here, call_rule, own_rule, back, slot_of, update_rule, or_rule, and_rule, write, rule, eval}
+use Rattle.rr_eval.specs.Rules.{Context, items, throw, raise, settled, on_value, with_value, in_loop, turn_rule, on_table, operation, negation, statements, values, pair_parts, finish, printing, raises, awaited, bare_rule, constant_rule, not_here, call_rule, block_call_rule, block_rule, asks_block, own_rule, framed, running, left_by, yield_to, is_outside, return_rule, back, past, variable_of, update_rule, or_rule, and_rule, write, rule, eval}
 use Rattle.rr_eval.specs.Methods.{Method, own_method}
 use Rattle.rr_eval.specs.Raising.{message_or_nil, raise_new, raise_kind, raise_again, raise_rule}
 use Rattle.rr_eval.specs.Rescuing.{class_parts, taken_by, with_caught, fitted, tried_classes, tried_clause, tried, else_rule, rescue_rule, ensure_rule, target_part}
@@ -78,6 +87,7 @@ on_value_keeps next h (Raised e) = tt
 on_value_keeps next h (Broke v) = tt
 on_value_keeps next h (Done v) = tt
 on_value_keeps next h (Returned v) = tt
+on_value_keeps next h (Ends number v) = tt
 
 loop_keeps : (again : Script) (next : Ref → Script) → Keeps again → ((v : Ref) → Keeps (next v)) → (a : Answer) → Keeps (in_loop again next a)
 loop_keeps again next kept h (Gave v) = h v
@@ -85,6 +95,7 @@ loop_keeps again next kept h (Raised e) = tt
 loop_keeps again next kept h (Broke v) = tt
 loop_keeps again next kept h (Done v) = kept
 loop_keeps again next kept h (Returned v) = tt
+loop_keeps again next kept h (Ends number v) = tt
 
 exception_keeps : (class : ClassId) (message cause : Ref) (t : Table) → count t ≤ count (with_exception class message cause t)
 exception_keeps class message cause t = omega (arith, length-append t.slots (Here (exception_object class message cause) ∷ []))
@@ -113,14 +124,35 @@ if_keeps true p q kept other = kept
 if_keeps false p q kept other = other
 
 back_keeps : (a : Answer) → Keeps (back a)
-back_keeps a = (λ m. omega arith, tt)
+back_keeps a = λ l. (λ m. omega arith, tt)
 
-own_keeps : (c : Context) (x : Sym) (m : Option Method) (vs : List Ref) → Keeps (own_rule c x m vs)
-own_keeps c x None vs = throw_keeps c (MissingMethod (callees.Name x) (Instance OBJECT))
-own_keeps c x (Some m) vs =
+past_keeps : (a : Answer) → Keeps (past a)
+past_keeps a = λ l. (λ m. omega arith, λ k. tt)
+
+left_keeps : (entry : Entry) (a : Answer) → Keeps (left_by entry a)
+left_keeps (OfMethod takes) a = back_keeps a
+left_keeps (OfBlock home) a = past_keeps a
+
+framed_keeps : (c : Context) (entry : Entry) (parameters size : ℕ) (vs : List Ref) (b : Option Tree) (body : Tree) (s : Stack) → Keeps (framed c entry parameters size vs b body s)
+framed_keeps c entry parameters size vs b body s = if_keeps (nat_lt (length s.frames) s.limit) _ _ (λ l. omega arith, λ a. left_keeps entry a) (throw_keeps c (BuiltIn TooDeep))
+
+own_keeps : (c : Context) (x : Sym) (m : Option Method) (b : Option Tree) (vs : List Ref) → Keeps (own_rule c x m b vs)
+own_keeps c x None b vs = throw_keeps c (MissingMethod (callees.Name x) (Instance OBJECT))
+own_keeps c x (Some m) b vs =
     if_keeps (nat_eq (length vs) m.parameters) _ _
-    (λ k. if_keeps (nat_lt (length k.calls.frames) k.calls.limit) _ _ (λ l. omega arith, λ a. back_keeps a) (throw_keeps c (BuiltIn TooDeep)))
+    (λ k. framed_keeps c (OfMethod (is_some b)) m.parameters m.size vs b m.body k.calls)
     (throw_keeps c (BuiltIn (Count (length vs) m.parameters m.parameters)))
+
+called_keeps : (c : Context) (shape : Option Shape) (t : Tree) (home : ℕ) (vs : List Ref) (m : Memory) → Keeps (called_as c shape t home vs m)
+called_keeps c None t home vs m = throw_keeps c NoBlock
+called_keeps c (Some shape) t home vs m = if_keeps (spreads shape.parameters vs m.table) _ _ (throw_keeps c NotHere) (framed_keeps c (OfBlock home) shape.parameters shape.size vs None t m.calls)
+
+yield_keeps : (c : Context) (g : Given) (vs : List Ref) (m : Memory) → Keeps (yield_to c g vs m)
+yield_keeps c given.Nothing vs m = throw_keeps c NoBlock
+yield_keeps c (given.Block number home) vs m = called_keeps c (shape_in (slice_index_or m.blocks number None)) (tree_in (slice_index_or m.blocks number None)) home vs m
+
+return_keeps : (c : Context) (v : Ref) → Keeps (return_rule c v)
+return_keeps c v = λ m. if_keeps (is_outside m.calls.frames) (throw c Jump) (Ret (Returned v)) (throw_keeps c Jump) tt
 
 raise_new_keeps : (c : Context) (v : Ref) (message : Option Ref) → Keeps (raise_new c v message)
 raise_new_keeps c (refs.Class k) message = if_keeps (is_exception_class c.program k.0) (raise k (message_or_nil message)) (throw c NotRaisable) (raise_keeps k (message_or_nil message)) (throw_keeps c NotRaisable)
@@ -153,7 +185,8 @@ finish_keeps : (c : Context) (target : Target) (vs : List Ref) → Keeps (finish
 finish_keeps c (DoTarget task) vs = λ m. settled_keeps c
 finish_keeps c (Call callee) [] = tt
 finish_keeps c (Call callee) (v ∷ vs) = settled_keeps c
-finish_keeps c (Own x) vs = own_keeps c x (own_method c.program x.0) vs
+finish_keeps c (Own x b) vs = own_keeps c x (own_method c.program x.0) (option_map (tree_at c.program.nodes.items) b) vs
+finish_keeps c Yield vs = λ m. yield_keeps c (running m.calls.frames).given vs m
 finish_keeps c Raise vs = raise_rule_keeps c vs
 
 statements_keep : (ts : List Tree) → Keeps (statements ts)
@@ -168,45 +201,58 @@ values_keep c target (t ∷ ts) stand = on_value_keeps (λ v. values ts (stand +
 turn_keeps : (until : Bool) (body : Tree) (again : Script) → Keeps again → (v : Ref) → Keeps (turn_rule until body again v)
 turn_keeps until body again kept v = if_keeps (goes_on until v) _ (Ret (Gave refs.Nil)) (loop_keeps again (λ w. again) kept (λ w. kept)) tt
 
-bare_keeps : (c : Context) (m : Option Method) (task : Option Task) (raises : Bool) (x : Sym) → Keeps (bare_rule c m task raises x)
-bare_keeps c (Some m) task raises x = finish_keeps c (Own x) []
-bare_keeps c None (Some task) raises x = finish_keeps c (DoTarget task) []
-bare_keeps c None None true x = finish_keeps c Raise []
-bare_keeps c None None false x = throw_keeps c (MissingName x)
+bare_keeps : (c : Context) (m : Option Method) (task : Option Task) (raises asks : Bool) (x : Sym) → Keeps (bare_rule c m task raises asks x)
+bare_keeps c (Some m) task raises asks x = finish_keeps c (Own x None) []
+bare_keeps c None (Some task) raises asks x = finish_keeps c (DoTarget task) []
+bare_keeps c None None true asks x = finish_keeps c Raise []
+bare_keeps c None None false true x = λ m. tt
+bare_keeps c None None false false x = throw_keeps c (MissingName x)
 
 constant_keeps : (c : Context) (class : Option BuiltInClass) (x : Sym) → Keeps (constant_rule c class x)
 constant_keeps c (Some k) x = if_keeps (nat_eq (class_id k).0 RACTOR.0) (not_here c) (Ret (Gave (refs.Class (class_id k)))) (throw_keeps c NotHere) tt
 constant_keeps c None x = throw_keeps c (MissingConstant x)
 
 call_keeps : (c : Context) (m : Option Method) (task : Option Task) (raises later : Bool) (x : Sym) (ts : List Tree) → Keeps (call_rule c m task raises later x ts)
-call_keeps c (Some m) task raises later x ts = values_keep c (Own x) ts []
+call_keeps c (Some m) task raises later x ts = values_keep c (Own x None) ts []
 call_keeps c None (Some task) raises later x ts = values_keep c (DoTarget task) ts []
 call_keeps c None None true later x ts = values_keep c Raise ts []
 call_keeps c None None false true x ts = throw_keeps c NotHere
-call_keeps c None None false false x ts = values_keep c (Own x) ts []
+call_keeps c None None false false x ts = values_keep c (Own x None) ts []
+
+given_keep : (c : Context) (x : Sym) (b : Tree) (ts : List Tree) (stand : List Ref) → Keeps (values ts stand (own_rule c x (own_method c.program x.0) (Some b)))
+given_keep c x b [] stand = own_keeps c x (own_method c.program x.0) (Some b) stand
+given_keep c x b (t ∷ ts) stand = on_value_keeps _ (λ v. given_keep c x b ts (stand ++ v ∷ []))
+
+block_call_keeps : (c : Context) (m : Option Method) (x : Sym) (ts : List Tree) (b : Tree) → Keeps (block_call_rule c m x ts b)
+block_call_keeps c (Some m) x ts b = given_keep c x b ts []
+block_call_keeps c None x ts b = throw_keeps c NotHere
+
+block_keeps : (c : Context) (t b : Tree) → Keeps (block_rule c t b)
+block_keeps c (call x list) b = block_call_keeps c (own_method c.program x) (record { 0 = x }) (items list) b
+block_keeps c _ b = throw_keeps c NotHere
 
 -- a variable that gets a value
-written_keeps : (slot : ℕ) (t : Tree) → Keeps (with_value t (λ v. write slot v))
+written_keeps : (slot : Variable) (t : Tree) → Keeps (with_value t (λ v. write slot v))
 written_keeps slot t = on_value_keeps _ (λ v. (λ m. omega arith, tt))
 
-update_keeps : (c : Context) (op : BinaryOperator) (a b : Tree) (slot : Option ℕ) → Keeps (update_rule c op a b slot)
+update_keeps : (c : Context) (op : BinaryOperator) (a b : Tree) (slot : Option Variable) → Keeps (update_rule c op a b slot)
 update_keeps c op a b (Some slot) = written_keeps slot (binary op a b)
 update_keeps c op a b None = throw_keeps c NotHere
 
-or_keeps : (c : Context) (b : Tree) (slot : Option ℕ) → Keeps (or_rule c b slot)
-or_keeps c b (Some slot) = λ m. if_keeps (is_truthy (read_last slot m.calls.frames)) (Ret (Gave (read_last slot m.calls.frames))) (with_value b (λ v. write slot v)) tt (written_keeps slot b)
+or_keeps : (c : Context) (b : Tree) (slot : Option Variable) → Keeps (or_rule c b slot)
+or_keeps c b (Some slot) = λ m. if_keeps (is_truthy (read_variable slot m.calls.frames)) (Ret (Gave (read_variable slot m.calls.frames))) (with_value b (λ v. write slot v)) tt (written_keeps slot b)
 or_keeps c b None = throw_keeps c NotHere
 
-and_keeps : (c : Context) (b : Tree) (slot : Option ℕ) → Keeps (and_rule c b slot)
-and_keeps c b (Some slot) = λ m. if_keeps (is_truthy (read_last slot m.calls.frames)) (with_value b (λ v. write slot v)) (Ret (Gave (read_last slot m.calls.frames))) (written_keeps slot b) tt
+and_keeps : (c : Context) (b : Tree) (slot : Option Variable) → Keeps (and_rule c b slot)
+and_keeps c b (Some slot) = λ m. if_keeps (is_truthy (read_variable slot m.calls.frames)) (with_value b (λ v. write slot v)) (Ret (Gave (read_variable slot m.calls.frames))) (written_keeps slot b) tt
 and_keeps c b None = throw_keeps c NotHere
 
-caught_keeps : (slot : Option ℕ) (e : Ref) (m : Memory) → count m.table ≤ count (with_caught slot e m).table
+caught_keeps : (slot : Option Variable) (e : Ref) (m : Memory) → count m.table ≤ count (with_caught slot e m).table
 caught_keeps None e m = omega arith
 caught_keeps (Some x) e m = omega arith
 
 taken_keep : (t : Tree) (e : Ref) → Keeps (taken_by t e)
-taken_keep t e = λ m. (λ k. caught_keeps (slot_of (target_part t)) e k, λ a. (λ k. omega arith, tt))
+taken_keep t e = λ m. (λ k. caught_keeps (variable_of (target_part t)) e k, λ a. (λ k. omega arith, tt))
 
 fitted_keeps : (c : Context) (e v : Ref) (take other : Script) → Keeps take → Keeps other → Keeps (fitted c e v take other)
 fitted_keeps c e (refs.Class k) take other kept rest = λ m. if_keeps (descends c.program (class_at m.table e).0 k.0) take other kept rest
@@ -240,6 +286,7 @@ rescue_keeps c clauses otherwise (Raised e) = tried_keeps c e clauses
 rescue_keeps c clauses otherwise (Broke v) = tt
 rescue_keeps c clauses otherwise (Done v) = tt
 rescue_keeps c clauses otherwise (Returned v) = tt
+rescue_keeps c clauses otherwise (Ends number v) = tt
 
 ensure_keeps : (t : Tree) (a : Answer) → Keeps (ensure_rule t a)
 ensure_keeps t a = on_value_keeps _ (λ v. tt)
@@ -261,7 +308,7 @@ rule_keeps c (interpolation list) = values_keep c (DoTarget MakeText) (items lis
 rule_keeps c (constant (Plain x)) = constant_keeps c (class_named (slice_index_or c.symbols x.0 [])) x
 rule_keeps c (text i) = λ m. (λ k. make_keeps c.program.freezes _ k.table, tt)
 rule_keeps c (local depth slot x behind) = λ m. tt
-rule_keeps c (bare x) = bare_keeps c (own_method c.program x) (printing c x) (raises c x) (record { 0 = x })
+rule_keeps c (bare x) = bare_keeps c (own_method c.program x) (printing c x) (raises c x) (asks_block c x) (record { 0 = x })
 rule_keeps c (call x list) = call_keeps c (own_method c.program x) (printing c x) (raises c x) (awaited c x) (record { 0 = x }) (items list)
 rule_keeps c (logical_and a b) = on_value_keeps _ (λ v. if_keeps (is_truthy v) (Go b Ret) (Ret (Gave v)) (λ a'. tt) tt)
 rule_keeps c (logical_or a b) = on_value_keeps _ (λ v. if_keeps (is_truthy v) (Ret (Gave v)) (Go b Ret) tt (λ a'. tt))
@@ -269,15 +316,18 @@ rule_keeps c (logical_not a) = on_value_keeps _ (λ v. tt)
 rule_keeps c (negate a) = on_value_keeps _ (λ v. negates c v)
 rule_keeps c (binary op a b) = on_value_keeps _ (λ v. on_value_keeps _ (λ w. operates c op v w))
 rule_keeps c (assign depth slot x behind a) = on_value_keeps _ (λ v. (λ m. omega arith, tt))
-rule_keeps c (operator_assign op a b) = update_keeps c op a b (slot_of a)
-rule_keeps c (or_assign a b) = or_keeps c b (slot_of a)
-rule_keeps c (and_assign a b) = and_keeps c b (slot_of a)
+rule_keeps c (operator_assign op a b) = update_keeps c op a b (variable_of a)
+rule_keeps c (or_assign a b) = or_keeps c b (variable_of a)
+rule_keeps c (and_assign a b) = and_keeps c b (variable_of a)
 rule_keeps c (choose a b d) = on_value_keeps _ (λ v. λ a'. tt)
 rule_keeps c (repeat until a b) = loop_keeps (Go (repeat until a b) Ret) _ (λ x. tt) (turn_keeps until b (Go (repeat until a b) Ret) (λ x. tt))
 rule_keeps c (sequence list) = statements_keep (items list)
 rule_keeps c (break a) = on_value_keeps _ (λ v. tt)
 rule_keeps c (next_tree a) = on_value_keeps _ (λ v. tt)
-rule_keeps c (return a) = on_value_keeps _ (λ v. tt)
+rule_keeps c (return a) = on_value_keeps _ (λ v. return_keeps c v)
+rule_keeps c (with_block t b) = block_keeps c t b
+rule_keeps c (yield list) = values_keep c Yield (items list) []
+rule_keeps c (block x parameters size body) = λ a. tt
 rule_keeps c (rescue a list b) = rescue_keeps c (items list) b
 rule_keeps c (ensure a b) = ensure_keeps b
 rule_keeps c _ = throw_keeps c NotHere
@@ -295,8 +345,9 @@ resumed_keeps c (Condition until body loop) stand = loop_keeps (Go (tree_at c.no
 resumed_keeps c (Body loop) stand = loop_keeps (Go (tree_at c.nodes loop) Ret) _ (λ x. tt) (λ w. λ x. tt)
 resumed_keeps c Break stand = on_value_keeps _ (λ v. tt)
 resumed_keeps c Next stand = on_value_keeps _ (λ v. tt)
-resumed_keeps c Return stand = on_value_keeps _ (λ v. tt)
+resumed_keeps c Return stand = on_value_keeps _ (λ v. return_keeps c.context v)
 resumed_keeps c Back stand = back_keeps
+resumed_keeps c Past stand = past_keeps
 resumed_keeps c (Rest end more) stand = on_value_keeps _ (λ v. statements_keep (trees_before c.nodes end more))
 resumed_keeps c (Argument target end more base) stand = on_value_keeps _ (λ v. values_keep c.context target (trees_before c.nodes end more) (stand ++ v ∷ []))
 resumed_keeps c (Key next end more base) stand = on_value_keeps _ (λ v. values_keep c.context (DoTarget MakeHash) (tree_at c.nodes next ∷ pair_parts (trees_before c.nodes end more)) (stand ++ v ∷ []))
@@ -361,7 +412,7 @@ unwind_keeps k c adds (f ∷ fs) held o le =
 script_keeps : (p : Program) (m : View) (t : Table) (script : Script) (h : Course) (n : ℕ) → Adds h.world → Keeps script → count t ≤ objects_of (after_script p m t script h n)
 script_keeps p m t script h n adds keeps =
     let c = code_of p h.world in
-    unwind_keeps (count t) c adds (reverse m.frames) m.held (runs_in c script (state_of m t h) n) (run_keeps h.world adds (means c) (meaning_keeps c adds) script keeps (state_of m t h) n)
+    unwind_keeps (count t) c adds (reverse m.frames) m.held (runs_in c script (state_of p m t h) n) (run_keeps h.world adds (means c) (meaning_keeps c adds) script keeps (state_of p m t h) n)
 
 -- an act that would pass the limit of slots, and what comes after it
 pub act_passes : (p : Program) (m : View) (t : Table) (act : Table → Response × Table) (f : Fault) (h : Course) (n : ℕ) → Adds h.world → Passes f t.limit (length (act t).1.slots) → Passes f t.limit (objects_of (after_script p m t (on_table (context_of p) act) h n))
@@ -390,6 +441,6 @@ pub asking_keeps : (p : Program) (m : View) (t : Table) (q : Asked) (h : Course)
 asking_keeps p m t q h r adds e =
     let c = code_of p h.world in
     let next = λ (x : Response) (v : State). runs_in c (settled (context_of p) x) v m.left in
-    let same : asking_then p m t q h ≡ after_script p m r.table (settled (context_of p) r.response) (asking q h) m.left = ap (λ o. unwind c (reverse m.frames) m.held (taken o (state_of m t (asking q h)) next)) e in
+    let same : asking_then p m t q h ≡ after_script p m r.table (settled (context_of p) r.response) (asking q h) m.left = ap (λ o. unwind c (reverse m.frames) m.held (taken o (state_of p m t (asking q h)) next)) e in
     let kept = script_keeps p m r.table (settled (context_of p) r.response) (asking q h) m.left adds (settled_keeps (context_of p) r.response) in
     subst (λ o. count r.table ≤ objects_of o) (sym same) kept

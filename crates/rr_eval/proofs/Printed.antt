@@ -84,13 +84,13 @@ module _ (own : Context) where
 
   -- what is still to be done prints behind what was printed
   pub remaining_grows : (p : Program) (m : View) (t : Table) (h : Course) → IsBeginning (text_asked own h.asked) (text_of own (remaining p m t h))
-  remaining_grows p m t h = unwind_grows (text_asked own h.asked) (code_of p h.world) (reverse m.frames) m.held (start (code_of p h.world) m.control (state_of m t h) m.left) (start_grows (code_of p h.world) m.control (state_of m t h) m.left)
+  remaining_grows p m t h = unwind_grows (text_asked own h.asked) (code_of p h.world) (reverse m.frames) m.held (start (code_of p h.world) m.control (state_of p m t h) m.left) (start_grows (code_of p h.world) m.control (state_of p m t h) m.left)
 
   -- a request is printed first
   pub asking_grows : (p : Program) (m : View) (t : Table) (q : Asked) (h : Course) → IsBeginning (text_asked own (h.asked ++ q ∷ [])) (text_of own (asking_then p m t q h))
   asking_grows p m t q h =
       let c = code_of p h.world in
-      let more = record (state_of m t h) { asked = h.asked ++ q ∷ [] } in
+      let more = record (state_of p m t h) { asked = h.asked ++ q ∷ [] } in
       let next = λ (r : Response) (u : State). runs_in c (settled (context_of p) r) u m.left in
       unwind_grows (text_asked own more.asked) c (reverse m.frames) m.held (taken (h.world h.asked q t) more next)
       (taken_grows (text_asked own more.asked) (h.world h.asked q t) more next (beginning-refl (text_asked own more.asked)) (λ r u. run_grows h.world (means c) (meaning_grows c) (settled (context_of p) r) u m.left))

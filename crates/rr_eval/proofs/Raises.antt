@@ -22,12 +22,13 @@ alone_other c v _ no_shell no_text no_exception = refl
 -- all stands as before
 view_same : (m n : View) (t u : Table) (f : Fault) → Stands m n t u f → m ≡ n
 view_same m n t u f is =
-    ap (λ x. record { control = x; frames = m.frames; held = m.held; calls = m.calls; rescuing = m.rescuing; left = m.left }) (sym is.control)
-    ∙ ap (λ x. record { control = n.control; frames = x; held = m.held; calls = m.calls; rescuing = m.rescuing; left = m.left }) (sym is.frames)
-    ∙ ap (λ x. record { control = n.control; frames = n.frames; held = x; calls = m.calls; rescuing = m.rescuing; left = m.left }) (sym is.held)
-    ∙ ap (λ x. record { control = n.control; frames = n.frames; held = n.held; calls = x; rescuing = m.rescuing; left = m.left }) (sym is.calls)
-    ∙ ap (λ x. record { control = n.control; frames = n.frames; held = n.held; calls = n.calls; rescuing = x; left = m.left }) (sym is.rescuing)
-    ∙ ap (λ x. record { control = n.control; frames = n.frames; held = n.held; calls = n.calls; rescuing = n.rescuing; left = x }) (sym is.left)
+    ap (λ x. record { control = x; frames = m.frames; held = m.held; calls = m.calls; blocks = m.blocks; rescuing = m.rescuing; left = m.left }) (sym is.control)
+    ∙ ap (λ x. record { control = n.control; frames = x; held = m.held; calls = m.calls; blocks = m.blocks; rescuing = m.rescuing; left = m.left }) (sym is.frames)
+    ∙ ap (λ x. record { control = n.control; frames = n.frames; held = x; calls = m.calls; blocks = m.blocks; rescuing = m.rescuing; left = m.left }) (sym is.held)
+    ∙ ap (λ x. record { control = n.control; frames = n.frames; held = n.held; calls = x; blocks = m.blocks; rescuing = m.rescuing; left = m.left }) (sym is.calls)
+    ∙ ap (λ x. record { control = n.control; frames = n.frames; held = n.held; calls = n.calls; blocks = x; rescuing = m.rescuing; left = m.left }) (sym is.blocks)
+    ∙ ap (λ x. record { control = n.control; frames = n.frames; held = n.held; calls = n.calls; blocks = n.blocks; rescuing = x; left = m.left }) (sym is.rescuing)
+    ∙ ap (λ x. record { control = n.control; frames = n.frames; held = n.held; calls = n.calls; blocks = n.blocks; rescuing = n.rescuing; left = x }) (sym is.left)
 
 -- what is still to be done is the same, whether or not a growth was refused
 pub same_either : {A : Type 0} (r : Result A Fault) (p : Program) (m n : View) (t u : Table) → OnOk r ((h : Course) → remaining p m t h ≡ remaining p n u h) → IfErr r (λ f. Stands m n t u f) → (h : Course) → remaining p m t h ≡ remaining p n u h

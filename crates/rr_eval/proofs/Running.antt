@@ -64,17 +64,17 @@ running_stopped w p m t all old now r =
     writes_beginning old now (text_asked (context_of p) r.asked) (text_of (context_of p) all) r.wrote (subst (IsBeginning (text_asked (context_of p) r.asked)) (sym (ap (text_of (context_of p)) r.same)) (remaining_grows (context_of p) p m t (in_world w r.asked)))
 
 -- all ended with an exception, of which this is told
-pub running_raised : (w : World) (p : Program) (m n : View) (t u : Table) (all : Outcome) (old now : Written) (v : Ref) (told : List ℕ) → IsRunning w p m t all old now → ((h : Course) → remaining p m t h ≡ Ended (Raised v) (state_of n u h) n.left) → IsTold u v told
+pub running_raised : (w : World) (p : Program) (m n : View) (t u : Table) (all : Outcome) (old now : Written) (v : Ref) (told : List ℕ) → IsRunning w p m t all old now → ((h : Course) → remaining p m t h ≡ Ended (Raised v) (state_of p n u h) n.left) → IsTold u v told
     → IsRaised all told × WritesAll old now (text_of (context_of p) all)
 running_raised w p m n t u all old now v told r ends is =
     subst (λ (o : Outcome). IsRaised o told × WritesAll old now (text_of (context_of p) o)) (sym (r.same ∙ ends (in_world w r.asked))) (is, r.wrote)
 
 -- all ended with a value; all is out of steps
-pub running_done : (w : World) (p : Program) (m n : View) (t u : Table) (all : Outcome) (old now : Written) (v : Ref) → IsRunning w p m t all old now → ((h : Course) → remaining p m t h ≡ Ended (Gave v) (state_of n u h) n.left) → IsDone all × WritesAll old now (text_of (context_of p) all)
+pub running_done : (w : World) (p : Program) (m n : View) (t u : Table) (all : Outcome) (old now : Written) (v : Ref) → IsRunning w p m t all old now → ((h : Course) → remaining p m t h ≡ Ended (Gave v) (state_of p n u h) n.left) → IsDone all × WritesAll old now (text_of (context_of p) all)
 running_done w p m n t u all old now v r ends =
     subst (λ (o : Outcome). IsDone o × WritesAll old now (text_of (context_of p) o)) (sym (r.same ∙ ends (in_world w r.asked))) (tt, r.wrote)
 
-pub running_spent : (w : World) (p : Program) (m n : View) (t u : Table) (all : Outcome) (old now : Written) → IsRunning w p m t all old now → ((h : Course) → remaining p m t h ≡ Spent (state_of n u h)) → IsSpent all × WritesAll old now (text_of (context_of p) all)
+pub running_spent : (w : World) (p : Program) (m n : View) (t u : Table) (all : Outcome) (old now : Written) → IsRunning w p m t all old now → ((h : Course) → remaining p m t h ≡ Spent (state_of p n u h)) → IsSpent all × WritesAll old now (text_of (context_of p) all)
 running_spent w p m n t u all old now r ends =
     subst (λ (o : Outcome). IsSpent o × WritesAll old now (text_of (context_of p) o)) (sym (r.same ∙ ends (in_world w r.asked))) (tt, r.wrote)
 

@@ -25,6 +25,9 @@ pub record IsNone (n : Node) : Type 0 where
   pub no_bare : (x0 : Sym) (x1 : ℕ) → n ≡ nodes.Bare x0 x1 → ⊥
   pub no_call : (x0 : Sym) (x1 : ℕ) (x2 : ℕ) (x3 : ℕ) → n ≡ nodes.Call x0 x1 x2 x3 → ⊥
   pub no_send : (x0 : ℕ) (x1 : Sym) (x2 : ℕ) (x3 : ℕ) (x4 : ℕ) → n ≡ nodes.Send x0 x1 x2 x3 x4 → ⊥
+  pub no_with_block : (x0 : ℕ) (x1 : ℕ) → n ≡ nodes.WithBlock x0 x1 → ⊥
+  pub no_block : (x0 : ℕ) (x1 : ℕ) (x2 : ℕ) (x3 : ℕ) → n ≡ nodes.Block x0 x1 x2 x3 → ⊥
+  pub no_yield : (x0 : ℕ) (x1 : ℕ) → n ≡ nodes.Yield x0 x1 → ⊥
   pub no_index : (x0 : ℕ) (x1 : ℕ) → n ≡ nodes.Index x0 x1 → ⊥
   pub no_append : (x0 : ℕ) (x1 : ℕ) → n ≡ nodes.Append x0 x1 → ⊥
   pub no_set_index : (x0 : ℕ) (x1 : ℕ) (x2 : ℕ) → n ≡ nodes.SetIndex x0 x1 x2 → ⊥
@@ -63,6 +66,9 @@ unknown_else (nodes.Local x0 x1 x2 x3) h = absurd (h.no_local x0 x1 x2 x3 refl)
 unknown_else (nodes.Bare x0 x1) h = absurd (h.no_bare x0 x1 refl)
 unknown_else (nodes.Call x0 x1 x2 x3) h = absurd (h.no_call x0 x1 x2 x3 refl)
 unknown_else (nodes.Send x0 x1 x2 x3 x4) h = absurd (h.no_send x0 x1 x2 x3 x4 refl)
+unknown_else (nodes.WithBlock x0 x1) h = absurd (h.no_with_block x0 x1 refl)
+unknown_else (nodes.Block x0 x1 x2 x3) h = absurd (h.no_block x0 x1 x2 x3 refl)
+unknown_else (nodes.Yield x0 x1) h = absurd (h.no_yield x0 x1 refl)
 unknown_else (nodes.Index x0 x1) h = absurd (h.no_index x0 x1 refl)
 unknown_else (nodes.Append x0 x1) h = absurd (h.no_append x0 x1 refl)
 unknown_else (nodes.SetIndex x0 x1 x2) h = absurd (h.no_set_index x0 x1 x2 refl)

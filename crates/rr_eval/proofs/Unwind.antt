@@ -97,10 +97,11 @@ kept c fs target end (suc more) place base held v s n h at le =
 -- a frame that is put back, where all else stands
 pub frame_back : (m n : View) (t : Table) (f : Frame) (fault : Fault) (fs : List Frame) → Stands m n t t fault → fs ≡ n.frames ++ f ∷ [] → record m { frames = m.frames ++ f ∷ [] } ≡ record n { frames = fs }
 frame_back m n t f fault fs is e =
-    ap (λ x. record { control = m.control; frames = x ++ f ∷ []; held = m.held; calls = m.calls; rescuing = m.rescuing; left = m.left }) (sym is.frames)
-    ∙ ap (λ x. record { control = m.control; frames = x; held = m.held; calls = m.calls; rescuing = m.rescuing; left = m.left }) (sym e)
-    ∙ ap (λ x. record { control = x; frames = fs; held = m.held; calls = m.calls; rescuing = m.rescuing; left = m.left }) (sym is.control)
-    ∙ ap (λ x. record { control = n.control; frames = fs; held = x; calls = m.calls; rescuing = m.rescuing; left = m.left }) (sym is.held)
-    ∙ ap (λ x. record { control = n.control; frames = fs; held = n.held; calls = x; rescuing = m.rescuing; left = m.left }) (sym is.calls)
-    ∙ ap (λ x. record { control = n.control; frames = fs; held = n.held; calls = n.calls; rescuing = x; left = m.left }) (sym is.rescuing)
-    ∙ ap (λ x. record { control = n.control; frames = fs; held = n.held; calls = n.calls; rescuing = n.rescuing; left = x }) (sym is.left)
+    ap (λ x. record { control = m.control; frames = x ++ f ∷ []; held = m.held; calls = m.calls; blocks = m.blocks; rescuing = m.rescuing; left = m.left }) (sym is.frames)
+    ∙ ap (λ x. record { control = m.control; frames = x; held = m.held; calls = m.calls; blocks = m.blocks; rescuing = m.rescuing; left = m.left }) (sym e)
+    ∙ ap (λ x. record { control = x; frames = fs; held = m.held; calls = m.calls; blocks = m.blocks; rescuing = m.rescuing; left = m.left }) (sym is.control)
+    ∙ ap (λ x. record { control = n.control; frames = fs; held = x; calls = m.calls; blocks = m.blocks; rescuing = m.rescuing; left = m.left }) (sym is.held)
+    ∙ ap (λ x. record { control = n.control; frames = fs; held = n.held; calls = x; blocks = m.blocks; rescuing = m.rescuing; left = m.left }) (sym is.calls)
+    ∙ ap (λ x. record { control = n.control; frames = fs; held = n.held; calls = n.calls; blocks = x; rescuing = m.rescuing; left = m.left }) (sym is.blocks)
+    ∙ ap (λ x. record { control = n.control; frames = fs; held = n.held; calls = n.calls; blocks = n.blocks; rescuing = x; left = m.left }) (sym is.rescuing)
+    ∙ ap (λ x. record { control = n.control; frames = fs; held = n.held; calls = n.calls; blocks = n.blocks; rescuing = n.rescuing; left = x }) (sym is.left)

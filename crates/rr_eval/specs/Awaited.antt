@@ -8,6 +8,10 @@ use Rattle.rr_builtin.specs.Methods.{named_among, object_methods}
 abbrev pub is_raise : List ℕ → Bool
 is_raise name = bytes_eq name (codes "raise")
 
+-- `block_given?`
+abbrev pub is_block_given : List ℕ → Bool
+is_block_given name = bytes_eq name (codes "block_given?")
+
 -- a method that only `self` has
 abbrev pub is_of_self : List ℕ → Bool
 is_of_self name = bytes_eq name (codes "loop") || bytes_eq name (codes "block_given?")

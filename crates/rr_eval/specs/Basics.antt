@@ -1,5 +1,5 @@
 -- What rules are made of.
-use Rattle.std.specs.Prelude.{ℕ, List, [], ◌∷◌, ◌++◌, length, Option, Some, None}
+use Rattle.std.specs.Prelude.{List, [], ◌∷◌, ◌++◌, length, Option, Some, None}
 use Rattle.rr_base.specs.Classes.{class_id}
 use Rattle.rr_base.specs.declared.name.ClassId.{ClassId}
 use Rattle.rr_space.specs.Tables.{Table}
@@ -8,11 +8,11 @@ use Rattle.rr_space.specs.declared.refer.Ref.TheVariants.{Nil, Int, Local}
 use Rattle.rr_tree.specs.Tree.{Tree, Trees, local, empty, then_one}
 use Rattle.rr_tree.specs.declared.node.BinaryOperator.{BinaryOperator}
 use Rattle.rr_builtin.specs.Acts.{with_text}
-use Rattle.rr_frames.specs.Frames.{read_last, write_last}
+use Rattle.rr_eval.specs.declared.call_stack.Variable.{Variable}
 use Rattle.rr_eval.specs.declared.call.Callee.{Callee}
 use Rattle.rr_eval.specs.declared.call.Callee.TheVariants as callees
 use Rattle.rr_eval.specs.declared.problem.Answer.{Answer}
-use Rattle.rr_eval.specs.declared.problem.Answer.TheVariants.{Gave, Raised, Broke, Done, Returned}
+use Rattle.rr_eval.specs.declared.problem.Answer.TheVariants.{Gave, Raised, Broke, Done, Returned, Ends}
 use Rattle.rr_eval.specs.declared.problem.Problem.{Problem}
 use Rattle.rr_eval.specs.declared.problem.Problem.TheVariants.{NotHere}
 use Rattle.rr_eval.specs.declared.problem.Response.{Response}
@@ -22,31 +22,33 @@ use Rattle.rr_eval.specs.Exceptions.{with_exception}
 use Rattle.rr_eval.specs.Messages.{message, exception_class}
 use Rattle.rr_eval.specs.Operators.{integers, opposite}
 use Rattle.rr_eval.specs.Script.{Script, Ret, Go, See, Do, Ask, Calls}
+use Rattle.rr_eval.specs.Variables.{read_variable, write_variable}
 
 -- the trees of a list
 abbrev pub items : Trees → List Tree
 items empty = []
 items (then_one list t) = items list ++ t ∷ []
 
--- goes on with a value; an exception, a `break`, a `next` and a `return` pass
+-- goes on with a value; an exception, a `break`, a `next`, a `return` and what ends a frame pass
 abbrev pub on_value : (Ref → Script) → Answer → Script
 on_value go_on (Gave v) = go_on v
 on_value go_on (Raised e) = Ret (Raised e)
 on_value go_on (Broke v) = Ret (Broke v)
 on_value go_on (Done v) = Ret (Done v)
 on_value go_on (Returned v) = Ret (Returned v)
+on_value go_on (Ends number v) = Ret (Ends number v)
 
 -- evaluates a tree and goes on with its value
 abbrev pub with_value : Tree → (Ref → Script) → Script
 with_value t go_on = Go t (on_value go_on)
 
--- the value of a variable of the method that runs
-abbrev pub read : ℕ → Script
-read x = See (λ m. Ret (Gave (read_last x m.calls.frames)))
+-- the value of a variable
+abbrev pub read : Variable → Script
+read x = See (λ m. Ret (Gave (read_variable x m.calls.frames)))
 
--- gives a variable of the method that runs a value
-abbrev pub write : ℕ → Ref → Script
-write x v = Do (λ m. record m { calls = record m.calls { frames = write_last x v m.calls.frames } }) (Ret (Gave v))
+-- gives a variable a value
+abbrev pub write : Variable → Ref → Script
+write x v = Do (λ m. record m { calls = record m.calls { frames = write_variable x v m.calls.frames } }) (Ret (Gave v))
 
 -- makes an exception of a class, with a message, and raises it; its cause is the exception that is being rescued
 abbrev pub raise : ClassId → Ref → Script
@@ -91,10 +93,10 @@ abbrev pub values : List Tree → List Ref → (List Ref → Script) → Script
 values [] stand go_on = go_on stand
 values (t ∷ ts) stand go_on = with_value t (λ v. values ts (stand ++ v ∷ []) go_on)
 
--- the variable of the method that runs that a target is, where it is one
-abbrev pub slot_of : Tree → Option ℕ
-slot_of (local depth slot x behind) = Some slot
-slot_of _ = None
+-- the variable that a target is, where it is one
+abbrev pub variable_of : Tree → Option Variable
+variable_of (local depth slot x behind) = Some (record { depth = depth; slot = slot })
+variable_of _ = None
 
 -- what is not evaluated yet
 abbrev pub not_here : Context → Script

@@ -5,18 +5,20 @@ use Rattle.rr_space.specs.declared.refer.Ref.TheVariants.{Truth}
 use Rattle.rr_tree.specs.Tree.{Tree, binary, tree_at}
 use Rattle.rr_tree.specs.declared.node.Node.{Node}
 use Rattle.rr_eval.specs.declared.call.Callee.TheVariants.{SetIndex}
+use Rattle.rr_eval.specs.declared.call_stack.Entry.{Entry}
+use Rattle.rr_eval.specs.declared.call_stack.Entry.TheVariants.{OfMethod, OfBlock}
 use Rattle.rr_eval.specs.declared.call.Target.TheVariants.{Do as DoTarget, Call}
 use Rattle.rr_eval.specs.declared.call.Task.TheVariants.{MakeHash}
 use Rattle.rr_eval.specs.declared.problem.Answer.{Answer}
-use Rattle.rr_eval.specs.declared.problem.Answer.TheVariants.{Gave, Broke, Done, Returned}
+use Rattle.rr_eval.specs.declared.problem.Answer.TheVariants.{Gave, Broke, Done}
 use Rattle.rr_eval.specs.declared.frame.Frame.{Frame}
 use Rattle.rr_eval.specs.declared.frame.Trial.{Trial}
-use Rattle.rr_eval.specs.declared.frame.Frame.TheVariants.{Not, Negation, And, Or, Left, Right, Store, Branch, Condition, Body, Break, Next, Return, Back, Rest, Argument, Key, Value, Element, Rescue, Class, Handling, Ensure, Kept}
+use Rattle.rr_eval.specs.declared.frame.Frame.TheVariants.{Not, Negation, And, Or, Left, Right, Store, Branch, Condition, Body, Break, Next, Return, Back, Past, Rest, Argument, Key, Value, Element, Rescue, Class, Handling, Ensure, Kept}
 use Rattle.rr_eval.specs.declared.frame.Control.{Control}
 use Rattle.rr_eval.specs.declared.frame.Control.TheVariants.{Enter, Operate, Give, Throw, Raise, RaiseValue}
 use Rattle.rr_eval.specs.Script.{State, Script, Ret, Go, World, Evaluation, Outcome, Ended, run, after}
 use Rattle.rr_builtin.specs.Objects.{is_truthy}
-use Rattle.rr_eval.specs.Rules.{Context, throw, raise, on_value, with_value, in_loop, turn_rule, operation, negation, write, statements, values, pair_parts, finish, back, concluded, meaning}
+use Rattle.rr_eval.specs.Rules.{Context, throw, raise, on_value, with_value, in_loop, turn_rule, operation, negation, write, statements, values, pair_parts, finish, back, past, return_rule, concluded, meaning}
 use Rattle.rr_eval.specs.Raising.{raise_value}
 use Rattle.rr_eval.specs.Rescuing.{taken_by, restored, fitted, tried_classes, tried, rescue_rule, ensure_rule}
 use Rattle.rr_tree.specs.Nodes.{trees_before}
@@ -55,8 +57,9 @@ resumed c (Condition until body loop) stand = in_loop (Go (tree_at c.nodes loop)
 resumed c (Body loop) stand = in_loop (Go (tree_at c.nodes loop) Ret) (λ w. Go (tree_at c.nodes loop) Ret)
 resumed c Break stand = on_value (λ v. Ret (Broke v))
 resumed c Next stand = on_value (λ v. Ret (Done v))
-resumed c Return stand = on_value (λ v. Ret (Returned v))
+resumed c Return stand = on_value (return_rule c.context)
 resumed c Back stand = back
+resumed c Past stand = past
 resumed c (Rest end count) stand = on_value (λ v. statements (trees_before c.nodes end count))
 resumed c (Argument target end count base) stand = on_value (λ v. values (trees_before c.nodes end count) (stand ++ v ∷ []) (finish c.context target))
 resumed c (Key next end count base) stand = on_value (λ v. values (tree_at c.nodes next ∷ pair_parts (trees_before c.nodes end count)) (stand ++ v ∷ []) (finish c.context (DoTarget MakeHash)))
@@ -67,6 +70,11 @@ resumed c (Class r) stand = on_value (λ v. fitted c.context r.exception v (take
 resumed c (Handling old) stand = restored old
 resumed c (Ensure part) stand = ensure_rule (tree_at c.nodes part)
 resumed c (Kept a) stand = on_value (λ v. Ret a)
+
+-- the frame that waits for the answer of a body that has a frame of its own
+abbrev pub waits_for : Entry → Frame
+waits_for (OfMethod takes) = Back
+waits_for (OfBlock home) = Past
 
 -- the values that stand for a frame, and those below
 abbrev pub stand_of : Frame → List Ref → List Ref

@@ -16,7 +16,9 @@ pub mod Requests
 pub mod Calls
 pub mod Tasks
 pub mod Awaited
+pub mod Variables
 pub mod Basics
+pub mod Blocks
 pub mod Raising
 pub mod Rescuing
 pub mod Rules

@@ -5,7 +5,7 @@ use Rattle.rr_base.specs.declared.class.BuiltInClass.TheVariants as built_in
 use Rattle.rr_text.specs.Names.{names_of}
 use Rattle.rr_builtin.specs.Problems.{problem_class, problem_text, missing_text}
 use Rattle.rr_eval.specs.declared.problem.Problem.{Problem}
-use Rattle.rr_eval.specs.declared.problem.Problem.TheVariants.{BuiltIn, MissingMethod, MissingName, MissingConstant, NotRaisable, Unhandled, NotHere}
+use Rattle.rr_eval.specs.declared.problem.Problem.TheVariants.{BuiltIn, MissingMethod, MissingName, MissingConstant, NotRaisable, Unhandled, NoBlock, Jump, NotHere}
 use Rattle.rr_eval.specs.Callees.{callee_name}
 use Rattle.rr_eval.specs.Context.{Context}
 
@@ -16,6 +16,8 @@ message c (MissingName x) = codes "undefined local variable or method '" ++ slic
 message c (MissingConstant x) = codes "uninitialized constant " ++ slice_index_or c.symbols x.0 []
 message c NotRaisable = codes "exception class/object expected"
 message c Unhandled = codes "unhandled exception"
+message c NoBlock = codes "no block"
+message c Jump = codes "jump"
 message c NotHere = codes "not here yet"
 
 -- the class of the exception
@@ -26,4 +28,6 @@ exception_class (MissingName x) = built_in.NameError
 exception_class (MissingConstant x) = built_in.NameError
 exception_class NotRaisable = built_in.TypeError
 exception_class Unhandled = built_in.RuntimeError
+exception_class NoBlock = built_in.LocalJumpError
+exception_class Jump = built_in.LocalJumpError
 exception_class NotHere = built_in.RuntimeError

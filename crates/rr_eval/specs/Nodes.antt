@@ -1,7 +1,7 @@
 -- The tree of a node, by the numbers of its parts.
 use Rattle.std.specs.Prelude.{◌+◌, ◌<◌, ◌^◌, Bool, true, false, List}
 use Rattle.rr_tree.specs.Nodes.{node_tree, trees_before}
-use Rattle.rr_tree.specs.Tree.{Tree, sequence, array, hash, pairs, interpolation, call, send, rescue, clause, listed, tree_at}
+use Rattle.rr_tree.specs.Tree.{Tree, sequence, array, hash, pairs, interpolation, call, send, yield, rescue, clause, listed, tree_at}
 use Rattle.rr_tree.specs.declared.node.Node.{Node}
 use Rattle.rr_tree.specs.declared.node.Path.TheVariants.{Plain}
 use Rattle.rr_tree.specs.declared.node.Node.TheVariants as node
@@ -15,6 +15,7 @@ evaluated_tree ns (node.Pairs first count) = pairs (listed (trees_before ns (fir
 evaluated_tree ns (node.Interpolation first count) = interpolation (listed (trees_before ns (first + count) count))
 evaluated_tree ns (node.Call x first count site) = call x.0 (listed (trees_before ns (first + count) count))
 evaluated_tree ns (node.Send a x first count site) = send (tree_at ns a) x.0 (listed (trees_before ns (first + count) count))
+evaluated_tree ns (node.Yield first count) = yield (listed (trees_before ns (first + count) count))
 evaluated_tree ns (node.Rescue a first count b) = rescue (tree_at ns a) (listed (trees_before ns (first + count) count)) (tree_at ns b)
 evaluated_tree ns (node.Clause first count a b) = clause (listed (trees_before ns (first + count) count)) (tree_at ns a) (tree_at ns b)
 evaluated_tree ns n = node_tree ns n
@@ -29,6 +30,7 @@ IsEvaluated (node.Pairs first count) = first + count < 2 ^ 32
 IsEvaluated (node.Interpolation first count) = first + count < 2 ^ 32
 IsEvaluated (node.Call x first count site) = first + count < 2 ^ 32
 IsEvaluated (node.Send a x first count site) = first + count < 2 ^ 32
+IsEvaluated (node.Yield first count) = first + count < 2 ^ 32
 IsEvaluated (node.Rescue a first count b) = first + count < 2 ^ 32
 IsEvaluated (node.Clause first count a b) = first + count < 2 ^ 32
 IsEvaluated (node.Index a b) = b + 1 < 2 ^ 32
@@ -45,6 +47,8 @@ IsRareNode (node.Pairs first count) = Unit {0}
 IsRareNode (node.Interpolation first count) = Unit {0}
 IsRareNode (node.Bare x site) = Unit {0}
 IsRareNode (node.Call x first count site) = Unit {0}
+IsRareNode (node.WithBlock a b) = Unit {0}
+IsRareNode (node.Yield first count) = Unit {0}
 IsRareNode _ = ⊥
 
 -- a node that is not evaluated yet
@@ -64,6 +68,9 @@ is_unknown (node.Local depth slot x behind) = false
 is_unknown (node.Bare x site) = false
 is_unknown (node.Call x first count site) = false
 is_unknown (node.Send a x first count site) = false
+is_unknown (node.WithBlock a b) = false
+is_unknown (node.Block scope parameters size a) = false
+is_unknown (node.Yield first count) = false
 is_unknown (node.Index a b) = false
 is_unknown (node.Append a b) = false
 is_unknown (node.SetIndex a b d) = false

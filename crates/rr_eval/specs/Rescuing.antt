@@ -1,19 +1,20 @@
 -- Exceptions that are rescued, and what always follows.
-use Rattle.std.specs.Prelude.{ℕ, List, [], ◌∷◌, if◌then◌else◌, Option, Some, None}
+use Rattle.std.specs.Prelude.{List, [], ◌∷◌, if◌then◌else◌, Option, Some, None}
 use Rattle.rr_base.specs.declared.name.TheConstants.ClassId.{STANDARD_ERROR}
-use Rattle.rr_frames.specs.Frames.{write_last}
 use Rattle.rr_space.specs.Kinds.{class_at}
 use Rattle.rr_space.specs.declared.refer.Ref.{Ref}
 use Rattle.rr_space.specs.declared.refer.Ref.TheVariants.{Class}
 use Rattle.rr_tree.specs.Tree.{Tree, nil, clause}
 use Rattle.rr_builtin.specs.Classes.{descends}
 use Rattle.rr_builtin.specs.declared.problem.Problem.TheVariants.{WrongType}
+use Rattle.rr_eval.specs.declared.call_stack.Variable.{Variable}
 use Rattle.rr_eval.specs.declared.problem.Answer.{Answer}
-use Rattle.rr_eval.specs.declared.problem.Answer.TheVariants.{Gave, Raised, Broke, Done, Returned}
+use Rattle.rr_eval.specs.declared.problem.Answer.TheVariants.{Gave, Raised, Broke, Done, Returned, Ends}
 use Rattle.rr_eval.specs.declared.problem.Problem.TheVariants.{BuiltIn}
 use Rattle.rr_eval.specs.Context.{Context}
 use Rattle.rr_eval.specs.Script.{Script, Ret, Go, See, Do, Memory}
-use Rattle.rr_eval.specs.Basics.{items, on_value, with_value, throw, slot_of}
+use Rattle.rr_eval.specs.Basics.{items, on_value, with_value, throw, variable_of}
+use Rattle.rr_eval.specs.Variables.{write_variable}
 
 -- the classes, the variable and the statements of a clause; another tree is one without classes and without a variable
 abbrev pub class_parts : Tree → List Tree
@@ -30,15 +31,15 @@ body_part t = t
 
 -- A clause takes an exception: it is the value of the clause's variable, where there is one, and it is being rescued as long as
 -- the statements of the clause are evaluated, however they end.
-abbrev pub with_caught : Option ℕ → Ref → Memory → Memory
+abbrev pub with_caught : Option Variable → Ref → Memory → Memory
 with_caught None e m = record m { rescuing = e }
-with_caught (Some slot) e m = record m { calls = record m.calls { frames = write_last slot e m.calls.frames }; rescuing = e }
+with_caught (Some x) e m = record m { calls = record m.calls { frames = write_variable x e m.calls.frames }; rescuing = e }
 
 abbrev pub restored : Ref → Answer → Script
 restored old a = Do (λ m. record m { rescuing = old }) (Ret a)
 
 abbrev pub taken_by : Tree → Ref → Script
-taken_by t e = See (λ m. Do (with_caught (slot_of (target_part t)) e) (Go (body_part t) (restored m.rescuing)))
+taken_by t e = See (λ m. Do (with_caught (variable_of (target_part t)) e) (Go (body_part t) (restored m.rescuing)))
 
 -- whether an exception is of a class, or of one below it; what is no class raises
 abbrev pub fitted : Context → Ref → Ref → Script → Script → Script
@@ -72,6 +73,7 @@ rescue_rule c clauses otherwise (Raised e) = tried c e clauses
 rescue_rule c clauses otherwise (Broke v) = Ret (Broke v)
 rescue_rule c clauses otherwise (Done v) = Ret (Done v)
 rescue_rule c clauses otherwise (Returned v) = Ret (Returned v)
+rescue_rule c clauses otherwise (Ends number v) = Ret (Ends number v)
 
 -- What stands behind `ensure` follows, whatever the statements come to. Its value is dropped; where it has none, as with a
 -- `return` of its own, that comes in the place of what the statements came to.

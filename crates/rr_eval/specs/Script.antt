@@ -9,10 +9,11 @@ use Rattle.rr_eval.specs.declared.call.Task.{Task}
 use Rattle.rr_eval.specs.declared.problem.Answer.{Answer}
 use Rattle.rr_eval.specs.declared.problem.Response.{Response}
 
--- the frames of the methods that run, with their variables, the objects, and the exception that is being rescued, nil where
--- none is
+-- the frames of the methods and blocks that run, with their variables, and beside each frame the block that its method was
+-- given; the objects, and the exception that is being rescued, nil where none is
 pub record Memory : Type 0 where
   pub calls : Stack
+  pub blocks : List (Option Tree)
   pub table : Table
   pub rescuing : Ref
 

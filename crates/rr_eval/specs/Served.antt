@@ -34,9 +34,9 @@ Served {E} leads old (x ∷ xs) new = (middle : E) × Served leads old xs middle
 
 -- how a run ended, of which all this was to be done
 abbrev pub EndsBy : Program → Outcome → Course → Result Ending Fault → View → Table → Type 0
-EndsBy p all h (Ok (endings.Done v)) m t = all ≡ Ended (Gave v) (state_of m t h) m.left
-EndsBy p all h (Ok (endings.Raised e)) m t = all ≡ Ended (Raised e) (state_of m t h) m.left
-EndsBy p all h (Ok endings.StepLimit) m t = all ≡ Spent (state_of m t h)
+EndsBy p all h (Ok (endings.Done v)) m t = all ≡ Ended (Gave v) (state_of p m t h) m.left
+EndsBy p all h (Ok (endings.Raised e)) m t = all ≡ Ended (Raised e) (state_of p m t h) m.left
+EndsBy p all h (Ok endings.StepLimit) m t = all ≡ Spent (state_of p m t h)
 -- a request has no reply
 EndsBy p all h (Ok (endings.Unserved f)) m t = (q : Asked) × (all ≡ asking_then p m t q h)
 -- a growth was refused, and all can go on from there

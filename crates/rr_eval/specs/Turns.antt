@@ -1,14 +1,17 @@
 -- What the machine has still to do, and what a turn does of it.
 use Rattle.std.specs.Prelude.{◌≡◌, ◌+◌, ◌*◌, ◌<◌, ◌≤◌, length, map, ℕ, Option, Some, None, Vec, Result, Ok, Err, List, reverse, Bool, true, false}
 use Rattle.rr_base.specs.declared.fault.Fault.{Fault}
-use Rattle.rr_frames.specs.Frames.{Frame as Activated, read_last}
+use Rattle.std.specs.Option.{option_map}
+use Rattle.rr_frames.specs.Frames.{Frame as Activated}
 use Rattle.rr_space.specs.Tables.{Table}
 use Rattle.rr_space.specs.declared.refer.Ref.{Ref}
 use Rattle.rr_space.specs.declared.refer.Ref.TheVariants.{Int}
-use Rattle.rr_tree.specs.Tree.{Tree, int, local}
+use Rattle.rr_tree.specs.Tree.{Tree, int, local, tree_at}
+use Rattle.rr_tree.specs.declared.node.Node.{Node}
+use Rattle.rr_eval.specs.Variables.{read_variable}
 use Rattle.rr_tree.specs.declared.program.Program.{Program}
 use Rattle.rr_eval.specs.declared.problem.Answer.{Answer}
-use Rattle.rr_eval.specs.declared.problem.Answer.TheVariants.{Gave, Raised, Broke, Done, Returned}
+use Rattle.rr_eval.specs.declared.problem.Answer.TheVariants.{Gave, Raised, Broke, Done, Returned, Ends}
 use Rattle.rr_eval.specs.declared.frame.Frame.{Frame}
 use Rattle.rr_eval.specs.declared.frame.Control.{Control}
 use Rattle.rr_eval.specs.declared.frame.Control.TheVariants.{Enter, Operate, Give, Throw, Raise, RaiseValue}
@@ -35,13 +38,17 @@ context_of p = record { symbols = contents p.symbols.items; texts = contents p.t
 abbrev pub code_of : Program → World → Code
 code_of p w = record { nodes = p.nodes.items; context = context_of p; world = w }
 
--- the frames of methods, the objects and the exception that is being rescued, after this was asked
-abbrev pub state_of : View → Table → Course → State
-state_of m t h = record { memory = record { calls = m.calls; table = t; rescuing = m.rescuing }; asked = h.asked }
+-- the trees of blocks
+unfoldable pub blocks_of : List Node → List (Option ℕ) → List (Option Tree)
+blocks_of ns blocks = map (option_map (tree_at ns)) blocks
+
+-- the frames of methods and blocks, the objects and the exception that is being rescued, after this was asked
+abbrev pub state_of : Program → View → Table → Course → State
+state_of p m t h = record { memory = record { calls = m.calls; blocks = blocks_of p.nodes.items m.blocks; table = t; rescuing = m.rescuing }; asked = h.asked }
 
 -- what is still to be done with n steps, after this was asked
 abbrev pub remaining_with : Program → View → Table → Course → ℕ → Outcome
-remaining_with p m t h n = outcome_of (code_of p h.world) m.frames m.held m.control (state_of m t h) n
+remaining_with p m t h n = outcome_of (code_of p h.world) m.frames m.held m.control (state_of p m t h) n
 
 -- the same with the steps that are left
 abbrev pub remaining : Program → View → Table → Course → Outcome
@@ -49,7 +56,7 @@ remaining p m t h = remaining_with p m t h m.left
 
 -- what is still to be done with n steps, where the machine asks and goes on with the reply
 abbrev pub asking_with : Program → View → Table → Asked → Course → ℕ → Outcome
-asking_with p m t q h n = unwind (code_of p h.world) (reverse m.frames) m.held (runs_in (code_of p h.world) (Ask q (settled (context_of p))) (state_of m t h) n)
+asking_with p m t q h n = unwind (code_of p h.world) (reverse m.frames) m.held (runs_in (code_of p h.world) (Ask q (settled (context_of p))) (state_of p m t h) n)
 
 -- the same with the steps that are left
 abbrev pub asking_then : Program → View → Table → Asked → Course → Outcome
@@ -78,6 +85,7 @@ stop_of (Raised e) = turns.Raised e
 stop_of (Broke v) = turns.Done v
 stop_of (Done v) = turns.Done v
 stop_of (Returned v) = turns.Done v
+stop_of (Ends number v) = turns.Done v
 
 -- the machine goes on with a response
 abbrev pub answered : View → Response → View
@@ -85,16 +93,16 @@ answered m r = record m { control = control_of r }
 
 -- what the frames do after a script, with n steps
 abbrev pub after_script : Program → View → Table → Script → Course → ℕ → Outcome
-after_script p m t script h n = unwind (code_of p h.world) (reverse m.frames) m.held (runs_in (code_of p h.world) script (state_of m t h) n)
+after_script p m t script h n = unwind (code_of p h.world) (reverse m.frames) m.held (runs_in (code_of p h.world) script (state_of p m t h) n)
 
 -- what the frames do where one that was taken off gets an answer
 abbrev pub after_answer : Program → View → Table → Frame → Answer → Course → ℕ → Outcome
 after_answer p m t f a h n =
-    unwind (code_of p h.world) (reverse m.frames) (below_of f m.held) (runs_in (code_of p h.world) (resumed (code_of p h.world) f (stand_of f m.held) a) (state_of m t h) n)
+    unwind (code_of p h.world) (reverse m.frames) (below_of f m.held) (runs_in (code_of p h.world) (resumed (code_of p h.world) f (stand_of f m.held) a) (state_of p m t h) n)
 
 -- what the frames below a frame that was taken off do after a script, with n steps
 abbrev pub after_values : Program → View → Table → Frame → Script → Course → ℕ → Outcome
-after_values p m t f script h n = unwind (code_of p h.world) (reverse m.frames) (below_of f m.held) (runs_in (code_of p h.world) script (state_of m t h) n)
+after_values p m t f script h n = unwind (code_of p h.world) (reverse m.frames) (below_of f m.held) (runs_in (code_of p h.world) script (state_of p m t h) n)
 
 abbrev pub IsNested : View → Type 0
 IsNested m = Nested (reverse m.frames) m.held
@@ -105,6 +113,7 @@ pub record Stands (old new : View) (before after : Table) (f : Fault) : Type 0 w
   pub frames : new.frames ≡ old.frames
   pub held : new.held ≡ old.held
   pub calls : new.calls ≡ old.calls
+  pub blocks : new.blocks ≡ old.blocks
   pub rescuing : new.rescuing ≡ old.rescuing
   pub left : new.left ≡ old.left
   pub objects : after ≡ before
@@ -113,7 +122,7 @@ pub record Stands (old new : View) (before after : Table) (f : Fault) : Type 0 w
 -- the value of a tree that takes one step and leaves all as it is
 abbrev pub leaf_value : Tree → List Activated → Option Ref
 leaf_value (int z) frames = Some (Int z)
-leaf_value (local depth slot x behind) frames = Some (read_last slot frames)
+leaf_value (local depth slot x behind) frames = Some (read_variable (record { depth = depth; slot = slot }) frames)
 leaf_value _ frames = None
 
 -- A turn of at most `budget` steps: what was still to be done is what it did, and then what is still to be done. It stops
@@ -122,16 +131,16 @@ abbrev pub Turned : Program → View → Table → ℕ → Result Turn Fault →
 -- each step was spent
 Turned p old t budget (Ok turns.More) new u = (new.left + budget ≡ old.left) × ((h : Course) → remaining p old t h ≡ remaining p new u h)
 Turned p old t budget (Ok (turns.Ask q)) new u = (old.left ≤ new.left + budget) × ((h : Course) → remaining p old t h ≡ asking_then p new u (asked_of u q) h)
-Turned p old t budget (Ok (turns.Done v)) new u = (old.left ≤ new.left + budget) × ((h : Course) → remaining p old t h ≡ Ended (Gave v) (state_of new u h) new.left)
-Turned p old t budget (Ok (turns.Raised e)) new u = (old.left ≤ new.left + budget) × ((h : Course) → remaining p old t h ≡ Ended (Raised e) (state_of new u h) new.left)
-Turned p old t budget (Ok turns.StepLimit) new u = (old.left ≤ budget) × (new.left ≡ 0) × ((h : Course) → remaining p old t h ≡ Spent (state_of new u h))
+Turned p old t budget (Ok (turns.Done v)) new u = (old.left ≤ new.left + budget) × ((h : Course) → remaining p old t h ≡ Ended (Gave v) (state_of p new u h) new.left)
+Turned p old t budget (Ok (turns.Raised e)) new u = (old.left ≤ new.left + budget) × ((h : Course) → remaining p old t h ≡ Ended (Raised e) (state_of p new u h) new.left)
+Turned p old t budget (Ok turns.StepLimit) new u = (old.left ≤ budget) × (new.left ≡ 0) × ((h : Course) → remaining p old t h ≡ Spent (state_of p new u h))
 -- a growth was refused, and the next turn goes on from there
 Turned p old t budget (Err f) new u = IsRefusal f × (old.left ≤ new.left + budget) × ((h : Course) → remaining p old t h ≡ remaining p new u h)
 
 -- What a reply does, with the objects then: the machine goes on with its response. Without a reply all ends there.
 pub record Replied (p : Program) (m : View) (response : Response) : Type 0 where
   pub goes : (t u : Table) (q : Asked) (h : Course) → h.world h.asked q t ≡ Some (record { response = response; table = u }) → asking_then p m t q h ≡ remaining p (answered m response) u (asking q h)
-  pub none : (t : Table) (q : Asked) (h : Course) → h.world h.asked q t ≡ None → asking_then p m t q h ≡ Waits (state_of m t (asking q h))
+  pub none : (t : Table) (q : Asked) (h : Course) → h.world h.asked q t ≡ None → asking_then p m t q h ≡ Waits (state_of p m t (asking q h))
 
 -- a bound on what can be done without a step
 abbrev pub waits : Control → ℕ

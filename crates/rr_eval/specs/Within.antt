@@ -10,7 +10,7 @@ use Rattle.rr_space.specs.declared.refer.Ref.TheVariants.{Local, Shared}
 use Rattle.rr_text.specs.Reads.{IsReadWith}
 use Rattle.rr_eval.specs.declared.call.Call.{Call}
 use Rattle.rr_eval.specs.declared.problem.Answer.{Answer}
-use Rattle.rr_eval.specs.declared.problem.Answer.TheVariants.{Gave, Raised, Broke, Done, Returned}
+use Rattle.rr_eval.specs.declared.problem.Answer.TheVariants.{Gave, Raised, Broke, Done, Returned, Ends}
 use Rattle.rr_eval.specs.declared.problem.Response.{Response}
 use Rattle.rr_eval.specs.declared.problem.Response.TheVariants.{Gives, Throws, Fails}
 use Rattle.rr_eval.specs.declared.frame.Frame.{Frame}
@@ -51,6 +51,7 @@ IsAnswerReached k (Raised e) = IsReached k e
 IsAnswerReached k (Broke v) = IsReached k v
 IsAnswerReached k (Done v) = IsReached k v
 IsAnswerReached k (Returned v) = IsReached k v
+IsAnswerReached k (Ends number v) = IsReached k v
 
 abbrev pub IsResponseReached : Reach → Response → Type 0
 IsResponseReached k (Gives v) = IsReached k v

@@ -1,13 +1,20 @@
 //! The names by which `self` has methods that are not evaluated yet.
 
 ghost use Rattle.std.specs.Prelude.{◌≡◌};
-ghost use Rattle.rr_eval.specs.Awaited.{is_raise, is_of_self, is_of_all, is_awaited};
+ghost use Rattle.rr_eval.specs.Awaited.{is_raise, is_block_given, is_of_self, is_of_all, is_awaited};
 
 /// Whether it is `raise`.
 pub fn is_raise(name: &[u8]) -> bool
     ensures { result ≡ is_raise name.now }
 {
     name == b"raise".as_slice()
+}
+
+/// Whether it is `block_given?`.
+pub fn is_block_given(name: &[u8]) -> bool
+    ensures { result ≡ is_block_given name.now }
+{
+    name == b"block_given?".as_slice()
 }
 
 /// Whether it is a name that only `self` has a method of, and is not evaluated yet.

@@ -9,7 +9,7 @@ ghost use Rattle.rr_eval.specs.Within.{Reach, IsReached, IsCallReached};
 
 use rr_base::Sym;
 use rr_space::Ref;
-use rr_tree::BinaryOperator;
+use rr_tree::{BinaryOperator, NodeId};
 use std::alloc::{AllocError, Global};
 
 /// What is called.
@@ -51,8 +51,10 @@ pub enum Target {
     Do(Task),
     /// The first of them is the receiver of a call, and the others are its arguments.
     Call(Callee),
-    /// They are the arguments of the program's method of this name.
-    Own(Sym),
+    /// They are the arguments of the program's method of this name, which is given the block of this node, where there is one.
+    Own(Sym, Option<NodeId>),
+    /// They are given to the block of the method that runs.
+    Yield,
     /// They are the arguments of `raise`.
     Raise,
 }

@@ -10,22 +10,23 @@ ghost use Rattle.rr_eval.specs.Script.{State, World};
 ghost use Rattle.rr_eval.specs.Turns.{context_of, code_of};
 ghost use Rattle.rr_tree.specs.Nodes.{trees_before};
 ghost use Rattle.rr_tree.specs.Tree.{tree_at};
-ghost use Rattle.rr_eval.specs.Basics.{slot_of};
+ghost use Rattle.rr_eval.specs.Basics.{variable_of};
 ghost use Rattle.rr_eval.specs.Rescuing.{class_parts, target_part, body_part, tried};
 
+use crate::call_stack::Variable;
 use crate::nodes::evaluated_node;
-use crate::update::slot_of;
+use crate::update::variable_of;
 use rr_base::ClassId;
 use rr_builtin::descends;
 use rr_space::{Ref, Space};
 use rr_tree::{Node, NodeId, Program};
 
-/// A clause that rescues: its classes, the number of its variable, where it has one, and its statements.
+/// A clause that rescues: its classes, its variable, where it has one, and its statements.
 #[derive(Clone, Copy)]
 pub struct Clause {
     pub first: NodeId,
     pub count: u32,
-    pub slot: Option<u32>,
+    pub variable: Option<Variable>,
     pub body: NodeId,
 }
 
@@ -33,7 +34,7 @@ pub struct Clause {
 pub fn clause_at(program: &Program, place: NodeId) -> Clause
     ensures small { result.first + result.count < 2 ^ 32 }
     ensures classes { trees_before program.now.nodes.items (result.first + result.count) result.count ≡ class_parts (tree_at program.now.nodes.items place) }
-    ensures target { result.slot ≡ slot_of (target_part (tree_at program.now.nodes.items place)) }
+    ensures target { result.variable ≡ variable_of (target_part (tree_at program.now.nodes.items place)) }
     ensures body { tree_at program.now.nodes.items result.body ≡ body_part (tree_at program.now.nodes.items place) }
 {
     match evaluated_node(program, place) {
@@ -45,13 +46,13 @@ pub fn clause_at(program: &Program, place: NodeId) -> Clause
         } => Clause {
             first,
             count,
-            slot: slot_of(program, target),
+            variable: variable_of(program, target),
             body,
         },
         _ => Clause {
             first: 0,
             count: 0,
-            slot: None,
+            variable: None,
             body: place,
         },
     }

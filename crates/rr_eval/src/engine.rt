@@ -3,7 +3,7 @@
 ghost use Rattle.std.specs.Prelude.{◌≡◌, ◌+◌, ◌*◌, ◌<◌, ◌≤◌, ℕ, List, [], ◌∷◌, ◌++◌, length, reverse, vec_capacity, Option, Some, IfOk, IfErr, IfSome, IsTrue, IsFalse, OnOk, MatchOption};
 ghost use Rattle.rr_base.specs.declared.fault.Fault.{Fault};
 ghost use Rattle.rr_space.specs.declared.refer.Ref.{Ref};
-ghost use Rattle.rr_frames.specs.Frames.{read_last};
+ghost use Rattle.rr_eval.specs.Variables.{read_variable};
 ghost use Rattle.rr_space.specs.Tables.{Table, Below};
 ghost use Rattle.rr_tree.specs.declared.node.Node.{Node};
 ghost use Rattle.rr_tree.specs.declared.program.Program.{Program};
@@ -20,6 +20,7 @@ ghost use Rattle.rr_eval.specs.Views.{view_of};
 ghost use Rattle.rr_eval.specs.Within.{Reach, reach, IsReached, IsAnswerReached, IsFrameReached, AreVariablesReached, IsAskedReached, IsTurnReached, AreReached, AreWithin, KeepsReach, KeepsRead};
 ghost use Rattle.std.specs.List.{All};
 
+use crate::call_stack::{CallStack, Variable};
 use crate::frame::{Control, Frame};
 use crate::nodes::evaluated_node;
 use crate::operator::on_integers;
@@ -27,7 +28,6 @@ use crate::prepared::Prepared;
 use crate::problem::Answer;
 use crate::request::Request;
 use rr_base::Fault;
-use rr_frames::Frames;
 use rr_space::{Ref, Space};
 use rr_tree::{BinaryOperator, Node, NodeId, Program};
 use std::alloc::Global;
@@ -39,8 +39,10 @@ pub struct Engine {
     pub frames: Vec<Frame>,
     /// The values of arguments that were evaluated so far, those of the topmost frame last.
     pub held: Vec<Ref>,
-    /// The frames of the program and of the methods that run, with their variables.
-    pub calls: Frames,
+    /// The frames of the program and of the methods and blocks that run, with their variables.
+    pub calls: CallStack,
+    /// Beside each of these frames, the node of the block that its method was given.
+    pub blocks: Vec<Option<NodeId>>,
     /// The exception that is being rescued; nil where none is.
     pub rescuing: Ref,
     /// The steps that are left.
@@ -73,6 +75,7 @@ fn stop_of(answer: Answer) -> Turn
         Answer::Broke(value) => Turn::Done(value),
         Answer::Done(value) => Turn::Done(value),
         Answer::Returned(value) => Turn::Done(value),
+        Answer::Ends(_, value) => Turn::Done(value),
     }
 }
 
@@ -91,11 +94,11 @@ pub fn push_within<T: Drop>(items: &mut Vec<T>, item: T)
 impl Engine {
     /// The value of a variable.
     #[inline(always)]
-    pub fn variable(&self, slot: u32) -> Ref
-        ensures value { result ≡ read_last slot self.now.calls.frames }
+    pub fn variable(&self, variable: Variable) -> Ref
+        ensures value { result ≡ read_variable variable self.now.calls.frames }
         ensures within { (k : Reach) → All (AreVariablesReached k) self.now.calls.frames → IsReached k result }
     {
-        self.calls.read(slot)
+        self.calls.read(variable)
     }
 
     /// The integer that a part is, where it is a literal or a variable.
@@ -105,7 +108,7 @@ impl Engine {
     {
         match evaluated_node(program, place) {
             Node::Int(z) => Some(z),
-            Node::Local { slot, .. } => match self.variable(slot) {
+            Node::Local { depth, slot, .. } => match self.variable(Variable { depth, slot }) {
                 Ref::Int(z) => Some(z),
                 _ => None,
             },
@@ -261,7 +264,7 @@ impl Engine {
     fn pop_frame(&mut self, answer: Answer) -> Option<Frame>
         requires control { self.old.control ≡ Control.Give answer }
         requires nested { IsNested (view_of self.old) }
-        ensures goes { (p : Program) (t : Table) (h : Course) → MatchOption result (remaining p (view_of self.old) t h ≡ Ended (ended answer) (state_of (view_of self.new) t h) self.new.left) (λ f. remaining p (view_of self.old) t h ≡ after_answer p (view_of self.new) t f answer h self.new.left) }
+        ensures goes { (p : Program) (t : Table) (h : Course) → MatchOption result (remaining p (view_of self.old) t h ≡ Ended (ended answer) (state_of p (view_of self.new) t h) self.new.left) (λ f. remaining p (view_of self.old) t h ≡ after_answer p (view_of self.new) t f answer h self.new.left) }
         ensures nested { MatchOption result (IsNested (view_of self.new)) (λ f. Nested (reverse self.new.frames.items) (below_of f self.new.held.items)) }
         ensures within { (k : Reach) → AreReached k (view_of self.old) → AreReached k (view_of self.new) }
         ensures frame { (k : Reach) → AreReached k (view_of self.old) → IfSome result (IsFrameReached k) }

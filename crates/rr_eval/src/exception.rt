@@ -27,6 +27,7 @@ pub fn exception_class(problem: Problem) -> BuiltInClass
         Problem::MissingMethod(_, _) => BuiltInClass::NoMethodError,
         Problem::MissingName(_) | Problem::MissingConstant(_) => BuiltInClass::NameError,
         Problem::NotRaisable => BuiltInClass::TypeError,
+        Problem::NoBlock | Problem::Jump => BuiltInClass::LocalJumpError,
         Problem::Unhandled | Problem::NotHere => BuiltInClass::RuntimeError,
     }
 }

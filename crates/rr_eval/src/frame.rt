@@ -6,6 +6,7 @@ ghost use Rattle.rr_eval.specs.Frames.{base_of, stand_of, below_of};
 ghost use Rattle.rr_eval.specs.Within.{Reach, IsReached};
 
 use crate::call::Target;
+use crate::call_stack::Variable;
 use crate::problem::{Answer, Problem};
 use rr_base::ClassId;
 use rr_space::Ref;
@@ -40,8 +41,8 @@ pub enum Frame {
     Left(BinaryOperator, NodeId),
     /// An operator, with the value of its left operand.
     Right(BinaryOperator, Ref),
-    /// An assignment, with the number of its variable.
-    Store(u32),
+    /// An assignment, with its variable.
+    Store(Variable),
     /// The parts for true and for false.
     Branch(NodeId, NodeId),
     /// The condition of a loop: whether the loop goes on until it holds, the body, and the loop itself.
@@ -56,6 +57,8 @@ pub enum Frame {
     Return,
     /// The body of a method, whose variables go with it.
     Back,
+    /// A block that a `yield` calls, whose variables go with it.
+    Past,
     /// Statements: the number behind the last one, and how many are still to be evaluated.
     Rest(NodeId, u32),
     /// Values for a target: the number behind the last part, how many parts are still to be evaluated, and where the values

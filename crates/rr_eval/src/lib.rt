@@ -2,7 +2,9 @@
 #![tactic(auto)]
 
 mod awaited;
+mod blocks;
 mod call;
+mod call_stack;
 mod clauses;
 mod constant;
 mod counted;
@@ -12,6 +14,7 @@ mod exception;
 mod frame;
 mod hash;
 mod invoke;
+mod leaving;
 mod machine;
 mod message;
 mod nodes;

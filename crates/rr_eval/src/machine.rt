@@ -1,6 +1,6 @@
 //! The machine as its callers see it.
 
-ghost use Rattle.std.specs.Prelude.{◌≡◌, ◌<◌, ℕ, List, length, Option, IfOk, IfErr, suc};
+ghost use Rattle.std.specs.Prelude.{◌≡◌, ◌<◌, ℕ, List, [], ◌∷◌, length, Option, None, IfOk, IfErr, suc};
 ghost use Rattle.rr_base.specs.declared.fault.Fault.{Fault};
 ghost use Rattle.rr_eval.specs.Methods.{are_methods, definitions_of};
 ghost use Rattle.std.specs.List.{All};
@@ -20,15 +20,14 @@ ghost use Rattle.rr_eval.specs.Changes.{Changes};
 ghost use Rattle.rr_eval.specs.Within.{Reach, reach, AreReached, AreVariablesReached, AreWithin, IsControlReached, IsResponseReached, IsTurnReached, IsTurnWithin, KeepsReach, KeepsRead};
 ghost use Rattle.rr_eval.specs.Turns.{context_of, first_control, remaining, answered, Turned, Replied, Falls};
 
+use crate::call_stack::CallStack;
 use crate::engine::{Engine, Turn};
 use crate::frame::Control;
-use crate::invoke::no_activation;
 use crate::prepared::Prepared;
 use crate::problem::{Problem, Response};
 use rr_base::{Fault, Limits};
-use rr_frames::{Frames, Shape};
 use rr_space::{Ref, Space};
-use rr_tree::Program;
+use rr_tree::{NodeId, Program};
 use std::alloc::Global;
 use std::marker::Model;
 
@@ -66,23 +65,25 @@ fn first_control(prepared: &Prepared) -> Control
 }
 
 /// The frame of a program, whose variables are unset, where so many methods may be called in one another.
-fn first_calls(alloc: Global, program: &Program, most: u32) -> Result<Frames, Fault>
-    ensures calls { IfOk result (λ calls. (t : Table) → record { calls = calls; table = t; rescuing = Ref.Nil } ≡ first_memory (context_of program.now) most t) }
+fn first_calls(alloc: Global, program: &Program, most: u32) -> Result<CallStack, Fault>
+    ensures calls { IfOk result (λ calls. (t : Table) → record { calls = calls; blocks = None ∷ []; table = t; rescuing = Ref.Nil } ≡ first_memory (context_of program.now) most t) }
     ensures within { IfOk result (λ calls. (k : Reach) → All (AreVariablesReached k) calls.frames) }
     ensures fault { IfErr result (λ f. f ≡ Fault.Memory) }
 {
     let Ok(size) = u32::try_from(program.symbols.len()) else {
         return Err(Fault::Memory);
     };
-    let mut calls = Frames::new(alloc, most as usize + 1);
-    let shape = Shape {
-        parameters: 0,
-        size,
-    };
-    match calls.push(&[], None, shape, no_activation()) {
-        Ok(()) => Ok(calls),
-        Err(_) => Err(Fault::Memory),
-    }
+    CallStack::new(alloc, most, size)
+}
+
+/// The program was given no block.
+fn first_blocks(alloc: Global) -> Result<Vec<Option<NodeId>>, Fault>
+    ensures is { IfOk result (λ blocks. blocks.items ≡ None ∷ []) }
+    ensures fault { IfErr result (λ f. f ≡ Fault.Memory) }
+{
+    let mut blocks = Vec::new(alloc);
+    blocks.push(None)?;
+    Ok(blocks)
 }
 
 impl Machine {
@@ -102,6 +103,7 @@ impl Machine {
             frames: Vec::new(alloc),
             held: Vec::new(alloc),
             calls: first_calls(alloc, &prepared.program, limits.frames)?,
+            blocks: first_blocks(alloc)?,
             rescuing: Ref::Nil,
             left: limits.steps,
             alloc,

@@ -14,7 +14,7 @@ ghost use Rattle.rr_eval.specs.Changes.{Changes};
 ghost use Rattle.rr_eval.specs.Constants.{class_named};
 ghost use Rattle.rr_eval.specs.Methods.{own_method};
 ghost use Rattle.rr_eval.specs.Operators.{make};
-ghost use Rattle.rr_eval.specs.Rules.{rule, statements, values, on_table, finish, printing, raises, awaited, bare_rule, call_rule, constant_rule};
+ghost use Rattle.rr_eval.specs.Rules.{rule, statements, values, on_table, finish, printing, raises, asks_block, awaited, bare_rule, call_rule, constant_rule};
 ghost use Rattle.rr_tree.specs.Nodes.{trees_before};
 ghost use Rattle.rr_eval.specs.Nodes.{evaluated_tree, IsEvaluated, IsRareNode, is_unknown};
 ghost use Rattle.rr_eval.specs.Frames.{resumed, IsNew};
@@ -24,6 +24,7 @@ ghost use Rattle.rr_eval.specs.Within.{Reach, AreReached, AreWithin, IsFrameReac
 
 use crate::awaited::{is_awaited, is_raise};
 use crate::call::{Arguments, Callee, Target, Task};
+use crate::call_stack::Variable;
 use crate::constant::class_named;
 use crate::engine::{Engine, push_within};
 use crate::frame::{Control, Frame};
@@ -123,45 +124,6 @@ impl Engine {
         self.enter_above(frame, receiver);
     }
 
-    /// Evaluates a constant, which is a built-in class or was never set.
-    #[tactic(auto, unfolding(crate::specs::Within::AreReached))]
-    #[inline(never)]
-    fn open_constant(&mut self, program: &Program, name: Sym)
-        requires nested { IsNested (view_of self.old) }
-        ensures goes { (t : Table) (h : Course) (n : ℕ) → after_script program.now (view_of self.old) t (constant_rule (context_of program.now) (class_named (slice_index_or (context_of program.now).symbols name.0 [])) name) h n ≡ remaining_with program.now (view_of self.new) t h n }
-        ensures nested { IsNested (view_of self.new) }
-        ensures within { (k : Reach) → AreReached k (view_of self.old) → AreReached k (view_of self.new) }
-        ensures left { self.new.left ≡ self.old.left }
-        ensures size { size (view_of self.new) ≤ 3 * length self.old.frames.items + 4 }
-    {
-        self.control = match class_named(program.symbol_bytes(name)) {
-            Some(class) => {
-                if class.id().0 == ClassId::RACTOR.0 {
-                    Control::Throw(Problem::NotHere)
-                } else {
-                    Control::Give(Answer::Gave(Ref::Class(class.id())))
-                }
-            }
-            None => Control::Throw(Problem::MissingConstant(name)),
-        };
-    }
-
-    /// Evaluates a constant by its path.
-    #[tactic(auto, unfolding(crate::specs::Within::AreReached))]
-    fn open_path(&mut self, program: &Program, path: Path)
-        requires nested { IsNested (view_of self.old) }
-        ensures goes { (t : Table) (h : Course) (n : ℕ) → after_script program.now (view_of self.old) t (rule (context_of program.now) (constant path)) h n ≡ remaining_with program.now (view_of self.new) t h n }
-        ensures nested { IsNested (view_of self.new) }
-        ensures within { (k : Reach) → AreReached k (view_of self.old) → AreReached k (view_of self.new) }
-        ensures left { self.new.left ≡ self.old.left }
-        ensures size { size (view_of self.new) ≤ 3 * length self.old.frames.items + 4 }
-    {
-        match path {
-            Path::Plain(name) => self.open_constant(program, name),
-            Path::Ractor(_) => self.control = Control::Throw(Problem::NotHere),
-        }
-    }
-
     /// Evaluates a text literal: a new text, which a comment at the head of the program may freeze.
     #[inline(never)]
     fn open_text(
@@ -228,17 +190,19 @@ impl Engine {
         }
     }
 
-    /// Evaluates values, the last `count` parts before `first + count`, with which the program's method of a name is called.
-    fn open_own(
+    /// Evaluates values, the last `count` parts before `first + count`, with which the program's method of a name is called. It
+    /// is given the block of a node, where there is one.
+    pub fn open_own(
         &mut self,
         prepared: &Prepared,
         name: Sym,
+        block: Option<NodeId>,
         first: NodeId,
         count: u32,
     ) -> Result<(), Fault>
         requires small { first + count < 2 ^ 32 }
         requires nested { IsNested (view_of self.old) }
-        ensures goes { OnOk result ((t : Table) (h : Course) (n : ℕ) → after_script prepared.now.program (view_of self.old) t (values (trees_before prepared.now.program.nodes.items (first + count) count) [] (finish (context_of prepared.now.program) (Target.Own name))) h n ≡ remaining_with prepared.now.program (view_of self.new) t h n) }
+        ensures goes { OnOk result ((t : Table) (h : Course) (n : ℕ) → after_script prepared.now.program (view_of self.old) t (values (trees_before prepared.now.program.nodes.items (first + count) count) [] (finish (context_of prepared.now.program) (Target.Own name block))) h n ≡ remaining_with prepared.now.program (view_of self.new) t h n) }
         ensures nested { IsNested (view_of self.new) }
         ensures within { (k : Reach) → AreReached k (view_of self.old) → AreReached k (view_of self.new) }
         ensures left { self.new.left ≡ self.old.left }
@@ -248,10 +212,10 @@ impl Engine {
     {
         self.frames.reserve(1)?;
         match count {
-            0 => self.invoke(prepared, name, Frame::Not, None),
+            0 => self.invoke(prepared, name, block, Frame::Not, None),
             _ => {
                 let frame = Frame::Argument(
-                    Target::Own(name),
+                    Target::Own(name, block),
                     first + count,
                     count - 1,
                     self.held.len(),
@@ -293,7 +257,7 @@ impl Engine {
             self.control = Control::Throw(Problem::NotHere);
             return Ok(None);
         }
-        match self.open_own(prepared, name, first, count) {
+        match self.open_own(prepared, name, None, first, count) {
             Ok(()) => Ok(None),
             Err(fault) => Err(fault),
         }
@@ -320,7 +284,7 @@ impl Engine {
         ensures fault { IfErr result (λ f. f ≡ Fault.Memory) }
     {
         match (prepared.method(name), printing(&prepared.program, name)) {
-            (Some(_), _) => match self.open_own(prepared, name, first, count) {
+            (Some(_), _) => match self.open_own(prepared, name, None, first, count) {
                 Ok(()) => Ok(None),
                 Err(fault) => Err(fault),
             },
@@ -333,7 +297,7 @@ impl Engine {
     #[tactic(auto, unfolding(crate::specs::Within::AreReached))]
     fn open_bare(&mut self, prepared: &Prepared, name: Sym) -> Result<Option<Request>, Fault>
         requires nested { IsNested (view_of self.old) }
-        ensures goes { IfOk result (λ q. (t : Table) (h : Course) (n : ℕ) → after_script prepared.now.program (view_of self.old) t (bare_rule (context_of prepared.now.program) (own_method prepared.now.program name.0) (printing (context_of prepared.now.program) name.0) (raises (context_of prepared.now.program) name.0) name) h n ≡ continuing prepared.now.program (view_of self.new) t q h n) }
+        ensures goes { IfOk result (λ q. (t : Table) (h : Course) (n : ℕ) → after_script prepared.now.program (view_of self.old) t (bare_rule (context_of prepared.now.program) (own_method prepared.now.program name.0) (printing (context_of prepared.now.program) name.0) (raises (context_of prepared.now.program) name.0) (asks_block (context_of prepared.now.program) name.0) name) h n ≡ continuing prepared.now.program (view_of self.new) t q h n) }
         ensures nested { IsNested (view_of self.new) }
         ensures within { (k : Reach) → AreReached k (view_of self.old) → AreReached k (view_of self.new) }
         ensures left { self.new.left ≡ self.old.left }
@@ -343,7 +307,7 @@ impl Engine {
         ensures fault { IfErr result (λ f. f ≡ Fault.Memory) }
     {
         match (prepared.method(name), printing(&prepared.program, name)) {
-            (Some(_), _) => match self.open_own(prepared, name, 0, 0) {
+            (Some(_), _) => match self.open_own(prepared, name, None, 0, 0) {
                 Ok(()) => Ok(None),
                 Err(fault) => Err(fault),
             },
@@ -405,6 +369,16 @@ impl Engine {
                 count,
                 ..
             } => self.open_call(prepared, name, first, count),
+            Node::WithBlock(call, block) => match self.open_block(prepared, call, block) {
+                Ok(()) => Ok(None),
+                Err(fault) => Err(fault),
+            },
+            Node::Yield { first, count } => {
+                match self.open_yield(&prepared.program, space, first, count) {
+                    Ok(()) => Ok(None),
+                    Err(fault) => Err(fault),
+                }
+            }
             _ => unreachable!(),
         }
     }
@@ -432,7 +406,9 @@ impl Engine {
             Node::Constant(path) => self.open_path(program, path),
             Node::Truth(truth) => self.answer(Answer::Gave(Ref::Truth(truth))),
             Node::Int(z) => self.answer(Answer::Gave(Ref::Int(z))),
-            Node::Local { slot, .. } => self.answer(Answer::Gave(self.variable(slot))),
+            Node::Local { depth, slot, .. } => {
+                self.answer(Answer::Gave(self.variable(Variable { depth, slot })));
+            }
             Node::And(a, b) => self.enter_above(Frame::And(b), a),
             Node::Or(a, b) => self.enter_above(Frame::Or(b), a),
             Node::Not(a) => self.enter_above(Frame::Not, a),
@@ -452,7 +428,12 @@ impl Engine {
                 index,
                 value,
             } => self.enter_above(Frame::Element(index, value + 1), receiver),
-            Node::Assign { slot, value, .. } => self.enter_above(Frame::Store(slot), value),
+            Node::Assign {
+                depth,
+                slot,
+                value,
+                ..
+            } => self.enter_above(Frame::Store(Variable { depth, slot }), value),
             Node::OperatorAssign(op, target, value) => {
                 self.open_update(program, op, target, value);
             }
@@ -475,6 +456,7 @@ impl Engine {
                 body,
             } => self.enter_above(Frame::Condition(until, body, here), condition),
             Node::Sequence { first, count } => self.begin(first + count, count),
+            Node::Block { body, .. } => self.control = Control::Enter(body),
             Node::Item(_) => unreachable!(),
             Node::Text(_)
             | Node::Array { .. }
@@ -482,7 +464,9 @@ impl Engine {
             | Node::Hash { .. }
             | Node::Pairs { .. }
             | Node::Bare { .. }
-            | Node::Call { .. } => {
+            | Node::Call { .. }
+            | Node::WithBlock(_, _)
+            | Node::Yield { .. } => {
                 return false;
             }
             _ => self.open_unknown(node),

@@ -9,7 +9,7 @@ ghost use Rattle.rr_eval.specs.Rescuing.{rescue_rule};
 ghost use Rattle.rr_tree.specs.declared.program.Program.{Program};
 ghost use Rattle.rr_eval.specs.declared.frame.Control.{Control};
 ghost use Rattle.rr_eval.specs.declared.problem.Answer.{Answer};
-ghost use Rattle.rr_eval.specs.Rules.{in_loop};
+ghost use Rattle.rr_eval.specs.Rules.{in_loop, back, past};
 ghost use Rattle.rr_eval.specs.Script.{Script, Ret, Go};
 ghost use Rattle.rr_eval.specs.Requests.{Course};
 ghost use Rattle.rr_eval.specs.Frames.{below_of, base_of, Nested};
@@ -19,7 +19,7 @@ ghost use Rattle.rr_eval.specs.Within.{Reach, IsAnswerReached, IsFrameReached, A
 
 use crate::engine::Engine;
 use crate::frame::{Control, Frame, clear};
-use crate::problem::{Answer, ended};
+use crate::problem::{Answer, passed, returned};
 use rr_space::Space;
 use rr_tree::{NodeId, Program};
 
@@ -41,6 +41,35 @@ impl Engine {
             Answer::Done(_) => self.control = Control::Enter(place),
             _ => (),
         }
+    }
+
+    /// Passes an answer that is no value through a method, which ends with it.
+    fn leave_back(&mut self, answer: Answer)
+        requires nested { IsNested (view_of self.old) }
+        ensures goes { (p : Program) (t : Table) (h : Course) (n : ℕ) → after_script p (view_of self.old) t (back answer) h n ≡ remaining_with p (view_of self.new) t h n }
+        ensures nested { IsNested (view_of self.new) }
+        ensures within { (k : Reach) → AreReached k (view_of self.old) → IsAnswerReached k answer → AreReached k (view_of self.new) }
+        ensures left { self.new.left ≡ self.old.left }
+        ensures size { size (view_of self.new) ≤ 3 * length self.old.frames.items + 2 }
+    {
+        let number = self.calls.top();
+        self.drop_frame();
+        self.control = Control::Give(returned(number, answer));
+    }
+
+    /// Passes an answer that is no value through a block that a `yield` calls, which ends with it.
+    fn leave_past(&mut self, answer: Answer)
+        requires nested { IsNested (view_of self.old) }
+        ensures goes { (p : Program) (t : Table) (h : Course) (n : ℕ) → after_script p (view_of self.old) t (past answer) h n ≡ remaining_with p (view_of self.new) t h n }
+        ensures nested { IsNested (view_of self.new) }
+        ensures within { (k : Reach) → AreReached k (view_of self.old) → IsAnswerReached k answer → AreReached k (view_of self.new) }
+        ensures left { self.new.left ≡ self.old.left }
+        ensures size { size (view_of self.new) ≤ 3 * length self.old.frames.items + 2 }
+    {
+        let root = self.calls.running().root;
+        self.drop_frame();
+        let owner = self.calls.running().root;
+        self.control = Control::Give(passed(owner, root, answer));
     }
 
     /// Passes an answer that is no value through statements that clauses rescue, the last `count` ones before `end`.
@@ -86,10 +115,8 @@ impl Engine {
         ensures size { size (view_of self.new) ≤ 3 * length self.old.frames.items + 4 }
     {
         match frame {
-            Frame::Back => {
-                self.calls.pop();
-                self.control = Control::Give(ended(answer));
-            }
+            Frame::Back => self.leave_back(answer),
+            Frame::Past => self.leave_past(answer),
             Frame::Condition(_, _, place) => self.leave_loop(place, answer),
             Frame::Body(place) => self.leave_loop(place, answer),
             Frame::Rescue(end, count, _) => self.leave_rescued(program, space, end, count, answer),

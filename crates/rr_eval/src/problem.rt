@@ -1,6 +1,7 @@
 //! How an evaluation ends, and what an exception says.
 
 ghost use Rattle.std.specs.Prelude.{◌≡◌};
+ghost use Rattle.rr_eval.specs.Blocks.{returned, passed};
 ghost use Rattle.rr_eval.specs.Rules.{ended};
 ghost use Rattle.rr_eval.specs.Within.{Reach, IsAnswerReached};
 
@@ -24,6 +25,10 @@ pub enum Problem {
     NotRaisable,
     /// RuntimeError: nothing is given that would be raised.
     Unhandled,
+    /// LocalJumpError: `yield`, where the method was given no block.
+    NoBlock,
+    /// LocalJumpError: a `return` that has no method to leave.
+    Jump,
     /// RuntimeError: what is not evaluated yet.
     NotHere,
 }
@@ -34,12 +39,14 @@ pub enum Answer {
     Gave(Ref),
     /// With an exception, which is an object.
     Raised(Ref),
-    /// With the value of a `break`, which ends the loop.
+    /// With the value of a `break`, which ends the loop, or the call that has the block.
     Broke(Ref),
-    /// With the value of a `next`, which ends the loop's turn.
+    /// With the value of a `next`, which ends the turn of the loop or block.
     Done(Ref),
     /// With the value of a `return`, which leaves the method.
     Returned(Ref),
+    /// With the value of a method, by the number of its frame, which ends with it.
+    Ends(u32, Ref),
 }
 
 /// What an operation or a request comes to.
@@ -52,7 +59,7 @@ pub enum Response {
     Fails(Problem),
 }
 
-/// What a method ends with, whose statements end so.
+/// What a program ends with, whose statements end so.
 pub fn ended(answer: Answer) -> Answer
     ensures is { result ≡ ended answer }
     ensures within { (k : Reach) → IsAnswerReached k answer → IsAnswerReached k result }
@@ -63,5 +70,43 @@ pub fn ended(answer: Answer) -> Answer
         Answer::Broke(value) => Answer::Gave(value),
         Answer::Done(value) => Answer::Gave(value),
         Answer::Returned(value) => Answer::Gave(value),
+        Answer::Ends(_, value) => Answer::Gave(value),
+    }
+}
+
+/// What a method ends with, whose frame has the number and whose statements end so.
+pub fn returned(number: u32, answer: Answer) -> Answer
+    ensures is { result ≡ returned number answer }
+    ensures within { (k : Reach) → IsAnswerReached k answer → IsAnswerReached k result }
+{
+    match answer {
+        Answer::Gave(value) => Answer::Gave(value),
+        Answer::Raised(exception) => Answer::Raised(exception),
+        Answer::Broke(value) => Answer::Gave(value),
+        Answer::Done(value) => Answer::Gave(value),
+        Answer::Returned(value) => Answer::Gave(value),
+        Answer::Ends(other, value) => {
+            if other == number {
+                Answer::Gave(value)
+            } else {
+                Answer::Ends(other, value)
+            }
+        }
+    }
+}
+
+/// What a block ends with that a `yield` calls, whose statements end so: `owner` is the frame of the method that has the
+/// block, and `root` that of the method in which the block stands.
+pub fn passed(owner: u32, root: u32, answer: Answer) -> Answer
+    ensures is { result ≡ passed owner root answer }
+    ensures within { (k : Reach) → IsAnswerReached k answer → IsAnswerReached k result }
+{
+    match answer {
+        Answer::Gave(value) => Answer::Gave(value),
+        Answer::Raised(exception) => Answer::Raised(exception),
+        Answer::Broke(value) => Answer::Ends(owner, value),
+        Answer::Done(value) => Answer::Gave(value),
+        Answer::Returned(value) => Answer::Ends(root, value),
+        Answer::Ends(other, value) => Answer::Ends(other, value),
     }
 }

@@ -14,19 +14,20 @@ ghost use Rattle.rr_eval.specs.Script.{State, World, objects_of};
 ghost use Rattle.rr_eval.specs.Raising.{message_or_nil, raise_new, raise_kind, raise_value, raise_rule};
 ghost use Rattle.rr_eval.specs.Requests.{Course, Adds};
 ghost use Rattle.rr_eval.specs.Changes.{Changes};
-ghost use Rattle.rr_eval.specs.Rules.{values, finish, raises, bare_rule};
+ghost use Rattle.rr_eval.specs.Rules.{values, finish, raises, asks_block, bare_rule};
 ghost use Rattle.rr_eval.specs.Frames.{Code, runs_in, start, below_of, base_of, stand_of, Nested};
 ghost use Rattle.rr_eval.specs.Turns.{context_of, code_of, IsNested, remaining, remaining_with, after_script, after_values, Stands, size, waits};
 ghost use Rattle.rr_eval.specs.Views.{view_of};
 ghost use Rattle.rr_eval.specs.Within.{Reach, IsReached, IsControlReached, AreReached, AreWithin, KeepsReach, KeepsRead};
 
-use crate::awaited::is_raise;
+use crate::awaited::{is_block_given, is_raise};
 use crate::call::Target;
 use crate::engine::Engine;
 use crate::frame::{Control, Frame, clear, standing};
 use crate::problem::{Answer, Problem};
 use rr_base::{ClassId, Fault, Sym};
 use rr_builtin::{Problem as BuiltInProblem, descends};
+use rr_frames::Given;
 use rr_space::{Kind, Ref, Space};
 use rr_tree::{NodeId, Program};
 
@@ -137,11 +138,11 @@ impl Engine {
         };
     }
 
-    /// Evaluates a bare name that is neither a method's nor prints: `raise`, or one that is missing.
+    /// Evaluates a bare name that is neither a method's nor prints: `raise`, `block_given?`, or one that is missing.
     #[tactic(auto, unfolding(crate::specs::Within::AreReached))]
     pub fn open_name(&mut self, program: &Program, name: Sym)
         requires nested { IsNested (view_of self.old) }
-        ensures goes { (t : Table) (h : Course) (n : ℕ) → after_script program.now (view_of self.old) t (bare_rule (context_of program.now) None None (raises (context_of program.now) name.0) name) h n ≡ remaining_with program.now (view_of self.new) t h n }
+        ensures goes { (t : Table) (h : Course) (n : ℕ) → after_script program.now (view_of self.old) t (bare_rule (context_of program.now) None None (raises (context_of program.now) name.0) (asks_block (context_of program.now) name.0) name) h n ≡ remaining_with program.now (view_of self.new) t h n }
         ensures nested { IsNested (view_of self.new) }
         ensures within { (k : Reach) → AreReached k (view_of self.old) → AreReached k (view_of self.new) }
         ensures left { self.new.left ≡ self.old.left }
@@ -149,6 +150,9 @@ impl Engine {
     {
         if is_raise(program.symbol_bytes(name)) {
             self.raise_again();
+        } else if is_block_given(program.symbol_bytes(name)) {
+            let given = !matches!(self.calls.running().given, Given::Nothing);
+            self.control = Control::Give(Answer::Gave(Ref::Truth(given)));
         } else {
             self.control = Control::Throw(Problem::MissingName(name));
         }

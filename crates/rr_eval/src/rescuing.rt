@@ -16,6 +16,7 @@ ghost use Rattle.rr_eval.specs.Turns.{context_of, code_of, IsNested, after_scrip
 ghost use Rattle.rr_eval.specs.Views.{view_of};
 ghost use Rattle.rr_eval.specs.Within.{Reach, IsReached, AreReached};
 
+use crate::call_stack::Variable;
 use crate::clauses::{clause_at, clauses_left};
 use crate::engine::Engine;
 use crate::frame::{Control, Frame, Trial};
@@ -28,17 +29,17 @@ use rr_tree::{Node, NodeId, Program};
 impl Engine {
     /// From now on an exception is being rescued, which is also the value of a variable, where one is given.
     #[tactic(auto, unfolding(crate::specs::Within::AreReached))]
-    fn catch(&mut self, slot: Option<u32>, exception: Ref)
+    fn catch(&mut self, variable: Option<Variable>, exception: Ref)
         requires nested { IsNested (view_of self.old) }
-        ensures goes { (p : Program) (script : Script) (t : Table) (h : Course) (n : ℕ) → after_script p (view_of self.old) t (Do (with_caught slot exception) script) h n ≡ after_script p (view_of self.new) t script h n }
+        ensures goes { (p : Program) (script : Script) (t : Table) (h : Course) (n : ℕ) → after_script p (view_of self.old) t (Do (with_caught variable exception) script) h n ≡ after_script p (view_of self.new) t script h n }
         ensures nested { IsNested (view_of self.new) }
         ensures frames { self.new.frames ≡ self.old.frames }
         ensures within { (k : Reach) → AreReached k (view_of self.old) → IsReached k exception → AreReached k (view_of self.new) }
         ensures left { self.new.left ≡ self.old.left }
     {
         self.rescuing = exception;
-        match slot {
-            Some(slot) => self.calls.write(slot, exception),
+        match variable {
+            Some(variable) => self.calls.write(variable, exception),
             None => (),
         }
     }
@@ -56,7 +57,7 @@ impl Engine {
     {
         let clause = clause_at(program, place);
         let old = self.rescuing;
-        self.catch(clause.slot, exception);
+        self.catch(clause.variable, exception);
         self.enter_above(Frame::Handling(old), clause.body);
     }
 

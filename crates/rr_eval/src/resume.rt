@@ -8,7 +8,7 @@ ghost use Rattle.rr_eval.specs.declared.problem.Answer.{Answer};
 ghost use Rattle.rr_eval.specs.declared.frame.Control.{Control};
 ghost use Rattle.rr_eval.specs.declared.frame.Frame.{Frame};
 ghost use Rattle.rr_eval.specs.Context.{Context};
-ghost use Rattle.rr_eval.specs.Rules.{operation, negation, finish, back};
+ghost use Rattle.rr_eval.specs.Rules.{operation, negation, finish, back, past, return_rule};
 ghost use Rattle.rr_eval.specs.Requests.{Course, arguments_of};
 ghost use Rattle.rr_eval.specs.Frames.{resumed, runs_in, below_of, base_of, stand_of, unwind, Nested, IsRareFrame};
 ghost use Rattle.rr_eval.specs.Turns.{context_of, code_of, state_of, remaining, IsNested, after_script, after_answer, remaining_with, continuing, Stands, size, sized};
@@ -17,11 +17,12 @@ ghost use Rattle.rr_eval.specs.Views.{view_of};
 ghost use Rattle.rr_eval.specs.Within.{Reach, IsReached, IsFrameReached, IsCallReached, IsAskedReached, AreReached};
 
 use crate::call::{Arguments, Call, Callee, Target, Task, arguments_of, call_of};
+use crate::call_stack::is_outside;
 use crate::engine::{Engine, push_within};
 use crate::frame::{Control, Frame, clear, standing};
 use crate::operator::{on_integers, opposite};
 use crate::prepared::Prepared;
-use crate::problem::Answer;
+use crate::problem::{Answer, Problem};
 use crate::request::Request;
 use crate::value::goes_on;
 use rr_base::Fault;
@@ -101,21 +102,6 @@ impl Engine {
         }
     }
 
-    /// A method ends with a value, and its variables go.
-    #[tactic(auto, unfolding(crate::specs::Within::AreReached))]
-    #[inline(always)]
-    fn end_method(&mut self, value: Ref)
-        requires nested { IsNested (view_of self.old) }
-        ensures goes { (p : Program) (t : Table) (h : Course) (n : ℕ) → after_script p (view_of self.old) t (back (Answer.Gave value)) h n ≡ remaining_with p (view_of self.new) t h n }
-        ensures nested { IsNested (view_of self.new) }
-        ensures within { (k : Reach) → AreReached k (view_of self.old) → IsReached k value → AreReached k (view_of self.new) }
-        ensures left { self.new.left ≡ self.old.left }
-        ensures size { size (view_of self.new) ≡ 3 * length self.old.frames.items + 2 }
-    {
-        self.calls.pop();
-        self.control = Control::Give(Answer::Gave(value));
-    }
-
     /// Does what a frame, which is taken off the stack, does with a value, unless that needs the objects or memory.
     #[tactic(auto, unfolding(crate::specs::Within::AreReached))]
     #[inline(always)]
@@ -141,8 +127,8 @@ impl Engine {
                 true
             }
             Frame::Right(op, left) => self.operate_integers(op, left, value),
-            Frame::Store(slot) => {
-                self.calls.write(slot, value);
+            Frame::Store(variable) => {
+                self.calls.write(variable, value);
                 self.control = Control::Give(Answer::Gave(value));
                 true
             }
@@ -191,11 +177,15 @@ impl Engine {
                 true
             }
             Frame::Return => {
-                self.control = Control::Give(Answer::Returned(value));
+                self.leave_method(value);
                 true
             }
             Frame::Back => {
                 self.end_method(value);
+                true
+            }
+            Frame::Past => {
+                self.end_block(value);
                 true
             }
             Frame::Negation
@@ -296,7 +286,7 @@ impl Engine {
         requires room { length self.old.frames.items < vec_capacity self.old.frames }
         requires base { base_of frame ≤ length self.old.held.items }
         requires nested { Nested (reverse self.old.frames.items) (below_of frame self.old.held.items) }
-        ensures goes { IfOk result (λ q. (p : Program) (t : Table) (h : Course) (n : ℕ) → unwind (code_of p h.world) (reverse self.old.frames.items) (below_of frame self.old.held.items) (runs_in (code_of p h.world) (finish (context_of p) (Target.Do task) (stand_of frame self.old.held.items ++ value ∷ [])) (state_of (view_of self.old) t h) n) ≡ continuing p (view_of self.new) t q h n) }
+        ensures goes { IfOk result (λ q. (p : Program) (t : Table) (h : Course) (n : ℕ) → unwind (code_of p h.world) (reverse self.old.frames.items) (below_of frame self.old.held.items) (runs_in (code_of p h.world) (finish (context_of p) (Target.Do task) (stand_of frame self.old.held.items ++ value ∷ [])) (state_of p (view_of self.old) t h) n) ≡ continuing p (view_of self.new) t q h n) }
         ensures nested { OnOk result (IsNested (view_of self.new)) }
         ensures within { (k : Reach) → AreReached k (view_of self.old) → AreReached k (view_of self.new) }
         ensures asks { (k : Reach) → AreReached k (view_of self.old) → IsReached k value → IfOk result (IsAskedReached k) }
@@ -317,7 +307,7 @@ impl Engine {
         requires room { length self.old.frames.items < vec_capacity self.old.frames }
         requires base { base_of frame ≤ length self.old.held.items }
         requires nested { Nested (reverse self.old.frames.items) (below_of frame self.old.held.items) }
-        ensures goes { IfOk result (λ q. (p : Program) (t : Table) (h : Course) (n : ℕ) → unwind (code_of p h.world) (reverse self.old.frames.items) (below_of frame self.old.held.items) (runs_in (code_of p h.world) (finish (context_of p) (Target.Call callee) (stand_of frame self.old.held.items ++ value ∷ [])) (state_of (view_of self.old) t h) n) ≡ continuing p (view_of self.new) t q h n) }
+        ensures goes { IfOk result (λ q. (p : Program) (t : Table) (h : Course) (n : ℕ) → unwind (code_of p h.world) (reverse self.old.frames.items) (below_of frame self.old.held.items) (runs_in (code_of p h.world) (finish (context_of p) (Target.Call callee) (stand_of frame self.old.held.items ++ value ∷ [])) (state_of p (view_of self.old) t h) n) ≡ continuing p (view_of self.new) t q h n) }
         ensures nested { OnOk result (IsNested (view_of self.new)) }
         ensures within { (k : Reach) → AreReached k (view_of self.old) → AreReached k (view_of self.new) }
         ensures asks { (k : Reach) → AreReached k (view_of self.old) → IsReached k value → IfOk result (IsAskedReached k) }
@@ -336,6 +326,7 @@ impl Engine {
     fn finish(
         &mut self,
         prepared: &Prepared,
+        space: &Space,
         target: Target,
         frame: Frame,
         value: Ref,
@@ -343,7 +334,7 @@ impl Engine {
         requires room { length self.old.frames.items < vec_capacity self.old.frames }
         requires base { base_of frame ≤ length self.old.held.items }
         requires nested { Nested (reverse self.old.frames.items) (below_of frame self.old.held.items) }
-        ensures goes { IfOk result (λ q. (t : Table) (h : Course) (n : ℕ) → unwind (code_of prepared.now.program h.world) (reverse self.old.frames.items) (below_of frame self.old.held.items) (runs_in (code_of prepared.now.program h.world) (finish (context_of prepared.now.program) target (stand_of frame self.old.held.items ++ value ∷ [])) (state_of (view_of self.old) t h) n) ≡ continuing prepared.now.program (view_of self.new) t q h n) }
+        ensures goes { IfOk result (λ q. (h : Course) (n : ℕ) → unwind (code_of prepared.now.program h.world) (reverse self.old.frames.items) (below_of frame self.old.held.items) (runs_in (code_of prepared.now.program h.world) (finish (context_of prepared.now.program) target (stand_of frame self.old.held.items ++ value ∷ [])) (state_of prepared.now.program (view_of self.old) space.now h) n) ≡ continuing prepared.now.program (view_of self.new) space.now q h n) }
         ensures nested { OnOk result (IsNested (view_of self.new)) }
         ensures within { (k : Reach) → AreReached k (view_of self.old) → IsReached k value → AreReached k (view_of self.new) }
         ensures asks { (k : Reach) → AreReached k (view_of self.old) → IsReached k value → IfOk result (IsAskedReached k) }
@@ -356,10 +347,18 @@ impl Engine {
         match target {
             Target::Do(task) => self.ask(task, frame, value),
             Target::Call(callee) => self.send(callee, frame, value),
-            Target::Own(name) => match self.invoke(prepared, name, frame, Some(value)) {
-                Ok(()) => Ok(None),
-                Err(fault) => Err(fault),
-            },
+            Target::Own(name, block) => {
+                match self.invoke(prepared, name, block, frame, Some(value)) {
+                    Ok(()) => Ok(None),
+                    Err(fault) => Err(fault),
+                }
+            }
+            Target::Yield => {
+                match self.yield_values(&prepared.program, space, frame, Some(value)) {
+                    Ok(()) => Ok(None),
+                    Err(fault) => Err(fault),
+                }
+            }
             Target::Raise => {
                 self.finish_raise(frame, value);
                 Ok(None)
@@ -371,6 +370,7 @@ impl Engine {
     fn resume_values(
         &mut self,
         prepared: &Prepared,
+        space: &Space,
         target: Target,
         end: NodeId,
         count: u32,
@@ -380,7 +380,7 @@ impl Engine {
         requires room { length self.old.frames.items < vec_capacity self.old.frames }
         requires base { base ≤ length self.old.held.items }
         requires nested { Nested (reverse self.old.frames.items) (take base self.old.held.items) }
-        ensures goes { IfOk result (λ q. (t : Table) (h : Course) (n : ℕ) → after_answer prepared.now.program (view_of self.old) t (Frame.Argument target end count base) (Answer.Gave value) h n ≡ continuing prepared.now.program (view_of self.new) t q h n) }
+        ensures goes { IfOk result (λ q. (h : Course) (n : ℕ) → after_answer prepared.now.program (view_of self.old) space.now (Frame.Argument target end count base) (Answer.Gave value) h n ≡ continuing prepared.now.program (view_of self.new) space.now q h n) }
         ensures nested { OnOk result (IsNested (view_of self.new)) }
         ensures within { (k : Reach) → AreReached k (view_of self.old) → IsReached k value → AreReached k (view_of self.new) }
         ensures asks { (k : Reach) → AreReached k (view_of self.old) → IsReached k value → IfOk result (IsAskedReached k) }
@@ -393,6 +393,7 @@ impl Engine {
         match count {
             0 => self.finish(
                 prepared,
+                space,
                 target,
                 Frame::Argument(target, end, 0, base),
                 value,
@@ -427,7 +428,7 @@ impl Engine {
             Frame::Negation => Ok(self.negate(value)),
             Frame::Right(op, left) => Ok(self.operate(op, left, value)),
             Frame::Argument(target, end, count, base) => {
-                self.resume_values(prepared, target, end, count, base, value)
+                self.resume_values(prepared, space, target, end, count, base, value)
             }
             Frame::Key(next, end, count, base) => self.keep_key(next, end, count, base, value),
             Frame::Value(end, count, base) => {

@@ -14,7 +14,7 @@ pub returns-clause-goes : goal.returns-clause-goes
 returns-clause-goes c t h n =
     let p = c.args.program.now in
     let m = view_of c.args.self.now in
-    let s = state_of m t h in
+    let s = state_of p m t h in
     let code = code_of p h.world in
     let pair = c.pair_at-pair.result in
     let f = Key pair.1 c.args.end (c.args.count - 1) c.args.base in

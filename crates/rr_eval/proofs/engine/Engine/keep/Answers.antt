@@ -11,7 +11,7 @@ use Rattle.rr_eval.proofs.engine.Engine.keep.Goals as goal
 pub returns-clause-goes : goal.returns-clause-goes
 returns-clause-goes c p t h n =
     let m = view_of c.args.self.now in
-    let s = state_of m t h in
+    let s = state_of p m t h in
     let place = c.saturating_sub.result in
     let frames = m.frames ++ Argument c.args.target c.args.end (c.args.count - 1) c.args.base ∷ [] in
     let pushed : c.push_within.new.items.items ≡ frames = c.push_within.ensures in

@@ -16,7 +16,7 @@ use Rattle.rr_eval.proofs.engine.Engine.keep_receiver.Goals as goal
 pub returns-clause-goes : goal.returns-clause-goes
 returns-clause-goes c p t h n =
     let m = view_of c.args.self.now in
-    let s = state_of m t h in
+    let s = state_of p m t h in
     let code = code_of p h.world in
     let base = c.len-base.result in
     let value = c.args.value in

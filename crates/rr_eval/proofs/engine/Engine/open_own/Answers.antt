@@ -21,7 +21,7 @@ pub returns-in_default-clause-goes : goal.returns-in_default-clause-goes
 returns-in_default-clause-goes c = λ t h n.
     let p = c.args.prepared.now.program in
     let m = view_of c.args.self.now in
-    let script = Go (tree_at p.nodes.items c.args.first) (resumed (code_of p h.world) (Argument (Own c.args.name) (c.args.first + c.args.count) (c.args.count - 1) c.len.result) []) in
-    ap (λ r. after_script p m t r h n) (sym (values_from (code_of p h.world) (Own c.args.name) c.args.first c.args.count c.len.result (omega arith)))
-    ∙ ap (λ fs. unwind (code_of p h.world) (reverse fs) m.held (runs_in (code_of p h.world) script (state_of m t h) n)) (sym c.reserve.ensures.items)
+    let script = Go (tree_at p.nodes.items c.args.first) (resumed (code_of p h.world) (Argument (Own c.args.name c.args.block) (c.args.first + c.args.count) (c.args.count - 1) c.len.result) []) in
+    ap (λ r. after_script p m t r h n) (sym (values_from (code_of p h.world) (Own c.args.name c.args.block) c.args.first c.args.count c.len.result (omega arith)))
+    ∙ ap (λ fs. unwind (code_of p h.world) (reverse fs) m.held (runs_in (code_of p h.world) script (state_of p m t h) n)) (sym c.reserve.ensures.items)
     ∙ c.enter_above.ensures.goes p t h n

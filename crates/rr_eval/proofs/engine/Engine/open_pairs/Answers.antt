@@ -21,7 +21,7 @@ pub returns-in_ok-reserve-in_default-clause-goes : goal.returns-in_ok-reserve-in
 returns-in_ok-reserve-in_default-clause-goes c t h n =
     let p = c.args.program.now in
     let m = view_of c.args.self.now in
-    let s = state_of m t h in
+    let s = state_of p m t h in
     let code = code_of p h.world in
     let base = c.len-base.result in
     let parts = pair_parts (trees_before p.nodes.items (c.args.first + c.args.count) c.args.count) in

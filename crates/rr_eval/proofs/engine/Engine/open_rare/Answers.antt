@@ -15,7 +15,7 @@ use Rattle.rr_eval.specs.Turns.{context_of, after_script, continuing}
 use Rattle.rr_eval.specs.View.{View}
 use Rattle.rr_eval.specs.Views.{view_of}
 use Rattle.rr_eval.specs.Within.{reach}
-use Rattle.rr_eval.proofs.Lists.{call_is, array_is, interpolation_is}
+use Rattle.rr_eval.proofs.Lists.{call_is, array_is, interpolation_is, yield_is}
 use Rattle.rr_eval.proofs.Pairing.{hash_is, pairs_is}
 use Rattle.std.proofs.Common.{length}
 use Rattle.rr_eval.proofs.engine.Engine.open_rare.Goals as goal
@@ -84,3 +84,19 @@ returns-in-Hash-clause-within c cs = c.open_pairs.ensures.within (reach (length 
 
 pub returns-in-Pairs-clause-within : goal.returns-in-Pairs-clause-within
 returns-in-Pairs-clause-within c cs = c.open_pairs-in-Pairs.ensures.within (reach (length c.args.space.now.slots) cs)
+
+pub returns-in-Err-clause-err : goal.returns-in-Err-clause-err
+returns-in-Err-clause-err c = c.in-Err.ensures.err c.args.space.now
+
+pub returns-in-Ok-open_yield-clause-goes : goal.returns-in-Ok-open_yield-clause-goes
+returns-in-Ok-open_yield-clause-goes c h n =
+    let p = c.args.prepared.now.program in
+    let ns = p.nodes.items in
+    let m = view_of c.args.self.now in
+    let t = c.args.space.now in
+    ap (λ x. after_script p m t (rule (context_of p) (evaluated_tree ns x)) h n) c.in-Yield.is
+    ∙ ap (λ r. after_script p m t r h n) (sym (yield_is ns (context_of p) c.in-Yield.first c.in-Yield.count))
+    ∙ c.in-Ok-open_yield.ensures.goes h n
+
+pub returns-in-Err-open_yield-clause-err : goal.returns-in-Err-open_yield-clause-err
+returns-in-Err-open_yield-clause-err c = c.in-Err-open_yield.ensures.err c.args.space.now

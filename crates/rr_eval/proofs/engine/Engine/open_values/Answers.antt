@@ -17,7 +17,7 @@ returns-in_ok-reserve-in_default-clause-goes c p t h n =
     let ns = p.nodes.items in
     let script = Go (tree_at ns c.args.first) (resumed (code_of p h.world) (Argument (Do c.args.task) (c.args.first + c.args.count) (c.args.count - 1) c.len.result) []) in
     ap (λ r. after_script p m t r h n) (sym (values_from (code_of p h.world) (Do c.args.task) c.args.first c.args.count c.len.result (omega arith)))
-    ∙ ap (λ fs. unwind (code_of p h.world) (reverse fs) m.held (runs_in (code_of p h.world) script (state_of m t h) n)) (sym c.reserve.ensures.items)
+    ∙ ap (λ fs. unwind (code_of p h.world) (reverse fs) m.held (runs_in (code_of p h.world) script (state_of p m t h) n)) (sym c.reserve.ensures.items)
     ∙ c.enter_above.ensures.goes p t h n
 
 pub returns-in_ok-reserve-in_default-clause-within : goal.returns-in_ok-reserve-in_default-clause-within

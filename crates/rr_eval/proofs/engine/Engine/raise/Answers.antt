@@ -16,7 +16,7 @@ returns-in-Err-clause-full c p h adds =
     let m = view_of c.args.self.now in
     let t = c.args.space.now in
     let f = c.in-Err.fault in
-    let at : remaining p m t h ≡ after_script p m t (raise c.args.class c.args.message) h m.left = ap (λ k. outcome_of (code_of p h.world) m.frames m.held k (state_of m t h) m.left) c.requires.control in
+    let at : remaining p m t h ≡ after_script p m t (raise c.args.class c.args.message) h m.left = ap (λ k. outcome_of (code_of p h.world) m.frames m.held k (state_of p m t h) m.left) c.requires.control in
     subst (λ o. Passes f t.limit (objects_of o)) (sym at) (raise_passes p m t c.args.class c.args.message f h m.left adds c.in-Err.ensures.full)
 
 pub returns-in-Ok-clause-read : goal.returns-in-Ok-clause-read

@@ -25,8 +25,8 @@ returns-in-Err-clause-goes c = λ h.
     let m = view_of c.args.self.now in
     let t = c.args.space.now in
     let code = code_of p h.world in
-    ap (λ k. outcome_of code m.frames m.held k (state_of m t h) m.left) c.requires.control
-    ∙ ap (unwind code (reverse m.frames) m.held) (c.in-Err.ensures.goes h.world (state_of m t h) m.left refl)
+    ap (λ k. outcome_of code m.frames m.held k (state_of p m t h) m.left) c.requires.control
+    ∙ ap (unwind code (reverse m.frames) m.held) (c.in-Err.ensures.goes h.world (state_of p m t h) m.left refl)
     ∙ same_either c.throw.result p (record m { control = Throw c.in-Err.problem }) (view_of c.throw.new.self) t c.throw.new.space c.throw.ensures.goes c.throw.ensures.err h
 
 pub returns-in-Err-clause-within : goal.returns-in-Err-clause-within
@@ -44,7 +44,7 @@ returns-in-Err-clause-full c =
     let t = c.args.space.now in
     let mid = record m { control = Throw c.in-Err.problem } in
     let first : (h : Course) → remaining p m t h ≡ remaining p mid t h = λ h.
-    ap (λ k. outcome_of (code_of p h.world) m.frames m.held k (state_of m t h) m.left) c.requires.control
-    ∙ ap (unwind (code_of p h.world) (reverse m.frames) m.held) (c.in-Err.ensures.goes h.world (state_of m t h) m.left refl) in
+    ap (λ k. outcome_of (code_of p h.world) m.frames m.held k (state_of p m t h) m.left) c.requires.control
+    ∙ ap (unwind (code_of p h.world) (reverse m.frames) m.held) (c.in-Err.ensures.goes h.world (state_of p m t h) m.left refl) in
     on_err c.throw.result (λ f. (h : Course) → Adds h.world → Passes f t.limit (objects_of (remaining p mid t h))) (λ f. (h : Course) → Adds h.world → Passes f t.limit (objects_of (remaining p m t h)))
     (λ f passes h adds. subst (λ o. Passes f t.limit (objects_of o)) (sym (first h)) (passes h adds)) c.throw.ensures.full

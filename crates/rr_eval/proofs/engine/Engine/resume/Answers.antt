@@ -1,4 +1,6 @@
 -- What is held stays within.
+use Rattle.rr_eval.specs.declared.frame.Control.TheVariants.{Give}
+use Rattle.rr_eval.specs.declared.problem.Answer.TheVariants.{Gave}
 use Rattle.rr_eval.proofs.Holding.{with_variable}
 use Rattle.rr_eval.specs.Views.{view_of}
 use Rattle.rr_eval.proofs.engine.Engine.resume.Goals as goal
@@ -13,7 +15,7 @@ pub returns-in-Right-clause-within : goal.returns-in-Right-clause-within
 returns-in-Right-clause-within c k h frame value = c.operate_integers.ensures.within k h
 
 pub returns-in-Store-clause-within : goal.returns-in-Store-clause-within
-returns-in-Store-clause-within c k h frame value = with_variable k (view_of c.args.self.now) _ _ _ _ c.write.ensures h value value
+returns-in-Store-clause-within c k h frame value = with_variable k (view_of c.args.self.now) c.write.new.self c.in-Store.variable c.args.value (Give (Gave c.args.value)) c.write.ensures.frames h value value
 
 pub returns-in-Back-clause-within : goal.returns-in-Back-clause-within
 returns-in-Back-clause-within c k h frame value = c.end_method.ensures.within k h value
@@ -23,3 +25,9 @@ returns-in-Rest-clause-within c k h frame value = c.begin.ensures.within k h
 
 pub returns-in-Condition-clause-within : goal.returns-in-Condition-clause-within
 returns-in-Condition-clause-within c k h frame value = c.go_round.ensures.within k h
+
+pub returns-in-Return-clause-within : goal.returns-in-Return-clause-within
+returns-in-Return-clause-within c k h frame value = c.leave_method.ensures.within k h value
+
+pub returns-in-Past-clause-within : goal.returns-in-Past-clause-within
+returns-in-Past-clause-within c k h frame value = c.end_block.ensures.within k h value

@@ -28,6 +28,6 @@ returns-in-Err-clause-back c h =
     let p = c.args.prepared.now.program in
     let m = view_of c.args.self.now in
     let back = frame_back m (view_of c.resume_value.new.self) t c.args.frame c.in-Err.fault c.push_within.new.items.items (c.in-Err.ensures.err t) c.push_within.ensures in
-    sym (given (code_of p h.world) m.frames c.args.frame m.held (Gave c.args.value) (state_of m t h) m.left)
-    ∙ ap (λ k. outcome_of (code_of p h.world) (m.frames ++ c.args.frame ∷ []) m.held k (state_of m t h) m.left) (sym c.requires.control)
+    sym (given (code_of p h.world) m.frames c.args.frame m.held (Gave c.args.value) (state_of p m t h) m.left)
+    ∙ ap (λ k. outcome_of (code_of p h.world) (m.frames ++ c.args.frame ∷ []) m.held k (state_of p m t h) m.left) (sym c.requires.control)
     ∙ ap (λ v. remaining p v t h) back

@@ -17,7 +17,7 @@ returns-clause-goes c t h n =
     let tree = tree_at ns c.args.place in
     let clause = c.clause_at-clause.result in
     ap (λ x. after_script p m t (Do (with_caught x e) (Go (body_part tree) (restored m.rescuing))) h n) (sym c.clause_at-clause.ensures.target)
-    ∙ ap (λ b. after_script p m t (Do (with_caught clause.slot e) (Go b (restored m.rescuing))) h n) (sym c.clause_at-clause.ensures.body)
+    ∙ ap (λ b. after_script p m t (Do (with_caught clause.variable e) (Go b (restored m.rescuing))) h n) (sym c.clause_at-clause.ensures.body)
     ∙ c.catch.ensures.goes p (Go (tree_at ns clause.body) (restored m.rescuing)) t h n
     ∙ c.enter_above.ensures.goes p t h n
 

@@ -22,7 +22,7 @@ returns-in-Err-clause-full c h adds =
     let t = c.args.space.now in
     let f = c.in-Err.fault in
     let passes = subst (λ bytes. Passes f t.limit (length (with_text bytes t).slots)) c.in_ok-text.ensures c.in-Err.ensures.full in
-    let at : remaining p m t h ≡ after_script p m t (throw (context_of p) c.args.problem) h m.left = ap (λ k. outcome_of (code_of p h.world) m.frames m.held k (state_of m t h) m.left) c.requires.control in
+    let at : remaining p m t h ≡ after_script p m t (throw (context_of p) c.args.problem) h m.left = ap (λ k. outcome_of (code_of p h.world) m.frames m.held k (state_of p m t h) m.left) c.requires.control in
     subst (λ o. Passes f t.limit (objects_of o)) (sym at) (throw_passes p m t c.args.problem f h m.left adds passes)
 
 pub returns-in-Ok-clause-read : goal.returns-in-Ok-clause-read

@@ -6,9 +6,10 @@ use Rattle.rr_eval.specs.Methods.{are_methods, definitions_of}
 use Rattle.rr_eval.specs.Rules.{concluded, statements_of}
 use Rattle.rr_eval.specs.Frames.{start, unwind}
 use Rattle.rr_eval.specs.Script.{State}
-use Rattle.rr_eval.specs.Turns.{context_of, code_of}
+use Rattle.rr_eval.specs.Turns.{context_of, code_of, blocks_of}
 use Rattle.rr_eval.proofs.Entered.{first_start}
 use Rattle.rr_eval.proofs.Holding.{first_reached}
+use Rattle.rr_eval.proofs.Invoking.{no_blocks}
 use Rattle.rr_eval.proofs.machine.Machine.new.Goals as goal
 
 pub returns-clause-within : goal.returns-clause-within
@@ -21,8 +22,8 @@ returns-clause-whole c t h =
     let n = c.args.limits.steps in
     let simple = are_methods (definitions_of p) in
     let tree = tree_at p.nodes.items p.root in
-    let s : State = record { memory = record { calls = c.in_ok-first_calls.field-0; table = t; rescuing = Nil }; asked = h.asked } in
+    let s : State = record { memory = record { calls = c.in_ok-first_calls.field-0; blocks = blocks_of p.nodes.items c.in_ok-first_blocks.field-0.items; table = t; rescuing = Nil }; asked = h.asked } in
     ap (λ fs. unwind code (reverse fs) c.new-2.result.items (start code c.first_control.result s n)) c.new.ensures.items
     ∙ ap (λ k. concluded (start code k s n)) c.first_control.ensures.is
     ∙ ap concluded (first_start p h.world simple p.root s n)
-    ∙ ap (λ m. concluded (statements_of (context_of p) h.world simple tree (record { memory = m; asked = h.asked }) n)) (c.in_ok-first_calls.ensures.calls t)
+    ∙ ap (λ m. concluded (statements_of (context_of p) h.world simple tree (record { memory = m; asked = h.asked }) n)) (ap (λ b. record { calls = c.in_ok-first_calls.field-0; blocks = b; table = t; rescuing = Nil }) (ap (blocks_of p.nodes.items) c.in_ok-first_blocks.ensures.is ∙ no_blocks p.nodes.items) ∙ c.in_ok-first_calls.ensures.calls t)

@@ -1,0 +1,134 @@
+-- Calls of methods and of blocks, and how they end.
+use Rattle.std.specs.Prelude.{ℕ, ◌-◌, nat_eq, nat_lt, Bool, true, false, List, [], ◌∷◌, ◌++◌, length, take, if◌then◌else◌, slice_index_or, Option, Some, None}
+use Rattle.std.specs.Option.{is_some}
+use Rattle.rr_builtin.specs.Kinds.{is_array_kind}
+use Rattle.rr_builtin.specs.declared.problem.Problem.TheVariants.{TooDeep}
+use Rattle.rr_frames.specs.Frames.{Stack, Frame as Activated, frame_at, laid, left}
+use Rattle.rr_frames.specs.declared.activation.Activation.{Activation}
+use Rattle.rr_frames.specs.declared.activation.Given.{Given}
+use Rattle.rr_frames.specs.declared.activation.Shape.{Shape}
+use Rattle.rr_frames.specs.declared.activation.Given.TheVariants as given
+use Rattle.rr_space.specs.Kinds.{kind_at}
+use Rattle.rr_space.specs.Tables.{Table}
+use Rattle.rr_space.specs.declared.refer.Ref.{Ref}
+use Rattle.rr_space.specs.declared.refer.Ref.TheVariants.{Nil, Truth}
+use Rattle.rr_tree.specs.Tree.{Tree, nil, block}
+use Rattle.rr_eval.specs.declared.call_stack.Entry.{Entry}
+use Rattle.rr_eval.specs.declared.call_stack.Entry.TheVariants.{OfMethod, OfBlock}
+use Rattle.rr_eval.specs.declared.problem.Answer.{Answer}
+use Rattle.rr_eval.specs.declared.problem.Answer.TheVariants.{Gave, Raised, Broke, Done, Returned, Ends}
+use Rattle.rr_eval.specs.declared.problem.Problem.TheVariants.{BuiltIn, NoBlock, Jump}
+use Rattle.rr_eval.specs.Basics.{throw, not_here}
+use Rattle.rr_eval.specs.Context.{Context}
+use Rattle.rr_eval.specs.Methods.{Method}
+use Rattle.rr_eval.specs.Script.{Script, Ret, Go, See, Do, Memory}
+use Rattle.rr_eval.specs.Variables.{top}
+
+-- what the frame that runs has beside its variables
+abbrev pub running : List Activated → Activation
+running frames = (frame_at (top frames) frames).activation
+
+-- What a new frame has beside its variables. The block that a method is given stands in the frame before. A block's frame lies in the
+-- one in which the block stands: its `yield` calls the block that that method was given.
+abbrev pub activation_in : Entry → List Activated → Activation
+activation_in (OfMethod false) frames = record { itself = Nil; given = given.Nothing; home = length frames; root = length frames; method = 0 }
+activation_in (OfMethod true) frames = record { itself = Nil; given = given.Block (length frames) (length frames - 1); home = length frames; root = length frames; method = 0 }
+activation_in (OfBlock home) frames = record (frame_at home frames).activation { home = home }
+
+-- one frame more, and the block that its method is given
+abbrev pub with_frame : Activated → Option Tree → Memory → Memory
+with_frame f b m = record m { calls = record m.calls { frames = m.calls.frames ++ f ∷ [] }; blocks = m.blocks ++ b ∷ [] }
+
+-- the last frame goes
+abbrev pub without_frame : Memory → Memory
+without_frame m = record m { calls = record m.calls { frames = left m.calls.frames }; blocks = take (length m.blocks - 1) m.blocks }
+
+-- What ends a method, whose frame has the number: a `return`, and what ends that frame. No `break` and no `next` stands outside of a
+-- loop or block; one would end the method too.
+abbrev pub returned : ℕ → Answer → Answer
+returned number (Gave v) = Gave v
+returned number (Raised e) = Raised e
+returned number (Broke v) = Gave v
+returned number (Done v) = Gave v
+returned number (Returned v) = Gave v
+returned number (Ends other v) = if nat_eq other number then Gave v else Ends other v
+
+-- a method ends, and its frame goes
+abbrev pub back : Answer → Script
+back a = See (λ m. Do without_frame (Ret (returned (top m.calls.frames) a)))
+
+-- What ends a block that a `yield` calls: `next` ends its turn, `break` the call that has the block, whose frame is `owner`, and
+-- `return` the method in which the block stands, whose frame is `root`.
+abbrev pub passed : ℕ → ℕ → Answer → Answer
+passed owner root (Gave v) = Gave v
+passed owner root (Raised e) = Raised e
+passed owner root (Broke v) = Ends owner v
+passed owner root (Done v) = Gave v
+passed owner root (Returned v) = Ends root v
+passed owner root (Ends other v) = Ends other v
+
+-- a block ends, and its frame goes
+abbrev pub past : Answer → Script
+past a = See (λ m. Do without_frame (See (λ k. Ret (passed (running k.calls.frames).root (running m.calls.frames).root a))))
+
+-- how a new frame ends
+abbrev pub left_by : Entry → Answer → Script
+left_by (OfMethod takes) = back
+left_by (OfBlock home) = past
+
+-- a body in a frame of its own, where there may be one more, whose parameters have these values and whose other variables are nil
+abbrev pub framed : Context → Entry → ℕ → ℕ → List Ref → Option Tree → Tree → Stack → Script
+framed c entry parameters size vs b body s =
+    if nat_lt (length s.frames) s.limit then Do (with_frame (record { variables = laid parameters size vs; activation = activation_in entry s.frames }) b) (Go body (left_by entry))
+    else throw c (BuiltIn TooDeep)
+
+-- a method's statements
+abbrev pub entered : Context → Method → Option Tree → List Ref → Stack → Script
+entered c m b vs s = framed c (OfMethod (is_some b)) m.parameters m.size vs b m.body s
+
+-- whether one array is given to several parameters
+abbrev pub spreads : ℕ → List Ref → Table → Bool
+spreads parameters (v ∷ []) t = if nat_lt 1 parameters then is_array_kind (kind_at t v) else false
+spreads parameters vs t = false
+
+-- how many parameters and how many variables a block has, and its tree
+abbrev pub shape_in : Option Tree → Option Shape
+shape_in (Some (block x parameters size body)) = Some (record { parameters = parameters; size = size })
+shape_in _ = None
+
+abbrev pub tree_in : Option Tree → Tree
+tree_in None = nil
+tree_in (Some t) = t
+
+-- A block is called, which stands in the frame `home`; that is a step of its own. An array is not spread over its parameters yet.
+abbrev pub called_as : Context → Option Shape → Tree → ℕ → List Ref → Memory → Script
+called_as c None t home vs m = throw c NoBlock
+called_as c (Some shape) t home vs m =
+    if spreads shape.parameters vs m.table then not_here c else framed c (OfBlock home) shape.parameters shape.size vs None t m.calls
+
+abbrev pub called : Context → Option Tree → ℕ → List Ref → Memory → Script
+called c b home vs m = called_as c (shape_in b) (tree_in b) home vs m
+
+-- `yield` calls the block that the method was given
+abbrev pub yield_to : Context → Given → List Ref → Memory → Script
+yield_to c given.Nothing vs m = throw c NoBlock
+yield_to c (given.Block number home) vs m = called c (slice_index_or m.blocks number None) home vs m
+
+abbrev pub yield_rule : Context → List Ref → Script
+yield_rule c vs = See (λ m. yield_to c (running m.calls.frames).given vs m)
+
+-- `block_given?`
+abbrev pub is_given : Given → Bool
+is_given given.Nothing = false
+is_given (given.Block number home) = true
+
+abbrev pub given_rule : Script
+given_rule = See (λ m. Ret (Gave (Truth (is_given (running m.calls.frames).given))))
+
+-- whether a block runs that stands in no method
+abbrev pub is_outside : List Activated → Bool
+is_outside frames = if nat_eq (running frames).root 0 then nat_lt 0 (top frames) else false
+
+-- `return` leaves the method; a block that stands in none has none to leave
+abbrev pub return_rule : Context → Ref → Script
+return_rule c v = See (λ m. if is_outside m.calls.frames then throw c Jump else Ret (Returned v))

@@ -1,0 +1,214 @@
+//! The frames of the program and of the methods and blocks that run, by numbers of 32 bits.
+
+ghost use Rattle.std.specs.Prelude.{false, ◌≡◌, ◌+◌, ◌-◌, ◌<◌, ◌∷◌, ◌++◌, [], nat_lt, length, IfOk, IfErr, OnOk, OnErr, if◌then◌else◌};
+ghost use Rattle.std.specs.List.{All};
+ghost use Rattle.rr_base.specs.declared.fault.Fault.{Fault};
+ghost use Rattle.rr_base.specs.declared.limits.LimitKind.{LimitKind};
+ghost use Rattle.rr_frames.specs.Frames.{frame_at, laid, left, list_of};
+ghost use Rattle.rr_eval.specs.Blocks.{activation_in, running, is_outside};
+ghost use Rattle.rr_eval.specs.Variables.{top, outer, read_variable, write_variable};
+ghost use Rattle.rr_eval.specs.Within.{Reach, IsReached, AreVariablesReached};
+
+use rr_base::Fault;
+use rr_frames::{Activation, Frames, Given, Shape};
+use rr_space::Ref;
+use std::alloc::Global;
+use std::marker::Model;
+
+/// A variable: how many scopes outside of the frame that runs it is, and its number there.
+#[derive(Clone, Copy)]
+pub struct Variable {
+    pub depth: u32,
+    pub slot: u32,
+}
+
+/// What a new frame is for.
+#[derive(Clone, Copy)]
+pub enum Entry {
+    /// A method, and whether it is given a block.
+    OfMethod(bool),
+    /// A block, by the number of the frame in which it stands.
+    OfBlock(u32),
+}
+
+/// The frames of the program and of the methods and blocks that run. There are no more than their numbers allow.
+#[derive(Drop)]
+pub struct CallStack {
+    frames: Frames,
+}
+
+impl Model for CallStack {
+    ghost use Rattle.std.specs.Prelude.{◌≤◌, ◌^◌, length};
+    ghost use Rattle.rr_frames.specs.Frames.{Stack};
+
+    ghost Value = { Stack };
+
+    ghost view = { λ s. s.frames };
+
+    ghost invariant = { λ s. (length s.frames.frames ≤ s.frames.limit) × (s.frames.limit ≤ 2 ^ 32) };
+}
+
+/// What a frame has beside its variables where there is none.
+fn no_activation() -> Activation
+    ensures { result ≡ activation_in (Entry.OfMethod false) [] }
+{
+    Activation {
+        itself: Ref::Nil,
+        given: Given::Nothing,
+        home: 0,
+        root: 0,
+        method: 0,
+    }
+}
+
+/// Whether a block runs that stands in no method.
+pub fn is_outside(calls: &CallStack) -> bool
+    ensures { result ≡ is_outside calls.now.frames }
+{
+    calls.running().root == 0 && calls.top() > 0
+}
+
+impl CallStack {
+    /// The frame of a program, whose variables are unset, where so many methods and blocks may be called in one another. The
+    /// only fault is `Memory`.
+    pub fn new(alloc: Global, most: u32, size: u32) -> Result<CallStack, Fault>
+        ensures frames { IfOk result (λ s. s.frames ≡ record { variables = laid 0 size []; activation = activation_in (Entry.OfMethod false) [] } ∷ []) }
+        ensures limit { IfOk result (λ s. s.limit ≡ most + 1) }
+        ensures fault { IfErr result (λ f. f ≡ Fault.Memory) }
+    {
+        let mut frames = Frames::new(alloc, most as usize + 1);
+        let shape = Shape {
+            parameters: 0,
+            size,
+        };
+        match frames.push(&[], None, shape, no_activation()) {
+            Ok(()) => Ok(CallStack { frames }),
+            Err(_) => Err(Fault::Memory),
+        }
+    }
+
+    /// The number of the frame that runs.
+    #[inline(always)]
+    pub fn top(&self) -> u32
+        ensures { result ≡ top self.now.frames }
+    {
+        self.frames.len().saturating_sub(1) as u32
+    }
+
+    /// What a frame has beside its variables.
+    #[inline(always)]
+    pub fn activation(&self, number: u32) -> Activation
+        ensures { result ≡ (frame_at number self.now.frames).activation }
+    {
+        match self.frames.activation(number) {
+            Some(activation) => activation,
+            None => no_activation(),
+        }
+    }
+
+    /// What the frame that runs has beside its variables.
+    #[inline(always)]
+    pub fn running(&self) -> Activation
+        ensures { result ≡ running self.now.frames }
+    {
+        self.activation(self.top())
+    }
+
+    /// The number of the frame so many scopes outside of the one that runs.
+    fn outer(&self, depth: u32) -> u32
+        ensures { result ≡ outer depth (top self.now.frames) self.now.frames }
+    {
+        let mut number = self.top();
+        let mut more = depth;
+        while more > 0 {
+            number = self.activation(number).home;
+            more -= 1;
+        }
+        number
+    }
+
+    /// The value of a variable; nil where there is none.
+    #[inline(always)]
+    pub fn read(&self, variable: Variable) -> Ref
+        ensures { result ≡ read_variable variable self.now.frames }
+    {
+        match variable.depth {
+            0 => self.frames.read(variable.slot),
+            depth => self.frames.get(self.outer(depth), variable.slot),
+        }
+    }
+
+    /// Gives a variable another value. Nothing is done where there is no such variable.
+    #[inline(always)]
+    pub fn write(&mut self, variable: Variable, value: Ref)
+        ensures frames { self.new.frames ≡ write_variable variable value self.old.frames }
+        ensures limit { self.new.limit ≡ self.old.limit }
+    {
+        match variable.depth {
+            0 => self.frames.write(variable.slot, value),
+            depth => {
+                let number = self.outer(depth);
+                self.frames.set(number, variable.slot, value);
+            }
+        }
+    }
+
+    /// What a new frame has beside its variables.
+    fn activation_in(&self, entry: Entry) -> Activation
+        ensures { length self.now.frames < self.now.limit → result ≡ activation_in entry self.now.frames }
+    {
+        match entry {
+            Entry::OfMethod(has_block) => {
+                let number = u32::try_from(self.frames.len()).unwrap_or(u32::MAX);
+                let given = match has_block {
+                    true => Given::Block {
+                        block: number,
+                        home: number.saturating_sub(1),
+                    },
+                    false => Given::Nothing,
+                };
+                Activation {
+                    itself: Ref::Nil,
+                    given,
+                    home: number,
+                    root: number,
+                    method: 0,
+                }
+            }
+            Entry::OfBlock(home) => Activation {
+                home,
+                ..self.activation(home)
+            },
+        }
+    }
+
+    /// A new frame, the one that runs, whose parameters have these values. `last` stands behind `values`.
+    ///
+    /// The faults leave the frames as they were. `Limit(Frames)`: there are as many as there may be. `Memory`: a growth was
+    /// refused.
+    pub fn push(
+        &mut self,
+        values: &[Ref],
+        last: Option<Ref>,
+        shape: Shape,
+        entry: Entry,
+    ) -> Result<(), Fault>
+        ensures pushed { OnOk result (self.new.frames ≡ self.old.frames ++ record { variables = laid shape.parameters shape.size (values.now ++ list_of last); activation = activation_in entry self.old.frames } ∷ []) }
+        ensures room { OnOk result (length self.old.frames < self.old.limit) }
+        ensures limit { self.new.limit ≡ self.old.limit }
+        ensures refused { OnErr result (self.new ≡ self.old) }
+        ensures fault { IfErr result (λ fault. fault ≡ (if nat_lt (length self.old.frames) self.old.limit then Fault.Memory else Fault.Limit LimitKind.Frames)) }
+    {
+        let activation = self.activation_in(entry);
+        self.frames.push(values, last, shape, activation)
+    }
+
+    /// Takes the frame that runs away. Nothing is done where there is none.
+    #[inline(always)]
+    pub fn pop(&mut self)
+        ensures frames { self.new.frames ≡ left self.old.frames }
+        ensures limit { self.new.limit ≡ self.old.limit }
+    {
+        self.frames.pop();
+    }
+}
