@@ -15,7 +15,7 @@ use std::alloc::Global;
 use std::test::Fail;
 
 /// A program with this name, and two others.
-fn program(alloc: Global, name: &[u8]) -> Result<Program, Fail> {
+pub fn program(alloc: Global, name: &[u8]) -> Result<Program, Fail> {
     let mut symbols = Vec::new(alloc);
     symbols.push(name.to_vec(alloc)?)?;
     symbols.push(b"b".to_vec(alloc)?)?;
@@ -34,7 +34,12 @@ fn program(alloc: Global, name: &[u8]) -> Result<Program, Fail> {
     })
 }
 
-fn inspected(alloc: Global, space: &Space, program: &Program, value: Ref) -> Result<Vec<u8>, Fail> {
+pub fn inspected(
+    alloc: Global,
+    space: &Space,
+    program: &Program,
+    value: Ref,
+) -> Result<Vec<u8>, Fail> {
     match text(alloc, space, program, value, Form::Inspect)? {
         Text::Bytes(bytes) => Ok(bytes),
         Text::Deep => Err(Fail::from("deep")),
@@ -43,7 +48,7 @@ fn inspected(alloc: Global, space: &Space, program: &Program, value: Ref) -> Res
 }
 
 /// `MESSAGE (CLASS)`
-fn raised(alloc: Global, program: &Program, problem: Problem) -> Result<Vec<u8>, Fail> {
+pub fn raised(alloc: Global, program: &Program, problem: Problem) -> Result<Vec<u8>, Fail> {
     let mut out = Vec::new(alloc);
     problem.write(&mut out, program)?;
     out.extend_from_slice(b" (")?;
@@ -52,14 +57,14 @@ fn raised(alloc: Global, program: &Program, problem: Problem) -> Result<Vec<u8>,
     Ok(out)
 }
 
-fn missing(alloc: Global, program: &Program, receiver: Receiver) -> Result<Vec<u8>, Fail> {
+pub fn missing(alloc: Global, program: &Program, receiver: Receiver) -> Result<Vec<u8>, Fail> {
     let mut out = Vec::new(alloc);
     write_missing(&mut out, program, program.symbol_bytes(Sym(0)), receiver)?;
     Ok(out)
 }
 
 /// What the message of a missing method calls a value.
-fn receiver_of(space: &Space, value: Ref) -> Receiver {
+pub fn receiver_of(space: &Space, value: Ref) -> Receiver {
     match value {
         Ref::Class(class) => Receiver::Class(class),
         _ => Receiver::Instance(space.class_of(value)),
@@ -67,7 +72,7 @@ fn receiver_of(space: &Space, value: Ref) -> Receiver {
 }
 
 /// Calls the method on the first value with those behind it.
-fn called(
+pub fn called(
     alloc: Global,
     space: &mut Space,
     program: &Program,
@@ -125,7 +130,7 @@ pub fn outcome(alloc: Global, line: &str) -> Result<Vec<u8>, Fail> {
 }
 
 /// The value of a call that gives one.
-fn given(built: Built) -> Result<Ref, Fail> {
+pub fn given(built: Built) -> Result<Ref, Fail> {
     match built {
         Built::Value(value) => Ok(value),
         Built::Raised(_) => Err(Fail::from("raised")),
@@ -134,7 +139,7 @@ fn given(built: Built) -> Result<Ref, Fail> {
 }
 
 /// Calls a method of hashes with integers, and writes what it gives.
-fn told(
+pub fn told(
     alloc: Global,
     space: &mut Space,
     program: &Program,

@@ -19,3 +19,4 @@ pub mod Each
 pub mod Sorting
 pub mod Items
 pub mod Serving
+pub mod Iterating

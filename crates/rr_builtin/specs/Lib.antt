@@ -22,3 +22,5 @@ pub mod News
 pub mod Containers
 pub mod Calls
 pub mod Copies
+pub mod Rounds
+pub mod Iterations

@@ -30,7 +30,7 @@ use rr_tree::{BinaryOperator, Program};
 use std::alloc::Global;
 
 /// The argument of that place; nil where there is none.
-fn argument_at(arguments: &[Ref], place: usize) -> Ref
+pub(crate) fn argument_at(arguments: &[Ref], place: usize) -> Ref
     ensures is { result ≡ slice_index_or arguments.now place Ref.Nil }
     ensures within { (k : ℕ) → All (IsWithin k) arguments.now → IsWithin k result }
     ensures among { (below : Below) → All (IsRefAmong below) arguments.now → IsRefAmong below result }

@@ -24,7 +24,7 @@ use rr_text::pair_with;
 use std::alloc::Global;
 
 /// The key that an argument is: an immediate, or the bytes of a text.
-fn key_given(alloc: Global, space: &Space, argument: Ref) -> Result<Option<Key>, Fault>
+pub(crate) fn key_given(alloc: Global, space: &Space, argument: Ref) -> Result<Option<Key>, Fault>
     ensures key { IfOk result (λ key. option_map key_of key ≡ key_given space.now argument) }
     ensures fault { IfErr result (λ f. f ≡ Fault.Memory) }
 {

@@ -119,7 +119,7 @@ fn is_appended(kind: Kind) -> bool
     }
 }
 
-fn is_container(kind: Kind) -> bool
+pub(crate) fn is_container(kind: Kind) -> bool
     ensures { result ≡ is_container kind }
 {
     match kind {

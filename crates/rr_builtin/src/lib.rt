@@ -13,6 +13,7 @@ mod dividing;
 mod hash_copies;
 mod hashes;
 mod integer;
+mod iterations;
 mod joins;
 mod kinds;
 mod method;
@@ -21,6 +22,7 @@ mod news;
 mod numbers;
 mod objects;
 mod problem;
+mod rounds;
 mod sorts;
 mod sums;
 mod texts;
@@ -34,6 +36,7 @@ pub use integer::{
     NumberProblem, absolute, compare, difference, is_even, is_odd, is_zero, opposite, product,
     quotient, remainder, sum,
 };
+pub use iterations::{Iteration, Iterations, iterations_have_names, refused};
 pub use kinds::has;
 pub use method::{BuiltInMethod, ContentMethod, NumberMethod, ObjectMethod, TellingMethod};
 pub use names::{Methods, methods_have_names};
@@ -41,3 +44,4 @@ pub use news::make_hash;
 pub use numbers::{number_answer, on_integer};
 pub use objects::is_truthy;
 pub use problem::{Problem, Receiver, write_missing};
+pub use rounds::{Round, item_at, keys_of, pair_at};
