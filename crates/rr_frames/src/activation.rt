@@ -1,14 +1,14 @@
 //! What a frame has beside its variables.
 
 use rr_space::Ref;
-use rr_tree::NodeId;
 
 /// The block that a call was given.
 #[derive(Clone, Copy, Debug, PartialEq, Eq, Drop)]
 pub enum Given {
     Nothing,
-    /// The block's node, and the number of the frame in which the block stands.
-    Block { block: NodeId, home: u32 },
+    /// Which block, by the number of the frame of the method that was given it, beside which whoever runs the frames keeps the
+    /// block; and the number of the frame in which the block stands.
+    Block { block: u32, home: u32 },
 }
 
 /// What a frame has beside its variables.
