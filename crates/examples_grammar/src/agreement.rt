@@ -14,7 +14,7 @@ use std::test::Fail;
 const LISTS: usize = 64_000;
 
 /// How many sources by chance are read.
-const SOURCES: u32 = 5_000;
+const SOURCES: u32 = 100_000;
 
 /// Whether both accept a source, where they agree on it.
 fn agreed(
