@@ -31,6 +31,11 @@ pub fn is_class(name: &[u8]) -> bool {
     is_among(CLASSES, name)
 }
 
+/// Whether a name is a word before attributes.
+pub fn is_access(name: &[u8]) -> bool {
+    is_among("attr_reader attr_writer attr_accessor", name)
+}
+
 /// A class with its superclass, as the words have them.
 #[derive(Clone, Copy)]
 pub struct Head<'a> {

@@ -11,7 +11,8 @@ use std::alloc::{AllocError, Global};
 const GRAMMAR: &str = "
 program = [ sep ] [ row { sep row } ] [ sep ] .
 row = class | def | stmt .
-class = 'class' CONST ~class ~constant [ '<' path ?superclass ] +opened sep { def sep } 'end' .
+class = 'class' CONST ~class ~constant [ '<' path ?superclass ] +opened sep { member sep } 'end' .
+member = def | NAME ?access SYMBOL { ',' SYMBOL } .
 def = 'def' +method mname ( '(' [ names ] ')' | [ names ] ) sep body 'end' +leave .
 mname = NAME [ ?tight '=' ] | '[' ?tight ']' [ ?tight '=' ]
   | '+' | '-' | '*' | '/' | '%' | '<<' | '==' | '<' | '<=' | '>' | '>=' | '<=>' .
@@ -96,6 +97,8 @@ pub enum Look {
     Constant,
     /// The last tokens are a path that the class which is opened can have as its superclass.
     Superclass,
+    /// The last token is a word before attributes.
+    Access,
     InLoop,
     InMethod,
     /// A call takes a `do` block here.
@@ -158,7 +161,7 @@ pub enum Step {
 }
 
 /// The words that stand for themselves.
-const WORDS: [(&str, Step); 53] = [
+const WORDS: [(&str, Step); 54] = [
     ("=", Step::Choose),
     ("(", Step::Choose),
     ("[", Step::Try),
@@ -195,6 +198,7 @@ const WORDS: [(&str, Step); 53] = [
     ("~opened", Step::Look(Look::Opened, false)),
     ("~constant", Step::Look(Look::Constant, false)),
     ("?superclass", Step::Look(Look::Superclass, true)),
+    ("?access", Step::Look(Look::Access, true)),
     ("?loop", Step::Look(Look::InLoop, true)),
     ("?method", Step::Look(Look::InMethod, true)),
     ("~method", Step::Look(Look::InMethod, false)),

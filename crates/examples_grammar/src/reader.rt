@@ -1,6 +1,6 @@
 //! A slow reader of tokens, which tries each way that the text of the grammar leaves open.
 
-use crate::classes::{is_class, is_fitting, last_head};
+use crate::classes::{is_access, is_class, is_fitting, last_head};
 use crate::productions::{Act, Grammar, Look, Step};
 use rr_lexer::{Keyword, Kind, Op, Token, word};
 use std::alloc::{AllocError, Global};
@@ -201,6 +201,7 @@ impl<'a> Reader<'a> {
             Look::Opened => known.opened & last.bit != 0,
             Look::Constant => known.constants & last.bit != 0,
             Look::Superclass => is_fitting(&self.words, place, known.opened),
+            Look::Access => is_access(last.text),
             Look::InLoop => known.in_loop,
             Look::InMethod => known.in_method,
             Look::TakesDo => known.takes_do,

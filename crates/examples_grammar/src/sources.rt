@@ -12,7 +12,7 @@ const WAYS: usize = 40;
 
 /// What lists by chance are made of; what is wanted more often stands there more often.
 const PIECES: &str =
-    "a a b b f f c? 1 2 't' :s k: @i $g A Ractor Object :: + - - * * / = = = += ||= == ! < << <=> && \
+    "a a b b f f c? 1 2 't' :s k: @i $g A Ractor Object attr_reader :a :: + - - * * / = = = += ||= == ! < << <=> && \
     || | | ? : . . , , ; ( ( ) ) [ [ ] ] { } \n => \"#{ }\" and not or begin break class def do do else elsif end end ensure \
     if next rescue return self super then unless until while yield nil";
 
@@ -65,6 +65,7 @@ f begin 1 end if 2
 def f; return [yield 1]; end
 class A; end; class A; def f; end; end
 class A < TypeError; end; A
+class A; attr_accessor :s, :a; def a; attr_reader; end; attr_writer :f; end
 class B; end; class A < B; end
 class A < Ractor::Error; end
 a[1], A, b.c = 2, 3

@@ -357,7 +357,7 @@ module _ (N : Readers) (R : Nested) (D : Type 0) (shrinks : ReadersShrink N) (ne
   part_full (parts.Interpolation i) = enclosed_full (interpolation_of N i) (Interpolation R i) (interpolation_full i)
   part_full (parts.Block k) = enclosed_full (block_of N k) (Block R k) (block_full k)
   part_full parts.Definition = enclosed_full (definition_of N) (Definition R) definition_full
-  part_full (parts.Class x c) = enclosed_full (class_body_of N x c) (ClassBody R x c) (class_body_full N R D shrinks.definition nests x c)
+  part_full (parts.Class x c) = enclosed_full (class_body_of N x c) (ClassBody R x c) (class_body_full N R D shrinks.class_member nests x c)
 
 -- ---- all depths
 

@@ -7,6 +7,7 @@ pub mod Prefixes
 pub mod Beginnings
 pub mod SoundOperands
 pub mod SoundCalls
+pub mod Accesses
 pub mod ClassSound
 pub mod Sound
 pub mod Steps
@@ -40,6 +41,7 @@ pub mod Programs
 pub mod Defining
 pub mod Outlines
 pub mod Rescuing
+pub mod Joining
 pub mod Opening
 pub mod Openings
 pub mod Interpolating

@@ -1,6 +1,7 @@
 -- What is seen at a place.
 use Rattle.std.proofs.Common.{◌≡◌, ℕ, suc, ◌<◌, ◌≤◌, ◌⊎◌, inl, inr, Bool, true, false, cond, List, [], ◌∷◌, length, Option, Some, None, refl, sym, ap, ◌∙◌, subst, arith}
 use Rattle.rr_base.specs.declared.name.Sym.{Sym}
+use Rattle.rr_parser.specs.declared.word.NameKind.{NameKind}
 use Rattle.rr_parser.specs.declared.word.Tail.{Tail}
 use Rattle.rr_parser.specs.declared.word.Tail.TheVariants as tails
 use Rattle.rr_parser.specs.declared.word.Head.{Head}
@@ -133,18 +134,18 @@ class-next s z o e =
 pub next-class : (s z : Place) (o : Opening) → next s ≡ Some (kind.Class o, z) → at class_word s ≡ Some (o, z)
 next-class s z o e = by_next (λ q. at class_word q ≡ Some (o, z)) s z (kind.Class o) e (λ c. refl)
 
--- a name, and whether it ends with a mark
-name_told : (k : WordKind) (x : Sym) → name_of_kind k ≡ Some x → (b : Bool) × (k ≡ kind.Name x b)
+-- a name, and what it is told from other names by
+name_told : (k : WordKind) (x : Sym) → name_of_kind k ≡ Some x → (b : NameKind) × (k ≡ kind.Name x b)
 name_told (kind.Name y b) x e = (b, cc)
 name_told _ x e = absurd cc
 
-pub name-next : (s z : Place) (x : Sym) → at name s ≡ Some (x, z) → (b : Bool) × (next s ≡ Some (kind.Name x b, z))
+pub name-next : (s z : Place) (x : Sym) → at name s ≡ Some (x, z) → (b : NameKind) × (next s ≡ Some (kind.Name x b, z))
 name-next s z x e =
     let w = seen_as (λ w. name_of_kind w.kind) s z x e in
     let t = name_told w.kind x w.told in
     (t.0, w.here ∙ ap (λ (q : WordKind). Some (q, z)) t.1)
 
-pub next-name : (s z : Place) (x : Sym) (b : Bool) → next s ≡ Some (kind.Name x b, z) → at name s ≡ Some (x, z)
+pub next-name : (s z : Place) (x : Sym) (b : NameKind) → next s ≡ Some (kind.Name x b, z) → at name s ≡ Some (x, z)
 next-name s z x b e = by_next (λ q. at name q ≡ Some (x, z)) s z (kind.Name x b) e (λ c. refl)
 
 -- ---- several words

@@ -17,7 +17,7 @@ use Rattle.rr_parser.specs.declared.word.Fence.{Fence}
 use Rattle.rr_parser.specs.Grammar.Fences.{Taking, taken, taking, within_head, fence_end}
 use Rattle.rr_parser.specs.Places.{Place, skip, separators}
 use Rattle.rr_tree.specs.Tree.{Tree}
-use Rattle.rr_parser.specs.Grammar.Chains.{same, one_of, and_one}
+use Rattle.rr_parser.specs.Grammar.Chains.{same, one_of, and_one, all_of, and_all}
 use Rattle.rr_parser.specs.Grammar.Nesting.{Nested}
 use Rattle.rr_parser.specs.Grammar.Names.{headed}
 use Rattle.rr_parser.specs.Grammar.Operands.{Blocked, no_block, a_block, Primary, a_literal, a_constant, a_path, a_negative, a_local, a_bare_call, a_call, a_block_call, a_jump, a_passing, a_passing_call, a_construct, tail, Tailed, a_sent_call, an_index, Postfix, Bang, a_bang, no_bang, Minus, a_minus, no_minus, Plain, Reached, as_it_is, an_attribute, a_block_send}
@@ -30,7 +30,7 @@ use Rattle.rr_parser.specs.Grammar.Interpolations.{text_middle, first_piece, and
 use Rattle.rr_parser.specs.Grammar.Control.{elsif, Branch, a_branch, Branches, Otherwise, no_else, an_else, Choice, a_choice, Unless, an_unless, Loop, a_loop, looping, Looped, of_loop}
 use Rattle.rr_parser.specs.Grammar.Bodies.{Class, a_class, Classes, no_classes, some_classes, with_caught, Clause, a_clause, rescues, Clauses, Rescued, no_rescue, a_rescue, Body, no_ensure, an_ensure, Begun, a_begun, Held, between_braces, until_end}
 use Rattle.rr_parser.specs.Grammar.Blocks.{entered, Block, of_statements}
-use Rattle.rr_parser.specs.Grammar.Classes.{row_of, Methods, Inner, no_methods, some_methods, ClassBody, a_class_body}
+use Rattle.rr_parser.specs.Grammar.Classes.{row_of, ClassMember, a_definition, some_attributes, Methods, Inner, no_methods, some_methods, ClassBody, a_class_body}
 use Rattle.rr_parser.specs.Grammar.Definitions.{defined, Definition, of_method}
 use Rattle.rr_parser.specs.Grammar.{FormOf, is_enclosed, Enclosed, PartOf, inside, outside}
 use Rattle.rr_parser.specs.Reading.Nesting.{Readers}
@@ -40,6 +40,7 @@ use Rattle.rr_parser.specs.Reading.Several.{targeted_of}
 use Rattle.rr_parser.specs.Reading.Sequences.{modifying_of, negation_of, expression_of, statement_of, statements_of}
 use Rattle.rr_parser.specs.Reading.Control.{branch_of}
 use Rattle.rr_parser.specs.Reading.Bodies.{class_of, clause_of}
+use Rattle.rr_parser.specs.Reading.Classes.{class_member_of}
 use Rattle.rr_parser.specs.Reading.{readers}
 use Rattle.rr_parser.proofs.Looks.{Steps-separators, Steps-thens, Steps-loops, Steps-target, Steps-tail, command-next, next-left, left, left-without_separators, Steps-row_of}
 use Rattle.rr_parser.proofs.Listing.{Steps-last, Steps-closing, parameters-less}
@@ -51,6 +52,8 @@ use Rattle.rr_parser.proofs.Formals.{Steps-method_name, formals-less}
 use Rattle.rr_parser.proofs.SoundOperands.{binary_sound, logical_sound, tailed_sound}
 use Rattle.rr_parser.proofs.SoundCalls.{targeted_sound, argument_sound, adding_sound}
 use Rattle.rr_parser.proofs.Sound.{nested, sound_nested, modifying_sound, negation_sound, expression_sound, statement_sound, statements_sound, branch_sound, class_sound, clause_sound}
+use Rattle.rr_parser.proofs.Accesses.{Steps-access, attributes_shrinking}
+use Rattle.rr_parser.proofs.ClassSound.{class_member_sound}
 use Rattle.rr_parser.specs.declared.word.Head.TheVariants as heads
 use Rattle.rr_parser.proofs.Orders.{Steps-order}
 use Rattle.rr_parser.proofs.Steps.{Steps-joined, Steps-inner_constant, Steps-path, Steps-caught, Steps-rescues, Steps-middle, Steps-text_tail, Steps-name, Steps-opening, Steps-head, Steps-bracket, Steps-connective, Steps-operator, Steps-sign, Steps-label, Steps-modifier, Steps-comma, Steps-elsif, Steps-target_word}
@@ -312,12 +315,16 @@ module _ (R : Nested) (nests : NestedShrinking R) where
   definition_shrinking s z t (of_method {m = m} {n = n} {o = o} {z = y} {x = x} {xs = xs} {t = b} e f h g) =
       omega (arith, Steps-method_name s m x e, formals-less m n xs f, body_shrinking (defined xs n) o b h, next-left o y kind.End g)
 
+  class_member_shrinking : IsShrinking (ClassMember R)
+  class_member_shrinking s z l (a_definition {m = m} {t = t} e h) = omega (arith, next-left s m kind.Def e, nests.part parts.Definition m z t h)
+  class_member_shrinking s z l (some_attributes {m = m} {a = a} e c) = omega (arith, Steps-access s m a e, attributes_shrinking a m z l c)
+
   methods_shrinking : IsShrinking (Methods R)
-  methods_shrinking = chain_shrinking (row_of kind.Def) one_of and_one (R.part parts.Definition) (Steps-row_of kind.Def) (nests.part parts.Definition)
+  methods_shrinking = chain_shrinking separators all_of and_all (ClassMember R) Steps-separators class_member_shrinking
 
   inner_shrinking : IsShrinking (Inner R)
   inner_shrinking s z t no_methods = omega arith
-  inner_shrinking s z t (some_methods {m = m} {u = u} e c) = omega (arith, Steps-row_of kind.Def s m u e, methods_shrinking m z t c)
+  inner_shrinking s z t (some_methods {m = m} {u = u} e c) = omega (arith, Steps-separators s m u e, methods_shrinking m z t c)
 
   class_body_shrinking : (x : Sym) (c : ClassId) → IsShrinking (ClassBody R x c)
   class_body_shrinking x c s z t (a_class_body {m = m} {u = u} {l = l} h e) = omega (arith, inner_shrinking s m l h, Steps-row_of kind.End m z u e)
@@ -385,7 +392,7 @@ pub record ReadersShrink (N : Readers) : Type 0 where
   pub statements : Shrinks (statements_of N)
   pub branch : Shrinks (branch_of N)
   pub clause : Shrinks (clause_of N)
-  pub definition : Shrinks (N.part parts.Definition)
+  pub class_member : Shrinks (class_member_of N)
 
 pub shrinks_nested : (b : Bool) (d : ℕ) → ReadersShrink (readers b d)
 shrinks_nested b d =
@@ -407,5 +414,5 @@ shrinks_nested b d =
       statements = shrinks_by (statements_of N) (Statements R) (statements_sound N R sounds) (statements_shrinking R nests);
       branch = shrinks_by (branch_of N) (Branch R) (branch_sound N R sounds) (branch_shrinking R nests);
       clause = shrinks_by (clause_of N) (Clause R) (clause_sound N R sounds) (clause_shrinking R nests);
-      definition = shrinks_by (N.part parts.Definition) (R.part parts.Definition) (sounds.part parts.Definition) (nests.part parts.Definition);
+      class_member = shrinks_by (class_member_of N) (ClassMember R) (class_member_sound N R sounds) (class_member_shrinking R nests);
     }

@@ -40,7 +40,7 @@ use Rattle.rr_parser.specs.Grammar.Interpolations.{text_middle, Pieces}
 use Rattle.rr_parser.specs.Grammar.Control.{thens, loops, elsif, looping, Branch, Branches}
 use Rattle.rr_parser.specs.Grammar.Bodies.{Classes, caught, with_caught, rescues, Clauses, Rescued}
 use Rattle.rr_parser.specs.Grammar.Blocks.{parameters, entered}
-use Rattle.rr_parser.specs.Grammar.Classes.{class_head, row_of, Methods}
+use Rattle.rr_parser.specs.Grammar.Classes.{class_head, Methods}
 use Rattle.rr_parser.specs.Grammar.Definitions.{method_name, formals, defined}
 use Rattle.rr_parser.specs.Grammar.Programs.{Entries}
 use Rattle.rr_parser.specs.Grammar.{inside, outside, is_enclosed}
@@ -219,9 +219,13 @@ pub data BlockFront (N : Nested) (F : Fronts) (f : Fence) : Place → Place → 
 pub data DefinitionFront (N : Nested) (F : Fronts) : Place → Place → Type 0 where
   in_method : {s m n z : Place} {x : Sym} {xs : List Sym} → at method_name s ≡ Some (x, m) → at formals m ≡ Some (xs, n) → BodyFront N F (defined xs n) z → DefinitionFront N F s z
 
--- in a definition of a class
+-- in the definition of a method of a class
+pub data MethodFront (F : Fronts) : Place → Place → Type 0 where
+  in_method_definition : {s m z : Place} → next s ≡ Some (kind.Def, m) → F.part parts.Definition m z → MethodFront F s z
+
+-- in a member of a class
 pub data ClassFront (N : Nested) (F : Fronts) : Place → Place → Type 0 where
-  in_methods : {s m z : Place} {u : Unit {0}} → at (row_of kind.Def) s ≡ Some (u, m) → ChainFront (row_of kind.Def) (Methods N) (F.part parts.Definition) m z → ClassFront N F s z
+  in_methods : {s m z : Place} {u : Unit {0}} → at separators s ≡ Some (u, m) → ChainFront separators (Methods N) (MethodFront F) m z → ClassFront N F s z
 
 -- in a part, without its own say about `do`
 abbrev pub FormFront : Nested → Fronts → Part → Place → Place → Type 0

@@ -1,5 +1,5 @@
 -- Words from tokens, with names and texts by number.
-use Rattle.std.specs.Prelude.{ℕ, ◌-◌, ◌==◌, ◌||◌, Bool, List, [], ◌∷◌, ◌++◌, map, true, false, Option, Some, None, length, fold, bytes_eq, slice_index, if◌then◌else◌}
+use Rattle.std.specs.Prelude.{ℕ, ◌-◌, ◌==◌, ◌||◌, Bool, List, [], ◌∷◌, ◌++◌, map, true, false, Option, Some, None, length, fold, bytes_eq, slice_index, codes, if◌then◌else◌}
 use Rattle.std.specs.List.{list_any, position_or_len}
 use Rattle.rr_base.specs.declared.name.Sym.{Sym}
 use Rattle.rr_base.specs.declared.class.BuiltInClass.{BuiltInClass}
@@ -15,9 +15,13 @@ use Rattle.rr_lexer.specs.Contents.{word_of, name_of, int_value_of, contents_of}
 use Rattle.rr_lexer.specs.Lines.{is_def}
 use Rattle.rr_tree.specs.declared.class.Class.{Class}
 use Rattle.rr_tree.specs.declared.node.BinaryOperator.TheVariants as op
+use Rattle.rr_parser.specs.declared.word.Access.{Access}
+use Rattle.rr_parser.specs.declared.word.Access.TheVariants as accesses
 use Rattle.rr_parser.specs.declared.word.Connective.TheVariants as connectives
 use Rattle.rr_parser.specs.declared.word.Infix.TheVariants as infixes
 use Rattle.rr_parser.specs.declared.word.Jump.TheVariants as jumps
+use Rattle.rr_parser.specs.declared.word.NameKind.{NameKind}
+use Rattle.rr_parser.specs.declared.word.NameKind.TheVariants as name_kinds
 use Rattle.rr_parser.specs.declared.word.Naming.{Naming}
 use Rattle.rr_parser.specs.declared.word.Naming.TheVariants as namings
 use Rattle.rr_parser.specs.declared.word.Opening.TheVariants as openings
@@ -156,6 +160,22 @@ number_of names name = record { 0 = position_or_len (bytes_eq name) names }
 abbrev pub is_marked : List ℕ → Bool
 is_marked name = let last = slice_index name (length name - 1) in last == 63 || last == 33
 
+-- what the methods of the attributes do behind a name, if it stands before attributes
+abbrev pub accessor_named : List ℕ → Option Access
+accessor_named name =
+    if bytes_eq name (codes "attr_reader") then Some accesses.Read
+    else if bytes_eq name (codes "attr_writer") then Some accesses.Write
+    else if bytes_eq name (codes "attr_accessor") then Some accesses.Both
+    else None
+
+abbrev pub unmarked : Option Access → NameKind
+unmarked None = name_kinds.Plain
+unmarked (Some a) = name_kinds.Accessor a
+
+-- what a name is told from other names by
+abbrev pub name_kind : List ℕ → NameKind
+name_kind name = if is_marked name then name_kinds.Marked else unmarked (accessor_named name)
+
 -- what the name of a constant is before a program sets it, by the built-in class that has it
 abbrev pub naming_of : Option BuiltInClass → Naming
 naming_of None = namings.Free
@@ -164,7 +184,7 @@ naming_of (Some _) = namings.Class
 
 -- what a token is as a word, behind these names and so many texts
 abbrev pub word_kind : List ℕ → List (List ℕ) → ℕ → Token → Kind → WordKind
-word_kind source names texts token kinds.Name = kind.Name (number_of names (token_name source token kinds.Name)) (is_marked (token_name source token kinds.Name))
+word_kind source names texts token kinds.Name = kind.Name (number_of names (token_name source token kinds.Name)) (name_kind (token_name source token kinds.Name))
 word_kind source names texts token kinds.Constant = kind.Constant (number_of names (token_name source token kinds.Constant)) (naming_of (class_named (token_name source token kinds.Constant)))
 word_kind source names texts token kinds.InstanceVariable = kind.Field (number_of names (token_name source token kinds.InstanceVariable))
 word_kind source names texts token kinds.GlobalVariable = kind.Global (number_of names (token_name source token kinds.GlobalVariable))

@@ -11,7 +11,7 @@ use crate::fences::fence_end;
 use crate::look::behind;
 use crate::parser::{Parsed, Parser};
 use crate::refusal::Refusal;
-use crate::word::{Fence, Word, WordKind};
+use crate::word::{Fence, NameKind, Word, WordKind};
 use rr_base::Sym;
 use rr_tree::{Node, NodeId};
 use std::alloc::Global;
@@ -21,7 +21,8 @@ fn variable_of_kind(kind: WordKind) -> Option<Sym>
     ensures { result ≡ variable_of_kind kind }
 {
     match kind {
-        WordKind::Name(name, marked) => { if marked { None } else { Some(name) } }
+        WordKind::Name(_, NameKind::Marked) => None,
+        WordKind::Name(name, _) => Some(name),
         _ => None,
     }
 }

@@ -2,14 +2,15 @@
 
 ghost use Rattle.std.specs.Prelude.{◌≡◌, ◌<◌, length, map, All, IfOk};
 ghost use Rattle.rr_tree.specs.Tree.{tree_at, class_body, listed};
-ghost use Rattle.rr_parser.specs.Grammar.Classes.{own_name, class_head, class_word};
-ghost use Rattle.rr_parser.specs.Reading.Classes.{methods_of, inner_of, class_body_of};
+ghost use Rattle.rr_parser.specs.Grammar.Classes.{own_name, class_head, class_word, member_row};
+ghost use Rattle.rr_parser.specs.Reading.Classes.{class_member_of, methods_of, inner_of, class_body_of};
 ghost use Rattle.rr_parser.specs.Reading.{readers};
 ghost use Rattle.rr_parser.specs.Reading.Programs.{no_class};
-ghost use Rattle.rr_parser.specs.Meets.{Sees, Fails};
+ghost use Rattle.rr_parser.specs.Meets.{Sees, SeesRest, Fails};
 
+use crate::attributes::access_word;
 use crate::bodies::path;
-use crate::look::{behind, row_of, without_separators};
+use crate::look::{behind, row_of, separators, without_separators};
 use crate::parser::{Parsed, ParsedList, Parser};
 use crate::refusal::{Refusal, Storage};
 use crate::word::{Infix, Naming, Opening, Part, Word, WordKind};
@@ -102,6 +103,16 @@ pub(crate) fn unopened(closed: bool, words: &[Word]) -> Refusal
     }
 }
 
+/// Separators, unless the `end` of a class stands behind them.
+fn member_row(words: &[Word]) -> Option<&[Word]>
+    ensures { SeesRest result (member_row words.now) }
+{
+    match row_of(WordKind::End, words) {
+        Some(_) => None,
+        None => separators(words),
+    }
+}
+
 impl Parser {
     ghost use Rattle.rr_parser.specs.Meets.{Gives, GivesList, Puts, place};
 
@@ -124,29 +135,45 @@ impl Parser {
         })
     }
 
-    /// Definitions of methods, with separators and the word `def` between them.
+    /// A member of a class: the definition of a method, or attributes.
+    #[cycle(parser)]
+    #[tactic(auto, unfolding(crate::specs::Reading::Classes::class_member_of))]
+    fn class_member<'w>(&mut self, inside: bool, depth: u32, words: &'w [Word]) -> ParsedList<'w>
+        ensures { GivesList self.old self.new result (class_member_of (readers inside depth) (place self.old words.now)) }
+    {
+        if let Some((access, rest)) = access_word(words) {
+            return self.attributes(access, rest);
+        }
+        let Some(rest) = behind(WordKind::Def, words) else {
+            return Err(Refusal::Unexpected(words.len()));
+        };
+        let (method, rest) = self.part(Part::Definition, inside, depth, rest)?;
+        let mut methods = Vec::new(self.alloc);
+        methods.push(method)?;
+        Ok((methods, rest))
+    }
+
+    /// The methods of members with separators between them.
     #[cycle(parser)]
     #[tactic(auto, unfolding(crate::specs::Reading::Classes::methods_of, crate::specs::Reading::Answers::chain))]
     fn methods<'w>(&mut self, inside: bool, depth: u32, words: &'w [Word]) -> ParsedList<'w>
         ensures { GivesList self.old self.new result (methods_of (readers inside depth) (place self.old words.now)) }
     {
-        let mut methods = Vec::new(self.alloc);
-        let (first, mut rest) = self.part(Part::Definition, inside, depth, words)?;
-        methods.push(first)?;
-        while let Some(after) = row_of(WordKind::Def, rest) {
-            let (next, after) = self.part(Part::Definition, inside, depth, after)?;
-            methods.push(next)?;
+        let (mut methods, mut rest) = self.class_member(inside, depth, words)?;
+        while let Some(after) = member_row(rest) {
+            let (more, after) = self.class_member(inside, depth, after)?;
+            methods.extend_from_slice(&more)?;
             rest = after;
         }
         Ok((methods, rest))
     }
 
-    /// The definitions in a class, if there are any.
+    /// The methods of the members of a class, if there are any.
     #[cycle(parser)]
     fn inner<'w>(&mut self, inside: bool, depth: u32, words: &'w [Word]) -> ParsedList<'w>
         ensures { GivesList self.old self.new result (inner_of (readers inside depth) (place self.old words.now)) }
     {
-        match row_of(WordKind::Def, words) {
+        match member_row(words) {
             Some(rest) => self.methods(inside, depth, rest),
             None => Ok((Vec::new(self.alloc), words)),
         }

@@ -1,6 +1,7 @@
 //! The trees of programs, read from their tokens.
 #![tactic(auto)]
 
+mod attributes;
 mod blocks;
 mod bodies;
 mod built_in;

@@ -14,7 +14,7 @@ ghost use Rattle.rr_parser.specs.Reading.Several.{ends_target, lone_target};
 ghost use Rattle.rr_parser.specs.Reading.Sequences.{ends_at, ends, row};
 ghost use Rattle.rr_parser.specs.Meets.{Sees, SeesRest};
 
-use crate::word::{Aim, Head, Infix, Listed, Sign, Tail, Target, Word, WordKind};
+use crate::word::{Aim, Head, Infix, Listed, NameKind, Sign, Tail, Target, Word, WordKind};
 use rr_base::Sym;
 use rr_tree::BinaryOperator;
 
@@ -77,7 +77,8 @@ pub(crate) fn target_word(words: &[Word]) -> Option<(Target, &[Word])>
 {
     let (word, rest) = words.split_first()?;
     match word.kind {
-        WordKind::Name(name, false) => Some((Target::Variable(name), rest)),
+        WordKind::Name(_, NameKind::Marked) => None,
+        WordKind::Name(name, _) => Some((Target::Variable(name), rest)),
         WordKind::Field(name) => Some((Target::Field(name), rest)),
         WordKind::Global(name) => Some((Target::Global(name), rest)),
         WordKind::Constant(name, naming) => Some((Target::Constant(name, naming), rest)),
@@ -314,7 +315,7 @@ pub(crate) fn without_separators(words: &[Word]) -> &[Word]
 }
 
 /// The words behind one separator or more.
-fn separators(words: &[Word]) -> Option<&[Word]>
+pub(crate) fn separators(words: &[Word]) -> Option<&[Word]>
     ensures { SeesRest result (separators words.now) }
 {
     let rest = behind(WordKind::Separator, words)?;

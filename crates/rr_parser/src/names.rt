@@ -3,14 +3,15 @@
 ghost use Rattle.std.specs.Prelude.{◌≡◌, ◌∷◌, [], ◌++◌, length, map, IfOk, OnOk};
 ghost use Rattle.rr_lexer.specs.Contents.{word_of, contents_of};
 ghost use Rattle.rr_parser.specs.BuiltIn.{class_named};
-ghost use Rattle.rr_parser.specs.Words.{keyword_kind, op_kind, is_marked, naming_of, token_name, with_name, number_of, with_symbol, with_symbol_of, with_text, word_kind, word_with, words_of, symbols_of, texts_of, classes_of};
+ghost use Rattle.rr_parser.specs.Words.{keyword_kind, op_kind, is_marked, accessor_named, name_kind, naming_of, token_name, with_name, number_of, with_symbol, with_symbol_of, with_text, word_kind, word_with, words_of, symbols_of, texts_of, classes_of};
 
 use crate::built_in::class_named;
 use crate::method_names::{MethodName, is_def, method_name_at};
 use crate::opened::{Opened, open, with_classes};
 use crate::refusal::Storage;
 use crate::word::{
-    Connective, Infix, Jump, Naming, Opening, Operation, Passing, Sign, Word, WordKind,
+    Access, Connective, Infix, Jump, NameKind, Naming, Opening, Operation, Passing, Sign, Word,
+    WordKind,
 };
 use indexmap::IndexSet;
 use rr_base::{BuiltInClass, Sym};
@@ -121,6 +122,34 @@ fn is_marked(name: &[u8]) -> bool
     matches!(name.last(), Some(b'?' | b'!'))
 }
 
+/// What the methods of the attributes do behind a name, if it stands before attributes.
+fn accessor_named(name: &[u8]) -> Option<Access>
+    ensures { result ≡ accessor_named name.now }
+{
+    if name == b"attr_reader".as_slice() {
+        Some(Access::Read)
+    } else if name == b"attr_writer".as_slice() {
+        Some(Access::Write)
+    } else if name == b"attr_accessor".as_slice() {
+        Some(Access::Both)
+    } else {
+        None
+    }
+}
+
+/// What a name is told from other names by.
+fn name_kind(name: &[u8]) -> NameKind
+    ensures { result ≡ name_kind name.now }
+{
+    if is_marked(name) {
+        return NameKind::Marked;
+    }
+    match accessor_named(name) {
+        Some(access) => NameKind::Accessor(access),
+        None => NameKind::Plain,
+    }
+}
+
 /// What the name of a constant is before a program sets it.
 fn naming(name: &[u8]) -> Naming
     ensures { result ≡ naming_of (class_named name.now) }
@@ -181,7 +210,7 @@ impl<'s> Numbering<'s> {
         Ok(match token.kind {
             Kind::Name => {
                 let name = name(source, token);
-                WordKind::Name(self.name(name)?, is_marked(name))
+                WordKind::Name(self.name(name)?, name_kind(name))
             }
             Kind::Constant => {
                 let name = name(source, token);

@@ -60,6 +60,18 @@ impl From<Storage> for Refusal {
     }
 }
 
+impl From<AllocError> for Refusal {
+    ghost use Rattle.std.specs.Prelude.{◌≡◌};
+    ghost use Rattle.rr_parser.specs.declared.refusal.Refusal.TheVariants as refusal;
+    ghost use Rattle.rr_parser.specs.declared.refusal.Storage.TheVariants.{Memory};
+
+    ghost from_gives = { λ _ e. e ≡ refusal.Storage Memory };
+
+    fn from(_e: AllocError) -> Refusal {
+        Refusal::Storage(Storage::Memory)
+    }
+}
+
 impl<T: Drop> From<AllocFailed<T>> for Refusal {
     ghost use Rattle.std.specs.Prelude.{◌≡◌};
     ghost use Rattle.rr_parser.specs.declared.refusal.Refusal.TheVariants as refusal;

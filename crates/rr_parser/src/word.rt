@@ -200,6 +200,27 @@ pub(crate) enum Part {
     Class(Sym, ClassId),
 }
 
+/// What the methods of an attribute do.
+#[derive(Clone, Copy, PartialEq, Eq, Drop)]
+pub(crate) enum Access {
+    /// One reads the instance variable.
+    Read,
+    /// One writes it.
+    Write,
+    /// One reads it, and another one writes it.
+    Both,
+}
+
+/// What a name is told from other names by.
+#[derive(Clone, Copy, PartialEq, Eq, Drop)]
+pub(crate) enum NameKind {
+    Plain,
+    /// It ends with `?` or `!`, and is no target.
+    Marked,
+    /// It stands before attributes, where it is a member of a class.
+    Accessor(Access),
+}
+
 /// What a word is.
 #[derive(Clone, Copy, PartialEq, Eq, Drop)]
 pub(crate) enum WordKind {
@@ -213,8 +234,8 @@ pub(crate) enum WordKind {
     TextMiddle(u32),
     /// The last piece.
     TextTail(u32),
-    /// A name, and whether it ends with `?` or `!`: such a name is no target.
-    Name(Sym, bool),
+    /// A name, and what it is told from other names by.
+    Name(Sym, NameKind),
     /// The first word of the name of a method that `def` defines, and how many words more it has.
     MethodName(Sym, u32),
     Nil,

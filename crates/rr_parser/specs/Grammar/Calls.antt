@@ -18,6 +18,7 @@ use Rattle.rr_parser.specs.declared.word.Sign.TheVariants as signs
 use Rattle.rr_parser.specs.declared.word.Aim.{Aim}
 use Rattle.rr_parser.specs.declared.word.Target.{Target}
 use Rattle.rr_parser.specs.declared.word.Target.TheVariants as targets
+use Rattle.rr_parser.specs.declared.word.NameKind.TheVariants as name_kinds
 use Rattle.rr_parser.specs.declared.word.Naming.TheVariants as namings
 use Rattle.rr_tree.specs.declared.node.Path.TheVariants as paths
 use Rattle.rr_parser.specs.declared.word.Listed.{Listed}
@@ -34,7 +35,8 @@ use Rattle.rr_parser.specs.Grammar.Operators.{Ternary}
 
 -- what is assigned to
 abbrev pub target_of_kind : WordKind → Option Target
-target_of_kind (kind.Name x false) = Some (targets.Variable x)
+target_of_kind (kind.Name x name_kinds.Marked) = None
+target_of_kind (kind.Name x k) = Some (targets.Variable x)
 target_of_kind (kind.Field x) = Some (targets.Field x)
 target_of_kind (kind.Global x) = Some (targets.Global x)
 target_of_kind (kind.Constant x n) = Some (targets.Constant x n)

@@ -21,3 +21,9 @@ one_of t = t ∷ []
 
 abbrev pub and_one : {A : Type 0} → Unit {0} → List A → A → List A
 and_one u l t = l ++ t ∷ []
+
+abbrev pub all_of : {A : Type 0} → List A → List A
+all_of l = l
+
+abbrev pub and_all : {A : Type 0} → Unit {0} → List A → List A → List A
+and_all u l r = l ++ r

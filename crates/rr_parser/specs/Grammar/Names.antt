@@ -10,6 +10,7 @@ use Rattle.rr_tree.specs.declared.node.BinaryOperator.TheVariants as op
 use Rattle.rr_parser.specs.declared.word.Infix.TheVariants as infixes
 use Rattle.rr_parser.specs.declared.word.Jump.{Jump}
 use Rattle.rr_parser.specs.declared.word.Jump.TheVariants as jumps
+use Rattle.rr_parser.specs.declared.word.NameKind.TheVariants as name_kinds
 use Rattle.rr_parser.specs.declared.word.Passing.{Passing}
 use Rattle.rr_parser.specs.declared.word.Passing.TheVariants as passings
 use Rattle.rr_parser.specs.declared.word.WordKind.{WordKind}
@@ -62,7 +63,7 @@ abbrev pub with_loop : Bool → Known → Known
 with_loop b k = record { locals = k.locals; level = k.level; count = k.count; begun = k.begun; in_loop = b; in_method = k.in_method; takes_do = k.takes_do }
 
 abbrev pub name_of_kind : WordKind → Option Sym
-name_of_kind (kind.Name x marked) = Some x
+name_of_kind (kind.Name x k) = Some x
 name_of_kind _ = None
 
 -- a name
@@ -71,7 +72,8 @@ name = first_as (λ w. name_of_kind w.kind)
 
 -- a name that may be a variable: no mark ends it
 abbrev pub variable_of_kind : WordKind → Option Sym
-variable_of_kind (kind.Name x marked) = if marked then None else Some x
+variable_of_kind (kind.Name x name_kinds.Marked) = None
+variable_of_kind (kind.Name x k) = Some x
 variable_of_kind _ = None
 
 abbrev pub variable : Look Sym
@@ -91,7 +93,7 @@ abbrev pub begins_operand : WordKind → Bool → Bool
 begins_operand (kind.Int n) tight = true
 begins_operand (kind.Text i) tight = true
 begins_operand (kind.TextHead i) tight = true
-begins_operand (kind.Name x marked) tight = true
+begins_operand (kind.Name x k) tight = true
 begins_operand kind.Nil tight = true
 begins_operand (kind.Truth b) tight = true
 begins_operand (kind.Symbol x) tight = true
@@ -164,7 +166,7 @@ passed_bare passings.Super = forwarding_super
 -- ---- what begins a command
 
 abbrev pub head_of_kind : WordKind → Option Head
-head_of_kind (kind.Name x marked) = Some (heads.Call x)
+head_of_kind (kind.Name x k) = Some (heads.Call x)
 head_of_kind (kind.Jump j) = Some (heads.Jump j)
 head_of_kind (kind.Passing p) = Some (heads.Passing p)
 head_of_kind _ = None

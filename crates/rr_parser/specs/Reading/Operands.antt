@@ -95,7 +95,7 @@ begun N None None m = Err wrong
 
 abbrev pub primary_at : Readers → WordKind → Place → Answer Tree
 primary_at N (kind.Int n) m = int_at n m
-primary_at N (kind.Name x marked) m = name_of N x m
+primary_at N (kind.Name x k) m = name_of N x m
 primary_at N (kind.Constant x outer) m = constant_at x outer m
 primary_at N kind.Minus m = negative_of m
 primary_at N (kind.Jump j) m = jump_at j m

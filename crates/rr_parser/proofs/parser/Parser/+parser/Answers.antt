@@ -2,7 +2,7 @@ use Rattle.std.proofs.Common.{List, [], ◌∷◌, ◌++◌, ◌-◌, ap, sym, �
 use Rattle.rr_parser.specs.Reading.Several.{targeted_of}
 use Rattle.std.proofs.lemmas.Result.{err_from_is_err_and}
 use Rattle.rr_tree.specs.Tree.{Tree}
-use Rattle.rr_parser.specs.Grammar.Chains.{and_one}
+use Rattle.rr_parser.specs.Grammar.Chains.{and_one, and_all}
 use Rattle.rr_parser.specs.Grammar.Operators.{operator, infixed, connective, joined_by}
 use Rattle.rr_parser.specs.Grammar.Sequences.{modifier, modified}
 use Rattle.rr_parser.specs.Grammar.Control.{elsif}
@@ -18,7 +18,9 @@ use Rattle.rr_parser.specs.Reading.Control.{branch_of}
 use Rattle.rr_parser.specs.Reading.Bodies.{clause_of}
 use Rattle.rr_parser.specs.Reading.{readers}
 use Rattle.rr_parser.specs.Meets.{Gives, GivesList, nodes, pairs, lists, givens, place}
-use Rattle.rr_parser.proofs.Looks.{Steps-row, Steps-row_of}
+use Rattle.rr_parser.proofs.Looks.{Steps-row}
+use Rattle.rr_parser.proofs.Accesses.{Steps-member_row}
+use Rattle.rr_parser.proofs.Joining.{joined_begin, joined_on, made_definition}
 use Rattle.rr_parser.proofs.Listing.{Steps-another}
 use Rattle.rr_parser.proofs.Steps.{Steps-comma, Steps-operator, Steps-connective, Steps-modifier, Steps-elsif, Steps-middle, Steps-rescues}
 use Rattle.rr_parser.proofs.Shrinking.{shrinks_nested}
@@ -30,9 +32,8 @@ use Rattle.rr_parser.proofs.Calling.{gives_headed, made_behind, trail_fails, tra
 use Rattle.rr_parser.proofs.Rescuing.{made_clause, made_rescued, made_ensured}
 use Rattle.rr_parser.proofs.Interpolating.{pieces_begin, pieces_on, made_interpolation}
 use Rattle.rr_parser.proofs.Assigning.{made_several, values_begin, gives_rights_outside, made_modifying, fails_modifying}
-use Rattle.rr_parser.specs.declared.word.Part.TheVariants as parts
-use Rattle.rr_parser.specs.declared.word.WordKind.TheVariants as kind
-use Rattle.rr_parser.specs.Grammar.Classes.{row_of}
+use Rattle.rr_parser.specs.Grammar.Classes.{member_row}
+use Rattle.rr_parser.specs.Reading.Classes.{class_member_of, methods_of}
 use Rattle.rr_parser.proofs.Opening.{made_class}
 use Rattle.rr_parser.proofs.parser.Parser.+parser.Goals as goal
 
@@ -357,22 +358,31 @@ pub added-returns : goal.added-returns
 added-returns t c =
     made_added (readers c.args.inside c.args.depth) c.args.list c.args.self.now c.member.new.self c.args.given _ _ _ _ _ c.requires (c.only_pairs-only.ensures c.args.self.now.nodes.items) c.in_ok-member.ensures c.in_ok-more.ensures
 
-pub methods-returns-in_err-next : goal.methods-returns-in_err-next
-methods-returns-in_err-next t c =
-    let p = err_from_is_err_and c.from_residual-in_err-next.result c.from_residual-in_err-next.ensures.1 in
-    rw (p.1, p.2) (goes_fails (lists nodes) nodes (row_of kind.Def) and_one ((readers c.args.inside c.args.depth).part parts.Definition) (Steps-row_of kind.Def) (shrinks_nested c.args.inside c.args.depth).definition _ _ _ _ _ _ _ _ c.loop-after.invariant c.in-Some.ensures c.in_err-next.ensures)
+pub class_member-returns : goal.class_member-returns
+class_member-returns t c =
+    made_definition (readers c.args.inside c.args.depth) c.args.self.now c.part.new.self _ _ _ _ _ c.in_default.ensures c.in-Some-behind.ensures c.in_ok-method.ensures (c.in_ok-push.ensures.items ∙ ap (λ l. l ++ c.in_ok-method.method ∷ []) c.new-methods.ensures.items)
+
+pub methods-loop-after-init : goal.methods-loop-after-init
+unfolding methods_of
+methods-loop-after-init t c = joined_begin member_row (class_member_of (readers c.args.inside c.args.depth)) Steps-member_row (shrinks_nested c.args.inside c.args.depth).class_member _ _ _ _ _ c.in_ok-methods.ensures
+
+pub methods-returns-in_err-more : goal.methods-returns-in_err-more
+methods-returns-in_err-more t c =
+    let p = err_from_is_err_and c.from_residual-in_err-more.result c.from_residual-in_err-more.ensures.1 in
+    rw (p.1, p.2) (goes_fails (lists nodes) (lists nodes) member_row and_all (class_member_of (readers c.args.inside c.args.depth)) Steps-member_row (shrinks_nested c.args.inside c.args.depth).class_member _ _ _ _ _ _ _ _ c.loop-after.invariant c.in-Some.ensures c.in_err-more.ensures)
 
 pub methods-loop-after-smaller : goal.methods-loop-after-smaller
 methods-loop-after-smaller t c =
-    goes_smaller (lists nodes) nodes (row_of kind.Def) and_one ((readers c.args.inside c.args.depth).part parts.Definition) (Steps-row_of kind.Def) (shrinks_nested c.args.inside c.args.depth).definition _ _ _ _ _ _ _ c.in-Some.ensures c.in_ok-next.ensures
+    goes_smaller (lists nodes) (lists nodes) member_row and_all (class_member_of (readers c.args.inside c.args.depth)) Steps-member_row (shrinks_nested c.args.inside c.args.depth).class_member _ _ _ _ _ _ _ c.in-Some.ensures c.in_ok-more.ensures
 
 pub methods-loop-after-preserved : goal.methods-loop-after-preserved
 methods-loop-after-preserved t c =
-    list_on nodes stable_nodes (row_of kind.Def) ((readers c.args.inside c.args.depth).part parts.Definition) (Steps-row_of kind.Def) (shrinks_nested c.args.inside c.args.depth).definition _ _ _ _ _ _ _ _ _ _ _ c.loop-after.invariant c.in-Some.ensures c.in_ok-next.ensures c.in_ok-push-2.ensures.items
+    joined_on member_row (class_member_of (readers c.args.inside c.args.depth)) Steps-member_row (shrinks_nested c.args.inside c.args.depth).class_member _ _ _ _ _ _ _ _ _ _ _ c.loop-after.invariant c.in-Some.ensures c.in_ok-more.ensures
+    (c.in_ok-extend_from_slice.ensures.items ∙ ap (λ l. c.loop-after.methods.items ++ l) c.deref.ensures.value)
 
 pub methods-returns : goal.methods-returns
 methods-returns t c =
-    goes_ends (lists nodes) nodes (row_of kind.Def) and_one ((readers c.args.inside c.args.depth).part parts.Definition) (Steps-row_of kind.Def) (shrinks_nested c.args.inside c.args.depth).definition _ _ _ _ _ c.loop-after.invariant c.in_default.ensures
+    goes_ends (lists nodes) (lists nodes) member_row and_all (class_member_of (readers c.args.inside c.args.depth)) Steps-member_row (shrinks_nested c.args.inside c.args.depth).class_member _ _ _ _ _ c.loop-after.invariant c.in_default.ensures
 
 pub class_body-returns : goal.class_body-returns
 class_body-returns t c =

@@ -1,6 +1,6 @@
 use Rattle.std.proofs.Common.{cond, [], ◌∷◌, ◌<◌, ◌≤◌, length, ◌+◌, ◌-◌, ◌*◌, map}
 use Rattle.rr_tree.specs.Tree.{tree_at}
-use Rattle.rr_parser.specs.Grammar.Chains.{and_one}
+use Rattle.rr_parser.specs.Grammar.Chains.{and_one, and_all}
 use Rattle.rr_parser.specs.Grammar.Operators.{operator, infixed, connective, joined_by}
 use Rattle.rr_parser.specs.Grammar.Operands.{tail}
 use Rattle.rr_parser.specs.Grammar.Sequences.{modifier}
@@ -17,10 +17,8 @@ use Rattle.rr_parser.specs.Grammar.Interpolations.{text_middle, and_piece}
 use Rattle.rr_parser.specs.Reading.Interpolations.{pieces_of}
 use Rattle.rr_parser.specs.Reading.Control.{branch_of, branches_of}
 use Rattle.rr_parser.specs.Reading.Bodies.{clause_of, clauses_of}
-use Rattle.rr_parser.specs.declared.word.Part.TheVariants as parts
-use Rattle.rr_parser.specs.declared.word.WordKind.TheVariants as kind
-use Rattle.rr_parser.specs.Grammar.Classes.{row_of}
-use Rattle.rr_parser.specs.Reading.Classes.{methods_of}
+use Rattle.rr_parser.specs.Grammar.Classes.{member_row}
+use Rattle.rr_parser.specs.Reading.Classes.{class_member_of, methods_of}
 use Rattle.rr_parser.specs.Reading.{readers}
 use Rattle.rr_parser.specs.Meets.{place, nodes, pairs, lists, givens, reaches}
 use Rattle.rr_parser.proofs.Making.{Goes}
@@ -392,10 +390,13 @@ decreases-listed l = 128 * l.depth + cond l.inside 0 64 + 35
 abbrev pub invariant-methods-loop-after : goal.invariant-methods-loop-after
 invariant-methods-loop-after l =
     Goes (lists nodes) l.fn.self l.self l.methods.items (methods_of (readers l.inside l.depth) (place l.fn.self l.fn.words))
-    (chain_on (row_of kind.Def) and_one ((readers l.inside l.depth).part parts.Definition) (map (tree_at l.self.nodes.items) l.methods.items) (place l.self l.rest))
+    (chain_on member_row and_all (class_member_of (readers l.inside l.depth)) (map (tree_at l.self.nodes.items) l.methods.items) (place l.self l.rest))
 
 abbrev pub decreases-methods-loop-after : goal.decreases-methods-loop-after
 decreases-methods-loop-after l = length l.rest
+
+abbrev pub decreases-class_member : goal.decreases-class_member
+decreases-class_member l = 128 * l.depth + cond l.inside 0 64 + 55
 
 abbrev pub decreases-methods : goal.decreases-methods
 decreases-methods l = 128 * l.depth + cond l.inside 0 64 + 56
