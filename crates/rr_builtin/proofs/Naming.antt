@@ -9,7 +9,7 @@ use Rattle.rr_builtin.specs.declared.method.ContentMethod.TheVariants as content
 use Rattle.rr_builtin.specs.declared.method.TellingMethod.TheVariants as telling
 use Rattle.rr_builtin.specs.declared.method.BuiltInMethod.{BuiltInMethod}
 use Rattle.rr_builtin.specs.declared.method.BuiltInMethod.TheVariants.{Operator, Number, Object, Content, Telling, New}
-use Rattle.rr_builtin.specs.Methods.{method_name, method_named, named_among, or_else, operators, number_methods, object_methods, content_methods, telling_methods, NamesAreOne, NamesAreMet, TableIsByName}
+use Rattle.rr_builtin.specs.Methods.{method_name, method_named, named_among, or_else, arithmetic, comparisons, number_methods, object_methods, reading_methods, writing_methods, whole_methods, telling_methods, NamesAreOne, NamesAreMet, TableIsByName}
 
 pub names_are_one : NamesAreOne
 unfolding method_named
@@ -85,10 +85,13 @@ met_else name None b m left right e = right e
 pub names_are_met : NamesAreMet
 unfolding method_named
 names_are_met name m e =
-    met_else name (named_among name operators) _ m (met_among name operators m)
+    met_else name (named_among name arithmetic) _ m (met_among name arithmetic m)
+    (met_else name (named_among name comparisons) _ m (met_among name comparisons m)
     (met_else name (named_among name number_methods) _ m (met_among name number_methods m)
     (met_else name (named_among name object_methods) _ m (met_among name object_methods m)
-    (met_else name (named_among name content_methods) _ m (met_among name content_methods m) (met_among name telling_methods m)))) e
+    (met_else name (named_among name reading_methods) _ m (met_among name reading_methods m)
+    (met_else name (named_among name writing_methods) _ m (met_among name writing_methods m)
+    (met_else name (named_among name whole_methods) _ m (met_among name whole_methods m) (met_among name telling_methods m))))))) e
 
 at_name : {A : Type 0} (ss : List (Vec ℕ A)) (n : ℕ) → slice_index_or (map (λ s. method_named s.items) ss) n None ≡ method_named (slice_index_or (map (λ s. s.items) ss) n [])
 unfolding method_named

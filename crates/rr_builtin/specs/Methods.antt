@@ -85,9 +85,11 @@ method_name (Content m) = content_name m
 method_name (Telling m) = telling_name m
 method_name New = codes "new"
 
-abbrev pub operators : List BuiltInMethod
-operators = Operator operator.Add ∷ Operator operator.Subtract ∷ Operator operator.Multiply ∷ Operator operator.Divide ∷ Operator operator.Remainder
-    ∷ Operator operator.Less ∷ Operator operator.LessOrEqual ∷ Operator operator.Greater ∷ Operator operator.GreaterOrEqual ∷ Operator operator.Compare
+abbrev pub arithmetic : List BuiltInMethod
+arithmetic = Operator operator.Add ∷ Operator operator.Subtract ∷ Operator operator.Multiply ∷ Operator operator.Divide ∷ Operator operator.Remainder ∷ []
+
+abbrev pub comparisons : List BuiltInMethod
+comparisons = Operator operator.Less ∷ Operator operator.LessOrEqual ∷ Operator operator.Greater ∷ Operator operator.GreaterOrEqual ∷ Operator operator.Compare
     ∷ Operator operator.Equal ∷ Operator operator.NotEqual ∷ []
 
 abbrev pub number_methods : List BuiltInMethod
@@ -97,10 +99,18 @@ abbrev pub object_methods : List BuiltInMethod
 object_methods = Object object.Class ∷ Object object.IsA ∷ Object object.KindOf ∷ Object object.IsNil ∷ Object object.IsIdentical ∷ Object object.Not ∷ Object object.Freeze ∷ Object object.IsFrozen
     ∷ Object object.ToS ∷ Object object.Inspect ∷ Object object.Dup ∷ []
 
-abbrev pub content_methods : List BuiltInMethod
-content_methods = Content content.Size ∷ Content content.Length ∷ Content content.IsEmpty ∷ Content content.First ∷ Content content.Last ∷ Content content.At
-    ∷ Content content.Append ∷ Content content.Push ∷ Content content.Pop ∷ Content content.Shift ∷ Content content.Includes
-    ∷ Content content.SetAt ∷ Content content.Keys ∷ Content content.Values ∷ Content content.HasKey ∷ Content content.Delete ∷ Content content.Sum ∷ Content content.Sort ∷ Content content.Join ∷ []
+-- what tells of what is in a value
+abbrev pub reading_methods : List BuiltInMethod
+reading_methods = Content content.Size ∷ Content content.Length ∷ Content content.IsEmpty ∷ Content content.First ∷ Content content.Last ∷ Content content.At
+    ∷ Content content.Includes ∷ []
+
+-- what changes what is in a value
+abbrev pub writing_methods : List BuiltInMethod
+writing_methods = Content content.Append ∷ Content content.Push ∷ Content content.Pop ∷ Content content.Shift ∷ Content content.SetAt ∷ Content content.Delete ∷ []
+
+-- what hashes are asked about their pairs, and what comes of all elements of an array
+abbrev pub whole_methods : List BuiltInMethod
+whole_methods = Content content.Keys ∷ Content content.Values ∷ Content content.HasKey ∷ Content content.Sum ∷ Content content.Sort ∷ Content content.Join ∷ []
 
 abbrev pub telling_methods : List BuiltInMethod
 telling_methods = Telling telling.Name ∷ Telling telling.Message ∷ Telling telling.Cause ∷ Telling telling.Ractor ∷ New ∷ []
@@ -117,8 +127,9 @@ or_else None other = other
 -- the built-in method of a name
 unfoldable pub method_named : List ℕ → Option BuiltInMethod
 method_named name =
-    or_else (named_among name operators) (or_else (named_among name number_methods)
-    (or_else (named_among name object_methods) (or_else (named_among name content_methods) (named_among name telling_methods))))
+    or_else (named_among name arithmetic) (or_else (named_among name comparisons) (or_else (named_among name number_methods)
+    (or_else (named_among name object_methods) (or_else (named_among name reading_methods) (or_else (named_among name writing_methods)
+    (or_else (named_among name whole_methods) (named_among name telling_methods)))))))
 
 -- each built-in method has a name of its own
 abbrev pub NamesAreOne : Type 0

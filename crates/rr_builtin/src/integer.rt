@@ -7,7 +7,7 @@ ghost use Rattle.rr_builtin.specs.Integers.{given, quotient_of, remainder_of, ab
 use crate::dividing::{floor_div, floor_mod};
 
 /// Why a method of integers gives none.
-#[derive(Clone, Copy, Debug, PartialEq, Eq, Drop)]
+#[derive(Clone, Copy, Drop)]
 pub enum NumberProblem {
     /// The divisor is 0.
     DividedByZero,

@@ -3,7 +3,7 @@
 use rr_tree::BinaryOperator;
 
 /// A method of integers without operands.
-#[derive(Clone, Copy, Debug, PartialEq, Eq, Drop)]
+#[derive(Clone, Copy, Drop)]
 pub enum NumberMethod {
     Opposite,
     Absolute,
@@ -13,7 +13,7 @@ pub enum NumberMethod {
 }
 
 /// A method that all values have but what is left of moved objects.
-#[derive(Clone, Copy, Debug, PartialEq, Eq, Drop)]
+#[derive(Clone, Copy, Drop)]
 pub enum ObjectMethod {
     Class,
     IsA,
@@ -29,7 +29,7 @@ pub enum ObjectMethod {
 }
 
 /// A method of texts, arrays and hashes.
-#[derive(Clone, Copy, Debug, PartialEq, Eq, Drop)]
+#[derive(Clone, Copy, Drop)]
 pub enum ContentMethod {
     Size,
     Length,
@@ -53,7 +53,7 @@ pub enum ContentMethod {
 }
 
 /// A method of classes or of exceptions, which tells something of them.
-#[derive(Clone, Copy, Debug, PartialEq, Eq, Drop)]
+#[derive(Clone, Copy, Drop)]
 pub enum TellingMethod {
     Name,
     Message,
@@ -63,7 +63,7 @@ pub enum TellingMethod {
 }
 
 /// A built-in method that calls no block.
-#[derive(Clone, Copy, Debug, PartialEq, Eq, Drop)]
+#[derive(Clone, Copy, Drop)]
 pub enum BuiltInMethod {
     Operator(BinaryOperator),
     Number(NumberMethod),

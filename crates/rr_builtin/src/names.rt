@@ -1,7 +1,7 @@
 //! How names lead to built-in methods.
 
 ghost use Rattle.std.specs.Prelude.{◌≡◌, None, IfOk, map, slice_index_or};
-ghost use Rattle.rr_builtin.specs.Methods.{operators, number_methods, object_methods, content_methods, telling_methods, named_among, method_named, NamesAreOne, NamesAreMet, TableIsByName};
+ghost use Rattle.rr_builtin.specs.Methods.{arithmetic, comparisons, number_methods, object_methods, reading_methods, writing_methods, whole_methods, telling_methods, named_among, method_named, NamesAreOne, NamesAreMet, TableIsByName};
 
 use crate::method::{BuiltInMethod, ContentMethod, NumberMethod, ObjectMethod, TellingMethod};
 use rr_base::Sym;
@@ -9,8 +9,8 @@ use rr_tree::{BinaryOperator, Program};
 use std::alloc::{AllocError, Global};
 use std::marker::Model;
 
-fn operator_named(name: &[u8]) -> Option<BuiltInMethod>
-    ensures { result ≡ named_among name.now operators }
+fn arithmetic_named(name: &[u8]) -> Option<BuiltInMethod>
+    ensures { result ≡ named_among name.now arithmetic }
 {
     let operator = if name == b"+".as_slice() {
         BinaryOperator::Add
@@ -22,7 +22,16 @@ fn operator_named(name: &[u8]) -> Option<BuiltInMethod>
         BinaryOperator::Divide
     } else if name == b"%".as_slice() {
         BinaryOperator::Remainder
-    } else if name == b"<".as_slice() {
+    } else {
+        return None;
+    };
+    Some(BuiltInMethod::Operator(operator))
+}
+
+fn comparison_named(name: &[u8]) -> Option<BuiltInMethod>
+    ensures { result ≡ named_among name.now comparisons }
+{
+    let operator = if name == b"<".as_slice() {
         BinaryOperator::Less
     } else if name == b"<=".as_slice() {
         BinaryOperator::LessOrEqual
@@ -92,8 +101,8 @@ fn object_method_named(name: &[u8]) -> Option<BuiltInMethod>
     Some(BuiltInMethod::Object(method))
 }
 
-fn content_method_named(name: &[u8]) -> Option<BuiltInMethod>
-    ensures { result ≡ named_among name.now content_methods }
+fn reading_method_named(name: &[u8]) -> Option<BuiltInMethod>
+    ensures { result ≡ named_among name.now reading_methods }
 {
     let method = if name == b"size".as_slice() {
         ContentMethod::Size
@@ -107,7 +116,18 @@ fn content_method_named(name: &[u8]) -> Option<BuiltInMethod>
         ContentMethod::Last
     } else if name == b"[]".as_slice() {
         ContentMethod::At
-    } else if name == b"<<".as_slice() {
+    } else if name == b"include?".as_slice() {
+        ContentMethod::Includes
+    } else {
+        return None;
+    };
+    Some(BuiltInMethod::Content(method))
+}
+
+fn writing_method_named(name: &[u8]) -> Option<BuiltInMethod>
+    ensures { result ≡ named_among name.now writing_methods }
+{
+    let method = if name == b"<<".as_slice() {
         ContentMethod::Append
     } else if name == b"push".as_slice() {
         ContentMethod::Push
@@ -115,18 +135,25 @@ fn content_method_named(name: &[u8]) -> Option<BuiltInMethod>
         ContentMethod::Pop
     } else if name == b"shift".as_slice() {
         ContentMethod::Shift
-    } else if name == b"include?".as_slice() {
-        ContentMethod::Includes
     } else if name == b"[]=".as_slice() {
         ContentMethod::SetAt
-    } else if name == b"keys".as_slice() {
+    } else if name == b"delete".as_slice() {
+        ContentMethod::Delete
+    } else {
+        return None;
+    };
+    Some(BuiltInMethod::Content(method))
+}
+
+fn whole_method_named(name: &[u8]) -> Option<BuiltInMethod>
+    ensures { result ≡ named_among name.now whole_methods }
+{
+    let method = if name == b"keys".as_slice() {
         ContentMethod::Keys
     } else if name == b"values".as_slice() {
         ContentMethod::Values
     } else if name == b"key?".as_slice() {
         ContentMethod::HasKey
-    } else if name == b"delete".as_slice() {
-        ContentMethod::Delete
     } else if name == b"sum".as_slice() {
         ContentMethod::Sum
     } else if name == b"sort".as_slice() {
@@ -163,7 +190,10 @@ fn telling_method_named(name: &[u8]) -> Option<BuiltInMethod>
 fn method_named(name: &[u8]) -> Option<BuiltInMethod>
     ensures { result ≡ method_named name.now }
 {
-    if let Some(method) = operator_named(name) {
+    if let Some(method) = arithmetic_named(name) {
+        return Some(method);
+    }
+    if let Some(method) = comparison_named(name) {
         return Some(method);
     }
     if let Some(method) = number_method_named(name) {
@@ -172,7 +202,13 @@ fn method_named(name: &[u8]) -> Option<BuiltInMethod>
     if let Some(method) = object_method_named(name) {
         return Some(method);
     }
-    if let Some(method) = content_method_named(name) {
+    if let Some(method) = reading_method_named(name) {
+        return Some(method);
+    }
+    if let Some(method) = writing_method_named(name) {
+        return Some(method);
+    }
+    if let Some(method) = whole_method_named(name) {
         return Some(method);
     }
     telling_method_named(name)

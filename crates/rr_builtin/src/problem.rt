@@ -11,7 +11,7 @@ use rr_tree::Program;
 use std::alloc::AllocError;
 
 /// Why a built-in method raises an exception.
-#[derive(Clone, Copy, Debug, PartialEq, Eq, Drop)]
+#[derive(Clone, Copy, Drop)]
 pub enum Problem {
     /// The divisor is 0.
     DividedByZero,
@@ -157,7 +157,7 @@ fn write_count(out: &mut Vec<u8>, given: usize, least: usize, most: usize) -> Re
 }
 
 /// What a message calls the receiver of a missing method.
-#[derive(Clone, Copy, Debug, PartialEq, Eq, Drop)]
+#[derive(Clone, Copy, Drop)]
 pub enum Receiver {
     Nil,
     Truth(bool),
