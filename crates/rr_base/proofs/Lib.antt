@@ -1,3 +1,4 @@
+pub mod Classes
 pub mod Replaying
 pub mod Conserving
 pub mod Ticketing

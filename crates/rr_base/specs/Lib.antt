@@ -1,5 +1,6 @@
 pub mod Names
 pub mod Classes
+pub mod ClassNames
 pub mod Replay
 pub mod Inbox
 pub mod Port

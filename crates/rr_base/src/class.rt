@@ -2,6 +2,7 @@
 
 ghost use Rattle.std.specs.Prelude.{◌≡◌, ◌≤◌, MatchOption};
 ghost use Rattle.rr_base.specs.Classes.{class_id, class_name};
+ghost use Rattle.rr_base.specs.ClassNames.{class_named};
 
 use crate::name::ClassId;
 
@@ -81,6 +82,21 @@ impl BuiltInClass {
             BuiltInClass::MovedError => "Ractor::MovedError",
             BuiltInClass::IsolationError => "Ractor::IsolationError",
         }
+    }
+
+    /// The class of this name, spelled as [`BuiltInClass::name`] spells it.
+    pub fn named(name: &[u8]) -> Option<BuiltInClass>
+        ensures { result ≡ class_named name.now }
+    {
+        for number in 0..ClassId::BUILT_IN {
+            let Some(class) = ClassId(number).built_in() else {
+                unreachable!()
+            };
+            if class.name().as_bytes() == name {
+                return Some(class);
+            }
+        }
+        None
     }
 
     /// The number of the class.

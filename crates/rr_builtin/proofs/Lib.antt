@@ -4,7 +4,6 @@ pub mod Behind
 pub mod Same
 pub mod Among
 pub mod Performing
-pub mod Ancestors
 pub mod Gathering
 pub mod Listing
 pub mod Arraying

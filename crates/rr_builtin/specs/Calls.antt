@@ -34,7 +34,7 @@ use Rattle.rr_builtin.specs.Containers.{content_act}
 use Rattle.rr_builtin.specs.Arrays.{array_sum}
 use Rattle.rr_builtin.specs.News.{may_make, takes_message, new_act}
 use Rattle.rr_builtin.specs.Kinds.{is_shell_kind, has, is_new, is_join, is_of_remote_errors, count_of}
-use Rattle.rr_builtin.specs.Classes.{descends}
+use Rattle.rr_tree.specs.Ancestors.{descends}
 
 -- `==` and `!=` of values that are equal or not
 abbrev pub equality : BinaryOperator → Bool → Act

@@ -5,7 +5,6 @@ pub mod Problems
 pub mod Acts
 pub mod Deeds
 pub mod Numbers
-pub mod Classes
 pub mod Objects
 pub mod Texts
 pub mod Characters

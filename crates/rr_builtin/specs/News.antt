@@ -7,7 +7,7 @@ use Rattle.rr_space.specs.declared.refer.Ref.{Ref}
 use Rattle.rr_space.specs.declared.refer.Ref.TheVariants as ref
 use Rattle.rr_tree.specs.declared.program.Program.{Program}
 use Rattle.rr_builtin.specs.Acts.{Act, Answers, MakesObject, Lacks}
-use Rattle.rr_builtin.specs.Classes.{descends}
+use Rattle.rr_tree.specs.Ancestors.{descends}
 
 -- a hash without pairs, not frozen
 abbrev pub empty_hash : Object

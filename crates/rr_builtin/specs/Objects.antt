@@ -20,7 +20,7 @@ use Rattle.rr_tree.specs.declared.program.Program.{Program}
 use Rattle.rr_text.specs.Names.{names_of}
 use Rattle.rr_text.specs.Same.{same_value}
 pub use Rattle.rr_builtin.specs.Kinds.{is_text_kind}
-use Rattle.rr_builtin.specs.Classes.{descends}
+use Rattle.rr_tree.specs.Ancestors.{descends}
 use Rattle.rr_builtin.specs.Acts.{Act, Answers, Makes, MakesArray, MakesObject, Freezes, Gives, Raises}
 use Rattle.rr_builtin.specs.Elements.{elements_of}
 use Rattle.rr_builtin.specs.Copies.{plain_copy, exception_copy, hash_copy, hash_copy_keys}

@@ -13,7 +13,6 @@ ghost use Rattle.rr_builtin.specs.Calls.{compared_at, walked_equality, container
 
 use crate::arrays::sum_of_arrays;
 use crate::built::Built;
-use crate::classes::descends;
 use crate::contents::{content_deed, element_at};
 use crate::deed::{Deed, perform};
 use crate::kinds::{count_of, has, is_join, is_new, is_of_remote_errors, is_shell_kind};
@@ -262,7 +261,7 @@ fn responds(space: &Space, program: &Program, kind: Kind, value: Ref, method: Bu
     has(kind, method)
         && (!is_new(method) || may_make(program, value))
         && (!is_of_remote_errors(method)
-            || descends(program, space.class_of(value), ClassId::REMOTE_ERROR))
+            || program.descends(space.class_of(value), ClassId::REMOTE_ERROR))
 }
 
 /// How many arguments the method takes at most: `new` of an exception takes a message, and `join` a separator.

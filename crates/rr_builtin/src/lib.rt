@@ -5,7 +5,6 @@ mod arrays;
 mod built;
 mod calls;
 mod characters;
-mod classes;
 mod contents;
 mod copies;
 mod deed;
@@ -29,7 +28,6 @@ mod texts;
 
 pub use built::Built;
 pub use calls::call;
-pub use classes::{descends, superclass};
 pub use deed::make_array;
 pub use dividing::{division_rounds_down, floor_div, floor_mod};
 pub use integer::{

@@ -11,7 +11,6 @@ ghost use Rattle.rr_builtin.specs.Deeds.{act_of, IsFit, IsDeedAmong};
 ghost use Rattle.rr_builtin.specs.News.{empty_hash, new_exception, new_plain, is_exception_class, is_made, may_make, takes_message, new_act};
 
 use crate::built::Built;
-use crate::classes::descends;
 use crate::deed::Deed;
 use rr_base::{ClassId, Fault};
 use rr_space::{Entries, Node, Raised, Ref, Space};
@@ -61,7 +60,7 @@ pub fn make_hash(alloc: Global, space: &mut Space) -> Result<Built, Fault>
 fn is_exception_class(program: &Program, class: ClassId) -> bool
     ensures { result ≡ is_exception_class program.now class.0 }
 {
-    descends(program, class, ClassId::EXCEPTION)
+    program.descends(class, ClassId::EXCEPTION)
 }
 
 /// Whether `new` makes an object of the class.

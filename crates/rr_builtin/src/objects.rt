@@ -13,7 +13,6 @@ ghost use Rattle.rr_builtin.specs.Objects.{identical, is_truthy, is_nil, answers
 
 use crate::arrays::elements;
 use crate::built::Built;
-use crate::classes::descends;
 use crate::copies::{exception_copy, plain_copy};
 use crate::deed::Deed;
 use crate::hash_copies::hash_copy;
@@ -124,7 +123,7 @@ fn kind_of_deed(space: &Space, program: &Program, value: Ref, class: Ref) -> Dee
     ensures among { (below : Below) → IsDeedAmong below result }
 {
     match class {
-        Ref::Class(class) => truth(descends(program, space.class_of(value), class)),
+        Ref::Class(class) => truth(program.descends(space.class_of(value), class)),
         _ => raise(Problem::WrongType(space.class_of(class))),
     }
 }

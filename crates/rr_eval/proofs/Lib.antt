@@ -1,5 +1,4 @@
 pub mod Trees
-pub mod Classes
 pub mod Lists
 pub mod Pairing
 pub mod Pieces

@@ -1,7 +1,6 @@
 -- An evaluation takes no object away.
 use Rattle.std.proofs.Common.{◌≡◌, nat_eq, nat_lt, slice_index_or, ap, sym, subst, if◌then◌else◌, ◌≤◌, ◌-◌, ℕ, zero, suc, Bool, arith, List, [], ◌∷◌, ◌++◌, length, length-append, reverse, Option, Some, None, true, false}
 use Rattle.rr_base.specs.Classes.{class_id}
-use Rattle.rr_eval.specs.Constants.{class_named}
 use Rattle.rr_base.specs.declared.class.BuiltInClass.{BuiltInClass}
 use Rattle.rr_base.specs.declared.name.Sym.{Sym}
 use Rattle.rr_base.specs.declared.name.TheConstants.ClassId.{OBJECT, RACTOR, RUNTIME_ERROR, STANDARD_ERROR}
@@ -17,6 +16,7 @@ use Rattle.rr_eval.specs.Values.{goes_on}
 use Rattle.rr_tree.specs.Tree.{tree_at, Tree, nil, truth, int, text, symbol, class_named as class_tree, constant, array, hash, pairs, interpolation, send, index, set_index, append, local, bare, call, logical_and, logical_or, logical_not, negate, binary, assign, choose, repeat, sequence, with_block, block, yield, break, next as next_tree, return, rescue, ensure, operator_assign, or_assign, and_assign}
 use Rattle.rr_frames.specs.Frames.{Stack}
 use Rattle.std.specs.Option.{option_map, is_some}
+use Rattle.rr_base.specs.ClassNames.{class_named}
 use Rattle.rr_frames.specs.declared.activation.Given.{Given}
 use Rattle.rr_frames.specs.declared.activation.Given.TheVariants as given
 use Rattle.rr_frames.specs.declared.activation.Shape.{Shape}
@@ -54,7 +54,7 @@ use Rattle.rr_eval.specs.Rules.{Context, items, throw, raise, settled, on_value,
 use Rattle.rr_eval.specs.Methods.{Method, own_method}
 use Rattle.rr_eval.specs.Raising.{message_or_nil, raise_new, raise_kind, raise_again, raise_rule}
 use Rattle.rr_eval.specs.Rescuing.{class_parts, taken_by, with_caught, fitted, tried_classes, tried_clause, tried, else_rule, rescue_rule, ensure_rule, target_part}
-use Rattle.rr_builtin.specs.Classes.{descends}
+use Rattle.rr_tree.specs.Ancestors.{descends}
 use Rattle.rr_space.specs.Kinds.{class_at}
 use Rattle.rr_builtin.specs.News.{is_exception_class}
 use Rattle.rr_space.specs.Kinds.{kind_at}

@@ -6,7 +6,7 @@ use Rattle.rr_space.specs.declared.refer.Ref.{Ref}
 use Rattle.rr_tree.specs.Tree.{Tree, tree_at}
 use Rattle.rr_tree.specs.Nodes.{trees_before}
 use Rattle.rr_tree.specs.declared.node.Node.{Node}
-use Rattle.rr_builtin.specs.Classes.{descends}
+use Rattle.rr_tree.specs.Ancestors.{descends}
 use Rattle.rr_eval.specs.Basics.{on_value}
 use Rattle.rr_eval.specs.Context.{Context}
 use Rattle.rr_eval.specs.Frames.{Code, runs_in}

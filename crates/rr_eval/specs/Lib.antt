@@ -8,7 +8,6 @@ pub mod Operators
 pub mod Acts
 pub mod Changes
 pub mod Callees
-pub mod Constants
 pub mod Messages
 pub mod Exceptions
 pub mod Thrown

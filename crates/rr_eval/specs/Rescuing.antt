@@ -5,7 +5,7 @@ use Rattle.rr_space.specs.Kinds.{class_at}
 use Rattle.rr_space.specs.declared.refer.Ref.{Ref}
 use Rattle.rr_space.specs.declared.refer.Ref.TheVariants.{Class}
 use Rattle.rr_tree.specs.Tree.{Tree, nil, clause}
-use Rattle.rr_builtin.specs.Classes.{descends}
+use Rattle.rr_tree.specs.Ancestors.{descends}
 use Rattle.rr_builtin.specs.declared.problem.Problem.TheVariants.{WrongType}
 use Rattle.rr_eval.specs.declared.call_stack.Variable.{Variable}
 use Rattle.rr_eval.specs.declared.problem.Answer.{Answer}

@@ -7,6 +7,7 @@ use Rattle.rr_space.specs.declared.refer.Ref.TheVariants.{Nil, Truth, Int, Symbo
 use Rattle.rr_tree.specs.Tree.{Tree, tree_at, nil, truth, int, text, symbol, class_named as class_tree, constant, array, hash, pairs, pair, interpolation, local, bare, call, send, index, set_index, append, logical_and, logical_or, logical_not, negate, binary, assign, choose, repeat, sequence, with_block, block, yield, break, next, return, rescue, ensure, operator_assign, or_assign, and_assign}
 use Rattle.rr_tree.specs.declared.node.BinaryOperator.{BinaryOperator}
 use Rattle.std.specs.Option.{option_map}
+use Rattle.rr_base.specs.ClassNames.{class_named}
 use Rattle.rr_builtin.specs.Objects.{is_truthy}
 use Rattle.rr_eval.specs.declared.call.Callee.TheVariants as callees
 use Rattle.rr_eval.specs.declared.call.Target.{Target}
@@ -30,7 +31,6 @@ use Rattle.rr_eval.specs.Tasks.{task_named}
 use Rattle.rr_eval.specs.Awaited.{is_awaited, is_raise, is_block_given}
 use Rattle.rr_eval.specs.Raising.{raise_rule}
 use Rattle.rr_eval.specs.Rescuing.{rescue_rule, ensure_rule}
-use Rattle.rr_eval.specs.Constants.{class_named}
 use Rattle.rr_base.specs.declared.class.BuiltInClass.{BuiltInClass}
 use Rattle.rr_base.specs.declared.name.Sym.{Sym}
 use Rattle.rr_base.specs.declared.name.TheConstants.ClassId.{OBJECT, RACTOR}

@@ -4,7 +4,7 @@ ghost use Rattle.std.specs.Prelude.{◌≡◌, ◌+◌, ◌-◌, ◌<◌, ◌≤
 ghost use Rattle.rr_base.specs.declared.name.TheConstants.ClassId.{STANDARD_ERROR};
 ghost use Rattle.rr_space.specs.Kinds.{class_at};
 ghost use Rattle.rr_space.specs.declared.refer.Ref.{Ref};
-ghost use Rattle.rr_builtin.specs.Classes.{descends};
+ghost use Rattle.rr_tree.specs.Ancestors.{descends};
 ghost use Rattle.rr_eval.specs.Frames.{runs_in};
 ghost use Rattle.rr_eval.specs.Script.{State, World};
 ghost use Rattle.rr_eval.specs.Turns.{context_of, code_of};
@@ -17,7 +17,6 @@ use crate::call_stack::Variable;
 use crate::nodes::evaluated_node;
 use crate::update::variable_of;
 use rr_base::ClassId;
-use rr_builtin::descends;
 use rr_space::{Ref, Space};
 use rr_tree::{Node, NodeId, Program};
 
@@ -85,7 +84,7 @@ pub fn clauses_left(
     ensures same { (w : World) (s : State) (n : ℕ) → s.memory.table ≡ space.now → runs_in (code_of program.now w) (tried (context_of program.now) exception (trees_before program.now.nodes.items end count)) s n ≡ runs_in (code_of program.now w) (tried (context_of program.now) exception (trees_before program.now.nodes.items end result)) s n }
     ensures takes { 0 < result → class_parts (tree_at program.now.nodes.items (end - result)) ≡ [] → descends program.now (class_at space.now exception).0 STANDARD_ERROR.0 ≡ true }
 {
-    match descends(program, space.class_of(exception), ClassId::STANDARD_ERROR) {
+    match program.descends(space.class_of(exception), ClassId::STANDARD_ERROR) {
         true => count,
         false => clauses_with_classes(program, end, count),
     }

@@ -1,9 +1,9 @@
 //! Constants, and the classes that they name.
 
 ghost use Rattle.std.specs.Prelude.{◌≡◌, ◌+◌, ◌*◌, ◌≤◌, ℕ, [], length, slice_index_or};
+ghost use Rattle.rr_base.specs.ClassNames.{class_named};
 ghost use Rattle.rr_space.specs.Tables.{Table};
 ghost use Rattle.rr_tree.specs.Tree.{constant};
-ghost use Rattle.rr_eval.specs.Constants.{class_named};
 ghost use Rattle.rr_eval.specs.Requests.{Course};
 ghost use Rattle.rr_eval.specs.Rules.{rule, constant_rule};
 ghost use Rattle.rr_eval.specs.Turns.{context_of, IsNested, after_script, remaining_with, size};
@@ -17,21 +17,6 @@ use rr_base::{BuiltInClass, ClassId, Sym};
 use rr_space::Ref;
 use rr_tree::{Path, Program};
 
-/// The built-in class of a name.
-pub fn class_named(name: &[u8]) -> Option<BuiltInClass>
-    ensures { result ≡ class_named name.now }
-{
-    for number in 0..ClassId::BUILT_IN {
-        let Some(class) = ClassId(number).built_in() else {
-            unreachable!()
-        };
-        if class.name().as_bytes() == name {
-            return Some(class);
-        }
-    }
-    None
-}
-
 impl Engine {
     /// Evaluates a constant, which is a built-in class or was never set.
     #[tactic(auto, unfolding(crate::specs::Within::AreReached))]
@@ -44,7 +29,7 @@ impl Engine {
         ensures left { self.new.left ≡ self.old.left }
         ensures size { size (view_of self.new) ≤ 3 * length self.old.frames.items + 4 }
     {
-        self.control = match class_named(program.symbol_bytes(name)) {
+        self.control = match BuiltInClass::named(program.symbol_bytes(name)) {
             Some(class) => {
                 if class.id().0 == ClassId::RACTOR.0 {
                     Control::Throw(Problem::NotHere)

@@ -11,7 +11,6 @@ ghost use Rattle.rr_eval.specs.Acts.{Passes};
 ghost use Rattle.rr_eval.specs.Script.{Go, objects_of};
 ghost use Rattle.rr_eval.specs.Requests.{Course, Adds};
 ghost use Rattle.rr_eval.specs.Changes.{Changes};
-ghost use Rattle.rr_eval.specs.Constants.{class_named};
 ghost use Rattle.rr_eval.specs.Methods.{own_method};
 ghost use Rattle.rr_eval.specs.Operators.{make};
 ghost use Rattle.rr_eval.specs.Rules.{rule, statements, values, on_table, finish, printing, raises, asks_block, awaited, bare_rule, call_rule, constant_rule};
@@ -25,7 +24,6 @@ ghost use Rattle.rr_eval.specs.Within.{Reach, AreReached, AreWithin, IsFrameReac
 use crate::awaited::{is_awaited, is_raise};
 use crate::call::{Arguments, Callee, Target, Task};
 use crate::call_stack::Variable;
-use crate::constant::class_named;
 use crate::engine::{Engine, push_within};
 use crate::frame::{Control, Frame};
 use crate::operator::make;

@@ -26,7 +26,7 @@ use crate::engine::Engine;
 use crate::frame::{Control, Frame, clear, standing};
 use crate::problem::{Answer, Problem};
 use rr_base::{ClassId, Fault, Sym};
-use rr_builtin::{Problem as BuiltInProblem, descends};
+use rr_builtin::Problem as BuiltInProblem;
 use rr_frames::Given;
 use rr_space::{Kind, Ref, Space};
 use rr_tree::{NodeId, Program};
@@ -50,7 +50,7 @@ fn raise_new(program: &Program, value: Ref, message: Option<Ref>) -> Result<Cont
 {
     match value {
         Ref::Class(class) => {
-            if descends(program, class, ClassId::EXCEPTION) {
+            if program.descends(class, ClassId::EXCEPTION) {
                 Ok(Control::Raise(class, message_or_nil(message)))
             } else {
                 Err(Problem::NotRaisable)

@@ -8,7 +8,7 @@ ghost use Rattle.rr_tree.specs.Nodes.{trees_before};
 ghost use Rattle.rr_tree.specs.Tree.{tree_at};
 ghost use Rattle.rr_tree.specs.declared.program.Program.{Program};
 ghost use Rattle.rr_eval.specs.Script.{Script, Do};
-ghost use Rattle.rr_builtin.specs.Classes.{descends};
+ghost use Rattle.rr_tree.specs.Ancestors.{descends};
 ghost use Rattle.rr_eval.specs.Frames.{taker, behind_class};
 ghost use Rattle.rr_eval.specs.Requests.{Course};
 ghost use Rattle.rr_eval.specs.Rescuing.{class_parts, with_caught, taken_by, fitted, tried, else_rule};
@@ -22,7 +22,7 @@ use crate::engine::Engine;
 use crate::frame::{Control, Frame, Trial};
 use crate::nodes::evaluated_node;
 use crate::problem::{Answer, Problem};
-use rr_builtin::{Problem as BuiltInProblem, descends};
+use rr_builtin::Problem as BuiltInProblem;
 use rr_space::{Ref, Space};
 use rr_tree::{Node, NodeId, Program};
 
@@ -158,7 +158,7 @@ impl Engine {
     {
         match value {
             Ref::Class(class) => {
-                if descends(program, space.class_of(trial.exception), class) {
+                if program.descends(space.class_of(trial.exception), class) {
                     let place = trial.end.saturating_sub(trial.clauses).saturating_sub(1);
                     self.take(program, place, trial.exception);
                 } else {

@@ -1,5 +1,4 @@
 pub mod Told
-pub mod Classes
 pub mod Looks
 pub mod Listing
 pub mod Chains

@@ -1,5 +1,4 @@
 pub mod MethodNames
-pub mod BuiltIn
 pub mod Opened
 pub mod Words
 pub mod Numbering

@@ -2,6 +2,7 @@
 use Rattle.std.specs.Prelude.{ℕ, ◌+◌, nat_eq, Bool, false, true, not, List, [], ◌∷◌, ◌++◌, map, filter, slice_index_or, position, codes, Option, Some, None, option_map, option_to_list, if◌then◌else◌}
 use Rattle.std.specs.List.{list_any}
 use Rattle.std.specs.Map.{lookup}
+use Rattle.rr_base.specs.ClassNames.{class_named}
 use Rattle.indexmap.specs.IndexMap.{insert_entry}
 use Rattle.rr_base.specs.Classes.{class_id}
 use Rattle.rr_base.specs.declared.class.BuiltInClass.{BuiltInClass}
@@ -19,7 +20,6 @@ use Rattle.rr_parser.specs.declared.word.Naming.TheVariants as namings
 use Rattle.rr_parser.specs.declared.word.WordKind.{WordKind}
 use Rattle.rr_parser.specs.declared.word.WordKind.TheVariants as kind
 use Rattle.rr_parser.specs.declared.word.Word.{Word}
-use Rattle.rr_parser.specs.BuiltIn.{class_named}
 use Rattle.rr_parser.specs.Grammar.Classes.{class_head}
 
 abbrev pub constant_number : WordKind → Option ℕ

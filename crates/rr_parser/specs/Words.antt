@@ -1,6 +1,7 @@
 -- Words from tokens, with names and texts by number.
 use Rattle.std.specs.Prelude.{ℕ, ◌-◌, ◌==◌, ◌||◌, Bool, List, [], ◌∷◌, ◌++◌, map, true, false, Option, Some, None, length, fold, bytes_eq, slice_index, codes, if◌then◌else◌}
 use Rattle.std.specs.List.{list_any, position_or_len}
+use Rattle.rr_base.specs.ClassNames.{class_named}
 use Rattle.rr_base.specs.declared.name.Sym.{Sym}
 use Rattle.rr_base.specs.declared.class.BuiltInClass.{BuiltInClass}
 use Rattle.rr_base.specs.declared.class.BuiltInClass.TheVariants as built_in
@@ -32,7 +33,6 @@ use Rattle.rr_parser.specs.declared.word.WordKind.{WordKind}
 use Rattle.rr_parser.specs.declared.word.WordKind.TheVariants as kind
 use Rattle.rr_parser.specs.declared.word.Word.{Word}
 use Rattle.rr_parser.specs.declared.method_names.MethodName.{MethodName}
-use Rattle.rr_parser.specs.BuiltIn.{class_named}
 use Rattle.rr_parser.specs.MethodNames.{method_name_at}
 use Rattle.rr_parser.specs.Opened.{with_classes, heads_in, classes_by, opened_words, class_of_entry}
 

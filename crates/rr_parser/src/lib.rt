@@ -4,7 +4,6 @@
 mod attributes;
 mod blocks;
 mod bodies;
-mod built_in;
 mod calls;
 mod class_bodies;
 mod constants;

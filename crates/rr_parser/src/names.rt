@@ -1,11 +1,10 @@
 //! Words from tokens: each name and each text gets its number.
 
 ghost use Rattle.std.specs.Prelude.{◌≡◌, ◌∷◌, [], ◌++◌, length, map, IfOk, OnOk};
+ghost use Rattle.rr_base.specs.ClassNames.{class_named};
 ghost use Rattle.rr_lexer.specs.Contents.{word_of, contents_of};
-ghost use Rattle.rr_parser.specs.BuiltIn.{class_named};
 ghost use Rattle.rr_parser.specs.Words.{keyword_kind, op_kind, is_marked, accessor_named, name_kind, naming_of, token_name, with_name, number_of, with_symbol, with_symbol_of, with_text, word_kind, word_with, words_of, symbols_of, texts_of, classes_of};
 
-use crate::built_in::class_named;
 use crate::method_names::{MethodName, is_def, method_name_at};
 use crate::opened::{Opened, open, with_classes};
 use crate::refusal::Storage;
@@ -154,7 +153,7 @@ fn name_kind(name: &[u8]) -> NameKind
 fn naming(name: &[u8]) -> Naming
     ensures { result ≡ naming_of (class_named name.now) }
 {
-    match class_named(name) {
+    match BuiltInClass::named(name) {
         Some(BuiltInClass::Ractor) => Naming::Ractor,
         Some(_) => Naming::Class,
         None => Naming::Free,

@@ -3,12 +3,11 @@
 ghost use Rattle.std.specs.Prelude.{◌≡◌, ℕ, List, ◌++◌, [], nat_eq, codes, map, option_map, IfOk, OnOk};
 ghost use Rattle.std.specs.List.{list_any};
 ghost use Rattle.std.specs.Map.{keys_of, lookup};
+ghost use Rattle.rr_base.specs.ClassNames.{class_named};
 ghost use Rattle.indexmap.specs.IndexSet.{contains};
-ghost use Rattle.rr_parser.specs.BuiltIn.{class_named};
 ghost use Rattle.rr_parser.specs.Grammar.Classes.{class_head};
 ghost use Rattle.rr_parser.specs.Opened.{Head, first_constant, class_behind, with_number, classes_in, kind_by, with_classes, has_below, below_built_in, opening_by, name_text, own_class, below_path, superclass_of, head_of, head_behind, heads_in, classes_by, opening_of, opened_kind, opened_words, with_class, class_of_entry};
 
-use crate::built_in::class_named;
 use crate::class_bodies::class_head;
 use crate::names::number;
 use crate::refusal::Storage;
@@ -179,7 +178,7 @@ fn ractor_class(alloc: Global, name: &[u8]) -> Result<Option<BuiltInClass>, Stor
 {
     let mut text = Vec::from_slice(alloc, "Ractor::".as_bytes())?;
     text.extend_from_slice(name)?;
-    Ok(class_named(&text))
+    Ok(BuiltInClass::named(&text))
 }
 
 impl Openings<'_> {
@@ -213,7 +212,7 @@ impl Openings<'_> {
         match path {
             Path::Plain(name) => match self.own_class(name)? {
                 Some(class) => Ok(Opening::Below(class)),
-                None => Ok(below_built_in(class_named(self.name_text(name)))),
+                None => Ok(below_built_in(BuiltInClass::named(self.name_text(name)))),
             },
             Path::Ractor(name) => {
                 let class = ractor_class(self.alloc, self.name_text(name))?;

@@ -1,8 +1,7 @@
 -- The texts of names and of classes, by their numbers.
-use Rattle.std.specs.Prelude.{ℕ, ◌-◌, nat_lt, List, [], ◌∷◌, map, slice_index_or, if◌then◌else◌}
+use Rattle.std.specs.Prelude.{ℕ, ◌-◌, nat_lt, List, [], map, slice_index_or, if◌then◌else◌}
 use Rattle.rr_base.specs.Classes.{class_name}
-use Rattle.rr_base.specs.declared.class.BuiltInClass.{BuiltInClass}
-use Rattle.rr_base.specs.declared.class.BuiltInClass.TheVariants as built_in
+use Rattle.rr_base.specs.ClassNames.{built_in_classes}
 use Rattle.rr_tree.specs.declared.program.Program.{Program}
 
 -- the bytes of each name, by its number
@@ -13,18 +12,10 @@ symbols_of p = map (λ s. s.items) p.symbols.items
 abbrev pub symbol_text : Program → ℕ → List ℕ
 symbol_text p n = slice_index_or (symbols_of p) n []
 
--- the built-in classes, in the order of their numbers
-abbrev pub built_ins : List BuiltInClass
-built_ins = built_in.BasicObject ∷ built_in.MovedObject ∷ built_in.Object ∷ built_in.Integer ∷ built_in.String ∷ built_in.Symbol ∷ built_in.Array ∷ built_in.Hash ∷ built_in.NilClass
-    ∷ built_in.TrueClass ∷ built_in.FalseClass ∷ built_in.Class ∷ built_in.Ractor ∷ built_in.Exception ∷ built_in.SystemStackError ∷ built_in.StandardError ∷ built_in.ArgumentError
-    ∷ built_in.IndexError ∷ built_in.StopIteration ∷ built_in.ClosedError ∷ built_in.LocalJumpError ∷ built_in.NameError ∷ built_in.NoMethodError ∷ built_in.RangeError
-    ∷ built_in.RuntimeError ∷ built_in.FrozenError ∷ built_in.TypeError ∷ built_in.ZeroDivisionError ∷ built_in.RactorError ∷ built_in.RemoteError ∷ built_in.MovedError
-    ∷ built_in.IsolationError ∷ []
-
 -- the name of a class of the program, counted from 0; none past the table
 abbrev pub program_class_text : Program → ℕ → List ℕ
 program_class_text p n = slice_index_or (map (λ c. symbol_text p c.name.0) p.classes.items) n []
 
 -- the name of a class: the built-in classes come first, then those of the program; none past them
 abbrev pub class_text : Program → ℕ → List ℕ
-class_text p n = if nat_lt n 32 then slice_index_or (map class_name built_ins) n [] else program_class_text p (n - 32)
+class_text p n = if nat_lt n 32 then slice_index_or (map class_name built_in_classes) n [] else program_class_text p (n - 32)

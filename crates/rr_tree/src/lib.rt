@@ -1,6 +1,7 @@
 //! Programs: trees as flat tables.
 #![tactic(auto)]
 
+mod ancestors;
 mod class;
 mod names;
 mod node;

@@ -4,7 +4,7 @@ use Rattle.rr_builtin.specs.Elements.{elements_of}
 use Rattle.rr_builtin.specs.Kinds.{is_integer_kind}
 use Rattle.rr_builtin.specs.Objects.{is_text_kind}
 use Rattle.rr_builtin.proofs.Among.{among_of, of_among}
-use Rattle.rr_builtin.proofs.Ancestors.{differ}
+use Rattle.rr_tree.proofs.Above.{differ}
 use Rattle.rr_builtin.proofs.Classing.{kind_is}
 use Rattle.rr_builtin.proofs.Items.{like_numbers, like_texts, like_none, sorted_first}
 use Rattle.rr_builtin.proofs.sorts.sort_deed.Goals as goal

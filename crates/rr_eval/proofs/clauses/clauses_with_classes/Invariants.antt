@@ -4,7 +4,7 @@ use Rattle.rr_base.specs.declared.name.TheConstants.ClassId.{STANDARD_ERROR}
 use Rattle.rr_space.specs.Kinds.{class_at}
 use Rattle.rr_space.specs.declared.refer.Ref.{Ref}
 use Rattle.rr_tree.specs.Nodes.{trees_before}
-use Rattle.rr_builtin.specs.Classes.{descends}
+use Rattle.rr_tree.specs.Ancestors.{descends}
 use Rattle.rr_eval.specs.Frames.{runs_in}
 use Rattle.rr_eval.specs.Rescuing.{tried}
 use Rattle.rr_eval.specs.Script.{State, World}

@@ -2,7 +2,7 @@
 use Rattle.std.proofs.Common.{◌≡◌, ◌-◌, ◌∙◌, suc, sym, ap, arith, true, if◌then◌else◌}
 use Rattle.rr_space.specs.Kinds.{class_at}
 use Rattle.rr_tree.specs.Tree.{tree_at}
-use Rattle.rr_builtin.specs.Classes.{descends}
+use Rattle.rr_tree.specs.Ancestors.{descends}
 use Rattle.rr_eval.specs.Frames.{taker, behind_class}
 use Rattle.rr_eval.specs.Rescuing.{taken_by, fitted}
 use Rattle.rr_eval.specs.Turns.{context_of, code_of, after_script}

@@ -1,4 +1,4 @@
--- The classes that constants name.
+-- The built-in classes by their names.
 use Rattle.std.specs.Prelude.{ℕ, List, [], ◌∷◌, Option, Some, None, if◌then◌else◌}
 use Rattle.std.specs.Str.{bytes_eq}
 use Rattle.rr_base.specs.Classes.{class_name}
@@ -6,7 +6,7 @@ use Rattle.rr_base.specs.declared.class.BuiltInClass.{BuiltInClass}
 use Rattle.rr_base.specs.declared.class.BuiltInClass.TheVariants as built_in
 
 -- by their numbers
-unfoldable pub built_in_classes : List BuiltInClass
+abbrev pub built_in_classes : List BuiltInClass
 built_in_classes =
     built_in.BasicObject ∷ built_in.MovedObject ∷ built_in.Object ∷ built_in.Integer ∷ built_in.String ∷ built_in.Symbol ∷ built_in.Array ∷ built_in.Hash
     ∷ built_in.NilClass ∷ built_in.TrueClass ∷ built_in.FalseClass ∷ built_in.Class ∷ built_in.Ractor ∷ built_in.Exception ∷ built_in.SystemStackError ∷ built_in.StandardError

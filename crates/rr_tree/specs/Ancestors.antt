@@ -3,7 +3,7 @@ use Rattle.std.specs.Prelude.{ℕ, zero, suc, ◌+◌, ◌-◌, Bool, true, fals
 use Rattle.rr_base.specs.Classes.{class_id}
 use Rattle.rr_base.specs.declared.class.BuiltInClass.{BuiltInClass}
 use Rattle.rr_base.specs.declared.class.BuiltInClass.TheVariants as built_in
-use Rattle.rr_tree.specs.Names.{built_ins}
+use Rattle.rr_base.specs.ClassNames.{built_in_classes}
 use Rattle.rr_tree.specs.declared.class.Class.{Class}
 use Rattle.rr_tree.specs.declared.program.Program.{Program}
 
@@ -52,7 +52,7 @@ parent_in None = None
 
 -- the number of the class above a class
 unfoldable pub superclass_of : Program → ℕ → Option ℕ
-superclass_of p n = if nat_lt n 32 then number_of (parent_of (slice_index_or built_ins n built_in.BasicObject)) else parent_in (slice_get p.classes.items (n - 32))
+superclass_of p n = if nat_lt n 32 then number_of (parent_of (slice_index_or built_in_classes n built_in.BasicObject)) else parent_in (slice_get p.classes.items (n - 32))
 
 abbrev pub holds_of : (ℕ → Bool) → Option ℕ → Bool
 holds_of f (Some c) = f c

@@ -2,8 +2,8 @@
 use Rattle.std.proofs.Common.{◌≡◌, ◌∙◌, ◌≤◌, sym, ap, arith, true, false}
 use Rattle.std.specs.Str.{bytes_eq}
 use Rattle.rr_base.specs.Classes.{class_name}
-use Rattle.rr_eval.proofs.Classes.{named_first, named_here, named_next, named_none}
-use Rattle.rr_eval.proofs.constant.class_named.Goals as goal
+use Rattle.rr_base.proofs.Classes.{named_first, named_here, named_next, named_none}
+use Rattle.rr_base.proofs.class.BuiltInClass.named.Goals as goal
 
 pub loop-number-init : goal.loop-number-init
 loop-number-init c = named_first c.args.name.now

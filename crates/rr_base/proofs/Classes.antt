@@ -7,10 +7,9 @@ use Rattle.rr_base.specs.declared.name.ClassId.{ClassId}
 use Rattle.rr_base.specs.Classes.{class_id}
 use Rattle.rr_base.specs.declared.class.BuiltInClass.{BuiltInClass}
 use Rattle.rr_base.specs.declared.class.BuiltInClass.TheVariants as built_in
-use Rattle.rr_eval.specs.Constants.{built_in_classes, class_among, class_named}
+use Rattle.rr_base.specs.ClassNames.{built_in_classes, class_among, class_named}
 
 pub of_number : (k d : BuiltInClass) → get_or built_in_classes (class_id k).0 d ≡ k
-unfolding built_in_classes
 of_number built_in.BasicObject d = refl
 of_number built_in.MovedObject d = refl
 of_number built_in.Object d = refl
@@ -45,7 +44,6 @@ of_number built_in.MovedError d = refl
 of_number built_in.IsolationError d = refl
 
 classes_length : length built_in_classes ≡ 32
-unfolding built_in_classes
 classes_length = refl
 
 next_class : (k : BuiltInClass) (n : ℕ) → class_id k ≡ record { 0 = n } → n < 32 → drop n built_in_classes ≡ k ∷ drop (n + 1) built_in_classes

@@ -5,9 +5,9 @@ use Rattle.std.proofs.Math.Logic.{⊎_elim}
 use Rattle.rr_base.specs.Classes.{class_id}
 use Rattle.rr_base.specs.declared.class.BuiltInClass.{BuiltInClass}
 use Rattle.rr_base.specs.declared.class.BuiltInClass.TheVariants as built_in
-use Rattle.rr_tree.specs.Names.{built_ins}
+use Rattle.rr_base.specs.ClassNames.{built_in_classes}
 use Rattle.rr_tree.specs.declared.program.Program.{Program}
-use Rattle.rr_builtin.specs.Classes.{parent_of, number_of, parent_in, superclass_of, holds_of, is_among}
+use Rattle.rr_tree.specs.Ancestors.{parent_of, number_of, parent_in, superclass_of, holds_of, is_among}
 
 pub above_built_in : (p : Program) (b : BuiltInClass) → superclass_of p (class_id b).0 ≡ number_of (parent_of b)
 unfolding superclass_of
@@ -48,7 +48,7 @@ pub above_other : (p : Program) (n : ℕ) → 32 ≤ n → superclass_of p n ≡
 unfolding superclass_of
 above_other p n h =
     let past : nat_lt n 32 ≡ false = grind (arith, nat_tests) in
-    ap (λ (b : Bool). if b then number_of (parent_of (slice_index_or built_ins n built_in.BasicObject)) else parent_in (slice_get p.classes.items (n - 32))) past
+    ap (λ (b : Bool). if b then number_of (parent_of (slice_index_or built_in_classes n built_in.BasicObject)) else parent_in (slice_get p.classes.items (n - 32))) past
 
 -- one step more
 pub stepped : (p : Program) (steps c d : ℕ) → nat_eq c d ≡ false → is_among p (suc steps) c d ≡ holds_of (λ s. is_among p steps s d) (superclass_of p c)

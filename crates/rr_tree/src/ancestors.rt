@@ -3,10 +3,11 @@
 ghost use Rattle.std.specs.Prelude.{◌≡◌, slice_get};
 ghost use Rattle.std.specs.Option.{option_map};
 ghost use Rattle.rr_base.specs.declared.name.ClassId.{ClassId as ClassNumber};
-ghost use Rattle.rr_builtin.specs.Classes.{parent_of, parent_in, superclass_of, descends};
+ghost use Rattle.rr_tree.specs.Ancestors.{parent_of, parent_in, superclass_of, descends};
 
+use crate::class::Class;
+use crate::program::Program;
 use rr_base::{BuiltInClass, ClassId};
-use rr_tree::{Class, Program};
 
 /// The built-in class above a built-in class.
 fn parent_of(class: BuiltInClass) -> Option<BuiltInClass>
@@ -60,33 +61,35 @@ fn nth_superclass(classes: &[Class], place: usize) -> Option<ClassId>
     }
 }
 
-/// The class above a class; none above BasicObject, or where the program has no class of this number.
-pub fn superclass(program: &Program, class: ClassId) -> Option<ClassId>
-    ensures { option_map (λ (c : ClassNumber). c.0) result ≡ superclass_of program.now class.0 }
-{
-    match class.built_in() {
-        Some(built_in) => match parent_of(built_in) {
-            Some(parent) => Some(parent.id()),
-            None => None,
-        },
-        None => nth_superclass(&program.classes, (class.0 - ClassId::BUILT_IN) as usize),
+impl Program {
+    /// The class above a class; none above BasicObject, or where the program has no class of this number.
+    pub fn superclass(&self, class: ClassId) -> Option<ClassId>
+        ensures { option_map (λ (c : ClassNumber). c.0) result ≡ superclass_of self.now class.0 }
+    {
+        match class.built_in() {
+            Some(built_in) => match parent_of(built_in) {
+                Some(parent) => Some(parent.id()),
+                None => None,
+            },
+            None => nth_superclass(&self.classes, (class.0 - ClassId::BUILT_IN) as usize),
+        }
     }
-}
 
-/// Whether `ancestor` is the class or stands above it.
-pub fn descends(program: &Program, class: ClassId, ancestor: ClassId) -> bool
-    ensures { result ≡ descends program.now class.0 ancestor.0 }
-{
-    let steps = program.classes.len() + ClassId::BUILT_IN as usize;
-    let mut current = class;
-    for step in 0..steps {
-        if current.0 == ancestor.0 {
-            return true;
+    /// Whether `ancestor` is the class or stands above it.
+    pub fn descends(&self, class: ClassId, ancestor: ClassId) -> bool
+        ensures { result ≡ descends self.now class.0 ancestor.0 }
+    {
+        let steps = self.classes.len() + ClassId::BUILT_IN as usize;
+        let mut current = class;
+        for step in 0..steps {
+            if current.0 == ancestor.0 {
+                return true;
+            }
+            match self.superclass(current) {
+                Some(above) => current = above,
+                None => return false,
+            }
         }
-        match superclass(program, current) {
-            Some(above) => current = above,
-            None => return false,
-        }
+        current.0 == ancestor.0
     }
-    current.0 == ancestor.0
 }

@@ -1,7 +1,0 @@
--- None of the classes so far has the name.
-use Rattle.std.proofs.Common.{◌≡◌, drop}
-use Rattle.rr_parser.specs.BuiltIn.{built_in_classes, class_among, class_named}
-use Rattle.rr_parser.proofs.built_in.class_named.Given as goal
-
-abbrev pub invariant-loop-number : goal.invariant-loop-number
-invariant-loop-number l = class_named l.name ≡ class_among l.name (drop l.number built_in_classes)
