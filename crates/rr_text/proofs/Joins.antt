@@ -7,20 +7,20 @@ use Rattle.rr_space.specs.Tables.{Table, Slot}
 use Rattle.rr_space.specs.Labels.{triples_at}
 use Rattle.rr_space.specs.declared.kind.Kind.{Kind}
 use Rattle.rr_space.specs.declared.kind.Kind.TheVariants as kind
-use Rattle.rr_text.specs.Walk.{Walked, Wrote, Circular, Leaf, Branch, followed, walk}
-use Rattle.rr_text.specs.Rest.{Begun, load, keys, showing, whole}
+use Rattle.rr_text.specs.Walk.{Outcome, Wrote, Circular, Leaf, Branch, followed, walk}
+use Rattle.rr_text.specs.Rest.{Begun, load, keys, rest, begun, showing, whole}
 use Rattle.rr_text.specs.Frames.{breadth, lead_at}
-use Rattle.rr_text.specs.Forms.{Names, spoken, printed}
+use Rattle.rr_text.specs.Forms.{Names, Piece, spelled, spoken, pieced}
 use Rattle.rr_text.specs.Same.{same_value, kind_in, triples_in}
 use Rattle.rr_text.specs.Comparing.{value_in, values_in}
-use Rattle.rr_text.specs.Joining.{Joint, joined_parts, joined_look, look_joined, joined, key_of, numbered, begun_of, whole_of, showing_of, ahead, rest_of, IsGrown, IsTold}
+use Rattle.rr_text.specs.Joining.{Joint, joined_parts, joined_look, look_joined, joint, come_to, key_of, numbered, begun_of, whole_of, showing_of, ahead, rest_of, IsGrown}
 use Rattle.rr_text.specs.declared.joining.Opened.{Opened}
 use Rattle.rr_text.specs.declared.joining.Going.{Going}
 use Rattle.rr_text.specs.declared.joining.Going.TheVariants as going
 use Rattle.rr_text.proofs.Fronts.{values_next, values_end}
 use Rattle.rr_text.proofs.Loads.{pow_above, some_breadth, few_parts, push_light, next_light, close_light}
 use Rattle.rr_text.proofs.Looking.{lead_next}
-use Rattle.rr_text.proofs.Stack.{leaf_showed, leaf_shell, leaf_deep, circular_showed, deep_showed, entered_showed, closed_top, next_top, followed_none, followed_end}
+use Rattle.rr_text.proofs.Stack.{leaf_goes, circular_showed, deep_showed, entered_showed, closed_top, next_top, followed_none, followed_end}
 
 -- ---- The arrays by their numbers.
 
@@ -45,22 +45,24 @@ swap true true c = refl
 swap true false c = refl
 swap false b c = refl
 
-array_look : (names : Names) (g : Graph) (levels : ℕ) (separator : List ℕ) (d : ℕ) (v : Value) → kind_in g v ≡ kind.Array
-    → look_joined names g levels separator (d, v) ≡ Branch v Circular [] (joined_parts names g levels separator (suc d) [] (values_in (triples_in g v))) []
+array_look : (names : Names) (g : Graph) (asks : ℕ → Bool) (levels : ℕ) (separator : List ℕ) (d : ℕ) (v : Value) → kind_in g v ≡ kind.Array
+    → look_joined names g asks levels separator (d, v) ≡ Branch v Circular [] (joined_parts separator (suc d) [] (values_in (triples_in g v))) []
 unfolding look_joined
-array_look names g levels separator d v e = ap (λ k. joined_look names g levels separator k (d, v)) e
+array_look names g asks levels separator d v e = ap (λ k. joined_look names g asks levels separator k (d, v)) e
 
-other_look : (names : Names) (g : Graph) (levels : ℕ) (separator : List ℕ) (k : Kind) (d : ℕ) (v : Value) → (k ≡ kind.Array → ⊥) → joined_look names g levels separator k (d, v) ≡ Leaf (printed names g (levels - d) spoken v)
-other_look names g levels separator kind.Array d v out = absurd (out refl)
-other_look names g levels separator _ d v out = refl
+other_look : (names : Names) (g : Graph) (asks : ℕ → Bool) (levels : ℕ) (separator : List ℕ) (k : Kind) (d : ℕ) (v : Value) → (k ≡ kind.Array → ⊥)
+    → joined_look names g asks levels separator k (d, v) ≡ Leaf (pieced names g asks (levels - d) spoken v)
+other_look names g asks levels separator kind.Array d v out = absurd (out refl)
+other_look names g asks levels separator _ d v out = refl
 
-leaf_look : (names : Names) (g : Graph) (levels : ℕ) (separator : List ℕ) (k : Kind) (d : ℕ) (v : Value) → kind_in g v ≡ k → (k ≡ kind.Array → ⊥) → look_joined names g levels separator (d, v) ≡ Leaf (printed names g (levels - d) spoken v)
+leaf_look : (names : Names) (g : Graph) (asks : ℕ → Bool) (levels : ℕ) (separator : List ℕ) (k : Kind) (d : ℕ) (v : Value) → kind_in g v ≡ k → (k ≡ kind.Array → ⊥)
+    → look_joined names g asks levels separator (d, v) ≡ Leaf (pieced names g asks (levels - d) spoken v)
 unfolding look_joined
-leaf_look names g levels separator k d v e out = ap (λ j. joined_look names g levels separator j (d, v)) e ∙ other_look names g levels separator k d v out
+leaf_look names g asks levels separator k d v e out = ap (λ j. joined_look names g asks levels separator j (d, v)) e ∙ other_look names g asks levels separator k d v out
 
-module _ (names : Names) (g : Graph) (levels : ℕ) (separator : List ℕ) (slots : List Slot) where
-  abbrev view : ℕ × Opened → Begun Joint Value
-  view = begun_of names g levels separator slots
+module _ (names : Names) (g : Graph) (asks : ℕ → Bool) (levels : ℕ) (separator : List ℕ) (slots : List Slot) where
+  abbrev view : ℕ × Opened → Begun Piece Joint Value
+  view = begun_of names g asks levels separator slots
 
   any_end : (p : Value → Bool) (f : ℕ × Opened) (xs : List (ℕ × Opened)) → list_any p (keys (map view (xs ++ f ∷ []))) ≡ (p (key_of slots f.1) || list_any p (keys (map view xs)))
   any_end p f [] = refl
@@ -75,85 +77,94 @@ module _ (names : Names) (g : Graph) (levels : ℕ) (separator : List ℕ) (slot
   any_above : (v : Value) (fs : List Opened) → list_any (same_value v) (keys (map view (reverse (numbered 0 fs)))) ≡ list_any (λ f. same_value v (key_of slots f)) fs
   any_above v fs = any_keys (same_value v) (numbered 0 fs) ∙ any_numbered (λ f. same_value v (key_of slots f)) 0 fs
 
-  module _ (fs : List Opened) (out : List ℕ) (v : Value) (e : kind_in g v ≡ kind.Array) where
-    abbrev parts : List (List ℕ × Joint)
-    parts = joined_parts names g levels separator (suc (length fs)) [] (values_in (triples_in g v))
+  module _ (fs : List Opened) (out : List Piece) (v : Value) (e : kind_in g v ≡ kind.Array) where
+    abbrev parts : List (List Piece × Joint)
+    parts = joined_parts separator (suc (length fs)) [] (values_in (triples_in g v))
 
-    pub begun_again : (new : List Opened) → list_any (λ f. same_value v (key_of slots f)) fs ≡ true → showing_of names g levels separator slots fs out v ≡ ahead names g levels separator slots going.Circular new out
+    pub begun_again : (new : List Opened) → list_any (λ f. same_value v (key_of slots f)) fs ≡ true → showing_of names g asks levels separator slots fs out v ≡ ahead names g asks levels separator slots going.Circular new out
     begun_again new is =
-        circular_showed (look_joined names g levels separator) same_value view levels (numbered 0 fs) out [] [] (length fs, v) v parts (array_look names g levels separator (length fs) v e) (any_above v fs ∙ is)
+        circular_showed (look_joined names g asks levels separator) same_value view levels (numbered 0 fs) out [] [] (length fs, v) v parts (array_look names g asks levels separator (length fs) v e) (any_above v fs ∙ is)
 
-    pub begun_deep : (new : List Opened) → list_any (λ f. same_value v (key_of slots f)) fs ≡ false → levels ≤ length fs → showing_of names g levels separator slots fs out v ≡ ahead names g levels separator slots going.Deep new out
+    pub begun_deep : (new : List Opened) → list_any (λ f. same_value v (key_of slots f)) fs ≡ false → levels ≤ length fs → showing_of names g asks levels separator slots fs out v ≡ ahead names g asks levels separator slots going.Deep new out
     begun_deep new is full =
-        deep_showed (look_joined names g levels separator) same_value view levels (numbered 0 fs) out Circular [] [] (length fs, v) v parts (array_look names g levels separator (length fs) v e) (any_above v fs ∙ is)
+        deep_showed (look_joined names g asks levels separator) same_value view levels (numbered 0 fs) out Circular [] [] (length fs, v) v parts (array_look names g asks levels separator (length fs) v e) (any_above v fs ∙ is)
         (omega (arith, numbered_length 0 fs, full))
 
     pub begun_inside : (f : Opened) (new : List Opened) → list_any (λ f. same_value v (key_of slots f)) fs ≡ false → length fs < levels → key_of slots f ≡ v → f.next ≡ 0 → new ≡ fs ++ f ∷ []
-        → showing_of names g levels separator slots fs out v ≡ ahead names g levels separator slots going.On new out
+        → showing_of names g asks levels separator slots fs out v ≡ ahead names g asks levels separator slots going.On new out
     begun_inside f new is fits named first more =
         let seen : view (suc (length fs), f) ≡ record { key = v; parts = parts; closing = [] } =
         ap (λ (n : ℕ). record {
           key = key_of slots f;
-          parts = joined_parts names g levels separator (suc (length fs)) (lead_at n separator) (drop n (values_in (triples_in g (key_of slots f))));
+          parts = joined_parts separator (suc (length fs)) (lead_at n separator) (drop n (values_in (triples_in g (key_of slots f))));
           closing = [];
         }) first
         ∙ ap (λ (w : Value). record {
           key = w;
-          parts = joined_parts names g levels separator (suc (length fs)) [] (values_in (triples_in g w));
+          parts = joined_parts separator (suc (length fs)) [] (values_in (triples_in g w));
           closing = [];
         }) named in
-        entered_showed (look_joined names g levels separator) same_value view levels (numbered 0 fs) (numbered 0 new) (suc (length fs), f) out out Circular [] [] (length fs, v) v parts
-        (array_look names g levels separator (length fs) v e) (any_above v fs ∙ is) (omega (arith, numbered_length 0 fs, fits)) seen (numbered_first fs new f more) (sym (append-nil out))
+        entered_showed (look_joined names g asks levels separator) same_value view levels (numbered 0 fs) (numbered 0 new) (suc (length fs), f) out out Circular [] [] (length fs, v) v parts
+        (array_look names g asks levels separator (length fs) v e) (any_above v fs ∙ is) (omega (arith, numbered_length 0 fs, fits)) seen (numbered_first fs new f more) (sym (append-nil out))
 
   -- a value that is no array
-  pub told_now : (fs : List Opened) (out out' : List ℕ) (k : Kind) (v : Value) (now : Going) → kind_in g v ≡ k → (k ≡ kind.Array → ⊥) → IsTold (printed names g (levels - length fs) spoken v) now out out'
-      → showing_of names g levels separator slots fs out v ≡ ahead names g levels separator slots now fs out'
-  told_now fs out out' k v going.On e other (s, is, more) =
-      leaf_showed (look_joined names g levels separator) same_value view levels (numbered 0 fs) (numbered 0 fs) out out' s (length fs, v) (leaf_look names g levels separator k (length fs) v e other ∙ ap Leaf is) refl more
-  told_now fs out out' k v going.Deep e other is =
-      leaf_deep (look_joined names g levels separator) same_value view levels (numbered 0 fs) out (length fs, v) (leaf_look names g levels separator k (length fs) v e other ∙ ap Leaf is)
-  told_now fs out out' k v going.Circular e other is = absurd is
-  told_now fs out out' k v going.Shell e other is =
-      leaf_shell (look_joined names g levels separator) same_value view levels (numbered 0 fs) out (length fs, v) (leaf_look names g levels separator k (length fs) v e other ∙ ap Leaf is)
+  pub told_now : (fs : List Opened) (out out' : List Piece) (k : Kind) (v : Value) (now : Going) → kind_in g v ≡ k → (k ≡ kind.Array → ⊥)
+      → followed (Wrote out) (pieced names g asks (levels - length fs) spoken v) ≡ come_to now out' → showing_of names g asks levels separator slots fs out v ≡ ahead names g asks levels separator slots now fs out'
+  told_now fs out out' k v now e other is =
+      leaf_goes (look_joined names g asks levels separator) same_value view levels (numbered 0 fs) out (length fs, v) (pieced names g asks (levels - length fs) spoken v) (come_to now out')
+      (leaf_look names g asks levels separator k (length fs) v e other) is
+      ∙ by now
+    where
+      by : (now : Going) → followed (come_to now out') (rest (look_joined names g asks levels separator) same_value (levels - length (numbered 0 fs)) (begun (look_joined names g asks levels separator) same_value view levels (numbered 0 fs)))
+          ≡ ahead names g asks levels separator slots now fs out'
+      by going.On = refl
+      by going.Deep = refl
+      by going.Circular = refl
+      by going.Shell = refl
 
   -- ---- The next element.
 
-  module _ (fs : List Opened) (top : Opened) (out : List ℕ) where
+  module _ (fs : List Opened) (top : Opened) (out : List Piece) where
     abbrev those : List Value
     those = values_in (triples_in g (key_of slots top))
 
-    pub element_next : (mid : List Opened) (f : Opened) (out' : List ℕ) (v : Value) → top.next < length (triples_in g (key_of slots top)) → value_in (triples_in g (key_of slots top)) top.next ≡ v
-        → f ≡ record { array = top.array; next = top.next + 1 } → mid ≡ fs ++ f ∷ [] → out' ≡ out ++ lead_at top.next separator
-        → whole_of names g levels separator slots (fs ++ top ∷ []) out ≡ showing_of names g levels separator slots mid out' v
+    pub element_next : (mid : List Opened) (f : Opened) (out' : List Piece) (v : Value) → top.next < length (triples_in g (key_of slots top)) → value_in (triples_in g (key_of slots top)) top.next ≡ v
+        → f ≡ record { array = top.array; next = top.next + 1 } → mid ≡ fs ++ f ∷ [] → out' ≡ out ++ spelled (lead_at top.next separator)
+        → whole_of names g asks levels separator slots (fs ++ top ∷ []) out ≡ showing_of names g asks levels separator slots mid out' v
     element_next mid f out' v lt is next more wrote =
         let d = suc (length fs) in
         let lead = lead_at top.next separator in
-        let parts : (view (d, top)).parts ≡ (lead, (d, v)) ∷ (view (d, f)).parts =
-        ap (joined_parts names g levels separator d lead) (values_next (triples_in g (key_of slots top)) top.next lt)
-        ∙ ap (λ (x : Value). (lead, (d, x)) ∷ joined_parts names g levels separator d separator (drop (top.next + 1) those)) is
-        ∙ ap (λ (s : List ℕ). (lead, (d, v)) ∷ joined_parts names g levels separator d s (drop (top.next + 1) those)) (sym (lead_next top.next separator))
-        ∙ ap (λ (x : Opened). (lead, (d, v)) ∷ (view (d, x)).parts) (sym next) in
+        let parts : (view (d, top)).parts ≡ (spelled lead, (d, v)) ∷ (view (d, f)).parts =
+        ap (joined_parts separator d lead) (values_next (triples_in g (key_of slots top)) top.next lt)
+        ∙ ap (λ (x : Value). (spelled lead, (d, x)) ∷ joined_parts separator d separator (drop (top.next + 1) those)) is
+        ∙ ap (λ (s : List ℕ). (spelled lead, (d, v)) ∷ joined_parts separator d s (drop (top.next + 1) those)) (sym (lead_next top.next separator))
+        ∙ ap (λ (x : Opened). (spelled lead, (d, v)) ∷ (view (d, x)).parts) (sym next) in
         let deep : d ≡ length mid = let z : suc (length fs) ≡ length fs + 1 = omega arith in z ∙ sym (ap length more ∙ length_push fs f) in
-        ap (λ xs. whole (look_joined names g levels separator) same_value view levels xs out) (numbered_first fs (fs ++ top ∷ []) top refl)
-        ∙ next_top (look_joined names g levels separator) same_value view levels (numbered 0 fs) (numbered 0 mid) (d, top) (d, f) out out' (lead, (d, v)) parts
+        ap (λ xs. whole (look_joined names g asks levels separator) same_value view levels xs out) (numbered_first fs (fs ++ top ∷ []) top refl)
+        ∙ next_top (look_joined names g asks levels separator) same_value view levels (numbered 0 fs) (numbered 0 mid) (d, top) (d, f) out out' (spelled lead, (d, v)) parts
         (ap (key_of slots) (sym next)) refl (numbered_first fs mid f more) wrote
-        ∙ ap (λ (n : ℕ). showing (look_joined names g levels separator) same_value view levels (numbered 0 mid) out' (n, v)) deep
+        ∙ ap (λ (n : ℕ). showing (look_joined names g asks levels separator) same_value view levels (numbered 0 mid) out' (n, v)) deep
 
-    pub elements_end : length fs < levels → length (triples_in g (key_of slots top)) ≤ top.next → whole_of names g levels separator slots (fs ++ top ∷ []) out ≡ ahead names g levels separator slots going.On fs out
+    pub elements_end : length fs < levels → length (triples_in g (key_of slots top)) ≤ top.next → whole_of names g asks levels separator slots (fs ++ top ∷ []) out ≡ ahead names g asks levels separator slots going.On fs out
     elements_end fits le =
-        ap (λ xs. whole (look_joined names g levels separator) same_value view levels xs out) (numbered_first fs (fs ++ top ∷ []) top refl)
-        ∙ closed_top (look_joined names g levels separator) same_value view levels (numbered 0 fs) (numbered 0 fs) (suc (length fs), top) out out (omega (arith, numbered_length 0 fs, fits))
-        (ap (joined_parts names g levels separator (suc (length fs)) (lead_at top.next separator)) (values_end (triples_in g (key_of slots top)) top.next le)) refl (sym (append-nil out))
+        ap (λ xs. whole (look_joined names g asks levels separator) same_value view levels xs out) (numbered_first fs (fs ++ top ∷ []) top refl)
+        ∙ closed_top (look_joined names g asks levels separator) same_value view levels (numbered 0 fs) (numbered 0 fs) (suc (length fs), top) out out (omega (arith, numbered_length 0 fs, fits))
+        (ap (joined_parts separator (suc (length fs)) (lead_at top.next separator)) (values_end (triples_in g (key_of slots top)) top.next le)) refl (sym (append-nil out))
 
   -- nothing was begun and nothing written
-  pub starts : (fs : List Opened) (out : List ℕ) (v : Value) → fs ≡ [] → out ≡ [] → joined names g levels separator v ≡ showing_of names g levels separator slots fs out v
-  unfolding joined
+  pub starts : (fs : List Opened) (out : List Piece) (v : Value) → fs ≡ [] → out ≡ [] → joint names g asks levels separator v ≡ showing_of names g asks levels separator slots fs out v
+  unfolding joint
   starts fs out v e f =
-      let one : Walked = walk (look_joined names g levels separator) same_value (levels - 0) [] (0, v) in
-      sym (ap (λ (xs : List Opened). showing_of names g levels separator slots xs out v) e
-      ∙ ap (λ (s : List ℕ). showing_of names g levels separator slots [] s v) f
+      let one : Outcome Piece = walk (look_joined names g asks levels separator) same_value (levels - 0) [] (0, v) in
+      sym (ap (λ (xs : List Opened). showing_of names g asks levels separator slots xs out v) e
+      ∙ ap (λ (s : List Piece). showing_of names g asks levels separator slots [] s v) f
       ∙ followed_none (followed one (Wrote [])) ∙ followed_end one
-      ∙ ap (λ (n : ℕ). walk (look_joined names g levels separator) same_value n [] (0, v)) (let z : levels - 0 ≡ levels = omega arith in z))
+      ∙ ap (λ (n : ℕ). walk (look_joined names g asks levels separator) same_value n [] (0, v)) (let z : levels - 0 ≡ levels = omega arith in z))
+
+  -- nothing is left to do
+  pub ends : (fs : List Opened) (out : List Piece) → length fs ≡ 0 → whole_of names g asks levels separator slots fs out ≡ Wrote out
+  ends [] out e = ap Wrote (append-nil out)
+  ends (f ∷ fs) out e = absurd (let no : ⊥ = omega (arith, e) in no)
 
 -- ---- Less is left.
 

@@ -2,7 +2,11 @@ pub mod Quoting
 pub mod Stack
 pub mod Seeing
 pub mod Loads
+pub mod Drafting
+mod Unasked
+mod Answering
 pub mod Looking
+mod Leaves
 pub mod Turning
 pub mod Rows
 pub mod Same

@@ -5,7 +5,7 @@ use Rattle.std.specs.List.{list_any}
 use Rattle.std.specs.Bool.{MatchBool}
 use Rattle.std.proofs.lemmas.List.{reverse-append, length-map}
 use Rattle.std.proofs.lemmas.Option.{none-some, same_Some, slice_get-map}
-use Rattle.rr_space.specs.Graph.{Name, Own, Published, Value, Plain, At, Label, Place, Field, KeyAt, ValueAt, Message, Cause, Ractor as RactorLabel, Object, Kind, text, array, hash, plain, exception, shell, Graph}
+use Rattle.rr_space.specs.Graph.{Name, Own, Published, Value, Plain, At, Label, Place, Field, KeyAt, ValueAt, Message, Cause, Ractor as RactorLabel, Kind, array, hash, shell, Graph}
 use Rattle.rr_space.specs.Tables.{Slot, Below, Table, joined, resolve, resolve_slot, resolve_triple, graph_of}
 use Rattle.rr_space.specs.Sound.{IsTableSound}
 use Rattle.rr_space.specs.Parts.{value_of, below_ref}
@@ -15,18 +15,17 @@ use Rattle.rr_space.specs.Labels.{triples_at, IsFirstUnder}
 use Rattle.rr_space.specs.declared.kind.Kind.TheVariants.{Array as ArrayKind, Hash as HashKind}
 use Rattle.rr_space.specs.declared.refer.Ref.{Ref}
 use Rattle.rr_space.specs.declared.refer.Ref.TheVariants.{Nil, Truth, Int, Symbol, Class, Ractor, Local, Shared}
-use Rattle.rr_text.specs.Walk.{Wrote, Differs, Deep, Circular, Shell, Look, Leaf, Branch}
-use Rattle.rr_text.specs.Forms.{Names, Way, inspected, lines, Item, Key, lining, elements, entries, key_text, thing, look, line_look, array_look, hash_look, object_look, same_key, is_message, message_in, message_text, told_by, immediate_written}
+use Rattle.rr_text.specs.Walk.{Wrote, Leaf, Branch}
+use Rattle.rr_text.specs.Forms.{Names, Way, inspected, lines, Item, Key, Piece, spelled, lining, elements, entries, key_text, thing, look, line_look, array_look, hash_look, object_look, same_key, is_message, message_in, message_text, told_by}
 use Rattle.rr_text.specs.Rest.{keys}
 use Rattle.rr_text.specs.Reads.{IsAmong, IsReadWith, IsAtEnd}
 use Rattle.rr_text.specs.Frames.{key_of, lead_at, thing_in, begun_of, IsEntered, Showed}
-use Rattle.rr_text.specs.Ways.{IsWrittenNow}
 use Rattle.rr_text.specs.declared.walk.Frame.{Frame}
 use Rattle.rr_text.specs.declared.walk.Going.{Going}
 use Rattle.rr_text.specs.declared.walk.Going.TheVariants.{On, Deep as GoingDeep, Shell as GoingShell}
-use Rattle.rr_text.specs.Told.{told_kind, told_object, told_value, IsLeafWritten}
+use Rattle.rr_text.specs.Told.{told_kind, told_value}
 use Rattle.rr_text.proofs.Seeing.{kind_is, class_is, bytes_are, triples_are}
-use Rattle.rr_text.proofs.Stack.{leaf_showed, leaf_shell, again_showed, deep_showed, entered_showed}
+use Rattle.rr_text.proofs.Stack.{again_showed, deep_showed, entered_showed}
 
 -- ---- The object that a reference leads to.
 
@@ -71,20 +70,21 @@ module _ (names : Names) (t : Table) (below : Below) (sound : IsTableSound t.slo
   in_class (Local m) among end some = class_is t below (Local m) (Own m) sound read among end (λ h. some (ap told_kind h))
   in_class (Shared p c) among end some = class_is t below (Shared p c) (Published c.now.number p) sound read among end (λ h. some (ap told_kind h))
 
-module _ (names : Names) (g : Graph) where
+module _ (names : Names) (g : Graph) (asks : ℕ → Bool) where
   -- what is found at an object, by its kind
-  pub looked_at : (way : Way) (v : Value) (n : Name) (k : Kind) → v ≡ At n → (thing_in names g v).kind ≡ k → look names g (way, v) ≡ object_look names g way k v (thing_in names g v)
+  pub looked_at : (way : Way) (v : Value) (n : Name) (k : Kind) → v ≡ At n → (thing_in names g v).kind ≡ k → look names g asks (way, v) ≡ object_look names g asks way k v (thing_in names g v)
   looked_at way v n k e kind =
       let h : (thing names g n).kind ≡ k = ap (λ x. (thing_in names g x).kind) (sym e) ∙ kind in
-      let P : Value → Type 0 = λ x. look names g (way, x) ≡ object_look names g way k x (thing_in names g x) in
-      subst P (sym e) (ap (λ k. object_look names g way k (At n) (thing names g n)) h)
+      let P : Value → Type 0 = λ x. look names g asks (way, x) ≡ object_look names g asks way k x (thing_in names g x) in
+      subst P (sym e) (ap (λ k. object_look names g asks way k (At n) (thing names g n)) h)
 
+module _ (names : Names) (g : Graph) where
   -- the elements of an array that is not empty stand on lines
-  pub line_some : (v : Value) (ts : List (Label × Value)) → 0 < length ts → line_look names g v ts ≡ Branch (lining, v) (Wrote (codes "[...]" ++ 10 ∷ [])) [] (elements lines [] [] ts) []
+  pub line_some : (v : Value) (ts : List (Label × Value)) → 0 < length ts → line_look names g v ts ≡ Branch (lining, v) (Wrote (spelled (codes "[...]" ++ 10 ∷ []))) [] (elements lines [] [] ts) []
   line_some v [] h = absurd (let w : ⊥ = omega (arith, h) in w)
   line_some v (t ∷ ts) h = refl
 
-  pub line_none : (v : Value) (ts : List (Label × Value)) → length ts ≡ 0 → line_look names g v ts ≡ Leaf (Wrote (10 ∷ []))
+  pub line_none : (v : Value) (ts : List (Label × Value)) → length ts ≡ 0 → line_look names g v ts ≡ Leaf (Wrote (spelled (10 ∷ [])))
   line_none v [] h = refl
   line_none v (t ∷ ts) h = absurd (let w : ⊥ = omega (arith, h) in w)
 
@@ -106,24 +106,36 @@ module _ (names : Names) (g : Graph) where
       ap (λ xs. list_any (same_key k) (keys (map (begun_of names g) xs))) (reverse-append (f ∷ []) fs)
       ∙ any_end k f (reverse fs) ∙ ap (λ b. same_key k (key_of f) || b) (any_above k fs)
 
-  module _ (levels : ℕ) (frames frames' : List Frame) (f : Frame) (out out' again opening : List ℕ) (i : Item)
-      (e : look names g i ≡ Branch (key_of f) (Wrote again) opening (begun_of names g f).parts (begun_of names g f).closing) where
+  module _ (asks : ℕ → Bool) (levels : ℕ) (frames frames' : List Frame) (f : Frame) (out out' : List Piece) (again opening : List ℕ) (i : Item)
+      (e : look names g asks i ≡ Branch (key_of f) (Wrote (spelled again)) (spelled opening) (begun_of names g f).parts (begun_of names g f).closing) where
     here : (b : Bool) → list_any (λ x. same_key (key_of f) (key_of x)) frames ≡ b
-        → MatchBool b ((frames' ≡ frames) × (out' ≡ out ++ again)) ((length frames < levels) × (frames' ≡ frames ++ f ∷ []) × (out' ≡ out ++ opening))
-        → Showed names g levels frames out i On frames' out'
+        → MatchBool b ((frames' ≡ frames) × (out' ≡ out ++ spelled again)) ((length frames < levels) × (frames' ≡ frames ++ f ∷ []) × (out' ≡ out ++ spelled opening))
+        → Showed names g asks levels frames out i On frames' out'
     here true is (same_frames, more) =
-        again_showed (look names g) same_key (begun_of names g) levels frames frames' out out' again opening (begun_of names g f).closing i (key_of f) (begun_of names g f).parts e
+        again_showed (look names g asks) same_key (begun_of names g) levels frames frames' out out' (spelled again) (spelled opening) (begun_of names g f).closing i (key_of f) (begun_of names g f).parts e
         (any_above (key_of f) frames ∙ is) same_frames more
     here false is (fits, es, more) =
-        entered_showed (look names g) same_key (begun_of names g) levels frames frames' f out out' (Wrote again) opening (begun_of names g f).closing i (key_of f) (begun_of names g f).parts e
+        entered_showed (look names g asks) same_key (begun_of names g) levels frames frames' f out out' (Wrote (spelled again)) (spelled opening) (begun_of names g f).closing i (key_of f) (begun_of names g f).parts e
         (any_above (key_of f) frames ∙ is) fits refl es more
 
-    pub entered_shows : (going : Going) → IsEntered levels again opening f frames out going frames' out' → Showed names g levels frames out i going frames' out'
+    pub entered_shows : (going : Going) → IsEntered levels again opening f frames out going frames' out' → Showed names g asks levels frames out i going frames' out'
     entered_shows On h = here (list_any (λ x. same_key (key_of f) (key_of x)) frames) refl h
     entered_shows GoingDeep (new, full) =
-        deep_showed (look names g) same_key (begun_of names g) levels frames out (Wrote again) opening (begun_of names g f).closing i (key_of f) (begun_of names g f).parts e
+        deep_showed (look names g asks) same_key (begun_of names g) levels frames out (Wrote (spelled again)) (spelled opening) (begun_of names g f).closing i (key_of f) (begun_of names g f).parts e
         (any_above (key_of f) frames ∙ new) full
     entered_shows GoingShell h = absurd h
+
+module _ (levels : ℕ) (again opening : List ℕ) (f : Frame) (frames frames' : List Frame) (out out' : List Piece) where
+  pub again_entered : list_any (λ x. same_key (key_of f) (key_of x)) frames ≡ true → frames' ≡ frames → out' ≡ out ++ spelled again → IsEntered levels again opening f frames out On frames' out'
+  again_entered is same more =
+      let P : Bool → Type 0 = λ b. MatchBool b ((frames' ≡ frames) × (out' ≡ out ++ spelled again)) ((length frames < levels) × (frames' ≡ frames ++ f ∷ []) × (out' ≡ out ++ spelled opening)) in
+      subst P (sym is) (same, more)
+
+  pub newly_entered : list_any (λ x. same_key (key_of f) (key_of x)) frames ≡ false → length frames < levels → frames' ≡ frames ++ f ∷ [] → out' ≡ out ++ spelled opening
+      → IsEntered levels again opening f frames out On frames' out'
+  newly_entered is fits es more =
+      let P : Bool → Type 0 = λ b. MatchBool b ((frames' ≡ frames) × (out' ≡ out ++ spelled again)) ((length frames < levels) × (frames' ≡ frames ++ f ∷ []) × (out' ≡ out ++ spelled opening)) in
+      subst P (sym is) (fits, es, more)
 
 -- ---- The parts of a container, one by one.
 
@@ -131,12 +143,12 @@ pub lead_next : (k : ℕ) (between : List ℕ) → lead_at (k + 1) between ≡ b
 lead_next k between = ap (λ n. lead_at n between) (let e : k + 1 ≡ suc k = omega arith in e)
 
 pub elements_next : (way : Way) (first between : List ℕ) (ts : List (Label × Value)) (k : ℕ) (l : Label) (v : Value) → slice_get ts k ≡ Some (l, v)
-    → elements way first between (drop k ts) ≡ (first, (way, v)) ∷ elements way between between (drop (k + 1) ts)
+    → elements way first between (drop k ts) ≡ (spelled first, (way, v)) ∷ elements way between between (drop (k + 1) ts)
 elements_next way first between [] k l v e = absurd (none-some (l, v) e)
-elements_next way first between (t ∷ ts) zero l v e = ap (λ (x : Label × Value). (first, (way, x.1)) ∷ elements way between between ts) (same_Some t (l, v) e)
+elements_next way first between (t ∷ ts) zero l v e = ap (λ (x : Label × Value). (spelled first, (way, x.1)) ∷ elements way between between ts) (same_Some t (l, v) e)
 elements_next way first between (t ∷ ts) (suc k) l v e =
     elements_next way first between ts k l v e
-    ∙ ap (λ n. (first, (way, v)) ∷ elements way between between (drop n (t ∷ ts))) (let s : suc (k + 1) ≡ suc k + 1 = omega arith in s)
+    ∙ ap (λ n. (spelled first, (way, v)) ∷ elements way between between (drop n (t ∷ ts))) (let s : suc (k + 1) ≡ suc k + 1 = omega arith in s)
 
 pub elements_none : (way : Way) (first between : List ℕ) (ts : List (Label × Value)) (k : ℕ) → length ts ≤ k → elements way first between (drop k ts) ≡ []
 elements_none way first between [] zero h = refl
@@ -146,16 +158,16 @@ elements_none way first between (t ∷ ts) (suc k) h = elements_none way first b
 
 module _ (names : Names) (g : Graph) where
   pub entries_next : (first : List ℕ) (ts : List (Label × Value)) (k : ℕ) (l m : Label) (x y : Value) → slice_get ts k ≡ Some (l, x) → slice_get ts (k + 1) ≡ Some (m, y)
-      → entries names g first (drop k ts) ≡ (first ++ key_text names g x, (inspected, y)) ∷ entries names g (codes ", ") (drop (k + 2) ts)
+      → entries names g first (drop k ts) ≡ (spelled (first ++ key_text names g x), (inspected, y)) ∷ entries names g (codes ", ") (drop (k + 2) ts)
   entries_next first [] k l m x y e f = absurd (none-some (l, x) e)
   entries_next first (t ∷ []) zero l m x y e f = absurd (none-some (m, y) f)
   entries_next first (t ∷ u ∷ ts) zero l m x y e f =
-      ap (λ (a : Label × Value). (first ++ key_text names g a.1, (inspected, u.1)) ∷ entries names g (codes ", ") ts) (same_Some t (l, x) e)
-      ∙ ap (λ (a : Label × Value). (first ++ key_text names g x, (inspected, a.1)) ∷ entries names g (codes ", ") ts) (same_Some u (m, y) f)
+      ap (λ (a : Label × Value). (spelled (first ++ key_text names g a.1), (inspected, u.1)) ∷ entries names g (codes ", ") ts) (same_Some t (l, x) e)
+      ∙ ap (λ (a : Label × Value). (spelled (first ++ key_text names g x), (inspected, a.1)) ∷ entries names g (codes ", ") ts) (same_Some u (m, y) f)
   entries_next first (t ∷ ts) (suc k) l m x y e f =
       let at : slice_get ts (k + 1) ≡ Some (m, y) = ap (slice_get (t ∷ ts)) (let s : suc (k + 1) ≡ suc k + 1 = omega arith in s) ∙ f in
       entries_next first ts k l m x y e at
-      ∙ ap (λ n. (first ++ key_text names g x, (inspected, y)) ∷ entries names g (codes ", ") (drop n (t ∷ ts))) (let s : suc (k + 2) ≡ suc k + 2 = omega arith in s)
+      ∙ ap (λ n. (spelled (first ++ key_text names g x), (inspected, y)) ∷ entries names g (codes ", ") (drop n (t ∷ ts))) (let s : suc (k + 2) ≡ suc k + 2 = omega arith in s)
 
   pub entries_none : (first : List ℕ) (ts : List (Label × Value)) (k : ℕ) → length ts ≤ k + 1 → entries names g first (drop k ts) ≡ []
   entries_none first [] zero h = refl
@@ -237,51 +249,6 @@ module _ (names : Names) (c : ℕ) (t : Table) (below : Below) (sound : IsTableS
       → Wrote (names.class c) ≡ message_text names (graph_of t.slots below) c (message_in (map (resolve_triple t.slots) ts))
   none_told ts none = sym (ap (message_text names (graph_of t.slots below) c) (message_resolved t.slots ts ∙ ap (option_map (resolve t.slots)) (no_message ts none)))
 
--- ---- What is written of an object.
-
-module _ (names : Names) (g : Graph) where
-  same_look : (way : Way) (k : Kind) (v : Value) (o p : Object) → o.bytes ≡ p.bytes → o.triples ≡ p.triples → ((k ≡ shell → ⊥) → o.class ≡ p.class)
-      → object_look names g way k v o ≡ object_look names g way k v p
-  same_look way text v o p bytes triples class = ap (λ s. object_look names g way text v (record o { bytes = s })) bytes
-  same_look way array v o p bytes triples class = ap (array_look names g way v) triples
-  same_look way hash v o p bytes triples class = ap (hash_look names g way v) triples
-  same_look way plain v o p bytes triples class = ap (λ (c : ℕ). object_look names g way plain v (record o { class = c })) (class (λ e. absurd (let w : ⊥ = cc in w)))
-  same_look way exception v o p bytes triples class =
-      ap (λ (c : ℕ). object_look names g way exception v (record o { class = c })) (class (λ e. absurd (let w : ⊥ = cc in w)))
-      ∙ ap (λ ts. object_look names g way exception v (record p { triples = ts })) triples
-  same_look way shell v o p bytes triples class = refl
-
-  -- what is written, and the walk goes on where it was
-  pub leaf_shows : (levels : ℕ) (frames : List Frame) (out out' : List ℕ) (i : Item) (l : Look Item Key) (now : Bool) → look names g i ≡ l → IsLeafWritten l now out out'
-      → (now ≡ true → Showed names g levels frames out i On frames out') × (now ≡ false → Showed names g levels frames out i GoingShell frames out')
-  leaf_shows levels frames out out' i (Leaf (Wrote s)) now e (written, more) =
-      (λ h. leaf_showed (look names g) same_key (begun_of names g) levels frames frames out out' s i e refl more, λ h. absurd (let w : ⊥ = cc in w))
-  leaf_shows levels frames out out' i (Leaf Shell) now e none =
-      (λ h. absurd (let w : ⊥ = cc in w), λ h. leaf_shell (look names g) same_key (begun_of names g) levels frames out i e)
-  leaf_shows levels frames out out' i (Leaf Differs) now e h = absurd h
-  leaf_shows levels frames out out' i (Leaf Deep) now e h = absurd h
-  leaf_shows levels frames out out' i (Leaf Circular) now e h = absurd h
-  leaf_shows levels frames out out' i (Branch k again opening parts closing) now e h = absurd h
-
-pub told_look : (names : Names) (t : Table) (below : Below) (r : Ref) (n : Name) (way : Way) → IsTableSound t.slots t.below → IsReadWith t below → IsAmong below r → IsAtEnd t r → value_of r ≡ At n
-    → look names (graph_of t.slots below) (way, value_of r) ≡ object_look names (graph_of t.slots below) way (told_kind (kind_at t r)) (value_of r) (told_object t r)
-told_look names t below r n way sound read among end e =
-    looked_at names (graph_of t.slots below) way (value_of r) n (told_kind (kind_at t r)) e (in_kind names t below sound read r among end)
-    ∙ same_look names (graph_of t.slots below) way (told_kind (kind_at t r)) (value_of r) (thing_in names (graph_of t.slots below) (value_of r)) (told_object t r)
-    (in_bytes names t below sound read r among end) (in_triples names t below sound read r among end) (in_class names t below sound read r among end)
-
--- a value that was not written now is an object
-pub is_object : (names : Names) (way : Way) (v : Value) (now : Bool) (out out' : List ℕ) → IsWrittenNow names way v now out out' → now ≡ false → (n : Name) × (v ≡ At n) × (out' ≡ out)
-is_object names way (Plain i) now out out' (e, more) h = absurd (let w : ⊥ = cc in w)
-is_object names way (At n) now out out' (e, same) h = (n, refl, same)
-
--- and one that was is an immediate
-pub written_shows : (names : Names) (g : Graph) (slots : List Slot) (levels : ℕ) (frames : List Frame) (out out' : List ℕ) (way : Way) (v : Value) (now : Bool)
-    → IsWrittenNow names way v now out out' → now ≡ true → Showed names g levels frames out (way, resolve slots v) On frames out'
-written_shows names g slots levels frames out out' way (Plain i) now (e, more) h =
-    leaf_showed (look names g) same_key (begun_of names g) levels frames frames out out' (immediate_written names way i) (way, Plain i) refl refl more
-written_shows names g slots levels frames out out' way (At n) now (e, same) h = absurd (let w : ⊥ = cc in w)
-
 -- ---- How containers are begun.
 
 pub among_child : (t : Table) (below : Below) (r x : Ref) → IsReadWith t below → IsAmong below r → IsKnownFrom t r x → IsAmong below x
@@ -291,12 +258,12 @@ among_child t below r x read among known e has = by (known e has)
     by (inl h) = read.all e h
     by (inr h) = among e h
 
-module _ (names : Names) (t : Table) (below : Below) (r : Ref) (n : Name) (way : Way) (sound : IsTableSound t.slots t.below) (read : IsReadWith t below) (among : IsAmong below r) (end : IsAtEnd t r) (at : value_of r ≡ At n) where
-  pub array_found : kind_at t r ≡ ArrayKind → look names (graph_of t.slots below) (way, value_of r) ≡ array_look names (graph_of t.slots below) way (value_of r) (thing_in names (graph_of t.slots below) (value_of r)).triples
-  array_found e = looked_at names (graph_of t.slots below) way (value_of r) n array at (in_kind names t below sound read r among end ∙ ap told_kind e)
+module _ (names : Names) (asks : ℕ → Bool) (t : Table) (below : Below) (r : Ref) (n : Name) (way : Way) (sound : IsTableSound t.slots t.below) (read : IsReadWith t below) (among : IsAmong below r) (end : IsAtEnd t r) (at : value_of r ≡ At n) where
+  pub array_found : kind_at t r ≡ ArrayKind → look names (graph_of t.slots below) asks (way, value_of r) ≡ array_look names (graph_of t.slots below) way (value_of r) (thing_in names (graph_of t.slots below) (value_of r)).triples
+  array_found e = looked_at names (graph_of t.slots below) asks way (value_of r) n array at (in_kind names t below sound read r among end ∙ ap told_kind e)
 
-  pub hash_found : kind_at t r ≡ HashKind → look names (graph_of t.slots below) (way, value_of r) ≡ hash_look names (graph_of t.slots below) way (value_of r) (thing_in names (graph_of t.slots below) (value_of r)).triples
-  hash_found e = looked_at names (graph_of t.slots below) way (value_of r) n hash at (in_kind names t below sound read r among end ∙ ap told_kind e)
+  pub hash_found : kind_at t r ≡ HashKind → look names (graph_of t.slots below) asks (way, value_of r) ≡ hash_look names (graph_of t.slots below) way (value_of r) (thing_in names (graph_of t.slots below) (value_of r)).triples
+  hash_found e = looked_at names (graph_of t.slots below) asks way (value_of r) n hash at (in_kind names t below sound read r among end ∙ ap told_kind e)
 
   pub count_found : length (thing_in names (graph_of t.slots below) (value_of r)).triples ≡ length (triples_at t r)
   count_found = ap length (in_triples names t below sound read r among end) ∙ length-map (triples_at t r) (resolve_triple t.slots)

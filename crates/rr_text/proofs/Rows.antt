@@ -2,11 +2,11 @@
 use Rattle.std.proofs.Common.{refl}
 use Rattle.std.specs.Fmt.{digits}
 use Rattle.rr_text.specs.Quoted.{quoted}
-use Rattle.rr_text.specs.Joining.{look_joined, joined}
+use Rattle.rr_text.specs.Joining.{look_joined, joint, joined}
 use Rattle.rr_text.specs.Rows.{AllRows}
 
 pub rows_compute : AllRows
-unfolding digits quoted look_joined joined
+unfolding digits quoted look_joined joint joined
 rows_compute = record {
   itself = refl;
   pairs = refl;

@@ -46,7 +46,7 @@ outcome_of compared.Deep = Deep
 outcome_of compared.Shell = Shell
 
 -- what is found at two values
-abbrev pub look_of : List Slot → Pair → Sight → Look Pair Pair
+abbrev pub look_of : List Slot → Pair → Sight → Look ℕ Pair Pair
 look_of slots p (Decided c) = Leaf (outcome_of c)
 look_of slots p (Inside sides) = Branch p (Wrote []) [] (map part_of (map (resolved slots) sides.items)) []
 
@@ -59,7 +59,7 @@ IsSightKnown t left right (Inside sides) = All (IsKnownBeside t left right) side
 abbrev pub key_of : List Slot → Beside → Pair
 key_of slots f = (resolve slots (value_of f.left), resolve slots (value_of f.right))
 
-abbrev pub begun_of : List Slot → Beside → Begun Pair Pair
+abbrev pub begun_of : List Slot → Beside → Begun ℕ Pair Pair
 begun_of slots f = record { key = key_of slots f; parts = map part_of (map (resolved slots) (drop f.next f.sides.items)); closing = [] }
 
 -- the values of a frame that are left

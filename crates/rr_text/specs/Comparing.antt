@@ -91,7 +91,7 @@ abbrev pub part_of : Pair → List ℕ × Pair
 part_of p = ([], p)
 
 -- two containers that have no such pairs differ
-abbrev pub branched : Pair → Option (List Pair) → Look Pair Pair
+abbrev pub branched : Pair → Option (List Pair) → Look ℕ Pair Pair
 branched p None = Leaf Differs
 branched p (Some ps) = Branch p (Wrote []) [] (map part_of ps) []
 
@@ -127,7 +127,7 @@ module _ (r : Reading) where
   all_matches v w =
       if nat_eq (length (triples_in r.graph v)) (length (triples_in r.graph w)) then matches (value_under w) (pairs_in (triples_in r.graph v)) else None
 
-  abbrev pub look_like : Likeness → Pair → Look Pair Pair
+  abbrev pub look_like : Likeness → Pair → Look ℕ Pair Pair
   look_like Moved p = Leaf Shell
   look_like Unlike p = Leaf Differs
   look_like Texts p = Leaf (decided (bytes_eq (bytes_in r.graph p.0) (bytes_in r.graph p.1)))
@@ -135,7 +135,7 @@ module _ (r : Reading) where
   look_like Hashes p = branched p (all_matches p.0 p.1)
 
   -- what is found at two values: one value is equal to itself at once, and what was moved away is equal to nothing else
-  unfoldable pub look_pair : Pair → Look Pair Pair
+  unfoldable pub look_pair : Pair → Look ℕ Pair Pair
   look_pair p = if same_value p.0 p.1 then Leaf (Wrote []) else look_like (likeness (kind_in r.graph p.0) (kind_in r.graph p.1)) p
 
   -- whether two values are equal, where so many containers may be begun inside one another

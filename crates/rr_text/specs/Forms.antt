@@ -1,9 +1,9 @@
 -- The printed text of a value: to_s, inspect and puts.
-use Rattle.std.specs.Prelude.{ℕ, ◌-◌, Bool, true, false, ◌&&◌, List, [], ◌∷◌, ◌++◌, codes, nat_eq, length, slice_index, if◌then◌else◌, Option, Some, None}
+use Rattle.std.specs.Prelude.{ℕ, ◌-◌, Bool, true, false, ◌&&◌, List, [], ◌∷◌, ◌++◌, codes, map, nat_eq, length, slice_index, if◌then◌else◌, Option, Some, None}
 use Rattle.std.specs.Fmt.{decimal, signed_decimal}
 use Rattle.rr_space.specs.Graph.{Name, Own, Published, Immediate, Nil, Truth, Integer, SymbolNo, ClassNo, RactorNo, Value, Plain, At, Label, Place, Field, KeyAt, ValueAt, Message, Cause, Ractor, Kind, text, array, hash, plain, exception, shell, Object, Graph}
 use Rattle.rr_space.specs.Views.{emptied}
-use Rattle.rr_text.specs.Walk.{Walked, Wrote, Differs, Deep, Circular, Shell, Look, Leaf, Branch, walk}
+use Rattle.rr_text.specs.Walk.{Outcome, Walked, Wrote, Differs, Deep, Circular, Shell, Look, Leaf, Branch, walk}
 use Rattle.rr_text.specs.Quoted.{quoted}
 
 -- how a program spells its symbols and classes, by their numbers
@@ -19,6 +19,15 @@ pub data Way : Type 0 where
 
 abbrev pub Item : Type 0
 Item = Way × Value
+
+-- What is written: bytes, and objects that are asked for their text, as one of these ways writes it. Where an object has no
+-- answer the other bytes stand.
+pub data Piece : Type 0 where
+  Byte : (byte : ℕ) → Piece
+  Ask : (asked : Item) (unless : List ℕ) → Piece
+
+abbrev pub spelled : List ℕ → List Piece
+spelled s = map Byte s
 
 -- what an object is in while it is written: a container of `inspect`, or an array whose elements stand on lines of their own
 pub data Walker : Type 0 where
@@ -98,9 +107,61 @@ message_in [] = None
 message_in (t ∷ ts) = if is_message t.0 then Some t.1 else message_in ts
 
 -- values, each after what stands before it: `first` before the first of them, `between` before all others
-abbrev pub elements : Way → List ℕ → List ℕ → List (Label × Value) → List (List ℕ × Item)
+abbrev pub elements : Way → List ℕ → List ℕ → List (Label × Value) → List (List Piece × Item)
 elements way first between [] = []
-elements way first between (t ∷ ts) = (first, (way, t.1)) ∷ elements way between between ts
+elements way first between (t ∷ ts) = (spelled first, (way, t.1)) ∷ elements way between between ts
+
+-- whether a way to write asks objects for their text
+abbrev pub asks_objects : Way → Bool
+asks_objects spoken = true
+asks_objects inspected = false
+asks_objects lines = true
+
+-- whether a program may give an object of this kind a text
+abbrev pub may_answer : Kind → Bool
+may_answer text = false
+may_answer array = false
+may_answer hash = false
+may_answer plain = true
+may_answer exception = true
+may_answer shell = false
+
+-- the text of an object: as it is, or where the object has no answer
+abbrev pub text_or_ask : Bool → Item → Walked → Outcome Piece
+text_or_ask true i (Wrote s) = Wrote (Ask i s ∷ [])
+text_or_ask false i (Wrote s) = Wrote (spelled s)
+text_or_ask asked i Differs = Differs
+text_or_ask asked i Deep = Deep
+text_or_ask asked i Circular = Circular
+text_or_ask asked i Shell = Shell
+
+-- what stands where an object was asked: the text that it answered with, if it is one, as it is written
+abbrev pub answered : Way → List ℕ → Option (List ℕ) → List ℕ
+answered way unless (Some s) = written way s
+answered way unless None = unless
+
+-- the first of the answers; where there is none, no text
+abbrev pub first_answer : List (Option (List ℕ)) → Option (List ℕ)
+first_answer [] = None
+first_answer (a ∷ answers) = a
+
+abbrev pub later_answers : List (Option (List ℕ)) → List (Option (List ℕ))
+later_answers [] = []
+later_answers (a ∷ answers) = answers
+
+-- the bytes of pieces whose objects answered so, from the first on
+abbrev pub filled : List Piece → List (Option (List ℕ)) → List ℕ
+filled [] answers = []
+filled (Byte b ∷ ps) answers = b ∷ filled ps answers
+filled (Ask i unless ∷ ps) answers = answered i.0 unless (first_answer answers) ++ filled ps (later_answers answers)
+
+-- the bytes where no object answered
+abbrev pub unanswered : Outcome Piece → Walked
+unanswered (Wrote ps) = Wrote (filled ps [])
+unanswered Differs = Differs
+unanswered Deep = Deep
+unanswered Circular = Circular
+unanswered Shell = Shell
 
 abbrev pub truth_text : Bool → List ℕ
 truth_text true = codes "true"
@@ -168,40 +229,58 @@ module _ (names : Names) where
     key_text (At n) = quoted (thing n).bytes ++ codes " => "
 
     -- the values of a hash, each after its key; a hash's triples are a key and its value in turn
-    abbrev pub entries : List ℕ → List (Label × Value) → List (List ℕ × Item)
+    abbrev pub entries : List ℕ → List (Label × Value) → List (List Piece × Item)
     entries first [] = []
     entries first (key ∷ []) = []
-    entries first (key ∷ value ∷ ts) = (first ++ key_text key.1, (inspected, value.1)) ∷ entries (codes ", ") ts
+    entries first (key ∷ value ∷ ts) = (spelled (first ++ key_text key.1), (inspected, value.1)) ∷ entries (codes ", ") ts
 
-    abbrev pub row_look : Value → List (Label × Value) → Look Item Key
-    row_look v ts = Branch (inspecting, v) (Wrote (codes "[...]")) (codes "[") (elements inspected [] (codes ", ") ts) (codes "]")
+    abbrev pub row_look : Value → List (Label × Value) → Look Piece Item Key
+    row_look v ts = Branch (inspecting, v) (Wrote (spelled (codes "[...]"))) (spelled (codes "[")) (elements inspected [] (codes ", ") ts) (spelled (codes "]"))
 
     -- the elements of an array on lines of their own; an empty one is an empty line
-    abbrev pub line_look : Value → List (Label × Value) → Look Item Key
-    line_look v [] = Leaf (Wrote (10 ∷ []))
-    line_look v (t ∷ ts) = Branch (lining, v) (Wrote (codes "[...]" ++ 10 ∷ [])) [] (elements lines [] [] (t ∷ ts)) []
+    abbrev pub line_look : Value → List (Label × Value) → Look Piece Item Key
+    line_look v [] = Leaf (Wrote (spelled (10 ∷ [])))
+    line_look v (t ∷ ts) = Branch (lining, v) (Wrote (spelled (codes "[...]" ++ 10 ∷ []))) [] (elements lines [] [] (t ∷ ts)) []
 
-    abbrev pub array_look : Way → Value → List (Label × Value) → Look Item Key
+    abbrev pub array_look : Way → Value → List (Label × Value) → Look Piece Item Key
     array_look spoken v ts = row_look v ts
     array_look inspected v ts = row_look v ts
     array_look lines v ts = line_look v ts
 
-    abbrev pub hash_look : Way → Value → List (Label × Value) → Look Item Key
-    hash_look way v ts = Branch (inspecting, v) (Wrote (codes "{...}" ++ line_end way)) (codes "{") (entries [] ts) (codes "}" ++ line_end way)
+    abbrev pub hash_look : Way → Value → List (Label × Value) → Look Piece Item Key
+    hash_look way v ts = Branch (inspecting, v) (Wrote (spelled (codes "{...}" ++ line_end way))) (spelled (codes "{")) (entries [] ts) (spelled (codes "}" ++ line_end way))
 
-    abbrev pub object_look : Way → Kind → Value → Object → Look Item Key
-    object_look way text v o = Leaf (Wrote (text_written way o.bytes))
-    object_look way array v o = array_look way v o.triples
-    object_look way hash v o = hash_look way v o.triples
-    object_look way plain v o = Leaf (Wrote (plain_written way o.class))
-    object_look way exception v o = Leaf (within_text (exception_written way o.class) (message_text o.class (message_in o.triples)))
-    object_look way shell v o = Leaf Shell
+    -- the text of an object that is no container
+    abbrev pub leaf_text : Way → Kind → Object → Walked
+    leaf_text way text o = Wrote (text_written way o.bytes)
+    leaf_text way array o = Shell
+    leaf_text way hash o = Shell
+    leaf_text way plain o = Wrote (plain_written way o.class)
+    leaf_text way exception o = within_text (exception_written way o.class) (message_text o.class (message_in o.triples))
+    leaf_text way shell o = Shell
 
-    -- what is written at a value: its text, or a container's elements between brackets
-    abbrev pub look : Item → Look Item Key
-    look (way, Plain i) = Leaf (Wrote (immediate_written way i))
-    look (way, At n) = object_look way (thing n).kind (At n) (thing n)
+    -- where objects of these classes are asked for their text
+    module _ (asks : ℕ → Bool) where
+      abbrev pub leaf_look : Way → Kind → Value → Object → Look Piece Item Key
+      leaf_look way k v o = Leaf (text_or_ask (may_answer k && (asks_objects way && asks o.class)) (way, v) (leaf_text way k o))
 
-    -- the text of a value where so many containers may be begun inside one another
+      abbrev pub object_look : Way → Kind → Value → Object → Look Piece Item Key
+      object_look way text v o = leaf_look way text v o
+      object_look way array v o = array_look way v o.triples
+      object_look way hash v o = hash_look way v o.triples
+      object_look way plain v o = leaf_look way plain v o
+      object_look way exception v o = leaf_look way exception v o
+      object_look way shell v o = leaf_look way shell v o
+
+      -- what is written at a value: its text, or a container's elements between brackets
+      abbrev pub look : Item → Look Piece Item Key
+      look (way, Plain i) = Leaf (Wrote (spelled (immediate_written way i)))
+      look (way, At n) = object_look way (thing n).kind (At n) (thing n)
+
+      -- the pieces of a value where so many containers may be begun inside one another
+      abbrev pub pieced : ℕ → Way → Value → Outcome Piece
+      pieced levels way v = walk look same_key levels [] (way, v)
+
+    -- the text of a value where no object is asked
     abbrev pub printed : ℕ → Way → Value → Walked
-    printed levels way v = walk look same_key levels [] (way, v)
+    printed levels way v = unanswered (pieced (λ c. false) levels way v)

@@ -13,3 +13,6 @@ pub mod Keys
 pub mod Comparing
 pub mod Beside
 pub mod Joining
+pub mod Asking
+pub mod Drafts
+pub mod Found

@@ -1,22 +1,26 @@
 //! The text of an array whose elements are joined, by a stack of the arrays that are being joined.
 
-ghost use Rattle.std.specs.Prelude.{◌≡◌, ℕ, ◌<◌, ◌≤◌, ◌∷◌, ◌++◌, [], List, length, IfOk, IfErr, OnOk};
+ghost use Rattle.std.specs.Prelude.{◌≡◌, ℕ, Bool, ◌<◌, ◌≤◌, ◌∷◌, ◌++◌, [], List, length, IfOk, IfErr, OnOk};
 ghost use Rattle.std.specs.List.{list_any};
 ghost use Rattle.rr_space.specs.Graph.{Graph};
 ghost use Rattle.rr_space.specs.Tables.{Below, graph_of, resolve};
 ghost use Rattle.rr_space.specs.Parts.{value_of};
-ghost use Rattle.rr_text.specs.Forms.{Names, spoken, printed};
+ghost use Rattle.rr_text.specs.Walk.{Wrote, followed};
+ghost use Rattle.rr_text.specs.Forms.{Names, Piece, spoken, pieced};
 ghost use Rattle.rr_text.specs.Same.{same_value, kind_in};
 ghost use Rattle.rr_text.specs.Names.{names_of};
 ghost use Rattle.rr_text.specs.Reads.{IsAmong, IsReadWith};
 ghost use Rattle.rr_text.specs.Rest.{load};
 ghost use Rattle.rr_text.specs.Frames.{breadth, lead_at};
-ghost use Rattle.rr_text.specs.Joining.{joined, outcome_of, key_of, whole_of, showing_of, ahead, rest_of, AreAmong, IsGrown, IsTold};
+ghost use Rattle.rr_text.specs.Asking.{asked_by};
+ghost use Rattle.rr_text.specs.Drafts.{pieces_in, ArePlaced, AreAsksKnown};
+ghost use Rattle.rr_text.specs.Joining.{joint, joined, outcome_of, found_in, IsFoundKnown, key_of, come_to, whole_of, showing_of, ahead, rest_of, AreAmong, IsGrown, IsEmptied};
 
 use crate::beside::value_at;
-use crate::form::{Form, Text};
+use crate::drafts::{Draft, JoinedPieces};
+use crate::form::Form;
 use crate::likeness::is_one;
-use crate::printing::text_within;
+use crate::walk::{Going as Written, Walk};
 use rr_base::{Fault, Limits};
 use rr_space::{Kind, Ref, Space};
 use rr_tree::Program;
@@ -76,83 +80,94 @@ fn push_separator(out: &mut Vec<u8>, separator: &[u8], place: usize) -> Result<(
 
 /// Writes a value that is no array.
 fn write_value(
-    alloc: Global,
-    out: &mut Vec<u8>,
+    walk: &mut Walk,
     space: &Space,
     program: &Program,
+    asking: &[bool],
     levels: usize,
     value: Ref,
-) -> Result<Going, Fault>
-    ensures told { IfOk result (λ going. (below : Below) → IsReadWith space.now below → IsAmong below value
-        → IsTold (printed (names_of program.now) (graph_of space.now.slots below) levels spoken (resolve space.now.slots (value_of value))) going out.old.items out.new.items) }
-    ensures fault { IfErr result (λ e. e ≡ Fault.Memory) }
+) -> Result<Going, AllocError>
+    requires none { walk.old.frames.items ≡ [] }
+    requires placed { ArePlaced walk.old.asks.items walk.old.out.items }
+    ensures written { IfOk result (λ now. (below : Below) → IsReadWith space.now below → IsAmong below value
+        → followed (Wrote (pieces_in walk.old.asks.items walk.old.out.items)) (pieced (names_of program.now) (graph_of space.now.slots below) (asked_by asking.now) levels spoken (resolve space.now.slots (value_of value)))
+        ≡ come_to now (pieces_in walk.new.asks.items walk.new.out.items)) }
+    ensures placed { IfOk result (λ _. ArePlaced walk.new.asks.items walk.new.out.items) }
+    ensures none { IfOk result (λ now. IsEmptied now walk.new.frames.items) }
+    ensures known { IfOk result (λ _. (below : Below) → IsReadWith space.now below → IsAmong below value → AreAsksKnown space.now below walk.old.asks.items → AreAsksKnown space.now below walk.new.asks.items) }
 {
-    match text_within(alloc, space, program, levels, value, Form::ToS)? {
-        Text::Bytes(bytes) => {
-            out.extend_from_slice(&bytes)?;
-            Ok(Going::On)
-        }
-        Text::Deep => Ok(Going::Deep),
-        Text::Shell => Ok(Going::Shell),
+    match walk.write(space, program, asking, levels, Form::ToS, value)? {
+        Written::On => Ok(Going::On),
+        Written::Deep => Ok(Going::Deep),
+        Written::Shell => Ok(Going::Shell),
     }
+}
+
+/// Begins an array, or tells that it is begun already, or that it would be too deep inside others.
+fn begin(
+    arrays: &mut Vec<Opened>,
+    space: &Space,
+    levels: usize,
+    array: Ref,
+) -> Result<Going, AllocError>
+    requires fit { length arrays.old.items ≤ levels }
+    ensures showed { IfOk result (λ going. (names : Names) (g : Graph) (asks : ℕ → Bool) (separator : List ℕ) (out : List Piece) → kind_in g (resolve space.now.slots (value_of array)) ≡ Kind.Array
+        → showing_of names g asks levels separator space.now.slots arrays.old.items out (resolve space.now.slots (value_of array))
+        ≡ ahead names g asks levels separator space.now.slots going arrays.new.items out) }
+    ensures grown { IfOk result (λ _. IsGrown space.now levels arrays.old.items arrays.new.items) }
+    ensures among { IfOk result (λ _. (below : Below) → AreAmong below arrays.old.items → IsAmong below array → AreAmong below arrays.new.items) }
+{
+    // The number of its elements bounds the turns that the array takes.
+    let _count = space.arity(array);
+    if is_above(space, arrays, array) {
+        return Ok(Going::Circular);
+    }
+    if arrays.len() >= levels {
+        return Ok(Going::Deep);
+    }
+    arrays.push(Opened { array, next: 0 })?;
+    Ok(Going::On)
 }
 
 /// The arrays that are being joined, and what was written.
 #[derive(Drop)]
 pub(crate) struct Joining {
     pub(crate) arrays: Vec<Opened>,
-    pub(crate) out: Vec<u8>,
+    pub(crate) walk: Walk,
 }
 
 impl Joining {
-    /// Begins an array, or tells that it is begun already, or that it would be too deep inside others.
-    fn begin(&mut self, space: &Space, levels: usize, array: Ref) -> Result<Going, AllocError>
-        requires fit { length self.old.arrays.items ≤ levels }
-        ensures showed { IfOk result (λ going. (names : Names) (g : Graph) (separator : List ℕ) → kind_in g (resolve space.now.slots (value_of array)) ≡ Kind.Array
-            → showing_of names g levels separator space.now.slots self.old.arrays.items self.old.out.items (resolve space.now.slots (value_of array))
-            ≡ ahead names g levels separator space.now.slots going self.new.arrays.items self.new.out.items) }
-        ensures grown { IfOk result (λ _. IsGrown space.now levels self.old.arrays.items self.new.arrays.items) }
-        ensures among { IfOk result (λ _. (below : Below) → AreAmong below self.old.arrays.items → IsAmong below array → AreAmong below self.new.arrays.items) }
-    {
-        // The number of its elements bounds the turns that the array takes.
-        let _count = space.arity(array);
-        if is_above(space, &self.arrays, array) {
-            return Ok(Going::Circular);
-        }
-        if self.arrays.len() >= levels {
-            return Ok(Going::Deep);
-        }
-        self.arrays.push(Opened { array, next: 0 })?;
-        Ok(Going::On)
-    }
-
     /// Writes a value, or begins an array.
     fn show(
         &mut self,
-        alloc: Global,
         space: &Space,
         program: &Program,
+        asking: &[bool],
         levels: usize,
         value: Ref,
-    ) -> Result<Going, Fault>
+    ) -> Result<Going, AllocError>
         requires fit { length self.old.arrays.items ≤ levels }
+        requires none { self.old.walk.frames.items ≡ [] }
+        requires placed { ArePlaced self.old.walk.asks.items self.old.walk.out.items }
         ensures showed { IfOk result (λ going. (below : Below) (separator : List ℕ) → IsReadWith space.now below → IsAmong below value
-            → showing_of (names_of program.now) (graph_of space.now.slots below) levels separator space.now.slots self.old.arrays.items self.old.out.items (resolve space.now.slots (value_of value))
-            ≡ ahead (names_of program.now) (graph_of space.now.slots below) levels separator space.now.slots going self.new.arrays.items self.new.out.items) }
+            → showing_of (names_of program.now) (graph_of space.now.slots below) (asked_by asking.now) levels separator space.now.slots self.old.arrays.items (pieces_in self.old.walk.asks.items self.old.walk.out.items) (resolve space.now.slots (value_of value))
+            ≡ ahead (names_of program.now) (graph_of space.now.slots below) (asked_by asking.now) levels separator space.now.slots going self.new.arrays.items (pieces_in self.new.walk.asks.items self.new.walk.out.items)) }
         ensures grown { IfOk result (λ _. IsGrown space.now levels self.old.arrays.items self.new.arrays.items) }
+        ensures placed { IfOk result (λ _. ArePlaced self.new.walk.asks.items self.new.walk.out.items) }
+        ensures none { IfOk result (λ going. IsEmptied going self.new.walk.frames.items) }
         ensures among { IfOk result (λ _. (below : Below) → AreAmong below self.old.arrays.items → IsAmong below value → AreAmong below self.new.arrays.items) }
-        ensures fault { IfErr result (λ e. e ≡ Fault.Memory) }
+        ensures known { IfOk result (λ _. (below : Below) → IsReadWith space.now below → IsAmong below value → AreAsksKnown space.now below self.old.walk.asks.items → AreAsksKnown space.now below self.new.walk.asks.items) }
     {
         // No reference leads nowhere, as the clause of the number says.
         let _count = space.len();
         match space.kind_of(value) {
             Kind::Array => {
-                let going = self.begin(space, levels, value)?;
+                let going = begin(&mut self.arrays, space, levels, value)?;
                 Ok(going)
             }
             _ => {
                 let left = levels - self.arrays.len();
-                let going = write_value(alloc, &mut self.out, space, program, left, value)?;
+                let going = write_value(&mut self.walk, space, program, asking, left, value)?;
                 Ok(going)
             }
         }
@@ -161,33 +176,37 @@ impl Joining {
     /// Goes on with the array on top, which was taken off.
     fn step(
         &mut self,
-        alloc: Global,
         space: &Space,
         program: &Program,
+        asking: &[bool],
         levels: usize,
         separator: &[u8],
         top: Opened,
-    ) -> Result<Going, Fault>
+    ) -> Result<Going, AllocError>
         requires depth { length self.old.arrays.items < levels }
+        requires none { self.old.walk.frames.items ≡ [] }
+        requires placed { ArePlaced self.old.walk.asks.items self.old.walk.out.items }
         ensures stepped { IfOk result (λ going. (below : Below) → IsReadWith space.now below → IsAmong below top.array
-            → whole_of (names_of program.now) (graph_of space.now.slots below) levels separator.now space.now.slots (self.old.arrays.items ++ top ∷ []) self.old.out.items
-            ≡ ahead (names_of program.now) (graph_of space.now.slots below) levels separator.now space.now.slots going self.new.arrays.items self.new.out.items) }
+            → whole_of (names_of program.now) (graph_of space.now.slots below) (asked_by asking.now) levels separator.now space.now.slots (self.old.arrays.items ++ top ∷ []) (pieces_in self.old.walk.asks.items self.old.walk.out.items)
+            ≡ ahead (names_of program.now) (graph_of space.now.slots below) (asked_by asking.now) levels separator.now space.now.slots going self.new.arrays.items (pieces_in self.new.walk.asks.items self.new.walk.out.items)) }
         ensures fit { IfOk result (λ _. length self.new.arrays.items ≤ levels) }
+        ensures placed { IfOk result (λ _. ArePlaced self.new.walk.asks.items self.new.walk.out.items) }
+        ensures none { IfOk result (λ going. IsEmptied going self.new.walk.frames.items) }
         ensures among { IfOk result (λ _. (below : Below) → IsReadWith space.now below → AreAmong below self.old.arrays.items → IsAmong below top.array → AreAmong below self.new.arrays.items) }
         ensures lighter { IfOk result (λ _. load (rest_of space.now) breadth levels self.new.arrays.items < load (rest_of space.now) breadth levels (self.old.arrays.items ++ top ∷ [])) }
-        ensures fault { IfErr result (λ e. e ≡ Fault.Memory) }
+        ensures known { IfOk result (λ _. (below : Below) → IsReadWith space.now below → IsAmong below top.array → AreAsksKnown space.now below self.old.walk.asks.items → AreAsksKnown space.now below self.new.walk.asks.items) }
     {
         let _count = space.len();
         if top.next >= space.arity(top.array) {
             return Ok(Going::On);
         }
-        push_separator(&mut self.out, separator, top.next)?;
+        push_separator(&mut self.walk.out, separator, top.next)?;
         let value = value_at(space, top.array, top.next);
         self.arrays.push(Opened {
             array: top.array,
             next: top.next + 1,
         })?;
-        let going = self.show(alloc, space, program, levels, value)?;
+        let going = self.show(space, program, asking, levels, value)?;
         Ok(going)
     }
 }
@@ -227,23 +246,72 @@ pub fn join_within(
         → outcome_of joint ≡ joined (names_of program.now) (graph_of space.now.slots below) levels separator.now (resolve space.now.slots (value_of array))) }
     ensures fault { IfErr result (λ e. e ≡ Fault.Memory) }
 {
+    match join_pieces_within(alloc, space, program, &[], levels, array, separator)? {
+        JoinedPieces::Draft(draft) => Ok(Joined::Bytes(draft.bytes)),
+        JoinedPieces::Deep => Ok(Joined::Deep),
+        JoinedPieces::Circular => Ok(Joined::Circular),
+        JoinedPieces::Shell => Ok(Joined::Shell),
+    }
+}
+
+/// The text of an array as `join` gives it, and the objects that a program may give another text there: those of its elements,
+/// and of the elements of arrays in it, that are plain objects or exceptions whose class the table of classes tells to be
+/// asked. `Deep`, `Circular` and `Shell` come where they come of `join`.
+///
+/// An object's answer, if that is a text, comes in the place of the bytes of its ask; with no answers the text is `join`'s.
+pub fn join_pieces(
+    alloc: Global,
+    space: &Space,
+    program: &Program,
+    asking: &[bool],
+    array: Ref,
+    separator: &[u8],
+) -> Result<JoinedPieces, Fault>
+    ensures pieces { IfOk result (λ found. (below : Below) → IsReadWith space.now below → IsAmong below array
+        → found_in found ≡ joint (names_of program.now) (graph_of space.now.slots below) (asked_by asking.now) Limits.DEFAULT.levels separator.now (resolve space.now.slots (value_of array))) }
+    ensures known { IfOk result (λ found. (below : Below) → IsReadWith space.now below → IsAmong below array → IsFoundKnown space.now below found) }
+    ensures fault { IfErr result (λ e. e ≡ Fault.Memory) }
+{
+    let levels = Limits::DEFAULT.levels as usize;
+    join_pieces_within(alloc, space, program, asking, levels, array, separator)
+}
+
+/// The pieces of an array, as `join_pieces` gives them, where at most `levels` containers may be begun inside one another.
+pub fn join_pieces_within(
+    alloc: Global,
+    space: &Space,
+    program: &Program,
+    asking: &[bool],
+    levels: usize,
+    array: Ref,
+    separator: &[u8],
+) -> Result<JoinedPieces, Fault>
+    ensures pieces { IfOk result (λ found. (below : Below) → IsReadWith space.now below → IsAmong below array
+        → found_in found ≡ joint (names_of program.now) (graph_of space.now.slots below) (asked_by asking.now) levels separator.now (resolve space.now.slots (value_of array))) }
+    ensures known { IfOk result (λ found. (below : Below) → IsReadWith space.now below → IsAmong below array → IsFoundKnown space.now below found) }
+    ensures fault { IfErr result (λ e. e ≡ Fault.Memory) }
+{
     let mut joining = Joining {
         arrays: Vec::new(alloc),
-        out: Vec::new(alloc),
+        walk: Walk::new(alloc),
     };
-    match joining.show(alloc, space, program, levels, array)? {
+    match joining.show(space, program, asking, levels, array)? {
         Going::On => (),
-        Going::Deep => return Ok(Joined::Deep),
-        Going::Circular => return Ok(Joined::Circular),
-        Going::Shell => return Ok(Joined::Shell),
+        Going::Deep => return Ok(JoinedPieces::Deep),
+        Going::Circular => return Ok(JoinedPieces::Circular),
+        Going::Shell => return Ok(JoinedPieces::Shell),
     }
     while let Some(top) = joining.arrays.pop() {
-        match joining.step(alloc, space, program, levels, separator, top)? {
+        match joining.step(space, program, asking, levels, separator, top)? {
             Going::On => (),
-            Going::Deep => return Ok(Joined::Deep),
-            Going::Circular => return Ok(Joined::Circular),
-            Going::Shell => return Ok(Joined::Shell),
+            Going::Deep => return Ok(JoinedPieces::Deep),
+            Going::Circular => return Ok(JoinedPieces::Circular),
+            Going::Shell => return Ok(JoinedPieces::Shell),
         }
     }
-    Ok(Joined::Bytes(joining.out))
+    let walk = joining.walk;
+    Ok(JoinedPieces::Draft(Draft {
+        bytes: walk.out,
+        asks: walk.asks,
+    }))
 }

@@ -1,14 +1,12 @@
 //! Objects that have their text by themselves.
 
-ghost use Rattle.std.specs.Prelude.{◌≡◌, ℕ, map, IfOk};
+ghost use Rattle.std.specs.Prelude.{◌≡◌, ◌≤◌, ℕ, length, map, IfOk};
 ghost use Rattle.rr_space.specs.Graph.{array, hash};
-ghost use Rattle.rr_space.specs.Parts.{value_of};
 ghost use Rattle.rr_space.specs.Tables.{Below, graph_of, resolve_triple};
 ghost use Rattle.rr_space.specs.Labels.{triples_at};
 ghost use Rattle.rr_space.specs.Kinds.{kind_at};
 ghost use Rattle.rr_space.specs.Sound.{IsWell};
-ghost use Rattle.rr_text.specs.Walk.{Leaf};
-ghost use Rattle.rr_text.specs.Forms.{Names, exception_written, message_in, message_text, object_look, within_text};
+ghost use Rattle.rr_text.specs.Forms.{Names, exception_written, message_in, message_text, leaf_text, within_text};
 ghost use Rattle.rr_text.specs.Names.{names_of};
 ghost use Rattle.rr_text.specs.Reads.{IsAmong, IsReadWith};
 ghost use Rattle.rr_text.specs.Told.{told_kind, told_object, IsLeafWritten};
@@ -31,8 +29,9 @@ fn write_exception(
     exception: Ref,
 ) -> Result<bool, AllocError>
     requires { IsWell space.now }
-    ensures { IfOk result (λ now. (names : Names) (c : ℕ) (below : Below) → names.class c ≡ class.now → IsReadWith space.now below → IsAmong below exception
-        → IsLeafWritten (Leaf (within_text (exception_written names (way_of form) c) (message_text names (graph_of space.now.slots below) c (message_in (map (resolve_triple space.now.slots) (triples_at space.now exception)))))) now out.old.items out.new.items) }
+    ensures written { IfOk result (λ now. (names : Names) (c : ℕ) (below : Below) → names.class c ≡ class.now → IsReadWith space.now below → IsAmong below exception
+        → IsLeafWritten (within_text (exception_written names (way_of form) c) (message_text names (graph_of space.now.slots below) c (message_in (map (resolve_triple space.now.slots) (triples_at space.now exception))))) now out.old.items out.new.items) }
+    ensures longer { IfOk result (λ _. length out.old.items ≤ length out.new.items) }
 {
     match message_of(space, exception) {
         Told::Text(message) => {
@@ -58,8 +57,9 @@ pub(crate) fn write_leaf(
     requires well { IsWell space.now }
     requires array { told_kind (kind_at space.now object) ≡ array → ⊥ }
     requires hash { told_kind (kind_at space.now object) ≡ hash → ⊥ }
-    ensures { IfOk result (λ now. (below : Below) → IsReadWith space.now below → IsAmong below object
-        → IsLeafWritten (object_look (names_of program.now) (graph_of space.now.slots below) (way_of form) (told_kind (kind_at space.now object)) (value_of object) (told_object space.now object)) now out.old.items out.new.items) }
+    ensures written { IfOk result (λ now. (below : Below) → IsReadWith space.now below → IsAmong below object
+        → IsLeafWritten (leaf_text (names_of program.now) (graph_of space.now.slots below) (way_of form) (told_kind (kind_at space.now object)) (told_object space.now object)) now out.old.items out.new.items) }
+    ensures longer { IfOk result (λ _. length out.old.items ≤ length out.new.items) }
 {
     match space.kind_of(object) {
         Kind::Text => {

@@ -82,8 +82,9 @@ fn push_ractor_key(out: &mut Vec<u8>, ractor: RactorNo) -> Result<(), AllocError
 /// Writes a key of a hash, and what stands between it and its value.
 fn push_key(out: &mut Vec<u8>, space: &Space, program: &Program, key: Ref) -> Result<(), AllocError>
     requires { IsWell space.now }
-    ensures { (below : Below) → IsReadWith space.now below → IsAmong below key
+    ensures written { (below : Below) → IsReadWith space.now below → IsAmong below key
         → OnOk result (out.new.items ≡ out.old.items ++ key_text (names_of program.now) (graph_of space.now.slots below) (resolve space.now.slots (value_of key))) }
+    ensures longer { OnOk result (length out.old.items ≤ length out.new.items) }
 {
     match key {
         Ref::Nil => push_arrow(out, b"nil"),
@@ -108,6 +109,7 @@ fn next_element(out: &mut Vec<u8>, space: &Space, top: Frame) -> Result<Option<P
     ensures turned { IfOk result (λ next. (names : Names) (below : Below) → IsReadWith space.now below → IsAmong below top.object
         → IsTurned names (graph_of space.now.slots below) space.now.slots top out.old.items next out.new.items) }
     ensures part { IfOk result (λ next. IfSome next (λ p. IsPartOf space.now top p)) }
+    ensures longer { IfOk result (λ _. length out.old.items ≤ length out.new.items) }
 {
     let _parts = space.arity(top.object);
     match child(space, top.object, top.next) {
@@ -189,6 +191,7 @@ fn next_value(
     ensures turned { IfOk result (λ next. (below : Below) → IsReadWith space.now below → IsAmong below top.object
         → IsTurned (names_of program.now) (graph_of space.now.slots below) space.now.slots top out.old.items next out.new.items) }
     ensures part { IfOk result (λ next. IfSome next (λ p. IsPartOf space.now top p)) }
+    ensures longer { IfOk result (λ _. length out.old.items ≤ length out.new.items) }
 {
     let _parts = space.arity(top.object);
     match next_pair(space, top.object, top.next) {
@@ -226,6 +229,7 @@ pub(crate) fn next_part(
     ensures turned { IfOk result (λ next. (below : Below) → IsReadWith space.now below → IsAmong below top.object
         → IsTurned (names_of program.now) (graph_of space.now.slots below) space.now.slots top out.old.items next out.new.items) }
     ensures part { IfOk result (λ next. IfSome next (λ p. IsPartOf space.now top p)) }
+    ensures longer { IfOk result (λ _. length out.old.items ≤ length out.new.items) }
 {
     match top.shape {
         Shape::Elements => {

@@ -20,7 +20,7 @@ returns-in_ok-push_key-in-Some-clause-turned c = λ below read among.
       lead ++ key,
       pair_turned names c.args.space.now below c.requires.well.sound read c.args.top among c.requires.end c.args.form c.in-Some.ensures.0.label c.in-Some.ensures.1.label c.in-Some.key c.in-Some.value c.requires.shape
           c.in-Some.ensures.0.here c.in-Some.ensures.1.here,
-      c.in_ok-push_key-in-Some.ensures below read among_key ∙ ap (λ (s : List ℕ). s ++ key) c.in_ok-push_lead-in-Some.ensures ∙ append_assoc c.args.out.now.items lead key,
+      c.in_ok-push_key-in-Some.ensures.written below read among_key ∙ ap (λ (s : List ℕ). s ++ key) c.in_ok-push_lead-in-Some.ensures ∙ append_assoc c.args.out.now.items lead key,
     )
 
 pub returns-in_ok-push_line_end-in-None-clause-turned : goal.returns-in_ok-push_line_end-in-None-clause-turned

@@ -1,0 +1,124 @@
+use Rattle.std.proofs.Common.{◌∙◌, List, [], Some, ap, sym, subst, arith}
+use Rattle.std.proofs.lemmas.List.Elements.{All-nil, All-pop, All-same}
+use Rattle.rr_space.specs.Parts.{value_of}
+use Rattle.rr_space.specs.Tables.{graph_of, resolve}
+use Rattle.rr_text.specs.Names.{names_of}
+use Rattle.rr_text.specs.Asking.{asked_by}
+use Rattle.rr_text.specs.Forms.{spelled}
+use Rattle.rr_text.specs.Drafts.{pieces_in, IsAskKnown}
+use Rattle.rr_text.specs.Reads.{IsAmong}
+use Rattle.rr_text.specs.Joining.{whole_of, ahead, IsEmptied}
+use Rattle.rr_text.specs.declared.asks.Ask.{Ask as Asked}
+use Rattle.rr_text.specs.declared.joining.Opened.{Opened}
+use Rattle.rr_text.specs.declared.joining.Going.{Going}
+use Rattle.rr_text.proofs.Joins.{starts, ends}
+use Rattle.rr_text.proofs.joining.join_pieces_within.Goals as goal
+
+pub loop-top-init : goal.loop-top-init
+loop-top-init c = record {
+  fit = c.in_ok-show.ensures.grown.fit;
+  none = subst (λ (now : Going). IsEmptied now c.show.new.self.walk.frames.items) c.in-On.is c.in_ok-show.ensures.none;
+  placed = c.in_ok-show.ensures.placed;
+  among = λ below read one.
+      c.in_ok-show.ensures.among below (All-same (λ (f : Opened). IsAmong below f.array) c.new.result.items [] c.new.ensures.items (All-nil (λ (f : Opened). IsAmong below f.array))) one;
+  known = λ below read one.
+      c.in_ok-show.ensures.known below read one (All-same (IsAskKnown c.args.space.now below) c.new-2.result.asks.items [] c.new-2.ensures.asks (All-nil (IsAskKnown c.args.space.now below)));
+  same = λ below read one.
+      let names = names_of c.args.program.now in
+      let slots = c.args.space.now.slots in
+      let g = graph_of slots below in
+      starts names g (asked_by c.args.asking.now) c.args.levels c.args.separator.now slots c.new.result.items (pieces_in c.new-2.result.asks.items c.new-2.result.out.items) (resolve slots (value_of c.args.array)) c.new.ensures.items (ap (λ (xs : List Asked). pieces_in xs c.new-2.result.out.items) c.new-2.ensures.asks ∙ ap spelled c.new-2.ensures.out)
+      ∙ c.in_ok-show.ensures.showed below c.args.separator.now read one
+      ∙ ap (λ (now : Going). ahead names g (asked_by c.args.asking.now) c.args.levels c.args.separator.now slots now c.show.new.self.arrays.items (pieces_in c.show.new.self.walk.asks.items c.show.new.self.walk.out.items)) c.in-On.is;
+}
+
+pub loop-top-preserved : goal.loop-top-preserved
+loop-top-preserved c = record {
+  fit = c.in_ok-step.ensures.fit;
+  none = subst (λ (now : Going). IsEmptied now c.step.new.self.walk.frames.items) c.in-On-2.is c.in_ok-step.ensures.none;
+  placed = c.in_ok-step.ensures.placed;
+  among = λ below read one.
+      let popped = All-pop (λ (f : Opened). IsAmong below f.array) c.loop-top.joining.arrays.items c.pop.new.self.items (Some c.in-Some.top) c.in-Some.ensures.items (c.loop-top.invariant.among below read one) in
+      c.in_ok-step.ensures.among below read popped.0 popped.1;
+  known = λ below read one.
+      let popped = All-pop (λ (f : Opened). IsAmong below f.array) c.loop-top.joining.arrays.items c.pop.new.self.items (Some c.in-Some.top) c.in-Some.ensures.items (c.loop-top.invariant.among below read one) in
+      c.in_ok-step.ensures.known below read popped.1 (c.loop-top.invariant.known below read one);
+  same = λ below read one.
+      let names = names_of c.args.program.now in
+      let slots = c.args.space.now.slots in
+      let g = graph_of slots below in
+      let popped = All-pop (λ (f : Opened). IsAmong below f.array) c.loop-top.joining.arrays.items c.pop.new.self.items (Some c.in-Some.top) c.in-Some.ensures.items (c.loop-top.invariant.among below read one) in
+      c.loop-top.invariant.same below read one
+      ∙ ap (λ (xs : List Opened). whole_of names g (asked_by c.args.asking.now) c.args.levels c.args.separator.now slots xs (pieces_in c.loop-top.joining.walk.asks.items c.loop-top.joining.walk.out.items)) c.in-Some.ensures.items
+      ∙ c.in_ok-step.ensures.stepped below read popped.1
+      ∙ ap (λ (now : Going). ahead names g (asked_by c.args.asking.now) c.args.levels c.args.separator.now slots now c.step.new.self.arrays.items (pieces_in c.step.new.self.walk.asks.items c.step.new.self.walk.out.items)) c.in-On-2.is;
+}
+
+pub returns-in-Deep-clause-pieces : goal.returns-in-Deep-clause-pieces
+returns-in-Deep-clause-pieces c = λ below read one.
+    let names = names_of c.args.program.now in
+    let slots = c.args.space.now.slots in
+    let g = graph_of slots below in
+    sym (starts names g (asked_by c.args.asking.now) c.args.levels c.args.separator.now slots c.new.result.items (pieces_in c.new-2.result.asks.items c.new-2.result.out.items) (resolve slots (value_of c.args.array)) c.new.ensures.items (ap (λ (xs : List Asked). pieces_in xs c.new-2.result.out.items) c.new-2.ensures.asks ∙ ap spelled c.new-2.ensures.out)
+    ∙ c.in_ok-show.ensures.showed below c.args.separator.now read one
+    ∙ ap (λ (now : Going). ahead names g (asked_by c.args.asking.now) c.args.levels c.args.separator.now slots now c.show.new.self.arrays.items (pieces_in c.show.new.self.walk.asks.items c.show.new.self.walk.out.items)) c.in-Deep.is)
+
+pub returns-in-Circular-clause-pieces : goal.returns-in-Circular-clause-pieces
+returns-in-Circular-clause-pieces c = λ below read one.
+    let names = names_of c.args.program.now in
+    let slots = c.args.space.now.slots in
+    let g = graph_of slots below in
+    sym (starts names g (asked_by c.args.asking.now) c.args.levels c.args.separator.now slots c.new.result.items (pieces_in c.new-2.result.asks.items c.new-2.result.out.items) (resolve slots (value_of c.args.array)) c.new.ensures.items (ap (λ (xs : List Asked). pieces_in xs c.new-2.result.out.items) c.new-2.ensures.asks ∙ ap spelled c.new-2.ensures.out)
+    ∙ c.in_ok-show.ensures.showed below c.args.separator.now read one
+    ∙ ap (λ (now : Going). ahead names g (asked_by c.args.asking.now) c.args.levels c.args.separator.now slots now c.show.new.self.arrays.items (pieces_in c.show.new.self.walk.asks.items c.show.new.self.walk.out.items)) c.in-Circular.is)
+
+pub returns-in-Shell-clause-pieces : goal.returns-in-Shell-clause-pieces
+returns-in-Shell-clause-pieces c = λ below read one.
+    let names = names_of c.args.program.now in
+    let slots = c.args.space.now.slots in
+    let g = graph_of slots below in
+    sym (starts names g (asked_by c.args.asking.now) c.args.levels c.args.separator.now slots c.new.result.items (pieces_in c.new-2.result.asks.items c.new-2.result.out.items) (resolve slots (value_of c.args.array)) c.new.ensures.items (ap (λ (xs : List Asked). pieces_in xs c.new-2.result.out.items) c.new-2.ensures.asks ∙ ap spelled c.new-2.ensures.out)
+    ∙ c.in_ok-show.ensures.showed below c.args.separator.now read one
+    ∙ ap (λ (now : Going). ahead names g (asked_by c.args.asking.now) c.args.levels c.args.separator.now slots now c.show.new.self.arrays.items (pieces_in c.show.new.self.walk.asks.items c.show.new.self.walk.out.items)) c.in-Shell.is)
+
+pub returns-in-Deep-2-clause-pieces : goal.returns-in-Deep-2-clause-pieces
+returns-in-Deep-2-clause-pieces c = λ below read one.
+    let names = names_of c.args.program.now in
+    let slots = c.args.space.now.slots in
+    let g = graph_of slots below in
+    let popped = All-pop (λ (f : Opened). IsAmong below f.array) c.loop-top.joining.arrays.items c.pop.new.self.items (Some c.in-Some.top) c.in-Some.ensures.items (c.loop-top.invariant.among below read one) in
+    sym (c.loop-top.invariant.same below read one
+    ∙ ap (λ (xs : List Opened). whole_of names g (asked_by c.args.asking.now) c.args.levels c.args.separator.now slots xs (pieces_in c.loop-top.joining.walk.asks.items c.loop-top.joining.walk.out.items)) c.in-Some.ensures.items
+    ∙ c.in_ok-step.ensures.stepped below read popped.1
+    ∙ ap (λ (now : Going). ahead names g (asked_by c.args.asking.now) c.args.levels c.args.separator.now slots now c.step.new.self.arrays.items (pieces_in c.step.new.self.walk.asks.items c.step.new.self.walk.out.items)) c.in-Deep-2.is)
+
+pub returns-in-Circular-2-clause-pieces : goal.returns-in-Circular-2-clause-pieces
+returns-in-Circular-2-clause-pieces c = λ below read one.
+    let names = names_of c.args.program.now in
+    let slots = c.args.space.now.slots in
+    let g = graph_of slots below in
+    let popped = All-pop (λ (f : Opened). IsAmong below f.array) c.loop-top.joining.arrays.items c.pop.new.self.items (Some c.in-Some.top) c.in-Some.ensures.items (c.loop-top.invariant.among below read one) in
+    sym (c.loop-top.invariant.same below read one
+    ∙ ap (λ (xs : List Opened). whole_of names g (asked_by c.args.asking.now) c.args.levels c.args.separator.now slots xs (pieces_in c.loop-top.joining.walk.asks.items c.loop-top.joining.walk.out.items)) c.in-Some.ensures.items
+    ∙ c.in_ok-step.ensures.stepped below read popped.1
+    ∙ ap (λ (now : Going). ahead names g (asked_by c.args.asking.now) c.args.levels c.args.separator.now slots now c.step.new.self.arrays.items (pieces_in c.step.new.self.walk.asks.items c.step.new.self.walk.out.items)) c.in-Circular-2.is)
+
+pub returns-in-Shell-2-clause-pieces : goal.returns-in-Shell-2-clause-pieces
+returns-in-Shell-2-clause-pieces c = λ below read one.
+    let names = names_of c.args.program.now in
+    let slots = c.args.space.now.slots in
+    let g = graph_of slots below in
+    let popped = All-pop (λ (f : Opened). IsAmong below f.array) c.loop-top.joining.arrays.items c.pop.new.self.items (Some c.in-Some.top) c.in-Some.ensures.items (c.loop-top.invariant.among below read one) in
+    sym (c.loop-top.invariant.same below read one
+    ∙ ap (λ (xs : List Opened). whole_of names g (asked_by c.args.asking.now) c.args.levels c.args.separator.now slots xs (pieces_in c.loop-top.joining.walk.asks.items c.loop-top.joining.walk.out.items)) c.in-Some.ensures.items
+    ∙ c.in_ok-step.ensures.stepped below read popped.1
+    ∙ ap (λ (now : Going). ahead names g (asked_by c.args.asking.now) c.args.levels c.args.separator.now slots now c.step.new.self.arrays.items (pieces_in c.step.new.self.walk.asks.items c.step.new.self.walk.out.items)) c.in-Shell-2.is)
+
+pub returns-clause-pieces : goal.returns-clause-pieces
+returns-clause-pieces c = λ below read one.
+    let names = names_of c.args.program.now in
+    let slots = c.args.space.now.slots in
+    let g = graph_of slots below in
+    sym (c.loop-top.invariant.same below read one
+    ∙ ends names g (asked_by c.args.asking.now) c.args.levels c.args.separator.now slots c.loop-top.joining.arrays.items (pieces_in c.loop-top.joining.walk.asks.items c.loop-top.joining.walk.out.items)
+    (omega (arith, c.in_default.ensures.cases.0)))
