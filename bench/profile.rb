@@ -191,12 +191,14 @@ rescue SyntaxError
 end
 require "tempfile"
 t = Tempfile.new(["pf", ".rb"]); t.write(magic + "public\n" + defs.join + rest); t.flush
+program = RubyVM::InstructionSequence.compile_file(t.path)
+load File.expand_path("strict.rb", __dir__) if ENV["STRICT"]
 begin
-  load t.path
+  program.eval
 rescue SystemExit
   pf_raise
 rescue Exception => e
   $stdout.flush
-  STDERR.write("#{e.message} (#{e.class})\n")
+  STDERR.write("#{e.message} (#{PF.cls(e)})\n")
   exit! 1
 end

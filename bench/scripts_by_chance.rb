@@ -1,0 +1,211 @@
+# Compares scripts made by chance with what CRuby makes of them.
+#
+#   ruby -W0 bench/scripts_by_chance.rb PROGRAM [FIRST [COUNT]]
+#
+# PROGRAM is the built `ractor`. Each number from FIRST on (0) makes one script, the same each time: methods with blocks, loops, clauses
+# and `ensure` parts inside one another, iterations, containers and operators, most of them on values that do not suit. The script runs
+# in PROGRAM and in a CRuby that bench/profile.rb and bench/strict.rb have bent to the language; each number whose outputs or errors
+# differ is printed, and last the counts. A script that one of the two refuses as a syntax error wants the other to refuse it too; one
+# that needs what is not evaluated yet is passed over. It is no part of the gate.
+
+require "open3"
+require "rbconfig"
+require "tempfile"
+
+# A script by chance.
+class Script
+  NAMES = %w[a b c].freeze
+  WRONG = ["", " TypeError", " StandardError", " ZeroDivisionError, NoMethodError", " ArgumentError"].freeze
+  RAISED = ['"t"', "ArgumentError", 'TypeError, "u"', 'ZeroDivisionError.new("z")', "StopIteration", "Ractor::ClosedError"].freeze
+  PLAIN = %w[size to_s inspect nil? class abs even? zero? first last empty? keys values sum frozen? dup freeze length odd? shift pop].freeze
+  ONE = %w[include? push equal? is_a? key? delete join].freeze
+  INFIX = %w[+ - * / % < > <= >= == != <=> <<].freeze
+  ITERATIONS = ["3.times", "2.upto(4)", "[1, 2, 3].each", "[[1, 2], [3]].each", "[4, 5].each_with_index", "[6, 7, 8].map",
+                "[1, nil, 2].select", "{k: 1, 2 => [3]}.each"].freeze
+
+  def initialize(seed)
+    @random = Random.new(seed)
+    @known = NAMES
+    @methods = []
+    @deep = @loops = @blocks = @counters = 0
+    @in_method = @yields = false
+  end
+
+  def text
+    definitions = Array.new(any(4)) { |number| definition(number) }
+    start = "a = #{pick('1', '[]', '"q"', 'nil')}; b = #{pick('2', '{}', '[1, 2]')}; c = #{pick('3', ':z', '"w"')}"
+    (definitions + [start] + Array.new(2 + any(4)) { statement }).join("\n") + "\n"
+  end
+
+  private
+
+  def any(count) = @random.rand(count)
+  def pick(*choices) = choices[any(choices.size)]
+  def likely?(share) = @random.rand < share
+  def several(most) = Array.new(1 + any(most)) { statement }.join("; ")
+
+  def deeper
+    @deep += 1
+    yield
+  ensure
+    @deep -= 1
+  end
+
+  def definition(number)
+    count = any(3)
+    @in_method, @yields = true, likely?(0.7)
+    others = NAMES.drop(count).map { |name| "#{name} = #{pick('0', 'nil', '[]', '"s"')}" }.join("; ")
+    body = several(3)
+    last = likely?(0.3) ? "ensure; p #{number}; " : ""
+    @methods += [["f#{number}", count, @yields]]
+    "def f#{number}(#{NAMES.take(count).join(', ')}); #{others.empty? ? 'nil' : others}; #{body}; #{last}end"
+  ensure
+    @in_method = @yields = false
+  end
+
+  def atom
+    case any(12)
+    when 0..2 then pick("0", "1", "2", "3", "5", "7", "10", "-1", "-3")
+    when 3..5 then pick(*@known)
+    when 6 then "\"#{pick('', 'x', 'ab', 'tick', 'é')}\""
+    when 7 then pick("nil", "true", "false")
+    when 8 then pick(":k", ":sym")
+    when 9 then "[#{Array.new(any(3)) { atom }.join(', ')}]"
+    when 10 then "{#{Array.new(any(3)) { "#{pick('1', '2', ':k', '"x"', 'nil')} => #{atom}" }.join(', ')}}"
+    else "(#{expression})"
+    end
+  end
+
+  def expression
+    deeper { @deep > 5 ? atom : deep_expression }
+  end
+
+  def deep_expression
+    case any(24)
+    when 0..4 then atom
+    when 5..7 then "#{atom} #{pick(*INFIX)} #{atom}"
+    when 8 then "#{atom} && #{atom}"
+    when 9 then "#{atom} || #{atom}"
+    when 10 then "(#{atom} ? #{atom} : #{atom})"
+    when 11 then "!#{atom}"
+    when 12, 13 then "#{atom}.#{pick(*PLAIN)}"
+    when 14 then "#{atom}[#{atom}]"
+    when 15 then "\"#{pick('', '<')}\#{#{atom}}#{pick('', '>')}\""
+    when 16 then "#{atom}.#{pick(*ONE)}(#{atom})"
+    when 17 then "(#{pick(*@known)} = #{expression})"
+    when 18 then "(#{pick(*@known)} #{pick('+', '-', '*', '||', '&&')}= #{expression})"
+    when 19 then @methods.empty? ? atom : call
+    when 20 then "begin; #{expression}; rescue => e; e.message; end"
+    when 21 then @yields ? "yield(#{Array.new(any(3)) { atom }.join(', ')})" : atom
+    when 22 then iteration
+    else atom
+    end
+  end
+
+  def call
+    name, count, yields = pick(*@methods)
+    arguments = Array.new(likely?(0.93) ? count : count + 1) { atom }.join(", ")
+    yields && likely?(0.85) ? "#{name}(#{arguments}) #{block}" : "#{name}(#{arguments})"
+  end
+
+  def iteration = likely?(0.9) ? "#{pick(*ITERATIONS)} #{block}" : "loop { #{body_of('')}; break #{atom} }"
+
+  def block
+    names = pick("", "x", "x, y")
+    bars = names.empty? ? "" : "|#{names}| "
+    "{ #{bars}#{body_of(names)} }"
+  end
+
+  def body_of(names)
+    known, loops = @known, @loops
+    @known, @loops = @known + names.split(", "), 0
+    @blocks += 1
+    several(2)
+  ensure
+    @known, @loops = known, loops
+    @blocks -= 1
+  end
+
+  def statement
+    deeper { @deep > 5 ? shallow(any(4)) : shallow(any(34)) }
+  end
+
+  def shallow(choice)
+    case choice
+    when 0..3 then "p(#{expression})"
+    when 4, 5 then "puts(#{expression})"
+    when 6..8 then "#{pick(*NAMES)} = #{expression}"
+    when 9 then "#{pick(*NAMES)} #{pick('+', '-', '*', '||', '&&')}= #{expression}"
+    when 10 then "if #{expression}; #{statement}; else; #{statement}; end"
+    when 11 then "p(#{expression}) #{pick('if', 'unless')} #{expression}"
+    when 12, 13 then counted_loop
+    when 14, 15 then @loops + @blocks > 0 ? "#{pick('break', 'next')}#{pick('', ' 1', ' 1, 2')} if #{expression}" : "p(#{atom})"
+    when 16, 17 then @in_method ? "return#{pick('', " #{atom}", " 1, #{atom}")} if #{expression}" : "p(#{atom})"
+    when 18..21 then guarded
+    when 22 then "raise #{pick(*RAISED)} if #{expression}"
+    when 23 then "#{pick(*@known)} << #{atom}"
+    when 24 then "#{pick(*@known)}[#{atom}] = #{atom}"
+    when 25 then @yields ? "p((yield #{atom}))" : "p(#{atom})"
+    when 26, 27 then @methods.empty? ? "p(#{atom})" : pick("p(#{call})", call)
+    when 28, 29 then pick("p(#{iteration})", iteration)
+    when 30 then "p #{atom}, #{atom}"
+    else "p(#{expression})"
+    end
+  end
+
+  def counted_loop
+    counter = "i#{@counters += 1}"
+    @loops += 1
+    "#{counter} = 0; while #{counter} < #{1 + any(3)}; #{counter} += 1; #{several(2)}; end"
+  ensure
+    @loops -= 1
+  end
+
+  def guarded
+    parts = ["begin; #{several(2)}; "]
+    if likely?(0.7)
+      parts << "rescue#{pick(*WRONG)} => e; p [e.class, e.message]; #{statement}; "
+      parts << "else; #{statement}; " if likely?(0.3)
+    end
+    parts << "ensure; #{statement}; " if likely?(0.5)
+    parts.join + "end"
+  end
+end
+
+# What a command leaves of a script: its output, its error line and whether it refused the script.
+Left = Struct.new(:output, :told, :refused)
+
+PROFILE = File.expand_path("profile.rb", __dir__)
+FLAGS = %w[-W0 --disable-gems --disable-error_highlight --disable-did_you_mean].freeze
+
+def ours(program, file)
+  output, told, status = Open3.capture3(program, "run", file)
+  Left.new(output, told.strip, status.exitstatus == 3)
+end
+
+def theirs(file)
+  return Left.new("", "", true) unless system(RbConfig.ruby, *FLAGS, "-c", file, out: File::NULL, err: File::NULL)
+  output, told, = Open3.capture3({ "STRICT" => "1" }, RbConfig.ruby, *FLAGS, PROFILE, file)
+  Left.new(output, told.strip, false)
+end
+
+def same?(left, right) = left.refused == right.refused && (left.refused || (left.output == right.output && left.told == right.told))
+
+program, first, count = ARGV
+counts = Hash.new(0)
+Tempfile.create(["chance", ".rb"]) do |file|
+  first.to_i.upto(first.to_i + (count || 200).to_i - 1) do |number|
+    File.write(file.path, Script.new(number).text)
+    left = ours(program, file.path)
+    if left.output.include?("not here yet") || left.told.include?("not here yet")
+      counts[:passed_over] += 1
+      next
+    end
+    right = theirs(file.path)
+    counts[left.refused ? :refused : :run] += 1
+    next if same?(left, right)
+    counts[:differ] += 1
+    puts "#{number}:", "  ours   #{left.told.inspect} #{left.output.inspect}", "  CRuby  #{right.told.inspect} #{right.output.inspect}"
+  end
+end
+puts %i[run refused passed_over differ].map { |name| "#{counts[name]} #{name}" }.join(", ")
