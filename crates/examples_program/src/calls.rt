@@ -60,7 +60,7 @@ an argument that raises|\"a\".foo(b)^n||undefined local variable or method 'b' (
 calls behind one another|puts \"abc\".to_s.size.to_s + \"!\"^n|3!^n|
 calls in a loop|i = 0; s = \"\"; while s.size < 5 do s << \"ab\"[i % 2]; i = i + 1 end; puts s^n|ababa^n|
 a call in a condition|if \"\".empty? && !nil then puts 1 else puts 2 end^n|1^n|
-a call with a block|3.times { ^pi^p puts i }^n||not here yet (RuntimeError)";
+a call with a block|3.times { ^pi^p puts i }^n|0^n1^n2^n|";
 
 #[test]
 fn calls_do_what_is_wanted(rt: HostRuntime) -> Result<(), Fail> {

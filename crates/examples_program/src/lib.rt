@@ -18,6 +18,8 @@ mod hashes;
 #[cfg(test)]
 mod interpolations;
 #[cfg(test)]
+mod iterations;
+#[cfg(test)]
 mod large;
 #[cfg(test)]
 mod limits;

@@ -18,7 +18,7 @@ use Rattle.rr_eval.specs.declared.frame.Control.TheVariants.{Enter, Operate, Giv
 use Rattle.rr_eval.specs.View.{View}
 use Rattle.rr_eval.specs.Script.{State, Script, World, Spent, Ended, Waits, run, after, taken}
 use Rattle.rr_eval.specs.Requests.{Course, asking}
-use Rattle.rr_eval.specs.Rules.{Context, rule, meaning, on_value, with_value, settled, operation, statements_of}
+use Rattle.rr_eval.specs.Rules.{Context, rule, meaning_of, meaning, on_value, with_value, settled, operation, statements_of}
 use Rattle.rr_eval.specs.Nodes.{evaluated_tree}
 use Rattle.rr_eval.specs.Frames.{Code, means, runs_in, resumed, start, first_tree, unwind, outcome_of, below_of}
 use Rattle.rr_eval.specs.Turns.{context_of, code_of, state_of, remaining, after_script, control_of, first_control, Replied, leaf_value}
@@ -81,7 +81,7 @@ limit p m t tree at left h =
     ∙ unwind_spent (code_of p h.world) (reverse m.frames) m.held (state_of p m t h)
 
 -- a leaf takes one step and changes nothing
-leaf_of : (c : Context) (w : World) (tree : Tree) (s : State) (n : ℕ) (v : Ref) → leaf_value tree s.memory.calls.frames ≡ Some v → run w (meaning c w) (rule c tree) s n ≡ Ended (Gave v) s n
+leaf_of : (c : Context) (w : World) (tree : Tree) (s : State) (n : ℕ) (v : Ref) → leaf_value tree s.memory.calls.frames ≡ Some v → run w (meaning_of c w) (rule c tree) s n ≡ Ended (Gave v) s n
 leaf_of c w (int z) s n v e = ap (λ x. Ended (Gave x) s n) (cc e)
 leaf_of c w (local depth slot x behind) s n v e = ap (λ y. Ended (Gave y) s n) (cc e)
 leaf_of c w _ s n v e = cc e
@@ -97,8 +97,8 @@ leaves p m t n a b op x y at left first second h =
     let s = state_of p m t h in
     stepped p m t (suc (suc n)) (binary op (tree_at ns a) (tree_at ns b)) at left h
     ∙ ap (unwind (code_of p h.world) (reverse m.frames) m.held)
-    (ap (λ o. after o (λ r. run h.world (meaning c h.world) (on_value (λ v. with_value (tree_at ns b) (operation c op v)) r))) (leaf c h.world (tree_at ns a) s (suc n) (Int x) first)
-    ∙ ap (λ o. after o (λ r. run h.world (meaning c h.world) (on_value (operation c op (Int x)) r))) (leaf c h.world (tree_at ns b) s n (Int y) second))
+    (ap (λ o. after o (λ r. run h.world (meaning_of c h.world) (on_value (λ v. with_value (tree_at ns b) (operation c op v)) r))) (leaf c h.world (tree_at ns a) s (suc n) (Int x) first)
+    ∙ ap (λ o. after o (λ r. run h.world (meaning_of c h.world) (on_value (operation c op (Int x)) r))) (leaf c h.world (tree_at ns b) s n (Int y) second))
 
 -- an operator on an integer and a right operand that is a leaf
 pub leaf_right : (p : Program) (m : View) (t : Table) (n b : ℕ) (op : BinaryOperator) (x y : ℤ) → m.left ≡ suc n → leaf_value (tree_at p.nodes.items b) m.calls.frames ≡ Some (Int y) → (h : Course) → after_script p m t (resumed (code_of p h.world) (Left op b) [] (Gave (Int x))) h m.left ≡ after_script p m t (settled (context_of p) (integers op x y)) h n
@@ -106,7 +106,7 @@ leaf_right p m t n b op x y left there h =
     let c = context_of p in
     let ns = p.nodes.items in
     ap (after_script p m t (resumed (code_of p h.world) (Left op b) [] (Gave (Int x))) h) left
-    ∙ ap (λ o. unwind (code_of p h.world) (reverse m.frames) m.held (after o (λ r. run h.world (meaning c h.world) (on_value (operation c op (Int x)) r)))) (leaf c h.world (tree_at ns b) (state_of p m t h) n (Int y) there)
+    ∙ ap (λ o. unwind (code_of p h.world) (reverse m.frames) m.held (after o (λ r. run h.world (meaning_of c h.world) (on_value (operation c op (Int x)) r)))) (leaf c h.world (tree_at ns b) (state_of p m t h) n (Int y) there)
 
 -- what a program does first
 pub first_start : (p : Program) (w : World) (simple : Bool) (root : ℕ) (s : State) (n : ℕ) → start (code_of p w) (first_control simple root) s n ≡ statements_of (context_of p) w simple (tree_at p.nodes.items root) s n

@@ -7,7 +7,9 @@ use Rattle.std.proofs.Math.ListN.{get_or-eq_default}
 use Rattle.rr_base.specs.declared.name.ClassId.{ClassId}
 use Rattle.rr_base.specs.declared.name.Sym.{Sym}
 use Rattle.rr_space.specs.Parts.{IsWithin}
-use Rattle.rr_space.specs.Tables.{Below}
+use Rattle.rr_base.specs.declared.fault.Fault.{Fault}
+use Rattle.rr_space.specs.Tables.{Below, Table}
+use Rattle.rr_eval.specs.Turns.{Stands}
 use Rattle.rr_builtin.specs.Acts.{IsRefAmong}
 use Rattle.rr_space.specs.Views.{field_number}
 use Rattle.rr_frames.specs.Frames.{Stack, Frame as Activated, frame_at, no_frame, laid, left, list_of}
@@ -18,6 +20,7 @@ use Rattle.rr_eval.specs.declared.problem.Answer.TheVariants.{Gave, Raised, Brok
 use Rattle.rr_eval.specs.declared.problem.Response.{Response}
 use Rattle.rr_eval.specs.declared.problem.Response.TheVariants.{Gives, Throws, Fails}
 use Rattle.rr_eval.specs.declared.frame.Frame.{Frame}
+use Rattle.rr_eval.specs.declared.iterating.Iterating.{Iterating}
 use Rattle.rr_eval.specs.declared.frame.Frame.TheVariants as frames
 use Rattle.rr_eval.specs.declared.frame.Control.{Control}
 use Rattle.rr_eval.specs.declared.frame.Control.TheVariants.{Enter, Operate, Give, Throw, Raise, RaiseValue}
@@ -75,6 +78,8 @@ frame_more k l cs le (frames.Class r) h = ref_more k l cs le r.exception h
 frame_more k l cs le (frames.Handling old) h = ref_more k l cs le old h
 frame_more k l cs le (frames.Ensure part) h = tt
 frame_more k l cs le (frames.Kept a) h = answer_more k l cs le a h
+frame_more k l cs le (frames.Round i) h = tt
+frame_more k l cs le (frames.Turned i) h = tt
 
 control_more : (k l : ℕ) (cs : Option Below) → k ≤ l → (c : Control) → IsControlReached (reach k cs) c → IsControlReached (reach l cs) c
 control_more k l cs le (Enter part) h = tt
@@ -266,6 +271,8 @@ below_reached : (P : Ref → Type 0) (f : Frame) (held : List Ref) → All P hel
 below_reached P (frames.Argument target end count base) held h = all_take P base held h
 below_reached P (frames.Key next end count base) held h = all_take P base held h
 below_reached P (frames.Value end count base) held h = all_take P base held h
+below_reached P (frames.Round i) held h = all_take P i.base held h
+below_reached P (frames.Turned i) held h = all_take P i.base held h
 below_reached P _ held h = h
 
 -- without the values of a frame
@@ -292,6 +299,30 @@ enter_reached k m f fs held calls blocks entry parameters size body vs a pushed 
   control = tt;
   frames = subst (All (IsFrameReached k)) (sym pushed) (All-push (IsFrameReached k) m.frames (waits_for entry) h.frames (waiting_reached k entry));
   held = subst (All (IsReached k)) (sym cleared) (below_reached (IsReached k) f m.held h.held);
+  calls = subst (All (AreVariablesReached k)) (sym entered) (entered_within k m.calls.frames (record { variables = laid parameters size vs; activation = a }) h.calls (laid_within k parameters size vs values));
+  rescuing = h.rescuing;
+}
+
+-- all stands
+pub stands_reached : (k : Reach) (m n : View) (t u : Table) (f : Fault) → Stands m n t u f → AreReached k m → AreReached k n
+unfolding AreReached
+stands_reached k m n t u f is h = record {
+  control = subst (IsControlReached k) (sym is.control) h.control;
+  frames = subst (All (IsFrameReached k)) (sym is.frames) h.frames;
+  held = subst (All (IsReached k)) (sym is.held) h.held;
+  calls = subst (λ s. All (AreVariablesReached k) s.frames) (sym is.calls) h.calls;
+  rescuing = subst (IsReached k) (sym is.rescuing) h.rescuing;
+}
+
+-- a turn of an iteration, with the values of its parameters
+pub turn_reached : (k : Reach) (m : View) (i : Iterating) (fs : List Frame) (calls : Stack) (blocks : List (Option ℕ)) (parameters size body : ℕ) (vs : List Ref) (a : Activation) → fs ≡ m.frames ++ frames.Round i ∷ []
+    → calls.frames ≡ m.calls.frames ++ record { variables = laid parameters size vs; activation = a } ∷ [] → AreReached k m → All (IsReached k) vs
+    → AreReached k (record { control = Enter body; frames = fs; held = m.held; calls = calls; blocks = blocks; rescuing = m.rescuing; left = m.left })
+unfolding AreReached
+turn_reached k m i fs calls blocks parameters size body vs a pushed entered h values = record {
+  control = tt;
+  frames = subst (All (IsFrameReached k)) (sym pushed) (All-push (IsFrameReached k) m.frames (frames.Round i) h.frames tt);
+  held = h.held;
   calls = subst (All (AreVariablesReached k)) (sym entered) (entered_within k m.calls.frames (record { variables = laid parameters size vs; activation = a }) h.calls (laid_within k parameters size vs values));
   rescuing = h.rescuing;
 }

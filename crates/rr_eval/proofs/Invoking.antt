@@ -18,6 +18,7 @@ use Rattle.rr_eval.specs.declared.problem.Problem.TheVariants.{BuiltIn}
 use Rattle.rr_eval.specs.declared.problem.Answer.{Answer}
 use Rattle.rr_eval.specs.declared.problem.Answer.TheVariants.{Gave, Raised, Broke, Done, Returned, Ends}
 use Rattle.rr_eval.specs.declared.frame.Frame.{Frame}
+use Rattle.rr_eval.specs.declared.iterating.Iterating.{Iterating}
 use Rattle.rr_eval.specs.declared.frame.Frame.TheVariants as frames
 use Rattle.rr_eval.specs.Script.{State, Script, Ret, Go, See, Do, Outcome, after}
 use Rattle.rr_eval.specs.Methods.{Method}
@@ -52,6 +53,7 @@ pub record IsUsual (f : Frame) : Type 0 where
   pub no_rescue : (end count otherwise : ℕ) → f ≡ frames.Rescue end count otherwise → ⊥
   pub no_handling : (old : Ref) → f ≡ frames.Handling old → ⊥
   pub no_ensure : (part : ℕ) → f ≡ frames.Ensure part → ⊥
+  pub no_round : (i : Iterating) → f ≡ frames.Round i → ⊥
 
 pub answer_passes : (c : Code) (f : Frame) (stand : List Ref) (a : Answer) → IsUsual f → ((v : Ref) → a ≡ Gave v → ⊥) → resumed c f stand a ≡ Ret a
 answer_passes c frames.Back stand a usual other = absurd (usual.no_back refl)
@@ -61,6 +63,7 @@ answer_passes c (frames.Body loop) stand a usual other = absurd (usual.no_body l
 answer_passes c (frames.Rescue end count otherwise) stand a usual other = absurd (usual.no_rescue end count otherwise refl)
 answer_passes c (frames.Handling old) stand a usual other = absurd (usual.no_handling old refl)
 answer_passes c (frames.Ensure part) stand a usual other = absurd (usual.no_ensure part refl)
+answer_passes c (frames.Round i) stand a usual other = absurd (usual.no_round i refl)
 answer_passes c f stand (Gave v) usual other = absurd (other v refl)
 answer_passes c _ stand (Raised e) usual other = refl
 answer_passes c _ stand (Broke v) usual other = refl

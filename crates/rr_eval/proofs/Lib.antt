@@ -22,5 +22,6 @@ pub mod Filling
 pub mod Literals
 pub mod Defining
 pub mod Invoking
+pub mod Rounds
 pub mod Raises
 pub mod Trying

@@ -1,5 +1,5 @@
 -- Statements and arguments, taken one by one.
-use Rattle.std.proofs.Common.{◌≡◌, ℕ, zero, suc, ◌+◌, ◌-◌, ◌≤◌, ◌∙◌, sym, ap, refl, arith, true, List, [], ◌∷◌}
+use Rattle.std.proofs.Common.{◌≡◌, ℕ, zero, suc, ◌+◌, ◌-◌, ◌≤◌, ◌∙◌, sym, ap, refl, arith, true, slice_index_or, List, [], ◌∷◌}
 use Rattle.rr_tree.specs.Tree.{Tree, tree_at}
 use Rattle.rr_tree.specs.declared.node.Node.{Node}
 use Rattle.rr_tree.specs.declared.node.Path.TheVariants.{Plain, Ractor}
@@ -14,7 +14,8 @@ use Rattle.rr_eval.specs.declared.call.Target.TheVariants.{Do, Call as CallTarge
 use Rattle.rr_eval.specs.declared.call.Target.{Target}
 use Rattle.rr_eval.specs.Methods.{own_method}
 use Rattle.rr_eval.specs.declared.call.Task.TheVariants.{MakeArray, MakeText}
-use Rattle.rr_eval.specs.Rules.{Context, rule, statements, values, on_value, finish, printing, raises, awaited, call_rule, block_call_rule, block_rule, not_here}
+use Rattle.rr_eval.specs.Rules.{Context, rule, statements, values, on_value, finish, printing, raises, awaited, call_rule, block_call_rule, block_send_rule, loops, block_rule, not_here}
+use Rattle.rr_builtin.specs.Iterations.{iteration_named}
 use Rattle.rr_eval.specs.Rescuing.{rescue_rule}
 use Rattle.rr_eval.specs.Nodes.{evaluated_tree, IsEvaluated, is_unknown}
 use Rattle.rr_eval.specs.Frames.{Code, resumed}
@@ -58,14 +59,20 @@ pub yield_is : (ns : List Node) (c : Context) (first count : ℕ) → values (tr
 yield_is ns c first count = ap (λ ts. values ts [] (finish c Yield)) (sym (items_listed (trees_before ns (first + count) count)))
 
 -- a call with a block
-pub block_call_is : (ns : List Node) (c : Context) (x : Sym) (first count site : ℕ) (b : Tree) → block_call_rule c (own_method c.program x.0) x (trees_before ns (first + count) count) b ≡ block_rule c (evaluated_tree ns (Call x first count site)) b
-block_call_is ns c x first count site b = ap (λ ts. block_call_rule c (own_method c.program x.0) x ts b) (sym (items_listed (trees_before ns (first + count) count)))
+pub block_call_is : (ns : List Node) (c : Context) (x : Sym) (first count site : ℕ) (b : Tree) → block_call_rule c (own_method c.program x.0) (loops c x.0) x (trees_before ns (first + count) count) b ≡ block_rule c (evaluated_tree ns (Call x first count site)) b
+block_call_is ns c x first count site b = ap (λ ts. block_call_rule c (own_method c.program x.0) (loops c x.0) x ts b) (sym (items_listed (trees_before ns (first + count) count)))
+
+-- a call with a block and a receiver
+pub block_send_is : (ns : List Node) (c : Context) (a : ℕ) (x : Sym) (first count site : ℕ) (b : Tree)
+    → block_send_rule c (iteration_named (slice_index_or c.symbols x.0 [])) (tree_at ns a) x (trees_before ns (first + count) count) b ≡ block_rule c (evaluated_tree ns (Send a x first count site)) b
+block_send_is ns c a x first count site b = ap (λ ts. block_send_rule c (iteration_named (slice_index_or c.symbols x.0 [])) (tree_at ns a) x ts b) (sym (items_listed (trees_before ns (first + count) count)))
 
 -- what takes no block yet
-pub no_block_call : (ns : List Node) (c : Context) (n : Node) (b : Tree) → IsEvaluated n → ((x : Sym) (first count site : ℕ) → n ≡ Call x first count site → ⊥) → not_here c ≡ block_rule c (evaluated_tree ns n) b
-no_block_call ns c (Call x first count site) b is other = absurd (other x first count site refl)
-no_block_call ns c (nodes.Item a) b is other = absurd is
-no_block_call ns c _ b is other = refl
+pub no_block_call : (ns : List Node) (c : Context) (n : Node) (b : Tree) → IsEvaluated n → ((x : Sym) (first count site : ℕ) → n ≡ Call x first count site → ⊥) → ((a : ℕ) (x : Sym) (first count site : ℕ) → n ≡ Send a x first count site → ⊥) → not_here c ≡ block_rule c (evaluated_tree ns n) b
+no_block_call ns c (Call x first count site) b is other send = absurd (other x first count site refl)
+no_block_call ns c (Send a x first count site) b is other send = absurd (send a x first count site refl)
+no_block_call ns c (nodes.Item a) b is other send = absurd is
+no_block_call ns c _ b is other send = refl
 
 -- statements and the clauses that rescue them
 pub rescue_is : (ns : List Node) (c : Context) (a first count b : ℕ)

@@ -1,5 +1,5 @@
 -- An evaluation takes no object away.
-use Rattle.std.proofs.Common.{◌≡◌, nat_eq, nat_lt, slice_index_or, ap, sym, subst, if◌then◌else◌, ◌≤◌, ◌-◌, ℕ, zero, suc, Bool, arith, List, [], ◌∷◌, ◌++◌, length, length-append, reverse, Option, Some, None, true, false}
+use Rattle.std.proofs.Common.{◌≡◌, nat_eq, nat_lt, slice_index_or, ap, sym, subst, if◌then◌else◌, ◌≤◌, ◌-◌, ℕ, zero, suc, Bool, arith, List, [], ◌∷◌, ◌++◌, length, length-append, reverse, Option, Some, None, Result, Ok, Err, true, false}
 use Rattle.rr_base.specs.Classes.{class_id}
 use Rattle.rr_base.specs.declared.class.BuiltInClass.{BuiltInClass}
 use Rattle.rr_base.specs.declared.name.Sym.{Sym}
@@ -14,7 +14,7 @@ use Rattle.rr_space.specs.declared.refer.Ref.TheVariants as refs
 use Rattle.rr_builtin.specs.Objects.{is_truthy}
 use Rattle.rr_eval.specs.Values.{goes_on}
 use Rattle.rr_tree.specs.Tree.{tree_at, Tree, nil, truth, int, text, symbol, class_named as class_tree, constant, array, hash, pairs, interpolation, send, index, set_index, append, local, bare, call, logical_and, logical_or, logical_not, negate, binary, assign, choose, repeat, sequence, with_block, block, yield, break, next as next_tree, return, rescue, ensure, operator_assign, or_assign, and_assign}
-use Rattle.rr_frames.specs.Frames.{Stack}
+use Rattle.rr_frames.specs.Frames.{Stack, list_of}
 use Rattle.std.specs.Option.{option_map, is_some}
 use Rattle.rr_base.specs.ClassNames.{class_named}
 use Rattle.rr_frames.specs.declared.activation.Given.{Given}
@@ -23,7 +23,7 @@ use Rattle.rr_frames.specs.declared.activation.Shape.{Shape}
 use Rattle.rr_eval.specs.declared.call_stack.Entry.{Entry}
 use Rattle.rr_eval.specs.declared.call_stack.Entry.TheVariants.{OfMethod, OfBlock}
 use Rattle.rr_eval.specs.declared.call_stack.Variable.{Variable}
-use Rattle.rr_eval.specs.Variables.{read_variable}
+use Rattle.rr_eval.specs.Variables.{read_variable, top}
 use Rattle.rr_eval.specs.Blocks.{spreads, shape_in, tree_in, called_as}
 use Rattle.rr_tree.specs.declared.node.BinaryOperator.{BinaryOperator}
 use Rattle.rr_tree.specs.declared.program.Program.{Program}
@@ -31,7 +31,7 @@ use Rattle.rr_eval.specs.declared.problem.Answer.{Answer}
 use Rattle.rr_eval.specs.declared.problem.Answer.TheVariants.{Gave, Raised, Broke, Done, Returned, Ends}
 use Rattle.rr_eval.specs.declared.call.Callee.TheVariants as callees
 use Rattle.rr_eval.specs.declared.call.Target.{Target}
-use Rattle.rr_eval.specs.declared.call.Target.TheVariants.{Do as DoTarget, Call, Own, Yield, Raise}
+use Rattle.rr_eval.specs.declared.call.Target.TheVariants.{Do as DoTarget, Call, Own, Yield, Raise, Iterate}
 use Rattle.rr_eval.specs.declared.call.Task.{Task}
 use Rattle.rr_eval.specs.declared.call.Task.TheVariants.{MakeArray, MakeText, MakeHash}
 use Rattle.rr_eval.specs.declared.problem.Response.{Response}
@@ -41,8 +41,8 @@ use Rattle.rr_eval.specs.declared.problem.Problem.TheVariants.{BuiltIn, MissingM
 use Rattle.rr_builtin.specs.declared.problem.Problem.TheVariants.{Count, TooDeep, Moved, WrongType}
 use Rattle.rr_builtin.specs.declared.problem.Receiver.TheVariants.{Instance}
 use Rattle.rr_eval.specs.declared.frame.Frame.{Frame}
-use Rattle.rr_eval.specs.declared.frame.Frame.TheVariants.{Not, Negation, And, Or, Left, Right, Store, Branch, Condition, Body, Break, Next, Return, Back, Past, Rest, Argument, Key, Value, Element, Rescue, Class, Handling, Ensure, Kept}
-use Rattle.rr_eval.specs.Script.{Memory, State, Script, Ret, Go, See, Do, Ask, Asked, Reply, World, Outcome, Ended, Spent, Waits, Evaluation, run, after, taken, objects_of}
+use Rattle.rr_eval.specs.declared.frame.Frame.TheVariants.{Not, Negation, And, Or, Left, Right, Store, Branch, Condition, Body, Break, Next, Return, Back, Past, Rest, Argument, Key, Value, Element, Rescue, Class, Handling, Ensure, Kept, Round, Turned}
+use Rattle.rr_eval.specs.Script.{Memory, State, Script, Iterated, Ret, Part, TreePart, TurnPart, Evaluate, Go, See, Do, Ask, Asked, Reply, World, Outcome, Ended, Spent, Waits, Evaluation, run, after, taken, objects_of}
 use Rattle.rr_eval.specs.Requests.{Course, Adds, AddsTo, asking}
 use Rattle.rr_base.specs.declared.fault.Fault.{Fault}
 use Rattle.rr_eval.specs.View.{View}
@@ -50,8 +50,15 @@ use Rattle.rr_eval.specs.Acts.{Passes}
 use Rattle.rr_eval.specs.Turns.{context_of, code_of, state_of, after_script, asking_then}
 use Rattle.rr_builtin.specs.Acts.{with_text}
 use Rattle.rr_eval.specs.Operators.{make, integers, opposite}
-use Rattle.rr_eval.specs.Rules.{Context, items, throw, raise, settled, on_value, with_value, in_loop, turn_rule, on_table, operation, negation, statements, values, pair_parts, finish, printing, raises, awaited, bare_rule, constant_rule, not_here, call_rule, block_call_rule, block_rule, asks_block, own_rule, framed, running, left_by, yield_to, is_outside, return_rule, back, past, variable_of, update_rule, or_rule, and_rule, write, rule, eval}
+use Rattle.rr_eval.specs.Rules.{Context, items, throw, raise, settled, on_value, with_value, in_loop, turn_rule, on_table, operation, negation, statements, values, pair_parts, finish, printing, raises, awaited, bare_rule, constant_rule, not_here, call_rule, block_call_rule, block_rule, asks_block, own_rule, framed, running, left_by, yield_to, is_outside, return_rule, back, past, variable_of, update_rule, or_rule, and_rule, write, rule, part_rule, loops, opened, block_send_rule, eval}
 use Rattle.rr_eval.specs.Methods.{Method, own_method}
+use Rattle.rr_builtin.specs.Iterations.{iteration_named}
+use Rattle.rr_builtin.specs.declared.iterations.Iteration.{Iteration}
+use Rattle.rr_eval.specs.declared.iterating.Ahead.{Ahead}
+use Rattle.rr_eval.specs.declared.iterating.Ahead.TheVariants.{Another, Finished}
+use Rattle.rr_eval.specs.declared.iterating.Visits.{Visits}
+use Rattle.rr_eval.specs.declared.iterating.Visits.TheVariants.{Forever}
+use Rattle.rr_eval.specs.Iterating.{ahead, turn_of, taken_up, continued, turn_ended, turned, beginning, begun, iteration_rule}
 use Rattle.rr_eval.specs.Raising.{message_or_nil, raise_new, raise_kind, raise_again, raise_rule}
 use Rattle.rr_eval.specs.Rescuing.{class_parts, taken_by, with_caught, fitted, tried_classes, tried_clause, tried, else_rule, rescue_rule, ensure_rule, target_part}
 use Rattle.rr_tree.specs.Ancestors.{descends}
@@ -63,7 +70,7 @@ use Rattle.rr_space.specs.declared.kind.Kind.TheVariants as kinds
 use Rattle.rr_tree.specs.Nodes.{trees_before}
 use Rattle.rr_eval.specs.Messages.{message, exception_class}
 use Rattle.rr_eval.specs.Exceptions.{exception_object, with_exception}
-use Rattle.rr_eval.specs.Frames.{Code, means, runs_in, taker, behind_class, resumed, stand_of, below_of, unwind}
+use Rattle.rr_eval.specs.Frames.{Code, evaluates, runs_in, iterated, taker, behind_class, resumed, stand_of, below_of, unwind}
 
 -- the objects of a table
 abbrev count : Table → ℕ
@@ -76,7 +83,7 @@ make_keeps false bytes t = omega (arith, length-append t.slots (Here (text_objec
 -- a script whose acts take no object away
 abbrev Keeps : Script → Type 0
 Keeps (Ret a) = Unit {0}
-Keeps (Go tree next) = (a : Answer) → Keeps (next a)
+Keeps (Evaluate part next) = (a : Answer) → Keeps (next a)
 Keeps (See look) = (m : Memory) → Keeps (look m)
 Keeps (Do act next) = ((m : Memory) → count m.table ≤ count (act m).table) × Keeps next
 Keeps (Ask q next) = (r : Response) → Keeps (next r)
@@ -133,8 +140,11 @@ left_keeps : (entry : Entry) (a : Answer) → Keeps (left_by entry a)
 left_keeps (OfMethod takes) a = back_keeps a
 left_keeps (OfBlock home) a = past_keeps a
 
+opened_keeps : (c : Context) (entry : Entry) (parameters size : ℕ) (vs : List Ref) (b : Option Tree) (s : Stack) (next : Script) → Keeps next → Keeps (opened c entry parameters size vs b s next)
+opened_keeps c entry parameters size vs b s next kept = if_keeps (nat_lt (length s.frames) s.limit) _ _ (λ l. omega arith, kept) (throw_keeps c (BuiltIn TooDeep))
+
 framed_keeps : (c : Context) (entry : Entry) (parameters size : ℕ) (vs : List Ref) (b : Option Tree) (body : Tree) (s : Stack) → Keeps (framed c entry parameters size vs b body s)
-framed_keeps c entry parameters size vs b body s = if_keeps (nat_lt (length s.frames) s.limit) _ _ (λ l. omega arith, λ a. left_keeps entry a) (throw_keeps c (BuiltIn TooDeep))
+framed_keeps c entry parameters size vs b body s = opened_keeps c entry parameters size vs b s (Go body (left_by entry)) (λ a. left_keeps entry a)
 
 own_keeps : (c : Context) (x : Sym) (m : Option Method) (b : Option Tree) (vs : List Ref) → Keeps (own_rule c x m b vs)
 own_keeps c x None b vs = throw_keeps c (MissingMethod (callees.Name x) (Instance OBJECT))
@@ -150,6 +160,38 @@ called_keeps c (Some shape) t home vs m = if_keeps (spreads shape.parameters vs 
 yield_keeps : (c : Context) (g : Given) (vs : List Ref) (m : Memory) → Keeps (yield_to c g vs m)
 yield_keeps c given.Nothing vs m = throw_keeps c NoBlock
 yield_keeps c (given.Block number home) vs m = called_keeps c (shape_in (slice_index_or m.blocks number None)) (tree_in (slice_index_or m.blocks number None)) home vs m
+
+-- iterations
+turn_of_keeps : (c : Context) (i : Iterated) (shape : Option Shape) (vs : List Ref) (m : Memory) → Keeps (turn_of c i shape vs m)
+turn_of_keeps c i None vs m = throw_keeps c NoBlock
+turn_of_keeps c i (Some shape) vs m =
+    if_keeps (spreads shape.parameters vs m.table) _ _ (throw_keeps c NotHere)
+    (opened_keeps c (OfBlock (top m.calls.frames)) shape.parameters shape.size vs None m.calls (Evaluate (TurnPart i) Ret) (λ a. tt))
+
+taken_up_keeps : (c : Context) (i : Iterated) (a : Ahead) (m : Memory) → Keeps (taken_up c i a m)
+taken_up_keeps c i (Another first last more) m = turn_of_keeps c (record i { visits = more }) (shape_in (Some i.block)) (list_of first ++ list_of last) m
+taken_up_keeps c i Finished m = tt
+
+continued_keeps : (c : Context) (i : Iterated) → Keeps (continued c i)
+continued_keeps c i = λ m. taken_up_keeps c i (ahead i.visits i.stand) m
+
+turn_ended_keeps : (c : Context) (i : Iterated) (root : ℕ) (a : Answer) → Keeps (turn_ended c i root a)
+turn_ended_keeps c i root (Gave v) = continued_keeps c i
+turn_ended_keeps c i root (Done v) = continued_keeps c i
+turn_ended_keeps c i root (Raised e) = λ m. tt
+turn_ended_keeps c i root (Broke v) = λ m. tt
+turn_ended_keeps c i root (Returned v) = λ m. tt
+turn_ended_keeps c i root (Ends number v) = λ m. tt
+
+turned_keeps : (c : Context) (i : Iterated) (a : Answer) → Keeps (turned c i a)
+turned_keeps c i a = λ m. (λ k. omega arith, turn_ended_keeps c i (running m.calls.frames).root a)
+
+begun_keeps : (c : Context) (r : Result Visits Problem) (vs : List Ref) (b : Tree) → Keeps (begun c r vs b)
+begun_keeps c (Ok visits) vs b = continued_keeps c (record { visits = visits; stand = vs; block = b })
+begun_keeps c (Err problem) vs b = throw_keeps c problem
+
+iteration_keeps : (c : Context) (x : Sym) (b : Tree) (vs : List Ref) → Keeps (iteration_rule c x b vs)
+iteration_keeps c x b vs = λ m. begun_keeps c (beginning x (iteration_named (slice_index_or c.symbols x.0 [])) vs m.table) vs b
 
 return_keeps : (c : Context) (v : Ref) → Keeps (return_rule c v)
 return_keeps c v = λ m. if_keeps (is_outside m.calls.frames) (throw c Jump) (Ret (Returned v)) (throw_keeps c Jump) tt
@@ -188,6 +230,7 @@ finish_keeps c (Call callee) (v ∷ vs) = settled_keeps c
 finish_keeps c (Own x b) vs = own_keeps c x (own_method c.program x.0) (option_map (tree_at c.program.nodes.items) b) vs
 finish_keeps c Yield vs = λ m. yield_keeps c (running m.calls.frames).given vs m
 finish_keeps c Raise vs = raise_rule_keeps c vs
+finish_keeps c (Iterate x b) vs = iteration_keeps c x (tree_at c.program.nodes.items b) vs
 
 statements_keep : (ts : List Tree) → Keeps (statements ts)
 statements_keep [] = tt
@@ -223,12 +266,23 @@ given_keep : (c : Context) (x : Sym) (b : Tree) (ts : List Tree) (stand : List R
 given_keep c x b [] stand = own_keeps c x (own_method c.program x.0) (Some b) stand
 given_keep c x b (t ∷ ts) stand = on_value_keeps _ (λ v. given_keep c x b ts (stand ++ v ∷ []))
 
-block_call_keeps : (c : Context) (m : Option Method) (x : Sym) (ts : List Tree) (b : Tree) → Keeps (block_call_rule c m x ts b)
-block_call_keeps c (Some m) x ts b = given_keep c x b ts []
-block_call_keeps c None x ts b = throw_keeps c NotHere
+block_call_keeps : (c : Context) (m : Option Method) (loop : Bool) (x : Sym) (ts : List Tree) (b : Tree) → Keeps (block_call_rule c m loop x ts b)
+block_call_keeps c (Some m) loop x ts b = given_keep c x b ts []
+block_call_keeps c None true x [] b = continued_keeps c (record { visits = Forever; stand = []; block = b })
+block_call_keeps c None true x (t ∷ ts) b = throw_keeps c NotHere
+block_call_keeps c None false x ts b = throw_keeps c NotHere
+
+receiver_keeps : (c : Context) (x : Sym) (b : Tree) (ts : List Tree) (stand : List Ref) → Keeps (values ts stand (iteration_rule c x b))
+receiver_keeps c x b [] stand = iteration_keeps c x b stand
+receiver_keeps c x b (t ∷ ts) stand = on_value_keeps _ (λ v. receiver_keeps c x b ts (stand ++ v ∷ []))
+
+block_send_keeps : (c : Context) (i : Option Iteration) (a : Tree) (x : Sym) (ts : List Tree) (b : Tree) → Keeps (block_send_rule c i a x ts b)
+block_send_keeps c (Some i) a x ts b = receiver_keeps c x b (a ∷ ts) []
+block_send_keeps c None a x ts b = throw_keeps c NotHere
 
 block_keeps : (c : Context) (t b : Tree) → Keeps (block_rule c t b)
-block_keeps c (call x list) b = block_call_keeps c (own_method c.program x) (record { 0 = x }) (items list) b
+block_keeps c (call x list) b = block_call_keeps c (own_method c.program x) (loops c x) (record { 0 = x }) (items list) b
+block_keeps c (send a x list) b = block_send_keeps c (iteration_named (slice_index_or c.symbols x [])) a (record { 0 = x }) (items list) b
 block_keeps c _ b = throw_keeps c NotHere
 
 -- a variable that gets a value
@@ -332,6 +386,10 @@ rule_keeps c (rescue a list b) = rescue_keeps c (items list) b
 rule_keeps c (ensure a b) = ensure_keeps b
 rule_keeps c _ = throw_keeps c NotHere
 
+part_keeps : (c : Context) (part : Part) → Keeps (part_rule c part)
+part_keeps c (TreePart t) = rule_keeps c t
+part_keeps c (TurnPart i) = λ a. turned_keeps c i a
+
 resumed_keeps : (c : Code) (f : Frame) (stand : List Ref) (a : Answer) → Keeps (resumed c f stand a)
 resumed_keeps c Not stand = on_value_keeps _ (λ v. tt)
 resumed_keeps c (And b) stand = on_value_keeps _ (λ v. if_keeps (is_truthy v) (Go (tree_at c.nodes b) Ret) (Ret (Gave v)) (λ a. tt) tt)
@@ -361,10 +419,12 @@ resumed_keeps c (Class r) stand =
 resumed_keeps c (Handling old) stand = λ a. (λ m. omega arith, tt)
 resumed_keeps c (Ensure part) stand = ensure_keeps (tree_at c.nodes part)
 resumed_keeps c (Kept a) stand = on_value_keeps _ (λ v. tt)
+resumed_keeps c (Round i) stand = turned_keeps c.context (iterated c i stand)
+resumed_keeps c (Turned i) stand = on_value_keeps _ (λ v. continued_keeps c.context (iterated c i stand))
 
 -- an evaluation that takes no object away
 abbrev KeepsAll : Evaluation → Type 0
-KeepsAll go = (t : Tree) (s : State) (n : ℕ) → count s.memory.table ≤ objects_of (go t s n)
+KeepsAll go = (t : Part) (s : State) (n : ℕ) → count s.memory.table ≤ objects_of (go t s n)
 
 after_keeps : (k : ℕ) (o : Outcome) (next : Answer → State → ℕ → Outcome) → k ≤ objects_of o → ((a : Answer) (s : State) (n : ℕ) → count s.memory.table ≤ objects_of (next a s n)) → k ≤ objects_of (after o next)
 after_keeps k (Ended a s n) next le h =
@@ -382,7 +442,7 @@ taken_keeps (Some r) s next adds h =
 
 run_keeps : (w : World) → Adds w → (go : Evaluation) → KeepsAll go → (p : Script) → Keeps p → (s : State) (n : ℕ) → count s.memory.table ≤ objects_of (run w go p s n)
 run_keeps w adds go h (Ret a) keeps s n = omega arith
-run_keeps w adds go h (Go t next) keeps s n = after_keeps (count s.memory.table) (go t s n) (λ a. run w go (next a)) (h t s n) (λ a s' m. run_keeps w adds go h (next a) (keeps a) s' m)
+run_keeps w adds go h (Evaluate t next) keeps s n = after_keeps (count s.memory.table) (go t s n) (λ a. run w go (next a)) (h t s n) (λ a s' m. run_keeps w adds go h (next a) (keeps a) s' m)
 run_keeps w adds go h (See look) keeps s n = run_keeps w adds go h (look s.memory) (keeps s.memory) s n
 run_keeps w adds go h (Do act next) keeps s n =
     let first = keeps.0 s.memory in
@@ -394,9 +454,9 @@ run_keeps w adds go h (Ask q next) keeps s n =
 eval_keeps : (c : Context) (w : World) → Adds w → (depth : ℕ) → KeepsAll (eval c w depth)
 eval_keeps c w adds zero t s n = omega arith
 eval_keeps c w adds (suc depth) t s zero = omega arith
-eval_keeps c w adds (suc depth) t s (suc n) = run_keeps w adds (eval c w depth) (eval_keeps c w adds depth) (rule c t) (rule_keeps c t) s n
+eval_keeps c w adds (suc depth) t s (suc n) = run_keeps w adds (eval c w depth) (eval_keeps c w adds depth) (part_rule c t) (part_keeps c t) s n
 
-meaning_keeps : (c : Code) → Adds c.world → KeepsAll (means c)
+meaning_keeps : (c : Code) → Adds c.world → KeepsAll (evaluates c)
 meaning_keeps c adds t s n = eval_keeps c.context c.world adds n t s n
 
 -- what the frames still do takes no object away
@@ -406,13 +466,13 @@ unwind_keeps k c adds [] held (Spent s) le = le
 unwind_keeps k c adds [] held (Waits s) le = le
 unwind_keeps k c adds (f ∷ fs) held o le =
     let next = λ (a : Answer). runs_in c (resumed c f (stand_of f held) a) in
-    unwind_keeps k c adds fs (below_of f held) (after o next) (after_keeps k o next le (λ a s n. run_keeps c.world adds (means c) (meaning_keeps c adds) (resumed c f (stand_of f held) a) (resumed_keeps c f (stand_of f held) a) s n))
+    unwind_keeps k c adds fs (below_of f held) (after o next) (after_keeps k o next le (λ a s n. run_keeps c.world adds (evaluates c) (meaning_keeps c adds) (resumed c f (stand_of f held) a) (resumed_keeps c f (stand_of f held) a) s n))
 
 -- what a script comes to, and the frames after it, has no fewer objects than there are
 script_keeps : (p : Program) (m : View) (t : Table) (script : Script) (h : Course) (n : ℕ) → Adds h.world → Keeps script → count t ≤ objects_of (after_script p m t script h n)
 script_keeps p m t script h n adds keeps =
     let c = code_of p h.world in
-    unwind_keeps (count t) c adds (reverse m.frames) m.held (runs_in c script (state_of p m t h) n) (run_keeps h.world adds (means c) (meaning_keeps c adds) script keeps (state_of p m t h) n)
+    unwind_keeps (count t) c adds (reverse m.frames) m.held (runs_in c script (state_of p m t h) n) (run_keeps h.world adds (evaluates c) (meaning_keeps c adds) script keeps (state_of p m t h) n)
 
 -- an act that would pass the limit of slots, and what comes after it
 pub act_passes : (p : Program) (m : View) (t : Table) (act : Table → Response × Table) (f : Fault) (h : Course) (n : ℕ) → Adds h.world → Passes f t.limit (length (act t).1.slots) → Passes f t.limit (objects_of (after_script p m t (on_table (context_of p) act) h n))

@@ -10,11 +10,11 @@ use Rattle.rr_eval.specs.declared.problem.Response.{Response}
 use Rattle.rr_eval.specs.declared.frame.Frame.{Frame}
 use Rattle.rr_eval.specs.declared.frame.Control.{Control}
 use Rattle.rr_eval.specs.declared.frame.Control.TheVariants.{Enter, Operate, Give, Throw, Raise, RaiseValue}
-use Rattle.rr_eval.specs.Script.{State, Script, Ret, Go, See, Do, Ask, Asked, Reply, World, Outcome, Ended, Spent, Waits, Evaluation, run, after, taken}
-use Rattle.rr_eval.specs.Rules.{Context, throw, raise, settled, rule, eval}
+use Rattle.rr_eval.specs.Script.{State, Script, Ret, Part, TreePart, Evaluate, See, Do, Ask, Asked, Reply, World, Outcome, Ended, Spent, Waits, Evaluation, run, after, taken}
+use Rattle.rr_eval.specs.Rules.{Context, throw, raise, settled, part_rule, eval}
 use Rattle.rr_eval.specs.Raising.{raise_value}
 use Rattle.rr_eval.specs.Requests.{Course}
-use Rattle.rr_eval.specs.Frames.{Code, means, runs_in, resumed, stand_of, below_of, unwind, start}
+use Rattle.rr_eval.specs.Frames.{Code, evaluates, runs_in, resumed, stand_of, below_of, unwind, start}
 use Rattle.rr_eval.specs.View.{View}
 use Rattle.rr_eval.specs.Turns.{context_of, code_of, remaining, asking_then, state_of}
 use Rattle.rr_eval.specs.Written.{IsBeginning}
@@ -33,7 +33,7 @@ module _ (own : Context) where
 
   -- the evaluation prints behind what was printed
   abbrev Grows : Evaluation → Type 0
-  Grows go = (t : Tree) (s : State) (n : ℕ) → IsBeginning (text_asked own s.asked) (text_of own (go t s n))
+  Grows go = (t : Part) (s : State) (n : ℕ) → IsBeginning (text_asked own s.asked) (text_of own (go t s n))
 
   after_grows : (x : List ℕ) (o : Outcome) (next : Answer → State → ℕ → Outcome) → IsBeginning x (text_of own o) → ((a : Answer) (s : State) (n : ℕ) → IsBeginning (text_asked own s.asked) (text_of own (next a s n))) → IsBeginning x (text_of own (after o next))
   after_grows x (Ended a s n) next b h = beginning-trans x (text_asked own s.asked) (text_of own (next a s n)) b (h a s n)
@@ -52,7 +52,7 @@ module _ (own : Context) where
 
   run_grows : (w : World) (go : Evaluation) → Grows go → (p : Script) (s : State) (n : ℕ) → IsBeginning (text_asked own s.asked) (text_of own (run w go p s n))
   run_grows w go h (Ret a) s n = beginning-refl (text_asked own s.asked)
-  run_grows w go h (Go t next) s n = after_grows (text_asked own s.asked) (go t s n) (λ a. run w go (next a)) (h t s n) (λ a s' m. run_grows w go h (next a) s' m)
+  run_grows w go h (Evaluate t next) s n = after_grows (text_asked own s.asked) (go t s n) (λ a. run w go (next a)) (h t s n) (λ a s' m. run_grows w go h (next a) s' m)
   run_grows w go h (See look) s n = run_grows w go h (look s.memory) s n
   run_grows w go h (Do act next) s n = run_grows w go h next (record s { memory = act s.memory }) n
   run_grows w go h (Ask q next) s n =
@@ -61,9 +61,9 @@ module _ (own : Context) where
   eval_grows : (c : Context) (w : World) (depth : ℕ) → Grows (eval c w depth)
   eval_grows c w zero t s n = beginning-refl (text_asked own s.asked)
   eval_grows c w (suc depth) t s zero = beginning-refl (text_asked own s.asked)
-  eval_grows c w (suc depth) t s (suc n) = run_grows w (eval c w depth) (eval_grows c w depth) (rule c t) s n
+  eval_grows c w (suc depth) t s (suc n) = run_grows w (eval c w depth) (eval_grows c w depth) (part_rule c t) s n
 
-  meaning_grows : (c : Code) → Grows (means c)
+  meaning_grows : (c : Code) → Grows (evaluates c)
   meaning_grows c t s n = eval_grows c.context c.world n t s n
 
   unwind_grows : (x : List ℕ) (c : Code) (fs : List Frame) (held : List Ref) (o : Outcome) → IsBeginning x (text_of own o) → IsBeginning x (text_of own (unwind c fs held o))
@@ -72,15 +72,15 @@ module _ (own : Context) where
   unwind_grows x c [] held (Waits s) b = b
   unwind_grows x c (f ∷ fs) held o b =
       let next = λ (a : Answer). runs_in c (resumed c f (stand_of f held) a) in
-      unwind_grows x c fs (below_of f held) (after o next) (after_grows x o next b (λ a s n. run_grows c.world (means c) (meaning_grows c) (resumed c f (stand_of f held) a) s n))
+      unwind_grows x c fs (below_of f held) (after o next) (after_grows x o next b (λ a s n. run_grows c.world (evaluates c) (meaning_grows c) (resumed c f (stand_of f held) a) s n))
 
   start_grows : (c : Code) (k : Control) (s : State) (n : ℕ) → IsBeginning (text_asked own s.asked) (text_of own (start c k s n))
-  start_grows c (Enter part) s n = meaning_grows c (tree_at c.nodes part) s n
-  start_grows c (Operate op a b) s n = meaning_grows c (binary op (tree_at c.nodes a) (tree_at c.nodes b)) s n
+  start_grows c (Enter part) s n = meaning_grows c (TreePart (tree_at c.nodes part)) s n
+  start_grows c (Operate op a b) s n = meaning_grows c (TreePart (binary op (tree_at c.nodes a) (tree_at c.nodes b))) s n
   start_grows c (Give a) s n = beginning-refl (text_asked own s.asked)
-  start_grows c (Throw e) s n = run_grows c.world (means c) (meaning_grows c) (throw c.context e) s n
-  start_grows c (Raise class message) s n = run_grows c.world (means c) (meaning_grows c) (raise class message) s n
-  start_grows c (RaiseValue v message) s n = run_grows c.world (means c) (meaning_grows c) (raise_value c.context v message) s n
+  start_grows c (Throw e) s n = run_grows c.world (evaluates c) (meaning_grows c) (throw c.context e) s n
+  start_grows c (Raise class message) s n = run_grows c.world (evaluates c) (meaning_grows c) (raise class message) s n
+  start_grows c (RaiseValue v message) s n = run_grows c.world (evaluates c) (meaning_grows c) (raise_value c.context v message) s n
 
   -- what is still to be done prints behind what was printed
   pub remaining_grows : (p : Program) (m : View) (t : Table) (h : Course) → IsBeginning (text_asked own h.asked) (text_of own (remaining p m t h))
@@ -93,4 +93,4 @@ module _ (own : Context) where
       let more = record (state_of p m t h) { asked = h.asked ++ q ∷ [] } in
       let next = λ (r : Response) (u : State). runs_in c (settled (context_of p) r) u m.left in
       unwind_grows (text_asked own more.asked) c (reverse m.frames) m.held (taken (h.world h.asked q t) more next)
-      (taken_grows (text_asked own more.asked) (h.world h.asked q t) more next (beginning-refl (text_asked own more.asked)) (λ r u. run_grows h.world (means c) (meaning_grows c) (settled (context_of p) r) u m.left))
+      (taken_grows (text_asked own more.asked) (h.world h.asked q t) more next (beginning-refl (text_asked own more.asked)) (λ r u. run_grows h.world (evaluates c) (meaning_grows c) (settled (context_of p) r) u m.left))

@@ -5,7 +5,7 @@ use Rattle.rr_space.specs.declared.refer.Ref.{Ref}
 use Rattle.rr_tree.specs.Tree.{tree_at}
 use Rattle.rr_eval.specs.declared.problem.Answer.{Answer}
 use Rattle.rr_eval.specs.declared.frame.Frame.{Frame}
-use Rattle.rr_eval.specs.declared.frame.Frame.TheVariants.{Left, Argument, Key, Value}
+use Rattle.rr_eval.specs.declared.frame.Frame.TheVariants.{Left, Argument, Key, Value, Round, Turned}
 use Rattle.rr_eval.specs.declared.frame.Control.TheVariants.{Enter, Give}
 use Rattle.rr_eval.specs.Script.{State, Ret, Go, Outcome, Ended, Spent, Waits, after}
 use Rattle.rr_eval.specs.Rules.{values, finish}
@@ -45,6 +45,14 @@ asking_frame c fs (Value e k b) held o new =
     ap (λ h. unwind c (reverse fs) h (after o (λ a. runs_in c (resumed c (Value e k b) [] a)))) (sym (take_all b held (omega arith)))
     ∙ ap (λ h. unwind c (reverse fs) (take b held) (after o (λ a. runs_in c (resumed c (Value e k b) h a)))) (sym (drop_all b held (omega arith)))
     ∙ sym (rest_push c fs (Value e k b) held o)
+asking_frame c fs (Round i) held o new =
+    ap (λ h. unwind c (reverse fs) h (after o (λ a. runs_in c (resumed c (Round i) [] a)))) (sym (take_all i.base held (omega arith)))
+    ∙ ap (λ h. unwind c (reverse fs) (take i.base held) (after o (λ a. runs_in c (resumed c (Round i) h a)))) (sym (drop_all i.base held (omega arith)))
+    ∙ sym (rest_push c fs (Round i) held o)
+asking_frame c fs (Turned i) held o new =
+    ap (λ h. unwind c (reverse fs) h (after o (λ a. runs_in c (resumed c (Turned i) [] a)))) (sym (take_all i.base held (omega arith)))
+    ∙ ap (λ h. unwind c (reverse fs) (take i.base held) (after o (λ a. runs_in c (resumed c (Turned i) h a)))) (sym (drop_all i.base held (omega arith)))
+    ∙ sym (rest_push c fs (Turned i) held o)
 asking_frame c fs (Left op b) held o new = sym (rest_push c fs (Left op b) held o)
 asking_frame c fs f held o new = sym (rest_push c fs f held o)
 
@@ -67,6 +75,8 @@ pub nested_new : (fs : List Frame) (f : Frame) (held : List Ref) → IsNew f (le
 nested_new fs (Argument target e k b) held new nested = nested_push fs (Argument target e k b) held (omega arith) (subst (λ h. Nested (reverse fs) h) (sym (take_all b held (omega arith))) nested)
 nested_new fs (Key x e k b) held new nested = nested_push fs (Key x e k b) held (omega arith) (subst (λ h. Nested (reverse fs) h) (sym (take_all b held (omega arith))) nested)
 nested_new fs (Value e k b) held new nested = nested_push fs (Value e k b) held (omega arith) (subst (λ h. Nested (reverse fs) h) (sym (take_all b held (omega arith))) nested)
+nested_new fs (Round i) held new nested = nested_push fs (Round i) held (omega arith) (subst (λ h. Nested (reverse fs) h) (sym (take_all i.base held (omega arith))) nested)
+nested_new fs (Turned i) held new nested = nested_push fs (Turned i) held (omega arith) (subst (λ h. Nested (reverse fs) h) (sym (take_all i.base held (omega arith))) nested)
 nested_new fs (Left op b) held new nested = nested_push fs (Left op b) held (omega arith) nested
 nested_new fs f held new nested = nested_push fs f held (omega arith) nested
 

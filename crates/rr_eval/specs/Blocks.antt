@@ -76,11 +76,15 @@ abbrev pub left_by : Entry → Answer → Script
 left_by (OfMethod takes) = back
 left_by (OfBlock home) = past
 
--- a body in a frame of its own, where there may be one more, whose parameters have these values and whose other variables are nil
-abbrev pub framed : Context → Entry → ℕ → ℕ → List Ref → Option Tree → Tree → Stack → Script
-framed c entry parameters size vs b body s =
-    if nat_lt (length s.frames) s.limit then Do (with_frame (record { variables = laid parameters size vs; activation = activation_in entry s.frames }) b) (Go body (left_by entry))
+-- goes on in a frame more, where there may be one, whose parameters have these values and whose other variables are nil
+abbrev pub opened : Context → Entry → ℕ → ℕ → List Ref → Option Tree → Stack → Script → Script
+opened c entry parameters size vs b s next =
+    if nat_lt (length s.frames) s.limit then Do (with_frame (record { variables = laid parameters size vs; activation = activation_in entry s.frames }) b) next
     else throw c (BuiltIn TooDeep)
+
+-- a body in a frame of its own
+abbrev pub framed : Context → Entry → ℕ → ℕ → List Ref → Option Tree → Tree → Stack → Script
+framed c entry parameters size vs b body s = opened c entry parameters size vs b s (Go body (left_by entry))
 
 -- a method's statements
 abbrev pub entered : Context → Method → Option Tree → List Ref → Stack → Script

@@ -13,12 +13,14 @@ use Rattle.rr_eval.specs.declared.problem.Answer.{Answer}
 use Rattle.rr_eval.specs.declared.problem.Answer.TheVariants.{Gave, Broke, Done}
 use Rattle.rr_eval.specs.declared.frame.Frame.{Frame}
 use Rattle.rr_eval.specs.declared.frame.Trial.{Trial}
-use Rattle.rr_eval.specs.declared.frame.Frame.TheVariants.{Not, Negation, And, Or, Left, Right, Store, Branch, Condition, Body, Break, Next, Return, Back, Past, Rest, Argument, Key, Value, Element, Rescue, Class, Handling, Ensure, Kept}
+use Rattle.rr_eval.specs.declared.frame.Frame.TheVariants.{Not, Negation, And, Or, Left, Right, Store, Branch, Condition, Body, Break, Next, Return, Back, Past, Rest, Argument, Key, Value, Element, Rescue, Class, Handling, Ensure, Kept, Round, Turned}
 use Rattle.rr_eval.specs.declared.frame.Control.{Control}
 use Rattle.rr_eval.specs.declared.frame.Control.TheVariants.{Enter, Operate, Give, Throw, Raise, RaiseValue}
-use Rattle.rr_eval.specs.Script.{State, Script, Ret, Go, World, Evaluation, Outcome, Ended, run, after}
+use Rattle.rr_eval.specs.declared.iterating.Iterating.{Iterating}
+use Rattle.rr_eval.specs.Iterating.{continued, turned}
+use Rattle.rr_eval.specs.Script.{State, Iterated, Script, Ret, Go, World, Evaluation, Outcome, Ended, run, after}
 use Rattle.rr_builtin.specs.Objects.{is_truthy}
-use Rattle.rr_eval.specs.Rules.{Context, throw, raise, on_value, with_value, in_loop, turn_rule, operation, negation, write, statements, values, pair_parts, finish, back, past, return_rule, concluded, meaning}
+use Rattle.rr_eval.specs.Rules.{Context, throw, raise, on_value, with_value, in_loop, turn_rule, operation, negation, write, statements, values, pair_parts, finish, back, past, return_rule, concluded, meaning_of, meaning}
 use Rattle.rr_eval.specs.Raising.{raise_value}
 use Rattle.rr_eval.specs.Rescuing.{taken_by, restored, fitted, tried_classes, tried, rescue_rule, ensure_rule}
 use Rattle.rr_tree.specs.Nodes.{trees_before}
@@ -29,12 +31,19 @@ pub record Code : Type 0 where
   pub context : Context
   pub world : World
 
--- what trees and scripts of a program do
-abbrev pub means : Code → Evaluation
+-- what parts, trees and scripts of a program do
+abbrev pub evaluates : Code → Evaluation
+evaluates c = meaning_of c.context c.world
+
+abbrev pub means : Code → Tree → State → ℕ → Outcome
 means c = meaning c.context c.world
 
 abbrev pub runs_in : Code → Script → State → ℕ → Outcome
-runs_in c = run c.world (means c)
+runs_in c = run c.world (evaluates c)
+
+-- an iteration of a program, by the values that stand for it
+abbrev pub iterated : Code → Iterating → List Ref → Iterated
+iterated c i stand = record { visits = i.visits; stand = stand; block = tree_at c.nodes i.block }
 
 -- a class of a clause: the clause takes the exception, or what stands behind the class is tried
 abbrev pub taker : Code → Trial → Script
@@ -70,6 +79,8 @@ resumed c (Class r) stand = on_value (λ v. fitted c.context r.exception v (take
 resumed c (Handling old) stand = restored old
 resumed c (Ensure part) stand = ensure_rule (tree_at c.nodes part)
 resumed c (Kept a) stand = on_value (λ v. Ret a)
+resumed c (Round i) stand = turned c.context (iterated c i stand)
+resumed c (Turned i) stand = on_value (λ v. continued c.context (iterated c i stand))
 
 -- the frame that waits for the answer of a body that has a frame of its own
 abbrev pub waits_for : Entry → Frame
@@ -81,12 +92,16 @@ abbrev pub stand_of : Frame → List Ref → List Ref
 stand_of (Argument target end count base) held = drop base held
 stand_of (Key next end count base) held = drop base held
 stand_of (Value end count base) held = drop base held
+stand_of (Round i) held = drop i.base held
+stand_of (Turned i) held = drop i.base held
 stand_of _ held = []
 
 abbrev pub below_of : Frame → List Ref → List Ref
 below_of (Argument target end count base) held = take base held
 below_of (Key next end count base) held = take base held
 below_of (Value end count base) held = take base held
+below_of (Round i) held = take i.base held
+below_of (Turned i) held = take i.base held
 below_of _ held = held
 
 -- a new frame has no values yet
@@ -94,6 +109,8 @@ abbrev pub IsNew : Frame → ℕ → Type 0
 IsNew (Argument target end count base) n = base ≡ n
 IsNew (Key next end count base) n = base ≡ n
 IsNew (Value end count base) n = base ≡ n
+IsNew (Round i) n = i.base ≡ n
+IsNew (Turned i) n = i.base ≡ n
 IsNew _ n = Unit {0}
 
 -- what the frames, the topmost first, do with an outcome, and what comes after all of them
@@ -106,6 +123,8 @@ abbrev pub base_of : Frame → ℕ
 base_of (Argument target end count base) = base
 base_of (Key next end count base) = base
 base_of (Value end count base) = base
+base_of (Round i) = i.base
+base_of (Turned i) = i.base
 base_of _ = 0
 
 -- each frame's values begin within those that its upper frames leave
@@ -126,6 +145,8 @@ IsRareFrame (Class r) = Unit {0}
 IsRareFrame (Handling old) = Unit {0}
 IsRareFrame (Ensure part) = Unit {0}
 IsRareFrame (Kept a) = Unit {0}
+IsRareFrame (Round i) = Unit {0}
+IsRareFrame (Turned i) = Unit {0}
 IsRareFrame _ = ⊥
 
 -- what comes first

@@ -18,6 +18,7 @@ pub mod Awaited
 pub mod Variables
 pub mod Basics
 pub mod Blocks
+pub mod Iterating
 pub mod Raising
 pub mod Rescuing
 pub mod Rules

@@ -11,7 +11,7 @@ use Rattle.rr_base.specs.ClassNames.{class_named}
 use Rattle.rr_builtin.specs.Objects.{is_truthy}
 use Rattle.rr_eval.specs.declared.call.Callee.TheVariants as callees
 use Rattle.rr_eval.specs.declared.call.Target.{Target}
-use Rattle.rr_eval.specs.declared.call.Target.TheVariants.{Do as DoTarget, Call, Own, Yield, Raise}
+use Rattle.rr_eval.specs.declared.call.Target.TheVariants.{Do as DoTarget, Call, Own, Yield, Raise, Iterate}
 use Rattle.rr_eval.specs.declared.call.Task.{Task}
 use Rattle.rr_eval.specs.declared.call.Task.TheVariants.{MakeArray, MakeText, MakeHash}
 use Rattle.rr_eval.specs.declared.problem.Answer.{Answer}
@@ -24,7 +24,11 @@ use Rattle.rr_eval.specs.declared.call_stack.Entry.TheVariants.{OfMethod}
 use Rattle.rr_eval.specs.declared.call_stack.Variable.{Variable}
 use Rattle.rr_eval.specs.Variables.{read_variable}
 use Rattle.rr_eval.specs.Methods.{Method, own_method, definitions_of, are_methods}
-use Rattle.rr_eval.specs.Script.{State, Script, Ret, Go, See, Ask, Does, Memory, World, Outcome, Ended, Spent, Waits, Evaluation, run}
+use Rattle.rr_eval.specs.Script.{State, Script, Ret, Go, See, Ask, Does, Part, TreePart, TurnPart, Memory, World, Outcome, Ended, Spent, Waits, Evaluation, run}
+use Rattle.rr_builtin.specs.Iterations.{iteration_named}
+use Rattle.rr_builtin.specs.declared.iterations.Iteration.{Iteration}
+use Rattle.rr_eval.specs.declared.iterating.Visits.TheVariants.{Forever}
+use Rattle.rr_eval.specs.Iterating.{continued, turned, body_in, iteration_rule, is_loop}
 use Rattle.rr_eval.specs.Values.{goes_on}
 use Rattle.rr_eval.specs.Operators.{make}
 use Rattle.rr_eval.specs.Tasks.{task_named}
@@ -37,7 +41,7 @@ use Rattle.rr_base.specs.declared.name.TheConstants.ClassId.{OBJECT, RACTOR}
 use Rattle.rr_tree.specs.declared.node.Path.TheVariants.{Plain}
 pub use Rattle.rr_eval.specs.Context.{Context}
 pub use Rattle.rr_eval.specs.Basics.{items, on_value, with_value, read, write, raise, throw, settled, send_to, operation, negation, on_table, statements, values, variable_of, not_here}
-pub use Rattle.rr_eval.specs.Blocks.{running, with_frame, without_frame, returned, back, passed, past, left_by, framed, entered, called, yield_to, yield_rule, given_rule, is_outside, return_rule, activation_in}
+pub use Rattle.rr_eval.specs.Blocks.{running, with_frame, without_frame, returned, back, passed, past, left_by, opened, framed, entered, called, yield_to, yield_rule, given_rule, is_outside, return_rule, activation_in}
 
 -- the key and the value of a pair; any other part of a hash stands for both
 abbrev pub key_part : Tree → Tree
@@ -69,7 +73,8 @@ own_rule c x None b vs = throw c (MissingMethod (callees.Name x) (Instance OBJEC
 own_rule c x (Some m) b vs = if nat_eq (length vs) m.parameters then See (λ k. entered c m b vs k.calls) else throw c (BuiltIn (Count (length vs) m.parameters m.parameters))
 
 -- what is done with values: they are printed or put into an array, a text or a hash, or the first of them is sent the others, or a method of
--- the program is called with them, with a block or without one, or they are given to a block, or they say what is raised
+-- the program is called with them, with a block or without one, or they are given to a block, or they say what is raised, or the first of them is the receiver
+-- of an iteration
 abbrev pub finish : Context → Target → List Ref → Script
 finish c (DoTarget task) vs = See (λ m. Ask (Does task vs m.table) (settled c))
 finish c (Call callee) [] = Ret (Gave Nil)
@@ -77,6 +82,7 @@ finish c (Call callee) (v ∷ vs) = send_to c callee v vs
 finish c (Own x b) vs = own_rule c x (own_method c.program x.0) (option_map (tree_at c.program.nodes.items) b) vs
 finish c Yield vs = yield_rule c vs
 finish c Raise vs = raise_rule c vs
+finish c (Iterate x b) vs = iteration_rule c x (tree_at c.program.nodes.items b) vs
 
 -- what a name prints by: `puts`, `p` and `print`
 abbrev pub printing : Context → ℕ → Option Task
@@ -89,6 +95,10 @@ raises c x = is_raise (slice_index_or c.symbols x [])
 -- whether a name is `block_given?`
 abbrev pub asks_block : Context → ℕ → Bool
 asks_block c x = is_block_given (slice_index_or c.symbols x [])
+
+-- whether a name is `loop`
+abbrev pub loops : Context → ℕ → Bool
+loops c x = is_loop (slice_index_or c.symbols x [])
 
 -- whether a name is that of a method of `self` that is not evaluated yet
 abbrev pub awaited : Context → ℕ → Bool
@@ -116,13 +126,20 @@ call_rule c None None true later x ts = values ts [] (finish c Raise)
 call_rule c None None false true x ts = not_here c
 call_rule c None None false false x ts = values ts [] (finish c (Own x None))
 
--- A call with a block, of a method of the program. No other call takes a block yet.
-abbrev pub block_call_rule : Context → Option Method → Sym → List Tree → Tree → Script
-block_call_rule c (Some m) x ts b = values ts [] (own_rule c x (own_method c.program x.0) (Some b))
-block_call_rule c None x ts b = not_here c
+-- A call with a block, of a method of the program or of `loop`. No other call without a receiver takes a block yet.
+abbrev pub block_call_rule : Context → Option Method → Bool → Sym → List Tree → Tree → Script
+block_call_rule c (Some m) loop x ts b = values ts [] (own_rule c x (own_method c.program x.0) (Some b))
+block_call_rule c None true x [] b = continued c (record { visits = Forever; stand = []; block = b })
+block_call_rule c None loop x ts b = not_here c
+
+-- A call with a block and a receiver: of an iteration.
+abbrev pub block_send_rule : Context → Option Iteration → Tree → Sym → List Tree → Tree → Script
+block_send_rule c (Some i) a x ts b = values (a ∷ ts) [] (iteration_rule c x b)
+block_send_rule c None a x ts b = not_here c
 
 abbrev pub block_rule : Context → Tree → Tree → Script
-block_rule c (call x list) b = block_call_rule c (own_method c.program x) (record { 0 = x }) (items list) b
+block_rule c (call x list) b = block_call_rule c (own_method c.program x) (loops c x) (record { 0 = x }) (items list) b
+block_rule c (send a x list) b = block_send_rule c (iteration_named (slice_index_or c.symbols x [])) a (record { 0 = x }) (items list) b
 block_rule c t b = not_here c
 
 -- `a op= b` is `a = a op b`
@@ -201,15 +218,24 @@ rule c (rescue a list b) = Go a (rescue_rule c (items list) b)
 rule c (ensure a b) = Go a (ensure_rule b)
 rule c _ = not_here c
 
+-- The rule of each part. A turn of an iteration is a call of its block, and then what is ahead.
+abbrev pub part_rule : Context → Part → Script
+part_rule c (TreePart t) = rule c t
+part_rule c (TurnPart i) = Go (body_in i.block) (turned c i)
+
 -- evaluations not deeper than `depth`, each of them one step
 abbrev pub eval : Context → World → ℕ → Evaluation
-eval c w zero t s n = Spent s
-eval c w (suc depth) t s zero = Spent s
-eval c w (suc depth) t s (suc n) = run w (eval c w depth) (rule c t) s n
+eval c w zero part s n = Spent s
+eval c w (suc depth) part s zero = Spent s
+eval c w (suc depth) part s (suc n) = run w (eval c w depth) (part_rule c part) s n
 
--- what a tree does in a state with n steps to spend: no evaluation goes deeper than its steps
-abbrev pub meaning : Context → World → Evaluation
-meaning c w t s n = eval c w n t s n
+-- what a part does in a state with n steps to spend: no evaluation goes deeper than its steps
+abbrev pub meaning_of : Context → World → Evaluation
+meaning_of c w part s n = eval c w n part s n
+
+-- what a tree does
+abbrev pub meaning : Context → World → Tree → State → ℕ → Outcome
+meaning c w t s n = meaning_of c w (TreePart t) s n
 
 -- a `return` outside of methods ends the program
 abbrev pub concluded : Outcome → Outcome
@@ -218,12 +244,12 @@ concluded (Spent s) = Spent s
 concluded (Waits s) = Waits s
 
 -- what the statements of a program do, where it defines methods alone: no class is evaluated yet
-abbrev pub statements_of : Context → World → Bool → Evaluation
+abbrev pub statements_of : Context → World → Bool → Tree → State → ℕ → Outcome
 statements_of c w true t s n = meaning c w t s n
-statements_of c w false t s n = run w (meaning c w) (not_here c) s n
+statements_of c w false t s n = run w (meaning_of c w) (not_here c) s n
 
 -- what a program does
-abbrev pub begun : Context → World → Evaluation
+abbrev pub begun : Context → World → Tree → State → ℕ → Outcome
 begun c w t s n = concluded (statements_of c w (are_methods (definitions_of c.program)) t s n)
 
 -- the frame of a program, whose variables are unset

@@ -6,6 +6,7 @@ use Rattle.rr_space.specs.declared.refer.Ref.{Ref}
 use Rattle.rr_tree.specs.Tree.{Tree}
 use Rattle.rr_eval.specs.declared.call.Callee.{Callee}
 use Rattle.rr_eval.specs.declared.call.Task.{Task}
+use Rattle.rr_eval.specs.declared.iterating.Visits.{Visits}
 use Rattle.rr_eval.specs.declared.problem.Answer.{Answer}
 use Rattle.rr_eval.specs.declared.problem.Response.{Response}
 
@@ -37,14 +38,29 @@ pub record State : Type 0 where
   pub memory : Memory
   pub asked : List Asked
 
--- a rule: it answers, or evaluates a tree and goes on with its answer, or looks at the memory and goes on, or changes the
+-- An iteration that runs: what it still visits, its receiver and the other values that stand for it, and its block.
+pub record Iterated : Type 0 where
+  pub visits : Visits
+  pub stand : List Ref
+  pub block : Tree
+
+-- what is evaluated: a tree, or a turn of an iteration, which is a call of its block with all that follows
+pub data Part : Type 0 where
+  TreePart : (tree : Tree) → Part
+  TurnPart : (iteration : Iterated) → Part
+
+-- a rule: it answers, or evaluates a part and goes on with its answer, or looks at the memory and goes on, or changes the
 -- memory and goes on, or asks and goes on with the reply
 pub data Script : Type 0 where
   Ret : Answer → Script
-  Go : Tree → (Answer → Script) → Script
+  Evaluate : Part → (Answer → Script) → Script
   See : (Memory → Script) → Script
   Do : (Memory → Memory) → Script → Script
   Ask : Asked → (Response → Script) → Script
+
+-- evaluates a tree and goes on with its answer
+abbrev pub Go : Tree → (Answer → Script) → Script
+Go tree next = Evaluate (TreePart tree) next
 
 -- how an evaluation ends: with an answer, the state and the steps that are left; out of steps; or with a request that has
 -- no reply
@@ -74,14 +90,14 @@ taken (Some r) s next = next r.response (record s { memory = record s.memory { t
 abbrev pub asks : World → Asked → State → (Response → State → Outcome) → Outcome
 asks w q s next = taken (w s.asked q s.memory.table) (record s { asked = s.asked ++ q ∷ [] }) next
 
--- what trees do in a state, with so many steps to spend
+-- what parts do in a state, with so many steps to spend
 abbrev pub Evaluation : Type 0
-Evaluation = Tree → State → ℕ → Outcome
+Evaluation = Part → State → ℕ → Outcome
 
 -- what a rule does, where `go` evaluates its parts
 abbrev pub run : World → Evaluation → Script → State → ℕ → Outcome
 run w go (Ret a) s n = Ended a s n
-run w go (Go tree next) s n = after (go tree s n) (λ a. run w go (next a))
+run w go (Evaluate part next) s n = after (go part s n) (λ a. run w go (next a))
 run w go (See look) s n = run w go (look s.memory) s n
 run w go (Do act next) s n = run w go next (record s { memory = act s.memory }) n
 run w go (Ask q next) s n = asks w q s (λ r u. run w go (next r) u n)

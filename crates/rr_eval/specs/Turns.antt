@@ -142,11 +142,16 @@ pub record Replied (p : Program) (m : View) (response : Response) : Type 0 where
   pub goes : (t u : Table) (q : Asked) (h : Course) → h.world h.asked q t ≡ Some (record { response = response; table = u }) → asking_then p m t q h ≡ remaining p (answered m response) u (asking q h)
   pub none : (t : Table) (q : Asked) (h : Course) → h.world h.asked q t ≡ None → asking_then p m t q h ≡ Waits (state_of p m t (asking q h))
 
+-- a `next` ends a turn of an iteration, whose frame then gets its value
+abbrev pub more_of : Answer → ℕ
+more_of (Done v) = 1
+more_of _ = 0
+
 -- a bound on what can be done without a step
 abbrev pub waits : Control → ℕ
 waits (Enter part) = 0
 waits (Operate op a b) = 0
-waits (Give a) = 2
+waits (Give a) = 2 + more_of a
 waits (Raise class message) = 3
 waits (Throw e) = 4
 waits (RaiseValue v message) = 4

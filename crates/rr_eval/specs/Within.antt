@@ -1,5 +1,5 @@
 -- Each reference that the machine holds leads somewhere.
-use Rattle.std.specs.Prelude.{ℕ, ◌<◌, length, List, Option, Some, None, Contains}
+use Rattle.std.specs.Prelude.{ℕ, ◌<◌, ◌++◌, length, List, Option, Some, None, Contains}
 use Rattle.std.specs.List.{All}
 use Rattle.rr_frames.specs.Frames.{Frame as Activated, list_of}
 use Rattle.rr_space.specs.Graph.{Object}
@@ -9,6 +9,8 @@ use Rattle.rr_space.specs.declared.refer.Ref.{Ref}
 use Rattle.rr_space.specs.declared.refer.Ref.TheVariants.{Local, Shared}
 use Rattle.rr_text.specs.Reads.{IsReadWith}
 use Rattle.rr_eval.specs.declared.call.Call.{Call}
+use Rattle.rr_eval.specs.declared.iterating.Ahead.{Ahead}
+use Rattle.rr_eval.specs.declared.iterating.Ahead.TheVariants.{Another, Finished}
 use Rattle.rr_eval.specs.declared.problem.Answer.{Answer}
 use Rattle.rr_eval.specs.declared.problem.Answer.TheVariants.{Gave, Raised, Broke, Done, Returned, Ends}
 use Rattle.rr_eval.specs.declared.problem.Response.{Response}
@@ -87,6 +89,11 @@ IsRequestReached k (requests.Call call) = IsCallReached k call
 abbrev pub IsAskedReached : Reach → Option Request → Type 0
 IsAskedReached k None = Unit {0}
 IsAskedReached k (Some q) = IsRequestReached k q
+
+-- what the block is given in a turn of an iteration
+abbrev pub IsAheadReached : Reach → Ahead → Type 0
+IsAheadReached k (Another first last more) = All (IsReached k) (list_of first ++ list_of last)
+IsAheadReached k Finished = Unit {0}
 
 -- what a turn, or a run, ends with
 abbrev pub IsTurnReached : Reach → Turn → Type 0

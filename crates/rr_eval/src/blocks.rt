@@ -13,7 +13,10 @@ ghost use Rattle.rr_eval.specs.Blocks.{spreads, shape_in, called, called_as, yie
 ghost use Rattle.rr_eval.specs.Frames.{below_of, base_of, stand_of, Nested};
 ghost use Rattle.rr_eval.specs.Methods.{own_method};
 ghost use Rattle.rr_eval.specs.Requests.{Course};
-ghost use Rattle.rr_eval.specs.Rules.{values, finish, block_rule, block_call_rule};
+ghost use Rattle.rr_builtin.specs.Iterations.{iteration_named};
+ghost use Rattle.rr_eval.specs.declared.iterating.Visits.{Visits};
+ghost use Rattle.rr_eval.specs.Iterating.{continued};
+ghost use Rattle.rr_eval.specs.Rules.{values, finish, loops, block_rule, block_call_rule, block_send_rule};
 ghost use Rattle.rr_eval.specs.Script.{Script, Do};
 ghost use Rattle.rr_eval.specs.Turns.{context_of, blocks_of, state_of, IsNested, after_script, after_values, remaining_with, Stands, size};
 ghost use Rattle.rr_eval.specs.Views.{view_of};
@@ -23,6 +26,7 @@ use crate::call::Target;
 use crate::call_stack::Entry;
 use crate::engine::Engine;
 use crate::frame::{Control, Frame, standing};
+use crate::iterating::{Iterating, Visits, is_loop};
 use crate::nodes::evaluated_node;
 use crate::prepared::Prepared;
 use crate::problem::Problem;
@@ -32,7 +36,7 @@ use rr_space::{Kind, Ref, Space};
 use rr_tree::{Node, NodeId, Program};
 
 /// How many parameters and how many variables the block at a place has, where one stands there.
-fn shape_at(program: &Program, place: NodeId) -> Option<Shape>
+pub fn shape_at(program: &Program, place: NodeId) -> Option<Shape>
     ensures { result ≡ shape_in (Some (tree_at program.now.nodes.items place)) }
 {
     match evaluated_node(program, place) {
@@ -46,7 +50,7 @@ fn shape_at(program: &Program, place: NodeId) -> Option<Shape>
 }
 
 /// Whether one array is given to several parameters.
-fn spreads(space: &Space, parameters: u32, values: &[Ref], last: Option<Ref>) -> bool
+pub fn spreads(space: &Space, parameters: u32, values: &[Ref], last: Option<Ref>) -> bool
     ensures { result ≡ spreads parameters (values.now ++ list_of last) space.now }
 {
     match (values, last) {
@@ -69,6 +73,21 @@ impl Engine {
         }
     }
 
+    /// Takes the variables of the frame that runs away, and its block.
+    #[tactic(auto, unfolding(crate::specs::Within::AreReached))]
+    #[inline(always)]
+    pub fn pop_call(&mut self)
+        ensures state { (p : Program) (t : Table) (h : Course) → record (state_of p (view_of self.old) t h) { memory = without_frame (state_of p (view_of self.old) t h).memory } ≡ state_of p (view_of self.new) t h }
+        ensures within { (k : Reach) → AreReached k (view_of self.old) → AreReached k (view_of self.new) }
+        ensures frames { self.new.frames ≡ self.old.frames }
+        ensures held { self.new.held ≡ self.old.held }
+        ensures control { self.new.control ≡ self.old.control }
+        ensures left { self.new.left ≡ self.old.left }
+    {
+        self.calls.pop();
+        self.blocks.truncate(self.blocks.len().saturating_sub(1));
+    }
+
     /// Takes the frame that runs away.
     #[tactic(auto, unfolding(crate::specs::Within::AreReached))]
     #[inline(always)]
@@ -81,8 +100,7 @@ impl Engine {
         ensures control { self.new.control ≡ self.old.control }
         ensures left { self.new.left ≡ self.old.left }
     {
-        self.calls.pop();
-        self.blocks.truncate(self.blocks.len().saturating_sub(1));
+        self.pop_call();
     }
 
     /// Calls the block at a place, which stands in the frame `home`, with the values that stand for a frame and with one more.
@@ -216,19 +234,11 @@ impl Engine {
         }
     }
 
-    /// Evaluates a call with a block of a name: of a method of the program, or of one that takes no block yet.
+    /// Evaluates a call of `loop` with a block.
     #[tactic(auto, unfolding(crate::specs::Within::AreReached))]
-    fn open_block_call(
-        &mut self,
-        prepared: &Prepared,
-        name: Sym,
-        first: NodeId,
-        count: u32,
-        block: NodeId,
-    ) -> Result<(), Fault>
-        requires small { first + count < 2 ^ 32 }
+    fn open_loop(&mut self, program: &Program, space: &Space, block: NodeId) -> Result<(), Fault>
         requires nested { IsNested (view_of self.old) }
-        ensures goes { OnOk result ((t : Table) (h : Course) (n : ℕ) → after_script prepared.now.program (view_of self.old) t (block_call_rule (context_of prepared.now.program) (own_method prepared.now.program name.0) name (trees_before prepared.now.program.nodes.items (first + count) count) (tree_at prepared.now.program.nodes.items block)) h n ≡ remaining_with prepared.now.program (view_of self.new) t h n) }
+        ensures goes { OnOk result ((h : Course) (n : ℕ) → after_script program.now (view_of self.old) space.now (continued (context_of program.now) (record { visits = Visits.Forever; stand = []; block = tree_at program.now.nodes.items block })) h n ≡ remaining_with program.now (view_of self.new) space.now h n) }
         ensures nested { IsNested (view_of self.new) }
         ensures within { (k : Reach) → AreReached k (view_of self.old) → AreReached k (view_of self.new) }
         ensures left { self.new.left ≡ self.old.left }
@@ -236,8 +246,76 @@ impl Engine {
         ensures size { OnOk result (size (view_of self.new) ≤ 3 * length self.old.frames.items + 4) }
         ensures fault { IfErr result (λ f. f ≡ Fault.Memory) }
     {
-        match prepared.method(name) {
-            Some(_) => self.open_own(prepared, name, Some(block), first, count),
+        self.frames.reserve(1)?;
+        let iteration = Iterating {
+            visits: Visits::Forever,
+            block,
+            base: self.held.len(),
+        };
+        self.call_turn(program, space, iteration, None, None)
+    }
+
+    /// Evaluates a call with a block of a name: of a method of the program, of `loop`, or of one that takes no block yet.
+    #[tactic(auto, unfolding(crate::specs::Within::AreReached))]
+    fn open_block_call(
+        &mut self,
+        prepared: &Prepared,
+        space: &Space,
+        name: Sym,
+        first: NodeId,
+        count: u32,
+        block: NodeId,
+    ) -> Result<(), Fault>
+        requires small { first + count < 2 ^ 32 }
+        requires nested { IsNested (view_of self.old) }
+        ensures goes { OnOk result ((h : Course) (n : ℕ) → after_script prepared.now.program (view_of self.old) space.now (block_call_rule (context_of prepared.now.program) (own_method prepared.now.program name.0) (loops (context_of prepared.now.program) name.0) name (trees_before prepared.now.program.nodes.items (first + count) count) (tree_at prepared.now.program.nodes.items block)) h n ≡ remaining_with prepared.now.program (view_of self.new) space.now h n) }
+        ensures nested { IsNested (view_of self.new) }
+        ensures within { (k : Reach) → AreReached k (view_of self.old) → AreReached k (view_of self.new) }
+        ensures left { self.new.left ≡ self.old.left }
+        ensures err { (t : Table) → IfErr result (λ f. Stands (view_of self.old) (view_of self.new) t t f) }
+        ensures size { OnOk result (size (view_of self.new) ≤ 3 * length self.old.frames.items + 4) }
+        ensures fault { IfErr result (λ f. f ≡ Fault.Memory) }
+    {
+        let loops = is_loop(prepared.program.symbol_bytes(name));
+        match (prepared.method(name), loops, count) {
+            (Some(_), _, _) => self.open_own(prepared, name, Some(block), first, count),
+            (None, true, 0) => self.open_loop(&prepared.program, space, block),
+            _ => {
+                self.control = Control::Throw(Problem::NotHere);
+                Ok(())
+            }
+        }
+    }
+
+    /// Evaluates the receiver of a call with a block, and then its arguments, where it is of an iteration. No other one takes a block yet.
+    #[tactic(auto, unfolding(crate::specs::Within::AreReached))]
+    fn open_block_send(
+        &mut self,
+        prepared: &Prepared,
+        receiver: NodeId,
+        name: Sym,
+        first: NodeId,
+        count: u32,
+        block: NodeId,
+    ) -> Result<(), Fault>
+        requires small { first + count < 2 ^ 32 }
+        requires nested { IsNested (view_of self.old) }
+        ensures goes { OnOk result ((t : Table) (h : Course) (n : ℕ) → after_script prepared.now.program (view_of self.old) t (block_send_rule (context_of prepared.now.program) (iteration_named (slice_index_or (context_of prepared.now.program).symbols name.0 [])) (tree_at prepared.now.program.nodes.items receiver) name (trees_before prepared.now.program.nodes.items (first + count) count) (tree_at prepared.now.program.nodes.items block)) h n ≡ remaining_with prepared.now.program (view_of self.new) t h n) }
+        ensures nested { IsNested (view_of self.new) }
+        ensures within { (k : Reach) → AreReached k (view_of self.old) → AreReached k (view_of self.new) }
+        ensures left { self.new.left ≡ self.old.left }
+        ensures err { (t : Table) → IfErr result (λ f. Stands (view_of self.old) (view_of self.new) t t f) }
+        ensures size { OnOk result (size (view_of self.new) ≤ 3 * length self.old.frames.items + 4) }
+        ensures fault { IfErr result (λ f. f ≡ Fault.Memory) }
+    {
+        match prepared.iteration(name) {
+            Some(_) => {
+                self.frames.reserve(1)?;
+                let target = Target::Iterate(name, block);
+                let frame = Frame::Argument(target, first + count, count, self.held.len());
+                self.enter_above(frame, receiver);
+                Ok(())
+            }
             None => {
                 self.control = Control::Throw(Problem::NotHere);
                 Ok(())
@@ -250,11 +328,12 @@ impl Engine {
     pub fn open_block(
         &mut self,
         prepared: &Prepared,
+        space: &Space,
         call: NodeId,
         block: NodeId,
     ) -> Result<(), Fault>
         requires nested { IsNested (view_of self.old) }
-        ensures goes { OnOk result ((t : Table) (h : Course) (n : ℕ) → after_script prepared.now.program (view_of self.old) t (block_rule (context_of prepared.now.program) (tree_at prepared.now.program.nodes.items call) (tree_at prepared.now.program.nodes.items block)) h n ≡ remaining_with prepared.now.program (view_of self.new) t h n) }
+        ensures goes { OnOk result ((h : Course) (n : ℕ) → after_script prepared.now.program (view_of self.old) space.now (block_rule (context_of prepared.now.program) (tree_at prepared.now.program.nodes.items call) (tree_at prepared.now.program.nodes.items block)) h n ≡ remaining_with prepared.now.program (view_of self.new) space.now h n) }
         ensures nested { IsNested (view_of self.new) }
         ensures within { (k : Reach) → AreReached k (view_of self.old) → AreReached k (view_of self.new) }
         ensures left { self.new.left ≡ self.old.left }
@@ -268,7 +347,14 @@ impl Engine {
                 first,
                 count,
                 ..
-            } => self.open_block_call(prepared, name, first, count, block),
+            } => self.open_block_call(prepared, space, name, first, count, block),
+            Node::Send {
+                receiver,
+                name,
+                first,
+                count,
+                ..
+            } => self.open_block_send(prepared, receiver, name, first, count, block),
             _ => {
                 self.control = Control::Throw(Problem::NotHere);
                 Ok(())

@@ -57,6 +57,8 @@ pub enum Target {
     Yield,
     /// They are the arguments of `raise`.
     Raise,
+    /// The first of them is the receiver of the iteration of this name, which is given the block of this node.
+    Iterate(Sym, NodeId),
 }
 
 /// Values, as the arguments of a call. No more than two of them take no memory.

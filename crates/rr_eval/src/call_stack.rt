@@ -203,6 +203,26 @@ impl CallStack {
         self.frames.push(values, last, shape, activation)
     }
 
+    /// The same with up to two values.
+    pub fn push_few(
+        &mut self,
+        first: Option<Ref>,
+        last: Option<Ref>,
+        shape: Shape,
+        entry: Entry,
+    ) -> Result<(), Fault>
+        ensures pushed { OnOk result (self.new.frames ≡ self.old.frames ++ record { variables = laid shape.parameters shape.size (list_of first ++ list_of last); activation = activation_in entry self.old.frames } ∷ []) }
+        ensures room { OnOk result (length self.old.frames < self.old.limit) }
+        ensures limit { self.new.limit ≡ self.old.limit }
+        ensures refused { OnErr result (self.new ≡ self.old) }
+        ensures fault { IfErr result (λ fault. fault ≡ (if nat_lt (length self.old.frames) self.old.limit then Fault.Memory else Fault.Limit LimitKind.Frames)) }
+    {
+        match first {
+            Some(value) => self.push(&[value], last, shape, entry),
+            None => self.push(&[], last, shape, entry),
+        }
+    }
+
     /// Takes the frame that runs away. Nothing is done where there is none.
     #[inline(always)]
     pub fn pop(&mut self)

@@ -15,7 +15,7 @@ ghost use Rattle.rr_eval.specs.Changes.{Changes};
 ghost use Rattle.rr_eval.specs.Frames.{below_of, base_of, Nested, first_tree};
 ghost use Rattle.rr_eval.specs.Rules.{ended};
 ghost use Rattle.rr_eval.specs.Nodes.{evaluated_tree, IsEvaluated, IsRareNode};
-ghost use Rattle.rr_eval.specs.Turns.{context_of, state_of, remaining, remaining_with, after_script, after_answer, continuing, IsNested, Stands, leaf_value, stop_of, Turned, size, sized, waits, power, Falls};
+ghost use Rattle.rr_eval.specs.Turns.{context_of, state_of, remaining, remaining_with, after_script, after_answer, continuing, IsNested, Stands, leaf_value, stop_of, Turned, more_of, size, sized, waits, power, Falls};
 ghost use Rattle.rr_eval.specs.Views.{view_of};
 ghost use Rattle.rr_eval.specs.Within.{Reach, reach, IsReached, IsAnswerReached, IsFrameReached, AreVariablesReached, IsAskedReached, IsTurnReached, AreReached, AreWithin, KeepsReach, KeepsRead};
 ghost use Rattle.std.specs.List.{All};
@@ -271,7 +271,7 @@ impl Engine {
         ensures given { (k : Reach) → AreReached k (view_of self.old) → IsAnswerReached k answer }
         ensures base { IfSome result (λ f. base_of f ≤ length self.new.held.items) }
         ensures room { IfSome result (λ _. length self.new.frames.items < vec_capacity self.new.frames) }
-        ensures size { IfSome result (λ _. size (view_of self.old) ≡ 3 * length self.new.frames.items + 5) }
+        ensures size { IfSome result (λ _. size (view_of self.old) ≡ 3 * length self.new.frames.items + 5 + more_of answer) }
         ensures control { self.new.control ≡ self.old.control }
         ensures left { self.new.left ≡ self.old.left }
     {

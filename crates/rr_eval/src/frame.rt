@@ -1,12 +1,13 @@
 //! What the machine has still to do.
 
-ghost use Rattle.std.specs.Prelude.{◌≡◌, ◌≤◌, length};
+ghost use Rattle.std.specs.Prelude.{◌≡◌, ◌≤◌, length, take, drop};
 ghost use Rattle.std.specs.List.{All};
 ghost use Rattle.rr_eval.specs.Frames.{base_of, stand_of, below_of};
 ghost use Rattle.rr_eval.specs.Within.{Reach, IsReached};
 
 use crate::call::Target;
 use crate::call_stack::Variable;
+use crate::iterating::Iterating;
 use crate::problem::{Answer, Problem};
 use rr_base::ClassId;
 use rr_space::Ref;
@@ -83,6 +84,10 @@ pub enum Frame {
     Ensure(NodeId),
     /// Statements that always follow, with what those before came to.
     Kept(Answer),
+    /// A turn of an iteration, whose variables go with it.
+    Round(Iterating),
+    /// An iteration whose turn has ended.
+    Turned(Iterating),
 }
 
 /// What comes next.
@@ -110,7 +115,26 @@ pub fn standing(held: &Vec<Ref>, frame: Frame) -> &[Ref]
         Frame::Argument(_, _, _, base) => &held[base..],
         Frame::Key(_, _, _, base) => &held[base..],
         Frame::Value(_, _, base) => &held[base..],
+        Frame::Round(iteration) => &held[iteration.base..],
+        Frame::Turned(iteration) => &held[iteration.base..],
         _ => &[],
+    }
+}
+
+/// Where the values begin that stand for a frame: behind all of them, where none do.
+pub fn first_standing(held: &Vec<Ref>, frame: Frame) -> usize
+    requires { base_of frame ≤ length held.now.items }
+    ensures inside { result ≤ length held.now.items }
+    ensures stand { drop result held.now.items ≡ stand_of frame held.now.items }
+    ensures below { take result held.now.items ≡ below_of frame held.now.items }
+{
+    match frame {
+        Frame::Argument(_, _, _, base) => base,
+        Frame::Key(_, _, _, base) => base,
+        Frame::Value(_, _, base) => base,
+        Frame::Round(iteration) => iteration.base,
+        Frame::Turned(iteration) => iteration.base,
+        _ => held.len(),
     }
 }
 
@@ -123,6 +147,8 @@ pub fn clear(held: &mut Vec<Ref>, frame: Frame)
         Frame::Argument(_, _, _, base) => held.truncate(base),
         Frame::Key(_, _, _, base) => held.truncate(base),
         Frame::Value(_, _, base) => held.truncate(base),
+        Frame::Round(iteration) => held.truncate(iteration.base),
+        Frame::Turned(iteration) => held.truncate(iteration.base),
         _ => (),
     }
 }

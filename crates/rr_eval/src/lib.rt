@@ -14,6 +14,8 @@ mod exception;
 mod frame;
 mod hash;
 mod invoke;
+mod iterating;
+mod iterations;
 mod leaving;
 mod machine;
 mod message;

@@ -9,8 +9,9 @@ ghost use Rattle.rr_space.specs.declared.refer.Ref.{Ref};
 ghost use Rattle.rr_tree.specs.declared.program.Program.{Program};
 ghost use Rattle.rr_tree.specs.Tree.{Tree, tree_at, listed};
 ghost use Rattle.rr_eval.specs.Acts.{Passes};
-ghost use Rattle.rr_eval.specs.Script.{State, World, Evaluation, run, Ended, Spent, objects_of};
-ghost use Rattle.rr_eval.specs.Rules.{Context, rule, throw, meaning, begun, first_memory, items};
+ghost use Rattle.rr_eval.specs.Script.{State, World, Evaluation, Iterated, TurnPart, Go, run, Ended, Spent, objects_of};
+ghost use Rattle.rr_eval.specs.Rules.{Context, rule, throw, meaning, meaning_of, begun, first_memory, items};
+ghost use Rattle.rr_eval.specs.Iterating.{body_in, turned};
 ghost use Rattle.rr_eval.specs.Requests.{Course, Adds};
 ghost use Rattle.rr_eval.specs.Exceptions.{IsTold};
 ghost use Rattle.rr_eval.specs.Thrown.{thrown, thrown_at, report};
@@ -150,10 +151,11 @@ impl Machine {
     }
 }
 
-/// Each tree does what its rule says, over what its parts do; without steps it does nothing; and a list of trees has
+/// Each tree does what its rule says, over what its parts do, and so does a turn of an iteration; without steps it does nothing; and a list of trees has
 /// these trees, in their order.
 pub fn rules_hold()
-    ensures rule { (c : Context) (w : World) (tree : Tree) (s : State) (n : ℕ) → meaning c w tree s (suc n) ≡ run w (meaning c w) (rule c tree) s n }
+    ensures rule { (c : Context) (w : World) (tree : Tree) (s : State) (n : ℕ) → meaning c w tree s (suc n) ≡ run w (meaning_of c w) (rule c tree) s n }
+    ensures turn { (c : Context) (w : World) (i : Iterated) (s : State) (n : ℕ) → meaning_of c w (TurnPart i) s (suc n) ≡ run w (meaning_of c w) (Go (body_in i.block) (turned c i)) s n }
     ensures spent { (c : Context) (w : World) (tree : Tree) (s : State) → meaning c w tree s 0 ≡ Spent s }
     ensures lists { (trees : List Tree) → items (listed trees) ≡ trees }
 {}

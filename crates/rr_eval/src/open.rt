@@ -367,7 +367,7 @@ impl Engine {
                 count,
                 ..
             } => self.open_call(prepared, name, first, count),
-            Node::WithBlock(call, block) => match self.open_block(prepared, call, block) {
+            Node::WithBlock(call, block) => match self.open_block(prepared, space, call, block) {
                 Ok(()) => Ok(None),
                 Err(fault) => Err(fault),
             },

@@ -13,7 +13,7 @@ ghost use Rattle.rr_eval.specs.Rules.{in_loop, back, past};
 ghost use Rattle.rr_eval.specs.Script.{Script, Ret, Go};
 ghost use Rattle.rr_eval.specs.Requests.{Course};
 ghost use Rattle.rr_eval.specs.Frames.{below_of, base_of, Nested};
-ghost use Rattle.rr_eval.specs.Turns.{context_of, remaining, IsNested, after_script, after_answer, remaining_with, size};
+ghost use Rattle.rr_eval.specs.Turns.{context_of, remaining, IsNested, after_script, after_answer, remaining_with, more_of, size};
 ghost use Rattle.rr_eval.specs.Views.{view_of};
 ghost use Rattle.rr_eval.specs.Within.{Reach, IsAnswerReached, IsFrameReached, AreReached};
 
@@ -34,7 +34,7 @@ impl Engine {
         ensures nested { IsNested (view_of self.new) }
         ensures within { (k : Reach) → AreReached k (view_of self.old) → IsAnswerReached k answer → AreReached k (view_of self.new) }
         ensures left { self.new.left ≡ self.old.left }
-        ensures size { size (view_of self.new) ≤ 3 * length self.old.frames.items + 2 }
+        ensures size { size (view_of self.new) ≤ 3 * length self.old.frames.items + 2 + more_of answer }
     {
         match answer {
             Answer::Broke(value) => self.control = Control::Give(Answer::Gave(value)),
@@ -90,7 +90,7 @@ impl Engine {
         ensures nested { IsNested (view_of self.new) }
         ensures within { (k : Reach) → AreReached k (view_of self.old) → IsAnswerReached k answer → AreReached k (view_of self.new) }
         ensures left { self.new.left ≡ self.old.left }
-        ensures size { size (view_of self.new) ≤ 3 * length self.old.frames.items + 4 }
+        ensures size { size (view_of self.new) ≤ 3 * length self.old.frames.items + 4 + more_of answer }
     {
         match answer {
             Answer::Raised(exception) => self.try_clauses(program, space, exception, end, count),
@@ -112,7 +112,7 @@ impl Engine {
         ensures nested { IsNested (view_of self.new) }
         ensures within { (k : Reach) → AreReached k (view_of self.old) → IsFrameReached k frame → IsAnswerReached k answer → AreReached k (view_of self.new) }
         ensures left { self.new.left ≡ self.old.left }
-        ensures size { size (view_of self.new) ≤ 3 * length self.old.frames.items + 4 }
+        ensures size { size (view_of self.new) ≤ 3 * length self.old.frames.items + 4 + more_of answer }
     {
         match frame {
             Frame::Back => self.leave_back(answer),
@@ -122,6 +122,7 @@ impl Engine {
             Frame::Rescue(end, count, _) => self.leave_rescued(program, space, end, count, answer),
             Frame::Handling(old) => self.rescuing = old,
             Frame::Ensure(part) => self.enter_above(Frame::Kept(answer), part),
+            Frame::Round(iteration) => self.leave_round(program, space, iteration, answer),
             _ => clear(&mut self.held, frame),
         }
     }

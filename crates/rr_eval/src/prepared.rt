@@ -1,13 +1,16 @@
 //! Programs that are ready to run.
 
-ghost use Rattle.std.specs.Prelude.{◌≡◌, ℕ, None, Some, OnOk, IfOk, if◌then◌else◌, nat_eq, slice_index_or};
+ghost use Rattle.std.specs.Prelude.{◌≡◌, ℕ, [], map, None, Some, OnOk, IfOk, if◌then◌else◌, nat_eq, slice_index_or};
 ghost use Rattle.std.specs.Option.{option_map};
 ghost use Rattle.rr_tree.specs.Tree.{tree_at};
 ghost use Rattle.rr_eval.specs.Methods.{method_in, method_at, are_methods, definitions_of, own_method};
+ghost use Rattle.rr_builtin.specs.Iterations.{iteration_named};
 ghost use Rattle.rr_eval.specs.Prepared.{method_of, FindsMethods};
+ghost use Rattle.rr_eval.specs.Turns.{context_of};
 
 use crate::nodes::evaluated_node;
 use rr_base::Sym;
+use rr_builtin::{Iteration, Iterations, iterations_have_names};
 use rr_frames::Shape;
 use rr_tree::{Node, NodeId, Program};
 use std::alloc::{AllocError, Global};
@@ -28,7 +31,10 @@ pub struct Prepared {
     pub(crate) simple: bool,
     /// Where the methods stand among the definitions, by the numbers of their names.
     places: Vec<Option<usize>>,
+    /// The iterations, by the numbers of their names.
+    pub(crate) iterations: Iterations,
     ghost plain: { simple ≡ are_methods (definitions_of program) },
+    ghost iterates: { iterations ≡ map (λ s. iteration_named s.items) program.symbols.items },
     ghost finds: { FindsMethods program places.items },
 }
 
@@ -97,10 +103,12 @@ impl Prepared {
     {
         let places = places_of(alloc, &program)?;
         let simple = are_methods(&program);
+        let iterations = Iterations::of(alloc, &program)?;
         Ok(Prepared {
             program,
             simple,
             places,
+            iterations,
         })
     }
 
@@ -124,6 +132,14 @@ impl Prepared {
             Some(node) => definition_at(&self.program, *node),
             None => None,
         }
+    }
+
+    /// The iteration of a name.
+    pub(crate) fn iteration(&self, name: Sym) -> Option<Iteration>
+        ensures { result ≡ iteration_named (slice_index_or (context_of self.now.program).symbols name.0 []) }
+    {
+        iterations_have_names();
+        self.iterations.find(name)
     }
 
     /// The method of a name.

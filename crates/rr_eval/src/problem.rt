@@ -3,6 +3,7 @@
 ghost use Rattle.std.specs.Prelude.{◌≡◌};
 ghost use Rattle.rr_eval.specs.Blocks.{returned, passed};
 ghost use Rattle.rr_eval.specs.Rules.{ended};
+ghost use Rattle.rr_eval.specs.Turns.{more_of};
 ghost use Rattle.rr_eval.specs.Within.{Reach, IsAnswerReached};
 
 use crate::call::Callee;
@@ -77,6 +78,7 @@ pub fn ended(answer: Answer) -> Answer
 /// What a method ends with, whose frame has the number and whose statements end so.
 pub fn returned(number: u32, answer: Answer) -> Answer
     ensures is { result ≡ returned number answer }
+    ensures plain { more_of result ≡ 0 }
     ensures within { (k : Reach) → IsAnswerReached k answer → IsAnswerReached k result }
 {
     match answer {
@@ -99,6 +101,7 @@ pub fn returned(number: u32, answer: Answer) -> Answer
 /// block, and `root` that of the method in which the block stands.
 pub fn passed(owner: u32, root: u32, answer: Answer) -> Answer
     ensures is { result ≡ passed owner root answer }
+    ensures plain { more_of result ≡ 0 }
     ensures within { (k : Reach) → IsAnswerReached k answer → IsAnswerReached k result }
 {
     match answer {

@@ -7,6 +7,7 @@ ghost use Rattle.rr_tree.specs.declared.program.Program.{Program};
 ghost use Rattle.rr_eval.specs.declared.problem.Answer.{Answer};
 ghost use Rattle.rr_eval.specs.declared.frame.Control.{Control};
 ghost use Rattle.rr_eval.specs.declared.frame.Frame.{Frame};
+ghost use Rattle.rr_eval.specs.declared.iterating.Iterating.{Iterating};
 ghost use Rattle.rr_eval.specs.Context.{Context};
 ghost use Rattle.rr_eval.specs.Rules.{operation, negation, finish, back, past, return_rule};
 ghost use Rattle.rr_eval.specs.Requests.{Course, arguments_of};
@@ -197,7 +198,9 @@ impl Engine {
             | Frame::Class(_)
             | Frame::Handling(_)
             | Frame::Ensure(_)
-            | Frame::Kept(_) => false,
+            | Frame::Kept(_)
+            | Frame::Round(_)
+            | Frame::Turned(_) => false,
         }
     }
 
@@ -363,6 +366,12 @@ impl Engine {
                 self.finish_raise(frame, value);
                 Ok(None)
             }
+            Target::Iterate(name, block) => {
+                match self.iterate(prepared, space, name, block, frame, value) {
+                    Ok(()) => Ok(None),
+                    Err(fault) => Err(fault),
+                }
+            }
         }
     }
 
@@ -414,6 +423,7 @@ impl Engine {
         requires base { base_of frame ≤ length self.old.held.items }
         requires nested { Nested (reverse self.old.frames.items) (below_of frame self.old.held.items) }
         requires rare { IsRareFrame frame }
+        requires inside { (i : Iterating) → frame ≡ Frame.Round i → ⊥ }
         ensures goes { IfOk result (λ q. (h : Course) (n : ℕ) → after_answer prepared.now.program (view_of self.old) space.now frame (Answer.Gave value) h n ≡ continuing prepared.now.program (view_of self.new) space.now q h n) }
         ensures nested { OnOk result (IsNested (view_of self.new)) }
         ensures within { (k : Reach) → AreReached k (view_of self.old) → IsFrameReached k frame → IsReached k value → AreReached k (view_of self.new) }
@@ -456,12 +466,52 @@ impl Engine {
                 self.control = Control::Give(answer);
                 Ok(None)
             }
+            Frame::Turned(iteration) => {
+                match self.go_on(&prepared.program, space, iteration) {
+                    Ok(()) => Ok(None),
+                    Err(fault) => Err(fault),
+                }
+            }
             _ => unreachable!(),
         }
     }
 
     /// Does what a frame, which is taken off the stack, does with a value, where that needs the objects or memory. A
     /// refused growth puts the frame back.
+    #[tactic(auto, unfolding(crate::specs::Within::AreReached))]
+    fn resume_other(
+        &mut self,
+        prepared: &Prepared,
+        space: &Space,
+        frame: Frame,
+        value: Ref,
+    ) -> Result<Option<Request>, Fault>
+        requires control { self.old.control ≡ Control.Give (Answer.Gave value) }
+        requires room { length self.old.frames.items < vec_capacity self.old.frames }
+        requires base { base_of frame ≤ length self.old.held.items }
+        requires nested { Nested (reverse self.old.frames.items) (below_of frame self.old.held.items) }
+        requires rare { IsRareFrame frame }
+        requires inside { (i : Iterating) → frame ≡ Frame.Round i → ⊥ }
+        ensures goes { IfOk result (λ q. (h : Course) → after_answer prepared.now.program (view_of self.old) space.now frame (Answer.Gave value) h self.old.left ≡ continuing prepared.now.program (view_of self.new) space.now q h self.new.left) }
+        ensures nested { IsNested (view_of self.new) }
+        ensures within { (k : Reach) → AreReached k (view_of self.old) → IsFrameReached k frame → IsReached k value → AreReached k (view_of self.new) }
+        ensures asks { (k : Reach) → AreReached k (view_of self.old) → IsFrameReached k frame → IsReached k value → IfOk result (IsAskedReached k) }
+        ensures left { self.new.left ≡ self.old.left }
+        ensures size { IfOk result (λ q. sized q (view_of self.new) ≤ 3 * length self.old.frames.items + 4) }
+        ensures fault { IfErr result (λ f. f ≡ Fault.Memory) }
+        ensures back { IfErr result (λ _. (h : Course) → after_answer prepared.now.program (view_of self.old) space.now frame (Answer.Gave value) h self.old.left ≡ remaining prepared.now.program (view_of self.new) space.now h) }
+    {
+        match self.resume_value(prepared, space, frame, value) {
+            Ok(request) => Ok(request),
+            Err(fault) => {
+                push_within(&mut self.frames, frame);
+                Err(fault)
+            }
+        }
+    }
+
+    /// The same of each frame that needs the objects or memory. Behind a turn of an iteration a refused growth leaves the iteration
+    /// behind its turn.
     #[tactic(auto, unfolding(crate::specs::Within::AreReached))]
     #[inline(never)]
     pub fn resume_rare(
@@ -485,12 +535,14 @@ impl Engine {
         ensures fault { IfErr result (λ f. f ≡ Fault.Memory) }
         ensures back { IfErr result (λ _. (h : Course) → after_answer prepared.now.program (view_of self.old) space.now frame (Answer.Gave value) h self.old.left ≡ remaining prepared.now.program (view_of self.new) space.now h) }
     {
-        match self.resume_value(prepared, space, frame, value) {
-            Ok(request) => Ok(request),
-            Err(fault) => {
-                push_within(&mut self.frames, frame);
-                Err(fault)
+        match frame {
+            Frame::Round(iteration) => {
+                match self.resume_round(&prepared.program, space, iteration, value) {
+                    Ok(()) => Ok(None),
+                    Err(fault) => Err(fault),
+                }
             }
+            _ => self.resume_other(prepared, space, frame, value),
         }
     }
 }

@@ -51,7 +51,7 @@ fn method_of(program: &Program, methods: &Methods, callee: Callee) -> Option<Bui
 }
 
 /// What a message calls a receiver that has no such method.
-fn receiver_of(space: &Space, receiver: Ref) -> Receiver
+pub fn receiver_of(space: &Space, receiver: Ref) -> Receiver
     ensures { result ≡ receiver_of space.now receiver }
 {
     match receiver {

@@ -6,7 +6,7 @@ use Rattle.rr_eval.specs.Rules.{block_rule}
 use Rattle.rr_eval.specs.Turns.{context_of, after_script}
 use Rattle.rr_eval.specs.Views.{view_of}
 use Rattle.rr_eval.proofs.Invoking.{on_ok}
-use Rattle.rr_eval.proofs.Lists.{block_call_is}
+use Rattle.rr_eval.proofs.Lists.{block_call_is, block_send_is}
 use Rattle.rr_eval.proofs.engine.Engine.open_block.Goals as goal
 
 pub returns-in-Call-clause-goes : goal.returns-in-Call-clause-goes
@@ -14,11 +14,27 @@ returns-in-Call-clause-goes c =
     let p = c.args.prepared.now.program in
     let ns = p.nodes.items in
     let m = view_of c.args.self.now in
+    let t = c.args.space.now in
     let b = tree_at ns c.args.block in
     let own = context_of p in
     on_ok c.open_block_call.result _ _
-    (λ goes t h n.
+    (λ goes h n.
     ap (λ x. after_script p m t (block_rule own x b) h n) (c.evaluated_node.ensures.tree ∙ ap (evaluated_tree ns) c.in-Call.is)
     ∙ ap (λ r. after_script p m t r h n) (sym (block_call_is ns own c.in-Call.name c.in-Call.first c.in-Call.count c.in-Call.site b))
-    ∙ goes t h n)
+    ∙ goes h n)
     c.open_block_call.ensures.goes
+
+pub returns-in-Send-clause-goes : goal.returns-in-Send-clause-goes
+returns-in-Send-clause-goes c =
+    let p = c.args.prepared.now.program in
+    let ns = p.nodes.items in
+    let m = view_of c.args.self.now in
+    let t = c.args.space.now in
+    let b = tree_at ns c.args.block in
+    let own = context_of p in
+    on_ok c.open_block_send.result _ _
+    (λ goes h n.
+    ap (λ x. after_script p m t (block_rule own x b) h n) (c.evaluated_node.ensures.tree ∙ ap (evaluated_tree ns) c.in-Send.is)
+    ∙ ap (λ r. after_script p m t r h n) (sym (block_send_is ns own c.in-Send.receiver c.in-Send.name c.in-Send.first c.in-Send.count c.in-Send.site b))
+    ∙ goes t h n)
+    c.open_block_send.ensures.goes

@@ -24,6 +24,9 @@ returns-in-Back-clause-within c k h frame answer = c.leave_back.ensures.within k
 pub returns-in-Past-clause-within : goal.returns-in-Past-clause-within
 returns-in-Past-clause-within c k h frame answer = c.leave_past.ensures.within k h answer
 
+pub returns-in-Round-clause-within : goal.returns-in-Round-clause-within
+returns-in-Round-clause-within c k h frame answer = c.leave_round.ensures.within k h answer
+
 pub returns-in_default-clause-goes : goal.returns-in_default-clause-goes
 returns-in_default-clause-goes c h =
     let p = c.args.program.now in
@@ -40,6 +43,7 @@ returns-in_default-clause-goes c h =
       no_rescue = is.not-Rescue;
       no_handling = is.not-Handling;
       no_ensure = is.not-Ensure;
+      no_round = is.not-Round;
     }) c.requires.passes)
     ∙ ap (λ k. unwind code (reverse m.frames) (below_of f m.held) (start code k s m.left)) (sym c.requires.control)
     ∙ ap (λ held. unwind code (reverse m.frames) held (start code m.control s m.left)) (sym c.clear.ensures)

@@ -1,0 +1,106 @@
+//! Scripts with iterations, as a table.
+
+use crate::run::run_within;
+use crate::table::check_row;
+use rr_base::Limits;
+use rr_eval::Outcome;
+use std::test::Fail;
+
+/// As `RUN` of the rows: what it shows, the script, what it prints, and what is told of the exception that ends it.
+const ITERATIONS: &str = "\
+times|3.times { ^pi^p puts i }^n|0^n1^n2^n|
+times of none|0.times { puts 1 }; -2.times { puts 2 }; puts 3^n|3^n|
+the value of times|p(3.times { 7 })^n|3^n|
+times without a parameter|x = 0; 4.times { x += 2 }; p x^n|8^n|
+times with two parameters|2.times { ^pi, j^p p i, j }^n|0^nnil^n1^nnil^n|
+times in times|2.times { ^pi^p 2.times { ^pj^p print i, j } }^n|00011011|
+times between do and end|2.times do ^pi^p^np i^nend^n|0^n1^n|
+the receiver of times is evaluated once|def n; print 9; 2; end; n.times { print 1 }^n|911|
+upto|1.upto(3) { ^pi^p print i }^n|123|
+upto of one|3.upto(3) { ^pi^p print i }; 3.upto(2) { puts 9 }^n|3|
+the value of upto|p(1.upto(3) { 7 })^n|1^n|
+upto to the greatest integer|9223372036854775806.upto(9223372036854775807) { ^pi^p p i }^n|9223372036854775806^n9223372036854775807^n|
+upto from the least integer|x = 0; -9223372036854775808.upto(9223372036854775807) { x += 1; break if x == 3 }; p x^n|3^n|
+upto without an integer|1.upto(\"a\") { puts 1 }^n||wrong type String (TypeError)
+upto without a bound|1.upto { puts 1 }^n||wrong number of arguments (given 0, expected 1) (ArgumentError)
+times with an argument|1.times(2) { puts 1 }^n||wrong number of arguments (given 1, expected 0) (ArgumentError)
+times of nil|nil.times { puts 1 }^n||undefined method 'times' for nil (NoMethodError)
+times of a text|\"a\".times { puts 1 }^n||undefined method 'times' for an instance of String (NoMethodError)
+a bound is evaluated before the turns|1.upto((print 0; 2)) { ^pi^p print i }^n|012|
+next in times|3.times { ^pi^p next if i == 1; print i }^n|02|
+next in the last turn|p(3.times { ^pi^p next 9 if i == 2 })^n|3^n|
+next through ensure in times|2.times { ^pi^p begin; next; ensure; print i; end }^n|01|
+break in times|p(5.times { ^pi^p break i * 10 if i == 2 })^n|20^n|
+break without a value in times|p(5.times { break })^n|nil^n|
+break with several values in times|p(5.times { ^pi^p break i, 1 })^n|[0, 1]^n|
+break through ensure in times|p(5.times { ^pi^p begin; break i; ensure; puts 7; end })^n|7^n0^n|
+break in times in times|p(2.times { ^pi^p p(2.times { ^pj^p break j + 5 }) })^n|5^n5^n2^n|
+break in a loop in times|2.times { ^pi^p while true; break; end; print i }^n|01|
+break in upto in a method|def f; 1.upto(9) { ^pi^p break if i == 3; print i }; 5; end; p f^n|125^n|
+return out of times|def f; 5.times { ^pi^p return i if i == 3 }; 9; end; p f^n|3^n|
+return out of times in times|def f; 5.times { ^pi^p 5.times { ^pj^p return i * 10 + j if i + j == 6 } }; end; p f^n|24^n|
+return out of times in a block|def g; yield; puts 9; end; def f; g { 3.times { ^pi^p return i if i == 1 } }; end; p f^n|1^n|
+return through ensure out of times|def f; 3.times { begin; return 1; ensure; print 2; end }; ensure; print 3; end; p f^n|231^n|
+return in times of the program|1.times { return }^n||jump (LocalJumpError)
+an exception out of times|begin; 3.times { ^pi^p raise \"a\" if i == 1; print i }; rescue => e; puts e.message; end^n|0a^n|
+an exception that a turn rescues|3.times { ^pi^p begin; 1 / 0 if i == 1; print i; rescue; print 9; end }^n|092|
+a StopIteration out of times|begin; 3.times { raise StopIteration, \"a\" }; rescue => e; puts e.message; end^n|a^n|
+yield in times|def f; 3.times { ^pi^p yield i }; end; f { ^px^p print x }^n|012|
+break of yield in times|def f; 3.times { ^pi^p yield i }; 9; end; p(f { ^px^p break x + 5 if x == 1 })^n|6^n|
+next of yield in times|def f; 3.times { ^pi^p print(yield(i)) }; end; f { ^px^p next 7 if x == 1; x }^n|072|
+times in a block of a method|def f; yield; yield; end; x = 0; f { 3.times { ^pi^p x += i } }; p x^n|6^n|
+a variable of a turn goes with it|2.times { ^pi^p p y if i == 5; y = i; p y }^n|0^n1^n|
+times sees variables outside|def f(a); b = 1; a.times { ^pi^p b *= 2 }; b; end; p f(5)^n|32^n|
+times in an operator|p 1 + 3.times { } + 2^n|6^n|
+times in an argument|p [1, 2.times { 5 }, 3]^n|[1, 2, 3]^n|
+turns to the limit of calls|def f; 1.times { f }; end; begin; f; rescue SystemStackError => e; puts e.message; end^n|stack level too deep^n|
+loop|i = 0; loop { i += 1; break if i == 3 }; p i^n|3^n|
+loop between do and end|i = 0; loop do^ni += 1^nbreak if i == 3^nend^np i^n|3^n|
+the value of loop|p loop { break 5 }, loop { break }^n|5^nnil^n|
+loop takes a StopIteration|p loop { raise StopIteration, \"x\" }^n|nil^n|
+loop takes what is below StopIteration|p loop { raise Ractor::ClosedError, \"x\" }^n||not here yet (RuntimeError)
+loop takes no other exception|begin; loop { raise IndexError, \"x\" }; rescue => e; puts e.message; end^n|x^n|
+a StopIteration of a method that loop calls|def f; raise StopIteration; end; i = 0; loop { i += 1; f if i == 4 }; p i^n|4^n|
+a StopIteration passes ensure in loop|loop { begin; raise StopIteration; ensure; puts 1; end }; puts 2^n|1^n2^n|
+a StopIteration that is rescued in loop|i = 0; loop { begin; raise StopIteration; rescue StopIteration; i += 1; break if i == 2; end }; p i^n|2^n|
+next in loop|i = 0; loop { i += 1; next if i < 3; break }; p i^n|3^n|
+return out of loop|def f; i = 0; loop { i += 1; return i if i == 6 }; end; p f^n|6^n|
+loop in loop|p loop { loop { raise StopIteration }; break 4 }^n|4^n|
+loop in a method of its own name|def loop; yield; yield; end; loop { print 3 }^n|33|
+cause behind a loop that was stopped|begin; loop { raise StopIteration }; raise \"a\"; rescue => e; p e.cause; end^n|nil^n|
+a call with a block that is no iteration|5.abs { puts 1 }^n||not here yet (RuntimeError)";
+
+#[test]
+fn iterations_call_their_blocks(rt: HostRuntime) -> Result<(), Fail> {
+    for line in ITERATIONS.lines() {
+        check_row(&rt, rt.alloc(), line)?;
+    }
+    Ok(())
+}
+
+// The list of statements, the call with its block, and the integer are evaluated once, and each turn has the call of the block, its
+// list, and the value in it.
+#[test]
+fn a_turn_of_an_iteration_is_a_step(rt: HostRuntime) -> Result<(), Fail> {
+    for steps in 1..12 {
+        let limits = Limits {
+            steps,
+            ..Limits::DEFAULT
+        };
+        let left = run_within(rt.alloc(), limits, b"2.times { 1 }\n");
+        assert_eq!(rt; matches!(left.ended, Ok(Outcome::Done)), steps >= 9);
+    }
+    Ok(())
+}
+
+#[test]
+fn a_loop_without_an_end_spends_its_steps(rt: HostRuntime) -> Result<(), Fail> {
+    let limits = Limits {
+        steps: 1_000,
+        ..Limits::DEFAULT
+    };
+    let left = run_within(rt.alloc(), limits, b"puts 1\nloop { }\nputs 2\n");
+    assert!(rt; matches!(left.ended, Ok(Outcome::StepLimit)));
+    assert_eq!(rt; left.printed.as_slice(), b"1\n".as_slice());
+    Ok(())
+}

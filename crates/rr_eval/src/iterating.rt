@@ -1,0 +1,185 @@
+//! Iterations that run, and what is ahead of them.
+
+ghost use Rattle.std.specs.Prelude.{◌≡◌, slice_index_or};
+ghost use Rattle.std.specs.List.{All};
+ghost use Rattle.rr_builtin.specs.Acts.{outcome_of};
+ghost use Rattle.rr_space.specs.declared.refer.Ref.{Ref};
+ghost use Rattle.rr_eval.specs.Iterating.{below, up_to, ahead, visits_of, problem_of, beginning, left_turn, is_loop};
+ghost use Rattle.rr_eval.specs.Turns.{context_of, more_of};
+ghost use Rattle.rr_eval.specs.Within.{Reach, IsReached, IsAheadReached, IsAnswerReached};
+
+use crate::call::Callee;
+use crate::problem::{Answer, Problem};
+use crate::serve::receiver_of;
+use rr_base::{ClassId, Sym};
+use rr_builtin::{Built, Iteration, refused};
+use rr_space::{Ref, Space};
+use rr_tree::{NodeId, Program};
+
+/// What an iteration still visits.
+#[derive(Clone, Copy)]
+pub enum Visits {
+    /// The integers from this one on that are below the receiver.
+    Times(i64),
+    /// The integers from this one on up to the bound, which is the first argument.
+    Upto(i64),
+    Nothing,
+    /// `loop`: nothing is given to the block, again and again.
+    Forever,
+}
+
+/// An iteration that runs.
+#[derive(Clone, Copy)]
+pub struct Iterating {
+    pub visits: Visits,
+    /// The block, which stands in the frame that runs between the turns.
+    pub block: NodeId,
+    /// Where the values begin that stand for it: the receiver and the arguments.
+    pub base: usize,
+}
+
+/// What is ahead of an iteration.
+#[derive(Clone, Copy)]
+pub enum Ahead {
+    /// A turn, with up to two values that the block is given, and what is visited after it.
+    Another(Option<Ref>, Option<Ref>, Visits),
+    /// No turn.
+    Finished,
+}
+
+/// A value that stands for an iteration; nil where none stands there.
+pub fn value_at(stand: &[Ref], place: usize) -> Ref
+    ensures is { result ≡ slice_index_or stand.now place Ref.Nil }
+    ensures within { (k : Reach) → All (IsReached k) stand.now → IsReached k result }
+{
+    match stand.get(place) {
+        Some(value) => *value,
+        None => Ref::Nil,
+    }
+}
+
+/// The integers below one.
+fn below(here: i64, bound: Ref) -> Ahead
+    ensures is { result ≡ below here bound }
+    ensures within { (k : Reach) → IsAheadReached k result }
+{
+    match bound {
+        Ref::Int(past) if here < past => {
+            Ahead::Another(Some(Ref::Int(here)), None, Visits::Times(here + 1))
+        }
+        _ => Ahead::Finished,
+    }
+}
+
+/// The integers up to one.
+fn up_to(here: i64, bound: Ref) -> Ahead
+    ensures is { result ≡ up_to here bound }
+    ensures within { (k : Reach) → IsAheadReached k result }
+{
+    match bound {
+        Ref::Int(last) if here < last => {
+            Ahead::Another(Some(Ref::Int(here)), None, Visits::Upto(here + 1))
+        }
+        Ref::Int(last) if here == last => {
+            Ahead::Another(Some(Ref::Int(here)), None, Visits::Nothing)
+        }
+        _ => Ahead::Finished,
+    }
+}
+
+/// What is ahead of an iteration, by the values that stand for it.
+pub fn look_ahead(visits: Visits, stand: &[Ref]) -> Ahead
+    ensures is { result ≡ ahead visits stand.now }
+    ensures within { (k : Reach) → IsAheadReached k result }
+{
+    match visits {
+        Visits::Times(here) => below(here, value_at(stand, 0)),
+        Visits::Upto(here) => up_to(here, value_at(stand, 1)),
+        Visits::Nothing => Ahead::Finished,
+        Visits::Forever => Ahead::Another(None, None, Visits::Forever),
+    }
+}
+
+/// What an iteration visits that begins.
+pub fn visits_of(iteration: Iteration, receiver: Ref) -> Option<Visits>
+    ensures { result ≡ visits_of iteration receiver }
+{
+    match (iteration, receiver) {
+        (Iteration::Times, _) => Some(Visits::Times(0)),
+        (Iteration::Upto, Ref::Int(first)) => Some(Visits::Upto(first)),
+        _ => None,
+    }
+}
+
+/// Why a call of an iteration does not begin, where `missing` is the problem of a method that the receiver lacks.
+pub fn problem_of(missing: Problem, refused: Built) -> Problem
+    ensures { result ≡ problem_of missing (outcome_of refused) }
+{
+    match refused {
+        Built::Raised(problem) => Problem::BuiltIn(problem),
+        Built::Missing => missing,
+        Built::Value(_) => Problem::NotHere,
+    }
+}
+
+/// What a call of an iteration of this name begins to visit, or why it does not begin: the first of the values is its receiver, and the
+/// others are its arguments.
+pub fn beginning(
+    space: &Space,
+    name: Sym,
+    iteration: Option<Iteration>,
+    values: &[Ref],
+) -> Result<Visits, Problem>
+    ensures { result ≡ beginning name iteration values.now space.now }
+{
+    match (iteration, values) {
+        (Some(iteration), [receiver, arguments @ ..]) => {
+            let missing = Problem::MissingMethod(Callee::Name(name), receiver_of(space, *receiver));
+            match (
+                refused(space, *receiver, iteration, arguments),
+                visits_of(iteration, *receiver),
+            ) {
+                (Some(built), _) => Err(problem_of(missing, built)),
+                (None, Some(visits)) => Ok(visits),
+                (None, None) => Err(Problem::NotHere),
+            }
+        }
+        _ => Err(Problem::NotHere),
+    }
+}
+
+/// What an answer comes to that ends an iteration with the turn: `root` is the frame of the method in which the block stands.
+pub fn left_turn(
+    program: &Program,
+    space: &Space,
+    visits: Visits,
+    root: u32,
+    answer: Answer,
+) -> Answer
+    ensures is { result ≡ left_turn (context_of program.now) visits root space.now answer }
+    ensures plain { more_of result ≡ 0 }
+    ensures within { (k : Reach) → IsAnswerReached k answer → IsAnswerReached k result }
+{
+    match (answer, visits) {
+        (Answer::Gave(value), _) => Answer::Gave(value),
+        (Answer::Raised(exception), Visits::Forever) => {
+            if program.descends(space.class_of(exception), ClassId::STOP_ITERATION) {
+                Answer::Gave(Ref::Nil)
+            } else {
+                Answer::Raised(exception)
+            }
+        }
+        (Answer::Raised(exception), _) => Answer::Raised(exception),
+        (Answer::Broke(value), _) => Answer::Gave(value),
+        (Answer::Done(value), _) => Answer::Gave(value),
+        (Answer::Returned(value), _) => Answer::Ends(root, value),
+        (Answer::Ends(number, value), _) => Answer::Ends(number, value),
+    }
+}
+
+/// Whether it is `loop`.
+pub fn is_loop(name: &[u8]) -> bool
+    ensures { result ≡ is_loop name.now }
+{
+    name == b"loop".as_slice()
+}

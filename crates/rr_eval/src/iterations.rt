@@ -1,0 +1,306 @@
+//! Calls of the built-in methods that call their block again and again.
+
+ghost use Rattle.std.specs.Prelude.{◌≡◌, ◌+◌, ◌*◌, ◌<◌, ◌≤◌, ℕ, ◌++◌, ◌∷◌, [], length, reverse, take, drop, vec_capacity, None, Some, IfErr, OnOk};
+ghost use Rattle.std.specs.List.{All};
+ghost use Rattle.rr_base.specs.declared.fault.Fault.{Fault};
+ghost use Rattle.rr_frames.specs.Frames.{list_of};
+ghost use Rattle.rr_space.specs.Tables.{Table};
+ghost use Rattle.rr_tree.specs.Tree.{tree_at};
+ghost use Rattle.rr_tree.specs.declared.program.Program.{Program};
+ghost use Rattle.rr_eval.specs.declared.call_stack.Entry.{Entry};
+ghost use Rattle.rr_eval.specs.declared.frame.Control.{Control};
+ghost use Rattle.rr_eval.specs.declared.frame.Frame.{Frame};
+ghost use Rattle.rr_eval.specs.declared.problem.Answer.{Answer};
+ghost use Rattle.rr_eval.specs.Blocks.{spreads, shape_in, opened};
+ghost use Rattle.rr_eval.specs.Frames.{below_of, base_of, stand_of, iterated, Nested};
+ghost use Rattle.rr_eval.specs.Iterating.{turn_of, continued, turned, iteration_rule};
+ghost use Rattle.rr_eval.specs.Requests.{Course};
+ghost use Rattle.rr_eval.specs.Script.{Ret, Evaluate, TurnPart};
+ghost use Rattle.rr_eval.specs.Turns.{context_of, code_of, state_of, remaining, remaining_with, IsNested, after_answer, after_values, Stands, more_of, size};
+ghost use Rattle.rr_eval.specs.Variables.{top};
+ghost use Rattle.rr_eval.specs.Views.{view_of};
+ghost use Rattle.rr_eval.specs.Within.{Reach, AreReached, IsReached, IsAnswerReached};
+
+use crate::blocks::{shape_at, spreads};
+use crate::call_stack::Entry;
+use crate::engine::{Engine, push_within};
+use crate::frame::{Control, Frame, clear, first_standing, standing};
+use crate::iterating::{Ahead, Iterating, Visits, beginning, left_turn, look_ahead, value_at};
+use crate::prepared::Prepared;
+use crate::problem::{Answer, Problem};
+use rr_base::{Fault, LimitKind, Sym};
+use rr_builtin::Problem as BuiltInProblem;
+use rr_frames::Shape;
+use rr_space::{Ref, Space};
+use rr_tree::{NodeId, Program};
+
+/// Whether one array is given to several parameters.
+fn spreads_few(space: &Space, parameters: u32, first: Option<Ref>, last: Option<Ref>) -> bool
+    ensures { result ≡ spreads parameters (list_of first ++ list_of last) space.now }
+{
+    match first {
+        Some(value) => spreads(space, parameters, &[value], last),
+        None => spreads(space, parameters, &[], last),
+    }
+}
+
+impl Engine {
+    /// Evaluates the block of an iteration for a turn, in a frame of its own, whose parameters have up to two values. A refused
+    /// growth leaves all as it is.
+    #[tactic(auto, unfolding(crate::specs::Within::AreReached))]
+    fn enter_turn(
+        &mut self,
+        iteration: Iterating,
+        shape: Shape,
+        first: Option<Ref>,
+        last: Option<Ref>,
+    ) -> Result<(), Fault>
+        requires room { length self.old.frames.items < vec_capacity self.old.frames }
+        requires base { iteration.base ≤ length self.old.held.items }
+        requires nested { Nested (reverse self.old.frames.items) (take iteration.base self.old.held.items) }
+        ensures goes { OnOk result ((p : Program) (t : Table) (h : Course) (n : ℕ) → shape_in (Some (tree_at p.nodes.items iteration.block)) ≡ Some shape → after_values p (view_of self.old) t (Frame.Round iteration) (opened (context_of p) (Entry.OfBlock (top self.old.calls.frames)) shape.parameters shape.size (list_of first ++ list_of last) None self.old.calls (Evaluate (TurnPart (iterated (code_of p h.world) iteration (drop iteration.base self.old.held.items))) Ret)) h n ≡ remaining_with p (view_of self.new) t h n) }
+        ensures nested { OnOk result (IsNested (view_of self.new)) }
+        ensures within { (k : Reach) → AreReached k (view_of self.old) → All (IsReached k) (list_of first ++ list_of last) → AreReached k (view_of self.new) }
+        ensures left { self.new.left ≡ self.old.left }
+        ensures err { (t : Table) → IfErr result (λ f. Stands (view_of self.old) (view_of self.new) t t f) }
+        ensures size { OnOk result (size (view_of self.new) ≤ 3 * length self.old.frames.items + 4) }
+        ensures room { IfErr result (λ _. length self.new.frames.items < vec_capacity self.new.frames) }
+        ensures fault { IfErr result (λ f. f ≡ Fault.Memory) }
+    {
+        self.blocks.reserve(1)?;
+        let home = self.calls.top();
+        match self
+            .calls
+            .push_few(first, last, shape, Entry::OfBlock(home))
+        {
+            Ok(()) => {
+                push_within(&mut self.blocks, None);
+                push_within(&mut self.frames, Frame::Round(iteration));
+                self.control = Control::Enter(iteration.block);
+                Ok(())
+            }
+            Err(Fault::Limit(LimitKind::Frames)) => {
+                self.refuse(
+                    Frame::Round(iteration),
+                    Problem::BuiltIn(BuiltInProblem::TooDeep),
+                );
+                Ok(())
+            }
+            Err(_) => Err(Fault::Memory),
+        }
+    }
+
+    /// Calls the block of an iteration for a turn, with up to two values. A refused growth leaves all as it is.
+    pub fn call_turn(
+        &mut self,
+        program: &Program,
+        space: &Space,
+        iteration: Iterating,
+        first: Option<Ref>,
+        last: Option<Ref>,
+    ) -> Result<(), Fault>
+        requires room { length self.old.frames.items < vec_capacity self.old.frames }
+        requires base { iteration.base ≤ length self.old.held.items }
+        requires nested { Nested (reverse self.old.frames.items) (take iteration.base self.old.held.items) }
+        ensures goes { OnOk result ((h : Course) (n : ℕ) → after_values program.now (view_of self.old) space.now (Frame.Round iteration) (turn_of (context_of program.now) (iterated (code_of program.now h.world) iteration (drop iteration.base self.old.held.items)) (shape_in (Some (tree_at program.now.nodes.items iteration.block))) (list_of first ++ list_of last) (state_of program.now (view_of self.old) space.now h).memory) h n ≡ remaining_with program.now (view_of self.new) space.now h n) }
+        ensures nested { OnOk result (IsNested (view_of self.new)) }
+        ensures within { (k : Reach) → AreReached k (view_of self.old) → All (IsReached k) (list_of first ++ list_of last) → AreReached k (view_of self.new) }
+        ensures left { self.new.left ≡ self.old.left }
+        ensures err { (t : Table) → IfErr result (λ f. Stands (view_of self.old) (view_of self.new) t t f) }
+        ensures size { OnOk result (size (view_of self.new) ≤ 3 * length self.old.frames.items + 4) }
+        ensures room { IfErr result (λ _. length self.new.frames.items < vec_capacity self.new.frames) }
+        ensures fault { IfErr result (λ f. f ≡ Fault.Memory) }
+    {
+        let Some(shape) = shape_at(program, iteration.block) else {
+            self.refuse(Frame::Round(iteration), Problem::NoBlock);
+            return Ok(());
+        };
+        if spreads_few(space, shape.parameters, first, last) {
+            self.refuse(Frame::Round(iteration), Problem::NotHere);
+            return Ok(());
+        }
+        self.enter_turn(iteration, shape, first, last)
+    }
+
+    /// Goes on with what is ahead of an iteration. A refused growth leaves all as it is.
+    #[tactic(auto, unfolding(crate::specs::Within::AreReached))]
+    pub fn go_on(
+        &mut self,
+        program: &Program,
+        space: &Space,
+        iteration: Iterating,
+    ) -> Result<(), Fault>
+        requires room { length self.old.frames.items < vec_capacity self.old.frames }
+        requires base { iteration.base ≤ length self.old.held.items }
+        requires nested { Nested (reverse self.old.frames.items) (take iteration.base self.old.held.items) }
+        ensures goes { OnOk result ((h : Course) (n : ℕ) → after_values program.now (view_of self.old) space.now (Frame.Turned iteration) (continued (context_of program.now) (iterated (code_of program.now h.world) iteration (drop iteration.base self.old.held.items))) h n ≡ remaining_with program.now (view_of self.new) space.now h n) }
+        ensures nested { OnOk result (IsNested (view_of self.new)) }
+        ensures within { (k : Reach) → AreReached k (view_of self.old) → AreReached k (view_of self.new) }
+        ensures left { self.new.left ≡ self.old.left }
+        ensures err { (t : Table) → IfErr result (λ f. Stands (view_of self.old) (view_of self.new) t t f) }
+        ensures size { OnOk result (size (view_of self.new) ≤ 3 * length self.old.frames.items + 4) }
+        ensures room { IfErr result (λ _. length self.new.frames.items < vec_capacity self.new.frames) }
+        ensures fault { IfErr result (λ f. f ≡ Fault.Memory) }
+    {
+        let stand = standing(&self.held, Frame::Turned(iteration));
+        match look_ahead(iteration.visits, stand) {
+            Ahead::Another(first, last, visits) => {
+                let next = Iterating {
+                    visits,
+                    ..iteration
+                };
+                self.call_turn(program, space, next, first, last)
+            }
+            Ahead::Finished => {
+                let receiver = value_at(stand, 0);
+                clear(&mut self.held, Frame::Turned(iteration));
+                self.control = Control::Give(Answer::Gave(receiver));
+                Ok(())
+            }
+        }
+    }
+
+    /// Begins an iteration with the values that stand from a place on: its receiver and its arguments. A refused growth leaves all as
+    /// it is.
+    fn begin_iteration(
+        &mut self,
+        prepared: &Prepared,
+        space: &Space,
+        name: Sym,
+        iteration: Iterating,
+    ) -> Result<(), Fault>
+        requires room { length self.old.frames.items < vec_capacity self.old.frames }
+        requires base { iteration.base ≤ length self.old.held.items }
+        requires nested { Nested (reverse self.old.frames.items) (take iteration.base self.old.held.items) }
+        ensures goes { OnOk result ((h : Course) (n : ℕ) → after_values prepared.now.program (view_of self.old) space.now (Frame.Turned iteration) (iteration_rule (context_of prepared.now.program) name (tree_at prepared.now.program.nodes.items iteration.block) (drop iteration.base self.old.held.items)) h n ≡ remaining_with prepared.now.program (view_of self.new) space.now h n) }
+        ensures nested { OnOk result (IsNested (view_of self.new)) }
+        ensures within { (k : Reach) → AreReached k (view_of self.old) → AreReached k (view_of self.new) }
+        ensures left { self.new.left ≡ self.old.left }
+        ensures err { (t : Table) → IfErr result (λ f. Stands (view_of self.old) (view_of self.new) t t f) }
+        ensures size { OnOk result (size (view_of self.new) ≤ 3 * length self.old.frames.items + 4) }
+        ensures room { IfErr result (λ _. length self.new.frames.items < vec_capacity self.new.frames) }
+        ensures fault { IfErr result (λ f. f ≡ Fault.Memory) }
+    {
+        let stand = standing(&self.held, Frame::Turned(iteration));
+        match beginning(space, name, prepared.iteration(name), stand) {
+            Ok(visits) => {
+                let begun = Iterating {
+                    visits,
+                    ..iteration
+                };
+                self.go_on(&prepared.program, space, begun)
+            }
+            Err(problem) => {
+                self.refuse(Frame::Turned(iteration), problem);
+                Ok(())
+            }
+        }
+    }
+
+    /// Calls the iteration of a name, which is given the block of a node: the values that stand for a frame and one more are its
+    /// receiver and its arguments. A refused growth leaves all as it is.
+    #[tactic(auto, unfolding(crate::specs::Within::AreReached))]
+    pub fn iterate(
+        &mut self,
+        prepared: &Prepared,
+        space: &Space,
+        name: Sym,
+        block: NodeId,
+        frame: Frame,
+        value: Ref,
+    ) -> Result<(), Fault>
+        requires room { length self.old.frames.items < vec_capacity self.old.frames }
+        requires base { base_of frame ≤ length self.old.held.items }
+        requires nested { Nested (reverse self.old.frames.items) (below_of frame self.old.held.items) }
+        ensures goes { OnOk result ((h : Course) (n : ℕ) → after_values prepared.now.program (view_of self.old) space.now frame (iteration_rule (context_of prepared.now.program) name (tree_at prepared.now.program.nodes.items block) (stand_of frame self.old.held.items ++ value ∷ [])) h n ≡ remaining_with prepared.now.program (view_of self.new) space.now h n) }
+        ensures nested { OnOk result (IsNested (view_of self.new)) }
+        ensures within { (k : Reach) → AreReached k (view_of self.old) → IsReached k value → AreReached k (view_of self.new) }
+        ensures left { self.new.left ≡ self.old.left }
+        ensures err { (t : Table) → IfErr result (λ f. Stands (view_of self.old) (view_of self.new) t t f) }
+        ensures size { OnOk result (size (view_of self.new) ≤ 3 * length self.old.frames.items + 4) }
+        ensures room { IfErr result (λ _. length self.new.frames.items < vec_capacity self.new.frames) }
+        ensures fault { IfErr result (λ f. f ≡ Fault.Memory) }
+    {
+        let base = first_standing(&self.held, frame);
+        let count = self.held.len();
+        self.held.push(value)?;
+        let iteration = Iterating {
+            visits: Visits::Nothing,
+            block,
+            base,
+        };
+        match self.begin_iteration(prepared, space, name, iteration) {
+            Ok(()) => Ok(()),
+            Err(fault) => {
+                self.held.truncate(count);
+                Err(fault)
+            }
+        }
+    }
+
+    /// Goes on behind a turn of an iteration, which is taken off the stack, and whose frame goes. A refused growth leaves the iteration
+    /// behind its turn.
+    #[tactic(auto, unfolding(crate::specs::Within::AreReached))]
+    pub fn resume_round(
+        &mut self,
+        program: &Program,
+        space: &Space,
+        iteration: Iterating,
+        value: Ref,
+    ) -> Result<(), Fault>
+        requires control { self.old.control ≡ Control.Give (Answer.Gave value) }
+        requires room { length self.old.frames.items < vec_capacity self.old.frames }
+        requires base { iteration.base ≤ length self.old.held.items }
+        requires nested { Nested (reverse self.old.frames.items) (take iteration.base self.old.held.items) }
+        ensures goes { (h : Course) → after_answer program.now (view_of self.old) space.now (Frame.Round iteration) (Answer.Gave value) h self.old.left ≡ remaining program.now (view_of self.new) space.now h }
+        ensures nested { IsNested (view_of self.new) }
+        ensures within { (k : Reach) → AreReached k (view_of self.old) → IsReached k value → AreReached k (view_of self.new) }
+        ensures left { self.new.left ≡ self.old.left }
+        ensures size { OnOk result (size (view_of self.new) ≤ 3 * length self.old.frames.items + 4) }
+        ensures fault { IfErr result (λ f. f ≡ Fault.Memory) }
+    {
+        self.pop_call();
+        match self.go_on(program, space, iteration) {
+            Ok(()) => Ok(()),
+            Err(fault) => {
+                push_within(&mut self.frames, Frame::Turned(iteration));
+                Err(fault)
+            }
+        }
+    }
+
+    /// Passes an answer that is no value through a turn of an iteration, whose frame goes: `next` ends the turn, and all else the
+    /// iteration.
+    #[tactic(auto, unfolding(crate::specs::Within::AreReached))]
+    pub fn leave_round(
+        &mut self,
+        program: &Program,
+        space: &Space,
+        iteration: Iterating,
+        answer: Answer,
+    )
+        requires passes { (v : Ref) → answer ≡ Answer.Gave v → ⊥ }
+        requires room { length self.old.frames.items < vec_capacity self.old.frames }
+        requires base { iteration.base ≤ length self.old.held.items }
+        requires nested { Nested (reverse self.old.frames.items) (take iteration.base self.old.held.items) }
+        ensures goes { (h : Course) (n : ℕ) → after_values program.now (view_of self.old) space.now (Frame.Round iteration) (turned (context_of program.now) (iterated (code_of program.now h.world) iteration (drop iteration.base self.old.held.items)) answer) h n ≡ remaining_with program.now (view_of self.new) space.now h n }
+        ensures nested { IsNested (view_of self.new) }
+        ensures within { (k : Reach) → AreReached k (view_of self.old) → IsAnswerReached k answer → AreReached k (view_of self.new) }
+        ensures left { self.new.left ≡ self.old.left }
+        ensures size { size (view_of self.new) ≤ 3 * length self.old.frames.items + 4 + more_of answer }
+    {
+        let root = self.calls.running().root;
+        self.pop_call();
+        match answer {
+            Answer::Done(value) => {
+                push_within(&mut self.frames, Frame::Turned(iteration));
+                self.control = Control::Give(Answer::Gave(value));
+            }
+            _ => {
+                clear(&mut self.held, Frame::Round(iteration));
+                let left = left_turn(program, space, iteration.visits, root, answer);
+                self.control = Control::Give(left);
+            }
+        }
+    }
+}
