@@ -44,12 +44,11 @@ sum = prod { ( '+' | '-' ) prod } .
 prod = minus { ( '*' | '/' | '%' ) minus } .
 minus = '-' ~number minus | bang .
 bang = '!' bang | primary .
-command = order | primary '.' NAME ?operands +hold cargs +back [ doblock ] .
-order = NAME ~local ?operands +hold cargs +back [ doblock ]
+command = NAME ~local ?operands +hold cargs +back [ doblock ] | primary '.' NAME ?operands +hold cargs +back [ doblock ]
   | jump ?value cargs | passing ?operands cargs .
 jump = 'return' | ( 'break' | 'next' ) ?loop .
 passing = ( 'yield' | 'super' ) ?method .
-cargs = list | order .
+cargs = list | command .
 list = item { ',' item } { ',' pair } | pair { ',' pair } .
 args = list [ ',' ] .
 item = [ '*' ] arg .

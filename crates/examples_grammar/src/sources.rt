@@ -36,6 +36,9 @@ A = B ||= 1
 a || b && f == 1 < 2 << 3
 1 + 2 - 3 * 4 / 5 % -1
 a.b *f, k: 1 do end
+f a.b c.f 1, *a do end
+return a[1].b k: 1 do end
+f -1.b f, a.b
 a b f, 1 => 2
 return 1, *a
 f { break 1 }

@@ -448,6 +448,10 @@ f 1 do g { 2 } end -> 2
 a b 1 do [1] end -> 2
 a.b [1] -> 1
 a.b puts 1 -> 1
+f a.b 1 -> 1
+a.b c.d e.f 1 -> 2
+f a[0].b 1 -> 1
+return a.b 1 do [1] end -> 3
 a.b c do [1] end -> 2
 f a: 1 -> 0
 f(a: [1]) -> 2

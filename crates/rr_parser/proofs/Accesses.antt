@@ -1,8 +1,7 @@
 -- Attributes of classes, and what stands between the members of a class.
-use Rattle.std.proofs.Common.{◌≡◌, ◌<◌, ◌≤◌, Bool, true, false, List, length, Option, Some, None, Ok, refl, ap, ◌∙◌, arith}
+use Rattle.std.proofs.Common.{◌≡◌, Bool, true, false, List, Option, Some, None, Ok, refl, ap, ◌∙◌, arith}
 use Rattle.std.specs.Prelude.{is_some}
 use Rattle.rr_base.specs.declared.name.Sym.{Sym}
-use Rattle.rr_tree.specs.Tree.{Tree}
 use Rattle.rr_parser.specs.declared.word.Access.{Access}
 use Rattle.rr_parser.specs.declared.word.Word.{Word}
 use Rattle.rr_parser.specs.declared.word.WordKind.{WordKind}
@@ -11,7 +10,6 @@ use Rattle.rr_parser.specs.Places.{Known, Place, unless, is_kind, word, placed, 
 use Rattle.rr_parser.specs.Grammar.Chains.{all_of, and_all}
 use Rattle.rr_parser.specs.Grammar.Calls.{comma}
 use Rattle.rr_parser.specs.Grammar.Classes.{access_of_kind, access_word, symbol_of_kind, symbol, attribute_methods, Attribute, an_attribute, Attributes, word_behind, row_of, member_row}
-use Rattle.rr_parser.specs.Reading.Answers.{Parse}
 use Rattle.rr_parser.specs.Reading.Classes.{attribute_or, attribute_of, attributes_of}
 use Rattle.rr_parser.proofs.Looks.{Steps, Steps-first_as, Steps-separators, seen_as, other-word, placed_some, separators-next, row-parts}
 use Rattle.rr_parser.proofs.Steps.{Steps-comma}

@@ -8,8 +8,7 @@ use Rattle.rr_parser.specs.Grammar.Names.{command}
 use Rattle.rr_parser.specs.Reading.Answers.{◌>>=◌, Refused, Answer, from}
 use Rattle.rr_parser.specs.Reading.Nesting.{Readers}
 use Rattle.rr_parser.specs.Reading.Operands.{postfix_of}
-use Rattle.rr_parser.specs.Reading.Calls.{assigned_or, assigned_of, behind_bang, behind_minus, settled_by, order_on, phrase_or, phrase_of}
-use Rattle.rr_parser.specs.Reading.Several.{is_prefixed}
+use Rattle.rr_parser.specs.Reading.Calls.{assigned_or, assigned_of, behind_bang, behind_minus, settled_by, order_on, phrase_or, phrase_of, is_prefixed}
 use Rattle.rr_parser.specs.Reading.Sequences.{negation_or, negation_of, connected_on, expression_of, expression_on, is_led}
 use Rattle.rr_parser.proofs.Prefixes.{unplaced, unprefixed}
 

@@ -27,7 +27,7 @@ use Rattle.rr_parser.specs.Grammar.Names.{with_local, headed, bracket, command}
 use Rattle.rr_parser.specs.Grammar.Calls.{target, closing, last}
 use Rattle.rr_parser.specs.Reading.Answers.{◌>>=◌, wrong, Answer, Parse, built, ended_by, closed, taking_of, trail_on}
 use Rattle.rr_parser.specs.Reading.Nesting.{Readers}
-use Rattle.rr_parser.specs.Reading.Calls.{assigned_or, assigned_of, bracketed_or, bracketed_of, commanded_or, commanded_of, arguments_of, headed_of, operand_of, value_of, listed_of}
+use Rattle.rr_parser.specs.Reading.Calls.{assigned_or, assigned_of, bracketed_or, bracketed_of, commanded_or, commanded_of, arguments_of, headed_of, operand_of, value_of, listed_of, receiver_or, commanded_on}
 use Rattle.rr_parser.specs.Reading.Bodies.{held_of}
 use Rattle.rr_parser.specs.Meets.{View, nodes, lists, reaches, Made, Fails, Gives, Puts, Marks, Aims, Enters, Leaves, SetsDo, ReadsNames, known_of, place}
 use Rattle.rr_parser.specs.declared.variables.Variable.{Variable}
@@ -37,7 +37,7 @@ use Rattle.rr_parser.specs.Reading.Blocks.{left_block, block_or, block_of}
 use Rattle.rr_parser.specs.Grammar.Operands.{tail}
 use Rattle.rr_parser.specs.Grammar.Fences.{with_do, taking_as, opening, opened, fence_end}
 use Rattle.rr_parser.specs.Reading.Operands.{call_of, block_behind, blocked_or, blocked_of, then_blocked, unbracketed_or, variable_or_call, name_or, name_of, primary_of, tailed_of, postfix_of}
-use Rattle.rr_parser.specs.Grammar.Operands.{Reached, plain}
+use Rattle.rr_parser.specs.Grammar.Operands.{Reached, plain, order}
 use Rattle.rr_parser.specs.declared.word.Reached.{Reached as CodeReached}
 use Rattle.rr_parser.proofs.Shrinking.{ReadersShrink}
 use Rattle.rr_parser.proofs.Trails.{trail_on-ends, trail_on-turn}
@@ -253,6 +253,10 @@ fails_parameters N fence old words (refusal.Number n) h = absurd h
 fails_parameters N fence old words (refusal.LeftOut n) h = absurd h
 fails_parameters N fence old words (refusal.Constant n) h = absurd h
 
+single : (n i : ℕ) → i < n → All (λ j. j < n) (i ∷ [])
+single n i h zero d lt = h
+single n i h (suc k) d lt = let never : ⊥ = omega arith in absurd never
+
 -- members of a list, with what ends it
 pub made_bracketed : (N : Readers) (k : Listed) (old mid : Parser) (es : List ℕ) (words rest after : List Word) → closing k words ≡ None → Made (lists nodes) old mid es rest (listed_of N k (place old words)) → last k rest ≡ Some (tt, after)
     → Made (lists nodes) old mid es after (bracketed_of N k (place old words))
@@ -288,19 +292,34 @@ empty_bracketed N k old es words after e is = record {
   kept = Extends-refl old.nodes.items;
 }
 
+-- a command with a receiver that is the only argument of another one
+pub made_argument_order : (N : Readers) (old new : Parser) (id : ℕ) (o : Reached) (es : List ℕ) (x : Sym) (words after rest : List Word) → order words ≡ Some (x, after) → Made nodes old new id rest (N.ordered o.tree x (place old after)) → es ≡ id ∷ []
+    → Made (lists nodes) old new es rest (commanded_on N o (place old words))
+unfolding commanded_on
+made_argument_order N old new id o es x words after rest e m is = record {
+  there = subst (λ (l : List ℕ). All (λ i. i < length new.nodes.items) l) (sym is) (single (length new.nodes.items) id m.there);
+  tree =
+      ap (receiver_or N o (place old words)) (seen_at old order words after x e)
+      ∙ ap (built one_of) m.tree
+      ∙ ap (λ (l : List ℕ). Ok (map (tree_at new.nodes.items) l, place new rest)) (sym is);
+  kept = m.kept;
+}
+
+pub fails_argument_order : (N : Readers) (old : Parser) (o : Reached) (x : Sym) (words after : List Word) (d : Refusal) → order words ≡ Some (x, after) → Fails d (N.ordered o.tree x (place old after)) → Fails d (commanded_on N o (place old words))
+unfolding commanded_on
+fails_argument_order N old o x words after d e h =
+    fails_eq d (commanded_on N o (place old words)) (built one_of (N.ordered o.tree x (place old after))) (ap (receiver_or N o (place old words)) (seen_at old order words after x e))
+    (fails_bind d (N.ordered o.tree x (place old after)) (λ q. Ok (one_of q.0, q.1)) h)
+
 -- a command that is the only argument of another one
 pub made_argument_command : (N : Readers) (old new : Parser) (id : ℕ) (es : List ℕ) (x : Head) (words after rest : List Word) → command (known_of old) words ≡ Some (x, after) → Made nodes old new id rest (N.part parts.Command (place old words)) → es ≡ id ∷ []
     → Made (lists nodes) old new es rest (commanded_of N (place old words))
 unfolding commanded_of
 made_argument_command N old new id es x words after rest e m is = record {
-  there = subst (λ (l : List ℕ). All (λ i. i < length new.nodes.items) l) (sym is) (lone (length new.nodes.items) id m.there);
+  there = subst (λ (l : List ℕ). All (λ i. i < length new.nodes.items) l) (sym is) (single (length new.nodes.items) id m.there);
   tree =
       ap (commanded_or N (place old words)) (ap (placed (known_of old)) e)
       ∙ ap (built one_of) m.tree
       ∙ ap (λ (l : List ℕ). Ok (map (tree_at new.nodes.items) l, place new rest)) (sym is);
   kept = m.kept;
 }
-  where
-    lone : (n i : ℕ) → i < n → All (λ j. j < n) (i ∷ [])
-    lone n i h zero d lt = h
-    lone n i h (suc k) d lt = let never : ⊥ = omega arith in absurd never

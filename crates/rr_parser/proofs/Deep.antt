@@ -46,7 +46,7 @@ use Rattle.rr_parser.proofs.Sound.{simple_sound, modifying_sound, negation_sound
 use Rattle.rr_parser.proofs.ClassDeep.{class_body_deep}
 use Rattle.rr_parser.proofs.DeepOperands.{IsDeep, bind_deep, built_deep, closed_deep, across_deep, past_loop, NestedDeep, from_deep, taking_deep, enclosed_deep, chain_deep, bang_deep, minus_deep}
 use Rattle.rr_parser.proofs.Trails.{trail_deep}
-use Rattle.rr_parser.proofs.DeepCalls.{argument_deep, bracketed_deep, array_deep, hash_deep, index_deep, command_deep, value_deep, rights_deep, operand_within, targeted_deep, targets_deep}
+use Rattle.rr_parser.proofs.DeepCalls.{argument_deep, bracketed_deep, array_deep, hash_deep, index_deep, command_deep, value_deep, rights_deep, operand_within, targeted_deep, targets_deep, ordered_deep}
 use Rattle.rr_parser.specs.Grammar.Operands.{Reached, Spot}
 use Rattle.rr_parser.proofs.Beginnings.{expression_from}
 use Rattle.rr_parser.specs.Reading.Operands.{postfix_of}
@@ -361,20 +361,22 @@ module _ (N : Readers) (R : Nested) (F : Fronts) (sounds : NestedSound N R) (nes
 
 pub deep_inside : (d : ℕ) → NestedDeep (readers_inside d) (fronts_inside d)
 unfolding readers_inside fronts_inside
-deep_inside zero = record { part = λ p s e. (s, refl); bracketed = λ s e. (s, refl); value = λ b s e. (s, refl); values = λ s e. (s, refl) }
+deep_inside zero = record { part = λ p s e. (s, refl); bracketed = λ s e. (s, refl); ordered = λ r x s e. (s, refl); value = λ b s e. (s, refl); values = λ s e. (s, refl) }
 deep_inside (suc d) = record {
   part = part_deep (readers_inside d) (inside d) (fronts_inside d) (sound_inside d) (deep_inside d);
   bracketed = taking_deep true (bracketed_of (readers_inside d) listings.Call) (MembersFront (inside d) (fronts_inside d) listings.Call) (bracketed_deep (readers_inside d) (inside d) (fronts_inside d) (sound_inside d) (deep_inside d) listings.Call);
+  ordered = ordered_deep (readers_inside d) (inside d) (fronts_inside d) (sound_inside d) (deep_inside d);
   value = value_deep (readers_inside d) (inside d) (fronts_inside d) (sound_inside d) (deep_inside d);
   values = rights_deep (readers_inside d) (inside d) (fronts_inside d) (sound_inside d) (deep_inside d);
 }
 
 pub deep_outside : (d : ℕ) → NestedDeep (readers_outside d) (fronts_outside d)
 unfolding readers_outside fronts_outside
-deep_outside zero = record { part = λ p s e. (s, refl); bracketed = λ s e. (s, refl); value = value_deep (readers_inside zero) (inside zero) (fronts_inside zero) (sound_inside zero) (deep_inside zero); values = rights_deep (readers_inside zero) (inside zero) (fronts_inside zero) (sound_inside zero) (deep_inside zero) }
+deep_outside zero = record { part = λ p s e. (s, refl); bracketed = λ s e. (s, refl); ordered = λ r x s e. (s, refl); value = value_deep (readers_inside zero) (inside zero) (fronts_inside zero) (sound_inside zero) (deep_inside zero); values = rights_deep (readers_inside zero) (inside zero) (fronts_inside zero) (sound_inside zero) (deep_inside zero) }
 deep_outside (suc d) = record {
   part = part_deep (readers_outside d) (outside d) (fronts_outside d) (sound_outside d) (deep_outside d);
   bracketed = taking_deep true (bracketed_of (readers_outside d) listings.Call) (MembersFront (outside d) (fronts_outside d) listings.Call) (bracketed_deep (readers_outside d) (outside d) (fronts_outside d) (sound_outside d) (deep_outside d) listings.Call);
+  ordered = ordered_deep (readers_outside d) (outside d) (fronts_outside d) (sound_outside d) (deep_outside d);
   value = value_deep (readers_inside (suc d)) (inside (suc d)) (fronts_inside (suc d)) (sound_inside (suc d)) (deep_inside (suc d));
   values = rights_deep (readers_inside (suc d)) (inside (suc d)) (fronts_inside (suc d)) (sound_inside (suc d)) (deep_inside (suc d));
 }

@@ -1,5 +1,5 @@
 -- Reading assignments, arguments and commands is too deep only where the constructs that are begun pass the limit.
-use Rattle.std.proofs.Common.{◌≡◌, inl, inr, Bool, true, false, List, Option, Some, None, Err, refl, cond}
+use Rattle.std.proofs.Common.{◌≡◌, inl, inr, Bool, true, false, List, Option, Some, None, Ok, Err, refl, ap, ◌∙◌, cond}
 use Rattle.rr_parser.specs.declared.word.Target.{Target}
 use Rattle.rr_parser.proofs.Chains.{done}
 use Rattle.rr_parser.specs.Grammar.Several.{Targeted}
@@ -18,14 +18,15 @@ use Rattle.rr_parser.specs.Grammar.Chains.{Chain, one, one_of, and_one}
 use Rattle.rr_parser.specs.Grammar.Nesting.{Nested}
 use Rattle.rr_parser.specs.Grammar.Names.{one_value, headed, command, told_behind}
 use Rattle.rr_parser.specs.Grammar.Calls.{no_assignment, target, with_target, assigned_to, label, comma, star, closing, last, Argument, Commanded, Adding, AddingTo, Given, entry, contents, item, nothing, only_pairs, with_member, is_settable, target_tree, target_variable}
-use Rattle.rr_parser.specs.Reading.Answers.{deep, Parse, built, ended_by, taking_of, trail_on, wrong}
+use Rattle.rr_parser.specs.Reading.Answers.{◌>>=◌, deep, Answer, Parse, built, ended_by, taking_of, trail_on, wrong}
 use Rattle.rr_parser.specs.Reading.Nesting.{Readers}
-use Rattle.rr_parser.specs.Reading.Calls.{reached_on, assigned_or, assigned_of, argument_of, member_of, another, members_of, bracketed_or, bracketed_of, array_of, hash_of, index_of, commanded_or, commanded_of, headed_of, command_or, command_of, phrase_or, phrase_of, operand_of, value_of, settled_of, ordered_of, order_or, order_on, adding_of, adding_to, arguments_of, arrow_or, key_on, label_or, listed_of, lone, star_or, star_unless, unlabeled_of}
-use Rattle.rr_parser.specs.Reading.Several.{values_on, right_on, sent_or_right, receiver_on, is_prefixed, rights_at, rights_or, rights_of, spot_target, reached_target, lone_target, targeted_or, targeted_of, targets_of, word_target}
-use Rattle.rr_parser.specs.Fronts.{RightsFront, in_values, in_named, in_sent, PostfixFront, behind_no_minus, behind_no_bang, Fronts, in_one, behind_label, in_entry, in_splat, MemberFront, MembersFront, in_former, in_latter, TakingFront, AssignedFront, in_value, in_operand, ArgumentFront, CommandedFront, in_arguments, in_argument_command, CommandFront, behind_name, PhraseFront, in_command, in_plain, OperandFront, ValueFront, SettledFront, behind_receiver, HeadedFront, in_no_setting, AddingFront, in_head, in_item, in_pair, TargetsFront}
+use Rattle.rr_parser.specs.Reading.Calls.{reached_on, assigned_or, assigned_of, argument_of, member_of, another, members_of, bracketed_or, bracketed_of, array_of, hash_of, index_of, commanded_or, commanded_of, headed_of, command_or, command_of, phrase_or, phrase_of, operand_of, value_of, settled_of, ordered_of, order_or, order_on, adding_of, adding_to, arguments_of, arrow_or, key_on, label_or, listed_of, lone, star_or, star_unless, unlabeled_of, is_prefixed, is_introduced, listed_on, receiver_or, commanded_on, commanded_at}
+use Rattle.rr_parser.specs.Reading.Several.{values_on, right_on, sent_or_right, receiver_on, rights_at, rights_or, rights_of, spot_target, reached_target, lone_target, targeted_or, targeted_of, targets_of, word_target}
+use Rattle.rr_parser.specs.Fronts.{RightsFront, in_values, in_named, in_sent, PostfixFront, behind_no_minus, behind_no_bang, Fronts, in_one, behind_label, in_entry, in_splat, MemberFront, MembersFront, in_former, in_latter, TakingFront, AssignedFront, in_value, in_operand, ArgumentFront, CommandedFront, in_arguments, in_argument_command, in_argument_order, CommandFront, behind_name, PhraseFront, in_command, in_plain, OperandFront, ValueFront, SettledFront, behind_receiver, HeadedFront, in_no_setting, AddingFront, in_head, in_item, in_pair, TargetsFront}
 use Rattle.rr_parser.proofs.Told.{told_star}
 use Rattle.rr_parser.proofs.Looks.{word-next}
 use Rattle.rr_parser.proofs.Listing.{another-comma}
+use Rattle.rr_parser.proofs.Introduced.{listed_from}
 use Rattle.rr_parser.proofs.SoundOperands.{NestedSound, taking_sound, postfix_sound}
 use Rattle.rr_parser.proofs.SoundCalls.{argument_sound, commanded_sound, adding_sound, reached_sound, targeted_sound}
 use Rattle.rr_parser.proofs.DeepOperands.{on_deep, logical_front, postfix_deep, IsDeep, bind_deep, built_deep, ended_not_deep, closed_deep, NestedDeep, from_deep, taking_deep, passed_deep, settled_deep, settled_by-deep, reached_deep, IsDeepOn, chain_deep}
@@ -126,8 +127,26 @@ module _ (N : Readers) (R : Nested) (F : Fronts) (sounds : NestedSound N R) (nes
   unfolding index_of
   index_deep s e = argument_deep s (closed_deep kind.CloseSquare (argument_of N s) e)
 
+  arguments_deep : (s : Place) → listed_of N listings.Command s ≡ Err deep → (z : Place) × CommandedFront R F s z
+  arguments_deep s e = let d = listed_deep listings.Command s e in (d.0, in_arguments d.1)
+
+  receiver_or-deep : (s m : Place) (r : Reached) (o : Option (Sym × Place)) → is_introduced s.rest ≡ false → postfix_of N s ≡ Ok (r, m) → at order m ≡ o → receiver_or N r m o ≡ Err deep → (z : Place) × CommandedFront R F s z
+  receiver_or-deep s m r None plain p f e = arguments_deep s (listed_from N s plain ∙ ap (λ (q : Answer Reached). q >>= λ x. listed_on N x.0 x.1) p ∙ e)
+  receiver_or-deep s m r (Some x) plain p f e =
+      let d = nests.ordered r.tree x.0 x.1 (built_deep one_of (N.ordered r.tree x.0 x.1) e) in
+      (d.0, in_argument_order ((postfix_sound N R sounds) s m r p) f d.1)
+
+  commanded_at-deep : (b : Bool) (s : Place) → is_introduced s.rest ≡ b → commanded_at N b s ≡ Err deep → (z : Place) × CommandedFront R F s z
+  unfolding commanded_on
+  commanded_at-deep true s f e = arguments_deep s e
+  commanded_at-deep false s f e =
+      elim (bind_deep (postfix_of N s) (λ x. commanded_on N x.0 x.1) e) [
+        | inl g ↦ arguments_deep s (listed_from N s f ∙ ap (λ (q : Answer Reached). q >>= λ x. listed_on N x.0 x.1) g)
+        | inr b ↦ receiver_or-deep s b.0.1 b.0.0 (at order b.0.1) f b.1 refl b.2
+      ]
+
   commanded_or-deep : (s : Place) (o : Option (Head × Place)) → at (command s.known) s ≡ o → commanded_or N s o ≡ Err deep → (z : Place) × CommandedFront R F s z
-  commanded_or-deep s None f e = let d = listed_deep listings.Command s e in (d.0, in_arguments d.1)
+  commanded_or-deep s None f e = commanded_at-deep (is_introduced s.rest) s refl e
   commanded_or-deep s (Some x) f e = let d = nests.part parts.Command s (built_deep one_of (N.part parts.Command s) e) in (d.0, in_argument_command f d.1)
 
   commanded_deep : IsDeep (commanded_of N) (CommandedFront R F)
@@ -153,10 +172,13 @@ module _ (N : Readers) (R : Nested) (F : Fronts) (sounds : NestedSound N R) (nes
   unfolding command_of
   command_deep s e = command_or-deep s (at (command s.known) s) refl e
 
-  order_or-deep : (s m : Place) (r : Reached) (o : Option (Sym × Place)) → Postfix R s r m → at order m ≡ o → order_or N r m o ≡ Err deep → (z : Place) × PhraseFront R F s z
+  pub ordered_deep : (r : Tree) (x : Sym) → IsDeep (ordered_of N r x) (HeadedFront R F (heads.Call x))
   unfolding ordered_of
+  ordered_deep r x m e = given_deep (heads.Call x) (λ l. send r x.0 (listed l)) m e
+
+  order_or-deep : (s m : Place) (r : Reached) (o : Option (Sym × Place)) → Postfix R s r m → at order m ≡ o → order_or N r m o ≡ Err deep → (z : Place) × PhraseFront R F s z
   order_or-deep s m r None h f e = let d = (reached_deep N R F sounds nests) true s m r h e in (d.0, in_plain d.1)
-  order_or-deep s m r (Some x) h f e = let d = given_deep (heads.Call x.0) (λ l. send r.tree x.0.0 (listed l)) x.1 e in (d.0, behind_receiver h f d.1)
+  order_or-deep s m r (Some x) h f e = let d = ordered_deep r.tree x.0 x.1 e in (d.0, behind_receiver h f d.1)
 
   order_deep : IsDeepOn (order_on N) (Postfix R) (PhraseFront R F)
   unfolding order_on
@@ -220,13 +242,12 @@ module _ (N : Readers) (R : Nested) (F : Fronts) (sounds : NestedSound N R) (nes
   right_deep s m t h e = values_deep s (one_of t) m (one h) (built_deep one_value (values_on N (one_of t) m) e)
 
   sent_or_right-deep : (s m : Place) (r : Reached) (o : Option (Sym × Place)) → Postfix R s r m → at order m ≡ o → sent_or_right N r m o ≡ Err deep → (z : Place) × RightsFront R F s z
-  unfolding ordered_of
   sent_or_right-deep s m r None h f e =
       elim (bind_deep (reached_on N false r m) (λ x. right_on N x.0 x.1) e) [
         | inl g ↦ (let d = (reached_deep N R F sounds nests) false s m r h g in (d.0, in_values (in_one (in_operand d.1))))
         | inr b ↦ right_deep s b.0.1 b.0.0 (no_assignment ((reached_sound N R sounds) false s m b.0.1 r b.0.0 h b.1)) b.2
       ]
-  sent_or_right-deep s m r (Some x) h f e = let d = given_deep (heads.Call x.0) (λ l. send r.tree x.0.0 (listed l)) x.1 e in (d.0, in_sent h f d.1)
+  sent_or_right-deep s m r (Some x) h f e = let d = ordered_deep r.tree x.0 x.1 e in (d.0, in_sent h f d.1)
 
   receiver_deep : IsDeepOn (receiver_on N) (Postfix R) (RightsFront R F)
   unfolding receiver_on

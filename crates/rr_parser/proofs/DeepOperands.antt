@@ -157,6 +157,7 @@ passing_not_deep false p m e = let never : ⊥ = cc in never
 pub record NestedDeep (N : Readers) (F : Fronts) : Type 0 where
   pub part : (p : Part) → IsDeep (N.part p) (F.part p)
   pub bracketed : IsDeep N.bracketed F.bracketed
+  pub ordered : (r : Tree) (x : Sym) → IsDeep (N.ordered r x) (F.ordered x)
   pub value : (b : Bool) → IsDeep (N.value b) (F.value b)
   pub values : IsDeep N.values F.values
 

@@ -382,7 +382,7 @@ head_starts s m x e = let h = head-next s m x e in record { kind = h.0; behind =
 
 pub phrase_starts : (R : Nested) (s z : Place) (t : Tree) → Phrase R s t z → Starts s
 phrase_starts R s z t (by_name (a_command {m = m} {x = x} e h b)) = head_starts s m x (command-next s m x e).0
-phrase_starts R s z t (by_receiver {m = m} {r = r} h e a b) = first_starts s (postfix_first R s m r h)
+phrase_starts R s z t (by_receiver {m = m} {r = r} h e g) = first_starts s (postfix_first R s m r h)
 phrase_starts R s z t (an_operand h) = first_starts s (settled_first R true s z t h)
 
 pub assigned_starts : (R : Nested) (commands : Bool) (Q : Place → Tree → Place → Type 0) → ((s z : Place) (t : Tree) → Q s t z → Starts s) → (s z : Place) (t : Tree) → Assigned R commands Q s t z → Starts s

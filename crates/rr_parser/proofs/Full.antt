@@ -13,7 +13,7 @@ use Rattle.rr_parser.specs.Places.{Place, word, at, next, skip, separators}
 use Rattle.rr_parser.specs.Grammar.Chains.{Chain, same, one_of, and_one}
 use Rattle.rr_parser.specs.Grammar.Nesting.{Nested}
 use Rattle.rr_parser.specs.Grammar.Operators.{connective, joined_by}
-use Rattle.rr_parser.specs.Grammar.Calls.{comma, Bracketed, Array, Hash, Index, Value}
+use Rattle.rr_parser.specs.Grammar.Calls.{comma, Bracketed, Array, Hash, Index, Value, Ordered}
 use Rattle.rr_parser.specs.declared.word.Modifier.{Modifier}
 use Rattle.rr_parser.specs.Grammar.Several.{several, assigned_to_several, Rights, Targeted, Targets, a_spot, a_target, plain_sign}
 use Rattle.rr_parser.specs.Grammar.Sequences.{Simple, to_several, no_several, Modifying, by_condition, Negation, a_negation, no_negation, Expression, modifier, modified, Statement, Rows, Statements, no_statements, some_statements, Group, a_group}
@@ -26,7 +26,7 @@ use Rattle.rr_parser.specs.Grammar.Definitions.{method_name, defined, rejoining,
 use Rattle.rr_parser.specs.Grammar.{PartOf, inside, outside}
 use Rattle.rr_parser.specs.Reading.Answers.{◌>>=◌, Answer, Parse, built, closed, from, across, taking_of, Refused, chain, chain_on, deep}
 use Rattle.rr_parser.specs.Reading.Nesting.{Readers}
-use Rattle.rr_parser.specs.Reading.Calls.{bracketed_of, array_of, hash_of, index_of, value_of, order_on, order_or}
+use Rattle.rr_parser.specs.Reading.Calls.{bracketed_of, array_of, hash_of, index_of, value_of, order_on, order_or, ordered_of}
 use Rattle.rr_parser.specs.Reading.Several.{targets_of, rights_of, behind_first, several_on, several_or, targeted_of, several_of}
 use Rattle.rr_parser.specs.Reading.Sequences.{simple_or, simple_of, modifying_of, negation_or, negation_of, expression_of, statement_of, row, rows_of, sequence_of, statements_at, statements_of, group_of, connected_on, expression_on, is_led, simple_at, spotted_on, spotted_or}
 use Rattle.rr_parser.specs.Reading.Interpolations.{pieces_of, interpolated_or, interpolated_on, interpolation_of}
@@ -45,7 +45,7 @@ use Rattle.rr_parser.proofs.Strengths.{Stops, word_unseen, connective_strength, 
 use Rattle.rr_parser.proofs.Firsts.{next_ends, chain_first, value_starts, starts_no_not, statement_starts, taking_stops, bang_no_prefix, first_starts, postfix_first, postfix_no_bang}
 use Rattle.rr_parser.proofs.Stopping.{expression_no_several, finished, end_ends, rescue_ends, caught_stop, AtEnd, middle_ends, tail_ends, elsif_ends, first_no_command, spot_no_aim, spot_no_several}
 use Rattle.rr_parser.proofs.FullOperands.{Anywhere, Ends, PartStops, value_stop, NestedFull, word_here, closed_full, taking_full, enclosed_full, same_fence, bang_full, minus_full, postfix_full, reached_alone}
-use Rattle.rr_parser.proofs.FullCalls.{targets_full, argument_full, bracketed_full, array_full, hash_full, index_full, command_full, value_full, rights_full, targeted_before}
+use Rattle.rr_parser.proofs.FullCalls.{targets_full, argument_full, bracketed_full, array_full, hash_full, index_full, command_full, value_full, rights_full, targeted_before, ordered_full}
 use Rattle.rr_parser.proofs.ClassFull.{class_body_full}
 use Rattle.rr_parser.proofs.Trails.{trail_full}
 use Rattle.rr_parser.specs.Grammar.Operands.{Postfix, Reached, Spot, no_bang}
@@ -366,9 +366,9 @@ full_map p P Stops f h s z t i stops = leads_map (p s) (Ok (t, z)) f (h s z t i 
 
 full_inside : (k d : ℕ) → NestedFull (readers_inside k) (inside d) (k < d)
 unfolding readers_inside inside
-full_inside zero zero = record { part = λ p s z t h stops. absurd h; bracketed = λ s z t h stops. absurd h; value = λ b s z t h stops. absurd h; values = λ s z t h stops. absurd h }
-full_inside zero (suc d) = record { part = λ p s z t h stops. inr (refl, omega arith); bracketed = λ s z t h stops. inr (refl, omega arith); value = λ b s z t h stops. inr (refl, omega arith); values = λ s z t h stops. inr (refl, omega arith) }
-full_inside (suc k) zero = record { part = λ p s z t h stops. absurd h; bracketed = λ s z t h stops. absurd h; value = λ b s z t h stops. absurd h; values = λ s z t h stops. absurd h }
+full_inside zero zero = record { part = λ p s z t h stops. absurd h; bracketed = λ s z t h stops. absurd h; ordered = λ r x s z t h stops. absurd h; value = λ b s z t h stops. absurd h; values = λ s z t h stops. absurd h }
+full_inside zero (suc d) = record { part = λ p s z t h stops. inr (refl, omega arith); bracketed = λ s z t h stops. inr (refl, omega arith); ordered = λ r x s z t h stops. inr (refl, omega arith); value = λ b s z t h stops. inr (refl, omega arith); values = λ s z t h stops. inr (refl, omega arith) }
+full_inside (suc k) zero = record { part = λ p s z t h stops. absurd h; bracketed = λ s z t h stops. absurd h; ordered = λ r x s z t h stops. absurd h; value = λ b s z t h stops. absurd h; values = λ s z t h stops. absurd h }
 full_inside (suc k) (suc d) =
     let i = full_inside k d in
     let j = shrinks_nested true k in
@@ -376,6 +376,7 @@ full_inside (suc k) (suc d) =
     record {
       part = λ p. full_map (part_of (readers_inside k) p) (PartOf (inside d) p) (PartStops p) deeper (part_full (readers_inside k) (inside d) (k < d) j i p);
       bracketed = full_map (taking_of true (bracketed_of (readers_inside k) listings.Call)) (Taking true (Bracketed (inside d) listings.Call)) Anywhere deeper (enclosed_full (bracketed_of (readers_inside k) listings.Call) (Bracketed (inside d) listings.Call) (bracketed_full (readers_inside k) (inside d) (k < d) j i listings.Call));
+      ordered = λ r x. full_map (ordered_of (readers_inside k) r x) (Ordered (inside d) r x) (Stops 29) deeper (ordered_full (readers_inside k) (inside d) (k < d) j i r x);
       value = λ b. full_map (value_of (readers_inside k) b) (Value (inside d) b) (Stops (value_stop b)) deeper (value_full (readers_inside k) (inside d) (k < d) j i b);
       values = full_map (rights_of (readers_inside k)) (Rights (inside d)) (Stops 29) deeper (rights_full (readers_inside k) (inside d) (k < d) j i);
     }
@@ -388,9 +389,9 @@ inner_rights_full k d = rights_full (readers_inside k) (inside d) (k < d) (shrin
 
 pub full_outside : (k d : ℕ) → NestedFull (readers_outside k) (outside d) (k < d)
 unfolding readers_outside outside
-full_outside zero zero = record { part = λ p s z t h stops. absurd h; bracketed = λ s z t h stops. absurd h; value = inner_full zero zero; values = inner_rights_full zero zero }
-full_outside zero (suc d) = record { part = λ p s z t h stops. inr (refl, omega arith); bracketed = λ s z t h stops. inr (refl, omega arith); value = inner_full zero (suc d); values = inner_rights_full zero (suc d) }
-full_outside (suc k) zero = record { part = λ p s z t h stops. absurd h; bracketed = λ s z t h stops. absurd h; value = inner_full (suc k) zero; values = inner_rights_full (suc k) zero }
+full_outside zero zero = record { part = λ p s z t h stops. absurd h; bracketed = λ s z t h stops. absurd h; ordered = λ r x s z t h stops. absurd h; value = inner_full zero zero; values = inner_rights_full zero zero }
+full_outside zero (suc d) = record { part = λ p s z t h stops. inr (refl, omega arith); bracketed = λ s z t h stops. inr (refl, omega arith); ordered = λ r x s z t h stops. inr (refl, omega arith); value = inner_full zero (suc d); values = inner_rights_full zero (suc d) }
+full_outside (suc k) zero = record { part = λ p s z t h stops. absurd h; bracketed = λ s z t h stops. absurd h; ordered = λ r x s z t h stops. absurd h; value = inner_full (suc k) zero; values = inner_rights_full (suc k) zero }
 full_outside (suc k) (suc d) =
     let i = full_outside k d in
     let j = shrinks_nested false k in
@@ -398,6 +399,7 @@ full_outside (suc k) (suc d) =
     record {
       part = λ p. full_map (part_of (readers_outside k) p) (PartOf (outside d) p) (PartStops p) deeper (part_full (readers_outside k) (outside d) (k < d) j i p);
       bracketed = full_map (taking_of true (bracketed_of (readers_outside k) listings.Call)) (Taking true (Bracketed (outside d) listings.Call)) Anywhere deeper (enclosed_full (bracketed_of (readers_outside k) listings.Call) (Bracketed (outside d) listings.Call) (bracketed_full (readers_outside k) (outside d) (k < d) j i listings.Call));
+      ordered = λ r x. full_map (ordered_of (readers_outside k) r x) (Ordered (outside d) r x) (Stops 29) deeper (ordered_full (readers_outside k) (outside d) (k < d) j i r x);
       value = inner_full (suc k) (suc d);
       values = inner_rights_full (suc k) (suc d);
     }

@@ -1,6 +1,7 @@
 -- What is spelled of assignments, arguments and commands is read, unless it nests too deep.
-use Rattle.std.proofs.Common.{◌≡◌, inl, Bool, true, false, List, Option, Some, None, Ok, refl, sym, ap, ◌∙◌, arith, cond, Err}
+use Rattle.std.proofs.Common.{◌≡◌, inl, inr, Bool, true, false, List, Option, Some, None, Ok, refl, sym, ap, ◌∙◌, arith, cond, Err}
 use Rattle.rr_parser.proofs.Prefixes.{unprefixed, not_prefixed}
+use Rattle.rr_parser.proofs.Introduced.{not_introduced, unintroduced, listed_from}
 use Rattle.rr_tree.specs.Tree.{Tree, array, hash, splat, pair, symbol, listed, send}
 use Rattle.rr_parser.specs.declared.word.Head.{Head}
 use Rattle.rr_parser.specs.declared.word.Listed.{Listed}
@@ -16,13 +17,13 @@ use Rattle.rr_parser.specs.Grammar.Chains.{Chain, one, more, one_of, and_one}
 use Rattle.rr_parser.specs.Grammar.Nesting.{Nested}
 use Rattle.rr_parser.specs.Grammar.Names.{one_value, headed, command, told_behind}
 use Rattle.rr_parser.specs.Grammar.Operands.{Blocked, no_block, a_block, order, Reached, Postfix, no_bang}
-use Rattle.rr_parser.specs.Grammar.Calls.{target, with_target, assigned_to, label, comma, closing, last, Assigned, an_assignment, no_assignment, Argument, Pair, by_label, by_arrow, star, Item, a_splat, a_plain_item, Member, Members, Bracketed, no_members, some_members, Array, an_array, Hash, a_hash, Index, of_element, Commanded, Arguments, by_arguments, by_command, Command, a_command, Phrase, by_name, an_operand, Value, Settled, by_receiver, Adding, adding, AddingTo, Given, Listing, a_pair_member, an_item, entry, contents, item, label_of_kind, nothing, only_pairs, with_member, target_tree, target_variable}
+use Rattle.rr_parser.specs.Grammar.Calls.{target, with_target, assigned_to, label, comma, closing, last, Assigned, an_assignment, no_assignment, Argument, Pair, by_label, by_arrow, star, Item, a_splat, a_plain_item, Member, Members, Bracketed, no_members, some_members, Array, an_array, Hash, a_hash, Index, of_element, Commanded, Arguments, by_arguments, by_command, by_order, Ordered, an_order, Command, a_command, Phrase, by_name, an_operand, Value, Settled, by_receiver, Adding, adding, AddingTo, Given, Listing, a_pair_member, an_item, entry, contents, item, label_of_kind, nothing, only_pairs, with_member, target_tree, target_variable}
 use Rattle.rr_parser.specs.declared.word.Aim.{Aim}
 use Rattle.rr_parser.specs.Grammar.Several.{Targeted, a_target, Targets, Rights, by_values, by_named, by_sent, plain_sign, a_spot}
-use Rattle.rr_parser.specs.Reading.Answers.{◌>>=◌, Parse, built, ended_by, from, wrong}
+use Rattle.rr_parser.specs.Reading.Answers.{◌>>=◌, Answer, Parse, built, ended_by, from, wrong}
 use Rattle.rr_parser.specs.Reading.Nesting.{Readers}
-use Rattle.rr_parser.specs.Reading.Calls.{assigned_or, assigned_of, argument_of, member_of, another, members_of, bracketed_or, bracketed_of, array_of, hash_of, index_of, commanded_or, commanded_of, arguments_of, headed_of, command_or, command_of, phrase_or, phrase_of, value_of, settled_of, settled_by, ordered_of, order_or, order_on, reached_on, adding_of, adding_to, arrow_or, key_on, label_or, listed_of, lone, star_or, star_unless, unlabeled_of}
-use Rattle.rr_parser.specs.Reading.Several.{targeted_or, targeted_of, targets_of, values_on, right_on, sent_or_right, receiver_on, is_prefixed, rights_at, rights_or, rights_of, ends_target, lone_target, spot_target, reached_target, word_target}
+use Rattle.rr_parser.specs.Reading.Calls.{assigned_or, assigned_of, argument_of, member_of, another, members_of, bracketed_or, bracketed_of, array_of, hash_of, index_of, commanded_or, commanded_of, arguments_of, headed_of, command_or, command_of, phrase_or, phrase_of, value_of, settled_of, settled_by, ordered_of, order_or, order_on, reached_on, adding_of, adding_to, arrow_or, key_on, label_or, listed_of, lone, star_or, star_unless, unlabeled_of, is_prefixed, is_introduced, listed_on, receiver_or, commanded_on, commanded_at}
+use Rattle.rr_parser.specs.Reading.Several.{targeted_or, targeted_of, targets_of, values_on, right_on, sent_or_right, receiver_on, rights_at, rights_or, rights_of, ends_target, lone_target, spot_target, reached_target, word_target}
 use Rattle.rr_parser.proofs.Told.{told_comma, told_arrow}
 use Rattle.rr_parser.proofs.Looks.{seen, by_next, none_unless, other-word, seen_as, word-next, target-lone, rest_target}
 use Rattle.rr_parser.proofs.Listing.{another-comma, comma-another, last-another, Steps-another}
@@ -30,7 +31,7 @@ use Rattle.rr_parser.proofs.Steps.{Steps-comma}
 use Rattle.rr_parser.proofs.Shrinking.{ReadersShrink}
 use Rattle.rr_parser.proofs.Leading.{Leads, leads_built, leads_bind, leads_trans, leads_eq, IsFull, chain_full}
 use Rattle.rr_parser.proofs.Strengths.{Stops, stops_by, word_unseen, comma_strength}
-use Rattle.rr_parser.proofs.Firsts.{bang_no_prefix, postfix_no_bang, chain_first, starts_no_star, starts_no_label, settled_first, argument_starts, opened_stops, taking_stops, postfix_first, no_star_unless, star_no_label}
+use Rattle.rr_parser.proofs.Firsts.{bang_no_prefix, postfix_no_bang, chain_first, starts_no_star, starts_no_label, settled_first, argument_starts, opened_stops, taking_stops, first_starts, postfix_first, no_star_unless, star_no_label}
 use Rattle.rr_parser.proofs.Closings.{last_stops, MemberStops, adding_no_closing}
 use Rattle.rr_parser.proofs.Stopping.{receiver_no_target, first_no_command, aim_no_command, settled_no_target, phrase_no_target, spot_no_lone, ends_stop, comma_ends, sign_ends}
 use Rattle.rr_parser.proofs.FullOperands.{Anywhere, value_stop, NestedFull, word_here, closed_full, taking_full, passed_full, settled_full, unprefixed_full, unprefixed_onward, postfix_full, tailless_full}
@@ -38,7 +39,7 @@ use Rattle.rr_parser.specs.declared.word.Head.TheVariants as heads
 use Rattle.rr_base.specs.declared.name.Sym.{Sym}
 use Rattle.rr_parser.proofs.Orders.{order-next, no_order_at}
 use Rattle.rr_parser.specs.Reading.Operands.{postfix_of, then_blocked}
-use Rattle.rr_parser.proofs.Trails.{trail_full, trail_head}
+use Rattle.rr_parser.proofs.Trails.{trail_full, trail_head, StoppedHead, trail_first}
 use Rattle.rr_parser.proofs.Chains.{chain_on-ends, chain_on-turn}
 
 module _ (N : Readers) (R : Nested) (D : Type 0) (shrinks : ReadersShrink N) (nests : NestedFull N R D) where
@@ -173,14 +174,68 @@ module _ (N : Readers) (R : Nested) (D : Type 0) (shrinks : ReadersShrink N) (ne
   adding_no_command : (k : Listed) (g : Given) (s z : Place) (t : Given) → Adding R k g s t z → at (command s.known) s ≡ None
   adding_no_command k g s z t (adding {m = m} h) = listing_no_command (only_pairs k g) s z m h
 
+  -- ---- the operand that arguments begin with, where no word stands before it
+
+  argument_operand : (s z : Place) (t : Tree) → is_prefixed s.rest ≡ false → Argument R s t z → Stops 27 z → StoppedHead (Postfix R) (Stops 0) s
+  argument_operand s z t f (an_assignment {n = n} {x = x} e g h) stops = let never : ◌≡◌ {A = Option (Aim × Place)} (Some (x, n)) None = sym e ∙ (unprefixed s f).0 in absurd cc
+  argument_operand s z t f (no_assignment h) stops =
+      let u = unprefixed s f in
+      let o = (unprefixed_onward N R D shrinks nests) s z t u.1 u.2 h stops in
+      record { first = o.first; behind = o.behind; spelled = o.spelled; stops = o.stops }
+
+  listing_operand : (s y : Place) (m : Member) → is_introduced s.rest ≡ false → Listing R false s m y → MemberStops y → StoppedHead (Postfix R) (Stops 0) s
+  listing_operand s y m f (an_item o (a_splat {m = n} g h)) stops = let never : ◌≡◌ {A = Option (Unit {0} × Place)} (Some (tt, n)) None = sym (word_here star s n g refl) ∙ (unintroduced s f).1 in absurd cc
+  listing_operand s y m f (an_item {t = t} o (a_plain_item h)) stops = argument_operand s y t (unintroduced s f).2 h stops.0
+  listing_operand s y m f (a_pair_member (by_label {m = n} {x = x} e h)) stops = let never : ◌≡◌ {A = Option (Sym × Place)} (Some (x, n)) None = sym e ∙ (unintroduced s f).0 in absurd cc
+  listing_operand s y m f (a_pair_member (by_arrow {m = n} {n = o} {k = k} h e i)) stops = argument_operand s n k (unintroduced s f).2 h (stops_by kind.Arrow 27 n o e (omega arith))
+
+  adding_operand : (s y : Place) (u : Given) → is_introduced s.rest ≡ false → Adding R listings.Command nothing s u y → MemberStops y → StoppedHead (Postfix R) (Stops 0) s
+  adding_operand s y u f (adding {m = m} h) stops = listing_operand s y m f h stops
+
+  commanded_still : (r : Reached) (m : Place) → Stops 0 m → commanded_on N r m ≡ listed_on N r m
+  unfolding commanded_on
+  commanded_still r m stops = ap (receiver_or N r m) (no_order_at m stops)
+
+  commanded_order : (r : Reached) (m n : Place) (x : Sym) → at order m ≡ Some (x, n) → commanded_on N r m ≡ built one_of (N.ordered r.tree x n)
+  unfolding commanded_on
+  commanded_order r m n x e = ap (receiver_or N r m) e
+
+  -- no command with a receiver begins there
+  operand_lead : (s m z : Place) (r : Reached) (l : List Tree) → is_introduced s.rest ≡ false → Stops 0 m → Leads (postfix_of N s) (Ok (r, m)) D → Leads (listed_of N listings.Command s) (Ok (l, z)) D → Leads (from (postfix_of N) (commanded_on N) s) (Ok (l, z)) D
+  operand_lead s m z r l f stops (inl e) h =
+      leads_eq (from (postfix_of N) (commanded_on N) s) (listed_of N listings.Command s) (Ok (l, z))
+      (ap (λ (q : Answer Reached). q >>= λ x. commanded_on N x.0 x.1) e
+      ∙ commanded_still r m stops
+      ∙ sym (listed_from N s f ∙ ap (λ (q : Answer Reached). q >>= λ x. listed_on N x.0 x.1) e)) h
+  operand_lead s m z r l f stops (inr e) h = inr (ap (λ (q : Answer Reached). q >>= λ x. commanded_on N x.0 x.1) e.0, e.1)
+
+  arguments_lead : (b : Bool) (s z : Place) (g : Given) → is_introduced s.rest ≡ b → Members R listings.Command s g z → Stops 29 z → Leads (commanded_at N b s) (Ok (contents listings.Command g, z)) D
+  arguments_lead true s z g f c stops = commands_full s z g c stops
+  arguments_lead false s z g f c stops =
+      let w = trail_first comma (Adding R listings.Command nothing) (AddingTo R listings.Command) MemberStops comma_stops s z g c (omega (arith, stops), word_unseen kind.Arrow told_arrow z stops) in
+      let o = adding_operand s w.behind w.first f w.spelled w.stops in
+      operand_lead s o.behind z o.first (contents listings.Command g) f o.stops ((postfix_full N R D shrinks nests) s o.behind o.first o.spelled o.stops) (commands_full s z g c stops)
+
+  -- the receiver of a command
+  receiver_unprefixed : (s m n : Place) (r : Reached) (x : Sym) → Postfix R s r m → at order m ≡ Some (x, n) → is_prefixed s.rest ≡ false
+  receiver_unprefixed s m n r x h e = not_prefixed s (receiver_no_target R s m n r x h e) (bang_no_prefix R s m r.tree (no_bang h)) (postfix_no_bang R s m r h)
+
+  receiver_unintroduced : (s m n : Place) (r : Reached) (x : Sym) → Postfix R s r m → at order m ≡ Some (x, n) → is_introduced s.rest ≡ false
+  receiver_unintroduced s m n r x h e = let begins = first_starts s (postfix_first R s m r h) in not_introduced s (starts_no_label s begins) (starts_no_star s begins) (receiver_unprefixed s m n r x h e)
+
   pub commanded_full : IsFull (commanded_of N) (Commanded R) (Stops 29) D
   unfolding commanded_of
   commanded_full s z l (by_arguments {g = g} c) stops =
       let f = trail_head comma (Adding R listings.Command nothing) (AddingTo R listings.Command) s z g c in
-      leads_eq (commanded_or N s (at (command s.known) s)) (listed_of N listings.Command s) (Ok (l, z)) (ap (commanded_or N s) (adding_no_command listings.Command nothing s f.1 f.0 f.2)) (commands_full s z g c stops)
+      leads_eq (commanded_or N s (at (command s.known) s)) (commanded_at N (is_introduced s.rest) s) (Ok (l, z)) (ap (commanded_or N s) (adding_no_command listings.Command nothing s f.1 f.0 f.2)) (arguments_lead (is_introduced s.rest) s z g refl c stops)
   commanded_full s z l (by_command {t = t} e h) stops =
       leads_eq (commanded_or N s (at (command s.known) s)) (built one_of (N.part parts.Command s)) (Ok (l, z)) (ap (commanded_or N s) e)
       (leads_bind (N.part parts.Command s) (t, z) (λ y. Ok (one_of y.0, y.1)) (nests.part parts.Command s z t h stops))
+  commanded_full s z l (by_order {m = m} {n = n} {r = r} {x = x} {t = t} h e g) stops =
+      leads_eq (commanded_or N s (at (command s.known) s)) (from (postfix_of N) (commanded_on N) s) (Ok (one_of t, z))
+      (ap (commanded_or N s) (first_no_command s (postfix_first R s m r h)) ∙ ap (λ b. commanded_at N b s) (receiver_unintroduced s m n r x h e))
+      (leads_trans (from (postfix_of N) (commanded_on N) s) (commanded_on N r m) (Ok (one_of t, z)) (leads_bind (postfix_of N s) (r, m) (λ q. commanded_on N q.0 q.1) ((tailless_full N R D shrinks nests) s m r h (order-next m n x e).no_tail))
+      (leads_eq (commanded_on N r m) (built one_of (N.ordered r.tree x n)) (Ok (one_of t, z)) (commanded_order r m n x e) (leads_built one_of (N.ordered r.tree x n) (Ok (t, z)) (nests.ordered r.tree x n z t g stops))))
 
   -- what stands behind the arguments stops them
   blocked_stops : (q : Behind) (c : Tree) (n z : Place) (t : Tree) → Blocked R q c n t z → Stops 29 z → Stops 29 n
@@ -202,10 +257,13 @@ module _ (N : Readers) (R : Nested) (D : Type 0) (shrinks : ReadersShrink N) (ne
       leads_eq (command_or N (at (command s.known) s)) (headed_of N x m) (Ok (t, z)) (ap (command_or N) e) (called_full m n z x l t h b stops)
 
   -- a command with a receiver, and where there is none
-  order_full : (m n o z : Place) (r : Reached) (x : Sym) (l : List Tree) (t : Tree) → at order m ≡ Some (x, n) → Arguments R (heads.Call x) n l o → Blocked R (behinds.Command (heads.Call x)) (send r.tree x.0 (listed l)) o t z → Stops 29 z
-      → Leads (order_on N r m) (Ok (t, z)) D
-  unfolding order_on ordered_of
-  order_full m n o z r x l t e a b stops = leads_eq (order_or N r m (at order m)) (ordered_of N r.tree x n) (Ok (t, z)) (ap (order_or N r m) e) (given_full (λ q. send r.tree x.0 (listed q)) n o z (heads.Call x) l t a b stops)
+  pub ordered_full : (r : Tree) (x : Sym) → IsFull (ordered_of N r x) (Ordered R r x) (Stops 29) D
+  unfolding ordered_of
+  ordered_full r x n z t (an_order {m = o} {l = l} a b) stops = given_full (λ q. send r x.0 (listed q)) n o z (heads.Call x) l t a b stops
+
+  order_full : (m n z : Place) (r : Reached) (x : Sym) (t : Tree) → at order m ≡ Some (x, n) → Ordered R r.tree x n t z → Stops 29 z → Leads (order_on N r m) (Ok (t, z)) D
+  unfolding order_on
+  order_full m n z r x t e g stops = leads_eq (order_or N r m (at order m)) (ordered_of N r.tree x n) (Ok (t, z)) (ap (order_or N r m) e) (ordered_full r.tree x n z t g stops)
 
   order_still : (r : Reached) (m : Place) → Stops 0 m → order_on N r m ≡ reached_on N true r m
   unfolding order_on
@@ -215,9 +273,9 @@ module _ (N : Readers) (R : Nested) (D : Type 0) (shrinks : ReadersShrink N) (ne
   unfolding phrase_of
   phrase_full s z t (by_name (a_command {m = m} {n = n} {x = x} {l = l} e h b)) stops =
       leads_eq (phrase_or N s (at (command s.known) s)) (headed_of N x m) (Ok (t, z)) (ap (phrase_or N s) e) (called_full m n z x l t h b stops)
-  phrase_full s z t (by_receiver {m = m} {n = n} {o = o} {r = r} {x = x} {l = l} h e a b) stops =
+  phrase_full s z t (by_receiver {m = m} {n = n} {r = r} {x = x} h e g) stops =
       leads_eq (phrase_or N s (at (command s.known) s)) (settled_by N (order_on N) s) (Ok (t, z)) (ap (phrase_or N s) (first_no_command s (postfix_first R s m r h)))
-      ((unprefixed_full N R D shrinks nests) (order_on N) s m z r t h (order-next m n x e).no_tail (order_full m n o z r x l t e a b stops))
+      ((unprefixed_full N R D shrinks nests) (order_on N) s m z r t h (order-next m n x e).no_tail (order_full m n z r x t e g stops))
   phrase_full s z t (an_operand h) stops =
       leads_eq (phrase_or N s (at (command s.known) s)) (settled_by N (order_on N) s) (Ok (t, z)) (ap (phrase_or N s) (first_no_command s (settled_first R true s z t h)))
       ((settled_full N R D shrinks nests) true (order_on N) order_still s z t h stops)
@@ -292,13 +350,9 @@ module _ (N : Readers) (R : Nested) (D : Type 0) (shrinks : ReadersShrink N) (ne
       (leads_built one_value (values_on N k m) (values_on N (and_one x k r) z) (values_turn k m n z x r e h stops))
 
   -- a command with a receiver
-  sent_full : (m n o z : Place) (r : Reached) (x : Sym) (l : List Tree) (t : Tree) → at order m ≡ Some (x, n) → Arguments R (heads.Call x) n l o → Blocked R (behinds.Command (heads.Call x)) (send r.tree x.0 (listed l)) o t z → Stops 29 z
-      → Leads (receiver_on N r m) (Ok (t, z)) D
-  unfolding receiver_on ordered_of
-  sent_full m n o z r x l t e a b stops = leads_eq (sent_or_right N r m (at order m)) (ordered_of N r.tree x n) (Ok (t, z)) (ap (sent_or_right N r m) e) (given_full (λ q. send r.tree x.0 (listed q)) n o z (heads.Call x) l t a b stops)
-
-  receiver_unprefixed : (s m n : Place) (r : Reached) (x : Sym) → Postfix R s r m → at order m ≡ Some (x, n) → is_prefixed s.rest ≡ false
-  receiver_unprefixed s m n r x h e = not_prefixed s (receiver_no_target R s m n r x h e) (bang_no_prefix R s m r.tree (no_bang h)) (postfix_no_bang R s m r h)
+  sent_full : (m n z : Place) (r : Reached) (x : Sym) (t : Tree) → at order m ≡ Some (x, n) → Ordered R r.tree x n t z → Stops 29 z → Leads (receiver_on N r m) (Ok (t, z)) D
+  unfolding receiver_on
+  sent_full m n z r x t e g stops = leads_eq (sent_or_right N r m (at order m)) (ordered_of N r.tree x n) (Ok (t, z)) (ap (sent_or_right N r m) e) (ordered_full r.tree x n z t g stops)
 
   rights_unnamed : (s : Place) → at (command s.known) s ≡ None → rights_of N s ≡ rights_at N (is_prefixed s.rest) s
   unfolding rights_of
@@ -315,8 +369,8 @@ module _ (N : Readers) (R : Nested) (D : Type 0) (shrinks : ReadersShrink N) (ne
       (leads_trans (rights_at N (is_prefixed s.rest) s) (built one_value (values_on N l z)) (Ok (one_value l, z)) (values_lead s z l c (omega (arith, stops)))
       (inl (ap (built one_value) (values_end l z (word_unseen kind.Comma told_comma z (omega (arith, stops)))))))
   rights_full s z t (by_named (a_command {m = m} {n = n} {x = x} {l = l} e h b)) stops = leads_eq (rights_of N s) (headed_of N x m) (Ok (t, z)) (rights_named s m x e) (called_full m n z x l t h b stops)
-  rights_full s z t (by_sent {m = m} {n = n} {o = o} {r = r} {x = x} {l = l} h e a b) stops =
+  rights_full s z t (by_sent {m = m} {n = n} {r = r} {x = x} h e g) stops =
       leads_eq (rights_of N s) (from (postfix_of N) (receiver_on N) s) (Ok (t, z))
       (rights_unnamed s (first_no_command s (postfix_first R s m r h)) ∙ ap (λ q. rights_at N q s) (receiver_unprefixed s m n r x h e))
       (leads_trans (from (postfix_of N) (receiver_on N) s) (receiver_on N r m) (Ok (t, z)) (leads_bind (postfix_of N s) (r, m) (λ q. receiver_on N q.0 q.1) ((tailless_full N R D shrinks nests) s m r h (order-next m n x e).no_tail))
-      (sent_full m n o z r x l t e a b stops))
+      (sent_full m n z r x t e g stops))

@@ -62,6 +62,7 @@ value_stop true = 29
 pub record NestedFull (N : Readers) (R : Nested) (D : Type 0) : Type 0 where
   pub part : (p : Part) → IsFull (N.part p) (R.part p) (PartStops p) D
   pub bracketed : IsFull N.bracketed R.bracketed Anywhere D
+  pub ordered : (r : Tree) (x : Sym) → IsFull (N.ordered r x) (R.ordered r x) (Stops 29) D
   pub value : (b : Bool) → IsFull (N.value b) (R.value b) (Stops (value_stop b)) D
   pub values : IsFull N.values R.values (Stops 29) D
 

@@ -19,11 +19,12 @@ use Rattle.rr_parser.specs.declared.word.Listed.TheVariants as listings
 use Rattle.rr_parser.specs.declared.word.Word.{Word}
 use Rattle.rr_parser.specs.declared.word.WordKind.TheVariants as kind
 use Rattle.rr_parser.specs.Places.{Place, Look, word, at}
+use Rattle.rr_parser.specs.Grammar.Operands.{Reached}
 use Rattle.rr_parser.specs.Grammar.Calls.{label, Member, item, entry, Given, nothing, with_member, only_pairs, with_pairs, contents}
 use Rattle.rr_parser.specs.Reading.Answers.{◌>>=◌, wrong, Answer, Parse, built, from, trail_on}
 use Rattle.rr_parser.specs.Reading.Nesting.{Readers}
-use Rattle.rr_parser.specs.Reading.Calls.{another, argument_of, lone, arrow_or, key_on, star_or, star_unless, unlabeled_of, label_or, member_of, adding_of, adding_to, members_of, listed_of}
-use Rattle.rr_parser.specs.Meets.{View, nodes, lists, members, givens, member_tree, member_within, Made, Fails, GivesMember, Puts, PutsList, AddsMember, place}
+use Rattle.rr_parser.specs.Reading.Calls.{another, argument_of, lone, arrow_or, key_on, star_or, star_unless, unlabeled_of, label_or, member_of, adding_of, adding_to, members_on, members_of, listed_of, reached_on, first_on, listed_on}
+use Rattle.rr_parser.specs.Meets.{View, nodes, lists, members, givens, member_tree, member_within, Made, Fails, GivesMember, GivesGiven, Puts, PutsList, AddsMember, place}
 use Rattle.rr_parser.proofs.Looks.{left, Steps}
 use Rattle.rr_parser.proofs.Trails.{trail_on-ends, trail_on-turn}
 use Rattle.rr_parser.proofs.Making.{Goes, fails_bind, fails_eq, seen_at, unseen_at, same_place, stable_nodes, kept_list, grown_list}
@@ -219,6 +220,11 @@ module _ {X E A : Type 0} (v : View E A) (look : Look X) (q : X → A → Parse 
     same = g.same ∙ one_turn s0 l rest after x e ∙ ap (λ (r : Answer A). r >>= λ r. goes_on r.0 r.1) m.tree;
   }
 
+-- what was there before is as it was
+later_given : (old mid new : Parser) (r : Result (CodeGiven × Bor (List Word)) Refusal) (read : Answer Given) → Extends old.nodes.items mid.nodes.items → GivesGiven mid new r read → GivesGiven old new r read
+later_given old mid new (Ok x) read e m = record { there = m.there; tree = m.tree; kept = Extends-trans old.nodes.items mid.nodes.items new.nodes.items e m.kept }
+later_given old mid new (Err d) read e h = h
+
 none_given : (n : ℕ) (g : CodeGiven) → g.items.items ≡ [] → g.pairs.items ≡ [] → givens.within n g
 none_given n g d e = (none_within g.items.items d, none_within g.pairs.items e)
   where
@@ -234,16 +240,14 @@ pub empty_given : (p : Parser) (g : CodeGiven) → g.items.items ≡ [] → g.pa
 empty_given p g d e = none_given (length p.nodes.items) g d e
 
 module _ (N : Readers) (k : Listed) where
-  pub members_begin : (old new : Parser) (none g : CodeGiven) (words rest : List Word) → none.items.items ≡ [] → none.pairs.items ≡ [] → Made givens old new g rest (adding_of N k (givens.tree old.nodes.items none) (place old words))
-      → Goes givens old new g (members_of N k (place old words)) (trail_on (another k) (adding_to N k) (givens.tree new.nodes.items g) (place new rest))
+  pub gives_members : (old mid new : Parser) (none g : CodeGiven) (words rest : List Word) (r : Result (CodeGiven × Bor (List Word)) Refusal) → none.items.items ≡ [] → none.pairs.items ≡ []
+      → Made givens old mid g rest (adding_of N k (givens.tree old.nodes.items none) (place old words)) → GivesGiven mid new r (members_on N k (givens.tree mid.nodes.items g) (place mid rest)) → GivesGiven old new r (members_of N k (place old words))
   unfolding members_of
-  members_begin old new none g words rest d e m = record {
-    there = m.there;
-    kept = m.kept;
-    same =
-        ap (λ (v : Given). adding_of N k v (place old words) >>= λ r. trail_on (another k) (adding_to N k) r.0 r.1) (sym (nothing_given old.nodes.items none d e))
-        ∙ ap (λ (q : Answer Given). q >>= λ r. trail_on (another k) (adding_to N k) r.0 r.1) m.tree;
-  }
+  gives_members old mid new none g words rest r d e m h =
+      subst (λ (q : Answer Given). GivesGiven old new r q)
+      (sym
+      (ap (λ (v : Given). adding_of N k v (place old words) >>= λ x. members_on N k x.0 x.1) (sym (nothing_given old.nodes.items none d e))
+      ∙ ap (λ (q : Answer Given). q >>= λ x. members_on N k x.0 x.1) m.tree)) (later_given old mid new r (members_on N k (givens.tree mid.nodes.items g) (place mid rest)) m.kept h)
 
   pub fails_first : (old : Parser) (none : CodeGiven) (words : List Word) (d : Refusal) → none.items.items ≡ [] → none.pairs.items ≡ [] → Fails d (adding_of N k (givens.tree old.nodes.items none) (place old words)) → Fails d (members_of N k (place old words))
   unfolding members_of
@@ -268,6 +272,61 @@ module _ (N : Readers) (k : Listed) where
   pub fails_listed : (old : Parser) (words : List Word) (d : Refusal) → Fails d (members_of N k (place old words)) → Fails d (listed_of N k (place old words))
   unfolding listed_of
   fails_listed old words d h = fails_bind d (members_of N k (place old words)) (λ q. Ok (contents k q.0, q.1)) h
+
+-- ---- arguments from behind the operand that they begin with
+
+module _ (N : Readers) (o : Reached) where
+  pub made_first : (old m1 m2 : Parser) (none g : CodeGiven) (a : ℕ) (e : CodeMember) (words after rest : List Word) → none.items.items ≡ [] → none.pairs.items ≡ [] → Made nodes old m1 a after (reached_on N false o (place old words))
+      → Made members m1 m2 e rest (key_on N false (tree_at m1.nodes.items a) (place m1 after)) → AddsMember none g e → Made givens old m2 g rest (first_on N o (place old words))
+  unfolding first_on
+  made_first old m1 m2 none g a e words after rest i p m k add = record {
+    there = added_within (length m2.nodes.items) none g e (none_given (length m2.nodes.items) none i p) k.there add;
+    tree =
+        ap (λ (q : Answer Tree). built (with_member nothing) (q >>= λ x. key_on N false x.0 x.1)) m.tree
+        ∙ ap (built (with_member nothing)) k.tree
+        ∙ ap (λ (v : Given). Ok (with_member v (member_tree m2.nodes.items e), place m2 rest)) (sym (nothing_given m2.nodes.items none i p))
+        ∙ ap (λ (v : Given). Ok (v, place m2 rest)) (added_tree m2.nodes.items none g e add);
+    kept = Extends-trans old.nodes.items m1.nodes.items m2.nodes.items m.kept k.kept;
+  }
+
+  pub fails_operand : (old : Parser) (words : List Word) (d : Refusal) → Fails d (reached_on N false o (place old words)) → Fails d (first_on N o (place old words))
+  unfolding first_on
+  fails_operand old words d h =
+      fails_bind d (reached_on N false o (place old words) >>= λ x. key_on N false x.0 x.1) (λ q. Ok (with_member nothing q.0, q.1)) (fails_bind d (reached_on N false o (place old words)) (λ x. key_on N false x.0 x.1) h)
+
+  pub fails_behind_operand : (old m1 : Parser) (a : ℕ) (words after : List Word) (d : Refusal) → Made nodes old m1 a after (reached_on N false o (place old words)) → Fails d (key_on N false (tree_at m1.nodes.items a) (place m1 after)) → Fails d (first_on N o (place old words))
+  unfolding first_on
+  fails_behind_operand old m1 a words after d m h =
+      fails_eq d (first_on N o (place old words)) (built (with_member nothing) (key_on N false (tree_at m1.nodes.items a) (place m1 after)))
+      (ap (λ (q : Answer Tree). built (with_member nothing) (q >>= λ x. key_on N false x.0 x.1)) m.tree) (fails_bind d (key_on N false (tree_at m1.nodes.items a) (place m1 after)) (λ q. Ok (with_member nothing q.0, q.1)) h)
+
+  -- the first argument, and those behind it
+  pub made_listed_on : (old m1 m2 new : Parser) (first g : CodeGiven) (es : List ℕ) (words after rest : List Word) → Made givens old m1 first after (first_on N o (place old words))
+      → Made givens m1 m2 g rest (members_on N listings.Command (givens.tree m1.nodes.items first) (place m1 after)) → PutsList m2 new (contents listings.Command (givens.tree m2.nodes.items g)) es
+      → Made (lists nodes) old new es rest (listed_on N o (place old words))
+  unfolding listed_on
+  made_listed_on old m1 m2 new first g es words after rest m k p = record {
+    there = p.there;
+    tree =
+        ap (λ (q : Answer Given). built (contents listings.Command) (q >>= λ x. members_on N listings.Command x.0 x.1)) m.tree
+        ∙ ap (built (contents listings.Command)) k.tree
+        ∙ ap (λ (l : List Tree). Ok (l, place m2 rest)) (sym p.trees)
+        ∙ ap (λ (s : Place). Ok (map (tree_at new.nodes.items) es, s)) (sym (same_place m2 new rest p.known));
+    kept = Extends-trans old.nodes.items m1.nodes.items new.nodes.items m.kept (Extends-trans m1.nodes.items m2.nodes.items new.nodes.items k.kept p.kept);
+  }
+
+  pub fails_first_argument : (old : Parser) (words : List Word) (d : Refusal) → Fails d (first_on N o (place old words)) → Fails d (listed_on N o (place old words))
+  unfolding listed_on
+  fails_first_argument old words d h =
+      fails_bind d (from (first_on N o) (members_on N listings.Command) (place old words)) (λ q. Ok (contents listings.Command q.0, q.1)) (fails_bind d (first_on N o (place old words)) (λ x. members_on N listings.Command x.0 x.1) h)
+
+  pub fails_later_arguments : (old m1 : Parser) (first : CodeGiven) (words after : List Word) (d : Refusal) → Made givens old m1 first after (first_on N o (place old words))
+      → Fails d (members_on N listings.Command (givens.tree m1.nodes.items first) (place m1 after)) → Fails d (listed_on N o (place old words))
+  unfolding listed_on
+  fails_later_arguments old m1 first words after d m h =
+      fails_eq d (listed_on N o (place old words)) (built (contents listings.Command) (members_on N listings.Command (givens.tree m1.nodes.items first) (place m1 after)))
+      (ap (λ (q : Answer Given). built (contents listings.Command) (q >>= λ x. members_on N listings.Command x.0 x.1)) m.tree)
+      (fails_bind d (members_on N listings.Command (givens.tree m1.nodes.items first) (place m1 after)) (λ q. Ok (contents listings.Command q.0, q.1)) h)
 
 -- ---- the nodes of a list
 

@@ -1,19 +1,17 @@
 -- What the code made of lists that are joined, and of the members of classes.
-use Rattle.std.proofs.Common.{◌≡◌, ℕ, zero, suc, ◌<◌, ◌≤◌, List, ◌∷◌, ◌++◌, [], length, map, Some, None, Ok, refl, sym, ap, ◌∙◌, subst, arith}
+use Rattle.std.proofs.Common.{◌≡◌, ℕ, zero, suc, ◌<◌, ◌≤◌, List, ◌∷◌, ◌++◌, [], length, map, Some, None, Ok, sym, ap, ◌∙◌, subst, arith}
 use Rattle.std.specs.Prelude.{All}
 use Rattle.std.proofs.lemmas.List.{map-append}
 use Rattle.std.proofs.lemmas.List.Elements.{All-append}
 use Rattle.rr_base.specs.declared.name.Sym.{Sym}
-use Rattle.rr_tree.specs.declared.node.Node.{Node}
 use Rattle.rr_tree.specs.Tree.{Tree, tree_at}
-use Rattle.rr_tree.specs.Nodes.{Extends}
 use Rattle.rr_tree.proofs.Growth.{Extends-trans, length-kept, tree_at-kept}
 use Rattle.rr_parser.specs.declared.word.Access.{Access}
 use Rattle.rr_parser.specs.declared.parser.Parser.{Parser}
 use Rattle.rr_parser.specs.declared.word.Part.TheVariants as parts
 use Rattle.rr_parser.specs.declared.word.Word.{Word}
 use Rattle.rr_parser.specs.declared.word.WordKind.TheVariants as kind
-use Rattle.rr_parser.specs.Places.{Place, Look, word, at}
+use Rattle.rr_parser.specs.Places.{Place, Look, word}
 use Rattle.rr_parser.specs.Grammar.Chains.{one_of, all_of, and_all}
 use Rattle.rr_parser.specs.Grammar.Classes.{access_word, symbol, attribute_methods}
 use Rattle.rr_parser.specs.Reading.Answers.{◌>>=◌, Answer, Parse, built, chain_on, chain}

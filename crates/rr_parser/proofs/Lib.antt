@@ -4,6 +4,7 @@ pub mod Listing
 pub mod Chains
 pub mod Prefixes
 pub mod Beginnings
+pub mod Introduced
 pub mod SoundOperands
 pub mod SoundCalls
 pub mod Accesses

@@ -3,6 +3,7 @@ use Rattle.std.proofs.Common.{◌≡◌, ℕ, zero, suc, ◌-◌, ◌<◌, ◌�
 use Rattle.std.specs.Prelude.{All, IfOk}
 use Rattle.std.proofs.lemmas.List.{map-append}
 use Rattle.std.proofs.lemmas.List.Elements.{All-append}
+use Rattle.rr_base.specs.declared.name.Sym.{Sym}
 use Rattle.rr_tree.specs.declared.node.Node.{Node}
 use Rattle.rr_tree.specs.Tree.{Tree, nil, sequence, listed, choose, repeat, pair, symbol, tree_at}
 use Rattle.rr_tree.specs.Nodes.{Extends, node_tree}
@@ -27,7 +28,7 @@ use Rattle.rr_parser.specs.Places.{Place, Look, placed, without_separators, word
 use Rattle.rr_parser.specs.Grammar.Chains.{same, one_of}
 use Rattle.rr_parser.specs.Grammar.Calls.{target_tree, operated, signed}
 use Rattle.rr_parser.specs.Reading.Answers.{◌>>=◌, Refused, wrong, deep, Answer, Parse, built, ended_by, closed, from, on_seen, across, taking_of, chain, chain_on}
-use Rattle.rr_parser.specs.Reading.Calls.{bracketed_of, value_of}
+use Rattle.rr_parser.specs.Reading.Calls.{bracketed_of, value_of, ordered_of}
 use Rattle.rr_parser.specs.Reading.Sequences.{sequence_of}
 use Rattle.rr_parser.specs.Reading.{part_of, readers_inside, readers_outside, readers}
 use Rattle.rr_parser.specs.Meets.{View, nodes, pairs, lists, Made, Fails, Gives, Appends, Puts, known_of, place}
@@ -315,6 +316,25 @@ none_bracketed-zero false s = refl
 -- at the limit nothing is nested
 pub none_bracketed : (b : Bool) (d : ℕ) (s : Place) → d ≡ 0 → (readers b d).bracketed s ≡ Err deep
 none_bracketed b d s e = ap (λ (k : ℕ). (readers b k).bracketed s) e ∙ none_bracketed-zero b s
+
+at_ordered : (b : Bool) (d : ℕ) → (readers b (suc d)).ordered ≡ ordered_of (readers b d)
+unfolding readers_inside readers_outside
+at_ordered true d = refl
+at_ordered false d = refl
+
+-- a command with a receiver that is an argument
+pub nested_ordered : (b : Bool) (d : ℕ) → 0 < d → (readers b d).ordered ≡ ordered_of (readers b (d - 1))
+nested_ordered b zero lt = let never : ⊥ = omega arith in absurd never
+nested_ordered b (suc d) lt = let e : d ≡ suc d - 1 = omega arith in at_ordered b d ∙ ap (λ (k : ℕ). ordered_of (readers b k)) e
+
+none_ordered-zero : (b : Bool) (r : Tree) (x : Sym) (s : Place) → (readers b 0).ordered r x s ≡ Err deep
+unfolding readers_inside readers_outside
+none_ordered-zero true r x s = refl
+none_ordered-zero false r x s = refl
+
+-- at the limit nothing is nested
+pub none_ordered : (b : Bool) (d : ℕ) (r : Tree) (x : Sym) (s : Place) → d ≡ 0 → (readers b d).ordered r x s ≡ Err deep
+none_ordered b d r x s e = ap (λ (k : ℕ). (readers b k).ordered r x s) e ∙ none_ordered-zero b r x s
 
 pub value_inside : (d : ℕ) → 0 < d → (readers true d).value ≡ value_of (readers true (d - 1))
 unfolding readers_inside

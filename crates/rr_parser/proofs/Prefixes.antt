@@ -6,7 +6,7 @@ use Rattle.rr_parser.specs.declared.word.WordKind.TheVariants as kind
 use Rattle.rr_parser.specs.Places.{Known, Place, placed, word, at}
 use Rattle.rr_parser.specs.Grammar.Calls.{target}
 use Rattle.rr_parser.specs.Reading.Operands.{prefix_minus}
-use Rattle.rr_parser.specs.Reading.Several.{is_prefixed}
+use Rattle.rr_parser.specs.Reading.Calls.{is_prefixed}
 
 pub unplaced : {X : Type 0} (known : Known) (o : Option (X × List Word)) → placed known o ≡ None → o ≡ None
 unplaced known None e = refl

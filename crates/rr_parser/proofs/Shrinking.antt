@@ -22,7 +22,7 @@ use Rattle.rr_parser.specs.Grammar.Nesting.{Nested}
 use Rattle.rr_parser.specs.Grammar.Names.{headed}
 use Rattle.rr_parser.specs.Grammar.Operands.{Blocked, no_block, a_block, Primary, a_literal, a_constant, a_path, a_negative, a_local, a_bare_call, a_call, a_block_call, a_jump, a_passing, a_passing_call, a_construct, tail, Tailed, a_sent_call, an_index, Postfix, Bang, a_bang, no_bang, Minus, a_minus, no_minus, Plain, Reached, as_it_is, an_attribute, a_block_send}
 use Rattle.rr_parser.specs.Grammar.Operators.{operator, infixed, connective, joined_by, Logical, Binary, Equality, a_comparison, a_pair, Ternary, no_question, a_question}
-use Rattle.rr_parser.specs.Grammar.Calls.{with_target, comma, Assigned, an_assignment, no_assignment, Argument, Pair, by_label, by_arrow, star, Item, a_splat, a_plain_item, Members, Bracketed, no_members, some_members, Array, an_array, Hash, a_hash, Index, of_element, Commanded, by_arguments, by_command, Command, a_command, Phrase, by_name, an_operand, Operand, Value, Settled, a_setting, no_setting, by_receiver, Adding, adding, AddingTo, Given, Listing, a_pair_member, an_item, nothing, only_pairs}
+use Rattle.rr_parser.specs.Grammar.Calls.{with_target, comma, Assigned, an_assignment, no_assignment, Argument, Pair, by_label, by_arrow, star, Item, a_splat, a_plain_item, Members, Bracketed, no_members, some_members, Array, an_array, Hash, a_hash, Index, of_element, Commanded, by_arguments, by_command, by_order, Command, a_command, Phrase, by_name, an_operand, Operand, Value, Settled, a_setting, no_setting, Ordered, an_order, by_receiver, Adding, adding, AddingTo, Given, Listing, a_pair_member, an_item, nothing, only_pairs}
 use Rattle.rr_parser.specs.declared.word.Modifier.{Modifier}
 use Rattle.rr_parser.specs.Grammar.Several.{Targeted, a_target, Targets, Rights, by_values, by_named, by_sent, plain_sign, a_spot}
 use Rattle.rr_parser.specs.Grammar.Sequences.{Simple, to_several, no_several, Modifying, by_condition, Negation, a_negation, no_negation, Expression, modifier, Statement, Rows, Statements, no_statements, some_statements, Group, a_group}
@@ -30,7 +30,7 @@ use Rattle.rr_parser.specs.Grammar.Interpolations.{text_middle, first_piece, and
 use Rattle.rr_parser.specs.Grammar.Control.{elsif, Branch, a_branch, Branches, Otherwise, no_else, an_else, Choice, a_choice, Unless, an_unless, Loop, a_loop, looping, Looped, of_loop}
 use Rattle.rr_parser.specs.Grammar.Bodies.{Class, a_class, Classes, no_classes, some_classes, with_caught, Clause, a_clause, rescues, Clauses, Rescued, no_rescue, a_rescue, Body, no_ensure, an_ensure, Begun, a_begun, Held, between_braces, until_end}
 use Rattle.rr_parser.specs.Grammar.Blocks.{entered, Block, of_statements}
-use Rattle.rr_parser.specs.Grammar.Classes.{row_of, ClassMember, a_definition, some_attributes, Methods, Inner, no_methods, some_methods, ClassBody, a_class_body}
+use Rattle.rr_parser.specs.Grammar.Classes.{ClassMember, a_definition, some_attributes, Methods, Inner, no_methods, some_methods, ClassBody, a_class_body}
 use Rattle.rr_parser.specs.Grammar.Definitions.{defined, Definition, of_method}
 use Rattle.rr_parser.specs.Grammar.{FormOf, is_enclosed, Enclosed, PartOf, inside, outside}
 use Rattle.rr_parser.specs.Reading.Nesting.{Readers}
@@ -61,6 +61,7 @@ use Rattle.rr_parser.proofs.Steps.{Steps-joined, Steps-inner_constant, Steps-pat
 pub record NestedShrinking (R : Nested) : Type 0 where
   pub part : (p : Part) → IsShrinking (R.part p)
   pub bracketed : IsShrinking R.bracketed
+  pub ordered : (r : Tree) (x : Sym) → IsShrinking (R.ordered r x)
   pub value : (b : Bool) → IsShrinking (R.value b)
   pub values : IsShrinking R.values
 
@@ -192,21 +193,23 @@ module _ (R : Nested) (nests : NestedShrinking R) where
   commanded_shrinking : IsShrinking (Commanded R)
   commanded_shrinking s z l (by_arguments {g = g} h) = members_shrinking listings.Command s z g h
   commanded_shrinking s z l (by_command {t = t} e h) = nests.part parts.Command s z t h
+  commanded_shrinking s z l (by_order {m = m} {n = n} {r = r} {x = x} {t = t} h e g) = omega (arith, postfix_shrinking s m r h, Steps-order m n x e, nests.ordered r.tree x n z t g)
 
   command_shrinking : IsShrinking (Command R)
   command_shrinking s z t (a_command {m = m} {n = n} {x = x} {l = l} e h b) =
       omega (arith, Steps-head s m x (command-next s m x e).0, taking_shrinking (within_head x m.known.takes_do) (Commanded R) commanded_shrinking m n l h, blocked_shrinking (behinds.Command x) (headed x l) n z t b)
 
-  phrase_shrinking : IsShrinking (Phrase R)
-  phrase_shrinking s z t (by_name h) = command_shrinking s z t h
-  phrase_shrinking s z t (by_receiver {m = m} {n = n} {o = o} {r = r} {x = x} {l = l} h e a b) =
+  ordered_shrinking : (r : Tree) (x : Sym) → IsShrinking (Ordered R r x)
+  ordered_shrinking r x n z t (an_order {m = o} {l = l} a b) =
       omega (
         arith,
-        postfix_shrinking s m r h,
-        Steps-order m n x e,
         taking_shrinking (within_head (heads.Call x) n.known.takes_do) (Commanded R) commanded_shrinking n o l a,
-        blocked_shrinking (behinds.Command (heads.Call x)) (send r.tree x.0 (listed l)) o z t b,
+        blocked_shrinking (behinds.Command (heads.Call x)) (send r x.0 (listed l)) o z t b,
       )
+
+  phrase_shrinking : IsShrinking (Phrase R)
+  phrase_shrinking s z t (by_name h) = command_shrinking s z t h
+  phrase_shrinking s z t (by_receiver {m = m} {n = n} {r = r} {x = x} h e g) = omega (arith, postfix_shrinking s m r h, Steps-order m n x e, ordered_shrinking r.tree x n z t g)
   phrase_shrinking s z t (an_operand h) = settled_shrinking true s z t h
 
   operand_shrinking : (b : Bool) → IsShrinking (Operand R b)
@@ -233,7 +236,7 @@ module _ (R : Nested) (nests : NestedShrinking R) where
   rights_shrinking : IsShrinking (Rights R)
   rights_shrinking s z t (by_values {l = l} c) = chain_shrinking comma one_of and_one (Argument R) Steps-comma argument_shrinking s z l c
   rights_shrinking s z t (by_named h) = command_shrinking s z t h
-  rights_shrinking s z t (by_sent h e a b) = phrase_shrinking s z t (by_receiver h e a b)
+  rights_shrinking s z t (by_sent h e g) = phrase_shrinking s z t (by_receiver h e g)
 
   simple_shrinking : IsShrinking (Simple R)
   simple_shrinking s z t (to_several {m = m} {n = n} {o = o} {y = y} {t = v} {v = w} {l = l} a c b f h) =
@@ -353,20 +356,22 @@ module _ (R : Nested) (nests : NestedShrinking R) where
 
 shrinking_inside : (d : ℕ) → NestedShrinking (inside d)
 unfolding inside
-shrinking_inside zero = record { part = λ p s z t h. absurd h; bracketed = λ s z t h. absurd h; value = λ b s z t h. absurd h; values = λ s z t h. absurd h }
+shrinking_inside zero = record { part = λ p s z t h. absurd h; bracketed = λ s z t h. absurd h; ordered = λ r x s z t h. absurd h; value = λ b s z t h. absurd h; values = λ s z t h. absurd h }
 shrinking_inside (suc d) = record {
   part = part_shrinking (inside d) (shrinking_inside d);
   bracketed = taking_shrinking true (Bracketed (inside d) listings.Call) (bracketed_shrinking (inside d) (shrinking_inside d) listings.Call);
+  ordered = ordered_shrinking (inside d) (shrinking_inside d);
   value = value_shrinking (inside d) (shrinking_inside d);
   values = rights_shrinking (inside d) (shrinking_inside d);
 }
 
 shrinking_outside : (d : ℕ) → NestedShrinking (outside d)
 unfolding outside
-shrinking_outside zero = record { part = λ p s z t h. absurd h; bracketed = λ s z t h. absurd h; value = value_shrinking (inside zero) (shrinking_inside zero); values = rights_shrinking (inside zero) (shrinking_inside zero) }
+shrinking_outside zero = record { part = λ p s z t h. absurd h; bracketed = λ s z t h. absurd h; ordered = λ r x s z t h. absurd h; value = value_shrinking (inside zero) (shrinking_inside zero); values = rights_shrinking (inside zero) (shrinking_inside zero) }
 shrinking_outside (suc d) = record {
   part = part_shrinking (outside d) (shrinking_outside d);
   bracketed = taking_shrinking true (Bracketed (outside d) listings.Call) (bracketed_shrinking (outside d) (shrinking_outside d) listings.Call);
+  ordered = ordered_shrinking (outside d) (shrinking_outside d);
   value = value_shrinking (inside (suc d)) (shrinking_inside (suc d));
   values = rights_shrinking (inside (suc d)) (shrinking_inside (suc d));
 }

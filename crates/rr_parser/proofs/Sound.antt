@@ -42,7 +42,7 @@ use Rattle.rr_parser.proofs.Chains.{bind_ok, built_ok, done, closed_ok, at_answe
 use Rattle.rr_parser.proofs.SoundOperands.{NestedSound, sequence_ok, taking_sound, enclosed_sound, bang_sound, minus_sound, postfix_sound}
 use Rattle.rr_parser.proofs.ClassSound.{class_body_sound}
 use Rattle.rr_parser.proofs.Trails.{trail_sound}
-use Rattle.rr_parser.proofs.SoundCalls.{targets_sound, argument_sound, bracketed_sound, array_sound, hash_sound, index_sound, command_sound, value_sound, rights_sound, targeted_sound}
+use Rattle.rr_parser.proofs.SoundCalls.{targets_sound, argument_sound, bracketed_sound, array_sound, hash_sound, index_sound, command_sound, value_sound, rights_sound, targeted_sound, ordered_sound}
 use Rattle.rr_parser.specs.Grammar.Operands.{Reached, Spot}
 use Rattle.rr_parser.proofs.Beginnings.{expression_from}
 use Rattle.rr_parser.specs.Reading.Operands.{postfix_of}
@@ -328,20 +328,22 @@ module _ (N : Readers) (R : Nested) (nests : NestedSound N R) where
 
 pub sound_inside : (d : ℕ) → NestedSound (readers_inside d) (inside d)
 unfolding readers_inside inside
-sound_inside zero = record { part = λ p s z t e. absurd cc; bracketed = λ s z t e. absurd cc; value = λ b s z t e. absurd cc; values = λ s z t e. absurd cc }
+sound_inside zero = record { part = λ p s z t e. absurd cc; bracketed = λ s z t e. absurd cc; ordered = λ r x s z t e. absurd cc; value = λ b s z t e. absurd cc; values = λ s z t e. absurd cc }
 sound_inside (suc d) = record {
   part = part_sound (readers_inside d) (inside d) (sound_inside d);
   bracketed = taking_sound true (bracketed_of (readers_inside d) listings.Call) (Bracketed (inside d) listings.Call) (bracketed_sound (readers_inside d) (inside d) (sound_inside d) listings.Call);
+  ordered = ordered_sound (readers_inside d) (inside d) (sound_inside d);
   value = value_sound (readers_inside d) (inside d) (sound_inside d);
   values = rights_sound (readers_inside d) (inside d) (sound_inside d);
 }
 
 pub sound_outside : (d : ℕ) → NestedSound (readers_outside d) (outside d)
 unfolding readers_outside outside
-sound_outside zero = record { part = λ p s z t e. absurd cc; bracketed = λ s z t e. absurd cc; value = value_sound (readers_inside zero) (inside zero) (sound_inside zero); values = rights_sound (readers_inside zero) (inside zero) (sound_inside zero) }
+sound_outside zero = record { part = λ p s z t e. absurd cc; bracketed = λ s z t e. absurd cc; ordered = λ r x s z t e. absurd cc; value = value_sound (readers_inside zero) (inside zero) (sound_inside zero); values = rights_sound (readers_inside zero) (inside zero) (sound_inside zero) }
 sound_outside (suc d) = record {
   part = part_sound (readers_outside d) (outside d) (sound_outside d);
   bracketed = taking_sound true (bracketed_of (readers_outside d) listings.Call) (Bracketed (outside d) listings.Call) (bracketed_sound (readers_outside d) (outside d) (sound_outside d) listings.Call);
+  ordered = ordered_sound (readers_outside d) (outside d) (sound_outside d);
   value = value_sound (readers_inside (suc d)) (inside (suc d)) (sound_inside (suc d));
   values = rights_sound (readers_inside (suc d)) (inside (suc d)) (sound_inside (suc d));
 }

@@ -1,6 +1,6 @@
 -- What is read of assignments, arguments and commands is spelled.
 use Rattle.rr_parser.specs.declared.word.Sign.{Sign}
-use Rattle.std.proofs.Common.{◌≡◌, Bool, true, false, List, Option, Some, None, Ok, refl, sym, subst, [], cond, Err}
+use Rattle.std.proofs.Common.{◌≡◌, Bool, true, false, List, Option, Some, None, Ok, refl, sym, ap, ◌∙◌, subst, [], cond, Err}
 use Rattle.rr_base.specs.declared.name.Sym.{Sym}
 use Rattle.rr_tree.specs.Tree.{Tree, array, hash, splat, pair, symbol, listed, send}
 use Rattle.rr_parser.specs.declared.word.Aim.{Aim}
@@ -16,18 +16,19 @@ use Rattle.rr_parser.specs.Grammar.Nesting.{Nested}
 use Rattle.rr_parser.specs.Grammar.Names.{told_behind, one_value, headed, command}
 use Rattle.rr_parser.specs.Grammar.Operands.{Blocked, Reached, Spot, Postfix, no_minus, no_bang, order}
 use Rattle.rr_parser.specs.Grammar.Operators.{Ternary}
-use Rattle.rr_parser.specs.Grammar.Calls.{is_settable, target, with_target, target_tree, target_variable, assigned_to, label, comma, closing, last, Assigned, an_assignment, no_assignment, Argument, by_label, by_arrow, star, a_splat, a_plain_item, Member, Members, Bracketed, no_members, some_members, Array, an_array, Hash, a_hash, Index, of_element, Commanded, by_arguments, by_command, Command, a_command, Phrase, by_name, an_operand, Operand, Value, Settled, a_setting, no_setting, settled, sign, by_receiver, Arguments, Adding, adding, AddingTo, Given, Listing, a_pair_member, an_item, entry, contents, item, nothing, only_pairs, with_member}
+use Rattle.rr_parser.specs.Grammar.Calls.{is_settable, target, with_target, target_tree, target_variable, assigned_to, label, comma, closing, last, Assigned, an_assignment, no_assignment, Argument, by_label, by_arrow, star, a_splat, a_plain_item, Member, Members, Bracketed, no_members, some_members, Array, an_array, Hash, a_hash, Index, of_element, Commanded, by_arguments, by_command, by_order, Command, a_command, Phrase, by_name, an_operand, Operand, Value, Settled, a_setting, no_setting, settled, sign, Ordered, an_order, by_receiver, Arguments, Adding, adding, AddingTo, Given, Listing, a_pair_member, an_item, entry, contents, item, nothing, only_pairs, with_member}
 use Rattle.rr_parser.specs.declared.word.Target.{Target}
 use Rattle.rr_parser.specs.Grammar.Several.{Targeted, a_target, Targets, Rights, by_values, by_named, by_sent, a_spot}
 use Rattle.rr_parser.specs.Grammar.Fences.{within_head}
-use Rattle.rr_parser.specs.Reading.Answers.{wrong, Parse, built, ended_by, trail_on}
+use Rattle.rr_parser.specs.Reading.Answers.{◌>>=◌, wrong, Answer, Parse, built, ended_by, trail_on}
 use Rattle.rr_parser.specs.Reading.Nesting.{Readers}
 use Rattle.rr_parser.specs.Reading.Operands.{blocked_of, prefix_minus, postfix_of, then_blocked}
-use Rattle.rr_parser.specs.Reading.Calls.{assigned_or, assigned_of, argument_of, member_of, another, members_of, bracketed_or, bracketed_of, array_of, hash_of, index_of, commanded_or, commanded_of, arguments_of, headed_of, command_or, command_of, phrase_or, phrase_of, operand_of, value_of, behind_bang, behind_minus, setting_of, settled_of, setting_or, spot_or, reached_on, settled_by, ordered_of, order_or, order_on, adding_of, adding_to, arrow_or, key_on, label_or, listed_of, lone, star_or, star_unless, unlabeled_of}
-use Rattle.rr_parser.specs.Reading.Several.{targeted_or, targeted_of, targets_of, values_on, right_on, sent_or_right, receiver_on, is_prefixed, rights_at, rights_or, rights_of, spot_target, reached_target, lone_target, word_target}
+use Rattle.rr_parser.specs.Reading.Calls.{assigned_or, assigned_of, argument_of, member_of, another, members_of, bracketed_or, bracketed_of, array_of, hash_of, index_of, commanded_or, commanded_of, arguments_of, headed_of, command_or, command_of, phrase_or, phrase_of, operand_of, value_of, behind_bang, behind_minus, setting_of, settled_of, setting_or, spot_or, reached_on, settled_by, ordered_of, order_or, order_on, adding_of, adding_to, arrow_or, key_on, label_or, listed_of, lone, star_or, star_unless, unlabeled_of, is_prefixed, is_introduced, listed_on, receiver_or, commanded_on, commanded_at}
+use Rattle.rr_parser.specs.Reading.Several.{targeted_or, targeted_of, targets_of, values_on, right_on, sent_or_right, receiver_on, rights_at, rights_or, rights_of, spot_target, reached_target, lone_target, word_target}
 use Rattle.rr_parser.proofs.Told.{told_arrow, told_star, told_close_square}
 use Rattle.rr_parser.proofs.Looks.{word-next, lone-target}
 use Rattle.rr_parser.proofs.Listing.{another-comma}
+use Rattle.rr_parser.proofs.Introduced.{listed_from}
 use Rattle.rr_parser.proofs.Chains.{done, chain_on-sound, bind_ok, built_ok, closed_ok, at_answer, IsSound, chain_sound, from_sound, IsSoundOn}
 use Rattle.rr_parser.proofs.SoundOperands.{NestedSound, taking_sound, blocked_sound, ternary_sound, ternary_sound_on, postfix_sound}
 use Rattle.rr_parser.specs.declared.word.Head.TheVariants as heads
@@ -163,8 +164,24 @@ module _ (N : Readers) (R : Nested) (nests : NestedSound N R) where
   unfolding index_of
   index_sound s z t e = let c = closed_ok kind.CloseSquare told_close_square (argument_of N s) z t e in of_element (argument_sound s c.0 t c.1) c.2
 
+  arguments_sound : (s z : Place) (l : List Tree) → listed_of N listings.Command s ≡ Ok (l, z) → Commanded R s l z
+  arguments_sound s z l e = let c = listed_sound listings.Command s z l e in subst (λ (q : List Tree). Commanded R s q z) (sym c.2) (by_arguments c.1)
+
+  receiver_or-sound : (s m z : Place) (r : Reached) (l : List Tree) (o : Option (Sym × Place)) → is_introduced s.rest ≡ false → postfix_of N s ≡ Ok (r, m) → at order m ≡ o → receiver_or N r m o ≡ Ok (l, z) → Commanded R s l z
+  receiver_or-sound s m z r l None plain p f e = arguments_sound s z l (listed_from N s plain ∙ ap (λ (q : Answer Reached). q >>= λ x. listed_on N x.0 x.1) p ∙ e)
+  receiver_or-sound s m z r l (Some x) plain p f e =
+      let b = built_ok one_of (N.ordered r.tree x.0 x.1) l z e in
+      subst (λ (q : List Tree). Commanded R s q z) (sym b.2) (by_order ((postfix_sound N R nests) s m r p) f (nests.ordered r.tree x.0 x.1 z b.0 b.1))
+
+  commanded_at-sound : (b : Bool) (s z : Place) (l : List Tree) → is_introduced s.rest ≡ b → commanded_at N b s ≡ Ok (l, z) → Commanded R s l z
+  unfolding commanded_on
+  commanded_at-sound true s z l f e = arguments_sound s z l e
+  commanded_at-sound false s z l f e =
+      let b = bind_ok (postfix_of N s) (λ x. commanded_on N x.0 x.1) (l, z) e in
+      receiver_or-sound s b.0.1 z b.0.0 l (at order b.0.1) f b.1 refl b.2
+
   commanded_or-sound : (s z : Place) (l : List Tree) (o : Option (Head × Place)) → at (command s.known) s ≡ o → commanded_or N s o ≡ Ok (l, z) → Commanded R s l z
-  commanded_or-sound s z l None f e = let c = listed_sound listings.Command s z l e in subst (λ (q : List Tree). Commanded R s q z) (sym c.2) (by_arguments c.1)
+  commanded_or-sound s z l None f e = commanded_at-sound (is_introduced s.rest) s z l refl e
   commanded_or-sound s z l (Some x) f e =
       let b = built_ok one_of (N.part parts.Command s) l z e in
       subst (λ (q : List Tree). Commanded R s q z) (sym b.2) (by_command f (nests.part parts.Command s z b.0 b.1))
@@ -196,10 +213,13 @@ module _ (N : Readers) (R : Nested) (nests : NestedSound N R) where
   unfolding command_of
   command_sound s z t e = command_or-sound s (at (command s.known) s) z t refl e
 
-  order_or-sound : (s m : Place) (r : Reached) (o : Option (Sym × Place)) (z : Place) (t : Tree) → Postfix R s r m → at order m ≡ o → order_or N r m o ≡ Ok (t, z) → Phrase R s t z
+  pub ordered_sound : (r : Tree) (x : Sym) → IsSound (ordered_of N r x) (Ordered R r x)
   unfolding ordered_of
+  ordered_sound r x m z t e = let p = given_sound (heads.Call x) (λ l. send r x.0 (listed l)) m z t e in an_order p.2 p.3
+
+  order_or-sound : (s m : Place) (r : Reached) (o : Option (Sym × Place)) (z : Place) (t : Tree) → Postfix R s r m → at order m ≡ o → order_or N r m o ≡ Ok (t, z) → Phrase R s t z
   order_or-sound s m r None z t h f e = an_operand (reached_sound true s m z r t h e)
-  order_or-sound s m r (Some x) z t h f e = let p = given_sound (heads.Call x.0) (λ l. send r.tree x.0.0 (listed l)) x.1 z t e in by_receiver h f p.2 p.3
+  order_or-sound s m r (Some x) z t h f e = by_receiver h f (ordered_sound r.tree x.0 x.1 z t e)
 
   order_sound : IsSoundOn (order_on N) (Postfix R) (Phrase R)
   unfolding order_on
@@ -257,11 +277,10 @@ module _ (N : Readers) (R : Nested) (nests : NestedSound N R) where
       subst (λ (q : Tree). Rights R s q z) (sym b.2) (by_values (values_sound s (one_of t) m z b.0 (one h) b.1))
 
   sent_or_right-sound : (s m : Place) (r : Reached) (o : Option (Sym × Place)) (z : Place) (t : Tree) → Postfix R s r m → at order m ≡ o → sent_or_right N r m o ≡ Ok (t, z) → Rights R s t z
-  unfolding ordered_of
   sent_or_right-sound s m r None z t h f e =
       let b = bind_ok (reached_on N false r m) (λ x. right_on N x.0 x.1) (t, z) e in
       right_sound s b.0.1 z b.0.0 t (no_assignment (reached_sound false s m b.0.1 r b.0.0 h b.1)) b.2
-  sent_or_right-sound s m r (Some x) z t h f e = let p = given_sound (heads.Call x.0) (λ l. send r.tree x.0.0 (listed l)) x.1 z t e in by_sent h f p.2 p.3
+  sent_or_right-sound s m r (Some x) z t h f e = by_sent h f (ordered_sound r.tree x.0 x.1 z t e)
 
   receiver_sound : IsSoundOn (receiver_on N) (Postfix R) (Rights R)
   unfolding receiver_on

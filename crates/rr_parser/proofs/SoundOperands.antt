@@ -38,6 +38,7 @@ use Rattle.rr_parser.proofs.Chains.{bind_ok, built_ok, done, ok_place, ok_what, 
 pub record NestedSound (N : Readers) (R : Nested) : Type 0 where
   pub part : (p : Part) → IsSound (N.part p) (R.part p)
   pub bracketed : IsSound N.bracketed R.bracketed
+  pub ordered : (r : Tree) (x : Sym) → IsSound (N.ordered r x) (R.ordered r x)
   pub value : (b : Bool) → IsSound (N.value b) (R.value b)
   pub values : IsSound N.values R.values
 

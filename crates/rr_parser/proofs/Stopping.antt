@@ -187,7 +187,7 @@ module _ (R : Nested) (s m n : Place) (k : WordKind) (x : Target) (w : WordKind)
   phrase_stuck z t (by_name (a_command {m = o} {x = y} e h b)) =
       let g : seen y o ≡ None = sym e ∙ target_no_command s m n k x w here is_target loosely behind in
       let never : ⊥ = cc in absurd never
-  phrase_stuck z t (by_receiver {m = o} {n = q} {r = r} {x = y} h e a b) =
+  phrase_stuck z t (by_receiver {m = o} {n = q} {r = r} {x = y} h e g) =
       let c = postfix_stuck o r h in
       let never : ⊥ = omega (arith, order_strength o q y e, c, loosely.loose) in absurd never
   phrase_stuck z t (an_operand (a_setting {m = o} {r = r} {p = p} h f g i)) = absurd (postfix_no_spot o r p h f)
@@ -209,7 +209,7 @@ receiver_no_target R s m n r x h e = none_unless (at target s) (λ y q f.
     let never : ⊥ = omega (arith, postfix_stuck R s k.m q k.first y.target (kind.Assign y.sign) k.here k.told (sign_loose y.sign) k.sign m r h, order_strength m n x e) in never)
 
 pub phrase_no_target : (R : Nested) (s z : Place) (t : Tree) → Phrase R s t z → Stops 29 z → at target s ≡ None
-phrase_no_target R s z t (by_receiver {m = m} {n = n} {r = r} {x = x} h e a b) stops = receiver_no_target R s m n r x h e
+phrase_no_target R s z t (by_receiver {m = m} {n = n} {r = r} {x = x} h e g) stops = receiver_no_target R s m n r x h e
 phrase_no_target R s z t (an_operand h) stops = settled_no_target R true s z t h (omega (arith, stops))
 phrase_no_target R s z t (by_name (a_command {m = m} {x = x} e h b)) stops = none_unless (at target s) (λ y n f.
     let g : seen x m ≡ None = sym e ∙ aim_no_command s n y f in

@@ -55,6 +55,19 @@ pub trail_head : {X A : Type 0} (look : Look X) (P : Place → A → Place → T
 trail_head look P Q s z t (at_first h) = (t, z, h)
 trail_head look P Q s z t (and_then {m = m} {l = l} c e h) = trail_head look P Q s m l c
 
+-- what P spells first, and where it is stopped
+pub record StoppedHead {A : Type 0} (P : Place → A → Place → Type 0) (Stops : Place → Type 0) (s : Place) : Type 0 where
+  pub first : A
+  pub behind : Place
+  pub spelled : P s first behind
+  pub stops : Stops behind
+
+-- what comes first in a trail is stopped where the whole is
+pub trail_first : {X A : Type 0} (look : Look X) (P : Place → A → Place → Type 0) (Q : X → A → Place → A → Place → Type 0) (Stops : Place → Type 0) → ((m n : Place) (x : X) → at look m ≡ Some (x, n) → Stops m)
+    → (s z : Place) (t : A) → Trail look P Q s t z → Stops z → StoppedHead P Stops s
+trail_first look P Q Stops stops_at s z t (at_first h) stops = record { first = t; behind = z; spelled = h; stops = stops }
+trail_first look P Q Stops stops_at s z t (and_then {m = m} {n = n} {l = l} {x = x} c e h) stops = trail_first look P Q Stops stops_at s m l c (stops_at m n x e)
+
 module _ {X A : Type 0} (between look : Look X) (q : X → A → Parse A) (steps : Steps look) (smaller : (x : X) (l : A) (n z : Place) (t : A) → q x l n ≡ Ok (t, z) → left z ≤ left n)
     (p : Parse A) (P : Place → A → Place → Type 0) (Q : X → A → Place → A → Place → Type 0) (D : Type 0) (Stops : Place → Type 0)
     (stops_at : (m n : Place) (x : X) → at between m ≡ Some (x, n) → Stops m)

@@ -125,6 +125,7 @@ MembersFront N F k = TrailFront comma (Members N k) (AddingFront N F k tt nothin
 pub data CommandedFront (N : Nested) (F : Fronts) : Place → Place → Type 0 where
   in_arguments : {s z : Place} → MembersFront N F listings.Command s z → CommandedFront N F s z
   in_argument_command : {s m z : Place} {x : Head} → at (command s.known) s ≡ Some (x, m) → F.part parts.Command s z → CommandedFront N F s z
+  in_argument_order : {s m n z : Place} {r : Reached} {x : Sym} → Postfix N s r m → at order m ≡ Some (x, n) → F.ordered x n z → CommandedFront N F s z
 
 abbrev pub HeadedFront : Nested → Fronts → Head → Place → Place → Type 0
 HeadedFront N F x m = PassedFront F (behinds.Command x) (Taking (within_head x m.known.takes_do) (Commanded N)) (TakingFront (within_head x m.known.takes_do) (CommandedFront N F)) m
@@ -252,13 +253,13 @@ PartFront N F p = EnclosedFront (is_enclosed p) (FormFront N F p)
 
 -- Inside the right side of an assignment so many constructs more are begun, and then one that has just begun.
 unfoldable pub fronts_inside : ℕ → Fronts
-fronts_inside zero = record { part = λ p s z. s ≡ z; bracketed = λ s z. s ≡ z; value = λ b s z. s ≡ z; values = λ s z. s ≡ z }
-fronts_inside (suc d) = record { part = PartFront (inside d) (fronts_inside d); bracketed = TakingFront true (MembersFront (inside d) (fronts_inside d) listings.Call); value = ValueFront (inside d) (fronts_inside d); values = RightsFront (inside d) (fronts_inside d) }
+fronts_inside zero = record { part = λ p s z. s ≡ z; bracketed = λ s z. s ≡ z; ordered = λ x s z. s ≡ z; value = λ b s z. s ≡ z; values = λ s z. s ≡ z }
+fronts_inside (suc d) = record { part = PartFront (inside d) (fronts_inside d); bracketed = TakingFront true (MembersFront (inside d) (fronts_inside d) listings.Call); ordered = λ x. HeadedFront (inside d) (fronts_inside d) (heads.Call x); value = ValueFront (inside d) (fronts_inside d); values = RightsFront (inside d) (fronts_inside d) }
 
 -- The same outside of all right sides. A right side there does not count.
 unfoldable pub fronts_outside : ℕ → Fronts
-fronts_outside zero = record { part = λ p s z. s ≡ z; bracketed = λ s z. s ≡ z; value = ValueFront (inside zero) (fronts_inside zero); values = RightsFront (inside zero) (fronts_inside zero) }
-fronts_outside (suc d) = record { part = PartFront (outside d) (fronts_outside d); bracketed = TakingFront true (MembersFront (outside d) (fronts_outside d) listings.Call); value = ValueFront (inside (suc d)) (fronts_inside (suc d)); values = RightsFront (inside (suc d)) (fronts_inside (suc d)) }
+fronts_outside zero = record { part = λ p s z. s ≡ z; bracketed = λ s z. s ≡ z; ordered = λ x s z. s ≡ z; value = ValueFront (inside zero) (fronts_inside zero); values = RightsFront (inside zero) (fronts_inside zero) }
+fronts_outside (suc d) = record { part = PartFront (outside d) (fronts_outside d); bracketed = TakingFront true (MembersFront (outside d) (fronts_outside d) listings.Call); ordered = λ x. HeadedFront (outside d) (fronts_outside d) (heads.Call x); value = ValueFront (inside (suc d)) (fronts_inside (suc d)); values = RightsFront (inside (suc d)) (fronts_inside (suc d)) }
 
 -- in a row of a program
 pub data RowFront (N : Nested) (F : Fronts) : Place → Place → Type 0 where

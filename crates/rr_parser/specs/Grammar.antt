@@ -11,7 +11,7 @@ use Rattle.rr_parser.specs.Places.{Place, start}
 use Rattle.rr_parser.specs.Grammar.Nesting.{Nested}
 use Rattle.rr_parser.specs.Grammar.Fences.{Taking}
 use Rattle.rr_parser.specs.Grammar.Operands.{Bang, Minus}
-use Rattle.rr_parser.specs.Grammar.Calls.{Argument, Array, Hash, Index, Bracketed, Command, Value}
+use Rattle.rr_parser.specs.Grammar.Calls.{Argument, Array, Hash, Index, Bracketed, Command, Ordered, Value}
 use Rattle.rr_parser.specs.Grammar.Several.{Rights}
 use Rattle.rr_parser.specs.Grammar.Sequences.{Negation, Group}
 use Rattle.rr_parser.specs.Grammar.Interpolations.{Interpolation}
@@ -77,13 +77,13 @@ PartOf N p = Enclosed (is_enclosed p) (FormOf N p)
 
 -- What nests no deeper than a number inside the right side of an assignment. There, each further right side counts.
 unfoldable pub inside : ℕ → Nested
-inside zero = record { part = λ p s t z. ⊥; bracketed = λ s l z. ⊥; value = λ b s t z. ⊥; values = λ s t z. ⊥ }
-inside (suc d) = record { part = PartOf (inside d); bracketed = Taking true (Bracketed (inside d) listings.Call); value = Value (inside d); values = Rights (inside d) }
+inside zero = record { part = λ p s t z. ⊥; bracketed = λ s l z. ⊥; ordered = λ r x s t z. ⊥; value = λ b s t z. ⊥; values = λ s t z. ⊥ }
+inside (suc d) = record { part = PartOf (inside d); bracketed = Taking true (Bracketed (inside d) listings.Call); ordered = Ordered (inside d); value = Value (inside d); values = Rights (inside d) }
 
 -- The same outside of all right sides. A right side there does not count.
 unfoldable pub outside : ℕ → Nested
-outside zero = record { part = λ p s t z. ⊥; bracketed = λ s l z. ⊥; value = Value (inside zero); values = Rights (inside zero) }
-outside (suc d) = record { part = PartOf (outside d); bracketed = Taking true (Bracketed (outside d) listings.Call); value = Value (inside (suc d)); values = Rights (inside (suc d)) }
+outside zero = record { part = λ p s t z. ⊥; bracketed = λ s l z. ⊥; ordered = λ r x s t z. ⊥; value = Value (inside zero); values = Rights (inside zero) }
+outside (suc d) = record { part = PartOf (outside d); bracketed = Taking true (Bracketed (outside d) listings.Call); ordered = Ordered (outside d); value = Value (inside (suc d)); values = Rights (inside (suc d)) }
 
 -- the words spell a program, with constructs nested no deeper than a number
 abbrev pub WordsSpell : ℕ → List Word → Main → Type 0

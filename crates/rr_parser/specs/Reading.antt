@@ -9,7 +9,7 @@ use Rattle.rr_parser.specs.Places.{start}
 use Rattle.rr_parser.specs.Reading.Answers.{◌>>=◌, Refused, wrong, deep, Parse, taking_of, enclosed_of}
 use Rattle.rr_parser.specs.Reading.Nesting.{Readers}
 use Rattle.rr_parser.specs.Reading.Operands.{bang_of, minus_of}
-use Rattle.rr_parser.specs.Reading.Calls.{argument_of, bracketed_of, array_of, hash_of, index_of, command_of, value_of}
+use Rattle.rr_parser.specs.Reading.Calls.{argument_of, bracketed_of, array_of, hash_of, index_of, command_of, ordered_of, value_of}
 use Rattle.rr_parser.specs.Reading.Several.{rights_of}
 use Rattle.rr_parser.specs.Reading.Sequences.{negation_of, group_of}
 use Rattle.rr_parser.specs.Reading.Interpolations.{interpolation_of}
@@ -60,12 +60,12 @@ abbrev pub part_of : Readers → Part → Parse Tree
 part_of N p = enclosed_of (is_enclosed p) (form_of N p)
 
 unfoldable pub readers_inside : ℕ → Readers
-readers_inside zero = record { part = λ p s. Err deep; bracketed = λ s. Err deep; value = λ b s. Err deep; values = λ s. Err deep }
-readers_inside (suc d) = record { part = part_of (readers_inside d); bracketed = taking_of true (bracketed_of (readers_inside d) listings.Call); value = value_of (readers_inside d); values = rights_of (readers_inside d) }
+readers_inside zero = record { part = λ p s. Err deep; bracketed = λ s. Err deep; ordered = λ r x s. Err deep; value = λ b s. Err deep; values = λ s. Err deep }
+readers_inside (suc d) = record { part = part_of (readers_inside d); bracketed = taking_of true (bracketed_of (readers_inside d) listings.Call); ordered = ordered_of (readers_inside d); value = value_of (readers_inside d); values = rights_of (readers_inside d) }
 
 unfoldable pub readers_outside : ℕ → Readers
-readers_outside zero = record { part = λ p s. Err deep; bracketed = λ s. Err deep; value = value_of (readers_inside zero); values = rights_of (readers_inside zero) }
-readers_outside (suc d) = record { part = part_of (readers_outside d); bracketed = taking_of true (bracketed_of (readers_outside d) listings.Call); value = value_of (readers_inside (suc d)); values = rights_of (readers_inside (suc d)) }
+readers_outside zero = record { part = λ p s. Err deep; bracketed = λ s. Err deep; ordered = λ r x s. Err deep; value = value_of (readers_inside zero); values = rights_of (readers_inside zero) }
+readers_outside (suc d) = record { part = part_of (readers_outside d); bracketed = taking_of true (bracketed_of (readers_outside d) listings.Call); ordered = ordered_of (readers_outside d); value = value_of (readers_inside (suc d)); values = rights_of (readers_inside (suc d)) }
 
 -- inside the right side of an assignment or not, with constructs nested no deeper than a number
 abbrev pub readers : Bool → ℕ → Readers

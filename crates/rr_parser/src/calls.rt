@@ -6,6 +6,7 @@ ghost use Rattle.rr_parser.specs.Reading.{readers};
 
 use crate::fences::within_head;
 use crate::look::{behind, closing, last, target};
+use crate::members::is_introduced;
 use crate::parser::{Parsed, ParsedList, Parser};
 use crate::refusal::Refusal;
 use crate::word::{Behind, Head, Listed, Part, Word, WordKind};
@@ -118,13 +119,17 @@ impl Parser {
     fn commanded<'w>(&mut self, inside: bool, depth: u32, words: &'w [Word]) -> ParsedList<'w>
         ensures { GivesList self.old self.new result (commanded_of (readers inside depth) (place self.old words.now)) }
     {
-        if self.command_head(words).is_none() {
+        if let Some(_) = self.command_head(words) {
+            let (command, rest) = self.part(Part::Command, inside, depth, words)?;
+            let mut items = Vec::new(self.alloc);
+            items.push(command)?;
+            return Ok((items, rest));
+        }
+        if is_introduced(words) {
             return self.listed(Listed::Command, inside, depth, words);
         }
-        let (command, rest) = self.part(Part::Command, inside, depth, words)?;
-        let mut items = Vec::new(self.alloc);
-        items.push(command)?;
-        Ok((items, rest))
+        let (operand, rest) = self.postfix(inside, depth, words)?;
+        self.commanded_on(operand, inside, depth, rest)
     }
 
     /// Members of a list, with the word that ends it.

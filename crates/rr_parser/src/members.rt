@@ -4,14 +4,15 @@ ghost use Rattle.std.specs.Prelude.{◌≡◌, ◌<◌, [], List, length, map, A
 ghost use Rattle.rr_tree.specs.declared.node.Node.{Node};
 ghost use Rattle.rr_tree.specs.Tree.{tree_at, pairs, listed};
 ghost use Rattle.rr_parser.specs.Grammar.Calls.{only_pairs, with_pairs, contents};
-ghost use Rattle.rr_parser.specs.Reading.Calls.{star_unless, member_of, key_on, adding_of, members_of, listed_of};
+ghost use Rattle.rr_parser.specs.Reading.Calls.{star_unless, member_of, key_on, adding_of, members_on, members_of, listed_of, is_introduced, first_on, listed_on};
 ghost use Rattle.rr_parser.specs.Reading.{readers};
 ghost use Rattle.rr_parser.specs.Meets.{AddsMember, SeesRest, givens};
 
 use crate::look::{another, behind, label};
 use crate::parser::{Parsed, ParsedList, Parser};
 use crate::refusal::{Refusal, Storage};
-use crate::word::{Infix, Listed, Word, WordKind};
+use crate::several::is_prefixed;
+use crate::word::{Infix, Listed, Reached, Word, WordKind};
 use rr_tree::{BinaryOperator, Node, NodeId};
 use std::alloc::Global;
 
@@ -67,7 +68,7 @@ impl Given {
 }
 
 impl Parser {
-    ghost use Rattle.rr_parser.specs.Meets.{GivesList, GivesMember, GivesGiven, Puts, PutsList, place};
+    ghost use Rattle.rr_parser.specs.Meets.{GivesList, GivesMember, GivesGiven, Puts, PutsList, reaches, place};
 
     /// Puts pairs without braces.
     fn put_pairs(&mut self, items: &[NodeId]) -> Result<NodeId, Storage>
@@ -184,13 +185,68 @@ impl Parser {
         ensures { GivesGiven self.old self.new result (members_of (readers inside depth) list (place self.old words.now)) }
     {
         let none = Given::new(self.alloc);
-        let (mut given, mut rest) = self.added(list, none, inside, depth, words)?;
+        let (first, rest) = self.added(list, none, inside, depth, words)?;
+        self.members_on(list, first, inside, depth, rest)
+    }
+
+    /// Members of a list behind those that came, with commas before them.
+    #[cycle(parser)]
+    fn members_on<'w>(
+        &mut self,
+        list: Listed,
+        first: Given,
+        inside: bool,
+        depth: u32,
+        words: &'w [Word],
+    ) -> Parsed<'w, Given>
+        requires { givens.within (length self.old.nodes.items) first }
+        ensures { GivesGiven self.old self.new result (members_on (readers inside depth) list (givens.tree self.old.nodes.items first) (place self.old words.now)) }
+    {
+        let mut given = first;
+        let mut rest = words;
         while let Some(after) = another(list, rest) {
             let (more, after) = self.added(list, given, inside, depth, after)?;
             given = more;
             rest = after;
         }
         Ok((given, rest))
+    }
+
+    /// The first argument of a command, from behind the operand that it begins with.
+    #[cycle(parser)]
+    #[tactic(auto, unfolding(crate::specs::Reading::Calls::first_on))]
+    fn first_on<'w>(
+        &mut self,
+        operand: Reached,
+        inside: bool,
+        depth: u32,
+        words: &'w [Word],
+    ) -> Parsed<'w, Given>
+        requires { reaches.within (length self.old.nodes.items) operand }
+        ensures { GivesGiven self.old self.new result (first_on (readers inside depth) (reaches.tree self.old.nodes.items operand) (place self.old words.now)) }
+    {
+        let (argument, rest) = self.reached(operand, false, inside, depth, words)?;
+        let (member, rest) = self.behind_key(false, argument, inside, depth, rest)?;
+        let first = Given::new(self.alloc).with(member)?;
+        Ok((first, rest))
+    }
+
+    /// The arguments of a command, from behind the operand that they begin with.
+    #[cycle(parser)]
+    #[tactic(auto, unfolding(crate::specs::Reading::Calls::listed_on))]
+    pub fn listed_on<'w>(
+        &mut self,
+        operand: Reached,
+        inside: bool,
+        depth: u32,
+        words: &'w [Word],
+    ) -> ParsedList<'w>
+        requires { reaches.within (length self.old.nodes.items) operand }
+        ensures { GivesList self.old self.new result (listed_on (readers inside depth) (reaches.tree self.old.nodes.items operand) (place self.old words.now)) }
+    {
+        let (first, rest) = self.first_on(operand, inside, depth, words)?;
+        let (given, rest) = self.members_on(Listed::Command, first, inside, depth, rest)?;
+        Ok((self.put_given(Listed::Command, given)?, rest))
     }
 
     /// What a list has by its members.
@@ -208,6 +264,13 @@ impl Parser {
         let (given, rest) = self.members(list, inside, depth, words)?;
         Ok((self.put_given(list, given)?, rest))
     }
+}
+
+/// Whether no operand begins there: a label or a `*` comes, a target and a sign, or a word before an operand.
+pub(crate) fn is_introduced(words: &[Word]) -> bool
+    ensures { result ≡ is_introduced words.now }
+{
+    label(words).is_some() || star_unless(false, words).is_some() || is_prefixed(words)
 }
 
 /// A `*` before an argument, where items may stand.

@@ -5,7 +5,8 @@ ghost use Rattle.rr_tree.specs.Tree.{tree_at};
 ghost use Rattle.rr_parser.specs.Grammar.Several.{assigned_to_several};
 ghost use Rattle.rr_parser.specs.Reading.Answers.{from};
 ghost use Rattle.rr_parser.specs.Reading.Operands.{postfix_of};
-ghost use Rattle.rr_parser.specs.Reading.Several.{word_target, reached_target, targeted_of, targets_of, several_on, several_of, values_on, right_on, receiver_on, is_prefixed, rights_of};
+ghost use Rattle.rr_parser.specs.Reading.Several.{word_target, reached_target, targeted_of, targets_of, several_on, several_of, values_on, right_on, receiver_on, rights_of};
+ghost use Rattle.rr_parser.specs.Reading.Calls.{is_prefixed};
 ghost use Rattle.rr_parser.specs.Reading.{readers};
 
 use crate::look::{behind, lone_target, order, prefix_minus, target, told_behind};

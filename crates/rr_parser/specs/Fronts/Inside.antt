@@ -1,5 +1,6 @@
 -- Where a construct is begun and not ended: in which of several parts.
 use Rattle.std.specs.Prelude.{◌≡◌, Bool, true, false, Some}
+use Rattle.rr_base.specs.declared.name.Sym.{Sym}
 use Rattle.rr_parser.specs.declared.word.Behind.{Behind}
 use Rattle.rr_parser.specs.declared.word.Fence.{Fence}
 use Rattle.rr_parser.specs.declared.word.Part.{Part}
@@ -11,6 +12,7 @@ use Rattle.rr_parser.specs.Grammar.Fences.{taking, opened}
 pub record Fronts : Type 1 where
   pub part : Part → Place → Place → Type 0
   pub bracketed : Place → Place → Type 0
+  pub ordered : Sym → Place → Place → Type 0
   pub value : Bool → Place → Place → Type 0
   pub values : Place → Place → Type 0
 

@@ -255,6 +255,8 @@ pub data Index (N : Nested) : Place → Tree → Place → Type 0 where
 pub data Commanded (N : Nested) : Place → List Tree → Place → Type 0 where
   by_arguments : {s z : Place} {g : Given} → Members N listings.Command s g z → Commanded N s (contents listings.Command g) z
   by_command : {s m z : Place} {x : Head} {t : Tree} → at (command s.known) s ≡ Some (x, m) → N.part parts.Command s t z → Commanded N s (t ∷ []) z
+  -- a command with a receiver
+  by_order : {s m n z : Place} {r : Reached} {x : Sym} {t : Tree} → Postfix N s r m → at order m ≡ Some (x, n) → N.ordered r.tree x n t z → Commanded N s (t ∷ []) z
 
 -- the same, where the command gets a `do` block and no call in it does
 abbrev pub Arguments : Nested → Head → Place → List Tree → Place → Type 0
@@ -263,11 +265,14 @@ Arguments N x m = Taking (within_head x m.known.takes_do) (Commanded N) m
 pub data Command (N : Nested) : Place → Tree → Place → Type 0 where
   a_command : {s m n z : Place} {x : Head} {l : List Tree} {t : Tree} → at (command s.known) s ≡ Some (x, m) → Arguments N x m l n → Blocked N (behinds.Command x) (headed x l) n t z → Command N s t z
 
+-- a command from behind its receiver and its name
+pub data Ordered (N : Nested) (r : Tree) (x : Sym) : Place → Tree → Place → Type 0 where
+  an_order : {s m z : Place} {l : List Tree} {t : Tree} → Arguments N (heads.Call x) s l m → Blocked N (behinds.Command (heads.Call x)) (send r x.0 (listed l)) m t z → Ordered N r x s t z
+
 pub data Phrase (N : Nested) : Place → Tree → Place → Type 0 where
   by_name : {s z : Place} {t : Tree} → Command N s t z → Phrase N s t z
   -- a command with a receiver
-  by_receiver : {s m n o z : Place} {r : Reached} {x : Sym} {l : List Tree} {t : Tree} → Postfix N s r m → at order m ≡ Some (x, n) → Arguments N (heads.Call x) n l o
-      → Blocked N (behinds.Command (heads.Call x)) (send r.tree x.0 (listed l)) o t z → Phrase N s t z
+  by_receiver : {s m n z : Place} {r : Reached} {x : Sym} {t : Tree} → Postfix N s r m → at order m ≡ Some (x, n) → Ordered N r.tree x n t z → Phrase N s t z
   an_operand : {s z : Place} {t : Tree} → Settled N true s t z → Phrase N s t z
 
 -- an operand; and a command too, where commands may stand

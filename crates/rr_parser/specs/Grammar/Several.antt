@@ -1,9 +1,7 @@
 -- Assignments to several targets: the targets, and the right side.
 use Rattle.std.specs.Prelude.{◌≡◌, true, List, Option, Some, None}
 use Rattle.rr_base.specs.declared.name.Sym.{Sym}
-use Rattle.rr_tree.specs.Tree.{Tree, send, multiple_assign, listed}
-use Rattle.rr_parser.specs.declared.word.Behind.TheVariants as behinds
-use Rattle.rr_parser.specs.declared.word.Head.TheVariants as heads
+use Rattle.rr_tree.specs.Tree.{Tree, multiple_assign, listed}
 use Rattle.rr_parser.specs.declared.word.Sign.TheVariants as signs
 use Rattle.rr_parser.specs.declared.word.Target.{Target}
 use Rattle.rr_parser.specs.declared.word.WordKind.{WordKind}
@@ -13,8 +11,8 @@ use Rattle.rr_parser.specs.Places.{Place, Look, at}
 use Rattle.rr_parser.specs.Grammar.Chains.{Chain, one_of, and_one}
 use Rattle.rr_parser.specs.Grammar.Nesting.{Nested}
 use Rattle.rr_parser.specs.Grammar.Names.{told_behind, one_value}
-use Rattle.rr_parser.specs.Grammar.Operands.{order, Blocked, Reached, Postfix, Spot}
-use Rattle.rr_parser.specs.Grammar.Calls.{target_word, is_settable, with_target, target_tree, target_variable, comma, Argument, Arguments, Command}
+use Rattle.rr_parser.specs.Grammar.Operands.{order, Reached, Postfix, Spot}
+use Rattle.rr_parser.specs.Grammar.Calls.{target_word, is_settable, with_target, target_tree, target_variable, comma, Argument, Command, Ordered}
 
 abbrev pub past_target : Option (Target × List Word) → Option (Unit {0} × List Word)
 past_target None = None
@@ -42,8 +40,7 @@ pub data Rights (N : Nested) : Place → Tree → Place → Type 0 where
   by_values : {s z : Place} {l : List Tree} → Chain comma one_of and_one (Argument N) s l z → Rights N s (one_value l) z
   by_named : {s z : Place} {t : Tree} → Command N s t z → Rights N s t z
   -- a command with a receiver
-  by_sent : {s m n o z : Place} {r : Reached} {x : Sym} {l : List Tree} {t : Tree} → Postfix N s r m → at order m ≡ Some (x, n) → Arguments N (heads.Call x) n l o
-      → Blocked N (behinds.Command (heads.Call x)) (send r.tree x.0 (listed l)) o t z → Rights N s t z
+  by_sent : {s m n z : Place} {r : Reached} {x : Sym} {t : Tree} → Postfix N s r m → at order m ≡ Some (x, n) → Ordered N r.tree x n t z → Rights N s t z
 
 -- the tree of an assignment to several targets
 abbrev pub assigned_to_several : List Tree → Tree → Tree

@@ -1,5 +1,5 @@
 -- Reading assignments, arguments and commands.
-use Rattle.std.specs.Prelude.{List, Bool, true, false, Option, Some, None, is_some, Ok, Err, [], if◌then◌else◌}
+use Rattle.std.specs.Prelude.{List, Bool, true, false, ◌||◌, Option, Some, None, is_some, Ok, Err, [], if◌then◌else◌}
 use Rattle.rr_base.specs.declared.name.Sym.{Sym}
 use Rattle.rr_tree.specs.Tree.{Tree, array, hash, send, symbol, splat, pair, listed}
 use Rattle.rr_parser.specs.declared.word.Part.TheVariants as parts
@@ -109,8 +109,12 @@ unless_closing k (Some r) = unless (is_some (closing k r.1)) (Some r)
 abbrev pub another : Listed → Look (Unit {0})
 another k ws = unless_closing k (comma ws)
 
+-- the members behind those that came
+abbrev pub members_on : Readers → Listed → Given → Parse Given
+members_on N k = trail_on (another k) (adding_to N k)
+
 unfoldable pub members_of : Readers → Listed → Parse Given
-members_of N k = from (adding_of N k nothing) (trail_on (another k) (adding_to N k))
+members_of N k = from (adding_of N k nothing) (members_on N k)
 
 -- members of a list, and what the list has by them
 unfoldable pub listed_of : Readers → Listed → Parse (List Tree)
@@ -132,8 +136,37 @@ hash_of N s = built (λ l. hash (listed l)) (bracketed_of N listings.Hash s)
 unfoldable pub index_of : Readers → Parse Tree
 index_of N s = closed kind.CloseSquare (argument_of N s)
 
+-- a target and a sign come, or a word that stands before an operand
+abbrev pub is_prefixed : List Word → Bool
+is_prefixed ws = is_some (target ws) || is_some (prefix_minus ws) || is_some (word kind.Bang ws)
+
+-- the same, or a label or a `*`
+abbrev pub is_introduced : List Word → Bool
+is_introduced ws = is_some (label ws) || is_some (word star ws) || is_prefixed ws
+
+-- the first argument of a command, from behind the operand that it begins with
+unfoldable pub first_on : Readers → Reached → Parse Given
+first_on N r m = built (with_member nothing) (from (reached_on N false r) (key_on N false) m)
+
+-- the arguments of a command, from behind the operand that they begin with
+unfoldable pub listed_on : Readers → Reached → Parse (List Tree)
+listed_on N r m = built (contents listings.Command) (from (first_on N r) (members_on N listings.Command) m)
+
+abbrev pub receiver_or : Readers → Reached → Place → Option (Sym × Place) → Answer (List Tree)
+receiver_or N r m None = listed_on N r m
+receiver_or N r m (Some x) = built one_of (N.ordered r.tree x.0 x.1)
+
+-- what stands behind the operand: it may be the receiver of a command
+unfoldable pub commanded_on : Readers → Reached → Parse (List Tree)
+commanded_on N r m = receiver_or N r m (at order m)
+
+-- where no command begins with its name: a word may come with which no operand begins
+abbrev pub commanded_at : Readers → Bool → Parse (List Tree)
+commanded_at N true = listed_of N listings.Command
+commanded_at N false = from (postfix_of N) (commanded_on N)
+
 abbrev pub commanded_or : Readers → Place → Option (Head × Place) → Answer (List Tree)
-commanded_or N s None = listed_of N listings.Command s
+commanded_or N s None = commanded_at N (is_introduced s.rest) s
 commanded_or N s (Some x) = built one_of (N.part parts.Command s)
 
 unfoldable pub commanded_of : Readers → Parse (List Tree)

@@ -17,8 +17,8 @@ use Rattle.rr_parser.specs.Grammar.Sequences.{modifier, modified}
 use Rattle.rr_parser.specs.Reading.Answers.{◌>>=◌, Answer, Parse, built, closed, from, trail_on, chain, chain_on}
 use Rattle.rr_parser.specs.Reading.Nesting.{Readers}
 use Rattle.rr_parser.specs.Reading.Operands.{postfix_of}
-use Rattle.rr_parser.specs.Reading.Calls.{value_of, order_on}
-use Rattle.rr_parser.specs.Reading.Several.{several_on, several_of, is_prefixed}
+use Rattle.rr_parser.specs.Reading.Calls.{is_prefixed, value_of, order_on}
+use Rattle.rr_parser.specs.Reading.Several.{several_on, several_of}
 
 abbrev pub negation_or : Readers → Place → Option (Unit {0} × Place) → Answer Tree
 negation_or N s None = value_of N true s

@@ -6,16 +6,15 @@ use Rattle.rr_tree.specs.Tree.{Tree}
 use Rattle.rr_parser.specs.declared.word.Head.{Head}
 use Rattle.rr_parser.specs.declared.word.Target.{Target}
 use Rattle.rr_parser.specs.declared.word.Word.{Word}
-use Rattle.rr_parser.specs.declared.word.WordKind.TheVariants as kind
 use Rattle.rr_parser.specs.Places.{Place, word, at, Look}
 use Rattle.rr_parser.specs.Grammar.Chains.{one_of, and_one}
 use Rattle.rr_parser.specs.Grammar.Names.{told_behind, one_value, command}
 use Rattle.rr_parser.specs.Grammar.Operands.{order, Reached, Spot}
-use Rattle.rr_parser.specs.Grammar.Calls.{target_word, is_settable, target, with_target, target_tree, target_variable, comma}
+use Rattle.rr_parser.specs.Grammar.Calls.{target_word, is_settable, with_target, target_tree, target_variable, comma}
 use Rattle.rr_parser.specs.Reading.Answers.{wrong, Answer, Parse, built, from, chain_on, chain, across}
 use Rattle.rr_parser.specs.Reading.Nesting.{Readers}
-use Rattle.rr_parser.specs.Reading.Operands.{prefix_minus, postfix_of}
-use Rattle.rr_parser.specs.Reading.Calls.{reached_on, argument_of, headed_of, ordered_of}
+use Rattle.rr_parser.specs.Reading.Operands.{postfix_of}
+use Rattle.rr_parser.specs.Reading.Calls.{reached_on, is_prefixed, argument_of, headed_of, ordered_of}
 
 -- a comma comes, or the sign
 abbrev pub ends_target : List Word → Bool
@@ -81,10 +80,6 @@ sent_or_right N r m (Some x) = ordered_of N r.tree x.0 x.1
 -- what stands behind an operand: it may be the receiver of a command
 unfoldable pub receiver_on : Readers → Reached → Parse Tree
 receiver_on N r m = sent_or_right N r m (at order m)
-
--- a target and a sign come, or a word that stands before an operand
-abbrev pub is_prefixed : List Word → Bool
-is_prefixed ws = is_some (target ws) || is_some (prefix_minus ws) || is_some (word kind.Bang ws)
 
 abbrev pub rights_at : Readers → Bool → Parse Tree
 rights_at N true = from (argument_of N) (right_on N)

@@ -1,7 +1,8 @@
 use Rattle.std.proofs.Common.{List, [], ◌∷◌, ◌++◌, ◌-◌, ap, sym, ◌∙◌, subst, arith}
 use Rattle.rr_parser.specs.Reading.Several.{targeted_of}
 use Rattle.std.proofs.lemmas.Result.{err_from_is_err_and}
-use Rattle.rr_tree.specs.Tree.{Tree}
+use Rattle.rr_base.specs.declared.name.Sym.{Sym}
+use Rattle.rr_tree.specs.Tree.{Tree, tree_at}
 use Rattle.rr_parser.specs.Grammar.Chains.{and_one, and_all}
 use Rattle.rr_parser.specs.Grammar.Operators.{operator, infixed, connective, joined_by}
 use Rattle.rr_parser.specs.Grammar.Sequences.{modifier, modified}
@@ -24,7 +25,7 @@ use Rattle.rr_parser.proofs.Joining.{joined_begin, joined_on, made_definition}
 use Rattle.rr_parser.proofs.Listing.{Steps-another}
 use Rattle.rr_parser.proofs.Steps.{Steps-comma, Steps-operator, Steps-connective, Steps-modifier, Steps-elsif, Steps-middle, Steps-rescues}
 use Rattle.rr_parser.proofs.Shrinking.{shrinks_nested}
-use Rattle.rr_parser.proofs.Making.{stable_nodes, stable_pairs, goes_ends, goes_fails, goes_smaller, list_on, operators_on, nested_part, nested_bracketed, gives_outside}
+use Rattle.rr_parser.proofs.Making.{stable_nodes, stable_pairs, goes_ends, goes_fails, goes_smaller, list_on, operators_on, nested_part, nested_bracketed, nested_ordered, gives_outside}
 use Rattle.rr_parser.proofs.Choosing.{made_alternatives, made_pair, made_branch, made_loop, made_choice, made_unless}
 use Rattle.rr_parser.proofs.Spots.{gives_sent, made_element, made_attribute, made_setting, gives_ordered}
 use Rattle.rr_parser.proofs.Gathering.{turns_fail, turns_smaller, turns_go, turns_end, made_key, made_added}
@@ -37,21 +38,21 @@ use Rattle.rr_parser.specs.Reading.Classes.{class_member_of, methods_of}
 use Rattle.rr_parser.proofs.Opening.{made_class}
 use Rattle.rr_parser.proofs.parser.Parser.+parser.Goals as goal
 
-pub members-returns-in_err-more : goal.members-returns-in_err-more
-members-returns-in_err-more t c =
-    let p = err_from_is_err_and c.from_residual-in_err-more.result c.from_residual-in_err-more.ensures.1 in
+pub members_on-returns-in_err-more : goal.members_on-returns-in_err-more
+members_on-returns-in_err-more t c =
+    let p = err_from_is_err_and c.from_residual.result c.from_residual.ensures.1 in
     rw (p.1, p.2) (turns_fail givens (another c.args.list) (adding_to (readers c.args.inside c.args.depth) c.args.list) (Steps-another c.args.list) (λ x l n z t e. (shrinks_nested c.args.inside c.args.depth).added c.args.list l n z t e) _ _ _ _ _ _ _ _ c.loop-after.invariant c.in-Some.ensures c.in_err-more.ensures)
 
-pub members-loop-after-smaller : goal.members-loop-after-smaller
-members-loop-after-smaller t c =
+pub members_on-loop-after-smaller : goal.members_on-loop-after-smaller
+members_on-loop-after-smaller t c =
     turns_smaller givens (another c.args.list) (adding_to (readers c.args.inside c.args.depth) c.args.list) (Steps-another c.args.list) (λ x l n z t e. (shrinks_nested c.args.inside c.args.depth).added c.args.list l n z t e) _ _ c.loop-after.given c.in_ok-more.more _ _ _ _ c.in-Some.ensures c.in_ok-more.ensures
 
-pub members-loop-after-preserved : goal.members-loop-after-preserved
-members-loop-after-preserved t c =
+pub members_on-loop-after-preserved : goal.members_on-loop-after-preserved
+members_on-loop-after-preserved t c =
     turns_go givens (another c.args.list) (adding_to (readers c.args.inside c.args.depth) c.args.list) (Steps-another c.args.list) (λ x l n z t e. (shrinks_nested c.args.inside c.args.depth).added c.args.list l n z t e) _ _ _ _ _ _ _ _ _ _ c.loop-after.invariant c.in-Some.ensures c.in_ok-more.ensures
 
-pub members-returns : goal.members-returns
-members-returns t c =
+pub members_on-returns : goal.members_on-returns
+members_on-returns t c =
     turns_end givens (another c.args.list) (adding_to (readers c.args.inside c.args.depth) c.args.list) (Steps-another c.args.list) (λ x l n z t e. (shrinks_nested c.args.inside c.args.depth).added c.args.list l n z t e) _ _ _ _ _ c.loop-after.invariant c.in_default.ensures
 
 pub rows-returns-in_err-next : goal.rows-returns-in_err-next
@@ -218,6 +219,11 @@ pub inner_arguments-returns : goal.inner_arguments-returns
 inner_arguments-returns t c =
     subst (λ (p : Parse (List Tree)). GivesList c.args.self.now c.call_arguments.new.self c.call_arguments.result (p (place c.args.self.now c.args.words.now)))
     (sym (nested_bracketed c.args.inside c.args.depth (omega arith))) c.call_arguments.ensures
+
+pub inner_order-returns : goal.inner_order-returns
+inner_order-returns t c =
+    subst (λ (p : Tree → Sym → Parse Tree). Gives c.args.self.now c.ordered.new.self c.ordered.result (p (tree_at c.args.self.now.nodes.items c.args.receiver) c.args.name (place c.args.self.now c.args.words.now)))
+    (sym (nested_ordered c.args.inside c.args.depth (omega arith))) c.ordered.ensures
 
 pub alternatives-returns : goal.alternatives-returns
 alternatives-returns t c =

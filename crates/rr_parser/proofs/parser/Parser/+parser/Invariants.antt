@@ -9,7 +9,7 @@ use Rattle.rr_parser.specs.Reading.Answers.{chain_on, trail_on}
 use Rattle.rr_parser.specs.Reading.Operators.{binary_on, binary_of, logical_on, logical_of}
 use Rattle.rr_parser.specs.Reading.Operands.{tailed_of, postfix_of}
 use Rattle.rr_parser.specs.Grammar.Calls.{comma}
-use Rattle.rr_parser.specs.Reading.Calls.{argument_of, another, adding_to, members_of}
+use Rattle.rr_parser.specs.Reading.Calls.{argument_of, another, adding_to, members_on}
 use Rattle.rr_parser.specs.Reading.Several.{values_on, targeted_of, targets_of}
 use Rattle.rr_parser.specs.Reading.Sequences.{modifying_of, negation_of, statement_of, statements_of, rows_of, row, connected_on}
 use Rattle.rr_parser.specs.Grammar.Bodies.{rescues}
@@ -37,10 +37,10 @@ abbrev pub decreases-right_sides : goal.decreases-right_sides
 decreases-right_sides l = 128 * l.depth + cond l.inside 0 64 + 0
 
 abbrev pub decreases-rights : goal.decreases-rights
-decreases-rights l = 128 * l.depth + cond l.inside 0 64 + 40
+decreases-rights l = 128 * l.depth + cond l.inside 0 64 + 42
 
 abbrev pub decreases-behind_receiver : goal.decreases-behind_receiver
-decreases-behind_receiver l = 128 * l.depth + cond l.inside 0 64 + 39
+decreases-behind_receiver l = 128 * l.depth + cond l.inside 0 64 + 41
 
 abbrev pub decreases-right : goal.decreases-right
 decreases-right l = 128 * l.depth + cond l.inside 0 64 + 32
@@ -72,16 +72,16 @@ abbrev pub decreases-several : goal.decreases-several
 decreases-several l = 128 * l.depth + cond l.inside 0 64 + 11
 
 abbrev pub decreases-connected : goal.decreases-connected
-decreases-connected l = 128 * l.depth + cond l.inside 0 64 + 46
+decreases-connected l = 128 * l.depth + cond l.inside 0 64 + 48
 
 abbrev pub decreases-expression_on : goal.decreases-expression_on
-decreases-expression_on l = 128 * l.depth + cond l.inside 0 64 + 47
+decreases-expression_on l = 128 * l.depth + cond l.inside 0 64 + 49
 
 abbrev pub decreases-spotted : goal.decreases-spotted
-decreases-spotted l = 128 * l.depth + cond l.inside 0 64 + 48
+decreases-spotted l = 128 * l.depth + cond l.inside 0 64 + 50
 
 abbrev pub decreases-simple : goal.decreases-simple
-decreases-simple l = 128 * l.depth + cond l.inside 0 64 + 49
+decreases-simple l = 128 * l.depth + cond l.inside 0 64 + 51
 
 abbrev pub invariant-arguments_from-loop-after : goal.invariant-arguments_from-loop-after
 invariant-arguments_from-loop-after l =
@@ -116,55 +116,55 @@ abbrev pub decreases-ternary : goal.decreases-ternary
 decreases-ternary l = 128 * l.depth + cond l.inside 0 64 + 25
 
 abbrev pub decreases-commanded : goal.decreases-commanded
-decreases-commanded l = 128 * l.depth + cond l.inside 0 64 + 36
+decreases-commanded l = 128 * l.depth + cond l.inside 0 64 + 38
 
 abbrev pub decreases-bracketed : goal.decreases-bracketed
-decreases-bracketed l = 128 * l.depth + cond l.inside 0 64 + 36
+decreases-bracketed l = 128 * l.depth + cond l.inside 0 64 + 38
 
 abbrev pub decreases-phrase : goal.decreases-phrase
-decreases-phrase l = 128 * l.depth + cond l.inside 0 64 + 42
+decreases-phrase l = 128 * l.depth + cond l.inside 0 64 + 44
 
 abbrev pub decreases-command : goal.decreases-command
-decreases-command l = 128 * l.depth + cond l.inside 0 64 + 42
+decreases-command l = 128 * l.depth + cond l.inside 0 64 + 44
 
 abbrev pub decreases-negation : goal.decreases-negation
-decreases-negation l = 128 * l.depth + cond l.inside 0 64 + 45
+decreases-negation l = 128 * l.depth + cond l.inside 0 64 + 47
 
 abbrev pub decreases-expression : goal.decreases-expression
-decreases-expression l = 128 * l.depth + cond l.inside 0 64 + 47
+decreases-expression l = 128 * l.depth + cond l.inside 0 64 + 49
 
 abbrev pub decreases-statement : goal.decreases-statement
-decreases-statement l = 128 * l.depth + cond l.inside 0 64 + 50
+decreases-statement l = 128 * l.depth + cond l.inside 0 64 + 52
 
 abbrev pub decreases-rows : goal.decreases-rows
-decreases-rows l = 128 * l.depth + cond l.inside 0 64 + 51
+decreases-rows l = 128 * l.depth + cond l.inside 0 64 + 53
 
 abbrev pub decreases-statements : goal.decreases-statements
-decreases-statements l = 128 * l.depth + cond l.inside 0 64 + 52
+decreases-statements l = 128 * l.depth + cond l.inside 0 64 + 54
 
 abbrev pub decreases-group : goal.decreases-group
-decreases-group l = 128 * l.depth + cond l.inside 0 64 + 53
+decreases-group l = 128 * l.depth + cond l.inside 0 64 + 55
 
 abbrev pub decreases-otherwise : goal.decreases-otherwise
-decreases-otherwise l = 128 * l.depth + cond l.inside 0 64 + 53
+decreases-otherwise l = 128 * l.depth + cond l.inside 0 64 + 55
 
 abbrev pub decreases-branch : goal.decreases-branch
-decreases-branch l = 128 * l.depth + cond l.inside 0 64 + 53
+decreases-branch l = 128 * l.depth + cond l.inside 0 64 + 55
 
 abbrev pub decreases-repeat : goal.decreases-repeat
-decreases-repeat l = 128 * l.depth + cond l.inside 0 64 + 53
+decreases-repeat l = 128 * l.depth + cond l.inside 0 64 + 55
 
 abbrev pub decreases-branches : goal.decreases-branches
-decreases-branches l = 128 * l.depth + cond l.inside 0 64 + 54
+decreases-branches l = 128 * l.depth + cond l.inside 0 64 + 56
 
 abbrev pub decreases-choice : goal.decreases-choice
-decreases-choice l = 128 * l.depth + cond l.inside 0 64 + 55
+decreases-choice l = 128 * l.depth + cond l.inside 0 64 + 57
 
 abbrev pub decreases-unless : goal.decreases-unless
-decreases-unless l = 128 * l.depth + cond l.inside 0 64 + 55
+decreases-unless l = 128 * l.depth + cond l.inside 0 64 + 57
 
 abbrev pub decreases-part_within : goal.decreases-part_within
-decreases-part_within l = 128 * l.depth + cond l.inside 0 64 + 60
+decreases-part_within l = 128 * l.depth + cond l.inside 0 64 + 62
 
 abbrev pub decreases-binary_on : goal.decreases-binary_on
 decreases-binary_on l = 128 * l.depth + cond l.inside 0 64 + (2 * l.level + 8)
@@ -179,33 +179,48 @@ abbrev pub decreases-logical : goal.decreases-logical
 decreases-logical l = 128 * l.depth + cond l.inside 0 64 + (2 * l.level + 20)
 
 abbrev pub decreases-operand : goal.decreases-operand
-decreases-operand l = 128 * l.depth + cond l.inside 0 64 + cond l.commands 43 29
+decreases-operand l = 128 * l.depth + cond l.inside 0 64 + cond l.commands 45 29
 
 abbrev pub decreases-value : goal.decreases-value
-decreases-value l = 128 * l.depth + cond l.inside 0 64 + cond l.commands 44 30
+decreases-value l = 128 * l.depth + cond l.inside 0 64 + cond l.commands 46 30
 
 abbrev pub decreases-headed : goal.decreases-headed
-decreases-headed l = 128 * l.depth + cond l.inside 0 64 + 38
+decreases-headed l = 128 * l.depth + cond l.inside 0 64 + 40
 
 abbrev pub decreases-arguments : goal.decreases-arguments
-decreases-arguments l = 128 * l.depth + cond l.inside 0 64 + 37
+decreases-arguments l = 128 * l.depth + cond l.inside 0 64 + 39
 
 abbrev pub decreases-condition : goal.decreases-condition
-decreases-condition l = 128 * l.depth + cond l.inside 0 64 + 50
+decreases-condition l = 128 * l.depth + cond l.inside 0 64 + 52
 
 abbrev pub decreases-form : goal.decreases-form
-decreases-form l = 128 * l.depth + cond l.inside 0 64 + 59
+decreases-form l = 128 * l.depth + cond l.inside 0 64 + 61
 
 abbrev pub decreases-call_arguments : goal.decreases-call_arguments
-decreases-call_arguments l = 128 * l.depth + cond l.inside 0 64 + 37
+decreases-call_arguments l = 128 * l.depth + cond l.inside 0 64 + 39
 
-abbrev pub invariant-members-loop-after : goal.invariant-members-loop-after
-invariant-members-loop-after l =
-    Goes givens l.fn.self l.self l.given (members_of (readers l.inside l.depth) l.list (place l.fn.self l.fn.words))
+abbrev pub invariant-members_on-loop-after : goal.invariant-members_on-loop-after
+invariant-members_on-loop-after l =
+    Goes givens l.fn.self l.self l.given (members_on (readers l.inside l.depth) l.list (givens.tree l.fn.self.nodes.items l.fn.first) (place l.fn.self l.fn.words))
     (trail_on (another l.list) (adding_to (readers l.inside l.depth) l.list) (givens.tree l.self.nodes.items l.given) (place l.self l.rest))
 
-abbrev pub decreases-members-loop-after : goal.decreases-members-loop-after
-decreases-members-loop-after l = length l.rest
+abbrev pub decreases-members_on-loop-after : goal.decreases-members_on-loop-after
+decreases-members_on-loop-after l = length l.rest
+
+abbrev pub decreases-members_on : goal.decreases-members_on
+decreases-members_on l = 128 * l.depth + cond l.inside 0 64 + 34
+
+abbrev pub decreases-first_on : goal.decreases-first_on
+decreases-first_on l = 128 * l.depth + cond l.inside 0 64 + 32
+
+abbrev pub decreases-listed_on : goal.decreases-listed_on
+decreases-listed_on l = 128 * l.depth + cond l.inside 0 64 + 35
+
+abbrev pub decreases-commanded_on : goal.decreases-commanded_on
+decreases-commanded_on l = 128 * l.depth + cond l.inside 0 64 + 36
+
+abbrev pub decreases-inner_order : goal.decreases-inner_order
+decreases-inner_order l = 128 * l.depth + cond l.inside 0 64 + 0
 
 abbrev pub invariant-postfix-loop-tail : goal.invariant-postfix-loop-tail
 invariant-postfix-loop-tail l =
@@ -279,16 +294,16 @@ abbrev pub decreases-member : goal.decreases-member
 decreases-member l = 128 * l.depth + cond l.inside 0 64 + 32
 
 abbrev pub decreases-members : goal.decreases-members
-decreases-members l = 128 * l.depth + cond l.inside 0 64 + 34
+decreases-members l = 128 * l.depth + cond l.inside 0 64 + 36
 
 abbrev pub decreases-array : goal.decreases-array
-decreases-array l = 128 * l.depth + cond l.inside 0 64 + 37
+decreases-array l = 128 * l.depth + cond l.inside 0 64 + 39
 
 abbrev pub decreases-hash : goal.decreases-hash
-decreases-hash l = 128 * l.depth + cond l.inside 0 64 + 37
+decreases-hash l = 128 * l.depth + cond l.inside 0 64 + 39
 
 abbrev pub decreases-index : goal.decreases-index
-decreases-index l = 128 * l.depth + cond l.inside 0 64 + 37
+decreases-index l = 128 * l.depth + cond l.inside 0 64 + 39
 
 abbrev pub decreases-block_behind : goal.decreases-block_behind
 decreases-block_behind l = 128 * l.depth + cond l.inside 0 64 + 1
@@ -297,34 +312,34 @@ abbrev pub decreases-blocked : goal.decreases-blocked
 decreases-blocked l = 128 * l.depth + cond l.inside 0 64 + 2
 
 abbrev pub decreases-block : goal.decreases-block
-decreases-block l = 128 * l.depth + cond l.inside 0 64 + 58
+decreases-block l = 128 * l.depth + cond l.inside 0 64 + 60
 
 abbrev pub decreases-looped : goal.decreases-looped
-decreases-looped l = 128 * l.depth + cond l.inside 0 64 + 54
+decreases-looped l = 128 * l.depth + cond l.inside 0 64 + 56
 
 abbrev pub decreases-passing : goal.decreases-passing
 decreases-passing l = 128 * l.depth + cond l.inside 0 64 + 3
 
 abbrev pub decreases-definition : goal.decreases-definition
-decreases-definition l = 128 * l.depth + cond l.inside 0 64 + 58
+decreases-definition l = 128 * l.depth + cond l.inside 0 64 + 60
 
 abbrev pub decreases-clause : goal.decreases-clause
-decreases-clause l = 128 * l.depth + cond l.inside 0 64 + 53
+decreases-clause l = 128 * l.depth + cond l.inside 0 64 + 55
 
 abbrev pub decreases-clauses : goal.decreases-clauses
-decreases-clauses l = 128 * l.depth + cond l.inside 0 64 + 54
+decreases-clauses l = 128 * l.depth + cond l.inside 0 64 + 56
 
 abbrev pub decreases-rescued : goal.decreases-rescued
-decreases-rescued l = 128 * l.depth + cond l.inside 0 64 + 55
+decreases-rescued l = 128 * l.depth + cond l.inside 0 64 + 57
 
 abbrev pub decreases-body : goal.decreases-body
-decreases-body l = 128 * l.depth + cond l.inside 0 64 + 56
+decreases-body l = 128 * l.depth + cond l.inside 0 64 + 58
 
 abbrev pub decreases-begun : goal.decreases-begun
-decreases-begun l = 128 * l.depth + cond l.inside 0 64 + 57
+decreases-begun l = 128 * l.depth + cond l.inside 0 64 + 59
 
 abbrev pub decreases-held : goal.decreases-held
-decreases-held l = 128 * l.depth + cond l.inside 0 64 + 57
+decreases-held l = 128 * l.depth + cond l.inside 0 64 + 59
 
 abbrev pub invariant-clauses-loop-after : goal.invariant-clauses-loop-after
 invariant-clauses-loop-after l =
@@ -335,10 +350,10 @@ abbrev pub decreases-clauses-loop-after : goal.decreases-clauses-loop-after
 decreases-clauses-loop-after l = length l.rest
 
 abbrev pub decreases-pieces : goal.decreases-pieces
-decreases-pieces l = 128 * l.depth + cond l.inside 0 64 + 53
+decreases-pieces l = 128 * l.depth + cond l.inside 0 64 + 55
 
 abbrev pub decreases-interpolation : goal.decreases-interpolation
-decreases-interpolation l = 128 * l.depth + cond l.inside 0 64 + 54
+decreases-interpolation l = 128 * l.depth + cond l.inside 0 64 + 56
 
 abbrev pub invariant-pieces-loop-middle : goal.invariant-pieces-loop-middle
 invariant-pieces-loop-middle l =
@@ -364,16 +379,16 @@ abbrev pub decreases-setting : goal.decreases-setting
 decreases-setting l = 128 * l.depth + cond l.inside 0 64 + 25
 
 abbrev pub decreases-behind_operand : goal.decreases-behind_operand
-decreases-behind_operand l = 128 * l.depth + cond l.inside 0 64 + cond l.commands 40 27
+decreases-behind_operand l = 128 * l.depth + cond l.inside 0 64 + cond l.commands 42 27
 
 abbrev pub decreases-settled : goal.decreases-settled
-decreases-settled l = 128 * l.depth + cond l.inside 0 64 + cond l.commands 41 28
+decreases-settled l = 128 * l.depth + cond l.inside 0 64 + cond l.commands 43 28
 
 abbrev pub decreases-ordered : goal.decreases-ordered
-decreases-ordered l = 128 * l.depth + cond l.inside 0 64 + 38
+decreases-ordered l = 128 * l.depth + cond l.inside 0 64 + 40
 
 abbrev pub decreases-behind_order : goal.decreases-behind_order
-decreases-behind_order l = 128 * l.depth + cond l.inside 0 64 + 39
+decreases-behind_order l = 128 * l.depth + cond l.inside 0 64 + 41
 
 abbrev pub decreases-reached : goal.decreases-reached
 decreases-reached l = 128 * l.depth + cond l.inside 0 64 + 26
@@ -385,7 +400,7 @@ abbrev pub decreases-added : goal.decreases-added
 decreases-added l = 128 * l.depth + cond l.inside 0 64 + 33
 
 abbrev pub decreases-listed : goal.decreases-listed
-decreases-listed l = 128 * l.depth + cond l.inside 0 64 + 35
+decreases-listed l = 128 * l.depth + cond l.inside 0 64 + 37
 
 abbrev pub invariant-methods-loop-after : goal.invariant-methods-loop-after
 invariant-methods-loop-after l =
@@ -396,13 +411,13 @@ abbrev pub decreases-methods-loop-after : goal.decreases-methods-loop-after
 decreases-methods-loop-after l = length l.rest
 
 abbrev pub decreases-class_member : goal.decreases-class_member
-decreases-class_member l = 128 * l.depth + cond l.inside 0 64 + 55
+decreases-class_member l = 128 * l.depth + cond l.inside 0 64 + 57
 
 abbrev pub decreases-methods : goal.decreases-methods
-decreases-methods l = 128 * l.depth + cond l.inside 0 64 + 56
+decreases-methods l = 128 * l.depth + cond l.inside 0 64 + 58
 
 abbrev pub decreases-inner : goal.decreases-inner
-decreases-inner l = 128 * l.depth + cond l.inside 0 64 + 57
+decreases-inner l = 128 * l.depth + cond l.inside 0 64 + 59
 
 abbrev pub decreases-class_body : goal.decreases-class_body
-decreases-class_body l = 128 * l.depth + cond l.inside 0 64 + 58
+decreases-class_body l = 128 * l.depth + cond l.inside 0 64 + 60
