@@ -52,6 +52,10 @@ classes as values|p 5.class == Integer, Integer, [].class == Array, nil.is_a?(Ob
 a new exception of each kind|p TypeError.new(\"a\").message, ZeroDivisionError.new.message, NameError.new.class.name^n|\"a\"^n\"ZeroDivisionError\"^n\"NameError\"^n|
 the classes of values are constants|p 1.is_a?(Object), \"a\".is_a?(String), [].is_a?(Hash), RuntimeError.new.is_a?(StandardError), Class.class == Class^n|true^ntrue^nfalse^ntrue^ntrue^n|
 a constant that was never set|puts 1; puts Foo; puts 2^n|1^n|uninitialized constant Foo (NameError)
+classes of Ractor|p Ractor::Error, Ractor::RemoteError, Ractor::MovedError, Ractor::IsolationError, Ractor::ClosedError, Ractor::MovedObject^n|Ractor::Error^nRactor::RemoteError^nRactor::MovedError^nRactor::IsolationError^nRactor::ClosedError^nRactor::MovedObject^n|
+a class of Ractor is rescued|begin; raise Ractor::MovedError, \"a\"; rescue Ractor::Error => e; p e, e.class; end^n|#<Ractor::MovedError: a>^nRactor::MovedError^n|
+a class of another name in Ractor|Ractor::Errors^n||uninitialized constant Errors (NameError)
+a class that Ractor has not|Ractor::StandardError^n||uninitialized constant StandardError (NameError)
 a constant whose name begins like a class|Objects^n||uninitialized constant Objects (NameError)
 too many arguments for an exception|RuntimeError.new(1, 2)^n||wrong number of arguments (given 2, expected 0..1) (ArgumentError)
 an object takes no argument|Object.new(1)^n||wrong number of arguments (given 1, expected 0) (ArgumentError)

@@ -58,7 +58,7 @@ loop|i = 0; loop { i += 1; break if i == 3 }; p i^n|3^n|
 loop between do and end|i = 0; loop do^ni += 1^nbreak if i == 3^nend^np i^n|3^n|
 the value of loop|p loop { break 5 }, loop { break }^n|5^nnil^n|
 loop takes a StopIteration|p loop { raise StopIteration, \"x\" }^n|nil^n|
-loop takes what is below StopIteration|p loop { raise Ractor::ClosedError, \"x\" }^n||not here yet (RuntimeError)
+loop takes what is below StopIteration|p loop { raise Ractor::ClosedError, \"x\" }^n|nil^n|
 loop takes no other exception|begin; loop { raise IndexError, \"x\" }; rescue => e; puts e.message; end^n|x^n|
 a StopIteration of a method that loop calls|def f; raise StopIteration; end; i = 0; loop { i += 1; f if i == 4 }; p i^n|4^n|
 a StopIteration passes ensure in loop|loop { begin; raise StopIteration; ensure; puts 1; end }; puts 2^n|1^n2^n|

@@ -1,6 +1,7 @@
 -- The built-in classes stand in the list by their numbers.
-use Rattle.std.proofs.Common.{◌≡◌, ◌∙◌, ◌+◌, ◌<◌, ◌≤◌, ℕ, List, ◌∷◌, length, drop, true, false, Some, None, if◌then◌else◌, ap, sym, arith, refl, get_or}
+use Rattle.std.proofs.Common.{◌≡◌, ◌∙◌, ◌+◌, ◌<◌, ◌≤◌, ℕ, List, ◌∷◌, ◌++◌, length, drop, true, false, Some, None, if◌then◌else◌, ap, sym, arith, refl, get_or}
 use Rattle.std.proofs.lemmas.List.{drop_more, drop_all}
+use Rattle.std.specs.Prelude.{codes}
 use Rattle.std.specs.Str.{bytes_eq}
 use Rattle.rr_base.specs.Classes.{class_name}
 use Rattle.rr_base.specs.declared.name.ClassId.{ClassId}
@@ -72,3 +73,14 @@ pub named_none : (name : List ℕ) (n : ℕ) → 32 ≤ n → class_among name (
 named_none name n past =
     let count = classes_length in
     ap (class_among name) (drop_all n built_in_classes (omega (arith, past, count)))
+
+-- the classes whose names begin with `Ractor::`
+pub in_ractor : (name : List ℕ) → class_named (codes "Ractor::" ++ name) ≡
+    (if bytes_eq (codes "MovedObject") name then Some built_in.MovedObject else
+    if bytes_eq (codes "ClosedError") name then Some built_in.ClosedError else
+    if bytes_eq (codes "Error") name then Some built_in.RactorError else
+    if bytes_eq (codes "RemoteError") name then Some built_in.RemoteError else
+    if bytes_eq (codes "MovedError") name then Some built_in.MovedError else
+    if bytes_eq (codes "IsolationError") name then Some built_in.IsolationError else None)
+unfolding class_named
+in_ractor name = refl

@@ -1,6 +1,6 @@
 //! The built-in classes.
 
-ghost use Rattle.std.specs.Prelude.{◌≡◌, ◌≤◌, MatchOption};
+ghost use Rattle.std.specs.Prelude.{◌≡◌, ◌≤◌, ◌++◌, codes, MatchOption};
 ghost use Rattle.rr_base.specs.Classes.{class_id, class_name};
 ghost use Rattle.rr_base.specs.ClassNames.{class_named};
 
@@ -97,6 +97,28 @@ impl BuiltInClass {
             }
         }
         None
+    }
+
+    /// The class of this name in `Ractor`: `Error` is that of `Ractor::Error`.
+    #[tactic(auto, using(crate::proofs::Classes::in_ractor))]
+    pub fn named_in_ractor(name: &[u8]) -> Option<BuiltInClass>
+        ensures { result ≡ class_named (codes "Ractor::" ++ name.now) }
+    {
+        if "MovedObject".as_bytes() == name {
+            Some(BuiltInClass::MovedObject)
+        } else if "ClosedError".as_bytes() == name {
+            Some(BuiltInClass::ClosedError)
+        } else if "Error".as_bytes() == name {
+            Some(BuiltInClass::RactorError)
+        } else if "RemoteError".as_bytes() == name {
+            Some(BuiltInClass::RemoteError)
+        } else if "MovedError".as_bytes() == name {
+            Some(BuiltInClass::MovedError)
+        } else if "IsolationError".as_bytes() == name {
+            Some(BuiltInClass::IsolationError)
+        } else {
+            None
+        }
     }
 
     /// The number of the class.

@@ -2,7 +2,6 @@
 use Rattle.std.proofs.Common.{◌≡◌, ℕ, zero, suc, ◌+◌, ◌-◌, ◌≤◌, ◌∙◌, sym, ap, refl, arith, true, slice_index_or, List, [], ◌∷◌}
 use Rattle.rr_tree.specs.Tree.{Tree, tree_at}
 use Rattle.rr_tree.specs.declared.node.Node.{Node}
-use Rattle.rr_tree.specs.declared.node.Path.TheVariants.{Plain, Ractor}
 use Rattle.rr_tree.specs.declared.node.Node.TheVariants.{Sequence, Call, Send}
 use Rattle.rr_tree.specs.declared.node.Node.TheVariants as nodes
 use Rattle.rr_tree.specs.Nodes.{trees_before}
@@ -87,8 +86,7 @@ unknown_rule ns c (nodes.Int z) e = absurd cc
 unknown_rule ns c (nodes.Text i) e = absurd cc
 unknown_rule ns c (nodes.Symbol x) e = absurd cc
 unknown_rule ns c (nodes.Class k) e = absurd cc
-unknown_rule ns c (nodes.Constant (Plain x)) e = absurd cc
-unknown_rule ns c (nodes.Constant (Ractor x)) e = refl
+unknown_rule ns c (nodes.Constant path) e = absurd cc
 unknown_rule ns c (nodes.Array first count) e = absurd cc
 unknown_rule ns c (nodes.Hash first count) e = absurd cc
 unknown_rule ns c (nodes.Pairs first count) e = absurd cc

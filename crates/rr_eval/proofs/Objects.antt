@@ -1,10 +1,11 @@
 -- An evaluation takes no object away.
 use Rattle.std.proofs.Common.{◌≡◌, nat_eq, nat_lt, slice_index_or, ap, sym, subst, if◌then◌else◌, ◌≤◌, ◌-◌, ℕ, zero, suc, Bool, arith, List, [], ◌∷◌, ◌++◌, length, length-append, reverse, Option, Some, None, Result, Ok, Err, true, false}
+use Rattle.std.specs.Prelude.{codes}
 use Rattle.rr_base.specs.Classes.{class_id}
 use Rattle.rr_base.specs.declared.class.BuiltInClass.{BuiltInClass}
 use Rattle.rr_base.specs.declared.name.Sym.{Sym}
 use Rattle.rr_base.specs.declared.name.TheConstants.ClassId.{OBJECT, RACTOR, RUNTIME_ERROR, STANDARD_ERROR}
-use Rattle.rr_tree.specs.declared.node.Path.TheVariants.{Plain}
+use Rattle.rr_tree.specs.declared.node.Path.TheVariants.{Plain, Ractor as InRactor}
 use Rattle.rr_base.specs.declared.name.ClassId.{ClassId}
 use Rattle.rr_space.specs.Tables.{Table, Here}
 use Rattle.rr_space.specs.Lookups.{text_object, frozen_text}
@@ -360,6 +361,7 @@ rule_keeps c (hash list) = values_keep c (DoTarget MakeHash) (pair_parts (items 
 rule_keeps c (pairs list) = values_keep c (DoTarget MakeHash) (pair_parts (items list)) []
 rule_keeps c (interpolation list) = values_keep c (DoTarget MakeText) (items list) []
 rule_keeps c (constant (Plain x)) = constant_keeps c (class_named (slice_index_or c.symbols x.0 [])) x
+rule_keeps c (constant (InRactor x)) = constant_keeps c (class_named (codes "Ractor::" ++ slice_index_or c.symbols x.0 [])) x
 rule_keeps c (text i) = λ m. (λ k. make_keeps c.program.freezes _ k.table, tt)
 rule_keeps c (local depth slot x behind) = λ m. tt
 rule_keeps c (bare x) = bare_keeps c (own_method c.program x) (printing c x) (raises c x) (asks_block c x) (record { 0 = x })

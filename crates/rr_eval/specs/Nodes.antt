@@ -3,7 +3,6 @@ use Rattle.std.specs.Prelude.{◌+◌, ◌<◌, ◌^◌, Bool, true, false, List
 use Rattle.rr_tree.specs.Nodes.{node_tree, trees_before}
 use Rattle.rr_tree.specs.Tree.{Tree, sequence, array, hash, pairs, interpolation, call, send, yield, rescue, clause, listed, tree_at}
 use Rattle.rr_tree.specs.declared.node.Node.{Node}
-use Rattle.rr_tree.specs.declared.node.Path.TheVariants.{Plain}
 use Rattle.rr_tree.specs.declared.node.Node.TheVariants as node
 
 -- the tree of a node that is evaluated; nil stands for the items of a list past the table
@@ -59,7 +58,7 @@ is_unknown (node.Int z) = false
 is_unknown (node.Text i) = false
 is_unknown (node.Symbol x) = false
 is_unknown (node.Class k) = false
-is_unknown (node.Constant (Plain x)) = false
+is_unknown (node.Constant path) = false
 is_unknown (node.Array first count) = false
 is_unknown (node.Hash first count) = false
 is_unknown (node.Pairs first count) = false

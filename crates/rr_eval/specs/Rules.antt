@@ -1,5 +1,5 @@
 -- The rules of the language, each on a whole tree.
-use Rattle.std.specs.Prelude.{ℕ, ◌+◌, nat_eq, zero, suc, Bool, true, false, not, List, [], ◌∷◌, if◌then◌else◌, slice_index_or, length, Option, Some, None}
+use Rattle.std.specs.Prelude.{ℕ, ◌+◌, nat_eq, zero, suc, Bool, true, false, not, List, [], ◌∷◌, if◌then◌else◌, slice_index_or, length, Option, Some, None, codes, ◌++◌}
 use Rattle.rr_base.specs.Classes.{class_id}
 use Rattle.rr_space.specs.Tables.{Table}
 use Rattle.rr_space.specs.declared.refer.Ref.{Ref}
@@ -38,7 +38,7 @@ use Rattle.rr_eval.specs.Rescuing.{rescue_rule, ensure_rule}
 use Rattle.rr_base.specs.declared.class.BuiltInClass.{BuiltInClass}
 use Rattle.rr_base.specs.declared.name.Sym.{Sym}
 use Rattle.rr_base.specs.declared.name.TheConstants.ClassId.{OBJECT, RACTOR}
-use Rattle.rr_tree.specs.declared.node.Path.TheVariants.{Plain}
+use Rattle.rr_tree.specs.declared.node.Path.TheVariants.{Plain, Ractor as InRactor}
 pub use Rattle.rr_eval.specs.Context.{Context}
 pub use Rattle.rr_eval.specs.Basics.{items, on_value, with_value, read, write, raise, throw, settled, send_to, operation, negation, on_table, statements, values, variable_of, not_here}
 pub use Rattle.rr_eval.specs.Blocks.{running, with_frame, without_frame, returned, back, passed, past, left_by, opened, framed, entered, called, yield_to, yield_rule, given_rule, is_outside, return_rule, activation_in}
@@ -112,7 +112,7 @@ bare_rule c None None true asks x = finish c Raise []
 bare_rule c None None false true x = given_rule
 bare_rule c None None false false x = throw c (MissingName x)
 
--- a constant is a built-in class; no other is set
+-- a constant is a built-in class, one behind `Ractor::` a class of that name; no other is set
 abbrev pub constant_rule : Context → Option BuiltInClass → Sym → Script
 constant_rule c (Some k) x = if nat_eq (class_id k).0 RACTOR.0 then not_here c else Ret (Gave (Class (class_id k)))
 constant_rule c None x = throw c (MissingConstant x)
@@ -180,6 +180,7 @@ rule c (int z) = Ret (Gave (Int z))
 rule c (symbol x) = Ret (Gave (Symbol (record { 0 = x })))
 rule c (class_tree k) = Ret (Gave (Class k))
 rule c (constant (Plain x)) = constant_rule c (class_named (slice_index_or c.symbols x.0 [])) x
+rule c (constant (InRactor x)) = constant_rule c (class_named (codes "Ractor::" ++ slice_index_or c.symbols x.0 [])) x
 rule c (text i) = on_table c (make c.program.freezes (slice_index_or c.texts i []))
 rule c (array list) = values (items list) [] (finish c (DoTarget MakeArray))
 -- the key of each pair is evaluated before its value, and all of them before the hash is made; pairs without braces are a hash too

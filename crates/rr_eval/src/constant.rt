@@ -1,7 +1,6 @@
 //! Constants, and the classes that they name.
 
 ghost use Rattle.std.specs.Prelude.{◌≡◌, ◌+◌, ◌*◌, ◌≤◌, ℕ, [], length, slice_index_or};
-ghost use Rattle.rr_base.specs.ClassNames.{class_named};
 ghost use Rattle.rr_space.specs.Tables.{Table};
 ghost use Rattle.rr_tree.specs.Tree.{constant};
 ghost use Rattle.rr_eval.specs.Requests.{Course};
@@ -18,18 +17,18 @@ use rr_space::Ref;
 use rr_tree::{Path, Program};
 
 impl Engine {
-    /// Evaluates a constant, which is a built-in class or was never set.
+    /// Evaluates a constant of this name, which is this built-in class or was never set.
     #[tactic(auto, unfolding(crate::specs::Within::AreReached))]
     #[inline(never)]
-    fn open_constant(&mut self, program: &Program, name: Sym)
+    fn open_constant(&mut self, program: &Program, class: Option<BuiltInClass>, name: Sym)
         requires nested { IsNested (view_of self.old) }
-        ensures goes { (t : Table) (h : Course) (n : ℕ) → after_script program.now (view_of self.old) t (constant_rule (context_of program.now) (class_named (slice_index_or (context_of program.now).symbols name.0 [])) name) h n ≡ remaining_with program.now (view_of self.new) t h n }
+        ensures goes { (t : Table) (h : Course) (n : ℕ) → after_script program.now (view_of self.old) t (constant_rule (context_of program.now) class name) h n ≡ remaining_with program.now (view_of self.new) t h n }
         ensures nested { IsNested (view_of self.new) }
         ensures within { (k : Reach) → AreReached k (view_of self.old) → AreReached k (view_of self.new) }
         ensures left { self.new.left ≡ self.old.left }
         ensures size { size (view_of self.new) ≤ 3 * length self.old.frames.items + 4 }
     {
-        self.control = match BuiltInClass::named(program.symbol_bytes(name)) {
+        self.control = match class {
             Some(class) => {
                 if class.id().0 == ClassId::RACTOR.0 {
                     Control::Throw(Problem::NotHere)
@@ -52,8 +51,14 @@ impl Engine {
         ensures size { size (view_of self.new) ≤ 3 * length self.old.frames.items + 4 }
     {
         match path {
-            Path::Plain(name) => self.open_constant(program, name),
-            Path::Ractor(_) => self.control = Control::Throw(Problem::NotHere),
+            Path::Plain(name) => {
+                let class = BuiltInClass::named(program.symbol_bytes(name));
+                self.open_constant(program, class, name)
+            }
+            Path::Ractor(name) => {
+                let class = BuiltInClass::named_in_ractor(program.symbol_bytes(name));
+                self.open_constant(program, class, name)
+            }
         }
     }
 }

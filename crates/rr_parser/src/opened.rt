@@ -1,9 +1,8 @@
 //! The classes of a program among its words: their names, and what their heads tell.
 
-ghost use Rattle.std.specs.Prelude.{◌≡◌, ℕ, List, ◌++◌, [], nat_eq, codes, map, option_map, IfOk, OnOk};
+ghost use Rattle.std.specs.Prelude.{◌≡◌, ℕ, List, ◌++◌, [], nat_eq, map, option_map, IfOk, OnOk};
 ghost use Rattle.std.specs.List.{list_any};
 ghost use Rattle.std.specs.Map.{keys_of, lookup};
-ghost use Rattle.rr_base.specs.ClassNames.{class_named};
 ghost use Rattle.indexmap.specs.IndexSet.{contains};
 ghost use Rattle.rr_parser.specs.Grammar.Classes.{class_head};
 ghost use Rattle.rr_parser.specs.Opened.{Head, first_constant, class_behind, with_number, classes_in, kind_by, with_classes, has_below, below_built_in, opening_by, name_text, own_class, below_path, superclass_of, head_of, head_behind, heads_in, classes_by, opening_of, opened_kind, opened_words, with_class, class_of_entry};
@@ -101,7 +100,6 @@ pub(crate) fn with_classes(alloc: Global, words: &[Word]) -> Result<Vec<Word>, S
 /// What comes of the heads of classes, from left to right.
 #[derive(Drop)]
 struct Openings<'s> {
-    alloc: Global,
     /// The bytes of the names.
     symbols: &'s [Vec<u8>],
     /// The classes that have come, by the numbers of their names, with their superclasses.
@@ -172,15 +170,6 @@ fn superclass_of(opening: Opening) -> ClassId
     }
 }
 
-/// The built-in class of a name behind `Ractor::`.
-fn ractor_class(alloc: Global, name: &[u8]) -> Result<Option<BuiltInClass>, Storage>
-    ensures { IfOk result (λ k. k ≡ class_named (codes "Ractor::" ++ name.now)) }
-{
-    let mut text = Vec::from_slice(alloc, "Ractor::".as_bytes())?;
-    text.extend_from_slice(name)?;
-    Ok(BuiltInClass::named(&text))
-}
-
 impl Openings<'_> {
     /// The bytes of a name.
     fn name_text(&self, name: Sym) -> &[u8]
@@ -215,7 +204,7 @@ impl Openings<'_> {
                 None => Ok(below_built_in(BuiltInClass::named(self.name_text(name)))),
             },
             Path::Ractor(name) => {
-                let class = ractor_class(self.alloc, self.name_text(name))?;
+                let class = BuiltInClass::named_in_ractor(self.name_text(name));
                 Ok(below_built_in(class))
             }
         }
@@ -297,7 +286,6 @@ pub(crate) fn open(alloc: Global, symbols: &[Vec<u8>], words: &[Word]) -> Result
     ensures classes { IfOk result (λ o. o.classes.items ≡ map class_of_entry (classes_by (map (λ s. s.items) symbols.now) (heads_in words.now))) }
 {
     let mut openings = Openings {
-        alloc,
         symbols,
         classes: IndexMap::new(alloc),
     };
