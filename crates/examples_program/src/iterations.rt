@@ -70,9 +70,70 @@ loop in a method of its own name|def loop; yield; yield; end; loop { print 3 }^n
 cause behind a loop that was stopped|begin; loop { raise StopIteration }; raise \"a\"; rescue => e; p e.cause; end^n|nil^n|
 a call with a block that is no iteration|5.abs { puts 1 }^n||not here yet (RuntimeError)";
 
+/// The same of iterations over arrays.
+const ELEMENTS: &str = "\
+each|[1, 2].each { ^px^p puts x }^n|1^n2^n|
+each of none|[].each { puts 1 }; puts 2^n|2^n|
+the value of each|a = [1]; p(a.each { 7 }.equal?(a))^n|true^n|
+an array that grows is visited further|x = [3]; x.each { ^pv^p x << v + 1 if v < 6 }; p x^n|[3, 4, 5, 6]^n|
+an array that shrinks is visited less|x = [1, 2, 3, 4]; x.each { ^pv^p x.pop; print v }; p x^n|12[1, 2]^n|
+elements are read as they are then|x = [1, 2, 3]; x.each { ^pv^p x[2] = 9; print v }^n|129|
+the front is taken in each|x = [1, 2, 3]; x.each { ^pv^p x.shift; print v }; p x^n|13[3]^n|
+each without a parameter|n = 0; [5, 6].each { n += 1 }; p n^n|2^n|
+each in each|[1, 2].each { ^px^p [3, 4].each { ^py^p print x * y, 9 } }^n|39496989|
+each over nil and false|[nil, false].each { ^px^p p x }^n|nil^nfalse^n|
+each over texts|[\"a\", \"b\"].each { ^pt^p t << \"c\"; print t }^n|acbc|
+each over arrays|[[1], [2, 3]].each { ^px^p p x }^n|[1]^n[2, 3]^n|
+each_with_index|[4, 5].each_with_index { ^px, i^p p x, i }^n|4^n0^n5^n1^n|
+each_with_index with one parameter|[4].each_with_index { ^px^p p x }^n|4^n|
+the value of each_with_index|p [4].each_with_index { 9 }^n|[4]^n|
+each_with_index over arrays|[[1, 2]].each_with_index { ^px, i^p p x, i }^n|[1, 2]^n0^n|
+map|p [1, 2, 3].map { ^px^p x * x }^n|[1, 4, 9]^n|
+map of none|p [].map { 1 }^n|[]^n|
+map gives a new array|a = [1]; b = a.map { ^px^p x }; b << 2; p a, b^n|[1]^n[1, 2]^n|
+map in map|p [1, 2].map { ^px^p [3, 4].map { ^py^p x + y } }^n|[[4, 5], [5, 6]]^n|
+map over an array that grows|x = [1]; p x.map { ^pv^p x << 2 if v == 1; v }^n|[1, 2]^n|
+next in map|p [1, 2, 3].map { ^px^p next 0 if x == 2; x }^n|[1, 0, 3]^n|
+next without a value in map|p [1, 2].map { next }^n|[nil, nil]^n|
+next in the last turn of map|p [1].map { next 5 }^n|[5]^n|
+break in map|p [1, 2, 3].map { ^px^p break x if x == 2; x }^n|2^n|
+select|p [1, 2, 3, 4].select { ^px^p x % 2 == 0 }^n|[2, 4]^n|
+select of none|p [1].select { false }, [].select { true }, [1].select { nil }^n|[]^n[]^n[]^n|
+select reads the element again behind its turn|x = [1, 2]; p x.select { ^pv^p x[0] = 9; true }^n|[9, 2]^n|
+select of an element that is gone|x = [1, 2]; p x.select { ^pv^p x.pop; x.pop; true }^n|[nil]^n|
+next in select|p [1, 2, 3].select { ^px^p next false if x == 2; true }^n|[1, 3]^n|
+break in select|p [1, 2, 3].select { ^px^p break x if x == 2; true }^n|2^n|
+select in map|p [1, 2].map { ^px^p [1, 2, 3].select { ^py^p y > x } }^n|[[2, 3], [3]]^n|
+values that were held in map|p [1, [2, 3].map { ^px^p x + 1 }, 9]^n|[1, [3, 4], 9]^n|
+values that were held in map are dropped by break|p [1, [2, 3].map { ^px^p break 7 if x == 3; x }, 9]^n|[1, 7, 9]^n|
+values that were held in map are dropped by an exception|p [1, (begin; [2, 3].map { ^px^p raise \"a\" if x == 3; x }; rescue; 8; end), 9]^n|[1, 8, 9]^n|
+values that were held in select are dropped by return|def f; [1, 2].select { ^px^p return 5 if x == 2; true }; end; p [1, f, 9]^n|[1, 5, 9]^n|
+break in each|p([1, 2, 3].each { ^px^p break x if x == 2 })^n|2^n|
+next in each|[1, 2, 3].each { ^px^p next if x == 2; print x }^n|13|
+return out of each|def f; [1, 2, 3].each { ^px^p return x if x == 2 }; 9; end; p f^n|2^n|
+return out of each in each|def f; [1, 2].each { ^px^p [3, 4].each { ^py^p return x * y if y == 4 } }; end; p f^n|4^n|
+an exception out of each|begin; [1, 2].each { ^px^p raise \"a\" if x == 2; print x }; rescue => e; puts e.message; end^n|1a^n|
+ensure in each|[1, 2].each { ^px^p begin; next if x == 1; print x; ensure; print 0; end }^n|020|
+yield in each|def f(a); a.each { ^px^p yield x }; end; f([1, 2]) { ^px^p print x }^n|12|
+yield in map|def f(a); a.map { ^px^p yield x }; end; p(f([1, 2]) { ^px^p x + 5 })^n|[6, 7]^n|
+break of yield in each|def f(a); a.each { ^px^p yield x }; end; p(f([1, 2]) { ^px^p break x })^n|1^n|
+each of a frozen array|[1].freeze.each { ^px^p p x }^n|1^n|
+map of a frozen array|a = [1].freeze; p a.map { ^px^p x }.frozen?^n|false^n|
+each of nil|nil.each { }^n||undefined method 'each' for nil (NoMethodError)
+map of an integer|1.map { }^n||undefined method 'map' for an instance of Integer (NoMethodError)
+each with an argument|[1].each(2) { }^n||wrong number of arguments (given 1, expected 0) (ArgumentError)";
+
 #[test]
 fn iterations_call_their_blocks(rt: HostRuntime) -> Result<(), Fail> {
     for line in ITERATIONS.lines() {
+        check_row(&rt, rt.alloc(), line)?;
+    }
+    Ok(())
+}
+
+#[test]
+fn iterations_visit_elements(rt: HostRuntime) -> Result<(), Fail> {
+    for line in ELEMENTS.lines() {
         check_row(&rt, rt.alloc(), line)?;
     }
     Ok(())

@@ -55,11 +55,12 @@ use Rattle.rr_eval.specs.Rules.{Context, items, throw, raise, settled, on_value,
 use Rattle.rr_eval.specs.Methods.{Method, own_method}
 use Rattle.rr_builtin.specs.Iterations.{iteration_named}
 use Rattle.rr_builtin.specs.declared.iterations.Iteration.{Iteration}
+use Rattle.rr_builtin.specs.declared.iterations.Iteration.TheVariants as iterations
 use Rattle.rr_eval.specs.declared.iterating.Ahead.{Ahead}
-use Rattle.rr_eval.specs.declared.iterating.Ahead.TheVariants.{Another, Finished}
+use Rattle.rr_eval.specs.declared.iterating.Ahead.TheVariants.{Another, Finished, Stopped}
 use Rattle.rr_eval.specs.declared.iterating.Visits.{Visits}
-use Rattle.rr_eval.specs.declared.iterating.Visits.TheVariants.{Forever}
-use Rattle.rr_eval.specs.Iterating.{ahead, turn_of, taken_up, continued, turn_ended, turned, beginning, begun, iteration_rule}
+use Rattle.rr_eval.specs.declared.iterating.Visits.TheVariants.{Times, Upto, Elements, Nothing, Forever}
+use Rattle.rr_eval.specs.Iterating.{ahead, kept, finished, turn_of, taken_up, continued, continued_by, continued_with, turn_ended, turned, beginning, begun, iteration_rule}
 use Rattle.rr_eval.specs.Raising.{message_or_nil, raise_new, raise_kind, raise_again, raise_rule}
 use Rattle.rr_eval.specs.Rescuing.{class_parts, taken_by, with_caught, fitted, tried_classes, tried_clause, tried, else_rule, rescue_rule, ensure_rule, target_part}
 use Rattle.rr_tree.specs.Ancestors.{descends}
@@ -169,16 +170,36 @@ turn_of_keeps c i (Some shape) vs m =
     if_keeps (spreads shape.parameters vs m.table) _ _ (throw_keeps c NotHere)
     (opened_keeps c (OfBlock (top m.calls.frames)) shape.parameters shape.size vs None m.calls (Evaluate (TurnPart i) Ret) (λ a. tt))
 
+finished_keeps : (c : Context) (v : Visits) (stand : List Ref) → Keeps (finished c v stand)
+finished_keeps c (Elements iterations.Map place) stand = λ m. settled_keeps c
+finished_keeps c (Elements iterations.Select place) stand = λ m. settled_keeps c
+finished_keeps c (Elements iterations.Times place) stand = tt
+finished_keeps c (Elements iterations.Upto place) stand = tt
+finished_keeps c (Elements iterations.Each place) stand = tt
+finished_keeps c (Elements iterations.EachWithIndex place) stand = tt
+finished_keeps c (Times z) stand = tt
+finished_keeps c (Upto z) stand = tt
+finished_keeps c Nothing stand = tt
+finished_keeps c Forever stand = tt
+
 taken_up_keeps : (c : Context) (i : Iterated) (a : Ahead) (m : Memory) → Keeps (taken_up c i a m)
 taken_up_keeps c i (Another first last more) m = turn_of_keeps c (record i { visits = more }) (shape_in (Some i.block)) (list_of first ++ list_of last) m
-taken_up_keeps c i Finished m = tt
+taken_up_keeps c i Finished m = finished_keeps c i.visits i.stand
+taken_up_keeps c i (Stopped problem) m = throw_keeps c problem
 
 continued_keeps : (c : Context) (i : Iterated) → Keeps (continued c i)
-continued_keeps c i = λ m. taken_up_keeps c i (ahead i.visits i.stand) m
+continued_keeps c i = λ m. taken_up_keeps c i (ahead i.visits i.stand m.table) m
+
+continued_by_keeps : (c : Context) (i : Iterated) (r : Result (Option Ref) Problem) → Keeps (continued_by c i r)
+continued_by_keeps c i (Ok found) = continued_keeps c (record i { stand = i.stand ++ list_of found })
+continued_by_keeps c i (Err problem) = throw_keeps c problem
+
+continued_with_keeps : (c : Context) (i : Iterated) (v : Ref) → Keeps (continued_with c i v)
+continued_with_keeps c i v = λ m. continued_by_keeps c i (kept i.visits v i.stand m.table)
 
 turn_ended_keeps : (c : Context) (i : Iterated) (root : ℕ) (a : Answer) → Keeps (turn_ended c i root a)
-turn_ended_keeps c i root (Gave v) = continued_keeps c i
-turn_ended_keeps c i root (Done v) = continued_keeps c i
+turn_ended_keeps c i root (Gave v) = continued_with_keeps c i v
+turn_ended_keeps c i root (Done v) = continued_with_keeps c i v
 turn_ended_keeps c i root (Raised e) = λ m. tt
 turn_ended_keeps c i root (Broke v) = λ m. tt
 turn_ended_keeps c i root (Returned v) = λ m. tt
@@ -422,7 +443,7 @@ resumed_keeps c (Handling old) stand = λ a. (λ m. omega arith, tt)
 resumed_keeps c (Ensure part) stand = ensure_keeps (tree_at c.nodes part)
 resumed_keeps c (Kept a) stand = on_value_keeps _ (λ v. tt)
 resumed_keeps c (Round i) stand = turned_keeps c.context (iterated c i stand)
-resumed_keeps c (Turned i) stand = on_value_keeps _ (λ v. continued_keeps c.context (iterated c i stand))
+resumed_keeps c (Turned i) stand = on_value_keeps _ (λ v. continued_with_keeps c.context (iterated c i stand) v)
 
 -- an evaluation that takes no object away
 abbrev KeepsAll : Evaluation → Type 0

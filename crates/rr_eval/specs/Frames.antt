@@ -17,7 +17,7 @@ use Rattle.rr_eval.specs.declared.frame.Frame.TheVariants.{Not, Negation, And, O
 use Rattle.rr_eval.specs.declared.frame.Control.{Control}
 use Rattle.rr_eval.specs.declared.frame.Control.TheVariants.{Enter, Operate, Give, Throw, Raise, RaiseValue}
 use Rattle.rr_eval.specs.declared.iterating.Iterating.{Iterating}
-use Rattle.rr_eval.specs.Iterating.{continued, turned}
+use Rattle.rr_eval.specs.Iterating.{continued_with, turned}
 use Rattle.rr_eval.specs.Script.{State, Iterated, Script, Ret, Go, World, Evaluation, Outcome, Ended, run, after}
 use Rattle.rr_builtin.specs.Objects.{is_truthy}
 use Rattle.rr_eval.specs.Rules.{Context, throw, raise, on_value, with_value, in_loop, turn_rule, operation, negation, write, statements, values, pair_parts, finish, back, past, return_rule, concluded, meaning_of, meaning}
@@ -80,7 +80,7 @@ resumed c (Handling old) stand = restored old
 resumed c (Ensure part) stand = ensure_rule (tree_at c.nodes part)
 resumed c (Kept a) stand = on_value (λ v. Ret a)
 resumed c (Round i) stand = turned c.context (iterated c i stand)
-resumed c (Turned i) stand = on_value (λ v. continued c.context (iterated c i stand))
+resumed c (Turned i) stand = on_value (λ v. continued_with c.context (iterated c i stand) v)
 
 -- the frame that waits for the answer of a body that has a frame of its own
 abbrev pub waits_for : Entry → Frame

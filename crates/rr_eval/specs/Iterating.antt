@@ -1,12 +1,15 @@
 -- Built-in methods that call their block again and again.
-use Rattle.std.specs.Prelude.{◌+ℤ◌, ℕ, ℤ, pos, int_lt, List, [], ◌∷◌, ◌++◌, slice_index_or, codes, Bool, true, false, if◌then◌else◌, Option, Some, None, Result, Ok, Err}
+use Rattle.std.specs.Prelude.{◌+◌, ◌-◌, ◌^◌, ◌+ℤ◌, ℕ, ℤ, nat_lt, drop, pos, int_lt, List, [], ◌∷◌, ◌++◌, slice_index_or, codes, Bool, true, false, if◌then◌else◌, Option, Some, None, Result, Ok, Err}
 use Rattle.std.specs.Ordering.{int_eq}
 use Rattle.std.specs.Str.{bytes_eq}
 use Rattle.rr_base.specs.declared.name.Sym.{Sym}
 use Rattle.rr_base.specs.declared.name.TheConstants.ClassId.{STOP_ITERATION}
 use Rattle.rr_frames.specs.Frames.{list_of}
 use Rattle.rr_frames.specs.declared.activation.Shape.{Shape}
-use Rattle.rr_space.specs.Kinds.{class_at}
+use Rattle.rr_space.specs.Graph.{Value, At, Published}
+use Rattle.rr_space.specs.Kinds.{class_at, kind_at}
+use Rattle.rr_space.specs.declared.kind.Kind.{Kind}
+use Rattle.rr_space.specs.declared.kind.Kind.TheVariants.{Array}
 use Rattle.rr_space.specs.Tables.{Table}
 use Rattle.rr_space.specs.declared.refer.Ref.{Ref}
 use Rattle.rr_space.specs.declared.refer.Ref.TheVariants.{Nil, Int}
@@ -14,23 +17,27 @@ use Rattle.rr_tree.specs.Tree.{Tree, nil, block}
 use Rattle.rr_builtin.specs.Acts.{Outcome, Gives, Raises, Lacks}
 use Rattle.rr_tree.specs.Ancestors.{descends}
 use Rattle.rr_builtin.specs.Iterations.{iteration_named, refusal}
+use Rattle.rr_builtin.specs.Objects.{is_truthy}
+use Rattle.rr_builtin.specs.Rounds.{Read, Reads, ReadsNone, IsMoved, item_at}
+use Rattle.rr_builtin.specs.declared.problem.Problem.TheVariants.{Moved, OutOfRange}
+use Rattle.rr_eval.specs.declared.call.Task.TheVariants.{MakeArray}
 use Rattle.rr_builtin.specs.declared.iterations.Iteration.{Iteration}
 use Rattle.rr_builtin.specs.declared.iterations.Iteration.TheVariants as iterations
 use Rattle.rr_eval.specs.declared.call.Callee.TheVariants as callees
 use Rattle.rr_eval.specs.declared.call_stack.Entry.TheVariants.{OfBlock}
 use Rattle.rr_eval.specs.declared.iterating.Ahead.{Ahead}
-use Rattle.rr_eval.specs.declared.iterating.Ahead.TheVariants.{Another, Finished}
+use Rattle.rr_eval.specs.declared.iterating.Ahead.TheVariants.{Another, Finished, Stopped}
 use Rattle.rr_eval.specs.declared.iterating.Visits.{Visits}
-use Rattle.rr_eval.specs.declared.iterating.Visits.TheVariants.{Times, Upto, Nothing, Forever}
+use Rattle.rr_eval.specs.declared.iterating.Visits.TheVariants.{Times, Upto, Elements, Nothing, Forever}
 use Rattle.rr_eval.specs.declared.problem.Answer.{Answer}
 use Rattle.rr_eval.specs.declared.problem.Answer.TheVariants.{Gave, Raised, Broke, Done, Returned, Ends}
 use Rattle.rr_eval.specs.declared.problem.Problem.{Problem}
 use Rattle.rr_eval.specs.declared.problem.Problem.TheVariants.{BuiltIn, MissingMethod, NoBlock, NotHere}
-use Rattle.rr_eval.specs.Basics.{throw, not_here}
+use Rattle.rr_eval.specs.Basics.{throw, settled, not_here}
 use Rattle.rr_eval.specs.Blocks.{running, without_frame, opened, spreads, shape_in}
 use Rattle.rr_eval.specs.Context.{Context}
-use Rattle.rr_eval.specs.Responses.{receiver_of}
-use Rattle.rr_eval.specs.Script.{Script, Ret, Evaluate, TurnPart, See, Do, Iterated, Memory}
+use Rattle.rr_eval.specs.Responses.{ref_of, receiver_of}
+use Rattle.rr_eval.specs.Script.{Script, Ret, Evaluate, TurnPart, See, Do, Ask, Does, Iterated, Memory}
 use Rattle.rr_eval.specs.Variables.{top}
 
 -- the integers below one, and those up to one
@@ -44,13 +51,59 @@ up_to here (Int last) =
     if int_eq here last then Another (Some (Int here)) None Nothing else Finished
 up_to here v = Finished
 
--- What is ahead of an iteration: another turn, what its block is given, and what is visited after it; or nothing more. The receiver stands
--- first among the values that stand for it, and the bound of `upto` behind it.
-abbrev pub ahead : Visits → List Ref → Ahead
-ahead (Times here) vs = below here (slice_index_or vs 0 Nil)
-ahead (Upto here) vs = up_to here (slice_index_or vs 1 Nil)
-ahead Nothing vs = Finished
-ahead Forever vs = Another None None Forever
+-- the reference of a value that is not published
+abbrev pub own_of : Value → Option Ref
+own_of (At (Published c p)) = None
+own_of x = Some (ref_of x)
+
+-- an element is given alone, or with its place, which is an integer of 64 bits
+abbrev pub index_of : Iteration → ℕ → Option Ref
+index_of iterations.EachWithIndex place = Some (Int (pos place))
+index_of i place = None
+
+-- what is published is not given yet
+abbrev pub element_given : Iteration → ℕ → Option Ref → Ahead
+element_given i place None = Stopped NotHere
+element_given i place (Some v) = if nat_lt place (2 ^ 63) then Another (Some v) (index_of i place) (Elements i (place + 1)) else Stopped (BuiltIn OutOfRange)
+
+abbrev pub element_ahead : Iteration → ℕ → Read → Ahead
+element_ahead i place (Reads x) = element_given i place (own_of x)
+element_ahead i place ReadsNone = Finished
+element_ahead i place IsMoved = Stopped (BuiltIn Moved)
+
+-- What is ahead of an iteration: another turn, what its block is given, and what is visited after it; or nothing more; or an exception. The
+-- receiver stands first among the values that stand for it, and the bound of `upto` behind it. An array is read by place, as it is then.
+abbrev pub ahead : Visits → List Ref → Table → Ahead
+ahead (Times here) vs t = below here (slice_index_or vs 0 Nil)
+ahead (Upto here) vs t = up_to here (slice_index_or vs 1 Nil)
+ahead (Elements i place) vs t = element_ahead i place (item_at t (slice_index_or vs 0 Nil) place)
+ahead Nothing vs t = Finished
+ahead Forever vs t = Another None None Forever
+
+-- an element that `select` chooses, as it is behind the turn
+abbrev pub chosen_own : Option Ref → Result (Option Ref) Problem
+chosen_own None = Err NotHere
+chosen_own (Some v) = Ok (Some v)
+
+abbrev pub chosen : Read → Result (Option Ref) Problem
+chosen (Reads x) = chosen_own (own_of x)
+chosen ReadsNone = Ok (Some Nil)
+chosen IsMoved = Err (BuiltIn Moved)
+
+-- What is kept of a turn that had a value: `map` keeps the value, and `select` the element where the value is true. The next place is known.
+abbrev pub kept : Visits → Ref → List Ref → Table → Result (Option Ref) Problem
+kept (Elements iterations.Map next) v stand t = Ok (Some v)
+kept (Elements iterations.Select next) v stand t = if is_truthy v then chosen (item_at t (slice_index_or stand 0 Nil) (next - 1)) else Ok None
+kept visits v stand t = Ok None
+
+-- An iteration that has no more turns gives its receiver; `map` and `select` give a new array of what they kept.
+abbrev pub gives_array : Context → List Ref → Script
+gives_array c vs = See (λ m. Ask (Does MakeArray vs m.table) (settled c))
+
+abbrev pub finished : Context → Visits → List Ref → Script
+finished c (Elements iterations.Map place) stand = gives_array c (drop 1 stand)
+finished c (Elements iterations.Select place) stand = gives_array c (drop 1 stand)
+finished c visits stand = Ret (Gave (slice_index_or stand 0 Nil))
 
 -- The block is called for a turn, in a frame of its own, as `yield` calls it. That is a step of its own.
 abbrev pub turn_of : Context → Iterated → Option Shape → List Ref → Memory → Script
@@ -58,14 +111,22 @@ turn_of c i None vs m = throw c NoBlock
 turn_of c i (Some shape) vs m =
     if spreads shape.parameters vs m.table then not_here c else opened c (OfBlock (top m.calls.frames)) shape.parameters shape.size vs None m.calls (Evaluate (TurnPart i) Ret)
 
--- an iteration that has no more turns gives its receiver
 abbrev pub taken_up : Context → Iterated → Ahead → Memory → Script
 taken_up c i (Another first last more) m = turn_of c (record i { visits = more }) (shape_in (Some i.block)) (list_of first ++ list_of last) m
-taken_up c i Finished m = Ret (Gave (slice_index_or i.stand 0 Nil))
+taken_up c i Finished m = finished c i.visits i.stand
+taken_up c i (Stopped problem) m = throw c problem
 
 -- what is ahead is seen when the turn before has ended
 abbrev pub continued : Context → Iterated → Script
-continued c i = See (λ m. taken_up c i (ahead i.visits i.stand) m)
+continued c i = See (λ m. taken_up c i (ahead i.visits i.stand m.table) m)
+
+-- the same behind a turn that had a value
+abbrev pub continued_by : Context → Iterated → Result (Option Ref) Problem → Script
+continued_by c i (Ok found) = continued c (record i { stand = i.stand ++ list_of found })
+continued_by c i (Err problem) = throw c problem
+
+abbrev pub continued_with : Context → Iterated → Ref → Script
+continued_with c i v = See (λ m. continued_by c i (kept i.visits v i.stand m.table))
 
 -- what an exception comes to that is raised in a turn: `loop` takes a StopIteration, and has the value nil then
 abbrev pub stopped : Context → Visits → Ref → Table → Answer
@@ -84,8 +145,8 @@ left_turn c visits root t (Ends number v) = Ends number v
 
 -- the statements' value and `next` end the turn alone
 abbrev pub turn_ended : Context → Iterated → ℕ → Answer → Script
-turn_ended c i root (Gave v) = continued c i
-turn_ended c i root (Done v) = continued c i
+turn_ended c i root (Gave v) = continued_with c i v
+turn_ended c i root (Done v) = continued_with c i v
 turn_ended c i root a = See (λ m. Ret (left_turn c i.visits root m.table a))
 
 -- a turn ends, and its frame goes
@@ -98,10 +159,11 @@ body_in (block x parameters size body) = body
 body_in t = nil
 
 -- what an iteration visits that begins
-abbrev pub visits_of : Iteration → Ref → Option Visits
-visits_of iterations.Times v = Some (Times (pos 0))
-visits_of iterations.Upto (Int z) = Some (Upto z)
-visits_of i v = None
+abbrev pub visits_of : Iteration → Ref → Kind → Option Visits
+visits_of iterations.Times v k = Some (Times (pos 0))
+visits_of iterations.Upto (Int z) k = Some (Upto z)
+visits_of i v Array = Some (Elements i 0)
+visits_of i v k = None
 
 -- why a call does not begin, where `missing` is the problem of a method that the receiver lacks
 abbrev pub problem_of : Problem → Outcome → Problem
@@ -118,7 +180,7 @@ begins missing None (Some visits) = Ok visits
 abbrev pub beginning : Sym → Option Iteration → List Ref → Table → Result Visits Problem
 beginning x None vs t = Err NotHere
 beginning x (Some i) [] t = Err NotHere
-beginning x (Some i) (v ∷ vs) t = begins (MissingMethod (callees.Name x) (receiver_of t v)) (refusal t v i vs) (visits_of i v)
+beginning x (Some i) (v ∷ vs) t = begins (MissingMethod (callees.Name x) (receiver_of t v)) (refusal t v i vs) (visits_of i v (kind_at t v))
 
 abbrev pub begun : Context → Result Visits Problem → List Ref → Tree → Script
 begun c (Ok visits) vs b = continued c (record { visits = visits; stand = vs; block = b })

@@ -10,7 +10,7 @@ use Rattle.rr_space.specs.declared.refer.Ref.TheVariants.{Local, Shared}
 use Rattle.rr_text.specs.Reads.{IsReadWith}
 use Rattle.rr_eval.specs.declared.call.Call.{Call}
 use Rattle.rr_eval.specs.declared.iterating.Ahead.{Ahead}
-use Rattle.rr_eval.specs.declared.iterating.Ahead.TheVariants.{Another, Finished}
+use Rattle.rr_eval.specs.declared.iterating.Ahead.TheVariants.{Another, Finished, Stopped}
 use Rattle.rr_eval.specs.declared.problem.Answer.{Answer}
 use Rattle.rr_eval.specs.declared.problem.Answer.TheVariants.{Gave, Raised, Broke, Done, Returned, Ends}
 use Rattle.rr_eval.specs.declared.problem.Response.{Response}
@@ -94,6 +94,7 @@ IsAskedReached k (Some q) = IsRequestReached k q
 abbrev pub IsAheadReached : Reach → Ahead → Type 0
 IsAheadReached k (Another first last more) = All (IsReached k) (list_of first ++ list_of last)
 IsAheadReached k Finished = Unit {0}
+IsAheadReached k (Stopped problem) = Unit {0}
 
 -- what a turn, or a run, ends with
 abbrev pub IsTurnReached : Reach → Turn → Type 0

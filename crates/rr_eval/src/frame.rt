@@ -86,7 +86,7 @@ pub enum Frame {
     Kept(Answer),
     /// A turn of an iteration, whose variables go with it.
     Round(Iterating),
-    /// An iteration whose turn has ended.
+    /// An iteration whose turn ends with the answer.
     Turned(Iterating),
 }
 

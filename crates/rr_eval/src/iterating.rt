@@ -1,19 +1,23 @@
 //! Iterations that run, and what is ahead of them.
 
-ghost use Rattle.std.specs.Prelude.{◌≡◌, slice_index_or};
+ghost use Rattle.std.specs.Prelude.{◌≡◌, ◌<◌, ◌^◌, ℕ, length, slice_index_or, Option, IfOk};
 ghost use Rattle.std.specs.List.{All};
+ghost use Rattle.rr_frames.specs.Frames.{list_of};
+ghost use Rattle.rr_space.specs.Parts.{value_of, IsWithin};
+ghost use Rattle.rr_space.specs.Tables.{Below};
 ghost use Rattle.rr_builtin.specs.Acts.{outcome_of};
+ghost use Rattle.rr_builtin.specs.Rounds.{item_at};
 ghost use Rattle.rr_space.specs.declared.refer.Ref.{Ref};
-ghost use Rattle.rr_eval.specs.Iterating.{below, up_to, ahead, visits_of, problem_of, beginning, left_turn, is_loop};
+ghost use Rattle.rr_eval.specs.Iterating.{below, up_to, own_of, index_of, element_given, element_ahead, ahead, chosen, kept, visits_of, problem_of, beginning, left_turn, is_loop};
 ghost use Rattle.rr_eval.specs.Turns.{context_of, more_of};
-ghost use Rattle.rr_eval.specs.Within.{Reach, IsReached, IsAheadReached, IsAnswerReached};
+ghost use Rattle.rr_eval.specs.Within.{Reach, reach, IsReached, IsAheadReached, IsAnswerReached};
 
 use crate::call::Callee;
 use crate::problem::{Answer, Problem};
 use crate::serve::receiver_of;
 use rr_base::{ClassId, Sym};
-use rr_builtin::{Built, Iteration, refused};
-use rr_space::{Ref, Space};
+use rr_builtin::{Built, Iteration, Problem as BuiltInProblem, Round, is_truthy, item_at, refused};
+use rr_space::{Kind, Ref, Space};
 use rr_tree::{NodeId, Program};
 
 /// What an iteration still visits.
@@ -23,6 +27,8 @@ pub enum Visits {
     Times(i64),
     /// The integers from this one on up to the bound, which is the first argument.
     Upto(i64),
+    /// The elements of an array from a place on, which an iteration gives to its block.
+    Elements(Iteration, usize),
     Nothing,
     /// `loop`: nothing is given to the block, again and again.
     Forever,
@@ -45,6 +51,8 @@ pub enum Ahead {
     Another(Option<Ref>, Option<Ref>, Visits),
     /// No turn.
     Finished,
+    /// An exception.
+    Stopped(Problem),
 }
 
 /// A value that stands for an iteration; nil where none stands there.
@@ -87,26 +95,127 @@ fn up_to(here: i64, bound: Ref) -> Ahead
     }
 }
 
+/// No place of an element is as great.
+const PLACES: usize = 9_223_372_036_854_775_808;
+
+/// A value that is not published.
+fn own(value: Ref) -> Option<Ref>
+    ensures is { result ≡ own_of (value_of value) }
+    ensures within { (k : ℕ) (clusters : Option Below) → IsWithin k value → All (IsReached (reach k clusters)) (list_of result) }
+{
+    match value {
+        Ref::Nil => Some(Ref::Nil),
+        Ref::Truth(truth) => Some(Ref::Truth(truth)),
+        Ref::Int(z) => Some(Ref::Int(z)),
+        Ref::Symbol(name) => Some(Ref::Symbol(name)),
+        Ref::Class(class) => Some(Ref::Class(class)),
+        Ref::Ractor(ractor) => Some(Ref::Ractor(ractor)),
+        Ref::Local(slot) => Some(Ref::Local(slot)),
+        Ref::Shared(_, _) => None,
+    }
+}
+
+/// The place of an element, where an iteration gives it.
+fn index_of(iteration: Iteration, place: usize) -> Option<Ref>
+    requires { place < 2 ^ 63 }
+    ensures is { result ≡ index_of iteration place }
+    ensures within { (k : Reach) → All (IsReached k) (list_of result) }
+{
+    match iteration {
+        Iteration::EachWithIndex => Some(Ref::Int(place as i64)),
+        _ => None,
+    }
+}
+
+/// A turn over an element.
+fn element_given(iteration: Iteration, place: usize, element: Option<Ref>) -> Ahead
+    ensures is { result ≡ element_given iteration place element }
+    ensures within { (k : Reach) → All (IsReached k) (list_of element) → IsAheadReached k result }
+{
+    match element {
+        Some(value) if place < PLACES => {
+            let more = Visits::Elements(iteration, place + 1);
+            Ahead::Another(Some(value), index_of(iteration, place), more)
+        }
+        Some(_) => Ahead::Stopped(Problem::BuiltIn(BuiltInProblem::OutOfRange)),
+        None => Ahead::Stopped(Problem::NotHere),
+    }
+}
+
+/// What is ahead of an iteration over an array.
+fn element_ahead(space: &Space, iteration: Iteration, array: Ref, place: usize) -> Ahead
+    ensures is { result ≡ element_ahead iteration place (item_at space.now array place) }
+    ensures within { (clusters : Option Below) → IsAheadReached (reach (length space.now.slots) clusters) result }
+{
+    match item_at(space, array, place) {
+        Round::Item(value) => element_given(iteration, place, own(value)),
+        Round::Absent => Ahead::Finished,
+        Round::Moved => Ahead::Stopped(Problem::BuiltIn(BuiltInProblem::Moved)),
+    }
+}
+
+/// An element that `select` chooses, as it is behind the turn.
+fn chosen(space: &Space, array: Ref, place: usize) -> Result<Option<Ref>, Problem>
+    ensures is { result ≡ chosen (item_at space.now array place) }
+    ensures within { (clusters : Option Below) → IfOk result (λ found. All (IsReached (reach (length space.now.slots) clusters)) (list_of found)) }
+{
+    match item_at(space, array, place) {
+        Round::Item(value) => match own(value) {
+            Some(value) => Ok(Some(value)),
+            None => Err(Problem::NotHere),
+        },
+        Round::Absent => Ok(Some(Ref::Nil)),
+        Round::Moved => Err(Problem::BuiltIn(BuiltInProblem::Moved)),
+    }
+}
+
+/// What is kept of a turn that had a value.
+pub fn kept(
+    space: &Space,
+    visits: Visits,
+    value: Ref,
+    stand: &[Ref],
+) -> Result<Option<Ref>, Problem>
+    ensures is { result ≡ kept visits value stand.now space.now }
+    ensures within { (clusters : Option Below) → IsReached (reach (length space.now.slots) clusters) value → IfOk result (λ found. All (IsReached (reach (length space.now.slots) clusters)) (list_of found)) }
+{
+    match visits {
+        Visits::Elements(Iteration::Map, _) => Ok(Some(value)),
+        Visits::Elements(Iteration::Select, next) => {
+            if is_truthy(value) {
+                chosen(space, value_at(stand, 0), next.saturating_sub(1))
+            } else {
+                Ok(None)
+            }
+        }
+        _ => Ok(None),
+    }
+}
+
 /// What is ahead of an iteration, by the values that stand for it.
-pub fn look_ahead(visits: Visits, stand: &[Ref]) -> Ahead
-    ensures is { result ≡ ahead visits stand.now }
-    ensures within { (k : Reach) → IsAheadReached k result }
+pub fn look_ahead(space: &Space, visits: Visits, stand: &[Ref]) -> Ahead
+    ensures is { result ≡ ahead visits stand.now space.now }
+    ensures within { (clusters : Option Below) → IsAheadReached (reach (length space.now.slots) clusters) result }
 {
     match visits {
         Visits::Times(here) => below(here, value_at(stand, 0)),
         Visits::Upto(here) => up_to(here, value_at(stand, 1)),
+        Visits::Elements(iteration, place) => {
+            element_ahead(space, iteration, value_at(stand, 0), place)
+        }
         Visits::Nothing => Ahead::Finished,
         Visits::Forever => Ahead::Another(None, None, Visits::Forever),
     }
 }
 
 /// What an iteration visits that begins.
-pub fn visits_of(iteration: Iteration, receiver: Ref) -> Option<Visits>
-    ensures { result ≡ visits_of iteration receiver }
+pub fn visits_of(iteration: Iteration, receiver: Ref, kind: Kind) -> Option<Visits>
+    ensures { result ≡ visits_of iteration receiver kind }
 {
-    match (iteration, receiver) {
-        (Iteration::Times, _) => Some(Visits::Times(0)),
-        (Iteration::Upto, Ref::Int(first)) => Some(Visits::Upto(first)),
+    match (iteration, receiver, kind) {
+        (Iteration::Times, _, _) => Some(Visits::Times(0)),
+        (Iteration::Upto, Ref::Int(first), _) => Some(Visits::Upto(first)),
+        (_, _, Kind::Array) => Some(Visits::Elements(iteration, 0)),
         _ => None,
     }
 }
@@ -137,7 +246,7 @@ pub fn beginning(
             let missing = Problem::MissingMethod(Callee::Name(name), receiver_of(space, *receiver));
             match (
                 refused(space, *receiver, iteration, arguments),
-                visits_of(iteration, *receiver),
+                visits_of(iteration, *receiver, space.kind_of(*receiver)),
             ) {
                 (Some(built), _) => Err(problem_of(missing, built)),
                 (None, Some(visits)) => Ok(visits),

@@ -1,10 +1,10 @@
 //! Calls of the built-in methods that call their block again and again.
 
-ghost use Rattle.std.specs.Prelude.{◌≡◌, ◌+◌, ◌*◌, ◌<◌, ◌≤◌, ℕ, ◌++◌, ◌∷◌, [], length, reverse, take, drop, vec_capacity, None, Some, IfErr, OnOk};
+ghost use Rattle.std.specs.Prelude.{◌≡◌, ◌+◌, ◌*◌, ◌<◌, ◌≤◌, ℕ, ◌++◌, ◌∷◌, [], length, reverse, take, drop, vec_capacity, Option, None, Some, IfOk, IfErr, OnOk, OnErr};
 ghost use Rattle.std.specs.List.{All};
 ghost use Rattle.rr_base.specs.declared.fault.Fault.{Fault};
 ghost use Rattle.rr_frames.specs.Frames.{list_of};
-ghost use Rattle.rr_space.specs.Tables.{Table};
+ghost use Rattle.rr_space.specs.Tables.{Table, Below};
 ghost use Rattle.rr_tree.specs.Tree.{tree_at};
 ghost use Rattle.rr_tree.specs.declared.program.Program.{Program};
 ghost use Rattle.rr_eval.specs.declared.call_stack.Entry.{Entry};
@@ -13,26 +13,42 @@ ghost use Rattle.rr_eval.specs.declared.frame.Frame.{Frame};
 ghost use Rattle.rr_eval.specs.declared.problem.Answer.{Answer};
 ghost use Rattle.rr_eval.specs.Blocks.{spreads, shape_in, opened};
 ghost use Rattle.rr_eval.specs.Frames.{below_of, base_of, stand_of, iterated, Nested};
-ghost use Rattle.rr_eval.specs.Iterating.{turn_of, continued, turned, iteration_rule};
-ghost use Rattle.rr_eval.specs.Requests.{Course};
+ghost use Rattle.rr_eval.specs.Iterating.{turn_of, finished, continued, continued_with, turned, iteration_rule};
+ghost use Rattle.rr_eval.specs.Requests.{Course, arguments_of};
 ghost use Rattle.rr_eval.specs.Script.{Ret, Evaluate, TurnPart};
-ghost use Rattle.rr_eval.specs.Turns.{context_of, code_of, state_of, remaining, remaining_with, IsNested, after_answer, after_values, Stands, more_of, size};
+ghost use Rattle.rr_eval.specs.Turns.{context_of, code_of, state_of, remaining, remaining_with, IsNested, after_answer, after_values, continuing, Stands, more_of, size, sized};
 ghost use Rattle.rr_eval.specs.Variables.{top};
 ghost use Rattle.rr_eval.specs.Views.{view_of};
-ghost use Rattle.rr_eval.specs.Within.{Reach, AreReached, IsReached, IsAnswerReached};
+ghost use Rattle.rr_eval.specs.Within.{Reach, reach, AreReached, IsReached, IsAskedReached, IsAnswerReached};
 
 use crate::blocks::{shape_at, spreads};
+use crate::call::{Arguments, Task};
 use crate::call_stack::Entry;
 use crate::engine::{Engine, push_within};
 use crate::frame::{Control, Frame, clear, first_standing, standing};
-use crate::iterating::{Ahead, Iterating, Visits, beginning, left_turn, look_ahead, value_at};
+use crate::iterating::{
+    Ahead, Iterating, Visits, beginning, kept, left_turn, look_ahead, value_at,
+};
 use crate::prepared::Prepared;
 use crate::problem::{Answer, Problem};
+use crate::request::Request;
 use rr_base::{Fault, LimitKind, Sym};
-use rr_builtin::Problem as BuiltInProblem;
+use rr_builtin::{Iteration, Problem as BuiltInProblem, is_truthy};
 use rr_frames::Shape;
 use rr_space::{Ref, Space};
 use rr_tree::{NodeId, Program};
+use std::alloc::{AllocError, Global};
+
+/// What an iteration kept, without its receiver.
+fn gathered(alloc: Global, stand: &[Ref]) -> Result<Arguments, AllocError>
+    ensures are { IfOk result (λ values. arguments_of values ≡ drop 1 stand.now) }
+    ensures within { (k : Reach) → All (IsReached k) stand.now → IfOk result (λ values. All (IsReached k) (arguments_of values)) }
+{
+    match stand {
+        [] | [_] => Ok(Arguments::Without),
+        [_, kept @ ..] => Ok(Arguments::Many(Vec::from_slice(alloc, kept)?)),
+    }
+}
 
 /// Whether one array is given to several parameters.
 fn spreads_few(space: &Space, parameters: u32, first: Option<Ref>, last: Option<Ref>) -> bool
@@ -45,6 +61,38 @@ fn spreads_few(space: &Space, parameters: u32, first: Option<Ref>, last: Option<
 }
 
 impl Engine {
+    /// Ends an iteration that has no more turns.
+    #[tactic(auto, unfolding(crate::specs::Within::AreReached))]
+    fn finish_iteration(&mut self, iteration: Iterating) -> Result<Option<Request>, Fault>
+        requires room { length self.old.frames.items < vec_capacity self.old.frames }
+        requires base { iteration.base ≤ length self.old.held.items }
+        requires nested { Nested (reverse self.old.frames.items) (take iteration.base self.old.held.items) }
+        ensures goes { IfOk result (λ q. (p : Program) (t : Table) (h : Course) (n : ℕ) → after_values p (view_of self.old) t (Frame.Turned iteration) (finished (context_of p) iteration.visits (drop iteration.base self.old.held.items)) h n ≡ continuing p (view_of self.new) t q h n) }
+        ensures nested { OnOk result (IsNested (view_of self.new)) }
+        ensures within { (k : Reach) → AreReached k (view_of self.old) → AreReached k (view_of self.new) }
+        ensures asks { (k : Reach) → AreReached k (view_of self.old) → IfOk result (IsAskedReached k) }
+        ensures left { self.new.left ≡ self.old.left }
+        ensures err { (t : Table) → IfErr result (λ f. Stands (view_of self.old) (view_of self.new) t t f) }
+        ensures size { IfOk result (λ q. sized q (view_of self.new) ≤ 3 * length self.old.frames.items + 4) }
+        ensures room { IfErr result (λ _. length self.new.frames.items < vec_capacity self.new.frames) }
+        ensures fault { IfErr result (λ f. f ≡ Fault.Memory) }
+    {
+        let stand = standing(&self.held, Frame::Turned(iteration));
+        match iteration.visits {
+            Visits::Elements(Iteration::Map | Iteration::Select, _) => {
+                let values = gathered(self.alloc, stand)?;
+                clear(&mut self.held, Frame::Turned(iteration));
+                Ok(Some(Request::Do(Task::MakeArray, values)))
+            }
+            _ => {
+                let receiver = value_at(stand, 0);
+                clear(&mut self.held, Frame::Turned(iteration));
+                self.control = Control::Give(Answer::Gave(receiver));
+                Ok(None)
+            }
+        }
+    }
+
     /// Evaluates the block of an iteration for a turn, in a frame of its own, whose parameters have up to two values. A refused
     /// growth leaves all as it is.
     #[tactic(auto, unfolding(crate::specs::Within::AreReached))]
@@ -129,33 +177,36 @@ impl Engine {
         program: &Program,
         space: &Space,
         iteration: Iterating,
-    ) -> Result<(), Fault>
+    ) -> Result<Option<Request>, Fault>
         requires room { length self.old.frames.items < vec_capacity self.old.frames }
         requires base { iteration.base ≤ length self.old.held.items }
         requires nested { Nested (reverse self.old.frames.items) (take iteration.base self.old.held.items) }
-        ensures goes { OnOk result ((h : Course) (n : ℕ) → after_values program.now (view_of self.old) space.now (Frame.Turned iteration) (continued (context_of program.now) (iterated (code_of program.now h.world) iteration (drop iteration.base self.old.held.items))) h n ≡ remaining_with program.now (view_of self.new) space.now h n) }
+        ensures goes { IfOk result (λ q. (h : Course) (n : ℕ) → after_values program.now (view_of self.old) space.now (Frame.Turned iteration) (continued (context_of program.now) (iterated (code_of program.now h.world) iteration (drop iteration.base self.old.held.items))) h n ≡ continuing program.now (view_of self.new) space.now q h n) }
         ensures nested { OnOk result (IsNested (view_of self.new)) }
-        ensures within { (k : Reach) → AreReached k (view_of self.old) → AreReached k (view_of self.new) }
+        ensures within { (clusters : Option Below) → AreReached (reach (length space.now.slots) clusters) (view_of self.old) → AreReached (reach (length space.now.slots) clusters) (view_of self.new) }
+        ensures asks { (k : Reach) → AreReached k (view_of self.old) → IfOk result (IsAskedReached k) }
         ensures left { self.new.left ≡ self.old.left }
         ensures err { (t : Table) → IfErr result (λ f. Stands (view_of self.old) (view_of self.new) t t f) }
-        ensures size { OnOk result (size (view_of self.new) ≤ 3 * length self.old.frames.items + 4) }
+        ensures size { IfOk result (λ q. sized q (view_of self.new) ≤ 3 * length self.old.frames.items + 4) }
         ensures room { IfErr result (λ _. length self.new.frames.items < vec_capacity self.new.frames) }
         ensures fault { IfErr result (λ f. f ≡ Fault.Memory) }
     {
         let stand = standing(&self.held, Frame::Turned(iteration));
-        match look_ahead(iteration.visits, stand) {
+        match look_ahead(space, iteration.visits, stand) {
             Ahead::Another(first, last, visits) => {
                 let next = Iterating {
                     visits,
                     ..iteration
                 };
-                self.call_turn(program, space, next, first, last)
+                match self.call_turn(program, space, next, first, last) {
+                    Ok(()) => Ok(None),
+                    Err(fault) => Err(fault),
+                }
             }
-            Ahead::Finished => {
-                let receiver = value_at(stand, 0);
-                clear(&mut self.held, Frame::Turned(iteration));
-                self.control = Control::Give(Answer::Gave(receiver));
-                Ok(())
+            Ahead::Finished => self.finish_iteration(iteration),
+            Ahead::Stopped(problem) => {
+                self.refuse(Frame::Turned(iteration), problem);
+                Ok(None)
             }
         }
     }
@@ -168,16 +219,17 @@ impl Engine {
         space: &Space,
         name: Sym,
         iteration: Iterating,
-    ) -> Result<(), Fault>
+    ) -> Result<Option<Request>, Fault>
         requires room { length self.old.frames.items < vec_capacity self.old.frames }
         requires base { iteration.base ≤ length self.old.held.items }
         requires nested { Nested (reverse self.old.frames.items) (take iteration.base self.old.held.items) }
-        ensures goes { OnOk result ((h : Course) (n : ℕ) → after_values prepared.now.program (view_of self.old) space.now (Frame.Turned iteration) (iteration_rule (context_of prepared.now.program) name (tree_at prepared.now.program.nodes.items iteration.block) (drop iteration.base self.old.held.items)) h n ≡ remaining_with prepared.now.program (view_of self.new) space.now h n) }
+        ensures goes { IfOk result (λ q. (h : Course) (n : ℕ) → after_values prepared.now.program (view_of self.old) space.now (Frame.Turned iteration) (iteration_rule (context_of prepared.now.program) name (tree_at prepared.now.program.nodes.items iteration.block) (drop iteration.base self.old.held.items)) h n ≡ continuing prepared.now.program (view_of self.new) space.now q h n) }
         ensures nested { OnOk result (IsNested (view_of self.new)) }
-        ensures within { (k : Reach) → AreReached k (view_of self.old) → AreReached k (view_of self.new) }
+        ensures within { (clusters : Option Below) → AreReached (reach (length space.now.slots) clusters) (view_of self.old) → AreReached (reach (length space.now.slots) clusters) (view_of self.new) }
+        ensures asks { (k : Reach) → AreReached k (view_of self.old) → IfOk result (IsAskedReached k) }
         ensures left { self.new.left ≡ self.old.left }
         ensures err { (t : Table) → IfErr result (λ f. Stands (view_of self.old) (view_of self.new) t t f) }
-        ensures size { OnOk result (size (view_of self.new) ≤ 3 * length self.old.frames.items + 4) }
+        ensures size { IfOk result (λ q. sized q (view_of self.new) ≤ 3 * length self.old.frames.items + 4) }
         ensures room { IfErr result (λ _. length self.new.frames.items < vec_capacity self.new.frames) }
         ensures fault { IfErr result (λ f. f ≡ Fault.Memory) }
     {
@@ -192,7 +244,7 @@ impl Engine {
             }
             Err(problem) => {
                 self.refuse(Frame::Turned(iteration), problem);
-                Ok(())
+                Ok(None)
             }
         }
     }
@@ -208,16 +260,17 @@ impl Engine {
         block: NodeId,
         frame: Frame,
         value: Ref,
-    ) -> Result<(), Fault>
+    ) -> Result<Option<Request>, Fault>
         requires room { length self.old.frames.items < vec_capacity self.old.frames }
         requires base { base_of frame ≤ length self.old.held.items }
         requires nested { Nested (reverse self.old.frames.items) (below_of frame self.old.held.items) }
-        ensures goes { OnOk result ((h : Course) (n : ℕ) → after_values prepared.now.program (view_of self.old) space.now frame (iteration_rule (context_of prepared.now.program) name (tree_at prepared.now.program.nodes.items block) (stand_of frame self.old.held.items ++ value ∷ [])) h n ≡ remaining_with prepared.now.program (view_of self.new) space.now h n) }
+        ensures goes { IfOk result (λ q. (h : Course) (n : ℕ) → after_values prepared.now.program (view_of self.old) space.now frame (iteration_rule (context_of prepared.now.program) name (tree_at prepared.now.program.nodes.items block) (stand_of frame self.old.held.items ++ value ∷ [])) h n ≡ continuing prepared.now.program (view_of self.new) space.now q h n) }
         ensures nested { OnOk result (IsNested (view_of self.new)) }
-        ensures within { (k : Reach) → AreReached k (view_of self.old) → IsReached k value → AreReached k (view_of self.new) }
+        ensures within { (clusters : Option Below) → AreReached (reach (length space.now.slots) clusters) (view_of self.old) → IsReached (reach (length space.now.slots) clusters) value → AreReached (reach (length space.now.slots) clusters) (view_of self.new) }
+        ensures asks { (k : Reach) → AreReached k (view_of self.old) → IsReached k value → IfOk result (IsAskedReached k) }
         ensures left { self.new.left ≡ self.old.left }
         ensures err { (t : Table) → IfErr result (λ f. Stands (view_of self.old) (view_of self.new) t t f) }
-        ensures size { OnOk result (size (view_of self.new) ≤ 3 * length self.old.frames.items + 4) }
+        ensures size { IfOk result (λ q. sized q (view_of self.new) ≤ 3 * length self.old.frames.items + 4) }
         ensures room { IfErr result (λ _. length self.new.frames.items < vec_capacity self.new.frames) }
         ensures fault { IfErr result (λ f. f ≡ Fault.Memory) }
     {
@@ -230,10 +283,78 @@ impl Engine {
             base,
         };
         match self.begin_iteration(prepared, space, name, iteration) {
-            Ok(()) => Ok(()),
+            Ok(request) => Ok(request),
             Err(fault) => {
                 self.held.truncate(count);
                 Err(fault)
+            }
+        }
+    }
+
+    /// Goes on with what is ahead of an iteration, which keeps a value more, where there is one. A refused growth leaves all as it is.
+    #[tactic(auto, unfolding(crate::specs::Within::AreReached))]
+    fn go_on_with(
+        &mut self,
+        program: &Program,
+        space: &Space,
+        iteration: Iterating,
+        found: Option<Ref>,
+    ) -> Result<Option<Request>, Fault>
+        requires room { length self.old.frames.items < vec_capacity self.old.frames }
+        requires base { iteration.base ≤ length self.old.held.items }
+        requires nested { Nested (reverse self.old.frames.items) (take iteration.base self.old.held.items) }
+        ensures goes { IfOk result (λ q. (h : Course) (n : ℕ) → after_values program.now (view_of self.old) space.now (Frame.Turned iteration) (continued (context_of program.now) (iterated (code_of program.now h.world) iteration (drop iteration.base self.old.held.items ++ list_of found))) h n ≡ continuing program.now (view_of self.new) space.now q h n) }
+        ensures nested { OnOk result (IsNested (view_of self.new)) }
+        ensures within { (clusters : Option Below) → AreReached (reach (length space.now.slots) clusters) (view_of self.old) → All (IsReached (reach (length space.now.slots) clusters)) (list_of found) → AreReached (reach (length space.now.slots) clusters) (view_of self.new) }
+        ensures asks { (k : Reach) → AreReached k (view_of self.old) → All (IsReached k) (list_of found) → IfOk result (IsAskedReached k) }
+        ensures left { self.new.left ≡ self.old.left }
+        ensures err { (t : Table) → IfErr result (λ f. Stands (view_of self.old) (view_of self.new) t t f) }
+        ensures size { IfOk result (λ q. sized q (view_of self.new) ≤ 3 * length self.old.frames.items + 4) }
+        ensures room { IfErr result (λ _. length self.new.frames.items < vec_capacity self.new.frames) }
+        ensures fault { IfErr result (λ f. f ≡ Fault.Memory) }
+    {
+        let Some(value) = found else {
+            return self.go_on(program, space, iteration);
+        };
+        let count = self.held.len();
+        self.held.push(value)?;
+        match self.go_on(program, space, iteration) {
+            Ok(request) => Ok(request),
+            Err(fault) => {
+                self.held.truncate(count);
+                Err(fault)
+            }
+        }
+    }
+
+    /// Goes on behind a turn that had a value, and whose frame is gone. A refused growth leaves all as it is.
+    #[tactic(auto, unfolding(crate::specs::Within::AreReached))]
+    pub fn resume_turned(
+        &mut self,
+        program: &Program,
+        space: &Space,
+        iteration: Iterating,
+        value: Ref,
+    ) -> Result<Option<Request>, Fault>
+        requires room { length self.old.frames.items < vec_capacity self.old.frames }
+        requires base { iteration.base ≤ length self.old.held.items }
+        requires nested { Nested (reverse self.old.frames.items) (take iteration.base self.old.held.items) }
+        ensures goes { IfOk result (λ q. (h : Course) (n : ℕ) → after_values program.now (view_of self.old) space.now (Frame.Turned iteration) (continued_with (context_of program.now) (iterated (code_of program.now h.world) iteration (drop iteration.base self.old.held.items)) value) h n ≡ continuing program.now (view_of self.new) space.now q h n) }
+        ensures nested { OnOk result (IsNested (view_of self.new)) }
+        ensures within { (clusters : Option Below) → AreReached (reach (length space.now.slots) clusters) (view_of self.old) → IsReached (reach (length space.now.slots) clusters) value → AreReached (reach (length space.now.slots) clusters) (view_of self.new) }
+        ensures asks { (clusters : Option Below) → AreReached (reach (length space.now.slots) clusters) (view_of self.old) → IsReached (reach (length space.now.slots) clusters) value → IfOk result (IsAskedReached (reach (length space.now.slots) clusters)) }
+        ensures left { self.new.left ≡ self.old.left }
+        ensures err { (t : Table) → IfErr result (λ f. Stands (view_of self.old) (view_of self.new) t t f) }
+        ensures size { IfOk result (λ q. sized q (view_of self.new) ≤ 3 * length self.old.frames.items + 4) }
+        ensures room { IfErr result (λ _. length self.new.frames.items < vec_capacity self.new.frames) }
+        ensures fault { IfErr result (λ f. f ≡ Fault.Memory) }
+    {
+        let stand = standing(&self.held, Frame::Turned(iteration));
+        match kept(space, iteration.visits, value, stand) {
+            Ok(found) => self.go_on_with(program, space, iteration, found),
+            Err(problem) => {
+                self.refuse(Frame::Turned(iteration), problem);
+                Ok(None)
             }
         }
     }
@@ -247,21 +368,23 @@ impl Engine {
         space: &Space,
         iteration: Iterating,
         value: Ref,
-    ) -> Result<(), Fault>
+    ) -> Result<Option<Request>, Fault>
         requires control { self.old.control ≡ Control.Give (Answer.Gave value) }
         requires room { length self.old.frames.items < vec_capacity self.old.frames }
         requires base { iteration.base ≤ length self.old.held.items }
         requires nested { Nested (reverse self.old.frames.items) (take iteration.base self.old.held.items) }
-        ensures goes { (h : Course) → after_answer program.now (view_of self.old) space.now (Frame.Round iteration) (Answer.Gave value) h self.old.left ≡ remaining program.now (view_of self.new) space.now h }
+        ensures goes { IfOk result (λ q. (h : Course) → after_answer program.now (view_of self.old) space.now (Frame.Round iteration) (Answer.Gave value) h self.old.left ≡ continuing program.now (view_of self.new) space.now q h self.new.left) }
         ensures nested { IsNested (view_of self.new) }
-        ensures within { (k : Reach) → AreReached k (view_of self.old) → IsReached k value → AreReached k (view_of self.new) }
+        ensures within { (clusters : Option Below) → AreReached (reach (length space.now.slots) clusters) (view_of self.old) → IsReached (reach (length space.now.slots) clusters) value → AreReached (reach (length space.now.slots) clusters) (view_of self.new) }
+        ensures asks { (clusters : Option Below) → AreReached (reach (length space.now.slots) clusters) (view_of self.old) → IsReached (reach (length space.now.slots) clusters) value → IfOk result (IsAskedReached (reach (length space.now.slots) clusters)) }
         ensures left { self.new.left ≡ self.old.left }
-        ensures size { OnOk result (size (view_of self.new) ≤ 3 * length self.old.frames.items + 4) }
+        ensures size { IfOk result (λ q. sized q (view_of self.new) ≤ 3 * length self.old.frames.items + 4) }
         ensures fault { IfErr result (λ f. f ≡ Fault.Memory) }
+        ensures back { IfErr result (λ _. (h : Course) → after_answer program.now (view_of self.old) space.now (Frame.Round iteration) (Answer.Gave value) h self.old.left ≡ remaining program.now (view_of self.new) space.now h) }
     {
         self.pop_call();
-        match self.go_on(program, space, iteration) {
-            Ok(()) => Ok(()),
+        match self.resume_turned(program, space, iteration, value) {
+            Ok(request) => Ok(request),
             Err(fault) => {
                 push_within(&mut self.frames, Frame::Turned(iteration));
                 Err(fault)

@@ -1,8 +1,8 @@
 //! What a frame does with the answer that it waits for.
 
-ghost use Rattle.std.specs.Prelude.{◌≡◌, ◌+◌, ◌*◌, ◌<◌, ◌≤◌, ℕ, List, [], ◌∷◌, ◌++◌, length, reverse, take, vec_capacity, IfOk, IfErr, IsTrue, IsFalse, OnOk};
+ghost use Rattle.std.specs.Prelude.{◌≡◌, ◌+◌, ◌*◌, ◌<◌, ◌≤◌, ℕ, List, [], ◌∷◌, ◌++◌, length, reverse, take, vec_capacity, Option, IfOk, IfErr, IsTrue, IsFalse, OnOk};
 ghost use Rattle.rr_base.specs.declared.fault.Fault.{Fault};
-ghost use Rattle.rr_space.specs.Tables.{Table};
+ghost use Rattle.rr_space.specs.Tables.{Table, Below};
 ghost use Rattle.rr_tree.specs.declared.program.Program.{Program};
 ghost use Rattle.rr_eval.specs.declared.problem.Answer.{Answer};
 ghost use Rattle.rr_eval.specs.declared.frame.Control.{Control};
@@ -15,7 +15,7 @@ ghost use Rattle.rr_eval.specs.Frames.{resumed, runs_in, below_of, base_of, stan
 ghost use Rattle.rr_eval.specs.Turns.{context_of, code_of, state_of, remaining, IsNested, after_script, after_answer, remaining_with, continuing, Stands, size, sized};
 ghost use Rattle.std.specs.List.{All};
 ghost use Rattle.rr_eval.specs.Views.{view_of};
-ghost use Rattle.rr_eval.specs.Within.{Reach, IsReached, IsFrameReached, IsCallReached, IsAskedReached, AreReached};
+ghost use Rattle.rr_eval.specs.Within.{Reach, reach, IsReached, IsFrameReached, IsCallReached, IsAskedReached, AreReached};
 
 use crate::call::{Arguments, Call, Callee, Target, Task, arguments_of, call_of};
 use crate::call_stack::is_outside;
@@ -339,7 +339,7 @@ impl Engine {
         requires nested { Nested (reverse self.old.frames.items) (below_of frame self.old.held.items) }
         ensures goes { IfOk result (λ q. (h : Course) (n : ℕ) → unwind (code_of prepared.now.program h.world) (reverse self.old.frames.items) (below_of frame self.old.held.items) (runs_in (code_of prepared.now.program h.world) (finish (context_of prepared.now.program) target (stand_of frame self.old.held.items ++ value ∷ [])) (state_of prepared.now.program (view_of self.old) space.now h) n) ≡ continuing prepared.now.program (view_of self.new) space.now q h n) }
         ensures nested { OnOk result (IsNested (view_of self.new)) }
-        ensures within { (k : Reach) → AreReached k (view_of self.old) → IsReached k value → AreReached k (view_of self.new) }
+        ensures within { (clusters : Option Below) → AreReached (reach (length space.now.slots) clusters) (view_of self.old) → IsReached (reach (length space.now.slots) clusters) value → AreReached (reach (length space.now.slots) clusters) (view_of self.new) }
         ensures asks { (k : Reach) → AreReached k (view_of self.old) → IsReached k value → IfOk result (IsAskedReached k) }
         ensures left { self.new.left ≡ self.old.left }
         ensures err { (t : Table) → IfErr result (λ f. Stands (view_of self.old) (view_of self.new) t t f) }
@@ -367,10 +367,7 @@ impl Engine {
                 Ok(None)
             }
             Target::Iterate(name, block) => {
-                match self.iterate(prepared, space, name, block, frame, value) {
-                    Ok(()) => Ok(None),
-                    Err(fault) => Err(fault),
-                }
+                self.iterate(prepared, space, name, block, frame, value)
             }
         }
     }
@@ -391,7 +388,7 @@ impl Engine {
         requires nested { Nested (reverse self.old.frames.items) (take base self.old.held.items) }
         ensures goes { IfOk result (λ q. (h : Course) (n : ℕ) → after_answer prepared.now.program (view_of self.old) space.now (Frame.Argument target end count base) (Answer.Gave value) h n ≡ continuing prepared.now.program (view_of self.new) space.now q h n) }
         ensures nested { OnOk result (IsNested (view_of self.new)) }
-        ensures within { (k : Reach) → AreReached k (view_of self.old) → IsReached k value → AreReached k (view_of self.new) }
+        ensures within { (clusters : Option Below) → AreReached (reach (length space.now.slots) clusters) (view_of self.old) → IsReached (reach (length space.now.slots) clusters) value → AreReached (reach (length space.now.slots) clusters) (view_of self.new) }
         ensures asks { (k : Reach) → AreReached k (view_of self.old) → IsReached k value → IfOk result (IsAskedReached k) }
         ensures left { self.new.left ≡ self.old.left }
         ensures err { (t : Table) → IfErr result (λ f. Stands (view_of self.old) (view_of self.new) t t f) }
@@ -426,8 +423,8 @@ impl Engine {
         requires inside { (i : Iterating) → frame ≡ Frame.Round i → ⊥ }
         ensures goes { IfOk result (λ q. (h : Course) (n : ℕ) → after_answer prepared.now.program (view_of self.old) space.now frame (Answer.Gave value) h n ≡ continuing prepared.now.program (view_of self.new) space.now q h n) }
         ensures nested { OnOk result (IsNested (view_of self.new)) }
-        ensures within { (k : Reach) → AreReached k (view_of self.old) → IsFrameReached k frame → IsReached k value → AreReached k (view_of self.new) }
-        ensures asks { (k : Reach) → AreReached k (view_of self.old) → IsFrameReached k frame → IsReached k value → IfOk result (IsAskedReached k) }
+        ensures within { (clusters : Option Below) → AreReached (reach (length space.now.slots) clusters) (view_of self.old) → IsFrameReached (reach (length space.now.slots) clusters) frame → IsReached (reach (length space.now.slots) clusters) value → AreReached (reach (length space.now.slots) clusters) (view_of self.new) }
+        ensures asks { (clusters : Option Below) → AreReached (reach (length space.now.slots) clusters) (view_of self.old) → IsFrameReached (reach (length space.now.slots) clusters) frame → IsReached (reach (length space.now.slots) clusters) value → IfOk result (IsAskedReached (reach (length space.now.slots) clusters)) }
         ensures left { self.new.left ≡ self.old.left }
         ensures err { (t : Table) → IfErr result (λ f. Stands (view_of self.old) (view_of self.new) t t f) }
         ensures size { IfOk result (λ q. sized q (view_of self.new) ≤ 3 * length self.old.frames.items + 4) }
@@ -467,10 +464,7 @@ impl Engine {
                 Ok(None)
             }
             Frame::Turned(iteration) => {
-                match self.go_on(&prepared.program, space, iteration) {
-                    Ok(()) => Ok(None),
-                    Err(fault) => Err(fault),
-                }
+                self.resume_turned(&prepared.program, space, iteration, value)
             }
             _ => unreachable!(),
         }
@@ -494,8 +488,8 @@ impl Engine {
         requires inside { (i : Iterating) → frame ≡ Frame.Round i → ⊥ }
         ensures goes { IfOk result (λ q. (h : Course) → after_answer prepared.now.program (view_of self.old) space.now frame (Answer.Gave value) h self.old.left ≡ continuing prepared.now.program (view_of self.new) space.now q h self.new.left) }
         ensures nested { IsNested (view_of self.new) }
-        ensures within { (k : Reach) → AreReached k (view_of self.old) → IsFrameReached k frame → IsReached k value → AreReached k (view_of self.new) }
-        ensures asks { (k : Reach) → AreReached k (view_of self.old) → IsFrameReached k frame → IsReached k value → IfOk result (IsAskedReached k) }
+        ensures within { (clusters : Option Below) → AreReached (reach (length space.now.slots) clusters) (view_of self.old) → IsFrameReached (reach (length space.now.slots) clusters) frame → IsReached (reach (length space.now.slots) clusters) value → AreReached (reach (length space.now.slots) clusters) (view_of self.new) }
+        ensures asks { (clusters : Option Below) → AreReached (reach (length space.now.slots) clusters) (view_of self.old) → IsFrameReached (reach (length space.now.slots) clusters) frame → IsReached (reach (length space.now.slots) clusters) value → IfOk result (IsAskedReached (reach (length space.now.slots) clusters)) }
         ensures left { self.new.left ≡ self.old.left }
         ensures size { IfOk result (λ q. sized q (view_of self.new) ≤ 3 * length self.old.frames.items + 4) }
         ensures fault { IfErr result (λ f. f ≡ Fault.Memory) }
@@ -528,8 +522,8 @@ impl Engine {
         requires rare { IsRareFrame frame }
         ensures goes { IfOk result (λ q. (h : Course) → after_answer prepared.now.program (view_of self.old) space.now frame (Answer.Gave value) h self.old.left ≡ continuing prepared.now.program (view_of self.new) space.now q h self.new.left) }
         ensures nested { IsNested (view_of self.new) }
-        ensures within { (k : Reach) → AreReached k (view_of self.old) → IsFrameReached k frame → IsReached k value → AreReached k (view_of self.new) }
-        ensures asks { (k : Reach) → AreReached k (view_of self.old) → IsFrameReached k frame → IsReached k value → IfOk result (IsAskedReached k) }
+        ensures within { (clusters : Option Below) → AreReached (reach (length space.now.slots) clusters) (view_of self.old) → IsFrameReached (reach (length space.now.slots) clusters) frame → IsReached (reach (length space.now.slots) clusters) value → AreReached (reach (length space.now.slots) clusters) (view_of self.new) }
+        ensures asks { (clusters : Option Below) → AreReached (reach (length space.now.slots) clusters) (view_of self.old) → IsFrameReached (reach (length space.now.slots) clusters) frame → IsReached (reach (length space.now.slots) clusters) value → IfOk result (IsAskedReached (reach (length space.now.slots) clusters)) }
         ensures left { self.new.left ≡ self.old.left }
         ensures size { IfOk result (λ q. sized q (view_of self.new) ≤ 3 * length self.old.frames.items + 4) }
         ensures fault { IfErr result (λ f. f ≡ Fault.Memory) }
@@ -537,10 +531,7 @@ impl Engine {
     {
         match frame {
             Frame::Round(iteration) => {
-                match self.resume_round(&prepared.program, space, iteration, value) {
-                    Ok(()) => Ok(None),
-                    Err(fault) => Err(fault),
-                }
+                self.resume_round(&prepared.program, space, iteration, value)
             }
             _ => self.resume_other(prepared, space, frame, value),
         }

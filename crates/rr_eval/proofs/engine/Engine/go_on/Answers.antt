@@ -1,5 +1,16 @@
 -- What the block is given is reached.
+use Rattle.std.proofs.Common.{length}
+use Rattle.rr_eval.specs.Within.{reach}
 use Rattle.rr_eval.proofs.engine.Engine.go_on.Goals as goal
 
-pub returns-in-Another-clause-within : goal.returns-in-Another-clause-within
-returns-in-Another-clause-within c k h = c.call_turn.ensures.within k h (c.in-Another.ensures.within k)
+pub returns-in-Ok-clause-within : goal.returns-in-Ok-clause-within
+returns-in-Ok-clause-within c clusters h = c.call_turn.ensures.within (reach (length c.args.space.now.slots) clusters) h (c.in-Another.ensures.within clusters)
+
+pub returns-in-Err-clause-within : goal.returns-in-Err-clause-within
+returns-in-Err-clause-within c clusters h = c.call_turn.ensures.within (reach (length c.args.space.now.slots) clusters) h (c.in-Another.ensures.within clusters)
+
+pub returns-in-Finished-clause-within : goal.returns-in-Finished-clause-within
+returns-in-Finished-clause-within c clusters h = c.finish_iteration.ensures.within (reach (length c.args.space.now.slots) clusters) h
+
+pub returns-in-Stopped-clause-within : goal.returns-in-Stopped-clause-within
+returns-in-Stopped-clause-within c clusters h = c.refuse.ensures.within (reach (length c.args.space.now.slots) clusters) h

@@ -6,7 +6,7 @@ use Rattle.rr_eval.specs.declared.frame.Control.TheVariants.{Give}
 use Rattle.rr_eval.specs.declared.problem.Answer.TheVariants.{Gave}
 use Rattle.rr_eval.specs.Blocks.{running}
 use Rattle.rr_eval.specs.Frames.{runs_in, outcome_of, iterated, unwind}
-use Rattle.rr_eval.specs.Iterating.{continued, left_turn, turned}
+use Rattle.rr_eval.specs.Iterating.{continued_with, left_turn, turned}
 use Rattle.rr_eval.specs.Script.{Ended}
 use Rattle.rr_eval.specs.Blocks.{without_frame}
 use Rattle.rr_eval.specs.Turns.{context_of, code_of, state_of}
@@ -27,7 +27,7 @@ returns-in-Done-clause-goes c h n =
     let i = c.args.iteration in
     let v = c.in-Done.value in
     let s = state_of p new t h in
-    let script = λ (held : List Ref). continued (context_of p) (iterated code i (drop i.base held)) in
+    let script = λ (held : List Ref). continued_with (context_of p) (iterated code i (drop i.base held)) v in
     ap (λ a. unwind code (reverse m.frames) (take i.base m.held) (runs_in code (turned (context_of p) (iterated code i (drop i.base m.held)) a) (state_of p m t h) n)) c.in-Done.is
     ∙ ap (λ x. unwind code (reverse m.frames) (take i.base m.held) (runs_in code (script m.held) x n)) (c.pop_call.ensures.state p t h)
     ∙ ap (λ fs. unwind code (reverse fs.items) (take i.base m.held) (runs_in code (script m.held) s n)) (sym c.pop_call.ensures.frames)

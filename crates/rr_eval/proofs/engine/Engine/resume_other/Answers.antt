@@ -1,11 +1,11 @@
 -- A refused growth puts the frame back.
-use Rattle.std.proofs.Common.{◌∙◌, ◌++◌, ◌∷◌, [], sym, ap, subst}
+use Rattle.std.proofs.Common.{◌∙◌, ◌++◌, ◌∷◌, [], sym, ap, length, subst}
 use Rattle.rr_eval.specs.declared.problem.Answer.TheVariants.{Gave}
 use Rattle.rr_eval.specs.Frames.{outcome_of}
 use Rattle.rr_eval.specs.Runs.{no_objects}
 use Rattle.rr_eval.specs.Turns.{code_of, state_of, remaining, IsNested}
 use Rattle.rr_eval.specs.Views.{view_of}
-use Rattle.rr_eval.specs.Within.{AreReached, IsControlReached}
+use Rattle.rr_eval.specs.Within.{reach, AreReached, IsControlReached}
 use Rattle.rr_eval.proofs.Holding.{with_frame}
 use Rattle.rr_eval.proofs.Unwind.{frame_back, given, nested_push}
 use Rattle.rr_eval.proofs.engine.Engine.resume_other.Goals as goal
@@ -17,7 +17,8 @@ returns-in-Err-clause-nested c =
     subst IsNested back (nested_push m.frames c.args.frame m.held c.requires.base c.requires.nested)
 
 pub returns-in-Err-clause-within : goal.returns-in-Err-clause-within
-returns-in-Err-clause-within c k h frame value =
+returns-in-Err-clause-within c clusters h frame value =
+    let k = reach (length c.args.space.now.slots) clusters in
     let m = view_of c.args.self.now in
     let back = frame_back m (view_of c.resume_value.new.self) (no_objects 0) c.args.frame c.in-Err.fault c.push_within.new.items.items (c.in-Err.ensures.err (no_objects 0)) c.push_within.ensures in
     subst (AreReached k) back (with_frame k m c.args.frame m.control h frame (subst (IsControlReached k) (sym c.requires.control) value))

@@ -1,8 +1,8 @@
 -- What is held stays within.
 use Rattle.rr_eval.proofs.engine.Engine.resume_rare.Goals as goal
 
-pub returns-in-Ok-clause-within : goal.returns-in-Ok-clause-within
-returns-in-Ok-clause-within c k h frame value = c.resume_round.ensures.within k h value
+pub returns-in-Round-clause-within : goal.returns-in-Round-clause-within
+returns-in-Round-clause-within c clusters h frame value = c.resume_round.ensures.within clusters h value
 
-pub returns-in-Err-clause-within : goal.returns-in-Err-clause-within
-returns-in-Err-clause-within c k h frame value = c.resume_round.ensures.within k h value
+pub returns-in-Round-clause-asks : goal.returns-in-Round-clause-asks
+returns-in-Round-clause-asks c clusters h frame value = c.resume_round.ensures.asks clusters h value

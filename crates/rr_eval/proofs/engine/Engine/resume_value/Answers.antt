@@ -1,9 +1,9 @@
 -- What is held stays within.
-use Rattle.std.proofs.Common.{subst}
+use Rattle.std.proofs.Common.{length, subst}
 use Rattle.rr_eval.specs.declared.frame.Control.TheVariants.{Give}
 use Rattle.rr_eval.specs.declared.problem.Answer.TheVariants.{Gave}
 use Rattle.rr_eval.specs.Views.{view_of}
-use Rattle.rr_eval.specs.Within.{IsFrameReached}
+use Rattle.rr_eval.specs.Within.{reach, IsFrameReached}
 use Rattle.rr_eval.proofs.Holding.{with_control, with_rescuing}
 use Rattle.rr_eval.proofs.engine.Engine.resume_value.Goals as goal
 
@@ -11,19 +11,19 @@ pub returns-in-Argument-clause-within : goal.returns-in-Argument-clause-within
 returns-in-Argument-clause-within c k h frame value = c.resume_values.ensures.within k h value
 
 pub returns-in-Negation-clause-asks : goal.returns-in-Negation-clause-asks
-returns-in-Negation-clause-asks c k h frame value = c.negate.ensures.asks k value
+returns-in-Negation-clause-asks c k h frame value = c.negate.ensures.asks (reach (length c.args.space.now.slots) k) value
 
 pub returns-in-Right-clause-asks : goal.returns-in-Right-clause-asks
-returns-in-Right-clause-asks c k h frame value = c.operate.ensures.asks k (subst (IsFrameReached k) c.in-Right.is frame) value
+returns-in-Right-clause-asks c k h frame value = c.operate.ensures.asks (reach (length c.args.space.now.slots) k) (subst (IsFrameReached (reach (length c.args.space.now.slots) k)) c.in-Right.is frame) value
 
 pub returns-in-Key-clause-asks : goal.returns-in-Key-clause-asks
-returns-in-Key-clause-asks c k h frame value = c.keep_key.ensures.asks k
+returns-in-Key-clause-asks c k h frame value = c.keep_key.ensures.asks (reach (length c.args.space.now.slots) k)
 
 pub returns-in-Element-clause-asks : goal.returns-in-Element-clause-asks
-returns-in-Element-clause-asks c k h frame value = c.keep_receiver.ensures.asks k
+returns-in-Element-clause-asks c k h frame value = c.keep_receiver.ensures.asks (reach (length c.args.space.now.slots) k)
 
 pub returns-in-Handling-clause-within : goal.returns-in-Handling-clause-within
-returns-in-Handling-clause-within c k h frame value = with_rescuing k (view_of c.args.self.now) c.in-Handling.old (Give (Gave c.args.value)) h (subst (IsFrameReached k) c.in-Handling.is frame) value
+returns-in-Handling-clause-within c k h frame value = with_rescuing (reach (length c.args.space.now.slots) k) (view_of c.args.self.now) c.in-Handling.old (Give (Gave c.args.value)) h (subst (IsFrameReached (reach (length c.args.space.now.slots) k)) c.in-Handling.is frame) value
 
 pub returns-in-Kept-clause-within : goal.returns-in-Kept-clause-within
-returns-in-Kept-clause-within c k h frame value = with_control k (view_of c.args.self.now) (Give c.in-Kept.answer) h (subst (IsFrameReached k) c.in-Kept.is frame)
+returns-in-Kept-clause-within c k h frame value = with_control (reach (length c.args.space.now.slots) k) (view_of c.args.self.now) (Give c.in-Kept.answer) h (subst (IsFrameReached (reach (length c.args.space.now.slots) k)) c.in-Kept.is frame)
