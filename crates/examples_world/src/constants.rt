@@ -1,76 +1,46 @@
 //! Constants that are set and got.
 
-use crate::expect::{MAIN, OTHER, answers_in_turn};
-use crate::model::Told;
-use rr_base::{Limits, Sym};
-use rr_world::{Action, NewObject, Operand};
+use crate::rows::check;
+use rr_base::Limits;
 use std::test::Fail;
 
-const NAME: Sym = Sym(7);
+const ROWS: &str = "\
+each ractor gets an immediate
+1 start: Started(2)
+1 array
+1 get 7: Unknown
+2 set 7 1
+1 get 7
+1 set 7 r0: NotEnabled
+1 set 7 r1
+1 set 7 r2: NotEnabled
+1 push r0 r1
+1 push r1 r0: NotEnabled";
 
 const FEW_EVENTS: Limits = Limits {
     events: 3,
     ..Limits::DEFAULT
 };
 
+const ROWS_OF_FEW: &str = "\
+what the main ractor keeps is its own
+1 start: Started(2)
+2 own 7: NotShareable
+1 own 7
+1 get 7: OfMain
+2 get 7: NotMain
+2 set 7 nil
+2 get 7
+1 set 1 nil
+1 set 7 true: HistoryFull
+2 own 7: HistoryFull";
+
 #[test]
-fn each_ractor_gets_an_immediate(rt: HostRuntime) -> Result<(), Fail> {
-    answers_in_turn(
-        &rt,
-        rt.alloc(),
-        Limits::DEFAULT,
-        &[
-            (MAIN, Action::Start, Told::Started(2)),
-            (MAIN, Action::Alloc(NewObject::Array), Told::Done),
-            (MAIN, Action::GetConst(NAME), Told::Unknown),
-            (OTHER, Action::SetConst(NAME, Operand::Int(1)), Told::Done),
-            (MAIN, Action::GetConst(NAME), Told::Done),
-            (
-                MAIN,
-                Action::SetConst(NAME, Operand::Root(0)),
-                Told::NotEnabled,
-            ),
-            (MAIN, Action::SetConst(NAME, Operand::Root(1)), Told::Done),
-            (
-                MAIN,
-                Action::SetConst(NAME, Operand::Root(2)),
-                Told::NotEnabled,
-            ),
-            (
-                MAIN,
-                Action::Push(Operand::Root(0), Operand::Root(1)),
-                Told::Done,
-            ),
-            (
-                MAIN,
-                Action::Push(Operand::Root(1), Operand::Root(0)),
-                Told::NotEnabled,
-            ),
-        ],
-    )
+fn constants_are_set_and_got(rt: HostRuntime) -> Result<(), Fail> {
+    check(&rt, rt.alloc(), Limits::DEFAULT, ROWS)
 }
 
 #[test]
-fn what_the_main_ractor_keeps_is_its_own(rt: HostRuntime) -> Result<(), Fail> {
-    answers_in_turn(
-        &rt,
-        rt.alloc(),
-        FEW_EVENTS,
-        &[
-            (MAIN, Action::Start, Told::Started(2)),
-            (OTHER, Action::SetOwn(NAME), Told::NotShareable),
-            (MAIN, Action::SetOwn(NAME), Told::Done),
-            (MAIN, Action::GetConst(NAME), Told::OfMain),
-            (OTHER, Action::GetConst(NAME), Told::NotMain),
-            (OTHER, Action::SetConst(NAME, Operand::Nil), Told::Done),
-            (OTHER, Action::GetConst(NAME), Told::Done),
-            (MAIN, Action::SetConst(Sym(1), Operand::Nil), Told::Done),
-            (
-                MAIN,
-                Action::SetConst(NAME, Operand::Truth(true)),
-                Told::HistoryFull,
-            ),
-            (OTHER, Action::SetOwn(NAME), Told::HistoryFull),
-        ],
-    )
+fn constants_are_set_and_got_in_a_short_history(rt: HostRuntime) -> Result<(), Fail> {
+    check(&rt, rt.alloc(), FEW_EVENTS, ROWS_OF_FEW)
 }

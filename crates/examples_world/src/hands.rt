@@ -1,141 +1,91 @@
 //! What a hand does not allow, by what it holds.
 
-use crate::expect::{MAIN, none_is_enabled};
-use crate::model::Told;
-use rr_base::Sym;
-use rr_world::{Action, LastKind, NewObject, Operand};
+use crate::rows::check;
+use rr_base::Limits;
 use std::test::Fail;
 
-const NAME: Sym = Sym(7);
+const ROWS: &str = "\
+a moved message leaves no room
+1 text
+1 detach r0
+1 pack nil: NotEnabled
+1 detach nil: NotEnabled
+1 plan nil: NotEnabled
+1 publish: NotEnabled
+1 promote: NotEnabled
+1 accept: NotEnabled
+1 grab 1: NotEnabled
+1 withdraw 0: NotEnabled
+1 put_back
+1 append r0
+
+a home alone waits for its message
+1 text
+1 detach r0
+1 show: Offered(0)
+1 pack nil: NotEnabled
+1 detach nil: NotEnabled
+1 plan nil: NotEnabled
+1 publish: NotEnabled
+1 promote: NotEnabled
+1 put_back: NotEnabled
+1 discard: NotEnabled
+1 offer 1: NotEnabled
+1 open: NotEnabled
+1 accept: NotEnabled
+1 grab 1: NotEnabled
+1 show: NotEnabled
+1 last_value: NotEnabled
+1 withdraw 1: NotEnabled
+1 withdraw 0
+1 put_back
+
+a plan leaves no room
+1 text
+1 freeze r0
+1 plan r0
+1 pack nil: NotEnabled
+1 detach nil: NotEnabled
+1 plan nil: NotEnabled
+1 promote: NotEnabled
+1 put_back: NotEnabled
+1 offer 1: NotEnabled
+1 open: NotEnabled
+1 accept: NotEnabled
+1 grab 1: NotEnabled
+1 show: NotEnabled
+1 last_fault: NotEnabled
+1 withdraw 0: NotEnabled
+1 set 7 nil
+1 publish: Published(0)
+
+a published plan is promoted alone
+1 text
+1 freeze r0
+1 plan r0
+1 publish: Published(0)
+1 pack nil: NotEnabled
+1 detach nil: NotEnabled
+1 plan nil: NotEnabled
+1 publish: NotEnabled
+1 put_back: NotEnabled
+1 discard: NotEnabled
+1 offer 1: NotEnabled
+1 open: NotEnabled
+1 accept: NotEnabled
+1 grab 1: NotEnabled
+1 show: NotEnabled
+1 last_value: NotEnabled
+1 withdraw 0: NotEnabled
+1 set 7 r0: NotEnabled
+1 set 7 nil: NotEnabled
+1 own 7: NotEnabled
+1 freeze r0: NotEnabled
+1 close 1: WasClosed(false)
+1 promote
+1 set 7 r0";
 
 #[test]
-fn a_moved_message_leaves_no_room(rt: HostRuntime) -> Result<(), Fail> {
-    none_is_enabled(
-        &rt,
-        rt.alloc(),
-        &[
-            (MAIN, Action::Alloc(NewObject::Text), Told::Done),
-            (MAIN, Action::Detach(Operand::Root(0)), Told::Done),
-        ],
-        MAIN,
-        &[
-            Action::Pack(Operand::Nil),
-            Action::Detach(Operand::Nil),
-            Action::Plan(Operand::Nil),
-            Action::Publish,
-            Action::Promote,
-            Action::Accept,
-            Action::Grab(MAIN),
-            Action::Withdraw(0),
-        ],
-        &[
-            (MAIN, Action::PutBack, Told::Done),
-            (MAIN, Action::Append(Operand::Root(0), b'a'), Told::Done),
-        ],
-    )
-}
-
-#[test]
-fn a_home_alone_waits_for_its_message(rt: HostRuntime) -> Result<(), Fail> {
-    none_is_enabled(
-        &rt,
-        rt.alloc(),
-        &[
-            (MAIN, Action::Alloc(NewObject::Text), Told::Done),
-            (MAIN, Action::Detach(Operand::Root(0)), Told::Done),
-            (MAIN, Action::Show, Told::Offered(0)),
-        ],
-        MAIN,
-        &[
-            Action::Pack(Operand::Nil),
-            Action::Detach(Operand::Nil),
-            Action::Plan(Operand::Nil),
-            Action::Publish,
-            Action::Promote,
-            Action::PutBack,
-            Action::Discard,
-            Action::Offer(MAIN),
-            Action::Open,
-            Action::Accept,
-            Action::Grab(MAIN),
-            Action::Show,
-            Action::ShowLast(LastKind::Value),
-            Action::Withdraw(1),
-        ],
-        &[
-            (MAIN, Action::Withdraw(0), Told::Done),
-            (MAIN, Action::PutBack, Told::Done),
-        ],
-    )
-}
-
-#[test]
-fn a_plan_leaves_no_room(rt: HostRuntime) -> Result<(), Fail> {
-    none_is_enabled(
-        &rt,
-        rt.alloc(),
-        &[
-            (MAIN, Action::Alloc(NewObject::Text), Told::Done),
-            (MAIN, Action::Freeze(Operand::Root(0)), Told::Done),
-            (MAIN, Action::Plan(Operand::Root(0)), Told::Done),
-        ],
-        MAIN,
-        &[
-            Action::Pack(Operand::Nil),
-            Action::Detach(Operand::Nil),
-            Action::Plan(Operand::Nil),
-            Action::Promote,
-            Action::PutBack,
-            Action::Offer(MAIN),
-            Action::Open,
-            Action::Accept,
-            Action::Grab(MAIN),
-            Action::Show,
-            Action::ShowLast(LastKind::Fault),
-            Action::Withdraw(0),
-        ],
-        &[
-            (MAIN, Action::SetConst(NAME, Operand::Nil), Told::Done),
-            (MAIN, Action::Publish, Told::Published(0)),
-        ],
-    )
-}
-
-#[test]
-fn a_published_plan_is_promoted_alone(rt: HostRuntime) -> Result<(), Fail> {
-    none_is_enabled(
-        &rt,
-        rt.alloc(),
-        &[
-            (MAIN, Action::Alloc(NewObject::Text), Told::Done),
-            (MAIN, Action::Freeze(Operand::Root(0)), Told::Done),
-            (MAIN, Action::Plan(Operand::Root(0)), Told::Done),
-            (MAIN, Action::Publish, Told::Published(0)),
-        ],
-        MAIN,
-        &[
-            Action::Pack(Operand::Nil),
-            Action::Detach(Operand::Nil),
-            Action::Plan(Operand::Nil),
-            Action::Publish,
-            Action::PutBack,
-            Action::Discard,
-            Action::Offer(MAIN),
-            Action::Open,
-            Action::Accept,
-            Action::Grab(MAIN),
-            Action::Show,
-            Action::ShowLast(LastKind::Value),
-            Action::Withdraw(0),
-            Action::SetConst(NAME, Operand::Root(0)),
-            Action::SetConst(NAME, Operand::Nil),
-            Action::SetOwn(NAME),
-            Action::Freeze(Operand::Root(0)),
-        ],
-        &[
-            (MAIN, Action::Close(MAIN), Told::WasClosed(false)),
-            (MAIN, Action::Promote, Told::Done),
-            (MAIN, Action::SetConst(NAME, Operand::Root(0)), Told::Done),
-        ],
-    )
+fn what_a_hand_does_not_allow(rt: HostRuntime) -> Result<(), Fail> {
+    check(&rt, rt.alloc(), Limits::DEFAULT, ROWS)
 }

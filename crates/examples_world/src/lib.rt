@@ -6,8 +6,6 @@ mod constants;
 #[cfg(test)]
 mod ends;
 #[cfg(test)]
-mod expect;
-#[cfg(test)]
 mod hands;
 #[cfg(test)]
 mod missing;
@@ -34,8 +32,12 @@ mod plans;
 #[cfg(test)]
 mod ports;
 #[cfg(test)]
+mod rows;
+#[cfg(test)]
 mod steps;
 #[cfg(test)]
 mod walk;
+#[cfg(test)]
+mod words;
 #[cfg(test)]
 mod yields;

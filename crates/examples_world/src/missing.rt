@@ -1,208 +1,146 @@
 //! Steps of ractors that do not run, on channels that never were, and on objects of another kind.
 
-use crate::expect::{MAIN, OTHER, none_is_enabled};
-use crate::model::Told;
-use rr_base::{ClassId, RactorNo, Sym};
-use rr_world::{Action, Label, LastKind, NewObject, Operand, RaisedPart};
+use crate::rows::{check, check_rows, none_is_enabled};
+use rr_base::Limits;
+use rr_world::World;
 use std::test::Fail;
 
+const ROWS: &str = "\
+a channel that never was takes and gives nothing
+1 close 0: NotEnabled
+1 close 2: NotEnabled
+1 close_port 0: NotEnabled
+1 close_port 2: NotEnabled
+1 grab 0: NotEnabled
+1 grab 2: NotEnabled
+1 pack nil
+
+a channel that never was takes and gives nothing, once it is packed
+1 pack nil
+1 offer 0: NotEnabled
+1 offer 2: NotEnabled
+1 offer 1: Offered(0)
+
+an object of another kind is not changed
+1 text
+1 array
+1 hash
+1 object
+1 exception
+1 append r1: NotEnabled
+1 append r2: NotEnabled
+1 clear r1: NotEnabled
+1 take r1 0: NotEnabled
+1 take r3 0: NotEnabled
+1 raised r3 message nil: NotEnabled
+1 push r0 nil: NotEnabled
+1 push r2 nil: NotEnabled
+1 write r1 0 nil: NotEnabled
+1 write r3 0 nil: NotEnabled
+1 field r1 7 nil: NotEnabled
+1 field r2 7 nil: NotEnabled
+1 read r0 place 0: NotEnabled
+1 read r2 key 0: NotEnabled
+1 read r3 message: NotEnabled
+1 read 7 place 0: NotEnabled
+1 freeze nil: NotEnabled
+1 append 7: NotEnabled
+1 read r4 cause
+1 set 7 r5
+1 freeze r2
+1 freeze r4
+1 plan r4
+1 publish: Published(0)
+
+a frozen object is not changed
+1 text
+1 array
+1 object
+1 exception
+1 push r1 nil
+1 freeze r0
+1 freeze r1
+1 freeze r2
+1 freeze r3
+1 append r0: NotEnabled
+1 push r1 nil: NotEnabled
+1 write r1 0 nil: NotEnabled
+1 field r2 7 nil: NotEnabled
+1 field r3 7 nil: NotEnabled
+1 clear r0: NotEnabled
+1 take r1 0: NotEnabled
+1 raised r3 ractor nil: NotEnabled
+1 freeze r0";
+
 /// Each step, on a text, its own channels and constants.
-const EACH: [Action; 34] = [
-    Action::Alloc(NewObject::Text),
-    Action::Freeze(Operand::Root(0)),
-    Action::Append(Operand::Root(0), b'a'),
-    Action::Clear(Operand::Root(0)),
-    Action::Push(Operand::Root(0), Operand::Nil),
-    Action::Write(Operand::Root(0), 0, Operand::Nil),
-    Action::Take(Operand::Root(0), 0),
-    Action::SetRaised(Operand::Root(0), RaisedPart::Cause, Operand::Nil),
-    Action::SetField(Operand::Root(0), Sym(7), Operand::Nil),
-    Action::SetPair(Operand::Root(0), Operand::Nil, Operand::Nil),
-    Action::DeletePair(Operand::Root(0), 0),
-    Action::Read(Operand::Root(0), Label::Place(0)),
-    Action::Pack(Operand::Nil),
-    Action::Detach(Operand::Nil),
-    Action::Plan(Operand::Nil),
-    Action::Publish,
-    Action::Promote,
-    Action::PutBack,
-    Action::Discard,
-    Action::Offer(MAIN),
-    Action::Accept,
-    Action::Open,
-    Action::Close(MAIN),
-    Action::ClosePort(MAIN),
-    Action::ShowLast(LastKind::Value),
-    Action::Show,
-    Action::Withdraw(0),
-    Action::Settle(0),
-    Action::Grab(MAIN),
-    Action::Start,
-    Action::End,
-    Action::SetConst(Sym(7), Operand::Nil),
-    Action::SetOwn(Sym(7)),
-    Action::GetConst(Sym(7)),
-];
+const EACH: &str = "\
+text
+freeze r0
+append r0
+clear r0
+push r0 nil
+write r0 0 nil
+take r0 0
+raised r0 cause nil
+field r0 7 nil
+pair r0 nil nil
+delete r0 0
+read r0 place 0
+pack nil
+detach nil
+plan nil
+publish
+promote
+put_back
+discard
+offer 1
+accept
+open
+close 1
+close_port 1
+last_value
+show
+withdraw 0
+settle 0
+grab 1
+start
+end
+set 7 nil
+own 7
+get 7";
+
+/// The second ractor has a text and a message, and ends.
+const ENDED: &str = "\
+1 start: Started(2)
+1 set 7 nil
+2 text
+2 pack nil
+2 end";
+
+const AFTERWARDS: &str = "\
+1 close 2: WasClosed(false)
+1 close 1: WasClosed(false)
+1 start: Started(3)";
 
 #[test]
 fn a_ractor_that_ended_makes_no_step(rt: HostRuntime) -> Result<(), Fail> {
-    none_is_enabled(
-        &rt,
-        rt.alloc(),
-        &[
-            (MAIN, Action::Start, Told::Started(2)),
-            (MAIN, Action::SetConst(Sym(7), Operand::Nil), Told::Done),
-            (OTHER, Action::Alloc(NewObject::Text), Told::Done),
-            (OTHER, Action::Pack(Operand::Nil), Told::Done),
-            (OTHER, Action::End, Told::Done),
-        ],
-        OTHER,
-        &EACH,
-        &[
-            (MAIN, Action::Close(OTHER), Told::WasClosed(false)),
-            (MAIN, Action::Close(MAIN), Told::WasClosed(false)),
-            (MAIN, Action::Start, Told::Started(3)),
-        ],
-    )
+    let mut world = World::new(rt.alloc(), Limits::DEFAULT)?;
+    check_rows(&rt, rt.alloc(), &mut world, ENDED)?;
+    none_is_enabled(&rt, rt.alloc(), &mut world, 2, EACH)?;
+    check_rows(&rt, rt.alloc(), &mut world, AFTERWARDS)
 }
 
 #[test]
 fn a_ractor_that_never_was_makes_no_step(rt: HostRuntime) -> Result<(), Fail> {
-    for who in [RactorNo(0), RactorNo(2), RactorNo(65_535)] {
-        none_is_enabled(
-            &rt,
-            rt.alloc(),
-            &[(MAIN, Action::SetConst(Sym(7), Operand::Nil), Told::Done)],
-            who,
-            &EACH,
-            &[(MAIN, Action::Start, Told::Started(2))],
-        )?;
+    let mut world = World::new(rt.alloc(), Limits::DEFAULT)?;
+    check_rows(&rt, rt.alloc(), &mut world, "1 set 7 nil")?;
+    for who in [0, 2, 65_535] {
+        none_is_enabled(&rt, rt.alloc(), &mut world, who, EACH)?;
     }
-    Ok(())
+    check_rows(&rt, rt.alloc(), &mut world, "1 start: Started(2)")
 }
 
 #[test]
-fn a_channel_that_never_was_takes_and_gives_nothing(rt: HostRuntime) -> Result<(), Fail> {
-    none_is_enabled(
-        &rt,
-        rt.alloc(),
-        &[],
-        MAIN,
-        &[
-            Action::Close(RactorNo(0)),
-            Action::Close(OTHER),
-            Action::ClosePort(RactorNo(0)),
-            Action::ClosePort(OTHER),
-            Action::Grab(RactorNo(0)),
-            Action::Grab(OTHER),
-        ],
-        &[(MAIN, Action::Pack(Operand::Nil), Told::Done)],
-    )?;
-    none_is_enabled(
-        &rt,
-        rt.alloc(),
-        &[(MAIN, Action::Pack(Operand::Nil), Told::Done)],
-        MAIN,
-        &[Action::Offer(RactorNo(0)), Action::Offer(OTHER)],
-        &[(MAIN, Action::Offer(MAIN), Told::Offered(0))],
-    )
-}
-
-#[test]
-fn an_object_of_another_kind_is_not_changed(rt: HostRuntime) -> Result<(), Fail> {
-    none_is_enabled(
-        &rt,
-        rt.alloc(),
-        &[
-            (MAIN, Action::Alloc(NewObject::Text), Told::Done),
-            (MAIN, Action::Alloc(NewObject::Array), Told::Done),
-            (MAIN, Action::Alloc(NewObject::Hash), Told::Done),
-            (
-                MAIN,
-                Action::Alloc(NewObject::Object(ClassId::OBJECT)),
-                Told::Done,
-            ),
-            (
-                MAIN,
-                Action::Alloc(NewObject::Exception(ClassId::EXCEPTION)),
-                Told::Done,
-            ),
-        ],
-        MAIN,
-        &[
-            Action::Append(Operand::Root(1), b'a'),
-            Action::Append(Operand::Root(2), b'a'),
-            Action::Clear(Operand::Root(1)),
-            Action::Take(Operand::Root(1), 0),
-            Action::Take(Operand::Root(3), 0),
-            Action::SetRaised(Operand::Root(3), RaisedPart::Message, Operand::Nil),
-            Action::Push(Operand::Root(0), Operand::Nil),
-            Action::Push(Operand::Root(2), Operand::Nil),
-            Action::Write(Operand::Root(1), 0, Operand::Nil),
-            Action::Write(Operand::Root(3), 0, Operand::Nil),
-            Action::SetField(Operand::Root(1), Sym(7), Operand::Nil),
-            Action::SetField(Operand::Root(2), Sym(7), Operand::Nil),
-            Action::Read(Operand::Root(0), Label::Place(0)),
-            Action::Read(Operand::Root(2), Label::Key(0)),
-            Action::Read(Operand::Root(3), Label::Message),
-            Action::Read(Operand::Int(7), Label::Place(0)),
-            Action::Freeze(Operand::Nil),
-            Action::Append(Operand::Int(7), b'a'),
-        ],
-        &[
-            (
-                MAIN,
-                Action::Read(Operand::Root(4), Label::Cause),
-                Told::Done,
-            ),
-            (MAIN, Action::SetConst(Sym(7), Operand::Root(5)), Told::Done),
-            (MAIN, Action::Freeze(Operand::Root(2)), Told::Done),
-            (MAIN, Action::Freeze(Operand::Root(4)), Told::Done),
-            (MAIN, Action::Plan(Operand::Root(4)), Told::Done),
-            (MAIN, Action::Publish, Told::Published(0)),
-        ],
-    )
-}
-
-#[test]
-fn a_frozen_object_is_not_changed(rt: HostRuntime) -> Result<(), Fail> {
-    none_is_enabled(
-        &rt,
-        rt.alloc(),
-        &[
-            (MAIN, Action::Alloc(NewObject::Text), Told::Done),
-            (MAIN, Action::Alloc(NewObject::Array), Told::Done),
-            (
-                MAIN,
-                Action::Alloc(NewObject::Object(ClassId::OBJECT)),
-                Told::Done,
-            ),
-            (
-                MAIN,
-                Action::Alloc(NewObject::Exception(ClassId::EXCEPTION)),
-                Told::Done,
-            ),
-            (
-                MAIN,
-                Action::Push(Operand::Root(1), Operand::Nil),
-                Told::Done,
-            ),
-            (MAIN, Action::Freeze(Operand::Root(0)), Told::Done),
-            (MAIN, Action::Freeze(Operand::Root(1)), Told::Done),
-            (MAIN, Action::Freeze(Operand::Root(2)), Told::Done),
-            (MAIN, Action::Freeze(Operand::Root(3)), Told::Done),
-        ],
-        MAIN,
-        &[
-            Action::Append(Operand::Root(0), b'a'),
-            Action::Push(Operand::Root(1), Operand::Nil),
-            Action::Write(Operand::Root(1), 0, Operand::Nil),
-            Action::SetField(Operand::Root(2), Sym(7), Operand::Nil),
-            Action::SetField(Operand::Root(3), Sym(7), Operand::Nil),
-            Action::Clear(Operand::Root(0)),
-            Action::Take(Operand::Root(1), 0),
-            Action::SetRaised(Operand::Root(3), RaisedPart::Ractor, Operand::Nil),
-        ],
-        &[(MAIN, Action::Freeze(Operand::Root(0)), Told::Done)],
-    )
+fn what_is_not_enabled(rt: HostRuntime) -> Result<(), Fail> {
+    check(&rt, rt.alloc(), Limits::DEFAULT, ROWS)
 }

@@ -1,124 +1,60 @@
 //! Values that are moved, put back, and moved to another ractor.
 
-use crate::expect::{MAIN, OTHER, answers_in_turn};
-use crate::model::Told;
+use crate::rows::check;
 use rr_base::Limits;
-use rr_world::{Action, Label, NewObject, Operand};
 use std::test::Fail;
 
-#[test]
-fn what_is_put_back_is_as_it_was(rt: HostRuntime) -> Result<(), Fail> {
-    answers_in_turn(
-        &rt,
-        rt.alloc(),
-        Limits::DEFAULT,
-        &[
-            (MAIN, Action::Alloc(NewObject::Array), Told::Done),
-            (MAIN, Action::Alloc(NewObject::Text), Told::Done),
-            (
-                MAIN,
-                Action::Push(Operand::Root(0), Operand::Root(1)),
-                Told::Done,
-            ),
-            (MAIN, Action::Detach(Operand::Root(0)), Told::Done),
-            (MAIN, Action::PutBack, Told::Done),
-            (
-                MAIN,
-                Action::Push(Operand::Root(0), Operand::Root(0)),
-                Told::Done,
-            ),
-            (
-                MAIN,
-                Action::Read(Operand::Root(0), Label::Place(0)),
-                Told::Done,
-            ),
-            (MAIN, Action::Append(Operand::Root(2), b'a'), Told::Done),
-            (MAIN, Action::Detach(Operand::Int(7)), Told::Done),
-            (MAIN, Action::PutBack, Told::Done),
-        ],
-    )
-}
+const ROWS: &str = "\
+what is put back is as it was
+1 array
+1 text
+1 push r0 r1
+1 detach r0
+1 put_back
+1 push r0 r0
+1 read r0 place 0
+1 append r2
+1 detach 7
+1 put_back
+
+what is moved is shells
+1 array
+1 text
+1 push r0 r1
+1 detach r0
+1 push r0 r1: NotEnabled
+1 append r1: NotEnabled
+1 freeze r1: NotEnabled
+1 read r0 place 0: NotEnabled
+1 detach r1: NotEnabled
+1 pack r1: NotEnabled
+1 discard
+1 put_back: NotEnabled
+1 append r1: NotEnabled
+
+a moved text is the receivers
+1 start: Started(2)
+1 text
+1 detach r0
+1 offer 2: Offered(0)
+1 put_back: NotEnabled
+1 detach r0: HoldsShell
+1 pack r0: HoldsShell
+1 plan r0: HoldsShell
+2 accept
+2 put_back: NotEnabled
+2 open
+2 append r0
+
+a refused message keeps its home
+1 close 1: WasClosed(false)
+1 text
+1 detach r0
+1 offer 1: Closed
+1 put_back
+1 append r0";
 
 #[test]
-fn what_is_moved_is_shells(rt: HostRuntime) -> Result<(), Fail> {
-    answers_in_turn(
-        &rt,
-        rt.alloc(),
-        Limits::DEFAULT,
-        &[
-            (MAIN, Action::Alloc(NewObject::Array), Told::Done),
-            (MAIN, Action::Alloc(NewObject::Text), Told::Done),
-            (
-                MAIN,
-                Action::Push(Operand::Root(0), Operand::Root(1)),
-                Told::Done,
-            ),
-            (MAIN, Action::Detach(Operand::Root(0)), Told::Done),
-            (
-                MAIN,
-                Action::Push(Operand::Root(0), Operand::Root(1)),
-                Told::NotEnabled,
-            ),
-            (
-                MAIN,
-                Action::Append(Operand::Root(1), b'a'),
-                Told::NotEnabled,
-            ),
-            (MAIN, Action::Freeze(Operand::Root(1)), Told::NotEnabled),
-            (
-                MAIN,
-                Action::Read(Operand::Root(0), Label::Place(0)),
-                Told::NotEnabled,
-            ),
-            (MAIN, Action::Detach(Operand::Root(1)), Told::NotEnabled),
-            (MAIN, Action::Pack(Operand::Root(1)), Told::NotEnabled),
-            (MAIN, Action::Discard, Told::Done),
-            (MAIN, Action::PutBack, Told::NotEnabled),
-            (
-                MAIN,
-                Action::Append(Operand::Root(1), b'a'),
-                Told::NotEnabled,
-            ),
-        ],
-    )
-}
-
-#[test]
-fn a_moved_text_is_the_receivers(rt: HostRuntime) -> Result<(), Fail> {
-    answers_in_turn(
-        &rt,
-        rt.alloc(),
-        Limits::DEFAULT,
-        &[
-            (MAIN, Action::Start, Told::Started(2)),
-            (MAIN, Action::Alloc(NewObject::Text), Told::Done),
-            (MAIN, Action::Detach(Operand::Root(0)), Told::Done),
-            (MAIN, Action::Offer(OTHER), Told::Offered(0)),
-            (MAIN, Action::PutBack, Told::NotEnabled),
-            (MAIN, Action::Detach(Operand::Root(0)), Told::HoldsShell),
-            (MAIN, Action::Pack(Operand::Root(0)), Told::HoldsShell),
-            (MAIN, Action::Plan(Operand::Root(0)), Told::HoldsShell),
-            (OTHER, Action::Accept, Told::Done),
-            (OTHER, Action::PutBack, Told::NotEnabled),
-            (OTHER, Action::Open, Told::Done),
-            (OTHER, Action::Append(Operand::Root(0), b'a'), Told::Done),
-        ],
-    )
-}
-
-#[test]
-fn a_refused_message_keeps_its_home(rt: HostRuntime) -> Result<(), Fail> {
-    answers_in_turn(
-        &rt,
-        rt.alloc(),
-        Limits::DEFAULT,
-        &[
-            (MAIN, Action::Close(MAIN), Told::WasClosed(false)),
-            (MAIN, Action::Alloc(NewObject::Text), Told::Done),
-            (MAIN, Action::Detach(Operand::Root(0)), Told::Done),
-            (MAIN, Action::Offer(MAIN), Told::Closed),
-            (MAIN, Action::PutBack, Told::Done),
-            (MAIN, Action::Append(Operand::Root(0), b'a'), Told::Done),
-        ],
-    )
+fn what_is_moved(rt: HostRuntime) -> Result<(), Fail> {
+    check(&rt, rt.alloc(), Limits::DEFAULT, ROWS)
 }

@@ -1,161 +1,97 @@
 //! Plans, what is published of them, and constants that are set to it.
 
-use crate::expect::{MAIN, OTHER, answers_in_turn};
-use crate::model::Told;
-use rr_base::{Limits, Sym};
-use rr_world::{Action, Label, NewObject, Operand};
+use crate::rows::check;
+use rr_base::Limits;
 use std::test::Fail;
 
-const NAME: Sym = Sym(7);
+const ROWS: &str = "\
+a plan is held until it is dropped
+1 text
+1 plan r0
+1 plan 7
+1 publish: NotEnabled
+1 freeze r0
+1 plan r0
+1 plan r0: NotEnabled
+1 promote: NotEnabled
+1 pack nil: NotEnabled
+1 offer 1: NotEnabled
+1 open: NotEnabled
+1 discard
+1 discard: NotEnabled
+
+what is published is every ractors
+1 text
+1 freeze r0
+1 pack r0: NotEnabled
+1 plan r0
+1 set 7 r0: NotEnabled
+1 publish: Published(0)
+1 publish: NotEnabled
+1 discard: NotEnabled
+1 pack nil: NotEnabled
+1 set 7 nil: NotEnabled
+1 own 7: NotEnabled
+1 freeze r0: NotEnabled
+1 array
+1 push r1 r0
+1 read r1 place 0
+1 promote
+1 promote: NotEnabled
+1 set 7 r1: NotEnabled
+1 set 7 r2
+1 freeze r0: NotEnabled
+1 start: Started(2)
+2 get 7
+2 append r0: NotEnabled
+2 pack r0
+2 offer 1: Offered(0)
+1 accept
+1 open
+1 set 7 r3
+
+a plan has what is shareable alone
+1 array
+1 text
+1 push r0 r1
+1 freeze r1
+1 pack r0: NotEnabled
+1 plan r0
+1 publish: Published(0)
+1 push r0 r1
+1 promote
+1 detach r0
+1 put_back
+1 read r0 place 1
+1 set 7 r2
+1 set 7 r0: NotEnabled
+1 freeze r0
+1 plan r0
+1 publish: Published(1)";
 
 const FEW_EVENTS: Limits = Limits {
     events: 3,
     ..Limits::DEFAULT
 };
 
+const ROWS_OF_FEW: &str = "\
+a full history takes no cluster
+1 own 7
+1 own 7
+1 own 7
+1 text
+1 freeze r0
+1 plan r0
+1 publish: HistoryFull
+1 promote: NotEnabled
+1 discard";
+
 #[test]
-fn a_plan_is_held_until_it_is_dropped(rt: HostRuntime) -> Result<(), Fail> {
-    answers_in_turn(
-        &rt,
-        rt.alloc(),
-        Limits::DEFAULT,
-        &[
-            (MAIN, Action::Alloc(NewObject::Text), Told::Done),
-            (MAIN, Action::Plan(Operand::Root(0)), Told::Done),
-            (MAIN, Action::Plan(Operand::Int(7)), Told::Done),
-            (MAIN, Action::Publish, Told::NotEnabled),
-            (MAIN, Action::Freeze(Operand::Root(0)), Told::Done),
-            (MAIN, Action::Plan(Operand::Root(0)), Told::Done),
-            (MAIN, Action::Plan(Operand::Root(0)), Told::NotEnabled),
-            (MAIN, Action::Promote, Told::NotEnabled),
-            (MAIN, Action::Pack(Operand::Nil), Told::NotEnabled),
-            (MAIN, Action::Offer(MAIN), Told::NotEnabled),
-            (MAIN, Action::Open, Told::NotEnabled),
-            (MAIN, Action::Discard, Told::Done),
-            (MAIN, Action::Discard, Told::NotEnabled),
-        ],
-    )
+fn what_is_planned_and_published(rt: HostRuntime) -> Result<(), Fail> {
+    check(&rt, rt.alloc(), Limits::DEFAULT, ROWS)
 }
 
 #[test]
-fn what_is_published_is_every_ractors(rt: HostRuntime) -> Result<(), Fail> {
-    answers_in_turn(
-        &rt,
-        rt.alloc(),
-        Limits::DEFAULT,
-        &[
-            (MAIN, Action::Alloc(NewObject::Text), Told::Done),
-            (MAIN, Action::Freeze(Operand::Root(0)), Told::Done),
-            (MAIN, Action::Pack(Operand::Root(0)), Told::NotEnabled),
-            (MAIN, Action::Plan(Operand::Root(0)), Told::Done),
-            (
-                MAIN,
-                Action::SetConst(NAME, Operand::Root(0)),
-                Told::NotEnabled,
-            ),
-            (MAIN, Action::Publish, Told::Published(0)),
-            (MAIN, Action::Publish, Told::NotEnabled),
-            (MAIN, Action::Discard, Told::NotEnabled),
-            (MAIN, Action::Pack(Operand::Nil), Told::NotEnabled),
-            (MAIN, Action::SetConst(NAME, Operand::Nil), Told::NotEnabled),
-            (MAIN, Action::SetOwn(NAME), Told::NotEnabled),
-            (MAIN, Action::Freeze(Operand::Root(0)), Told::NotEnabled),
-            (MAIN, Action::Alloc(NewObject::Array), Told::Done),
-            (
-                MAIN,
-                Action::Push(Operand::Root(1), Operand::Root(0)),
-                Told::Done,
-            ),
-            (
-                MAIN,
-                Action::Read(Operand::Root(1), Label::Place(0)),
-                Told::Done,
-            ),
-            (MAIN, Action::Promote, Told::Done),
-            (MAIN, Action::Promote, Told::NotEnabled),
-            (
-                MAIN,
-                Action::SetConst(NAME, Operand::Root(1)),
-                Told::NotEnabled,
-            ),
-            (MAIN, Action::SetConst(NAME, Operand::Root(2)), Told::Done),
-            (MAIN, Action::Freeze(Operand::Root(0)), Told::NotEnabled),
-            (MAIN, Action::Start, Told::Started(2)),
-            (OTHER, Action::GetConst(NAME), Told::Done),
-            (
-                OTHER,
-                Action::Append(Operand::Root(0), b'a'),
-                Told::NotEnabled,
-            ),
-            (OTHER, Action::Pack(Operand::Root(0)), Told::Done),
-            (OTHER, Action::Offer(MAIN), Told::Offered(0)),
-            (MAIN, Action::Accept, Told::Done),
-            (MAIN, Action::Open, Told::Done),
-            (MAIN, Action::SetConst(NAME, Operand::Root(3)), Told::Done),
-        ],
-    )
-}
-
-#[test]
-fn a_plan_has_what_is_shareable_alone(rt: HostRuntime) -> Result<(), Fail> {
-    answers_in_turn(
-        &rt,
-        rt.alloc(),
-        Limits::DEFAULT,
-        &[
-            (MAIN, Action::Alloc(NewObject::Array), Told::Done),
-            (MAIN, Action::Alloc(NewObject::Text), Told::Done),
-            (
-                MAIN,
-                Action::Push(Operand::Root(0), Operand::Root(1)),
-                Told::Done,
-            ),
-            (MAIN, Action::Freeze(Operand::Root(1)), Told::Done),
-            (MAIN, Action::Pack(Operand::Root(0)), Told::NotEnabled),
-            (MAIN, Action::Plan(Operand::Root(0)), Told::Done),
-            (MAIN, Action::Publish, Told::Published(0)),
-            (
-                MAIN,
-                Action::Push(Operand::Root(0), Operand::Root(1)),
-                Told::Done,
-            ),
-            (MAIN, Action::Promote, Told::Done),
-            (MAIN, Action::Detach(Operand::Root(0)), Told::Done),
-            (MAIN, Action::PutBack, Told::Done),
-            (
-                MAIN,
-                Action::Read(Operand::Root(0), Label::Place(1)),
-                Told::Done,
-            ),
-            (MAIN, Action::SetConst(NAME, Operand::Root(2)), Told::Done),
-            (
-                MAIN,
-                Action::SetConst(NAME, Operand::Root(0)),
-                Told::NotEnabled,
-            ),
-            (MAIN, Action::Freeze(Operand::Root(0)), Told::Done),
-            (MAIN, Action::Plan(Operand::Root(0)), Told::Done),
-            (MAIN, Action::Publish, Told::Published(1)),
-        ],
-    )
-}
-
-#[test]
-fn a_full_history_takes_no_cluster(rt: HostRuntime) -> Result<(), Fail> {
-    answers_in_turn(
-        &rt,
-        rt.alloc(),
-        FEW_EVENTS,
-        &[
-            (MAIN, Action::SetOwn(NAME), Told::Done),
-            (MAIN, Action::SetOwn(NAME), Told::Done),
-            (MAIN, Action::SetOwn(NAME), Told::Done),
-            (MAIN, Action::Alloc(NewObject::Text), Told::Done),
-            (MAIN, Action::Freeze(Operand::Root(0)), Told::Done),
-            (MAIN, Action::Plan(Operand::Root(0)), Told::Done),
-            (MAIN, Action::Publish, Told::HistoryFull),
-            (MAIN, Action::Promote, Told::NotEnabled),
-            (MAIN, Action::Discard, Told::Done),
-        ],
-    )
+fn what_is_planned_and_published_in_a_short_history(rt: HostRuntime) -> Result<(), Fail> {
+    check(&rt, rt.alloc(), FEW_EVENTS, ROWS_OF_FEW)
 }

@@ -1,68 +1,45 @@
 //! Ports.
 
-use crate::expect::{MAIN, OTHER, answers_in_turn};
-use crate::model::Told;
+use crate::rows::check;
 use rr_base::Limits;
-use rr_world::{Action, LastKind, NewObject, Operand};
 use std::test::Fail;
 
-#[test]
-fn a_port_is_closed_once(rt: HostRuntime) -> Result<(), Fail> {
-    answers_in_turn(
-        &rt,
-        rt.alloc(),
-        Limits::DEFAULT,
-        &[
-            (MAIN, Action::ClosePort(OTHER), Told::NotEnabled),
-            (MAIN, Action::Start, Told::Started(2)),
-            (MAIN, Action::ClosePort(OTHER), Told::WasClosed(false)),
-            (OTHER, Action::ClosePort(OTHER), Told::WasClosed(true)),
-            (MAIN, Action::Pack(Operand::Int(7)), Told::Done),
-            (MAIN, Action::Offer(OTHER), Told::Offered(0)),
-            (OTHER, Action::ClosePort(MAIN), Told::WasClosed(false)),
-            (OTHER, Action::Close(OTHER), Told::WasClosed(false)),
-        ],
-    )
-}
+const ROWS: &str = "\
+a port is closed once
+1 close_port 2: NotEnabled
+1 start: Started(2)
+1 close_port 2: WasClosed(false)
+2 close_port 2: WasClosed(true)
+1 pack 7
+1 offer 2: Offered(0)
+2 close_port 1: WasClosed(false)
+2 close 2: WasClosed(false)
+
+a last value goes to one taker
+1 start: Started(2)
+1 grab 2: Empty
+2 text
+2 last_value: NotEnabled
+2 detach r0
+2 last_value: Offered(0)
+2 end
+1 grab 2: GrabbedLast(false)
+1 grab 2: NotEnabled
+1 open
+1 append r0
+1 grab 2: EmptyAndClosed
+1 close_port 2: WasClosed(true)
+
+a last fault comes too late
+1 close_port 1: WasClosed(false)
+1 text
+1 detach r0
+1 last_fault: Closed
+1 last_fault: NotEnabled
+1 put_back
+1 append r0";
 
 #[test]
-fn a_last_value_goes_to_one_taker(rt: HostRuntime) -> Result<(), Fail> {
-    answers_in_turn(
-        &rt,
-        rt.alloc(),
-        Limits::DEFAULT,
-        &[
-            (MAIN, Action::Start, Told::Started(2)),
-            (MAIN, Action::Grab(OTHER), Told::Empty),
-            (OTHER, Action::Alloc(NewObject::Text), Told::Done),
-            (OTHER, Action::ShowLast(LastKind::Value), Told::NotEnabled),
-            (OTHER, Action::Detach(Operand::Root(0)), Told::Done),
-            (OTHER, Action::ShowLast(LastKind::Value), Told::Offered(0)),
-            (OTHER, Action::End, Told::Done),
-            (MAIN, Action::Grab(OTHER), Told::GrabbedLast(false)),
-            (MAIN, Action::Grab(OTHER), Told::NotEnabled),
-            (MAIN, Action::Open, Told::Done),
-            (MAIN, Action::Append(Operand::Root(0), b'a'), Told::Done),
-            (MAIN, Action::Grab(OTHER), Told::EmptyAndClosed),
-            (MAIN, Action::ClosePort(OTHER), Told::WasClosed(true)),
-        ],
-    )
-}
-
-#[test]
-fn a_last_fault_comes_too_late(rt: HostRuntime) -> Result<(), Fail> {
-    answers_in_turn(
-        &rt,
-        rt.alloc(),
-        Limits::DEFAULT,
-        &[
-            (MAIN, Action::ClosePort(MAIN), Told::WasClosed(false)),
-            (MAIN, Action::Alloc(NewObject::Text), Told::Done),
-            (MAIN, Action::Detach(Operand::Root(0)), Told::Done),
-            (MAIN, Action::ShowLast(LastKind::Fault), Told::Closed),
-            (MAIN, Action::ShowLast(LastKind::Fault), Told::NotEnabled),
-            (MAIN, Action::PutBack, Told::Done),
-            (MAIN, Action::Append(Operand::Root(0), b'a'), Told::Done),
-        ],
-    )
+fn ports_are_closed_and_grabbed(rt: HostRuntime) -> Result<(), Fail> {
+    check(&rt, rt.alloc(), Limits::DEFAULT, ROWS)
 }

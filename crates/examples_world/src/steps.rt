@@ -1,15 +1,131 @@
 //! Lists of steps on a new World.
 
-use crate::expect::{MAIN, OTHER, answers_in_turn};
-use crate::model::Told;
-use rr_base::{ClassId, Limits, RactorNo, Sym};
-use rr_world::{Action, Label, LastKind, NewObject, Operand, RaisedPart, Reply, Step, World};
+use crate::rows::check;
+use rr_base::{Limits, RactorNo};
+use rr_world::{Action, NewObject, Operand, Reply, Step, World};
 use std::test::Fail;
+
+const MAIN: RactorNo = RactorNo(1);
+
+const ROWS: &str = "\
+what is not possible is not enabled
+1 discard: NotEnabled
+1 open: NotEnabled
+1 put_back: NotEnabled
+1 publish: NotEnabled
+1 promote: NotEnabled
+1 offer 1: NotEnabled
+1 show: NotEnabled
+1 last_value: NotEnabled
+1 close 2: NotEnabled
+1 close_port 2: NotEnabled
+1 grab 2: NotEnabled
+2 accept: NotEnabled
+0 start: NotEnabled
+
+no step is made of a root that is not there
+1 pack r0: NotEnabled
+1 detach r0: NotEnabled
+1 plan r0: NotEnabled
+1 freeze r0: NotEnabled
+1 append r0: NotEnabled
+1 push r0 nil: NotEnabled
+1 write r0 0 nil: NotEnabled
+1 field r0 7 nil: NotEnabled
+1 read r0 place 0: NotEnabled
+1 set 7 r0: NotEnabled
+
+a hand with a copy takes nothing more
+1 text
+1 pack r0
+1 pack nil: NotEnabled
+1 detach nil: NotEnabled
+1 plan nil: NotEnabled
+1 publish: NotEnabled
+1 accept: NotEnabled
+1 grab 1: NotEnabled
+1 withdraw 0: NotEnabled
+1 put_back: NotEnabled
+1 offer 2: NotEnabled
+1 set 7 r0: NotEnabled
+
+a closed inbox keeps what is inside
+1 pack 7
+1 offer 1: Offered(0)
+1 close 1: WasClosed(false)
+1 accept
+1 discard
+1 accept: EmptyAndClosed
+
+objects are changed and read
+1 array
+1 text
+1 append r1
+1 push r0 r1
+1 write r0 0 7
+1 push r0 r1
+1 freeze r1
+1 read r0 place 1
+1 append r2: NotEnabled
+1 write r0 2 r1: NotEnabled
+1 read r0 place 2: NotEnabled
+1 push r1 r0: NotEnabled
+1 freeze 7: NotEnabled
+
+fields of an object are set
+1 object
+1 field r0 7 1
+1 field r0 7 r0
+1 read r0 field 7
+1 freeze r1
+1 field r0 8 r0: NotEnabled
+1 read r0 field 8: NotEnabled
+
+an element that goes lets the others close up
+1 array
+1 text
+1 push r0 nil
+1 push r0 r1
+1 take r0 2: NotEnabled
+1 take r0 0
+1 read r0 place 1: NotEnabled
+1 read r0 place 0
+1 append r2
+1 clear r2
+1 take r0 0
+1 take r0 0: NotEnabled
+
+the parts and a field of an exception are set
+1 exception
+1 text
+1 raised r0 message r1
+1 raised r0 cause r0
+1 raised r0 ractor @1
+1 field r0 7 1
+1 field r0 7 r1
+1 read r0 message
+1 append r2
+1 read r0 cause
+1 read r3 ractor
+1 append r4: NotEnabled";
 
 const TWO_RACTORS: Limits = Limits {
     ractors: 2,
     ..Limits::DEFAULT
 };
+
+const ROWS_OF_TWO: &str = "\
+a text goes to another ractor
+1 text
+2 accept: NotEnabled
+1 start: Started(2)
+1 start: TooManyRactors
+1 pack r0
+1 offer 2: Offered(0)
+1 freeze r0
+2 accept
+2 open
+2 append r0";
 
 fn by_main(action: Action) -> Step {
     Step { who: MAIN, action }
@@ -35,335 +151,11 @@ fn an_empty_text_is_sent_to_oneself(rt: HostRuntime) -> Result<(), Fail> {
 }
 
 #[test]
-fn what_is_not_possible_is_not_enabled(rt: HostRuntime) -> Result<(), Fail> {
-    answers_in_turn(
-        &rt,
-        rt.alloc(),
-        Limits::DEFAULT,
-        &[
-            (MAIN, Action::Discard, Told::NotEnabled),
-            (MAIN, Action::Open, Told::NotEnabled),
-            (MAIN, Action::PutBack, Told::NotEnabled),
-            (MAIN, Action::Publish, Told::NotEnabled),
-            (MAIN, Action::Promote, Told::NotEnabled),
-            (MAIN, Action::Offer(MAIN), Told::NotEnabled),
-            (MAIN, Action::Show, Told::NotEnabled),
-            (MAIN, Action::ShowLast(LastKind::Value), Told::NotEnabled),
-            (MAIN, Action::Close(OTHER), Told::NotEnabled),
-            (MAIN, Action::ClosePort(OTHER), Told::NotEnabled),
-            (MAIN, Action::Grab(OTHER), Told::NotEnabled),
-            (OTHER, Action::Accept, Told::NotEnabled),
-            (RactorNo(0), Action::Start, Told::NotEnabled),
-        ],
-    )
+fn steps_answer_as_their_rows(rt: HostRuntime) -> Result<(), Fail> {
+    check(&rt, rt.alloc(), Limits::DEFAULT, ROWS)
 }
 
 #[test]
-fn no_step_is_made_of_a_root_that_is_not_there(rt: HostRuntime) -> Result<(), Fail> {
-    answers_in_turn(
-        &rt,
-        rt.alloc(),
-        Limits::DEFAULT,
-        &[
-            (MAIN, Action::Pack(Operand::Root(0)), Told::NotEnabled),
-            (MAIN, Action::Detach(Operand::Root(0)), Told::NotEnabled),
-            (MAIN, Action::Plan(Operand::Root(0)), Told::NotEnabled),
-            (MAIN, Action::Freeze(Operand::Root(0)), Told::NotEnabled),
-            (
-                MAIN,
-                Action::Append(Operand::Root(0), b'a'),
-                Told::NotEnabled,
-            ),
-            (
-                MAIN,
-                Action::Push(Operand::Root(0), Operand::Nil),
-                Told::NotEnabled,
-            ),
-            (
-                MAIN,
-                Action::Write(Operand::Root(0), 0, Operand::Nil),
-                Told::NotEnabled,
-            ),
-            (
-                MAIN,
-                Action::SetField(Operand::Root(0), Sym(7), Operand::Nil),
-                Told::NotEnabled,
-            ),
-            (
-                MAIN,
-                Action::Read(Operand::Root(0), Label::Place(0)),
-                Told::NotEnabled,
-            ),
-            (
-                MAIN,
-                Action::SetConst(Sym(7), Operand::Root(0)),
-                Told::NotEnabled,
-            ),
-        ],
-    )
-}
-
-#[test]
-fn a_hand_with_a_copy_takes_nothing_more(rt: HostRuntime) -> Result<(), Fail> {
-    answers_in_turn(
-        &rt,
-        rt.alloc(),
-        Limits::DEFAULT,
-        &[
-            (MAIN, Action::Alloc(NewObject::Text), Told::Done),
-            (MAIN, Action::Pack(Operand::Root(0)), Told::Done),
-            (MAIN, Action::Pack(Operand::Nil), Told::NotEnabled),
-            (MAIN, Action::Detach(Operand::Nil), Told::NotEnabled),
-            (MAIN, Action::Plan(Operand::Nil), Told::NotEnabled),
-            (MAIN, Action::Publish, Told::NotEnabled),
-            (MAIN, Action::Accept, Told::NotEnabled),
-            (MAIN, Action::Grab(MAIN), Told::NotEnabled),
-            (MAIN, Action::Withdraw(0), Told::NotEnabled),
-            (MAIN, Action::PutBack, Told::NotEnabled),
-            (MAIN, Action::Offer(OTHER), Told::NotEnabled),
-            (
-                MAIN,
-                Action::SetConst(Sym(7), Operand::Root(0)),
-                Told::NotEnabled,
-            ),
-        ],
-    )
-}
-
-#[test]
-fn a_closed_inbox_keeps_what_is_inside(rt: HostRuntime) -> Result<(), Fail> {
-    answers_in_turn(
-        &rt,
-        rt.alloc(),
-        Limits::DEFAULT,
-        &[
-            (MAIN, Action::Pack(Operand::Int(7)), Told::Done),
-            (MAIN, Action::Offer(MAIN), Told::Offered(0)),
-            (MAIN, Action::Close(MAIN), Told::WasClosed(false)),
-            (MAIN, Action::Accept, Told::Done),
-            (MAIN, Action::Discard, Told::Done),
-            (MAIN, Action::Accept, Told::EmptyAndClosed),
-        ],
-    )
-}
-
-#[test]
-fn objects_are_changed_and_read(rt: HostRuntime) -> Result<(), Fail> {
-    answers_in_turn(
-        &rt,
-        rt.alloc(),
-        Limits::DEFAULT,
-        &[
-            (MAIN, Action::Alloc(NewObject::Array), Told::Done),
-            (MAIN, Action::Alloc(NewObject::Text), Told::Done),
-            (MAIN, Action::Append(Operand::Root(1), b'a'), Told::Done),
-            (
-                MAIN,
-                Action::Push(Operand::Root(0), Operand::Root(1)),
-                Told::Done,
-            ),
-            (
-                MAIN,
-                Action::Write(Operand::Root(0), 0, Operand::Int(7)),
-                Told::Done,
-            ),
-            (
-                MAIN,
-                Action::Push(Operand::Root(0), Operand::Root(1)),
-                Told::Done,
-            ),
-            (MAIN, Action::Freeze(Operand::Root(1)), Told::Done),
-            (
-                MAIN,
-                Action::Read(Operand::Root(0), Label::Place(1)),
-                Told::Done,
-            ),
-            (
-                MAIN,
-                Action::Append(Operand::Root(2), b'b'),
-                Told::NotEnabled,
-            ),
-            (
-                MAIN,
-                Action::Write(Operand::Root(0), 2, Operand::Root(1)),
-                Told::NotEnabled,
-            ),
-            (
-                MAIN,
-                Action::Read(Operand::Root(0), Label::Place(2)),
-                Told::NotEnabled,
-            ),
-            (
-                MAIN,
-                Action::Push(Operand::Root(1), Operand::Root(0)),
-                Told::NotEnabled,
-            ),
-            (MAIN, Action::Freeze(Operand::Int(7)), Told::NotEnabled),
-        ],
-    )
-}
-
-#[test]
-fn a_text_goes_to_another_ractor(rt: HostRuntime) -> Result<(), Fail> {
-    answers_in_turn(
-        &rt,
-        rt.alloc(),
-        TWO_RACTORS,
-        &[
-            (MAIN, Action::Alloc(NewObject::Text), Told::Done),
-            (OTHER, Action::Accept, Told::NotEnabled),
-            (MAIN, Action::Start, Told::Started(2)),
-            (MAIN, Action::Start, Told::TooManyRactors),
-            (MAIN, Action::Pack(Operand::Root(0)), Told::Done),
-            (MAIN, Action::Offer(OTHER), Told::Offered(0)),
-            (MAIN, Action::Freeze(Operand::Root(0)), Told::Done),
-            (OTHER, Action::Accept, Told::Done),
-            (OTHER, Action::Open, Told::Done),
-            (OTHER, Action::Append(Operand::Root(0), b'a'), Told::Done),
-        ],
-    )
-}
-
-#[test]
-fn fields_of_an_object_are_set(rt: HostRuntime) -> Result<(), Fail> {
-    answers_in_turn(
-        &rt,
-        rt.alloc(),
-        Limits::DEFAULT,
-        &[
-            (
-                MAIN,
-                Action::Alloc(NewObject::Object(ClassId::OBJECT)),
-                Told::Done,
-            ),
-            (
-                MAIN,
-                Action::SetField(Operand::Root(0), Sym(7), Operand::Int(1)),
-                Told::Done,
-            ),
-            (
-                MAIN,
-                Action::SetField(Operand::Root(0), Sym(7), Operand::Root(0)),
-                Told::Done,
-            ),
-            (
-                MAIN,
-                Action::Read(Operand::Root(0), Label::Field(Sym(7))),
-                Told::Done,
-            ),
-            (MAIN, Action::Freeze(Operand::Root(1)), Told::Done),
-            (
-                MAIN,
-                Action::SetField(Operand::Root(0), Sym(8), Operand::Root(0)),
-                Told::NotEnabled,
-            ),
-            (
-                MAIN,
-                Action::Read(Operand::Root(0), Label::Field(Sym(8))),
-                Told::NotEnabled,
-            ),
-        ],
-    )
-}
-
-#[test]
-fn an_element_that_goes_lets_the_others_close_up(rt: HostRuntime) -> Result<(), Fail> {
-    answers_in_turn(
-        &rt,
-        rt.alloc(),
-        Limits::DEFAULT,
-        &[
-            (MAIN, Action::Alloc(NewObject::Array), Told::Done),
-            (MAIN, Action::Alloc(NewObject::Text), Told::Done),
-            (
-                MAIN,
-                Action::Push(Operand::Root(0), Operand::Nil),
-                Told::Done,
-            ),
-            (
-                MAIN,
-                Action::Push(Operand::Root(0), Operand::Root(1)),
-                Told::Done,
-            ),
-            (MAIN, Action::Take(Operand::Root(0), 2), Told::NotEnabled),
-            (MAIN, Action::Take(Operand::Root(0), 0), Told::Done),
-            (
-                MAIN,
-                Action::Read(Operand::Root(0), Label::Place(1)),
-                Told::NotEnabled,
-            ),
-            (
-                MAIN,
-                Action::Read(Operand::Root(0), Label::Place(0)),
-                Told::Done,
-            ),
-            (MAIN, Action::Append(Operand::Root(2), b'a'), Told::Done),
-            (MAIN, Action::Clear(Operand::Root(2)), Told::Done),
-            (MAIN, Action::Take(Operand::Root(0), 0), Told::Done),
-            (MAIN, Action::Take(Operand::Root(0), 0), Told::NotEnabled),
-        ],
-    )
-}
-
-#[test]
-fn the_parts_and_a_field_of_an_exception_are_set(rt: HostRuntime) -> Result<(), Fail> {
-    answers_in_turn(
-        &rt,
-        rt.alloc(),
-        Limits::DEFAULT,
-        &[
-            (
-                MAIN,
-                Action::Alloc(NewObject::Exception(ClassId::EXCEPTION)),
-                Told::Done,
-            ),
-            (MAIN, Action::Alloc(NewObject::Text), Told::Done),
-            (
-                MAIN,
-                Action::SetRaised(Operand::Root(0), RaisedPart::Message, Operand::Root(1)),
-                Told::Done,
-            ),
-            (
-                MAIN,
-                Action::SetRaised(Operand::Root(0), RaisedPart::Cause, Operand::Root(0)),
-                Told::Done,
-            ),
-            (
-                MAIN,
-                Action::SetRaised(Operand::Root(0), RaisedPart::Ractor, Operand::Ractor(MAIN)),
-                Told::Done,
-            ),
-            (
-                MAIN,
-                Action::SetField(Operand::Root(0), Sym(7), Operand::Int(1)),
-                Told::Done,
-            ),
-            (
-                MAIN,
-                Action::SetField(Operand::Root(0), Sym(7), Operand::Root(1)),
-                Told::Done,
-            ),
-            (
-                MAIN,
-                Action::Read(Operand::Root(0), Label::Message),
-                Told::Done,
-            ),
-            (MAIN, Action::Append(Operand::Root(2), b'a'), Told::Done),
-            (
-                MAIN,
-                Action::Read(Operand::Root(0), Label::Cause),
-                Told::Done,
-            ),
-            (
-                MAIN,
-                Action::Read(Operand::Root(3), Label::Ractor),
-                Told::Done,
-            ),
-            (
-                MAIN,
-                Action::Append(Operand::Root(4), b'a'),
-                Told::NotEnabled,
-            ),
-        ],
-    )
+fn steps_answer_as_their_rows_of_two_ractors(rt: HostRuntime) -> Result<(), Fail> {
+    check(&rt, rt.alloc(), TWO_RACTORS, ROWS_OF_TWO)
 }

@@ -1,9 +1,7 @@
 //! What a ractor shows in its own port.
 
-use crate::expect::{MAIN, OTHER, answers_in_turn};
-use crate::model::Told;
+use crate::rows::check;
 use rr_base::Limits;
-use rr_world::{Action, LastKind, NewObject, Operand, Settled};
 use std::test::Fail;
 
 const FEW_EVENTS: Limits = Limits {
@@ -11,87 +9,68 @@ const FEW_EVENTS: Limits = Limits {
     ..Limits::DEFAULT
 };
 
+const ROWS_OF_FEW: &str = "\
+a port shows what it is given once
+1 start: Started(2)
+2 show: NotEnabled
+2 array
+2 pack r0
+2 show: Offered(0)
+2 settle 0: Settled(Shown)
+1 grab 2
+2 settle 0: Settled(Taken)
+2 withdraw 0: NotShown
+2 pack 7
+2 show: Offered(1)
+2 close_port 2: WasClosed(false)
+1 discard
+1 grab 2: EmptyAndClosed
+2 settle 1: Settled(Closed)
+2 withdraw 1
+2 last_value: Closed
+2 show: Closed
+2 show: HistoryFull";
+
+const ROWS: &str = "\
+a moved message that is not taken comes home
+1 text
+1 detach r0
+1 show: Offered(0)
+1 append r0: NotEnabled
+1 pack 7: NotEnabled
+1 put_back: NotEnabled
+1 withdraw 1: NotEnabled
+1 withdraw 0
+1 put_back
+1 append r0
+
+the home of what was taken goes
+1 start: Started(2)
+1 text
+1 detach r0
+1 show: Offered(0)
+2 grab 1
+2 open
+2 append r0
+1 pack 7: NotEnabled
+1 settle 1: Settled(Taken)
+1 pack 7: NotEnabled
+1 settle 0: Settled(Taken)
+1 pack 7
+1 discard
+1 text
+1 detach r1
+1 show: Offered(1)
+2 grab 1
+1 withdraw 1: NotShown
+1 pack 7";
+
 #[test]
-fn a_port_shows_what_it_is_given_once(rt: HostRuntime) -> Result<(), Fail> {
-    answers_in_turn(
-        &rt,
-        rt.alloc(),
-        FEW_EVENTS,
-        &[
-            (MAIN, Action::Start, Told::Started(2)),
-            (OTHER, Action::Show, Told::NotEnabled),
-            (OTHER, Action::Alloc(NewObject::Array), Told::Done),
-            (OTHER, Action::Pack(Operand::Root(0)), Told::Done),
-            (OTHER, Action::Show, Told::Offered(0)),
-            (OTHER, Action::Settle(0), Told::Settled(Settled::Shown)),
-            (MAIN, Action::Grab(OTHER), Told::Done),
-            (OTHER, Action::Settle(0), Told::Settled(Settled::Taken)),
-            (OTHER, Action::Withdraw(0), Told::NotShown),
-            (OTHER, Action::Pack(Operand::Int(7)), Told::Done),
-            (OTHER, Action::Show, Told::Offered(1)),
-            (OTHER, Action::ClosePort(OTHER), Told::WasClosed(false)),
-            (MAIN, Action::Discard, Told::Done),
-            (MAIN, Action::Grab(OTHER), Told::EmptyAndClosed),
-            (OTHER, Action::Settle(1), Told::Settled(Settled::Closed)),
-            (OTHER, Action::Withdraw(1), Told::Done),
-            (OTHER, Action::ShowLast(LastKind::Value), Told::Closed),
-            (OTHER, Action::Show, Told::Closed),
-            (OTHER, Action::Show, Told::HistoryFull),
-        ],
-    )
+fn what_is_shown_in_a_short_history(rt: HostRuntime) -> Result<(), Fail> {
+    check(&rt, rt.alloc(), FEW_EVENTS, ROWS_OF_FEW)
 }
 
 #[test]
-fn a_moved_message_that_is_not_taken_comes_home(rt: HostRuntime) -> Result<(), Fail> {
-    answers_in_turn(
-        &rt,
-        rt.alloc(),
-        Limits::DEFAULT,
-        &[
-            (MAIN, Action::Alloc(NewObject::Text), Told::Done),
-            (MAIN, Action::Detach(Operand::Root(0)), Told::Done),
-            (MAIN, Action::Show, Told::Offered(0)),
-            (
-                MAIN,
-                Action::Append(Operand::Root(0), b'a'),
-                Told::NotEnabled,
-            ),
-            (MAIN, Action::Pack(Operand::Int(7)), Told::NotEnabled),
-            (MAIN, Action::PutBack, Told::NotEnabled),
-            (MAIN, Action::Withdraw(1), Told::NotEnabled),
-            (MAIN, Action::Withdraw(0), Told::Done),
-            (MAIN, Action::PutBack, Told::Done),
-            (MAIN, Action::Append(Operand::Root(0), b'a'), Told::Done),
-        ],
-    )
-}
-
-#[test]
-fn the_home_of_what_was_taken_goes(rt: HostRuntime) -> Result<(), Fail> {
-    answers_in_turn(
-        &rt,
-        rt.alloc(),
-        Limits::DEFAULT,
-        &[
-            (MAIN, Action::Start, Told::Started(2)),
-            (MAIN, Action::Alloc(NewObject::Text), Told::Done),
-            (MAIN, Action::Detach(Operand::Root(0)), Told::Done),
-            (MAIN, Action::Show, Told::Offered(0)),
-            (OTHER, Action::Grab(MAIN), Told::Done),
-            (OTHER, Action::Open, Told::Done),
-            (OTHER, Action::Append(Operand::Root(0), b'a'), Told::Done),
-            (MAIN, Action::Pack(Operand::Int(7)), Told::NotEnabled),
-            (MAIN, Action::Settle(1), Told::Settled(Settled::Taken)),
-            (MAIN, Action::Pack(Operand::Int(7)), Told::NotEnabled),
-            (MAIN, Action::Settle(0), Told::Settled(Settled::Taken)),
-            (MAIN, Action::Pack(Operand::Int(7)), Told::Done),
-            (MAIN, Action::Discard, Told::Done),
-            (MAIN, Action::Alloc(NewObject::Text), Told::Done),
-            (MAIN, Action::Detach(Operand::Root(1)), Told::Done),
-            (MAIN, Action::Show, Told::Offered(1)),
-            (OTHER, Action::Grab(MAIN), Told::Done),
-            (MAIN, Action::Withdraw(1), Told::NotShown),
-            (MAIN, Action::Pack(Operand::Int(7)), Told::Done),
-        ],
-    )
+fn what_is_shown(rt: HostRuntime) -> Result<(), Fail> {
+    check(&rt, rt.alloc(), Limits::DEFAULT, ROWS)
 }
