@@ -1,17 +1,20 @@
 //! Objects that are written: a text that grows, an array that is emptied from its front, and hashes.
 
-use crate::clock::per;
+use crate::clock::Laps;
+use crate::pairs::{insert, look_up, new_hash};
 use rr_base::{Fault, RactorNo};
 use rr_share::plan;
-use rr_space::{Entries, Items, Key, Kind, Node, Published, Ref, Space};
+use rr_space::{Items, Kind, Node, Published, Ref, Space};
 use std::alloc::Global;
 use std::io;
-use std::time::Instant;
 
 const MANY: u32 = 1_000_000;
 
 /// Pairs that are deleted from the front of a hash, where each deletion moves those behind it.
 const FEWER: u32 = 20_000;
+
+/// Each key is one more than the one before.
+const IN_ORDER: u32 = 1;
 
 fn grow(space: &mut Space, text: Ref, count: u32) -> Result<(), Fault> {
     for _ in 0..count {
@@ -44,23 +47,6 @@ fn shift_all(space: &mut Space, array: Ref) -> u32 {
     shifted
 }
 
-fn new_hash(alloc: Global, space: &mut Space) -> Result<Ref, Fault> {
-    let entries = Box::new(alloc, Entries::new(alloc))?;
-    space.alloc(Node::Hash(entries))
-}
-
-/// Gives the hash the integers below `count` as keys.
-fn insert(space: &mut Space, hash: Ref, count: u32) -> Result<(), Fault> {
-    for k in 0..count {
-        let name = Ref::Int(i64::from(k));
-        let key = Key::Int(i64::from(k));
-        if space.can_write(hash) && space.kind_of(hash) == Kind::Hash && space.is_key(name, &key) {
-            space.write_pair(hash, key, name, Ref::Int(1))?;
-        }
-    }
-    Ok(())
-}
-
 fn delete_all(space: &mut Space, hash: Ref) -> u32 {
     let mut deleted = 0u32;
     for _ in 0..FEWER {
@@ -74,41 +60,35 @@ fn delete_all(space: &mut Space, hash: Ref) -> u32 {
     deleted
 }
 
-/// A published hash of a million integers.
-fn published(alloc: Global, space: &mut Space) -> Result<Option<Ref>, Fault> {
-    let hash = new_hash(alloc, space)?;
-    insert(space, hash, MANY)?;
+/// A space of one frozen hash, of a million integers.
+fn frozen_hash(alloc: Global) -> Result<Space, Fault> {
+    let mut space = Space::new(alloc, RactorNo(1), u32::MAX);
+    let hash = new_hash(alloc, &mut space)?;
+    insert(&mut space, hash, MANY, IN_ORDER)?;
     if space.can_freeze(hash) {
         space.freeze(hash);
     }
-    let slot = match hash {
-        Ref::Local(slot) if (slot as usize) < space.len() => slot,
-        _ => return Ok(None),
-    };
-    let plan = plan(alloc, space, Ref::Local(slot))?;
-    match plan.cluster.publish(alloc, 0) {
+    Ok(space)
+}
+
+/// What a copy of the frozen object in the first slot is known by, once it is published.
+fn published(alloc: Global, space: &Space) -> Result<Option<Ref>, Fault> {
+    if space.len() == 0 {
+        return Ok(None);
+    }
+    match plan(alloc, space, Ref::Local(0))?.cluster.publish(alloc, 0) {
         Ok(cluster) if cluster.len() == 1 => Ok(Some(Published { cluster }.at(0))),
         _ => Ok(None),
     }
-}
-
-fn look_up(space: &Space, hash: Ref) -> u32 {
-    let mut found = 0u32;
-    for k in 0..MANY {
-        if space.find(hash, &Key::Int(i64::from(k))).is_some() {
-            found = found.wrapping_add(1);
-        }
-    }
-    found
 }
 
 fn measure_text(rt: &HostRuntime, space: &mut Space, count: u32) -> io::Result<()> {
     let Ok(text) = space.alloc(Node::Text(Vec::new(rt.alloc()))) else {
         return println!(rt; "no memory");
     };
-    let begun = Instant::now(rt)?;
+    let mut laps = Laps::begin(rt)?;
     let done = grow(space, text, count).is_ok();
-    let each = per(begun.elapsed(rt)?, count);
+    let each = laps.each(rt, count)?;
     println!(rt; "a byte behind a text, {count} times: {done}, {each} ns each")
 }
 
@@ -116,12 +96,11 @@ fn measure_shift(rt: &HostRuntime, space: &mut Space) -> io::Result<()> {
     let Ok(array) = space.alloc(Node::Array(Items::new(rt.alloc()))) else {
         return println!(rt; "no memory");
     };
-    let begun = Instant::now(rt)?;
+    let mut laps = Laps::begin(rt)?;
     let done = fill(space, array).is_ok();
-    let pushing = per(begun.elapsed(rt)?, MANY);
-    let begun = Instant::now(rt)?;
+    let pushing = laps.each(rt, MANY)?;
     let shifted = shift_all(space, array);
-    let shifting = per(begun.elapsed(rt)?, MANY);
+    let shifting = laps.each(rt, MANY)?;
     println!(rt;
         "elements: {done}, pushed {pushing} ns each; shifted: {shifted}, {shifting} ns each"
     )
@@ -131,20 +110,23 @@ fn measure_deletes(rt: &HostRuntime, space: &mut Space) -> io::Result<()> {
     let Ok(hash) = new_hash(rt.alloc(), space) else {
         return println!(rt; "no memory");
     };
-    let inserted = insert(space, hash, FEWER).is_ok();
-    let begun = Instant::now(rt)?;
+    let inserted = insert(space, hash, FEWER, IN_ORDER).is_ok();
+    let mut laps = Laps::begin(rt)?;
     let deleted = delete_all(space, hash);
-    let each = per(begun.elapsed(rt)?, FEWER);
+    let each = laps.each(rt, FEWER)?;
     println!(rt; "pairs: {inserted}, deleted from the front: {deleted}, {each} ns each")
 }
 
-fn measure_published(rt: &HostRuntime, space: &mut Space) -> io::Result<()> {
-    let Ok(Some(hash)) = published(rt.alloc(), space) else {
+fn measure_published(rt: &HostRuntime) -> io::Result<()> {
+    let Ok(space) = frozen_hash(rt.alloc()) else {
+        return println!(rt; "no hash");
+    };
+    let Ok(Some(hash)) = published(rt.alloc(), &space) else {
         return println!(rt; "no published hash");
     };
-    let begun = Instant::now(rt)?;
-    let found = look_up(space, hash);
-    let each = per(begun.elapsed(rt)?, MANY);
+    let mut laps = Laps::begin(rt)?;
+    let found = look_up(&space, hash, MANY, IN_ORDER);
+    let each = laps.each(rt, MANY)?;
     println!(rt; "keys of a published hash: {found} found, {each} ns each")
 }
 
@@ -154,5 +136,5 @@ pub fn measure(rt: &HostRuntime) -> io::Result<()> {
     measure_text(rt, &mut space, 10_000_000)?;
     measure_shift(rt, &mut space)?;
     measure_deletes(rt, &mut space)?;
-    measure_published(rt, &mut space)
+    measure_published(rt)
 }

@@ -1,15 +1,12 @@
 //! Messages on their way.
 
-ghost use Rattle.std.specs.Prelude.{length};
-ghost use Rattle.rr_space.specs.Parts.{IsWithin};
-
+use crate::clock::Laps;
 use rr_base::{Fault, RactorNo};
 use rr_copy::{can_pack, open, pack_copy};
 use rr_inbox::{Front, InboxState};
 use rr_space::{Node, Ref, Space};
 use std::alloc::Global;
 use std::io;
-use std::time::Instant;
 
 const COUNT: u32 = 1_000_000;
 
@@ -33,23 +30,18 @@ fn pass(alloc: Global, space: &Space) -> Result<u32, Fault> {
 
 pub fn measure_inbox(rt: &HostRuntime) -> io::Result<()> {
     let space = Space::new(rt.alloc(), RactorNo(1), 10);
-    let begun = Instant::now(rt)?;
+    let mut laps = Laps::begin(rt)?;
     let passed = pass(rt.alloc(), &space).unwrap_or(0);
-    let each = begun.elapsed(rt)?.as_nanos() / u128::from(COUNT);
+    let each = laps.each(rt, COUNT)?;
     println!(rt; "{passed} messages, {each} ns each")
 }
 
-fn bytes(alloc: Global) -> Result<Vec<u8>, Fault> {
-    let mut bytes = Vec::with_capacity(alloc, MEBIBYTE)?;
-    for _ in 0..MEBIBYTE {
-        bytes.push(120)?;
+/// The text in the first slot is copied elsewhere.
+fn carry(alloc: Global, from: &Space, to: &mut Space) -> Result<bool, Fault> {
+    let text = Ref::Local(0);
+    if from.len() == 0 {
+        return Ok(false);
     }
-    Ok(bytes)
-}
-
-fn carry(alloc: Global, from: &Space, text: Ref, to: &mut Space) -> Result<bool, Fault>
-    requires { IsWithin (length from.now.slots) text }
-{
     if !can_pack(alloc, from, text)? {
         return Ok(false);
     }
@@ -57,21 +49,24 @@ fn carry(alloc: Global, from: &Space, text: Ref, to: &mut Space) -> Result<bool,
     Ok(open(to, message).is_ok())
 }
 
+/// How many bytes one copy has, and how many microseconds it takes.
+fn copy(rt: &HostRuntime, bytes: &[u8]) -> io::Result<(usize, u128)> {
+    let mut laps = Laps::begin(rt)?;
+    let copied = bytes.to_vec(rt.alloc())?.len();
+    Ok((copied, laps.each(rt, 1_000)?))
+}
+
 pub fn measure_text(rt: &HostRuntime) -> io::Result<()> {
-    let Ok(bytes) = bytes(rt.alloc()) else {
-        return println!(rt; "no memory");
-    };
-    let begun = Instant::now(rt)?;
-    let copied = bytes.as_slice().to_vec(rt.alloc())?.len();
-    let copying = begun.elapsed(rt)?.as_micros();
+    let bytes = Vec::from_elem(rt.alloc(), b'x', MEBIBYTE)?;
+    let (copied, copying) = copy(rt, bytes.as_slice())?;
     let mut from = Space::new(rt.alloc(), RactorNo(1), 10);
     let mut to = Space::new(rt.alloc(), RactorNo(2), 10);
-    let Ok(text) = from.alloc(Node::Text(bytes)) else {
+    if from.alloc(Node::Text(bytes)).is_err() {
         return println!(rt; "no memory");
-    };
-    let begun = Instant::now(rt)?;
-    let arrived = carry(rt.alloc(), &from, text, &mut to).unwrap_or(false);
-    let carrying = begun.elapsed(rt)?.as_micros();
+    }
+    let mut laps = Laps::begin(rt)?;
+    let arrived = carry(rt.alloc(), &from, &mut to).unwrap_or(false);
+    let carrying = laps.each(rt, 1_000)?;
     println!(rt;
         "one copy of {copied} bytes: {copying} us; packed and opened: {carrying} us, arrived: {arrived}"
     )

@@ -7,11 +7,25 @@ mod clock;
 mod moves;
 mod names;
 mod objects;
+mod pairs;
+mod reading;
 mod scripts;
 mod tokens;
 mod world;
 
 use std::{env, io};
+
+/// The words that ask for a measurement, and what each measures.
+const MEASUREMENTS: &str = "\
+script FILE: its tokens, its tree, its steps
+tokens FILE: its tokens alone
+names FILE: the outer names of its last block
+objects: ten million arrays of two integers, made and read
+changes: a text that grows, an array that is shifted, pairs deleted, a published hash
+moves: a million arrays and a hundred mebibytes of texts, moved
+inbox: a million integers offered and accepted
+text: a text of a mebibyte, packed and opened, beside one copy of its bytes
+world: a million steps of two hundred ractors";
 
 fn main(rt: HostRuntime) -> io::Result<()> {
     let words: Vec<String> = env::args(&rt)?.collect(rt.alloc())?;
@@ -33,20 +47,6 @@ fn measure_objects(rt: &HostRuntime, name: &str) -> io::Result<()> {
         "objects" => objects::measure(rt),
         "changes" => changes::measure(rt),
         "moves" => moves::measure(rt),
-        _ => explain(rt),
+        _ => println!(rt; "{}", MEASUREMENTS),
     }
-}
-
-fn explain(rt: &HostRuntime) -> io::Result<()> {
-    println!(rt; "script FILE: its tokens, its tree, its steps")?;
-    println!(rt; "tokens FILE: its tokens alone")?;
-    println!(rt; "names FILE: the outer names of its last block")?;
-    println!(rt; "objects: ten million arrays of two integers, made and read")?;
-    println!(rt;
-        "changes: a text that grows, an array that is shifted, pairs deleted, a published hash"
-    )?;
-    println!(rt; "moves: a million arrays and a hundred mebibytes of texts, moved")?;
-    println!(rt; "inbox: a million integers offered and accepted")?;
-    println!(rt; "text: a text of a mebibyte, packed and opened, beside one copy of its bytes")?;
-    println!(rt; "world: a million steps of two hundred ractors")
 }

@@ -1,13 +1,12 @@
 //! The outer names of a script's last block.
 
+use crate::clock::Laps;
+use crate::reading::{Script, read};
 use rr_base::{Fault, Sym};
 use rr_isolation::outer_names;
-use rr_lexer::lex;
-use rr_parser::parse;
 use rr_tree::{BlockId, Node, Program};
 use std::alloc::Global;
-use std::time::Instant;
-use std::{fs, io};
+use std::io;
 
 /// How often the names are looked for.
 const ROUNDS: u32 = 5;
@@ -32,22 +31,15 @@ fn look(alloc: Global, program: &Program, block: BlockId) -> Result<Vec<Sym>, Fa
 }
 
 pub fn measure(rt: &HostRuntime, file: &str) -> io::Result<()> {
-    let source = fs::read(rt, file)?;
-    let Ok(tokens) = lex(rt.alloc(), source.as_slice()) else {
-        return println!(rt; "refused by the lexer");
-    };
-    let Ok(program) = parse(rt.alloc(), source.as_slice(), tokens.as_slice()) else {
-        return println!(rt; "refused by the parser");
+    let Some(Script { program, .. }) = read(rt, file)? else {
+        return Ok(());
     };
     let (nodes, block) = (program.nodes.len(), last_block(&program));
-    let begun = Instant::now(rt)?;
-    let answer = look(rt.alloc(), &program, block);
-    let each = begun.elapsed(rt)?.as_millis() / u128::from(ROUNDS);
-    match answer {
-        Ok(names) => {
-            let count = names.len();
-            println!(rt; "{nodes} nodes, {count} outer names: {each} ms")
-        }
-        Err(_) => println!(rt; "not enough memory"),
-    }
+    let mut laps = Laps::begin(rt)?;
+    let Ok(names) = look(rt.alloc(), &program, block) else {
+        return println!(rt; "not enough memory");
+    };
+    let each = laps.each(rt, ROUNDS)? / 1_000_000;
+    let count = names.len();
+    println!(rt; "{nodes} nodes, {count} outer names: {each} ms")
 }

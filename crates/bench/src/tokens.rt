@@ -1,14 +1,14 @@
 //! A source's tokens.
 
+use crate::clock::Laps;
 use rr_lexer::lex;
-use std::time::Instant;
 use std::{fs, io};
 
 pub fn measure(rt: &HostRuntime, file: &str) -> io::Result<()> {
     let source = fs::read(rt, file)?;
-    let begun = Instant::now(rt)?;
+    let mut laps = Laps::begin(rt)?;
     let answer = lex(rt.alloc(), source.as_slice());
-    let lexed = begun.elapsed(rt)?.as_millis();
+    let lexed = laps.each(rt, 1_000_000)?;
     let bytes = source.len();
     match answer {
         Ok(tokens) => {

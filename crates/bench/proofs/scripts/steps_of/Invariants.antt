@@ -1,7 +1,0 @@
--- What the machine holds leads somewhere.
-use Rattle.std.proofs.Common.{length}
-use Rattle.rr_eval.specs.Within.{AreWithin}
-use Rattle.bench.proofs.scripts.steps_of.Given as goal
-
-abbrev pub invariant-loop-turn : goal.invariant-loop-turn
-invariant-loop-turn l = AreWithin (length l.space.slots) l.machine
