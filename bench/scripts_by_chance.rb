@@ -16,7 +16,7 @@ require "tempfile"
 class Script
   NAMES = %w[a b c].freeze
   WRONG = ["", " TypeError", " StandardError", " ZeroDivisionError, NoMethodError", " ArgumentError"].freeze
-  RAISED = ['"t"', "ArgumentError", 'TypeError, "u"', 'ZeroDivisionError.new("z")', "StopIteration", "Ractor::ClosedError"].freeze
+  RAISED = ['"t"', "ArgumentError", 'TypeError, "u"', 'ZeroDivisionError.new("z")', "StopIteration", "Ractor::ClosedError, \"v\""].freeze
   PLAIN = %w[size to_s inspect nil? class abs even? zero? first last empty? keys values sum frozen? dup freeze length odd? shift pop].freeze
   ONE = %w[include? push equal? is_a? key? delete join].freeze
   INFIX = %w[+ - * / % < > <= >= == != <=> <<].freeze
@@ -108,7 +108,12 @@ class Script
     yields && likely?(0.85) ? "#{name}(#{arguments}) #{block}" : "#{name}(#{arguments})"
   end
 
-  def iteration = likely?(0.9) ? "#{pick(*ITERATIONS)} #{block}" : "loop { #{body_of('')}; break #{atom} }"
+  def iteration = likely?(0.9) ? "#{pick(*ITERATIONS)} #{block}" : counted_forever
+
+  def counted_forever
+    counter = "i#{@counters += 1}"
+    "(#{counter} = 0; loop { #{counter} += 1; break #{atom} if #{counter} > 2; #{body_of('')} })"
+  end
 
   def block
     names = pick("", "x", "x, y")

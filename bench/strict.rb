@@ -63,6 +63,10 @@ class Hash
   prepend Strict
 end
 
+class Ractor::ClosedError
+  remove_method :message
+end
+
 module Kernel
   undef_method :<=>
   alias pf_is_a is_a?
