@@ -1,10 +1,11 @@
 -- A draft is filled: what is to be written is what was written, and then what is left.
-use Rattle.std.proofs.Common.{◌≡◌, ℕ, zero, suc, ◌+◌, ◌<◌, ◌≤◌, List, [], ◌∷◌, ◌++◌, take, drop, get_or, length, Option, Vec, refl, sym, ap, ◌∙◌, subst, arith}
+use Rattle.std.proofs.Common.{◌≡◌, ℕ, zero, suc, ◌+◌, ◌<◌, ◌≤◌, List, [], ◌∷◌, ◌++◌, take, drop, get_or, length, Option, Vec, refl, sym, ap, ◌∙◌, subst, arith, None}
+use Rattle.std.specs.List.{All}
 use Rattle.std.specs.Option.{option_map}
 use Rattle.std.specs.declared.alloc.Global.{Global}
 use Rattle.std.proofs.Math.Seq.{drop-cons}
 use Rattle.std.proofs.lemmas.List.{append_assoc}
-use Rattle.rr_text.specs.Forms.{answered, first_answer, later_answers, filled}
+use Rattle.rr_text.specs.Forms.{Piece, Byte, Ask, answered, first_answer, later_answers, filled}
 use Rattle.rr_text.specs.Ways.{way_of}
 use Rattle.rr_text.specs.Asking.{answers_of}
 use Rattle.rr_text.specs.Drafts.{ask_of, pieces_from, ArePlacedFrom}
@@ -54,3 +55,13 @@ module _ (asks : List Asked) (bytes : List ℕ) (answers : List (Option (List �
   last_filled text none =
       ap (λ (xs : List Asked). text ++ filled (pieces_from place xs bytes) (drop k answers)) none
       ∙ ap (λ (xs : List ℕ). text ++ xs) (filled_spelled (drop place bytes) (drop k answers))
+
+-- answers that are no texts are as good as none
+pub no_texts : (ps : List Piece) (answers : List (Option (List ℕ))) → All (λ a. a ≡ None) answers → filled ps answers ≡ filled ps []
+no_texts [] answers all = refl
+no_texts (Byte b ∷ ps) answers all = ap (λ (s : List ℕ). b ∷ s) (no_texts ps answers all)
+no_texts (Ask i unless ∷ ps) [] all = refl
+no_texts (Ask i unless ∷ ps) (a ∷ answers) all =
+    let none : a ≡ None = all 0 None (omega arith) in
+    let others : All (λ b. b ≡ None) answers = λ k d lt. all (suc k) d (omega (arith, lt)) in
+    ap (λ (x : Option (List ℕ)). answered i.0 unless x ++ filled ps answers) none ∙ ap (λ (s : List ℕ). unless ++ s) (no_texts ps answers others)

@@ -32,4 +32,11 @@ rows_compute = record {
   joined_too_deep = refl;
   joined_hash_too_deep = refl;
   joined_shell = refl;
+  asked = refl;
+  asked_lined = refl;
+  asked_inside = refl;
+  asked_joined = refl;
+  asked_too_deep = refl;
+  answered_lined = refl;
+  answered_no_text = refl;
 }

@@ -1,9 +1,9 @@
 -- Worked rows of printed texts.
-use Rattle.std.specs.Prelude.{◌≡◌, ℕ, true, false, List, [], ◌∷◌, ◌++◌, pos, codes, slice_get, None}
+use Rattle.std.specs.Prelude.{◌≡◌, ℕ, true, false, List, [], ◌∷◌, ◌++◌, pos, codes, slice_get, Some, None}
 use Rattle.rr_space.specs.Graph.{Own, Published, Nil, Truth, Integer, SymbolNo, ClassNo, RactorNo, Value, Plain, At, Label, Place, KeyAt, ValueAt, Message, Cause, Ractor, Kind, text, array, hash, plain, exception, shell, Object, Graph}
-use Rattle.rr_text.specs.Walk.{Walked, Wrote, Deep, Circular, Shell}
-use Rattle.rr_text.specs.Forms.{Names, Way, spoken, inspected, lines, printed}
-use Rattle.rr_text.specs.Joining.{joined}
+use Rattle.rr_text.specs.Walk.{Outcome, Walked, Wrote, Deep, Circular, Shell}
+use Rattle.rr_text.specs.Forms.{Names, Way, spoken, inspected, lines, line_end, Piece, Ask, spelled, filled, pieced, printed}
+use Rattle.rr_text.specs.Joining.{joint, joined}
 
 abbrev pub row_names : Names
 row_names = record { symbol = λ s. codes "name"; class = λ c. codes "Foo" }
@@ -43,6 +43,9 @@ row_objects =
     (of_kind hash ((KeyAt 0, Plain Nil) ∷ (ValueAt 0, At (Own 14)) ∷ [])) ∷
     -- 15: [{nil => itself}]
     (of_kind array ((Place 0, At (Own 14)) ∷ [])) ∷
+    -- 16: [the plain object, {nil => the plain object}]
+    (of_kind array ((Place 0, At (Own 12)) ∷ (Place 1, At (Own 17)) ∷ [])) ∷
+    (of_kind hash ((KeyAt 0, Plain Nil) ∷ (ValueAt 0, At (Own 12)) ∷ [])) ∷
     []
 
 abbrev pub row_graph : Graph
@@ -56,6 +59,17 @@ Row levels way n w = printed row_names row_graph levels way (At (Own n)) ≡ w
 -- an array of that number of objects, with so many levels, is joined so
 abbrev pub Joins : ℕ → List ℕ → ℕ → Walked → Type 0
 Joins levels separator n w = joined row_names row_graph levels separator (At (Own n)) ≡ w
+
+-- a value of that number of objects has these pieces, and an array of that number is joined of these, where every class is asked
+abbrev pub Asks : ℕ → Way → ℕ → Outcome Piece → Type 0
+Asks levels way n w = pieced row_names row_graph (λ c. true) levels way (At (Own n)) ≡ w
+
+abbrev pub AsksJoined : ℕ → List ℕ → ℕ → Outcome Piece → Type 0
+AsksJoined levels separator n w = joint row_names row_graph (λ c. true) levels separator (At (Own n)) ≡ w
+
+-- the plain object, asked
+abbrev pub row_ask : Way → Piece
+row_ask way = Ask (way, At (Own 12)) (codes "#<Foo>" ++ line_end way)
 
 pub record AllRows : Type 0 where
   pub itself : Row 3 inspected 0 (Wrote (codes "[1, [...]]"))
@@ -82,3 +96,10 @@ pub record AllRows : Type 0 where
   pub joined_too_deep : Joins 1 (codes "-") 3 Deep
   pub joined_hash_too_deep : Joins 1 (codes "-") 15 Deep
   pub joined_shell : Joins 1 (codes "-") 7 Shell
+  pub asked : Asks 0 spoken 12 (Wrote (row_ask spoken ∷ []))
+  pub asked_lined : Asks 3 lines 16 (Wrote (row_ask lines ∷ spelled (codes "{nil => #<Foo>}\n")))
+  pub asked_inside : Asks 3 spoken 16 (Wrote (spelled (codes "[#<Foo>, {nil => #<Foo>}]")))
+  pub asked_joined : AsksJoined 3 (codes "-") 16 (Wrote (row_ask spoken ∷ spelled (codes "-{nil => #<Foo>}")))
+  pub asked_too_deep : Asks 1 lines 16 Deep
+  pub answered_lined : filled (row_ask lines ∷ row_ask lines ∷ []) (Some (codes "a") ∷ Some (codes "b\n") ∷ []) ≡ codes "a\nb\n"
+  pub answered_no_text : filled (row_ask spoken ∷ row_ask spoken ∷ row_ask spoken ∷ []) (None ∷ Some (codes "a") ∷ []) ≡ codes "#<Foo>a#<Foo>"

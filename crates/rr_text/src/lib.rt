@@ -28,7 +28,7 @@ pub use comparing::{compare, compare_within};
 pub use drafts::{Draft, JoinedPieces, Pieces};
 pub use form::{Form, Text};
 pub use joining::{Joined, join, join_pieces, join_pieces_within, join_within};
-pub use laws::{shown_by_rows, unanswered_is_joint, unanswered_is_text};
+pub use laws::{no_text_is_no_answer, shown_by_rows, unanswered_is_joint, unanswered_is_text};
 pub use names::{class_name, symbol_name};
 pub use pairs::pair_with;
 pub use printing::{pieces, pieces_within, text, text_within};
