@@ -101,7 +101,18 @@ variables after an exception out of a block|def f; y = 1; yield; end; x = 1; beg
 blocks in one another to the limit|def f; yield; end; def g; f { g }; end; begin; g; rescue SystemStackError => e; puts e.message; end^n|stack level too deep^n|
 values that were held are dropped by break|def f; yield; end; p [1, (f { [2, [3, (break 4)]] }), 5]^n|[1, 4, 5]^n|
 a call with a block of a method that is missing|begin; g { 1 }; rescue => e; puts e.message; end^n|not here yet^n|
-one array for two parameters is not here yet|def f; yield [1, 2]; end; begin; f { ^px, y^p p x }; rescue => e; puts e.message; end^n|not here yet^n|";
+one array for two parameters|def f; yield [1, 2]; end; f { ^px, y^p p x, y }^n|1^n2^n|
+a short array for two parameters|def f; yield [1]; yield []; end; f { ^px, y^p p x, y }^n|1^nnil^nnil^nnil^n|
+a long array for two parameters|def f; yield [1, 2, 3]; end; f { ^px, y^p p x, y }^n|1^n2^n|
+an array in an array for two parameters|def f; yield [[1, 2], \"a\"]; end; f { ^px, y^p p x, y }^n|[1, 2]^n\"a\"^n|
+one array for one parameter stays|def f; yield [1, 2]; end; f { ^px^p p x }^n|[1, 2]^n|
+no array for two parameters|def f; yield 1; yield nil; yield({a: 1}); end; f { ^px, y^p p x, y }^n|1^nnil^nnil^nnil^n{a: 1}^nnil^n|
+a changed array for two parameters|def f(a); yield a; a; end; p(f([1, 2]) { ^px, y^p x = 5 })^n|[1, 2]^n|
+each over pairs|[[1, 2], [3, 4]].each { ^px, y^p print x, y }^n|1234|
+map over pairs|p [[1, 2], [3, 4], [5]].map { ^px, y^p [y, x] }^n|[[2, 1], [4, 3], [nil, 5]]^n|
+select over pairs|p [[1, 2], [4, 3]].select { ^px, y^p x > y }^n|[[4, 3]]^n|
+each_with_index over pairs|[[1, 2]].each_with_index { ^px, i, z^p p x, i, z }^n|[1, 2]^n0^nnil^n|
+pairs to the limit of calls|def f; [[1, 2]].each { ^px, y^p f }; end; begin; f; rescue SystemStackError => e; puts e.message; end^n|stack level too deep^n|";
 
 #[test]
 fn blocks_are_called(rt: HostRuntime) -> Result<(), Fail> {

@@ -8,6 +8,7 @@ pub mod Unwind
 pub mod Entered
 pub mod Bytes
 pub mod Printed
+pub mod Keeping
 pub mod Objects
 pub mod Running
 pub mod Changing
@@ -23,5 +24,6 @@ pub mod Literals
 pub mod Defining
 pub mod Invoking
 pub mod Rounds
+pub mod Spreads
 pub mod Raises
 pub mod Trying

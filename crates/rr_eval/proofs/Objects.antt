@@ -1,31 +1,23 @@
 -- An evaluation takes no object away.
-use Rattle.std.proofs.Common.{◌≡◌, nat_eq, nat_lt, slice_index_or, ap, sym, subst, if◌then◌else◌, ◌≤◌, ◌-◌, ℕ, zero, suc, Bool, arith, List, [], ◌∷◌, ◌++◌, length, length-append, reverse, Option, Some, None, Result, Ok, Err, true, false}
+use Rattle.std.proofs.Common.{◌≡◌, nat_eq, slice_index_or, ap, sym, subst, ◌≤◌, ◌-◌, ℕ, zero, suc, Bool, arith, List, [], ◌∷◌, ◌++◌, length, reverse, Option, Some, None, true, false}
 use Rattle.std.specs.Prelude.{codes}
 use Rattle.rr_base.specs.Classes.{class_id}
+use Rattle.rr_base.specs.ClassNames.{class_named}
 use Rattle.rr_base.specs.declared.class.BuiltInClass.{BuiltInClass}
 use Rattle.rr_base.specs.declared.name.Sym.{Sym}
-use Rattle.rr_base.specs.declared.name.TheConstants.ClassId.{OBJECT, RACTOR, RUNTIME_ERROR, STANDARD_ERROR}
+use Rattle.rr_base.specs.declared.name.TheConstants.ClassId.{RACTOR, STANDARD_ERROR}
 use Rattle.rr_tree.specs.declared.node.Path.TheVariants.{Plain, Ractor as InRactor}
 use Rattle.rr_base.specs.declared.name.ClassId.{ClassId}
-use Rattle.rr_space.specs.Tables.{Table, Here}
-use Rattle.rr_space.specs.Lookups.{text_object, frozen_text}
+use Rattle.rr_space.specs.Tables.{Table}
 use Rattle.rr_space.specs.declared.refer.Ref.{Ref}
 use Rattle.rr_space.specs.declared.refer.Ref.TheVariants.{Int, Local}
 use Rattle.rr_space.specs.declared.refer.Ref.TheVariants as refs
 use Rattle.rr_builtin.specs.Objects.{is_truthy}
 use Rattle.rr_eval.specs.Values.{goes_on}
 use Rattle.rr_tree.specs.Tree.{tree_at, Tree, nil, truth, int, text, symbol, class_named as class_tree, constant, array, hash, pairs, interpolation, send, index, set_index, append, local, bare, call, logical_and, logical_or, logical_not, negate, binary, assign, choose, repeat, sequence, with_block, block, yield, break, next as next_tree, return, rescue, ensure, operator_assign, or_assign, and_assign}
-use Rattle.rr_frames.specs.Frames.{Stack, list_of}
-use Rattle.std.specs.Option.{option_map, is_some}
-use Rattle.rr_base.specs.ClassNames.{class_named}
-use Rattle.rr_frames.specs.declared.activation.Given.{Given}
-use Rattle.rr_frames.specs.declared.activation.Given.TheVariants as given
-use Rattle.rr_frames.specs.declared.activation.Shape.{Shape}
-use Rattle.rr_eval.specs.declared.call_stack.Entry.{Entry}
-use Rattle.rr_eval.specs.declared.call_stack.Entry.TheVariants.{OfMethod, OfBlock}
+use Rattle.std.specs.Option.{option_map}
 use Rattle.rr_eval.specs.declared.call_stack.Variable.{Variable}
-use Rattle.rr_eval.specs.Variables.{read_variable, top}
-use Rattle.rr_eval.specs.Blocks.{spreads, shape_in, tree_in, called_as}
+use Rattle.rr_eval.specs.Variables.{read_variable}
 use Rattle.rr_tree.specs.declared.node.BinaryOperator.{BinaryOperator}
 use Rattle.rr_tree.specs.declared.program.Program.{Program}
 use Rattle.rr_eval.specs.declared.problem.Answer.{Answer}
@@ -36,214 +28,32 @@ use Rattle.rr_eval.specs.declared.call.Target.TheVariants.{Do as DoTarget, Call,
 use Rattle.rr_eval.specs.declared.call.Task.{Task}
 use Rattle.rr_eval.specs.declared.call.Task.TheVariants.{MakeArray, MakeText, MakeHash}
 use Rattle.rr_eval.specs.declared.problem.Response.{Response}
-use Rattle.rr_eval.specs.declared.problem.Response.TheVariants.{Gives, Throws, Fails}
 use Rattle.rr_eval.specs.declared.problem.Problem.{Problem}
-use Rattle.rr_eval.specs.declared.problem.Problem.TheVariants.{BuiltIn, MissingMethod, MissingName, MissingConstant, NotRaisable, Unhandled, NoBlock, Jump, NotHere}
-use Rattle.rr_builtin.specs.declared.problem.Problem.TheVariants.{Count, TooDeep, Moved, WrongType}
-use Rattle.rr_builtin.specs.declared.problem.Receiver.TheVariants.{Instance}
+use Rattle.rr_eval.specs.declared.problem.Problem.TheVariants.{BuiltIn, MissingName, MissingConstant, NotHere}
+use Rattle.rr_builtin.specs.declared.problem.Problem.TheVariants.{WrongType}
 use Rattle.rr_eval.specs.declared.frame.Frame.{Frame}
 use Rattle.rr_eval.specs.declared.frame.Frame.TheVariants.{Not, Negation, And, Or, Left, Right, Store, Branch, Condition, Body, Break, Next, Return, Back, Past, Rest, Argument, Key, Value, Element, Rescue, Class, Handling, Ensure, Kept, Round, Turned}
-use Rattle.rr_eval.specs.Script.{Memory, State, Script, Iterated, Ret, Part, TreePart, TurnPart, Evaluate, Go, See, Do, Ask, Asked, Reply, World, Outcome, Ended, Spent, Waits, Evaluation, run, after, taken, objects_of}
+use Rattle.rr_eval.specs.Script.{Memory, State, Script, Ret, Part, TreePart, TurnPart, Evaluate, Go, See, Do, Ask, Asked, Reply, World, Outcome, Ended, Spent, Waits, Evaluation, run, after, taken, objects_of}
 use Rattle.rr_eval.specs.Requests.{Course, Adds, AddsTo, asking}
 use Rattle.rr_base.specs.declared.fault.Fault.{Fault}
 use Rattle.rr_eval.specs.View.{View}
 use Rattle.rr_eval.specs.Acts.{Passes}
 use Rattle.rr_eval.specs.Turns.{context_of, code_of, state_of, after_script, asking_then}
 use Rattle.rr_builtin.specs.Acts.{with_text}
-use Rattle.rr_eval.specs.Operators.{make, integers, opposite}
-use Rattle.rr_eval.specs.Rules.{Context, items, throw, raise, settled, on_value, with_value, in_loop, turn_rule, on_table, operation, negation, statements, values, pair_parts, finish, printing, raises, awaited, bare_rule, constant_rule, not_here, call_rule, block_call_rule, block_rule, asks_block, own_rule, framed, running, left_by, yield_to, is_outside, return_rule, back, past, variable_of, update_rule, or_rule, and_rule, write, rule, part_rule, loops, opened, block_send_rule, eval}
+use Rattle.rr_eval.specs.Rules.{Context, items, throw, raise, settled, with_value, turn_rule, on_table, statements, values, pair_parts, finish, printing, raises, awaited, bare_rule, constant_rule, not_here, call_rule, block_call_rule, block_rule, asks_block, own_rule, running, variable_of, update_rule, or_rule, and_rule, write, rule, part_rule, loops, block_send_rule, eval}
 use Rattle.rr_eval.specs.Methods.{Method, own_method}
 use Rattle.rr_builtin.specs.Iterations.{iteration_named}
 use Rattle.rr_builtin.specs.declared.iterations.Iteration.{Iteration}
-use Rattle.rr_builtin.specs.declared.iterations.Iteration.TheVariants as iterations
-use Rattle.rr_eval.specs.declared.iterating.Ahead.{Ahead}
-use Rattle.rr_eval.specs.declared.iterating.Ahead.TheVariants.{Another, Finished, Stopped}
-use Rattle.rr_eval.specs.declared.iterating.Visits.{Visits}
-use Rattle.rr_eval.specs.declared.iterating.Visits.TheVariants.{Times, Upto, Elements, Nothing, Forever}
-use Rattle.rr_eval.specs.Iterating.{ahead, kept, finished, turn_of, taken_up, continued, continued_by, continued_with, turn_ended, turned, beginning, begun, iteration_rule}
-use Rattle.rr_eval.specs.Raising.{message_or_nil, raise_new, raise_kind, raise_again, raise_rule}
+use Rattle.rr_eval.specs.declared.iterating.Visits.TheVariants.{Forever}
+use Rattle.rr_eval.specs.Iterating.{kept, iteration_rule}
 use Rattle.rr_eval.specs.Rescuing.{class_parts, taken_by, with_caught, fitted, tried_classes, tried_clause, tried, else_rule, rescue_rule, ensure_rule, target_part}
 use Rattle.rr_tree.specs.Ancestors.{descends}
 use Rattle.rr_space.specs.Kinds.{class_at}
-use Rattle.rr_builtin.specs.News.{is_exception_class}
-use Rattle.rr_space.specs.Kinds.{kind_at}
-use Rattle.rr_space.specs.declared.kind.Kind.{Kind}
-use Rattle.rr_space.specs.declared.kind.Kind.TheVariants as kinds
 use Rattle.rr_tree.specs.Nodes.{trees_before}
 use Rattle.rr_eval.specs.Messages.{message, exception_class}
-use Rattle.rr_eval.specs.Exceptions.{exception_object, with_exception}
+use Rattle.rr_eval.specs.Exceptions.{with_exception}
 use Rattle.rr_eval.specs.Frames.{Code, evaluates, runs_in, iterated, taker, behind_class, resumed, stand_of, below_of, unwind}
-
--- the objects of a table
-abbrev count : Table → ℕ
-count t = length t.slots
-
-make_keeps : (frozen : Bool) (bytes : List ℕ) (t : Table) → count t ≤ count (make frozen bytes t).1
-make_keeps true bytes t = omega (arith, length-append t.slots (Here (frozen_text bytes) ∷ []))
-make_keeps false bytes t = omega (arith, length-append t.slots (Here (text_object bytes) ∷ []))
-
--- a script whose acts take no object away
-abbrev Keeps : Script → Type 0
-Keeps (Ret a) = Unit {0}
-Keeps (Evaluate part next) = (a : Answer) → Keeps (next a)
-Keeps (See look) = (m : Memory) → Keeps (look m)
-Keeps (Do act next) = ((m : Memory) → count m.table ≤ count (act m).table) × Keeps next
-Keeps (Ask q next) = (r : Response) → Keeps (next r)
-
-on_value_keeps : (next : Ref → Script) → ((v : Ref) → Keeps (next v)) → (a : Answer) → Keeps (on_value next a)
-on_value_keeps next h (Gave v) = h v
-on_value_keeps next h (Raised e) = tt
-on_value_keeps next h (Broke v) = tt
-on_value_keeps next h (Done v) = tt
-on_value_keeps next h (Returned v) = tt
-on_value_keeps next h (Ends number v) = tt
-
-loop_keeps : (again : Script) (next : Ref → Script) → Keeps again → ((v : Ref) → Keeps (next v)) → (a : Answer) → Keeps (in_loop again next a)
-loop_keeps again next kept h (Gave v) = h v
-loop_keeps again next kept h (Raised e) = tt
-loop_keeps again next kept h (Broke v) = tt
-loop_keeps again next kept h (Done v) = kept
-loop_keeps again next kept h (Returned v) = tt
-loop_keeps again next kept h (Ends number v) = tt
-
-exception_keeps : (class : ClassId) (message cause : Ref) (t : Table) → count t ≤ count (with_exception class message cause t)
-exception_keeps class message cause t = omega (arith, length-append t.slots (Here (exception_object class message cause) ∷ []))
-
-raise_keeps : (class : ClassId) (message : Ref) → Keeps (raise class message)
-raise_keeps class message = λ m. (λ k. exception_keeps class message k.rescuing k.table, tt)
-
-throw_keeps : (c : Context) (e : Problem) → Keeps (throw c e)
-throw_keeps c e = λ m. (λ k. make_keeps false (message c e) k.table, raise_keeps (class_id (exception_class e)) (Local (length m.table.slots)))
-
-settled_keeps : (c : Context) (r : Response) → Keeps (settled c r)
-settled_keeps c (Gives v) = tt
-settled_keeps c (Throws e) = tt
-settled_keeps c (Fails e) = throw_keeps c e
-
-operates : (c : Context) (op : BinaryOperator) (v w : Ref) → Keeps (operation c op v w)
-operates c op (Int x) (Int y) = settled_keeps c (integers op x y)
-operates c op v w = settled_keeps c
-
-negates : (c : Context) (v : Ref) → Keeps (negation c v)
-negates c (Int x) = settled_keeps c (opposite x)
-negates c v = settled_keeps c
-
-if_keeps : (b : Bool) (p q : Script) → Keeps p → Keeps q → Keeps (if b then p else q)
-if_keeps true p q kept other = kept
-if_keeps false p q kept other = other
-
-back_keeps : (a : Answer) → Keeps (back a)
-back_keeps a = λ l. (λ m. omega arith, tt)
-
-past_keeps : (a : Answer) → Keeps (past a)
-past_keeps a = λ l. (λ m. omega arith, λ k. tt)
-
-left_keeps : (entry : Entry) (a : Answer) → Keeps (left_by entry a)
-left_keeps (OfMethod takes) a = back_keeps a
-left_keeps (OfBlock home) a = past_keeps a
-
-opened_keeps : (c : Context) (entry : Entry) (parameters size : ℕ) (vs : List Ref) (b : Option Tree) (s : Stack) (next : Script) → Keeps next → Keeps (opened c entry parameters size vs b s next)
-opened_keeps c entry parameters size vs b s next kept = if_keeps (nat_lt (length s.frames) s.limit) _ _ (λ l. omega arith, kept) (throw_keeps c (BuiltIn TooDeep))
-
-framed_keeps : (c : Context) (entry : Entry) (parameters size : ℕ) (vs : List Ref) (b : Option Tree) (body : Tree) (s : Stack) → Keeps (framed c entry parameters size vs b body s)
-framed_keeps c entry parameters size vs b body s = opened_keeps c entry parameters size vs b s (Go body (left_by entry)) (λ a. left_keeps entry a)
-
-own_keeps : (c : Context) (x : Sym) (m : Option Method) (b : Option Tree) (vs : List Ref) → Keeps (own_rule c x m b vs)
-own_keeps c x None b vs = throw_keeps c (MissingMethod (callees.Name x) (Instance OBJECT))
-own_keeps c x (Some m) b vs =
-    if_keeps (nat_eq (length vs) m.parameters) _ _
-    (λ k. framed_keeps c (OfMethod (is_some b)) m.parameters m.size vs b m.body k.calls)
-    (throw_keeps c (BuiltIn (Count (length vs) m.parameters m.parameters)))
-
-called_keeps : (c : Context) (shape : Option Shape) (t : Tree) (home : ℕ) (vs : List Ref) (m : Memory) → Keeps (called_as c shape t home vs m)
-called_keeps c None t home vs m = throw_keeps c NoBlock
-called_keeps c (Some shape) t home vs m = if_keeps (spreads shape.parameters vs m.table) _ _ (throw_keeps c NotHere) (framed_keeps c (OfBlock home) shape.parameters shape.size vs None t m.calls)
-
-yield_keeps : (c : Context) (g : Given) (vs : List Ref) (m : Memory) → Keeps (yield_to c g vs m)
-yield_keeps c given.Nothing vs m = throw_keeps c NoBlock
-yield_keeps c (given.Block number home) vs m = called_keeps c (shape_in (slice_index_or m.blocks number None)) (tree_in (slice_index_or m.blocks number None)) home vs m
-
--- iterations
-turn_of_keeps : (c : Context) (i : Iterated) (shape : Option Shape) (vs : List Ref) (m : Memory) → Keeps (turn_of c i shape vs m)
-turn_of_keeps c i None vs m = throw_keeps c NoBlock
-turn_of_keeps c i (Some shape) vs m =
-    if_keeps (spreads shape.parameters vs m.table) _ _ (throw_keeps c NotHere)
-    (opened_keeps c (OfBlock (top m.calls.frames)) shape.parameters shape.size vs None m.calls (Evaluate (TurnPart i) Ret) (λ a. tt))
-
-finished_keeps : (c : Context) (v : Visits) (stand : List Ref) → Keeps (finished c v stand)
-finished_keeps c (Elements iterations.Map place) stand = λ m. settled_keeps c
-finished_keeps c (Elements iterations.Select place) stand = λ m. settled_keeps c
-finished_keeps c (Elements iterations.Times place) stand = tt
-finished_keeps c (Elements iterations.Upto place) stand = tt
-finished_keeps c (Elements iterations.Each place) stand = tt
-finished_keeps c (Elements iterations.EachWithIndex place) stand = tt
-finished_keeps c (Times z) stand = tt
-finished_keeps c (Upto z) stand = tt
-finished_keeps c Nothing stand = tt
-finished_keeps c Forever stand = tt
-
-taken_up_keeps : (c : Context) (i : Iterated) (a : Ahead) (m : Memory) → Keeps (taken_up c i a m)
-taken_up_keeps c i (Another first last more) m = turn_of_keeps c (record i { visits = more }) (shape_in (Some i.block)) (list_of first ++ list_of last) m
-taken_up_keeps c i Finished m = finished_keeps c i.visits i.stand
-taken_up_keeps c i (Stopped problem) m = throw_keeps c problem
-
-continued_keeps : (c : Context) (i : Iterated) → Keeps (continued c i)
-continued_keeps c i = λ m. taken_up_keeps c i (ahead i.visits i.stand m.table) m
-
-continued_by_keeps : (c : Context) (i : Iterated) (r : Result (Option Ref) Problem) → Keeps (continued_by c i r)
-continued_by_keeps c i (Ok found) = continued_keeps c (record i { stand = i.stand ++ list_of found })
-continued_by_keeps c i (Err problem) = throw_keeps c problem
-
-continued_with_keeps : (c : Context) (i : Iterated) (v : Ref) → Keeps (continued_with c i v)
-continued_with_keeps c i v = λ m. continued_by_keeps c i (kept i.visits v i.stand m.table)
-
-turn_ended_keeps : (c : Context) (i : Iterated) (root : ℕ) (a : Answer) → Keeps (turn_ended c i root a)
-turn_ended_keeps c i root (Gave v) = continued_with_keeps c i v
-turn_ended_keeps c i root (Done v) = continued_with_keeps c i v
-turn_ended_keeps c i root (Raised e) = λ m. tt
-turn_ended_keeps c i root (Broke v) = λ m. tt
-turn_ended_keeps c i root (Returned v) = λ m. tt
-turn_ended_keeps c i root (Ends number v) = λ m. tt
-
-turned_keeps : (c : Context) (i : Iterated) (a : Answer) → Keeps (turned c i a)
-turned_keeps c i a = λ m. (λ k. omega arith, turn_ended_keeps c i (running m.calls.frames).root a)
-
-begun_keeps : (c : Context) (r : Result Visits Problem) (vs : List Ref) (b : Tree) → Keeps (begun c r vs b)
-begun_keeps c (Ok visits) vs b = continued_keeps c (record { visits = visits; stand = vs; block = b })
-begun_keeps c (Err problem) vs b = throw_keeps c problem
-
-iteration_keeps : (c : Context) (x : Sym) (b : Tree) (vs : List Ref) → Keeps (iteration_rule c x b vs)
-iteration_keeps c x b vs = λ m. begun_keeps c (beginning x (iteration_named (slice_index_or c.symbols x.0 [])) vs m.table) vs b
-
-return_keeps : (c : Context) (v : Ref) → Keeps (return_rule c v)
-return_keeps c v = λ m. if_keeps (is_outside m.calls.frames) (throw c Jump) (Ret (Returned v)) (throw_keeps c Jump) tt
-
-raise_new_keeps : (c : Context) (v : Ref) (message : Option Ref) → Keeps (raise_new c v message)
-raise_new_keeps c (refs.Class k) message = if_keeps (is_exception_class c.program k.0) (raise k (message_or_nil message)) (throw c NotRaisable) (raise_keeps k (message_or_nil message)) (throw_keeps c NotRaisable)
-raise_new_keeps c refs.Nil message = throw_keeps c NotRaisable
-raise_new_keeps c (refs.Truth b) message = throw_keeps c NotRaisable
-raise_new_keeps c (Int z) message = throw_keeps c NotRaisable
-raise_new_keeps c (refs.Symbol s) message = throw_keeps c NotRaisable
-raise_new_keeps c (refs.Ractor r) message = throw_keeps c NotRaisable
-raise_new_keeps c (Local n) message = throw_keeps c NotRaisable
-raise_new_keeps c (refs.Shared p o) message = throw_keeps c NotRaisable
-
-raise_kind_keeps : (c : Context) (v : Ref) (message : Option Ref) (kind : Kind) → Keeps (raise_kind c v message kind)
-raise_kind_keeps c v message kinds.Shell = throw_keeps c (BuiltIn Moved)
-raise_kind_keeps c v None kinds.Text = raise_keeps RUNTIME_ERROR v
-raise_kind_keeps c v None kinds.Exception = tt
-raise_kind_keeps c v None _ = raise_new_keeps c v None
-raise_kind_keeps c v (Some w) _ = raise_new_keeps c v (Some w)
-
-again_keeps : (c : Context) (e : Ref) → Keeps (raise_again c e)
-again_keeps c refs.Nil = throw_keeps c Unhandled
-again_keeps c _ = tt
-
-raise_rule_keeps : (c : Context) (vs : List Ref) → Keeps (raise_rule c vs)
-raise_rule_keeps c [] = λ m. again_keeps c m.rescuing
-raise_rule_keeps c (v ∷ []) = λ m. raise_kind_keeps c v None (kind_at m.table v)
-raise_rule_keeps c (v ∷ w ∷ []) = λ m. raise_kind_keeps c v (Some w) (kind_at m.table v)
-raise_rule_keeps c (v ∷ w ∷ x ∷ vs) = throw_keeps c (BuiltIn (Count (length (v ∷ w ∷ x ∷ vs)) 0 2))
+use Rattle.rr_eval.proofs.Keeping.{count, make_keeps, Keeps, on_value_keeps, loop_keeps, raise_keeps, throw_keeps, settled_keeps, operates, negates, if_keeps, back_keeps, past_keeps, own_keeps, yield_keeps, continued_keeps, continued_with_keeps, turned_keeps, iteration_keeps, return_keeps, raise_rule_keeps}
 
 finish_keeps : (c : Context) (target : Target) (vs : List Ref) → Keeps (finish c target vs)
 finish_keeps c (DoTarget task) vs = λ m. settled_keeps c

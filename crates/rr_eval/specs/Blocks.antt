@@ -1,7 +1,8 @@
 -- Calls of methods and of blocks, and how they end.
-use Rattle.std.specs.Prelude.{ℕ, ◌-◌, nat_eq, nat_lt, Bool, true, false, List, [], ◌∷◌, ◌++◌, length, take, if◌then◌else◌, slice_index_or, Option, Some, None}
+use Rattle.std.specs.Prelude.{ℕ, zero, suc, ◌-◌, nat_eq, nat_lt, Bool, true, false, List, [], ◌∷◌, ◌++◌, length, take, if◌then◌else◌, slice_index_or, Option, Some, None}
 use Rattle.std.specs.Option.{is_some}
 use Rattle.rr_builtin.specs.Kinds.{is_array_kind}
+use Rattle.rr_builtin.specs.Rounds.{Read, Reads, ReadsNone, IsMoved, item_at}
 use Rattle.rr_builtin.specs.declared.problem.Problem.TheVariants.{TooDeep}
 use Rattle.rr_frames.specs.Frames.{Stack, Frame as Activated, frame_at, laid, left}
 use Rattle.rr_frames.specs.declared.activation.Activation.{Activation}
@@ -21,6 +22,7 @@ use Rattle.rr_eval.specs.declared.problem.Problem.TheVariants.{BuiltIn, NoBlock,
 use Rattle.rr_eval.specs.Basics.{throw, not_here}
 use Rattle.rr_eval.specs.Context.{Context}
 use Rattle.rr_eval.specs.Methods.{Method}
+use Rattle.rr_eval.specs.Responses.{own_of}
 use Rattle.rr_eval.specs.Script.{Script, Ret, Go, See, Do, Memory}
 use Rattle.rr_eval.specs.Variables.{top}
 
@@ -95,6 +97,30 @@ abbrev pub spreads : ℕ → List Ref → Table → Bool
 spreads parameters (v ∷ []) t = if nat_lt 1 parameters then is_array_kind (kind_at t v) else false
 spreads parameters vs t = false
 
+-- a value more of those that are spread, and the values behind it
+abbrev pub spread_with : Option Ref → Option (List Ref) → Option (List Ref)
+spread_with (Some v) (Some vs) = Some (v ∷ vs)
+spread_with _ _ = None
+
+abbrev pub spread_read : Read → Option (List Ref) → Option (List Ref)
+spread_read (Reads x) others = spread_with (own_of x) others
+spread_read ReadsNone others = Some []
+spread_read IsMoved others = None
+
+-- so many elements of an array from a place on, where none of them is published
+abbrev pub spread_from : Table → Ref → ℕ → ℕ → Option (List Ref)
+spread_from t v place zero = Some []
+spread_from t v place (suc count) = spread_read (item_at t v place) (spread_from t v (suc place) count)
+
+-- what the parameters of a block get: the elements of one array, where it is given to several
+abbrev pub given_values : ℕ → List Ref → Table → Option (List Ref)
+given_values parameters vs t = if spreads parameters vs t then spread_from t (slice_index_or vs 0 Nil) 0 parameters else Some vs
+
+-- a published element is not spread yet
+abbrev pub to_given : Context → Option (List Ref) → (List Ref → Script) → Script
+to_given c None next = not_here c
+to_given c (Some vs) next = next vs
+
 -- how many parameters and how many variables a block has, and its tree
 abbrev pub shape_in : Option Tree → Option Shape
 shape_in (Some (block x parameters size body)) = Some (record { parameters = parameters; size = size })
@@ -104,11 +130,11 @@ abbrev pub tree_in : Option Tree → Tree
 tree_in None = nil
 tree_in (Some t) = t
 
--- A block is called, which stands in the frame `home`; that is a step of its own. An array is not spread over its parameters yet.
+-- A block is called, which stands in the frame `home`; that is a step of its own.
 abbrev pub called_as : Context → Option Shape → Tree → ℕ → List Ref → Memory → Script
 called_as c None t home vs m = throw c NoBlock
 called_as c (Some shape) t home vs m =
-    if spreads shape.parameters vs m.table then not_here c else framed c (OfBlock home) shape.parameters shape.size vs None t m.calls
+    to_given c (given_values shape.parameters vs m.table) (λ ws. framed c (OfBlock home) shape.parameters shape.size ws None t m.calls)
 
 abbrev pub called : Context → Option Tree → ℕ → List Ref → Memory → Script
 called c b home vs m = called_as c (shape_in b) (tree_in b) home vs m

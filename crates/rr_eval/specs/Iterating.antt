@@ -6,7 +6,6 @@ use Rattle.rr_base.specs.declared.name.Sym.{Sym}
 use Rattle.rr_base.specs.declared.name.TheConstants.ClassId.{STOP_ITERATION}
 use Rattle.rr_frames.specs.Frames.{list_of}
 use Rattle.rr_frames.specs.declared.activation.Shape.{Shape}
-use Rattle.rr_space.specs.Graph.{Value, At, Published}
 use Rattle.rr_space.specs.Kinds.{class_at, kind_at}
 use Rattle.rr_space.specs.declared.kind.Kind.{Kind}
 use Rattle.rr_space.specs.declared.kind.Kind.TheVariants.{Array}
@@ -34,9 +33,9 @@ use Rattle.rr_eval.specs.declared.problem.Answer.TheVariants.{Gave, Raised, Brok
 use Rattle.rr_eval.specs.declared.problem.Problem.{Problem}
 use Rattle.rr_eval.specs.declared.problem.Problem.TheVariants.{BuiltIn, MissingMethod, NoBlock, NotHere}
 use Rattle.rr_eval.specs.Basics.{throw, settled, not_here}
-use Rattle.rr_eval.specs.Blocks.{running, without_frame, opened, spreads, shape_in}
+use Rattle.rr_eval.specs.Blocks.{running, without_frame, opened, given_values, to_given, shape_in}
 use Rattle.rr_eval.specs.Context.{Context}
-use Rattle.rr_eval.specs.Responses.{ref_of, receiver_of}
+use Rattle.rr_eval.specs.Responses.{own_of, receiver_of}
 use Rattle.rr_eval.specs.Script.{Script, Ret, Evaluate, TurnPart, See, Do, Ask, Does, Iterated, Memory}
 use Rattle.rr_eval.specs.Variables.{top}
 
@@ -50,11 +49,6 @@ up_to here (Int last) =
     if int_lt here last then Another (Some (Int here)) None (Upto (here +ℤ pos 1)) else
     if int_eq here last then Another (Some (Int here)) None Nothing else Finished
 up_to here v = Finished
-
--- the reference of a value that is not published
-abbrev pub own_of : Value → Option Ref
-own_of (At (Published c p)) = None
-own_of x = Some (ref_of x)
 
 -- an element is given alone, or with its place, which is an integer of 64 bits
 abbrev pub index_of : Iteration → ℕ → Option Ref
@@ -109,7 +103,7 @@ finished c visits stand = Ret (Gave (slice_index_or stand 0 Nil))
 abbrev pub turn_of : Context → Iterated → Option Shape → List Ref → Memory → Script
 turn_of c i None vs m = throw c NoBlock
 turn_of c i (Some shape) vs m =
-    if spreads shape.parameters vs m.table then not_here c else opened c (OfBlock (top m.calls.frames)) shape.parameters shape.size vs None m.calls (Evaluate (TurnPart i) Ret)
+    to_given c (given_values shape.parameters vs m.table) (λ ws. opened c (OfBlock (top m.calls.frames)) shape.parameters shape.size ws None m.calls (Evaluate (TurnPart i) Ret))
 
 abbrev pub taken_up : Context → Iterated → Ahead → Memory → Script
 taken_up c i (Another first last more) m = turn_of c (record i { visits = more }) (shape_in (Some i.block)) (list_of first ++ list_of last) m

@@ -1,4 +1,5 @@
 -- What calls of built-in methods come to, as a script goes on with it.
+use Rattle.std.specs.Prelude.{Option, Some, None}
 use Rattle.rr_space.specs.Graph.{Value, Plain, At, Own, Published, Nil, Truth, Integer, SymbolNo, ClassNo, RactorNo as RactorValue}
 use Rattle.rr_space.specs.Kinds.{class_at}
 use Rattle.rr_space.specs.Tables.{Table}
@@ -24,6 +25,11 @@ ref_of (Plain (ClassNo n)) = refs.Class (record { 0 = n })
 ref_of (Plain (RactorValue n)) = refs.Ractor (record { 0 = n })
 ref_of (At (Own n)) = refs.Local n
 ref_of (At (Published c p)) = refs.Nil
+
+-- the same, where it is not published
+abbrev pub own_of : Value → Option Ref
+own_of (At (Published c p)) = None
+own_of x = Some (ref_of x)
 
 -- what a message calls a receiver that has no such method
 abbrev pub receiver_of : Table → Ref → Receiver

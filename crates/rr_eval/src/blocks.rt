@@ -1,11 +1,12 @@
 //! Blocks, and what `yield` gives them.
 
-ghost use Rattle.std.specs.Prelude.{◌≡◌, ◌+◌, ◌*◌, ◌<◌, ◌≤◌, ◌^◌, ℕ, [], ◌++◌, length, reverse, vec_capacity, slice_index_or, None, Some, IfErr, OnOk};
+ghost use Rattle.std.specs.Prelude.{◌≡◌, ◌+◌, ◌*◌, ◌<◌, ◌≤◌, ◌^◌, ℕ, [], ◌++◌, length, reverse, vec_capacity, slice_index_or, Option, None, Some, IfErr, OnOk};
 ghost use Rattle.std.specs.List.{All};
 ghost use Rattle.std.specs.Option.{option_map};
 ghost use Rattle.rr_base.specs.declared.fault.Fault.{Fault};
 ghost use Rattle.rr_frames.specs.Frames.{list_of};
-ghost use Rattle.rr_space.specs.Tables.{Table};
+ghost use Rattle.rr_space.specs.Tables.{Table, Below};
+ghost use Rattle.rr_space.specs.declared.refer.Ref.{Ref};
 ghost use Rattle.rr_tree.specs.Nodes.{trees_before};
 ghost use Rattle.rr_tree.specs.Tree.{tree_at};
 ghost use Rattle.rr_tree.specs.declared.program.Program.{Program};
@@ -20,7 +21,7 @@ ghost use Rattle.rr_eval.specs.Rules.{values, finish, loops, block_rule, block_c
 ghost use Rattle.rr_eval.specs.Script.{Script, Do};
 ghost use Rattle.rr_eval.specs.Turns.{context_of, blocks_of, state_of, IsNested, after_script, after_values, remaining_with, Stands, size};
 ghost use Rattle.rr_eval.specs.Views.{view_of};
-ghost use Rattle.rr_eval.specs.Within.{Reach, AreReached, IsReached};
+ghost use Rattle.rr_eval.specs.Within.{Reach, reach, AreReached, IsReached};
 
 use crate::call::Target;
 use crate::call_stack::Entry;
@@ -30,6 +31,7 @@ use crate::iterating::{Iterating, Visits, is_loop};
 use crate::nodes::evaluated_node;
 use crate::prepared::Prepared;
 use crate::problem::Problem;
+use crate::spreading::spread;
 use rr_base::{Fault, Sym};
 use rr_frames::{Given, Shape};
 use rr_space::{Kind, Ref, Space};
@@ -59,6 +61,17 @@ pub fn spreads(space: &Space, parameters: u32, values: &[Ref], last: Option<Ref>
         ([], None) => false,
         ([_], Some(_)) => false,
         ([_, _, ..], _) => false,
+    }
+}
+
+/// The first of values, of which the last one stands apart; nil where there is none.
+pub fn first_value(values: &[Ref], last: Option<Ref>) -> Ref
+    ensures { result ≡ slice_index_or (values.now ++ list_of last) 0 Ref.Nil }
+{
+    match (values, last) {
+        ([first, ..], _) => *first,
+        ([], Some(value)) => value,
+        ([], None) => Ref::Nil,
     }
 }
 
@@ -119,18 +132,25 @@ impl Engine {
         requires nested { Nested (reverse self.old.frames.items) (below_of frame self.old.held.items) }
         ensures goes { OnOk result ((p : Program) (h : Course) (n : ℕ) → after_values p (view_of self.old) space.now frame (called_as (context_of p) (Some shape) (tree_at p.nodes.items place) home (stand_of frame self.old.held.items ++ list_of last) (state_of p (view_of self.old) space.now h).memory) h n ≡ remaining_with p (view_of self.new) space.now h n) }
         ensures nested { OnOk result (IsNested (view_of self.new)) }
-        ensures within { (k : Reach) → AreReached k (view_of self.old) → All (IsReached k) (list_of last) → AreReached k (view_of self.new) }
+        ensures within { (clusters : Option Below) → AreReached (reach (length space.now.slots) clusters) (view_of self.old) → All (IsReached (reach (length space.now.slots) clusters)) (list_of last) → AreReached (reach (length space.now.slots) clusters) (view_of self.new) }
         ensures left { self.new.left ≡ self.old.left }
         ensures err { (t : Table) → IfErr result (λ f. Stands (view_of self.old) (view_of self.new) t t f) }
         ensures size { OnOk result (size (view_of self.new) ≤ 3 * length self.old.frames.items + 4) }
         ensures room { IfErr result (λ _. length self.new.frames.items < vec_capacity self.new.frames) }
         ensures fault { IfErr result (λ f. f ≡ Fault.Memory) }
     {
-        if spreads(space, shape.parameters, standing(&self.held, frame), last) {
-            self.refuse(frame, Problem::NotHere);
-            return Ok(());
+        let stand = standing(&self.held, frame);
+        if !spreads(space, shape.parameters, stand, last) {
+            return self.enter(frame, last, shape, Entry::OfBlock(home), None, place);
         }
-        self.enter(frame, last, shape, Entry::OfBlock(home), None, place)
+        let array = first_value(stand, last);
+        match spread(self.alloc, space, array, shape.parameters as usize)? {
+            Some(values) => self.enter_spread(frame, values.as_slice(), shape, home, place),
+            None => {
+                self.refuse(frame, Problem::NotHere);
+                Ok(())
+            }
+        }
     }
 
     /// Calls the block that the method was given whose frame has the number. The block stands in the frame `home`.
@@ -148,7 +168,7 @@ impl Engine {
         requires nested { Nested (reverse self.old.frames.items) (below_of frame self.old.held.items) }
         ensures goes { OnOk result ((h : Course) (n : ℕ) → after_values program.now (view_of self.old) space.now frame (called (context_of program.now) (slice_index_or (blocks_of program.now.nodes.items self.old.blocks.items) number None) home (stand_of frame self.old.held.items ++ list_of last) (state_of program.now (view_of self.old) space.now h).memory) h n ≡ remaining_with program.now (view_of self.new) space.now h n) }
         ensures nested { OnOk result (IsNested (view_of self.new)) }
-        ensures within { (k : Reach) → AreReached k (view_of self.old) → All (IsReached k) (list_of last) → AreReached k (view_of self.new) }
+        ensures within { (clusters : Option Below) → AreReached (reach (length space.now.slots) clusters) (view_of self.old) → All (IsReached (reach (length space.now.slots) clusters)) (list_of last) → AreReached (reach (length space.now.slots) clusters) (view_of self.new) }
         ensures left { self.new.left ≡ self.old.left }
         ensures err { (t : Table) → IfErr result (λ f. Stands (view_of self.old) (view_of self.new) t t f) }
         ensures size { OnOk result (size (view_of self.new) ≤ 3 * length self.old.frames.items + 4) }
@@ -182,7 +202,7 @@ impl Engine {
         requires nested { Nested (reverse self.old.frames.items) (below_of frame self.old.held.items) }
         ensures goes { OnOk result ((h : Course) (n : ℕ) → after_values program.now (view_of self.old) space.now frame (yield_rule (context_of program.now) (stand_of frame self.old.held.items ++ list_of last)) h n ≡ remaining_with program.now (view_of self.new) space.now h n) }
         ensures nested { OnOk result (IsNested (view_of self.new)) }
-        ensures within { (k : Reach) → AreReached k (view_of self.old) → All (IsReached k) (list_of last) → AreReached k (view_of self.new) }
+        ensures within { (clusters : Option Below) → AreReached (reach (length space.now.slots) clusters) (view_of self.old) → All (IsReached (reach (length space.now.slots) clusters)) (list_of last) → AreReached (reach (length space.now.slots) clusters) (view_of self.new) }
         ensures left { self.new.left ≡ self.old.left }
         ensures err { (t : Table) → IfErr result (λ f. Stands (view_of self.old) (view_of self.new) t t f) }
         ensures size { OnOk result (size (view_of self.new) ≤ 3 * length self.old.frames.items + 4) }
@@ -212,7 +232,7 @@ impl Engine {
         requires nested { IsNested (view_of self.old) }
         ensures goes { OnOk result ((h : Course) (n : ℕ) → after_script program.now (view_of self.old) space.now (values (trees_before program.now.nodes.items (first + count) count) [] (finish (context_of program.now) Target.Yield)) h n ≡ remaining_with program.now (view_of self.new) space.now h n) }
         ensures nested { IsNested (view_of self.new) }
-        ensures within { (k : Reach) → AreReached k (view_of self.old) → AreReached k (view_of self.new) }
+        ensures within { (clusters : Option Below) → AreReached (reach (length space.now.slots) clusters) (view_of self.old) → AreReached (reach (length space.now.slots) clusters) (view_of self.new) }
         ensures left { self.new.left ≡ self.old.left }
         ensures err { (t : Table) → IfErr result (λ f. Stands (view_of self.old) (view_of self.new) t t f) }
         ensures size { OnOk result (size (view_of self.new) ≤ 3 * length self.old.frames.items + 4) }
@@ -240,7 +260,7 @@ impl Engine {
         requires nested { IsNested (view_of self.old) }
         ensures goes { OnOk result ((h : Course) (n : ℕ) → after_script program.now (view_of self.old) space.now (continued (context_of program.now) (record { visits = Visits.Forever; stand = []; block = tree_at program.now.nodes.items block })) h n ≡ remaining_with program.now (view_of self.new) space.now h n) }
         ensures nested { IsNested (view_of self.new) }
-        ensures within { (k : Reach) → AreReached k (view_of self.old) → AreReached k (view_of self.new) }
+        ensures within { (clusters : Option Below) → AreReached (reach (length space.now.slots) clusters) (view_of self.old) → AreReached (reach (length space.now.slots) clusters) (view_of self.new) }
         ensures left { self.new.left ≡ self.old.left }
         ensures err { (t : Table) → IfErr result (λ f. Stands (view_of self.old) (view_of self.new) t t f) }
         ensures size { OnOk result (size (view_of self.new) ≤ 3 * length self.old.frames.items + 4) }
@@ -270,7 +290,7 @@ impl Engine {
         requires nested { IsNested (view_of self.old) }
         ensures goes { OnOk result ((h : Course) (n : ℕ) → after_script prepared.now.program (view_of self.old) space.now (block_call_rule (context_of prepared.now.program) (own_method prepared.now.program name.0) (loops (context_of prepared.now.program) name.0) name (trees_before prepared.now.program.nodes.items (first + count) count) (tree_at prepared.now.program.nodes.items block)) h n ≡ remaining_with prepared.now.program (view_of self.new) space.now h n) }
         ensures nested { IsNested (view_of self.new) }
-        ensures within { (k : Reach) → AreReached k (view_of self.old) → AreReached k (view_of self.new) }
+        ensures within { (clusters : Option Below) → AreReached (reach (length space.now.slots) clusters) (view_of self.old) → AreReached (reach (length space.now.slots) clusters) (view_of self.new) }
         ensures left { self.new.left ≡ self.old.left }
         ensures err { (t : Table) → IfErr result (λ f. Stands (view_of self.old) (view_of self.new) t t f) }
         ensures size { OnOk result (size (view_of self.new) ≤ 3 * length self.old.frames.items + 4) }
@@ -335,7 +355,7 @@ impl Engine {
         requires nested { IsNested (view_of self.old) }
         ensures goes { OnOk result ((h : Course) (n : ℕ) → after_script prepared.now.program (view_of self.old) space.now (block_rule (context_of prepared.now.program) (tree_at prepared.now.program.nodes.items call) (tree_at prepared.now.program.nodes.items block)) h n ≡ remaining_with prepared.now.program (view_of self.new) space.now h n) }
         ensures nested { IsNested (view_of self.new) }
-        ensures within { (k : Reach) → AreReached k (view_of self.old) → AreReached k (view_of self.new) }
+        ensures within { (clusters : Option Below) → AreReached (reach (length space.now.slots) clusters) (view_of self.old) → AreReached (reach (length space.now.slots) clusters) (view_of self.new) }
         ensures left { self.new.left ≡ self.old.left }
         ensures err { (t : Table) → IfErr result (λ f. Stands (view_of self.old) (view_of self.new) t t f) }
         ensures size { OnOk result (size (view_of self.new) ≤ 3 * length self.old.frames.items + 4) }

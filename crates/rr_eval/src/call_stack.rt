@@ -203,6 +203,17 @@ impl CallStack {
         self.frames.push(values, last, shape, activation)
     }
 
+    /// The same with these values alone.
+    pub fn push_all(&mut self, values: &[Ref], shape: Shape, entry: Entry) -> Result<(), Fault>
+        ensures pushed { OnOk result (self.new.frames ≡ self.old.frames ++ record { variables = laid shape.parameters shape.size values.now; activation = activation_in entry self.old.frames } ∷ []) }
+        ensures room { OnOk result (length self.old.frames < self.old.limit) }
+        ensures limit { self.new.limit ≡ self.old.limit }
+        ensures refused { OnErr result (self.new ≡ self.old) }
+        ensures fault { IfErr result (λ fault. fault ≡ (if nat_lt (length self.old.frames) self.old.limit then Fault.Memory else Fault.Limit LimitKind.Frames)) }
+    {
+        self.push(values, None, shape, entry)
+    }
+
     /// The same with up to two values.
     pub fn push_few(
         &mut self,

@@ -1,6 +1,6 @@
 //! Calls of the program's own methods.
 
-ghost use Rattle.std.specs.Prelude.{◌≡◌, ◌+◌, ◌*◌, ◌<◌, ◌≤◌, ℕ, ◌++◌, length, reverse, vec_capacity, Some, IfErr, OnOk};
+ghost use Rattle.std.specs.Prelude.{◌≡◌, ◌+◌, ◌*◌, ◌<◌, ◌≤◌, ℕ, ◌++◌, length, reverse, vec_capacity, None, Some, IfErr, OnOk};
 ghost use Rattle.rr_base.specs.declared.fault.Fault.{Fault};
 ghost use Rattle.rr_frames.specs.Frames.{list_of};
 ghost use Rattle.std.specs.Option.{option_map};
@@ -8,6 +8,7 @@ ghost use Rattle.rr_tree.specs.Tree.{tree_at};
 ghost use Rattle.rr_space.specs.Tables.{Table};
 ghost use Rattle.rr_tree.specs.declared.program.Program.{Program};
 ghost use Rattle.std.specs.List.{All};
+ghost use Rattle.rr_eval.specs.declared.call_stack.Entry.{Entry};
 ghost use Rattle.rr_eval.specs.Methods.{own_method};
 ghost use Rattle.rr_eval.specs.Prepared.{method_of};
 ghost use Rattle.rr_eval.specs.Rules.{throw, framed, own_rule};
@@ -98,6 +99,46 @@ impl Engine {
                 push_within(&mut self.blocks, block);
                 clear(&mut self.held, frame);
                 push_within(&mut self.frames, leaving(entry));
+                self.control = Control::Enter(body);
+                Ok(())
+            }
+            Err(Fault::Limit(LimitKind::Frames)) => {
+                self.refuse(frame, Problem::BuiltIn(BuiltInProblem::TooDeep));
+                Ok(())
+            }
+            Err(_) => Err(Fault::Memory),
+        }
+    }
+
+    /// Calls the block at a place, which stands in the frame `home`, with these values in the place of those that stand for a frame. A
+    /// refused growth leaves all as it is.
+    #[tactic(auto, unfolding(crate::specs::Within::AreReached))]
+    pub fn enter_spread(
+        &mut self,
+        frame: Frame,
+        values: &[Ref],
+        shape: Shape,
+        home: u32,
+        body: NodeId,
+    ) -> Result<(), Fault>
+        requires room { length self.old.frames.items < vec_capacity self.old.frames }
+        requires base { base_of frame ≤ length self.old.held.items }
+        requires nested { Nested (reverse self.old.frames.items) (below_of frame self.old.held.items) }
+        ensures goes { OnOk result ((p : Program) (t : Table) (h : Course) (n : ℕ) → after_values p (view_of self.old) t frame (framed (context_of p) (Entry.OfBlock home) shape.parameters shape.size values.now None (tree_at p.nodes.items body) self.old.calls) h n ≡ remaining_with p (view_of self.new) t h n) }
+        ensures nested { OnOk result (IsNested (view_of self.new)) }
+        ensures within { (k : Reach) → AreReached k (view_of self.old) → All (IsReached k) values.now → AreReached k (view_of self.new) }
+        ensures left { self.new.left ≡ self.old.left }
+        ensures err { (t : Table) → IfErr result (λ f. Stands (view_of self.old) (view_of self.new) t t f) }
+        ensures size { OnOk result (size (view_of self.new) ≤ 3 * length self.old.frames.items + 4) }
+        ensures room { IfErr result (λ _. length self.new.frames.items < vec_capacity self.new.frames) }
+        ensures fault { IfErr result (λ f. f ≡ Fault.Memory) }
+    {
+        self.blocks.reserve(1)?;
+        match self.calls.push_all(values, shape, Entry::OfBlock(home)) {
+            Ok(()) => {
+                push_within(&mut self.blocks, None);
+                clear(&mut self.held, frame);
+                push_within(&mut self.frames, Frame::Past);
                 self.control = Control::Enter(body);
                 Ok(())
             }

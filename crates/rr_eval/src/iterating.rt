@@ -8,7 +8,8 @@ ghost use Rattle.rr_space.specs.Tables.{Below};
 ghost use Rattle.rr_builtin.specs.Acts.{outcome_of};
 ghost use Rattle.rr_builtin.specs.Rounds.{item_at};
 ghost use Rattle.rr_space.specs.declared.refer.Ref.{Ref};
-ghost use Rattle.rr_eval.specs.Iterating.{below, up_to, own_of, index_of, element_given, element_ahead, ahead, chosen, kept, visits_of, problem_of, beginning, left_turn, is_loop};
+ghost use Rattle.rr_eval.specs.Iterating.{below, up_to, index_of, element_given, element_ahead, ahead, chosen, kept, visits_of, problem_of, beginning, left_turn, is_loop};
+ghost use Rattle.rr_eval.specs.Responses.{own_of};
 ghost use Rattle.rr_eval.specs.Turns.{context_of, more_of};
 ghost use Rattle.rr_eval.specs.Within.{Reach, reach, IsReached, IsAheadReached, IsAnswerReached};
 
@@ -99,7 +100,7 @@ fn up_to(here: i64, bound: Ref) -> Ahead
 const PLACES: usize = 9_223_372_036_854_775_808;
 
 /// A value that is not published.
-fn own(value: Ref) -> Option<Ref>
+pub fn own(value: Ref) -> Option<Ref>
     ensures is { result ≡ own_of (value_of value) }
     ensures within { (k : ℕ) (clusters : Option Below) → IsWithin k value → All (IsReached (reach k clusters)) (list_of result) }
 {

@@ -1,6 +1,6 @@
 //! Calls of the built-in methods that call their block again and again.
 
-ghost use Rattle.std.specs.Prelude.{◌≡◌, ◌+◌, ◌*◌, ◌<◌, ◌≤◌, ℕ, ◌++◌, ◌∷◌, [], length, reverse, take, drop, vec_capacity, Option, None, Some, IfOk, IfErr, OnOk, OnErr};
+ghost use Rattle.std.specs.Prelude.{◌≡◌, ◌+◌, ◌*◌, ◌<◌, ◌≤◌, ℕ, ◌++◌, ◌∷◌, [], length, reverse, slice_index_or, take, drop, vec_capacity, Option, None, Some, IfOk, IfErr, OnOk, OnErr};
 ghost use Rattle.std.specs.List.{All};
 ghost use Rattle.rr_base.specs.declared.fault.Fault.{Fault};
 ghost use Rattle.rr_frames.specs.Frames.{list_of};
@@ -32,6 +32,7 @@ use crate::iterating::{
 use crate::prepared::Prepared;
 use crate::problem::{Answer, Problem};
 use crate::request::Request;
+use crate::spreading::spread;
 use rr_base::{Fault, LimitKind, Sym};
 use rr_builtin::{Iteration, Problem as BuiltInProblem, is_truthy};
 use rr_frames::Shape;
@@ -47,6 +48,17 @@ fn gathered(alloc: Global, stand: &[Ref]) -> Result<Arguments, AllocError>
     match stand {
         [] | [_] => Ok(Arguments::Without),
         [_, kept @ ..] => Ok(Arguments::Many(Vec::from_slice(alloc, kept)?)),
+    }
+}
+
+/// The first of up to two values; nil where there is none.
+fn given_array(first: Option<Ref>, last: Option<Ref>) -> Ref
+    ensures { result ≡ slice_index_or (list_of first ++ list_of last) 0 Ref.Nil }
+{
+    match (first, last) {
+        (Some(value), _) => value,
+        (None, Some(value)) => value,
+        (None, None) => Ref::Nil,
     }
 }
 
@@ -138,6 +150,47 @@ impl Engine {
         }
     }
 
+    /// Evaluates the block of an iteration for a turn, in a frame of its own, whose parameters have these values. A refused
+    /// growth leaves all as it is.
+    #[tactic(auto, unfolding(crate::specs::Within::AreReached))]
+    fn enter_turn_spread(
+        &mut self,
+        iteration: Iterating,
+        shape: Shape,
+        values: &[Ref],
+    ) -> Result<(), Fault>
+        requires room { length self.old.frames.items < vec_capacity self.old.frames }
+        requires base { iteration.base ≤ length self.old.held.items }
+        requires nested { Nested (reverse self.old.frames.items) (take iteration.base self.old.held.items) }
+        ensures goes { OnOk result ((p : Program) (t : Table) (h : Course) (n : ℕ) → shape_in (Some (tree_at p.nodes.items iteration.block)) ≡ Some shape → after_values p (view_of self.old) t (Frame.Round iteration) (opened (context_of p) (Entry.OfBlock (top self.old.calls.frames)) shape.parameters shape.size values.now None self.old.calls (Evaluate (TurnPart (iterated (code_of p h.world) iteration (drop iteration.base self.old.held.items))) Ret)) h n ≡ remaining_with p (view_of self.new) t h n) }
+        ensures nested { OnOk result (IsNested (view_of self.new)) }
+        ensures within { (k : Reach) → AreReached k (view_of self.old) → All (IsReached k) values.now → AreReached k (view_of self.new) }
+        ensures left { self.new.left ≡ self.old.left }
+        ensures err { (t : Table) → IfErr result (λ f. Stands (view_of self.old) (view_of self.new) t t f) }
+        ensures size { OnOk result (size (view_of self.new) ≤ 3 * length self.old.frames.items + 4) }
+        ensures room { IfErr result (λ _. length self.new.frames.items < vec_capacity self.new.frames) }
+        ensures fault { IfErr result (λ f. f ≡ Fault.Memory) }
+    {
+        self.blocks.reserve(1)?;
+        let home = self.calls.top();
+        match self.calls.push_all(values, shape, Entry::OfBlock(home)) {
+            Ok(()) => {
+                push_within(&mut self.blocks, None);
+                push_within(&mut self.frames, Frame::Round(iteration));
+                self.control = Control::Enter(iteration.block);
+                Ok(())
+            }
+            Err(Fault::Limit(LimitKind::Frames)) => {
+                self.refuse(
+                    Frame::Round(iteration),
+                    Problem::BuiltIn(BuiltInProblem::TooDeep),
+                );
+                Ok(())
+            }
+            Err(_) => Err(Fault::Memory),
+        }
+    }
+
     /// Calls the block of an iteration for a turn, with up to two values. A refused growth leaves all as it is.
     pub fn call_turn(
         &mut self,
@@ -152,7 +205,7 @@ impl Engine {
         requires nested { Nested (reverse self.old.frames.items) (take iteration.base self.old.held.items) }
         ensures goes { OnOk result ((h : Course) (n : ℕ) → after_values program.now (view_of self.old) space.now (Frame.Round iteration) (turn_of (context_of program.now) (iterated (code_of program.now h.world) iteration (drop iteration.base self.old.held.items)) (shape_in (Some (tree_at program.now.nodes.items iteration.block))) (list_of first ++ list_of last) (state_of program.now (view_of self.old) space.now h).memory) h n ≡ remaining_with program.now (view_of self.new) space.now h n) }
         ensures nested { OnOk result (IsNested (view_of self.new)) }
-        ensures within { (k : Reach) → AreReached k (view_of self.old) → All (IsReached k) (list_of first ++ list_of last) → AreReached k (view_of self.new) }
+        ensures within { (clusters : Option Below) → AreReached (reach (length space.now.slots) clusters) (view_of self.old) → All (IsReached (reach (length space.now.slots) clusters)) (list_of first ++ list_of last) → AreReached (reach (length space.now.slots) clusters) (view_of self.new) }
         ensures left { self.new.left ≡ self.old.left }
         ensures err { (t : Table) → IfErr result (λ f. Stands (view_of self.old) (view_of self.new) t t f) }
         ensures size { OnOk result (size (view_of self.new) ≤ 3 * length self.old.frames.items + 4) }
@@ -163,11 +216,17 @@ impl Engine {
             self.refuse(Frame::Round(iteration), Problem::NoBlock);
             return Ok(());
         };
-        if spreads_few(space, shape.parameters, first, last) {
-            self.refuse(Frame::Round(iteration), Problem::NotHere);
-            return Ok(());
+        if !spreads_few(space, shape.parameters, first, last) {
+            return self.enter_turn(iteration, shape, first, last);
         }
-        self.enter_turn(iteration, shape, first, last)
+        let array = given_array(first, last);
+        match spread(self.alloc, space, array, shape.parameters as usize)? {
+            Some(values) => self.enter_turn_spread(iteration, shape, values.as_slice()),
+            None => {
+                self.refuse(Frame::Round(iteration), Problem::NotHere);
+                Ok(())
+            }
+        }
     }
 
     /// Goes on with what is ahead of an iteration. A refused growth leaves all as it is.

@@ -4,10 +4,10 @@ use Rattle.rr_eval.specs.Within.{reach}
 use Rattle.rr_eval.proofs.engine.Engine.go_on.Goals as goal
 
 pub returns-in-Ok-clause-within : goal.returns-in-Ok-clause-within
-returns-in-Ok-clause-within c clusters h = c.call_turn.ensures.within (reach (length c.args.space.now.slots) clusters) h (c.in-Another.ensures.within clusters)
+returns-in-Ok-clause-within c clusters h = c.call_turn.ensures.within clusters h (c.in-Another.ensures.within clusters)
 
 pub returns-in-Err-clause-within : goal.returns-in-Err-clause-within
-returns-in-Err-clause-within c clusters h = c.call_turn.ensures.within (reach (length c.args.space.now.slots) clusters) h (c.in-Another.ensures.within clusters)
+returns-in-Err-clause-within c clusters h = c.call_turn.ensures.within clusters h (c.in-Another.ensures.within clusters)
 
 pub returns-in-Finished-clause-within : goal.returns-in-Finished-clause-within
 returns-in-Finished-clause-within c clusters h = c.finish_iteration.ensures.within (reach (length c.args.space.now.slots) clusters) h

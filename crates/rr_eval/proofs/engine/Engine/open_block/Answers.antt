@@ -1,10 +1,11 @@
 -- A call with a block is evaluated by its rule.
-use Rattle.std.proofs.Common.{sym, ap, ◌∙◌}
+use Rattle.std.proofs.Common.{length, sym, ap, ◌∙◌}
 use Rattle.rr_tree.specs.Tree.{tree_at}
 use Rattle.rr_eval.specs.Nodes.{evaluated_tree}
 use Rattle.rr_eval.specs.Rules.{block_rule}
 use Rattle.rr_eval.specs.Turns.{context_of, after_script}
 use Rattle.rr_eval.specs.Views.{view_of}
+use Rattle.rr_eval.specs.Within.{reach}
 use Rattle.rr_eval.proofs.Invoking.{on_ok}
 use Rattle.rr_eval.proofs.Lists.{block_call_is, block_send_is}
 use Rattle.rr_eval.proofs.engine.Engine.open_block.Goals as goal
@@ -38,3 +39,6 @@ returns-in-Send-clause-goes c =
     ∙ ap (λ r. after_script p m t r h n) (sym (block_send_is ns own c.in-Send.receiver c.in-Send.name c.in-Send.first c.in-Send.count c.in-Send.site b))
     ∙ goes t h n)
     c.open_block_send.ensures.goes
+
+pub returns-in-Send-clause-within : goal.returns-in-Send-clause-within
+returns-in-Send-clause-within c clusters h = c.open_block_send.ensures.within (reach (length c.args.space.now.slots) clusters) h

@@ -1,0 +1,35 @@
+-- A frame more for a turn, and what it holds is reached.
+use Rattle.std.proofs.Common.{◌++◌, ◌∷◌, [], ◌∙◌, ap, sym, reverse, refl, take, drop, None}
+use Rattle.rr_tree.specs.Tree.{tree_at}
+use Rattle.rr_eval.specs.declared.call_stack.Entry.TheVariants.{OfBlock}
+use Rattle.rr_eval.specs.Blocks.{activation_in, opened}
+use Rattle.rr_eval.specs.Frames.{means, runs_in, iterated, unwind}
+use Rattle.rr_eval.specs.Script.{Ret, Evaluate, TurnPart}
+use Rattle.rr_eval.specs.Turns.{context_of, code_of, state_of}
+use Rattle.rr_eval.specs.Views.{view_of}
+use Rattle.rr_eval.proofs.Holding.{turn_reached, refused_reached}
+use Rattle.rr_eval.proofs.Invoking.{has_room}
+use Rattle.rr_eval.proofs.Rounds.{turn_enters}
+use Rattle.rr_eval.proofs.engine.Engine.enter_turn_spread.Goals as goal
+
+pub returns-in-Ok-clause-goes : goal.returns-in-Ok-clause-goes
+returns-in-Ok-clause-goes c = λ p t h n is.
+    let m = view_of c.args.self.now in
+    let code = code_of p h.world in
+    let s = state_of p m t h in
+    let i = c.args.iteration in
+    let values = c.args.values.now in
+    let next = Evaluate (TurnPart (iterated code i (drop i.base m.held))) Ret in
+    ap (λ home. unwind code (reverse m.frames) (take i.base m.held) (runs_in code (opened (context_of p) (OfBlock home) c.args.shape.parameters c.args.shape.size values None m.calls next) s n)) (sym c.top-home.ensures)
+    ∙ turn_enters code m.frames m.held i (OfBlock c.top-home.result) c.args.shape values c.push_all.new.self m.blocks c.push_within.new.items.items s n
+    is (has_room m.calls c.in-Ok.ensures.room) refl (c.push_within.ensures ∙ ap (λ l. l ++ None ∷ []) c.reserve.ensures.items) c.in-Ok.ensures.pushed c.in-Ok.ensures.limit
+    ∙ ap (λ fs. unwind code (reverse fs) m.held (means code (tree_at p.nodes.items i.block) (state_of p (record m { calls = c.push_all.new.self; blocks = c.push_within.new.items.items }) t h) n)) (sym c.push_within-in-Ok.ensures)
+
+pub returns-in-Ok-clause-within : goal.returns-in-Ok-clause-within
+returns-in-Ok-clause-within c k h values =
+    let m = view_of c.args.self.now in
+    turn_reached k m c.args.iteration _ _ _ c.args.shape.parameters c.args.shape.size c.args.iteration.block c.args.values.now (activation_in (OfBlock c.top-home.result) m.calls.frames) c.push_within-in-Ok.ensures c.in-Ok.ensures.pushed h values
+
+pub returns-in-Err-Limit-Frames-clause-within : goal.returns-in-Err-Limit-Frames-clause-within
+returns-in-Err-Limit-Frames-clause-within c k h values =
+    c.refuse.ensures.within k (refused_reached k (view_of c.args.self.now) _ _ c.in-Err-Limit-Frames.ensures.refused c.reserve.ensures.items h)
