@@ -95,11 +95,6 @@ puts [*a] -> Bare { name: Sym(1), site: 0 }, Splat(0), Item(1), Array { first: 2
 puts [1] -> Int(1), Item(0), Array { first: 1, count: 1 }, Item(2), Call { name: Sym(0), first: 3, count: 1, site: 0 }, Item(4), Sequence { first: 5, count: 1 }
 puts [1][0] -> Int(1), Item(0), Array { first: 1, count: 1 }, Int(0), Index(2, 3), Item(4), Call { name: Sym(0), first: 5, count: 1, site: 0 }, Item(6), Sequence { first: 7, count: 1 }
 a[0] -> Bare { name: Sym(0), site: 0 }, Int(0), Index(0, 1), Item(2), Sequence { first: 3, count: 1 }
-a.b -> Bare { name: Sym(0), site: 0 }, Send { receiver: 0, name: Sym(1), first: 1, count: 0, site: 1 }, Item(1), Sequence { first: 2, count: 1 }
-a.b(1)^n.c -> Bare { name: Sym(0), site: 0 }, Int(1), Item(1), Send { receiver: 0, name: Sym(1), first: 2, count: 1, site: 1 }, Send { receiver: 3, name: Sym(2), first: 4, count: 0, site: 2 }, Item(4), Sequence { first: 5, count: 1 }
--2.abs -> Int(-2), Send { receiver: 0, name: Sym(0), first: 1, count: 0, site: 0 }, Item(1), Sequence { first: 2, count: 1 }
-- 2.abs -> Int(2), Send { receiver: 0, name: Sym(0), first: 1, count: 0, site: 0 }, Negate(1), Item(2), Sequence { first: 3, count: 1 }
-!a.b == c -> Bare { name: Sym(0), site: 0 }, Send { receiver: 0, name: Sym(1), first: 1, count: 0, site: 1 }, Not(1), Bare { name: Sym(2), site: 2 }, Binary(Equal, 2, 3), Item(4), Sequence { first: 5, count: 1 }
 :a; self -> Symbol(Sym(0)), Itself, Item(0), Item(1), Sequence { first: 2, count: 2 }
 @a = $b = A -> Constant(Plain(Sym(2))), SetGlobal(Sym(1), 0), SetField(Sym(0), 1), Item(2), Sequence { first: 3, count: 1 }
 @a + $b -> Field(Sym(0)), Global(Sym(1)), Binary(Add, 0, 1), Item(2), Sequence { first: 3, count: 1 }
@@ -158,9 +153,6 @@ while f do 1 end -> Bare { name: Sym(0), site: 0 }, Int(1), Item(1), Sequence { 
 while f g do 1 end -> Bare { name: Sym(1), site: 0 }, Item(0), Call { name: Sym(0), first: 1, count: 1, site: 1 }, Int(1), Item(3), Sequence { first: 4, count: 1 }, Loop { until: false, condition: 2, body: 5 }, Item(6), Sequence { first: 7, count: 1 }
 while (f do end) do 1 end -> Call { name: Sym(0), first: 0, count: 0, site: 0 }, Sequence { first: 1, count: 0 }, Block { scope: 1, parameters: 0, size: 0, body: 1 }, WithBlock(0, 2), Item(3), Sequence { first: 4, count: 1 }, Int(1), Item(6), Sequence { first: 7, count: 1 }, Loop { until: false, condition: 5, body: 8 }, Item(9), Sequence { first: 10, count: 1 }
 while f; g do end; end -> Bare { name: Sym(0), site: 0 }, Call { name: Sym(1), first: 1, count: 0, site: 1 }, Sequence { first: 2, count: 0 }, Block { scope: 1, parameters: 0, size: 0, body: 2 }, WithBlock(1, 3), Item(4), Sequence { first: 5, count: 1 }, Loop { until: false, condition: 0, body: 6 }, Item(7), Sequence { first: 8, count: 1 }
-a.b do |x| x end -> Bare { name: Sym(0), site: 0 }, Send { receiver: 0, name: Sym(1), first: 1, count: 0, site: 1 }, Local { depth: 0, slot: 0, name: Sym(2), behind: 1 }, Item(2), Sequence { first: 3, count: 1 }, Block { scope: 1, parameters: 1, size: 1, body: 4 }, WithBlock(1, 5), Item(6), Sequence { first: 7, count: 1 }
-a.b(1) do end.c -> Bare { name: Sym(0), site: 0 }, Int(1), Item(1), Send { receiver: 0, name: Sym(1), first: 2, count: 1, site: 1 }, Sequence { first: 4, count: 0 }, Block { scope: 1, parameters: 0, size: 0, body: 4 }, WithBlock(3, 5), Send { receiver: 6, name: Sym(2), first: 7, count: 0, site: 2 }, Item(7), Sequence { first: 8, count: 1 }
-puts a.b do end -> Bare { name: Sym(1), site: 0 }, Send { receiver: 0, name: Sym(2), first: 1, count: 0, site: 1 }, Item(1), Call { name: Sym(0), first: 2, count: 1, site: 2 }, Sequence { first: 4, count: 0 }, Block { scope: 1, parameters: 0, size: 0, body: 4 }, WithBlock(3, 5), Item(6), Sequence { first: 7, count: 1 }
 x = f 1 do end -> Int(1), Item(0), Call { name: Sym(1), first: 1, count: 1, site: 0 }, Sequence { first: 3, count: 0 }, Block { scope: 1, parameters: 0, size: 0, body: 3 }, WithBlock(2, 4), Assign { depth: 0, slot: 0, name: Sym(0), behind: 5, value: 5 }, Item(6), Sequence { first: 7, count: 1 }
 return f 1 do end -> Int(1), Item(0), Call { name: Sym(0), first: 1, count: 1, site: 0 }, Sequence { first: 3, count: 0 }, Block { scope: 1, parameters: 0, size: 0, body: 3 }, WithBlock(2, 4), Return(5), Item(6), Sequence { first: 7, count: 1 }
 Ractor -> Constant(Plain(Sym(0))), Item(0), Sequence { first: 1, count: 1 }

@@ -5,6 +5,14 @@ use std::test::Fail;
 
 /// Sources with their nodes.
 const SHAPES: &str = "\
+a.b -> Bare { name: Sym(0), site: 0 }, Send { receiver: 0, name: Sym(1), first: 1, count: 0, site: 1 }, Item(1), Sequence { first: 2, count: 1 }
+a.b(1)^n.c -> Bare { name: Sym(0), site: 0 }, Int(1), Item(1), Send { receiver: 0, name: Sym(1), first: 2, count: 1, site: 1 }, Send { receiver: 3, name: Sym(2), first: 4, count: 0, site: 2 }, Item(4), Sequence { first: 5, count: 1 }
+-2.abs -> Int(-2), Send { receiver: 0, name: Sym(0), first: 1, count: 0, site: 0 }, Item(1), Sequence { first: 2, count: 1 }
+- 2.abs -> Int(2), Send { receiver: 0, name: Sym(0), first: 1, count: 0, site: 0 }, Negate(1), Item(2), Sequence { first: 3, count: 1 }
+!a.b == c -> Bare { name: Sym(0), site: 0 }, Send { receiver: 0, name: Sym(1), first: 1, count: 0, site: 1 }, Not(1), Bare { name: Sym(2), site: 2 }, Binary(Equal, 2, 3), Item(4), Sequence { first: 5, count: 1 }
+a.b do |x| x end -> Bare { name: Sym(0), site: 0 }, Send { receiver: 0, name: Sym(1), first: 1, count: 0, site: 1 }, Local { depth: 0, slot: 0, name: Sym(2), behind: 1 }, Item(2), Sequence { first: 3, count: 1 }, Block { scope: 1, parameters: 1, size: 1, body: 4 }, WithBlock(1, 5), Item(6), Sequence { first: 7, count: 1 }
+a.b(1) do end.c -> Bare { name: Sym(0), site: 0 }, Int(1), Item(1), Send { receiver: 0, name: Sym(1), first: 2, count: 1, site: 1 }, Sequence { first: 4, count: 0 }, Block { scope: 1, parameters: 0, size: 0, body: 4 }, WithBlock(3, 5), Send { receiver: 6, name: Sym(2), first: 7, count: 0, site: 2 }, Item(7), Sequence { first: 8, count: 1 }
+puts a.b do end -> Bare { name: Sym(1), site: 0 }, Send { receiver: 0, name: Sym(2), first: 1, count: 0, site: 1 }, Item(1), Call { name: Sym(0), first: 2, count: 1, site: 2 }, Sequence { first: 4, count: 0 }, Block { scope: 1, parameters: 0, size: 0, body: 4 }, WithBlock(3, 5), Item(6), Sequence { first: 7, count: 1 }
 a.push 1 -> Bare { name: Sym(0), site: 0 }, Int(1), Item(1), Send { receiver: 0, name: Sym(1), first: 2, count: 1, site: 1 }, Item(3), Sequence { first: 4, count: 1 }
 a.b c, d -> Bare { name: Sym(0), site: 0 }, Bare { name: Sym(2), site: 1 }, Bare { name: Sym(3), site: 2 }, Item(1), Item(2), Send { receiver: 0, name: Sym(1), first: 3, count: 2, site: 3 }, Item(5), Sequence { first: 6, count: 1 }
 x = a.b 1 -> Bare { name: Sym(1), site: 0 }, Int(1), Item(1), Send { receiver: 0, name: Sym(2), first: 2, count: 1, site: 1 }, Assign { depth: 0, slot: 0, name: Sym(0), behind: 5, value: 3 }, Item(4), Sequence { first: 5, count: 1 }
