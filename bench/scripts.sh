@@ -24,5 +24,7 @@ script("sort_texts", "a = []\nx = 12345\nwhile a.size < 50000\n  x = (x * 110351
 script("join", "a = []\ni = 0\nwhile i < 100000\n  a << i\n  i = i + 1\nend\nputs a.join(\", \").size\n")
 script("fib", "def fib(n)\n  return n if n < 2\n  fib(n - 1) + fib(n - 2)\nend\nputs fib(27)\n")
 script("yields", "def f(n)\n  i = 0\n  while i < n\n    i = i + 1\n    yield i\n  end\nend\ns = 0\nf(1000000) { |x| s = s + x }\nputs s\n")
+script("times", "s = 0\n1000000.times { |x| s = s + x }\nputs s\n")
+script("each", "a = []\ni = 0\nwhile i < 200000\n  a << i\n  i = i + 1\nend\ns = 0\n5.times { a.each { |x| s = s + x } }\nputs s, a.map { |x| x * 2 }.size, a.select { |x| x % 2 == 0 }.size\n")
 script("four", "def f(a, b, c, d)\n  a + b + c + d\nend\ni = 0\ns = 0\nwhile i < 1000000\n  s = f(i, 1, 2, s) - s\n  i = i + 1\nend\nputs s\n")
 PY
