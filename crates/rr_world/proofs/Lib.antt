@@ -56,3 +56,4 @@ pub mod PortInsides
 pub mod PortHands
 pub mod PortGoing
 pub mod PortShowing
+pub mod Acts

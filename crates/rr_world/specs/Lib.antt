@@ -24,3 +24,4 @@ pub mod Pairing
 pub mod Starting
 pub mod Moving
 pub mod Getting
+pub mod Acting

@@ -1,6 +1,7 @@
 //! The World: ractors, their hands and their inboxes, and the atomic steps that they make.
 #![tactic(auto)]
 
+mod acting;
 mod changing;
 mod constants;
 mod laws;

@@ -1,20 +1,15 @@
 //! Steps that change the pairs of a hash.
 
-ghost use Rattle.std.specs.Prelude.{◌≡◌, ◌<◌, ◌↔◌, length, IfSome, IfNone, IsTrue, IsSome};
+ghost use Rattle.std.specs.Prelude.{◌≡◌, ◌↔◌, length, IfSome, IfNone, IsTrue, IsSome};
 ghost use Rattle.rr_space.specs.Lookups.{key_at};
 ghost use Rattle.rr_space.specs.Parts.{IsWithin};
 ghost use Rattle.rr_world.specs.Changing.{IsNamedRef};
 ghost use Rattle.rr_world.specs.Packing.{named_ref};
 ghost use Rattle.rr_world.specs.Pairing.{DeletesPair, HasKeyRef, IsKeyRef, IsWritableHash, MayBePaired, SetsPair};
-ghost use Rattle.rr_world.specs.Enabling.{StandsAt};
-ghost use Rattle.rr_world.specs.Runs.{HasOutcome};
-ghost use Rattle.rr_world.specs.declared.step.Action.TheVariants.{SetPair, DeletePair};
 
 use crate::outcome::Outcome;
 use crate::ractor::Ractor;
-use crate::step::{Operand, Reply};
-use crate::world::World;
-use rr_base::RactorNo;
+use crate::step::Operand;
 use rr_space::{Kind, Ref, Space};
 use std::alloc::Global;
 
@@ -111,41 +106,5 @@ impl Ractor {
             return Outcome::NotEnabled;
         };
         Outcome::Done
-    }
-}
-
-impl World {
-    /// A key has a value in a hash.
-    pub(crate) fn set_pair(
-        &mut self,
-        alloc: Global,
-        who: RactorNo,
-        place: usize,
-        hash: Operand,
-        key: Operand,
-        value: Operand,
-    ) -> Reply
-        requires stands { StandsAt who place }
-        requires within { place < length self.old.ractors }
-        ensures { HasOutcome (record { who = who; action = SetPair hash key value }) result self.old self.new }
-    {
-        let ractor = &mut self.ractors[place];
-        ractor.set_pair(alloc, hash, key, value).reply()
-    }
-
-    /// A pair goes from a hash.
-    pub(crate) fn delete_pair(
-        &mut self,
-        who: RactorNo,
-        place: usize,
-        hash: Operand,
-        at: u32,
-    ) -> Reply
-        requires stands { StandsAt who place }
-        requires within { place < length self.old.ractors }
-        ensures { HasOutcome (record { who = who; action = DeletePair hash at }) result self.old self.new }
-    {
-        let ractor = &mut self.ractors[place];
-        ractor.delete_pair(hash, at).reply()
     }
 }

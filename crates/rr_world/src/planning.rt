@@ -8,7 +8,7 @@ ghost use Rattle.rr_world.specs.Packing.{IsPackRefused};
 ghost use Rattle.rr_world.specs.Planning.{IsInPublished, IsPlanOf, IsPlanTaken, Plans, Promotes};
 
 use crate::outcome::Outcome;
-use crate::ractor::Ractor;
+use crate::ractor::{Ractor, put_into};
 use crate::step::Operand;
 use rr_base::Fault;
 use rr_move::Hand;
@@ -70,7 +70,7 @@ impl Ractor {
         requires { IsPlanned self.old.space plan.cluster plan.places }
         ensures { self.new ≡ record self.old { hand = None; home = None; ticket = None; plan = Some plan; published = None } }
     {
-        self.hand = Hand::Planned(plan);
+        put_into(&mut self.hand, Hand::Planned(plan));
     }
 
     /// Puts a plan of the space into the hand whose cluster is published.
@@ -78,7 +78,7 @@ impl Ractor {
         requires { IsPlanned self.old.space published.cluster.now places }
         ensures { self.new ≡ record self.old { hand = None; home = None; ticket = None; plan = None; published = Some (record { places = places; cluster = published.cluster.now }) } }
     {
-        self.hand = Hand::Published(places, published);
+        put_into(&mut self.hand, Hand::Published(places, published));
     }
 
     /// Whether a published plan is in the hand.

@@ -1,9 +1,9 @@
-//! Steps that publish a plan, and promote a published one.
+//! The step that publishes a plan.
 
 ghost use Rattle.std.specs.Prelude.{◌<◌, length};
 ghost use Rattle.rr_world.specs.Enabling.{StandsAt};
 ghost use Rattle.rr_world.specs.Runs.{HasOutcome};
-ghost use Rattle.rr_world.specs.declared.step.Action.TheVariants.{Publish, Promote};
+ghost use Rattle.rr_world.specs.declared.step.Action.TheVariants.{Publish};
 
 use crate::step::Reply;
 use crate::world::World;
@@ -34,15 +34,5 @@ impl World {
                 Reply::Refused(fault)
             }
         }
-    }
-
-    /// The slots of the published plan in the hand become forwards.
-    pub(crate) fn promote(&mut self, who: RactorNo, place: usize) -> Reply
-        requires stands { StandsAt who place }
-        requires within { place < length self.old.ractors }
-        ensures { HasOutcome (record { who = who; action = Promote }) result self.old self.new }
-    {
-        let ractor = &mut self.ractors[place];
-        ractor.promote().reply()
     }
 }

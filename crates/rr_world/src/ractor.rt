@@ -109,6 +109,13 @@ fn alloc_empty(alloc: Global, space: &mut Space, new: NewObject) -> Result<Ref, 
     space.alloc(node)
 }
 
+/// Puts something else into a hand. What was in it goes.
+pub(crate) fn put_into(hand: &mut Hand, held: Hand)
+    ensures { hand.new ≡ held }
+{
+    *hand = held;
+}
+
 impl Ractor {
     /// A ractor without objects, under the limits of the run. Takes no memory.
     pub(crate) fn new(alloc: Global, number: RactorNo, limits: Limits) -> Ractor
@@ -157,7 +164,7 @@ impl Ractor {
     {
         self.space = Space::new(alloc, number, self.limits.slots);
         self.roots = Vec::new(alloc);
-        self.hand = Hand::Empty;
+        put_into(&mut self.hand, Hand::Empty);
         self.runs = false;
     }
 
@@ -194,7 +201,7 @@ impl Ractor {
         requires away { AreAway self.old.space.slots (Some message) home }
         ensures { self.new ≡ record self.old { hand = Some message; home = home; ticket = None; plan = None; published = None } }
     {
-        self.hand = Hand::of_message(message, home);
+        put_into(&mut self.hand, Hand::of_message(message, home));
     }
 
     /// Keeps the home of a message that is shown under the ticket. Without a home the hand is empty.
@@ -202,7 +209,7 @@ impl Ractor {
         requires shells { AreAway self.old.space.slots None home }
         ensures { self.new ≡ record self.old { hand = None; home = home; ticket = waits_under home ticket; plan = None; published = None } }
     {
-        self.hand = Hand::of_home(home, ticket);
+        put_into(&mut self.hand, Hand::of_home(home, ticket));
     }
 
     /// Whether what is shown under the ticket may come into the hand: nothing is in it but the home of that message.
@@ -222,7 +229,7 @@ impl Ractor {
         // With the size comes that each object has its list of clusters.
         let _size = message.size();
         if let Err(message) = self.hand.take_back(ticket, message) {
-            self.hand = Hand::Message(message);
+            put_into(&mut self.hand, Hand::Message(message));
         }
     }
 
@@ -311,7 +318,7 @@ impl Ractor {
         };
         match copy_of(alloc, &self.space, value) {
             Ok(Some(message)) => {
-                self.hand = Hand::Message(message);
+                put_into(&mut self.hand, Hand::Message(message));
                 Outcome::Done
             }
             Ok(None) => Outcome::NotEnabled,
@@ -329,7 +336,7 @@ impl Ractor {
             return Outcome::NotEnabled;
         };
         if self.roots.reserve(1).is_err() {
-            self.hand = Hand::of_message(message, home);
+            put_into(&mut self.hand, Hand::of_message(message, home));
             return Outcome::Refused(Fault::Memory);
         }
         match open(&mut self.space, message) {
@@ -340,7 +347,7 @@ impl Ractor {
                 Outcome::Done
             }
             Err((fault, message)) => {
-                self.hand = Hand::of_message(message, home);
+                put_into(&mut self.hand, Hand::of_message(message, home));
                 Outcome::Refused(fault)
             }
         }

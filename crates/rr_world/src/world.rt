@@ -4,16 +4,13 @@ ghost use Rattle.std.specs.Prelude.{◌≡◌, ◌+◌, ◌<◌, ◌≤◌, ℕ,
 ghost use Rattle.rr_world.specs.Enabling.{StandsAt};
 ghost use Rattle.rr_world.specs.Runs.{HasReading, IsNew, IsRun, IsStep, HasOutcome};
 ghost use Rattle.rr_world.specs.Views.{RunsAt};
-ghost use Rattle.rr_world.specs.declared.step.Action.TheVariants.{Alloc, Pack, Plan, Discard, Offer, Accept, Open, Close};
-ghost use Rattle.rr_world.specs.declared.step.Action.TheVariants.{Freeze, Append, Clear, Push, Write, Take, SetField, SetRaised, Start, End, Read, Detach, PutBack};
+ghost use Rattle.rr_world.specs.declared.step.Action.TheVariants.{Discard, Offer, Accept, Close, Start, End};
 
 use crate::ractor::Ractor;
-use crate::step::{Action, NewObject, Operand, RaisedPart, Reply, Step};
-use rr_base::{Fault, LimitKind, Limits, RactorNo, Sym};
+use crate::step::{Action, Reply, Step};
+use rr_base::{Fault, LimitKind, Limits, RactorNo};
 use rr_inbox::{Front, InboxState};
-use rr_move::shown_by_moving;
 use rr_port::PortState;
-use rr_space::Label;
 use rr_store::StoreState;
 use std::alloc::Global;
 use std::marker::Model;
@@ -67,60 +64,6 @@ impl World {
             ports,
             store,
         })
-    }
-
-    // A new object comes into the ractor's space.
-    fn alloc(&mut self, alloc: Global, who: RactorNo, place: usize, new: NewObject) -> Reply
-        requires stands { StandsAt who place }
-        requires within { place < length self.old.ractors }
-        ensures { HasOutcome (record { who = who; action = Alloc new }) result self.old self.new }
-    {
-        let ractor = &mut self.ractors[place];
-        ractor.alloc(alloc, new).reply()
-    }
-
-    // A copy of the value comes into the hand.
-    fn pack(&mut self, alloc: Global, who: RactorNo, place: usize, value: Operand) -> Reply
-        requires stands { StandsAt who place }
-        requires within { place < length self.old.ractors }
-        ensures { HasOutcome (record { who = who; action = Pack value }) result self.old self.new }
-    {
-        let ractor = &mut self.ractors[place];
-        ractor.pack(alloc, value).reply()
-    }
-
-    // What the value leads to is moved into the hand.
-    fn detach(&mut self, alloc: Global, who: RactorNo, place: usize, value: Operand) -> Reply
-        requires stands { StandsAt who place }
-        requires within { place < length self.old.ractors }
-        ensures { HasOutcome (record { who = who; action = Detach value }) result self.old self.new }
-    {
-        // By the laws on moves this is one, in the whole graph.
-        shown_by_moving();
-        let ractor = &mut self.ractors[place];
-        ractor.detach(alloc, value).reply()
-    }
-
-    // The moved message in the hand comes back into its home.
-    fn put_back(&mut self, who: RactorNo, place: usize) -> Reply
-        requires stands { StandsAt who place }
-        requires within { place < length self.old.ractors }
-        ensures { HasOutcome (record { who = who; action = PutBack }) result self.old self.new }
-    {
-        // By the laws on moves this ends one, in the whole graph.
-        shown_by_moving();
-        let ractor = &mut self.ractors[place];
-        ractor.put_back().reply()
-    }
-
-    // A plan of what is to be published comes into the hand.
-    fn plan(&mut self, alloc: Global, who: RactorNo, place: usize, value: Operand) -> Reply
-        requires stands { StandsAt who place }
-        requires within { place < length self.old.ractors }
-        ensures { HasOutcome (record { who = who; action = Plan value }) result self.old self.new }
-    {
-        let ractor = &mut self.ractors[place];
-        ractor.plan(alloc, value).reply()
     }
 
     // The message or the plan in the hand goes.
@@ -181,16 +124,6 @@ impl World {
         }
     }
 
-    // The message in the hand is opened in the ractor's space.
-    fn open(&mut self, who: RactorNo, place: usize) -> Reply
-        requires stands { StandsAt who place }
-        requires within { place < length self.old.ractors }
-        ensures { HasOutcome (record { who = who; action = Open }) result self.old self.new }
-    {
-        let ractor = &mut self.ractors[place];
-        ractor.open_held().reply()
-    }
-
     // An inbox is closed.
     fn close(&mut self, who: RactorNo, place: usize, to: RactorNo, inbox: usize) -> Reply
         requires stands { StandsAt who place }
@@ -200,117 +133,6 @@ impl World {
         ensures { HasOutcome (record { who = who; action = Close to }) result self.old self.new }
     {
         Reply::WasClosed(self.inboxes[inbox].close(who))
-    }
-
-    // One object of the ractor is frozen.
-    fn freeze(&mut self, who: RactorNo, place: usize, object: Operand) -> Reply
-        requires stands { StandsAt who place }
-        requires within { place < length self.old.ractors }
-        ensures { HasOutcome (record { who = who; action = Freeze object }) result self.old self.new }
-    {
-        let ractor = &mut self.ractors[place];
-        ractor.freeze(object).reply()
-    }
-
-    // A byte comes behind those of a text.
-    fn append(&mut self, who: RactorNo, place: usize, text: Operand, byte: u8) -> Reply
-        requires stands { StandsAt who place }
-        requires within { place < length self.old.ractors }
-        ensures { HasOutcome (record { who = who; action = Append text byte }) result self.old self.new }
-    {
-        let ractor = &mut self.ractors[place];
-        ractor.append(text, byte).reply()
-    }
-
-    // A text has no bytes any more.
-    fn clear_text(&mut self, alloc: Global, who: RactorNo, place: usize, text: Operand) -> Reply
-        requires stands { StandsAt who place }
-        requires within { place < length self.old.ractors }
-        ensures { HasOutcome (record { who = who; action = Clear text }) result self.old self.new }
-    {
-        let ractor = &mut self.ractors[place];
-        ractor.clear_text(alloc, text).reply()
-    }
-
-    // A value comes behind the elements of an array.
-    fn push(&mut self, who: RactorNo, place: usize, array: Operand, value: Operand) -> Reply
-        requires stands { StandsAt who place }
-        requires within { place < length self.old.ractors }
-        ensures { HasOutcome (record { who = who; action = Push array value }) result self.old self.new }
-    {
-        let ractor = &mut self.ractors[place];
-        ractor.push(array, value).reply()
-    }
-
-    // A value comes in the place of an element.
-    fn write(
-        &mut self,
-        who: RactorNo,
-        place: usize,
-        array: Operand,
-        at: u32,
-        value: Operand,
-    ) -> Reply
-        requires stands { StandsAt who place }
-        requires within { place < length self.old.ractors }
-        ensures { HasOutcome (record { who = who; action = Write array at value }) result self.old self.new }
-    {
-        let ractor = &mut self.ractors[place];
-        ractor.write(array, at, value).reply()
-    }
-
-    // An element goes from an array.
-    fn take_element(&mut self, who: RactorNo, place: usize, array: Operand, at: u32) -> Reply
-        requires stands { StandsAt who place }
-        requires within { place < length self.old.ractors }
-        ensures { HasOutcome (record { who = who; action = Take array at }) result self.old self.new }
-    {
-        let ractor = &mut self.ractors[place];
-        ractor.take_element(array, at).reply()
-    }
-
-    // A part of an exception is set.
-    fn set_raised(
-        &mut self,
-        who: RactorNo,
-        place: usize,
-        exception: Operand,
-        part: RaisedPart,
-        value: Operand,
-    ) -> Reply
-        requires stands { StandsAt who place }
-        requires within { place < length self.old.ractors }
-        ensures { HasOutcome (record { who = who; action = SetRaised exception part value }) result self.old self.new }
-    {
-        let ractor = &mut self.ractors[place];
-        ractor.set_raised(exception, part, value).reply()
-    }
-
-    // A field of an object is set.
-    fn set_field(
-        &mut self,
-        who: RactorNo,
-        place: usize,
-        object: Operand,
-        name: Sym,
-        value: Operand,
-    ) -> Reply
-        requires stands { StandsAt who place }
-        requires within { place < length self.old.ractors }
-        ensures { HasOutcome (record { who = who; action = SetField object name value }) result self.old self.new }
-    {
-        let ractor = &mut self.ractors[place];
-        ractor.set_field(object, name, value).reply()
-    }
-
-    // What stands under a label joins the roots.
-    fn read(&mut self, who: RactorNo, place: usize, object: Operand, label: Label) -> Reply
-        requires stands { StandsAt who place }
-        requires within { place < length self.old.ractors }
-        ensures { HasOutcome (record { who = who; action = Read object label }) result self.old self.new }
-    {
-        let ractor = &mut self.ractors[place];
-        ractor.read(object, label).reply()
     }
 
     // A ractor starts, and its inbox and its port with it.
@@ -379,36 +201,14 @@ impl World {
         ensures { HasOutcome (record { who = who; action = action }) result self.old self.new }
     {
         match action {
-            Action::Alloc(new) => self.alloc(alloc, who, place, new),
-            Action::Pack(value) => self.pack(alloc, who, place, value),
-            Action::Detach(value) => self.detach(alloc, who, place, value),
-            Action::Plan(value) => self.plan(alloc, who, place, value),
             Action::Publish => self.publish(alloc, who, place),
-            Action::Promote => self.promote(who, place),
-            Action::PutBack => self.put_back(who, place),
             Action::Discard => self.discard(who, place),
             Action::Accept => self.accept(who, place),
-            Action::Open => self.open(who, place),
             Action::Start => self.start(alloc, who, place),
             Action::End => self.end(alloc, who, place),
             Action::SetConst(name, value) => self.set_const(who, place, name, value),
             Action::SetOwn(name) => self.set_own(who, place, name),
             Action::GetConst(name) => self.get_const(who, place, name),
-            Action::Freeze(object) => self.freeze(who, place, object),
-            Action::Append(text, byte) => self.append(who, place, text, byte),
-            Action::Clear(text) => self.clear_text(alloc, who, place, text),
-            Action::Push(array, value) => self.push(who, place, array, value),
-            Action::Write(array, at, value) => self.write(who, place, array, at, value),
-            Action::Take(array, at) => self.take_element(who, place, array, at),
-            Action::SetRaised(exception, part, value) => self.set_raised(
-                who, place, exception, part, value,
-            ),
-            Action::SetField(object, name, value) => self.set_field(
-                who, place, object, name, value,
-            ),
-            Action::SetPair(hash, key, value) => self.set_pair(alloc, who, place, hash, key, value),
-            Action::DeletePair(hash, at) => self.delete_pair(who, place, hash, at),
-            Action::Read(object, label) => self.read(who, place, object, label),
             Action::Offer(to) => match place_of(to, self.inboxes.len()) {
                 Some(inbox) => self.offer(who, place, to, inbox),
                 None => Reply::NotEnabled,
@@ -423,6 +223,7 @@ impl World {
             Action::Settle(ticket) => self.settle(who, place, ticket),
             Action::Grab(to) => self.grab(who, place, to),
             Action::ClosePort(to) => self.close_port(who, place, to),
+            _ => self.act(alloc, who, place, action),
         }
     }
 
