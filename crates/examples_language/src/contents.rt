@@ -82,7 +82,7 @@ fn symbols_and_labels_have_their_names(rt: HostRuntime) -> Result<(), Fail> {
     for (source, kind, want) in [
         (b":ab".as_slice(), Kind::Symbol, b"ab".as_slice()),
         (b"ab:".as_slice(), Kind::Label, b"ab".as_slice()),
-        (b"@ab".as_slice(), Kind::InstanceVariable, b"@ab".as_slice()),
+        (b"@ab".as_slice(), Kind::InstanceVariable, b"ab".as_slice()),
         (b"ab?".as_slice(), Kind::Name, b"ab?".as_slice()),
     ] {
         assert_eq!(rt; name(source, spanning(source, kind)), want);

@@ -50,8 +50,10 @@ abbrev pub contents_of : List ℕ → List ℕ
 contents_of [] = []
 contents_of (q ∷ bs) = if q == 39 then single_body bs false else (if q == 34 || q == 125 then text_body bs false else [])
 
--- The name that a symbol or a label has, without its colon. Other tokens have their own bytes.
+-- The name that a symbol, a label or an instance variable has, without its colon or its `@`, so that attributes and instance variables
+-- have one name. Other tokens have their own bytes.
 abbrev pub name_of : Kind → List ℕ → List ℕ
 name_of kinds.Symbol word = drop 1 word
+name_of kinds.InstanceVariable word = drop 1 word
 name_of kinds.Label word = take (length word - 1) word
 name_of _ word = word

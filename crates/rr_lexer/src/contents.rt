@@ -113,14 +113,14 @@ pub fn text_contents(alloc: Global, source: &[u8], token: Token) -> Result<Vec<u
     }
 }
 
-/// The name that a symbol or a label has, without its colon: `a` for `:a` and for `a:`. Other tokens have the bytes that
-/// they span.
+/// The name that a symbol, a label or an instance variable has, without its colon or its `@`: `a` for `:a`, `a:` and `@a`. Other
+/// tokens have the bytes that they span.
 pub fn name<'s>(source: &'s [u8], token: Token) -> &'s [u8]
     ensures { result.now ≡ name_of token.kind (word_of source.now token) }
 {
     let bytes = word(source, token);
     match token.kind {
-        Kind::Symbol => &bytes[bytes.len().min(1)..],
+        Kind::Symbol | Kind::InstanceVariable => &bytes[bytes.len().min(1)..],
         Kind::Label => &bytes[..bytes.len().saturating_sub(1)],
         _ => bytes,
     }
