@@ -19,3 +19,7 @@ pub mod Sorting
 pub mod Items
 pub mod Serving
 pub mod Iterating
+pub mod Fielding
+pub mod Fixing
+pub mod Owning
+pub mod Messaging

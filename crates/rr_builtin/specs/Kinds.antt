@@ -1,11 +1,11 @@
 -- Which methods the values of a kind have, and how many arguments they take.
-use Rattle.std.specs.Prelude.{ℕ, Bool, true, false}
+use Rattle.std.specs.Prelude.{ℕ, Bool, true, false, not, ◌&&◌}
 use Rattle.rr_space.specs.declared.kind.Kind.{Kind}
 use Rattle.rr_space.specs.declared.kind.Kind.TheVariants as kind
 use Rattle.rr_tree.specs.declared.node.BinaryOperator.{BinaryOperator}
 use Rattle.rr_tree.specs.declared.node.BinaryOperator.TheVariants.{Add, Subtract, Multiply, Divide, Remainder, Less, LessOrEqual, Greater, GreaterOrEqual, Compare, Equal, NotEqual}
 use Rattle.rr_builtin.specs.declared.method.ObjectMethod.{ObjectMethod}
-use Rattle.rr_builtin.specs.declared.method.ObjectMethod.TheVariants.{IsA, KindOf, IsIdentical}
+use Rattle.rr_builtin.specs.declared.method.ObjectMethod.TheVariants.{IsA, KindOf, IsIdentical, ToS}
 use Rattle.rr_builtin.specs.declared.method.ContentMethod.{ContentMethod}
 use Rattle.rr_builtin.specs.declared.method.ContentMethod.TheVariants.{Size, Length, IsEmpty, First, Last, At, Append, Push, Pop, Shift, Includes, SetAt, Keys, Values, HasKey, Delete, Sum, Sort, Join}
 use Rattle.rr_builtin.specs.declared.method.TellingMethod.{TellingMethod}
@@ -127,6 +127,33 @@ has k (Object m) = true
 has k (Content m) = has_content k m
 has k (Telling m) = has_telling k m
 has k New = is_class k
+
+abbrev pub is_equality : BinaryOperator → Bool
+is_equality Equal = true
+is_equality NotEqual = true
+is_equality _ = false
+
+-- integers, symbols, classes, texts and exceptions have a `to_s` of their own
+abbrev pub has_own_text : Kind → Bool
+has_own_text kind.Integer = true
+has_own_text kind.Symbol = true
+has_own_text kind.Class = true
+has_own_text kind.Text = true
+has_own_text kind.Exception = true
+has_own_text _ = false
+
+abbrev pub has_own : Kind → ObjectMethod → Bool
+has_own k ToS = has_own_text k
+has_own k _ = false
+
+-- whether values of the kind have the method by a class below Object: it then comes before a program's method in Object
+abbrev pub stands_below_object : Kind → BuiltInMethod → Bool
+stands_below_object k (Operator op) = has_operator k op && not (is_equality op)
+stands_below_object k (Number m) = is_integer_kind k
+stands_below_object k (Object m) = has_own k m
+stands_below_object k (Content m) = has_content k m
+stands_below_object k (Telling m) = has_telling k m
+stands_below_object k New = is_class k
 
 abbrev pub object_count : ObjectMethod → ℕ
 object_count IsIdentical = 1

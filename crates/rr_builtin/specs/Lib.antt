@@ -23,3 +23,6 @@ pub mod Calls
 pub mod Copies
 pub mod Rounds
 pub mod Iterations
+pub mod Fixed
+pub mod Fields
+pub mod Messages

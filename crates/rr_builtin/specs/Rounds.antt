@@ -1,8 +1,9 @@
 -- What the rounds of an iteration read.
-use Rattle.std.specs.Prelude.{ℕ, ◌+◌, ◌*◌, slice_get, Option, Some, None}
+use Rattle.std.specs.Prelude.{ℕ, ◌+◌, ◌*◌, Bool, ◌&&◌, slice_get, Option, Some, None}
 use Rattle.rr_space.specs.Graph.{Value}
 use Rattle.rr_space.specs.Tables.{Table, Below, HashKey}
 use Rattle.rr_space.specs.Parts.{value_of, IsWithin}
+use Rattle.rr_space.specs.Views.{can_freeze_at}
 use Rattle.rr_space.specs.Kinds.{kind_at}
 use Rattle.rr_space.specs.declared.kind.Kind.{Kind}
 use Rattle.rr_space.specs.declared.kind.Kind.TheVariants as kind
@@ -13,6 +14,7 @@ use Rattle.rr_builtin.specs.declared.rounds.Round.TheVariants as round
 use Rattle.rr_builtin.specs.Acts.{IsRefAmong}
 use Rattle.rr_builtin.specs.Elements.{elements_of}
 use Rattle.rr_builtin.specs.Hashes.{key_given}
+use Rattle.rr_builtin.specs.Kinds.{is_hash}
 
 -- what a round reads
 pub data Read : Type 0 where
@@ -62,6 +64,10 @@ pair_read _ x = ReadsNone
 -- the value that a hash has now under a key
 abbrev pub pair_at : Below → Table → Ref → Ref → Read
 pair_at below t v key = pair_read (kind_at t v) (value_under below t v (key_given t key))
+
+-- whether it is a hash of the space itself, and none that was published
+abbrev pub is_own_hash : Table → Ref → Bool
+is_own_hash t v = can_freeze_at t v && is_hash (kind_at t v)
 
 abbrev pub IsRoundWithin : ℕ → Round → Type 0
 IsRoundWithin k (round.Item r) = IsWithin k r

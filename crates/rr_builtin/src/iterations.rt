@@ -89,7 +89,7 @@ impl Iterations {
 }
 
 /// Whether values of the kind have the iteration.
-fn iterates(kind: Kind, iteration: Iteration) -> bool
+pub fn iterates(kind: Kind, iteration: Iteration) -> bool
     ensures { result ≡ iterates kind iteration }
 {
     match iteration {

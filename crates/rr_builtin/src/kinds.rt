@@ -1,7 +1,7 @@
 //! Which methods the values of a kind have, and how many arguments they take.
 
 ghost use Rattle.std.specs.Prelude.{◌≡◌};
-ghost use Rattle.rr_builtin.specs.Kinds.{is_shell_kind, is_integer_kind, is_array_kind, is_added, has_order, has_operator, has_size, is_text_kind, is_appended, is_joined, is_hash, is_container, has_content, is_class, is_exception, has_telling, has, object_count, content_count, is_new, is_join, is_of_remote_errors, asks_ractor, count_of};
+ghost use Rattle.rr_builtin.specs.Kinds.{is_shell_kind, is_integer_kind, is_array_kind, is_added, has_order, has_operator, has_size, is_text_kind, is_appended, is_joined, is_hash, is_container, has_content, is_class, is_exception, has_telling, has, is_equality, has_own_text, has_own, stands_below_object, object_count, content_count, is_new, is_join, is_of_remote_errors, asks_ractor, count_of};
 
 use crate::method::{BuiltInMethod, ContentMethod, ObjectMethod, TellingMethod};
 use rr_space::Kind;
@@ -129,7 +129,7 @@ pub(crate) fn is_container(kind: Kind) -> bool
     }
 }
 
-fn is_hash(kind: Kind) -> bool
+pub(crate) fn is_hash(kind: Kind) -> bool
     ensures { result ≡ is_hash kind }
 {
     match kind {
@@ -173,7 +173,7 @@ fn is_class(kind: Kind) -> bool
     }
 }
 
-fn is_exception(kind: Kind) -> bool
+pub(crate) fn is_exception(kind: Kind) -> bool
     ensures { result ≡ is_exception kind }
 {
     match kind {
@@ -201,6 +201,57 @@ pub fn has(kind: Kind, method: BuiltInMethod) -> bool
         BuiltInMethod::Operator(operator) => has_operator(kind, operator),
         BuiltInMethod::Number(_) => is_integer_kind(kind),
         BuiltInMethod::Object(_) => true,
+        BuiltInMethod::Content(method) => has_content(kind, method),
+        BuiltInMethod::Telling(method) => has_telling(kind, method),
+        BuiltInMethod::New => is_class(kind),
+    }
+}
+
+fn is_equality(operator: BinaryOperator) -> bool
+    ensures { result ≡ is_equality operator }
+{
+    match operator {
+        BinaryOperator::Equal => true,
+        BinaryOperator::NotEqual => true,
+        _ => false,
+    }
+}
+
+/// Whether values of the kind have a `to_s` of their own.
+fn has_own_text(kind: Kind) -> bool
+    ensures { result ≡ has_own_text kind }
+{
+    match kind {
+        Kind::Integer => true,
+        Kind::Symbol => true,
+        Kind::Class => true,
+        Kind::Text => true,
+        Kind::Exception => true,
+        _ => false,
+    }
+}
+
+/// Whether a method that all values have stands for the kind in a class of its own.
+fn has_own(kind: Kind, method: ObjectMethod) -> bool
+    ensures { result ≡ has_own kind method }
+{
+    match method {
+        ObjectMethod::ToS => has_own_text(kind),
+        _ => false,
+    }
+}
+
+/// Whether the method that values of the kind have stands in a class below Object. It then comes before a method of the program
+/// that stands in Object.
+pub fn stands_below_object(kind: Kind, method: BuiltInMethod) -> bool
+    ensures { result ≡ stands_below_object kind method }
+{
+    match method {
+        BuiltInMethod::Operator(operator) => {
+            has_operator(kind, operator) && !is_equality(operator)
+        }
+        BuiltInMethod::Number(_) => is_integer_kind(kind),
+        BuiltInMethod::Object(method) => has_own(kind, method),
         BuiltInMethod::Content(method) => has_content(kind, method),
         BuiltInMethod::Telling(method) => has_telling(kind, method),
         BuiltInMethod::New => is_class(kind),

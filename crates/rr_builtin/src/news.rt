@@ -8,6 +8,7 @@ ghost use Rattle.rr_space.specs.Views.{object_of, node_keys, below_node, IsNodeW
 ghost use Rattle.rr_text.specs.Reads.{IsReadWith};
 ghost use Rattle.rr_builtin.specs.Acts.{Acts, IsServed, MakesObject, IsRefAmong, performed};
 ghost use Rattle.rr_builtin.specs.Deeds.{act_of, IsFit, IsDeedAmong};
+ghost use Rattle.rr_builtin.specs.Fixed.{KeepsFixed};
 ghost use Rattle.rr_builtin.specs.News.{empty_hash, new_exception, new_plain, is_exception_class, is_made, may_make, takes_message, new_act};
 
 use crate::built::Built;
@@ -24,6 +25,7 @@ pub(crate) fn make_node(space: &mut Space, node: Node) -> Result<Built, Fault>
     ensures act { (below : Below) (v : Ref) → IsReadWith space.old below → ((e : ℕ × List Object) → Contains (below_node node) e → Contains below e)
         → Acts below (performed (MakesObject (object_of node) (node_keys node)) v) space.old space.new result }
     ensures served { IsServed space.old space.new result }
+    ensures fixed { KeepsFixed space.old.slots space.new.slots }
 {
     match space.alloc(node) {
         Ok(made) => Ok(Built::Value(made)),
@@ -73,7 +75,7 @@ fn is_made(program: &Program, class: ClassId) -> bool
 }
 
 /// Whether a value is a class that has `new`.
-pub(crate) fn may_make(program: &Program, value: Ref) -> bool
+pub fn may_make(program: &Program, value: Ref) -> bool
     ensures { result ≡ may_make program.now value }
 {
     match value {
@@ -119,6 +121,28 @@ fn without_fields(alloc: Global, class: ClassId) -> Node
     ensures fields { AreFieldsDistinct result }
 {
     Node::Object(class, Vec::new(alloc))
+}
+
+/// Makes the object that `new` of a class gives without arguments: an exception has nil as its message.
+///
+/// It is refused with `Memory`, or with `Limit(Slots)` where the space has as many objects as it may. That leaves the objects as
+/// they were.
+pub fn new_object(
+    alloc: Global,
+    space: &mut Space,
+    program: &Program,
+    class: ClassId,
+) -> Result<Built, Fault>
+    ensures act { (below : Below) (v : Ref) → IsReadWith space.old below → Acts below (performed (new_act program.now (Ref.Class class) Ref.Nil) v) space.old space.new result }
+    ensures served { IsServed space.old space.new result }
+    ensures fixed { KeepsFixed space.old.slots space.new.slots }
+{
+    if is_exception_class(program, class) {
+        let node = exception(alloc, class, Ref::Nil)?;
+        make_node(space, node)
+    } else {
+        make_node(space, without_fields(alloc, class))
+    }
 }
 
 /// `new` of a class, with the message of an exception; nil where none is given.

@@ -1,19 +1,22 @@
 //! What the rounds of an iteration read.
 
-ghost use Rattle.std.specs.Prelude.{◌≡◌, IfOk, IfErr, length};
+ghost use Rattle.std.specs.Prelude.{◌≡◌, IfOk, IfErr, IsTrue, length};
 ghost use Rattle.rr_space.specs.Tables.{Below};
 ghost use Rattle.rr_space.specs.Kinds.{kind_at};
+ghost use Rattle.rr_space.specs.Views.{key_of};
+ghost use Rattle.rr_text.specs.Keys.{pair_with};
 ghost use Rattle.rr_text.specs.Reads.{IsAmong, IsReadWith};
 ghost use Rattle.rr_builtin.specs.Acts.{Acts, IsServed, MakesArray, IsRefAmong, performed};
 ghost use Rattle.rr_builtin.specs.Elements.{names_of_hash};
-ghost use Rattle.rr_builtin.specs.Rounds.{read_of, found, element_found, item_at, value_found, pair_at, IsRoundWithin, IsRoundAmong};
+ghost use Rattle.rr_builtin.specs.Rounds.{read_of, found, element_found, item_at, value_found, pair_at, is_own_hash, IsRoundWithin, IsRoundAmong};
 
 use crate::arrays::{element, names};
 use crate::built::Built;
 use crate::deed::make_array;
 use crate::hashes::key_given;
+use crate::kinds::is_hash;
 use rr_base::Fault;
-use rr_space::{Kind, Ref, Space};
+use rr_space::{Key, Kind, Ref, Space};
 use rr_text::pair_with;
 use std::alloc::Global;
 
@@ -99,5 +102,36 @@ pub fn pair_at(alloc: Global, space: &Space, hash: Ref, key: Ref) -> Result<Roun
             None => Ok(Round::Absent),
         },
         _ => Ok(Round::Absent),
+    }
+}
+
+/// Whether a value is a hash of the space itself, and none that was published.
+pub fn is_own_hash(space: &Space, value: Ref) -> bool
+    ensures { result ≡ is_own_hash space.now value }
+{
+    space.can_freeze(value) && is_hash(space.kind_of(value))
+}
+
+/// The pair of a hash of the space that has the key.
+fn place_of_key(space: &Space, hash: Ref, key: &Key) -> Option<usize>
+    requires { IsTrue (is_own_hash space.now hash) }
+    ensures { (below : Below) → result ≡ pair_with below space.now hash (key_of key.now) }
+{
+    // Each slot has its keys, as the clause of the number says.
+    let _count = space.len();
+    space.find(hash, key)
+}
+
+/// The value that a hash of the space has now under a key. It is exact with any clusters, since its keys are the table's own.
+pub fn own_pair_at(alloc: Global, space: &Space, hash: Ref, key: Ref) -> Result<Round, Fault>
+    requires { IsTrue (is_own_hash space.now hash) }
+    ensures is { IfOk result (λ round. (below : Below) → read_of round ≡ pair_at below space.now hash key) }
+    ensures within { IfOk result (λ round. IsRoundWithin (length space.now.slots) round) }
+    ensures among { IfOk result (λ round. (below : Below) → IsReadWith space.now below → IsRefAmong below hash → IsRoundAmong below round) }
+    ensures fault { IfErr result (λ f. f ≡ Fault.Memory) }
+{
+    match key_given(alloc, space, key)? {
+        Some(key) => Ok(value_found(space, hash, place_of_key(space, hash, &key))),
+        None => Ok(Round::Absent),
     }
 }

@@ -1,4 +1,5 @@
 use Rattle.rr_builtin.proofs.Arraying.{object_done}
+use Rattle.rr_builtin.proofs.Fixing.{fixed_more, fixed_same}
 use Rattle.rr_builtin.proofs.Serving.{served_new, served_refused}
 use Rattle.std.proofs.Common.{inl, inr, ⊎_elim}
 use Rattle.rr_builtin.proofs.news.make_node.Goals as goal
@@ -12,3 +13,9 @@ returns-in-Ok-clause-served c = served_new c.args.space.now c.alloc.new.self _ c
 
 pub returns-in-Err-clause-served : goal.returns-in-Err-clause-served
 returns-in-Err-clause-served c = served_refused c.args.space.now c.alloc.new.self c.in-Err.fault c.in-Err.ensures.refused (⊎_elim (λ q. inr q) (λ m. inl m) c.in-Err.ensures.fault)
+
+pub returns-in-Ok-clause-fixed : goal.returns-in-Ok-clause-fixed
+returns-in-Ok-clause-fixed c = fixed_more c.args.space.now.slots c.alloc.new.self.slots _ c.in-Ok.ensures.slots
+
+pub returns-in-Err-clause-fixed : goal.returns-in-Err-clause-fixed
+returns-in-Err-clause-fixed c = fixed_same c.args.space.now c.alloc.new.self c.in-Err.ensures.refused
