@@ -22,7 +22,7 @@ const ROUNDS: u32 = 50;
 /// Runs the program by turns of so many steps, and answers after how many of them it went on.
 fn run_once(alloc: Global, program: &Prepared, budget: u32) -> Result<u64, Fault> {
     let mut space = Space::new(alloc, RactorNo(1), u32::MAX);
-    let mut machine = Machine::new(alloc, program, LIMITS)?;
+    let mut machine = Machine::new(alloc, program, LIMITS, Ref::Nil)?;
     let mut turns = 0u64;
     for _turn in 0..u64::MAX {
         match machine.turn(program, &mut space, budget)? {

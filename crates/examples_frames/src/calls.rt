@@ -1,6 +1,6 @@
 //! The usual path of each call, and the limit.
 
-use rr_base::{Fault, LimitKind};
+use rr_base::{ClassId, Fault, LimitKind, Sym};
 use rr_frames::{Activation, Frames, Given, Shape};
 use rr_space::Ref;
 use std::test::Fail;
@@ -10,7 +10,9 @@ const METHOD: Activation = Activation {
     given: Given::Nothing,
     home: 0,
     root: 0,
-    method: 7,
+    name: Sym(7),
+    class: ClassId::OBJECT,
+    parameters: 2,
 };
 
 const TWO_OF_THREE: Shape = Shape {
@@ -56,7 +58,7 @@ fn a_frame_is_written_and_left(rt: HostRuntime) -> Result<(), Fail> {
         None,
         TWO_OF_THREE,
         Activation {
-            method: 8,
+            name: Sym(8),
             ..METHOD
         },
     )?;
@@ -67,7 +69,7 @@ fn a_frame_is_written_and_left(rt: HostRuntime) -> Result<(), Fail> {
     frames.set(2, 0, Ref::Int(4));
     assert_eq!(rt; int(frames.get(0, 2)), Some(1));
     assert_eq!(rt; int(frames.get(1, 0)), Some(2));
-    assert_eq!(rt; frames.activation(1).map(|a| a.method), Some(8));
+    assert_eq!(rt; frames.activation(1).map(|a| a.name.0), Some(8));
     frames.pop();
     assert_eq!(rt; frames.len(), 1);
     assert_eq!(rt; int(frames.get(0, 2)), Some(1));

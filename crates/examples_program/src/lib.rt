@@ -14,6 +14,8 @@ mod calls;
 #[cfg(test)]
 mod containers;
 #[cfg(test)]
+mod fields;
+#[cfg(test)]
 mod hashes;
 #[cfg(test)]
 mod interpolations;

@@ -16,8 +16,13 @@ use Rattle.rr_builtin.proofs.Among.{among_of, none_in}
 use Rattle.rr_eval.specs.declared.call.Call.{Call}
 use Rattle.rr_eval.specs.declared.call.Callee.{Callee}
 use Rattle.rr_eval.specs.declared.call.Callee.TheVariants.{SetIndex}
-use Rattle.rr_builtin.specs.Acts.{Act, Answers, Makes, Freezes, Appends, Pushes, Takes, MakesArray, Puts, SetsValue, AddsPair, AddsText, TakesPair, MakesObject, Outcome, outcome_of, performed, changed, changed_slot, froze, froze_slot, added, with_key, array_object, with_pair, without_pair, without_key, key_count, IsRefAmong, IsBuiltWithin, IsBuiltAmong, IsDone, Acts}
+use Rattle.rr_builtin.specs.Acts.{Act, Answers, Makes, Freezes, Appends, Pushes, Takes, MakesArray, Puts, SetsValue, AddsPair, AddsText, TakesPair, MakesObject, Outcome, Gives, Raises, outcome_of, performed, changed, changed_slot, froze, froze_slot, added, with_key, array_object, with_pair, without_pair, without_key, key_count, IsRefAmong, IsBuiltWithin, IsBuiltAmong, IsDone, Acts}
+use Rattle.rr_base.specs.declared.name.Sym.{Sym}
+use Rattle.rr_space.specs.Kinds.{kind_at, class_at}
 use Rattle.rr_builtin.specs.Calls.{call_act}
+use Rattle.rr_builtin.specs.Fields.{can_set, set_field, with_field}
+use Rattle.rr_builtin.specs.Kinds.{is_shell_kind}
+use Rattle.rr_builtin.specs.declared.problem.Problem.TheVariants.{Frozen, Moved}
 use Rattle.rr_builtin.specs.News.{empty_hash}
 use Rattle.rr_builtin.specs.declared.method.BuiltInMethod.{BuiltInMethod}
 use Rattle.rr_builtin.specs.declared.built.Built.{Built}
@@ -28,13 +33,13 @@ use Rattle.rr_eval.specs.declared.problem.Response.TheVariants as response
 use Rattle.rr_eval.specs.Context.{Context}
 use Rattle.rr_eval.specs.Callees.{method_of}
 use Rattle.rr_eval.specs.Calls.{sent, unpublished, reply_with, call_reply}
-use Rattle.rr_eval.specs.Tasks.{task_reply, array_reply, text_reply, joined_texts, inspected_reply, given_by, unless_lacking, lack_of, texts_of, given_or_ended, on_given, empty_reply, filled, hash_reply}
+use Rattle.rr_eval.specs.Tasks.{task_reply, array_reply, field_reply, text_reply, joined_texts, inspected_reply, given_by, unless_lacking, lack_of, texts_of, given_or_ended, on_given, empty_reply, filled, hash_reply}
 use Rattle.rr_eval.specs.Responses.{ref_of, response_from, response_of}
 use Rattle.rr_eval.specs.Requests.{Adds, arguments_of}
 use Rattle.rr_eval.specs.Runs.{alone}
 use Rattle.rr_eval.specs.Script.{Does, Calls, Reply}
 use Rattle.rr_eval.specs.declared.call.Task.{Task}
-use Rattle.rr_eval.specs.declared.call.Task.TheVariants.{Puts as PutsTask, Inspect, Print, MakeArray, MakeText, MakeHash}
+use Rattle.rr_eval.specs.declared.call.Task.TheVariants.{Puts as PutsTask, Inspect, Print, MakeArray, MakeText, MakeHash, SetField}
 use Rattle.rr_builtin.specs.declared.problem.Problem.{Problem as BuiltInProblem}
 use Rattle.rr_text.specs.Names.{names_of}
 use Rattle.rr_eval.specs.Within.{reach, IsReached, IsCallReached, IsResponseReached}
@@ -212,11 +217,27 @@ hash_adds c vs t =
     let more = on_given_adds (empty_reply t) (λ h u. filled c h vs u) (λ h u. filled_adds c h vs u) in
     omega arith
 
+-- one of two
+pick_adds : (t : Table) (b : Bool) (d e : Outcome × Table) → count t ≤ count d.1 → count t ≤ count e.1 → count t ≤ count (if b then d else e).1
+pick_adds t true d e first second = first
+pick_adds t false d e first second = second
+
+pub set_field_adds : (name : ℕ) (x : Value) (v : Ref) (t : Table) → count t ≤ count (set_field name x v t).1
+set_field_adds name x v t =
+    pick_adds t (is_shell_kind (kind_at t v)) (Raises Moved, t) _ (omega arith)
+    (pick_adds t (can_set t v) (Gives x, changed (with_field name x) v t) (Raises (Frozen (class_at t v)), t) (changed_adds (with_field name x) v t) (omega arith))
+
+field_adds : (x : Sym) (vs : List Ref) (t : Table) → count t ≤ count (field_reply x vs t).table
+field_adds x [] t = omega arith
+field_adds x (object ∷ []) t = omega arith
+field_adds x (object ∷ v ∷ vs) t = set_field_adds x.0 (value_of v) object t
+
 given_adds : (task : Task) (c : Context) (s : List ℕ) (vs : List Ref) (t : Table) → count t ≤ count (given_by task c s vs t).table
 given_adds MakeText c s vs t = text_adds s t
 given_adds MakeArray c s vs t = array_adds vs t
 given_adds MakeHash c s vs t = hash_adds c vs t
 given_adds Inspect c s vs t = inspected_adds vs t
+given_adds (SetField x) c s vs t = field_adds x vs t
 given_adds PutsTask c s vs t = omega arith
 given_adds Print c s vs t = omega arith
 

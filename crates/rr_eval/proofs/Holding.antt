@@ -26,12 +26,13 @@ use Rattle.rr_eval.specs.declared.frame.Control.{Control}
 use Rattle.rr_eval.specs.declared.frame.Control.TheVariants.{Enter, Operate, Give, Throw, Raise, RaiseValue}
 use Rattle.rr_eval.specs.View.{View}
 use Rattle.rr_eval.specs.declared.call_stack.Entry.TheVariants.{OfMethod, OfBlock}
+use Rattle.rr_eval.specs.Blocks.{activation_in}
 use Rattle.rr_eval.specs.Frames.{below_of, waits_for}
 use Rattle.rr_frames.specs.declared.activation.Activation.{Activation}
 use Rattle.rr_eval.specs.Variables.{top, outer, read_variable, write_variable}
 use Rattle.rr_eval.specs.declared.call_stack.Variable.{Variable}
 use Rattle.rr_eval.specs.declared.call_stack.Entry.{Entry}
-use Rattle.rr_eval.specs.Within.{Reach, reach, AreVariablesReached, IsReached, IsAnswerReached, IsFrameReached, IsControlReached, IsResponseReached, AreReached, AreWithin}
+use Rattle.rr_eval.specs.Within.{Reach, reach, AreVariablesReached, IsEntryReached, IsReached, IsAnswerReached, IsFrameReached, IsControlReached, IsResponseReached, AreReached, AreWithin}
 
 -- more slots
 pub ref_more : (k l : ℕ) (cs : Option Below) → k ≤ l → (r : Ref) → IsReached (reach k cs) r → IsReached (reach l cs) r
@@ -62,6 +63,7 @@ frame_more k l cs le (frames.Body loop) h = tt
 frame_more k l cs le frames.Negation h = tt
 frame_more k l cs le (frames.Left op b) h = tt
 frame_more k l cs le (frames.Store x) h = tt
+frame_more k l cs le (frames.SetField x) h = tt
 frame_more k l cs le (frames.Branch b d) h = tt
 frame_more k l cs le frames.Break h = tt
 frame_more k l cs le frames.Next h = tt
@@ -95,7 +97,7 @@ reached_more k l cs le m h = record {
   control = control_more k l cs le m.control h.control;
   frames = All-weaker (IsFrameReached (reach k cs)) (IsFrameReached (reach l cs)) (frame_more k l cs le) m.frames h.frames;
   held = All-weaker (IsReached (reach k cs)) (IsReached (reach l cs)) (ref_more k l cs le) m.held h.held;
-  calls = All-weaker (AreVariablesReached (reach k cs)) (AreVariablesReached (reach l cs)) (λ f. All-weaker (IsReached (reach k cs)) (IsReached (reach l cs)) (ref_more k l cs le) f.variables) m.calls.frames h.calls;
+  calls = All-weaker (AreVariablesReached (reach k cs)) (AreVariablesReached (reach l cs)) (λ f. All-weaker (IsReached (reach k cs)) (IsReached (reach l cs)) (ref_more k l cs le) (f.activation.itself ∷ f.variables)) m.calls.frames h.calls;
   rescuing = ref_more k l cs le m.rescuing h.rescuing;
 }
 
@@ -180,9 +182,20 @@ pub all_append : {A : Type 0} (P : A → Type 0) (xs ys : List A) → All P xs �
 all_append P [] ys h i = i
 all_append P (x ∷ xs) ys h i = all_cons P x (xs ++ ys) (h zero x (omega arith)) (all_append P xs ys (all_rest P x xs h) i)
 
--- the variables of a frame
+-- `self` of a frame, and its variables
+whole_within : (k : Reach) (fs : List Activated) (number : ℕ) → All (AreVariablesReached k) fs → AreVariablesReached k (frame_at number fs)
+whole_within k fs number h = all_at (AreVariablesReached k) fs number no_frame (all_cons (IsReached k) refs.Nil [] tt (all_nil (IsReached k))) h
+
+pub itself_within : (k : Reach) (fs : List Activated) (number : ℕ) → All (AreVariablesReached k) fs → IsReached k (frame_at number fs).activation.itself
+itself_within k fs number h = whole_within k fs number h zero refs.Nil (omega arith)
+
 pub frame_within : (k : Reach) (fs : List Activated) (number : ℕ) → All (AreVariablesReached k) fs → All (IsReached k) (frame_at number fs).variables
-frame_within k fs number h = all_at (AreVariablesReached k) fs number no_frame (all_nil (IsReached k)) h
+frame_within k fs number h = all_rest (IsReached k) (frame_at number fs).activation.itself (frame_at number fs).variables (whole_within k fs number h)
+
+-- `self` of a new frame
+pub activation_within : (k : Reach) (entry : Entry) (fs : List Activated) → All (AreVariablesReached k) fs → IsEntryReached k entry → IsReached k (activation_in entry fs).itself
+activation_within k (OfMethod call) fs h itself = itself
+activation_within k (OfBlock home) fs h itself = itself_within k fs home h
 
 -- the value of a variable
 pub variable_within : (k : Reach) (fs : List Activated) (x : Variable) → All (AreVariablesReached k) fs → IsReached k (read_variable x fs)
@@ -195,7 +208,8 @@ pub written_within : (k : Reach) (fs : List Activated) (x : Variable) (v : Ref) 
 written_within k fs x v h value =
     let number = outer x.depth (top fs) fs in
     let old = frame_at number fs in
-    All-set (AreVariablesReached k) fs number (record old { variables = set old.variables x.slot v }) (All-set (IsReached k) old.variables x.slot v value (frame_within k fs number h)) h
+    All-set (AreVariablesReached k) fs number (record old { variables = set old.variables x.slot v })
+    (all_cons (IsReached k) old.activation.itself (set old.variables x.slot v) (itself_within k fs number h) (All-set (IsReached k) old.variables x.slot v value (frame_within k fs number h))) h
 
 -- the variables of a new frame
 replicated : (k : Reach) (n : ℕ) → All (IsReached k) (replicate n refs.Nil)
@@ -208,8 +222,8 @@ laid_within k parameters size vs h =
     all_append (IsReached k) (take size kept) (replicate (size - length kept) refs.Nil) (all_take (IsReached k) size kept (all_take (IsReached k) parameters vs h)) (replicated k (size - length kept))
 
 -- one frame more, or less
-pub entered_within : (k : Reach) (fs : List Activated) (f : Activated) → All (AreVariablesReached k) fs → All (IsReached k) f.variables → All (AreVariablesReached k) (fs ++ f ∷ [])
-entered_within k fs f h new = All-push (AreVariablesReached k) fs f h new
+pub entered_within : (k : Reach) (fs : List Activated) (f : Activated) → All (AreVariablesReached k) fs → IsReached k f.activation.itself → All (IsReached k) f.variables → All (AreVariablesReached k) (fs ++ f ∷ [])
+entered_within k fs f h itself new = All-push (AreVariablesReached k) fs f h (all_cons (IsReached k) f.activation.itself f.variables itself new)
 
 pub left_within : (k : Reach) (fs : List Activated) → All (AreVariablesReached k) fs → All (AreVariablesReached k) (left fs)
 left_within k fs h = all_take (AreVariablesReached k) (length fs - 1) fs h
@@ -287,19 +301,19 @@ raise_value_reached k m v message e h = subst (IsControlReached k) e h.control
 
 -- a frame that waits for a body
 waiting_reached : (k : Reach) (entry : Entry) → IsFrameReached k (waits_for entry)
-waiting_reached k (OfMethod takes) = tt
+waiting_reached k (OfMethod call) = tt
 waiting_reached k (OfBlock home) = tt
 
 -- a new frame, with the values of its parameters
 pub enter_reached : (k : Reach) (m : View) (f : Frame) (fs : List Frame) (held : List Ref) (calls : Stack) (blocks : List (Option ℕ)) (entry : Entry) (parameters size body : ℕ) (vs : List Ref) (a : Activation) → fs ≡ m.frames ++ waits_for entry ∷ [] → held ≡ below_of f m.held
-    → calls.frames ≡ m.calls.frames ++ record { variables = laid parameters size vs; activation = a } ∷ [] → AreReached k m → All (IsReached k) vs
+    → calls.frames ≡ m.calls.frames ++ record { variables = laid parameters size vs; activation = a } ∷ [] → AreReached k m → IsReached k a.itself → All (IsReached k) vs
     → AreReached k (record { control = Enter body; frames = fs; held = held; calls = calls; blocks = blocks; rescuing = m.rescuing; left = m.left })
 unfolding AreReached
-enter_reached k m f fs held calls blocks entry parameters size body vs a pushed cleared entered h values = record {
+enter_reached k m f fs held calls blocks entry parameters size body vs a pushed cleared entered h itself values = record {
   control = tt;
   frames = subst (All (IsFrameReached k)) (sym pushed) (All-push (IsFrameReached k) m.frames (waits_for entry) h.frames (waiting_reached k entry));
   held = subst (All (IsReached k)) (sym cleared) (below_reached (IsReached k) f m.held h.held);
-  calls = subst (All (AreVariablesReached k)) (sym entered) (entered_within k m.calls.frames (record { variables = laid parameters size vs; activation = a }) h.calls (laid_within k parameters size vs values));
+  calls = subst (All (AreVariablesReached k)) (sym entered) (entered_within k m.calls.frames (record { variables = laid parameters size vs; activation = a }) h.calls itself (laid_within k parameters size vs values));
   rescuing = h.rescuing;
 }
 
@@ -316,14 +330,14 @@ stands_reached k m n t u f is h = record {
 
 -- a turn of an iteration, with the values of its parameters
 pub turn_reached : (k : Reach) (m : View) (i : Iterating) (fs : List Frame) (calls : Stack) (blocks : List (Option ℕ)) (parameters size body : ℕ) (vs : List Ref) (a : Activation) → fs ≡ m.frames ++ frames.Round i ∷ []
-    → calls.frames ≡ m.calls.frames ++ record { variables = laid parameters size vs; activation = a } ∷ [] → AreReached k m → All (IsReached k) vs
+    → calls.frames ≡ m.calls.frames ++ record { variables = laid parameters size vs; activation = a } ∷ [] → AreReached k m → IsReached k a.itself → All (IsReached k) vs
     → AreReached k (record { control = Enter body; frames = fs; held = m.held; calls = calls; blocks = blocks; rescuing = m.rescuing; left = m.left })
 unfolding AreReached
-turn_reached k m i fs calls blocks parameters size body vs a pushed entered h values = record {
+turn_reached k m i fs calls blocks parameters size body vs a pushed entered h itself values = record {
   control = tt;
   frames = subst (All (IsFrameReached k)) (sym pushed) (All-push (IsFrameReached k) m.frames (frames.Round i) h.frames tt);
   held = h.held;
-  calls = subst (All (AreVariablesReached k)) (sym entered) (entered_within k m.calls.frames (record { variables = laid parameters size vs; activation = a }) h.calls (laid_within k parameters size vs values));
+  calls = subst (All (AreVariablesReached k)) (sym entered) (entered_within k m.calls.frames (record { variables = laid parameters size vs; activation = a }) h.calls itself (laid_within k parameters size vs values));
   rescuing = h.rescuing;
 }
 

@@ -2,6 +2,7 @@
 use Rattle.std.proofs.Common.{◌≡◌, ◌<◌, ℕ, zero, suc, arith, slice_get, ◌-◌, ◌∙◌, take, slice_index_or, Option, None, sym, ap, refl, nat_lt, nat_eq, Bool, true, false, if◌then◌else◌, List, [], ◌∷◌, ◌++◌, length, reverse, Some, Result, Ok, Err, OnOk, IfErr, subst}
 use Rattle.rr_base.specs.declared.fault.Fault.{Fault}
 use Rattle.rr_base.specs.declared.name.Sym.{Sym}
+use Rattle.rr_base.specs.declared.name.TheConstants.ClassId.{OBJECT}
 use Rattle.rr_space.specs.Tables.{Table}
 use Rattle.rr_frames.specs.Frames.{Stack, Frame as Activated, frame_at, no_frame, laid, left}
 use Rattle.std.proofs.lemmas.Bool.Decides.{nat_tests}
@@ -22,7 +23,7 @@ use Rattle.rr_eval.specs.declared.iterating.Iterating.{Iterating}
 use Rattle.rr_eval.specs.declared.frame.Frame.TheVariants as frames
 use Rattle.rr_eval.specs.Script.{State, Script, Ret, Go, See, Do, Outcome, after}
 use Rattle.rr_eval.specs.Methods.{Method}
-use Rattle.rr_eval.specs.Rules.{Context, throw, on_value, entered, own_rule, framed, with_frame, left_by, activation_in}
+use Rattle.rr_eval.specs.Rules.{Context, throw, on_value, entered, own_rule, framed, running, with_frame, left_by, activation_in}
 use Rattle.rr_eval.specs.Frames.{Code, means, runs_in, resumed, unwind, waits_for, Nested}
 use Rattle.rr_eval.specs.Turns.{IsNested, Stands, blocks_of, state_of}
 use Rattle.rr_eval.specs.Blocks.{without_frame}
@@ -73,7 +74,7 @@ answer_passes c _ stand (Ends number v) usual other = refl
 
 -- a body in a frame of its own begins, where there may be one more
 waiting_push : (c : Code) (fs : List Frame) (entry : Entry) (held : List Ref) (o : Outcome) → unwind c (reverse fs) held (after o (λ a. runs_in c (left_by entry a))) ≡ unwind c (reverse (fs ++ waits_for entry ∷ [])) held o
-waiting_push c fs (OfMethod takes) held o = sym (rest_push c fs frames.Back held o)
+waiting_push c fs (OfMethod call) held o = sym (rest_push c fs frames.Back held o)
 waiting_push c fs (OfBlock home) held o = sym (rest_push c fs frames.Past held o)
 
 pub enters : (c : Code) (fs : List Frame) (held : List Ref) (entry : Entry) (parameters size : ℕ) (vs : List Ref) (block : Option ℕ) (body : ℕ) (new : Stack) (blocks more : List (Option ℕ)) (s : State) (n : ℕ)
@@ -99,11 +100,11 @@ too_deep c entry parameters size vs b body s full =
     ap (λ x. if x then Do (with_frame (record { variables = laid parameters size vs; activation = activation_in entry s.frames }) b) (Go body (left_by entry)) else throw c (BuiltIn TooDeep)) (sym full)
 
 -- as many values as the method has parameters, or not
-pub as_many : (c : Context) (x : Sym) (m : Method) (b : Option Tree) (vs : List Ref) → nat_eq (length vs) m.parameters ≡ true → See (λ k. entered c m b vs k.calls) ≡ own_rule c x (Some m) b vs
-as_many c x m b vs same = ap (λ t. if t then See (λ k. entered c m b vs k.calls) else throw c (BuiltIn (Count (length vs) m.parameters m.parameters))) (sym same)
+pub as_many : (c : Context) (x : Sym) (m : Method) (b : Option Tree) (vs : List Ref) → nat_eq (length vs) m.parameters ≡ true → See (λ k. entered c (running k.calls.frames).itself OBJECT m b vs k.calls) ≡ own_rule c x (Some m) b vs
+as_many c x m b vs same = ap (λ t. if t then See (λ k. entered c (running k.calls.frames).itself OBJECT m b vs k.calls) else throw c (BuiltIn (Count (length vs) m.parameters m.parameters))) (sym same)
 
 pub others : (c : Context) (x : Sym) (m : Method) (b : Option Tree) (vs : List Ref) → nat_eq (length vs) m.parameters ≡ false → throw c (BuiltIn (Count (length vs) m.parameters m.parameters)) ≡ own_rule c x (Some m) b vs
-others c x m b vs not = ap (λ t. if t then See (λ k. entered c m b vs k.calls) else throw c (BuiltIn (Count (length vs) m.parameters m.parameters))) (sym not)
+others c x m b vs not = ap (λ t. if t then See (λ k. entered c (running k.calls.frames).itself OBJECT m b vs k.calls) else throw c (BuiltIn (Count (length vs) m.parameters m.parameters))) (sym not)
 
 -- an element of a list, whatever stands past its end
 pub same_there : {A : Type 0} (xs : List A) (i : ℕ) (d e : A) → i < length xs → slice_index_or xs i d ≡ slice_index_or xs i e
@@ -134,7 +135,7 @@ unfolding blocks_of
 block_there ns blocks number = get_or-map (option_map (tree_at ns)) blocks number None
 
 -- what a frame has beside its variables, past the frames
-pub no_frame_there : (fs : List Activated) (number : ℕ) → option_map (λ f. f.activation) (slice_get fs number) ≡ None → (frame_at number fs).activation ≡ activation_in (OfMethod false) []
+pub no_frame_there : (fs : List Activated) (number : ℕ) → option_map (λ f. f.activation) (slice_get fs number) ≡ None → (frame_at number fs).activation ≡ no_frame.activation
 no_frame_there fs number is = ap (λ f. f.activation) (past_or fs number no_frame (unmapped (λ f. f.activation) (slice_get fs number) is))
 
 -- there may be one more frame

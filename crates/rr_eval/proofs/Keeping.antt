@@ -11,14 +11,13 @@ use Rattle.rr_space.specs.declared.refer.Ref.TheVariants.{Int, Local}
 use Rattle.rr_space.specs.declared.refer.Ref.TheVariants as refs
 use Rattle.rr_tree.specs.Tree.{Tree}
 use Rattle.rr_frames.specs.Frames.{Stack, list_of}
-use Rattle.std.specs.Option.{is_some}
 use Rattle.rr_frames.specs.declared.activation.Given.{Given}
 use Rattle.rr_frames.specs.declared.activation.Given.TheVariants as given
 use Rattle.rr_frames.specs.declared.activation.Shape.{Shape}
 use Rattle.rr_eval.specs.declared.call_stack.Entry.{Entry}
 use Rattle.rr_eval.specs.declared.call_stack.Entry.TheVariants.{OfMethod, OfBlock}
 use Rattle.rr_eval.specs.Variables.{top}
-use Rattle.rr_eval.specs.Blocks.{given_values, to_given, shape_in, tree_in, called_as}
+use Rattle.rr_eval.specs.Blocks.{invocation, given_values, to_given, shape_in, tree_in, called_as}
 use Rattle.rr_tree.specs.declared.node.BinaryOperator.{BinaryOperator}
 use Rattle.rr_eval.specs.declared.problem.Answer.{Answer}
 use Rattle.rr_eval.specs.declared.problem.Answer.TheVariants.{Gave, Raised, Broke, Done, Returned, Ends}
@@ -113,7 +112,7 @@ pub past_keeps : (a : Answer) → Keeps (past a)
 past_keeps a = λ l. (λ m. omega arith, λ k. tt)
 
 pub left_keeps : (entry : Entry) (a : Answer) → Keeps (left_by entry a)
-left_keeps (OfMethod takes) a = back_keeps a
+left_keeps (OfMethod call) a = back_keeps a
 left_keeps (OfBlock home) a = past_keeps a
 
 pub opened_keeps : (c : Context) (entry : Entry) (parameters size : ℕ) (vs : List Ref) (b : Option Tree) (s : Stack) (next : Script) → Keeps next → Keeps (opened c entry parameters size vs b s next)
@@ -126,7 +125,7 @@ pub own_keeps : (c : Context) (x : Sym) (m : Option Method) (b : Option Tree) (v
 own_keeps c x None b vs = throw_keeps c (MissingMethod (callees.Name x) (Instance OBJECT))
 own_keeps c x (Some m) b vs =
     if_keeps (nat_eq (length vs) m.parameters) _ _
-    (λ k. framed_keeps c (OfMethod (is_some b)) m.parameters m.size vs b m.body k.calls)
+    (λ k. framed_keeps c (OfMethod (invocation (running k.calls.frames).itself OBJECT m b)) m.parameters m.size vs b m.body k.calls)
     (throw_keeps c (BuiltIn (Count (length vs) m.parameters m.parameters)))
 
 pub to_given_keeps : (c : Context) (vs : Option (List Ref)) (next : List Ref → Script) → ((ws : List Ref) → Keeps (next ws)) → Keeps (to_given c vs next)

@@ -27,3 +27,4 @@ pub mod Rounds
 pub mod Spreads
 pub mod Raises
 pub mod Trying
+pub mod Assigning

@@ -1,5 +1,5 @@
 -- An evaluation takes no object away.
-use Rattle.std.proofs.Common.{◌≡◌, nat_eq, slice_index_or, ap, sym, subst, ◌≤◌, ◌-◌, ℕ, zero, suc, Bool, arith, List, [], ◌∷◌, ◌++◌, length, reverse, Option, Some, None, true, false}
+use Rattle.std.proofs.Common.{◌≡◌, refl, nat_eq, slice_index_or, ap, sym, subst, ◌≤◌, ◌-◌, ℕ, zero, suc, Bool, arith, List, [], ◌∷◌, ◌++◌, length, reverse, Option, Some, None, true, false}
 use Rattle.std.specs.Prelude.{codes}
 use Rattle.rr_base.specs.Classes.{class_id}
 use Rattle.rr_base.specs.ClassNames.{class_named}
@@ -14,7 +14,7 @@ use Rattle.rr_space.specs.declared.refer.Ref.TheVariants.{Int, Local}
 use Rattle.rr_space.specs.declared.refer.Ref.TheVariants as refs
 use Rattle.rr_builtin.specs.Objects.{is_truthy}
 use Rattle.rr_eval.specs.Values.{goes_on}
-use Rattle.rr_tree.specs.Tree.{tree_at, Tree, nil, truth, int, text, symbol, class_named as class_tree, constant, array, hash, pairs, interpolation, send, index, set_index, append, local, bare, call, logical_and, logical_or, logical_not, negate, binary, assign, choose, repeat, sequence, with_block, block, yield, break, next as next_tree, return, rescue, ensure, operator_assign, or_assign, and_assign}
+use Rattle.rr_tree.specs.Tree.{tree_at, Tree, nil, truth, int, text, symbol, class_named as class_tree, constant, array, hash, pairs, interpolation, send, index, set_index, append, itself as self_tree, field, set_field, local, bare, call, logical_and, logical_or, logical_not, negate, binary, assign, choose, repeat, sequence, with_block, block, yield, break, next as next_tree, return, rescue, ensure, operator_assign, or_assign, and_assign}
 use Rattle.std.specs.Option.{option_map}
 use Rattle.rr_eval.specs.declared.call_stack.Variable.{Variable}
 use Rattle.rr_eval.specs.Variables.{read_variable}
@@ -32,7 +32,7 @@ use Rattle.rr_eval.specs.declared.problem.Problem.{Problem}
 use Rattle.rr_eval.specs.declared.problem.Problem.TheVariants.{BuiltIn, MissingName, MissingConstant, NotHere}
 use Rattle.rr_builtin.specs.declared.problem.Problem.TheVariants.{WrongType}
 use Rattle.rr_eval.specs.declared.frame.Frame.{Frame}
-use Rattle.rr_eval.specs.declared.frame.Frame.TheVariants.{Not, Negation, And, Or, Left, Right, Store, Branch, Condition, Body, Break, Next, Return, Back, Past, Rest, Argument, Key, Value, Element, Rescue, Class, Handling, Ensure, Kept, Round, Turned}
+use Rattle.rr_eval.specs.declared.frame.Frame.TheVariants.{Not, Negation, And, Or, Left, Right, Store, SetField, Branch, Condition, Body, Break, Next, Return, Back, Past, Rest, Argument, Key, Value, Element, Rescue, Class, Handling, Ensure, Kept, Round, Turned}
 use Rattle.rr_eval.specs.Script.{Memory, State, Script, Ret, Part, TreePart, TurnPart, Evaluate, Go, See, Do, Ask, Asked, Reply, World, Outcome, Ended, Spent, Waits, Evaluation, run, after, taken, objects_of}
 use Rattle.rr_eval.specs.Requests.{Course, Adds, AddsTo, asking}
 use Rattle.rr_base.specs.declared.fault.Fault.{Fault}
@@ -40,9 +40,11 @@ use Rattle.rr_eval.specs.View.{View}
 use Rattle.rr_eval.specs.Acts.{Passes}
 use Rattle.rr_eval.specs.Turns.{context_of, code_of, state_of, after_script, asking_then}
 use Rattle.rr_builtin.specs.Acts.{with_text}
-use Rattle.rr_eval.specs.Rules.{Context, items, throw, raise, settled, with_value, turn_rule, on_table, statements, values, pair_parts, finish, printing, raises, awaited, bare_rule, constant_rule, not_here, call_rule, block_call_rule, block_rule, asks_block, own_rule, running, variable_of, update_rule, or_rule, and_rule, write, rule, part_rule, loops, block_send_rule, eval}
-use Rattle.rr_eval.specs.Methods.{Method, own_method}
+use Rattle.rr_eval.specs.Rules.{Context, items, throw, raise, settled, with_value, turn_rule, on_table, statements, values, pair_parts, finish, printing, raises, awaited, bare_rule, constant_rule, not_here, call_rule, block_call_rule, block_rule, asks_block, own_rule, running, variable_of, update_rule, or_rule, and_rule, write, rule, part_rule, loops, block_send_rule, eval, concluded, statements_of, begun}
+use Rattle.rr_eval.specs.Methods.{Method, are_methods, definitions_of, own_method}
+use Rattle.rr_builtin.specs.Fields.{field_at}
 use Rattle.rr_builtin.specs.Iterations.{iteration_named}
+use Rattle.rr_eval.specs.Fields.{field_response, set_field_rule}
 use Rattle.rr_builtin.specs.declared.iterations.Iteration.{Iteration}
 use Rattle.rr_eval.specs.declared.iterating.Visits.TheVariants.{Forever}
 use Rattle.rr_eval.specs.Iterating.{kept, iteration_rule}
@@ -177,6 +179,9 @@ rescue_keeps c clauses otherwise (Ends number v) = tt
 ensure_keeps : (t : Tree) (a : Answer) → Keeps (ensure_rule t a)
 ensure_keeps t a = on_value_keeps _ (λ v. tt)
 
+set_field_keeps : (c : Context) (x : Sym) (v : Ref) → Keeps (set_field_rule c x v)
+set_field_keeps c x v = λ m. settled_keeps c
+
 rule_keeps : (c : Context) (tree : Tree) → Keeps (rule c tree)
 rule_keeps c nil = tt
 rule_keeps c (truth b) = tt
@@ -195,6 +200,9 @@ rule_keeps c (constant (Plain x)) = constant_keeps c (class_named (slice_index_o
 rule_keeps c (constant (InRactor x)) = constant_keeps c (class_named (codes "Ractor::" ++ slice_index_or c.symbols x.0 [])) x
 rule_keeps c (text i) = λ m. (λ k. make_keeps c.program.freezes _ k.table, tt)
 rule_keeps c (local depth slot x behind) = λ m. tt
+rule_keeps c self_tree = λ m. tt
+rule_keeps c (field x) = λ m. settled_keeps c (field_response (field_at m.table (running m.calls.frames).itself x))
+rule_keeps c (set_field x a) = on_value_keeps _ (λ v. set_field_keeps c (record { 0 = x }) v)
 rule_keeps c (bare x) = bare_keeps c (own_method c.program x) (printing c x) (raises c x) (asks_block c x) (record { 0 = x })
 rule_keeps c (call x list) = call_keeps c (own_method c.program x) (printing c x) (raises c x) (awaited c x) (record { 0 = x }) (items list)
 rule_keeps c (logical_and a b) = on_value_keeps _ (λ v. if_keeps (is_truthy v) (Go b Ret) (Ret (Gave v)) (λ a'. tt) tt)
@@ -231,6 +239,7 @@ resumed_keeps c Negation stand = on_value_keeps _ (λ v. negates c.context v)
 resumed_keeps c (Left op b) stand = on_value_keeps _ (λ v. on_value_keeps _ (λ w. operates c.context op v w))
 resumed_keeps c (Right op v) stand = on_value_keeps _ (λ w. operates c.context op v w)
 resumed_keeps c (Store x) stand = on_value_keeps _ (λ v. (λ m. omega arith, tt))
+resumed_keeps c (SetField x) stand = on_value_keeps _ (λ v. set_field_keeps c.context x v)
 resumed_keeps c (Branch b d) stand = on_value_keeps _ (λ v. λ a. tt)
 resumed_keeps c (Condition until body loop) stand = loop_keeps (Go (tree_at c.nodes loop) Ret) _ (λ x. tt) (turn_keeps until (tree_at c.nodes body) (Go (tree_at c.nodes loop) Ret) (λ x. tt))
 resumed_keeps c (Body loop) stand = loop_keeps (Go (tree_at c.nodes loop) Ret) _ (λ x. tt) (λ w. λ x. tt)
@@ -337,3 +346,20 @@ asking_keeps p m t q h r adds e =
     let same : asking_then p m t q h ≡ after_script p m r.table (settled (context_of p) r.response) (asking q h) m.left = ap (λ o. unwind c (reverse m.frames) m.held (taken o (state_of p m t (asking q h)) next)) e in
     let kept = script_keeps p m r.table (settled (context_of p) r.response) (asking q h) m.left adds (settled_keeps (context_of p) r.response) in
     subst (λ o. count r.table ≤ objects_of o) (sym same) kept
+
+-- a program takes no object away
+concluded_same : (o : Outcome) → objects_of (concluded o) ≡ objects_of o
+concluded_same (Ended a s n) = refl
+concluded_same (Spent s) = refl
+concluded_same (Waits s) = refl
+
+statements_of_keeps : (c : Code) → Adds c.world → (simple : Bool) (tree : Tree) (s : State) (n : ℕ) → count s.memory.table ≤ objects_of (statements_of c.context c.world simple tree s n)
+statements_of_keeps c adds true tree s n = meaning_keeps c adds (TreePart tree) s n
+statements_of_keeps c adds false tree s n = run_keeps c.world adds (evaluates c) (meaning_keeps c adds) (not_here c.context) (throw_keeps c.context NotHere) s n
+
+pub begun_keeps : (c : Code) → Adds c.world → (tree : Tree) (s : State) (n : ℕ) → count s.memory.table ≤ objects_of (begun c.context c.world tree s n)
+begun_keeps c adds tree s n =
+    let simple = are_methods (definitions_of c.context.program) in
+    let kept = statements_of_keeps c adds simple tree s n in
+    let same = concluded_same (statements_of c.context c.world simple tree s n) in
+    omega arith

@@ -1,19 +1,27 @@
 -- What is still to be run, and what was written so far.
-use Rattle.std.proofs.Common.{◌≡◌, ◌≤◌, ℕ, ◌∙◌, sym, ap, subst, refl, List, [], ◌∷◌, ◌++◌, Some}
+use Rattle.std.proofs.Common.{◌≡◌, ◌≤◌, ℕ, false, map, ◌∙◌, sym, ap, subst, refl, List, [], ◌∷◌, ◌++◌, Some}
 use Rattle.std.proofs.KnownBytes.{Appends-nil}
-use Rattle.rr_space.specs.Tables.{Table}
+use Rattle.rr_base.specs.declared.name.TheConstants.ClassId.{OBJECT}
+use Rattle.rr_builtin.specs.Acts.{with_object}
+use Rattle.rr_builtin.specs.News.{new_plain}
+use Rattle.rr_base.specs.declared.name.ClassId.{ClassId}
+use Rattle.rr_base.specs.declared.name.Sym.{Sym}
+use Rattle.rr_space.specs.Graph.{plain}
+use Rattle.rr_space.specs.Parts.{below_parts, field_part, value_triple}
+use Rattle.rr_space.specs.Tables.{Table, Here, IsRestKept}
 use Rattle.rr_space.specs.declared.refer.Ref.{Ref}
+use Rattle.rr_space.specs.declared.refer.Ref.TheVariants.{Local}
 use Rattle.rr_tree.specs.declared.program.Program.{Program}
 use Rattle.rr_eval.specs.declared.problem.Response.{Response}
 use Rattle.rr_eval.specs.declared.problem.Answer.TheVariants.{Gave, Raised}
 use Rattle.rr_eval.specs.Script.{Asked, World, Outcome, Ended, Spent, objects_of}
 use Rattle.rr_eval.specs.Requests.{Course}
 use Rattle.rr_eval.specs.Exceptions.{IsTold}
-use Rattle.rr_eval.specs.Rules.{start_state, first_memory}
+use Rattle.rr_eval.specs.Rules.{Context, start_state, first_memory}
 use Rattle.rr_eval.specs.View.{View}
 use Rattle.rr_eval.specs.Turns.{context_of, remaining, asking_then, answered, state_of}
 use Rattle.rr_eval.specs.Written.{Written, IsBeginning, WritesAll, WritesBeginning, FallsShort}
-use Rattle.rr_eval.specs.Runs.{text_of, text_asked, piece_asked, no_objects, IsRaised, IsDone, IsSpent}
+use Rattle.rr_eval.specs.Runs.{text_of, text_asked, piece_asked, no_objects, first_objects, IsRaised, IsDone, IsSpent}
 use Rattle.rr_eval.proofs.Bytes.{writes_both, falls_short_after, falls_short_longer, writes_beginning}
 use Rattle.rr_eval.proofs.Entered.{replied}
 use Rattle.rr_eval.proofs.Printed.{text-push, remaining_grows, asking_grows}
@@ -63,6 +71,9 @@ pub running_stopped : (w : World) (p : Program) (m : View) (t : Table) (all : Ou
 running_stopped w p m t all old now r =
     writes_beginning old now (text_asked (context_of p) r.asked) (text_of (context_of p) all) r.wrote (subst (IsBeginning (text_asked (context_of p) r.asked)) (sym (ap (text_of (context_of p)) r.same)) (remaining_grows (context_of p) p m t (in_world w r.asked)))
 
+pub nothing_written : (c : Context) (all : Outcome) (now : Written) → WritesBeginning now now (text_of c all)
+nothing_written c all now = record { part = []; begins = (text_of c all, refl); wrote = Appends-nil now.bytes; failed = refl }
+
 -- all ended with an exception, of which this is told
 pub running_raised : (w : World) (p : Program) (m n : View) (t u : Table) (all : Outcome) (old now : Written) (v : Ref) (told : List ℕ) → IsRunning w p m t all old now → ((h : Course) → remaining p m t h ≡ Ended (Raised v) (state_of p n u h) n.left) → IsTold u v told
     → IsRaised all told × WritesAll old now (text_of (context_of p) all)
@@ -93,5 +104,20 @@ first_table t slots a b c d e f =
     ∙ ap (λ x. record { slots = t.slots; below = t.below; keys = t.keys; limit = t.limit; owner = x; next_message = 1 }) (sym e)
     ∙ ap (λ x. record { slots = t.slots; below = t.below; keys = t.keys; limit = t.limit; owner = t.owner; next_message = x }) (sym f)
 
-pub first_state : (p : Program) (t : Table) (most slots : ℕ) → no_objects slots ≡ t → start_state (context_of p) most (no_objects slots) ≡ record { memory = first_memory (context_of p) most t; asked = [] }
-first_state p t most slots e = ap (start_state (context_of p) most) e
+-- one object without fields more
+pub one_plain : (t u : Table) (class : ClassId) (fields : List (Sym × Ref)) → fields ≡ []
+    → u.slots ≡ t.slots ++ Here (record { kind = plain; class = class.0; bytes = []; frozen = false; triples = map value_triple (map field_part fields) }) ∷ []
+    → u.below ≡ t.below ++ below_parts (map field_part fields) ∷ [] → u.keys ≡ t.keys ++ [] ∷ [] → IsRestKept t u → u ≡ with_object (new_plain class.0) [] t
+one_plain t u class fields none slots below keys rest =
+    let w = with_object (new_plain class.0) [] t in
+    let first = slots ∙ ap (λ (l : List (Sym × Ref)). t.slots ++ Here (record { kind = plain; class = class.0; bytes = []; frozen = false; triples = map value_triple (map field_part l) }) ∷ []) none in
+    let second = below ∙ ap (λ (l : List (Sym × Ref)). t.below ++ below_parts (map field_part l) ∷ []) none in
+    ap (λ x. record { slots = x; below = u.below; keys = u.keys; limit = u.limit; owner = u.owner; next_message = u.next_message }) first
+    ∙ ap (λ x. record { slots = w.slots; below = x; keys = u.keys; limit = u.limit; owner = u.owner; next_message = u.next_message }) second
+    ∙ ap (λ x. record { slots = w.slots; below = w.below; keys = x; limit = u.limit; owner = u.owner; next_message = u.next_message }) keys
+    ∙ ap (λ x. record { slots = w.slots; below = w.below; keys = w.keys; limit = x; owner = u.owner; next_message = u.next_message }) rest.limit
+    ∙ ap (λ x. record { slots = w.slots; below = w.below; keys = w.keys; limit = w.limit; owner = x; next_message = u.next_message }) rest.owner
+    ∙ ap (λ x. record { slots = w.slots; below = w.below; keys = w.keys; limit = w.limit; owner = w.owner; next_message = x }) rest.next_message
+
+pub first_state : (p : Program) (t u : Table) (most slots : ℕ) → no_objects slots ≡ t → u ≡ with_object (new_plain OBJECT.0) [] t → start_state (context_of p) most (Local 0) (first_objects slots) ≡ record { memory = first_memory (context_of p) most (Local 0) u; asked = [] }
+first_state p t u most slots e made = ap (start_state (context_of p) most (Local 0)) (ap (with_object (new_plain OBJECT.0) []) e ∙ sym made)

@@ -22,6 +22,9 @@ pub record IsNone (n : Node) : Type 0 where
   pub no_pairs : (x0 : ℕ) (x1 : ℕ) → n ≡ nodes.Pairs x0 x1 → ⊥
   pub no_interpolation : (x0 : ℕ) (x1 : ℕ) → n ≡ nodes.Interpolation x0 x1 → ⊥
   pub no_local : (x0 : ℕ) (x1 : ℕ) (x2 : Sym) (x3 : ℕ) → n ≡ nodes.Local x0 x1 x2 x3 → ⊥
+  pub no_itself : n ≡ nodes.Itself → ⊥
+  pub no_field : (x0 : Sym) → n ≡ nodes.Field x0 → ⊥
+  pub no_set_field : (x0 : Sym) (x1 : ℕ) → n ≡ nodes.SetField x0 x1 → ⊥
   pub no_bare : (x0 : Sym) (x1 : ℕ) → n ≡ nodes.Bare x0 x1 → ⊥
   pub no_call : (x0 : Sym) (x1 : ℕ) (x2 : ℕ) (x3 : ℕ) → n ≡ nodes.Call x0 x1 x2 x3 → ⊥
   pub no_send : (x0 : ℕ) (x1 : Sym) (x2 : ℕ) (x3 : ℕ) (x4 : ℕ) → n ≡ nodes.Send x0 x1 x2 x3 x4 → ⊥
@@ -63,6 +66,9 @@ unknown_else (nodes.Hash x0 x1) h = absurd (h.no_hash x0 x1 refl)
 unknown_else (nodes.Pairs x0 x1) h = absurd (h.no_pairs x0 x1 refl)
 unknown_else (nodes.Interpolation x0 x1) h = absurd (h.no_interpolation x0 x1 refl)
 unknown_else (nodes.Local x0 x1 x2 x3) h = absurd (h.no_local x0 x1 x2 x3 refl)
+unknown_else nodes.Itself h = absurd (h.no_itself refl)
+unknown_else (nodes.Field x0) h = absurd (h.no_field x0 refl)
+unknown_else (nodes.SetField x0 x1) h = absurd (h.no_set_field x0 x1 refl)
 unknown_else (nodes.Bare x0 x1) h = absurd (h.no_bare x0 x1 refl)
 unknown_else (nodes.Call x0 x1 x2 x3) h = absurd (h.no_call x0 x1 x2 x3 refl)
 unknown_else (nodes.Send x0 x1 x2 x3 x4) h = absurd (h.no_send x0 x1 x2 x3 x4 refl)

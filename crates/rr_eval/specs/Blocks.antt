@@ -14,7 +14,9 @@ use Rattle.rr_space.specs.Tables.{Table}
 use Rattle.rr_space.specs.declared.refer.Ref.{Ref}
 use Rattle.rr_space.specs.declared.refer.Ref.TheVariants.{Nil, Truth}
 use Rattle.rr_tree.specs.Tree.{Tree, nil, block}
+use Rattle.rr_base.specs.declared.name.ClassId.{ClassId}
 use Rattle.rr_eval.specs.declared.call_stack.Entry.{Entry}
+use Rattle.rr_eval.specs.declared.call_stack.Invocation.{Invocation}
 use Rattle.rr_eval.specs.declared.call_stack.Entry.TheVariants.{OfMethod, OfBlock}
 use Rattle.rr_eval.specs.declared.problem.Answer.{Answer}
 use Rattle.rr_eval.specs.declared.problem.Answer.TheVariants.{Gave, Raised, Broke, Done, Returned, Ends}
@@ -30,11 +32,15 @@ use Rattle.rr_eval.specs.Variables.{top}
 abbrev pub running : List Activated → Activation
 running frames = (frame_at (top frames) frames).activation
 
--- What a new frame has beside its variables. The block that a method is given stands in the frame before. A block's frame lies in the
--- one in which the block stands: its `yield` calls the block that that method was given.
+-- The block that a method is given, where it is given one, stands in the frame before.
+abbrev pub given_in : Bool → List Activated → Given
+given_in false frames = given.Nothing
+given_in true frames = given.Block (length frames) (length frames - 1)
+
+-- What a new frame has beside its variables. A block's frame lies in the one in which the block stands: it has its `self`, and its `yield`
+-- calls the block that that method was given.
 abbrev pub activation_in : Entry → List Activated → Activation
-activation_in (OfMethod false) frames = record { itself = Nil; given = given.Nothing; home = length frames; root = length frames; method = 0 }
-activation_in (OfMethod true) frames = record { itself = Nil; given = given.Block (length frames) (length frames - 1); home = length frames; root = length frames; method = 0 }
+activation_in (OfMethod call) frames = record { itself = call.itself; given = given_in call.has_block frames; home = length frames; root = length frames; name = call.name; class = call.class; parameters = call.parameters }
 activation_in (OfBlock home) frames = record (frame_at home frames).activation { home = home }
 
 -- one frame more, and the block that its method is given
@@ -75,7 +81,7 @@ past a = See (λ m. Do without_frame (See (λ k. Ret (passed (running k.calls.fr
 
 -- how a new frame ends
 abbrev pub left_by : Entry → Answer → Script
-left_by (OfMethod takes) = back
+left_by (OfMethod call) = back
 left_by (OfBlock home) = past
 
 -- goes on in a frame more, where there may be one, whose parameters have these values and whose other variables are nil
@@ -88,9 +94,13 @@ opened c entry parameters size vs b s next =
 abbrev pub framed : Context → Entry → ℕ → ℕ → List Ref → Option Tree → Tree → Stack → Script
 framed c entry parameters size vs b body s = opened c entry parameters size vs b s (Go body (left_by entry))
 
+-- a call of a method, by its `self`, the class in which the method stands, and the block that it is given
+abbrev pub invocation : Ref → ClassId → Method → Option Tree → Invocation
+invocation itself class m b = record { itself = itself; name = record { 0 = m.name }; class = class; parameters = m.parameters; has_block = is_some b }
+
 -- a method's statements
-abbrev pub entered : Context → Method → Option Tree → List Ref → Stack → Script
-entered c m b vs s = framed c (OfMethod (is_some b)) m.parameters m.size vs b m.body s
+abbrev pub entered : Context → Ref → ClassId → Method → Option Tree → List Ref → Stack → Script
+entered c itself class m b vs s = framed c (OfMethod (invocation itself class m b)) m.parameters m.size vs b m.body s
 
 -- whether one array is given to several parameters
 abbrev pub spreads : ℕ → List Ref → Table → Bool

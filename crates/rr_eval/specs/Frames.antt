@@ -13,13 +13,14 @@ use Rattle.rr_eval.specs.declared.problem.Answer.{Answer}
 use Rattle.rr_eval.specs.declared.problem.Answer.TheVariants.{Gave, Broke, Done}
 use Rattle.rr_eval.specs.declared.frame.Frame.{Frame}
 use Rattle.rr_eval.specs.declared.frame.Trial.{Trial}
-use Rattle.rr_eval.specs.declared.frame.Frame.TheVariants.{Not, Negation, And, Or, Left, Right, Store, Branch, Condition, Body, Break, Next, Return, Back, Past, Rest, Argument, Key, Value, Element, Rescue, Class, Handling, Ensure, Kept, Round, Turned}
+use Rattle.rr_eval.specs.declared.frame.Frame.TheVariants.{Not, Negation, And, Or, Left, Right, Store, SetField, Branch, Condition, Body, Break, Next, Return, Back, Past, Rest, Argument, Key, Value, Element, Rescue, Class, Handling, Ensure, Kept, Round, Turned}
 use Rattle.rr_eval.specs.declared.frame.Control.{Control}
 use Rattle.rr_eval.specs.declared.frame.Control.TheVariants.{Enter, Operate, Give, Throw, Raise, RaiseValue}
 use Rattle.rr_eval.specs.declared.iterating.Iterating.{Iterating}
 use Rattle.rr_eval.specs.Iterating.{continued_with, turned}
 use Rattle.rr_eval.specs.Script.{State, Iterated, Script, Ret, Go, World, Evaluation, Outcome, Ended, run, after}
 use Rattle.rr_builtin.specs.Objects.{is_truthy}
+use Rattle.rr_eval.specs.Fields.{set_field_rule}
 use Rattle.rr_eval.specs.Rules.{Context, throw, raise, on_value, with_value, in_loop, turn_rule, operation, negation, write, statements, values, pair_parts, finish, back, past, return_rule, concluded, meaning_of, meaning}
 use Rattle.rr_eval.specs.Raising.{raise_value}
 use Rattle.rr_eval.specs.Rescuing.{taken_by, restored, fitted, tried_classes, tried, rescue_rule, ensure_rule}
@@ -61,6 +62,7 @@ resumed c Negation stand = on_value (negation c.context)
 resumed c (Left op b) stand = on_value (λ v. with_value (tree_at c.nodes b) (operation c.context op v))
 resumed c (Right op v) stand = on_value (operation c.context op v)
 resumed c (Store x) stand = on_value (λ v. write x v)
+resumed c (SetField x) stand = on_value (set_field_rule c.context x)
 resumed c (Branch b d) stand = on_value (λ v. Go (if is_truthy v then tree_at c.nodes b else tree_at c.nodes d) Ret)
 resumed c (Condition until body loop) stand = in_loop (Go (tree_at c.nodes loop) Ret) (turn_rule until (tree_at c.nodes body) (Go (tree_at c.nodes loop) Ret))
 resumed c (Body loop) stand = in_loop (Go (tree_at c.nodes loop) Ret) (λ w. Go (tree_at c.nodes loop) Ret)
@@ -84,7 +86,7 @@ resumed c (Turned i) stand = on_value (λ v. continued_with c.context (iterated 
 
 -- the frame that waits for the answer of a body that has a frame of its own
 abbrev pub waits_for : Entry → Frame
-waits_for (OfMethod takes) = Back
+waits_for (OfMethod call) = Back
 waits_for (OfBlock home) = Past
 
 -- the values that stand for a frame, and those below
@@ -136,6 +138,7 @@ Nested (f ∷ fs) held = (base_of f ≤ length held) × Nested fs (below_of f he
 abbrev pub IsRareFrame : Frame → Type 0
 IsRareFrame Negation = Unit {0}
 IsRareFrame (Right op w) = Unit {0}
+IsRareFrame (SetField x) = Unit {0}
 IsRareFrame (Argument target end count base) = Unit {0}
 IsRareFrame (Key next end count base) = Unit {0}
 IsRareFrame (Value end count base) = Unit {0}

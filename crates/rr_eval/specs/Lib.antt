@@ -10,6 +10,7 @@ pub mod Changes
 pub mod Callees
 pub mod Messages
 pub mod Exceptions
+pub mod Fields
 pub mod Thrown
 pub mod Requests
 pub mod Calls

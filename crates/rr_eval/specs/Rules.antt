@@ -4,7 +4,7 @@ use Rattle.rr_base.specs.Classes.{class_id}
 use Rattle.rr_space.specs.Tables.{Table}
 use Rattle.rr_space.specs.declared.refer.Ref.{Ref}
 use Rattle.rr_space.specs.declared.refer.Ref.TheVariants.{Nil, Truth, Int, Symbol, Class}
-use Rattle.rr_tree.specs.Tree.{Tree, tree_at, nil, truth, int, text, symbol, class_named as class_tree, constant, array, hash, pairs, pair, interpolation, local, bare, call, send, index, set_index, append, logical_and, logical_or, logical_not, negate, binary, assign, choose, repeat, sequence, with_block, block, yield, break, next, return, rescue, ensure, operator_assign, or_assign, and_assign}
+use Rattle.rr_tree.specs.Tree.{Tree, tree_at, nil, truth, int, text, symbol, class_named as class_tree, constant, array, hash, pairs, pair, interpolation, itself as self_tree, field, set_field, local, bare, call, send, index, set_index, append, logical_and, logical_or, logical_not, negate, binary, assign, choose, repeat, sequence, with_block, block, yield, break, next, return, rescue, ensure, operator_assign, or_assign, and_assign}
 use Rattle.rr_tree.specs.declared.node.BinaryOperator.{BinaryOperator}
 use Rattle.std.specs.Option.{option_map}
 use Rattle.rr_base.specs.ClassNames.{class_named}
@@ -19,8 +19,7 @@ use Rattle.rr_eval.specs.declared.problem.Answer.TheVariants.{Gave, Raised, Brok
 use Rattle.rr_eval.specs.declared.problem.Problem.TheVariants.{BuiltIn, MissingMethod, MissingName, MissingConstant}
 use Rattle.rr_builtin.specs.declared.problem.Problem.TheVariants.{Count}
 use Rattle.rr_builtin.specs.declared.problem.Receiver.TheVariants.{Instance}
-use Rattle.rr_frames.specs.Frames.{Frame as Activated, laid}
-use Rattle.rr_eval.specs.declared.call_stack.Entry.TheVariants.{OfMethod}
+use Rattle.rr_frames.specs.Frames.{Frame as Activated, laid, no_frame}
 use Rattle.rr_eval.specs.declared.call_stack.Variable.{Variable}
 use Rattle.rr_eval.specs.Variables.{read_variable}
 use Rattle.rr_eval.specs.Methods.{Method, own_method, definitions_of, are_methods}
@@ -29,6 +28,7 @@ use Rattle.rr_builtin.specs.Iterations.{iteration_named}
 use Rattle.rr_builtin.specs.declared.iterations.Iteration.{Iteration}
 use Rattle.rr_eval.specs.declared.iterating.Visits.TheVariants.{Forever}
 use Rattle.rr_eval.specs.Iterating.{continued, turned, body_in, iteration_rule, is_loop}
+use Rattle.rr_eval.specs.Fields.{field_rule, set_field_rule}
 use Rattle.rr_eval.specs.Values.{goes_on}
 use Rattle.rr_eval.specs.Operators.{make}
 use Rattle.rr_eval.specs.Tasks.{task_named}
@@ -67,10 +67,11 @@ ended (Done v) = Gave v
 ended (Returned v) = Gave v
 ended (Ends number v) = Gave v
 
--- a call of a method of the program takes as many values as the method has parameters, and a block, where it is given one
+-- A call of a method of the program takes as many values as the method has parameters, and a block, where it is given one. It is a call on
+-- `self`.
 abbrev pub own_rule : Context → Sym → Option Method → Option Tree → List Ref → Script
 own_rule c x None b vs = throw c (MissingMethod (callees.Name x) (Instance OBJECT))
-own_rule c x (Some m) b vs = if nat_eq (length vs) m.parameters then See (λ k. entered c m b vs k.calls) else throw c (BuiltIn (Count (length vs) m.parameters m.parameters))
+own_rule c x (Some m) b vs = if nat_eq (length vs) m.parameters then See (λ k. entered c (running k.calls.frames).itself OBJECT m b vs k.calls) else throw c (BuiltIn (Count (length vs) m.parameters m.parameters))
 
 -- what is done with values: they are printed or put into an array, a text or a hash, or the first of them is sent the others, or a method of
 -- the program is called with them, with a block or without one, or they are given to a block, or they say what is raised, or the first of them is the receiver
@@ -189,6 +190,9 @@ rule c (pairs list) = values (pair_parts (items list)) [] (finish c (DoTarget Ma
 -- the parts of a text are evaluated from left to right, and then one text is made of what each is spoken as
 rule c (interpolation list) = values (items list) [] (finish c (DoTarget MakeText))
 rule c (local depth slot x behind) = read (record { depth = depth; slot = slot })
+rule c self_tree = See (λ m. Ret (Gave (running m.calls.frames).itself))
+rule c (field x) = field_rule c (record { 0 = x })
+rule c (set_field x a) = with_value a (set_field_rule c (record { 0 = x }))
 rule c (bare x) = bare_rule c (own_method c.program x) (printing c x) (raises c x) (asks_block c x) (record { 0 = x })
 rule c (call x list) = call_rule c (own_method c.program x) (printing c x) (raises c x) (awaited c x) (record { 0 = x }) (items list)
 rule c (logical_and a b) = with_value a (λ v. if is_truthy v then Go b Ret else Ret (Gave v))
@@ -253,14 +257,14 @@ statements_of c w false t s n = run w (meaning_of c w) (not_here c) s n
 abbrev pub begun : Context → World → Tree → State → ℕ → Outcome
 begun c w t s n = concluded (statements_of c w (are_methods (definitions_of c.program)) t s n)
 
--- the frame of a program, whose variables are unset
-abbrev pub program_frame : Context → Activated
-program_frame c = record { variables = laid 0 (length c.symbols) []; activation = activation_in (OfMethod false) [] }
+-- the frame of a program, which stands in no method, whose variables are unset
+abbrev pub program_frame : Context → Ref → Activated
+program_frame c itself = record { variables = laid 0 (length c.symbols) []; activation = record no_frame.activation { itself = itself } }
 
 -- the memory of a program that begins, which may call so many methods in one another
-abbrev pub first_memory : Context → ℕ → Table → Memory
-first_memory c most table = record { calls = record { frames = program_frame c ∷ []; limit = most + 1 }; blocks = None ∷ []; table = table; rescuing = Nil }
+abbrev pub first_memory : Context → ℕ → Ref → Table → Memory
+first_memory c most itself table = record { calls = record { frames = program_frame c itself ∷ []; limit = most + 1 }; blocks = None ∷ []; table = table; rescuing = Nil }
 
--- a script begins with its variables unset, with no object, and with nothing asked
-abbrev pub start_state : Context → ℕ → Table → State
-start_state c most table = record { memory = first_memory c most table; asked = [] }
+-- A script begins with its variables unset and with nothing asked, in a table that has one object: its `self`.
+abbrev pub start_state : Context → ℕ → Ref → Table → State
+start_state c most itself table = record { memory = first_memory c most itself table; asked = [] }

@@ -15,7 +15,11 @@ use Rattle.rr_lexer.specs.Tokens.{AreTokensOf, Faults, Spelled}
 use Rattle.rr_parser.specs.Grammar.{Spells, SpellsWithin, SpellsProgram}
 use Rattle.rr_parser.specs.Fronts.{NestsBeyond}
 use Rattle.rr_parser.specs.Words.{symbols_of, texts_of}
+use Rattle.rr_base.specs.declared.name.TheConstants.ClassId.{OBJECT}
 use Rattle.rr_space.specs.Tables.{Table}
+use Rattle.rr_space.specs.declared.refer.Ref.TheVariants.{Local}
+use Rattle.rr_builtin.specs.Acts.{with_object}
+use Rattle.rr_builtin.specs.News.{new_plain}
 use Rattle.rr_tree.specs.Tree.{Tree, tree_at}
 use Rattle.rr_tree.specs.declared.program.Program.{Program}
 use Rattle.rr_eval.specs.declared.problem.Answer.TheVariants.{Gave, Raised}
@@ -134,9 +138,13 @@ Reads source (Err fault) = Refuses source fault
 abbrev pub no_objects : ℕ → Table
 no_objects slots = record { slots = []; below = []; keys = []; limit = slots; owner = 1; next_message = 1 }
 
+-- the objects of a script that begins: its `self`, which is an object of class Object without fields
+abbrev pub first_objects : ℕ → Table
+first_objects slots = with_object (new_plain OBJECT.0) [] (no_objects slots)
+
 -- what a script that runs alone does within limits
 abbrev pub script_meaning : Context → Tree → Limits → Outcome
-script_meaning c tree within = begun c (alone c) tree (start_state c within.frames (no_objects within.slots)) within.steps
+script_meaning c tree within = begun c (alone c) tree (start_state c within.frames (Local 0) (first_objects within.slots)) within.steps
 
 -- what a program does
 abbrev pub program_meaning : Program → Limits → Outcome

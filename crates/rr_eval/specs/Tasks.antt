@@ -1,6 +1,7 @@
 -- What an environment does with values where nothing is published: it prints them, or makes an array, a text or a hash of them.
 use Rattle.std.specs.Prelude.{ℕ, false, List, [], ◌∷◌, ◌++◌, codes, map, Option, Some, None, if◌then◌else◌}
 use Rattle.std.specs.Str.{bytes_eq}
+use Rattle.rr_base.specs.declared.name.Sym.{Sym}
 use Rattle.rr_space.specs.Parts.{value_of}
 use Rattle.rr_space.specs.Tables.{Table}
 use Rattle.rr_space.specs.declared.refer.Ref.{Ref}
@@ -9,13 +10,14 @@ use Rattle.rr_text.specs.Walk.{Walked, Wrote, Deep}
 use Rattle.rr_text.specs.Forms.{Names, spoken, inspected, lines, within_text}
 use Rattle.rr_text.specs.Names.{names_of}
 use Rattle.rr_builtin.specs.Acts.{MakesArray, MakesObject, performed}
+use Rattle.rr_builtin.specs.Fields.{set_field}
 use Rattle.rr_builtin.specs.News.{empty_hash}
 use Rattle.rr_builtin.specs.Objects.{printed_text}
 use Rattle.rr_builtin.specs.declared.problem.Problem.{Problem as BuiltInProblem}
 use Rattle.rr_builtin.specs.declared.problem.Problem.TheVariants.{Moved, TooDeep}
 use Rattle.rr_eval.specs.declared.call.Callee.TheVariants.{SetIndex}
 use Rattle.rr_eval.specs.declared.call.Task.{Task}
-use Rattle.rr_eval.specs.declared.call.Task.TheVariants.{Puts, Inspect, Print, MakeArray, MakeText, MakeHash}
+use Rattle.rr_eval.specs.declared.call.Task.TheVariants.{Puts, Inspect, Print, MakeArray, MakeText, MakeHash, SetField}
 use Rattle.rr_eval.specs.declared.problem.Problem.TheVariants.{BuiltIn, NotHere}
 use Rattle.rr_eval.specs.declared.problem.Response.{Response}
 use Rattle.rr_eval.specs.declared.problem.Response.TheVariants.{Gives, Fails}
@@ -41,6 +43,7 @@ written_by _ names t v = printed_text names [] spoken t v
 abbrev pub texts_of : Task → Names → Table → List Ref → List Walked
 texts_of MakeArray names t vs = []
 texts_of MakeHash names t vs = []
+texts_of (SetField x) names t vs = []
 texts_of Puts names t [] = Wrote (10 ∷ []) ∷ []
 texts_of task names t vs = map (written_by task names t) vs
 
@@ -105,12 +108,18 @@ inspected_reply [] t = value_reply Nil t
 inspected_reply (v ∷ []) t = value_reply v t
 inspected_reply (v ∷ w ∷ vs) t = array_reply (v ∷ w ∷ vs) t
 
+-- the second of two values becomes an instance variable of the first one, and is given
+abbrev pub field_reply : Sym → List Ref → Table → Reply
+field_reply x (object ∷ v ∷ vs) t = reply_with NotHere t (set_field x.0 (value_of v) object t)
+field_reply x vs t = value_reply Nil t
+
 -- what a task gives, where these are the texts of the values, one after the other
 abbrev pub given_by : Task → Context → List ℕ → List Ref → Table → Reply
 given_by MakeText c s vs t = text_reply s t
 given_by MakeArray c s vs t = array_reply vs t
 given_by MakeHash c s vs t = hash_reply c vs t
 given_by Inspect c s vs t = inspected_reply vs t
+given_by (SetField x) c s vs t = field_reply x vs t
 given_by _ c s vs t = value_reply Nil t
 
 abbrev pub unless_lacking : Option BuiltInProblem → Table → Reply → Reply

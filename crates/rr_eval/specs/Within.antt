@@ -1,5 +1,5 @@
 -- Each reference that the machine holds leads somewhere.
-use Rattle.std.specs.Prelude.{ℕ, ◌<◌, ◌++◌, length, List, Option, Some, None, Contains}
+use Rattle.std.specs.Prelude.{ℕ, ◌<◌, ◌∷◌, ◌++◌, length, List, Option, Some, None, Contains}
 use Rattle.std.specs.List.{All}
 use Rattle.rr_frames.specs.Frames.{Frame as Activated, list_of}
 use Rattle.rr_space.specs.Graph.{Object}
@@ -9,6 +9,8 @@ use Rattle.rr_space.specs.declared.refer.Ref.{Ref}
 use Rattle.rr_space.specs.declared.refer.Ref.TheVariants.{Local, Shared}
 use Rattle.rr_text.specs.Reads.{IsReadWith}
 use Rattle.rr_eval.specs.declared.call.Call.{Call}
+use Rattle.rr_eval.specs.declared.call_stack.Entry.{Entry}
+use Rattle.rr_eval.specs.declared.call_stack.Entry.TheVariants.{OfMethod, OfBlock}
 use Rattle.rr_eval.specs.declared.iterating.Ahead.{Ahead}
 use Rattle.rr_eval.specs.declared.iterating.Ahead.TheVariants.{Another, Finished, Stopped}
 use Rattle.rr_eval.specs.declared.problem.Answer.{Answer}
@@ -60,9 +62,14 @@ IsResponseReached k (Gives v) = IsReached k v
 IsResponseReached k (Throws e) = IsReached k e
 IsResponseReached k (Fails e) = Unit {0}
 
--- the variables of a method
+-- `self` of a method, and its variables
 abbrev pub AreVariablesReached : Reach → Activated → Type 0
-AreVariablesReached k f = All (IsReached k) f.variables
+AreVariablesReached k f = All (IsReached k) (f.activation.itself ∷ f.variables)
+
+-- `self` of a call
+abbrev pub IsEntryReached : Reach → Entry → Type 0
+IsEntryReached k (OfMethod call) = IsReached k call.itself
+IsEntryReached k (OfBlock home) = Unit {0}
 
 abbrev pub IsFrameReached : Reach → Frame → Type 0
 IsFrameReached k (Right op v) = IsReached k v

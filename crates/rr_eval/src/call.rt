@@ -43,6 +43,8 @@ pub enum Task {
     MakeText,
     /// They become the keys and the values of a new hash, by turns, as `hash[key] = value` puts each pair.
     MakeHash,
+    /// The second of two values becomes the instance variable of this name of the first one, and is given.
+    SetField(Sym),
 }
 
 /// What is done with values that were evaluated from left to right.

@@ -4,12 +4,12 @@ ghost use Rattle.std.specs.Prelude.{false, ◌≡◌, ◌+◌, ◌-◌, ◌<◌,
 ghost use Rattle.std.specs.List.{All};
 ghost use Rattle.rr_base.specs.declared.fault.Fault.{Fault};
 ghost use Rattle.rr_base.specs.declared.limits.LimitKind.{LimitKind};
-ghost use Rattle.rr_frames.specs.Frames.{frame_at, laid, left, list_of};
-ghost use Rattle.rr_eval.specs.Blocks.{activation_in, running, is_outside};
+ghost use Rattle.rr_frames.specs.Frames.{frame_at, laid, left, list_of, no_frame};
+ghost use Rattle.rr_eval.specs.Blocks.{activation_in, given_in, running, is_outside};
 ghost use Rattle.rr_eval.specs.Variables.{top, outer, read_variable, write_variable};
 ghost use Rattle.rr_eval.specs.Within.{Reach, IsReached, AreVariablesReached};
 
-use rr_base::Fault;
+use rr_base::{ClassId, Fault, Sym};
 use rr_frames::{Activation, Frames, Given, Shape};
 use rr_space::Ref;
 use std::alloc::Global;
@@ -22,11 +22,26 @@ pub struct Variable {
     pub slot: u32,
 }
 
+/// A call of a method.
+#[derive(Clone, Copy)]
+pub struct Invocation {
+    /// `self`.
+    pub itself: Ref,
+    /// The name of the method.
+    pub name: Sym,
+    /// The class in which the method stands.
+    pub class: ClassId,
+    /// How many parameters it has.
+    pub parameters: u32,
+    /// Whether it is given a block.
+    pub has_block: bool,
+}
+
 /// What a new frame is for.
 #[derive(Clone, Copy)]
 pub enum Entry {
-    /// A method, and whether it is given a block.
-    OfMethod(bool),
+    /// A method.
+    OfMethod(Invocation),
     /// A block, by the number of the frame in which it stands.
     OfBlock(u32),
 }
@@ -50,14 +65,16 @@ impl Model for CallStack {
 
 /// What a frame has beside its variables where there is none.
 fn no_activation() -> Activation
-    ensures { result ≡ activation_in (Entry.OfMethod false) [] }
+    ensures { result ≡ no_frame.activation }
 {
     Activation {
         itself: Ref::Nil,
         given: Given::Nothing,
         home: 0,
         root: 0,
-        method: 0,
+        name: Sym(0),
+        class: ClassId::OBJECT,
+        parameters: 0,
     }
 }
 
@@ -69,10 +86,10 @@ pub fn is_outside(calls: &CallStack) -> bool
 }
 
 impl CallStack {
-    /// The frame of a program, whose variables are unset, where so many methods and blocks may be called in one another. The
-    /// only fault is `Memory`.
-    pub fn new(alloc: Global, most: u32, size: u32) -> Result<CallStack, Fault>
-        ensures frames { IfOk result (λ s. s.frames ≡ record { variables = laid 0 size []; activation = activation_in (Entry.OfMethod false) [] } ∷ []) }
+    /// The frame of a program, whose variables are unset and whose `self` is given, where so many methods and blocks may be
+    /// called in one another. The only fault is `Memory`.
+    pub fn new(alloc: Global, most: u32, size: u32, itself: Ref) -> Result<CallStack, Fault>
+        ensures frames { IfOk result (λ s. s.frames ≡ record { variables = laid 0 size []; activation = record no_frame.activation { itself = itself } } ∷ []) }
         ensures limit { IfOk result (λ s. s.limit ≡ most + 1) }
         ensures fault { IfErr result (λ f. f ≡ Fault.Memory) }
     {
@@ -81,7 +98,11 @@ impl CallStack {
             parameters: 0,
             size,
         };
-        match frames.push(&[], None, shape, no_activation()) {
+        let activation = Activation {
+            itself,
+            ..no_activation()
+        };
+        match frames.push(&[], None, shape, activation) {
             Ok(()) => Ok(CallStack { frames }),
             Err(_) => Err(Fault::Memory),
         }
@@ -153,28 +174,35 @@ impl CallStack {
         }
     }
 
+    /// What the frame of a method has beside its variables.
+    fn activation_of(&self, call: Invocation) -> Activation
+        ensures { length self.now.frames < self.now.limit → result ≡ activation_in (Entry.OfMethod call) self.now.frames }
+    {
+        let number = u32::try_from(self.frames.len()).unwrap_or(u32::MAX);
+        let given = match call.has_block {
+            true => Given::Block {
+                block: number,
+                home: number.saturating_sub(1),
+            },
+            false => Given::Nothing,
+        };
+        Activation {
+            itself: call.itself,
+            given,
+            home: number,
+            root: number,
+            name: call.name,
+            class: call.class,
+            parameters: call.parameters,
+        }
+    }
+
     /// What a new frame has beside its variables.
     fn activation_in(&self, entry: Entry) -> Activation
         ensures { length self.now.frames < self.now.limit → result ≡ activation_in entry self.now.frames }
     {
         match entry {
-            Entry::OfMethod(has_block) => {
-                let number = u32::try_from(self.frames.len()).unwrap_or(u32::MAX);
-                let given = match has_block {
-                    true => Given::Block {
-                        block: number,
-                        home: number.saturating_sub(1),
-                    },
-                    false => Given::Nothing,
-                };
-                Activation {
-                    itself: Ref::Nil,
-                    given,
-                    home: number,
-                    root: number,
-                    method: 0,
-                }
-            }
+            Entry::OfMethod(call) => self.activation_of(call),
             Entry::OfBlock(home) => Activation {
                 home,
                 ..self.activation(home)

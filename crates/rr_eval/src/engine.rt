@@ -3,6 +3,7 @@
 ghost use Rattle.std.specs.Prelude.{◌≡◌, ◌+◌, ◌*◌, ◌<◌, ◌≤◌, ℕ, List, [], ◌∷◌, ◌++◌, length, reverse, vec_capacity, Option, Some, IfOk, IfErr, IfSome, IsTrue, IsFalse, OnOk, MatchOption};
 ghost use Rattle.rr_base.specs.declared.fault.Fault.{Fault};
 ghost use Rattle.rr_space.specs.declared.refer.Ref.{Ref};
+ghost use Rattle.rr_eval.specs.Blocks.{running};
 ghost use Rattle.rr_eval.specs.Variables.{read_variable};
 ghost use Rattle.rr_space.specs.Tables.{Table, Below};
 ghost use Rattle.rr_tree.specs.declared.node.Node.{Node};
@@ -99,6 +100,15 @@ impl Engine {
         ensures within { (k : Reach) → All (AreVariablesReached k) self.now.calls.frames → IsReached k result }
     {
         self.calls.read(variable)
+    }
+
+    /// `self`.
+    #[inline(always)]
+    pub fn itself(&self) -> Ref
+        ensures value { result ≡ (running self.now.calls.frames).itself }
+        ensures within { (k : Reach) → All (AreVariablesReached k) self.now.calls.frames → IsReached k result }
+    {
+        self.calls.running().itself
     }
 
     /// The integer that a part is, where it is a literal or a variable.

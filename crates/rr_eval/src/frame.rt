@@ -9,7 +9,7 @@ use crate::call::Target;
 use crate::call_stack::Variable;
 use crate::iterating::Iterating;
 use crate::problem::{Answer, Problem};
-use rr_base::ClassId;
+use rr_base::{ClassId, Sym};
 use rr_space::Ref;
 use rr_tree::{BinaryOperator, NodeId};
 
@@ -44,6 +44,8 @@ pub enum Frame {
     Right(BinaryOperator, Ref),
     /// An assignment, with its variable.
     Store(Variable),
+    /// An assignment to an instance variable of `self`, with its name.
+    SetField(Sym),
     /// The parts for true and for false.
     Branch(NodeId, NodeId),
     /// The condition of a loop: whether the loop goes on until it holds, the body, and the loop itself.

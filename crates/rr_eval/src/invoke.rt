@@ -16,10 +16,10 @@ ghost use Rattle.rr_eval.specs.Requests.{Course};
 ghost use Rattle.rr_eval.specs.Frames.{below_of, base_of, stand_of, waits_for, Nested};
 ghost use Rattle.rr_eval.specs.Turns.{context_of, IsNested, remaining_with, after_values, Stands, size};
 ghost use Rattle.rr_eval.specs.Views.{view_of};
-ghost use Rattle.rr_eval.specs.Within.{Reach, AreReached, IsReached};
+ghost use Rattle.rr_eval.specs.Within.{Reach, AreReached, IsReached, IsEntryReached};
 
 use crate::call::Callee;
-use crate::call_stack::Entry;
+use crate::call_stack::{Entry, Invocation};
 use crate::engine::{Engine, push_within};
 use crate::frame::{Control, Frame, clear, standing};
 use crate::prepared::{Definition, Prepared};
@@ -83,7 +83,7 @@ impl Engine {
         requires nested { Nested (reverse self.old.frames.items) (below_of frame self.old.held.items) }
         ensures goes { OnOk result ((p : Program) (t : Table) (h : Course) (n : ℕ) → after_values p (view_of self.old) t frame (framed (context_of p) entry shape.parameters shape.size (stand_of frame self.old.held.items ++ list_of last) (option_map (tree_at p.nodes.items) block) (tree_at p.nodes.items body) self.old.calls) h n ≡ remaining_with p (view_of self.new) t h n) }
         ensures nested { OnOk result (IsNested (view_of self.new)) }
-        ensures within { (k : Reach) → AreReached k (view_of self.old) → All (IsReached k) (list_of last) → AreReached k (view_of self.new) }
+        ensures within { (k : Reach) → AreReached k (view_of self.old) → IsEntryReached k entry → All (IsReached k) (list_of last) → AreReached k (view_of self.new) }
         ensures left { self.new.left ≡ self.old.left }
         ensures err { (t : Table) → IfErr result (λ f. Stands (view_of self.old) (view_of self.new) t t f) }
         ensures size { OnOk result (size (view_of self.new) ≤ 3 * length self.old.frames.items + 4) }
@@ -150,7 +150,7 @@ impl Engine {
         }
     }
 
-    /// Calls a method with the values that stand for a frame and with one more, where they are as many as it has parameters, and
+    /// Calls a method on `self` with the values that stand for a frame and with one more, where they are as many as it has parameters, and
     /// with a block, where it is given one. A refused growth leaves all as it is.
     fn call_method(
         &mut self,
@@ -174,11 +174,18 @@ impl Engine {
         let given = count_of(standing(&self.held, frame), last);
         let wanted = definition.shape.parameters as usize;
         if given == wanted {
+            let call = Invocation {
+                itself: self.itself(),
+                name: definition.name,
+                class: ClassId::OBJECT,
+                parameters: definition.shape.parameters,
+                has_block: block.is_some(),
+            };
             self.enter(
                 frame,
                 last,
                 definition.shape,
-                Entry::OfMethod(block.is_some()),
+                Entry::OfMethod(call),
                 block,
                 definition.body,
             )

@@ -11,6 +11,7 @@ mod counted;
 mod engine;
 mod environment;
 mod exception;
+mod fields;
 mod frame;
 mod hash;
 mod invoke;

@@ -18,7 +18,7 @@ ghost use Rattle.rr_eval.specs.Thrown.{thrown, thrown_at, report};
 ghost use Rattle.rr_eval.specs.declared.problem.Problem.{Problem};
 ghost use Rattle.rr_eval.specs.declared.problem.Answer.{Answer};
 ghost use Rattle.rr_eval.specs.Changes.{Changes};
-ghost use Rattle.rr_eval.specs.Within.{Reach, reach, AreReached, AreVariablesReached, AreWithin, IsControlReached, IsResponseReached, IsTurnReached, IsTurnWithin, KeepsReach, KeepsRead};
+ghost use Rattle.rr_eval.specs.Within.{Reach, reach, AreReached, AreVariablesReached, AreWithin, IsControlReached, IsReached, IsResponseReached, IsTurnReached, IsTurnWithin, KeepsReach, KeepsRead};
 ghost use Rattle.rr_eval.specs.Turns.{context_of, first_control, remaining, answered, Turned, Replied, Falls};
 
 use crate::call_stack::CallStack;
@@ -66,15 +66,15 @@ fn first_control(prepared: &Prepared) -> Control
 }
 
 /// The frame of a program, whose variables are unset, where so many methods may be called in one another.
-fn first_calls(alloc: Global, program: &Program, most: u32) -> Result<CallStack, Fault>
-    ensures calls { IfOk result (λ calls. (t : Table) → record { calls = calls; blocks = None ∷ []; table = t; rescuing = Ref.Nil } ≡ first_memory (context_of program.now) most t) }
-    ensures within { IfOk result (λ calls. (k : Reach) → All (AreVariablesReached k) calls.frames) }
+fn first_calls(alloc: Global, program: &Program, most: u32, itself: Ref) -> Result<CallStack, Fault>
+    ensures calls { IfOk result (λ calls. (t : Table) → record { calls = calls; blocks = None ∷ []; table = t; rescuing = Ref.Nil } ≡ first_memory (context_of program.now) most itself t) }
+    ensures within { IfOk result (λ calls. (k : Reach) → IsReached k itself → All (AreVariablesReached k) calls.frames) }
     ensures fault { IfErr result (λ f. f ≡ Fault.Memory) }
 {
     let Ok(size) = u32::try_from(program.symbols.len()) else {
         return Err(Fault::Memory);
     };
-    CallStack::new(alloc, most, size)
+    CallStack::new(alloc, most, size, itself)
 }
 
 /// The program was given no block.
@@ -88,22 +88,27 @@ fn first_blocks(alloc: Global) -> Result<Vec<Option<NodeId>>, Fault>
 }
 
 impl Machine {
-    /// A machine that has the whole program still to do, within limits, of which it takes the steps and the frames. The only
-    /// fault is `Memory`.
+    /// A machine that has the whole program still to do, whose `self` is given, within limits, of which it takes the steps and
+    /// the frames. The only fault is `Memory`.
     ///
     /// No class is evaluated yet: a program that defines one raises RuntimeError at once.
     #[tactic(auto, unfolding(crate::specs::Within::AreReached))]
-    pub fn new(alloc: Global, prepared: &Prepared, limits: Limits) -> Result<Machine, Fault>
+    pub fn new(
+        alloc: Global,
+        prepared: &Prepared,
+        limits: Limits,
+        itself: Ref,
+    ) -> Result<Machine, Fault>
         ensures left { IfOk result (λ m. m.left ≡ limits.steps) }
-        ensures within { IfOk result (λ m. (k : Reach) → AreReached k m) }
-        ensures whole { IfOk result (λ m. (t : Table) (h : Course) → remaining prepared.now.program m t h ≡ begun (context_of prepared.now.program) h.world (tree_at prepared.now.program.nodes.items prepared.now.program.root) (record { memory = first_memory (context_of prepared.now.program) limits.frames t; asked = h.asked }) limits.steps) }
+        ensures within { IfOk result (λ m. (k : Reach) → IsReached k itself → AreReached k m) }
+        ensures whole { IfOk result (λ m. (t : Table) (h : Course) → remaining prepared.now.program m t h ≡ begun (context_of prepared.now.program) h.world (tree_at prepared.now.program.nodes.items prepared.now.program.root) (record { memory = first_memory (context_of prepared.now.program) limits.frames itself t; asked = h.asked }) limits.steps) }
         ensures fault { IfErr result (λ f. f ≡ Fault.Memory) }
     {
         let engine = Engine {
             control: first_control(prepared),
             frames: Vec::new(alloc),
             held: Vec::new(alloc),
-            calls: first_calls(alloc, &prepared.program, limits.frames)?,
+            calls: first_calls(alloc, &prepared.program, limits.frames, itself)?,
             blocks: first_blocks(alloc)?,
             rescuing: Ref::Nil,
             left: limits.steps,

@@ -360,6 +360,10 @@ impl Engine {
             Node::Interpolation { first, count } => self.open_values(Task::MakeText, first, count),
             Node::Hash { first, count } => self.open_pairs(&prepared.program, first, count),
             Node::Pairs { first, count } => self.open_pairs(&prepared.program, first, count),
+            Node::Field(name) => {
+                self.open_field(space, name);
+                Ok(None)
+            }
             Node::Bare { name, .. } => self.open_bare(prepared, name),
             Node::Call {
                 name,
@@ -404,6 +408,7 @@ impl Engine {
             Node::Constant(path) => self.open_path(program, path),
             Node::Truth(truth) => self.answer(Answer::Gave(Ref::Truth(truth))),
             Node::Int(z) => self.answer(Answer::Gave(Ref::Int(z))),
+            Node::Itself => self.answer(Answer::Gave(self.itself())),
             Node::Local { depth, slot, .. } => {
                 self.answer(Answer::Gave(self.variable(Variable { depth, slot })));
             }
@@ -432,6 +437,7 @@ impl Engine {
                 value,
                 ..
             } => self.enter_above(Frame::Store(Variable { depth, slot }), value),
+            Node::SetField(name, value) => self.enter_above(Frame::SetField(name), value),
             Node::OperatorAssign(op, target, value) => {
                 self.open_update(program, op, target, value);
             }
@@ -461,6 +467,7 @@ impl Engine {
             | Node::Interpolation { .. }
             | Node::Hash { .. }
             | Node::Pairs { .. }
+            | Node::Field(_)
             | Node::Bare { .. }
             | Node::Call { .. }
             | Node::WithBlock(_, _)

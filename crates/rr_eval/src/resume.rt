@@ -190,6 +190,7 @@ impl Engine {
                 true
             }
             Frame::Negation
+            | Frame::SetField(_)
             | Frame::Argument(_, _, _, _)
             | Frame::Key(_, _, _, _)
             | Frame::Value(_, _, _)
@@ -434,6 +435,7 @@ impl Engine {
         match frame {
             Frame::Negation => Ok(self.negate(value)),
             Frame::Right(op, left) => Ok(self.operate(op, left, value)),
+            Frame::SetField(name) => Ok(Some(self.ask_field(name, value))),
             Frame::Argument(target, end, count, base) => {
                 self.resume_values(prepared, space, target, end, count, base, value)
             }

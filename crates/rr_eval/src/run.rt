@@ -1,7 +1,12 @@
 //! A script from its bytes to its printed bytes.
 
-ghost use Rattle.std.specs.Prelude.{◌≡◌, ◌+◌, ◌<◌, ◌≤◌, ◌^◌, length};
+ghost use Rattle.std.specs.Prelude.{◌≡◌, ◌+◌, ◌<◌, ◌≤◌, ◌^◌, [], length, IfOk, IfErr};
+ghost use Rattle.rr_base.specs.declared.name.TheConstants.ClassId.{OBJECT};
 ghost use Rattle.rr_lexer.specs.Tokens.{AreTokensOf};
+ghost use Rattle.rr_text.specs.Reads.{IsReadWith};
+ghost use Rattle.rr_builtin.specs.Acts.{with_object};
+ghost use Rattle.rr_builtin.specs.News.{new_plain};
+ghost use Rattle.rr_eval.specs.Acts.{IsRefusal, Passes};
 ghost use Rattle.rr_eval.specs.Counted.{failures, counted};
 ghost use Rattle.rr_eval.specs.Written.{written_to};
 ghost use Rattle.rr_eval.specs.Turns.{context_of};
@@ -14,11 +19,11 @@ use crate::machine::Machine;
 use crate::output::{Output, put};
 use crate::prepared::Prepared;
 use crate::serve::serve;
-use rr_base::{Fault, Limits, RactorNo};
+use rr_base::{ClassId, Fault, Limits, RactorNo};
 use rr_builtin::Methods;
 use rr_lexer::{Token, lex, tokens_are_one};
 use rr_parser::parse;
-use rr_space::Space;
+use rr_space::{Node, Ref, Space};
 use rr_tree::Program;
 use std::alloc::Global;
 use std::io::Write;
@@ -63,6 +68,20 @@ fn read_program(alloc: Global, source: &[u8]) -> Result<Program, Fault>
     }
 }
 
+/// Makes the `self` of a program, an object of class Object. A refused growth leaves the objects as they were.
+fn make_itself(alloc: Global, space: &mut Space) -> Result<Ref, Fault>
+    ensures name { IfOk result (λ itself. itself ≡ Ref.Local (length space.old.slots)) }
+    ensures made { IfOk result (λ _. space.new ≡ with_object (new_plain OBJECT.0) [] space.old) }
+    ensures read { IfOk result (λ _. IsReadWith space.old [] → IsReadWith space.new []) }
+    ensures refused { IfErr result IsRefusal }
+    ensures full { IfErr result (λ f. Passes f space.old.limit (length (with_object (new_plain OBJECT.0) [] space.old).slots)) }
+{
+    match space.alloc(Node::Object(ClassId::OBJECT, Vec::new(alloc))) {
+        Ok(itself) => Ok(itself),
+        Err(fault) => Err(fault),
+    }
+}
+
 /// There are no more objects than there may be.
 fn objects_fit(space: &Space)
     ensures { length space.now.slots ≤ space.now.limit }
@@ -82,10 +101,14 @@ fn run_program<O: Output>(
     ensures slots { WithinSlots limits.slots (program_meaning prepared.now.program limits) result }
 {
     let mut space = Space::new(alloc, RactorNo(1), limits.slots);
+    let itself = match make_itself(alloc, &mut space) {
+        Ok(itself) => itself,
+        Err(fault) => return Outcome::Stopped(fault),
+    };
     let Ok(methods) = Methods::of(alloc, &prepared.program) else {
         return Outcome::Stopped(Fault::Memory);
     };
-    let mut machine = match Machine::new(alloc, prepared, limits) {
+    let mut machine = match Machine::new(alloc, prepared, limits, itself) {
         Ok(machine) => machine,
         Err(fault) => return Outcome::Stopped(fault),
     };

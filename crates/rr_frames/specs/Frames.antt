@@ -1,5 +1,6 @@
 -- Frames and their variables.
 use Rattle.std.specs.Prelude.{ℕ, ◌-◌, List, [], ◌∷◌, ◌++◌, length, take, replicate, slice_index_or, slice_set, Option, Some, None}
+use Rattle.rr_base.specs.declared.name.TheConstants.ClassId.{OBJECT}
 use Rattle.rr_space.specs.declared.refer.Ref.{Ref}
 use Rattle.rr_space.specs.declared.refer.Ref.TheVariants.{Nil}
 use Rattle.rr_frames.specs.declared.activation.Activation.{Activation}
@@ -28,7 +29,7 @@ laid parameters size values = let kept = take parameters values in take size kep
 
 -- what stands for a frame where there is none
 abbrev pub no_frame : Frame
-no_frame = record { variables = []; activation = record { itself = Nil; given = Nothing; home = 0; root = 0; method = 0 } }
+no_frame = record { variables = []; activation = record { itself = Nil; given = Nothing; home = 0; root = 0; name = record { 0 = 0 }; class = OBJECT; parameters = 0 } }
 
 abbrev pub frame_at : ℕ → List Frame → Frame
 frame_at number frames = slice_index_or frames number no_frame

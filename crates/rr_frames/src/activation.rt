@@ -1,5 +1,6 @@
 //! What a frame has beside its variables.
 
+use rr_base::{ClassId, Sym};
 use rr_space::Ref;
 
 /// The block that a call was given.
@@ -23,8 +24,12 @@ pub struct Activation {
     pub home: u32,
     /// The number of the frame of the method in which the body stands.
     pub root: u32,
-    /// The number of that method among the program's.
-    pub method: u32,
+    /// The name of that method.
+    pub name: Sym,
+    /// The class in which it stands.
+    pub class: ClassId,
+    /// How many parameters it has.
+    pub parameters: u32,
 }
 
 /// How many parameters and how many variables a body has. The parameters are the first of the variables.

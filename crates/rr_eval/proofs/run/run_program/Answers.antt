@@ -1,18 +1,22 @@
 -- What one turn did, and how its request was served.
-use Rattle.std.proofs.Common.{inl, refl, sym, subst, ◌∙◌, arith, ap, [], length, ◌≤◌, Some, None}
+use Rattle.std.proofs.Common.{◌≡◌, inl, refl, sym, subst, ◌∙◌, arith, ap, List, [], ◌∷◌, length, length-append, ◌<◌, ◌≤◌, Option, Some, None}
+use Rattle.rr_base.specs.declared.name.TheConstants.ClassId.{OBJECT}
+use Rattle.rr_space.specs.Tables.{Table, Slot, Here, Below}
+use Rattle.rr_space.specs.declared.refer.Ref.TheVariants.{Local}
+use Rattle.rr_builtin.specs.News.{new_plain}
 use Rattle.rr_tree.specs.Tree.{tree_at}
 use Rattle.rr_eval.specs.Acts.{Passes}
 use Rattle.rr_eval.specs.Script.{objects_of}
-use Rattle.rr_eval.specs.Turns.{context_of, remaining}
-use Rattle.rr_eval.specs.Rules.{begun}
-use Rattle.rr_eval.specs.Runs.{alone}
+use Rattle.rr_eval.specs.Turns.{context_of, code_of, remaining}
+use Rattle.rr_eval.specs.Rules.{begun, first_memory, start_state}
+use Rattle.rr_eval.specs.Runs.{alone, first_objects, program_meaning}
 use Rattle.rr_eval.specs.Requests.{asked_of}
-use Rattle.rr_eval.specs.Within.{reach}
+use Rattle.rr_eval.specs.Within.{reach, IsReached}
 use Rattle.rr_eval.specs.Written.{written_to, WritesAll, FallsShort}
 use Rattle.rr_eval.proofs.Calling.{alone_adds, none_read}
 use Rattle.rr_eval.proofs.Holding.{within_more, reached_more, response_within}
-use Rattle.rr_eval.proofs.Objects.{asking_keeps}
-use Rattle.rr_eval.proofs.Running.{in_world, first_table, first_state, running_first, running_on, running_more, running_failed, running_raised, running_stopped, running_done, running_spent, running_fits}
+use Rattle.rr_eval.proofs.Objects.{asking_keeps, begun_keeps}
+use Rattle.rr_eval.proofs.Running.{in_world, nothing_written, first_table, first_state, running_first, running_on, running_more, running_failed, running_raised, running_stopped, running_done, running_spent, running_fits}
 use Rattle.rr_eval.proofs.run.run_program.Goals as goal
 use Rattle.rr_eval.proofs.run.run_program.Goals.{in-Ok-report, in-Err-report}
 
@@ -21,15 +25,38 @@ loop-request-init g c =
     let p = c.args.prepared.now.program in
     let w = alone (context_of p) in
     let made = c.new-space.ensures in
-    let begins = first_state p c.new-space.result c.args.limits.frames c.args.limits.slots (first_table c.new-space.result c.args.limits.slots made.slots made.below made.keys made.limit made.owner made.next_message) in
-    let whole = c.in-Ok-new.ensures.whole c.new-space.result (in_world w []) in
+    let first = c.in-Ok.ensures in
+    let t = c.new-space.result in
+    let u = c.make_itself.new.space in
+    let itself = c.in-Ok.itself in
+    let zero : itself ≡ Local 0 = first.name ∙ ap (λ (s : List Slot). Local (length s)) made.slots in
+    let one : 0 < length u.slots = omega (arith, ap (λ (x : Table). length x.slots) first.made, length-append t.slots (Here (new_plain OBJECT.0) ∷ [])) in
+    let reached = λ (clusters : Option Below). subst (IsReached (reach (length u.slots) clusters)) (sym zero) one in
+    let begins = first_state p t u c.args.limits.frames c.args.limits.slots (first_table t c.args.limits.slots made.slots made.below made.keys made.limit made.owner made.next_message) first.made in
+    let whole = c.in-Ok-new.ensures.whole u (in_world w []) in
     record {
-      within = c.in-Ok-new.ensures.within (reach (length c.new-space.result.slots) None);
-      reached = c.in-Ok-new.ensures.within (reach (length c.new-space.result.slots) (Some []));
-      read = none_read c.new-space.result made.below;
-      limit = made.limit;
-      running = running_first w p c.in-Ok-new.machine c.new-space.result _ _ (ap (λ s. begun (context_of p) w (tree_at p.nodes.items p.root) s c.args.limits.steps) begins ∙ sym whole);
+      within = c.in-Ok-new.ensures.within (reach (length u.slots) None) (reached None);
+      reached = c.in-Ok-new.ensures.within (reach (length u.slots) (Some [])) (reached (Some []));
+      read = first.read (none_read t made.below);
+      limit = ap (λ (x : Table). x.limit) first.made ∙ made.limit;
+      running = running_first w p c.in-Ok-new.machine u _ _
+          (ap (λ s. begun (context_of p) w (tree_at p.nodes.items p.root) s c.args.limits.steps) (begins ∙ ap (λ v. record { memory = first_memory (context_of p) c.args.limits.frames v u; asked = [] }) (sym zero)) ∙ sym whole);
     }
+
+pub returns-in-Err-clause-slots : goal.returns-in-Err-clause-slots
+returns-in-Err-clause-slots g c = λ is.
+    let p = c.args.prepared.now.program in
+    let w = alone (context_of p) in
+    let t = c.new-space.result in
+    let made = c.new-space.ensures in
+    let more = c.in-Err.ensures.full is in
+    let kept = begun_keeps (code_of p w) (alone_adds (context_of p)) (tree_at p.nodes.items p.root) (start_state (context_of p) c.args.limits.frames (Local 0) (first_objects c.args.limits.slots)) c.args.limits.steps in
+    omega (arith, more, kept, made.limit, ap (λ (s : List Slot). length s) made.slots, length-append t.slots (Here (new_plain OBJECT.0) ∷ []))
+
+pub returns-in-Err-new-clause-leaves : goal.returns-in-Err-new-clause-leaves
+returns-in-Err-new-clause-leaves g c =
+    let p = c.args.prepared.now.program in
+    (inl c.in-Err-new.ensures.fault, nothing_written (context_of p) (program_meaning p c.args.limits) _)
 
 pub loop-request-preserved-in-Ok-More : goal.loop-request-preserved-in-Ok-More
 loop-request-preserved-in-Ok-More g c =

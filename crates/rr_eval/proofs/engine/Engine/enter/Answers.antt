@@ -8,7 +8,7 @@ use Rattle.rr_eval.specs.Frames.{means, runs_in, below_of, unwind, waits_for}
 use Rattle.rr_eval.specs.Turns.{context_of, code_of, state_of}
 use Rattle.rr_eval.specs.Views.{view_of}
 use Rattle.rr_eval.specs.Within.{IsReached}
-use Rattle.rr_eval.proofs.Holding.{all_append, held_reached, enter_reached, refused_reached}
+use Rattle.rr_eval.proofs.Holding.{activation_within, all_append, calls_reached, held_reached, enter_reached, refused_reached}
 use Rattle.rr_eval.proofs.Invoking.{enters, has_room}
 use Rattle.rr_eval.proofs.engine.Engine.enter.Goals as goal
 
@@ -27,11 +27,11 @@ returns-in-Ok-clause-goes c = λ p t h n.
     ∙ ap (λ fs. unwind code (reverse fs) c.clear.new.held.items (means code tree (state_of p (record m { calls = c.push.new.self; blocks = c.push_within.new.items.items }) t h) n)) (sym (c.push_within-in-Ok.ensures ∙ ap (λ f. m.frames ++ f ∷ []) c.leaving.ensures))
 
 pub returns-in-Ok-clause-within : goal.returns-in-Ok-clause-within
-returns-in-Ok-clause-within c k h last =
+returns-in-Ok-clause-within c k h itself last =
     let m = view_of c.args.self.now in
-    enter_reached k m c.args.frame _ _ _ _ c.args.entry c.args.shape.parameters c.args.shape.size c.args.body (c.standing.result.now ++ list_of c.args.last) (activation_in c.args.entry m.calls.frames) (c.push_within-in-Ok.ensures ∙ ap (λ f. m.frames ++ f ∷ []) c.leaving.ensures) c.clear.ensures c.in-Ok.ensures.pushed h
+    enter_reached k m c.args.frame _ _ _ _ c.args.entry c.args.shape.parameters c.args.shape.size c.args.body (c.standing.result.now ++ list_of c.args.last) (activation_in c.args.entry m.calls.frames) (c.push_within-in-Ok.ensures ∙ ap (λ f. m.frames ++ f ∷ []) c.leaving.ensures) c.clear.ensures c.in-Ok.ensures.pushed h (activation_within k c.args.entry m.calls.frames (calls_reached k m h) itself)
     (all_append (IsReached k) c.standing.result.now (list_of c.args.last) (c.standing.ensures.within k (held_reached k m h)) last)
 
 pub returns-in-Err-Limit-Frames-clause-within : goal.returns-in-Err-Limit-Frames-clause-within
-returns-in-Err-Limit-Frames-clause-within c k h last =
+returns-in-Err-Limit-Frames-clause-within c k h itself last =
     c.refuse.ensures.within k (refused_reached k (view_of c.args.self.now) _ _ c.in-Err-Limit-Frames.ensures.refused c.reserve.ensures.items h)

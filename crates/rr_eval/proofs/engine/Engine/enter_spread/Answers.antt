@@ -6,7 +6,7 @@ use Rattle.rr_eval.specs.Blocks.{activation_in}
 use Rattle.rr_eval.specs.Frames.{means, below_of, unwind, waits_for}
 use Rattle.rr_eval.specs.Turns.{code_of, state_of}
 use Rattle.rr_eval.specs.Views.{view_of}
-use Rattle.rr_eval.proofs.Holding.{enter_reached, refused_reached}
+use Rattle.rr_eval.proofs.Holding.{activation_within, calls_reached, enter_reached, refused_reached}
 use Rattle.rr_eval.proofs.Invoking.{enters, has_room}
 use Rattle.rr_eval.proofs.engine.Engine.enter_spread.Goals as goal
 
@@ -28,7 +28,7 @@ pub returns-in-Ok-clause-within : goal.returns-in-Ok-clause-within
 returns-in-Ok-clause-within c k h values =
     let m = view_of c.args.self.now in
     let entry = OfBlock c.args.home in
-    enter_reached k m c.args.frame _ _ _ _ entry c.args.shape.parameters c.args.shape.size c.args.body c.args.values.now (activation_in entry m.calls.frames) c.push_within-in-Ok.ensures c.clear.ensures c.in-Ok.ensures.pushed h
+    enter_reached k m c.args.frame _ _ _ _ entry c.args.shape.parameters c.args.shape.size c.args.body c.args.values.now (activation_in entry m.calls.frames) c.push_within-in-Ok.ensures c.clear.ensures c.in-Ok.ensures.pushed h (activation_within k entry m.calls.frames (calls_reached k m h) tt)
     values
 
 pub returns-in-Err-Limit-Frames-clause-within : goal.returns-in-Err-Limit-Frames-clause-within

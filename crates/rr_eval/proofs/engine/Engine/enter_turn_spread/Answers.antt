@@ -7,7 +7,7 @@ use Rattle.rr_eval.specs.Frames.{means, runs_in, iterated, unwind}
 use Rattle.rr_eval.specs.Script.{Ret, Evaluate, TurnPart}
 use Rattle.rr_eval.specs.Turns.{context_of, code_of, state_of}
 use Rattle.rr_eval.specs.Views.{view_of}
-use Rattle.rr_eval.proofs.Holding.{turn_reached, refused_reached}
+use Rattle.rr_eval.proofs.Holding.{activation_within, calls_reached, turn_reached, refused_reached}
 use Rattle.rr_eval.proofs.Invoking.{has_room}
 use Rattle.rr_eval.proofs.Rounds.{turn_enters}
 use Rattle.rr_eval.proofs.engine.Engine.enter_turn_spread.Goals as goal
@@ -28,7 +28,8 @@ returns-in-Ok-clause-goes c = λ p t h n is.
 pub returns-in-Ok-clause-within : goal.returns-in-Ok-clause-within
 returns-in-Ok-clause-within c k h values =
     let m = view_of c.args.self.now in
-    turn_reached k m c.args.iteration _ _ _ c.args.shape.parameters c.args.shape.size c.args.iteration.block c.args.values.now (activation_in (OfBlock c.top-home.result) m.calls.frames) c.push_within-in-Ok.ensures c.in-Ok.ensures.pushed h values
+    turn_reached k m c.args.iteration _ _ _ c.args.shape.parameters c.args.shape.size c.args.iteration.block c.args.values.now (activation_in (OfBlock c.top-home.result) m.calls.frames) c.push_within-in-Ok.ensures c.in-Ok.ensures.pushed h
+    (activation_within k (OfBlock c.top-home.result) m.calls.frames (calls_reached k m h) tt) values
 
 pub returns-in-Err-Limit-Frames-clause-within : goal.returns-in-Err-Limit-Frames-clause-within
 returns-in-Err-Limit-Frames-clause-within c k h values =

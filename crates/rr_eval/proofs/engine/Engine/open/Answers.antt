@@ -63,6 +63,9 @@ returns-in-Binary-clause-within c k h = c.enter_above-in-Binary.ensures.within k
 pub returns-in-Assign-clause-within : goal.returns-in-Assign-clause-within
 returns-in-Assign-clause-within c k h = c.enter_above-in-Assign.ensures.within k h tt
 
+pub returns-in-SetField-clause-within : goal.returns-in-SetField-clause-within
+returns-in-SetField-clause-within c k h = c.enter_above-in-SetField.ensures.within k h tt
+
 pub returns-in-Choose-clause-within : goal.returns-in-Choose-clause-within
 returns-in-Choose-clause-within c k h = c.enter_above-in-Choose.ensures.within k h tt
 
@@ -119,6 +122,9 @@ open_unknown-requires-clause-unknown c =
       no_pairs = is.not-Pairs;
       no_interpolation = is.not-Interpolation;
       no_local = is.not-Local;
+      no_itself = is.not-Itself;
+      no_field = is.not-Field;
+      no_set_field = is.not-SetField;
       no_bare = is.not-Bare;
       no_call = is.not-Call;
       no_send = is.not-Send;

@@ -1,7 +1,8 @@
 -- What is held stays within.
-use Rattle.std.proofs.Common.{length, subst}
+use Rattle.std.proofs.Common.{◌∙◌, ap, length, subst}
 use Rattle.rr_eval.specs.declared.frame.Control.TheVariants.{Give}
 use Rattle.rr_eval.specs.declared.problem.Answer.TheVariants.{Gave}
+use Rattle.rr_eval.specs.Turns.{after_answer}
 use Rattle.rr_eval.specs.Views.{view_of}
 use Rattle.rr_eval.specs.Within.{reach, IsFrameReached}
 use Rattle.rr_eval.proofs.Holding.{with_control, with_rescuing}
@@ -15,6 +16,12 @@ returns-in-Negation-clause-asks c k h frame value = c.negate.ensures.asks (reach
 
 pub returns-in-Right-clause-asks : goal.returns-in-Right-clause-asks
 returns-in-Right-clause-asks c k h frame value = c.operate.ensures.asks (reach (length c.args.space.now.slots) k) (subst (IsFrameReached (reach (length c.args.space.now.slots) k)) c.in-Right.is frame) value
+
+pub returns-in-SetField-clause-goes : goal.returns-in-SetField-clause-goes
+returns-in-SetField-clause-goes c h n =
+    let p = c.args.prepared.now.program in
+    let t = c.args.space.now in
+    ap (λ f. after_answer p (view_of c.args.self.now) t f (Gave c.args.value) h n) c.in-SetField.is ∙ c.ask_field.ensures.asks p t h n
 
 pub returns-in-Key-clause-asks : goal.returns-in-Key-clause-asks
 returns-in-Key-clause-asks c k h frame value = c.keep_key.ensures.asks (reach (length c.args.space.now.slots) k)

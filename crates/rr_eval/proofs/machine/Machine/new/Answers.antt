@@ -13,7 +13,7 @@ use Rattle.rr_eval.proofs.Invoking.{no_blocks}
 use Rattle.rr_eval.proofs.machine.Machine.new.Goals as goal
 
 pub returns-clause-within : goal.returns-clause-within
-returns-clause-within c k = first_reached k _ (c.first_control.ensures.within k) c.new.ensures.items c.new-2.ensures.items (c.in_ok-first_calls.ensures.within k) tt
+returns-clause-within c k itself = first_reached k _ (c.first_control.ensures.within k) c.new.ensures.items c.new-2.ensures.items (c.in_ok-first_calls.ensures.within k itself) tt
 
 pub returns-clause-whole : goal.returns-clause-whole
 returns-clause-whole c t h =
