@@ -44,6 +44,7 @@ pub mod Rescuing
 pub mod Joining
 pub mod Opening
 pub mod Openings
+pub mod Classless
 pub mod Interpolating
 pub mod Splats
 pub mod Assigning

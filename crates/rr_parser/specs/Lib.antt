@@ -1,5 +1,6 @@
 pub mod MethodNames
 pub mod Opened
+pub mod ClassWords
 pub mod Words
 pub mod Numbering
 pub mod Places

@@ -6,7 +6,7 @@ ghost use Rattle.rr_lexer.specs.Contents.{word_of, contents_of};
 ghost use Rattle.rr_parser.specs.Words.{keyword_kind, op_kind, is_marked, accessor_named, name_kind, naming_of, token_name, with_name, number_of, with_symbol, with_symbol_of, with_text, word_kind, word_with, words_of, symbols_of, texts_of, classes_of};
 
 use crate::method_names::{MethodName, is_def, method_name_at};
-use crate::opened::{Opened, open, with_classes};
+use crate::opened::{Opened, told};
 use crate::refusal::Storage;
 use crate::word::{
     Access, Connective, Infix, Jump, NameKind, Naming, Opening, Operation, Passing, Sign, Word,
@@ -302,8 +302,7 @@ pub(crate) fn read_words(alloc: Global, source: &[u8], tokens: &[Token]) -> Resu
     }
     let symbols = symbols(alloc, &numbering.names)?;
     let Numbering { names: _, texts } = numbering;
-    let told = with_classes(alloc, &words)?;
-    let Opened { words, classes } = open(alloc, &symbols, &told)?;
+    let Opened { words, classes } = told(alloc, &symbols, words)?;
     Ok(Words {
         words,
         symbols,

@@ -4,8 +4,9 @@ ghost use Rattle.std.specs.Prelude.{◌≡◌, ℕ, List, ◌++◌, [], nat_eq, 
 ghost use Rattle.std.specs.List.{list_any};
 ghost use Rattle.std.specs.Map.{keys_of, lookup};
 ghost use Rattle.indexmap.specs.IndexSet.{contains};
+ghost use Rattle.rr_parser.specs.ClassWords.{has_class};
 ghost use Rattle.rr_parser.specs.Grammar.Classes.{class_head};
-ghost use Rattle.rr_parser.specs.Opened.{Head, first_constant, class_behind, with_number, classes_in, kind_by, with_classes, has_below, below_built_in, opening_by, name_text, own_class, below_path, superclass_of, head_of, head_behind, heads_in, classes_by, opening_of, opened_kind, opened_words, with_class, class_of_entry};
+ghost use Rattle.rr_parser.specs.Opened.{Head, is_class, first_constant, class_behind, with_number, classes_in, kind_by, with_classes, has_below, below_built_in, opening_by, name_text, own_class, below_path, superclass_of, head_of, head_behind, heads_in, classes_by, opening_of, opened_kind, opened_words, with_class, class_of_entry};
 
 use crate::class_bodies::class_head;
 use crate::names::number;
@@ -40,6 +41,26 @@ fn class_behind(word: Word, words: &[Word]) -> Option<u32>
         WordKind::Class(_) => first_constant(words),
         _ => None,
     }
+}
+
+fn is_class(kind: WordKind) -> bool
+    ensures { result ≡ is_class kind }
+{
+    matches!(kind, WordKind::Class(_))
+}
+
+/// Whether the word `class` stands among the words.
+fn has_class(words: &[Word]) -> bool
+    ensures { result ≡ has_class words.now }
+{
+    let mut left = words;
+    while let Some((word, rest)) = left.split_first() {
+        if is_class(word.kind) {
+            return true;
+        }
+        left = rest;
+    }
+    false
 }
 
 fn note(names: &mut IndexSet<u32>, number: Option<u32>) -> Result<(), Storage>
@@ -81,7 +102,7 @@ fn kind_by(names: &IndexSet<u32>, kind: WordKind) -> WordKind
 }
 
 /// The words, where the names of the program's classes are told from other constants.
-pub(crate) fn with_classes(alloc: Global, words: &[Word]) -> Result<Vec<Word>, Storage>
+fn with_classes(alloc: Global, words: &[Word]) -> Result<Vec<Word>, Storage>
     ensures { IfOk result (λ v. v.items ≡ with_classes words.now) }
 {
     let names = classes_in(alloc, words)?;
@@ -281,7 +302,7 @@ fn classes(alloc: Global, entries: &IndexMap<u32, ClassId>) -> Result<Vec<Class>
 }
 
 /// The words, where each `class` is told its superclass, and the classes of the program.
-pub(crate) fn open(alloc: Global, symbols: &[Vec<u8>], words: &[Word]) -> Result<Opened, Storage>
+fn open(alloc: Global, symbols: &[Vec<u8>], words: &[Word]) -> Result<Opened, Storage>
     ensures words { IfOk result (λ o. o.words.items ≡ opened_words (map (λ s. s.items) symbols.now) [] words.now) }
     ensures classes { IfOk result (λ o. o.classes.items ≡ map class_of_entry (classes_by (map (λ s. s.items) symbols.now) (heads_in words.now))) }
 {
@@ -304,4 +325,20 @@ pub(crate) fn open(alloc: Global, symbols: &[Vec<u8>], words: &[Word]) -> Result
         words: opened,
         classes,
     })
+}
+
+/// The words, where the names of the program's classes are told from other constants, and each `class` is told its
+/// superclass; and the classes of the program. Where no class is among the words, they are taken as they are.
+pub(crate) fn told(alloc: Global, symbols: &[Vec<u8>], words: Vec<Word>) -> Result<Opened, Storage>
+    ensures words { IfOk result (λ o. o.words.items ≡ opened_words (map (λ s. s.items) symbols.now) [] (with_classes words.items)) }
+    ensures classes { IfOk result (λ o. o.classes.items ≡ map class_of_entry (classes_by (map (λ s. s.items) symbols.now) (heads_in (with_classes words.items)))) }
+{
+    if !has_class(&words) {
+        return Ok(Opened {
+            words,
+            classes: Vec::new(alloc),
+        });
+    }
+    let told = with_classes(alloc, &words)?;
+    open(alloc, symbols, &told)
 }
