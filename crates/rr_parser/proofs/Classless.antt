@@ -1,8 +1,7 @@
 -- Where no class is among the words, they are taken as they are.
-use Rattle.std.proofs.Common.{◌≡◌, ℕ, Bool, true, false, if◌then◌else◌, List, [], ◌∷◌, ◌++◌, map, Option, None, option_to_list, refl, sym, ap, ◌∙◌}
+use Rattle.std.proofs.Common.{◌≡◌, ℕ, Bool, true, false, if◌then◌else◌, List, [], ◌∷◌, ◌++◌, map, None, option_to_list, refl, sym, ap, ◌∙◌}
 use Rattle.std.specs.Prelude.{nat_eq}
 use Rattle.std.specs.List.{list_any}
-use Rattle.std.proofs.lemmas.List.{append-nil}
 use Rattle.rr_tree.specs.declared.class.Class.{Class}
 use Rattle.rr_parser.specs.declared.word.Naming.TheVariants as namings
 use Rattle.rr_parser.specs.declared.word.Word.{Word}

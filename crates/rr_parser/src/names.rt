@@ -296,7 +296,7 @@ pub(crate) fn read_words(alloc: Global, source: &[u8], tokens: &[Token]) -> Resu
     let mut left = tokens;
     while let Some((token, rest)) = left.split_first() {
         let method = method_name_at(behind_def, *token, rest);
-        words.push(numbering.word(alloc, source, *token, method)?)?;
+        words.push_reserved(numbering.word(alloc, source, *token, method)?);
         behind_def = is_def(token.kind);
         left = rest;
     }

@@ -181,8 +181,6 @@ pub(crate) fn read(
         freezes: freezes_literals(source, tokens),
         definitions,
         classes: words.classes,
-        methods: Vec::new(alloc),
-        scopes: Vec::new(alloc),
         sites,
     })
 }

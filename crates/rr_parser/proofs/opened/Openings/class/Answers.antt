@@ -1,4 +1,4 @@
-use Rattle.std.proofs.Common.{◌≡◌, ap, sym, ◌∙◌, map, ◌++◌}
+use Rattle.std.proofs.Common.{ap, sym, ◌∙◌, map, ◌++◌}
 use Rattle.rr_parser.specs.declared.word.WordKind.TheVariants as kind
 use Rattle.rr_parser.specs.Opened.{opening_of, head_of, classes_by}
 use Rattle.rr_parser.proofs.Openings.{opening_is, class_is_added}
