@@ -28,8 +28,6 @@ pub fn program(alloc: Global, name: &[u8]) -> Result<Program, Fail> {
         freezes: false,
         definitions: Vec::new(alloc),
         classes: Vec::new(alloc),
-        methods: Vec::new(alloc),
-        scopes: Vec::new(alloc),
         sites: 0,
     })
 }

@@ -1,6 +1,5 @@
 //! Nodes, which name their parts by number.
 
-use crate::scope::ScopeId;
 use rr_base::{ClassId, Sym};
 
 /// The number of a node in its program's table.
@@ -8,6 +7,9 @@ pub type NodeId = u32;
 
 /// The number of a block's node.
 pub type BlockId = NodeId;
+
+/// The number of a scope among its program's scopes, in the order in which they begin. The scope of the program itself is 0.
+pub type ScopeId = u32;
 
 /// An operator of two operands.
 #[derive(Clone, Copy, Debug, PartialEq, Eq, Drop)]

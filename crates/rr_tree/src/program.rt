@@ -5,9 +5,8 @@ ghost use Rattle.rr_tree.specs.Tree.{tree_at, HasPartsBefore, IsOrdered};
 ghost use Rattle.rr_tree.specs.Nodes.{node_tree};
 ghost use Rattle.rr_tree.specs.Order.{IsOrdered-prop};
 
-use crate::class::{Class, Method};
+use crate::class::Class;
 use crate::node::{Node, NodeId};
-use crate::scope::Scope;
 
 /// A program.
 #[derive(Drop)]
@@ -26,10 +25,6 @@ pub struct Program {
     pub freezes: bool,
     /// The classes of the program, in the order in which they first stand in the source.
     pub classes: Vec<Class>,
-    /// The methods of all classes, those that were defined later behind.
-    pub methods: Vec<Method>,
-    /// The scope of the program, and those of its methods and blocks in the order in which they begin.
-    pub scopes: Vec<Scope>,
     /// How many calls are numbered.
     pub sites: u32,
     ghost ordered: { IsOrdered nodes.items } by { IsOrdered-prop nodes.items },
