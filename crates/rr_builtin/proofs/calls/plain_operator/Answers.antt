@@ -1,4 +1,4 @@
-use Rattle.std.proofs.Common.{◌≡◌, ◌∙◌, ℤ, ap, refl}
+use Rattle.std.proofs.Common.{◌≡◌, ◌∙◌, ℤ, [], ap, length, refl}
 use Rattle.rr_base.specs.declared.name.Sym.{Sym}
 use Rattle.rr_tree.specs.declared.node.BinaryOperator.{BinaryOperator}
 use Rattle.rr_space.specs.Tables.{Table}
@@ -24,3 +24,6 @@ pub returns-in_default-clause-act : goal.returns-in_default-clause-act
 returns-in_default-clause-act c =
     c.equality.ensures.act ∙ ap (equality c.args.operator) c.is_equal.ensures
     ∙ equality_alone (names_of c.args.program.now) c.args.operator c.args.value c.args.operand c.args.space.now c.in_default.not-Int c.in_default.not-Symbol
+
+pub returns-in-Int-clause-fit : goal.returns-in-Int-clause-fit
+returns-in-Int-clause-fit c = (c.on_integer.ensures.plain (length c.args.space.now.slots) []).0
