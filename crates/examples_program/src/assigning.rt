@@ -51,8 +51,8 @@ a character of a text|a = \"b\"; a[0] = \"c\"^n||undefined method '[]=' for an i
 an element whose value raises|a = [1]; puts a[0]; a[0] = 1 / 0; puts 2^n|1^n|divided by 0 (ZeroDivisionError)
 an index that raises|a = [1]; a[foo] = (puts 1)^n||undefined local variable or method 'foo' (NameError)
 a receiver that raises|foo[(puts 1)] = (puts 2)^n||undefined local variable or method 'foo' (NameError)
-an element and an operator|a = [1]; puts 1; a[0] += 1^n|1^n|not here yet (RuntimeError)
-an element unless it is there|h = {}; h[:a] ^p^p= 1^n||not here yet (RuntimeError)
+an element and an operator|a = [1]; puts 1; p(a[0] += 1)^n|1^n2^n|
+an element unless it is there|h = {}; h[:a] ^p^p= 1; p h^n|{a: 1}^n|
 a value that reads the receiver|a = [1, 2]; a[a.size] = a.size; p a^n|[1, 2, 2]^n|
 an index that a value changes|a = []; i = 0; a[i] = (i = 5); p a, i^n|[5]^n5^n|
 a receiver that a value changes|a = [1]; b = a; a[0] = (a = [2]; 3); p a, b^n|[2]^n[3]^n|
@@ -68,7 +68,7 @@ an unknown name with brackets|foo()^n||undefined method 'foo' for an instance of
 an unknown name in a method|def f(n)^n  puts n^n  g(n, n)^nend^nf(1)^n|1^n|undefined method 'g' for an instance of Object (NoMethodError)
 a method that stands behind its call|def f(n); g(n); end; def g(n); n * 2; end; p f(4)^n|8^n|
 a name with a mark|a?(1)^n||undefined method 'a?' for an instance of Object (NoMethodError)
-a method of every value without a receiver|puts 1; frozen?()^n|1^n|not here yet (RuntimeError)
+a method of every value without a receiver|puts frozen?(), is_a?(Object), nil?()^n|false^ntrue^nfalse^n|
 what raises|puts 1; raise \"x\"^n|1^n|x (RuntimeError)";
 
 #[test]

@@ -2,7 +2,11 @@
 #![tactic(auto)]
 
 #[cfg(test)]
+mod above;
+#[cfg(test)]
 mod assigning;
+#[cfg(test)]
+mod attributes;
 #[cfg(test)]
 mod blocks;
 #[cfg(test)]
@@ -12,9 +16,17 @@ mod builtins;
 #[cfg(test)]
 mod calls;
 #[cfg(test)]
+mod classes;
+#[cfg(test)]
+mod constants;
+#[cfg(test)]
 mod containers;
 #[cfg(test)]
 mod fields;
+#[cfg(test)]
+mod globals;
+#[cfg(test)]
+mod hash_each;
 #[cfg(test)]
 mod hashes;
 #[cfg(test)]
@@ -30,6 +42,10 @@ mod loops;
 #[cfg(test)]
 mod methods;
 #[cfg(test)]
+mod objects;
+#[cfg(test)]
+mod operators;
+#[cfg(test)]
 mod raising;
 #[cfg(test)]
 mod rescuing;
@@ -38,6 +54,16 @@ mod rows;
 #[cfg(test)]
 mod run;
 #[cfg(test)]
+mod several;
+#[cfg(test)]
+mod sharing;
+#[cfg(test)]
+mod speaking;
+#[cfg(test)]
+mod splats;
+#[cfg(test)]
 mod table;
+#[cfg(test)]
+mod updating;
 #[cfg(test)]
 mod writers;

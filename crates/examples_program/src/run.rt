@@ -1,7 +1,7 @@
 //! Scripts that are run to their end, and what they leave.
 
 use rr_base::{Fault, Limits};
-use rr_eval::{Counted, Outcome, run_source, run_source_within};
+use rr_eval::{Counted, Outcome, run_source, run_source_in_turns, run_source_within};
 use std::alloc::{AllocError, Global};
 
 /// What a run left.
@@ -15,6 +15,16 @@ pub struct Ran {
 pub fn run_script(alloc: Global, script: &[u8]) -> Ran {
     let mut output = Counted::new(Vec::new(alloc));
     let ended = run_source(alloc, script, &mut output);
+    Ran {
+        ended,
+        printed: output.into_inner(),
+    }
+}
+
+/// Runs a script in turns of so many steps.
+pub fn run_in_turns(alloc: Global, turn: u32, script: &[u8]) -> Ran {
+    let mut output = Counted::new(Vec::new(alloc));
+    let ended = run_source_in_turns(alloc, Limits::DEFAULT, turn, script, &mut output);
     Ran {
         ended,
         printed: output.into_inner(),

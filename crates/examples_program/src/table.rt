@@ -1,7 +1,7 @@
 //! Tables of scripts.
 
 use crate::rows::{REFUSED, RUN};
-use crate::run::{run_script, text_of};
+use crate::run::{Ran, run_in_turns, run_script, text_of};
 use rr_base::Fault;
 use rr_eval::Outcome;
 use std::alloc::{AllocError, Global};
@@ -46,14 +46,11 @@ pub fn script_of(alloc: Global, line: &str) -> Result<(&str, Vec<u8>, &str), Fai
     Ok((name, field(alloc, script)?, rest))
 }
 
-pub fn check_row(rt: &impl Abort, alloc: Global, line: &str) -> Result<(), Fail> {
-    let (name, script, rest) = script_of(alloc, line)?;
-    let (output, told) = rest.split_once("|").ok_or("a row without an ending")?;
-    let left = run_script(alloc, script.as_slice());
-    let wanted = field(alloc, output)?;
+/// What a run left is what a row wants: the output, and what is told of the exception that ended it.
+fn check_left(rt: &impl Abort, name: &str, left: &Ran, wanted: &[u8], told: &str) {
     assert_eq!(rt;
         text_of(left.printed.as_slice()),
-        text_of(wanted.as_slice()),
+        text_of(wanted),
         "output of {name}"
     );
     match &left.ended {
@@ -62,6 +59,17 @@ pub fn check_row(rt: &impl Abort, alloc: Global, line: &str) -> Result<(), Fail>
             assert_eq!(rt; text_of(line.as_slice()), told, "ending of {name}")
         }
         _ => assert!(rt; false, "ending of {name}"),
+    }
+}
+
+/// The row's script does what the row says, in turns of one step, of a few and of many.
+pub fn check_row(rt: &impl Abort, alloc: Global, line: &str) -> Result<(), Fail> {
+    let (name, script, rest) = script_of(alloc, line)?;
+    let (output, told) = rest.split_once("|").ok_or("a row without an ending")?;
+    let wanted = field(alloc, output)?;
+    for turn in [1, 7, 1_000] {
+        let left = run_in_turns(alloc, turn, script.as_slice());
+        check_left(rt, name, &left, wanted.as_slice(), told);
     }
     Ok(())
 }

@@ -22,6 +22,7 @@ use Rattle.rr_space.specs.Kinds.{kind_at, class_at}
 use Rattle.rr_builtin.specs.Calls.{call_act}
 use Rattle.rr_builtin.specs.Fields.{can_set, set_field, with_field}
 use Rattle.rr_builtin.specs.Kinds.{is_shell_kind}
+use Rattle.rr_builtin.specs.Messages.{is_open_exception, with_message, write_message}
 use Rattle.rr_builtin.specs.declared.problem.Problem.TheVariants.{Frozen, Moved}
 use Rattle.rr_builtin.specs.News.{empty_hash}
 use Rattle.rr_builtin.specs.declared.method.BuiltInMethod.{BuiltInMethod}
@@ -30,20 +31,24 @@ use Rattle.rr_builtin.specs.declared.built.Built.TheVariants as built
 use Rattle.rr_eval.specs.declared.problem.Problem.{Problem}
 use Rattle.rr_eval.specs.declared.problem.Response.{Response}
 use Rattle.rr_eval.specs.declared.problem.Response.TheVariants as response
+use Rattle.rr_eval.specs.declared.sharing.RactorMethod.{RactorMethod}
 use Rattle.rr_eval.specs.Context.{Context}
+use Rattle.rr_eval.specs.Globals.{globals}
 use Rattle.rr_eval.specs.Callees.{method_of}
 use Rattle.rr_eval.specs.Calls.{sent, unpublished, reply_with, call_reply}
-use Rattle.rr_eval.specs.Tasks.{task_reply, array_reply, field_reply, text_reply, joined_texts, inspected_reply, given_by, unless_lacking, lack_of, texts_of, given_or_ended, on_given, empty_reply, filled, hash_reply}
+use Rattle.rr_eval.specs.Tasks.{task_reply, array_reply, field_reply, message_reply, global_reply, text_reply, joined_texts, inspected_reply, given_by, unless_lacking, lack_of, texts_of, given_or_ended, on_given, empty_reply, filled, hash_reply, values_shown}
 use Rattle.rr_eval.specs.Responses.{ref_of, response_from, response_of}
 use Rattle.rr_eval.specs.Requests.{Adds, arguments_of}
 use Rattle.rr_eval.specs.Runs.{alone}
+use Rattle.rr_eval.specs.Sharing.{called_reply, ractor_method}
 use Rattle.rr_eval.specs.Script.{Does, Calls, Reply}
 use Rattle.rr_eval.specs.declared.call.Task.{Task}
-use Rattle.rr_eval.specs.declared.call.Task.TheVariants.{Puts as PutsTask, Inspect, Print, MakeArray, MakeText, MakeHash, SetField}
+use Rattle.rr_eval.specs.declared.call.Task.TheVariants.{Puts as PutsTask, Inspect, Print, MakeArray, MakeText, MakeHash, SetField, SetMessage, SetGlobal, Show}
 use Rattle.rr_builtin.specs.declared.problem.Problem.{Problem as BuiltInProblem}
 use Rattle.rr_text.specs.Names.{names_of}
 use Rattle.rr_eval.specs.Within.{reach, IsReached, IsCallReached, IsResponseReached}
 use Rattle.rr_eval.proofs.Holding.{ref_reached, ref_among}
+use Rattle.rr_eval.proofs.Shares.{ractor_adds}
 
 -- no slot leads to a cluster
 no_cluster : (bs : List Below) → ((e : ℕ × List Object) → Contains (joined bs) e → Contains [] e) → bs ≡ replicate (length bs) []
@@ -227,17 +232,34 @@ set_field_adds name x v t =
     pick_adds t (is_shell_kind (kind_at t v)) (Raises Moved, t) _ (omega arith)
     (pick_adds t (can_set t v) (Gives x, changed (with_field name x) v t) (Raises (Frozen (class_at t v)), t) (changed_adds (with_field name x) v t) (omega arith))
 
+pub write_message_adds : (x : Value) (v : Ref) (t : Table) → count t ≤ count (write_message x v t).1
+write_message_adds x v t =
+    pick_adds t (is_shell_kind (kind_at t v)) (Raises Moved, t) _ (omega arith)
+    (pick_adds t (is_open_exception t v) (Gives (value_of v), changed (with_message x) v t) (Raises (Frozen (class_at t v)), t) (changed_adds (with_message x) v t) (omega arith))
+
 field_adds : (x : Sym) (vs : List Ref) (t : Table) → count t ≤ count (field_reply x vs t).table
 field_adds x [] t = omega arith
 field_adds x (object ∷ []) t = omega arith
 field_adds x (object ∷ v ∷ vs) t = set_field_adds x.0 (value_of v) object t
+
+message_adds : (vs : List Ref) (t : Table) → count t ≤ count (message_reply vs t).table
+message_adds [] t = omega arith
+message_adds (exception ∷ []) t = omega arith
+message_adds (exception ∷ v ∷ vs) t = write_message_adds (value_of v) exception t
+
+global_adds : (x : Sym) (vs : List Ref) (t : Table) → count t ≤ count (global_reply x vs t).table
+global_adds x [] t = omega arith
+global_adds x (v ∷ vs) t = set_field_adds x.0 (value_of v) globals t
 
 given_adds : (task : Task) (c : Context) (s : List ℕ) (vs : List Ref) (t : Table) → count t ≤ count (given_by task c s vs t).table
 given_adds MakeText c s vs t = text_adds s t
 given_adds MakeArray c s vs t = array_adds vs t
 given_adds MakeHash c s vs t = hash_adds c vs t
 given_adds Inspect c s vs t = inspected_adds vs t
+given_adds Show c s vs t = inspected_adds (values_shown vs) t
 given_adds (SetField x) c s vs t = field_adds x vs t
+given_adds SetMessage c s vs t = message_adds vs t
+given_adds (SetGlobal x) c s vs t = global_adds x vs t
 given_adds PutsTask c s vs t = omega arith
 given_adds Print c s vs t = omega arith
 
@@ -251,9 +273,13 @@ task_adds task c vs t =
     lacking_adds (lack_of texts) t (given_by task c (joined_texts texts) vs t) (given_adds task c (joined_texts texts) vs t)
 
 -- a script that runs alone takes no object away
+called_adds : (c : Context) (m : Option RactorMethod) (v : Ref) (callee : Callee) (args : List Ref) (t : Table) → count t ≤ count (called_reply c m v callee args t).table
+called_adds c None v callee args t = sent_adds c [] v (method_of c callee) args t
+called_adds c (Some m) v callee args t = ractor_adds c m args t
+
 pub alone_adds : (c : Context) → Adds (alone c)
 alone_adds c asked (Does task vs u) t = task_adds task c vs t
-alone_adds c asked (Calls v callee args) t = sent_adds c [] v (method_of c callee) args t
+alone_adds c asked (Calls v callee args) t = called_adds c (ractor_method c v callee) v callee args t
 
 -- a space without objects leads to no cluster
 pub none_read : (t : Table) → t.below ≡ [] → IsReadWith t []

@@ -1,5 +1,5 @@
 -- A node is evaluated by its rule.
-use Rattle.std.proofs.Common.{◌≡◌, ℕ, suc, sym, ap, ◌∙◌, refl, Some, List, [], ◌∷◌, reverse, ℤ, Bool, true, false}
+use Rattle.std.proofs.Common.{◌≡◌, ℕ, suc, sym, ap, ◌∙◌, refl, Some, List, [], ◌∷◌, reverse, ℤ}
 use Rattle.rr_space.specs.Tables.{Table}
 use Rattle.rr_space.specs.declared.refer.Ref.{Ref}
 use Rattle.rr_space.specs.declared.refer.Ref.TheVariants.{Int}
@@ -14,14 +14,14 @@ use Rattle.rr_tree.specs.declared.program.Program.{Program}
 use Rattle.rr_eval.specs.declared.frame.Frame.{Frame}
 use Rattle.rr_eval.specs.declared.frame.Frame.TheVariants.{Left}
 use Rattle.rr_eval.specs.declared.frame.Control.{Control}
-use Rattle.rr_eval.specs.declared.frame.Control.TheVariants.{Enter, Operate, Give, Throw, Raise, RaiseValue}
+use Rattle.rr_eval.specs.declared.frame.Control.TheVariants.{Enter, Operate, Give, Throw, Raise, RaiseValue, New, Send}
 use Rattle.rr_eval.specs.View.{View}
 use Rattle.rr_eval.specs.Script.{State, Script, World, Spent, Ended, Waits, run, after, taken}
 use Rattle.rr_eval.specs.Requests.{Course, asking}
-use Rattle.rr_eval.specs.Rules.{Context, rule, meaning_of, meaning, on_value, with_value, settled, operation, statements_of}
+use Rattle.rr_eval.specs.Rules.{Context, rule, meaning_of, meaning, on_value, with_value, settled, operation}
 use Rattle.rr_eval.specs.Nodes.{evaluated_tree}
 use Rattle.rr_eval.specs.Frames.{Code, means, runs_in, resumed, start, first_tree, unwind, outcome_of, below_of}
-use Rattle.rr_eval.specs.Turns.{context_of, code_of, state_of, remaining, after_script, control_of, first_control, Replied, leaf_value}
+use Rattle.rr_eval.specs.Turns.{context_of, code_of, state_of, remaining, after_script, control_of, Replied, leaf_value}
 use Rattle.rr_eval.proofs.Depth.{meaning_rule}
 
 -- what comes first does what its tree does
@@ -32,6 +32,8 @@ first_is c (Give a) tree e s n = absurd (cc e)
 first_is c (Throw problem) tree e s n = absurd (cc e)
 first_is c (Raise class message) tree e s n = absurd (cc e)
 first_is c (RaiseValue v message) tree e s n = absurd (cc e)
+first_is c (New class) tree e s n = absurd (cc e)
+first_is c (Send callee v w) tree e s n = absurd (cc e)
 
 pub stepped : (p : Program) (m : View) (t : Table) (n : ℕ) (tree : Tree) → first_tree p.nodes.items m.control ≡ Some tree → m.left ≡ suc n → (h : Course) → remaining p m t h ≡ after_script p m t (rule (context_of p) tree) h n
 stepped p m t n tree at left h =
@@ -107,8 +109,3 @@ leaf_right p m t n b op x y left there h =
     let ns = p.nodes.items in
     ap (after_script p m t (resumed (code_of p h.world) (Left op b) [] (Gave (Int x))) h) left
     ∙ ap (λ o. unwind (code_of p h.world) (reverse m.frames) m.held (after o (λ r. run h.world (meaning_of c h.world) (on_value (operation c op (Int x)) r)))) (leaf c h.world (tree_at ns b) (state_of p m t h) n (Int y) there)
-
--- what a program does first
-pub first_start : (p : Program) (w : World) (simple : Bool) (root : ℕ) (s : State) (n : ℕ) → start (code_of p w) (first_control simple root) s n ≡ statements_of (context_of p) w simple (tree_at p.nodes.items root) s n
-first_start p w true root s n = refl
-first_start p w false root s n = refl

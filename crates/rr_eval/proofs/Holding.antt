@@ -20,11 +20,14 @@ use Rattle.rr_eval.specs.declared.problem.Answer.TheVariants.{Gave, Raised, Brok
 use Rattle.rr_eval.specs.declared.problem.Response.{Response}
 use Rattle.rr_eval.specs.declared.problem.Response.TheVariants.{Gives, Throws, Fails}
 use Rattle.rr_eval.specs.declared.frame.Frame.{Frame}
+use Rattle.rr_eval.specs.declared.frame.Making.{Making}
 use Rattle.rr_eval.specs.declared.iterating.Iterating.{Iterating}
 use Rattle.rr_eval.specs.declared.frame.Frame.TheVariants as frames
 use Rattle.rr_eval.specs.declared.frame.Control.{Control}
-use Rattle.rr_eval.specs.declared.frame.Control.TheVariants.{Enter, Operate, Give, Throw, Raise, RaiseValue}
+use Rattle.rr_eval.specs.declared.frame.Control.TheVariants.{Enter, Operate, Give, Throw, Raise, RaiseValue, New, Send}
 use Rattle.rr_eval.specs.View.{View}
+use Rattle.rr_eval.specs.declared.call_stack.CallValue.{CallValue}
+use Rattle.rr_eval.specs.declared.call_stack.CallValue.TheVariants as values
 use Rattle.rr_eval.specs.declared.call_stack.Entry.TheVariants.{OfMethod, OfBlock}
 use Rattle.rr_eval.specs.Blocks.{activation_in}
 use Rattle.rr_eval.specs.Frames.{below_of, waits_for}
@@ -32,7 +35,7 @@ use Rattle.rr_frames.specs.declared.activation.Activation.{Activation}
 use Rattle.rr_eval.specs.Variables.{top, outer, read_variable, write_variable}
 use Rattle.rr_eval.specs.declared.call_stack.Variable.{Variable}
 use Rattle.rr_eval.specs.declared.call_stack.Entry.{Entry}
-use Rattle.rr_eval.specs.Within.{Reach, reach, AreVariablesReached, IsEntryReached, IsReached, IsAnswerReached, IsFrameReached, IsControlReached, IsResponseReached, AreReached, AreWithin}
+use Rattle.rr_eval.specs.Within.{Reach, reach, AreVariablesReached, IsEntryReached, IsCallValueReached, IsReached, IsAnswerReached, IsFrameReached, IsControlReached, IsResponseReached, AreReached, AreWithin}
 
 -- more slots
 pub ref_more : (k l : ℕ) (cs : Option Below) → k ≤ l → (r : Ref) → IsReached (reach k cs) r → IsReached (reach l cs) r
@@ -44,6 +47,11 @@ ref_more k l cs le (refs.Int z) h = tt
 ref_more k l cs le (refs.Symbol s) h = tt
 ref_more k l cs le (refs.Class c) h = tt
 ref_more k l cs le (refs.Ractor r) h = tt
+
+call_value_more : (k l : ℕ) (cs : Option Below) → k ≤ l → (by : CallValue) → IsCallValueReached (reach k cs) by → IsCallValueReached (reach l cs) by
+call_value_more k l cs le values.Method h = tt
+call_value_more k l cs le (values.Other v) h = ref_more k l cs le v h
+call_value_more k l cs le values.Opposite h = tt
 
 answer_more : (k l : ℕ) (cs : Option Below) → k ≤ l → (a : Answer) → IsAnswerReached (reach k cs) a → IsAnswerReached (reach l cs) a
 answer_more k l cs le (Gave v) h = ref_more k l cs le v h
@@ -68,13 +76,21 @@ frame_more k l cs le (frames.Branch b d) h = tt
 frame_more k l cs le frames.Break h = tt
 frame_more k l cs le frames.Next h = tt
 frame_more k l cs le frames.Return h = tt
-frame_more k l cs le frames.Back h = tt
+frame_more k l cs le (frames.Back by) h = call_value_more k l cs le by h
 frame_more k l cs le frames.Past h = tt
 frame_more k l cs le (frames.Rest end count) h = tt
 frame_more k l cs le (frames.Argument target end count base) h = tt
+frame_more k l cs le (frames.Receiver target end count base) h = tt
+frame_more k l cs le (frames.Item target end count base) h = tt
+frame_more k l cs le (frames.Several end count) h = tt
 frame_more k l cs le (frames.Key next end count base) h = tt
 frame_more k l cs le (frames.Value end count base) h = tt
+frame_more k l cs le (frames.Asking a) h = tt
+frame_more k l cs le (frames.Asked a) h = tt
 frame_more k l cs le (frames.Element b end) h = tt
+frame_more k l cs le (frames.Read u) h = tt
+frame_more k l cs le (frames.Combine x) h = ref_more k l cs le x.old h
+frame_more k l cs le (frames.Put place base) h = tt
 frame_more k l cs le (frames.Rescue end count otherwise) h = tt
 frame_more k l cs le (frames.Class r) h = ref_more k l cs le r.exception h
 frame_more k l cs le (frames.Handling old) h = ref_more k l cs le old h
@@ -82,6 +98,7 @@ frame_more k l cs le (frames.Ensure part) h = tt
 frame_more k l cs le (frames.Kept a) h = answer_more k l cs le a h
 frame_more k l cs le (frames.Round i) h = tt
 frame_more k l cs le (frames.Turned i) h = tt
+frame_more k l cs le (frames.Initialize x) h = tt
 
 control_more : (k l : ℕ) (cs : Option Below) → k ≤ l → (c : Control) → IsControlReached (reach k cs) c → IsControlReached (reach l cs) c
 control_more k l cs le (Enter part) h = tt
@@ -90,6 +107,8 @@ control_more k l cs le (Give a) h = answer_more k l cs le a h
 control_more k l cs le (Throw e) h = tt
 control_more k l cs le (Raise class message) h = ref_more k l cs le message h
 control_more k l cs le (RaiseValue v message) h = (ref_more k l cs le v h.0, All-weaker (IsReached (reach k cs)) (IsReached (reach l cs)) (ref_more k l cs le) (list_of message) h.1)
+control_more k l cs le (New class) h = tt
+control_more k l cs le (Send callee v w) h = (ref_more k l cs le v h.0, All-weaker (IsReached (reach k cs)) (IsReached (reach l cs)) (ref_more k l cs le) (list_of w) h.1)
 
 pub reached_more : (k l : ℕ) (cs : Option Below) → k ≤ l → (m : View) → AreReached (reach k cs) m → AreReached (reach l cs) m
 unfolding AreReached
@@ -194,7 +213,7 @@ frame_within k fs number h = all_rest (IsReached k) (frame_at number fs).activat
 
 -- `self` of a new frame
 pub activation_within : (k : Reach) (entry : Entry) (fs : List Activated) → All (AreVariablesReached k) fs → IsEntryReached k entry → IsReached k (activation_in entry fs).itself
-activation_within k (OfMethod call) fs h itself = itself
+activation_within k (OfMethod call) fs h entry = entry.0
 activation_within k (OfBlock home) fs h itself = itself_within k fs home h
 
 -- the value of a variable
@@ -283,10 +302,18 @@ held_reached k m h = h.held
 -- the values below a frame
 below_reached : (P : Ref → Type 0) (f : Frame) (held : List Ref) → All P held → All P (below_of f held)
 below_reached P (frames.Argument target end count base) held h = all_take P base held h
+below_reached P (frames.Receiver target end count base) held h = all_take P base held h
+below_reached P (frames.Item target end count base) held h = all_take P base held h
 below_reached P (frames.Key next end count base) held h = all_take P base held h
 below_reached P (frames.Value end count base) held h = all_take P base held h
+below_reached P (frames.Asking a) held h = all_take P a.base held h
+below_reached P (frames.Asked a) held h = all_take P a.base held h
+below_reached P (frames.Read u) held h = all_take P u.base held h
+below_reached P (frames.Combine x) held h = all_take P x.base held h
+below_reached P (frames.Put place base) held h = all_take P base held h
 below_reached P (frames.Round i) held h = all_take P i.base held h
 below_reached P (frames.Turned i) held h = all_take P i.base held h
+below_reached P (frames.Initialize x) held h = all_take P x.base held h
 below_reached P _ held h = h
 
 -- without the values of a frame
@@ -294,24 +321,40 @@ pub with_cleared : (k : Reach) (m : View) (f : Frame) (held : List Ref) (c : Con
 unfolding AreReached
 with_cleared k m f held c cleared h here = record { control = here; frames = h.frames; held = subst (All (IsReached k)) (sym cleared) (below_reached (IsReached k) f m.held h.held); calls = h.calls; rescuing = h.rescuing }
 
+pub without_values : (k : Reach) (m : View) (f : Frame) (held : List Ref) → held ≡ below_of f m.held → AreReached k m → AreReached k (record m { held = held })
+unfolding AreReached
+without_values k m f held cleared h = record { control = h.control; frames = h.frames; held = subst (All (IsReached k)) (sym cleared) (below_reached (IsReached k) f m.held h.held); calls = h.calls; rescuing = h.rescuing }
+
+-- a frame that initializes a new object, with the values that stand for it
+pub new_reached : (k : Reach) (m : View) (x : Making) (fs : List Frame) (held : List Ref) (last : Option Ref) → fs ≡ m.frames ++ frames.Initialize x ∷ [] → held ≡ m.held ++ list_of last → AreReached k m → All (IsReached k) (list_of last)
+    → AreReached k (record m { control = New x.class; frames = fs; held = held })
+unfolding AreReached
+new_reached k m x fs held last pushed holds h value = record {
+  control = tt;
+  frames = subst (All (IsFrameReached k)) (sym pushed) (All-push (IsFrameReached k) m.frames (frames.Initialize x) h.frames tt);
+  held = subst (All (IsReached k)) (sym holds) (all_append (IsReached k) m.held (list_of last) h.held value);
+  calls = h.calls;
+  rescuing = h.rescuing;
+}
+
 -- a value that is raised, and its message
 pub raise_value_reached : (k : Reach) (m : View) (v : Ref) (message : Option Ref) → m.control ≡ RaiseValue v message → AreReached k m → IsReached k v × All (IsReached k) (list_of message)
 unfolding AreReached
 raise_value_reached k m v message e h = subst (IsControlReached k) e h.control
 
 -- a frame that waits for a body
-waiting_reached : (k : Reach) (entry : Entry) → IsFrameReached k (waits_for entry)
-waiting_reached k (OfMethod call) = tt
-waiting_reached k (OfBlock home) = tt
+waiting_reached : (k : Reach) (entry : Entry) → IsEntryReached k entry → IsFrameReached k (waits_for entry)
+waiting_reached k (OfMethod call) h = h.1
+waiting_reached k (OfBlock home) h = tt
 
 -- a new frame, with the values of its parameters
 pub enter_reached : (k : Reach) (m : View) (f : Frame) (fs : List Frame) (held : List Ref) (calls : Stack) (blocks : List (Option ℕ)) (entry : Entry) (parameters size body : ℕ) (vs : List Ref) (a : Activation) → fs ≡ m.frames ++ waits_for entry ∷ [] → held ≡ below_of f m.held
-    → calls.frames ≡ m.calls.frames ++ record { variables = laid parameters size vs; activation = a } ∷ [] → AreReached k m → IsReached k a.itself → All (IsReached k) vs
+    → calls.frames ≡ m.calls.frames ++ record { variables = laid parameters size vs; activation = a } ∷ [] → AreReached k m → IsEntryReached k entry → IsReached k a.itself → All (IsReached k) vs
     → AreReached k (record { control = Enter body; frames = fs; held = held; calls = calls; blocks = blocks; rescuing = m.rescuing; left = m.left })
 unfolding AreReached
-enter_reached k m f fs held calls blocks entry parameters size body vs a pushed cleared entered h itself values = record {
+enter_reached k m f fs held calls blocks entry parameters size body vs a pushed cleared entered h called itself values = record {
   control = tt;
-  frames = subst (All (IsFrameReached k)) (sym pushed) (All-push (IsFrameReached k) m.frames (waits_for entry) h.frames (waiting_reached k entry));
+  frames = subst (All (IsFrameReached k)) (sym pushed) (All-push (IsFrameReached k) m.frames (waits_for entry) h.frames (waiting_reached k entry called));
   held = subst (All (IsReached k)) (sym cleared) (below_reached (IsReached k) f m.held h.held);
   calls = subst (All (AreVariablesReached k)) (sym entered) (entered_within k m.calls.frames (record { variables = laid parameters size vs; activation = a }) h.calls itself (laid_within k parameters size vs values));
   rescuing = h.rescuing;

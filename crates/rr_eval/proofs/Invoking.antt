@@ -1,8 +1,6 @@
 -- A method is called, and it ends.
-use Rattle.std.proofs.Common.{◌≡◌, ◌<◌, ℕ, zero, suc, arith, slice_get, ◌-◌, ◌∙◌, take, slice_index_or, Option, None, sym, ap, refl, nat_lt, nat_eq, Bool, true, false, if◌then◌else◌, List, [], ◌∷◌, ◌++◌, length, reverse, Some, Result, Ok, Err, OnOk, IfErr, subst}
+use Rattle.std.proofs.Common.{◌≡◌, ◌<◌, ℕ, zero, suc, arith, slice_get, ◌-◌, ◌∙◌, take, slice_index_or, Option, None, sym, ap, refl, nat_lt, nat_eq, Bool, true, false, if◌then◌else◌, List, [], ◌∷◌, ◌++◌, length, reverse, Some, Result, Ok, Err, OnOk, IfOk, IfErr, subst}
 use Rattle.rr_base.specs.declared.fault.Fault.{Fault}
-use Rattle.rr_base.specs.declared.name.Sym.{Sym}
-use Rattle.rr_base.specs.declared.name.TheConstants.ClassId.{OBJECT}
 use Rattle.rr_space.specs.Tables.{Table}
 use Rattle.rr_frames.specs.Frames.{Stack, Frame as Activated, frame_at, no_frame, laid, left}
 use Rattle.std.proofs.lemmas.Bool.Decides.{nat_tests}
@@ -11,6 +9,7 @@ use Rattle.std.proofs.lemmas.List.{map_push, take-map, length-map}
 use Rattle.std.proofs.Math.ListN.{get_or-map}
 use Rattle.rr_tree.specs.Tree.{Tree, tree_at}
 use Rattle.rr_tree.specs.declared.node.Node.{Node}
+use Rattle.rr_eval.specs.declared.call_stack.CallValue.{CallValue}
 use Rattle.rr_eval.specs.declared.call_stack.Entry.{Entry}
 use Rattle.rr_eval.specs.declared.call_stack.Entry.TheVariants.{OfMethod, OfBlock}
 use Rattle.rr_space.specs.declared.refer.Ref.{Ref}
@@ -19,11 +18,12 @@ use Rattle.rr_eval.specs.declared.problem.Problem.TheVariants.{BuiltIn}
 use Rattle.rr_eval.specs.declared.problem.Answer.{Answer}
 use Rattle.rr_eval.specs.declared.problem.Answer.TheVariants.{Gave, Raised, Broke, Done, Returned, Ends}
 use Rattle.rr_eval.specs.declared.frame.Frame.{Frame}
+use Rattle.rr_eval.specs.declared.asking.Asking.{Asking}
 use Rattle.rr_eval.specs.declared.iterating.Iterating.{Iterating}
 use Rattle.rr_eval.specs.declared.frame.Frame.TheVariants as frames
 use Rattle.rr_eval.specs.Script.{State, Script, Ret, Go, See, Do, Outcome, after}
-use Rattle.rr_eval.specs.Methods.{Method}
-use Rattle.rr_eval.specs.Rules.{Context, throw, on_value, entered, own_rule, framed, running, with_frame, left_by, activation_in}
+use Rattle.rr_eval.specs.Rules.{Context, throw, on_value, framed, with_frame, left_by, activation_in}
+use Rattle.rr_eval.specs.Dispatch.{counted}
 use Rattle.rr_eval.specs.Frames.{Code, means, runs_in, resumed, unwind, waits_for, Nested}
 use Rattle.rr_eval.specs.Turns.{IsNested, Stands, blocks_of, state_of}
 use Rattle.rr_eval.specs.Blocks.{without_frame}
@@ -47,23 +47,25 @@ value_passes next (Ends number v) other = refl
 
 -- a frame that lets pass what is no value
 pub record IsUsual (f : Frame) : Type 0 where
-  pub no_back : f ≡ frames.Back → ⊥
+  pub no_back : (by : CallValue) → f ≡ frames.Back by → ⊥
   pub no_past : f ≡ frames.Past → ⊥
   pub no_condition : (until : Bool) (body loop : ℕ) → f ≡ frames.Condition until body loop → ⊥
   pub no_body : (loop : ℕ) → f ≡ frames.Body loop → ⊥
   pub no_rescue : (end count otherwise : ℕ) → f ≡ frames.Rescue end count otherwise → ⊥
   pub no_handling : (old : Ref) → f ≡ frames.Handling old → ⊥
   pub no_ensure : (part : ℕ) → f ≡ frames.Ensure part → ⊥
+  pub no_asking : (a : Asking) → f ≡ frames.Asking a → ⊥
   pub no_round : (i : Iterating) → f ≡ frames.Round i → ⊥
 
 pub answer_passes : (c : Code) (f : Frame) (stand : List Ref) (a : Answer) → IsUsual f → ((v : Ref) → a ≡ Gave v → ⊥) → resumed c f stand a ≡ Ret a
-answer_passes c frames.Back stand a usual other = absurd (usual.no_back refl)
+answer_passes c (frames.Back by) stand a usual other = absurd (usual.no_back by refl)
 answer_passes c frames.Past stand a usual other = absurd (usual.no_past refl)
 answer_passes c (frames.Condition until body loop) stand a usual other = absurd (usual.no_condition until body loop refl)
 answer_passes c (frames.Body loop) stand a usual other = absurd (usual.no_body loop refl)
 answer_passes c (frames.Rescue end count otherwise) stand a usual other = absurd (usual.no_rescue end count otherwise refl)
 answer_passes c (frames.Handling old) stand a usual other = absurd (usual.no_handling old refl)
 answer_passes c (frames.Ensure part) stand a usual other = absurd (usual.no_ensure part refl)
+answer_passes c (frames.Asking i) stand a usual other = absurd (usual.no_asking i refl)
 answer_passes c (frames.Round i) stand a usual other = absurd (usual.no_round i refl)
 answer_passes c f stand (Gave v) usual other = absurd (other v refl)
 answer_passes c _ stand (Raised e) usual other = refl
@@ -74,7 +76,7 @@ answer_passes c _ stand (Ends number v) usual other = refl
 
 -- a body in a frame of its own begins, where there may be one more
 waiting_push : (c : Code) (fs : List Frame) (entry : Entry) (held : List Ref) (o : Outcome) → unwind c (reverse fs) held (after o (λ a. runs_in c (left_by entry a))) ≡ unwind c (reverse (fs ++ waits_for entry ∷ [])) held o
-waiting_push c fs (OfMethod call) held o = sym (rest_push c fs frames.Back held o)
+waiting_push c fs (OfMethod call) held o = sym (rest_push c fs (frames.Back call.value) held o)
 waiting_push c fs (OfBlock home) held o = sym (rest_push c fs frames.Past held o)
 
 pub enters : (c : Code) (fs : List Frame) (held : List Ref) (entry : Entry) (parameters size : ℕ) (vs : List Ref) (block : Option ℕ) (body : ℕ) (new : Stack) (blocks more : List (Option ℕ)) (s : State) (n : ℕ)
@@ -99,12 +101,16 @@ pub too_deep : (c : Context) (entry : Entry) (parameters size : ℕ) (vs : List 
 too_deep c entry parameters size vs b body s full =
     ap (λ x. if x then Do (with_frame (record { variables = laid parameters size vs; activation = activation_in entry s.frames }) b) (Go body (left_by entry)) else throw c (BuiltIn TooDeep)) (sym full)
 
--- as many values as the method has parameters, or not
-pub as_many : (c : Context) (x : Sym) (m : Method) (b : Option Tree) (vs : List Ref) → nat_eq (length vs) m.parameters ≡ true → See (λ k. entered c (running k.calls.frames).itself OBJECT m b vs k.calls) ≡ own_rule c x (Some m) b vs
-as_many c x m b vs same = ap (λ t. if t then See (λ k. entered c (running k.calls.frames).itself OBJECT m b vs k.calls) else throw c (BuiltIn (Count (length vs) m.parameters m.parameters))) (sym same)
+-- as many values as are wanted, or not
+pub as_many : (c : Context) (wanted : ℕ) (vs : List Ref) (next : Script) → length vs ≡ wanted → next ≡ counted c wanted vs next
+as_many c wanted vs next same =
+    let e : nat_eq (length vs) wanted ≡ true = grind (arith, nat_tests) in
+    ap (λ t. if t then next else throw c (BuiltIn (Count (length vs) wanted wanted))) (sym e)
 
-pub others : (c : Context) (x : Sym) (m : Method) (b : Option Tree) (vs : List Ref) → nat_eq (length vs) m.parameters ≡ false → throw c (BuiltIn (Count (length vs) m.parameters m.parameters)) ≡ own_rule c x (Some m) b vs
-others c x m b vs not = ap (λ t. if t then See (λ k. entered c (running k.calls.frames).itself OBJECT m b vs k.calls) else throw c (BuiltIn (Count (length vs) m.parameters m.parameters))) (sym not)
+pub others : (c : Context) (wanted : ℕ) (vs : List Ref) (next : Script) → (length vs ≡ wanted → ⊥) → throw c (BuiltIn (Count (length vs) wanted wanted)) ≡ counted c wanted vs next
+others c wanted vs next not =
+    let e : nat_eq (length vs) wanted ≡ false = grind (arith, nat_tests) in
+    ap (λ t. if t then next else throw c (BuiltIn (Count (length vs) wanted wanted))) (sym e)
 
 -- an element of a list, whatever stands past its end
 pub same_there : {A : Type 0} (xs : List A) (i : ℕ) (d e : A) → i < length xs → slice_index_or xs i d ≡ slice_index_or xs i e
@@ -161,6 +167,10 @@ leaves p m n t h frames limit blocks rescuing =
 pub on_ok : {A : Type 0} (r : Result A Fault) (P Q : Type 0) → (P → Q) → OnOk r P → OnOk r Q
 on_ok (Ok a) P Q f h = f h
 on_ok (Err e) P Q f h = tt
+
+pub if_ok : {A : Type 0} (r : Result A Fault) (P Q : A → Type 0) → ((a : A) → P a → Q a) → IfOk r P → IfOk r Q
+if_ok (Ok a) P Q f h = f a h
+if_ok (Err e) P Q f h = tt
 
 -- what stands is nested
 pub nested_still : {A : Type 0} (r : Result A Fault) (m n : View) (t : Table) → IsNested m → OnOk r (IsNested n) → ((t : Table) → IfErr r (λ f. Stands m n t t f)) → IsNested n

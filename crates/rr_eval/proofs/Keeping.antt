@@ -2,7 +2,7 @@
 use Rattle.std.proofs.Common.{nat_eq, nat_lt, slice_index_or, if◌then◌else◌, ◌≤◌, ℕ, Bool, arith, List, [], ◌∷◌, ◌++◌, length, length-append, Option, Some, None, Result, Ok, Err, true, false}
 use Rattle.rr_base.specs.Classes.{class_id}
 use Rattle.rr_base.specs.declared.name.Sym.{Sym}
-use Rattle.rr_base.specs.declared.name.TheConstants.ClassId.{OBJECT, RUNTIME_ERROR}
+use Rattle.rr_base.specs.declared.name.TheConstants.ClassId.{RUNTIME_ERROR}
 use Rattle.rr_base.specs.declared.name.ClassId.{ClassId}
 use Rattle.rr_space.specs.Tables.{Table, Here}
 use Rattle.rr_space.specs.Lookups.{text_object, frozen_text}
@@ -14,31 +14,28 @@ use Rattle.rr_frames.specs.Frames.{Stack, list_of}
 use Rattle.rr_frames.specs.declared.activation.Given.{Given}
 use Rattle.rr_frames.specs.declared.activation.Given.TheVariants as given
 use Rattle.rr_frames.specs.declared.activation.Shape.{Shape}
+use Rattle.rr_eval.specs.declared.call_stack.CallValue.{CallValue}
 use Rattle.rr_eval.specs.declared.call_stack.Entry.{Entry}
 use Rattle.rr_eval.specs.declared.call_stack.Entry.TheVariants.{OfMethod, OfBlock}
 use Rattle.rr_eval.specs.Variables.{top}
-use Rattle.rr_eval.specs.Blocks.{invocation, given_values, to_given, shape_in, tree_in, called_as}
-use Rattle.rr_tree.specs.declared.node.BinaryOperator.{BinaryOperator}
+use Rattle.rr_eval.specs.Blocks.{given_values, to_given, shape_in, tree_in, called_as}
 use Rattle.rr_eval.specs.declared.problem.Answer.{Answer}
 use Rattle.rr_eval.specs.declared.problem.Answer.TheVariants.{Gave, Raised, Broke, Done, Returned, Ends}
-use Rattle.rr_eval.specs.declared.call.Callee.TheVariants as callees
 use Rattle.rr_eval.specs.declared.problem.Response.{Response}
 use Rattle.rr_eval.specs.declared.problem.Response.TheVariants.{Gives, Throws, Fails}
 use Rattle.rr_eval.specs.declared.problem.Problem.{Problem}
-use Rattle.rr_eval.specs.declared.problem.Problem.TheVariants.{BuiltIn, MissingMethod, NotRaisable, Unhandled, NoBlock, Jump, NotHere}
+use Rattle.rr_eval.specs.declared.problem.Problem.TheVariants.{BuiltIn, NotRaisable, Unhandled, NoBlock, Jump, NotHere}
 use Rattle.rr_builtin.specs.declared.problem.Problem.TheVariants.{Count, TooDeep, Moved}
-use Rattle.rr_builtin.specs.declared.problem.Receiver.TheVariants.{Instance}
 use Rattle.rr_eval.specs.Script.{Memory, Script, Iterated, Ret, TurnPart, Evaluate, Go, See, Do, Ask}
-use Rattle.rr_eval.specs.Operators.{make, integers, opposite}
-use Rattle.rr_eval.specs.Rules.{Context, throw, raise, settled, on_value, in_loop, operation, negation, own_rule, framed, running, left_by, yield_to, is_outside, return_rule, back, past, opened}
-use Rattle.rr_eval.specs.Methods.{Method}
+use Rattle.rr_eval.specs.Operators.{make}
+use Rattle.rr_eval.specs.Rules.{Context, throw, raise, settled, on_value, in_loop, framed, running, left_by, yield_to, is_outside, return_rule, back, past, opened}
 use Rattle.rr_builtin.specs.Iterations.{iteration_named}
 use Rattle.rr_builtin.specs.declared.iterations.Iteration.TheVariants as iterations
 use Rattle.rr_eval.specs.declared.iterating.Ahead.{Ahead}
 use Rattle.rr_eval.specs.declared.iterating.Ahead.TheVariants.{Another, Finished, Stopped}
 use Rattle.rr_eval.specs.declared.iterating.Visits.{Visits}
-use Rattle.rr_eval.specs.declared.iterating.Visits.TheVariants.{Times, Upto, Elements, Nothing, Forever}
-use Rattle.rr_eval.specs.Iterating.{ahead, kept, finished, turn_of, taken_up, continued, continued_by, continued_with, turn_ended, turned, beginning, begun, iteration_rule}
+use Rattle.rr_eval.specs.declared.iterating.Visits.TheVariants.{Times, Upto, Elements, Pairs, Nothing, Forever}
+use Rattle.rr_eval.specs.Iterating.{ahead, kept, finished, turn_of, taken_up, continued, continued_by, continued_with, turn_ended, turned, beginning, stand_of_first, begun_over, begun, iteration_rule}
 use Rattle.rr_eval.specs.Raising.{message_or_nil, raise_new, raise_kind, raise_again, raise_rule}
 use Rattle.rr_builtin.specs.News.{is_exception_class}
 use Rattle.rr_space.specs.Kinds.{kind_at}
@@ -93,26 +90,18 @@ settled_keeps c (Gives v) = tt
 settled_keeps c (Throws e) = tt
 settled_keeps c (Fails e) = throw_keeps c e
 
-pub operates : (c : Context) (op : BinaryOperator) (v w : Ref) → Keeps (operation c op v w)
-operates c op (Int x) (Int y) = settled_keeps c (integers op x y)
-operates c op v w = settled_keeps c
-
-pub negates : (c : Context) (v : Ref) → Keeps (negation c v)
-negates c (Int x) = settled_keeps c (opposite x)
-negates c v = settled_keeps c
-
 pub if_keeps : (b : Bool) (p q : Script) → Keeps p → Keeps q → Keeps (if b then p else q)
 if_keeps true p q kept other = kept
 if_keeps false p q kept other = other
 
-pub back_keeps : (a : Answer) → Keeps (back a)
-back_keeps a = λ l. (λ m. omega arith, tt)
+pub back_keeps : (by : CallValue) (a : Answer) → Keeps (back by a)
+back_keeps by a = λ l. (λ m. omega arith, tt)
 
 pub past_keeps : (a : Answer) → Keeps (past a)
 past_keeps a = λ l. (λ m. omega arith, λ k. tt)
 
 pub left_keeps : (entry : Entry) (a : Answer) → Keeps (left_by entry a)
-left_keeps (OfMethod call) a = back_keeps a
+left_keeps (OfMethod call) a = back_keeps call.value a
 left_keeps (OfBlock home) a = past_keeps a
 
 pub opened_keeps : (c : Context) (entry : Entry) (parameters size : ℕ) (vs : List Ref) (b : Option Tree) (s : Stack) (next : Script) → Keeps next → Keeps (opened c entry parameters size vs b s next)
@@ -120,13 +109,6 @@ opened_keeps c entry parameters size vs b s next kept = if_keeps (nat_lt (length
 
 pub framed_keeps : (c : Context) (entry : Entry) (parameters size : ℕ) (vs : List Ref) (b : Option Tree) (body : Tree) (s : Stack) → Keeps (framed c entry parameters size vs b body s)
 framed_keeps c entry parameters size vs b body s = opened_keeps c entry parameters size vs b s (Go body (left_by entry)) (λ a. left_keeps entry a)
-
-pub own_keeps : (c : Context) (x : Sym) (m : Option Method) (b : Option Tree) (vs : List Ref) → Keeps (own_rule c x m b vs)
-own_keeps c x None b vs = throw_keeps c (MissingMethod (callees.Name x) (Instance OBJECT))
-own_keeps c x (Some m) b vs =
-    if_keeps (nat_eq (length vs) m.parameters) _ _
-    (λ k. framed_keeps c (OfMethod (invocation (running k.calls.frames).itself OBJECT m b)) m.parameters m.size vs b m.body k.calls)
-    (throw_keeps c (BuiltIn (Count (length vs) m.parameters m.parameters)))
 
 pub to_given_keeps : (c : Context) (vs : Option (List Ref)) (next : List Ref → Script) → ((ws : List Ref) → Keeps (next ws)) → Keeps (to_given c vs next)
 to_given_keeps c None next kept = throw_keeps c NotHere
@@ -156,6 +138,7 @@ finished_keeps c (Elements iterations.Each place) stand = tt
 finished_keeps c (Elements iterations.EachWithIndex place) stand = tt
 finished_keeps c (Times z) stand = tt
 finished_keeps c (Upto z) stand = tt
+finished_keeps c (Pairs place) stand = tt
 finished_keeps c Nothing stand = tt
 finished_keeps c Forever stand = tt
 
@@ -185,12 +168,16 @@ turn_ended_keeps c i root (Ends number v) = λ m. tt
 pub turned_keeps : (c : Context) (i : Iterated) (a : Answer) → Keeps (turned c i a)
 turned_keeps c i a = λ m. (λ k. omega arith, turn_ended_keeps c i (running m.calls.frames).root a)
 
-pub begun_keeps : (c : Context) (r : Result Visits Problem) (vs : List Ref) (b : Tree) → Keeps (begun c r vs b)
-begun_keeps c (Ok visits) vs b = continued_keeps c (record { visits = visits; stand = vs; block = b })
-begun_keeps c (Err problem) vs b = throw_keeps c problem
+pub begun_over_keeps : (c : Context) (visits : Visits) (b : Tree) (stand : Option (List Ref)) → Keeps (begun_over c visits b stand)
+begun_over_keeps c visits b None = throw_keeps c NotHere
+begun_over_keeps c visits b (Some stand) = continued_keeps c (record { visits = visits; stand = stand; block = b })
+
+pub begun_keeps : (c : Context) (r : Result Visits Problem) (vs : List Ref) (b : Tree) (t : Table) → Keeps (begun c r vs b t)
+begun_keeps c (Ok visits) vs b t = begun_over_keeps c visits b (stand_of_first visits (shape_in (Some b)) vs t)
+begun_keeps c (Err problem) vs b t = throw_keeps c problem
 
 pub iteration_keeps : (c : Context) (x : Sym) (b : Tree) (vs : List Ref) → Keeps (iteration_rule c x b vs)
-iteration_keeps c x b vs = λ m. begun_keeps c (beginning x (iteration_named (slice_index_or c.symbols x.0 [])) vs m.table) vs b
+iteration_keeps c x b vs = λ m. begun_keeps c (beginning x (iteration_named (slice_index_or c.symbols x.0 [])) vs m.table) vs b m.table
 
 pub return_keeps : (c : Context) (v : Ref) → Keeps (return_rule c v)
 return_keeps c v = λ m. if_keeps (is_outside m.calls.frames) (throw c Jump) (Ret (Returned v)) (throw_keeps c Jump) tt

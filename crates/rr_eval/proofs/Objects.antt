@@ -14,17 +14,16 @@ use Rattle.rr_space.specs.declared.refer.Ref.TheVariants.{Int, Local}
 use Rattle.rr_space.specs.declared.refer.Ref.TheVariants as refs
 use Rattle.rr_builtin.specs.Objects.{is_truthy}
 use Rattle.rr_eval.specs.Values.{goes_on}
-use Rattle.rr_tree.specs.Tree.{tree_at, Tree, nil, truth, int, text, symbol, class_named as class_tree, constant, array, hash, pairs, interpolation, send, index, set_index, append, itself as self_tree, field, set_field, local, bare, call, logical_and, logical_or, logical_not, negate, binary, assign, choose, repeat, sequence, with_block, block, yield, break, next as next_tree, return, rescue, ensure, operator_assign, or_assign, and_assign}
+use Rattle.rr_tree.specs.Tree.{tree_at, Tree, nil, truth, int, text, symbol, class_named as class_tree, constant, array, hash, pairs, interpolation, send, set_attribute, super, forwarding_super, index, set_index, append, itself as self_tree, field, set_field, local, bare, call, logical_and, logical_or, logical_not, negate, binary, assign, choose, repeat, sequence, with_block, block, yield, break, next as next_tree, return, rescue, ensure, operator_assign, append_assign, or_assign, and_assign, global, set_global, set_constant, splat, multiple_assign}
+use Rattle.rr_parser.specs.Grammar.Names.{is_splat}
 use Rattle.std.specs.Option.{option_map}
 use Rattle.rr_eval.specs.declared.call_stack.Variable.{Variable}
-use Rattle.rr_eval.specs.Variables.{read_variable}
-use Rattle.rr_tree.specs.declared.node.BinaryOperator.{BinaryOperator}
 use Rattle.rr_tree.specs.declared.program.Program.{Program}
 use Rattle.rr_eval.specs.declared.problem.Answer.{Answer}
 use Rattle.rr_eval.specs.declared.problem.Answer.TheVariants.{Gave, Raised, Broke, Done, Returned, Ends}
 use Rattle.rr_eval.specs.declared.call.Callee.TheVariants as callees
 use Rattle.rr_eval.specs.declared.call.Target.{Target}
-use Rattle.rr_eval.specs.declared.call.Target.TheVariants.{Do as DoTarget, Call, Own, Yield, Raise, Iterate}
+use Rattle.rr_eval.specs.declared.call.Target.TheVariants.{Do as DoTarget, Call, Update, Own, Super, Yield, Raise, Iterate}
 use Rattle.rr_eval.specs.declared.call.Task.{Task}
 use Rattle.rr_eval.specs.declared.call.Task.TheVariants.{MakeArray, MakeText, MakeHash}
 use Rattle.rr_eval.specs.declared.problem.Response.{Response}
@@ -32,22 +31,28 @@ use Rattle.rr_eval.specs.declared.problem.Problem.{Problem}
 use Rattle.rr_eval.specs.declared.problem.Problem.TheVariants.{BuiltIn, MissingName, MissingConstant, NotHere}
 use Rattle.rr_builtin.specs.declared.problem.Problem.TheVariants.{WrongType}
 use Rattle.rr_eval.specs.declared.frame.Frame.{Frame}
-use Rattle.rr_eval.specs.declared.frame.Frame.TheVariants.{Not, Negation, And, Or, Left, Right, Store, SetField, Branch, Condition, Body, Break, Next, Return, Back, Past, Rest, Argument, Key, Value, Element, Rescue, Class, Handling, Ensure, Kept, Round, Turned}
-use Rattle.rr_eval.specs.Script.{Memory, State, Script, Ret, Part, TreePart, TurnPart, Evaluate, Go, See, Do, Ask, Asked, Reply, World, Outcome, Ended, Spent, Waits, Evaluation, run, after, taken, objects_of}
+use Rattle.rr_eval.specs.declared.frame.Frame.TheVariants.{Not, Negation, And, Or, Left, Right, Store, SetField, Branch, Condition, Body, Break, Next, Return, Back, Past, Rest, Argument, Key, Value, Element, Read, Combine, Put, Rescue, Class, Handling, Ensure, Kept, Round, Turned, Initialize, Receiver, Item, Several, Asking as AskingFrame, Asked as AskedFrame}
+use Rattle.rr_eval.specs.Script.{Memory, State, Script, Ret, Part, TreePart, TurnPart, CallPart, Evaluate, Go, See, Do, Ask, Asked, Reply, World, Outcome, Ended, Spent, Waits, Evaluation, run, after, taken, objects_of}
 use Rattle.rr_eval.specs.Requests.{Course, Adds, AddsTo, asking}
 use Rattle.rr_base.specs.declared.fault.Fault.{Fault}
 use Rattle.rr_eval.specs.View.{View}
 use Rattle.rr_eval.specs.Acts.{Passes}
 use Rattle.rr_eval.specs.Turns.{context_of, code_of, state_of, after_script, asking_then}
 use Rattle.rr_builtin.specs.Acts.{with_text}
-use Rattle.rr_eval.specs.Rules.{Context, items, throw, raise, settled, with_value, turn_rule, on_table, statements, values, pair_parts, finish, printing, raises, awaited, bare_rule, constant_rule, not_here, call_rule, block_call_rule, block_rule, asks_block, own_rule, running, variable_of, update_rule, or_rule, and_rule, write, rule, part_rule, loops, block_send_rule, eval, concluded, statements_of, begun}
-use Rattle.rr_eval.specs.Methods.{Method, are_methods, definitions_of, own_method}
+use Rattle.rr_eval.specs.Rules.{Context, items, throw, raise, settled, turn_rule, on_table, statements, values, pair_parts, finish, printing, raises, awaited, bare_rule, constant_rule, not_here, call_rule, block_call_rule, block_rule, asks_block, own_method, own_class, plain_constant, has_built_in, name_rule, self_rule, sent_block, running, variable_of, rule, part_rule, loops, eval, concluded, begun}
+use Rattle.rr_eval.specs.Methods.{Callable}
+use Rattle.rr_eval.specs.Above.{parameters_of}
+use Rattle.rr_eval.specs.Callees.{method_of}
+use Rattle.rr_eval.specs.Dispatch.{initializer, passed_on}
+use Rattle.rr_space.specs.Kinds.{kind_at}
 use Rattle.rr_builtin.specs.Fields.{field_at}
-use Rattle.rr_builtin.specs.Iterations.{iteration_named}
+use Rattle.rr_eval.specs.Constants.{set_response, unless_set}
 use Rattle.rr_eval.specs.Fields.{field_response, set_field_rule}
-use Rattle.rr_builtin.specs.declared.iterations.Iteration.{Iteration}
+use Rattle.rr_eval.specs.Updating.{place_of, put}
+use Rattle.rr_eval.specs.declared.updating.Update.TheVariants as updates
+use Rattle.rr_eval.specs.Globals.{globals, set_global_rule}
 use Rattle.rr_eval.specs.declared.iterating.Visits.TheVariants.{Forever}
-use Rattle.rr_eval.specs.Iterating.{kept, iteration_rule}
+use Rattle.rr_eval.specs.Iterating.{kept}
 use Rattle.rr_eval.specs.Rescuing.{class_parts, taken_by, with_caught, fitted, tried_classes, tried_clause, tried, else_rule, rescue_rule, ensure_rule, target_part}
 use Rattle.rr_tree.specs.Ancestors.{descends}
 use Rattle.rr_space.specs.Kinds.{class_at}
@@ -55,16 +60,25 @@ use Rattle.rr_tree.specs.Nodes.{trees_before}
 use Rattle.rr_eval.specs.Messages.{message, exception_class}
 use Rattle.rr_eval.specs.Exceptions.{with_exception}
 use Rattle.rr_eval.specs.Frames.{Code, evaluates, runs_in, iterated, taker, behind_class, resumed, stand_of, below_of, unwind}
-use Rattle.rr_eval.proofs.Keeping.{count, make_keeps, Keeps, on_value_keeps, loop_keeps, raise_keeps, throw_keeps, settled_keeps, operates, negates, if_keeps, back_keeps, past_keeps, own_keeps, yield_keeps, continued_keeps, continued_with_keeps, turned_keeps, iteration_keeps, return_keeps, raise_rule_keeps}
+use Rattle.rr_eval.proofs.Keeping.{count, make_keeps, Keeps, on_value_keeps, loop_keeps, raise_keeps, throw_keeps, settled_keeps, if_keeps, back_keeps, past_keeps, yield_keeps, continued_keeps, continued_with_keeps, turned_keeps, return_keeps, raise_rule_keeps}
+use Rattle.rr_eval.specs.declared.call_stack.CallValue.TheVariants.{Method}
+use Rattle.rr_eval.proofs.Speeches.{task_keeps, asking_on_keeps, asked_on_keeps}
+use Rattle.rr_eval.proofs.Dispatching.{method_keeps, initialized_keeps, dispatched_keeps, send_keeps, self_keeps, sent_block_keeps, operates, negates, super_keeps}
+use Rattle.rr_eval.proofs.CallParts.{part_called_keeps}
+use Rattle.rr_eval.proofs.Updates.{put_keeps, updated_keeps, accessed_keeps, operator_keeps, update_keeps}
+use Rattle.rr_eval.proofs.Splatted.{spread_keeps, arguments_keep}
+use Rattle.rr_eval.proofs.Targets.{several_keeps}
 
 finish_keeps : (c : Context) (target : Target) (vs : List Ref) → Keeps (finish c target vs)
-finish_keeps c (DoTarget task) vs = λ m. settled_keeps c
+finish_keeps c (DoTarget task) vs = task_keeps c task vs
 finish_keeps c (Call callee) [] = tt
-finish_keeps c (Call callee) (v ∷ vs) = settled_keeps c
-finish_keeps c (Own x b) vs = own_keeps c x (own_method c.program x.0) (option_map (tree_at c.program.nodes.items) b) vs
+finish_keeps c (Call callee) (v ∷ vs) = send_keeps c callee None v vs
+finish_keeps c (Update getter setter how b) vs = accessed_keeps c getter setter how (tree_at c.program.nodes.items b) vs
+finish_keeps c (Own x b) vs = self_keeps c x (option_map (tree_at c.program.nodes.items) b) vs
+finish_keeps c Super vs = super_keeps c vs
 finish_keeps c Yield vs = λ m. yield_keeps c (running m.calls.frames).given vs m
 finish_keeps c Raise vs = raise_rule_keeps c vs
-finish_keeps c (Iterate x b) vs = iteration_keeps c x (tree_at c.program.nodes.items b) vs
+finish_keeps c (Iterate x b) vs = sent_block_keeps c x (tree_at c.program.nodes.items b) vs
 
 statements_keep : (ts : List Tree) → Keeps (statements ts)
 statements_keep [] = tt
@@ -78,62 +92,45 @@ values_keep c target (t ∷ ts) stand = on_value_keeps (λ v. values ts (stand +
 turn_keeps : (until : Bool) (body : Tree) (again : Script) → Keeps again → (v : Ref) → Keeps (turn_rule until body again v)
 turn_keeps until body again kept v = if_keeps (goes_on until v) _ (Ret (Gave refs.Nil)) (loop_keeps again (λ w. again) kept (λ w. kept)) tt
 
-bare_keeps : (c : Context) (m : Option Method) (task : Option Task) (raises asks : Bool) (x : Sym) → Keeps (bare_rule c m task raises asks x)
-bare_keeps c (Some m) task raises asks x = finish_keeps c (Own x None) []
+name_keeps : (c : Context) (x : Sym) → Keeps (name_rule c x)
+name_keeps c x = λ m. if_keeps (has_built_in (kind_at m.table (running m.calls.frames).itself) (method_of c (callees.Name x))) _ _ (dispatched_keeps c None (callees.Name x) None (running m.calls.frames).itself []) (throw_keeps c (MissingName x))
+
+bare_keeps : (c : Context) (f : Option Callable) (task : Option Task) (raises asks : Bool) (x : Sym) → Keeps (bare_rule c f task raises asks x)
+bare_keeps c (Some f) task raises asks x = λ m. method_keeps c f _ []
 bare_keeps c None (Some task) raises asks x = finish_keeps c (DoTarget task) []
 bare_keeps c None None true asks x = finish_keeps c Raise []
 bare_keeps c None None false true x = λ m. tt
-bare_keeps c None None false false x = throw_keeps c (MissingName x)
+bare_keeps c None None false false x = name_keeps c x
 
 constant_keeps : (c : Context) (class : Option BuiltInClass) (x : Sym) → Keeps (constant_rule c class x)
-constant_keeps c (Some k) x = if_keeps (nat_eq (class_id k).0 RACTOR.0) (not_here c) (Ret (Gave (refs.Class (class_id k)))) (throw_keeps c NotHere) tt
+constant_keeps c (Some k) x = tt
 constant_keeps c None x = throw_keeps c (MissingConstant x)
 
-call_keeps : (c : Context) (m : Option Method) (task : Option Task) (raises later : Bool) (x : Sym) (ts : List Tree) → Keeps (call_rule c m task raises later x ts)
-call_keeps c (Some m) task raises later x ts = values_keep c (Own x None) ts []
-call_keeps c None (Some task) raises later x ts = values_keep c (DoTarget task) ts []
-call_keeps c None None true later x ts = values_keep c Raise ts []
+unless_keeps : (c : Context) (r : Option Response) (otherwise : Script) → Keeps otherwise → Keeps (unless_set c r otherwise)
+unless_keeps c (Some r) otherwise kept = settled_keeps c r
+unless_keeps c None otherwise kept = kept
+
+plain_keeps : (c : Context) (class : Option ClassId) (x : Sym) → Keeps (plain_constant c class x)
+plain_keeps c (Some k) x = tt
+plain_keeps c None x = λ m. unless_keeps c (set_response (field_at m.table globals x.0)) _ (constant_keeps c (class_named (slice_index_or c.symbols x.0 [])) x)
+
+call_keeps : (c : Context) (m : Option Callable) (task : Option Task) (raises later : Bool) (x : Sym) (ts : List Tree) → Keeps (call_rule c m task raises later x ts)
+call_keeps c (Some m) task raises later x ts = arguments_keep c _ (finish_keeps c (Own x None)) ts []
+call_keeps c None (Some task) raises later x ts = arguments_keep c _ (finish_keeps c (DoTarget task)) ts []
+call_keeps c None None true later x ts = arguments_keep c _ (finish_keeps c Raise) ts []
 call_keeps c None None false true x ts = throw_keeps c NotHere
-call_keeps c None None false false x ts = values_keep c (Own x None) ts []
+call_keeps c None None false false x ts = arguments_keep c _ (finish_keeps c (Own x None)) ts []
 
-given_keep : (c : Context) (x : Sym) (b : Tree) (ts : List Tree) (stand : List Ref) → Keeps (values ts stand (own_rule c x (own_method c.program x.0) (Some b)))
-given_keep c x b [] stand = own_keeps c x (own_method c.program x.0) (Some b) stand
-given_keep c x b (t ∷ ts) stand = on_value_keeps _ (λ v. given_keep c x b ts (stand ++ v ∷ []))
-
-block_call_keeps : (c : Context) (m : Option Method) (loop : Bool) (x : Sym) (ts : List Tree) (b : Tree) → Keeps (block_call_rule c m loop x ts b)
-block_call_keeps c (Some m) loop x ts b = given_keep c x b ts []
+block_call_keeps : (c : Context) (m : Option Callable) (loop : Bool) (x : Sym) (ts : List Tree) (b : Tree) → Keeps (block_call_rule c m loop x ts b)
+block_call_keeps c (Some m) loop x ts b = arguments_keep c _ (self_keeps c x (Some b)) ts []
 block_call_keeps c None true x [] b = continued_keeps c (record { visits = Forever; stand = []; block = b })
 block_call_keeps c None true x (t ∷ ts) b = throw_keeps c NotHere
 block_call_keeps c None false x ts b = throw_keeps c NotHere
 
-receiver_keeps : (c : Context) (x : Sym) (b : Tree) (ts : List Tree) (stand : List Ref) → Keeps (values ts stand (iteration_rule c x b))
-receiver_keeps c x b [] stand = iteration_keeps c x b stand
-receiver_keeps c x b (t ∷ ts) stand = on_value_keeps _ (λ v. receiver_keeps c x b ts (stand ++ v ∷ []))
-
-block_send_keeps : (c : Context) (i : Option Iteration) (a : Tree) (x : Sym) (ts : List Tree) (b : Tree) → Keeps (block_send_rule c i a x ts b)
-block_send_keeps c (Some i) a x ts b = receiver_keeps c x b (a ∷ ts) []
-block_send_keeps c None a x ts b = throw_keeps c NotHere
-
 block_keeps : (c : Context) (t b : Tree) → Keeps (block_rule c t b)
-block_keeps c (call x list) b = block_call_keeps c (own_method c.program x) (loops c x) (record { 0 = x }) (items list) b
-block_keeps c (send a x list) b = block_send_keeps c (iteration_named (slice_index_or c.symbols x [])) a (record { 0 = x }) (items list) b
+block_keeps c (call x list) b = λ m. block_call_keeps c (own_method c x m) (loops c x) (record { 0 = x }) (items list) b
+block_keeps c (send a x list) b = on_value_keeps _ (λ v. arguments_keep c _ (sent_block_keeps c (record { 0 = x }) b) (items list) (v ∷ []))
 block_keeps c _ b = throw_keeps c NotHere
-
--- a variable that gets a value
-written_keeps : (slot : Variable) (t : Tree) → Keeps (with_value t (λ v. write slot v))
-written_keeps slot t = on_value_keeps _ (λ v. (λ m. omega arith, tt))
-
-update_keeps : (c : Context) (op : BinaryOperator) (a b : Tree) (slot : Option Variable) → Keeps (update_rule c op a b slot)
-update_keeps c op a b (Some slot) = written_keeps slot (binary op a b)
-update_keeps c op a b None = throw_keeps c NotHere
-
-or_keeps : (c : Context) (b : Tree) (slot : Option Variable) → Keeps (or_rule c b slot)
-or_keeps c b (Some slot) = λ m. if_keeps (is_truthy (read_variable slot m.calls.frames)) (Ret (Gave (read_variable slot m.calls.frames))) (with_value b (λ v. write slot v)) tt (written_keeps slot b)
-or_keeps c b None = throw_keeps c NotHere
-
-and_keeps : (c : Context) (b : Tree) (slot : Option Variable) → Keeps (and_rule c b slot)
-and_keeps c b (Some slot) = λ m. if_keeps (is_truthy (read_variable slot m.calls.frames)) (with_value b (λ v. write slot v)) (Ret (Gave (read_variable slot m.calls.frames))) (written_keeps slot b) tt
-and_keeps c b None = throw_keeps c NotHere
 
 caught_keeps : (slot : Option Variable) (e : Ref) (m : Memory) → count m.table ≤ count (with_caught slot e m).table
 caught_keeps None e m = omega arith
@@ -182,38 +179,50 @@ ensure_keeps t a = on_value_keeps _ (λ v. tt)
 set_field_keeps : (c : Context) (x : Sym) (v : Ref) → Keeps (set_field_rule c x v)
 set_field_keeps c x v = λ m. settled_keeps c
 
+set_global_keeps : (c : Context) (x : Sym) (v : Ref) → Keeps (set_global_rule c x v)
+set_global_keeps c x v = λ m. settled_keeps c
+
 rule_keeps : (c : Context) (tree : Tree) → Keeps (rule c tree)
 rule_keeps c nil = tt
 rule_keeps c (truth b) = tt
 rule_keeps c (int z) = tt
 rule_keeps c (symbol x) = tt
 rule_keeps c (class_tree k) = tt
-rule_keeps c (send a x list) = values_keep c (Call (callees.Name (record { 0 = x }))) (a ∷ items list) []
+rule_keeps c (send a x list) = on_value_keeps _ (λ v. arguments_keep c _ (finish_keeps c (Call (callees.Name (record { 0 = x })))) (items list) (v ∷ []))
+rule_keeps c (set_attribute a x b) = values_keep c (Call (callees.Setter (record { 0 = x }))) (a ∷ b ∷ []) []
+rule_keeps c (super list) = arguments_keep c _ (finish_keeps c Super) (items list) []
+rule_keeps c forwarding_super = λ m. super_keeps c (parameters_of m.calls.frames)
 rule_keeps c (index a b) = values_keep c (Call callees.Index) (a ∷ b ∷ []) []
 rule_keeps c (append a b) = values_keep c (Call callees.Append) (a ∷ b ∷ []) []
 rule_keeps c (set_index a b d) = values_keep c (Call callees.SetIndex) (a ∷ b ∷ d ∷ []) []
-rule_keeps c (array list) = values_keep c (DoTarget MakeArray) (items list) []
+rule_keeps c (array list) = arguments_keep c _ (finish_keeps c (DoTarget MakeArray)) (items list) []
+rule_keeps c (splat a) = λ a'. tt
 rule_keeps c (hash list) = values_keep c (DoTarget MakeHash) (pair_parts (items list)) []
 rule_keeps c (pairs list) = values_keep c (DoTarget MakeHash) (pair_parts (items list)) []
-rule_keeps c (interpolation list) = values_keep c (DoTarget MakeText) (items list) []
-rule_keeps c (constant (Plain x)) = constant_keeps c (class_named (slice_index_or c.symbols x.0 [])) x
+rule_keeps c (interpolation list) = arguments_keep c _ (finish_keeps c (DoTarget MakeText)) (items list) []
+rule_keeps c (constant (Plain x)) = plain_keeps c (own_class c.program x.0) x
 rule_keeps c (constant (InRactor x)) = constant_keeps c (class_named (codes "Ractor::" ++ slice_index_or c.symbols x.0 [])) x
 rule_keeps c (text i) = λ m. (λ k. make_keeps c.program.freezes _ k.table, tt)
 rule_keeps c (local depth slot x behind) = λ m. tt
 rule_keeps c self_tree = λ m. tt
 rule_keeps c (field x) = λ m. settled_keeps c (field_response (field_at m.table (running m.calls.frames).itself x))
 rule_keeps c (set_field x a) = on_value_keeps _ (λ v. set_field_keeps c (record { 0 = x }) v)
-rule_keeps c (bare x) = bare_keeps c (own_method c.program x) (printing c x) (raises c x) (asks_block c x) (record { 0 = x })
-rule_keeps c (call x list) = call_keeps c (own_method c.program x) (printing c x) (raises c x) (awaited c x) (record { 0 = x }) (items list)
+rule_keeps c (global x) = λ m. settled_keeps c (field_response (field_at m.table globals x))
+rule_keeps c (set_global x a) = on_value_keeps _ (λ v. set_global_keeps c (record { 0 = x }) v)
+rule_keeps c (set_constant x a) = on_value_keeps _ (λ v. set_global_keeps c (record { 0 = x }) v)
+rule_keeps c (bare x) = λ m. bare_keeps c (own_method c x m) (printing c x) (raises c x) (asks_block c x) (record { 0 = x })
+rule_keeps c (call x list) = λ m. call_keeps c (own_method c x m) (printing c x) (raises c x) (awaited c x) (record { 0 = x }) (items list)
 rule_keeps c (logical_and a b) = on_value_keeps _ (λ v. if_keeps (is_truthy v) (Go b Ret) (Ret (Gave v)) (λ a'. tt) tt)
 rule_keeps c (logical_or a b) = on_value_keeps _ (λ v. if_keeps (is_truthy v) (Ret (Gave v)) (Go b Ret) tt (λ a'. tt))
 rule_keeps c (logical_not a) = on_value_keeps _ (λ v. tt)
 rule_keeps c (negate a) = on_value_keeps _ (λ v. negates c v)
 rule_keeps c (binary op a b) = on_value_keeps _ (λ v. on_value_keeps _ (λ w. operates c op v w))
 rule_keeps c (assign depth slot x behind a) = on_value_keeps _ (λ v. (λ m. omega arith, tt))
-rule_keeps c (operator_assign op a b) = update_keeps c op a b (variable_of a)
-rule_keeps c (or_assign a b) = or_keeps c b (variable_of a)
-rule_keeps c (and_assign a b) = and_keeps c b (variable_of a)
+rule_keeps c (multiple_assign list a) = on_value_keeps _ (λ v. several_keeps c (items list) v)
+rule_keeps c (operator_assign op a b) = operator_keeps c op a b (place_of a)
+rule_keeps c (append_assign a b) = update_keeps c (updates.Combine callees.Append) a b (place_of a)
+rule_keeps c (or_assign a b) = update_keeps c updates.Or a b (place_of a)
+rule_keeps c (and_assign a b) = update_keeps c updates.And a b (place_of a)
 rule_keeps c (choose a b d) = on_value_keeps _ (λ v. λ a'. tt)
 rule_keeps c (repeat until a b) = loop_keeps (Go (repeat until a b) Ret) _ (λ x. tt) (turn_keeps until b (Go (repeat until a b) Ret) (λ x. tt))
 rule_keeps c (sequence list) = statements_keep (items list)
@@ -221,7 +230,7 @@ rule_keeps c (break a) = on_value_keeps _ (λ v. tt)
 rule_keeps c (next_tree a) = on_value_keeps _ (λ v. tt)
 rule_keeps c (return a) = on_value_keeps _ (λ v. return_keeps c v)
 rule_keeps c (with_block t b) = block_keeps c t b
-rule_keeps c (yield list) = values_keep c Yield (items list) []
+rule_keeps c (yield list) = arguments_keep c _ (finish_keeps c Yield) (items list) []
 rule_keeps c (block x parameters size body) = λ a. tt
 rule_keeps c (rescue a list b) = rescue_keeps c (items list) b
 rule_keeps c (ensure a b) = ensure_keeps b
@@ -230,6 +239,7 @@ rule_keeps c _ = throw_keeps c NotHere
 part_keeps : (c : Context) (part : Part) → Keeps (part_rule c part)
 part_keeps c (TreePart t) = rule_keeps c t
 part_keeps c (TurnPart i) = λ a. turned_keeps c i a
+part_keeps c (CallPart callee v vs) = part_called_keeps c callee v vs
 
 resumed_keeps : (c : Code) (f : Frame) (stand : List Ref) (a : Answer) → Keeps (resumed c f stand a)
 resumed_keeps c Not stand = on_value_keeps _ (λ v. tt)
@@ -246,13 +256,21 @@ resumed_keeps c (Body loop) stand = loop_keeps (Go (tree_at c.nodes loop) Ret) _
 resumed_keeps c Break stand = on_value_keeps _ (λ v. tt)
 resumed_keeps c Next stand = on_value_keeps _ (λ v. tt)
 resumed_keeps c Return stand = on_value_keeps _ (λ v. return_keeps c.context v)
-resumed_keeps c Back stand = back_keeps
+resumed_keeps c (Back by) stand = back_keeps by
 resumed_keeps c Past stand = past_keeps
 resumed_keeps c (Rest end more) stand = on_value_keeps _ (λ v. statements_keep (trees_before c.nodes end more))
 resumed_keeps c (Argument target end more base) stand = on_value_keeps _ (λ v. values_keep c.context target (trees_before c.nodes end more) (stand ++ v ∷ []))
+resumed_keeps c (Receiver target end more base) stand = on_value_keeps _ (λ v. arguments_keep c.context _ (finish_keeps c.context target) (trees_before c.nodes end more) (stand ++ v ∷ []))
+resumed_keeps c (Item target end more base) stand = on_value_keeps _ (λ v. spread_keeps c.context (is_splat (tree_at c.nodes (end - suc more))) v _ (λ ws. arguments_keep c.context _ (finish_keeps c.context target) (trees_before c.nodes end more) (stand ++ ws)))
+resumed_keeps c (Several end more) stand = on_value_keeps _ (λ v. several_keeps c.context (trees_before c.nodes end more) v)
 resumed_keeps c (Key next end more base) stand = on_value_keeps _ (λ v. values_keep c.context (DoTarget MakeHash) (tree_at c.nodes next ∷ pair_parts (trees_before c.nodes end more)) (stand ++ v ∷ []))
 resumed_keeps c (Value end more base) stand = on_value_keeps _ (λ v. values_keep c.context (DoTarget MakeHash) (pair_parts (trees_before c.nodes end more)) (stand ++ v ∷ []))
+resumed_keeps c (AskingFrame a) stand = asking_on_keeps c.context a stand Method
+resumed_keeps c (AskedFrame a) stand = asked_on_keeps c.context a stand
 resumed_keeps c (Element b end) stand = on_value_keeps _ (λ v. values_keep c.context (Call callees.SetIndex) (tree_at c.nodes b ∷ trees_before c.nodes end 1) (v ∷ []))
+resumed_keeps c (Read u) stand = on_value_keeps _ (λ v. updated_keeps u.how (tree_at c.nodes u.value) (put c.context u.place stand) (put_keeps c.context u.place stand) v)
+resumed_keeps c (Combine x) stand = on_value_keeps _ (λ w. on_value_keeps (put c.context x.place stand) (put_keeps c.context x.place stand))
+resumed_keeps c (Put place base) stand = on_value_keeps _ (put_keeps c.context place stand)
 resumed_keeps c (Rescue end more otherwise) stand = rescue_keeps c.context (trees_before c.nodes end more) (tree_at c.nodes otherwise)
 resumed_keeps c (Class r) stand =
     let other = tried c.context r.exception (trees_before c.nodes r.end r.clauses) in
@@ -263,6 +281,7 @@ resumed_keeps c (Ensure part) stand = ensure_keeps (tree_at c.nodes part)
 resumed_keeps c (Kept a) stand = on_value_keeps _ (λ v. tt)
 resumed_keeps c (Round i) stand = turned_keeps c.context (iterated c i stand)
 resumed_keeps c (Turned i) stand = on_value_keeps _ (λ v. continued_with_keeps c.context (iterated c i stand) v)
+resumed_keeps c (Initialize x) stand = on_value_keeps _ (λ v. initialized_keeps c.context (initializer c.context x.class) (option_map (tree_at c.nodes) x.block) v (passed_on x.passing stand))
 
 -- an evaluation that takes no object away
 abbrev KeepsAll : Evaluation → Type 0
@@ -353,13 +372,8 @@ concluded_same (Ended a s n) = refl
 concluded_same (Spent s) = refl
 concluded_same (Waits s) = refl
 
-statements_of_keeps : (c : Code) → Adds c.world → (simple : Bool) (tree : Tree) (s : State) (n : ℕ) → count s.memory.table ≤ objects_of (statements_of c.context c.world simple tree s n)
-statements_of_keeps c adds true tree s n = meaning_keeps c adds (TreePart tree) s n
-statements_of_keeps c adds false tree s n = run_keeps c.world adds (evaluates c) (meaning_keeps c adds) (not_here c.context) (throw_keeps c.context NotHere) s n
-
 pub begun_keeps : (c : Code) → Adds c.world → (tree : Tree) (s : State) (n : ℕ) → count s.memory.table ≤ objects_of (begun c.context c.world tree s n)
 begun_keeps c adds tree s n =
-    let simple = are_methods (definitions_of c.context.program) in
-    let kept = statements_of_keeps c adds simple tree s n in
-    let same = concluded_same (statements_of c.context c.world simple tree s n) in
+    let kept = meaning_keeps c adds (TreePart tree) s n in
+    let same = concluded_same (evaluates c (TreePart tree) s n) in
     omega arith

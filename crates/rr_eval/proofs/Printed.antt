@@ -2,17 +2,20 @@
 use Rattle.std.proofs.Common.{◌≡◌, ℕ, zero, suc, ◌∙◌, sym, ap, List, [], ◌∷◌, ◌++◌, append_assoc, reverse, Option, Some, None}
 use Rattle.std.proofs.lemmas.List.{append-nil}
 use Rattle.rr_space.specs.Tables.{Table}
+use Rattle.rr_frames.specs.Frames.{list_of}
 use Rattle.rr_space.specs.declared.refer.Ref.{Ref}
 use Rattle.rr_tree.specs.Tree.{Tree, binary, tree_at}
 use Rattle.rr_tree.specs.declared.program.Program.{Program}
 use Rattle.rr_eval.specs.declared.problem.Answer.{Answer}
+use Rattle.rr_eval.specs.declared.problem.Answer.TheVariants.{Gave}
 use Rattle.rr_eval.specs.declared.problem.Response.{Response}
 use Rattle.rr_eval.specs.declared.frame.Frame.{Frame}
 use Rattle.rr_eval.specs.declared.frame.Control.{Control}
-use Rattle.rr_eval.specs.declared.frame.Control.TheVariants.{Enter, Operate, Give, Throw, Raise, RaiseValue}
-use Rattle.rr_eval.specs.Script.{State, Script, Ret, Part, TreePart, Evaluate, See, Do, Ask, Asked, Reply, World, Outcome, Ended, Spent, Waits, Evaluation, run, after, taken}
+use Rattle.rr_eval.specs.declared.frame.Control.TheVariants.{Enter, Operate, Give, Throw, Raise, RaiseValue, New, Send}
+use Rattle.rr_eval.specs.Script.{State, Script, Ret, Part, TreePart, CallPart, Evaluate, See, Do, Ask, Asked, Reply, World, Outcome, Ended, Spent, Waits, Evaluation, run, after, taken}
 use Rattle.rr_eval.specs.Rules.{Context, throw, raise, settled, part_rule, eval}
 use Rattle.rr_eval.specs.Raising.{raise_value}
+use Rattle.rr_eval.specs.Dispatch.{making}
 use Rattle.rr_eval.specs.Requests.{Course}
 use Rattle.rr_eval.specs.Frames.{Code, evaluates, runs_in, resumed, stand_of, below_of, unwind, start}
 use Rattle.rr_eval.specs.View.{View}
@@ -81,6 +84,8 @@ module _ (own : Context) where
   start_grows c (Throw e) s n = run_grows c.world (evaluates c) (meaning_grows c) (throw c.context e) s n
   start_grows c (Raise class message) s n = run_grows c.world (evaluates c) (meaning_grows c) (raise class message) s n
   start_grows c (RaiseValue v message) s n = run_grows c.world (evaluates c) (meaning_grows c) (raise_value c.context v message) s n
+  start_grows c (New class) s n = run_grows c.world (evaluates c) (meaning_grows c) (making c.context class (λ v. Ret (Gave v))) s n
+  start_grows c (Send callee v w) s n = meaning_grows c (CallPart callee v (list_of w)) s n
 
   -- what is still to be done prints behind what was printed
   pub remaining_grows : (p : Program) (m : View) (t : Table) (h : Course) → IsBeginning (text_asked own h.asked) (text_of own (remaining p m t h))

@@ -119,5 +119,6 @@ one_plain t u class fields none slots below keys rest =
     ∙ ap (λ x. record { slots = w.slots; below = w.below; keys = w.keys; limit = w.limit; owner = x; next_message = u.next_message }) rest.owner
     ∙ ap (λ x. record { slots = w.slots; below = w.below; keys = w.keys; limit = w.limit; owner = w.owner; next_message = x }) rest.next_message
 
-pub first_state : (p : Program) (t u : Table) (most slots : ℕ) → no_objects slots ≡ t → u ≡ with_object (new_plain OBJECT.0) [] t → start_state (context_of p) most (Local 0) (first_objects slots) ≡ record { memory = first_memory (context_of p) most (Local 0) u; asked = [] }
-first_state p t u most slots e made = ap (start_state (context_of p) most (Local 0)) (ap (with_object (new_plain OBJECT.0) []) e ∙ sym made)
+-- the first two objects
+pub first_state : (p : Program) (t u : Table) (most slots : ℕ) → no_objects slots ≡ t → u ≡ with_object (new_plain OBJECT.0) [] (with_object (new_plain OBJECT.0) [] t) → start_state (context_of p) most (Local 0) (first_objects slots) ≡ record { memory = first_memory (context_of p) most (Local 0) u; asked = [] }
+first_state p t u most slots e made = ap (start_state (context_of p) most (Local 0)) (ap (λ x. with_object (new_plain OBJECT.0) [] (with_object (new_plain OBJECT.0) [] x)) e ∙ sym made)

@@ -18,6 +18,7 @@ pub record IsNone (n : Node) : Type 0 where
   pub no_class : (x0 : ClassId) → n ≡ nodes.Class x0 → ⊥
   pub no_constant : (x0 : Path) → n ≡ nodes.Constant x0 → ⊥
   pub no_array : (x0 : ℕ) (x1 : ℕ) → n ≡ nodes.Array x0 x1 → ⊥
+  pub no_splat : (x0 : ℕ) → n ≡ nodes.Splat x0 → ⊥
   pub no_hash : (x0 : ℕ) (x1 : ℕ) → n ≡ nodes.Hash x0 x1 → ⊥
   pub no_pairs : (x0 : ℕ) (x1 : ℕ) → n ≡ nodes.Pairs x0 x1 → ⊥
   pub no_interpolation : (x0 : ℕ) (x1 : ℕ) → n ≡ nodes.Interpolation x0 x1 → ⊥
@@ -25,14 +26,20 @@ pub record IsNone (n : Node) : Type 0 where
   pub no_itself : n ≡ nodes.Itself → ⊥
   pub no_field : (x0 : Sym) → n ≡ nodes.Field x0 → ⊥
   pub no_set_field : (x0 : Sym) (x1 : ℕ) → n ≡ nodes.SetField x0 x1 → ⊥
+  pub no_global : (x0 : Sym) → n ≡ nodes.Global x0 → ⊥
+  pub no_set_global : (x0 : Sym) (x1 : ℕ) → n ≡ nodes.SetGlobal x0 x1 → ⊥
+  pub no_set_constant : (x0 : Sym) (x1 : ℕ) → n ≡ nodes.SetConstant x0 x1 → ⊥
   pub no_bare : (x0 : Sym) (x1 : ℕ) → n ≡ nodes.Bare x0 x1 → ⊥
   pub no_call : (x0 : Sym) (x1 : ℕ) (x2 : ℕ) (x3 : ℕ) → n ≡ nodes.Call x0 x1 x2 x3 → ⊥
   pub no_send : (x0 : ℕ) (x1 : Sym) (x2 : ℕ) (x3 : ℕ) (x4 : ℕ) → n ≡ nodes.Send x0 x1 x2 x3 x4 → ⊥
   pub no_with_block : (x0 : ℕ) (x1 : ℕ) → n ≡ nodes.WithBlock x0 x1 → ⊥
   pub no_block : (x0 : ℕ) (x1 : ℕ) (x2 : ℕ) (x3 : ℕ) → n ≡ nodes.Block x0 x1 x2 x3 → ⊥
+  pub no_super : (x0 : ℕ) (x1 : ℕ) → n ≡ nodes.Super x0 x1 → ⊥
+  pub no_forwarding : n ≡ nodes.ForwardingSuper → ⊥
   pub no_yield : (x0 : ℕ) (x1 : ℕ) → n ≡ nodes.Yield x0 x1 → ⊥
   pub no_index : (x0 : ℕ) (x1 : ℕ) → n ≡ nodes.Index x0 x1 → ⊥
   pub no_append : (x0 : ℕ) (x1 : ℕ) → n ≡ nodes.Append x0 x1 → ⊥
+  pub no_set_attribute : (x0 : ℕ) (x1 : Sym) (x2 : ℕ) (x3 : ℕ) → n ≡ nodes.SetAttribute x0 x1 x2 x3 → ⊥
   pub no_set_index : (x0 : ℕ) (x1 : ℕ) (x2 : ℕ) → n ≡ nodes.SetIndex x0 x1 x2 → ⊥
   pub no_and : (x0 : ℕ) (x1 : ℕ) → n ≡ nodes.And x0 x1 → ⊥
   pub no_or : (x0 : ℕ) (x1 : ℕ) → n ≡ nodes.Or x0 x1 → ⊥
@@ -40,7 +47,9 @@ pub record IsNone (n : Node) : Type 0 where
   pub no_negate : (x0 : ℕ) → n ≡ nodes.Negate x0 → ⊥
   pub no_binary : (x0 : BinaryOperator) (x1 : ℕ) (x2 : ℕ) → n ≡ nodes.Binary x0 x1 x2 → ⊥
   pub no_assign : (x0 : ℕ) (x1 : ℕ) (x2 : Sym) (x3 : ℕ) (x4 : ℕ) → n ≡ nodes.Assign x0 x1 x2 x3 x4 → ⊥
+  pub no_several : (x0 : ℕ) (x1 : ℕ) (x2 : ℕ) → n ≡ nodes.MultipleAssign x0 x1 x2 → ⊥
   pub no_operator_assign : (x0 : BinaryOperator) (x1 : ℕ) (x2 : ℕ) → n ≡ nodes.OperatorAssign x0 x1 x2 → ⊥
+  pub no_append_assign : (x0 : ℕ) (x1 : ℕ) → n ≡ nodes.AppendAssign x0 x1 → ⊥
   pub no_or_assign : (x0 : ℕ) (x1 : ℕ) → n ≡ nodes.OrAssign x0 x1 → ⊥
   pub no_and_assign : (x0 : ℕ) (x1 : ℕ) → n ≡ nodes.AndAssign x0 x1 → ⊥
   pub no_choose : (x0 : ℕ) (x1 : ℕ) (x2 : ℕ) → n ≡ nodes.Choose x0 x1 x2 → ⊥
@@ -62,6 +71,7 @@ unknown_else (nodes.Symbol x0) h = absurd (h.no_symbol x0 refl)
 unknown_else (nodes.Class x0) h = absurd (h.no_class x0 refl)
 unknown_else (nodes.Constant x0) h = absurd (h.no_constant x0 refl)
 unknown_else (nodes.Array x0 x1) h = absurd (h.no_array x0 x1 refl)
+unknown_else (nodes.Splat x0) h = absurd (h.no_splat x0 refl)
 unknown_else (nodes.Hash x0 x1) h = absurd (h.no_hash x0 x1 refl)
 unknown_else (nodes.Pairs x0 x1) h = absurd (h.no_pairs x0 x1 refl)
 unknown_else (nodes.Interpolation x0 x1) h = absurd (h.no_interpolation x0 x1 refl)
@@ -69,14 +79,20 @@ unknown_else (nodes.Local x0 x1 x2 x3) h = absurd (h.no_local x0 x1 x2 x3 refl)
 unknown_else nodes.Itself h = absurd (h.no_itself refl)
 unknown_else (nodes.Field x0) h = absurd (h.no_field x0 refl)
 unknown_else (nodes.SetField x0 x1) h = absurd (h.no_set_field x0 x1 refl)
+unknown_else (nodes.Global x0) h = absurd (h.no_global x0 refl)
+unknown_else (nodes.SetGlobal x0 x1) h = absurd (h.no_set_global x0 x1 refl)
+unknown_else (nodes.SetConstant x0 x1) h = absurd (h.no_set_constant x0 x1 refl)
 unknown_else (nodes.Bare x0 x1) h = absurd (h.no_bare x0 x1 refl)
 unknown_else (nodes.Call x0 x1 x2 x3) h = absurd (h.no_call x0 x1 x2 x3 refl)
 unknown_else (nodes.Send x0 x1 x2 x3 x4) h = absurd (h.no_send x0 x1 x2 x3 x4 refl)
 unknown_else (nodes.WithBlock x0 x1) h = absurd (h.no_with_block x0 x1 refl)
 unknown_else (nodes.Block x0 x1 x2 x3) h = absurd (h.no_block x0 x1 x2 x3 refl)
+unknown_else (nodes.Super x0 x1) h = absurd (h.no_super x0 x1 refl)
+unknown_else nodes.ForwardingSuper h = absurd (h.no_forwarding refl)
 unknown_else (nodes.Yield x0 x1) h = absurd (h.no_yield x0 x1 refl)
 unknown_else (nodes.Index x0 x1) h = absurd (h.no_index x0 x1 refl)
 unknown_else (nodes.Append x0 x1) h = absurd (h.no_append x0 x1 refl)
+unknown_else (nodes.SetAttribute x0 x1 x2 x3) h = absurd (h.no_set_attribute x0 x1 x2 x3 refl)
 unknown_else (nodes.SetIndex x0 x1 x2) h = absurd (h.no_set_index x0 x1 x2 refl)
 unknown_else (nodes.And x0 x1) h = absurd (h.no_and x0 x1 refl)
 unknown_else (nodes.Or x0 x1) h = absurd (h.no_or x0 x1 refl)
@@ -84,7 +100,9 @@ unknown_else (nodes.Not x0) h = absurd (h.no_not x0 refl)
 unknown_else (nodes.Negate x0) h = absurd (h.no_negate x0 refl)
 unknown_else (nodes.Binary x0 x1 x2) h = absurd (h.no_binary x0 x1 x2 refl)
 unknown_else (nodes.Assign x0 x1 x2 x3 x4) h = absurd (h.no_assign x0 x1 x2 x3 x4 refl)
+unknown_else (nodes.MultipleAssign x0 x1 x2) h = absurd (h.no_several x0 x1 x2 refl)
 unknown_else (nodes.OperatorAssign x0 x1 x2) h = absurd (h.no_operator_assign x0 x1 x2 refl)
+unknown_else (nodes.AppendAssign x0 x1) h = absurd (h.no_append_assign x0 x1 refl)
 unknown_else (nodes.OrAssign x0 x1) h = absurd (h.no_or_assign x0 x1 refl)
 unknown_else (nodes.AndAssign x0 x1) h = absurd (h.no_and_assign x0 x1 refl)
 unknown_else (nodes.Choose x0 x1 x2) h = absurd (h.no_choose x0 x1 x2 refl)

@@ -1,12 +1,17 @@
 -- What is still to be done stays the same over one act of the machine.
-use Rattle.std.proofs.Common.{subst, ◌≡◌, ℕ, zero, suc, ◌-◌, ◌<◌, ◌≤◌, sym, ap, arith, refl, ◌∙◌, List, [], ◌∷◌, ◌++◌, length, take, drop, reverse}
+use Rattle.std.proofs.Common.{subst, ◌≡◌, ℕ, zero, suc, ◌-◌, ◌<◌, ◌≤◌, sym, ap, arith, refl, ◌∙◌, List, [], ◌∷◌, ◌++◌, length, take, drop, reverse, Option}
 use Rattle.std.proofs.lemmas.List.{reverse-append, take_all, drop_all, take-append-le, drop-append-le}
 use Rattle.rr_space.specs.declared.refer.Ref.{Ref}
 use Rattle.rr_tree.specs.Tree.{tree_at}
+use Rattle.std.specs.Option.{option_map}
+use Rattle.rr_frames.specs.Frames.{list_of}
 use Rattle.rr_eval.specs.declared.problem.Answer.{Answer}
+use Rattle.rr_eval.specs.declared.problem.Answer.TheVariants.{Gave}
+use Rattle.rr_eval.specs.declared.frame.Making.{Making}
+use Rattle.rr_eval.specs.Dispatch.{making, new_rule, passed_on}
 use Rattle.rr_eval.specs.declared.frame.Frame.{Frame}
-use Rattle.rr_eval.specs.declared.frame.Frame.TheVariants.{Left, Argument, Key, Value, Round, Turned}
-use Rattle.rr_eval.specs.declared.frame.Control.TheVariants.{Enter, Give}
+use Rattle.rr_eval.specs.declared.frame.Frame.TheVariants.{Left, Argument, Key, Value, Read, Combine, Put, Round, Turned, Initialize, Receiver, Item, Asking as AskingFrame, Asked as AskedFrame}
+use Rattle.rr_eval.specs.declared.frame.Control.TheVariants.{Enter, Give, New}
 use Rattle.rr_eval.specs.Script.{State, Ret, Go, Outcome, Ended, Spent, Waits, after}
 use Rattle.rr_eval.specs.Rules.{values, finish}
 use Rattle.rr_eval.specs.declared.call.Target.{Target}
@@ -37,6 +42,14 @@ asking_frame c fs (Argument target e k b) held o new =
     ap (λ h. unwind c (reverse fs) h (after o (λ a. runs_in c (resumed c (Argument target e k b) [] a)))) (sym (take_all b held (omega arith)))
     ∙ ap (λ h. unwind c (reverse fs) (take b held) (after o (λ a. runs_in c (resumed c (Argument target e k b) h a)))) (sym (drop_all b held (omega arith)))
     ∙ sym (rest_push c fs (Argument target e k b) held o)
+asking_frame c fs (Receiver target e k b) held o new =
+    ap (λ h. unwind c (reverse fs) h (after o (λ a. runs_in c (resumed c (Receiver target e k b) [] a)))) (sym (take_all b held (omega arith)))
+    ∙ ap (λ h. unwind c (reverse fs) (take b held) (after o (λ a. runs_in c (resumed c (Receiver target e k b) h a)))) (sym (drop_all b held (omega arith)))
+    ∙ sym (rest_push c fs (Receiver target e k b) held o)
+asking_frame c fs (Item target e k b) held o new =
+    ap (λ h. unwind c (reverse fs) h (after o (λ a. runs_in c (resumed c (Item target e k b) [] a)))) (sym (take_all b held (omega arith)))
+    ∙ ap (λ h. unwind c (reverse fs) (take b held) (after o (λ a. runs_in c (resumed c (Item target e k b) h a)))) (sym (drop_all b held (omega arith)))
+    ∙ sym (rest_push c fs (Item target e k b) held o)
 asking_frame c fs (Key x e k b) held o new =
     ap (λ h. unwind c (reverse fs) h (after o (λ a. runs_in c (resumed c (Key x e k b) [] a)))) (sym (take_all b held (omega arith)))
     ∙ ap (λ h. unwind c (reverse fs) (take b held) (after o (λ a. runs_in c (resumed c (Key x e k b) h a)))) (sym (drop_all b held (omega arith)))
@@ -45,6 +58,20 @@ asking_frame c fs (Value e k b) held o new =
     ap (λ h. unwind c (reverse fs) h (after o (λ a. runs_in c (resumed c (Value e k b) [] a)))) (sym (take_all b held (omega arith)))
     ∙ ap (λ h. unwind c (reverse fs) (take b held) (after o (λ a. runs_in c (resumed c (Value e k b) h a)))) (sym (drop_all b held (omega arith)))
     ∙ sym (rest_push c fs (Value e k b) held o)
+asking_frame c fs (AskingFrame a) held o new = absurd new
+asking_frame c fs (AskedFrame a) held o new = absurd new
+asking_frame c fs (Read u) held o new =
+    ap (λ h. unwind c (reverse fs) h (after o (λ a. runs_in c (resumed c (Read u) [] a)))) (sym (take_all u.base held (omega arith)))
+    ∙ ap (λ h. unwind c (reverse fs) (take u.base held) (after o (λ a. runs_in c (resumed c (Read u) h a)))) (sym (drop_all u.base held (omega arith)))
+    ∙ sym (rest_push c fs (Read u) held o)
+asking_frame c fs (Combine x) held o new =
+    ap (λ h. unwind c (reverse fs) h (after o (λ a. runs_in c (resumed c (Combine x) [] a)))) (sym (take_all x.base held (omega arith)))
+    ∙ ap (λ h. unwind c (reverse fs) (take x.base held) (after o (λ a. runs_in c (resumed c (Combine x) h a)))) (sym (drop_all x.base held (omega arith)))
+    ∙ sym (rest_push c fs (Combine x) held o)
+asking_frame c fs (Put place b) held o new =
+    ap (λ h. unwind c (reverse fs) h (after o (λ a. runs_in c (resumed c (Put place b) [] a)))) (sym (take_all b held (omega arith)))
+    ∙ ap (λ h. unwind c (reverse fs) (take b held) (after o (λ a. runs_in c (resumed c (Put place b) h a)))) (sym (drop_all b held (omega arith)))
+    ∙ sym (rest_push c fs (Put place b) held o)
 asking_frame c fs (Round i) held o new =
     ap (λ h. unwind c (reverse fs) h (after o (λ a. runs_in c (resumed c (Round i) [] a)))) (sym (take_all i.base held (omega arith)))
     ∙ ap (λ h. unwind c (reverse fs) (take i.base held) (after o (λ a. runs_in c (resumed c (Round i) h a)))) (sym (drop_all i.base held (omega arith)))
@@ -53,6 +80,10 @@ asking_frame c fs (Turned i) held o new =
     ap (λ h. unwind c (reverse fs) h (after o (λ a. runs_in c (resumed c (Turned i) [] a)))) (sym (take_all i.base held (omega arith)))
     ∙ ap (λ h. unwind c (reverse fs) (take i.base held) (after o (λ a. runs_in c (resumed c (Turned i) h a)))) (sym (drop_all i.base held (omega arith)))
     ∙ sym (rest_push c fs (Turned i) held o)
+asking_frame c fs (Initialize x) held o new =
+    ap (λ h. unwind c (reverse fs) h (after o (λ a. runs_in c (resumed c (Initialize x) [] a)))) (sym (take_all x.base held (omega arith)))
+    ∙ ap (λ h. unwind c (reverse fs) (take x.base held) (after o (λ a. runs_in c (resumed c (Initialize x) h a)))) (sym (drop_all x.base held (omega arith)))
+    ∙ sym (rest_push c fs (Initialize x) held o)
 asking_frame c fs (Left op b) held o new = sym (rest_push c fs (Left op b) held o)
 asking_frame c fs f held o new = sym (rest_push c fs f held o)
 
@@ -73,10 +104,18 @@ nested_pop fs f held nested = subst (λ l. Nested l held) (reverse-append fs (f 
 
 pub nested_new : (fs : List Frame) (f : Frame) (held : List Ref) → IsNew f (length held) → Nested (reverse fs) held → Nested (reverse (fs ++ f ∷ [])) held
 nested_new fs (Argument target e k b) held new nested = nested_push fs (Argument target e k b) held (omega arith) (subst (λ h. Nested (reverse fs) h) (sym (take_all b held (omega arith))) nested)
+nested_new fs (Receiver target e k b) held new nested = nested_push fs (Receiver target e k b) held (omega arith) (subst (λ h. Nested (reverse fs) h) (sym (take_all b held (omega arith))) nested)
+nested_new fs (Item target e k b) held new nested = nested_push fs (Item target e k b) held (omega arith) (subst (λ h. Nested (reverse fs) h) (sym (take_all b held (omega arith))) nested)
 nested_new fs (Key x e k b) held new nested = nested_push fs (Key x e k b) held (omega arith) (subst (λ h. Nested (reverse fs) h) (sym (take_all b held (omega arith))) nested)
 nested_new fs (Value e k b) held new nested = nested_push fs (Value e k b) held (omega arith) (subst (λ h. Nested (reverse fs) h) (sym (take_all b held (omega arith))) nested)
+nested_new fs (AskingFrame a) held new nested = absurd new
+nested_new fs (AskedFrame a) held new nested = absurd new
+nested_new fs (Read u) held new nested = nested_push fs (Read u) held (omega arith) (subst (λ h. Nested (reverse fs) h) (sym (take_all u.base held (omega arith))) nested)
+nested_new fs (Combine x) held new nested = nested_push fs (Combine x) held (omega arith) (subst (λ h. Nested (reverse fs) h) (sym (take_all x.base held (omega arith))) nested)
+nested_new fs (Put place b) held new nested = nested_push fs (Put place b) held (omega arith) (subst (λ h. Nested (reverse fs) h) (sym (take_all b held (omega arith))) nested)
 nested_new fs (Round i) held new nested = nested_push fs (Round i) held (omega arith) (subst (λ h. Nested (reverse fs) h) (sym (take_all i.base held (omega arith))) nested)
 nested_new fs (Turned i) held new nested = nested_push fs (Turned i) held (omega arith) (subst (λ h. Nested (reverse fs) h) (sym (take_all i.base held (omega arith))) nested)
+nested_new fs (Initialize x) held new nested = nested_push fs (Initialize x) held (omega arith) (subst (λ h. Nested (reverse fs) h) (sym (take_all x.base held (omega arith))) nested)
 nested_new fs (Left op b) held new nested = nested_push fs (Left op b) held (omega arith) nested
 nested_new fs f held new nested = nested_push fs f held (omega arith) nested
 
@@ -103,6 +142,15 @@ kept c fs target end (suc more) place base held v s n h at le =
     ∙ ap (λ h. unwind c (reverse fs) (take base (held ++ v ∷ [])) (after o (λ a. runs_in c (resumed c f h a)))) (sym stand)
     ∙ sym (rest_push c fs f (held ++ v ∷ []) o)
     ∙ ap (λ m. unwind c (reverse (fs ++ Argument target end m base ∷ [])) (held ++ v ∷ []) o) (sym k)
+
+-- a new object is made for a frame that initializes it, over the values that stand for it
+pub begins_new : (c : Code) (fs : List Frame) (x : Making) (f : Frame) (held all : List Ref) (last : Option Ref) (s : State) (n : ℕ) → all ≡ held ++ list_of last → x.base ≤ length held → drop x.base held ≡ stand_of f held → take x.base held ≡ below_of f held
+    → unwind c (reverse fs) (below_of f held) (runs_in c (new_rule c.context x.class (option_map (tree_at c.nodes) x.block) (passed_on x.passing (stand_of f held ++ list_of last))) s n) ≡ outcome_of c (fs ++ Initialize x ∷ []) all (New x.class) s n
+begins_new c fs x f held all last s n push le stand below =
+    let next = λ (vs : List Ref). runs_in c (new_rule c.context x.class (option_map (tree_at c.nodes) x.block) (passed_on x.passing vs)) s n in
+    ap (λ h. unwind c (reverse fs) h (next (stand_of f held ++ list_of last))) (sym below ∙ sym (take-append-le x.base held (list_of last) le) ∙ ap (take x.base) (sym push))
+    ∙ ap (λ vs. unwind c (reverse fs) (take x.base all) (next vs)) (ap (λ l. l ++ list_of last) (sym stand) ∙ sym (drop-append-le x.base held (list_of last) le) ∙ ap (drop x.base) (sym push))
+    ∙ sym (rest_push c fs (Initialize x) all (runs_in c (making c.context x.class (λ v. Ret (Gave v))) s n))
 
 -- a frame that is put back, where all else stands
 pub frame_back : (m n : View) (t : Table) (f : Frame) (fault : Fault) (fs : List Frame) → Stands m n t t fault → fs ≡ n.frames ++ f ∷ [] → record m { frames = m.frames ++ f ∷ [] } ≡ record n { frames = fs }

@@ -1,8 +1,6 @@
--- The names by which `self` has methods that are not evaluated yet.
+-- Names that only `self` has methods of.
 use Rattle.std.specs.Prelude.{ℕ, Bool, ◌||◌, List, codes}
 use Rattle.std.specs.Str.{bytes_eq}
-use Rattle.std.specs.Option.{is_some}
-use Rattle.rr_builtin.specs.Methods.{named_among, object_methods}
 
 -- `raise`
 abbrev pub is_raise : List ℕ → Bool
@@ -12,13 +10,6 @@ is_raise name = bytes_eq name (codes "raise")
 abbrev pub is_block_given : List ℕ → Bool
 is_block_given name = bytes_eq name (codes "block_given?")
 
--- a method that only `self` has
-abbrev pub is_of_self : List ℕ → Bool
-is_of_self name = bytes_eq name (codes "loop") || bytes_eq name (codes "block_given?")
-
--- a method that all values have
-abbrev pub is_of_all : List ℕ → Bool
-is_of_all name = is_some (named_among name object_methods)
-
+-- a method of `self` that is not evaluated yet
 abbrev pub is_awaited : List ℕ → Bool
-is_awaited name = is_of_self name || is_of_all name
+is_awaited name = bytes_eq name (codes "loop") || bytes_eq name (codes "block_given?")

@@ -4,13 +4,11 @@ use Rattle.rr_base.specs.Classes.{class_id}
 use Rattle.rr_base.specs.declared.name.ClassId.{ClassId}
 use Rattle.rr_space.specs.Tables.{Table}
 use Rattle.rr_space.specs.declared.refer.Ref.{Ref}
-use Rattle.rr_space.specs.declared.refer.Ref.TheVariants.{Nil, Int, Local}
+use Rattle.rr_space.specs.declared.refer.Ref.TheVariants.{Nil, Local}
 use Rattle.rr_tree.specs.Tree.{Tree, Trees, local, empty, then_one}
-use Rattle.rr_tree.specs.declared.node.BinaryOperator.{BinaryOperator}
 use Rattle.rr_builtin.specs.Acts.{with_text}
 use Rattle.rr_eval.specs.declared.call_stack.Variable.{Variable}
 use Rattle.rr_eval.specs.declared.call.Callee.{Callee}
-use Rattle.rr_eval.specs.declared.call.Callee.TheVariants as callees
 use Rattle.rr_eval.specs.declared.problem.Answer.{Answer}
 use Rattle.rr_eval.specs.declared.problem.Answer.TheVariants.{Gave, Raised, Broke, Done, Returned, Ends}
 use Rattle.rr_eval.specs.declared.problem.Problem.{Problem}
@@ -20,7 +18,6 @@ use Rattle.rr_eval.specs.declared.problem.Response.TheVariants.{Gives, Throws, F
 use Rattle.rr_eval.specs.Context.{Context}
 use Rattle.rr_eval.specs.Exceptions.{with_exception}
 use Rattle.rr_eval.specs.Messages.{message, exception_class}
-use Rattle.rr_eval.specs.Operators.{integers, opposite}
 use Rattle.rr_eval.specs.Script.{Script, Ret, Go, See, Do, Ask, Calls}
 use Rattle.rr_eval.specs.Variables.{read_variable, write_variable}
 
@@ -67,16 +64,6 @@ settled c (Fails e) = throw c e
 -- asks for a call of a method
 abbrev pub send_to : Context → Callee → Ref → List Ref → Script
 send_to c callee receiver arguments = Ask (Calls receiver callee arguments) (settled c)
-
--- an operator: of two integers here, and any other as a call
-abbrev pub operation : Context → BinaryOperator → Ref → Ref → Script
-operation c op (Int x) (Int y) = settled c (integers op x y)
-operation c op v w = send_to c (callees.Operator op) v (w ∷ [])
-
--- unary minus
-abbrev pub negation : Context → Ref → Script
-negation c (Int x) = settled c (opposite x)
-negation c v = send_to c callees.Opposite v []
 
 -- an operation on the objects
 abbrev pub on_table : Context → (Table → Response × Table) → Script

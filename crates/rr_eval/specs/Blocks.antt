@@ -1,6 +1,5 @@
 -- Calls of methods and of blocks, and how they end.
-use Rattle.std.specs.Prelude.{ℕ, zero, suc, ◌-◌, nat_eq, nat_lt, Bool, true, false, List, [], ◌∷◌, ◌++◌, length, take, if◌then◌else◌, slice_index_or, Option, Some, None}
-use Rattle.std.specs.Option.{is_some}
+use Rattle.std.specs.Prelude.{ℕ, zero, suc, ◌-◌, nat_eq, nat_lt, Bool, true, false, not, List, [], ◌∷◌, ◌++◌, length, take, if◌then◌else◌, slice_index_or, Option, Some, None}
 use Rattle.rr_builtin.specs.Kinds.{is_array_kind}
 use Rattle.rr_builtin.specs.Rounds.{Read, Reads, ReadsNone, IsMoved, item_at}
 use Rattle.rr_builtin.specs.declared.problem.Problem.TheVariants.{TooDeep}
@@ -17,6 +16,11 @@ use Rattle.rr_tree.specs.Tree.{Tree, nil, block}
 use Rattle.rr_base.specs.declared.name.ClassId.{ClassId}
 use Rattle.rr_eval.specs.declared.call_stack.Entry.{Entry}
 use Rattle.rr_eval.specs.declared.call_stack.Invocation.{Invocation}
+use Rattle.rr_eval.specs.declared.call_stack.Handed.{Handed}
+use Rattle.rr_eval.specs.declared.call_stack.Handed.TheVariants as handed
+use Rattle.rr_eval.specs.declared.call_stack.CallValue.{CallValue}
+use Rattle.rr_eval.specs.declared.call_stack.CallValue.TheVariants as value
+use Rattle.rr_builtin.specs.Objects.{is_truthy}
 use Rattle.rr_eval.specs.declared.call_stack.Entry.TheVariants.{OfMethod, OfBlock}
 use Rattle.rr_eval.specs.declared.problem.Answer.{Answer}
 use Rattle.rr_eval.specs.declared.problem.Answer.TheVariants.{Gave, Raised, Broke, Done, Returned, Ends}
@@ -32,15 +36,16 @@ use Rattle.rr_eval.specs.Variables.{top}
 abbrev pub running : List Activated → Activation
 running frames = (frame_at (top frames) frames).activation
 
--- The block that a method is given, where it is given one, stands in the frame before.
-abbrev pub given_in : Bool → List Activated → Given
-given_in false frames = given.Nothing
-given_in true frames = given.Block (length frames) (length frames - 1)
+-- A block that a method is given stands in the frame before; `super` passes the block of the method that runs.
+abbrev pub given_in : Handed → List Activated → Given
+given_in handed.Nothing frames = given.Nothing
+given_in handed.Beside frames = given.Block (length frames) (length frames - 1)
+given_in handed.Same frames = (running frames).given
 
 -- What a new frame has beside its variables. A block's frame lies in the one in which the block stands: it has its `self`, and its `yield`
 -- calls the block that that method was given.
 abbrev pub activation_in : Entry → List Activated → Activation
-activation_in (OfMethod call) frames = record { itself = call.itself; given = given_in call.has_block frames; home = length frames; root = length frames; name = call.name; class = call.class; parameters = call.parameters }
+activation_in (OfMethod call) frames = record { itself = call.itself; given = given_in call.block frames; home = length frames; root = length frames; name = call.name; class = call.class; parameters = call.parameters }
 activation_in (OfBlock home) frames = record (frame_at home frames).activation { home = home }
 
 -- one frame more, and the block that its method is given
@@ -61,9 +66,23 @@ returned number (Done v) = Gave v
 returned number (Returned v) = Gave v
 returned number (Ends other v) = if nat_eq other number then Gave v else Ends other v
 
+-- the value of a call, by the method's
+abbrev pub value_by : CallValue → Ref → Ref
+value_by value.Method v = v
+value_by (value.Other w) v = w
+value_by value.Opposite v = Truth (not (is_truthy v))
+
+abbrev pub valued : CallValue → Answer → Answer
+valued by (Gave v) = Gave (value_by by v)
+valued by (Raised e) = Raised e
+valued by (Broke v) = Broke v
+valued by (Done v) = Done v
+valued by (Returned v) = Returned v
+valued by (Ends number v) = Ends number v
+
 -- a method ends, and its frame goes
-abbrev pub back : Answer → Script
-back a = See (λ m. Do without_frame (Ret (returned (top m.calls.frames) a)))
+abbrev pub back : CallValue → Answer → Script
+back by a = See (λ m. Do without_frame (Ret (valued by (returned (top m.calls.frames) a))))
 
 -- What ends a block that a `yield` calls: `next` ends its turn, `break` the call that has the block, whose frame is `owner`, and
 -- `return` the method in which the block stands, whose frame is `root`.
@@ -81,7 +100,7 @@ past a = See (λ m. Do without_frame (See (λ k. Ret (passed (running k.calls.fr
 
 -- how a new frame ends
 abbrev pub left_by : Entry → Answer → Script
-left_by (OfMethod call) = back
+left_by (OfMethod call) = back call.value
 left_by (OfBlock home) = past
 
 -- goes on in a frame more, where there may be one, whose parameters have these values and whose other variables are nil
@@ -94,13 +113,19 @@ opened c entry parameters size vs b s next =
 abbrev pub framed : Context → Entry → ℕ → ℕ → List Ref → Option Tree → Tree → Stack → Script
 framed c entry parameters size vs b body s = opened c entry parameters size vs b s (Go body (left_by entry))
 
--- a call of a method, by its `self`, the class in which the method stands, and the block that it is given
-abbrev pub invocation : Ref → ClassId → Method → Option Tree → Invocation
-invocation itself class m b = record { itself = itself; name = record { 0 = m.name }; class = class; parameters = m.parameters; has_block = is_some b }
+-- how a method of the program is called: on which receiver, with which block, whose tree is there, and what the value of the call is
+pub record Way : Type 0 where
+  pub receiver : Ref
+  pub block : Handed
+  pub tree : Option Tree
+  pub value : CallValue
+
+abbrev pub invocation : Way → ClassId → Method → Invocation
+invocation w class m = record { itself = w.receiver; name = record { 0 = m.name }; class = class; parameters = m.parameters; block = w.block; value = w.value }
 
 -- a method's statements
-abbrev pub entered : Context → Ref → ClassId → Method → Option Tree → List Ref → Stack → Script
-entered c itself class m b vs s = framed c (OfMethod (invocation itself class m b)) m.parameters m.size vs b m.body s
+abbrev pub entered : Context → Way → ClassId → Method → List Ref → Stack → Script
+entered c w class m vs s = framed c (OfMethod (invocation w class m)) m.parameters m.size vs w.tree m.body s
 
 -- whether one array is given to several parameters
 abbrev pub spreads : ℕ → List Ref → Table → Bool

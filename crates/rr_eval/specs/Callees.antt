@@ -1,5 +1,5 @@
 -- What a script calls: its name, and the built-in method of that name.
-use Rattle.std.specs.Prelude.{ℕ, List, [], codes, Option, Some, slice_index_or}
+use Rattle.std.specs.Prelude.{ℕ, List, [], ◌++◌, codes, Option, Some, None, slice_index_or}
 use Rattle.rr_builtin.specs.Methods.{operator_name, method_named}
 use Rattle.rr_builtin.specs.declared.method.BuiltInMethod.{BuiltInMethod}
 use Rattle.rr_builtin.specs.declared.method.BuiltInMethod.TheVariants as methods
@@ -15,6 +15,8 @@ callee_name c callees.Opposite = codes "-@"
 callee_name c callees.Index = codes "[]"
 callee_name c callees.Append = codes "<<"
 callee_name c callees.SetIndex = codes "[]="
+callee_name c callees.Initialize = codes "initialize"
+callee_name c (callees.Setter x) = slice_index_or c.symbols x.0 [] ++ codes "="
 callee_name c (callees.Name x) = slice_index_or c.symbols x.0 []
 
 -- the built-in method, where there is one
@@ -24,4 +26,6 @@ method_of c callees.Opposite = Some (methods.Number number.Opposite)
 method_of c callees.Index = Some (methods.Content content.At)
 method_of c callees.Append = Some (methods.Content content.Append)
 method_of c callees.SetIndex = Some (methods.Content content.SetAt)
+method_of c callees.Initialize = None
+method_of c (callees.Setter x) = None
 method_of c (callees.Name x) = method_named (slice_index_or c.symbols x.0 [])

@@ -1,10 +1,13 @@
 -- What the frames of the machine stand for.
-use Rattle.std.specs.Prelude.{◌≡◌, ℕ, suc, ◌-◌, ◌≤◌, List, [], ◌∷◌, ◌++◌, if◌then◌else◌, not, length, take, drop, reverse, Option, Some, None}
+use Rattle.std.specs.Prelude.{◌≡◌, ℕ, suc, ◌-◌, ◌≤◌, List, [], ◌∷◌, ◌++◌, if◌then◌else◌, not, length, take, drop, reverse, Option, Some, None, ◌+◌}
+use Rattle.rr_frames.specs.Frames.{list_of}
+use Rattle.rr_parser.specs.Grammar.Names.{is_splat}
 use Rattle.rr_space.specs.declared.refer.Ref.{Ref}
 use Rattle.rr_space.specs.declared.refer.Ref.TheVariants.{Truth}
 use Rattle.rr_tree.specs.Tree.{Tree, binary, tree_at}
 use Rattle.rr_tree.specs.declared.node.Node.{Node}
 use Rattle.rr_eval.specs.declared.call.Callee.TheVariants.{SetIndex}
+use Rattle.rr_eval.specs.declared.call_stack.CallValue.TheVariants.{Method}
 use Rattle.rr_eval.specs.declared.call_stack.Entry.{Entry}
 use Rattle.rr_eval.specs.declared.call_stack.Entry.TheVariants.{OfMethod, OfBlock}
 use Rattle.rr_eval.specs.declared.call.Target.TheVariants.{Do as DoTarget, Call}
@@ -13,16 +16,22 @@ use Rattle.rr_eval.specs.declared.problem.Answer.{Answer}
 use Rattle.rr_eval.specs.declared.problem.Answer.TheVariants.{Gave, Broke, Done}
 use Rattle.rr_eval.specs.declared.frame.Frame.{Frame}
 use Rattle.rr_eval.specs.declared.frame.Trial.{Trial}
-use Rattle.rr_eval.specs.declared.frame.Frame.TheVariants.{Not, Negation, And, Or, Left, Right, Store, SetField, Branch, Condition, Body, Break, Next, Return, Back, Past, Rest, Argument, Key, Value, Element, Rescue, Class, Handling, Ensure, Kept, Round, Turned}
+use Rattle.rr_eval.specs.declared.frame.Frame.TheVariants.{Not, Negation, And, Or, Left, Right, Store, SetField, Branch, Condition, Body, Break, Next, Return, Back, Past, Rest, Argument, Key, Value, Element, Read, Combine, Put, Rescue, Class, Handling, Ensure, Kept, Round, Turned, Initialize, Receiver, Item, Several, Asking as AskingFrame, Asked as AskedFrame}
 use Rattle.rr_eval.specs.declared.frame.Control.{Control}
-use Rattle.rr_eval.specs.declared.frame.Control.TheVariants.{Enter, Operate, Give, Throw, Raise, RaiseValue}
+use Rattle.rr_eval.specs.declared.frame.Control.TheVariants.{Enter, Operate, Give, Throw, Raise, RaiseValue, New, Send}
 use Rattle.rr_eval.specs.declared.iterating.Iterating.{Iterating}
+use Rattle.std.specs.Option.{option_map}
+use Rattle.rr_eval.specs.Dispatch.{making, initialized, initializer, passed_on}
 use Rattle.rr_eval.specs.Iterating.{continued_with, turned}
-use Rattle.rr_eval.specs.Script.{State, Iterated, Script, Ret, Go, World, Evaluation, Outcome, Ended, run, after}
+use Rattle.rr_eval.specs.Script.{State, Iterated, Script, Ret, Evaluate, Go, CallPart, World, Evaluation, Outcome, Ended, run, after}
 use Rattle.rr_builtin.specs.Objects.{is_truthy}
 use Rattle.rr_eval.specs.Fields.{set_field_rule}
-use Rattle.rr_eval.specs.Rules.{Context, throw, raise, on_value, with_value, in_loop, turn_rule, operation, negation, write, statements, values, pair_parts, finish, back, past, return_rule, concluded, meaning_of, meaning}
+use Rattle.rr_eval.specs.Updating.{put, updated}
+use Rattle.rr_eval.specs.Rules.{Context, throw, raise, on_value, with_value, in_loop, turn_rule, operation, negation, write, statements, values, pair_parts, finish, back, past, return_rule, concluded, meaning_of, meaning, spread, arguments}
+use Rattle.rr_eval.specs.Bound.{bind}
+use Rattle.rr_eval.specs.Speaking.{heard, asked_on}
 use Rattle.rr_eval.specs.Raising.{raise_value}
+use Rattle.rr_eval.specs.Several.{several}
 use Rattle.rr_eval.specs.Rescuing.{taken_by, restored, fitted, tried_classes, tried, rescue_rule, ensure_rule}
 use Rattle.rr_tree.specs.Nodes.{trees_before}
 
@@ -69,13 +78,21 @@ resumed c (Body loop) stand = in_loop (Go (tree_at c.nodes loop) Ret) (λ w. Go 
 resumed c Break stand = on_value (λ v. Ret (Broke v))
 resumed c Next stand = on_value (λ v. Ret (Done v))
 resumed c Return stand = on_value (return_rule c.context)
-resumed c Back stand = back
+resumed c (Back by) stand = back by
 resumed c Past stand = past
 resumed c (Rest end count) stand = on_value (λ v. statements (trees_before c.nodes end count))
 resumed c (Argument target end count base) stand = on_value (λ v. values (trees_before c.nodes end count) (stand ++ v ∷ []) (finish c.context target))
+resumed c (Receiver target end count base) stand = on_value (λ v. arguments c.context (trees_before c.nodes end count) (stand ++ v ∷ []) (finish c.context target))
+resumed c (Item target end count base) stand = on_value (λ v. spread c.context (is_splat (tree_at c.nodes (end - suc count))) v (λ ws. arguments c.context (trees_before c.nodes end count) (stand ++ ws) (finish c.context target)))
+resumed c (Several end count) stand = on_value (several c.context (trees_before c.nodes end count))
 resumed c (Key next end count base) stand = on_value (λ v. values (tree_at c.nodes next ∷ pair_parts (trees_before c.nodes end count)) (stand ++ v ∷ []) (finish c.context (DoTarget MakeHash)))
 resumed c (Value end count base) stand = on_value (λ v. values (pair_parts (trees_before c.nodes end count)) (stand ++ v ∷ []) (finish c.context (DoTarget MakeHash)))
+resumed c (AskingFrame a) stand = λ answer. bind (back Method answer) (heard (asked_on c.context a stand))
+resumed c (AskedFrame a) stand = heard (asked_on c.context a stand)
 resumed c (Element b end) stand = on_value (λ v. values (tree_at c.nodes b ∷ trees_before c.nodes end 1) (v ∷ []) (finish c.context (Call SetIndex)))
+resumed c (Read u) stand = on_value (updated u.how (tree_at c.nodes u.value) (put c.context u.place stand))
+resumed c (Combine x) stand = on_value (λ w. Evaluate (CallPart x.callee x.old (w ∷ [])) (on_value (put c.context x.place stand)))
+resumed c (Put place base) stand = on_value (put c.context place stand)
 resumed c (Rescue end count otherwise) stand = rescue_rule c.context (trees_before c.nodes end count) (tree_at c.nodes otherwise)
 resumed c (Class r) stand = on_value (λ v. fitted c.context r.exception v (taker c r) (behind_class c r))
 resumed c (Handling old) stand = restored old
@@ -83,36 +100,62 @@ resumed c (Ensure part) stand = ensure_rule (tree_at c.nodes part)
 resumed c (Kept a) stand = on_value (λ v. Ret a)
 resumed c (Round i) stand = turned c.context (iterated c i stand)
 resumed c (Turned i) stand = on_value (λ v. continued_with c.context (iterated c i stand) v)
+resumed c (Initialize x) stand = on_value (λ v. initialized c.context (initializer c.context x.class) (option_map (tree_at c.nodes) x.block) v (passed_on x.passing stand))
 
 -- the frame that waits for the answer of a body that has a frame of its own
 abbrev pub waits_for : Entry → Frame
-waits_for (OfMethod call) = Back
+waits_for (OfMethod call) = Back call.value
 waits_for (OfBlock home) = Past
 
 -- the values that stand for a frame, and those below
 abbrev pub stand_of : Frame → List Ref → List Ref
 stand_of (Argument target end count base) held = drop base held
+stand_of (Receiver target end count base) held = drop base held
+stand_of (Item target end count base) held = drop base held
 stand_of (Key next end count base) held = drop base held
 stand_of (Value end count base) held = drop base held
+stand_of (AskingFrame a) held = drop a.base held
+stand_of (AskedFrame a) held = drop a.base held
+stand_of (Read u) held = drop u.base held
+stand_of (Combine x) held = drop x.base held
+stand_of (Put place base) held = drop base held
 stand_of (Round i) held = drop i.base held
 stand_of (Turned i) held = drop i.base held
+stand_of (Initialize x) held = drop x.base held
 stand_of _ held = []
 
 abbrev pub below_of : Frame → List Ref → List Ref
 below_of (Argument target end count base) held = take base held
+below_of (Receiver target end count base) held = take base held
+below_of (Item target end count base) held = take base held
 below_of (Key next end count base) held = take base held
 below_of (Value end count base) held = take base held
+below_of (AskingFrame a) held = take a.base held
+below_of (AskedFrame a) held = take a.base held
+below_of (Read u) held = take u.base held
+below_of (Combine x) held = take x.base held
+below_of (Put place base) held = take base held
 below_of (Round i) held = take i.base held
 below_of (Turned i) held = take i.base held
+below_of (Initialize x) held = take x.base held
 below_of _ held = held
 
 -- a new frame has no values yet
 abbrev pub IsNew : Frame → ℕ → Type 0
 IsNew (Argument target end count base) n = base ≡ n
+IsNew (Receiver target end count base) n = base ≡ n
+IsNew (Item target end count base) n = base ≡ n
 IsNew (Key next end count base) n = base ≡ n
 IsNew (Value end count base) n = base ≡ n
+-- one that asks has values
+IsNew (AskingFrame a) n = ⊥
+IsNew (AskedFrame a) n = ⊥
+IsNew (Read u) n = u.base ≡ n
+IsNew (Combine x) n = x.base ≡ n
+IsNew (Put place base) n = base ≡ n
 IsNew (Round i) n = i.base ≡ n
 IsNew (Turned i) n = i.base ≡ n
+IsNew (Initialize x) n = x.base ≡ n
 IsNew _ n = Unit {0}
 
 -- what the frames, the topmost first, do with an outcome, and what comes after all of them
@@ -123,10 +166,19 @@ unwind c (f ∷ fs) held o = unwind c fs (below_of f held) (after o (λ a. runs_
 -- where a frame's values begin
 abbrev pub base_of : Frame → ℕ
 base_of (Argument target end count base) = base
+base_of (Receiver target end count base) = base
+base_of (Item target end count base) = base
 base_of (Key next end count base) = base
 base_of (Value end count base) = base
+-- with those that are asked
+base_of (AskingFrame a) = a.base + a.count
+base_of (AskedFrame a) = a.base + a.count
+base_of (Read u) = u.base
+base_of (Combine x) = x.base
+base_of (Put place base) = base
 base_of (Round i) = i.base
 base_of (Turned i) = i.base
+base_of (Initialize x) = x.base
 base_of _ = 0
 
 -- each frame's values begin within those that its upper frames leave
@@ -140,9 +192,17 @@ IsRareFrame Negation = Unit {0}
 IsRareFrame (Right op w) = Unit {0}
 IsRareFrame (SetField x) = Unit {0}
 IsRareFrame (Argument target end count base) = Unit {0}
+IsRareFrame (Receiver target end count base) = Unit {0}
+IsRareFrame (Item target end count base) = Unit {0}
+IsRareFrame (Several end count) = Unit {0}
 IsRareFrame (Key next end count base) = Unit {0}
 IsRareFrame (Value end count base) = Unit {0}
+IsRareFrame (AskingFrame a) = Unit {0}
+IsRareFrame (AskedFrame a) = Unit {0}
 IsRareFrame (Element b end) = Unit {0}
+IsRareFrame (Read u) = Unit {0}
+IsRareFrame (Combine x) = Unit {0}
+IsRareFrame (Put place base) = Unit {0}
 IsRareFrame (Rescue end count otherwise) = Unit {0}
 IsRareFrame (Class r) = Unit {0}
 IsRareFrame (Handling old) = Unit {0}
@@ -150,6 +210,7 @@ IsRareFrame (Ensure part) = Unit {0}
 IsRareFrame (Kept a) = Unit {0}
 IsRareFrame (Round i) = Unit {0}
 IsRareFrame (Turned i) = Unit {0}
+IsRareFrame (Initialize x) = Unit {0}
 IsRareFrame _ = ⊥
 
 -- what comes first
@@ -160,6 +221,8 @@ start c (Give a) s n = Ended a s n
 start c (Throw e) s n = runs_in c (throw c.context e) s n
 start c (Raise class message) s n = runs_in c (raise class message) s n
 start c (RaiseValue v message) s n = runs_in c (raise_value c.context v message) s n
+start c (New class) s n = runs_in c (making c.context class (λ v. Ret (Gave v))) s n
+start c (Send callee v w) s n = evaluates c (CallPart callee v (list_of w)) s n
 
 -- the tree that comes first, where one does
 abbrev pub first_tree : List Node → Control → Option Tree

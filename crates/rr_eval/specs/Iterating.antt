@@ -1,23 +1,27 @@
 -- Built-in methods that call their block again and again.
-use Rattle.std.specs.Prelude.{◌+◌, ◌-◌, ◌^◌, ◌+ℤ◌, ℕ, ℤ, nat_lt, drop, pos, int_lt, List, [], ◌∷◌, ◌++◌, slice_index_or, codes, Bool, true, false, if◌then◌else◌, Option, Some, None, Result, Ok, Err}
+use Rattle.std.specs.Prelude.{◌+◌, ◌-◌, ◌^◌, ◌+ℤ◌, ℕ, ℤ, nat_eq, nat_lt, not, ◌&&◌, drop, pos, int_lt, List, [], ◌∷◌, ◌++◌, slice_index_or, codes, Bool, true, false, if◌then◌else◌, Option, Some, None, Result, Ok, Err}
+use Rattle.std.specs.Option.{option_map}
 use Rattle.std.specs.Ordering.{int_eq}
 use Rattle.std.specs.Str.{bytes_eq}
 use Rattle.rr_base.specs.declared.name.Sym.{Sym}
 use Rattle.rr_base.specs.declared.name.TheConstants.ClassId.{STOP_ITERATION}
 use Rattle.rr_frames.specs.Frames.{list_of}
 use Rattle.rr_frames.specs.declared.activation.Shape.{Shape}
+use Rattle.rr_space.specs.Graph.{Value}
 use Rattle.rr_space.specs.Kinds.{class_at, kind_at}
 use Rattle.rr_space.specs.declared.kind.Kind.{Kind}
-use Rattle.rr_space.specs.declared.kind.Kind.TheVariants.{Array}
+use Rattle.rr_space.specs.declared.kind.Kind.TheVariants.{Array, Hash}
 use Rattle.rr_space.specs.Tables.{Table}
 use Rattle.rr_space.specs.declared.refer.Ref.{Ref}
 use Rattle.rr_space.specs.declared.refer.Ref.TheVariants.{Nil, Int}
 use Rattle.rr_tree.specs.Tree.{Tree, nil, block}
 use Rattle.rr_builtin.specs.Acts.{Outcome, Gives, Raises, Lacks}
 use Rattle.rr_tree.specs.Ancestors.{descends}
+use Rattle.rr_builtin.specs.Elements.{names_of_hash}
 use Rattle.rr_builtin.specs.Iterations.{iteration_named, refusal}
+use Rattle.rr_builtin.specs.Kinds.{is_shell_kind}
 use Rattle.rr_builtin.specs.Objects.{is_truthy}
-use Rattle.rr_builtin.specs.Rounds.{Read, Reads, ReadsNone, IsMoved, item_at}
+use Rattle.rr_builtin.specs.Rounds.{Read, Reads, ReadsNone, IsMoved, item_at, pair_at, is_own_hash}
 use Rattle.rr_builtin.specs.declared.problem.Problem.TheVariants.{Moved, OutOfRange}
 use Rattle.rr_eval.specs.declared.call.Task.TheVariants.{MakeArray}
 use Rattle.rr_builtin.specs.declared.iterations.Iteration.{Iteration}
@@ -27,13 +31,13 @@ use Rattle.rr_eval.specs.declared.call_stack.Entry.TheVariants.{OfBlock}
 use Rattle.rr_eval.specs.declared.iterating.Ahead.{Ahead}
 use Rattle.rr_eval.specs.declared.iterating.Ahead.TheVariants.{Another, Finished, Stopped}
 use Rattle.rr_eval.specs.declared.iterating.Visits.{Visits}
-use Rattle.rr_eval.specs.declared.iterating.Visits.TheVariants.{Times, Upto, Elements, Nothing, Forever}
+use Rattle.rr_eval.specs.declared.iterating.Visits.TheVariants.{Times, Upto, Elements, Pairs, Nothing, Forever}
 use Rattle.rr_eval.specs.declared.problem.Answer.{Answer}
 use Rattle.rr_eval.specs.declared.problem.Answer.TheVariants.{Gave, Raised, Broke, Done, Returned, Ends}
 use Rattle.rr_eval.specs.declared.problem.Problem.{Problem}
 use Rattle.rr_eval.specs.declared.problem.Problem.TheVariants.{BuiltIn, MissingMethod, NoBlock, NotHere}
 use Rattle.rr_eval.specs.Basics.{throw, settled, not_here}
-use Rattle.rr_eval.specs.Blocks.{running, without_frame, opened, given_values, to_given, shape_in}
+use Rattle.rr_eval.specs.Blocks.{running, without_frame, opened, spread_with, given_values, to_given, shape_in}
 use Rattle.rr_eval.specs.Context.{Context}
 use Rattle.rr_eval.specs.Responses.{own_of, receiver_of}
 use Rattle.rr_eval.specs.Script.{Script, Ret, Evaluate, TurnPart, See, Do, Ask, Does, Iterated, Memory}
@@ -65,12 +69,42 @@ element_ahead i place (Reads x) = element_given i place (own_of x)
 element_ahead i place ReadsNone = Finished
 element_ahead i place IsMoved = Stopped (BuiltIn Moved)
 
+-- a key of a hash and its value, which come before what stands behind the key; what is published is not given yet
+abbrev pub pair_given : ℕ → Ref → Option Ref → Ahead
+pair_given place key None = Stopped NotHere
+pair_given place key (Some v) = Another (Some key) (Some v) (Pairs (place + 1))
+
+-- a key that the hash no longer has is passed over
+abbrev pub pair_read : ℕ → Ref → Read → Option Ahead
+pair_read place key (Reads x) = Some (pair_given place key (own_of x))
+pair_read place key ReadsNone = None
+pair_read place key IsMoved = Some (Stopped (BuiltIn Moved))
+
+-- why a hash is visited no further: it was moved away, or published
+abbrev pub left_hash : Kind → Problem
+left_hash k = if is_shell_kind k then BuiltIn Moved else NotHere
+
+-- the turn over a key, where there is one
+abbrev pub pair_turn : Table → Ref → ℕ → Ref → Option Ahead
+pair_turn t v place key = if is_own_hash t v then pair_read place key (pair_at [] t v key) else Some (Stopped (left_hash (kind_at t v)))
+
+abbrev pub turn_or : Ahead → Option Ahead → Ahead
+turn_or others None = others
+turn_or others (Some a) = a
+
+-- the first turn over keys, of which the first has the place
+abbrev pub pairs_ahead : Table → Ref → ℕ → List Ref → Ahead
+pairs_ahead t v place [] = Finished
+pairs_ahead t v place (key ∷ keys) = turn_or (pairs_ahead t v (place + 1) keys) (pair_turn t v place key)
+
 -- What is ahead of an iteration: another turn, what its block is given, and what is visited after it; or nothing more; or an exception. The
--- receiver stands first among the values that stand for it, and the bound of `upto` behind it. An array is read by place, as it is then.
+-- receiver stands first among the values that stand for it, and the bound of `upto` or the keys of a hash behind it. An array is read by
+-- place, as it is then, and a hash by key.
 abbrev pub ahead : Visits → List Ref → Table → Ahead
 ahead (Times here) vs t = below here (slice_index_or vs 0 Nil)
 ahead (Upto here) vs t = up_to here (slice_index_or vs 1 Nil)
 ahead (Elements i place) vs t = element_ahead i place (item_at t (slice_index_or vs 0 Nil) place)
+ahead (Pairs place) vs t = pairs_ahead t (slice_index_or vs 0 Nil) place (drop place vs)
 ahead Nothing vs t = Finished
 ahead Forever vs t = Another None None Forever
 
@@ -157,6 +191,7 @@ abbrev pub visits_of : Iteration → Ref → Kind → Option Visits
 visits_of iterations.Times v k = Some (Times (pos 0))
 visits_of iterations.Upto (Int z) k = Some (Upto z)
 visits_of i v Array = Some (Elements i 0)
+visits_of iterations.Each v Hash = Some (Pairs 1)
 visits_of i v k = None
 
 -- why a call does not begin, where `missing` is the problem of a method that the receiver lacks
@@ -176,13 +211,36 @@ beginning x None vs t = Err NotHere
 beginning x (Some i) [] t = Err NotHere
 beginning x (Some i) (v ∷ vs) t = begins (MissingMethod (callees.Name x) (receiver_of t v)) (refusal t v i vs) (visits_of i v (kind_at t v))
 
-abbrev pub begun : Context → Result Visits Problem → List Ref → Tree → Script
-begun c (Ok visits) vs b = continued c (record { visits = visits; stand = vs; block = b })
-begun c (Err problem) vs b = throw c problem
+-- values, where none of them is published
+abbrev pub own_values : List Value → Option (List Ref)
+own_values [] = Some []
+own_values (x ∷ xs) = spread_with (own_of x) (own_values xs)
+
+-- whether a block takes a key and its value apart: one parameter would have an array of both
+abbrev pub takes_pairs : Option Shape → Bool
+takes_pairs (Some shape) = not (nat_eq shape.parameters 1)
+takes_pairs None = false
+
+-- the key objects that a hash has now; where they are not given yet, none
+abbrev pub keys_given : Option Shape → Table → Ref → Option (List Ref)
+keys_given shape t v = if takes_pairs shape && is_own_hash t v then own_values (names_of_hash t v) else None
+
+-- the values that stand for an iteration that begins: its receiver and its arguments, and then the keys of a hash
+abbrev pub stand_of_first : Visits → Option Shape → List Ref → Table → Option (List Ref)
+stand_of_first (Pairs place) shape vs t = option_map (λ keys. vs ++ keys) (keys_given shape t (slice_index_or vs 0 Nil))
+stand_of_first visits shape vs t = Some vs
+
+abbrev pub begun_over : Context → Visits → Tree → Option (List Ref) → Script
+begun_over c visits b None = throw c NotHere
+begun_over c visits b (Some stand) = continued c (record { visits = visits; stand = stand; block = b })
+
+abbrev pub begun : Context → Result Visits Problem → List Ref → Tree → Table → Script
+begun c (Ok visits) vs b t = begun_over c visits b (stand_of_first visits (shape_in (Some b)) vs t)
+begun c (Err problem) vs b t = throw c problem
 
 -- a call of an iteration with a block
 abbrev pub iteration_rule : Context → Sym → Tree → List Ref → Script
-iteration_rule c x b vs = See (λ m. begun c (beginning x (iteration_named (slice_index_or c.symbols x.0 [])) vs m.table) vs b)
+iteration_rule c x b vs = See (λ m. begun c (beginning x (iteration_named (slice_index_or c.symbols x.0 [])) vs m.table) vs b m.table)
 
 -- `loop`
 abbrev pub is_loop : List ℕ → Bool

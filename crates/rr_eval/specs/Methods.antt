@@ -1,6 +1,11 @@
--- The methods that a program defines.
-use Rattle.std.specs.Prelude.{ℕ, suc, nat_eq, Bool, true, false, List, [], ◌∷◌, map, slice_index_or, Option, Some, None, if◌then◌else◌}
-use Rattle.rr_tree.specs.Tree.{Tree, nil, method, tree_at}
+-- The methods that a program defines, as a call finds them.
+use Rattle.std.specs.Prelude.{ℕ, Option, Some, None}
+use Rattle.std.specs.Option.{option_map}
+use Rattle.rr_base.specs.declared.name.ClassId.{ClassId}
+use Rattle.rr_base.specs.declared.name.Sym.{Sym}
+use Rattle.rr_tree.specs.Tree.{Tree, method, reader, writer}
+use Rattle.rr_tree.specs.Methods.{Held, nearest_method}
+use Rattle.rr_tree.specs.declared.method_table.MethodName.{MethodName}
 use Rattle.rr_tree.specs.declared.program.Program.{Program}
 
 -- a method: its name, how many parameters and how many variables it has, and its statements
@@ -10,45 +15,33 @@ pub record Method : Type 0 where
   pub size : ℕ
   pub body : Tree
 
--- the method that a tree defines
-abbrev pub method_in : Tree → Option Method
-method_in (method x scope parameters size body) = Some (record { name = x; parameters = parameters; size = size; body = body })
-method_in _ = None
+-- what a call of a method does: it evaluates statements, or reads or writes an instance variable
+pub data Work : Type 0 where
+  Runs : (method : Method) → Work
+  Reads : (name : Sym) → Work
+  Writes : (name : Sym) → Work
+  -- the tree defines no method
+  NoWork : Work
 
--- whether it has the name
-abbrev pub is_named : ℕ → Option Method → Bool
-is_named x None = false
-is_named x (Some m) = nat_eq x m.name
+-- a method, and the class in which it stands
+pub record Callable : Type 0 where
+  pub class : ClassId
+  pub work : Work
 
--- the place of the last of several trees, where that of those behind the first one is known
-abbrev pub place_before : Option ℕ → Bool → Option ℕ
-place_before (Some i) first = Some (suc i)
-place_before None true = Some 0
-place_before None false = None
+abbrev pub work_of : Tree → Work
+work_of (method x scope parameters size body) = Runs (record { name = x; parameters = parameters; size = size; body = body })
+work_of (reader x) = Reads (record { 0 = x })
+work_of (writer x) = Writes (record { 0 = x })
+work_of _ = NoWork
 
--- the place of the last of these trees that defines a method of the name
-abbrev pub last_place : ℕ → List Tree → Option ℕ
-last_place x [] = None
-last_place x (t ∷ ts) = place_before (last_place x ts) (is_named x (method_in t))
+abbrev pub callable : Held → Callable
+callable h = record { class = record { 0 = h.class }; work = work_of h.tree }
 
--- the method that the tree at a place defines
-abbrev pub method_at : List Tree → Option ℕ → Option Method
-method_at ts None = None
-method_at ts (Some i) = method_in (slice_index_or ts i nil)
+-- the method of a class, or of the nearest class above it
+abbrev pub method_in : Program → ClassId → MethodName → Option Callable
+method_in p class x = option_map callable (nearest_method p class.0 x)
 
--- the definitions of a program
-abbrev pub definitions_of : Program → List Tree
-definitions_of p = map (tree_at p.nodes.items) p.definitions.items
-
--- the method that a program defines by a name: the last definition counts
-abbrev pub own_method : Program → ℕ → Option Method
-own_method p x = method_at (definitions_of p) (last_place x (definitions_of p))
-
--- whether a tree defines a method, and whether all of them do
-abbrev pub is_method : Option Method → Bool
-is_method None = false
-is_method (Some m) = true
-
-abbrev pub are_methods : List Tree → Bool
-are_methods [] = true
-are_methods (t ∷ ts) = if is_method (method_in t) then are_methods ts else false
+-- the same, where a class stands above
+abbrev pub found_above : Program → Option ℕ → MethodName → Option Callable
+found_above p None x = None
+found_above p (Some class) x = option_map callable (nearest_method p class x)

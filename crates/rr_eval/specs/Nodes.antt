@@ -1,7 +1,7 @@
 -- The tree of a node, by the numbers of its parts.
 use Rattle.std.specs.Prelude.{◌+◌, ◌<◌, ◌^◌, Bool, true, false, List}
 use Rattle.rr_tree.specs.Nodes.{node_tree, trees_before}
-use Rattle.rr_tree.specs.Tree.{Tree, sequence, array, hash, pairs, interpolation, call, send, yield, rescue, clause, listed, tree_at}
+use Rattle.rr_tree.specs.Tree.{Tree, sequence, array, hash, pairs, interpolation, call, send, super, yield, rescue, clause, multiple_assign, listed, tree_at}
 use Rattle.rr_tree.specs.declared.node.Node.{Node}
 use Rattle.rr_tree.specs.declared.node.Node.TheVariants as node
 
@@ -14,9 +14,11 @@ evaluated_tree ns (node.Pairs first count) = pairs (listed (trees_before ns (fir
 evaluated_tree ns (node.Interpolation first count) = interpolation (listed (trees_before ns (first + count) count))
 evaluated_tree ns (node.Call x first count site) = call x.0 (listed (trees_before ns (first + count) count))
 evaluated_tree ns (node.Send a x first count site) = send (tree_at ns a) x.0 (listed (trees_before ns (first + count) count))
+evaluated_tree ns (node.Super first count) = super (listed (trees_before ns (first + count) count))
 evaluated_tree ns (node.Yield first count) = yield (listed (trees_before ns (first + count) count))
 evaluated_tree ns (node.Rescue a first count b) = rescue (tree_at ns a) (listed (trees_before ns (first + count) count)) (tree_at ns b)
 evaluated_tree ns (node.Clause first count a b) = clause (listed (trees_before ns (first + count) count)) (tree_at ns a) (tree_at ns b)
+evaluated_tree ns (node.MultipleAssign first count a) = multiple_assign (listed (trees_before ns (first + count) count)) (tree_at ns a)
 evaluated_tree ns n = node_tree ns n
 
 -- a node that is evaluated: no item of a list, and its own list, or its last part, ends at a number
@@ -29,11 +31,14 @@ IsEvaluated (node.Pairs first count) = first + count < 2 ^ 32
 IsEvaluated (node.Interpolation first count) = first + count < 2 ^ 32
 IsEvaluated (node.Call x first count site) = first + count < 2 ^ 32
 IsEvaluated (node.Send a x first count site) = first + count < 2 ^ 32
+IsEvaluated (node.Super first count) = first + count < 2 ^ 32
 IsEvaluated (node.Yield first count) = first + count < 2 ^ 32
 IsEvaluated (node.Rescue a first count b) = first + count < 2 ^ 32
 IsEvaluated (node.Clause first count a b) = first + count < 2 ^ 32
+IsEvaluated (node.MultipleAssign first count a) = first + count < 2 ^ 32
 IsEvaluated (node.Index a b) = b + 1 < 2 ^ 32
 IsEvaluated (node.Append a b) = b + 1 < 2 ^ 32
+IsEvaluated (node.SetAttribute a x b site) = b + 1 < 2 ^ 32
 IsEvaluated (node.SetIndex a b d) = d + 1 < 2 ^ 32
 IsEvaluated _ = Unit {0}
 
@@ -45,9 +50,13 @@ IsRareNode (node.Hash first count) = Unit {0}
 IsRareNode (node.Pairs first count) = Unit {0}
 IsRareNode (node.Interpolation first count) = Unit {0}
 IsRareNode (node.Field x) = Unit {0}
+IsRareNode (node.Global x) = Unit {0}
+IsRareNode (node.Constant path) = Unit {0}
 IsRareNode (node.Bare x site) = Unit {0}
 IsRareNode (node.Call x first count site) = Unit {0}
 IsRareNode (node.WithBlock a b) = Unit {0}
+IsRareNode (node.Super first count) = Unit {0}
+IsRareNode node.ForwardingSuper = Unit {0}
 IsRareNode (node.Yield first count) = Unit {0}
 IsRareNode _ = ⊥
 
@@ -61,6 +70,7 @@ is_unknown (node.Symbol x) = false
 is_unknown (node.Class k) = false
 is_unknown (node.Constant path) = false
 is_unknown (node.Array first count) = false
+is_unknown (node.Splat a) = false
 is_unknown (node.Hash first count) = false
 is_unknown (node.Pairs first count) = false
 is_unknown (node.Interpolation first count) = false
@@ -68,14 +78,20 @@ is_unknown (node.Local depth slot x behind) = false
 is_unknown node.Itself = false
 is_unknown (node.Field x) = false
 is_unknown (node.SetField x a) = false
+is_unknown (node.Global x) = false
+is_unknown (node.SetGlobal x a) = false
+is_unknown (node.SetConstant x a) = false
 is_unknown (node.Bare x site) = false
 is_unknown (node.Call x first count site) = false
 is_unknown (node.Send a x first count site) = false
 is_unknown (node.WithBlock a b) = false
 is_unknown (node.Block scope parameters size a) = false
+is_unknown (node.Super first count) = false
+is_unknown node.ForwardingSuper = false
 is_unknown (node.Yield first count) = false
 is_unknown (node.Index a b) = false
 is_unknown (node.Append a b) = false
+is_unknown (node.SetAttribute a x b site) = false
 is_unknown (node.SetIndex a b d) = false
 is_unknown (node.And a b) = false
 is_unknown (node.Or a b) = false
@@ -83,7 +99,9 @@ is_unknown (node.Not a) = false
 is_unknown (node.Negate a) = false
 is_unknown (node.Binary o a b) = false
 is_unknown (node.Assign depth slot x behind a) = false
+is_unknown (node.MultipleAssign first count a) = false
 is_unknown (node.OperatorAssign o a b) = false
+is_unknown (node.AppendAssign a b) = false
 is_unknown (node.OrAssign a b) = false
 is_unknown (node.AndAssign a b) = false
 is_unknown (node.Choose a b d) = false

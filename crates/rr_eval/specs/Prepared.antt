@@ -1,13 +1,55 @@
--- Where the methods of a program stand among its definitions, by the numbers of their names.
-use Rattle.std.specs.Prelude.{◌≡◌, ℕ, List, Option, None, slice_index_or}
+-- What a prepared program knows of its methods.
+use Rattle.std.specs.Prelude.{◌≡◌, ℕ, List, codes}
+use Rattle.std.specs.Option.{option_map}
+use Rattle.rr_base.specs.declared.name.Sym.{Sym}
+use Rattle.rr_tree.specs.Methods.{number_in, symbol_named}
 use Rattle.rr_tree.specs.Tree.{tree_at}
 use Rattle.rr_tree.specs.declared.node.Node.{Node}
 use Rattle.rr_tree.specs.declared.program.Program.{Program}
+use Rattle.rr_eval.specs.declared.invoke.Way.{Way as Called}
+use Rattle.rr_eval.specs.declared.operator_symbols.OperatorSymbols.{OperatorSymbols}
+use Rattle.rr_eval.specs.declared.prepared.Body.{Body}
 use Rattle.rr_eval.specs.declared.prepared.Definition.{Definition}
-use Rattle.rr_eval.specs.Methods.{Method, definitions_of, last_place}
+use Rattle.rr_eval.specs.declared.prepared.Initializer.{Initializer}
+use Rattle.rr_eval.specs.declared.prepared.Work.{Work as Kept}
+use Rattle.rr_eval.specs.declared.prepared.Work.TheVariants as kept
+use Rattle.rr_eval.specs.Blocks.{Way}
+use Rattle.rr_eval.specs.Methods.{Method, Work, Runs, Reads, Writes, NoWork, Callable}
 
-abbrev pub method_of : List Node → Definition → Method
-method_of ns d = record { name = d.name.0; parameters = d.shape.parameters; size = d.shape.size; body = tree_at ns d.body }
+abbrev pub method_of : List Node → Body → Method
+method_of ns b = record { name = b.name.0; parameters = b.shape.parameters; size = b.shape.size; body = tree_at ns b.node }
 
-abbrev pub FindsMethods : Program → List (Option ℕ) → Type 0
-FindsMethods p places = (x : ℕ) → slice_index_or places x None ≡ last_place x (definitions_of p)
+abbrev pub work_in : List Node → Kept → Work
+work_in ns (kept.Run b) = Runs (method_of ns b)
+work_in ns (kept.Read x) = Reads x
+work_in ns (kept.Write x) = Writes x
+work_in ns kept.Nothing = NoWork
+
+abbrev pub callable_of : List Node → Definition → Callable
+callable_of ns d = record { class = d.class; work = work_in ns d.work }
+
+abbrev pub initializer_of : List Node → Initializer → Callable
+initializer_of ns i = record { class = i.class; work = Runs (method_of ns i.body) }
+
+-- how a method is called, where the block that stands beside the call is that of a node
+abbrev pub way_in : List Node → Called → Way
+way_in ns w = record { receiver = w.receiver; block = w.handed; tree = option_map (tree_at ns) w.block; value = w.value }
+
+-- each symbol is the first one with these bytes
+pub record AreSymbolsOf (p : Program) (s : OperatorSymbols) : Type 0 where
+  pub add : number_in s.add ≡ symbol_named p (codes "+")
+  pub subtract : number_in s.subtract ≡ symbol_named p (codes "-")
+  pub multiply : number_in s.multiply ≡ symbol_named p (codes "*")
+  pub divide : number_in s.divide ≡ symbol_named p (codes "/")
+  pub remainder : number_in s.remainder ≡ symbol_named p (codes "%")
+  pub less : number_in s.less ≡ symbol_named p (codes "<")
+  pub less_or_equal : number_in s.less_or_equal ≡ symbol_named p (codes "<=")
+  pub greater : number_in s.greater ≡ symbol_named p (codes ">")
+  pub greater_or_equal : number_in s.greater_or_equal ≡ symbol_named p (codes ">=")
+  pub compare : number_in s.compare ≡ symbol_named p (codes "<=>")
+  pub equal : number_in s.equal ≡ symbol_named p (codes "==")
+  pub opposite : number_in s.opposite ≡ symbol_named p (codes "-@")
+  pub index : number_in s.index ≡ symbol_named p (codes "[]")
+  pub append : number_in s.append ≡ symbol_named p (codes "<<")
+  pub set_index : number_in s.set_index ≡ symbol_named p (codes "[]=")
+  pub initialize : number_in s.initialize ≡ symbol_named p (codes "initialize")

@@ -1,46 +1,51 @@
 -- The rules of the language, each on a whole tree.
-use Rattle.std.specs.Prelude.{ℕ, ◌+◌, nat_eq, zero, suc, Bool, true, false, not, List, [], ◌∷◌, if◌then◌else◌, slice_index_or, length, Option, Some, None, codes, ◌++◌}
-use Rattle.rr_base.specs.Classes.{class_id}
+use Rattle.std.specs.Prelude.{ℕ, ◌+◌, zero, suc, Bool, true, false, not, List, [], ◌∷◌, if◌then◌else◌, slice_index_or, length, Option, Some, None, codes, ◌++◌}
 use Rattle.rr_space.specs.Tables.{Table}
 use Rattle.rr_space.specs.declared.refer.Ref.{Ref}
 use Rattle.rr_space.specs.declared.refer.Ref.TheVariants.{Nil, Truth, Int, Symbol, Class}
-use Rattle.rr_tree.specs.Tree.{Tree, tree_at, nil, truth, int, text, symbol, class_named as class_tree, constant, array, hash, pairs, pair, interpolation, itself as self_tree, field, set_field, local, bare, call, send, index, set_index, append, logical_and, logical_or, logical_not, negate, binary, assign, choose, repeat, sequence, with_block, block, yield, break, next, return, rescue, ensure, operator_assign, or_assign, and_assign}
-use Rattle.rr_tree.specs.declared.node.BinaryOperator.{BinaryOperator}
+use Rattle.rr_tree.specs.Tree.{Tree, tree_at, nil, truth, int, text, symbol, class_named as class_tree, constant, array, hash, pairs, pair, interpolation, itself as self_tree, field, set_field, set_attribute, super, forwarding_super, local, bare, call, send, index, set_index, append, logical_and, logical_or, logical_not, negate, binary, assign, choose, repeat, sequence, with_block, block, yield, break, next, return, rescue, ensure, operator_assign, append_assign, or_assign, and_assign, global, set_global, set_constant, splat, multiple_assign}
 use Rattle.std.specs.Option.{option_map}
 use Rattle.rr_base.specs.ClassNames.{class_named}
 use Rattle.rr_builtin.specs.Objects.{is_truthy}
 use Rattle.rr_eval.specs.declared.call.Callee.TheVariants as callees
 use Rattle.rr_eval.specs.declared.call.Target.{Target}
-use Rattle.rr_eval.specs.declared.call.Target.TheVariants.{Do as DoTarget, Call, Own, Yield, Raise, Iterate}
+use Rattle.rr_eval.specs.declared.call.Target.TheVariants.{Do as DoTarget, Call, Update, Own, Super, Yield, Raise, Iterate}
 use Rattle.rr_eval.specs.declared.call.Task.{Task}
 use Rattle.rr_eval.specs.declared.call.Task.TheVariants.{MakeArray, MakeText, MakeHash}
 use Rattle.rr_eval.specs.declared.problem.Answer.{Answer}
 use Rattle.rr_eval.specs.declared.problem.Answer.TheVariants.{Gave, Raised, Broke, Done, Returned, Ends}
-use Rattle.rr_eval.specs.declared.problem.Problem.TheVariants.{BuiltIn, MissingMethod, MissingName, MissingConstant}
-use Rattle.rr_builtin.specs.declared.problem.Problem.TheVariants.{Count}
-use Rattle.rr_builtin.specs.declared.problem.Receiver.TheVariants.{Instance}
+use Rattle.rr_eval.specs.declared.problem.Problem.TheVariants.{MissingName}
 use Rattle.rr_frames.specs.Frames.{Frame as Activated, laid, no_frame}
-use Rattle.rr_eval.specs.declared.call_stack.Variable.{Variable}
-use Rattle.rr_eval.specs.Variables.{read_variable}
-use Rattle.rr_eval.specs.Methods.{Method, own_method, definitions_of, are_methods}
-use Rattle.rr_eval.specs.Script.{State, Script, Ret, Go, See, Ask, Does, Part, TreePart, TurnPart, Memory, World, Outcome, Ended, Spent, Waits, Evaluation, run}
-use Rattle.rr_builtin.specs.Iterations.{iteration_named}
-use Rattle.rr_builtin.specs.declared.iterations.Iteration.{Iteration}
+use Rattle.rr_eval.specs.Methods.{Callable}
+use Rattle.rr_eval.specs.Callees.{method_of}
+use Rattle.rr_builtin.specs.Kinds.{has}
+use Rattle.rr_builtin.specs.declared.method.BuiltInMethod.{BuiltInMethod}
+use Rattle.rr_space.specs.Kinds.{kind_at}
+use Rattle.rr_space.specs.declared.kind.Kind.{Kind}
+use Rattle.rr_eval.specs.Script.{State, Script, Ret, Go, See, Ask, Does, Part, TreePart, TurnPart, CallPart, Memory, World, Outcome, Ended, Spent, Waits, Evaluation, run}
 use Rattle.rr_eval.specs.declared.iterating.Visits.TheVariants.{Forever}
 use Rattle.rr_eval.specs.Iterating.{continued, turned, body_in, iteration_rule, is_loop}
+use Rattle.rr_eval.specs.Above.{super_rule, parameters_of}
 use Rattle.rr_eval.specs.Fields.{field_rule, set_field_rule}
+use Rattle.rr_eval.specs.declared.updating.Update.TheVariants as updates
+use Rattle.rr_eval.specs.Updating.{place_of, accessed, operator_rule, update_rule}
+use Rattle.rr_eval.specs.Globals.{global_rule, set_global_rule}
 use Rattle.rr_eval.specs.Values.{goes_on}
 use Rattle.rr_eval.specs.Operators.{make}
 use Rattle.rr_eval.specs.Tasks.{task_named}
 use Rattle.rr_eval.specs.Awaited.{is_awaited, is_raise, is_block_given}
 use Rattle.rr_eval.specs.Raising.{raise_rule}
 use Rattle.rr_eval.specs.Rescuing.{rescue_rule, ensure_rule}
-use Rattle.rr_base.specs.declared.class.BuiltInClass.{BuiltInClass}
+use Rattle.rr_eval.specs.Speaking.{task_rule}
 use Rattle.rr_base.specs.declared.name.Sym.{Sym}
-use Rattle.rr_base.specs.declared.name.TheConstants.ClassId.{OBJECT, RACTOR}
+use Rattle.rr_builtin.specs.declared.iterations.Iteration.{Iteration}
 use Rattle.rr_tree.specs.declared.node.Path.TheVariants.{Plain, Ractor as InRactor}
 pub use Rattle.rr_eval.specs.Context.{Context}
-pub use Rattle.rr_eval.specs.Basics.{items, on_value, with_value, read, write, raise, throw, settled, send_to, operation, negation, on_table, statements, values, variable_of, not_here}
+pub use Rattle.rr_eval.specs.Basics.{items, on_value, with_value, read, write, raise, throw, settled, send_to, on_table, statements, values, variable_of, not_here}
+pub use Rattle.rr_eval.specs.Dispatch.{operation, part_called, negation, method_for, run_method, send_rule, dispatched, way_of, iteration_of}
+pub use Rattle.rr_eval.specs.Constants.{own_class, constant_rule, plain_constant}
+pub use Rattle.rr_eval.specs.Splats.{spread, arguments}
+use Rattle.rr_eval.specs.Several.{several}
 pub use Rattle.rr_eval.specs.Blocks.{running, with_frame, without_frame, returned, back, passed, past, left_by, opened, framed, entered, called, yield_to, yield_rule, given_rule, is_outside, return_rule, activation_in}
 
 -- the key and the value of a pair; any other part of a hash stands for both
@@ -67,23 +72,32 @@ ended (Done v) = Gave v
 ended (Returned v) = Gave v
 ended (Ends number v) = Gave v
 
--- A call of a method of the program takes as many values as the method has parameters, and a block, where it is given one. It is a call on
--- `self`.
-abbrev pub own_rule : Context → Sym → Option Method → Option Tree → List Ref → Script
-own_rule c x None b vs = throw c (MissingMethod (callees.Name x) (Instance OBJECT))
-own_rule c x (Some m) b vs = if nat_eq (length vs) m.parameters then See (λ k. entered c (running k.calls.frames).itself OBJECT m b vs k.calls) else throw c (BuiltIn (Count (length vs) m.parameters m.parameters))
+-- a call of a name on `self`
+abbrev pub self_rule : Context → Sym → Option Tree → List Ref → Script
+self_rule c x b vs = See (λ m. send_rule c (callees.Name x) b (running m.calls.frames).itself vs)
 
--- what is done with values: they are printed or put into an array, a text or a hash, or the first of them is sent the others, or a method of
--- the program is called with them, with a block or without one, or they are given to a block, or they say what is raised, or the first of them is the receiver
--- of an iteration
+-- A call of the first of these values with the others, and with a block: of a method of the program, or of an iteration.
+abbrev pub block_sent : Context → Option Callable → Option Iteration → Sym → Tree → Ref → List Ref → Script
+block_sent c None (Some i) x b v vs = iteration_rule c x b (v ∷ vs)
+block_sent c f i x b v vs = dispatched c f (callees.Name x) (Some b) v vs
+
+abbrev pub sent_block : Context → Sym → Tree → List Ref → Script
+sent_block c x b [] = Ret (Gave Nil)
+sent_block c x b (v ∷ vs) = See (λ m. block_sent c (method_for c m.table v (callees.Name x)) (iteration_of c (callees.Name x)) x b v vs)
+
+-- what is done with values: they are printed or put into an array, a text or a hash, or the first of them is sent the others, or `self` is sent
+-- them, with a block or without one, or they are given to a block, or they say what is raised, or the first of them is sent the others with a
+-- block; or they say what is read and then assigned to
 abbrev pub finish : Context → Target → List Ref → Script
-finish c (DoTarget task) vs = See (λ m. Ask (Does task vs m.table) (settled c))
+finish c (DoTarget task) vs = task_rule c task vs
 finish c (Call callee) [] = Ret (Gave Nil)
-finish c (Call callee) (v ∷ vs) = send_to c callee v vs
-finish c (Own x b) vs = own_rule c x (own_method c.program x.0) (option_map (tree_at c.program.nodes.items) b) vs
+finish c (Call callee) (v ∷ vs) = send_rule c callee None v vs
+finish c (Update getter setter how b) vs = accessed c getter setter how (tree_at c.program.nodes.items b) vs
+finish c (Own x b) vs = self_rule c x (option_map (tree_at c.program.nodes.items) b) vs
+finish c Super vs = super_rule c vs
 finish c Yield vs = yield_rule c vs
 finish c Raise vs = raise_rule c vs
-finish c (Iterate x b) vs = iteration_rule c x (tree_at c.program.nodes.items b) vs
+finish c (Iterate x b) vs = sent_block c x (tree_at c.program.nodes.items b) vs
 
 -- what a name prints by: `puts`, `p` and `print`
 abbrev pub printing : Context → ℕ → Option Task
@@ -105,57 +119,47 @@ loops c x = is_loop (slice_index_or c.symbols x [])
 abbrev pub awaited : Context → ℕ → Bool
 awaited c x = is_awaited (slice_index_or c.symbols x [])
 
+-- the method of the program that a name calls on `self`
+abbrev pub own_method : Context → ℕ → Memory → Option Callable
+own_method c x m = method_for c m.table (running m.calls.frames).itself (callees.Name (record { 0 = x }))
+
+-- whether values of a kind have a built-in method of the name
+abbrev pub has_built_in : Kind → Option BuiltInMethod → Bool
+has_built_in k None = false
+has_built_in k (Some m) = has k m
+
+-- a bare name that is none of a method of the program and none of those that only `self` has
+abbrev pub name_rule : Context → Sym → Script
+name_rule c x =
+    See (λ m. if has_built_in (kind_at m.table (running m.calls.frames).itself) (method_of c (callees.Name x)) then dispatched c None (callees.Name x) None (running m.calls.frames).itself [] else throw c (MissingName x))
+
 -- a bare name: one of a method of the program, one that prints, `raise`, `block_given?`, or another
-abbrev pub bare_rule : Context → Option Method → Option Task → Bool → Bool → Sym → Script
-bare_rule c (Some m) task raises asks x = finish c (Own x None) []
+abbrev pub bare_rule : Context → Option Callable → Option Task → Bool → Bool → Sym → Script
+bare_rule c (Some f) task raises asks x = See (λ m. run_method c f (way_of (callees.Name x) None (running m.calls.frames).itself []) [])
 bare_rule c None (Some task) raises asks x = finish c (DoTarget task) []
 bare_rule c None None true asks x = finish c Raise []
 bare_rule c None None false true x = given_rule
-bare_rule c None None false false x = throw c (MissingName x)
+bare_rule c None None false false x = name_rule c x
 
--- a constant is a built-in class, one behind `Ractor::` a class of that name; no other is set
-abbrev pub constant_rule : Context → Option BuiltInClass → Sym → Script
-constant_rule c (Some k) x = if nat_eq (class_id k).0 RACTOR.0 then not_here c else Ret (Gave (Class (class_id k)))
-constant_rule c None x = throw c (MissingConstant x)
-
--- A call with arguments: of a method of the program, of a name that prints, of `raise`, or of a method that is not evaluated
--- yet. No method has another name, so that its call raises, once its arguments are evaluated.
-abbrev pub call_rule : Context → Option Method → Option Task → Bool → Bool → Sym → List Tree → Script
-call_rule c (Some m) task raises later x ts = values ts [] (finish c (Own x None))
-call_rule c None (Some task) raises later x ts = values ts [] (finish c (DoTarget task))
-call_rule c None None true later x ts = values ts [] (finish c Raise)
+-- A call with arguments: of a method of the program, of a name that prints, of `raise`, of one that is not evaluated yet, or of a built-in
+-- method of `self`.
+abbrev pub call_rule : Context → Option Callable → Option Task → Bool → Bool → Sym → List Tree → Script
+call_rule c (Some f) task raises later x ts = arguments c ts [] (finish c (Own x None))
+call_rule c None (Some task) raises later x ts = arguments c ts [] (finish c (DoTarget task))
+call_rule c None None true later x ts = arguments c ts [] (finish c Raise)
 call_rule c None None false true x ts = not_here c
-call_rule c None None false false x ts = values ts [] (finish c (Own x None))
+call_rule c None None false false x ts = arguments c ts [] (finish c (Own x None))
 
 -- A call with a block, of a method of the program or of `loop`. No other call without a receiver takes a block yet.
-abbrev pub block_call_rule : Context → Option Method → Bool → Sym → List Tree → Tree → Script
-block_call_rule c (Some m) loop x ts b = values ts [] (own_rule c x (own_method c.program x.0) (Some b))
+abbrev pub block_call_rule : Context → Option Callable → Bool → Sym → List Tree → Tree → Script
+block_call_rule c (Some f) loop x ts b = arguments c ts [] (self_rule c x (Some b))
 block_call_rule c None true x [] b = continued c (record { visits = Forever; stand = []; block = b })
 block_call_rule c None loop x ts b = not_here c
 
--- A call with a block and a receiver: of an iteration.
-abbrev pub block_send_rule : Context → Option Iteration → Tree → Sym → List Tree → Tree → Script
-block_send_rule c (Some i) a x ts b = values (a ∷ ts) [] (iteration_rule c x b)
-block_send_rule c None a x ts b = not_here c
-
 abbrev pub block_rule : Context → Tree → Tree → Script
-block_rule c (call x list) b = block_call_rule c (own_method c.program x) (loops c x) (record { 0 = x }) (items list) b
-block_rule c (send a x list) b = block_send_rule c (iteration_named (slice_index_or c.symbols x [])) a (record { 0 = x }) (items list) b
+block_rule c (call x list) b = See (λ m. block_call_rule c (own_method c x m) (loops c x) (record { 0 = x }) (items list) b)
+block_rule c (send a x list) b = with_value a (λ v. arguments c (items list) (v ∷ []) (sent_block c (record { 0 = x }) b))
 block_rule c t b = not_here c
-
--- `a op= b` is `a = a op b`
-abbrev pub update_rule : Context → BinaryOperator → Tree → Tree → Option Variable → Script
-update_rule c op a b (Some x) = with_value (binary op a b) (λ v. write x v)
-update_rule c op a b None = not_here c
-
--- `a ||= b` assigns where the variable is nil or false, and `a &&= b` where it is neither; else its value is the value
-abbrev pub or_rule : Context → Tree → Option Variable → Script
-or_rule c b (Some x) = See (λ m. let v = read_variable x m.calls.frames in if is_truthy v then Ret (Gave v) else with_value b (λ w. write x w))
-or_rule c b None = not_here c
-
-abbrev pub and_rule : Context → Tree → Option Variable → Script
-and_rule c b (Some x) = See (λ m. let v = read_variable x m.calls.frames in if is_truthy v then with_value b (λ w. write x w) else Ret (Gave v))
-and_rule c b None = not_here c
 
 -- A part of a loop, which is evaluated again: `break` ends the loop, which has its value, and `next` begins its next turn.
 abbrev pub in_loop : Script → (Ref → Script) → Answer → Script
@@ -180,34 +184,44 @@ rule c (truth b) = Ret (Gave (Truth b))
 rule c (int z) = Ret (Gave (Int z))
 rule c (symbol x) = Ret (Gave (Symbol (record { 0 = x })))
 rule c (class_tree k) = Ret (Gave (Class k))
-rule c (constant (Plain x)) = constant_rule c (class_named (slice_index_or c.symbols x.0 [])) x
+rule c (constant (Plain x)) = plain_constant c (own_class c.program x.0) x
 rule c (constant (InRactor x)) = constant_rule c (class_named (codes "Ractor::" ++ slice_index_or c.symbols x.0 [])) x
 rule c (text i) = on_table c (make c.program.freezes (slice_index_or c.texts i []))
-rule c (array list) = values (items list) [] (finish c (DoTarget MakeArray))
+rule c (array list) = arguments c (items list) [] (finish c (DoTarget MakeArray))
+-- the list in which a splat stands spreads its value
+rule c (splat a) = Go a Ret
 -- the key of each pair is evaluated before its value, and all of them before the hash is made; pairs without braces are a hash too
 rule c (hash list) = values (pair_parts (items list)) [] (finish c (DoTarget MakeHash))
 rule c (pairs list) = values (pair_parts (items list)) [] (finish c (DoTarget MakeHash))
 -- the parts of a text are evaluated from left to right, and then one text is made of what each is spoken as
-rule c (interpolation list) = values (items list) [] (finish c (DoTarget MakeText))
+rule c (interpolation list) = arguments c (items list) [] (finish c (DoTarget MakeText))
 rule c (local depth slot x behind) = read (record { depth = depth; slot = slot })
 rule c self_tree = See (λ m. Ret (Gave (running m.calls.frames).itself))
 rule c (field x) = field_rule c (record { 0 = x })
 rule c (set_field x a) = with_value a (set_field_rule c (record { 0 = x }))
-rule c (bare x) = bare_rule c (own_method c.program x) (printing c x) (raises c x) (asks_block c x) (record { 0 = x })
-rule c (call x list) = call_rule c (own_method c.program x) (printing c x) (raises c x) (awaited c x) (record { 0 = x }) (items list)
+rule c (global x) = global_rule c (record { 0 = x })
+rule c (set_global x a) = with_value a (set_global_rule c (record { 0 = x }))
+rule c (set_constant x a) = with_value a (set_global_rule c (record { 0 = x }))
+rule c (bare x) = See (λ m. bare_rule c (own_method c x m) (printing c x) (raises c x) (asks_block c x) (record { 0 = x }))
+rule c (call x list) = See (λ m. call_rule c (own_method c x m) (printing c x) (raises c x) (awaited c x) (record { 0 = x }) (items list))
 rule c (logical_and a b) = with_value a (λ v. if is_truthy v then Go b Ret else Ret (Gave v))
 rule c (logical_or a b) = with_value a (λ v. if is_truthy v then Ret (Gave v) else Go b Ret)
 rule c (logical_not a) = with_value a (λ v. Ret (Gave (Truth (not (is_truthy v)))))
-rule c (send a x list) = values (a ∷ items list) [] (finish c (Call (callees.Name (record { 0 = x }))))
+rule c (send a x list) = with_value a (λ v. arguments c (items list) (v ∷ []) (finish c (Call (callees.Name (record { 0 = x })))))
+rule c (set_attribute a x b) = values (a ∷ b ∷ []) [] (finish c (Call (callees.Setter (record { 0 = x }))))
+rule c (super list) = arguments c (items list) [] (finish c Super)
+rule c forwarding_super = See (λ m. super_rule c (parameters_of m.calls.frames))
 rule c (index a b) = values (a ∷ b ∷ []) [] (finish c (Call callees.Index))
 rule c (append a b) = values (a ∷ b ∷ []) [] (finish c (Call callees.Append))
 rule c (set_index a b d) = values (a ∷ b ∷ d ∷ []) [] (finish c (Call callees.SetIndex))
 rule c (negate a) = with_value a (negation c)
 rule c (binary op a b) = with_value a (λ v. with_value b (operation c op v))
 rule c (assign depth slot x behind a) = with_value a (λ v. write (record { depth = depth; slot = slot }) v)
-rule c (operator_assign op a b) = update_rule c op a b (variable_of a)
-rule c (or_assign a b) = or_rule c b (variable_of a)
-rule c (and_assign a b) = and_rule c b (variable_of a)
+rule c (multiple_assign list a) = with_value a (several c (items list))
+rule c (operator_assign op a b) = operator_rule c op a b (place_of a)
+rule c (append_assign a b) = update_rule c (updates.Combine callees.Append) a b (place_of a)
+rule c (or_assign a b) = update_rule c updates.Or a b (place_of a)
+rule c (and_assign a b) = update_rule c updates.And a b (place_of a)
 rule c (choose a b d) = with_value a (λ v. Go (if is_truthy v then b else d) Ret)
 -- each turn of a loop evaluates the loop again
 rule c (repeat until a b) = loop_rule until a b (Go (repeat until a b) Ret)
@@ -217,7 +231,7 @@ rule c (next a) = with_value a (λ v. Ret (Done v))
 rule c (return a) = with_value a (return_rule c)
 -- a call and its block are one step, and the values that `yield` gives are evaluated before the block is called
 rule c (with_block t b) = block_rule c t b
-rule c (yield list) = values (items list) [] (finish c Yield)
+rule c (yield list) = arguments c (items list) [] (finish c Yield)
 rule c (block x parameters size body) = Go body Ret
 rule c (rescue a list b) = Go a (rescue_rule c (items list) b)
 rule c (ensure a b) = Go a (ensure_rule b)
@@ -227,6 +241,7 @@ rule c _ = not_here c
 abbrev pub part_rule : Context → Part → Script
 part_rule c (TreePart t) = rule c t
 part_rule c (TurnPart i) = Go (body_in i.block) (turned c i)
+part_rule c (CallPart callee v vs) = part_called c callee v vs
 
 -- evaluations not deeper than `depth`, each of them one step
 abbrev pub eval : Context → World → ℕ → Evaluation
@@ -248,14 +263,9 @@ concluded (Ended a s n) = Ended (ended a) s n
 concluded (Spent s) = Spent s
 concluded (Waits s) = Waits s
 
--- what the statements of a program do, where it defines methods alone: no class is evaluated yet
-abbrev pub statements_of : Context → World → Bool → Tree → State → ℕ → Outcome
-statements_of c w true t s n = meaning c w t s n
-statements_of c w false t s n = run w (meaning_of c w) (not_here c) s n
-
--- what a program does
+-- what a program does: its definitions are there before the first of its statements
 abbrev pub begun : Context → World → Tree → State → ℕ → Outcome
-begun c w t s n = concluded (statements_of c w (are_methods (definitions_of c.program)) t s n)
+begun c w t s n = concluded (meaning c w t s n)
 
 -- the frame of a program, which stands in no method, whose variables are unset
 abbrev pub program_frame : Context → Ref → Activated
@@ -265,6 +275,6 @@ program_frame c itself = record { variables = laid 0 (length c.symbols) []; acti
 abbrev pub first_memory : Context → ℕ → Ref → Table → Memory
 first_memory c most itself table = record { calls = record { frames = program_frame c itself ∷ []; limit = most + 1 }; blocks = None ∷ []; table = table; rescuing = Nil }
 
--- A script begins with its variables unset and with nothing asked, in a table that has one object: its `self`.
+-- A script begins with its variables unset and with nothing asked, in a table that has its `self`.
 abbrev pub start_state : Context → ℕ → Ref → Table → State
 start_state c most itself table = record { memory = first_memory c most itself table; asked = [] }

@@ -25,7 +25,7 @@ use Rattle.rr_tree.specs.declared.program.Program.{Program}
 use Rattle.rr_eval.specs.declared.problem.Answer.TheVariants.{Gave, Raised}
 use Rattle.rr_eval.specs.declared.run.Outcome.{Outcome as RunOutcome}
 use Rattle.rr_eval.specs.declared.run.Outcome.TheVariants as outcomes
-use Rattle.rr_eval.specs.Calls.{call_reply}
+use Rattle.rr_eval.specs.Sharing.{called_reply, ractor_method}
 use Rattle.rr_eval.specs.Tasks.{piece_of, task_reply}
 use Rattle.rr_text.specs.Names.{names_of}
 use Rattle.rr_eval.specs.Script.{Asked, Does, Calls, Reply, World, Outcome, Ended, Spent, Waits, objects_of}
@@ -53,7 +53,7 @@ text_of c (Waits s) = text_asked c s.asked
 -- what a script that runs alone is replied: nothing is published
 abbrev pub reply_to : Context → Asked → Table → Reply
 reply_to c (Does task vs u) t = task_reply task c vs t
-reply_to c (Calls receiver callee arguments) t = call_reply c receiver callee arguments t
+reply_to c (Calls receiver callee arguments) t = called_reply c (ractor_method c receiver callee) receiver callee arguments t
 
 -- the environment of a script that runs alone: what is to be printed is printed, and a method that is called does what it does
 abbrev pub alone : Context → World
@@ -138,9 +138,10 @@ Reads source (Err fault) = Refuses source fault
 abbrev pub no_objects : ℕ → Table
 no_objects slots = record { slots = []; below = []; keys = []; limit = slots; owner = 1; next_message = 1 }
 
--- the objects of a script that begins: its `self`, which is an object of class Object without fields
+-- The objects of a script that begins are two of class Object without fields: its `self`, and the one that has its global variables and
+-- constants.
 abbrev pub first_objects : ℕ → Table
-first_objects slots = with_object (new_plain OBJECT.0) [] (no_objects slots)
+first_objects slots = with_object (new_plain OBJECT.0) [] (with_object (new_plain OBJECT.0) [] (no_objects slots))
 
 -- what a script that runs alone does within limits
 abbrev pub script_meaning : Context → Tree → Limits → Outcome

@@ -44,10 +44,12 @@ pub record Iterated : Type 0 where
   pub stand : List Ref
   pub block : Tree
 
--- what is evaluated: a tree, or a turn of an iteration, which is a call of its block with all that follows
+-- what is evaluated: a tree, or a turn of an iteration, which is a call of its block with all that follows, or a call with whose
+-- value a rule goes on
 pub data Part : Type 0 where
   TreePart : (tree : Tree) → Part
   TurnPart : (iteration : Iterated) → Part
+  CallPart : (callee : Callee) (receiver : Ref) (arguments : List Ref) → Part
 
 -- a rule: it answers, or evaluates a part and goes on with its answer, or looks at the memory and goes on, or changes the
 -- memory and goes on, or asks and goes on with the reply

@@ -11,18 +11,20 @@ use Rattle.rr_text.specs.Forms.{Names, spoken, inspected, lines, within_text}
 use Rattle.rr_text.specs.Names.{names_of}
 use Rattle.rr_builtin.specs.Acts.{MakesArray, MakesObject, performed}
 use Rattle.rr_builtin.specs.Fields.{set_field}
+use Rattle.rr_builtin.specs.Messages.{write_message}
 use Rattle.rr_builtin.specs.News.{empty_hash}
 use Rattle.rr_builtin.specs.Objects.{printed_text}
 use Rattle.rr_builtin.specs.declared.problem.Problem.{Problem as BuiltInProblem}
 use Rattle.rr_builtin.specs.declared.problem.Problem.TheVariants.{Moved, TooDeep}
 use Rattle.rr_eval.specs.declared.call.Callee.TheVariants.{SetIndex}
 use Rattle.rr_eval.specs.declared.call.Task.{Task}
-use Rattle.rr_eval.specs.declared.call.Task.TheVariants.{Puts, Inspect, Print, MakeArray, MakeText, MakeHash, SetField}
+use Rattle.rr_eval.specs.declared.call.Task.TheVariants.{Puts, Inspect, Print, MakeArray, MakeText, MakeHash, SetField, SetMessage, SetGlobal, Show}
 use Rattle.rr_eval.specs.declared.problem.Problem.TheVariants.{BuiltIn, NotHere}
 use Rattle.rr_eval.specs.declared.problem.Response.{Response}
 use Rattle.rr_eval.specs.declared.problem.Response.TheVariants.{Gives, Fails}
 use Rattle.rr_eval.specs.Calls.{call_reply, reply_with}
 use Rattle.rr_eval.specs.Context.{Context}
+use Rattle.rr_eval.specs.Globals.{globals}
 use Rattle.rr_eval.specs.Operators.{make}
 use Rattle.rr_eval.specs.Script.{Reply}
 
@@ -39,11 +41,31 @@ written_by Puts names t v = printed_text names [] lines t v
 written_by Inspect names t v = within_text (λ s. s ++ 10 ∷ []) (printed_text names [] inspected t v)
 written_by _ names t v = printed_text names [] spoken t v
 
+-- what `p` writes of a value whose class has an `inspect` of the program: the text that this gave, or else as it inspects it
+abbrev pub shown_by : Names → Table → Ref → Ref → Walked
+shown_by names t v Nil = written_by Inspect names t v
+shown_by names t v said = within_text (λ s. s ++ 10 ∷ []) (printed_text names [] spoken t said)
+
+-- the same of values and what they said, which stand by turns
+abbrev pub texts_shown : Names → Table → List Ref → List Walked
+texts_shown names t [] = []
+texts_shown names t (v ∷ []) = []
+texts_shown names t (v ∷ said ∷ vs) = shown_by names t v said ∷ texts_shown names t vs
+
+-- the values among them
+abbrev pub values_shown : List Ref → List Ref
+values_shown [] = []
+values_shown (v ∷ []) = []
+values_shown (v ∷ said ∷ vs) = v ∷ values_shown vs
+
 -- what is written of values, from left to right; `puts` of none is a line end
 abbrev pub texts_of : Task → Names → Table → List Ref → List Walked
 texts_of MakeArray names t vs = []
 texts_of MakeHash names t vs = []
 texts_of (SetField x) names t vs = []
+texts_of SetMessage names t vs = []
+texts_of Show names t vs = texts_shown names t vs
+texts_of (SetGlobal x) names t vs = []
 texts_of Puts names t [] = Wrote (10 ∷ []) ∷ []
 texts_of task names t vs = map (written_by task names t) vs
 
@@ -113,13 +135,26 @@ abbrev pub field_reply : Sym → List Ref → Table → Reply
 field_reply x (object ∷ v ∷ vs) t = reply_with NotHere t (set_field x.0 (value_of v) object t)
 field_reply x vs t = value_reply Nil t
 
+-- the second of two values becomes the message of the first one, an exception, which is given
+abbrev pub message_reply : List Ref → Table → Reply
+message_reply (exception ∷ v ∷ vs) t = reply_with NotHere t (write_message (value_of v) exception t)
+message_reply vs t = value_reply Nil t
+
+-- the value becomes a global variable, or a constant, and is given
+abbrev pub global_reply : Sym → List Ref → Table → Reply
+global_reply x (v ∷ vs) t = reply_with NotHere t (set_field x.0 (value_of v) globals t)
+global_reply x [] t = value_reply Nil t
+
 -- what a task gives, where these are the texts of the values, one after the other
 abbrev pub given_by : Task → Context → List ℕ → List Ref → Table → Reply
 given_by MakeText c s vs t = text_reply s t
 given_by MakeArray c s vs t = array_reply vs t
 given_by MakeHash c s vs t = hash_reply c vs t
 given_by Inspect c s vs t = inspected_reply vs t
+given_by Show c s vs t = inspected_reply (values_shown vs) t
 given_by (SetField x) c s vs t = field_reply x vs t
+given_by SetMessage c s vs t = message_reply vs t
+given_by (SetGlobal x) c s vs t = global_reply x vs t
 given_by _ c s vs t = value_reply Nil t
 
 abbrev pub unless_lacking : Option BuiltInProblem → Table → Reply → Reply

@@ -14,7 +14,7 @@ use Rattle.rr_eval.specs.declared.problem.Answer.{Answer}
 use Rattle.rr_eval.specs.declared.problem.Answer.TheVariants.{Gave, Raised, Broke, Done, Returned, Ends}
 use Rattle.rr_eval.specs.declared.frame.Frame.{Frame}
 use Rattle.rr_eval.specs.declared.frame.Control.{Control}
-use Rattle.rr_eval.specs.declared.frame.Control.TheVariants.{Enter, Operate, Give, Throw, Raise, RaiseValue}
+use Rattle.rr_eval.specs.declared.frame.Control.TheVariants.{Enter, Operate, Give, Throw, Raise, RaiseValue, New, Send}
 use Rattle.rr_eval.specs.declared.engine.Turn.{Turn}
 use Rattle.rr_eval.specs.declared.engine.Turn.TheVariants as turns
 use Rattle.rr_eval.specs.Acts.{IsRefusal}
@@ -72,11 +72,6 @@ abbrev pub control_of : Response → Control
 control_of (response.Gives v) = Give (Gave v)
 control_of (response.Throws e) = Give (Raised e)
 control_of (response.Fails e) = Throw e
-
--- what comes first: the statements from a node on, where no class is defined
-abbrev pub first_control : Bool → ℕ → Control
-first_control true root = Enter root
-first_control false root = Throw NotHere
 
 -- how a turn stops where all ends with an answer
 abbrev pub stop_of : Answer → Turn
@@ -142,10 +137,11 @@ pub record Replied (p : Program) (m : View) (response : Response) : Type 0 where
   pub goes : (t u : Table) (q : Asked) (h : Course) → h.world h.asked q t ≡ Some (record { response = response; table = u }) → asking_then p m t q h ≡ remaining p (answered m response) u (asking q h)
   pub none : (t : Table) (q : Asked) (h : Course) → h.world h.asked q t ≡ None → asking_then p m t q h ≡ Waits (state_of p m t (asking q h))
 
--- a `next` ends a turn of an iteration, whose frame then gets its value
+-- what ends a turn of an iteration, or a method by which a value is asked, gives a frame a value then
 abbrev pub more_of : Answer → ℕ
-more_of (Done v) = 1
-more_of _ = 0
+more_of (Gave v) = 0
+more_of (Raised e) = 0
+more_of _ = 1
 
 -- a bound on what can be done without a step
 abbrev pub waits : Control → ℕ
@@ -155,6 +151,9 @@ waits (Give a) = 2 + more_of a
 waits (Raise class message) = 3
 waits (Throw e) = 4
 waits (RaiseValue v message) = 4
+-- the object is given to the frame that waits for it at once
+waits (New class) = 1
+waits (Send callee v w) = 0
 
 abbrev pub size : View → ℕ
 size m = 3 * length m.frames + waits m.control

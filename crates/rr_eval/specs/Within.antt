@@ -9,8 +9,11 @@ use Rattle.rr_space.specs.declared.refer.Ref.{Ref}
 use Rattle.rr_space.specs.declared.refer.Ref.TheVariants.{Local, Shared}
 use Rattle.rr_text.specs.Reads.{IsReadWith}
 use Rattle.rr_eval.specs.declared.call.Call.{Call}
+use Rattle.rr_eval.specs.declared.call_stack.CallValue.{CallValue}
+use Rattle.rr_eval.specs.declared.call_stack.CallValue.TheVariants.{Other}
 use Rattle.rr_eval.specs.declared.call_stack.Entry.{Entry}
 use Rattle.rr_eval.specs.declared.call_stack.Entry.TheVariants.{OfMethod, OfBlock}
+use Rattle.rr_eval.specs.declared.invoke.Way.{Way}
 use Rattle.rr_eval.specs.declared.iterating.Ahead.{Ahead}
 use Rattle.rr_eval.specs.declared.iterating.Ahead.TheVariants.{Another, Finished, Stopped}
 use Rattle.rr_eval.specs.declared.problem.Answer.{Answer}
@@ -18,9 +21,9 @@ use Rattle.rr_eval.specs.declared.problem.Answer.TheVariants.{Gave, Raised, Brok
 use Rattle.rr_eval.specs.declared.problem.Response.{Response}
 use Rattle.rr_eval.specs.declared.problem.Response.TheVariants.{Gives, Throws, Fails}
 use Rattle.rr_eval.specs.declared.frame.Frame.{Frame}
-use Rattle.rr_eval.specs.declared.frame.Frame.TheVariants.{Right, Class, Handling, Kept}
+use Rattle.rr_eval.specs.declared.frame.Frame.TheVariants.{Right, Combine, Back, Class, Handling, Kept}
 use Rattle.rr_eval.specs.declared.frame.Control.{Control}
-use Rattle.rr_eval.specs.declared.frame.Control.TheVariants.{Give, Raise, RaiseValue}
+use Rattle.rr_eval.specs.declared.frame.Control.TheVariants.{Give, Raise, RaiseValue, Send}
 use Rattle.rr_eval.specs.declared.request.Request.{Request}
 use Rattle.rr_eval.specs.declared.request.Request.TheVariants as requests
 use Rattle.rr_eval.specs.declared.engine.Turn.{Turn}
@@ -66,13 +69,23 @@ IsResponseReached k (Fails e) = Unit {0}
 abbrev pub AreVariablesReached : Reach → Activated → Type 0
 AreVariablesReached k f = All (IsReached k) (f.activation.itself ∷ f.variables)
 
--- `self` of a call
+abbrev pub IsCallValueReached : Reach → CallValue → Type 0
+IsCallValueReached k (Other v) = IsReached k v
+IsCallValueReached k _ = Unit {0}
+
+-- the receiver of a call, and its value
+abbrev pub IsWayReached : Reach → Way → Type 0
+IsWayReached k w = IsReached k w.receiver × IsCallValueReached k w.value
+
+-- `self` of a call, and its value
 abbrev pub IsEntryReached : Reach → Entry → Type 0
-IsEntryReached k (OfMethod call) = IsReached k call.itself
+IsEntryReached k (OfMethod call) = IsReached k call.itself × IsCallValueReached k call.value
 IsEntryReached k (OfBlock home) = Unit {0}
 
 abbrev pub IsFrameReached : Reach → Frame → Type 0
 IsFrameReached k (Right op v) = IsReached k v
+IsFrameReached k (Combine x) = IsReached k x.old
+IsFrameReached k (Back by) = IsCallValueReached k by
 IsFrameReached k (Class r) = IsReached k r.exception
 IsFrameReached k (Handling old) = IsReached k old
 IsFrameReached k (Kept a) = IsAnswerReached k a
@@ -82,6 +95,7 @@ abbrev pub IsControlReached : Reach → Control → Type 0
 IsControlReached k (Give a) = IsAnswerReached k a
 IsControlReached k (Raise class message) = IsReached k message
 IsControlReached k (RaiseValue v message) = IsReached k v × All (IsReached k) (list_of message)
+IsControlReached k (Send callee v w) = IsReached k v × All (IsReached k) (list_of w)
 IsControlReached k _ = Unit {0}
 
 -- the receiver and the arguments of a call

@@ -1,6 +1,6 @@
 //! Blocks, and what `yield` gives them.
 
-ghost use Rattle.std.specs.Prelude.{◌≡◌, ◌+◌, ◌*◌, ◌<◌, ◌≤◌, ◌^◌, ℕ, [], ◌++◌, length, reverse, vec_capacity, slice_index_or, Option, None, Some, IfErr, OnOk};
+ghost use Rattle.std.specs.Prelude.{◌≡◌, ◌+◌, ◌*◌, ◌<◌, ◌≤◌, ◌^◌, ℕ, nat_eq, ◌&&◌, [], ◌∷◌, ◌++◌, length, reverse, vec_capacity, slice_index_or, Option, None, Some, IfOk, IfErr, OnOk};
 ghost use Rattle.std.specs.List.{All};
 ghost use Rattle.std.specs.Option.{option_map};
 ghost use Rattle.rr_base.specs.declared.fault.Fault.{Fault};
@@ -12,18 +12,17 @@ ghost use Rattle.rr_tree.specs.Tree.{tree_at};
 ghost use Rattle.rr_tree.specs.declared.program.Program.{Program};
 ghost use Rattle.rr_eval.specs.Blocks.{spreads, shape_in, called, called_as, yield_rule, without_frame};
 ghost use Rattle.rr_eval.specs.Frames.{below_of, base_of, stand_of, Nested};
-ghost use Rattle.rr_eval.specs.Methods.{own_method};
 ghost use Rattle.rr_eval.specs.Requests.{Course};
 ghost use Rattle.rr_builtin.specs.Iterations.{iteration_named};
 ghost use Rattle.rr_eval.specs.declared.iterating.Visits.{Visits};
 ghost use Rattle.rr_eval.specs.Iterating.{continued};
-ghost use Rattle.rr_eval.specs.Rules.{values, finish, loops, block_rule, block_call_rule, block_send_rule};
+ghost use Rattle.rr_eval.specs.Rules.{arguments, with_value, finish, loops, block_rule, block_call_rule, own_method, sent_block};
 ghost use Rattle.rr_eval.specs.Script.{Script, Do};
-ghost use Rattle.rr_eval.specs.Turns.{context_of, blocks_of, state_of, IsNested, after_script, after_values, remaining_with, Stands, size};
+ghost use Rattle.rr_eval.specs.Turns.{context_of, blocks_of, state_of, IsNested, after_script, after_values, remaining_with, Stands, size, continuing, sized};
 ghost use Rattle.rr_eval.specs.Views.{view_of};
-ghost use Rattle.rr_eval.specs.Within.{Reach, reach, AreReached, IsReached};
+ghost use Rattle.rr_eval.specs.Within.{Reach, reach, AreReached, IsReached, IsAskedReached};
 
-use crate::call::Target;
+use crate::call::{Passing, Target};
 use crate::call_stack::Entry;
 use crate::engine::Engine;
 use crate::frame::{Control, Frame, standing};
@@ -31,6 +30,7 @@ use crate::iterating::{Iterating, Visits, is_loop};
 use crate::nodes::evaluated_node;
 use crate::prepared::Prepared;
 use crate::problem::Problem;
+use crate::request::Request;
 use crate::spreading::spread;
 use rr_base::{Fault, Sym};
 use rr_frames::{Given, Shape};
@@ -66,13 +66,21 @@ pub fn spreads(space: &Space, parameters: u32, values: &[Ref], last: Option<Ref>
 
 /// The first of values, of which the last one stands apart; nil where there is none.
 pub fn first_value(values: &[Ref], last: Option<Ref>) -> Ref
-    ensures { result ≡ slice_index_or (values.now ++ list_of last) 0 Ref.Nil }
+    ensures is { result ≡ slice_index_or (values.now ++ list_of last) 0 Ref.Nil }
+    ensures within { (k : Reach) → All (IsReached k) values.now → All (IsReached k) (list_of last) → IsReached k result }
 {
     match (values, last) {
         ([first, ..], _) => *first,
         ([], Some(value)) => value,
         ([], None) => Ref::Nil,
     }
+}
+
+/// Whether a call of a name with so many arguments and a block is one of `loop`.
+fn starts_loop(program: &Program, name: Sym, count: u32) -> bool
+    ensures { result ≡ (nat_eq count 0 && loops (context_of program.now) name.0) }
+{
+    count == 0 && is_loop(program.symbol_bytes(name))
 }
 
 impl Engine {
@@ -141,7 +149,8 @@ impl Engine {
     {
         let stand = standing(&self.held, frame);
         if !spreads(space, shape.parameters, stand, last) {
-            return self.enter(frame, last, shape, Entry::OfBlock(home), None, place);
+            let entry = Entry::OfBlock(home);
+            return self.enter(frame, last, Passing::All, shape, entry, None, place);
         }
         let array = first_value(stand, last);
         match spread(self.alloc, space, array, shape.parameters as usize)? {
@@ -230,7 +239,7 @@ impl Engine {
     ) -> Result<(), Fault>
         requires small { first + count < 2 ^ 32 }
         requires nested { IsNested (view_of self.old) }
-        ensures goes { OnOk result ((h : Course) (n : ℕ) → after_script program.now (view_of self.old) space.now (values (trees_before program.now.nodes.items (first + count) count) [] (finish (context_of program.now) Target.Yield)) h n ≡ remaining_with program.now (view_of self.new) space.now h n) }
+        ensures goes { OnOk result ((h : Course) (n : ℕ) → after_script program.now (view_of self.old) space.now (arguments (context_of program.now) (trees_before program.now.nodes.items (first + count) count) [] (finish (context_of program.now) Target.Yield)) h n ≡ remaining_with program.now (view_of self.new) space.now h n) }
         ensures nested { IsNested (view_of self.new) }
         ensures within { (clusters : Option Below) → AreReached (reach (length space.now.slots) clusters) (view_of self.old) → AreReached (reach (length space.now.slots) clusters) (view_of self.new) }
         ensures left { self.new.left ≡ self.old.left }
@@ -242,12 +251,7 @@ impl Engine {
         match count {
             0 => self.yield_values(program, space, Frame::Not, None),
             _ => {
-                let frame = Frame::Argument(
-                    Target::Yield,
-                    first + count,
-                    count - 1,
-                    self.held.len(),
-                );
+                let frame = Frame::Item(Target::Yield, first + count, count - 1, self.held.len());
                 self.enter_above(frame, first);
                 Ok(())
             }
@@ -285,33 +289,35 @@ impl Engine {
         first: NodeId,
         count: u32,
         block: NodeId,
-    ) -> Result<(), Fault>
+    ) -> Result<Option<Request>, Fault>
         requires small { first + count < 2 ^ 32 }
         requires nested { IsNested (view_of self.old) }
-        ensures goes { OnOk result ((h : Course) (n : ℕ) → after_script prepared.now.program (view_of self.old) space.now (block_call_rule (context_of prepared.now.program) (own_method prepared.now.program name.0) (loops (context_of prepared.now.program) name.0) name (trees_before prepared.now.program.nodes.items (first + count) count) (tree_at prepared.now.program.nodes.items block)) h n ≡ remaining_with prepared.now.program (view_of self.new) space.now h n) }
+        ensures goes { IfOk result (λ q. (h : Course) (n : ℕ) → after_script prepared.now.program (view_of self.old) space.now (block_call_rule (context_of prepared.now.program) (own_method (context_of prepared.now.program) name.0 (state_of prepared.now.program (view_of self.old) space.now h).memory) (loops (context_of prepared.now.program) name.0) name (trees_before prepared.now.program.nodes.items (first + count) count) (tree_at prepared.now.program.nodes.items block)) h n ≡ continuing prepared.now.program (view_of self.new) space.now q h n) }
         ensures nested { IsNested (view_of self.new) }
         ensures within { (clusters : Option Below) → AreReached (reach (length space.now.slots) clusters) (view_of self.old) → AreReached (reach (length space.now.slots) clusters) (view_of self.new) }
         ensures left { self.new.left ≡ self.old.left }
         ensures err { (t : Table) → IfErr result (λ f. Stands (view_of self.old) (view_of self.new) t t f) }
-        ensures size { OnOk result (size (view_of self.new) ≤ 3 * length self.old.frames.items + 4) }
+        ensures asks { (k : Reach) → AreReached k (view_of self.old) → IfOk result (IsAskedReached k) }
+        ensures size { IfOk result (λ q. sized q (view_of self.new) ≤ 3 * length self.old.frames.items + 4) }
         ensures fault { IfErr result (λ f. f ≡ Fault.Memory) }
     {
-        let loops = is_loop(prepared.program.symbol_bytes(name));
-        match (prepared.method(name), loops, count) {
-            (Some(_), _, _) => self.open_own(prepared, name, Some(block), first, count),
-            (None, true, 0) => self.open_loop(&prepared.program, space, block),
-            _ => {
+        match self.own_method(prepared, space, name) {
+            Some(_) => self.open_own(prepared, space, name, Some(block), first, count),
+            None if starts_loop(&prepared.program, name, count) => {
+                self.open_loop(&prepared.program, space, block)?;
+                Ok(None)
+            }
+            None => {
                 self.control = Control::Throw(Problem::NotHere);
-                Ok(())
+                Ok(None)
             }
         }
     }
 
-    /// Evaluates the receiver of a call with a block, and then its arguments, where it is of an iteration. No other one takes a block yet.
+    /// Evaluates the receiver of a call with a block, and then its arguments.
     #[tactic(auto, unfolding(crate::specs::Within::AreReached))]
     fn open_block_send(
         &mut self,
-        prepared: &Prepared,
         receiver: NodeId,
         name: Sym,
         first: NodeId,
@@ -320,7 +326,7 @@ impl Engine {
     ) -> Result<(), Fault>
         requires small { first + count < 2 ^ 32 }
         requires nested { IsNested (view_of self.old) }
-        ensures goes { OnOk result ((t : Table) (h : Course) (n : ℕ) → after_script prepared.now.program (view_of self.old) t (block_send_rule (context_of prepared.now.program) (iteration_named (slice_index_or (context_of prepared.now.program).symbols name.0 [])) (tree_at prepared.now.program.nodes.items receiver) name (trees_before prepared.now.program.nodes.items (first + count) count) (tree_at prepared.now.program.nodes.items block)) h n ≡ remaining_with prepared.now.program (view_of self.new) t h n) }
+        ensures goes { OnOk result ((p : Program) (t : Table) (h : Course) (n : ℕ) → after_script p (view_of self.old) t (with_value (tree_at p.nodes.items receiver) (λ v. arguments (context_of p) (trees_before p.nodes.items (first + count) count) (v ∷ []) (sent_block (context_of p) name (tree_at p.nodes.items block)))) h n ≡ remaining_with p (view_of self.new) t h n) }
         ensures nested { IsNested (view_of self.new) }
         ensures within { (k : Reach) → AreReached k (view_of self.old) → AreReached k (view_of self.new) }
         ensures left { self.new.left ≡ self.old.left }
@@ -328,19 +334,11 @@ impl Engine {
         ensures size { OnOk result (size (view_of self.new) ≤ 3 * length self.old.frames.items + 4) }
         ensures fault { IfErr result (λ f. f ≡ Fault.Memory) }
     {
-        match prepared.iteration(name) {
-            Some(_) => {
-                self.frames.reserve(1)?;
-                let target = Target::Iterate(name, block);
-                let frame = Frame::Argument(target, first + count, count, self.held.len());
-                self.enter_above(frame, receiver);
-                Ok(())
-            }
-            None => {
-                self.control = Control::Throw(Problem::NotHere);
-                Ok(())
-            }
-        }
+        self.frames.reserve(1)?;
+        let target = Target::Iterate(name, block);
+        let frame = Frame::Receiver(target, first + count, count, self.held.len());
+        self.enter_above(frame, receiver);
+        Ok(())
     }
 
     /// Evaluates a call with a block.
@@ -351,14 +349,15 @@ impl Engine {
         space: &Space,
         call: NodeId,
         block: NodeId,
-    ) -> Result<(), Fault>
+    ) -> Result<Option<Request>, Fault>
         requires nested { IsNested (view_of self.old) }
-        ensures goes { OnOk result ((h : Course) (n : ℕ) → after_script prepared.now.program (view_of self.old) space.now (block_rule (context_of prepared.now.program) (tree_at prepared.now.program.nodes.items call) (tree_at prepared.now.program.nodes.items block)) h n ≡ remaining_with prepared.now.program (view_of self.new) space.now h n) }
+        ensures goes { IfOk result (λ q. (h : Course) (n : ℕ) → after_script prepared.now.program (view_of self.old) space.now (block_rule (context_of prepared.now.program) (tree_at prepared.now.program.nodes.items call) (tree_at prepared.now.program.nodes.items block)) h n ≡ continuing prepared.now.program (view_of self.new) space.now q h n) }
         ensures nested { IsNested (view_of self.new) }
         ensures within { (clusters : Option Below) → AreReached (reach (length space.now.slots) clusters) (view_of self.old) → AreReached (reach (length space.now.slots) clusters) (view_of self.new) }
         ensures left { self.new.left ≡ self.old.left }
         ensures err { (t : Table) → IfErr result (λ f. Stands (view_of self.old) (view_of self.new) t t f) }
-        ensures size { OnOk result (size (view_of self.new) ≤ 3 * length self.old.frames.items + 4) }
+        ensures asks { (k : Reach) → AreReached k (view_of self.old) → IfOk result (IsAskedReached k) }
+        ensures size { IfOk result (λ q. sized q (view_of self.new) ≤ 3 * length self.old.frames.items + 4) }
         ensures fault { IfErr result (λ f. f ≡ Fault.Memory) }
     {
         match evaluated_node(&prepared.program, call) {
@@ -374,10 +373,13 @@ impl Engine {
                 first,
                 count,
                 ..
-            } => self.open_block_send(prepared, receiver, name, first, count, block),
+            } => {
+                self.open_block_send(receiver, name, first, count, block)?;
+                Ok(None)
+            }
             _ => {
                 self.control = Control::Throw(Problem::NotHere);
-                Ok(())
+                Ok(None)
             }
         }
     }

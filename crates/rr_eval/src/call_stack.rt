@@ -4,7 +4,7 @@ ghost use Rattle.std.specs.Prelude.{false, ◌≡◌, ◌+◌, ◌-◌, ◌<◌,
 ghost use Rattle.std.specs.List.{All};
 ghost use Rattle.rr_base.specs.declared.fault.Fault.{Fault};
 ghost use Rattle.rr_base.specs.declared.limits.LimitKind.{LimitKind};
-ghost use Rattle.rr_frames.specs.Frames.{frame_at, laid, left, list_of, no_frame};
+ghost use Rattle.rr_frames.specs.Frames.{frame_at, laid, left, list_of, no_frame, read_at};
 ghost use Rattle.rr_eval.specs.Blocks.{activation_in, given_in, running, is_outside};
 ghost use Rattle.rr_eval.specs.Variables.{top, outer, read_variable, write_variable};
 ghost use Rattle.rr_eval.specs.Within.{Reach, IsReached, AreVariablesReached};
@@ -22,6 +22,27 @@ pub struct Variable {
     pub slot: u32,
 }
 
+/// The block that a method is given.
+#[derive(Clone, Copy)]
+pub enum Handed {
+    Nothing,
+    /// A block that stands in the frame that runs.
+    Beside,
+    /// The block that the method was given that runs.
+    Same,
+}
+
+/// What the value of a call is.
+#[derive(Clone, Copy)]
+pub enum CallValue {
+    /// That of the method.
+    Method,
+    /// Another value, whatever the method's is: a new object, or a value that is assigned.
+    Other(Ref),
+    /// Whether the method's value is nil or false.
+    Opposite,
+}
+
 /// A call of a method.
 #[derive(Clone, Copy)]
 pub struct Invocation {
@@ -33,8 +54,9 @@ pub struct Invocation {
     pub class: ClassId,
     /// How many parameters it has.
     pub parameters: u32,
-    /// Whether it is given a block.
-    pub has_block: bool,
+    /// The block that it is given.
+    pub block: Handed,
+    pub value: CallValue,
 }
 
 /// What a new frame is for.
@@ -159,6 +181,13 @@ impl CallStack {
         }
     }
 
+    /// A variable of the frame with a number; nil where there is none.
+    pub fn get(&self, number: u32, slot: u32) -> Ref
+        ensures { result ≡ read_at number slot self.now.frames }
+    {
+        self.frames.get(number, slot)
+    }
+
     /// Gives a variable another value. Nothing is done where there is no such variable.
     #[inline(always)]
     pub fn write(&mut self, variable: Variable, value: Ref)
@@ -179,12 +208,13 @@ impl CallStack {
         ensures { length self.now.frames < self.now.limit → result ≡ activation_in (Entry.OfMethod call) self.now.frames }
     {
         let number = u32::try_from(self.frames.len()).unwrap_or(u32::MAX);
-        let given = match call.has_block {
-            true => Given::Block {
+        let given = match call.block {
+            Handed::Nothing => Given::Nothing,
+            Handed::Beside => Given::Block {
                 block: number,
                 home: number.saturating_sub(1),
             },
-            false => Given::Nothing,
+            Handed::Same => self.running().given,
         };
         Activation {
             itself: call.itself,

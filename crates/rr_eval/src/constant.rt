@@ -1,20 +1,65 @@
 //! Constants, and the classes that they name.
 
-ghost use Rattle.std.specs.Prelude.{◌≡◌, ◌+◌, ◌*◌, ◌≤◌, ℕ, [], length, slice_index_or};
-ghost use Rattle.rr_space.specs.Tables.{Table};
+ghost use Rattle.std.specs.Prelude.{◌≡◌, ◌+◌, ◌*◌, ◌≤◌, ℕ, [], length, slice_index_or, position, nat_eq, Option, None, IfSome};
+ghost use Rattle.rr_tree.specs.declared.class.Class.{Class};
+ghost use Rattle.rr_space.specs.Tables.{Table, Below};
+ghost use Rattle.rr_builtin.specs.Fields.{field_at};
 ghost use Rattle.rr_tree.specs.Tree.{constant};
 ghost use Rattle.rr_eval.specs.Requests.{Course};
-ghost use Rattle.rr_eval.specs.Rules.{rule, constant_rule};
+ghost use Rattle.rr_eval.specs.Constants.{own_class, constant_rule, set_response, plain_constant};
+ghost use Rattle.rr_eval.specs.Globals.{globals};
+ghost use Rattle.rr_eval.specs.Rules.{rule};
 ghost use Rattle.rr_eval.specs.Turns.{context_of, IsNested, after_script, remaining_with, size};
 ghost use Rattle.rr_eval.specs.Views.{view_of};
-ghost use Rattle.rr_eval.specs.Within.{Reach, AreReached};
+ghost use Rattle.rr_eval.specs.Within.{Reach, reach, AreReached, IsResponseReached};
 
 use crate::engine::Engine;
 use crate::frame::Control;
-use crate::problem::{Answer, Problem};
+use crate::globals::GLOBALS;
+use crate::iterating::own;
+use crate::problem::{Answer, Problem, Response};
 use rr_base::{BuiltInClass, ClassId, Sym};
-use rr_space::Ref;
+use rr_builtin::{Problem as BuiltInProblem, Round, field_at};
+use rr_space::{Ref, Space};
 use rr_tree::{Path, Program};
+
+/// The place of the program's class that has a name.
+fn own_place(program: &Program, name: Sym) -> Option<usize>
+    ensures { result ≡ position (λ (k : Class). nat_eq k.name.0 name.0) program.now.classes.items }
+{
+    program
+        .classes
+        .iter()
+        .position(|class| class.name.0 == name.0)
+}
+
+/// The class of the program that has a name.
+fn own_class(program: &Program, name: Sym) -> Option<ClassId>
+    ensures { result ≡ own_class program.now name.0 }
+{
+    match own_place(program, name) {
+        Some(place) => match u32::try_from(place + ClassId::BUILT_IN as usize) {
+            Ok(number) => Some(ClassId(number)),
+            Err(_) => None,
+        },
+        None => None,
+    }
+}
+
+/// What a constant was set to, where it was set.
+fn set_constant(space: &Space, name: Sym) -> Option<Response>
+    ensures is { result ≡ set_response (field_at space.now globals name.0) }
+    ensures within { (clusters : Option Below) → IfSome result (IsResponseReached (reach (length space.now.slots) clusters)) }
+{
+    match field_at(space, GLOBALS, name) {
+        Round::Item(value) => match own(value) {
+            Some(value) => Some(Response::Gives(value)),
+            None => Some(Response::Fails(Problem::NotHere)),
+        },
+        Round::Absent => None,
+        Round::Moved => Some(Response::Fails(Problem::BuiltIn(BuiltInProblem::Moved))),
+    }
+}
 
 impl Engine {
     /// Evaluates a constant of this name, which is this built-in class or was never set.
@@ -29,32 +74,45 @@ impl Engine {
         ensures size { size (view_of self.new) ≤ 3 * length self.old.frames.items + 4 }
     {
         self.control = match class {
-            Some(class) => {
-                if class.id().0 == ClassId::RACTOR.0 {
-                    Control::Throw(Problem::NotHere)
-                } else {
-                    Control::Give(Answer::Gave(Ref::Class(class.id())))
-                }
-            }
+            Some(class) => Control::Give(Answer::Gave(Ref::Class(class.id()))),
             None => Control::Throw(Problem::MissingConstant(name)),
         };
     }
 
+    /// Evaluates a constant without a path that is no class of the program.
+    #[tactic(auto, unfolding(crate::specs::Within::AreReached))]
+    fn open_set(&mut self, program: &Program, space: &Space, name: Sym)
+        requires nested { IsNested (view_of self.old) }
+        ensures goes { (h : Course) (n : ℕ) → after_script program.now (view_of self.old) space.now (plain_constant (context_of program.now) None name) h n ≡ remaining_with program.now (view_of self.new) space.now h n }
+        ensures nested { IsNested (view_of self.new) }
+        ensures within { (clusters : Option Below) → AreReached (reach (length space.now.slots) clusters) (view_of self.old) → AreReached (reach (length space.now.slots) clusters) (view_of self.new) }
+        ensures left { self.new.left ≡ self.old.left }
+        ensures size { size (view_of self.new) ≤ 3 * length self.old.frames.items + 4 }
+    {
+        match set_constant(space, name) {
+            Some(response) => self.settle(response),
+            None => {
+                let class = BuiltInClass::named(program.symbol_bytes(name));
+                self.open_constant(program, class, name)
+            }
+        }
+    }
+
     /// Evaluates a constant by its path.
     #[tactic(auto, unfolding(crate::specs::Within::AreReached))]
-    pub fn open_path(&mut self, program: &Program, path: Path)
+    pub fn open_path(&mut self, program: &Program, space: &Space, path: Path)
         requires nested { IsNested (view_of self.old) }
-        ensures goes { (t : Table) (h : Course) (n : ℕ) → after_script program.now (view_of self.old) t (rule (context_of program.now) (constant path)) h n ≡ remaining_with program.now (view_of self.new) t h n }
+        ensures goes { (h : Course) (n : ℕ) → after_script program.now (view_of self.old) space.now (rule (context_of program.now) (constant path)) h n ≡ remaining_with program.now (view_of self.new) space.now h n }
         ensures nested { IsNested (view_of self.new) }
-        ensures within { (k : Reach) → AreReached k (view_of self.old) → AreReached k (view_of self.new) }
+        ensures within { (clusters : Option Below) → AreReached (reach (length space.now.slots) clusters) (view_of self.old) → AreReached (reach (length space.now.slots) clusters) (view_of self.new) }
         ensures left { self.new.left ≡ self.old.left }
         ensures size { size (view_of self.new) ≤ 3 * length self.old.frames.items + 4 }
     {
         match path {
-            Path::Plain(name) => {
-                let class = BuiltInClass::named(program.symbol_bytes(name));
-                self.open_constant(program, class, name)
-            }
+            Path::Plain(name) => match own_class(program, name) {
+                Some(class) => self.control = Control::Give(Answer::Gave(Ref::Class(class))),
+                None => self.open_set(program, space, name),
+            },
             Path::Ractor(name) => {
                 let class = BuiltInClass::named_in_ractor(program.symbol_bytes(name));
                 self.open_constant(program, class, name)

@@ -251,7 +251,7 @@ impl Engine {
         ensures nested { IsNested (view_of self.new) }
         ensures within { KeepsReach (view_of self.old) space.old (view_of self.new) space.new }
         ensures read { KeepsRead (view_of self.old) space.old space.new }
-        ensures asks { (k : Reach) → IfOk result (IsAskedReached k) }
+        ensures asks { (clusters : Option Below) → AreReached (reach (length space.old.slots) clusters) (view_of self.old) → IfOk result (IsAskedReached (reach (length space.new.slots) clusters)) }
         ensures left { OnOk result (self.new.left + 1 ≡ self.old.left) }
         ensures size { IfOk result (λ q. sized q (view_of self.new) ≤ size (view_of self.old) + 4) }
         ensures err { IfErr result (λ f. Stands (view_of self.old) (view_of self.new) space.old space.new f) }
@@ -350,6 +350,7 @@ impl Engine {
                 Control::RaiseValue(value, message) => {
                     self.raise_value(&prepared.program, space, value, message)?
                 }
+                Control::New(class) => self.make_new(prepared, space, class)?,
                 Control::Operate(op, a, b) => {
                     if self.left == 0 {
                         return Ok(Turn::StepLimit);
@@ -372,6 +373,20 @@ impl Engine {
                     if !self.visit_usual(&prepared.program, here, node, stop)
                         && let Some(request) = self.visit_rare(prepared, space, here, node)?
                     {
+                        return Ok(Turn::Ask(request));
+                    }
+                }
+                Control::Send(callee, receiver, argument) => {
+                    if self.left == 0 {
+                        return Ok(Turn::StepLimit);
+                    }
+                    if self.left <= stop {
+                        return Ok(Turn::More);
+                    }
+                    self.make_room()?;
+                    if let Some(request) = self.visit_call(
+                        prepared, space, callee, receiver, argument,
+                    )? {
                         return Ok(Turn::Ask(request));
                     }
                 }

@@ -26,6 +26,7 @@ pub fn exception_class(problem: Problem) -> BuiltInClass
         Problem::BuiltIn(problem) => problem.class(),
         Problem::MissingMethod(_, _) => BuiltInClass::NoMethodError,
         Problem::MissingName(_) | Problem::MissingConstant(_) => BuiltInClass::NameError,
+        Problem::UnknownKeyword => BuiltInClass::ArgumentError,
         Problem::NotRaisable => BuiltInClass::TypeError,
         Problem::NoBlock | Problem::Jump => BuiltInClass::LocalJumpError,
         Problem::Unhandled | Problem::NotHere => BuiltInClass::RuntimeError,

@@ -6,13 +6,14 @@ ghost use Rattle.rr_space.specs.Parts.{value_of};
 ghost use Rattle.rr_space.specs.Tables.{Table, Below};
 ghost use Rattle.rr_text.specs.Reads.{IsReadWith};
 ghost use Rattle.rr_builtin.specs.Fields.{field_at, set_field};
+ghost use Rattle.rr_builtin.specs.Messages.{write_message};
 ghost use Rattle.rr_tree.specs.declared.program.Program.{Program};
 ghost use Rattle.rr_eval.specs.declared.problem.Problem.{Problem};
 ghost use Rattle.rr_eval.specs.Calls.{reply_with};
 ghost use Rattle.rr_eval.specs.Fields.{field_response, field_rule, set_field_rule};
 ghost use Rattle.rr_eval.specs.Requests.{Course, asked_of};
 ghost use Rattle.rr_eval.specs.Serves.{IsReplied, IsRefused};
-ghost use Rattle.rr_eval.specs.Tasks.{field_reply};
+ghost use Rattle.rr_eval.specs.Tasks.{field_reply, message_reply};
 ghost use Rattle.rr_eval.specs.Turns.{context_of, IsNested, after_script, asking_with, remaining_with, size};
 ghost use Rattle.rr_eval.specs.Views.{view_of};
 ghost use Rattle.rr_eval.specs.Within.{Reach, reach, AreReached, IsReached, IsRequestReached, IsResponseReached};
@@ -24,11 +25,11 @@ use crate::problem::{Problem, Response};
 use crate::request::Request;
 use crate::serve::response_from;
 use rr_base::{Fault, Sym};
-use rr_builtin::{Problem as BuiltInProblem, Round, field_at, set_field};
+use rr_builtin::{Problem as BuiltInProblem, Round, field_at, set_field, write_message};
 use rr_space::{Ref, Space};
 
 /// What an instance variable of an object holds.
-fn read_field(space: &Space, object: Ref, name: Sym) -> Response
+pub fn read_field(space: &Space, object: Ref, name: Sym) -> Response
     ensures is { result ≡ field_response (field_at space.now object name.0) }
     ensures within { (clusters : Option Below) → IsResponseReached (reach (length space.now.slots) clusters) result }
 {
@@ -71,6 +72,29 @@ pub fn give_field(space: &mut Space, name: Sym, values: &[Ref]) -> Result<Respon
     match values {
         [object, value, ..] => write_field(space, *object, name, *value),
         _ => Ok(Response::Gives(Ref::Nil)),
+    }
+}
+
+/// Gives an exception another message, and gives the exception, where nothing is published.
+fn replace_message(space: &mut Space, exception: Ref, message: Ref) -> Response
+    requires read { IsReadWith space.old [] }
+    requires message { IsReached (reach (length space.old.slots) (Some [])) message }
+    ensures replied { IsReplied (reply_with Problem.NotHere space.old (write_message (value_of message) exception space.old)) space.old result space.new }
+{
+    let built = write_message(space, exception, message);
+    let _after = space.len();
+    response_from(Problem::NotHere, built)
+}
+
+/// The second of two values becomes the message of the first one, an exception, which is given, where nothing is published.
+pub fn give_message(space: &mut Space, values: &[Ref]) -> Response
+    requires read { IsReadWith space.old [] }
+    requires reached { All (IsReached (reach (length space.old.slots) (Some []))) values.now }
+    ensures replied { IsReplied (message_reply values.now space.old) space.old result space.new }
+{
+    match values {
+        [exception, message, ..] => replace_message(space, *exception, *message),
+        _ => Response::Gives(Ref::Nil),
     }
 }
 

@@ -5,10 +5,12 @@ ghost use Rattle.std.specs.List.{All};
 ghost use Rattle.rr_eval.specs.Frames.{base_of, stand_of, below_of};
 ghost use Rattle.rr_eval.specs.Within.{Reach, IsReached};
 
-use crate::call::Target;
-use crate::call_stack::Variable;
+use crate::asking::Asking;
+use crate::call::{Callee, Passing, Target};
+use crate::call_stack::{CallValue, Variable};
 use crate::iterating::Iterating;
 use crate::problem::{Answer, Problem};
+use crate::updating::{Combining, Place, Updating};
 use rr_base::{ClassId, Sym};
 use rr_space::Ref;
 use rr_tree::{BinaryOperator, NodeId};
@@ -25,6 +27,18 @@ pub struct Trial {
     pub end: NodeId,
     /// How many clauses stand behind this one.
     pub clauses: u32,
+}
+
+/// A new object of a class, which gets the program's `initialize`.
+#[derive(Clone, Copy)]
+pub struct Making {
+    pub class: ClassId,
+    /// The node of the block that stands beside the call.
+    pub block: Option<NodeId>,
+    /// Which of the values that stand for it are the arguments.
+    pub passing: Passing,
+    /// Where these values begin.
+    pub base: usize,
 }
 
 /// What waits for the answer of a part.
@@ -58,8 +72,8 @@ pub enum Frame {
     Next,
     /// `return`.
     Return,
-    /// The body of a method, whose variables go with it.
-    Back,
+    /// The body of a method, whose variables go with it, and what the value of the call is.
+    Back(CallValue),
     /// A block that a `yield` calls, whose variables go with it.
     Past,
     /// Statements: the number behind the last one, and how many are still to be evaluated.
@@ -67,14 +81,31 @@ pub enum Frame {
     /// Values for a target: the number behind the last part, how many parts are still to be evaluated, and where the values
     /// of the others begin.
     Argument(Target, NodeId, u32, usize),
+    /// The receiver of a call, and no splat: what `Argument` has, of the arguments.
+    Receiver(Target, NodeId, u32, usize),
+    /// A part of a list in which splats may stand: what `Argument` has, where the part is the one before those that are still to be
+    /// evaluated.
+    Item(Target, NodeId, u32, usize),
+    /// The right side of an assignment to several targets: the number behind the last target, and how many there are.
+    Several(NodeId, u32),
     /// The key of a pair of a new hash: its value, which is evaluated next, the number behind the last pair, how many pairs
     /// are still to be evaluated behind this one, and where the keys and values so far begin.
     Key(NodeId, NodeId, u32, usize),
     /// The value of a pair of a new hash: the number behind the last pair, how many pairs are still to be evaluated, and
     /// where the keys and values so far begin.
     Value(NodeId, u32, usize),
+    /// The method by which a value is asked that is printed, whose variables go with it.
+    Asking(Asking),
+    /// Values that are asked, the last one seen of which gets the answer.
+    Asked(Asking),
     /// The receiver of an assignment to an element: the index, and the number behind the value that is assigned.
     Element(NodeId, NodeId),
+    /// What an assignment reads, over the values that stand for what is assigned to.
+    Read(Updating),
+    /// The right side of an assignment with an operator, over the same values.
+    Combine(Combining),
+    /// What is assigned, and where the values begin that stand for what is assigned to.
+    Put(Place, usize),
     /// Statements that clauses rescue: the number behind the last clause, how many there are, and what follows where
     /// nothing is raised.
     Rescue(NodeId, u32, NodeId),
@@ -90,6 +121,8 @@ pub enum Frame {
     Round(Iterating),
     /// An iteration whose turn ends with the answer.
     Turned(Iterating),
+    /// A new object, which is then initialized.
+    Initialize(Making),
 }
 
 /// What comes next.
@@ -105,6 +138,10 @@ pub enum Control {
     Raise(ClassId, Ref),
     /// `raise` of a value, with a message where one is given.
     RaiseValue(Ref, Option<Ref>),
+    /// A new object of a class, for which a frame waits.
+    New(ClassId),
+    /// A call of a receiver with one argument or none, for whose value a frame waits.
+    Send(Callee, Ref, Option<Ref>),
 }
 
 /// The values that stand for a frame.
@@ -115,10 +152,18 @@ pub fn standing(held: &Vec<Ref>, frame: Frame) -> &[Ref]
 {
     match frame {
         Frame::Argument(_, _, _, base) => &held[base..],
+        Frame::Receiver(_, _, _, base) => &held[base..],
+        Frame::Item(_, _, _, base) => &held[base..],
         Frame::Key(_, _, _, base) => &held[base..],
         Frame::Value(_, _, base) => &held[base..],
+        Frame::Asking(asking) => &held[asking.base..],
+        Frame::Asked(asking) => &held[asking.base..],
+        Frame::Read(updating) => &held[updating.base..],
+        Frame::Combine(combining) => &held[combining.base..],
+        Frame::Put(_, base) => &held[base..],
         Frame::Round(iteration) => &held[iteration.base..],
         Frame::Turned(iteration) => &held[iteration.base..],
+        Frame::Initialize(making) => &held[making.base..],
         _ => &[],
     }
 }
@@ -132,10 +177,18 @@ pub fn first_standing(held: &Vec<Ref>, frame: Frame) -> usize
 {
     match frame {
         Frame::Argument(_, _, _, base) => base,
+        Frame::Receiver(_, _, _, base) => base,
+        Frame::Item(_, _, _, base) => base,
         Frame::Key(_, _, _, base) => base,
         Frame::Value(_, _, base) => base,
+        Frame::Asking(asking) => asking.base,
+        Frame::Asked(asking) => asking.base,
+        Frame::Read(updating) => updating.base,
+        Frame::Combine(combining) => combining.base,
+        Frame::Put(_, base) => base,
         Frame::Round(iteration) => iteration.base,
         Frame::Turned(iteration) => iteration.base,
+        Frame::Initialize(making) => making.base,
         _ => held.len(),
     }
 }
@@ -147,10 +200,18 @@ pub fn clear(held: &mut Vec<Ref>, frame: Frame)
 {
     match frame {
         Frame::Argument(_, _, _, base) => held.truncate(base),
+        Frame::Receiver(_, _, _, base) => held.truncate(base),
+        Frame::Item(_, _, _, base) => held.truncate(base),
         Frame::Key(_, _, _, base) => held.truncate(base),
         Frame::Value(_, _, base) => held.truncate(base),
+        Frame::Asking(asking) => held.truncate(asking.base),
+        Frame::Asked(asking) => held.truncate(asking.base),
+        Frame::Read(updating) => held.truncate(updating.base),
+        Frame::Combine(combining) => held.truncate(combining.base),
+        Frame::Put(_, base) => held.truncate(base),
         Frame::Round(iteration) => held.truncate(iteration.base),
         Frame::Turned(iteration) => held.truncate(iteration.base),
+        Frame::Initialize(making) => held.truncate(making.base),
         _ => (),
     }
 }

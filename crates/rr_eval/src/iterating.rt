@@ -1,8 +1,9 @@
 //! Iterations that run, and what is ahead of them.
 
-ghost use Rattle.std.specs.Prelude.{◌≡◌, ◌<◌, ◌^◌, ℕ, length, slice_index_or, Option, IfOk};
+ghost use Rattle.std.specs.Prelude.{◌≡◌, ◌<◌, ◌≤◌, ◌^◌, ℕ, length, slice_index_or, Option, IfOk, IfErr};
 ghost use Rattle.std.specs.List.{All};
 ghost use Rattle.rr_frames.specs.Frames.{list_of};
+ghost use Rattle.rr_base.specs.declared.fault.Fault.{Fault};
 ghost use Rattle.rr_space.specs.Parts.{value_of, IsWithin};
 ghost use Rattle.rr_space.specs.Tables.{Below};
 ghost use Rattle.rr_builtin.specs.Acts.{outcome_of};
@@ -14,12 +15,14 @@ ghost use Rattle.rr_eval.specs.Turns.{context_of, more_of};
 ghost use Rattle.rr_eval.specs.Within.{Reach, reach, IsReached, IsAheadReached, IsAnswerReached};
 
 use crate::call::Callee;
+use crate::pair_turns::pairs_ahead;
 use crate::problem::{Answer, Problem};
 use crate::serve::receiver_of;
-use rr_base::{ClassId, Sym};
+use rr_base::{ClassId, Fault, Sym};
 use rr_builtin::{Built, Iteration, Problem as BuiltInProblem, Round, is_truthy, item_at, refused};
 use rr_space::{Kind, Ref, Space};
 use rr_tree::{NodeId, Program};
+use std::alloc::Global;
 
 /// What an iteration still visits.
 #[derive(Clone, Copy)]
@@ -30,6 +33,8 @@ pub enum Visits {
     Upto(i64),
     /// The elements of an array from a place on, which an iteration gives to its block.
     Elements(Iteration, usize),
+    /// The pairs of a hash whose keys stand behind the receiver: the place of the next key among the values that stand for it.
+    Pairs(usize),
     Nothing,
     /// `loop`: nothing is given to the block, again and again.
     Forever,
@@ -41,7 +46,7 @@ pub struct Iterating {
     pub visits: Visits,
     /// The block, which stands in the frame that runs between the turns.
     pub block: NodeId,
-    /// Where the values begin that stand for it: the receiver and the arguments.
+    /// Where the values begin that stand for it: the receiver and the arguments, and then the keys of a hash.
     pub base: usize,
 }
 
@@ -194,18 +199,26 @@ pub fn kept(
 }
 
 /// What is ahead of an iteration, by the values that stand for it.
-pub fn look_ahead(space: &Space, visits: Visits, stand: &[Ref]) -> Ahead
-    ensures is { result ≡ ahead visits stand.now space.now }
-    ensures within { (clusters : Option Below) → IsAheadReached (reach (length space.now.slots) clusters) result }
+pub fn look_ahead(
+    alloc: Global,
+    space: &Space,
+    visits: Visits,
+    stand: &[Ref],
+) -> Result<Ahead, Fault>
+    ensures is { IfOk result (λ a. a ≡ ahead visits stand.now space.now) }
+    ensures within { (clusters : Option Below) → All (IsReached (reach (length space.now.slots) clusters)) stand.now → IfOk result (IsAheadReached (reach (length space.now.slots) clusters)) }
+    ensures fault { IfErr result (λ f. f ≡ Fault.Memory) }
 {
     match visits {
-        Visits::Times(here) => below(here, value_at(stand, 0)),
-        Visits::Upto(here) => up_to(here, value_at(stand, 1)),
+        Visits::Times(here) => Ok(below(here, value_at(stand, 0))),
+        Visits::Upto(here) => Ok(up_to(here, value_at(stand, 1))),
         Visits::Elements(iteration, place) => {
-            element_ahead(space, iteration, value_at(stand, 0), place)
+            let array = value_at(stand, 0);
+            Ok(element_ahead(space, iteration, array, place))
         }
-        Visits::Nothing => Ahead::Finished,
-        Visits::Forever => Ahead::Another(None, None, Visits::Forever),
+        Visits::Pairs(place) => pairs_ahead(alloc, space, place, stand),
+        Visits::Nothing => Ok(Ahead::Finished),
+        Visits::Forever => Ok(Ahead::Another(None, None, Visits::Forever)),
     }
 }
 
@@ -217,6 +230,7 @@ pub fn visits_of(iteration: Iteration, receiver: Ref, kind: Kind) -> Option<Visi
         (Iteration::Times, _, _) => Some(Visits::Times(0)),
         (Iteration::Upto, Ref::Int(first), _) => Some(Visits::Upto(first)),
         (_, _, Kind::Array) => Some(Visits::Elements(iteration, 0)),
+        (Iteration::Each, _, Kind::Hash) => Some(Visits::Pairs(1)),
         _ => None,
     }
 }
@@ -267,7 +281,7 @@ pub fn left_turn(
     answer: Answer,
 ) -> Answer
     ensures is { result ≡ left_turn (context_of program.now) visits root space.now answer }
-    ensures plain { more_of result ≡ 0 }
+    ensures more { more_of result ≤ more_of answer }
     ensures within { (k : Reach) → IsAnswerReached k answer → IsAnswerReached k result }
 {
     match (answer, visits) {

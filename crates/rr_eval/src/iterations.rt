@@ -10,6 +10,7 @@ ghost use Rattle.rr_tree.specs.declared.program.Program.{Program};
 ghost use Rattle.rr_eval.specs.declared.call_stack.Entry.{Entry};
 ghost use Rattle.rr_eval.specs.declared.frame.Control.{Control};
 ghost use Rattle.rr_eval.specs.declared.frame.Frame.{Frame};
+ghost use Rattle.rr_eval.specs.declared.iterating.Visits.{Visits};
 ghost use Rattle.rr_eval.specs.declared.problem.Answer.{Answer};
 ghost use Rattle.rr_eval.specs.Blocks.{spreads, shape_in, opened};
 ghost use Rattle.rr_eval.specs.Frames.{below_of, base_of, stand_of, iterated, Nested};
@@ -83,6 +84,7 @@ impl Engine {
         ensures nested { OnOk result (IsNested (view_of self.new)) }
         ensures within { (k : Reach) → AreReached k (view_of self.old) → AreReached k (view_of self.new) }
         ensures asks { (k : Reach) → AreReached k (view_of self.old) → IfOk result (IsAskedReached k) }
+        ensures pairs { (place : ℕ) → iteration.visits ≡ Visits.Pairs place → IfOk result (λ q. q ≡ None) }
         ensures left { self.new.left ≡ self.old.left }
         ensures err { (t : Table) → IfErr result (λ f. Stands (view_of self.old) (view_of self.new) t t f) }
         ensures size { IfOk result (λ q. sized q (view_of self.new) ≤ 3 * length self.old.frames.items + 4) }
@@ -244,6 +246,7 @@ impl Engine {
         ensures nested { OnOk result (IsNested (view_of self.new)) }
         ensures within { (clusters : Option Below) → AreReached (reach (length space.now.slots) clusters) (view_of self.old) → AreReached (reach (length space.now.slots) clusters) (view_of self.new) }
         ensures asks { (k : Reach) → AreReached k (view_of self.old) → IfOk result (IsAskedReached k) }
+        ensures pairs { (place : ℕ) → iteration.visits ≡ Visits.Pairs place → IfOk result (λ q. q ≡ None) }
         ensures left { self.new.left ≡ self.old.left }
         ensures err { (t : Table) → IfErr result (λ f. Stands (view_of self.old) (view_of self.new) t t f) }
         ensures size { IfOk result (λ q. sized q (view_of self.new) ≤ 3 * length self.old.frames.items + 4) }
@@ -251,7 +254,8 @@ impl Engine {
         ensures fault { IfErr result (λ f. f ≡ Fault.Memory) }
     {
         let stand = standing(&self.held, Frame::Turned(iteration));
-        match look_ahead(space, iteration.visits, stand) {
+        let ahead = look_ahead(self.alloc, space, iteration.visits, stand)?;
+        match ahead {
             Ahead::Another(first, last, visits) => {
                 let next = Iterating {
                     visits,
@@ -299,7 +303,7 @@ impl Engine {
                     visits,
                     ..iteration
                 };
-                self.go_on(&prepared.program, space, begun)
+                self.begin_visits(&prepared.program, space, begun)
             }
             Err(problem) => {
                 self.refuse(Frame::Turned(iteration), problem);

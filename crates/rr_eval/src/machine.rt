@@ -2,7 +2,6 @@
 
 ghost use Rattle.std.specs.Prelude.{◌≡◌, ◌<◌, ℕ, List, [], ◌∷◌, length, Option, None, IfOk, IfErr, suc};
 ghost use Rattle.rr_base.specs.declared.fault.Fault.{Fault};
-ghost use Rattle.rr_eval.specs.Methods.{are_methods, definitions_of};
 ghost use Rattle.std.specs.List.{All};
 ghost use Rattle.rr_space.specs.Tables.{Table, Below};
 ghost use Rattle.rr_space.specs.declared.refer.Ref.{Ref};
@@ -19,7 +18,7 @@ ghost use Rattle.rr_eval.specs.declared.problem.Problem.{Problem};
 ghost use Rattle.rr_eval.specs.declared.problem.Answer.{Answer};
 ghost use Rattle.rr_eval.specs.Changes.{Changes};
 ghost use Rattle.rr_eval.specs.Within.{Reach, reach, AreReached, AreVariablesReached, AreWithin, IsControlReached, IsReached, IsResponseReached, IsTurnReached, IsTurnWithin, KeepsReach, KeepsRead};
-ghost use Rattle.rr_eval.specs.Turns.{context_of, first_control, remaining, answered, Turned, Replied, Falls};
+ghost use Rattle.rr_eval.specs.Turns.{context_of, remaining, answered, Turned, Replied, Falls};
 
 use crate::call_stack::CallStack;
 use crate::engine::{Engine, Turn};
@@ -54,17 +53,6 @@ impl Model for Machine {
     ghost invariant = { λ m. IsNested (view_of m.engine) };
 }
 
-/// What comes first: the statements of a program, where it defines methods alone.
-fn first_control(prepared: &Prepared) -> Control
-    ensures is { result ≡ first_control (are_methods (definitions_of prepared.now.program)) prepared.now.program.root }
-    ensures within { (k : Reach) → IsControlReached k result }
-{
-    match prepared.simple {
-        true => Control::Enter(prepared.program.root),
-        false => Control::Throw(Problem::NotHere),
-    }
-}
-
 /// The frame of a program, whose variables are unset, where so many methods may be called in one another.
 fn first_calls(alloc: Global, program: &Program, most: u32, itself: Ref) -> Result<CallStack, Fault>
     ensures calls { IfOk result (λ calls. (t : Table) → record { calls = calls; blocks = None ∷ []; table = t; rescuing = Ref.Nil } ≡ first_memory (context_of program.now) most itself t) }
@@ -90,8 +78,6 @@ fn first_blocks(alloc: Global) -> Result<Vec<Option<NodeId>>, Fault>
 impl Machine {
     /// A machine that has the whole program still to do, whose `self` is given, within limits, of which it takes the steps and
     /// the frames. The only fault is `Memory`.
-    ///
-    /// No class is evaluated yet: a program that defines one raises RuntimeError at once.
     #[tactic(auto, unfolding(crate::specs::Within::AreReached))]
     pub fn new(
         alloc: Global,
@@ -105,7 +91,7 @@ impl Machine {
         ensures fault { IfErr result (λ f. f ≡ Fault.Memory) }
     {
         let engine = Engine {
-            control: first_control(prepared),
+            control: Control::Enter(prepared.program.root),
             frames: Vec::new(alloc),
             held: Vec::new(alloc),
             calls: first_calls(alloc, &prepared.program, limits.frames, itself)?,

@@ -1,9 +1,9 @@
 //! What a node does first.
 
-ghost use Rattle.std.specs.Prelude.{◌≡◌, ◌+◌, ◌-◌, ◌*◌, ◌<◌, ◌≤◌, ◌^◌, ℕ, List, [], ◌∷◌, true, length, slice_index_or, vec_capacity, None, IfOk, IfErr, IsTrue, IsFalse, OnOk};
+ghost use Rattle.std.specs.Prelude.{◌≡◌, ◌+◌, ◌-◌, ◌*◌, ◌<◌, ◌≤◌, ◌^◌, ℕ, [], ◌∷◌, true, false, length, slice_index_or, vec_capacity, Option, None, Some, IfOk, IfErr, IsTrue, IsFalse};
 ghost use Rattle.rr_base.specs.declared.fault.Fault.{Fault};
-ghost use Rattle.rr_space.specs.Tables.{Table};
-ghost use Rattle.rr_tree.specs.Tree.{tree_at, constant};
+ghost use Rattle.rr_space.specs.Tables.{Table, Below};
+ghost use Rattle.rr_tree.specs.Tree.{tree_at};
 ghost use Rattle.rr_tree.specs.declared.node.Node.{Node};
 ghost use Rattle.rr_tree.specs.declared.program.Program.{Program};
 ghost use Rattle.rr_eval.specs.declared.frame.Control.{Control};
@@ -11,17 +11,15 @@ ghost use Rattle.rr_eval.specs.Acts.{Passes};
 ghost use Rattle.rr_eval.specs.Script.{Go, objects_of};
 ghost use Rattle.rr_eval.specs.Requests.{Course, Adds};
 ghost use Rattle.rr_eval.specs.Changes.{Changes};
-ghost use Rattle.rr_eval.specs.Methods.{own_method};
 ghost use Rattle.rr_eval.specs.Operators.{make};
-ghost use Rattle.rr_eval.specs.Rules.{rule, statements, values, on_table, finish, printing, raises, asks_block, awaited, bare_rule, call_rule, constant_rule};
+ghost use Rattle.rr_eval.specs.Rules.{rule, statements, values, arguments, on_table, finish};
 ghost use Rattle.rr_tree.specs.Nodes.{trees_before};
 ghost use Rattle.rr_eval.specs.Nodes.{evaluated_tree, IsEvaluated, IsRareNode, is_unknown};
 ghost use Rattle.rr_eval.specs.Frames.{resumed, IsNew};
 ghost use Rattle.rr_eval.specs.Turns.{context_of, code_of, IsNested, after_script, remaining_with, continuing, Stands, size, sized};
 ghost use Rattle.rr_eval.specs.Views.{view_of};
-ghost use Rattle.rr_eval.specs.Within.{Reach, AreReached, AreWithin, IsFrameReached, IsAskedReached, KeepsReach, KeepsRead};
+ghost use Rattle.rr_eval.specs.Within.{Reach, reach, AreReached, AreWithin, IsFrameReached, IsAskedReached, KeepsReach, KeepsRead};
 
-use crate::awaited::{is_awaited, is_raise};
 use crate::call::{Arguments, Callee, Target, Task};
 use crate::call_stack::Variable;
 use crate::engine::{Engine, push_within};
@@ -30,9 +28,10 @@ use crate::operator::make;
 use crate::prepared::Prepared;
 use crate::problem::{Answer, Problem};
 use crate::request::Request;
-use rr_base::{ClassId, Fault, Sym};
+use crate::updating::Update;
+use rr_base::Fault;
 use rr_space::{Ref, Space};
-use rr_tree::{Node, NodeId, Path, Program};
+use rr_tree::{Node, NodeId, Program};
 use std::alloc::{AllocError, Global};
 
 /// A copy of a text literal; empty past the table.
@@ -42,22 +41,6 @@ fn literal(alloc: Global, program: &Program, i: u32) -> Result<Vec<u8>, AllocErr
     match program.texts.get(i as usize) {
         Some(text) => Vec::from_slice(alloc, text.as_slice()),
         None => Ok(Vec::new(alloc)),
-    }
-}
-
-/// What a name prints by: `puts`, `p` and `print`.
-fn printing(program: &Program, name: Sym) -> Option<Task>
-    ensures { result ≡ printing (context_of program.now) name.0 }
-{
-    let bytes = program.symbol_bytes(name);
-    if bytes == b"puts".as_slice() {
-        Some(Task::Puts)
-    } else if bytes == b"p".as_slice() {
-        Some(Task::Inspect)
-    } else if bytes == b"print".as_slice() {
-        Some(Task::Print)
-    } else {
-        None
     }
 }
 
@@ -155,7 +138,7 @@ impl Engine {
     }
 
     /// Evaluates values, the last `count` parts before `first + count`, with which a task is done.
-    fn open_values(
+    pub fn open_values(
         &mut self,
         task: Task,
         first: NodeId,
@@ -163,7 +146,7 @@ impl Engine {
     ) -> Result<Option<Request>, Fault>
         requires small { first + count < 2 ^ 32 }
         requires nested { IsNested (view_of self.old) }
-        ensures goes { IfOk result (λ q. (p : Program) (t : Table) (h : Course) (n : ℕ) → after_script p (view_of self.old) t (values (trees_before p.nodes.items (first + count) count) [] (finish (context_of p) (Target.Do task))) h n ≡ continuing p (view_of self.new) t q h n) }
+        ensures goes { IfOk result (λ q. (p : Program) (t : Table) (h : Course) (n : ℕ) → after_script p (view_of self.old) t (arguments (context_of p) (trees_before p.nodes.items (first + count) count) [] (finish (context_of p) (Target.Do task))) h n ≡ continuing p (view_of self.new) t q h n) }
         ensures nested { IsNested (view_of self.new) }
         ensures within { (k : Reach) → AreReached k (view_of self.old) → AreReached k (view_of self.new) }
         ensures left { self.new.left ≡ self.old.left }
@@ -176,142 +159,13 @@ impl Engine {
             0 => Ok(Some(Request::Do(task, Arguments::Without))),
             _ => {
                 self.frames.reserve(1)?;
-                let frame = Frame::Argument(
+                let frame = Frame::Item(
                     Target::Do(task),
                     first + count,
                     count - 1,
                     self.held.len(),
                 );
                 self.enter_above(frame, first);
-                Ok(None)
-            }
-        }
-    }
-
-    /// Evaluates values, the last `count` parts before `first + count`, with which the program's method of a name is called. It
-    /// is given the block of a node, where there is one.
-    pub fn open_own(
-        &mut self,
-        prepared: &Prepared,
-        name: Sym,
-        block: Option<NodeId>,
-        first: NodeId,
-        count: u32,
-    ) -> Result<(), Fault>
-        requires small { first + count < 2 ^ 32 }
-        requires nested { IsNested (view_of self.old) }
-        ensures goes { OnOk result ((t : Table) (h : Course) (n : ℕ) → after_script prepared.now.program (view_of self.old) t (values (trees_before prepared.now.program.nodes.items (first + count) count) [] (finish (context_of prepared.now.program) (Target.Own name block))) h n ≡ remaining_with prepared.now.program (view_of self.new) t h n) }
-        ensures nested { IsNested (view_of self.new) }
-        ensures within { (k : Reach) → AreReached k (view_of self.old) → AreReached k (view_of self.new) }
-        ensures left { self.new.left ≡ self.old.left }
-        ensures err { (t : Table) → IfErr result (λ f. Stands (view_of self.old) (view_of self.new) t t f) }
-        ensures size { OnOk result (size (view_of self.new) ≤ 3 * length self.old.frames.items + 4) }
-        ensures fault { IfErr result (λ f. f ≡ Fault.Memory) }
-    {
-        self.frames.reserve(1)?;
-        match count {
-            0 => self.invoke(prepared, name, block, Frame::Not, None),
-            _ => {
-                let frame = Frame::Argument(
-                    Target::Own(name, block),
-                    first + count,
-                    count - 1,
-                    self.held.len(),
-                );
-                self.enter_above(frame, first);
-                Ok(())
-            }
-        }
-    }
-
-    /// Evaluates a call with arguments of `raise`, or of a name that is no method's. Such a call raises, once its arguments are
-    /// evaluated.
-    #[tactic(auto, unfolding(crate::specs::Within::AreReached))]
-    fn open_missing(
-        &mut self,
-        prepared: &Prepared,
-        name: Sym,
-        first: NodeId,
-        count: u32,
-    ) -> Result<Option<Request>, Fault>
-        requires small { first + count < 2 ^ 32 }
-        requires nested { IsNested (view_of self.old) }
-        ensures goes { IfOk result (λ q. (t : Table) (h : Course) (n : ℕ) → after_script prepared.now.program (view_of self.old) t (call_rule (context_of prepared.now.program) None None (raises (context_of prepared.now.program) name.0) (awaited (context_of prepared.now.program) name.0) name (trees_before prepared.now.program.nodes.items (first + count) count)) h n ≡ continuing prepared.now.program (view_of self.new) t q h n) }
-        ensures nested { IsNested (view_of self.new) }
-        ensures within { (k : Reach) → AreReached k (view_of self.old) → AreReached k (view_of self.new) }
-        ensures left { self.new.left ≡ self.old.left }
-        ensures asks { (k : Reach) → IfOk result (IsAskedReached k) }
-        ensures err { (t : Table) → IfErr result (λ f. Stands (view_of self.old) (view_of self.new) t t f) }
-        ensures size { IfOk result (λ q. sized q (view_of self.new) ≤ 3 * length self.old.frames.items + 4) }
-        ensures fault { IfErr result (λ f. f ≡ Fault.Memory) }
-    {
-        if is_raise(prepared.program.symbol_bytes(name)) {
-            return match self.open_raise(first, count) {
-                Ok(()) => Ok(None),
-                Err(fault) => Err(fault),
-            };
-        }
-        if is_awaited(prepared.program.symbol_bytes(name)) {
-            self.control = Control::Throw(Problem::NotHere);
-            return Ok(None);
-        }
-        match self.open_own(prepared, name, None, first, count) {
-            Ok(()) => Ok(None),
-            Err(fault) => Err(fault),
-        }
-    }
-
-    /// Evaluates a call with arguments: of a method of the program, of a name that prints, of `raise`, or of another, which raises.
-    #[tactic(auto, unfolding(crate::specs::Within::AreReached))]
-    fn open_call(
-        &mut self,
-        prepared: &Prepared,
-        name: Sym,
-        first: NodeId,
-        count: u32,
-    ) -> Result<Option<Request>, Fault>
-        requires small { first + count < 2 ^ 32 }
-        requires nested { IsNested (view_of self.old) }
-        ensures goes { IfOk result (λ q. (t : Table) (h : Course) (n : ℕ) → after_script prepared.now.program (view_of self.old) t (call_rule (context_of prepared.now.program) (own_method prepared.now.program name.0) (printing (context_of prepared.now.program) name.0) (raises (context_of prepared.now.program) name.0) (awaited (context_of prepared.now.program) name.0) name (trees_before prepared.now.program.nodes.items (first + count) count)) h n ≡ continuing prepared.now.program (view_of self.new) t q h n) }
-        ensures nested { IsNested (view_of self.new) }
-        ensures within { (k : Reach) → AreReached k (view_of self.old) → AreReached k (view_of self.new) }
-        ensures left { self.new.left ≡ self.old.left }
-        ensures asks { (k : Reach) → IfOk result (IsAskedReached k) }
-        ensures err { (t : Table) → IfErr result (λ f. Stands (view_of self.old) (view_of self.new) t t f) }
-        ensures size { IfOk result (λ q. sized q (view_of self.new) ≤ 3 * length self.old.frames.items + 4) }
-        ensures fault { IfErr result (λ f. f ≡ Fault.Memory) }
-    {
-        match (prepared.method(name), printing(&prepared.program, name)) {
-            (Some(_), _) => match self.open_own(prepared, name, None, first, count) {
-                Ok(()) => Ok(None),
-                Err(fault) => Err(fault),
-            },
-            (None, Some(task)) => self.open_values(task, first, count),
-            (None, None) => self.open_missing(prepared, name, first, count),
-        }
-    }
-
-    /// Evaluates a bare name: that of a method of the program, one that prints, `raise`, or one that is missing.
-    #[tactic(auto, unfolding(crate::specs::Within::AreReached))]
-    fn open_bare(&mut self, prepared: &Prepared, name: Sym) -> Result<Option<Request>, Fault>
-        requires nested { IsNested (view_of self.old) }
-        ensures goes { IfOk result (λ q. (t : Table) (h : Course) (n : ℕ) → after_script prepared.now.program (view_of self.old) t (bare_rule (context_of prepared.now.program) (own_method prepared.now.program name.0) (printing (context_of prepared.now.program) name.0) (raises (context_of prepared.now.program) name.0) (asks_block (context_of prepared.now.program) name.0) name) h n ≡ continuing prepared.now.program (view_of self.new) t q h n) }
-        ensures nested { IsNested (view_of self.new) }
-        ensures within { (k : Reach) → AreReached k (view_of self.old) → AreReached k (view_of self.new) }
-        ensures left { self.new.left ≡ self.old.left }
-        ensures asks { (k : Reach) → IfOk result (IsAskedReached k) }
-        ensures err { (t : Table) → IfErr result (λ f. Stands (view_of self.old) (view_of self.new) t t f) }
-        ensures size { IfOk result (λ q. sized q (view_of self.new) ≤ 3 * length self.old.frames.items + 4) }
-        ensures fault { IfErr result (λ f. f ≡ Fault.Memory) }
-    {
-        match (prepared.method(name), printing(&prepared.program, name)) {
-            (Some(_), _) => match self.open_own(prepared, name, None, 0, 0) {
-                Ok(()) => Ok(None),
-                Err(fault) => Err(fault),
-            },
-            (None, Some(task)) => Ok(Some(Request::Do(task, Arguments::Without))),
-            (None, None) => {
-                self.open_name(&prepared.program, name);
                 Ok(None)
             }
         }
@@ -347,7 +201,7 @@ impl Engine {
         ensures within { KeepsReach (view_of self.old) space.old (view_of self.new) space.new }
         ensures read { KeepsRead (view_of self.old) space.old space.new }
         ensures left { self.new.left ≡ self.old.left }
-        ensures asks { (k : Reach) → IfOk result (IsAskedReached k) }
+        ensures asks { (clusters : Option Below) → AreReached (reach (length space.old.slots) clusters) (view_of self.old) → IfOk result (IsAskedReached (reach (length space.new.slots) clusters)) }
         ensures err { IfErr result (λ f. Stands (view_of self.old) (view_of self.new) space.old space.new f) }
         ensures size { IfOk result (λ q. sized q (view_of self.new) ≤ 3 * length self.old.frames.items + 4) }
         ensures limit { space.new.limit ≡ space.old.limit }
@@ -364,17 +218,24 @@ impl Engine {
                 self.open_field(space, name);
                 Ok(None)
             }
-            Node::Bare { name, .. } => self.open_bare(prepared, name),
+            Node::Global(name) => {
+                self.open_global(space, name);
+                Ok(None)
+            }
+            Node::Constant(path) => {
+                self.open_path(&prepared.program, space, path);
+                Ok(None)
+            }
+            Node::Bare { name, .. } => self.open_bare(prepared, space, name),
             Node::Call {
                 name,
                 first,
                 count,
                 ..
-            } => self.open_call(prepared, name, first, count),
-            Node::WithBlock(call, block) => match self.open_block(prepared, space, call, block) {
-                Ok(()) => Ok(None),
-                Err(fault) => Err(fault),
-            },
+            } => self.open_call(prepared, space, name, first, count),
+            Node::WithBlock(call, block) => self.open_block(prepared, space, call, block),
+            Node::Super { first, count } => self.open_super(prepared, space, first, count),
+            Node::ForwardingSuper => self.open_forwarding(prepared, space),
             Node::Yield { first, count } => {
                 match self.open_yield(&prepared.program, space, first, count) {
                     Ok(()) => Ok(None),
@@ -405,7 +266,6 @@ impl Engine {
             Node::Nil => self.answer(Answer::Gave(Ref::Nil)),
             Node::Symbol(symbol) => self.answer(Answer::Gave(Ref::Symbol(symbol))),
             Node::Class(class) => self.answer(Answer::Gave(Ref::Class(class))),
-            Node::Constant(path) => self.open_path(program, path),
             Node::Truth(truth) => self.answer(Answer::Gave(Ref::Truth(truth))),
             Node::Int(z) => self.answer(Answer::Gave(Ref::Int(z))),
             Node::Itself => self.answer(Answer::Gave(self.itself())),
@@ -423,7 +283,13 @@ impl Engine {
                 first,
                 count,
                 ..
-            } => self.open_send(Callee::Name(name), receiver, first + count, count),
+            } => self.open_receiver(Callee::Name(name), receiver, first + count, count),
+            Node::SetAttribute {
+                receiver,
+                name,
+                value,
+                ..
+            } => self.open_send(Callee::Setter(name), receiver, value + 1, 1),
             Node::Index(a, b) => self.open_send(Callee::Index, a, b + 1, 1),
             Node::Append(a, b) => self.open_send(Callee::Append, a, b + 1, 1),
             Node::SetIndex {
@@ -438,11 +304,25 @@ impl Engine {
                 ..
             } => self.enter_above(Frame::Store(Variable { depth, slot }), value),
             Node::SetField(name, value) => self.enter_above(Frame::SetField(name), value),
+            Node::MultipleAssign {
+                first,
+                count,
+                value,
+            } => self.enter_above(Frame::Several(first + count, count), value),
+            Node::SetGlobal(name, value) => self.open_assignment(name, value),
+            Node::SetConstant(name, value) => self.open_assignment(name, value),
             Node::OperatorAssign(op, target, value) => {
-                self.open_update(program, op, target, value);
+                self.open_operator(program, op, target, value);
             }
-            Node::OrAssign(target, value) => self.open_or_assign(program, target, value),
-            Node::AndAssign(target, value) => self.open_and_assign(program, target, value),
+            Node::AppendAssign(target, value) => {
+                self.open_update(program, Update::Combine(Callee::Append), target, value);
+            }
+            Node::OrAssign(target, value) => {
+                self.open_update(program, Update::Or, target, value);
+            }
+            Node::AndAssign(target, value) => {
+                self.open_update(program, Update::And, target, value);
+            }
             Node::Break(value) => self.enter_above(Frame::Break, value),
             Node::Next(value) => self.enter_above(Frame::Next, value),
             Node::Return(value) => self.enter_above(Frame::Return, value),
@@ -460,6 +340,7 @@ impl Engine {
                 body,
             } => self.enter_above(Frame::Condition(until, body, here), condition),
             Node::Sequence { first, count } => self.begin(first + count, count),
+            Node::Splat(part) => self.control = Control::Enter(part),
             Node::Block { body, .. } => self.control = Control::Enter(body),
             Node::Item(_) => unreachable!(),
             Node::Text(_)
@@ -468,9 +349,13 @@ impl Engine {
             | Node::Hash { .. }
             | Node::Pairs { .. }
             | Node::Field(_)
+            | Node::Global(_)
+            | Node::Constant(_)
             | Node::Bare { .. }
             | Node::Call { .. }
             | Node::WithBlock(_, _)
+            | Node::Super { .. }
+            | Node::ForwardingSuper
             | Node::Yield { .. } => {
                 return false;
             }

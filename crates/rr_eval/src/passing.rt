@@ -15,11 +15,12 @@ ghost use Rattle.rr_eval.specs.Requests.{Course};
 ghost use Rattle.rr_eval.specs.Frames.{below_of, base_of, Nested};
 ghost use Rattle.rr_eval.specs.Turns.{context_of, remaining, IsNested, after_script, after_answer, remaining_with, more_of, size};
 ghost use Rattle.rr_eval.specs.Views.{view_of};
-ghost use Rattle.rr_eval.specs.Within.{Reach, IsAnswerReached, IsFrameReached, AreReached};
+ghost use Rattle.rr_eval.specs.Within.{Reach, IsAnswerReached, IsFrameReached, AreReached, IsCallValueReached};
 
+use crate::call_stack::CallValue;
 use crate::engine::Engine;
 use crate::frame::{Control, Frame, clear};
-use crate::problem::{Answer, passed, returned};
+use crate::problem::{Answer, passed, returned, valued};
 use rr_space::Space;
 use rr_tree::{NodeId, Program};
 
@@ -44,17 +45,17 @@ impl Engine {
     }
 
     /// Passes an answer that is no value through a method, which ends with it.
-    fn leave_back(&mut self, answer: Answer)
+    fn leave_back(&mut self, by: CallValue, answer: Answer)
         requires nested { IsNested (view_of self.old) }
-        ensures goes { (p : Program) (t : Table) (h : Course) (n : ℕ) → after_script p (view_of self.old) t (back answer) h n ≡ remaining_with p (view_of self.new) t h n }
+        ensures goes { (p : Program) (t : Table) (h : Course) (n : ℕ) → after_script p (view_of self.old) t (back by answer) h n ≡ remaining_with p (view_of self.new) t h n }
         ensures nested { IsNested (view_of self.new) }
-        ensures within { (k : Reach) → AreReached k (view_of self.old) → IsAnswerReached k answer → AreReached k (view_of self.new) }
+        ensures within { (k : Reach) → AreReached k (view_of self.old) → IsCallValueReached k by → IsAnswerReached k answer → AreReached k (view_of self.new) }
         ensures left { self.new.left ≡ self.old.left }
-        ensures size { size (view_of self.new) ≤ 3 * length self.old.frames.items + 2 }
+        ensures size { size (view_of self.new) ≤ 3 * length self.old.frames.items + 2 + more_of answer }
     {
         let number = self.calls.top();
         self.drop_frame();
-        self.control = Control::Give(returned(number, answer));
+        self.control = Control::Give(valued(by, returned(number, answer)));
     }
 
     /// Passes an answer that is no value through a block that a `yield` calls, which ends with it.
@@ -64,7 +65,7 @@ impl Engine {
         ensures nested { IsNested (view_of self.new) }
         ensures within { (k : Reach) → AreReached k (view_of self.old) → IsAnswerReached k answer → AreReached k (view_of self.new) }
         ensures left { self.new.left ≡ self.old.left }
-        ensures size { size (view_of self.new) ≤ 3 * length self.old.frames.items + 2 }
+        ensures size { size (view_of self.new) ≤ 3 * length self.old.frames.items + 2 + more_of answer }
     {
         let root = self.calls.running().root;
         self.drop_frame();
@@ -115,13 +116,14 @@ impl Engine {
         ensures size { size (view_of self.new) ≤ 3 * length self.old.frames.items + 4 + more_of answer }
     {
         match frame {
-            Frame::Back => self.leave_back(answer),
+            Frame::Back(by) => self.leave_back(by, answer),
             Frame::Past => self.leave_past(answer),
             Frame::Condition(_, _, place) => self.leave_loop(place, answer),
             Frame::Body(place) => self.leave_loop(place, answer),
             Frame::Rescue(end, count, _) => self.leave_rescued(program, space, end, count, answer),
             Frame::Handling(old) => self.rescuing = old,
             Frame::Ensure(part) => self.enter_above(Frame::Kept(answer), part),
+            Frame::Asking(asking) => self.leave_asking(asking, answer),
             Frame::Round(iteration) => self.leave_round(program, space, iteration, answer),
             _ => clear(&mut self.held, frame),
         }

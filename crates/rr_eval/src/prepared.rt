@@ -1,46 +1,98 @@
 //! Programs that are ready to run.
 
-ghost use Rattle.std.specs.Prelude.{◌≡◌, ℕ, [], map, None, Some, OnOk, IfOk, if◌then◌else◌, nat_eq, slice_index_or};
+ghost use Rattle.std.specs.Prelude.{◌≡◌, ℕ, [], codes, map, None, Some, OnOk, IfOk, slice_index_or};
+ghost use Rattle.rr_eval.specs.Above.{method_above};
 ghost use Rattle.std.specs.Option.{option_map};
 ghost use Rattle.rr_tree.specs.Tree.{tree_at};
-ghost use Rattle.rr_eval.specs.Methods.{method_in, method_at, are_methods, definitions_of, own_method};
+ghost use Rattle.rr_tree.specs.Methods.{IsTableOf, number_in, symbol_named};
+ghost use Rattle.rr_tree.specs.Sets.{IsTableOf-prop};
 ghost use Rattle.rr_builtin.specs.Iterations.{iteration_named};
-ghost use Rattle.rr_eval.specs.Prepared.{method_of, FindsMethods};
+ghost use Rattle.rr_builtin.specs.Methods.{method_named};
+ghost use Rattle.rr_space.specs.Kinds.{kind_at};
+ghost use Rattle.rr_eval.specs.Callees.{method_of};
+ghost use Rattle.rr_eval.specs.declared.call.Callee.{Callee as Called};
+ghost use Rattle.rr_eval.specs.Rules.{has_built_in};
+ghost use Rattle.rr_eval.specs.Dispatch.{called_name, is_below, iteration_of, method_called, method_for, initializer, made_by};
+ghost use Rattle.rr_eval.specs.Methods.{method_in, work_of};
+ghost use Rattle.rr_eval.specs.Prepared.{AreSymbolsOf, callable_of, work_in, initializer_of};
+ghost use Rattle.rr_eval.specs.Speaking.{symbol_asked};
 ghost use Rattle.rr_eval.specs.Turns.{context_of};
 
+use crate::asking::Saying;
+use crate::call::Callee;
 use crate::nodes::evaluated_node;
-use rr_base::Sym;
-use rr_builtin::{Iteration, Iterations, iterations_have_names};
-use rr_frames::Shape;
-use rr_tree::{Node, NodeId, Program};
+use crate::operator_symbols::OperatorSymbols;
+use crate::serve::method_of;
+use rr_base::{ClassId, Sym};
+use rr_builtin::{
+    BuiltInMethod, Iteration, Iterations, Methods, has, iterates, iterations_have_names, may_make,
+    stands_below_object,
+};
+use rr_frames::{Activation, Shape};
+use rr_space::{Ref, Space};
+use rr_tree::{MethodName, MethodTable, Node, NodeId, Program};
 use std::alloc::{AllocError, Global};
 
-/// A method that the program defines: its name, its variables, and its statements.
+/// The statements of a method: its name, its variables, and the node of its statements.
 #[derive(Clone, Copy)]
-pub struct Definition {
+pub struct Body {
     pub name: Sym,
     pub shape: Shape,
-    pub body: NodeId,
+    pub node: NodeId,
+}
+
+/// What a call of a method does.
+#[derive(Clone, Copy)]
+pub enum Work {
+    /// Evaluates statements.
+    Run(Body),
+    /// Reads an instance variable.
+    Read(Sym),
+    /// Writes an instance variable.
+    Write(Sym),
+    /// Nothing: no method stands there.
+    Nothing,
+}
+
+/// A method that the program defines: the class in which it stands, and what a call of it does.
+#[derive(Clone, Copy)]
+pub struct Definition {
+    pub class: ClassId,
+    pub work: Work,
+}
+
+/// The program's `initialize`, with the class in which it stands.
+#[derive(Clone, Copy)]
+pub struct Initializer {
+    pub class: ClassId,
+    pub body: Body,
 }
 
 /// A program, whose methods are found by their names.
 #[derive(Drop)]
 pub struct Prepared {
     pub program: Program,
-    /// Whether it defines methods alone.
-    pub(crate) simple: bool,
-    /// Where the methods stand among the definitions, by the numbers of their names.
-    places: Vec<Option<usize>>,
+    /// The methods of its classes.
+    table: MethodTable,
+    operators: OperatorSymbols,
+    /// The symbols of `to_s` and of `inspect`, where the program has them.
+    to_s: Option<Sym>,
+    inspect: Option<Sym>,
+    /// The built-in methods, by the numbers of their names.
+    pub(crate) methods: Methods,
     /// The iterations, by the numbers of their names.
     pub(crate) iterations: Iterations,
-    ghost plain: { simple ≡ are_methods (definitions_of program) },
+    ghost finds: { IsTableOf program table } by { IsTableOf-prop program table },
+    ghost operates: { AreSymbolsOf program operators },
+    ghost speaks: { number_in to_s ≡ symbol_named program (codes "to_s") },
+    ghost inspects: { number_in inspect ≡ symbol_named program (codes "inspect") },
+    ghost names: { methods ≡ map (λ s. method_named s.items) program.symbols.items },
     ghost iterates: { iterations ≡ map (λ s. iteration_named s.items) program.symbols.items },
-    ghost finds: { FindsMethods program places.items },
 }
 
-/// The method that a node defines.
-fn definition_at(program: &Program, place: NodeId) -> Option<Definition>
-    ensures { option_map (method_of program.now.nodes.items) result ≡ method_in (tree_at program.now.nodes.items place) }
+/// What a call of the method does that a node defines.
+fn work_at(program: &Program, place: NodeId) -> Work
+    ensures { work_in program.now.nodes.items result ≡ work_of (tree_at program.now.nodes.items place) }
 {
     match evaluated_node(program, place) {
         Node::Method {
@@ -49,51 +101,15 @@ fn definition_at(program: &Program, place: NodeId) -> Option<Definition>
             size,
             body,
             ..
-        } => {
-            let shape = Shape { parameters, size };
-            Some(Definition { name, shape, body })
-        }
-        _ => None,
+        } => Work::Run(Body {
+            name,
+            shape: Shape { parameters, size },
+            node: body,
+        }),
+        Node::Reader(name) => Work::Read(name),
+        Node::Writer(name) => Work::Write(name),
+        _ => Work::Nothing,
     }
-}
-
-/// The definition of the name stands there.
-fn put_place(places: &mut Vec<Option<usize>>, name: Sym, place: usize) -> Result<(), AllocError>
-    ensures { OnOk result ((x : ℕ) → slice_index_or places.new.items x None ≡ (if nat_eq x name.0 then Some place else slice_index_or places.old.items x None)) }
-{
-    let number = name.0 as usize;
-    if number >= places.len() {
-        places.resize(number + 1, None)?;
-    }
-    places[number] = Some(place);
-    Ok(())
-}
-
-/// Where the methods stand among the definitions, by the numbers of their names. The last definition of a name counts.
-fn places_of(alloc: Global, program: &Program) -> Result<Vec<Option<usize>>, AllocError>
-    ensures { IfOk result (λ places. FindsMethods program.now places.items) }
-{
-    let mut places = Vec::new(alloc);
-    for number in 0..program.definitions.len() {
-        match definition_at(program, program.definitions[number]) {
-            Some(definition) => put_place(&mut places, definition.name, number)?,
-            None => (),
-        }
-    }
-    Ok(places)
-}
-
-/// Whether the program defines methods alone.
-fn are_methods(program: &Program) -> bool
-    ensures { result ≡ are_methods (definitions_of program.now) }
-{
-    for number in 0..program.definitions.len() {
-        match definition_at(program, program.definitions[number]) {
-            Some(_) => (),
-            None => return false,
-        }
-    }
-    true
 }
 
 impl Prepared {
@@ -101,36 +117,55 @@ impl Prepared {
     pub fn of(alloc: Global, program: Program) -> Result<Prepared, AllocError>
         ensures { IfOk result (λ prepared. prepared.program ≡ program) }
     {
-        let places = places_of(alloc, &program)?;
-        let simple = are_methods(&program);
+        let table = MethodTable::of(alloc, &program)?;
+        let operators = OperatorSymbols::of(&program);
+        let to_s = program.symbol_named(b"to_s");
+        let inspect = program.symbol_named(b"inspect");
+        let methods = Methods::of(alloc, &program)?;
         let iterations = Iterations::of(alloc, &program)?;
         Ok(Prepared {
             program,
-            simple,
-            places,
+            table,
+            operators,
+            to_s,
+            inspect,
+            methods,
             iterations,
         })
     }
 
-    /// Where the method of a name stands among the definitions.
-    #[inline(always)]
-    fn place(&self, name: Sym) -> Option<usize>
-        ensures { result ≡ slice_index_or self.now.places.items name.0 None }
+    /// The method of a class, or of the nearest class above it.
+    fn method_in(&self, class: ClassId, name: MethodName) -> Option<Definition>
+        ensures { option_map (callable_of self.now.program.nodes.items) result ≡ method_in self.now.program class name }
     {
-        match self.places.get(name.0 as usize) {
-            Some(place) => *place,
+        match self.table.find(&self.program, class, name) {
+            Some(found) => Some(Definition {
+                class: found.class,
+                work: work_at(&self.program, found.node),
+            }),
             None => None,
         }
     }
 
-    /// The definition that stands at a place.
-    #[inline(always)]
-    fn definition(&self, place: usize) -> Option<Definition>
-        ensures { option_map (method_of self.now.program.nodes.items) result ≡ method_at (definitions_of self.now.program) (Some place) }
+    /// The method that a call finds for a class.
+    fn method_called(&self, class: ClassId, callee: Callee) -> Option<Definition>
+        ensures { option_map (callable_of self.now.program.nodes.items) result ≡ method_called (context_of self.now.program) class (called_name (context_of self.now.program) callee) }
     {
-        match self.program.definitions.get(place) {
-            Some(node) => definition_at(&self.program, *node),
+        match self.operators.called_name(&self.program, callee) {
+            Some(name) => self.method_in(class, name),
             None => None,
+        }
+    }
+
+    /// The symbol of the method by which values are asked, without which the program defines none.
+    pub(crate) fn symbol_asked(&self, saying: Saying) -> Option<Sym>
+        ensures { result ≡ symbol_asked (context_of self.now.program) saying }
+    {
+        match saying {
+            Saying::Inspect => self.inspect,
+            Saying::Puts => self.to_s,
+            Saying::Print => self.to_s,
+            Saying::Text => self.to_s,
         }
     }
 
@@ -142,14 +177,113 @@ impl Prepared {
         self.iterations.find(name)
     }
 
-    /// The method of a name.
-    #[inline(always)]
-    pub(crate) fn method(&self, name: Sym) -> Option<Definition>
-        ensures { option_map (method_of self.now.program.nodes.items) result ≡ own_method self.now.program name.0 }
+    /// The iteration that a call may be of.
+    fn iteration_of(&self, callee: Callee) -> Option<Iteration>
+        ensures { result ≡ iteration_of (context_of self.now.program) callee }
     {
-        match self.place(name) {
-            Some(place) => self.definition(place),
+        match callee {
+            Callee::Name(name) => self.iteration(name),
+            Callee::Operator(_) => None,
+            Callee::Opposite => None,
+            Callee::Index => None,
+            Callee::Append => None,
+            Callee::SetIndex => None,
+            Callee::Initialize => None,
+            Callee::Setter(_) => None,
+        }
+    }
+
+    /// Whether the receiver has a built-in method that stands in a class below Object.
+    fn is_below(&self, space: &Space, receiver: Ref, callee: Callee) -> bool
+        ensures { result ≡ is_below (kind_at space.now receiver) (method_of (context_of self.now.program) callee) (iteration_of (context_of self.now.program) callee) }
+    {
+        let kind = space.kind_of(receiver);
+        match (
+            method_of(&self.program, &self.methods, callee),
+            self.iteration_of(callee),
+        ) {
+            (Some(method), _) => has(kind, method) && stands_below_object(kind, method),
+            (None, Some(iteration)) => iterates(kind, iteration),
+            (None, None) => false,
+        }
+    }
+
+    /// The program's method that a call of a receiver runs; none where it runs no method of the program.
+    pub(crate) fn method_for(
+        &self,
+        space: &Space,
+        receiver: Ref,
+        callee: Callee,
+    ) -> Option<Definition>
+        ensures { option_map (callable_of self.now.program.nodes.items) result ≡ method_for (context_of self.now.program) space.now receiver callee }
+    {
+        match self.method_called(space.class_of(receiver), callee) {
+            Some(definition) => {
+                if definition.class.0 == ClassId::OBJECT.0
+                    && self.is_below(space, receiver, callee)
+                {
+                    None
+                } else {
+                    Some(definition)
+                }
+            }
             None => None,
+        }
+    }
+
+    /// Whether a value has a built-in method of the name.
+    pub(crate) fn has_built_in(&self, space: &Space, value: Ref, name: Sym) -> bool
+        ensures { result ≡ has_built_in (kind_at space.now value) (method_of (context_of self.now.program) (Called.Name name)) }
+    {
+        match method_of(&self.program, &self.methods, Callee::Name(name)) {
+            Some(method) => has(space.kind_of(value), method),
+            None => false,
+        }
+    }
+
+    /// The program's `initialize` for the objects of a class.
+    pub(crate) fn initializer(&self, class: ClassId) -> Option<Initializer>
+        ensures { option_map (initializer_of self.now.program.nodes.items) result ≡ initializer (context_of self.now.program) class }
+    {
+        match self.method_called(class, Callee::Initialize) {
+            Some(
+                Definition {
+                    class,
+                    work: Work::Run(body),
+                },
+            ) => Some(Initializer { class, body }),
+            _ => None,
+        }
+    }
+
+    /// The class of the object that a call of a built-in method makes, where the object gets the program's `initialize`.
+    pub(crate) fn made_by(&self, receiver: Ref, callee: Callee) -> Option<ClassId>
+        ensures { result ≡ made_by (context_of self.now.program) (method_of (context_of self.now.program) callee) receiver }
+    {
+        match (method_of(&self.program, &self.methods, callee), receiver) {
+            (Some(BuiltInMethod::New), Ref::Class(class)) => {
+                if may_make(&self.program, receiver) && self.initializer(class).is_some() {
+                    Some(class)
+                } else {
+                    None
+                }
+            }
+            _ => None,
+        }
+    }
+
+    /// The program's method that `super` calls: above the class in which the method stands that runs, on the same receiver.
+    pub(crate) fn method_above(&self, space: &Space, running: Activation) -> Option<Definition>
+        ensures { option_map (callable_of self.now.program.nodes.items) result ≡ method_above (context_of self.now.program) running space.now }
+    {
+        let above = self.program.superclass(running.class)?;
+        let definition = self.method_in(above, MethodName::Plain(running.name))?;
+        if definition.class.0 == ClassId::OBJECT.0
+            && self.is_below(space, running.itself, Callee::Name(running.name))
+        {
+            None
+        } else {
+            Some(definition)
         }
     }
 }

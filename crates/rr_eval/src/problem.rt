@@ -1,14 +1,15 @@
 //! How an evaluation ends, and what an exception says.
 
-ghost use Rattle.std.specs.Prelude.{◌≡◌};
-ghost use Rattle.rr_eval.specs.Blocks.{returned, passed};
+ghost use Rattle.std.specs.Prelude.{◌≡◌, ◌≤◌};
+ghost use Rattle.rr_eval.specs.Blocks.{returned, passed, value_by, valued};
 ghost use Rattle.rr_eval.specs.Rules.{ended};
 ghost use Rattle.rr_eval.specs.Turns.{more_of};
-ghost use Rattle.rr_eval.specs.Within.{Reach, IsAnswerReached};
+ghost use Rattle.rr_eval.specs.Within.{Reach, IsReached, IsAnswerReached, IsCallValueReached};
 
 use crate::call::Callee;
+use crate::call_stack::CallValue;
 use rr_base::Sym;
-use rr_builtin::{Problem as BuiltInProblem, Receiver};
+use rr_builtin::{Problem as BuiltInProblem, Receiver, is_truthy};
 use rr_space::Ref;
 
 /// Why an evaluation raised an exception.
@@ -22,6 +23,8 @@ pub enum Problem {
     MissingName(Sym),
     /// NameError: a constant that was never set.
     MissingConstant(Sym),
+    /// ArgumentError: a keyword that the method does not take.
+    UnknownKeyword,
     /// TypeError: what would be raised is neither an exception nor a class of exceptions.
     NotRaisable,
     /// RuntimeError: nothing is given that would be raised.
@@ -78,7 +81,7 @@ pub fn ended(answer: Answer) -> Answer
 /// What a method ends with, whose frame has the number and whose statements end so.
 pub fn returned(number: u32, answer: Answer) -> Answer
     ensures is { result ≡ returned number answer }
-    ensures plain { more_of result ≡ 0 }
+    ensures more { more_of result ≤ more_of answer }
     ensures within { (k : Reach) → IsAnswerReached k answer → IsAnswerReached k result }
 {
     match answer {
@@ -97,11 +100,39 @@ pub fn returned(number: u32, answer: Answer) -> Answer
     }
 }
 
+/// What the value of a call is, by the method's.
+pub fn value_by(by: CallValue, value: Ref) -> Ref
+    ensures is { result ≡ value_by by value }
+    ensures within { (k : Reach) → IsCallValueReached k by → IsReached k value → IsReached k result }
+{
+    match by {
+        CallValue::Method => value,
+        CallValue::Other(other) => other,
+        CallValue::Opposite => Ref::Truth(!is_truthy(value)),
+    }
+}
+
+/// What a call ends with, whose method ends so.
+pub fn valued(by: CallValue, answer: Answer) -> Answer
+    ensures is { result ≡ valued by answer }
+    ensures more { more_of result ≡ more_of answer }
+    ensures within { (k : Reach) → IsCallValueReached k by → IsAnswerReached k answer → IsAnswerReached k result }
+{
+    match answer {
+        Answer::Gave(value) => Answer::Gave(value_by(by, value)),
+        Answer::Raised(exception) => Answer::Raised(exception),
+        Answer::Broke(value) => Answer::Broke(value),
+        Answer::Done(value) => Answer::Done(value),
+        Answer::Returned(value) => Answer::Returned(value),
+        Answer::Ends(number, value) => Answer::Ends(number, value),
+    }
+}
+
 /// What a block ends with that a `yield` calls, whose statements end so: `owner` is the frame of the method that has the
 /// block, and `root` that of the method in which the block stands.
 pub fn passed(owner: u32, root: u32, answer: Answer) -> Answer
     ensures is { result ≡ passed owner root answer }
-    ensures plain { more_of result ≡ 0 }
+    ensures more { more_of result ≤ more_of answer }
     ensures within { (k : Reach) → IsAnswerReached k answer → IsAnswerReached k result }
 {
     match answer {

@@ -14,17 +14,19 @@ ghost use Rattle.rr_eval.specs.Script.{State, World, objects_of};
 ghost use Rattle.rr_eval.specs.Raising.{message_or_nil, raise_new, raise_kind, raise_value, raise_rule};
 ghost use Rattle.rr_eval.specs.Requests.{Course, Adds};
 ghost use Rattle.rr_eval.specs.Changes.{Changes};
-ghost use Rattle.rr_eval.specs.Rules.{values, finish, raises, asks_block, bare_rule};
+ghost use Rattle.rr_eval.specs.Rules.{arguments, finish, raises, asks_block, bare_rule, name_rule};
 ghost use Rattle.rr_eval.specs.Frames.{Code, runs_in, start, below_of, base_of, stand_of, Nested};
-ghost use Rattle.rr_eval.specs.Turns.{context_of, code_of, IsNested, remaining, remaining_with, after_script, after_values, Stands, size, waits};
+ghost use Rattle.rr_eval.specs.Turns.{context_of, code_of, IsNested, continuing, remaining, remaining_with, after_script, after_values, Stands, size, sized, waits};
 ghost use Rattle.rr_eval.specs.Views.{view_of};
-ghost use Rattle.rr_eval.specs.Within.{Reach, IsReached, IsControlReached, AreReached, AreWithin, KeepsReach, KeepsRead};
+ghost use Rattle.rr_eval.specs.Within.{Reach, IsReached, IsAskedReached, IsControlReached, AreReached, AreWithin, KeepsReach, KeepsRead};
 
 use crate::awaited::{is_block_given, is_raise};
-use crate::call::Target;
+use crate::call::{Callee, Passing, Target};
 use crate::engine::Engine;
 use crate::frame::{Control, Frame, clear, standing};
+use crate::prepared::Prepared;
 use crate::problem::{Answer, Problem};
+use crate::request::Request;
 use rr_base::{ClassId, Fault, Sym};
 use rr_builtin::Problem as BuiltInProblem;
 use rr_frames::Given;
@@ -124,7 +126,7 @@ fn raised_by(values: &[Ref], last: Ref) -> Control
 impl Engine {
     /// Raises the exception that is being rescued again, where one is.
     #[tactic(auto, unfolding(crate::specs::Within::AreReached))]
-    fn raise_again(&mut self)
+    pub fn raise_again(&mut self)
         requires nested { IsNested (view_of self.old) }
         ensures goes { (p : Program) (t : Table) (h : Course) (n : ℕ) → after_script p (view_of self.old) t (raise_rule (context_of p) []) h n ≡ remaining_with p (view_of self.new) t h n }
         ensures nested { IsNested (view_of self.new) }
@@ -138,23 +140,73 @@ impl Engine {
         };
     }
 
-    /// Evaluates a bare name that is neither a method's nor prints: `raise`, `block_given?`, or one that is missing.
+    /// Evaluates a bare name that only a built-in method of `self` may have.
     #[tactic(auto, unfolding(crate::specs::Within::AreReached))]
-    pub fn open_name(&mut self, program: &Program, name: Sym)
+    fn open_other(
+        &mut self,
+        prepared: &Prepared,
+        space: &Space,
+        name: Sym,
+    ) -> Result<Option<Request>, Fault>
         requires nested { IsNested (view_of self.old) }
-        ensures goes { (t : Table) (h : Course) (n : ℕ) → after_script program.now (view_of self.old) t (bare_rule (context_of program.now) None None (raises (context_of program.now) name.0) (asks_block (context_of program.now) name.0) name) h n ≡ remaining_with program.now (view_of self.new) t h n }
+        ensures goes { IfOk result (λ q. (h : Course) (n : ℕ) → after_script prepared.now.program (view_of self.old) space.now (name_rule (context_of prepared.now.program) name) h n ≡ continuing prepared.now.program (view_of self.new) space.now q h n) }
         ensures nested { IsNested (view_of self.new) }
         ensures within { (k : Reach) → AreReached k (view_of self.old) → AreReached k (view_of self.new) }
+        ensures asks { (k : Reach) → AreReached k (view_of self.old) → IfOk result (IsAskedReached k) }
         ensures left { self.new.left ≡ self.old.left }
-        ensures size { size (view_of self.new) ≤ 3 * length self.old.frames.items + 4 }
+        ensures err { (t : Table) → IfErr result (λ f. Stands (view_of self.old) (view_of self.new) t t f) }
+        ensures size { IfOk result (λ q. sized q (view_of self.new) ≤ 3 * length self.old.frames.items + 4) }
+        ensures fault { IfErr result (λ f. f ≡ Fault.Memory) }
     {
-        if is_raise(program.symbol_bytes(name)) {
-            self.raise_again();
-        } else if is_block_given(program.symbol_bytes(name)) {
-            let given = !matches!(self.calls.running().given, Given::Nothing);
-            self.control = Control::Give(Answer::Gave(Ref::Truth(given)));
+        self.frames.reserve(1)?;
+        let receiver = self.itself();
+        if prepared.has_built_in(space, receiver, name) {
+            let callee = Callee::Name(name);
+            let frame = Frame::Not;
+            self.send_built_in(
+                prepared,
+                space,
+                receiver,
+                callee,
+                Passing::All,
+                None,
+                frame,
+                None,
+            )
         } else {
             self.control = Control::Throw(Problem::MissingName(name));
+            Ok(None)
+        }
+    }
+
+    /// Evaluates a bare name that is neither a method of the program nor prints: `raise`, `block_given?`, a built-in method of `self`,
+    /// or one that is missing.
+    #[tactic(auto, unfolding(crate::specs::Within::AreReached))]
+    pub fn open_name(
+        &mut self,
+        prepared: &Prepared,
+        space: &Space,
+        name: Sym,
+    ) -> Result<Option<Request>, Fault>
+        requires nested { IsNested (view_of self.old) }
+        ensures goes { IfOk result (λ q. (h : Course) (n : ℕ) → after_script prepared.now.program (view_of self.old) space.now (bare_rule (context_of prepared.now.program) None None (raises (context_of prepared.now.program) name.0) (asks_block (context_of prepared.now.program) name.0) name) h n ≡ continuing prepared.now.program (view_of self.new) space.now q h n) }
+        ensures nested { IsNested (view_of self.new) }
+        ensures within { (k : Reach) → AreReached k (view_of self.old) → AreReached k (view_of self.new) }
+        ensures asks { (k : Reach) → AreReached k (view_of self.old) → IfOk result (IsAskedReached k) }
+        ensures left { self.new.left ≡ self.old.left }
+        ensures err { (t : Table) → IfErr result (λ f. Stands (view_of self.old) (view_of self.new) t t f) }
+        ensures size { IfOk result (λ q. sized q (view_of self.new) ≤ 3 * length self.old.frames.items + 4) }
+        ensures fault { IfErr result (λ f. f ≡ Fault.Memory) }
+    {
+        if is_raise(prepared.program.symbol_bytes(name)) {
+            self.raise_again();
+            Ok(None)
+        } else if is_block_given(prepared.program.symbol_bytes(name)) {
+            let given = !matches!(self.calls.running().given, Given::Nothing);
+            self.control = Control::Give(Answer::Gave(Ref::Truth(given)));
+            Ok(None)
+        } else {
+            self.open_other(prepared, space, name)
         }
     }
 
@@ -162,7 +214,7 @@ impl Engine {
     pub fn open_raise(&mut self, first: NodeId, count: u32) -> Result<(), Fault>
         requires small { first + count < 2 ^ 32 }
         requires nested { IsNested (view_of self.old) }
-        ensures goes { OnOk result ((p : Program) (t : Table) (h : Course) (n : ℕ) → after_script p (view_of self.old) t (values (trees_before p.nodes.items (first + count) count) [] (finish (context_of p) Target.Raise)) h n ≡ remaining_with p (view_of self.new) t h n) }
+        ensures goes { OnOk result ((p : Program) (t : Table) (h : Course) (n : ℕ) → after_script p (view_of self.old) t (arguments (context_of p) (trees_before p.nodes.items (first + count) count) [] (finish (context_of p) Target.Raise)) h n ≡ remaining_with p (view_of self.new) t h n) }
         ensures nested { IsNested (view_of self.new) }
         ensures within { (k : Reach) → AreReached k (view_of self.old) → AreReached k (view_of self.new) }
         ensures left { self.new.left ≡ self.old.left }
@@ -177,12 +229,7 @@ impl Engine {
             }
             _ => {
                 self.frames.reserve(1)?;
-                let frame = Frame::Argument(
-                    Target::Raise,
-                    first + count,
-                    count - 1,
-                    self.held.len(),
-                );
+                let frame = Frame::Item(Target::Raise, first + count, count - 1, self.held.len());
                 self.enter_above(frame, first);
                 Ok(())
             }

@@ -11,17 +11,18 @@ ghost use Rattle.rr_eval.specs.declared.iterating.Iterating.{Iterating};
 ghost use Rattle.rr_eval.specs.Context.{Context};
 ghost use Rattle.rr_eval.specs.Rules.{operation, negation, finish, back, past, return_rule};
 ghost use Rattle.rr_eval.specs.Requests.{Course, arguments_of};
+ghost use Rattle.rr_eval.specs.Speaking.{request};
 ghost use Rattle.rr_eval.specs.Frames.{resumed, runs_in, below_of, base_of, stand_of, unwind, Nested, IsRareFrame};
 ghost use Rattle.rr_eval.specs.Turns.{context_of, code_of, state_of, remaining, IsNested, after_script, after_answer, remaining_with, continuing, Stands, size, sized};
 ghost use Rattle.std.specs.List.{All};
 ghost use Rattle.rr_eval.specs.Views.{view_of};
 ghost use Rattle.rr_eval.specs.Within.{Reach, reach, IsReached, IsFrameReached, IsCallReached, IsAskedReached, AreReached};
 
-use crate::call::{Arguments, Call, Callee, Target, Task, arguments_of, call_of};
+use crate::call::{Target, Task, arguments_of};
 use crate::call_stack::is_outside;
 use crate::engine::{Engine, push_within};
 use crate::frame::{Control, Frame, clear, standing};
-use crate::operator::{on_integers, opposite};
+use crate::operator::on_integers;
 use crate::prepared::Prepared;
 use crate::problem::{Answer, Problem};
 use crate::request::Request;
@@ -181,8 +182,8 @@ impl Engine {
                 self.leave_method(value);
                 true
             }
-            Frame::Back => {
-                self.end_method(value);
+            Frame::Back(by) => {
+                self.end_method(by, value);
                 true
             }
             Frame::Past => {
@@ -192,62 +193,25 @@ impl Engine {
             Frame::Negation
             | Frame::SetField(_)
             | Frame::Argument(_, _, _, _)
+            | Frame::Receiver(_, _, _, _)
+            | Frame::Item(_, _, _, _)
+            | Frame::Several(_, _)
             | Frame::Key(_, _, _, _)
             | Frame::Value(_, _, _)
+            | Frame::Asking(_)
+            | Frame::Asked(_)
             | Frame::Element(_, _)
+            | Frame::Read(_)
+            | Frame::Combine(_)
+            | Frame::Put(_, _)
             | Frame::Rescue(_, _, _)
             | Frame::Class(_)
             | Frame::Handling(_)
             | Frame::Ensure(_)
             | Frame::Kept(_)
             | Frame::Round(_)
-            | Frame::Turned(_) => false,
-        }
-    }
-
-    /// Does what an operator does with two values: with integers here, and with others as a call.
-    fn operate(&mut self, op: BinaryOperator, left: Ref, right: Ref) -> Option<Request>
-        requires nested { IsNested (view_of self.old) }
-        ensures goes { (p : Program) (t : Table) (h : Course) (n : ℕ) → after_script p (view_of self.old) t (operation (context_of p) op left right) h n ≡ continuing p (view_of self.new) t result h n }
-        ensures nested { IsNested (view_of self.new) }
-        ensures within { (k : Reach) → AreReached k (view_of self.old) → AreReached k (view_of self.new) }
-        ensures asks { (k : Reach) → IsReached k left → IsReached k right → IsAskedReached k result }
-        ensures left { self.new.left ≡ self.old.left }
-        ensures size { sized result (view_of self.new) ≤ 3 * length self.old.frames.items + 4 }
-    {
-        match (left, right) {
-            (Ref::Int(x), Ref::Int(y)) => {
-                self.settle(on_integers(op, x, y));
-                None
-            }
-            _ => Some(Request::Call(Call {
-                receiver: left,
-                callee: Callee::Operator(op),
-                arguments: Arguments::One(right),
-            })),
-        }
-    }
-
-    /// Does what unary minus does with a value.
-    fn negate(&mut self, value: Ref) -> Option<Request>
-        requires nested { IsNested (view_of self.old) }
-        ensures goes { (p : Program) (t : Table) (h : Course) (n : ℕ) → after_script p (view_of self.old) t (negation (context_of p) value) h n ≡ continuing p (view_of self.new) t result h n }
-        ensures nested { IsNested (view_of self.new) }
-        ensures within { (k : Reach) → AreReached k (view_of self.old) → AreReached k (view_of self.new) }
-        ensures asks { (k : Reach) → IsReached k value → IsAskedReached k result }
-        ensures left { self.new.left ≡ self.old.left }
-        ensures size { sized result (view_of self.new) ≤ 3 * length self.old.frames.items + 4 }
-    {
-        match value {
-            Ref::Int(x) => {
-                self.settle(opposite(x));
-                None
-            }
-            _ => Some(Request::Call(Call {
-                receiver: value,
-                callee: Callee::Opposite,
-                arguments: Arguments::Without,
-            })),
+            | Frame::Turned(_)
+            | Frame::Initialize(_) => false,
         }
     }
 
@@ -290,7 +254,7 @@ impl Engine {
         requires room { length self.old.frames.items < vec_capacity self.old.frames }
         requires base { base_of frame ≤ length self.old.held.items }
         requires nested { Nested (reverse self.old.frames.items) (below_of frame self.old.held.items) }
-        ensures goes { IfOk result (λ q. (p : Program) (t : Table) (h : Course) (n : ℕ) → unwind (code_of p h.world) (reverse self.old.frames.items) (below_of frame self.old.held.items) (runs_in (code_of p h.world) (finish (context_of p) (Target.Do task) (stand_of frame self.old.held.items ++ value ∷ [])) (state_of p (view_of self.old) t h) n) ≡ continuing p (view_of self.new) t q h n) }
+        ensures goes { IfOk result (λ q. (p : Program) (t : Table) (h : Course) (n : ℕ) → unwind (code_of p h.world) (reverse self.old.frames.items) (below_of frame self.old.held.items) (runs_in (code_of p h.world) (request (context_of p) task (stand_of frame self.old.held.items ++ value ∷ [])) (state_of p (view_of self.old) t h) n) ≡ continuing p (view_of self.new) t q h n) }
         ensures nested { OnOk result (IsNested (view_of self.new)) }
         ensures within { (k : Reach) → AreReached k (view_of self.old) → AreReached k (view_of self.new) }
         ensures asks { (k : Reach) → AreReached k (view_of self.old) → IsReached k value → IfOk result (IsAskedReached k) }
@@ -305,29 +269,8 @@ impl Engine {
         Ok(Some(Request::Do(task, values)))
     }
 
-    /// Calls a method of the first of the values that stand for a frame and of one more, with the others.
-    #[tactic(auto, unfolding(crate::specs::Within::AreReached))]
-    fn send(&mut self, callee: Callee, frame: Frame, value: Ref) -> Result<Option<Request>, Fault>
-        requires room { length self.old.frames.items < vec_capacity self.old.frames }
-        requires base { base_of frame ≤ length self.old.held.items }
-        requires nested { Nested (reverse self.old.frames.items) (below_of frame self.old.held.items) }
-        ensures goes { IfOk result (λ q. (p : Program) (t : Table) (h : Course) (n : ℕ) → unwind (code_of p h.world) (reverse self.old.frames.items) (below_of frame self.old.held.items) (runs_in (code_of p h.world) (finish (context_of p) (Target.Call callee) (stand_of frame self.old.held.items ++ value ∷ [])) (state_of p (view_of self.old) t h) n) ≡ continuing p (view_of self.new) t q h n) }
-        ensures nested { OnOk result (IsNested (view_of self.new)) }
-        ensures within { (k : Reach) → AreReached k (view_of self.old) → AreReached k (view_of self.new) }
-        ensures asks { (k : Reach) → AreReached k (view_of self.old) → IsReached k value → IfOk result (IsAskedReached k) }
-        ensures left { self.new.left ≡ self.old.left }
-        ensures err { (t : Table) → IfErr result (λ f. Stands (view_of self.old) (view_of self.new) t t f) }
-        ensures size { IfOk result (λ q. sized q (view_of self.new) ≤ 3 * length self.old.frames.items + 4) }
-        ensures room { IfErr result (λ _. length self.new.frames.items < vec_capacity self.new.frames) }
-        ensures fault { IfErr result (λ f. f ≡ Fault.Memory) }
-    {
-        let call = call_of(self.alloc, standing(&self.held, frame), callee, value)?;
-        clear(&mut self.held, frame);
-        Ok(Some(Request::Call(call)))
-    }
-
     /// Does what is done with the values that stand for a frame and with one more.
-    fn finish(
+    pub fn finish(
         &mut self,
         prepared: &Prepared,
         space: &Space,
@@ -341,7 +284,7 @@ impl Engine {
         ensures goes { IfOk result (λ q. (h : Course) (n : ℕ) → unwind (code_of prepared.now.program h.world) (reverse self.old.frames.items) (below_of frame self.old.held.items) (runs_in (code_of prepared.now.program h.world) (finish (context_of prepared.now.program) target (stand_of frame self.old.held.items ++ value ∷ [])) (state_of prepared.now.program (view_of self.old) space.now h) n) ≡ continuing prepared.now.program (view_of self.new) space.now q h n) }
         ensures nested { OnOk result (IsNested (view_of self.new)) }
         ensures within { (clusters : Option Below) → AreReached (reach (length space.now.slots) clusters) (view_of self.old) → IsReached (reach (length space.now.slots) clusters) value → AreReached (reach (length space.now.slots) clusters) (view_of self.new) }
-        ensures asks { (k : Reach) → AreReached k (view_of self.old) → IsReached k value → IfOk result (IsAskedReached k) }
+        ensures asks { (clusters : Option Below) → AreReached (reach (length space.now.slots) clusters) (view_of self.old) → IsReached (reach (length space.now.slots) clusters) value → IfOk result (IsAskedReached (reach (length space.now.slots) clusters)) }
         ensures left { self.new.left ≡ self.old.left }
         ensures err { (t : Table) → IfErr result (λ f. Stands (view_of self.old) (view_of self.new) t t f) }
         ensures size { IfOk result (λ q. sized q (view_of self.new) ≤ 3 * length self.old.frames.items + 4) }
@@ -349,14 +292,15 @@ impl Engine {
         ensures fault { IfErr result (λ f. f ≡ Fault.Memory) }
     {
         match target {
-            Target::Do(task) => self.ask(task, frame, value),
-            Target::Call(callee) => self.send(callee, frame, value),
-            Target::Own(name, block) => {
-                match self.invoke(prepared, name, block, frame, Some(value)) {
-                    Ok(()) => Ok(None),
-                    Err(fault) => Err(fault),
-                }
+            Target::Do(task) => self.finish_task(prepared, space, task, frame, value),
+            Target::Call(callee) => self.send_first(prepared, space, callee, frame, value),
+            Target::Update(getter, setter, how, part) => {
+                self.finish_access(getter, setter, how, part, frame, value)
             }
+            Target::Own(name, block) => {
+                self.send_itself(prepared, space, name, block, frame, Some(value))
+            }
+            Target::Super => self.send_super(prepared, space, frame, Some(value)),
             Target::Yield => {
                 match self.yield_values(&prepared.program, space, frame, Some(value)) {
                     Ok(()) => Ok(None),
@@ -368,7 +312,7 @@ impl Engine {
                 Ok(None)
             }
             Target::Iterate(name, block) => {
-                self.iterate(prepared, space, name, block, frame, value)
+                self.send_block(prepared, space, name, block, frame, value)
             }
         }
     }
@@ -390,7 +334,7 @@ impl Engine {
         ensures goes { IfOk result (λ q. (h : Course) (n : ℕ) → after_answer prepared.now.program (view_of self.old) space.now (Frame.Argument target end count base) (Answer.Gave value) h n ≡ continuing prepared.now.program (view_of self.new) space.now q h n) }
         ensures nested { OnOk result (IsNested (view_of self.new)) }
         ensures within { (clusters : Option Below) → AreReached (reach (length space.now.slots) clusters) (view_of self.old) → IsReached (reach (length space.now.slots) clusters) value → AreReached (reach (length space.now.slots) clusters) (view_of self.new) }
-        ensures asks { (k : Reach) → AreReached k (view_of self.old) → IsReached k value → IfOk result (IsAskedReached k) }
+        ensures asks { (clusters : Option Below) → AreReached (reach (length space.now.slots) clusters) (view_of self.old) → IsReached (reach (length space.now.slots) clusters) value → IfOk result (IsAskedReached (reach (length space.now.slots) clusters)) }
         ensures left { self.new.left ≡ self.old.left }
         ensures err { (t : Table) → IfErr result (λ f. Stands (view_of self.old) (view_of self.new) t t f) }
         ensures size { IfOk result (λ q. sized q (view_of self.new) ≤ 3 * length self.old.frames.items + 4) }
@@ -422,6 +366,7 @@ impl Engine {
         requires nested { Nested (reverse self.old.frames.items) (below_of frame self.old.held.items) }
         requires rare { IsRareFrame frame }
         requires inside { (i : Iterating) → frame ≡ Frame.Round i → ⊥ }
+        requires whole { (target : Target) (end count base : ℕ) → frame ≡ Frame.Item target end count base → ⊥ }
         ensures goes { IfOk result (λ q. (h : Course) (n : ℕ) → after_answer prepared.now.program (view_of self.old) space.now frame (Answer.Gave value) h n ≡ continuing prepared.now.program (view_of self.new) space.now q h n) }
         ensures nested { OnOk result (IsNested (view_of self.new)) }
         ensures within { (clusters : Option Below) → AreReached (reach (length space.now.slots) clusters) (view_of self.old) → IsFrameReached (reach (length space.now.slots) clusters) frame → IsReached (reach (length space.now.slots) clusters) value → AreReached (reach (length space.now.slots) clusters) (view_of self.new) }
@@ -433,17 +378,36 @@ impl Engine {
         ensures fault { IfErr result (λ f. f ≡ Fault.Memory) }
     {
         match frame {
-            Frame::Negation => Ok(self.negate(value)),
-            Frame::Right(op, left) => Ok(self.operate(op, left, value)),
+            Frame::Negation => self.negate(prepared, space, value),
+            Frame::Right(op, left) => self.operate(prepared, space, op, left, value),
             Frame::SetField(name) => Ok(Some(self.ask_field(name, value))),
             Frame::Argument(target, end, count, base) => {
                 self.resume_values(prepared, space, target, end, count, base, value)
+            }
+            Frame::Receiver(target, end, count, base) => {
+                self.resume_receiver(prepared, space, target, end, count, base, value)
+            }
+            Frame::Several(end, count) => {
+                self.assign_several(&prepared.program, space, end, count, value)?;
+                Ok(None)
             }
             Frame::Key(next, end, count, base) => self.keep_key(next, end, count, base, value),
             Frame::Value(end, count, base) => {
                 self.resume_pairs(&prepared.program, end, count, base, value)
             }
+            // Its variables go first.
+            Frame::Asking(_) => Err(Fault::Memory),
+            Frame::Asked(asking) => self.resume_asked(prepared, space, asking, value),
             Frame::Element(index, end) => self.keep_receiver(index, end, value),
+            Frame::Read(updating) => {
+                self.resume_read(updating, value);
+                Ok(None)
+            }
+            Frame::Combine(combining) => {
+                self.resume_combine(combining, value);
+                Ok(None)
+            }
+            Frame::Put(place, base) => self.resume_put(prepared, space, place, base, value),
             Frame::Rescue(_, _, otherwise) => {
                 self.go_else(&prepared.program, otherwise, value);
                 Ok(None)
@@ -467,6 +431,10 @@ impl Engine {
             }
             Frame::Turned(iteration) => {
                 self.resume_turned(&prepared.program, space, iteration, value)
+            }
+            Frame::Initialize(making) => {
+                self.initialize(prepared, making, value)?;
+                Ok(None)
             }
             _ => unreachable!(),
         }

@@ -16,6 +16,7 @@ use crate::counted::Counted;
 use crate::engine::Turn;
 use crate::exception::report;
 use crate::machine::Machine;
+use crate::making::make_plain;
 use crate::output::{Output, put};
 use crate::prepared::Prepared;
 use crate::serve::serve;
@@ -23,7 +24,7 @@ use rr_base::{ClassId, Fault, Limits, RactorNo};
 use rr_builtin::Methods;
 use rr_lexer::{Token, lex, tokens_are_one};
 use rr_parser::parse;
-use rr_space::{Node, Ref, Space};
+use rr_space::{Ref, Space};
 use rr_tree::Program;
 use std::alloc::Global;
 use std::io::Write;
@@ -43,8 +44,8 @@ pub enum Outcome {
     Stopped(Fault),
 }
 
-/// The steps of one turn.
-const BUDGET: u32 = 1_000_000;
+/// The steps of one turn, where nothing else is asked for.
+const TURN: u32 = 1_000_000;
 
 /// The program that the tokens of a source spell.
 fn parse_program(alloc: Global, source: &[u8], tokens: &[Token]) -> Result<Program, Fault>
@@ -68,18 +69,18 @@ fn read_program(alloc: Global, source: &[u8]) -> Result<Program, Fault>
     }
 }
 
-/// Makes the `self` of a program, an object of class Object. A refused growth leaves the objects as they were.
-fn make_itself(alloc: Global, space: &mut Space) -> Result<Ref, Fault>
+/// Makes the first objects of a program, of class Object and without fields: its `self`, which is given, and the one that has its
+/// global variables and constants.
+fn make_first(alloc: Global, space: &mut Space) -> Result<Ref, Fault>
     ensures name { IfOk result (λ itself. itself ≡ Ref.Local (length space.old.slots)) }
-    ensures made { IfOk result (λ _. space.new ≡ with_object (new_plain OBJECT.0) [] space.old) }
+    ensures made { IfOk result (λ _. space.new ≡ with_object (new_plain OBJECT.0) [] (with_object (new_plain OBJECT.0) [] space.old)) }
     ensures read { IfOk result (λ _. IsReadWith space.old [] → IsReadWith space.new []) }
     ensures refused { IfErr result IsRefusal }
-    ensures full { IfErr result (λ f. Passes f space.old.limit (length (with_object (new_plain OBJECT.0) [] space.old).slots)) }
+    ensures full { IfErr result (λ f. Passes f space.old.limit (length (with_object (new_plain OBJECT.0) [] (with_object (new_plain OBJECT.0) [] space.old)).slots)) }
 {
-    match space.alloc(Node::Object(ClassId::OBJECT, Vec::new(alloc))) {
-        Ok(itself) => Ok(itself),
-        Err(fault) => Err(fault),
-    }
+    let itself = make_plain(alloc, space, ClassId::OBJECT)?;
+    make_plain(alloc, space, ClassId::OBJECT)?;
+    Ok(itself)
 }
 
 /// There are no more objects than there may be.
@@ -89,34 +90,39 @@ fn objects_fit(space: &Space)
     let _count = space.len();
 }
 
-/// Runs a program on the main ractor.
+/// Runs a program on the main ractor, in turns of so many steps.
 fn run_program<O: Output>(
     alloc: Global,
     prepared: &Prepared,
     limits: Limits,
+    turn: u32,
     output: &mut O,
 ) -> Outcome
-    requires { O.failures output.old + 1 < 2 ^ 64 }
+    requires some { 0 < turn }
+    requires room { O.failures output.old + 1 < 2 ^ 64 }
     ensures leaves { Leaves (context_of prepared.now.program) (written_to O.contents O.failures output.old) (written_to O.contents O.failures output.new) (program_meaning prepared.now.program limits) result }
     ensures slots { WithinSlots limits.slots (program_meaning prepared.now.program limits) result }
 {
     let mut space = Space::new(alloc, RactorNo(1), limits.slots);
-    let itself = match make_itself(alloc, &mut space) {
+    let itself = match make_first(alloc, &mut space) {
         Ok(itself) => itself,
         Err(fault) => return Outcome::Stopped(fault),
-    };
-    let Ok(methods) = Methods::of(alloc, &prepared.program) else {
-        return Outcome::Stopped(Fault::Memory);
     };
     let mut machine = match Machine::new(alloc, prepared, limits, itself) {
         Ok(machine) => machine,
         Err(fault) => return Outcome::Stopped(fault),
     };
     loop {
-        match machine.turn(prepared, &mut space, BUDGET) {
+        match machine.turn(prepared, &mut space, turn) {
             Ok(Turn::More) => {}
             Ok(Turn::Ask(request)) => {
-                match serve(alloc, &mut space, &prepared.program, &methods, request) {
+                match serve(
+                    alloc,
+                    &mut space,
+                    &prepared.program,
+                    &prepared.methods,
+                    request,
+                ) {
                     Ok(served) => {
                         if !put(output, served.piece.as_slice()) {
                             return Outcome::OutputFailed;
@@ -151,14 +157,16 @@ fn run_prepared<O: Output>(
     alloc: Global,
     program: Program,
     limits: Limits,
+    turn: u32,
     output: &mut O,
 ) -> Outcome
-    requires { O.failures output.old + 1 < 2 ^ 64 }
+    requires some { 0 < turn }
+    requires room { O.failures output.old + 1 < 2 ^ 64 }
     ensures leaves { Leaves (context_of program) (written_to O.contents O.failures output.old) (written_to O.contents O.failures output.new) (program_meaning program limits) result }
     ensures slots { WithinSlots limits.slots (program_meaning program limits) result }
 {
     match Prepared::of(alloc, program) {
-        Ok(prepared) => run_program(alloc, &prepared, limits, output),
+        Ok(prepared) => run_program(alloc, &prepared, limits, turn, output),
         Err(_) => Outcome::Stopped(Fault::Memory),
     }
 }
@@ -167,14 +175,16 @@ fn run_prepared<O: Output>(
 fn run_within<O: Output>(
     alloc: Global,
     limits: Limits,
+    turn: u32,
     source: &[u8],
     output: &mut O,
 ) -> Result<Outcome, Fault>
-    requires { O.failures output.old + 1 < 2 ^ 64 }
+    requires some { 0 < turn }
+    requires room { O.failures output.old + 1 < 2 ^ 64 }
     ensures { Meets (record { source = source.now; limits = limits; before = written_to O.contents O.failures output.old; after = written_to O.contents O.failures output.new; ended = result }) }
 {
     match read_program(alloc, source) {
-        Ok(program) => Ok(run_prepared(alloc, program, limits, output)),
+        Ok(program) => Ok(run_prepared(alloc, program, limits, turn, output)),
         Err(fault) => Err(fault),
     }
 }
@@ -192,7 +202,25 @@ pub fn run_source_within<W: Write>(
     requires { failures output.old + 1 < 2 ^ 64 }
     ensures { Meets (record { source = source.now; limits = limits; before = counted W.contents output.old; after = counted W.contents output.new; ended = result }) }
 {
-    run_within(alloc, limits, source, output)
+    run_within(alloc, limits, TURN, source, output)
+}
+
+/// Runs a script within limits, in turns of so many steps, of one step where none is asked for. What a script does, does not depend
+/// on it.
+pub fn run_source_in_turns<W: Write>(
+    alloc: Global,
+    limits: Limits,
+    turn: u32,
+    source: &[u8],
+    output: &mut Counted<W>,
+) -> Result<Outcome, Fault>
+    requires { failures output.old + 1 < 2 ^ 64 }
+    ensures { Meets (record { source = source.now; limits = limits; before = counted W.contents output.old; after = counted W.contents output.new; ended = result }) }
+{
+    match turn {
+        0 => run_within(alloc, limits, 1, source, output),
+        _ => run_within(alloc, limits, turn, source, output),
+    }
 }
 
 /// Runs a script within the limits that hold where nothing else is asked for.

@@ -15,6 +15,7 @@ ghost use Rattle.rr_eval.specs.Calls.{sent, call_reply};
 ghost use Rattle.rr_eval.specs.Requests.{arguments_of, asked_of};
 ghost use Rattle.rr_eval.specs.Runs.{piece_asked, reply_to};
 ghost use Rattle.rr_eval.specs.Serves.{IsReplied, IsRefused};
+ghost use Rattle.rr_eval.specs.Sharing.{called_reply, ractor_method};
 ghost use Rattle.rr_eval.specs.Tasks.{piece_of, task_reply};
 ghost use Rattle.rr_text.specs.Names.{names_of};
 ghost use Rattle.rr_eval.specs.Responses.{receiver_of, response_from};
@@ -25,6 +26,7 @@ use crate::call::{Arguments, Call, Callee, Task};
 use crate::print::{Served, serve_task};
 use crate::problem::{Problem, Response};
 use crate::request::Request;
+use crate::sharing::{ractor_method, serve_ractor};
 use rr_base::Fault;
 use rr_builtin::{
     Built, BuiltInMethod, ContentMethod, Methods, NumberMethod, Problem as BuiltInProblem,
@@ -35,7 +37,7 @@ use rr_tree::Program;
 use std::alloc::Global;
 
 /// The built-in method that is called; none where no method has the name.
-fn method_of(program: &Program, methods: &Methods, callee: Callee) -> Option<BuiltInMethod>
+pub fn method_of(program: &Program, methods: &Methods, callee: Callee) -> Option<BuiltInMethod>
     requires { methods.now ≡ map (λ s. method_named s.items) program.now.symbols.items }
     ensures { result ≡ method_of (context_of program.now) callee }
 {
@@ -46,6 +48,8 @@ fn method_of(program: &Program, methods: &Methods, callee: Callee) -> Option<Bui
         Callee::Index => Some(BuiltInMethod::Content(ContentMethod::At)),
         Callee::Append => Some(BuiltInMethod::Content(ContentMethod::Append)),
         Callee::SetIndex => Some(BuiltInMethod::Content(ContentMethod::SetAt)),
+        Callee::Initialize => None,
+        Callee::Setter(_) => None,
         Callee::Name(name) => methods.find(name),
     }
 }
@@ -190,6 +194,26 @@ fn serve_call(
     serve_method(alloc, space, program, call, method)
 }
 
+/// Serves a call, of a method of Ractor too, where nothing is published. A refused growth leaves the objects as they were.
+fn serve_called(
+    alloc: Global,
+    space: &mut Space,
+    program: &Program,
+    methods: &Methods,
+    call: &Call,
+) -> Result<Response, Fault>
+    requires methods { methods.now ≡ map (λ s. method_named s.items) program.now.symbols.items }
+    requires read { IsReadWith space.old [] }
+    requires reached { IsCallReached (reach (length space.old.slots) (Some [])) call.now }
+    ensures replied { IfOk result (λ r. IsReplied (called_reply (context_of program.now) (ractor_method (context_of program.now) call.now.receiver call.now.callee) call.now.receiver call.now.callee (arguments_of call.now.arguments) space.old) space.old r space.new) }
+    ensures refused { IfErr result (IsRefused (called_reply (context_of program.now) (ractor_method (context_of program.now) call.now.receiver call.now.callee) call.now.receiver call.now.callee (arguments_of call.now.arguments) space.old) space.old) }
+{
+    match ractor_method(program, call.receiver, call.callee) {
+        Some(method) => serve_ractor(alloc, space, program, method, &call.arguments),
+        None => serve_call(alloc, space, program, methods, call),
+    }
+}
+
 /// Does a task with these values.
 fn serve_values(
     alloc: Global,
@@ -233,7 +257,7 @@ pub fn serve(
     match request {
         Request::Do(task, values) => serve_values(alloc, space, program, task, &values),
         Request::Call(call) => {
-            let response = serve_call(alloc, space, program, methods, &call)?;
+            let response = serve_called(alloc, space, program, methods, &call)?;
             Ok(Served {
                 piece: Vec::new(alloc),
                 response,

@@ -1,15 +1,19 @@
-//! Arrays that are spread over the parameters of a block.
+//! Arrays that are spread: over the parameters of a block, and by splats.
 
-ghost use Rattle.std.specs.Prelude.{◌≡◌, length, IfOk, IfSome, Option};
+ghost use Rattle.std.specs.Prelude.{◌≡◌, length, IfOk, IfErr, IfSome, Option, Ok, Err};
 ghost use Rattle.std.specs.List.{All};
 ghost use Rattle.std.specs.Option.{option_map};
 ghost use Rattle.rr_space.specs.Tables.{Below};
+ghost use Rattle.rr_space.specs.Kinds.{kind_at};
+ghost use Rattle.rr_builtin.specs.Elements.{count_at};
 ghost use Rattle.rr_eval.specs.Blocks.{spread_from};
+ghost use Rattle.rr_eval.specs.Splats.{own_items, splat_items};
 ghost use Rattle.rr_eval.specs.Within.{Reach, reach, IsReached};
 
 use crate::iterating::own;
-use rr_builtin::{Round, item_at};
-use rr_space::{Ref, Space};
+use crate::problem::Problem;
+use rr_builtin::{Problem as BuiltInProblem, Round, item_at};
+use rr_space::{Kind, Ref, Space};
 use std::alloc::{AllocError, Global};
 
 /// The first elements of an array, at most so many, where none of them is published.
@@ -36,4 +40,53 @@ pub fn spread(
         place += 1;
     }
     Ok(Some(values))
+}
+
+/// The elements of an array, where none of them is published.
+fn array_items(
+    alloc: Global,
+    space: &Space,
+    array: Ref,
+) -> Result<Result<Vec<Ref>, Problem>, AllocError>
+    ensures items { IfOk result (λ r. IfOk r (λ items. own_items (spread_from space.now array 0 (count_at space.now array)) ≡ Ok items.items)) }
+    ensures problem { IfOk result (λ r. IfErr r (λ e. own_items (spread_from space.now array 0 (count_at space.now array)) ≡ Err e)) }
+    ensures within { (clusters : Option Below) → IfOk result (λ r. IfOk r (λ items. All (IsReached (reach (length space.now.slots) clusters)) items.items)) }
+{
+    match spread(alloc, space, array, space.arity(array))? {
+        Some(items) => Ok(Ok(items)),
+        None => Ok(Err(Problem::NotHere)),
+    }
+}
+
+/// What a splat stands for, by its value, or why it is not spread.
+pub fn splat_items(
+    alloc: Global,
+    space: &Space,
+    value: Ref,
+) -> Result<Result<Vec<Ref>, Problem>, AllocError>
+    ensures items { IfOk result (λ r. IfOk r (λ items. splat_items (kind_at space.now value) space.now value ≡ Ok items.items)) }
+    ensures problem { IfOk result (λ r. IfErr r (λ e. splat_items (kind_at space.now value) space.now value ≡ Err e)) }
+    ensures within { (clusters : Option Below) → IsReached (reach (length space.now.slots) clusters) value → IfOk result (λ r. IfOk r (λ items. All (IsReached (reach (length space.now.slots) clusters)) items.items)) }
+{
+    match space.kind_of(value) {
+        Kind::Array => array_items(alloc, space, value),
+        Kind::Nil => Ok(Ok(Vec::new(alloc))),
+        Kind::Hash => {
+            let class = space.class_of(value);
+            Ok(Err(Problem::BuiltIn(BuiltInProblem::WrongType(class))))
+        }
+        Kind::Truth
+        | Kind::Integer
+        | Kind::Symbol
+        | Kind::Class
+        | Kind::Ractor
+        | Kind::Text
+        | Kind::Object
+        | Kind::Exception
+        | Kind::Shell => {
+            let mut items = Vec::new(alloc);
+            items.push(value)?;
+            Ok(Ok(items))
+        }
+    }
 }

@@ -1,20 +1,22 @@
-//! Assignments to a variable that also read it.
+//! Assignments that also read what they assign to, as they begin.
 
 ghost use Rattle.std.specs.Prelude.{◌≡◌, ◌+◌, ◌*◌, ◌<◌, ◌≤◌, ℕ, length, vec_capacity};
 ghost use Rattle.rr_space.specs.Tables.{Table};
 ghost use Rattle.rr_tree.specs.Tree.{tree_at};
 ghost use Rattle.rr_eval.specs.Requests.{Course};
-ghost use Rattle.rr_eval.specs.Rules.{variable_of, update_rule, or_rule, and_rule};
+ghost use Rattle.rr_eval.specs.Basics.{variable_of};
+ghost use Rattle.rr_eval.specs.Updating.{place_of, access_rule, operator_rule, update_rule};
 ghost use Rattle.rr_eval.specs.Turns.{context_of, IsNested, after_script, remaining_with, size};
 ghost use Rattle.rr_eval.specs.Views.{view_of};
 ghost use Rattle.rr_eval.specs.Within.{Reach, AreReached};
 
+use crate::call::{Callee, Target};
 use crate::call_stack::Variable;
 use crate::engine::{Engine, push_within};
 use crate::frame::{Control, Frame};
 use crate::nodes::evaluated_node;
-use crate::problem::{Answer, Problem};
-use rr_builtin::is_truthy;
+use crate::problem::Problem;
+use crate::updating::{Place, Update, Updating};
 use rr_tree::{BinaryOperator, Node, NodeId, Program};
 
 /// The variable that a target is, where it is one.
@@ -27,11 +29,46 @@ pub fn variable_of(program: &Program, target: NodeId) -> Option<Variable>
     }
 }
 
+/// The variable, or the instance variable, that a target is, where it is one.
+fn place_of(program: &Program, target: NodeId) -> Option<Place>
+    ensures { result ≡ place_of (tree_at program.now.nodes.items target) }
+{
+    match evaluated_node(program, target) {
+        Node::Local { depth, slot, .. } => Some(Place::Variable(Variable { depth, slot })),
+        Node::Field(name) => Some(Place::Field(name)),
+        _ => None,
+    }
+}
+
 impl Engine {
+    /// Evaluates the receiver, and then the index, of an element or an attribute that is read and then assigned to.
+    #[tactic(auto, unfolding(crate::specs::Within::AreReached))]
+    fn open_access(&mut self, program: &Program, how: Update, target: NodeId, value: NodeId)
+        requires room { length self.old.frames.items < vec_capacity self.old.frames }
+        requires nested { IsNested (view_of self.old) }
+        ensures goes { (t : Table) (h : Course) (n : ℕ) → after_script program.now (view_of self.old) t (access_rule (context_of program.now) how (tree_at program.now.nodes.items target) (tree_at program.now.nodes.items value)) h n ≡ remaining_with program.now (view_of self.new) t h n }
+        ensures nested { IsNested (view_of self.new) }
+        ensures within { (k : Reach) → AreReached k (view_of self.old) → AreReached k (view_of self.new) }
+        ensures left { self.new.left ≡ self.old.left }
+        ensures size { size (view_of self.new) ≤ 3 * length self.old.frames.items + 4 }
+    {
+        let base = self.held.len();
+        match evaluated_node(program, target) {
+            Node::Index(receiver, index) => {
+                let target = Target::Update(Callee::Index, Callee::SetIndex, how, value);
+                self.enter_above(Frame::Argument(target, index + 1, 1, base), receiver);
+            }
+            Node::Send { receiver, name, .. } => {
+                let target = Target::Update(Callee::Name(name), Callee::Setter(name), how, value);
+                self.enter_above(Frame::Argument(target, 0, 0, base), receiver);
+            }
+            _ => self.control = Control::Throw(Problem::NotHere),
+        }
+    }
+
     /// Evaluates `a op= b`, which is `a = a op b`.
     #[tactic(auto, unfolding(crate::specs::Within::AreReached))]
-    #[inline(always)]
-    pub fn open_update(
+    pub fn open_operator(
         &mut self,
         program: &Program,
         op: BinaryOperator,
@@ -40,66 +77,55 @@ impl Engine {
     )
         requires room { length self.old.frames.items < vec_capacity self.old.frames }
         requires nested { IsNested (view_of self.old) }
-        ensures goes { (t : Table) (h : Course) (n : ℕ) → after_script program.now (view_of self.old) t (update_rule (context_of program.now) op (tree_at program.now.nodes.items target) (tree_at program.now.nodes.items value) (variable_of (tree_at program.now.nodes.items target))) h n ≡ remaining_with program.now (view_of self.new) t h n }
+        ensures goes { (t : Table) (h : Course) (n : ℕ) → after_script program.now (view_of self.old) t (operator_rule (context_of program.now) op (tree_at program.now.nodes.items target) (tree_at program.now.nodes.items value) (place_of (tree_at program.now.nodes.items target))) h n ≡ remaining_with program.now (view_of self.new) t h n }
         ensures nested { IsNested (view_of self.new) }
         ensures within { (k : Reach) → AreReached k (view_of self.old) → AreReached k (view_of self.new) }
         ensures left { self.new.left ≡ self.old.left }
         ensures size { size (view_of self.new) ≤ 3 * length self.old.frames.items + 4 }
     {
-        match variable_of(program, target) {
-            Some(variable) => {
+        match place_of(program, target) {
+            Some(Place::Variable(variable)) => {
                 push_within(&mut self.frames, Frame::Store(variable));
                 self.control = Control::Operate(op, target, value);
             }
-            None => self.control = Control::Throw(Problem::NotHere),
+            Some(place) => {
+                push_within(&mut self.frames, Frame::Put(place, self.held.len()));
+                self.control = Control::Operate(op, target, value);
+            }
+            None => {
+                self.open_access(
+                    program,
+                    Update::Combine(Callee::Operator(op)),
+                    target,
+                    value,
+                );
+            }
         }
     }
 
-    /// Evaluates `a ||= b`.
+    /// Evaluates `a <<= b`, `a ||= b` or `a &&= b`: what is there is read first.
     #[tactic(auto, unfolding(crate::specs::Within::AreReached))]
-    pub fn open_or_assign(&mut self, program: &Program, target: NodeId, value: NodeId)
+    pub fn open_update(&mut self, program: &Program, how: Update, target: NodeId, value: NodeId)
         requires room { length self.old.frames.items < vec_capacity self.old.frames }
         requires nested { IsNested (view_of self.old) }
-        ensures goes { (t : Table) (h : Course) (n : ℕ) → after_script program.now (view_of self.old) t (or_rule (context_of program.now) (tree_at program.now.nodes.items value) (variable_of (tree_at program.now.nodes.items target))) h n ≡ remaining_with program.now (view_of self.new) t h n }
+        ensures goes { (t : Table) (h : Course) (n : ℕ) → after_script program.now (view_of self.old) t (update_rule (context_of program.now) how (tree_at program.now.nodes.items target) (tree_at program.now.nodes.items value) (place_of (tree_at program.now.nodes.items target))) h n ≡ remaining_with program.now (view_of self.new) t h n }
         ensures nested { IsNested (view_of self.new) }
         ensures within { (k : Reach) → AreReached k (view_of self.old) → AreReached k (view_of self.new) }
         ensures left { self.new.left ≡ self.old.left }
         ensures size { size (view_of self.new) ≤ 3 * length self.old.frames.items + 4 }
     {
-        match variable_of(program, target) {
-            Some(variable) => {
-                let old = self.variable(variable);
-                if is_truthy(old) {
-                    self.control = Control::Give(Answer::Gave(old));
-                } else {
-                    self.enter_above(Frame::Store(variable), value);
-                }
+        match place_of(program, target) {
+            Some(place) => {
+                let base = self.held.len();
+                let updating = Updating {
+                    place,
+                    how,
+                    value,
+                    base,
+                };
+                self.enter_above(Frame::Read(updating), target);
             }
-            None => self.control = Control::Throw(Problem::NotHere),
-        }
-    }
-
-    /// Evaluates `a &&= b`.
-    #[tactic(auto, unfolding(crate::specs::Within::AreReached))]
-    pub fn open_and_assign(&mut self, program: &Program, target: NodeId, value: NodeId)
-        requires room { length self.old.frames.items < vec_capacity self.old.frames }
-        requires nested { IsNested (view_of self.old) }
-        ensures goes { (t : Table) (h : Course) (n : ℕ) → after_script program.now (view_of self.old) t (and_rule (context_of program.now) (tree_at program.now.nodes.items value) (variable_of (tree_at program.now.nodes.items target))) h n ≡ remaining_with program.now (view_of self.new) t h n }
-        ensures nested { IsNested (view_of self.new) }
-        ensures within { (k : Reach) → AreReached k (view_of self.old) → AreReached k (view_of self.new) }
-        ensures left { self.new.left ≡ self.old.left }
-        ensures size { size (view_of self.new) ≤ 3 * length self.old.frames.items + 4 }
-    {
-        match variable_of(program, target) {
-            Some(variable) => {
-                let old = self.variable(variable);
-                if is_truthy(old) {
-                    self.enter_above(Frame::Store(variable), value);
-                } else {
-                    self.control = Control::Give(Answer::Gave(old));
-                }
-            }
-            None => self.control = Control::Throw(Problem::NotHere),
+            None => self.open_access(program, how, target, value),
         }
     }
 }

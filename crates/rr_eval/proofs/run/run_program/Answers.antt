@@ -3,6 +3,7 @@ use Rattle.std.proofs.Common.{◌≡◌, inl, refl, sym, subst, ◌∙◌, arith
 use Rattle.rr_base.specs.declared.name.TheConstants.ClassId.{OBJECT}
 use Rattle.rr_space.specs.Tables.{Table, Slot, Here, Below}
 use Rattle.rr_space.specs.declared.refer.Ref.TheVariants.{Local}
+use Rattle.rr_builtin.specs.Acts.{with_object}
 use Rattle.rr_builtin.specs.News.{new_plain}
 use Rattle.rr_tree.specs.Tree.{tree_at}
 use Rattle.rr_eval.specs.Acts.{Passes}
@@ -27,10 +28,10 @@ loop-request-init g c =
     let made = c.new-space.ensures in
     let first = c.in-Ok.ensures in
     let t = c.new-space.result in
-    let u = c.make_itself.new.space in
+    let u = c.make_first.new.space in
     let itself = c.in-Ok.itself in
     let zero : itself ≡ Local 0 = first.name ∙ ap (λ (s : List Slot). Local (length s)) made.slots in
-    let one : 0 < length u.slots = omega (arith, ap (λ (x : Table). length x.slots) first.made, length-append t.slots (Here (new_plain OBJECT.0) ∷ [])) in
+    let one : 0 < length u.slots = omega (arith, ap (λ (x : Table). length x.slots) first.made, length-append (with_object (new_plain OBJECT.0) [] t).slots (Here (new_plain OBJECT.0) ∷ [])) in
     let reached = λ (clusters : Option Below). subst (IsReached (reach (length u.slots) clusters)) (sym zero) one in
     let begins = first_state p t u c.args.limits.frames c.args.limits.slots (first_table t c.args.limits.slots made.slots made.below made.keys made.limit made.owner made.next_message) first.made in
     let whole = c.in-Ok-new.ensures.whole u (in_world w []) in
@@ -51,7 +52,13 @@ returns-in-Err-clause-slots g c = λ is.
     let made = c.new-space.ensures in
     let more = c.in-Err.ensures.full is in
     let kept = begun_keeps (code_of p w) (alone_adds (context_of p)) (tree_at p.nodes.items p.root) (start_state (context_of p) c.args.limits.frames (Local 0) (first_objects c.args.limits.slots)) c.args.limits.steps in
-    omega (arith, more, kept, made.limit, ap (λ (s : List Slot). length s) made.slots, length-append t.slots (Here (new_plain OBJECT.0) ∷ []))
+    let next = length-append (with_object (new_plain OBJECT.0) [] t).slots (Here (new_plain OBJECT.0) ∷ []) in
+    omega (arith, more, kept, made.limit, ap (λ (s : List Slot). length s) made.slots, length-append t.slots (Here (new_plain OBJECT.0) ∷ []), next)
+
+pub returns-in-Err-clause-leaves : goal.returns-in-Err-clause-leaves
+returns-in-Err-clause-leaves g c =
+    let p = c.args.prepared.now.program in
+    (c.in-Err.ensures.refused, nothing_written (context_of p) (program_meaning p c.args.limits) _)
 
 pub returns-in-Err-new-clause-leaves : goal.returns-in-Err-new-clause-leaves
 returns-in-Err-new-clause-leaves g c =

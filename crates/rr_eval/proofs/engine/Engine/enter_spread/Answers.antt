@@ -28,7 +28,7 @@ pub returns-in-Ok-clause-within : goal.returns-in-Ok-clause-within
 returns-in-Ok-clause-within c k h values =
     let m = view_of c.args.self.now in
     let entry = OfBlock c.args.home in
-    enter_reached k m c.args.frame _ _ _ _ entry c.args.shape.parameters c.args.shape.size c.args.body c.args.values.now (activation_in entry m.calls.frames) c.push_within-in-Ok.ensures c.clear.ensures c.in-Ok.ensures.pushed h (activation_within k entry m.calls.frames (calls_reached k m h) tt)
+    enter_reached k m c.args.frame _ _ _ _ entry c.args.shape.parameters c.args.shape.size c.args.body c.args.values.now (activation_in entry m.calls.frames) c.push_within-in-Ok.ensures c.clear.ensures c.in-Ok.ensures.pushed h tt (activation_within k entry m.calls.frames (calls_reached k m h) tt)
     values
 
 pub returns-in-Err-Limit-Frames-clause-within : goal.returns-in-Err-Limit-Frames-clause-within

@@ -6,6 +6,7 @@ use Rattle.rr_eval.specs.Rules.{rule, loop_rule}
 use Rattle.rr_eval.specs.Nodes.{evaluated_tree}
 use Rattle.rr_eval.specs.Turns.{context_of, after_script}
 use Rattle.rr_eval.proofs.Lists.{sequence_rule, send_is, rescue_is}
+use Rattle.rr_eval.proofs.Targets.{several_is}
 use Rattle.rr_eval.proofs.Pairing.{set_index_is}
 use Rattle.rr_eval.proofs.Unknown.{unknown_else}
 use Rattle.rr_eval.specs.Views.{view_of}
@@ -36,7 +37,7 @@ returns-in-Send-clause-goes c = λ _ t h n.
     let p = c.args.program.now in
     let ns = p.nodes.items in
     let script = ap (λ x. rule (context_of p) (evaluated_tree ns x)) c.in-Send.is ∙ sym (send_is ns (context_of p) c.in-Send.receiver c.in-Send.name c.in-Send.first c.in-Send.count c.in-Send.site) in
-    ap (λ r. after_script p (view_of c.args.self.now) t r h n) script ∙ c.open_send.ensures.goes p t h n
+    ap (λ r. after_script p (view_of c.args.self.now) t r h n) script ∙ c.open_receiver.ensures.goes p t h n
 
 pub returns-in-SetIndex-clause-goes : goal.returns-in-SetIndex-clause-goes
 returns-in-SetIndex-clause-goes c = λ _ t h n.
@@ -44,6 +45,16 @@ returns-in-SetIndex-clause-goes c = λ _ t h n.
     let ns = p.nodes.items in
     let script = ap (λ x. rule (context_of p) (evaluated_tree ns x)) c.in-SetIndex.is ∙ sym (set_index_is ns (context_of p) c.in-SetIndex.receiver c.in-SetIndex.index c.in-SetIndex.value) in
     ap (λ r. after_script p (view_of c.args.self.now) t r h n) script ∙ c.enter_above-in-SetIndex.ensures.goes p t h n
+
+pub returns-in-MultipleAssign-clause-goes : goal.returns-in-MultipleAssign-clause-goes
+returns-in-MultipleAssign-clause-goes c = λ _ t h n.
+    let p = c.args.program.now in
+    let ns = p.nodes.items in
+    let script = ap (λ x. rule (context_of p) (evaluated_tree ns x)) c.in-MultipleAssign.is ∙ sym (several_is ns (context_of p) c.in-MultipleAssign.first c.in-MultipleAssign.count c.in-MultipleAssign.value) in
+    ap (λ r. after_script p (view_of c.args.self.now) t r h n) script ∙ c.enter_above-in-MultipleAssign.ensures.goes p t h n
+
+pub returns-in-MultipleAssign-clause-within : goal.returns-in-MultipleAssign-clause-within
+returns-in-MultipleAssign-clause-within c k h = c.enter_above-in-MultipleAssign.ensures.within k h tt
 
 pub returns-in-And-clause-within : goal.returns-in-And-clause-within
 returns-in-And-clause-within c k h = c.enter_above.ensures.within k h tt
@@ -65,6 +76,12 @@ returns-in-Assign-clause-within c k h = c.enter_above-in-Assign.ensures.within k
 
 pub returns-in-SetField-clause-within : goal.returns-in-SetField-clause-within
 returns-in-SetField-clause-within c k h = c.enter_above-in-SetField.ensures.within k h tt
+
+pub returns-in-SetGlobal-clause-within : goal.returns-in-SetGlobal-clause-within
+returns-in-SetGlobal-clause-within c k h = c.open_assignment.ensures.within k h
+
+pub returns-in-SetConstant-clause-within : goal.returns-in-SetConstant-clause-within
+returns-in-SetConstant-clause-within c k h = c.open_assignment-in-SetConstant.ensures.within k h
 
 pub returns-in-Choose-clause-within : goal.returns-in-Choose-clause-within
 returns-in-Choose-clause-within c k h = c.enter_above-in-Choose.ensures.within k h tt
@@ -97,14 +114,17 @@ returns-in-Rescue-clause-within c k h = c.enter_above-in-Rescue.ensures.within k
 pub returns-in-Ensure-clause-within : goal.returns-in-Ensure-clause-within
 returns-in-Ensure-clause-within c k h = c.enter_above-in-Ensure.ensures.within k h tt
 
+pub returns-in-OperatorAssign-clause-within : goal.returns-in-OperatorAssign-clause-within
+returns-in-OperatorAssign-clause-within c k h = c.open_operator.ensures.within k h
+
+pub returns-in-AppendAssign-clause-within : goal.returns-in-AppendAssign-clause-within
+returns-in-AppendAssign-clause-within c k h = c.open_update.ensures.within k h
+
 pub returns-in-OrAssign-clause-within : goal.returns-in-OrAssign-clause-within
-returns-in-OrAssign-clause-within c k h = c.open_or_assign.ensures.within k h
+returns-in-OrAssign-clause-within c k h = c.open_update-in-OrAssign.ensures.within k h
 
 pub returns-in-AndAssign-clause-within : goal.returns-in-AndAssign-clause-within
-returns-in-AndAssign-clause-within c k h = c.open_and_assign.ensures.within k h
-
-pub returns-in-OperatorAssign-clause-within : goal.returns-in-OperatorAssign-clause-within
-returns-in-OperatorAssign-clause-within c k h = c.open_update.ensures.within k h
+returns-in-AndAssign-clause-within c k h = c.open_update-in-AndAssign.ensures.within k h
 
 pub open_unknown-requires-clause-unknown : goal.open_unknown-requires-clause-unknown
 open_unknown-requires-clause-unknown c =
@@ -118,6 +138,7 @@ open_unknown-requires-clause-unknown c =
       no_class = is.not-Class;
       no_constant = is.not-Constant;
       no_array = is.not-Array;
+      no_splat = is.not-Splat;
       no_hash = is.not-Hash;
       no_pairs = is.not-Pairs;
       no_interpolation = is.not-Interpolation;
@@ -125,14 +146,20 @@ open_unknown-requires-clause-unknown c =
       no_itself = is.not-Itself;
       no_field = is.not-Field;
       no_set_field = is.not-SetField;
+      no_global = is.not-Global;
+      no_set_global = is.not-SetGlobal;
+      no_set_constant = is.not-SetConstant;
       no_bare = is.not-Bare;
       no_call = is.not-Call;
       no_send = is.not-Send;
       no_with_block = is.not-WithBlock;
       no_block = is.not-Block;
+      no_super = is.not-Super;
+      no_forwarding = is.not-ForwardingSuper;
       no_yield = is.not-Yield;
       no_index = is.not-Index;
       no_append = is.not-Append;
+      no_set_attribute = is.not-SetAttribute;
       no_set_index = is.not-SetIndex;
       no_and = is.not-And;
       no_or = is.not-Or;
@@ -140,7 +167,9 @@ open_unknown-requires-clause-unknown c =
       no_negate = is.not-Negate;
       no_binary = is.not-Binary;
       no_assign = is.not-Assign;
+      no_several = is.not-MultipleAssign;
       no_operator_assign = is.not-OperatorAssign;
+      no_append_assign = is.not-AppendAssign;
       no_or_assign = is.not-OrAssign;
       no_and_assign = is.not-AndAssign;
       no_choose = is.not-Choose;

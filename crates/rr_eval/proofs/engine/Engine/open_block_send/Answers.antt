@@ -3,5 +3,5 @@ use Rattle.rr_eval.specs.Views.{view_of}
 use Rattle.rr_eval.proofs.Holding.{with_frames}
 use Rattle.rr_eval.proofs.engine.Engine.open_block_send.Goals as goal
 
-pub returns-in_ok-reserve-in-Some-clause-within : goal.returns-in_ok-reserve-in-Some-clause-within
-returns-in_ok-reserve-in-Some-clause-within c k h = c.enter_above.ensures.within k (with_frames k (view_of c.args.self.now) _ c.reserve.ensures.items h) tt
+pub returns-clause-within : goal.returns-clause-within
+returns-clause-within c k h = c.enter_above.ensures.within k (with_frames k (view_of c.args.self.now) _ c.reserve.ensures.items h) tt

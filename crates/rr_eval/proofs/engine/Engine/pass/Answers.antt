@@ -1,8 +1,9 @@
 -- What is held stays within.
-use Rattle.std.proofs.Common.{◌∙◌, ap, sym, reverse}
+use Rattle.std.proofs.Common.{◌∙◌, ap, sym, subst, reverse}
 use Rattle.rr_eval.specs.Frames.{below_of, runs_in, stand_of, start, unwind}
 use Rattle.rr_eval.specs.Turns.{code_of, state_of}
 use Rattle.rr_eval.specs.Views.{view_of}
+use Rattle.rr_eval.specs.Within.{IsFrameReached}
 use Rattle.rr_eval.proofs.Invoking.{answer_passes}
 use Rattle.rr_eval.proofs.engine.Engine.pass.Goals as goal
 
@@ -19,10 +20,13 @@ pub returns-in-Ensure-clause-within : goal.returns-in-Ensure-clause-within
 returns-in-Ensure-clause-within c k h frame answer = c.enter_above.ensures.within k h answer
 
 pub returns-in-Back-clause-within : goal.returns-in-Back-clause-within
-returns-in-Back-clause-within c k h frame answer = c.leave_back.ensures.within k h answer
+returns-in-Back-clause-within c k h frame answer = c.leave_back.ensures.within k h (subst (IsFrameReached k) c.in-Back.is frame) answer
 
 pub returns-in-Past-clause-within : goal.returns-in-Past-clause-within
 returns-in-Past-clause-within c k h frame answer = c.leave_past.ensures.within k h answer
+
+pub returns-in-Asking-clause-within : goal.returns-in-Asking-clause-within
+returns-in-Asking-clause-within c k h frame answer = c.leave_asking.ensures.within k h answer
 
 pub returns-in-Round-clause-within : goal.returns-in-Round-clause-within
 returns-in-Round-clause-within c k h frame answer = c.leave_round.ensures.within k h answer
@@ -43,6 +47,7 @@ returns-in_default-clause-goes c h =
       no_rescue = is.not-Rescue;
       no_handling = is.not-Handling;
       no_ensure = is.not-Ensure;
+      no_asking = is.not-Asking;
       no_round = is.not-Round;
     }) c.requires.passes)
     ∙ ap (λ k. unwind code (reverse m.frames) (below_of f m.held) (start code k s m.left)) (sym c.requires.control)

@@ -1,8 +1,10 @@
 -- What is held stays within.
+use Rattle.std.proofs.Common.{subst}
 use Rattle.rr_eval.specs.declared.frame.Control.TheVariants.{Give}
 use Rattle.rr_eval.specs.declared.problem.Answer.TheVariants.{Gave}
 use Rattle.rr_eval.proofs.Holding.{with_variable}
 use Rattle.rr_eval.specs.Views.{view_of}
+use Rattle.rr_eval.specs.Within.{IsFrameReached}
 use Rattle.rr_eval.proofs.engine.Engine.resume.Goals as goal
 
 pub returns-then-not-operate_leaf-clause-within : goal.returns-then-not-operate_leaf-clause-within
@@ -18,7 +20,7 @@ pub returns-in-Store-clause-within : goal.returns-in-Store-clause-within
 returns-in-Store-clause-within c k h frame value = with_variable k (view_of c.args.self.now) c.write.new.self c.in-Store.variable c.args.value (Give (Gave c.args.value)) c.write.ensures.frames h value value
 
 pub returns-in-Back-clause-within : goal.returns-in-Back-clause-within
-returns-in-Back-clause-within c k h frame value = c.end_method.ensures.within k h value
+returns-in-Back-clause-within c k h frame value = c.end_method.ensures.within k h (subst (IsFrameReached k) c.in-Back.is frame) value
 
 pub returns-in-Rest-clause-within : goal.returns-in-Rest-clause-within
 returns-in-Rest-clause-within c k h frame value = c.begin.ensures.within k h

@@ -12,10 +12,10 @@ pub returns-in-Argument-clause-within : goal.returns-in-Argument-clause-within
 returns-in-Argument-clause-within c k h frame value = c.resume_values.ensures.within k h value
 
 pub returns-in-Negation-clause-asks : goal.returns-in-Negation-clause-asks
-returns-in-Negation-clause-asks c k h frame value = c.negate.ensures.asks (reach (length c.args.space.now.slots) k) value
+returns-in-Negation-clause-asks c k h frame value = c.negate.ensures.asks (reach (length c.args.space.now.slots) k) h value
 
 pub returns-in-Right-clause-asks : goal.returns-in-Right-clause-asks
-returns-in-Right-clause-asks c k h frame value = c.operate.ensures.asks (reach (length c.args.space.now.slots) k) (subst (IsFrameReached (reach (length c.args.space.now.slots) k)) c.in-Right.is frame) value
+returns-in-Right-clause-asks c k h frame value = c.operate.ensures.asks (reach (length c.args.space.now.slots) k) h (subst (IsFrameReached (reach (length c.args.space.now.slots) k)) c.in-Right.is frame) value
 
 pub returns-in-SetField-clause-goes : goal.returns-in-SetField-clause-goes
 returns-in-SetField-clause-goes c h n =
@@ -34,3 +34,41 @@ returns-in-Handling-clause-within c k h frame value = with_rescuing (reach (leng
 
 pub returns-in-Kept-clause-within : goal.returns-in-Kept-clause-within
 returns-in-Kept-clause-within c k h frame value = with_control (reach (length c.args.space.now.slots) k) (view_of c.args.self.now) (Give c.in-Kept.answer) h (subst (IsFrameReached (reach (length c.args.space.now.slots) k)) c.in-Kept.is frame)
+
+pub returns-in-Negation-clause-within : goal.returns-in-Negation-clause-within
+returns-in-Negation-clause-within c k h frame value = c.negate.ensures.within k h value
+
+pub returns-in-Right-clause-within : goal.returns-in-Right-clause-within
+returns-in-Right-clause-within c k h frame value = c.operate.ensures.within k h (subst (IsFrameReached (reach (length c.args.space.now.slots) k)) c.in-Right.is frame) value
+
+pub returns-in_ok-initialize-in-Initialize-clause-goes : goal.returns-in_ok-initialize-in-Initialize-clause-goes
+returns-in_ok-initialize-in-Initialize-clause-goes c h n =
+    let p = c.args.prepared.now.program in
+    let t = c.args.space.now in
+    ap (λ f. after_answer p (view_of c.args.self.now) t f (Gave c.args.value) h n) c.in-Initialize.is ∙ c.in_ok-initialize-in-Initialize.ensures.goes t h n
+
+pub returns-in-Read-clause-goes : goal.returns-in-Read-clause-goes
+returns-in-Read-clause-goes c h n =
+    let p = c.args.prepared.now.program in
+    let t = c.args.space.now in
+    ap (λ f. after_answer p (view_of c.args.self.now) t f (Gave c.args.value) h n) c.in-Read.is ∙ c.resume_read.ensures.goes p t h n
+
+pub returns-in-Read-clause-within : goal.returns-in-Read-clause-within
+returns-in-Read-clause-within c k h frame value = c.resume_read.ensures.within (reach (length c.args.space.now.slots) k) h value
+
+pub returns-in-Combine-clause-goes : goal.returns-in-Combine-clause-goes
+returns-in-Combine-clause-goes c h n =
+    let p = c.args.prepared.now.program in
+    let t = c.args.space.now in
+    ap (λ f. after_answer p (view_of c.args.self.now) t f (Gave c.args.value) h n) c.in-Combine.is ∙ c.resume_combine.ensures.goes p t h n
+
+pub returns-in-Combine-clause-within : goal.returns-in-Combine-clause-within
+returns-in-Combine-clause-within c k h frame value =
+    let far = reach (length c.args.space.now.slots) k in
+    c.resume_combine.ensures.within far h (subst (IsFrameReached far) c.in-Combine.is frame) value
+
+pub returns-in-Put-clause-within : goal.returns-in-Put-clause-within
+returns-in-Put-clause-within c k h frame value = c.resume_put.ensures.within k h value
+
+pub returns-in-Put-clause-asks : goal.returns-in-Put-clause-asks
+returns-in-Put-clause-asks c k h frame value = c.resume_put.ensures.asks (reach (length c.args.space.now.slots) k) h value

@@ -1,0 +1,55 @@
+-- The new object is reached, or would be one too many.
+use Rattle.std.proofs.Common.{◌≡◌, [], ◌∷◌, None, Some, ap, length, subst, sym}
+use Rattle.rr_eval.specs.declared.problem.Answer.TheVariants.{Gave}
+use Rattle.rr_eval.specs.Acts.{Passes}
+use Rattle.rr_eval.specs.Dispatch.{making}
+use Rattle.rr_eval.specs.Frames.{outcome_of}
+use Rattle.rr_eval.specs.Script.{Ret, objects_of}
+use Rattle.rr_eval.specs.Turns.{context_of, code_of, state_of, remaining, after_script}
+use Rattle.rr_eval.specs.Views.{view_of}
+use Rattle.rr_eval.proofs.NewObjects.{making_passes, new_more, new_given, waiting_reached}
+use Rattle.rr_eval.proofs.engine.Engine.make_new.Goals as goal
+
+pub give_object-requires-clause-within : goal.give_object-requires-clause-within
+give_object-requires-clause-within c =
+    let t = c.args.space.now in
+    let u = c.make_object.new.space in
+    let lt = new_more (context_of c.args.prepared.now.program) c.args.class t u c.in-Ok.ensures.made in
+    new_given (length t.slots) (length u.slots) None (view_of c.args.self.now) c.pop.new.self.items (c.in-Some.frame ∷ []) c.in-Ok.object lt c.in-Some.ensures.items c.in-Ok.ensures.name c.requires.within
+
+pub returns-in-Some-clause-within : goal.returns-in-Some-clause-within
+returns-in-Some-clause-within c clusters h =
+    let t = c.args.space.now in
+    let u = c.make_object.new.space in
+    let m = view_of c.args.self.now in
+    let lt = new_more (context_of c.args.prepared.now.program) c.args.class t u c.in-Ok.ensures.made in
+    c.give_object.ensures.within clusters
+    (new_given (length t.slots) (length u.slots) clusters m c.pop.new.self.items (c.in-Some.frame ∷ []) c.in-Ok.object lt c.in-Some.ensures.items c.in-Ok.ensures.name h)
+    (waiting_reached (length t.slots) (length u.slots) clusters m c.pop.new.self.items c.in-Some.frame lt c.in-Some.ensures.items h)
+
+pub returns-in-Some-clause-read : goal.returns-in-Some-clause-read
+returns-in-Some-clause-read c below read h =
+    let t = c.args.space.now in
+    let u = c.make_object.new.space in
+    let lt = new_more (context_of c.args.prepared.now.program) c.args.class t u c.in-Ok.ensures.made in
+    c.give_object.ensures.read below (c.in-Ok.ensures.read below read)
+    (new_given (length t.slots) (length u.slots) (Some below) (view_of c.args.self.now) c.pop.new.self.items (c.in-Some.frame ∷ []) c.in-Ok.object lt c.in-Some.ensures.items c.in-Ok.ensures.name h)
+
+pub returns-in-None-clause-within : goal.returns-in-None-clause-within
+returns-in-None-clause-within c clusters h =
+    let t = c.args.space.now in
+    let u = c.make_object.new.space in
+    let lt = new_more (context_of c.args.prepared.now.program) c.args.class t u c.in-Ok.ensures.made in
+    new_given (length t.slots) (length u.slots) clusters (view_of c.args.self.now) c.pop.new.self.items [] c.in-Ok.object lt c.in-None.ensures.items c.in-Ok.ensures.name h
+
+pub returns-in-None-clause-read : goal.returns-in-None-clause-read
+returns-in-None-clause-read c below read h = c.in-Ok.ensures.read below read
+
+pub returns-in-Err-clause-full : goal.returns-in-Err-clause-full
+returns-in-Err-clause-full c = λ h adds.
+    let p = c.args.prepared.now.program in
+    let m = view_of c.args.self.now in
+    let t = c.args.space.now in
+    let f = c.in-Err.fault in
+    let at : remaining p m t h ≡ after_script p m t (making (context_of p) c.args.class (λ v. Ret (Gave v))) h m.left = ap (λ k. outcome_of (code_of p h.world) m.frames m.held k (state_of p m t h) m.left) c.requires.control in
+    subst (λ o. Passes f t.limit (objects_of o)) (sym at) (making_passes p m t c.args.class f h m.left adds c.in-Err.ensures.full)

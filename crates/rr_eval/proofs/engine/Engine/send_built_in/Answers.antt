@@ -1,0 +1,8 @@
+-- What is held stays within.
+use Rattle.rr_eval.proofs.engine.Engine.send_built_in.Goals as goal
+
+pub returns-in-None-None-clause-within : goal.returns-in-None-None-clause-within
+returns-in-None-None-clause-within c k h last = c.ask_method.ensures.within k h
+
+pub returns-in-None-Some-clause-within : goal.returns-in-None-Some-clause-within
+returns-in-None-Some-clause-within c k h last = c.refuse.ensures.within k h

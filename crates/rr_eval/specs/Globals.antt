@@ -1,0 +1,24 @@
+-- Global variables.
+use Rattle.std.specs.Prelude.{[], ◌∷◌}
+use Rattle.rr_base.specs.declared.name.Sym.{Sym}
+use Rattle.rr_space.specs.declared.refer.Ref.{Ref}
+use Rattle.rr_space.specs.declared.refer.Ref.TheVariants.{Local}
+use Rattle.rr_builtin.specs.Fields.{field_at}
+use Rattle.rr_eval.specs.declared.call.Task.TheVariants.{SetGlobal}
+use Rattle.rr_eval.specs.Basics.{settled}
+use Rattle.rr_eval.specs.Context.{Context}
+use Rattle.rr_eval.specs.Fields.{field_response}
+use Rattle.rr_eval.specs.Script.{Script, See, Ask, Does}
+
+-- The object whose fields are the global variables and the constants: the second object of a script, to which no value leads. The
+-- name of a global variable begins with `$`, and that of a constant with a capital letter.
+abbrev pub globals : Ref
+globals = Local 1
+
+-- what a global variable holds; nil where it is unset
+abbrev pub global_rule : Context → Sym → Script
+global_rule c x = See (λ m. settled c (field_response (field_at m.table globals x.0)))
+
+-- a global variable, or a constant, gets a value, which is the value of the assignment
+abbrev pub set_global_rule : Context → Sym → Ref → Script
+set_global_rule c x v = See (λ m. Ask (Does (SetGlobal x) (v ∷ []) m.table) (settled c))

@@ -1,0 +1,175 @@
+-- What ractors may share, as a script asks Ractor for it where nothing is published.
+use Rattle.std.specs.Prelude.{ℕ, zero, suc, nat_eq, Bool, true, false, not, ◌&&◌, ◌||◌, if◌then◌else◌, List, [], ◌∷◌, length, slice_get, slice_index_or, codes, Option, Some, None}
+use Rattle.std.specs.Str.{bytes_eq}
+use Rattle.rr_base.specs.declared.name.TheConstants.ClassId.{RACTOR}
+use Rattle.rr_space.specs.Graph.{Graph, Own, Published, Value, Plain, At, Nil, Truth, Integer, SymbolNo, ClassNo, RactorNo, Label, Object}
+use Rattle.rr_space.specs.Kinds.{kind_at}
+use Rattle.rr_space.specs.Labels.{triples_at}
+use Rattle.rr_space.specs.Parts.{value_of}
+use Rattle.rr_space.specs.Tables.{Slot, Here, Led, Table, resolve, space_graph}
+use Rattle.rr_space.specs.Views.{is_shell}
+use Rattle.rr_space.specs.declared.refer.Ref.{Ref}
+use Rattle.rr_space.specs.declared.refer.Ref.TheVariants as refs
+use Rattle.rr_builtin.specs.Kinds.{is_hash}
+use Rattle.rr_builtin.specs.declared.problem.Problem.TheVariants.{Count, Moved}
+use Rattle.rr_eval.specs.declared.call.Callee.{Callee}
+use Rattle.rr_eval.specs.declared.call.Callee.TheVariants as callees
+use Rattle.rr_eval.specs.declared.problem.Problem.{Problem}
+use Rattle.rr_eval.specs.declared.problem.Problem.TheVariants.{BuiltIn, UnknownKeyword, NotHere}
+use Rattle.rr_eval.specs.declared.problem.Response.TheVariants.{Gives, Fails}
+use Rattle.rr_eval.specs.declared.sharing.RactorMethod.{RactorMethod}
+use Rattle.rr_eval.specs.declared.sharing.RactorMethod.TheVariants.{IsShareable, MakeShareable, Later}
+use Rattle.rr_eval.specs.Calls.{call_reply}
+use Rattle.rr_eval.specs.Context.{Context}
+use Rattle.rr_eval.specs.Script.{Reply}
+
+-- ---- Which objects a value leads to, as tests.
+
+-- whether a path of steps leads from one number to another, which between them visits none but the first ones
+abbrev pub connects : (ℕ → ℕ → Bool) → ℕ → ℕ → ℕ → Bool
+connects step zero a b = step a b
+connects step (suc k) a b = connects step k a b || (connects step k a k && connects step k k b)
+
+-- whether the test holds for one of the first numbers
+abbrev pub one_below : (ℕ → Bool) → ℕ → Bool
+one_below p zero = false
+one_below p (suc n) = one_below p n || p n
+
+-- whether a value is the object of a slot
+abbrev pub is_own : ℕ → Value → Bool
+is_own m (Plain i) = false
+is_own m (At (Own n)) = nat_eq n m
+is_own m (At (Published c p)) = false
+
+-- whether one of the values of an object is the object of a slot
+abbrev pub has_own : ℕ → List (Label × Value) → Bool
+has_own m [] = false
+has_own m (x ∷ xs) = is_own m x.1 || has_own m xs
+
+abbrev pub object_has : ℕ → Option Object → Bool
+object_has m None = false
+object_has m (Some o) = has_own m o.triples
+
+-- whether the object of a slot has that of another slot
+abbrev pub steps : Graph → ℕ → ℕ → Bool
+steps g n m = object_has m (g (Own n))
+
+-- whether a value leads to the object of a slot, where there are so many slots
+abbrev pub leads_in : Graph → ℕ → Value → ℕ → Bool
+leads_in g count (Plain i) m = false
+leads_in g count (At (Own n)) m = nat_eq n m || connects (steps g) count n m
+leads_in g count (At (Published c p)) m = false
+
+abbrev pub leads : Table → Ref → ℕ → Bool
+leads t v m = leads_in (space_graph t) (length t.slots) (resolve t.slots (value_of v)) m
+
+-- ---- What is shareable, and what a value is once it is made so.
+
+-- whether an object is no shareable one by itself: it is not frozen, or a shell
+abbrev pub is_open : Option Slot → Bool
+is_open (Some (Here o)) = not o.frozen || is_shell o.kind
+is_open (Some (Led c p)) = false
+is_open None = false
+
+abbrev pub is_moved : Option Slot → Bool
+is_moved (Some (Here o)) = is_shell o.kind
+is_moved (Some (Led c p)) = false
+is_moved None = false
+
+-- a value is shareable that leads to frozen objects alone, and to no shell
+abbrev pub is_shareable : Table → Ref → Bool
+is_shareable t v = not (one_below (λ n. leads t v n && is_open (slice_get t.slots n)) (length t.slots))
+
+abbrev pub leads_to_shell : Table → Ref → Bool
+leads_to_shell t v = one_below (λ n. leads t v n && is_moved (slice_get t.slots n)) (length t.slots)
+
+abbrev pub frozen_slot : Bool → Slot → Slot
+frozen_slot true (Here o) = Here (record o { frozen = true })
+frozen_slot true (Led c p) = Led c p
+frozen_slot false s = s
+
+-- the objects of some of the slots are frozen; the first of these slots has the number
+abbrev pub frozen_from : (ℕ → Bool) → ℕ → List Slot → List Slot
+frozen_from some n [] = []
+frozen_from some n (s ∷ ss) = frozen_slot (some n) s ∷ frozen_from some (suc n) ss
+
+-- each object that a value leads to is frozen
+abbrev pub deep_frozen : Ref → Table → Table
+deep_frozen v t = record t { slots = frozen_from (leads t v) 0 t.slots }
+
+-- ---- The methods of Ractor.
+
+-- names of methods of Ractor that are not evaluated yet: those that give ractors, and those that pass values
+abbrev pub is_of_ractors : List ℕ → Bool
+is_of_ractors name = bytes_eq name (codes "new") || bytes_eq name (codes "current") || bytes_eq name (codes "main") || bytes_eq name (codes "main?") || bytes_eq name (codes "select")
+
+abbrev pub is_of_values : List ℕ → Bool
+is_of_values name = bytes_eq name (codes "receive") || bytes_eq name (codes "recv") || bytes_eq name (codes "receive_if") || bytes_eq name (codes "yield") || bytes_eq name (codes "store_if_absent")
+
+abbrev pub later_named : List ℕ → Option RactorMethod
+later_named name = if is_of_ractors name then Some Later else (if is_of_values name then Some Later else None)
+
+abbrev pub ractor_named : List ℕ → Option RactorMethod
+ractor_named name =
+    if bytes_eq name (codes "shareable?") then Some IsShareable else
+    if bytes_eq name (codes "make_shareable") then Some MakeShareable else later_named name
+
+-- the method of Ractor that is called by a name, or by brackets
+abbrev pub ractor_called : Context → Callee → Option RactorMethod
+ractor_called c (callees.Name x) = ractor_named (slice_index_or c.symbols x.0 [])
+ractor_called c callees.Index = Some Later
+ractor_called c callees.SetIndex = Some Later
+ractor_called c callee = None
+
+abbrev pub ractor_method : Context → Ref → Callee → Option RactorMethod
+ractor_method c (refs.Class k) callee = if nat_eq k.0 RACTOR.0 then ractor_called c callee else None
+ractor_method c v callee = None
+
+-- a call that changes nothing and raises
+abbrev pub fails : Problem → Table → Reply
+fails e t = record { response = Fails e; table = t }
+
+-- a wrong count of arguments
+abbrev pub one_wanted : List Ref → Table → Reply
+one_wanted vs t = fails (BuiltIn (Count (length vs) 1 1)) t
+
+-- `shareable?`
+abbrev pub shareable_reply : List Ref → Table → Reply
+shareable_reply (v ∷ []) t = record { response = Gives (refs.Truth (is_shareable t v)); table = t }
+shareable_reply vs t = one_wanted vs t
+
+-- whether a key is `:copy`
+abbrev pub names_copy : Context → Value → Bool
+names_copy c (Plain (SymbolNo n)) = bytes_eq (slice_index_or c.symbols n []) (codes "copy")
+names_copy c _ = false
+
+abbrev pub is_copy : Context → Option (Label × Value) → Bool
+is_copy c None = false
+is_copy c (Some x) = names_copy c x.1
+
+-- whether a hash has the key `:copy` alone
+abbrev pub asks_copy : Context → Table → Ref → Bool
+asks_copy c t v = nat_eq (length (triples_at t v)) 2 && is_copy c (slice_get (triples_at t v) 0)
+
+-- a second argument, which is a hash of keywords; the only keyword is `copy`, which is not evaluated yet
+abbrev pub keyword_reply : Context → Ref → Ref → Table → Reply
+keyword_reply c v w t = if is_hash (kind_at t w) then fails (if asks_copy c t w then NotHere else UnknownKeyword) t else one_wanted (v ∷ w ∷ []) t
+
+abbrev pub frozen_reply : Ref → Table → Reply
+frozen_reply v t = if leads_to_shell t v then fails (BuiltIn Moved) t else record { response = Gives v; table = deep_frozen v t }
+
+-- `make_shareable`
+abbrev pub make_shareable_reply : Context → List Ref → Table → Reply
+make_shareable_reply c (v ∷ []) t = frozen_reply v t
+make_shareable_reply c (v ∷ w ∷ []) t = keyword_reply c v w t
+make_shareable_reply c vs t = one_wanted vs t
+
+abbrev pub ractor_reply : Context → RactorMethod → List Ref → Table → Reply
+ractor_reply c IsShareable vs t = shareable_reply vs t
+ractor_reply c MakeShareable vs t = make_shareable_reply c vs t
+ractor_reply c Later vs t = fails NotHere t
+
+-- a call: of a method of Ractor, or of another
+abbrev pub called_reply : Context → Option RactorMethod → Ref → Callee → List Ref → Table → Reply
+called_reply c None v callee vs t = call_reply c v callee vs t
+called_reply c (Some m) v callee vs t = ractor_reply c m vs t

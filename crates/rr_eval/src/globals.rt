@@ -1,0 +1,97 @@
+//! Global variables.
+
+ghost use Rattle.std.specs.Prelude.{◌≡◌, ◌+◌, ◌*◌, ◌<◌, ◌≤◌, ℕ, [], length, vec_capacity, Option, Some, IfOk, IfErr};
+ghost use Rattle.std.specs.List.{All};
+ghost use Rattle.rr_space.specs.Parts.{value_of};
+ghost use Rattle.rr_space.specs.Tables.{Table, Below};
+ghost use Rattle.rr_text.specs.Reads.{IsReadWith};
+ghost use Rattle.rr_builtin.specs.Fields.{set_field};
+ghost use Rattle.rr_tree.specs.Tree.{tree_at};
+ghost use Rattle.rr_tree.specs.declared.program.Program.{Program};
+ghost use Rattle.rr_eval.specs.declared.problem.Problem.{Problem};
+ghost use Rattle.rr_eval.specs.Calls.{reply_with};
+ghost use Rattle.rr_eval.specs.Globals.{globals, global_rule, set_global_rule};
+ghost use Rattle.rr_eval.specs.Requests.{Course};
+ghost use Rattle.rr_eval.specs.Rules.{with_value};
+ghost use Rattle.rr_eval.specs.Serves.{IsReplied, IsRefused};
+ghost use Rattle.rr_eval.specs.Tasks.{global_reply};
+ghost use Rattle.rr_eval.specs.Turns.{context_of, IsNested, after_script, remaining_with, size};
+ghost use Rattle.rr_eval.specs.Views.{view_of};
+ghost use Rattle.rr_eval.specs.Within.{Reach, reach, AreReached, IsReached};
+
+use crate::call::{Target, Task};
+use crate::engine::Engine;
+use crate::fields::read_field;
+use crate::frame::Frame;
+use crate::problem::{Problem, Response};
+use crate::serve::response_from;
+use rr_base::{Fault, Sym};
+use rr_builtin::set_field;
+use rr_space::{Ref, Space};
+use rr_tree::NodeId;
+
+/// The object whose fields are the global variables and the constants: the second one of a script.
+pub const GLOBALS: Ref = Ref::Local(1);
+
+/// Gives a global variable, or a constant, a value, and gives the value, where nothing is published. A refused growth leaves the
+/// objects as they were.
+fn write_global(space: &mut Space, name: Sym, value: Ref) -> Result<Response, Fault>
+    requires read { IsReadWith space.old [] }
+    requires value { IsReached (reach (length space.old.slots) (Some [])) value }
+    ensures replied { IfOk result (λ r. IsReplied (reply_with Problem.NotHere space.old (set_field name.0 (value_of value) globals space.old)) space.old r space.new) }
+    ensures refused { IfErr result (IsRefused (reply_with Problem.NotHere space.old (set_field name.0 (value_of value) globals space.old)) space.old) }
+{
+    match set_field(space, GLOBALS, name, value) {
+        Ok(built) => {
+            let _after = space.len();
+            Ok(response_from(Problem::NotHere, built))
+        }
+        Err(fault) => Err(fault),
+    }
+}
+
+/// The value becomes a global variable, or a constant, and is given. A refused growth leaves the objects as they were.
+pub fn give_global(space: &mut Space, name: Sym, values: &[Ref]) -> Result<Response, Fault>
+    requires read { IsReadWith space.old [] }
+    requires reached { All (IsReached (reach (length space.old.slots) (Some []))) values.now }
+    ensures replied { IfOk result (λ r. IsReplied (global_reply name values.now space.old) space.old r space.new) }
+    ensures refused { IfErr result (IsRefused (global_reply name values.now space.old) space.old) }
+{
+    match values {
+        [value, ..] => write_global(space, name, *value),
+        _ => Ok(Response::Gives(Ref::Nil)),
+    }
+}
+
+impl Engine {
+    /// Evaluates a global variable.
+    #[tactic(auto, unfolding(crate::specs::Within::AreReached))]
+    pub fn open_global(&mut self, space: &Space, name: Sym)
+        requires nested { IsNested (view_of self.old) }
+        ensures goes { (p : Program) (h : Course) (n : ℕ) → after_script p (view_of self.old) space.now (global_rule (context_of p) name) h n ≡ remaining_with p (view_of self.new) space.now h n }
+        ensures nested { IsNested (view_of self.new) }
+        ensures within { (clusters : Option Below) → AreReached (reach (length space.now.slots) clusters) (view_of self.old) → AreReached (reach (length space.now.slots) clusters) (view_of self.new) }
+        ensures left { self.new.left ≡ self.old.left }
+        ensures size { size (view_of self.new) ≤ 3 * length self.old.frames.items + 4 }
+    {
+        let held = read_field(space, GLOBALS, name);
+        self.settle(held);
+    }
+
+    /// Evaluates the value of an assignment to a global variable, or to a constant.
+    #[tactic(auto, unfolding(crate::specs::Within::AreReached))]
+    #[inline(always)]
+    pub fn open_assignment(&mut self, name: Sym, value: NodeId)
+        requires room { length self.old.frames.items < vec_capacity self.old.frames }
+        requires nested { IsNested (view_of self.old) }
+        ensures goes { (p : Program) (t : Table) (h : Course) (n : ℕ) → after_script p (view_of self.old) t (with_value (tree_at p.nodes.items value) (set_global_rule (context_of p) name)) h n ≡ remaining_with p (view_of self.new) t h n }
+        ensures nested { IsNested (view_of self.new) }
+        ensures within { (k : Reach) → AreReached k (view_of self.old) → AreReached k (view_of self.new) }
+        ensures left { self.new.left ≡ self.old.left }
+        ensures size { size (view_of self.new) ≤ 3 * length self.old.frames.items + 4 }
+    {
+        let target = Target::Do(Task::SetGlobal(name));
+        let frame = Frame::Argument(target, value, 0, self.held.len());
+        self.enter_above(frame, value);
+    }
+}

@@ -1,0 +1,160 @@
+//! Hashes that an iteration visits, pair by pair.
+
+ghost use Rattle.std.specs.Prelude.{◌≡◌, ◌<◌, ◌-◌, ◌^◌, ℕ, length, drop, slice_index_or, Option, IfOk, IfErr, IfSome};
+ghost use Rattle.std.specs.List.{All};
+ghost use Rattle.std.specs.Option.{option_map};
+ghost use Rattle.rr_base.specs.declared.fault.Fault.{Fault};
+ghost use Rattle.rr_frames.specs.Frames.{list_of};
+ghost use Rattle.rr_space.specs.Parts.{value_of, IsWithin};
+ghost use Rattle.rr_space.specs.Tables.{Below};
+ghost use Rattle.rr_space.specs.declared.refer.Ref.{Ref};
+ghost use Rattle.rr_tree.specs.Tree.{tree_at};
+ghost use Rattle.rr_builtin.specs.Acts.{element_at};
+ghost use Rattle.rr_builtin.specs.Elements.{names_of_hash};
+ghost use Rattle.rr_builtin.specs.Rounds.{read_of, IsRoundWithin};
+ghost use Rattle.rr_eval.specs.Blocks.{shape_in};
+ghost use Rattle.rr_eval.specs.Iterating.{pair_given, pair_read, left_hash, pair_turn, pairs_ahead, own_values, takes_pairs, keys_given};
+ghost use Rattle.rr_eval.specs.Within.{Reach, reach, IsReached, IsAheadReached};
+
+use crate::blocks::shape_at;
+use crate::iterating::{Ahead, Visits, own, value_at};
+use crate::problem::Problem;
+use rr_base::Fault;
+use rr_builtin::{Problem as BuiltInProblem, Round, is_own_hash, own_pair_at};
+use rr_space::{Kind, Ref, Space};
+use rr_tree::{NodeId, Program};
+use std::alloc::{AllocError, Global};
+
+/// A turn over a key and its value.
+fn pair_given(place: usize, key: Ref, value: Option<Ref>) -> Ahead
+    requires { place < 2 ^ 64 - 1 }
+    ensures is { result ≡ pair_given place key value }
+    ensures within { (k : Reach) → IsReached k key → All (IsReached k) (list_of value) → IsAheadReached k result }
+{
+    match value {
+        Some(value) => Ahead::Another(Some(key), Some(value), Visits::Pairs(place + 1)),
+        None => Ahead::Stopped(Problem::NotHere),
+    }
+}
+
+/// A turn over a key, by what the hash has under it; none where it has nothing.
+fn pair_read(place: usize, key: Ref, read: Round) -> Option<Ahead>
+    requires { place < 2 ^ 64 - 1 }
+    ensures is { result ≡ pair_read place key (read_of read) }
+    ensures within { (n : ℕ) (clusters : Option Below) → IsReached (reach n clusters) key → IsRoundWithin n read → IfSome result (IsAheadReached (reach n clusters)) }
+{
+    match read {
+        Round::Item(value) => Some(pair_given(place, key, own(value))),
+        Round::Absent => None,
+        Round::Moved => Some(Ahead::Stopped(Problem::BuiltIn(BuiltInProblem::Moved))),
+    }
+}
+
+/// Why a hash of such a kind is visited no further that is none of the space.
+fn left_hash(kind: Kind) -> Problem
+    ensures { result ≡ left_hash kind }
+{
+    match kind {
+        Kind::Shell => Problem::BuiltIn(BuiltInProblem::Moved),
+        _ => Problem::NotHere,
+    }
+}
+
+/// The turn over a key at a place, where there is one.
+fn pair_turn(
+    alloc: Global,
+    space: &Space,
+    hash: Ref,
+    place: usize,
+    key: Ref,
+) -> Result<Option<Ahead>, Fault>
+    requires { place < 2 ^ 64 - 1 }
+    ensures is { IfOk result (λ turn. turn ≡ pair_turn space.now hash place key) }
+    ensures within { (clusters : Option Below) → IsReached (reach (length space.now.slots) clusters) key → IfOk result (λ turn. IfSome turn (IsAheadReached (reach (length space.now.slots) clusters))) }
+    ensures fault { IfErr result (λ f. f ≡ Fault.Memory) }
+{
+    if is_own_hash(space, hash) {
+        let read = own_pair_at(alloc, space, hash, key)?;
+        Ok(pair_read(place, key, read))
+    } else {
+        let problem = left_hash(space.kind_of(hash));
+        Ok(Some(Ahead::Stopped(problem)))
+    }
+}
+
+/// What is ahead of an iteration over a hash, by the values that stand for it: the first key from the place on that the hash has now.
+pub fn pairs_ahead(
+    alloc: Global,
+    space: &Space,
+    first: usize,
+    stand: &[Ref],
+) -> Result<Ahead, Fault>
+    ensures is { IfOk result (λ a. a ≡ pairs_ahead space.now (slice_index_or stand.now 0 Ref.Nil) first (drop first stand.now)) }
+    ensures within { (clusters : Option Below) → All (IsReached (reach (length space.now.slots) clusters)) stand.now → IfOk result (IsAheadReached (reach (length space.now.slots) clusters)) }
+    ensures fault { IfErr result (λ f. f ≡ Fault.Memory) }
+{
+    let hash = value_at(stand, 0);
+    let mut place = first;
+    while place < stand.len() {
+        match pair_turn(alloc, space, hash, place, stand[place])? {
+            Some(ahead) => return Ok(ahead),
+            None => place += 1,
+        }
+    }
+    Ok(Ahead::Finished)
+}
+
+/// The value under that place of an object, or nil.
+fn element(space: &Space, value: Ref, place: usize) -> Ref
+    ensures is { value_of result ≡ element_at space.now value place }
+    ensures within { IsWithin (length space.now.slots) result }
+{
+    match space.part(value, place) {
+        Some((_, found)) => found,
+        None => Ref::Nil,
+    }
+}
+
+/// The key objects of a hash, where none of them is published.
+fn own_keys(alloc: Global, space: &Space, hash: Ref) -> Result<Option<Vec<Ref>>, AllocError>
+    ensures are { IfOk result (λ keys. option_map (λ ks. ks.items) keys ≡ own_values (names_of_hash space.now hash)) }
+    ensures within { (clusters : Option Below) → IfOk result (λ keys. IfSome keys (λ ks. All (IsReached (reach (length space.now.slots) clusters)) ks.items)) }
+{
+    let count = space.arity(hash) / 2;
+    let mut keys = Vec::with_capacity(alloc, count)?;
+    for pair in 0..count {
+        match own(element(space, hash, 2 * pair)) {
+            Some(key) => keys.push(key)?,
+            None => return Ok(None),
+        }
+    }
+    Ok(Some(keys))
+}
+
+/// Whether the block at a place takes a key and its value apart.
+fn takes_pairs(program: &Program, block: NodeId) -> bool
+    ensures { result ≡ takes_pairs (shape_in (Some (tree_at program.now.nodes.items block))) }
+{
+    match shape_at(program, block) {
+        Some(shape) => shape.parameters != 1,
+        None => false,
+    }
+}
+
+/// The key objects that a hash has now, for the block at a place; none where they are not given yet.
+pub fn keys_given(
+    alloc: Global,
+    program: &Program,
+    space: &Space,
+    block: NodeId,
+    hash: Ref,
+) -> Result<Option<Vec<Ref>>, AllocError>
+    ensures are { IfOk result (λ keys. option_map (λ ks. ks.items) keys ≡ keys_given (shape_in (Some (tree_at program.now.nodes.items block))) space.now hash) }
+    ensures within { (clusters : Option Below) → IfOk result (λ keys. IfSome keys (λ ks. All (IsReached (reach (length space.now.slots) clusters)) ks.items)) }
+{
+    if takes_pairs(program, block) && is_own_hash(space, hash) {
+        own_keys(alloc, space, hash)
+    } else {
+        Ok(None)
+    }
+}

@@ -1,0 +1,298 @@
+//! What ractors may share, as a script asks Ractor for it, where nothing is published.
+
+ghost use Rattle.std.specs.Prelude.{◌≡◌, ◌↔◌, ◌&&◌, ℕ, [], length, nat_eq, Option, Some, slice_get, IsTrue, IfOk, IfErr};
+ghost use Rattle.std.specs.List.{All};
+ghost use Rattle.std.specs.Option.{option_map};
+ghost use Rattle.rr_base.specs.declared.fault.Fault.{Fault};
+ghost use Rattle.rr_space.specs.Graph.{Own, Reaches, IsShareable};
+ghost use Rattle.rr_space.specs.Labels.{labelled_value, triples_at};
+ghost use Rattle.rr_space.specs.Moves.{IsDeepFrozen};
+ghost use Rattle.rr_space.specs.Parts.{value_of};
+ghost use Rattle.rr_space.specs.Sound.{IsTableSound};
+ghost use Rattle.rr_space.specs.Tables.{Table, resolve, space_graph};
+ghost use Rattle.rr_space.specs.declared.refer.Ref.{Ref};
+ghost use Rattle.rr_text.specs.Reads.{IsReadWith};
+ghost use Rattle.rr_builtin.specs.declared.problem.Problem.{Problem as BuiltInProblem};
+ghost use Rattle.rr_eval.specs.declared.problem.Problem.{Problem};
+ghost use Rattle.rr_eval.specs.declared.problem.Response.{Response};
+ghost use Rattle.rr_eval.specs.Requests.{arguments_of};
+ghost use Rattle.rr_eval.specs.Serves.{IsReplied, IsRefused};
+ghost use Rattle.rr_eval.specs.Sharing.{leads, is_shareable, deep_frozen, is_of_ractors, is_of_values, later_named, ractor_named, ractor_called, ractor_method, names_copy, is_copy, asks_copy, keyword_reply, frozen_reply, shareable_reply, make_shareable_reply, ractor_reply};
+ghost use Rattle.rr_eval.specs.Turns.{context_of};
+ghost use Rattle.rr_eval.specs.Within.{reach, IsReached};
+
+use crate::call::{Arguments, Callee};
+use crate::problem::{Problem, Response};
+use rr_base::{ClassId, Fault};
+use rr_builtin::Problem as BuiltInProblem;
+use rr_share::{deep_freeze, is_shareable};
+use rr_space::{Kind, Label, Ref, Space};
+use rr_tree::Program;
+use std::alloc::Global;
+
+/// A method of Ractor.
+#[derive(Clone, Copy)]
+pub enum RactorMethod {
+    /// `shareable?`.
+    IsShareable,
+    /// `make_shareable`.
+    MakeShareable,
+    /// One that is not evaluated yet.
+    Later,
+}
+
+/// Whether it is the name of a method of Ractor that gives ractors.
+fn is_of_ractors(name: &[u8]) -> bool
+    ensures { result ≡ is_of_ractors name.now }
+{
+    name == b"new".as_slice()
+        || name == b"current".as_slice()
+        || name == b"main".as_slice()
+        || name == b"main?".as_slice()
+        || name == b"select".as_slice()
+}
+
+/// Whether it is the name of a method of Ractor that passes values.
+fn is_of_values(name: &[u8]) -> bool
+    ensures { result ≡ is_of_values name.now }
+{
+    name == b"receive".as_slice()
+        || name == b"recv".as_slice()
+        || name == b"receive_if".as_slice()
+        || name == b"yield".as_slice()
+        || name == b"store_if_absent".as_slice()
+}
+
+/// The method of Ractor of a name, where it is not evaluated yet.
+fn later_named(name: &[u8]) -> Option<RactorMethod>
+    ensures { result ≡ later_named name.now }
+{
+    if is_of_ractors(name) {
+        return Some(RactorMethod::Later);
+    }
+    if is_of_values(name) {
+        return Some(RactorMethod::Later);
+    }
+    None
+}
+
+/// The method of Ractor of a name.
+fn ractor_named(name: &[u8]) -> Option<RactorMethod>
+    ensures { result ≡ ractor_named name.now }
+{
+    if name == b"shareable?".as_slice() {
+        return Some(RactorMethod::IsShareable);
+    }
+    if name == b"make_shareable".as_slice() {
+        return Some(RactorMethod::MakeShareable);
+    }
+    later_named(name)
+}
+
+/// The method of Ractor that is called by a name, or by brackets.
+fn ractor_called(program: &Program, callee: Callee) -> Option<RactorMethod>
+    ensures { result ≡ ractor_called (context_of program.now) callee }
+{
+    match callee {
+        Callee::Name(name) => ractor_named(program.symbol_bytes(name)),
+        Callee::Index => Some(RactorMethod::Later),
+        Callee::SetIndex => Some(RactorMethod::Later),
+        Callee::Operator(_) => None,
+        Callee::Opposite => None,
+        Callee::Append => None,
+        Callee::Initialize => None,
+        Callee::Setter(_) => None,
+    }
+}
+
+/// The method of Ractor that a call calls, where it calls one.
+pub fn ractor_method(program: &Program, receiver: Ref, callee: Callee) -> Option<RactorMethod>
+    ensures { result ≡ ractor_method (context_of program.now) receiver callee }
+{
+    match receiver {
+        Ref::Class(class) => {
+            if class.0 == ClassId::RACTOR.0 {
+                return ractor_called(program, callee);
+            }
+            None
+        }
+        Ref::Nil => None,
+        Ref::Truth(_) => None,
+        Ref::Int(_) => None,
+        Ref::Symbol(_) => None,
+        Ref::Ractor(_) => None,
+        Ref::Local(_) => None,
+        Ref::Shared(_, _) => None,
+    }
+}
+
+/// Whether a key is `:copy`.
+fn names_copy(program: &Program, key: Ref) -> bool
+    ensures { result ≡ names_copy (context_of program.now) (value_of key) }
+{
+    match key {
+        Ref::Symbol(name) => program.symbol_bytes(name) == b"copy".as_slice(),
+        Ref::Nil => false,
+        Ref::Truth(_) => false,
+        Ref::Int(_) => false,
+        Ref::Class(_) => false,
+        Ref::Ractor(_) => false,
+        Ref::Local(_) => false,
+        Ref::Shared(_, _) => false,
+    }
+}
+
+/// Whether a key of a hash is `:copy`, where there is one.
+fn is_copy(program: &Program, key: Option<(Label, Ref)>) -> bool
+    ensures { result ≡ is_copy (context_of program.now) (option_map labelled_value key) }
+{
+    match key {
+        Some((_, key)) => names_copy(program, key),
+        None => false,
+    }
+}
+
+/// Whether a hash has the key `:copy` alone.
+fn asks_copy(program: &Program, space: &Space, hash: Ref) -> bool
+    ensures { result ≡ asks_copy (context_of program.now) space.now hash }
+{
+    let key = space.part(hash, 0);
+    space.arity(hash) == 2 && is_copy(program, key)
+}
+
+/// The problem of so many arguments where one is wanted.
+fn one_wanted(given: usize) -> Problem
+    ensures { result ≡ Problem.BuiltIn (BuiltInProblem.Count given 1 1) }
+{
+    Problem::BuiltIn(BuiltInProblem::Count {
+        given,
+        least: 1,
+        most: 1,
+    })
+}
+
+/// What a second argument of `make_shareable` comes to.
+fn refuse_keyword(program: &Program, space: &Space, keywords: Ref) -> Problem
+    ensures { (value : Ref) → keyword_reply (context_of program.now) value keywords space.now ≡ record { response = Response.Fails result; table = space.now } }
+{
+    match space.kind_of(keywords) {
+        Kind::Hash => {
+            if asks_copy(program, space, keywords) {
+                return Problem::NotHere;
+            }
+            Problem::UnknownKeyword
+        }
+        _ => one_wanted(2),
+    }
+}
+
+/// Whether ractors may share a value.
+fn tell_shareable(alloc: Global, space: &Space, value: Ref) -> Result<Response, Fault>
+    ensures is { IfOk result (λ r. r ≡ Response.Gives (Ref.Truth (is_shareable space.now value))) }
+    ensures fault { IfErr result (λ f. f ≡ Fault.Memory) }
+{
+    let _slots = space.len();
+    let yes = is_shareable(alloc, space, value)?;
+    Ok(Response::Gives(Ref::Truth(yes)))
+}
+
+/// Freezes all that a value leads to, and gives the value. A refused growth leaves the objects as they were.
+fn make_shareable(alloc: Global, space: &mut Space, value: Ref) -> Result<Response, Fault>
+    requires read { IsReadWith space.old [] }
+    requires value { IsReached (reach (length space.old.slots) (Some [])) value }
+    ensures replied { IfOk result (λ r. IsReplied (frozen_reply value space.old) space.old r space.new) }
+    ensures fault { IfErr result (λ f. f ≡ Fault.Memory) }
+{
+    let _before = space.len();
+    match deep_freeze(alloc, space, value) {
+        Ok(()) => Ok(Response::Gives(value)),
+        Err(Fault::HoldsShell) => Ok(Response::Fails(Problem::BuiltIn(BuiltInProblem::Moved))),
+        Err(fault) => Err(fault),
+    }
+}
+
+/// Serves `shareable?`.
+fn serve_shareable(alloc: Global, space: &Space, values: &[Ref]) -> Result<Response, Fault>
+    requires read { IsReadWith space.now [] }
+    ensures replied { IfOk result (λ r. IsReplied (shareable_reply values.now space.now) space.now r space.now) }
+    ensures fault { IfErr result (λ f. f ≡ Fault.Memory) }
+{
+    match values {
+        [] => Ok(Response::Fails(one_wanted(0))),
+        [value] => tell_shareable(alloc, space, *value),
+        [_, _, ..] => Ok(Response::Fails(one_wanted(values.len()))),
+    }
+}
+
+/// Serves `make_shareable`. A refused growth leaves the objects as they were.
+fn serve_make_shareable(
+    alloc: Global,
+    space: &mut Space,
+    program: &Program,
+    values: &[Ref],
+) -> Result<Response, Fault>
+    requires read { IsReadWith space.old [] }
+    requires reached { All (IsReached (reach (length space.old.slots) (Some []))) values.now }
+    ensures replied { IfOk result (λ r. IsReplied (make_shareable_reply (context_of program.now) values.now space.old) space.old r space.new) }
+    ensures fault { IfErr result (λ f. f ≡ Fault.Memory) }
+{
+    match values {
+        [] => Ok(Response::Fails(one_wanted(0))),
+        [value] => make_shareable(alloc, space, *value),
+        [_, keywords] => Ok(Response::Fails(refuse_keyword(program, space, *keywords))),
+        [_, _, _, ..] => Ok(Response::Fails(one_wanted(values.len()))),
+    }
+}
+
+/// Serves a method of Ractor. A refused growth leaves the objects as they were.
+fn serve_values(
+    alloc: Global,
+    space: &mut Space,
+    program: &Program,
+    method: RactorMethod,
+    values: &[Ref],
+) -> Result<Response, Fault>
+    requires read { IsReadWith space.old [] }
+    requires reached { All (IsReached (reach (length space.old.slots) (Some []))) values.now }
+    ensures replied { IfOk result (λ r. IsReplied (ractor_reply (context_of program.now) method values.now space.old) space.old r space.new) }
+    ensures refused { IfErr result (IsRefused (ractor_reply (context_of program.now) method values.now space.old) space.old) }
+{
+    match method {
+        RactorMethod::IsShareable => serve_shareable(alloc, space, values),
+        RactorMethod::MakeShareable => serve_make_shareable(alloc, space, program, values),
+        RactorMethod::Later => Ok(Response::Fails(Problem::NotHere)),
+    }
+}
+
+/// Serves a method of Ractor with these arguments. A refused growth leaves the objects as they were.
+pub fn serve_ractor(
+    alloc: Global,
+    space: &mut Space,
+    program: &Program,
+    method: RactorMethod,
+    arguments: &Arguments,
+) -> Result<Response, Fault>
+    requires read { IsReadWith space.old [] }
+    requires reached { All (IsReached (reach (length space.old.slots) (Some []))) (arguments_of arguments.now) }
+    ensures replied { IfOk result (λ r. IsReplied (ractor_reply (context_of program.now) method (arguments_of arguments.now) space.old) space.old r space.new) }
+    ensures refused { IfErr result (IsRefused (ractor_reply (context_of program.now) method (arguments_of arguments.now) space.old) space.old) }
+{
+    match arguments {
+        Arguments::Without => serve_values(alloc, space, program, method, &[]),
+        Arguments::One(first) => serve_values(alloc, space, program, method, &[*first]),
+        Arguments::Two(first, second) => {
+            serve_values(alloc, space, program, method, &[*first, *second])
+        }
+        Arguments::Many(values) => {
+            serve_values(alloc, space, program, method, values.as_slice())
+        }
+    }
+}
+
+/// In each sound table the tests say what they are for: which objects a value leads to, and whether it is shareable; and where all is
+/// frozen that a value leads to, that is frozen and nothing else is changed.
+pub fn sharing_holds()
+    ensures leads { (t : Table) (v : Ref) (n : ℕ) → IsTableSound t.slots t.below → IsTrue (leads t v n) ↔ Reaches (space_graph t) (resolve t.slots (value_of v)) (Own n) }
+    ensures shareable { (t : Table) (v : Ref) → IsTableSound t.slots t.below → IsTrue (is_shareable t v) ↔ IsShareable (space_graph t) (resolve t.slots (value_of v)) }
+    ensures frozen { (t : Table) (v : Ref) → IsTableSound t.slots t.below → IsDeepFrozen (value_of v) t (deep_frozen v t) }
+{}
