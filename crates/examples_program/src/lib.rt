@@ -65,5 +65,6 @@ mod splats;
 mod table;
 #[cfg(test)]
 mod updating;
+mod usual;
 #[cfg(test)]
 mod writers;

@@ -9,6 +9,8 @@ pub mod Depth
 pub mod Unknown
 pub mod Unwind
 pub mod Entered
+pub mod Quickly
+pub mod QuickCalls
 pub mod Bytes
 pub mod Printed
 pub mod Keeping

@@ -41,6 +41,7 @@ pub mod Views
 pub mod Within
 pub mod Serves
 pub mod Turns
+pub mod Usual
 pub mod Heard
 pub mod Served
 pub mod Written

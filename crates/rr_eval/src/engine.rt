@@ -149,8 +149,8 @@ impl Engine {
         }
     }
 
-    /// Evaluates a node that needs neither the objects nor memory: one step, or three where the operands need no frame
-    /// and the steps do not stop before.
+    /// Evaluates a node that needs neither the objects nor memory: one step, or more where the part that comes first needs no
+    /// frame and the steps do not stop before.
     #[inline(always)]
     fn visit_usual(&mut self, program: &Program, here: NodeId, node: Node, stop: u64) -> bool
         requires control { self.old.control ≡ Control.Enter here }
@@ -168,10 +168,7 @@ impl Engine {
         ensures same { IsFalse result → self.new ≡ self.old }
         ensures rare { IsFalse result → IsRareNode node }
     {
-        if let Node::Binary(op, a, b) = node
-            && self.left - stop > 2
-            && self.visit_leaves(program, op, a, b)
-        {
+        if self.visit_first(program, here, node, stop) {
             return true;
         }
         self.visit_one(program, here, node)
@@ -233,7 +230,7 @@ impl Engine {
 
     /// Evaluates a node that needs the objects or memory, which is one step.
     #[inline(never)]
-    fn visit_rare(
+    pub fn visit_rare(
         &mut self,
         prepared: &Prepared,
         space: &mut Space,
@@ -371,7 +368,9 @@ impl Engine {
                     self.make_room()?;
                     let node = evaluated_node(&prepared.program, here);
                     if !self.visit_usual(&prepared.program, here, node, stop)
-                        && let Some(request) = self.visit_rare(prepared, space, here, node)?
+                        && let Some(request) = self.visit_other(
+                            prepared, space, here, node, stop,
+                        )?
                     {
                         return Ok(Turn::Ask(request));
                     }

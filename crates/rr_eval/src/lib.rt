@@ -56,6 +56,8 @@ mod spreading;
 mod throw;
 mod update;
 mod updating;
+mod usual;
+mod usual_calls;
 mod value;
 
 pub use call::{Arguments, Call, Callee, Task};

@@ -1,0 +1,209 @@
+//! What is usual, in front of what there is of all kinds: a part whose value needs no frame is evaluated at once, with what waits for it.
+
+ghost use Rattle.std.specs.Prelude.{◌≡◌, ◌+◌, ◌<◌, ◌≤◌, [], false, length, vec_capacity, IfSome, IsTrue, IsFalse};
+ghost use Rattle.rr_parser.specs.Grammar.Names.{is_splat};
+ghost use Rattle.rr_space.specs.Tables.{Table};
+ghost use Rattle.rr_tree.specs.Tree.{tree_at, binary};
+ghost use Rattle.rr_eval.specs.declared.frame.Control.{Control};
+ghost use Rattle.rr_eval.specs.Script.{Go, World};
+ghost use Rattle.rr_eval.specs.Requests.{Course};
+ghost use Rattle.rr_eval.specs.Rules.{rule};
+ghost use Rattle.rr_eval.specs.Frames.{resumed, IsNew, IsRareFrame};
+ghost use Rattle.rr_eval.specs.Nodes.{evaluated_tree};
+ghost use Rattle.rr_eval.specs.Turns.{context_of, code_of, IsNested, remaining, power};
+ghost use Rattle.rr_eval.specs.Usual.{TakesNow};
+ghost use Rattle.rr_eval.specs.Views.{view_of};
+ghost use Rattle.rr_eval.specs.Within.{Reach, IsReached, IsFrameReached, AreReached};
+
+use crate::call_stack::Variable;
+use crate::engine::Engine;
+use crate::frame::Frame;
+use crate::nodes::evaluated_node;
+use crate::operator::on_integers;
+use crate::problem::Response;
+use rr_space::Ref;
+use rr_tree::{BinaryOperator, Node, NodeId, Program};
+
+/// The value of a part that leaves all as it is, and how many steps the part takes.
+#[derive(Clone, Copy)]
+pub struct Quick {
+    pub value: Ref,
+    pub steps: u64,
+}
+
+impl Engine {
+    /// The value of an operator on two leaves that are integers, where it has one. It takes three steps.
+    #[inline(always)]
+    fn quick_operation(
+        &self,
+        program: &Program,
+        op: BinaryOperator,
+        a: NodeId,
+        b: NodeId,
+    ) -> Option<Ref>
+        ensures takes { IfSome result (TakesNow program.now (view_of self.now) (binary op (tree_at program.now.nodes.items a) (tree_at program.now.nodes.items b)) 3) }
+        ensures within { (k : Reach) → IfSome result (IsReached k) }
+    {
+        match (self.leaf(program, a), self.leaf(program, b)) {
+            (Some(x), Some(y)) => match on_integers(op, x, y) {
+                Response::Gives(value) => Some(value),
+                Response::Throws(_) => None,
+                Response::Fails(_) => None,
+            },
+            _ => None,
+        }
+    }
+
+    /// The value of a part, where that is a literal, a variable, `self`, or an operator on two leaves that are integers.
+    #[inline(always)]
+    pub fn quick(&self, program: &Program, place: NodeId) -> Option<Quick>
+        ensures takes { IfSome result (λ q. TakesNow program.now (view_of self.now) (tree_at program.now.nodes.items place) q.steps q.value) }
+        ensures plain { IfSome result (λ _. is_splat (tree_at program.now.nodes.items place) ≡ false) }
+        ensures some { IfSome result (λ q. 0 < q.steps) }
+        ensures few { IfSome result (λ q. q.steps ≤ 3) }
+        ensures within { (k : Reach) → AreReached k (view_of self.now) → IfSome result (λ q. IsReached k q.value) }
+    {
+        match evaluated_node(program, place) {
+            Node::Nil => Some(Quick {
+                value: Ref::Nil,
+                steps: 1,
+            }),
+            Node::Truth(truth) => Some(Quick {
+                value: Ref::Truth(truth),
+                steps: 1,
+            }),
+            Node::Int(z) => Some(Quick {
+                value: Ref::Int(z),
+                steps: 1,
+            }),
+            Node::Symbol(name) => Some(Quick {
+                value: Ref::Symbol(name),
+                steps: 1,
+            }),
+            Node::Itself => Some(Quick {
+                value: self.itself(),
+                steps: 1,
+            }),
+            Node::Local { depth, slot, .. } => {
+                let value = self.variable(Variable { depth, slot });
+                Some(Quick { value, steps: 1 })
+            }
+            Node::Binary(op, a, b) => match self.quick_operation(program, op, a, b) {
+                Some(value) => Some(Quick { value, steps: 3 }),
+                None => None,
+            },
+            _ => None,
+        }
+    }
+
+    /// The value of such a part, where the steps do not stop before the one that follows it.
+    #[inline(always)]
+    pub fn quick_before(&self, program: &Program, place: NodeId, stop: u64) -> Option<Quick>
+        requires some { stop < self.now.left }
+        ensures takes { IfSome result (λ q. TakesNow program.now (view_of self.now) (tree_at program.now.nodes.items place) q.steps q.value) }
+        ensures plain { IfSome result (λ _. is_splat (tree_at program.now.nodes.items place) ≡ false) }
+        ensures few { IfSome result (λ q. q.steps ≤ 3) }
+        ensures enough { IfSome result (λ q. stop + q.steps < self.now.left) }
+        ensures within { (k : Reach) → AreReached k (view_of self.now) → IfSome result (λ q. IsReached k q.value) }
+    {
+        if self.left - stop <= 3 {
+            return None;
+        }
+        match self.quick(program, place) {
+            Some(found) => Some(found),
+            None => None,
+        }
+    }
+
+    /// Evaluates a node that evaluates a part first. The frame that waits for the part gets its value at once, where the part needs
+    /// no frame.
+    #[inline(always)]
+    fn visit_under(
+        &mut self,
+        program: &Program,
+        here: NodeId,
+        frame: Frame,
+        part: NodeId,
+        stop: u64,
+    )
+        requires control { self.old.control ≡ Control.Enter here }
+        requires script { (w : World) → rule (context_of program.now) (tree_at program.now.nodes.items here) ≡ Go (tree_at program.now.nodes.items part) (resumed (code_of program.now w) frame []) }
+        requires usual { IsRareFrame frame → ⊥ }
+        requires new { IsNew frame (length self.old.held.items) }
+        requires some { stop < self.old.left }
+        requires room { length self.old.frames.items < vec_capacity self.old.frames }
+        requires nested { IsNested (view_of self.old) }
+        ensures goes { (t : Table) (h : Course) → remaining program.now (view_of self.old) t h ≡ remaining program.now (view_of self.new) t h }
+        ensures nested { IsNested (view_of self.new) }
+        ensures within { (k : Reach) → AreReached k (view_of self.old) → IsFrameReached k frame → AreReached k (view_of self.new) }
+        ensures left { stop ≤ self.new.left }
+        ensures spends { self.new.left < self.old.left }
+        ensures falls { power (view_of self.new) + self.old.left ≤ power (view_of self.old) + self.new.left }
+    {
+        match self.quick_before(program, part, stop) {
+            Some(found) => {
+                self.left -= found.steps + 1;
+                match self.resume(program, frame, found.value, stop) {
+                    true => (),
+                    false => unreachable!(),
+                }
+            }
+            None => {
+                self.enter_above(frame, part);
+                self.left -= 1;
+            }
+        }
+    }
+
+    /// Evaluates a node that evaluates a part first, where the frame that waits for the part needs no objects and no memory.
+    #[inline(always)]
+    pub fn visit_first(&mut self, program: &Program, here: NodeId, node: Node, stop: u64) -> bool
+        requires control { self.old.control ≡ Control.Enter here }
+        requires tree { tree_at program.now.nodes.items here ≡ evaluated_tree program.now.nodes.items node }
+        requires some { stop < self.old.left }
+        requires room { length self.old.frames.items < vec_capacity self.old.frames }
+        requires nested { IsNested (view_of self.old) }
+        ensures goes { IsTrue result → (t : Table) (h : Course) → remaining program.now (view_of self.old) t h ≡ remaining program.now (view_of self.new) t h }
+        ensures nested { IsNested (view_of self.new) }
+        ensures within { (k : Reach) → AreReached k (view_of self.old) → AreReached k (view_of self.new) }
+        ensures left { stop ≤ self.new.left }
+        ensures spends { IsTrue result → self.new.left < self.old.left }
+        ensures falls { IsTrue result → power (view_of self.new) + self.old.left ≤ power (view_of self.old) + self.new.left }
+        ensures same { IsFalse result → self.new ≡ self.old }
+    {
+        match node {
+            Node::Binary(op, a, b) => {
+                self.visit_under(program, here, Frame::Left(op, b), a, stop);
+                true
+            }
+            Node::Choose(a, b, d) => {
+                self.visit_under(program, here, Frame::Branch(b, d), a, stop);
+                true
+            }
+            Node::Assign {
+                depth,
+                slot,
+                value,
+                ..
+            } => {
+                let frame = Frame::Store(Variable { depth, slot });
+                self.visit_under(program, here, frame, value, stop);
+                true
+            }
+            Node::Loop {
+                until,
+                condition,
+                body,
+            } => {
+                let frame = Frame::Condition(until, body, here);
+                self.visit_under(program, here, frame, condition, stop);
+                true
+            }
+            Node::Return(value) => {
+                self.visit_under(program, here, Frame::Return, value, stop);
+                true
+            }
+            _ => false,
+        }
+    }
+}
