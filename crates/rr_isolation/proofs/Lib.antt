@@ -2,4 +2,9 @@ pub mod Tables
 pub mod Spots
 pub mod Weights
 pub mod Searching
+pub mod Numbered
+pub mod Uses
+pub mod Earlier
+pub mod FirstUses
 pub mod Naming
+pub mod Told

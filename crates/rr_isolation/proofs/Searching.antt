@@ -19,14 +19,14 @@ use Rattle.rr_isolation.proofs.Spots.{spot, contained, contains_map, contained_s
 -- ---- trees in trees
 
 -- what stands in a tree is the tree, or stands in a part
-record Deeper (k : ℕ) (u t : Tree) : Type 0 where
-  part : Tree
-  has : Contains (parts t) part
-  inside : ℕ
-  stands : Within inside u part
-  is : k ≡ opened t + inside
+pub record Deeper (k : ℕ) (u t : Tree) : Type 0 where
+  pub part : Tree
+  pub has : Contains (parts t) part
+  pub inside : ℕ
+  pub stands : Within inside u part
+  pub is : k ≡ opened t + inside
 
-top : (k : ℕ) (u t : Tree) → Within k u t → ((k ≡ 0) × (u ≡ t)) ⊎ Deeper k u t
+pub top : (k : ℕ) (u t : Tree) → Within k u t → ((k ≡ 0) × (u ≡ t)) ⊎ Deeper k u t
 top _ _ _ (itself t) = inl (refl, refl)
 top _ _ _ (in_part k u p t has rest) = inr (record { part = p; has = has; inside = k; stands = rest; is = refl })
 
@@ -69,11 +69,11 @@ fits ns i n e before = elim (nat_lt i (length ns)) as (λ b. nat_lt i (length ns
 ] refl
 
 -- a node is an item or none
-item_or : (n : Node) → ((a : ℕ) × (n ≡ node.Item a)) ⊎ IsNoItem n
+pub item_or : (n : Node) → ((a : ℕ) × (n ≡ node.Item a)) ⊎ IsNoItem n
 item_or (node.Item a) = inl (a, refl)
 item_or n = inr tt
 
-only : {A : Type 0} (a m : A) → Contains (a ∷ []) m → a ≡ m
+pub only : {A : Type 0} (a m : A) → Contains (a ∷ []) m → a ≡ m
 only a m has = ⊎_elim (λ none. absurd (omega (arith, none.1))) (λ e. e) (Contains-push_cases [] a m has)
 
 -- the node at a spot is looked at, and its parts are left to look at

@@ -1,5 +1,5 @@
 -- What is known of a block while it is searched.
-use Rattle.std.specs.Prelude.{◌≡◌, ◌↔◌, ℕ, ◌≤◌, IsTrue, Option, Some, nat_eq}
+use Rattle.std.specs.Prelude.{◌≡◌, ◌↔◌, ℕ, ◌≤◌, IsTrue, List, Contains, Option, Some, nat_eq}
 use Rattle.indexmap.specs.IndexMap.{get}
 use Rattle.rr_tree.specs.Tree.{Tree}
 use Rattle.rr_isolation.specs.Outer.{LeadsOut, IsYield, IsOuterUse, UsesYield}
@@ -25,3 +25,7 @@ pub record Describes (f : Found) (t : Tree) : Type 0 where
   pub sound : (name behind : ℕ) → first_of f name ≡ Some behind → IsOuterUse t name behind
   pub complete : (name behind : ℕ) → IsOuterUse t name behind → HasUse f name behind
   pub yields : IsTrue f.yields ↔ UsesYield t
+
+-- a list has the uses in a block that lead out of it
+abbrev pub AreUses : Tree → List (ℕ × ℕ) → Type 0
+AreUses t us = (name behind : ℕ) → Contains us (name, behind) ↔ IsOuterUse t name behind

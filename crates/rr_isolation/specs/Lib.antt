@@ -1,4 +1,5 @@
 pub mod Parts
 pub mod Outer
+pub mod Names
 pub mod Numbers
 pub mod Finds

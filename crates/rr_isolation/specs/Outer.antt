@@ -1,5 +1,5 @@
 -- The outer names of a block, and what a block is that a ractor can have.
-use Rattle.std.specs.Prelude.{◌≡◌, ◌↔◌, ℕ, ◌≤◌, List, [], map, Contains, nat_eq}
+use Rattle.std.specs.Prelude.{◌≡◌, ◌↔◌, ℕ, ◌≤◌, Bool, ◌&&◌, ◌||◌, IsTrue, List, [], map, Contains, nat_eq, nat_lt}
 use Rattle.std.specs.List.{AllPairs, IsDistinct}
 use Rattle.rr_base.specs.declared.fault.Fault.{Fault}
 use Rattle.rr_base.specs.declared.fault.Fault.TheVariants as fault
@@ -38,9 +38,14 @@ IsOuterName t name = (behind : ℕ) × IsOuterUse t name behind
 abbrev pub IsFirstUse : Tree → ℕ → ℕ → Type 0
 IsFirstUse t name behind = IsOuterUse t name behind × ((other : ℕ) → IsOuterUse t name other → other ≤ behind)
 
--- the first use of a name is not behind that of another
+-- Whether a use, its name and the words behind it, is earlier than another: more words stand behind it. Of two that stand at one place, as in
+-- no source, the one with the smaller number of a name counts as the earlier.
+abbrev pub is_earlier : ℕ × ℕ → ℕ × ℕ → Bool
+is_earlier u v = nat_lt v.1 u.1 || (nat_eq u.1 v.1 && nat_lt u.0 v.0)
+
+-- the first use of a name is earlier than that of another
 abbrev pub IsUsedBefore : Tree → ℕ → ℕ → Type 0
-IsUsedBefore t x y = (a b : ℕ) → IsFirstUse t x a → IsFirstUse t y b → b ≤ a
+IsUsedBefore t x y = (a b : ℕ) → IsFirstUse t x a → IsFirstUse t y b → IsTrue (is_earlier (x, a) (y, b))
 
 -- the outer names of a block, each once, in the order of their first uses
 pub record AreOuterNames (t : Tree) (names : List ℕ) : Type 0 where

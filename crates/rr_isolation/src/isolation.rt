@@ -1,7 +1,8 @@
 //! Outer names, and blocks that a ractor can have.
 
-ghost use Rattle.std.specs.Prelude.{◌≡◌, IfErr, IfOk, map};
+ghost use Rattle.std.specs.Prelude.{◌≡◌, [], IfErr, IfOk, IsFalse, length, map};
 ghost use Rattle.rr_tree.specs.Tree.{tree_at};
+ghost use Rattle.rr_isolation.specs.Names.{outer_names, uses_yield, IsTold};
 ghost use Rattle.rr_isolation.specs.Outer.{AreOuterNames, IsIsolated, IsRefused};
 
 use crate::order::names_in_order;
@@ -40,6 +41,8 @@ pub fn outer_names(alloc: Global, program: &Program, block: BlockId) -> Result<V
 pub fn isolate(alloc: Global, program: &Program, block: BlockId) -> Result<Isolated, Fault>
     ensures isolated { IfOk result (λ i. (i.block ≡ block) × IsIsolated (tree_at program.now.nodes.items block)) }
     ensures refused { IfErr result (IsRefused (tree_at program.now.nodes.items block)) }
+    ensures free { IfOk result (λ _. (outer_names (length program.now.nodes.items) (tree_at program.now.nodes.items block) ≡ []) × IsFalse (uses_yield (length program.now.nodes.items) (tree_at program.now.nodes.items block))) }
+    ensures told { IfErr result (IsTold (length program.now.nodes.items) (tree_at program.now.nodes.items block)) }
 {
     let found = search(alloc, program, block)?;
     let yields = found.yields;
