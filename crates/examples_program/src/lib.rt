@@ -54,6 +54,8 @@ mod rows;
 #[cfg(test)]
 mod run;
 #[cfg(test)]
+mod settable;
+#[cfg(test)]
 mod several;
 #[cfg(test)]
 mod sharing;

@@ -46,3 +46,4 @@ pub mod Forwarding
 pub mod Looping
 pub mod Connecting
 pub mod Shares
+pub mod Settable

@@ -65,6 +65,7 @@ use Rattle.rr_eval.specs.declared.call_stack.CallValue.TheVariants.{Method}
 use Rattle.rr_eval.proofs.Speeches.{task_keeps, asking_on_keeps, asked_on_keeps}
 use Rattle.rr_eval.proofs.Dispatching.{method_keeps, initialized_keeps, dispatched_keeps, send_keeps, self_keeps, sent_block_keeps, operates, negates, super_keeps}
 use Rattle.rr_eval.proofs.CallParts.{part_called_keeps}
+use Rattle.rr_eval.proofs.Settable.{or_keeps}
 use Rattle.rr_eval.proofs.Updates.{put_keeps, updated_keeps, accessed_keeps, operator_keeps, update_keeps}
 use Rattle.rr_eval.proofs.Splatted.{spread_keeps, arguments_keep}
 use Rattle.rr_eval.proofs.Targets.{several_keeps}
@@ -221,7 +222,7 @@ rule_keeps c (assign depth slot x behind a) = on_value_keeps _ (λ v. (λ m. ome
 rule_keeps c (multiple_assign list a) = on_value_keeps _ (λ v. several_keeps c (items list) v)
 rule_keeps c (operator_assign op a b) = operator_keeps c op a b (place_of a)
 rule_keeps c (append_assign a b) = update_keeps c (updates.Combine callees.Append) a b (place_of a)
-rule_keeps c (or_assign a b) = update_keeps c updates.Or a b (place_of a)
+rule_keeps c (or_assign a b) = or_keeps c a b
 rule_keeps c (and_assign a b) = update_keeps c updates.And a b (place_of a)
 rule_keeps c (choose a b d) = on_value_keeps _ (λ v. λ a'. tt)
 rule_keeps c (repeat until a b) = loop_keeps (Go (repeat until a b) Ret) _ (λ x. tt) (turn_keeps until b (Go (repeat until a b) Ret) (λ x. tt))

@@ -40,6 +40,7 @@ sent_first_keeps c callee (v ∷ vs) = send_keeps c callee None v vs
 pub put_keeps : (c : Context) (place : Place) (stand : List Ref) (v : Ref) → Keeps (put c place stand v)
 put_keeps c (places.Variable x) stand v = (λ m. omega arith, tt)
 put_keeps c (places.Field x) stand v = λ m. settled_keeps c
+put_keeps c (places.Global x) stand v = λ m. settled_keeps c
 put_keeps c (places.Sent setter) stand v = sent_first_keeps c setter (stand ++ v ∷ [])
 
 put_unless_keeps : (there : Bool) (b : Tree) (assign : Ref → Script) → ((v : Ref) → Keeps (assign v)) → (old : Ref) → Keeps (put_unless there b assign old)

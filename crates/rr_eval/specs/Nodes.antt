@@ -52,6 +52,7 @@ IsRareNode (node.Interpolation first count) = Unit {0}
 IsRareNode (node.Field x) = Unit {0}
 IsRareNode (node.Global x) = Unit {0}
 IsRareNode (node.Constant path) = Unit {0}
+IsRareNode (node.OrAssign a b) = Unit {0}
 IsRareNode (node.Bare x site) = Unit {0}
 IsRareNode (node.Call x first count site) = Unit {0}
 IsRareNode (node.WithBlock a b) = Unit {0}

@@ -28,7 +28,7 @@ use Rattle.rr_eval.specs.Iterating.{continued, turned, body_in, iteration_rule, 
 use Rattle.rr_eval.specs.Above.{super_rule, parameters_of}
 use Rattle.rr_eval.specs.Fields.{field_rule, set_field_rule}
 use Rattle.rr_eval.specs.declared.updating.Update.TheVariants as updates
-use Rattle.rr_eval.specs.Updating.{place_of, accessed, operator_rule, update_rule}
+use Rattle.rr_eval.specs.Updating.{place_of, accessed, operator_rule, update_rule, or_rule}
 use Rattle.rr_eval.specs.Globals.{global_rule, set_global_rule}
 use Rattle.rr_eval.specs.Values.{goes_on}
 use Rattle.rr_eval.specs.Operators.{make}
@@ -220,7 +220,7 @@ rule c (assign depth slot x behind a) = with_value a (λ v. write (record { dept
 rule c (multiple_assign list a) = with_value a (several c (items list))
 rule c (operator_assign op a b) = operator_rule c op a b (place_of a)
 rule c (append_assign a b) = update_rule c (updates.Combine callees.Append) a b (place_of a)
-rule c (or_assign a b) = update_rule c updates.Or a b (place_of a)
+rule c (or_assign a b) = or_rule c a b
 rule c (and_assign a b) = update_rule c updates.And a b (place_of a)
 rule c (choose a b d) = with_value a (λ v. Go (if is_truthy v then b else d) Ret)
 -- each turn of a loop evaluates the loop again

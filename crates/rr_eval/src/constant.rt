@@ -47,7 +47,7 @@ fn own_class(program: &Program, name: Sym) -> Option<ClassId>
 }
 
 /// What a constant was set to, where it was set.
-fn set_constant(space: &Space, name: Sym) -> Option<Response>
+pub fn set_constant(space: &Space, name: Sym) -> Option<Response>
     ensures is { result ≡ set_response (field_at space.now globals name.0) }
     ensures within { (clusters : Option Below) → IfSome result (IsResponseReached (reach (length space.now.slots) clusters)) }
 {

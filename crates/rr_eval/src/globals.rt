@@ -1,6 +1,6 @@
 //! Global variables.
 
-ghost use Rattle.std.specs.Prelude.{◌≡◌, ◌+◌, ◌*◌, ◌<◌, ◌≤◌, ℕ, [], length, vec_capacity, Option, Some, IfOk, IfErr};
+ghost use Rattle.std.specs.Prelude.{◌≡◌, ◌+◌, ◌*◌, ◌<◌, ◌≤◌, ℕ, [], length, reverse, vec_capacity, Option, Some, IfOk, IfErr};
 ghost use Rattle.std.specs.List.{All};
 ghost use Rattle.rr_space.specs.Parts.{value_of};
 ghost use Rattle.rr_space.specs.Tables.{Table, Below};
@@ -11,19 +11,21 @@ ghost use Rattle.rr_tree.specs.declared.program.Program.{Program};
 ghost use Rattle.rr_eval.specs.declared.problem.Problem.{Problem};
 ghost use Rattle.rr_eval.specs.Calls.{reply_with};
 ghost use Rattle.rr_eval.specs.Globals.{globals, global_rule, set_global_rule};
-ghost use Rattle.rr_eval.specs.Requests.{Course};
+ghost use Rattle.rr_eval.specs.Frames.{below_of, base_of, Nested};
+ghost use Rattle.rr_eval.specs.Requests.{Course, asked_of};
 ghost use Rattle.rr_eval.specs.Rules.{with_value};
 ghost use Rattle.rr_eval.specs.Serves.{IsReplied, IsRefused};
 ghost use Rattle.rr_eval.specs.Tasks.{global_reply};
-ghost use Rattle.rr_eval.specs.Turns.{context_of, IsNested, after_script, remaining_with, size};
+ghost use Rattle.rr_eval.specs.Turns.{context_of, IsNested, after_script, after_values, asking_with, remaining_with, size};
 ghost use Rattle.rr_eval.specs.Views.{view_of};
-ghost use Rattle.rr_eval.specs.Within.{Reach, reach, AreReached, IsReached};
+ghost use Rattle.rr_eval.specs.Within.{Reach, reach, AreReached, IsReached, IsRequestReached};
 
-use crate::call::{Target, Task};
+use crate::call::{Arguments, Target, Task};
 use crate::engine::Engine;
 use crate::fields::read_field;
-use crate::frame::Frame;
+use crate::frame::{Frame, clear};
 use crate::problem::{Problem, Response};
+use crate::request::Request;
 use crate::serve::response_from;
 use rr_base::{Fault, Sym};
 use rr_builtin::set_field;
@@ -93,5 +95,21 @@ impl Engine {
         let target = Target::Do(Task::SetGlobal(name));
         let frame = Frame::Argument(target, value, 0, self.held.len());
         self.enter_above(frame, value);
+    }
+
+    /// Asks for an assignment to a global variable, or to a constant, in the place of what is done with the values that stand for a frame.
+    #[tactic(auto, unfolding(crate::specs::Within::AreReached))]
+    pub fn put_global(&mut self, frame: Frame, name: Sym, value: Ref) -> Request
+        requires base { base_of frame ≤ length self.old.held.items }
+        requires nested { Nested (reverse self.old.frames.items) (below_of frame self.old.held.items) }
+        ensures goes { (p : Program) (t : Table) (h : Course) (n : ℕ) → after_values p (view_of self.old) t frame (set_global_rule (context_of p) name value) h n ≡ asking_with p (view_of self.new) t (asked_of t result) h n }
+        ensures nested { IsNested (view_of self.new) }
+        ensures within { (k : Reach) → AreReached k (view_of self.old) → AreReached k (view_of self.new) }
+        ensures asks { (k : Reach) → AreReached k (view_of self.old) → IsReached k value → IsRequestReached k result }
+        ensures left { self.new.left ≡ self.old.left }
+        ensures frames { self.new.frames.items ≡ self.old.frames.items }
+    {
+        clear(&mut self.held, frame);
+        Request::Do(Task::SetGlobal(name), Arguments::One(value))
     }
 }

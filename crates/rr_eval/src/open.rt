@@ -226,6 +226,9 @@ impl Engine {
                 self.open_path(&prepared.program, space, path);
                 Ok(None)
             }
+            Node::OrAssign(target, value) => {
+                self.open_or(&prepared.program, space, target, value)
+            }
             Node::Bare { name, .. } => self.open_bare(prepared, space, name),
             Node::Call {
                 name,
@@ -317,9 +320,6 @@ impl Engine {
             Node::AppendAssign(target, value) => {
                 self.open_update(program, Update::Combine(Callee::Append), target, value);
             }
-            Node::OrAssign(target, value) => {
-                self.open_update(program, Update::Or, target, value);
-            }
             Node::AndAssign(target, value) => {
                 self.open_update(program, Update::And, target, value);
             }
@@ -351,6 +351,7 @@ impl Engine {
             | Node::Field(_)
             | Node::Global(_)
             | Node::Constant(_)
+            | Node::OrAssign(_, _)
             | Node::Bare { .. }
             | Node::Call { .. }
             | Node::WithBlock(_, _)

@@ -1,23 +1,32 @@
 //! Assignments that also read what they assign to, as they begin.
 
-ghost use Rattle.std.specs.Prelude.{◌≡◌, ◌+◌, ◌*◌, ◌<◌, ◌≤◌, ℕ, length, vec_capacity};
+ghost use Rattle.std.specs.Prelude.{◌≡◌, ◌+◌, ◌*◌, ◌<◌, ◌≤◌, ℕ, length, vec_capacity, IfOk, IfErr};
+ghost use Rattle.rr_base.specs.declared.fault.Fault.{Fault};
 ghost use Rattle.rr_space.specs.Tables.{Table};
-ghost use Rattle.rr_tree.specs.Tree.{tree_at};
+ghost use Rattle.rr_tree.specs.Tree.{constant, tree_at};
+ghost use Rattle.rr_tree.specs.declared.node.Path.TheVariants.{Plain};
+ghost use Rattle.rr_builtin.specs.Fields.{field_at};
 ghost use Rattle.rr_eval.specs.Requests.{Course};
 ghost use Rattle.rr_eval.specs.Basics.{variable_of};
-ghost use Rattle.rr_eval.specs.Updating.{place_of, access_rule, operator_rule, update_rule};
-ghost use Rattle.rr_eval.specs.Turns.{context_of, IsNested, after_script, remaining_with, size};
+ghost use Rattle.rr_eval.specs.Constants.{set_response};
+ghost use Rattle.rr_eval.specs.Globals.{globals};
+ghost use Rattle.rr_eval.specs.Updating.{place_of, access_rule, operator_rule, update_rule, or_constant, or_rule};
+ghost use Rattle.rr_eval.specs.Turns.{context_of, IsNested, Stands, after_script, continuing, remaining_with, size, sized};
 ghost use Rattle.rr_eval.specs.Views.{view_of};
-ghost use Rattle.rr_eval.specs.Within.{Reach, AreReached};
+ghost use Rattle.rr_eval.specs.Within.{Reach, AreReached, IsAskedReached};
 
 use crate::call::{Callee, Target};
 use crate::call_stack::Variable;
+use crate::constant::set_constant;
 use crate::engine::{Engine, push_within};
 use crate::frame::{Control, Frame};
 use crate::nodes::evaluated_node;
 use crate::problem::Problem;
+use crate::request::Request;
 use crate::updating::{Place, Update, Updating};
-use rr_tree::{BinaryOperator, Node, NodeId, Program};
+use rr_base::{Fault, Sym};
+use rr_space::Space;
+use rr_tree::{BinaryOperator, Node, NodeId, Path, Program};
 
 /// The variable that a target is, where it is one.
 pub fn variable_of(program: &Program, target: NodeId) -> Option<Variable>
@@ -29,13 +38,15 @@ pub fn variable_of(program: &Program, target: NodeId) -> Option<Variable>
     }
 }
 
-/// The variable, or the instance variable, that a target is, where it is one.
+/// The variable, the instance or global variable, or the constant, that a target is, where it is one.
 fn place_of(program: &Program, target: NodeId) -> Option<Place>
     ensures { result ≡ place_of (tree_at program.now.nodes.items target) }
 {
     match evaluated_node(program, target) {
         Node::Local { depth, slot, .. } => Some(Place::Variable(Variable { depth, slot })),
         Node::Field(name) => Some(Place::Field(name)),
+        Node::Global(name) => Some(Place::Global(name)),
+        Node::Constant(Path::Plain(name)) => Some(Place::Global(name)),
         _ => None,
     }
 }
@@ -127,5 +138,74 @@ impl Engine {
             }
             None => self.open_access(program, how, target, value),
         }
+    }
+
+    /// Evaluates `A ||= b`, where `A` is a constant of this name.
+    #[tactic(auto, unfolding(crate::specs::Within::AreReached))]
+    fn or_constant(
+        &mut self,
+        program: &Program,
+        space: &Space,
+        name: Sym,
+        target: NodeId,
+        value: NodeId,
+    )
+        requires tree { tree_at program.now.nodes.items target ≡ constant (Plain name) }
+        requires room { length self.old.frames.items < vec_capacity self.old.frames }
+        requires nested { IsNested (view_of self.old) }
+        ensures goes { (h : Course) (n : ℕ) → after_script program.now (view_of self.old) space.now (or_constant (context_of program.now) (set_response (field_at space.now globals name.0)) name (tree_at program.now.nodes.items value)) h n ≡ remaining_with program.now (view_of self.new) space.now h n }
+        ensures nested { IsNested (view_of self.new) }
+        ensures within { (k : Reach) → AreReached k (view_of self.old) → AreReached k (view_of self.new) }
+        ensures left { self.new.left ≡ self.old.left }
+        ensures size { size (view_of self.new) ≤ 3 * length self.old.frames.items + 4 }
+    {
+        match set_constant(space, name) {
+            Some(_) => self.open_update(program, Update::Or, target, value),
+            None => self.open_assignment(name, value),
+        }
+    }
+
+    /// Evaluates `a ||= b`, where there is room for a frame.
+    #[tactic(auto, unfolding(crate::specs::Within::AreReached))]
+    fn or_within(&mut self, program: &Program, space: &Space, target: NodeId, value: NodeId)
+        requires room { length self.old.frames.items < vec_capacity self.old.frames }
+        requires nested { IsNested (view_of self.old) }
+        ensures goes { (h : Course) (n : ℕ) → after_script program.now (view_of self.old) space.now (or_rule (context_of program.now) (tree_at program.now.nodes.items target) (tree_at program.now.nodes.items value)) h n ≡ remaining_with program.now (view_of self.new) space.now h n }
+        ensures nested { IsNested (view_of self.new) }
+        ensures within { (k : Reach) → AreReached k (view_of self.old) → AreReached k (view_of self.new) }
+        ensures left { self.new.left ≡ self.old.left }
+        ensures size { size (view_of self.new) ≤ 3 * length self.old.frames.items + 4 }
+    {
+        match evaluated_node(program, target) {
+            Node::Constant(path) => match path {
+                Path::Plain(name) => self.or_constant(program, space, name, target, value),
+                Path::Ractor(_) => self.open_update(program, Update::Or, target, value),
+            },
+            _ => self.open_update(program, Update::Or, target, value),
+        }
+    }
+
+    /// Evaluates `a ||= b`.
+    #[tactic(auto, unfolding(crate::specs::Within::AreReached))]
+    pub fn open_or(
+        &mut self,
+        program: &Program,
+        space: &Space,
+        target: NodeId,
+        value: NodeId,
+    ) -> Result<Option<Request>, Fault>
+        requires nested { IsNested (view_of self.old) }
+        ensures goes { IfOk result (λ q. (h : Course) (n : ℕ) → after_script program.now (view_of self.old) space.now (or_rule (context_of program.now) (tree_at program.now.nodes.items target) (tree_at program.now.nodes.items value)) h n ≡ continuing program.now (view_of self.new) space.now q h n) }
+        ensures nested { IsNested (view_of self.new) }
+        ensures within { (k : Reach) → AreReached k (view_of self.old) → AreReached k (view_of self.new) }
+        ensures left { self.new.left ≡ self.old.left }
+        ensures asks { (k : Reach) → IfOk result (IsAskedReached k) }
+        ensures err { (t : Table) → IfErr result (λ f. Stands (view_of self.old) (view_of self.new) t t f) }
+        ensures size { IfOk result (λ q. sized q (view_of self.new) ≤ 3 * length self.old.frames.items + 4) }
+        ensures fault { IfErr result (λ f. f ≡ Fault.Memory) }
+    {
+        self.frames.reserve(1)?;
+        self.or_within(program, space, target, value);
+        Ok(None)
     }
 }

@@ -37,6 +37,8 @@ pub enum Place {
     Variable(Variable),
     /// An instance variable of `self`.
     Field(Sym),
+    /// A global variable, or a constant.
+    Global(Sym),
     /// What a call of this assigns to: an element or an attribute.
     Sent(Callee),
 }
@@ -223,6 +225,7 @@ impl Engine {
                 Ok(None)
             }
             Place::Field(name) => Ok(Some(self.put_field(frame, name, value))),
+            Place::Global(name) => Ok(Some(self.put_global(frame, name, value))),
             Place::Sent(setter) => self.send_first(prepared, space, setter, frame, value),
         }
     }

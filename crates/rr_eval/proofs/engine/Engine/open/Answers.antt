@@ -120,9 +120,6 @@ returns-in-OperatorAssign-clause-within c k h = c.open_operator.ensures.within k
 pub returns-in-AppendAssign-clause-within : goal.returns-in-AppendAssign-clause-within
 returns-in-AppendAssign-clause-within c k h = c.open_update.ensures.within k h
 
-pub returns-in-OrAssign-clause-within : goal.returns-in-OrAssign-clause-within
-returns-in-OrAssign-clause-within c k h = c.open_update-in-OrAssign.ensures.within k h
-
 pub returns-in-AndAssign-clause-within : goal.returns-in-AndAssign-clause-within
 returns-in-AndAssign-clause-within c k h = c.open_update-in-AndAssign.ensures.within k h
 

@@ -154,3 +154,9 @@ returns-in-ForwardingSuper-clause-goes c =
 
 pub returns-in-Text-clause-asks : goal.returns-in-Text-clause-asks
 returns-in-Text-clause-asks c clusters h = c.open_text.ensures.asks (reach (length c.open_text.new.space.slots) clusters)
+
+pub returns-in-OrAssign-clause-within : goal.returns-in-OrAssign-clause-within
+returns-in-OrAssign-clause-within c cs = c.open_or.ensures.within (reach (length c.args.space.now.slots) cs)
+
+pub returns-in-OrAssign-clause-asks : goal.returns-in-OrAssign-clause-asks
+returns-in-OrAssign-clause-asks c clusters h = c.open_or.ensures.asks (reach (length c.args.space.now.slots) clusters)

@@ -28,6 +28,14 @@ returns-in-Field-clause-goes c h n =
     let stand = drop c.args.base m.held in
     ap (λ place. after_values p m t (Put c.args.place c.args.base) (put (context_of p) place stand c.args.value) h n) c.in-Field.is ∙ c.put_field.ensures.goes p t h n
 
+pub returns-in-Global-clause-goes : goal.returns-in-Global-clause-goes
+returns-in-Global-clause-goes c h n =
+    let p = c.args.prepared.now.program in
+    let m = view_of c.args.self.now in
+    let t = c.args.space.now in
+    let stand = drop c.args.base m.held in
+    ap (λ place. after_values p m t (Put c.args.place c.args.base) (put (context_of p) place stand c.args.value) h n) c.in-Global.is ∙ c.put_global.ensures.goes p t h n
+
 pub returns-in-Sent-clause-goes : goal.returns-in-Sent-clause-goes
 returns-in-Sent-clause-goes c =
     let p = c.args.prepared.now.program in
