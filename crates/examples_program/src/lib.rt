@@ -66,6 +66,8 @@ mod splats;
 #[cfg(test)]
 mod table;
 #[cfg(test)]
+mod targets;
+#[cfg(test)]
 mod updating;
 mod usual;
 #[cfg(test)]

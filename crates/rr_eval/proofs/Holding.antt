@@ -24,7 +24,9 @@ use Rattle.rr_eval.specs.declared.frame.Making.{Making}
 use Rattle.rr_eval.specs.declared.iterating.Iterating.{Iterating}
 use Rattle.rr_eval.specs.declared.frame.Frame.TheVariants as frames
 use Rattle.rr_eval.specs.declared.frame.Control.{Control}
-use Rattle.rr_eval.specs.declared.frame.Control.TheVariants.{Enter, Operate, Give, Throw, Raise, RaiseValue, New, Send}
+use Rattle.rr_eval.specs.declared.frame.Control.TheVariants.{Enter, Operate, Give, Throw, Raise, RaiseValue, New, Send, Assign}
+use Rattle.rr_eval.specs.declared.spot.Spot.{Spot}
+use Rattle.rr_eval.specs.declared.spot.Spot.TheVariants as spots
 use Rattle.rr_eval.specs.View.{View}
 use Rattle.rr_eval.specs.declared.call_stack.CallValue.{CallValue}
 use Rattle.rr_eval.specs.declared.call_stack.CallValue.TheVariants as values
@@ -35,7 +37,7 @@ use Rattle.rr_frames.specs.declared.activation.Activation.{Activation}
 use Rattle.rr_eval.specs.Variables.{top, outer, read_variable, write_variable}
 use Rattle.rr_eval.specs.declared.call_stack.Variable.{Variable}
 use Rattle.rr_eval.specs.declared.call_stack.Entry.{Entry}
-use Rattle.rr_eval.specs.Within.{Reach, reach, AreVariablesReached, IsEntryReached, IsCallValueReached, IsReached, IsAnswerReached, IsFrameReached, IsControlReached, IsResponseReached, AreReached, AreWithin}
+use Rattle.rr_eval.specs.Within.{Reach, reach, AreVariablesReached, IsEntryReached, IsCallValueReached, IsReached, IsAnswerReached, IsFrameReached, IsSpotReached, IsControlReached, IsResponseReached, AreReached, AreWithin}
 
 -- more slots
 pub ref_more : (k l : ℕ) (cs : Option Below) → k ≤ l → (r : Ref) → IsReached (reach k cs) r → IsReached (reach l cs) r
@@ -82,7 +84,9 @@ frame_more k l cs le (frames.Rest end count) h = tt
 frame_more k l cs le (frames.Argument target end count base) h = tt
 frame_more k l cs le (frames.Receiver target end count base) h = tt
 frame_more k l cs le (frames.Item target end count base) h = tt
-frame_more k l cs le (frames.Several end count) h = tt
+frame_more k l cs le (frames.Aim x) h = tt
+frame_more k l cs le (frames.Several end count base) h = tt
+frame_more k l cs le (frames.Assigned x) h = tt
 frame_more k l cs le (frames.Key next end count base) h = tt
 frame_more k l cs le (frames.Value end count base) h = tt
 frame_more k l cs le (frames.Asking a) h = tt
@@ -100,6 +104,12 @@ frame_more k l cs le (frames.Round i) h = tt
 frame_more k l cs le (frames.Turned i) h = tt
 frame_more k l cs le (frames.Initialize x) h = tt
 
+spot_more : (k l : ℕ) (cs : Option Below) → k ≤ l → (x : Spot) → IsSpotReached (reach k cs) x → IsSpotReached (reach l cs) x
+spot_more k l cs le (spots.Field x) h = tt
+spot_more k l cs le (spots.Global x) h = tt
+spot_more k l cs le (spots.Attribute x r) h = ref_more k l cs le r h
+spot_more k l cs le (spots.Element r i) h = (ref_more k l cs le r h.0, ref_more k l cs le i h.1)
+
 control_more : (k l : ℕ) (cs : Option Below) → k ≤ l → (c : Control) → IsControlReached (reach k cs) c → IsControlReached (reach l cs) c
 control_more k l cs le (Enter part) h = tt
 control_more k l cs le (Operate op a b) h = tt
@@ -109,6 +119,7 @@ control_more k l cs le (Raise class message) h = ref_more k l cs le message h
 control_more k l cs le (RaiseValue v message) h = (ref_more k l cs le v h.0, All-weaker (IsReached (reach k cs)) (IsReached (reach l cs)) (ref_more k l cs le) (list_of message) h.1)
 control_more k l cs le (New class) h = tt
 control_more k l cs le (Send callee v w) h = (ref_more k l cs le v h.0, All-weaker (IsReached (reach k cs)) (IsReached (reach l cs)) (ref_more k l cs le) (list_of w) h.1)
+control_more k l cs le (Assign spot v) h = (spot_more k l cs le spot h.0, ref_more k l cs le v h.1)
 
 pub reached_more : (k l : ℕ) (cs : Option Below) → k ≤ l → (m : View) → AreReached (reach k cs) m → AreReached (reach l cs) m
 unfolding AreReached
@@ -304,6 +315,9 @@ below_reached : (P : Ref → Type 0) (f : Frame) (held : List Ref) → All P hel
 below_reached P (frames.Argument target end count base) held h = all_take P base held h
 below_reached P (frames.Receiver target end count base) held h = all_take P base held h
 below_reached P (frames.Item target end count base) held h = all_take P base held h
+below_reached P (frames.Aim x) held h = all_take P x.base held h
+below_reached P (frames.Several end count base) held h = all_take P base held h
+below_reached P (frames.Assigned x) held h = all_take P x.base held h
 below_reached P (frames.Key next end count base) held h = all_take P base held h
 below_reached P (frames.Value end count base) held h = all_take P base held h
 below_reached P (frames.Asking a) held h = all_take P a.base held h

@@ -15,10 +15,11 @@ pub mod Bytes
 pub mod Printed
 pub mod Keeping
 pub mod Splatted
-pub mod Targets
 pub mod Dispatching
 pub mod CallParts
 pub mod Updates
+pub mod Targets
+pub mod Spots
 pub mod Speeches
 pub mod Objects
 pub mod Running

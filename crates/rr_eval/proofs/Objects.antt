@@ -31,8 +31,8 @@ use Rattle.rr_eval.specs.declared.problem.Problem.{Problem}
 use Rattle.rr_eval.specs.declared.problem.Problem.TheVariants.{BuiltIn, MissingName, MissingConstant, NotHere}
 use Rattle.rr_builtin.specs.declared.problem.Problem.TheVariants.{WrongType}
 use Rattle.rr_eval.specs.declared.frame.Frame.{Frame}
-use Rattle.rr_eval.specs.declared.frame.Frame.TheVariants.{Not, Negation, And, Or, Left, Right, Store, SetField, Branch, Condition, Body, Break, Next, Return, Back, Past, Rest, Argument, Key, Value, Element, Read, Combine, Put, Rescue, Class, Handling, Ensure, Kept, Round, Turned, Initialize, Receiver, Item, Several, Asking as AskingFrame, Asked as AskedFrame}
-use Rattle.rr_eval.specs.Script.{Memory, State, Script, Ret, Part, TreePart, TurnPart, CallPart, Evaluate, Go, See, Do, Ask, Asked, Reply, World, Outcome, Ended, Spent, Waits, Evaluation, run, after, taken, objects_of}
+use Rattle.rr_eval.specs.declared.frame.Frame.TheVariants.{Not, Negation, And, Or, Left, Right, Store, SetField, Branch, Condition, Body, Break, Next, Return, Back, Past, Rest, Argument, Key, Value, Element, Read, Combine, Put, Rescue, Class, Handling, Ensure, Kept, Round, Turned, Initialize, Receiver, Item, Aim, Several, Assigned, Asking as AskingFrame, Asked as AskedFrame}
+use Rattle.rr_eval.specs.Script.{Memory, State, Script, Ret, Part, TreePart, TurnPart, CallPart, AssignPart, Evaluate, Go, See, Do, Ask, Asked, Reply, World, Outcome, Ended, Spent, Waits, Evaluation, run, after, taken, objects_of}
 use Rattle.rr_eval.specs.Requests.{Course, Adds, AddsTo, asking}
 use Rattle.rr_base.specs.declared.fault.Fault.{Fault}
 use Rattle.rr_eval.specs.View.{View}
@@ -59,7 +59,8 @@ use Rattle.rr_space.specs.Kinds.{class_at}
 use Rattle.rr_tree.specs.Nodes.{trees_before}
 use Rattle.rr_eval.specs.Messages.{message, exception_class}
 use Rattle.rr_eval.specs.Exceptions.{with_exception}
-use Rattle.rr_eval.specs.Frames.{Code, evaluates, runs_in, iterated, taker, behind_class, resumed, stand_of, below_of, unwind}
+use Rattle.rr_eval.specs.Frames.{Code, evaluates, runs_in, iterated, option_trees, taker, behind_class, resumed, stand_of, below_of, unwind}
+use Rattle.rr_eval.specs.Several.{all_parts}
 use Rattle.rr_eval.proofs.Keeping.{count, make_keeps, Keeps, on_value_keeps, loop_keeps, raise_keeps, throw_keeps, settled_keeps, if_keeps, back_keeps, past_keeps, yield_keeps, continued_keeps, continued_with_keeps, turned_keeps, return_keeps, raise_rule_keeps}
 use Rattle.rr_eval.specs.declared.call_stack.CallValue.TheVariants.{Method}
 use Rattle.rr_eval.proofs.Speeches.{task_keeps, asking_on_keeps, asked_on_keeps}
@@ -68,7 +69,7 @@ use Rattle.rr_eval.proofs.CallParts.{part_called_keeps}
 use Rattle.rr_eval.proofs.Settable.{or_keeps}
 use Rattle.rr_eval.proofs.Updates.{put_keeps, updated_keeps, accessed_keeps, operator_keeps, update_keeps}
 use Rattle.rr_eval.proofs.Splatted.{spread_keeps, arguments_keep}
-use Rattle.rr_eval.proofs.Targets.{several_keeps}
+use Rattle.rr_eval.proofs.Targets.{put_in_keeps, each_keeps, several_keeps, aimed_keeps}
 
 finish_keeps : (c : Context) (target : Target) (vs : List Ref) → Keeps (finish c target vs)
 finish_keeps c (DoTarget task) vs = task_keeps c task vs
@@ -219,7 +220,7 @@ rule_keeps c (logical_not a) = on_value_keeps _ (λ v. tt)
 rule_keeps c (negate a) = on_value_keeps _ (λ v. negates c v)
 rule_keeps c (binary op a b) = on_value_keeps _ (λ v. on_value_keeps _ (λ w. operates c op v w))
 rule_keeps c (assign depth slot x behind a) = on_value_keeps _ (λ v. (λ m. omega arith, tt))
-rule_keeps c (multiple_assign list a) = on_value_keeps _ (λ v. several_keeps c (items list) v)
+rule_keeps c (multiple_assign list a) = aimed_keeps c (items list) a (all_parts (items list)) []
 rule_keeps c (operator_assign op a b) = operator_keeps c op a b (place_of a)
 rule_keeps c (append_assign a b) = update_keeps c (updates.Combine callees.Append) a b (place_of a)
 rule_keeps c (or_assign a b) = or_keeps c a b
@@ -241,6 +242,7 @@ part_keeps : (c : Context) (part : Part) → Keeps (part_rule c part)
 part_keeps c (TreePart t) = rule_keeps c t
 part_keeps c (TurnPart i) = λ a. turned_keeps c i a
 part_keeps c (CallPart callee v vs) = part_called_keeps c callee v vs
+part_keeps c (AssignPart spot v) = put_in_keeps c spot v
 
 resumed_keeps : (c : Code) (f : Frame) (stand : List Ref) (a : Answer) → Keeps (resumed c f stand a)
 resumed_keeps c Not stand = on_value_keeps _ (λ v. tt)
@@ -263,7 +265,9 @@ resumed_keeps c (Rest end more) stand = on_value_keeps _ (λ v. statements_keep 
 resumed_keeps c (Argument target end more base) stand = on_value_keeps _ (λ v. values_keep c.context target (trees_before c.nodes end more) (stand ++ v ∷ []))
 resumed_keeps c (Receiver target end more base) stand = on_value_keeps _ (λ v. arguments_keep c.context _ (finish_keeps c.context target) (trees_before c.nodes end more) (stand ++ v ∷ []))
 resumed_keeps c (Item target end more base) stand = on_value_keeps _ (λ v. spread_keeps c.context (is_splat (tree_at c.nodes (end - suc more))) v _ (λ ws. arguments_keep c.context _ (finish_keeps c.context target) (trees_before c.nodes end more) (stand ++ ws)))
-resumed_keeps c (Several end more) stand = on_value_keeps _ (λ v. several_keeps c.context (trees_before c.nodes end more) v)
+resumed_keeps c (Aim x) stand = on_value_keeps _ (λ v. aimed_keeps c.context (trees_before c.nodes x.end x.count) (tree_at c.nodes x.value) (option_trees c.nodes x.index ++ all_parts (trees_before c.nodes x.end x.left)) (stand ++ v ∷ []))
+resumed_keeps c (Several end more base) stand = on_value_keeps _ (λ v. several_keeps c.context (trees_before c.nodes end more) stand v)
+resumed_keeps c (Assigned x) stand = on_value_keeps _ (λ w. each_keeps c.context (trees_before c.nodes x.end x.left) _ _ _)
 resumed_keeps c (Key next end more base) stand = on_value_keeps _ (λ v. values_keep c.context (DoTarget MakeHash) (tree_at c.nodes next ∷ pair_parts (trees_before c.nodes end more)) (stand ++ v ∷ []))
 resumed_keeps c (Value end more base) stand = on_value_keeps _ (λ v. values_keep c.context (DoTarget MakeHash) (pair_parts (trees_before c.nodes end more)) (stand ++ v ∷ []))
 resumed_keeps c (AskingFrame a) stand = asking_on_keeps c.context a stand Method

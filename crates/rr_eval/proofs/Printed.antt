@@ -11,8 +11,8 @@ use Rattle.rr_eval.specs.declared.problem.Answer.TheVariants.{Gave}
 use Rattle.rr_eval.specs.declared.problem.Response.{Response}
 use Rattle.rr_eval.specs.declared.frame.Frame.{Frame}
 use Rattle.rr_eval.specs.declared.frame.Control.{Control}
-use Rattle.rr_eval.specs.declared.frame.Control.TheVariants.{Enter, Operate, Give, Throw, Raise, RaiseValue, New, Send}
-use Rattle.rr_eval.specs.Script.{State, Script, Ret, Part, TreePart, CallPart, Evaluate, See, Do, Ask, Asked, Reply, World, Outcome, Ended, Spent, Waits, Evaluation, run, after, taken}
+use Rattle.rr_eval.specs.declared.frame.Control.TheVariants.{Enter, Operate, Give, Throw, Raise, RaiseValue, New, Send, Assign}
+use Rattle.rr_eval.specs.Script.{State, Script, Ret, Part, TreePart, CallPart, AssignPart, Evaluate, See, Do, Ask, Asked, Reply, World, Outcome, Ended, Spent, Waits, Evaluation, run, after, taken}
 use Rattle.rr_eval.specs.Rules.{Context, throw, raise, settled, part_rule, eval}
 use Rattle.rr_eval.specs.Raising.{raise_value}
 use Rattle.rr_eval.specs.Dispatch.{making}
@@ -86,6 +86,7 @@ module _ (own : Context) where
   start_grows c (RaiseValue v message) s n = run_grows c.world (evaluates c) (meaning_grows c) (raise_value c.context v message) s n
   start_grows c (New class) s n = run_grows c.world (evaluates c) (meaning_grows c) (making c.context class (λ v. Ret (Gave v))) s n
   start_grows c (Send callee v w) s n = meaning_grows c (CallPart callee v (list_of w)) s n
+  start_grows c (Assign spot v) s n = meaning_grows c (AssignPart spot v) s n
 
   -- what is still to be done prints behind what was printed
   pub remaining_grows : (p : Program) (m : View) (t : Table) (h : Course) → IsBeginning (text_asked own h.asked) (text_of own (remaining p m t h))

@@ -10,7 +10,7 @@ use Rattle.rr_eval.specs.declared.problem.Answer.TheVariants.{Gave}
 use Rattle.rr_eval.specs.declared.frame.Making.{Making}
 use Rattle.rr_eval.specs.Dispatch.{making, new_rule, passed_on}
 use Rattle.rr_eval.specs.declared.frame.Frame.{Frame}
-use Rattle.rr_eval.specs.declared.frame.Frame.TheVariants.{Left, Argument, Key, Value, Read, Combine, Put, Round, Turned, Initialize, Receiver, Item, Asking as AskingFrame, Asked as AskedFrame}
+use Rattle.rr_eval.specs.declared.frame.Frame.TheVariants.{Left, Argument, Key, Value, Read, Combine, Put, Round, Turned, Initialize, Receiver, Item, Aim, Several, Assigned, Asking as AskingFrame, Asked as AskedFrame}
 use Rattle.rr_eval.specs.declared.frame.Control.TheVariants.{Enter, Give, New}
 use Rattle.rr_eval.specs.Script.{State, Ret, Go, Outcome, Ended, Spent, Waits, after}
 use Rattle.rr_eval.specs.Rules.{values, finish}
@@ -50,6 +50,15 @@ asking_frame c fs (Item target e k b) held o new =
     ap (λ h. unwind c (reverse fs) h (after o (λ a. runs_in c (resumed c (Item target e k b) [] a)))) (sym (take_all b held (omega arith)))
     ∙ ap (λ h. unwind c (reverse fs) (take b held) (after o (λ a. runs_in c (resumed c (Item target e k b) h a)))) (sym (drop_all b held (omega arith)))
     ∙ sym (rest_push c fs (Item target e k b) held o)
+asking_frame c fs (Aim x) held o new =
+    ap (λ h. unwind c (reverse fs) h (after o (λ a. runs_in c (resumed c (Aim x) [] a)))) (sym (take_all x.base held (omega arith)))
+    ∙ ap (λ h. unwind c (reverse fs) (take x.base held) (after o (λ a. runs_in c (resumed c (Aim x) h a)))) (sym (drop_all x.base held (omega arith)))
+    ∙ sym (rest_push c fs (Aim x) held o)
+asking_frame c fs (Several e k b) held o new =
+    ap (λ h. unwind c (reverse fs) h (after o (λ a. runs_in c (resumed c (Several e k b) [] a)))) (sym (take_all b held (omega arith)))
+    ∙ ap (λ h. unwind c (reverse fs) (take b held) (after o (λ a. runs_in c (resumed c (Several e k b) h a)))) (sym (drop_all b held (omega arith)))
+    ∙ sym (rest_push c fs (Several e k b) held o)
+asking_frame c fs (Assigned x) held o new = absurd new
 asking_frame c fs (Key x e k b) held o new =
     ap (λ h. unwind c (reverse fs) h (after o (λ a. runs_in c (resumed c (Key x e k b) [] a)))) (sym (take_all b held (omega arith)))
     ∙ ap (λ h. unwind c (reverse fs) (take b held) (after o (λ a. runs_in c (resumed c (Key x e k b) h a)))) (sym (drop_all b held (omega arith)))
@@ -106,6 +115,9 @@ pub nested_new : (fs : List Frame) (f : Frame) (held : List Ref) → IsNew f (le
 nested_new fs (Argument target e k b) held new nested = nested_push fs (Argument target e k b) held (omega arith) (subst (λ h. Nested (reverse fs) h) (sym (take_all b held (omega arith))) nested)
 nested_new fs (Receiver target e k b) held new nested = nested_push fs (Receiver target e k b) held (omega arith) (subst (λ h. Nested (reverse fs) h) (sym (take_all b held (omega arith))) nested)
 nested_new fs (Item target e k b) held new nested = nested_push fs (Item target e k b) held (omega arith) (subst (λ h. Nested (reverse fs) h) (sym (take_all b held (omega arith))) nested)
+nested_new fs (Aim x) held new nested = nested_push fs (Aim x) held (omega arith) (subst (λ h. Nested (reverse fs) h) (sym (take_all x.base held (omega arith))) nested)
+nested_new fs (Several e k b) held new nested = nested_push fs (Several e k b) held (omega arith) (subst (λ h. Nested (reverse fs) h) (sym (take_all b held (omega arith))) nested)
+nested_new fs (Assigned x) held new nested = absurd new
 nested_new fs (Key x e k b) held new nested = nested_push fs (Key x e k b) held (omega arith) (subst (λ h. Nested (reverse fs) h) (sym (take_all b held (omega arith))) nested)
 nested_new fs (Value e k b) held new nested = nested_push fs (Value e k b) held (omega arith) (subst (λ h. Nested (reverse fs) h) (sym (take_all b held (omega arith))) nested)
 nested_new fs (AskingFrame a) held new nested = absurd new

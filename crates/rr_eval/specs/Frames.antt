@@ -1,9 +1,9 @@
 -- What the frames of the machine stand for.
-use Rattle.std.specs.Prelude.{◌≡◌, ℕ, suc, ◌-◌, ◌≤◌, List, [], ◌∷◌, ◌++◌, if◌then◌else◌, not, length, take, drop, reverse, Option, Some, None, ◌+◌}
+use Rattle.std.specs.Prelude.{◌≡◌, ℕ, suc, ◌-◌, ◌≤◌, List, [], ◌∷◌, ◌++◌, if◌then◌else◌, not, length, take, drop, slice_index_or, reverse, Option, Some, None, ◌+◌}
 use Rattle.rr_frames.specs.Frames.{list_of}
 use Rattle.rr_parser.specs.Grammar.Names.{is_splat}
 use Rattle.rr_space.specs.declared.refer.Ref.{Ref}
-use Rattle.rr_space.specs.declared.refer.Ref.TheVariants.{Truth}
+use Rattle.rr_space.specs.declared.refer.Ref.TheVariants.{Nil, Truth}
 use Rattle.rr_tree.specs.Tree.{Tree, binary, tree_at}
 use Rattle.rr_tree.specs.declared.node.Node.{Node}
 use Rattle.rr_eval.specs.declared.call.Callee.TheVariants.{SetIndex}
@@ -16,14 +16,14 @@ use Rattle.rr_eval.specs.declared.problem.Answer.{Answer}
 use Rattle.rr_eval.specs.declared.problem.Answer.TheVariants.{Gave, Broke, Done}
 use Rattle.rr_eval.specs.declared.frame.Frame.{Frame}
 use Rattle.rr_eval.specs.declared.frame.Trial.{Trial}
-use Rattle.rr_eval.specs.declared.frame.Frame.TheVariants.{Not, Negation, And, Or, Left, Right, Store, SetField, Branch, Condition, Body, Break, Next, Return, Back, Past, Rest, Argument, Key, Value, Element, Read, Combine, Put, Rescue, Class, Handling, Ensure, Kept, Round, Turned, Initialize, Receiver, Item, Several, Asking as AskingFrame, Asked as AskedFrame}
+use Rattle.rr_eval.specs.declared.frame.Frame.TheVariants.{Not, Negation, And, Or, Left, Right, Store, SetField, Branch, Condition, Body, Break, Next, Return, Back, Past, Rest, Argument, Key, Value, Element, Read, Combine, Put, Rescue, Class, Handling, Ensure, Kept, Round, Turned, Initialize, Receiver, Item, Aim, Several, Assigned, Asking as AskingFrame, Asked as AskedFrame}
 use Rattle.rr_eval.specs.declared.frame.Control.{Control}
-use Rattle.rr_eval.specs.declared.frame.Control.TheVariants.{Enter, Operate, Give, Throw, Raise, RaiseValue, New, Send}
+use Rattle.rr_eval.specs.declared.frame.Control.TheVariants.{Enter, Operate, Give, Throw, Raise, RaiseValue, New, Send, Assign}
 use Rattle.rr_eval.specs.declared.iterating.Iterating.{Iterating}
 use Rattle.std.specs.Option.{option_map}
 use Rattle.rr_eval.specs.Dispatch.{making, initialized, initializer, passed_on}
 use Rattle.rr_eval.specs.Iterating.{continued_with, turned}
-use Rattle.rr_eval.specs.Script.{State, Iterated, Script, Ret, Evaluate, Go, CallPart, World, Evaluation, Outcome, Ended, run, after}
+use Rattle.rr_eval.specs.Script.{State, Iterated, Script, Ret, Evaluate, Go, CallPart, AssignPart, World, Evaluation, Outcome, Ended, run, after}
 use Rattle.rr_builtin.specs.Objects.{is_truthy}
 use Rattle.rr_eval.specs.Fields.{set_field_rule}
 use Rattle.rr_eval.specs.Updating.{put, updated}
@@ -31,7 +31,7 @@ use Rattle.rr_eval.specs.Rules.{Context, throw, raise, on_value, with_value, in_
 use Rattle.rr_eval.specs.Bound.{bind}
 use Rattle.rr_eval.specs.Speaking.{heard, asked_on}
 use Rattle.rr_eval.specs.Raising.{raise_value}
-use Rattle.rr_eval.specs.Several.{several}
+use Rattle.rr_eval.specs.Several.{all_parts, several, assign_each}
 use Rattle.rr_eval.specs.Rescuing.{taken_by, restored, fitted, tried_classes, tried, rescue_rule, ensure_rule}
 use Rattle.rr_tree.specs.Nodes.{trees_before}
 
@@ -62,6 +62,11 @@ taker c r = taken_by (tree_at c.nodes (r.end - suc r.clauses)) r.exception
 abbrev pub behind_class : Code → Trial → Script
 behind_class c r = tried_classes c.context r.exception (trees_before c.nodes r.last r.classes) (taker c r) (tried c.context r.exception (trees_before c.nodes r.end r.clauses))
 
+-- the tree of a node, where there is one
+abbrev pub option_trees : List Node → Option ℕ → List Tree
+option_trees ns None = []
+option_trees ns (Some part) = tree_at ns part ∷ []
+
 -- what a frame does with the answer that it waits for; `stand` are the values that stand for it
 abbrev pub resumed : Code → Frame → List Ref → Answer → Script
 resumed c Not stand = on_value (λ v. Ret (Gave (Truth (not (is_truthy v)))))
@@ -84,7 +89,9 @@ resumed c (Rest end count) stand = on_value (λ v. statements (trees_before c.no
 resumed c (Argument target end count base) stand = on_value (λ v. values (trees_before c.nodes end count) (stand ++ v ∷ []) (finish c.context target))
 resumed c (Receiver target end count base) stand = on_value (λ v. arguments c.context (trees_before c.nodes end count) (stand ++ v ∷ []) (finish c.context target))
 resumed c (Item target end count base) stand = on_value (λ v. spread c.context (is_splat (tree_at c.nodes (end - suc count))) v (λ ws. arguments c.context (trees_before c.nodes end count) (stand ++ ws) (finish c.context target)))
-resumed c (Several end count) stand = on_value (several c.context (trees_before c.nodes end count))
+resumed c (Aim x) stand = on_value (λ v. values (option_trees c.nodes x.index ++ all_parts (trees_before c.nodes x.end x.left)) (stand ++ v ∷ []) (λ ps. with_value (tree_at c.nodes x.value) (several c.context (trees_before c.nodes x.end x.count) ps)))
+resumed c (Several end count base) stand = on_value (several c.context (trees_before c.nodes end count) stand)
+resumed c (Assigned x) stand = on_value (λ w. assign_each c.context (trees_before c.nodes x.end x.left) (drop x.used (take x.parts stand)) (drop x.place stand) (slice_index_or stand x.parts Nil))
 resumed c (Key next end count base) stand = on_value (λ v. values (tree_at c.nodes next ∷ pair_parts (trees_before c.nodes end count)) (stand ++ v ∷ []) (finish c.context (DoTarget MakeHash)))
 resumed c (Value end count base) stand = on_value (λ v. values (pair_parts (trees_before c.nodes end count)) (stand ++ v ∷ []) (finish c.context (DoTarget MakeHash)))
 resumed c (AskingFrame a) stand = λ answer. bind (back Method answer) (heard (asked_on c.context a stand))
@@ -112,6 +119,9 @@ abbrev pub stand_of : Frame → List Ref → List Ref
 stand_of (Argument target end count base) held = drop base held
 stand_of (Receiver target end count base) held = drop base held
 stand_of (Item target end count base) held = drop base held
+stand_of (Aim x) held = drop x.base held
+stand_of (Several end count base) held = drop base held
+stand_of (Assigned x) held = drop x.base held
 stand_of (Key next end count base) held = drop base held
 stand_of (Value end count base) held = drop base held
 stand_of (AskingFrame a) held = drop a.base held
@@ -128,6 +138,9 @@ abbrev pub below_of : Frame → List Ref → List Ref
 below_of (Argument target end count base) held = take base held
 below_of (Receiver target end count base) held = take base held
 below_of (Item target end count base) held = take base held
+below_of (Aim x) held = take x.base held
+below_of (Several end count base) held = take base held
+below_of (Assigned x) held = take x.base held
 below_of (Key next end count base) held = take base held
 below_of (Value end count base) held = take base held
 below_of (AskingFrame a) held = take a.base held
@@ -145,6 +158,10 @@ abbrev pub IsNew : Frame → ℕ → Type 0
 IsNew (Argument target end count base) n = base ≡ n
 IsNew (Receiver target end count base) n = base ≡ n
 IsNew (Item target end count base) n = base ≡ n
+IsNew (Aim x) n = x.base ≡ n
+IsNew (Several end count base) n = base ≡ n
+-- targets that get values have them
+IsNew (Assigned x) n = ⊥
 IsNew (Key next end count base) n = base ≡ n
 IsNew (Value end count base) n = base ≡ n
 -- one that asks has values
@@ -168,6 +185,10 @@ abbrev pub base_of : Frame → ℕ
 base_of (Argument target end count base) = base
 base_of (Receiver target end count base) = base
 base_of (Item target end count base) = base
+base_of (Aim x) = x.base
+base_of (Several end count base) = base
+-- with those of the parts of targets
+base_of (Assigned x) = x.base + x.parts
 base_of (Key next end count base) = base
 base_of (Value end count base) = base
 -- with those that are asked
@@ -194,7 +215,9 @@ IsRareFrame (SetField x) = Unit {0}
 IsRareFrame (Argument target end count base) = Unit {0}
 IsRareFrame (Receiver target end count base) = Unit {0}
 IsRareFrame (Item target end count base) = Unit {0}
-IsRareFrame (Several end count) = Unit {0}
+IsRareFrame (Aim x) = Unit {0}
+IsRareFrame (Several end count base) = Unit {0}
+IsRareFrame (Assigned x) = Unit {0}
 IsRareFrame (Key next end count base) = Unit {0}
 IsRareFrame (Value end count base) = Unit {0}
 IsRareFrame (AskingFrame a) = Unit {0}
@@ -223,6 +246,7 @@ start c (Raise class message) s n = runs_in c (raise class message) s n
 start c (RaiseValue v message) s n = runs_in c (raise_value c.context v message) s n
 start c (New class) s n = runs_in c (making c.context class (λ v. Ret (Gave v))) s n
 start c (Send callee v w) s n = evaluates c (CallPart callee v (list_of w)) s n
+start c (Assign spot v) s n = evaluates c (AssignPart spot v) s n
 
 -- the tree that comes first, where one does
 abbrev pub first_tree : List Node → Control → Option Tree

@@ -23,9 +23,9 @@ pub mod Variables
 pub mod Basics
 pub mod Blocks
 pub mod Splats
-pub mod Several
 pub mod Iterating
 pub mod Dispatch
+pub mod Several
 pub mod Updating
 pub mod Bound
 pub mod Speaking

@@ -22,7 +22,7 @@ use Rattle.rr_builtin.specs.Kinds.{has}
 use Rattle.rr_builtin.specs.declared.method.BuiltInMethod.{BuiltInMethod}
 use Rattle.rr_space.specs.Kinds.{kind_at}
 use Rattle.rr_space.specs.declared.kind.Kind.{Kind}
-use Rattle.rr_eval.specs.Script.{State, Script, Ret, Go, See, Ask, Does, Part, TreePart, TurnPart, CallPart, Memory, World, Outcome, Ended, Spent, Waits, Evaluation, run}
+use Rattle.rr_eval.specs.Script.{State, Script, Ret, Go, See, Ask, Does, Part, TreePart, TurnPart, CallPart, AssignPart, Memory, World, Outcome, Ended, Spent, Waits, Evaluation, run}
 use Rattle.rr_eval.specs.declared.iterating.Visits.TheVariants.{Forever}
 use Rattle.rr_eval.specs.Iterating.{continued, turned, body_in, iteration_rule, is_loop}
 use Rattle.rr_eval.specs.Above.{super_rule, parameters_of}
@@ -45,7 +45,7 @@ pub use Rattle.rr_eval.specs.Basics.{items, on_value, with_value, read, write, r
 pub use Rattle.rr_eval.specs.Dispatch.{operation, part_called, negation, method_for, run_method, send_rule, dispatched, way_of, iteration_of}
 pub use Rattle.rr_eval.specs.Constants.{own_class, constant_rule, plain_constant}
 pub use Rattle.rr_eval.specs.Splats.{spread, arguments}
-use Rattle.rr_eval.specs.Several.{several}
+use Rattle.rr_eval.specs.Several.{several_rule, put_in}
 pub use Rattle.rr_eval.specs.Blocks.{running, with_frame, without_frame, returned, back, passed, past, left_by, opened, framed, entered, called, yield_to, yield_rule, given_rule, is_outside, return_rule, activation_in}
 
 -- the key and the value of a pair; any other part of a hash stands for both
@@ -217,7 +217,7 @@ rule c (set_index a b d) = values (a ∷ b ∷ d ∷ []) [] (finish c (Call call
 rule c (negate a) = with_value a (negation c)
 rule c (binary op a b) = with_value a (λ v. with_value b (operation c op v))
 rule c (assign depth slot x behind a) = with_value a (λ v. write (record { depth = depth; slot = slot }) v)
-rule c (multiple_assign list a) = with_value a (several c (items list))
+rule c (multiple_assign list a) = several_rule c (items list) a
 rule c (operator_assign op a b) = operator_rule c op a b (place_of a)
 rule c (append_assign a b) = update_rule c (updates.Combine callees.Append) a b (place_of a)
 rule c (or_assign a b) = or_rule c a b
@@ -242,6 +242,7 @@ abbrev pub part_rule : Context → Part → Script
 part_rule c (TreePart t) = rule c t
 part_rule c (TurnPart i) = Go (body_in i.block) (turned c i)
 part_rule c (CallPart callee v vs) = part_called c callee v vs
+part_rule c (AssignPart spot v) = put_in c spot v
 
 -- evaluations not deeper than `depth`, each of them one step
 abbrev pub eval : Context → World → ℕ → Evaluation

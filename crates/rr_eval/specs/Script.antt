@@ -9,6 +9,7 @@ use Rattle.rr_eval.specs.declared.call.Task.{Task}
 use Rattle.rr_eval.specs.declared.iterating.Visits.{Visits}
 use Rattle.rr_eval.specs.declared.problem.Answer.{Answer}
 use Rattle.rr_eval.specs.declared.problem.Response.{Response}
+use Rattle.rr_eval.specs.declared.spot.Spot.{Spot}
 
 -- the frames of the methods and blocks that run, with their variables, and beside each frame the block that its method was
 -- given; the objects, and the exception that is being rescued, nil where none is
@@ -45,11 +46,12 @@ pub record Iterated : Type 0 where
   pub block : Tree
 
 -- what is evaluated: a tree, or a turn of an iteration, which is a call of its block with all that follows, or a call with whose
--- value a rule goes on
+-- value a rule goes on, or an assignment to one of several targets
 pub data Part : Type 0 where
   TreePart : (tree : Tree) → Part
   TurnPart : (iteration : Iterated) → Part
   CallPart : (callee : Callee) (receiver : Ref) (arguments : List Ref) → Part
+  AssignPart : (spot : Spot) (value : Ref) → Part
 
 -- a rule: it answers, or evaluates a part and goes on with its answer, or looks at the memory and goes on, or changes the
 -- memory and goes on, or asks and goes on with the reply

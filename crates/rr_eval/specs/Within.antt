@@ -23,7 +23,9 @@ use Rattle.rr_eval.specs.declared.problem.Response.TheVariants.{Gives, Throws, F
 use Rattle.rr_eval.specs.declared.frame.Frame.{Frame}
 use Rattle.rr_eval.specs.declared.frame.Frame.TheVariants.{Right, Combine, Back, Class, Handling, Kept}
 use Rattle.rr_eval.specs.declared.frame.Control.{Control}
-use Rattle.rr_eval.specs.declared.frame.Control.TheVariants.{Give, Raise, RaiseValue, Send}
+use Rattle.rr_eval.specs.declared.frame.Control.TheVariants.{Give, Raise, RaiseValue, Send, Assign}
+use Rattle.rr_eval.specs.declared.spot.Spot.{Spot}
+use Rattle.rr_eval.specs.declared.spot.Spot.TheVariants as spots
 use Rattle.rr_eval.specs.declared.request.Request.{Request}
 use Rattle.rr_eval.specs.declared.request.Request.TheVariants as requests
 use Rattle.rr_eval.specs.declared.engine.Turn.{Turn}
@@ -91,11 +93,18 @@ IsFrameReached k (Handling old) = IsReached k old
 IsFrameReached k (Kept a) = IsAnswerReached k a
 IsFrameReached k _ = Unit {0}
 
+-- the receiver and the index of a target
+abbrev pub IsSpotReached : Reach → Spot → Type 0
+IsSpotReached k (spots.Attribute x r) = IsReached k r
+IsSpotReached k (spots.Element r i) = IsReached k r × IsReached k i
+IsSpotReached k _ = Unit {0}
+
 abbrev pub IsControlReached : Reach → Control → Type 0
 IsControlReached k (Give a) = IsAnswerReached k a
 IsControlReached k (Raise class message) = IsReached k message
 IsControlReached k (RaiseValue v message) = IsReached k v × All (IsReached k) (list_of message)
 IsControlReached k (Send callee v w) = IsReached k v × All (IsReached k) (list_of w)
+IsControlReached k (Assign spot v) = IsSpotReached k spot × IsReached k v
 IsControlReached k _ = Unit {0}
 
 -- the receiver and the arguments of a call

@@ -389,6 +389,18 @@ impl Engine {
                         return Ok(Turn::Ask(request));
                     }
                 }
+                Control::Assign(spot, value) => {
+                    if self.left == 0 {
+                        return Ok(Turn::StepLimit);
+                    }
+                    if self.left <= stop {
+                        return Ok(Turn::More);
+                    }
+                    self.make_room()?;
+                    if let Some(request) = self.visit_assignment(prepared, space, spot, value)? {
+                        return Ok(Turn::Ask(request));
+                    }
+                }
             }
         }
     }

@@ -10,6 +10,7 @@ use crate::call::{Callee, Passing, Target};
 use crate::call_stack::{CallValue, Variable};
 use crate::iterating::Iterating;
 use crate::problem::{Answer, Problem};
+use crate::spot::{Aiming, Assigning, Spot};
 use crate::updating::{Combining, Place, Updating};
 use rr_base::{ClassId, Sym};
 use rr_space::Ref;
@@ -86,8 +87,13 @@ pub enum Frame {
     /// A part of a list in which splats may stand: what `Argument` has, where the part is the one before those that are still to be
     /// evaluated.
     Item(Target, NodeId, u32, usize),
-    /// The right side of an assignment to several targets: the number behind the last target, and how many there are.
-    Several(NodeId, u32),
+    /// A part of a target of an assignment to several, which is its receiver or its index.
+    Aim(Aiming),
+    /// The right side of an assignment to several targets: the number behind the last target, how many there are, and where the values of
+    /// their parts begin.
+    Several(NodeId, u32, usize),
+    /// An assignment to one of several targets, and the targets that are left.
+    Assigned(Assigning),
     /// The key of a pair of a new hash: its value, which is evaluated next, the number behind the last pair, how many pairs
     /// are still to be evaluated behind this one, and where the keys and values so far begin.
     Key(NodeId, NodeId, u32, usize),
@@ -142,6 +148,8 @@ pub enum Control {
     New(ClassId),
     /// A call of a receiver with one argument or none, for whose value a frame waits.
     Send(Callee, Ref, Option<Ref>),
+    /// An assignment to one of several targets, for which a frame waits.
+    Assign(Spot, Ref),
 }
 
 /// The values that stand for a frame.
@@ -154,6 +162,9 @@ pub fn standing(held: &Vec<Ref>, frame: Frame) -> &[Ref]
         Frame::Argument(_, _, _, base) => &held[base..],
         Frame::Receiver(_, _, _, base) => &held[base..],
         Frame::Item(_, _, _, base) => &held[base..],
+        Frame::Aim(aiming) => &held[aiming.base..],
+        Frame::Several(_, _, base) => &held[base..],
+        Frame::Assigned(assigning) => &held[assigning.base..],
         Frame::Key(_, _, _, base) => &held[base..],
         Frame::Value(_, _, base) => &held[base..],
         Frame::Asking(asking) => &held[asking.base..],
@@ -179,6 +190,9 @@ pub fn first_standing(held: &Vec<Ref>, frame: Frame) -> usize
         Frame::Argument(_, _, _, base) => base,
         Frame::Receiver(_, _, _, base) => base,
         Frame::Item(_, _, _, base) => base,
+        Frame::Aim(aiming) => aiming.base,
+        Frame::Several(_, _, base) => base,
+        Frame::Assigned(assigning) => assigning.base,
         Frame::Key(_, _, _, base) => base,
         Frame::Value(_, _, base) => base,
         Frame::Asking(asking) => asking.base,
@@ -202,6 +216,9 @@ pub fn clear(held: &mut Vec<Ref>, frame: Frame)
         Frame::Argument(_, _, _, base) => held.truncate(base),
         Frame::Receiver(_, _, _, base) => held.truncate(base),
         Frame::Item(_, _, _, base) => held.truncate(base),
+        Frame::Aim(aiming) => held.truncate(aiming.base),
+        Frame::Several(_, _, base) => held.truncate(base),
+        Frame::Assigned(assigning) => held.truncate(assigning.base),
         Frame::Key(_, _, _, base) => held.truncate(base),
         Frame::Value(_, _, base) => held.truncate(base),
         Frame::Asking(asking) => held.truncate(asking.base),

@@ -3,6 +3,7 @@
 
 mod above;
 mod asking;
+mod assigned;
 mod awaited;
 mod beginning;
 mod blocks;
@@ -52,6 +53,7 @@ mod sharing;
 mod show;
 mod speaking;
 mod splats;
+mod spot;
 mod spreading;
 mod throw;
 mod update;

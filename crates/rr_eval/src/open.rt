@@ -311,7 +311,7 @@ impl Engine {
                 first,
                 count,
                 value,
-            } => self.enter_above(Frame::Several(first + count, count), value),
+            } => self.open_several(program, first + count, count, value),
             Node::SetGlobal(name, value) => self.open_assignment(name, value),
             Node::SetConstant(name, value) => self.open_assignment(name, value),
             Node::OperatorAssign(op, target, value) => {

@@ -195,7 +195,9 @@ impl Engine {
             | Frame::Argument(_, _, _, _)
             | Frame::Receiver(_, _, _, _)
             | Frame::Item(_, _, _, _)
-            | Frame::Several(_, _)
+            | Frame::Aim(_)
+            | Frame::Several(_, _, _)
+            | Frame::Assigned(_)
             | Frame::Key(_, _, _, _)
             | Frame::Value(_, _, _)
             | Frame::Asking(_)
@@ -387,8 +389,16 @@ impl Engine {
             Frame::Receiver(target, end, count, base) => {
                 self.resume_receiver(prepared, space, target, end, count, base, value)
             }
-            Frame::Several(end, count) => {
-                self.assign_several(&prepared.program, space, end, count, value)?;
+            Frame::Aim(aiming) => {
+                self.resume_aim(&prepared.program, aiming, value)?;
+                Ok(None)
+            }
+            Frame::Several(end, count, base) => {
+                self.resume_several(&prepared.program, space, end, count, base, value)?;
+                Ok(None)
+            }
+            Frame::Assigned(assigning) => {
+                self.assign_next(&prepared.program, assigning);
                 Ok(None)
             }
             Frame::Key(next, end, count, base) => self.keep_key(next, end, count, base, value),

@@ -91,7 +91,7 @@ fn accessed(values: &[Ref], last: Ref) -> Option<(Ref, Option<Ref>)>
 impl Engine {
     /// Gives a value in the place of what is done with the values that stand for a frame.
     #[tactic(auto, unfolding(crate::specs::Within::AreReached))]
-    fn give_over(&mut self, frame: Frame, value: Ref)
+    pub fn give_over(&mut self, frame: Frame, value: Ref)
         requires base { base_of frame ≤ length self.old.held.items }
         requires nested { Nested (reverse self.old.frames.items) (below_of frame self.old.held.items) }
         ensures goes { (p : Program) (t : Table) (h : Course) (n : ℕ) → after_values p (view_of self.old) t frame (Ret (Answer.Gave value)) h n ≡ remaining_with p (view_of self.new) t h n }

@@ -51,10 +51,10 @@ returns-in-MultipleAssign-clause-goes c = λ _ t h n.
     let p = c.args.program.now in
     let ns = p.nodes.items in
     let script = ap (λ x. rule (context_of p) (evaluated_tree ns x)) c.in-MultipleAssign.is ∙ sym (several_is ns (context_of p) c.in-MultipleAssign.first c.in-MultipleAssign.count c.in-MultipleAssign.value) in
-    ap (λ r. after_script p (view_of c.args.self.now) t r h n) script ∙ c.enter_above-in-MultipleAssign.ensures.goes p t h n
+    ap (λ r. after_script p (view_of c.args.self.now) t r h n) script ∙ c.open_several.ensures.goes t h n
 
 pub returns-in-MultipleAssign-clause-within : goal.returns-in-MultipleAssign-clause-within
-returns-in-MultipleAssign-clause-within c k h = c.enter_above-in-MultipleAssign.ensures.within k h tt
+returns-in-MultipleAssign-clause-within c k h = c.open_several.ensures.within k h
 
 pub returns-in-And-clause-within : goal.returns-in-And-clause-within
 returns-in-And-clause-within c k h = c.enter_above.ensures.within k h tt

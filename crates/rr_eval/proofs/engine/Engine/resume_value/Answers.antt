@@ -72,3 +72,12 @@ returns-in-Put-clause-within c k h frame value = c.resume_put.ensures.within k h
 
 pub returns-in-Put-clause-asks : goal.returns-in-Put-clause-asks
 returns-in-Put-clause-asks c k h frame value = c.resume_put.ensures.asks (reach (length c.args.space.now.slots) k) h value
+
+pub returns-in-Assigned-clause-goes : goal.returns-in-Assigned-clause-goes
+returns-in-Assigned-clause-goes c h n =
+    let p = c.args.prepared.now.program in
+    let t = c.args.space.now in
+    ap (λ f. after_answer p (view_of c.args.self.now) t f (Gave c.args.value) h n) c.in-Assigned.is ∙ c.assign_next.ensures.goes t h n
+
+pub returns-in-Assigned-clause-within : goal.returns-in-Assigned-clause-within
+returns-in-Assigned-clause-within c k h frame value = c.assign_next.ensures.within (reach (length c.args.space.now.slots) k) h

@@ -2,6 +2,7 @@
 use Rattle.std.proofs.Common.{rules, ◌∙◌, ap, arith, length, subst}
 use Rattle.rr_eval.specs.Frames.{first_tree}
 use Rattle.rr_eval.proofs.CallParts.{call_limit}
+use Rattle.rr_eval.proofs.Spots.{assign_limit}
 use Rattle.rr_eval.proofs.Changing.{changes_trans}
 use Rattle.rr_eval.proofs.Entered.{limit}
 use Rattle.rr_eval.specs.Within.{reach, IsAskedReached}
@@ -25,6 +26,11 @@ pub returns-then-self-eq0-3-clause-turned : goal.returns-then-self-eq0-3-clause-
 returns-then-self-eq0-3-clause-turned c =
     let p = c.args.prepared.now.program in
     (omega arith, c.if-self-eq0-3.true, λ h. c.loop-self.invariant.same h ∙ call_limit p (view_of c.loop-self.self) c.loop-self.space _ _ _ c.in-Send.is c.if-self-eq0-3.true h)
+
+pub returns-then-self-eq0-4-clause-turned : goal.returns-then-self-eq0-4-clause-turned
+returns-then-self-eq0-4-clause-turned c =
+    let p = c.args.prepared.now.program in
+    (omega arith, c.if-self-eq0-4.true, λ h. c.loop-self.invariant.same h ∙ assign_limit p (view_of c.loop-self.self) c.loop-self.space _ _ c.in-Assign.is c.if-self-eq0-4.true h)
 
 pub returns-in-Enter-clause-ends_within : goal.returns-in-Enter-clause-ends_within
 returns-in-Enter-clause-ends_within c clusters h =
