@@ -4,6 +4,8 @@
 #[cfg(test)]
 mod above;
 #[cfg(test)]
+mod apart;
+#[cfg(test)]
 mod assigning;
 #[cfg(test)]
 mod attributes;

@@ -56,7 +56,7 @@ use Rattle.rr_eval.specs.Methods.{Runs, Reads, Writes, NoWork, Callable}
 use Rattle.rr_eval.specs.Prepared.{method_of}
 use Rattle.rr_eval.specs.Responses.{own_of}
 use Rattle.rr_eval.specs.Script.{State, Script, Go, See, Do, World, Evaluation, run}
-use Rattle.rr_eval.specs.Speaking.{saying_of, symbol_asked, sayer, text_in, heard, asked_by, printed_for, request, asked_all, said_rule, saying_rule, task_rule, asked_on}
+use Rattle.rr_eval.specs.Speaking.{saying_of, symbol_asked, sayer, text_in, heard, asked_by, printed_for, request, asked_all, named_rule, said_rule, saying_rule, task_rule, asked_on}
 use Rattle.rr_eval.specs.Turns.{Stands, context_of, code_of, blocks_of}
 use Rattle.rr_eval.specs.Within.{Reach, IsReached, IsFrameReached, AreVariablesReached, AreReached}
 use Rattle.rr_eval.proofs.Holding.{all_nil, all_cons, all_append, entered_within, laid_within}
@@ -75,7 +75,7 @@ pub as_unnamed : (c : Context) (task : Task) (s : Saying) (vs : List Ref) → sa
 as_unnamed c task s [] is none = refl
 as_unnamed c task s (v ∷ vs) is none = ap (λ o. saying_rule c task o (v ∷ vs)) is ∙ ap (λ x. said_rule c task s x (v ∷ vs)) none
 
-pub as_asked : (c : Context) (task : Task) (s : Saying) (x : Sym) (vs : List Ref) (v : Ref) → saying_of task ≡ Some s → symbol_asked c s ≡ Some x → task_rule c task (vs ++ v ∷ []) ≡ asked_all c s x (vs ++ v ∷ []) []
+pub as_asked : (c : Context) (task : Task) (s : Saying) (x : Sym) (vs : List Ref) (v : Ref) → saying_of task ≡ Some s → symbol_asked c s ≡ Some x → task_rule c task (vs ++ v ∷ []) ≡ named_rule c s x (vs ++ v ∷ [])
 as_asked c task s x [] v is named = ap (λ o. saying_rule c task o (v ∷ [])) is ∙ ap (λ y. said_rule c task s y (v ∷ [])) named
 as_asked c task s x (u ∷ us) v is named = ap (λ o. saying_rule c task o (u ∷ us ++ v ∷ [])) is ∙ ap (λ y. said_rule c task s y (u ∷ us ++ v ∷ [])) named
 

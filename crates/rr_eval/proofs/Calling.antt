@@ -43,7 +43,7 @@ use Rattle.rr_eval.specs.Runs.{alone}
 use Rattle.rr_eval.specs.Sharing.{called_reply, ractor_method}
 use Rattle.rr_eval.specs.Script.{Does, Calls, Reply}
 use Rattle.rr_eval.specs.declared.call.Task.{Task}
-use Rattle.rr_eval.specs.declared.call.Task.TheVariants.{Puts as PutsTask, Inspect, Print, MakeArray, MakeText, MakeHash, SetField, SetMessage, SetGlobal, Show}
+use Rattle.rr_eval.specs.declared.call.Task.TheVariants.{Puts as PutsTask, Inspect, Print, MakeArray, MakeText, MakeHash, SetField, SetMessage, SetGlobal, Show, Lines}
 use Rattle.rr_builtin.specs.declared.problem.Problem.{Problem as BuiltInProblem}
 use Rattle.rr_text.specs.Names.{names_of}
 use Rattle.rr_eval.specs.Within.{reach, IsReached, IsCallReached, IsResponseReached}
@@ -262,6 +262,7 @@ given_adds SetMessage c s vs t = message_adds vs t
 given_adds (SetGlobal x) c s vs t = global_adds x vs t
 given_adds PutsTask c s vs t = omega arith
 given_adds Print c s vs t = omega arith
+given_adds Lines c s vs t = omega arith
 
 lacking_adds : (lack : Option BuiltInProblem) (t : Table) (reply : Reply) → count t ≤ count reply.table → count t ≤ count (unless_lacking lack t reply).table
 lacking_adds None t reply le = le

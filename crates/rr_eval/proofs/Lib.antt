@@ -35,8 +35,10 @@ pub mod Filling
 pub mod Literals
 pub mod Invoking
 pub mod Answered
+pub mod Instead
 pub mod Rounds
 pub mod Spreads
+pub mod Inside
 pub mod PairTurns
 pub mod Raises
 pub mod Trying

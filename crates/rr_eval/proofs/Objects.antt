@@ -63,7 +63,7 @@ use Rattle.rr_eval.specs.Frames.{Code, evaluates, runs_in, iterated, option_tree
 use Rattle.rr_eval.specs.Several.{all_parts}
 use Rattle.rr_eval.proofs.Keeping.{count, make_keeps, Keeps, on_value_keeps, loop_keeps, raise_keeps, throw_keeps, settled_keeps, if_keeps, back_keeps, past_keeps, yield_keeps, continued_keeps, continued_with_keeps, turned_keeps, return_keeps, raise_rule_keeps}
 use Rattle.rr_eval.specs.declared.call_stack.CallValue.TheVariants.{Method}
-use Rattle.rr_eval.proofs.Speeches.{task_keeps, asking_on_keeps, asked_on_keeps}
+use Rattle.rr_eval.proofs.Speeches.{task_keeps, joining_call_keeps, asking_on_keeps, asked_on_keeps}
 use Rattle.rr_eval.proofs.Dispatching.{method_keeps, initialized_keeps, dispatched_keeps, send_keeps, self_keeps, sent_block_keeps, operates, negates, super_keeps}
 use Rattle.rr_eval.proofs.CallParts.{part_called_keeps}
 use Rattle.rr_eval.proofs.Settable.{or_keeps}
@@ -74,7 +74,7 @@ use Rattle.rr_eval.proofs.Targets.{put_in_keeps, each_keeps, several_keeps, aime
 finish_keeps : (c : Context) (target : Target) (vs : List Ref) → Keeps (finish c target vs)
 finish_keeps c (DoTarget task) vs = task_keeps c task vs
 finish_keeps c (Call callee) [] = tt
-finish_keeps c (Call callee) (v ∷ vs) = send_keeps c callee None v vs
+finish_keeps c (Call callee) (v ∷ vs) = joining_call_keeps c callee v vs
 finish_keeps c (Update getter setter how b) vs = accessed_keeps c getter setter how (tree_at c.program.nodes.items b) vs
 finish_keeps c (Own x b) vs = self_keeps c x (option_map (tree_at c.program.nodes.items) b) vs
 finish_keeps c Super vs = super_keeps c vs

@@ -96,7 +96,7 @@ item_refused p m t target end count base v problem h n e are =
     ∙ ap (λ r. unwind code (reverse m.frames) (take base m.held) (runs_in code (on_items (context_of p) r next) (state_of p m t h) n)) are
 
 -- no object goes
-items_keep : (c : Context) (r : Result (List Ref) Problem) (next : List Ref → Script) → ((ws : List Ref) → Keeps (next ws)) → Keeps (on_items c r next)
+pub items_keep : (c : Context) (r : Result (List Ref) Problem) (next : List Ref → Script) → ((ws : List Ref) → Keeps (next ws)) → Keeps (on_items c r next)
 items_keep c (Ok vs) next kept = kept vs
 items_keep c (Err e) next kept = throw_keeps c e
 

@@ -75,11 +75,6 @@ pub update_keeps : (c : Context) (how : Update) (a b : Tree) (place : Option Pla
 update_keeps c how a b (Some place) = on_value_keeps _ (updated_keeps how b (put c place []) (put_keeps c place []))
 update_keeps c how a b None = access_keeps c how a b
 
--- a call of the first of values
-pub first_sent : (c : Context) (callee : Callee) (vs : List Ref) → finish c (Call callee) vs ≡ sent_first c callee vs
-first_sent c callee [] = refl
-first_sent c callee (v ∷ vs) = refl
-
 -- the receiver, and the index where there is one
 pub accessed_is : (c : Context) (getter setter : Callee) (how : Update) (b : Tree) (vs : List Ref) (v : Ref) (w : Option Ref) → vs ≡ v ∷ list_of w → accessed c getter setter how b vs ≡ Evaluate (CallPart getter v (list_of w)) (on_value (updated how b (put c (places.Sent setter) vs)))
 accessed_is c getter setter how b vs v None is =

@@ -28,7 +28,9 @@ pub mod Dispatch
 pub mod Several
 pub mod Updating
 pub mod Bound
+pub mod Leaves
 pub mod Speaking
+pub mod Joins
 pub mod Above
 pub mod Raising
 pub mod Rescuing

@@ -36,6 +36,7 @@ use Rattle.rr_eval.specs.Tasks.{task_named}
 use Rattle.rr_eval.specs.Awaited.{is_awaited, is_raise, is_block_given}
 use Rattle.rr_eval.specs.Raising.{raise_rule}
 use Rattle.rr_eval.specs.Rescuing.{rescue_rule, ensure_rule}
+use Rattle.rr_eval.specs.Joins.{joining_call}
 use Rattle.rr_eval.specs.Speaking.{task_rule}
 use Rattle.rr_base.specs.declared.name.Sym.{Sym}
 use Rattle.rr_builtin.specs.declared.iterations.Iteration.{Iteration}
@@ -91,7 +92,7 @@ sent_block c x b (v ∷ vs) = See (λ m. block_sent c (method_for c m.table v (c
 abbrev pub finish : Context → Target → List Ref → Script
 finish c (DoTarget task) vs = task_rule c task vs
 finish c (Call callee) [] = Ret (Gave Nil)
-finish c (Call callee) (v ∷ vs) = send_rule c callee None v vs
+finish c (Call callee) (v ∷ vs) = joining_call c callee v vs
 finish c (Update getter setter how b) vs = accessed c getter setter how (tree_at c.program.nodes.items b) vs
 finish c (Own x b) vs = self_rule c x (option_map (tree_at c.program.nodes.items) b) vs
 finish c Super vs = super_rule c vs

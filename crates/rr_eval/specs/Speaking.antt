@@ -16,14 +16,17 @@ use Rattle.rr_eval.specs.declared.asking.Saying.{Saying}
 use Rattle.rr_eval.specs.declared.asking.Saying.TheVariants as sayings
 use Rattle.rr_eval.specs.declared.call.Callee.TheVariants as callees
 use Rattle.rr_eval.specs.declared.call.Task.{Task}
-use Rattle.rr_eval.specs.declared.call.Task.TheVariants.{Puts, Inspect, Print, Show, MakeText}
+use Rattle.rr_eval.specs.declared.call.Task.TheVariants.{Puts, Inspect, Print, Show, Lines, MakeText}
+use Rattle.rr_eval.specs.declared.leaves.Taking.TheVariants as takings
 use Rattle.rr_eval.specs.declared.problem.Answer.{Answer}
 use Rattle.rr_eval.specs.Basics.{on_value, settled}
 use Rattle.rr_eval.specs.Bound.{bind}
 use Rattle.rr_eval.specs.Context.{Context}
 use Rattle.rr_eval.specs.Dispatch.{method_for, run_method, way_of}
+use Rattle.rr_eval.specs.Leaves.{leaves_of}
 use Rattle.rr_eval.specs.Methods.{Callable}
 use Rattle.rr_eval.specs.Script.{Script, See, Ask, Does}
+use Rattle.rr_eval.specs.Splats.{on_items}
 
 -- what makes texts of values
 abbrev pub saying_of : Task → Option Saying
@@ -33,9 +36,9 @@ saying_of Print = Some sayings.Print
 saying_of MakeText = Some sayings.Text
 saying_of _ = None
 
--- what it does with what is printed for the values
+-- what it does with what is printed for the values, where `puts` has taken arrays apart
 abbrev pub task_of : Saying → Task
-task_of sayings.Puts = Puts
+task_of sayings.Puts = Lines
 task_of sayings.Inspect = Show
 task_of sayings.Print = Print
 task_of sayings.Text = MakeText
@@ -86,9 +89,14 @@ abbrev pub asked_all : Context → Saying → Sym → List Ref → List Ref → 
 asked_all c s x [] done = request c (task_of s) done
 asked_all c s x (v ∷ vs) done = See (λ m. asked_by c (sayer c m.table x v) x v (λ said. asked_all c s x vs (done ++ printed_for s v said)))
 
+-- `puts` takes arrays apart, and asks what stands in them
+abbrev pub named_rule : Context → Saying → Sym → List Ref → Script
+named_rule c sayings.Puts x vs = See (λ m. on_items c (leaves_of takings.Lines m.table vs) (λ ws. asked_all c sayings.Puts x ws []))
+named_rule c s x vs = asked_all c s x vs []
+
 abbrev pub said_rule : Context → Task → Saying → Option Sym → List Ref → Script
 said_rule c task s None vs = request c task vs
-said_rule c task s (Some x) vs = asked_all c s x vs []
+said_rule c task s (Some x) vs = named_rule c s x vs
 
 abbrev pub saying_rule : Context → Task → Option Saying → List Ref → Script
 saying_rule c task None vs = request c task vs

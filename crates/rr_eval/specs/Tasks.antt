@@ -2,6 +2,7 @@
 use Rattle.std.specs.Prelude.{ℕ, false, List, [], ◌∷◌, ◌++◌, codes, map, Option, Some, None, if◌then◌else◌}
 use Rattle.std.specs.Str.{bytes_eq}
 use Rattle.rr_base.specs.declared.name.Sym.{Sym}
+use Rattle.rr_space.specs.Kinds.{kind_at}
 use Rattle.rr_space.specs.Parts.{value_of}
 use Rattle.rr_space.specs.Tables.{Table}
 use Rattle.rr_space.specs.declared.refer.Ref.{Ref}
@@ -11,6 +12,7 @@ use Rattle.rr_text.specs.Forms.{Names, spoken, inspected, lines, within_text}
 use Rattle.rr_text.specs.Names.{names_of}
 use Rattle.rr_builtin.specs.Acts.{MakesArray, MakesObject, performed}
 use Rattle.rr_builtin.specs.Fields.{set_field}
+use Rattle.rr_builtin.specs.Kinds.{is_array_kind}
 use Rattle.rr_builtin.specs.Messages.{write_message}
 use Rattle.rr_builtin.specs.News.{empty_hash}
 use Rattle.rr_builtin.specs.Objects.{printed_text}
@@ -18,7 +20,7 @@ use Rattle.rr_builtin.specs.declared.problem.Problem.{Problem as BuiltInProblem}
 use Rattle.rr_builtin.specs.declared.problem.Problem.TheVariants.{Moved, TooDeep}
 use Rattle.rr_eval.specs.declared.call.Callee.TheVariants.{SetIndex}
 use Rattle.rr_eval.specs.declared.call.Task.{Task}
-use Rattle.rr_eval.specs.declared.call.Task.TheVariants.{Puts, Inspect, Print, MakeArray, MakeText, MakeHash, SetField, SetMessage, SetGlobal, Show}
+use Rattle.rr_eval.specs.declared.call.Task.TheVariants.{Puts, Inspect, Print, MakeArray, MakeText, MakeHash, SetField, SetMessage, SetGlobal, Show, Lines}
 use Rattle.rr_eval.specs.declared.problem.Problem.TheVariants.{BuiltIn, NotHere}
 use Rattle.rr_eval.specs.declared.problem.Response.{Response}
 use Rattle.rr_eval.specs.declared.problem.Response.TheVariants.{Gives, Fails}
@@ -35,9 +37,11 @@ task_named name =
     if bytes_eq name (codes "p") then Some Inspect else
     if bytes_eq name (codes "print") then Some Print else None
 
--- what is written of a value: `puts` ends it with a line end, unless it ends with one; `p` inspects it and ends the line
+-- What is written of a value: `puts` ends it with a line end, unless it ends with one; where it has taken arrays apart, one that is left stands
+-- inside itself. `p` inspects it and ends the line.
 abbrev pub written_by : Task → Names → Table → Ref → Walked
 written_by Puts names t v = printed_text names [] lines t v
+written_by Lines names t v = if is_array_kind (kind_at t v) then Wrote (codes "[...]" ++ 10 ∷ []) else printed_text names [] lines t v
 written_by Inspect names t v = within_text (λ s. s ++ 10 ∷ []) (printed_text names [] inspected t v)
 written_by _ names t v = printed_text names [] spoken t v
 

@@ -45,6 +45,7 @@ pub fn saying_of(task: Task) -> Option<Saying>
         Task::Print => Some(Saying::Print),
         Task::MakeText => Some(Saying::Text),
         Task::Show => None,
+        Task::Lines => None,
         Task::MakeArray => None,
         Task::MakeHash => None,
         Task::SetField(_) => None,
@@ -58,7 +59,7 @@ pub fn task_of(saying: Saying) -> Task
     ensures { result ≡ task_of saying }
 {
     match saying {
-        Saying::Puts => Task::Puts,
+        Saying::Puts => Task::Lines,
         Saying::Inspect => Task::Show,
         Saying::Print => Task::Print,
         Saying::Text => Task::MakeText,

@@ -44,6 +44,8 @@ pub enum Task {
     Print,
     /// As `p`, with each value and, behind it, the text that the program's `inspect` gave for it, or nil.
     Show,
+    /// As `puts`, where arrays were taken apart: one that is left stands inside itself.
+    Lines,
     /// They become the elements of a new array.
     MakeArray,
     /// A new text is made of what they are spoken as.

@@ -2,6 +2,7 @@
 #![tactic(auto)]
 
 mod above;
+mod apart;
 mod asking;
 mod assigned;
 mod awaited;
@@ -24,6 +25,7 @@ mod hearing;
 mod invoke;
 mod iterating;
 mod iterations;
+mod leaves;
 mod leaving;
 mod machine;
 mod making;

@@ -241,6 +241,13 @@ impl Prepared {
         }
     }
 
+    /// The built-in method that is called; none where no method has the name.
+    pub(crate) fn built_in(&self, callee: Callee) -> Option<BuiltInMethod>
+        ensures { result ≡ method_of (context_of self.now.program) callee }
+    {
+        method_of(&self.program, &self.methods, callee)
+    }
+
     /// The program's `initialize` for the objects of a class.
     pub(crate) fn initializer(&self, class: ClassId) -> Option<Initializer>
         ensures { option_map (initializer_of self.now.program.nodes.items) result ≡ initializer (context_of self.now.program) class }

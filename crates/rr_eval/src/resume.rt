@@ -295,7 +295,7 @@ impl Engine {
     {
         match target {
             Target::Do(task) => self.finish_task(prepared, space, task, frame, value),
-            Target::Call(callee) => self.send_first(prepared, space, callee, frame, value),
+            Target::Call(callee) => self.call_first(prepared, space, callee, frame, value),
             Target::Update(getter, setter, how, part) => {
                 self.finish_access(getter, setter, how, part, frame, value)
             }

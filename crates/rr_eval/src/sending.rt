@@ -12,6 +12,7 @@ ghost use Rattle.rr_tree.specs.declared.program.Program.{Program};
 ghost use Rattle.rr_eval.specs.declared.call.Target.{Target};
 ghost use Rattle.rr_eval.specs.Dispatch.{passed_on, handed_by, last_of, value_of_call, way_of, new_rule, dispatched};
 ghost use Rattle.rr_eval.specs.Rules.{operation, negation, finish, send_to, send_rule};
+ghost use Rattle.rr_eval.specs.Updating.{sent_first};
 ghost use Rattle.rr_eval.specs.Requests.{Course};
 ghost use Rattle.rr_eval.specs.Frames.{below_of, base_of, stand_of, Nested};
 ghost use Rattle.rr_eval.specs.Turns.{context_of, IsNested, after_script, after_values, continuing, Stands, sized, remaining_with, size};
@@ -346,7 +347,7 @@ impl Engine {
         requires room { length self.old.frames.items < vec_capacity self.old.frames }
         requires base { base_of frame ≤ length self.old.held.items }
         requires nested { Nested (reverse self.old.frames.items) (below_of frame self.old.held.items) }
-        ensures goes { IfOk result (λ q. (h : Course) (n : ℕ) → after_values prepared.now.program (view_of self.old) space.now frame (finish (context_of prepared.now.program) (Target.Call callee) (stand_of frame self.old.held.items ++ value ∷ [])) h n ≡ continuing prepared.now.program (view_of self.new) space.now q h n) }
+        ensures goes { IfOk result (λ q. (h : Course) (n : ℕ) → after_values prepared.now.program (view_of self.old) space.now frame (sent_first (context_of prepared.now.program) callee (stand_of frame self.old.held.items ++ value ∷ [])) h n ≡ continuing prepared.now.program (view_of self.new) space.now q h n) }
         ensures within { (clusters : Option Below) → AreReached (reach (length space.now.slots) clusters) (view_of self.old) → IsReached (reach (length space.now.slots) clusters) value → AreReached (reach (length space.now.slots) clusters) (view_of self.new) }
         ensures asks { (k : Reach) → AreReached k (view_of self.old) → IsReached k value → IfOk result (IsAskedReached k) }
         ensures nested { OnOk result (IsNested (view_of self.new)) }

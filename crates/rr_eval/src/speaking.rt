@@ -11,7 +11,7 @@ ghost use Rattle.rr_eval.specs.declared.problem.Answer.{Answer};
 ghost use Rattle.rr_eval.specs.Frames.{below_of, base_of, stand_of, resumed, Nested};
 ghost use Rattle.rr_eval.specs.Heard.{StandsBelow, IsOfAsking, runs_asked, script_of, still_asked};
 ghost use Rattle.rr_eval.specs.Requests.{Course};
-ghost use Rattle.rr_eval.specs.Speaking.{asked_all, asked_on, request, task_of, task_rule};
+ghost use Rattle.rr_eval.specs.Speaking.{asked_all, asked_on, named_rule, request, task_of, task_rule};
 ghost use Rattle.rr_eval.specs.Turns.{context_of, code_of, remaining, remaining_with, IsNested, after_answer, after_values, continuing, Stands, more_of, size, sized};
 ghost use Rattle.rr_eval.specs.Views.{view_of};
 ghost use Rattle.rr_eval.specs.Within.{Reach, reach, AreReached, IsReached, IsAskedReached, IsAnswerReached};
@@ -127,7 +127,7 @@ impl Engine {
     /// Asks the values that were not seen yet, and prints all of them when each was asked. A refused growth leaves all as it is, beside
     /// values that are held behind the others.
     #[tactic(auto, unfolding(crate::specs::Within::AreReached))]
-    fn ask_on(
+    pub fn ask_on(
         &mut self,
         prepared: &Prepared,
         space: &Space,
@@ -193,6 +193,38 @@ impl Engine {
         }
     }
 
+    /// Asks the values that stand for a frame and one more, and then prints all of them; `puts` takes arrays apart. A refused growth leaves
+    /// all as it is.
+    fn ask_for(
+        &mut self,
+        prepared: &Prepared,
+        space: &Space,
+        saying: Saying,
+        name: Sym,
+        frame: Frame,
+        value: Ref,
+    ) -> Result<Option<Request>, Fault>
+        requires room { length self.old.frames.items < vec_capacity self.old.frames }
+        requires base { base_of frame ≤ length self.old.held.items }
+        requires nested { Nested (reverse self.old.frames.items) (below_of frame self.old.held.items) }
+        ensures goes { IfOk result (λ q. (h : Course) (n : ℕ) → after_values prepared.now.program (view_of self.old) space.now frame (named_rule (context_of prepared.now.program) saying name (stand_of frame self.old.held.items ++ value ∷ [])) h n ≡ continuing prepared.now.program (view_of self.new) space.now q h n) }
+        ensures nested { OnOk result (IsNested (view_of self.new)) }
+        ensures within { (clusters : Option Below) → AreReached (reach (length space.now.slots) clusters) (view_of self.old) → IsReached (reach (length space.now.slots) clusters) value → AreReached (reach (length space.now.slots) clusters) (view_of self.new) }
+        ensures asks { (clusters : Option Below) → AreReached (reach (length space.now.slots) clusters) (view_of self.old) → IsReached (reach (length space.now.slots) clusters) value → IfOk result (IsAskedReached (reach (length space.now.slots) clusters)) }
+        ensures left { self.new.left ≡ self.old.left }
+        ensures err { (t : Table) → IfErr result (λ f. Stands (view_of self.old) (view_of self.new) t t f) }
+        ensures size { IfOk result (λ q. sized q (view_of self.new) ≤ 3 * length self.old.frames.items + 4) }
+        ensures room { IfErr result (λ _. length self.new.frames.items < vec_capacity self.new.frames) }
+        ensures fault { IfErr result (λ f. f ≡ Fault.Memory) }
+    {
+        match saying {
+            Saying::Puts => self.ask_lines(prepared, space, name, frame, value),
+            Saying::Inspect => self.ask_all(prepared, space, saying, name, frame, value),
+            Saying::Print => self.ask_all(prepared, space, saying, name, frame, value),
+            Saying::Text => self.ask_all(prepared, space, saying, name, frame, value),
+        }
+    }
+
     /// Does a task with the values that stand for a frame and one more, of which those are asked first that have a method for it.
     pub fn finish_task(
         &mut self,
@@ -219,7 +251,7 @@ impl Engine {
             None => self.ask(task, frame, value),
             Some(saying) => match prepared.symbol_asked(saying) {
                 None => self.ask(task, frame, value),
-                Some(name) => self.ask_all(prepared, space, saying, name, frame, value),
+                Some(name) => self.ask_for(prepared, space, saying, name, frame, value),
             },
         }
     }

@@ -40,5 +40,9 @@ pub returns-in_default-clause-text : goal.returns-in_default-clause-text
 returns-in_default-clause-text c =
     let names = names_of c.args.program.now in
     let t = c.args.space.now in
-    subst (λ w. IfOk c.text-in_default.result (λ x. text_of x ≡ w)) (written_else c.args.task names t c.args.value c.in_default.not-Puts c.in_default.not-Inspect)
+    subst (λ w. IfOk c.text-in_default.result (λ x. text_of x ≡ w)) (written_else c.args.task names t c.args.value c.in_default.not-Puts c.in_default.not-Inspect c.in_default.not-Lines)
     (text_is c.text-in_default.result names t c.args.value spoken c.text-in_default.ensures.text c.requires.read c.requires.among)
+
+pub returns-in-Lines-clause-text : goal.returns-in-Lines-clause-text
+returns-in-Lines-clause-text c =
+    subst (λ task. IfOk c.line_text.result (λ x. text_of x ≡ written_by task (names_of c.args.program.now) c.args.space.now c.args.value)) (sym c.in-Lines.is) c.line_text.ensures.text

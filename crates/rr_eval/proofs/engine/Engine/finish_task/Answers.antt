@@ -35,8 +35,8 @@ returns-in-Some-symbol_asked-clause-goes c =
     let m = view_of c.args.self.now in
     let t = c.args.space.now in
     let f = c.args.frame in
-    if_ok c.ask_all.result _ _
+    if_ok c.ask_for.result _ _
     (λ q goes h n.
     ap (λ script. after_values p m t f script h n) (as_asked (context_of p) c.args.task c.in-Some.saying c.in-Some-symbol_asked.name (stand_of f m.held) c.args.value (sym c.saying_of.ensures ∙ c.in-Some.is) (sym c.symbol_asked.ensures ∙ c.in-Some-symbol_asked.is))
     ∙ goes h n)
-    c.ask_all.ensures.goes
+    c.ask_for.ensures.goes

@@ -1,12 +1,11 @@
 -- A value is assigned.
-use Rattle.std.proofs.Common.{◌∙◌, ap, sym, length, drop, ◌++◌, ◌∷◌, []}
+use Rattle.std.proofs.Common.{◌∙◌, ap, length, drop}
 use Rattle.rr_eval.specs.declared.frame.Frame.TheVariants.{Put}
 use Rattle.rr_eval.specs.Turns.{context_of, after_values}
 use Rattle.rr_eval.specs.Updating.{put}
 use Rattle.rr_eval.specs.Views.{view_of}
 use Rattle.rr_eval.specs.Within.{reach}
 use Rattle.rr_eval.proofs.Invoking.{if_ok}
-use Rattle.rr_eval.proofs.Updates.{first_sent}
 use Rattle.rr_eval.proofs.engine.Engine.resume_put.Goals as goal
 
 pub returns-in-Variable-clause-goes : goal.returns-in-Variable-clause-goes
@@ -45,6 +44,5 @@ returns-in-Sent-clause-goes c =
     if_ok c.send_first.result _ _
     (λ q goes h n.
     ap (λ place. after_values p m t (Put c.args.place c.args.base) (put (context_of p) place stand c.args.value) h n) c.in-Sent.is
-    ∙ ap (λ r. after_values p m t (Put c.args.place c.args.base) r h n) (sym (first_sent (context_of p) c.in-Sent.setter (stand ++ c.args.value ∷ [])))
     ∙ goes h n)
     c.send_first.ensures.goes
