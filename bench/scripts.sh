@@ -27,4 +27,10 @@ script("yields", "def f(n)\n  i = 0\n  while i < n\n    i = i + 1\n    yield i\n
 script("times", "s = 0\n1000000.times { |x| s = s + x }\nputs s\n")
 script("each", "a = []\ni = 0\nwhile i < 200000\n  a << i\n  i = i + 1\nend\ns = 0\n5.times { a.each { |x| s = s + x } }\nputs s, a.map { |x| x * 2 }.size, a.select { |x| x % 2 == 0 }.size\n")
 script("four", "def f(a, b, c, d)\n  a + b + c + d\nend\ni = 0\ns = 0\nwhile i < 1000000\n  s = f(i, 1, 2, s) - s\n  i = i + 1\nend\nputs s\n")
+script("loops", "i = 0\ns = 0\nwhile i < 2000000\n  s = s + i * 3 - i / 2\n  s = s % 1000003\n  i = i + 1\nend\nputs s\n")
+script("fields", "class Counter\n  attr_reader :count\n  def initialize\n    @count = 0\n  end\n  def add(n)\n    @count = @count + n\n  end\nend\nc = Counter.new\ni = 0\nwhile i < 300000\n  c.add(i)\n  i = i + c.count - c.count + 1\nend\nputs c.count\n")
+script("objects", "class Pair\n  attr_reader :left\n  def initialize(left, right)\n    @left = left\n    @right = right\n  end\nend\ns = 0\ni = 0\nwhile i < 200000\n  s = s + Pair.new(i, s).left\n  i = i + 1\nend\nputs s\n")
+script("guarded", "s = 0\ni = 0\nwhile i < 1000000\n  begin\n    s = s + i\n  rescue => e\n    s = 0\n  end\n  i = i + 1\nend\nputs s\n")
+script("raised", "s = 0\ni = 0\nwhile i < 100000\n  begin\n    raise ArgumentError, \"no\" if i % 2 == 0\n    s = s + 1\n  rescue ArgumentError => e\n    s = s + e.message.size\n  end\n  i = i + 1\nend\nputs s\n")
+script("breaks", "s = 0\n20000.times { |i| 50.times { |j| break if j > 9\n s = s + i * j } }\nputs s\n")
 PY
