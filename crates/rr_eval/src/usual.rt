@@ -1,10 +1,11 @@
 //! What is usual, in front of what there is of all kinds: a part whose value needs no frame is evaluated at once, with what waits for it.
 
-ghost use Rattle.std.specs.Prelude.{◌≡◌, ◌+◌, ◌<◌, ◌≤◌, [], false, length, vec_capacity, IfSome, IsTrue, IsFalse};
+ghost use Rattle.std.specs.Prelude.{◌≡◌, ◌+◌, ◌<◌, ◌≤◌, ℕ, [], false, length, vec_capacity, IfSome, IsTrue, IsFalse};
 ghost use Rattle.rr_parser.specs.Grammar.Names.{is_splat};
 ghost use Rattle.rr_space.specs.Tables.{Table};
 ghost use Rattle.rr_tree.specs.Tree.{tree_at, binary};
 ghost use Rattle.rr_eval.specs.declared.frame.Control.{Control};
+ghost use Rattle.rr_tree.specs.declared.program.Program.{Program};
 ghost use Rattle.rr_eval.specs.Script.{Go, World};
 ghost use Rattle.rr_eval.specs.Requests.{Course};
 ghost use Rattle.rr_eval.specs.Rules.{rule};
@@ -29,6 +30,38 @@ use rr_tree::{BinaryOperator, Node, NodeId, Program};
 pub struct Quick {
     pub value: Ref,
     pub steps: u64,
+}
+
+/// The part that a node evaluates first, behind the frame that waits for it, where the frame needs neither the objects nor memory.
+#[inline(always)]
+fn usual_first(here: NodeId, node: Node) -> Option<(Frame, NodeId)>
+    ensures script { IfSome result (λ x. (p : Program) (w : World) → tree_at p.nodes.items here ≡ evaluated_tree p.nodes.items node → rule (context_of p) (tree_at p.nodes.items here) ≡ Go (tree_at p.nodes.items x.1) (resumed (code_of p w) x.0 [])) }
+    ensures usual { IfSome result (λ x. IsRareFrame x.0 → ⊥) }
+    ensures new { (n : ℕ) → IfSome result (λ x. IsNew x.0 n) }
+    ensures within { (k : Reach) → IfSome result (λ x. IsFrameReached k x.0) }
+{
+    match node {
+        Node::And(a, b) => Some((Frame::And(b), a)),
+        Node::Or(a, b) => Some((Frame::Or(b), a)),
+        Node::Not(a) => Some((Frame::Not, a)),
+        Node::Binary(op, a, b) => Some((Frame::Left(op, b), a)),
+        Node::Choose(a, b, d) => Some((Frame::Branch(b, d), a)),
+        Node::Assign {
+            depth,
+            slot,
+            value,
+            ..
+        } => Some((Frame::Store(Variable { depth, slot }), value)),
+        Node::Loop {
+            until,
+            condition,
+            body,
+        } => Some((Frame::Condition(until, body, here), condition)),
+        Node::Break(value) => Some((Frame::Break, value)),
+        Node::Next(value) => Some((Frame::Next, value)),
+        Node::Return(value) => Some((Frame::Return, value)),
+        _ => None,
+    }
 }
 
 impl Engine {
@@ -171,39 +204,12 @@ impl Engine {
         ensures falls { IsTrue result → power (view_of self.new) + self.old.left ≤ power (view_of self.old) + self.new.left }
         ensures same { IsFalse result → self.new ≡ self.old }
     {
-        match node {
-            Node::Binary(op, a, b) => {
-                self.visit_under(program, here, Frame::Left(op, b), a, stop);
+        match usual_first(here, node) {
+            Some((frame, part)) => {
+                self.visit_under(program, here, frame, part, stop);
                 true
             }
-            Node::Choose(a, b, d) => {
-                self.visit_under(program, here, Frame::Branch(b, d), a, stop);
-                true
-            }
-            Node::Assign {
-                depth,
-                slot,
-                value,
-                ..
-            } => {
-                let frame = Frame::Store(Variable { depth, slot });
-                self.visit_under(program, here, frame, value, stop);
-                true
-            }
-            Node::Loop {
-                until,
-                condition,
-                body,
-            } => {
-                let frame = Frame::Condition(until, body, here);
-                self.visit_under(program, here, frame, condition, stop);
-                true
-            }
-            Node::Return(value) => {
-                self.visit_under(program, here, Frame::Return, value, stop);
-                true
-            }
-            _ => false,
+            None => false,
         }
     }
 }
