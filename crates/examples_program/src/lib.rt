@@ -71,6 +71,7 @@ mod table;
 mod targets;
 #[cfg(test)]
 mod updating;
+#[cfg(test)]
 mod usual;
 #[cfg(test)]
 mod writers;

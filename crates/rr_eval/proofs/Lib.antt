@@ -50,3 +50,4 @@ pub mod Looping
 pub mod Connecting
 pub mod Shares
 pub mod Settable
+pub mod Rare

@@ -86,10 +86,7 @@ pub fn push_within<T: Drop>(items: &mut Vec<T>, item: T)
     requires { length items.old.items < vec_capacity items.old }
     ensures { items.new.items ≡ items.old.items ++ item ∷ [] }
 {
-    match items.push(item) {
-        Ok(()) => (),
-        Err(_) => unreachable!(),
-    }
+    items.push_reserved(item);
 }
 
 impl Engine {

@@ -6,6 +6,7 @@ use Rattle.rr_eval.specs.Turns.{after_answer}
 use Rattle.rr_eval.specs.Views.{view_of}
 use Rattle.rr_eval.specs.Within.{reach, IsFrameReached}
 use Rattle.rr_eval.proofs.Holding.{with_control, with_rescuing}
+use Rattle.rr_eval.proofs.Rare.{no_rare}
 use Rattle.rr_eval.proofs.engine.Engine.resume_value.Goals as goal
 
 pub returns-in-Argument-clause-within : goal.returns-in-Argument-clause-within
@@ -81,3 +82,34 @@ returns-in-Assigned-clause-goes c h n =
 
 pub returns-in-Assigned-clause-within : goal.returns-in-Assigned-clause-within
 returns-in-Assigned-clause-within c k h frame value = c.assign_next.ensures.within (reach (length c.args.space.now.slots) k) h
+
+pub unreachable-requires : goal.unreachable-requires
+unreachable-requires c =
+    let is = c.in_default in
+    no_rare c.args.frame c.requires.rare (record {
+      no_negation = is.not-Negation;
+      no_right = is.not-Right;
+      no_set_field = is.not-SetField;
+      no_argument = is.not-Argument;
+      no_receiver = is.not-Receiver;
+      no_item = c.requires.whole;
+      no_aim = is.not-Aim;
+      no_several = is.not-Several;
+      no_assigned = is.not-Assigned;
+      no_key = is.not-Key;
+      no_value = is.not-Value;
+      no_asking = is.not-Asking;
+      no_asked = is.not-Asked;
+      no_element = is.not-Element;
+      no_read = is.not-Read;
+      no_combine = is.not-Combine;
+      no_put = is.not-Put;
+      no_rescue = is.not-Rescue;
+      no_class = is.not-Class;
+      no_handling = is.not-Handling;
+      no_ensure = is.not-Ensure;
+      no_kept = is.not-Kept;
+      no_round = c.requires.inside;
+      no_turned = is.not-Turned;
+      no_initialize = is.not-Initialize;
+    })
