@@ -52,7 +52,7 @@ use Rattle.rr_eval.specs.Fields.{own_response, field_response}
 use Rattle.rr_eval.specs.Frames.{means, runs_in, unwind}
 use Rattle.rr_base.specs.declared.fault.Fault.{Fault}
 use Rattle.rr_eval.specs.Heard.{StandsBelow, SameThere, IsHeardBy, runs_asked, still_asked, script_of}
-use Rattle.rr_eval.specs.Methods.{Runs, Reads, Writes, NoWork, Callable}
+use Rattle.rr_eval.specs.Methods.{Runs, Reads, Writes, NoWork}
 use Rattle.rr_eval.specs.Prepared.{method_of}
 use Rattle.rr_eval.specs.Responses.{own_of}
 use Rattle.rr_eval.specs.Script.{State, Script, Go, See, Do, World, Evaluation, run}

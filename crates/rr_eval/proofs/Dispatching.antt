@@ -1,5 +1,5 @@
 -- Calls take no object away.
-use Rattle.std.proofs.Common.{nat_eq, slice_index_or, if◌then◌else◌, ◌≤◌, ℕ, Bool, arith, List, [], ◌∷◌, ◌++◌, length, length-append, Option, Some, None, true, false}
+use Rattle.std.proofs.Common.{nat_eq, ◌≤◌, ℕ, arith, List, [], ◌∷◌, length, length-append, Option, Some, None}
 use Rattle.rr_base.specs.declared.name.ClassId.{ClassId}
 use Rattle.rr_base.specs.declared.name.Sym.{Sym}
 use Rattle.rr_space.specs.Graph.{Plain, Nil as NilValue}
@@ -27,7 +27,7 @@ use Rattle.rr_eval.specs.Callees.{method_of}
 use Rattle.rr_eval.specs.Context.{Context}
 use Rattle.rr_eval.specs.Dispatch.{counted, valued_response, write_rule, run_work, run_method, method_for, way_of, handed_by, initializer, made_by, with_new, initialized, making, new_rule, built_in, dispatched, send_rule, operation, negation, iteration_of}
 use Rattle.rr_eval.specs.Fields.{field_response}
-use Rattle.rr_eval.specs.Methods.{Method, Work, Runs, Reads, Writes, NoWork, Callable}
+use Rattle.rr_eval.specs.Methods.{Work, Runs, Reads, Writes, NoWork, Callable}
 use Rattle.rr_eval.specs.Operators.{integers, opposite}
 use Rattle.rr_eval.specs.Rules.{throw, self_rule, block_sent, sent_block}
 use Rattle.rr_eval.specs.Script.{Script}

@@ -10,12 +10,12 @@ use Rattle.rr_space.specs.declared.kind.Kind.{Kind}
 use Rattle.rr_space.specs.declared.kind.Kind.TheVariants as kind
 use Rattle.rr_space.specs.declared.refer.Ref.{Ref}
 use Rattle.rr_space.specs.declared.refer.Ref.TheVariants.{Nil}
-use Rattle.rr_text.specs.Walk.{Outcome, Wrote, Deep, Circular, Look, Leaf, Branch, followed, walk}
+use Rattle.rr_text.specs.Walk.{Outcome, Wrote, Leaf, Branch, followed, walk}
 use Rattle.rr_text.specs.Comparing.{all_there}
-use Rattle.rr_text.specs.Rest.{Begun, load, keys, rest, begun, showing, whole}
+use Rattle.rr_text.specs.Rest.{load, keys, rest}
 use Rattle.rr_text.specs.Frames.{breadth}
 use Rattle.rr_text.proofs.Loads.{pow_above, some_breadth, few_parts, push_light, next_light, close_light}
-use Rattle.rr_text.proofs.Stack.{leaf_showed, again_showed, circular_showed, deep_showed, entered_showed, closed_top, next_top, followed_none, followed_end, followed_bytes, followed_assoc}
+use Rattle.rr_text.proofs.Stack.{leaf_showed, again_showed, circular_showed, deep_showed, entered_showed, closed_top, next_top, followed_none, followed_end, followed_bytes}
 use Rattle.rr_builtin.specs.Elements.{count_at}
 use Rattle.rr_builtin.specs.Kinds.{is_array_kind}
 use Rattle.rr_builtin.specs.Objects.{identical}

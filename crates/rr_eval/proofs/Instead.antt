@@ -1,5 +1,5 @@
 -- Other values are held in the place of those that stand for a frame, and asked.
-use Rattle.std.proofs.Common.{◌≡◌, ◌∙◌, ◌≤◌, ℕ, sym, ap, refl, arith, List, [], ◌∷◌, ◌++◌, length, take, drop, slice_index_or, Option, Some, None}
+use Rattle.std.proofs.Common.{◌≡◌, ◌∙◌, ◌≤◌, ℕ, sym, ap, arith, List, [], ◌∷◌, ◌++◌, length, take, drop, slice_index_or, Some, None}
 use Rattle.std.proofs.lemmas.List.{take_all, drop_all, take-append-le, drop-append-le, length-take-le}
 use Rattle.rr_base.specs.declared.name.Sym.{Sym}
 use Rattle.rr_space.specs.Tables.{Table}

@@ -21,7 +21,7 @@ use Rattle.rr_eval.specs.declared.frame.Frame.{Frame}
 use Rattle.rr_eval.specs.declared.asking.Asking.{Asking}
 use Rattle.rr_eval.specs.declared.iterating.Iterating.{Iterating}
 use Rattle.rr_eval.specs.declared.frame.Frame.TheVariants as frames
-use Rattle.rr_eval.specs.Script.{State, Script, Ret, Go, See, Do, Outcome, after}
+use Rattle.rr_eval.specs.Script.{State, Script, Ret, Go, Do, Outcome, after}
 use Rattle.rr_eval.specs.Rules.{Context, throw, on_value, framed, with_frame, left_by, activation_in}
 use Rattle.rr_eval.specs.Dispatch.{counted}
 use Rattle.rr_eval.specs.Frames.{Code, means, runs_in, resumed, unwind, waits_for, Nested}

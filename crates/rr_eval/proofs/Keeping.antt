@@ -1,5 +1,5 @@
 -- Scripts that take no object away.
-use Rattle.std.proofs.Common.{nat_eq, nat_lt, slice_index_or, if◌then◌else◌, ◌≤◌, ℕ, Bool, arith, List, [], ◌∷◌, ◌++◌, length, length-append, Option, Some, None, Result, Ok, Err, true, false}
+use Rattle.std.proofs.Common.{nat_lt, slice_index_or, if◌then◌else◌, ◌≤◌, ℕ, Bool, arith, List, [], ◌∷◌, ◌++◌, length, length-append, Option, Some, None, Result, Ok, Err, true, false}
 use Rattle.rr_base.specs.Classes.{class_id}
 use Rattle.rr_base.specs.declared.name.Sym.{Sym}
 use Rattle.rr_base.specs.declared.name.TheConstants.ClassId.{RUNTIME_ERROR}

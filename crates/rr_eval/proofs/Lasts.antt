@@ -1,5 +1,5 @@
 -- The last of values.
-use Rattle.std.proofs.Common.{◌≡◌, ◌≤◌, ◌-◌, ◌∙◌, ℕ, suc, ap, sym, refl, arith, List, [], ◌∷◌, ◌++◌, length, get_or}
+use Rattle.std.proofs.Common.{◌≡◌, ◌≤◌, ◌-◌, ◌∙◌, suc, ap, sym, refl, arith, List, [], ◌∷◌, ◌++◌, length, get_or}
 use Rattle.rr_space.specs.declared.refer.Ref.{Ref}
 use Rattle.rr_eval.specs.Dispatch.{last_of}
 

@@ -1,5 +1,5 @@
 -- A call with a block of a name that no method of the program has.
-use Rattle.std.proofs.Common.{◌≡◌, ◌∙◌, ℕ, zero, suc, nat_eq, ◌+◌, refl, sym, ap, arith, Bool, true, false, ◌&&◌, List, [], Option, None}
+use Rattle.std.proofs.Common.{◌≡◌, ◌∙◌, ℕ, zero, suc, nat_eq, ◌+◌, refl, sym, ap, arith, Bool, true, false, ◌&&◌, List, [], None}
 use Rattle.std.proofs.lemmas.Bool.Decides.{nat_tests}
 use Rattle.rr_tree.specs.Tree.{Tree}
 use Rattle.rr_tree.specs.Nodes.{trees_before}

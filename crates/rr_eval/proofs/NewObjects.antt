@@ -31,7 +31,7 @@ use Rattle.rr_eval.specs.Requests.{Course, Adds}
 use Rattle.rr_eval.specs.Script.{Ret, objects_of}
 use Rattle.rr_eval.specs.Turns.{context_of, after_answer, after_script, after_values}
 use Rattle.rr_eval.specs.View.{View}
-use Rattle.rr_eval.specs.Within.{Reach, reach, AreReached, IsReached, IsFrameReached}
+use Rattle.rr_eval.specs.Within.{reach, AreReached, IsReached, IsFrameReached}
 use Rattle.rr_eval.proofs.Holding.{all_nil, all_cons, all_rest, reached_more}
 use Rattle.rr_eval.proofs.Objects.{act_passes}
 

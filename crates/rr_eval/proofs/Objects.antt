@@ -1,11 +1,11 @@
 -- An evaluation takes no object away.
-use Rattle.std.proofs.Common.{◌≡◌, refl, nat_eq, slice_index_or, ap, sym, subst, ◌≤◌, ◌-◌, ℕ, zero, suc, Bool, arith, List, [], ◌∷◌, ◌++◌, length, reverse, Option, Some, None, true, false}
+use Rattle.std.proofs.Common.{◌≡◌, refl, slice_index_or, ap, sym, subst, ◌≤◌, ◌-◌, ℕ, zero, suc, Bool, arith, List, [], ◌∷◌, ◌++◌, length, reverse, Option, Some, None, true, false}
 use Rattle.std.specs.Prelude.{codes}
 use Rattle.rr_base.specs.Classes.{class_id}
 use Rattle.rr_base.specs.ClassNames.{class_named}
 use Rattle.rr_base.specs.declared.class.BuiltInClass.{BuiltInClass}
 use Rattle.rr_base.specs.declared.name.Sym.{Sym}
-use Rattle.rr_base.specs.declared.name.TheConstants.ClassId.{RACTOR, STANDARD_ERROR}
+use Rattle.rr_base.specs.declared.name.TheConstants.ClassId.{STANDARD_ERROR}
 use Rattle.rr_tree.specs.declared.node.Path.TheVariants.{Plain, Ractor as InRactor}
 use Rattle.rr_base.specs.declared.name.ClassId.{ClassId}
 use Rattle.rr_space.specs.Tables.{Table}
@@ -39,7 +39,7 @@ use Rattle.rr_eval.specs.View.{View}
 use Rattle.rr_eval.specs.Acts.{Passes}
 use Rattle.rr_eval.specs.Turns.{context_of, code_of, state_of, after_script, asking_then}
 use Rattle.rr_builtin.specs.Acts.{with_text}
-use Rattle.rr_eval.specs.Rules.{Context, items, throw, raise, settled, turn_rule, on_table, statements, values, pair_parts, finish, printing, raises, awaited, bare_rule, constant_rule, not_here, call_rule, block_call_rule, block_rule, asks_block, own_method, own_class, plain_constant, has_built_in, name_rule, self_rule, sent_block, running, variable_of, rule, part_rule, loops, eval, concluded, begun}
+use Rattle.rr_eval.specs.Rules.{Context, items, throw, raise, settled, turn_rule, on_table, statements, values, pair_parts, finish, printing, raises, awaited, bare_rule, constant_rule, call_rule, block_call_rule, block_rule, asks_block, own_method, own_class, plain_constant, has_built_in, name_rule, running, variable_of, rule, part_rule, loops, eval, concluded, begun}
 use Rattle.rr_eval.specs.Methods.{Callable}
 use Rattle.rr_eval.specs.Above.{parameters_of}
 use Rattle.rr_eval.specs.Callees.{method_of}
@@ -64,7 +64,7 @@ use Rattle.rr_eval.specs.Several.{all_parts}
 use Rattle.rr_eval.proofs.Keeping.{count, make_keeps, Keeps, on_value_keeps, loop_keeps, raise_keeps, throw_keeps, settled_keeps, if_keeps, back_keeps, past_keeps, yield_keeps, continued_keeps, continued_with_keeps, turned_keeps, return_keeps, raise_rule_keeps}
 use Rattle.rr_eval.specs.declared.call_stack.CallValue.TheVariants.{Method}
 use Rattle.rr_eval.proofs.Speeches.{task_keeps, joining_call_keeps, asking_on_keeps, asked_on_keeps}
-use Rattle.rr_eval.proofs.Dispatching.{method_keeps, initialized_keeps, dispatched_keeps, send_keeps, self_keeps, sent_block_keeps, operates, negates, super_keeps}
+use Rattle.rr_eval.proofs.Dispatching.{method_keeps, initialized_keeps, dispatched_keeps, self_keeps, sent_block_keeps, operates, negates, super_keeps}
 use Rattle.rr_eval.proofs.CallParts.{part_called_keeps}
 use Rattle.rr_eval.proofs.Settable.{or_keeps}
 use Rattle.rr_eval.proofs.Updates.{put_keeps, updated_keeps, accessed_keeps, operator_keeps, update_keeps}

@@ -4,7 +4,7 @@ use Rattle.std.proofs.lemmas.List.{append-nil}
 use Rattle.rr_space.specs.Tables.{Table}
 use Rattle.rr_frames.specs.Frames.{list_of}
 use Rattle.rr_space.specs.declared.refer.Ref.{Ref}
-use Rattle.rr_tree.specs.Tree.{Tree, binary, tree_at}
+use Rattle.rr_tree.specs.Tree.{binary, tree_at}
 use Rattle.rr_tree.specs.declared.program.Program.{Program}
 use Rattle.rr_eval.specs.declared.problem.Answer.{Answer}
 use Rattle.rr_eval.specs.declared.problem.Answer.TheVariants.{Gave}

@@ -1,6 +1,5 @@
 -- Turns of iterations begin, and they end.
-use Rattle.std.proofs.Common.{◌≡◌, ◌∙◌, ◌≤◌, ℕ, zero, suc, sym, ap, subst, refl, arith, nat_lt, if◌then◌else◌, true, List, [], ◌∷◌, ◌++◌, length, take, drop, reverse, Option, None, Some, Result, Ok, Err, OnOk}
-use Rattle.rr_base.specs.declared.fault.Fault.{Fault}
+use Rattle.std.proofs.Common.{◌≡◌, ◌∙◌, ℕ, zero, suc, sym, ap, refl, nat_lt, if◌then◌else◌, true, List, [], ◌∷◌, ◌++◌, length, take, drop, reverse, Option, None, Some}
 use Rattle.rr_frames.specs.Frames.{Stack, Frame as Activated, laid}
 use Rattle.rr_frames.specs.declared.activation.Shape.{Shape}
 use Rattle.rr_space.specs.declared.refer.Ref.{Ref}
@@ -14,11 +13,11 @@ use Rattle.rr_eval.specs.declared.iterating.Visits.{Visits}
 use Rattle.rr_eval.specs.declared.problem.Answer.{Answer}
 use Rattle.rr_eval.specs.declared.problem.Answer.TheVariants.{Gave, Raised, Broke, Done, Returned, Ends}
 use Rattle.rr_eval.specs.declared.problem.Problem.TheVariants.{BuiltIn}
-use Rattle.rr_eval.specs.Script.{State, Script, Ret, See, Do, Evaluate, TurnPart, Iterated, Outcome, Ended, after}
+use Rattle.rr_eval.specs.Script.{State, Ret, See, Do, Evaluate, TurnPart, Iterated, after}
 use Rattle.rr_eval.specs.Blocks.{shape_in, with_frame, activation_in, opened}
 use Rattle.rr_eval.specs.Iterating.{turned, turn_ended, left_turn}
 use Rattle.rr_eval.specs.Rules.{Context, throw}
-use Rattle.rr_eval.specs.Frames.{Code, evaluates, means, runs_in, resumed, iterated, unwind}
+use Rattle.rr_eval.specs.Frames.{Code, evaluates, means, runs_in, iterated, unwind}
 use Rattle.rr_eval.specs.Turns.{blocks_of}
 use Rattle.std.specs.Option.{option_map}
 use Rattle.std.proofs.lemmas.List.{map_push}

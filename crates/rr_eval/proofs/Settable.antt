@@ -10,7 +10,7 @@ use Rattle.rr_eval.specs.declared.updating.Update.TheVariants as updates
 use Rattle.rr_eval.specs.Constants.{set_response}
 use Rattle.rr_eval.specs.Context.{Context}
 use Rattle.rr_eval.specs.Globals.{globals}
-use Rattle.rr_eval.specs.Updating.{place_of, update_rule, or_constant, or_rule}
+use Rattle.rr_eval.specs.Updating.{place_of, or_constant, or_rule}
 use Rattle.rr_eval.proofs.Keeping.{Keeps, on_value_keeps, settled_keeps}
 use Rattle.rr_eval.proofs.Updates.{update_keeps}
 

@@ -1,5 +1,5 @@
 -- What a value leads to, what is shareable, and what is frozen with it.
-use Rattle.std.proofs.Common.{◌≡◌, ℕ, zero, suc, ◌+◌, ◌<◌, ◌≤◌, ◌↔◌, ◌⊎◌, ⊎_elim, inl, inr, Bool, true, false, not, ◌||◌, ◌&&◌, nat_eq, if◌then◌else◌, IsTrue, refl, sym, ap, subst, ◌∙◌, arith, List, [], ◌∷◌, length, slice_get, get_or, Option, Some, None, Contains}
+use Rattle.std.proofs.Common.{◌≡◌, ℕ, zero, suc, ◌+◌, ◌<◌, ◌≤◌, ◌↔◌, ⊎_elim, inl, Bool, true, false, not, ◌||◌, ◌&&◌, nat_eq, if◌then◌else◌, IsTrue, refl, sym, ap, subst, ◌∙◌, arith, List, [], ◌∷◌, length, slice_get, get_or, Option, Some, None, Contains}
 use Rattle.std.specs.Option.{option_map}
 use Rattle.std.proofs.lemmas.Bool.{or_left, or_right, or_cases}
 use Rattle.std.proofs.lemmas.Bool.Decides.{nat_tests}

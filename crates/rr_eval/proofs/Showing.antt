@@ -7,7 +7,7 @@ use Rattle.rr_space.specs.declared.refer.Ref.TheVariants as refs
 use Rattle.rr_text.specs.Forms.{Names, spoken, within_text}
 use Rattle.rr_text.specs.Walk.{Walked, Wrote}
 use Rattle.rr_builtin.specs.Objects.{printed_text}
-use Rattle.rr_eval.specs.Tasks.{shown_by, texts_shown, values_shown, joined_texts, lack_of}
+use Rattle.rr_eval.specs.Tasks.{shown_by, texts_shown, values_shown, joined_texts}
 
 -- a value and what it said come before the others
 pub texts_next : (names : Names) (t : Table) (rest more : List Ref) (v said : Ref) (w : Walked) → rest ≡ v ∷ said ∷ more → w ≡ shown_by names t v said → texts_shown names t rest ≡ w ∷ texts_shown names t more

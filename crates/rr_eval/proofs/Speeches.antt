@@ -15,7 +15,7 @@ use Rattle.rr_eval.specs.Bound.{bind}
 use Rattle.rr_eval.specs.Context.{Context}
 use Rattle.rr_eval.specs.Methods.{Callable}
 use Rattle.rr_eval.specs.Script.{Script, Ret, Evaluate, See, Do, Ask}
-use Rattle.rr_eval.specs.Speaking.{saying_of, symbol_asked, sayer, text_in, heard, asked_by, printed_for, request, asked_all, named_rule, said_rule, saying_rule, task_rule, asked_on}
+use Rattle.rr_eval.specs.Speaking.{saying_of, symbol_asked, sayer, text_in, heard, asked_by, printed_for, asked_all, named_rule, said_rule, saying_rule, task_rule, asked_on}
 use Rattle.rr_eval.proofs.Keeping.{Keeps, on_value_keeps, settled_keeps, back_keeps}
 use Rattle.rr_eval.specs.Joins.{separator, joined_by, joined, joined_or_sent, joining_call}
 use Rattle.rr_eval.specs.Leaves.{leaves_of, between}

@@ -25,7 +25,7 @@ use Rattle.rr_eval.specs.Context.{Context}
 use Rattle.rr_eval.specs.Frames.{Code, means, runs_in, resumed, unwind, outcome_of, base_of, below_of, Nested}
 use Rattle.rr_eval.specs.Nodes.{evaluated_tree, IsEvaluated}
 use Rattle.rr_eval.specs.Requests.{Course}
-use Rattle.rr_eval.specs.Rules.{with_value, throw, arguments, finish}
+use Rattle.rr_eval.specs.Rules.{throw, arguments, finish}
 use Rattle.rr_eval.specs.Script.{State, Script, Go}
 use Rattle.rr_eval.specs.Splats.{splat_items, on_items, spread}
 use Rattle.rr_eval.specs.Turns.{context_of, code_of, state_of, remaining, after_script, after_answer, after_values, IsNested}

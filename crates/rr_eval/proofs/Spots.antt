@@ -1,5 +1,5 @@
 -- An assignment to one of several targets is a step, for which a frame waits.
-use Rattle.std.proofs.Common.{◌≡◌, ◌∙◌, ◌+◌, ◌-◌, ◌<◌, ◌≤◌, ℕ, suc, refl, sym, ap, subst, List, [], ◌∷◌, ◌++◌, length, take, drop, reverse, slice_index_or, Option, Some, None}
+use Rattle.std.proofs.Common.{◌≡◌, ◌∙◌, ◌+◌, ◌-◌, ◌<◌, ◌≤◌, ℕ, suc, refl, sym, ap, subst, List, [], ◌∷◌, ◌++◌, length, take, drop, reverse, slice_index_or, Some, None}
 use Rattle.std.proofs.lemmas.List.Elements.{All-push}
 use Rattle.std.proofs.Math.Seq.{take-append_seam, drop-append_seam}
 use Rattle.std.proofs.lemmas.List.{drop-drop, length-drop, take-append-le, drop-append-le}
@@ -18,7 +18,7 @@ use Rattle.rr_eval.specs.declared.frame.Frame.TheVariants.{Assigned}
 use Rattle.rr_eval.specs.declared.spot.Assigning.{Assigning}
 use Rattle.rr_eval.specs.declared.spot.Spot.{Spot}
 use Rattle.rr_eval.specs.Basics.{on_value, variable_of}
-use Rattle.rr_eval.specs.Frames.{Code, runs_in, resumed, unwind, outcome_of, evaluates}
+use Rattle.rr_eval.specs.Frames.{Code, runs_in, unwind, outcome_of, evaluates}
 use Rattle.rr_eval.specs.Requests.{Course}
 use Rattle.rr_eval.specs.Script.{State, Script, AssignPart, Spent, after}
 use Rattle.rr_eval.specs.Several.{parts_of, spot_of, put_in, next_value, assign_each}

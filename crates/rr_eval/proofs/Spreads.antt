@@ -1,8 +1,8 @@
 -- Arrays that are spread, element by element.
-use Rattle.std.proofs.Common.{◌≡◌, ◌∙◌, ◌-◌, ◌<◌, ℕ, zero, suc, sym, ap, refl, arith, append_assoc, List, [], ◌∷◌, ◌++◌, Option, Some, None}
+use Rattle.std.proofs.Common.{◌≡◌, ◌-◌, ◌<◌, ℕ, suc, sym, ap, refl, arith, append_assoc, List, [], ◌∷◌, ◌++◌, Option, Some, None}
 use Rattle.rr_space.specs.Tables.{Table}
 use Rattle.rr_space.specs.declared.refer.Ref.{Ref}
-use Rattle.rr_builtin.specs.Rounds.{Read, item_at}
+use Rattle.rr_builtin.specs.Rounds.{item_at}
 use Rattle.rr_eval.specs.Blocks.{spread_with, spread_read, spread_from}
 
 -- values before those that are spread

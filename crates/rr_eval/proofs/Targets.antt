@@ -1,5 +1,5 @@
 -- Several targets get their values.
-use Rattle.std.proofs.Common.{◌≡◌, ℕ, zero, suc, ◌+◌, ◌-◌, ◌<◌, ◌≤◌, ◌∙◌, sym, ap, refl, arith, List, [], ◌∷◌, ◌++◌, length, take, drop, slice_index_or, Option, Some, None}
+use Rattle.std.proofs.Common.{◌≡◌, ℕ, zero, suc, ◌+◌, ◌-◌, ◌<◌, ◌∙◌, sym, ap, refl, arith, List, [], ◌∷◌, ◌++◌, length, drop, slice_index_or, Option, Some, None}
 use Rattle.std.proofs.lemmas.List.{drop-drop}
 use Rattle.rr_frames.specs.Frames.{Stack}
 use Rattle.rr_space.specs.declared.refer.Ref.{Ref}
@@ -13,7 +13,7 @@ use Rattle.rr_eval.specs.declared.call_stack.Variable.{Variable}
 use Rattle.rr_eval.specs.declared.problem.Problem.TheVariants.{NotHere}
 use Rattle.rr_eval.specs.declared.spot.Spot.{Spot}
 use Rattle.rr_eval.specs.declared.spot.Spot.TheVariants as spots
-use Rattle.rr_eval.specs.Basics.{items, on_value, values, with_value, variable_of}
+use Rattle.rr_eval.specs.Basics.{on_value, values, with_value, variable_of}
 use Rattle.rr_eval.specs.Context.{Context}
 use Rattle.rr_eval.specs.Frames.{Code, runs_in}
 use Rattle.rr_eval.specs.Nodes.{evaluated_tree}

@@ -11,7 +11,7 @@ use Rattle.rr_tree.specs.declared.node.Node.TheVariants as nodes
 use Rattle.rr_builtin.specs.Objects.{is_truthy}
 use Rattle.rr_eval.specs.declared.call.Callee.{Callee}
 use Rattle.rr_eval.specs.declared.call.Callee.TheVariants as callees
-use Rattle.rr_eval.specs.declared.call.Target.TheVariants.{Call, Update as UpdateTarget}
+use Rattle.rr_eval.specs.declared.call.Target.TheVariants.{Update as UpdateTarget}
 use Rattle.rr_eval.specs.declared.frame.Frame.{Frame}
 use Rattle.rr_eval.specs.declared.frame.Frame.TheVariants.{Argument, Read}
 use Rattle.rr_eval.specs.declared.updating.Updating.{Updating}

@@ -1,5 +1,4 @@
 -- How a method begins.
-use Rattle.std.specs.Prelude.{ℕ}
 use Rattle.rr_eval.specs.declared.problem.Answer.TheVariants.{Gave}
 use Rattle.rr_eval.specs.declared.frame.Control.{Control}
 use Rattle.rr_eval.specs.declared.frame.Control.TheVariants.{Enter, Give, Throw}

@@ -1,6 +1,6 @@
 -- Which method a call runs. Methods are looked for class by class, from the class of the receiver upwards, and in each class the
 -- program's method comes before the built-in one. A program opens no built-in class.
-use Rattle.std.specs.Prelude.{ℕ, nat_eq, Bool, true, false, ◌&&◌, List, [], ◌∷◌, length, drop, codes, Option, Some, None, if◌then◌else◌, slice_index_or}
+use Rattle.std.specs.Prelude.{ℕ, nat_eq, Bool, false, ◌&&◌, List, [], ◌∷◌, length, drop, codes, Option, Some, None, if◌then◌else◌, slice_index_or}
 use Rattle.std.specs.Option.{option_map}
 use Rattle.rr_base.specs.declared.name.ClassId.{ClassId}
 use Rattle.rr_base.specs.declared.name.Sym.{Sym}
@@ -44,7 +44,7 @@ use Rattle.rr_eval.specs.Blocks.{Way, entered, value_by}
 use Rattle.rr_eval.specs.Callees.{callee_name, method_of}
 use Rattle.rr_eval.specs.Context.{Context}
 use Rattle.rr_eval.specs.Fields.{field_response}
-use Rattle.rr_eval.specs.Methods.{Method, Work, Runs, Reads, Writes, NoWork, Callable, method_in}
+use Rattle.rr_eval.specs.Methods.{Work, Runs, Reads, Writes, NoWork, Callable, method_in}
 use Rattle.rr_eval.specs.Operators.{integers, opposite}
 use Rattle.rr_eval.specs.Script.{Script, Ret, See, Do, Ask, Does}
 

@@ -1,5 +1,5 @@
 -- What values that are asked come to.
-use Rattle.std.specs.Prelude.{◌≡◌, ℕ, ◌-◌, List, [], take, drop, length, slice_index_or, Option, Some, None}
+use Rattle.std.specs.Prelude.{◌≡◌, ℕ, ◌-◌, List, [], take, drop, length, slice_index_or, Option, None}
 use Rattle.std.specs.List.{All}
 use Rattle.rr_base.specs.declared.fault.Fault.{Fault}
 use Rattle.rr_base.specs.declared.name.Sym.{Sym}

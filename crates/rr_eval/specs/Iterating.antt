@@ -1,5 +1,5 @@
 -- Built-in methods that call their block again and again.
-use Rattle.std.specs.Prelude.{◌+◌, ◌-◌, ◌^◌, ◌+ℤ◌, ℕ, ℤ, nat_eq, nat_lt, not, ◌&&◌, drop, pos, int_lt, List, [], ◌∷◌, ◌++◌, slice_index_or, codes, Bool, true, false, if◌then◌else◌, Option, Some, None, Result, Ok, Err}
+use Rattle.std.specs.Prelude.{◌+◌, ◌-◌, ◌^◌, ◌+ℤ◌, ℕ, ℤ, nat_eq, nat_lt, not, ◌&&◌, drop, pos, int_lt, List, [], ◌∷◌, ◌++◌, slice_index_or, codes, Bool, false, if◌then◌else◌, Option, Some, None, Result, Ok, Err}
 use Rattle.std.specs.Option.{option_map}
 use Rattle.std.specs.Ordering.{int_eq}
 use Rattle.std.specs.Str.{bytes_eq}
@@ -36,7 +36,7 @@ use Rattle.rr_eval.specs.declared.problem.Answer.{Answer}
 use Rattle.rr_eval.specs.declared.problem.Answer.TheVariants.{Gave, Raised, Broke, Done, Returned, Ends}
 use Rattle.rr_eval.specs.declared.problem.Problem.{Problem}
 use Rattle.rr_eval.specs.declared.problem.Problem.TheVariants.{BuiltIn, MissingMethod, NoBlock, NotHere}
-use Rattle.rr_eval.specs.Basics.{throw, settled, not_here}
+use Rattle.rr_eval.specs.Basics.{throw, settled}
 use Rattle.rr_eval.specs.Blocks.{running, without_frame, opened, spread_with, given_values, to_given, shape_in}
 use Rattle.rr_eval.specs.Context.{Context}
 use Rattle.rr_eval.specs.Responses.{own_of, receiver_of}

@@ -1,6 +1,6 @@
 -- Calls of `join`: the objects in the array are asked by the program's `to_s`, one after the other, and then a text is made of all that stands in
 -- it, with the separator between.
-use Rattle.std.specs.Prelude.{Bool, true, false, ◌&&◌, List, [], ◌∷◌, Option, Some, None, if◌then◌else◌}
+use Rattle.std.specs.Prelude.{Bool, false, ◌&&◌, List, [], ◌∷◌, Option, Some, None, if◌then◌else◌}
 use Rattle.rr_base.specs.declared.name.Sym.{Sym}
 use Rattle.rr_builtin.specs.Kinds.{is_array_kind, is_join, is_text_kind}
 use Rattle.rr_builtin.specs.declared.method.BuiltInMethod.{BuiltInMethod}

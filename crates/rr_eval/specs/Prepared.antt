@@ -1,7 +1,6 @@
 -- What a prepared program knows of its methods.
-use Rattle.std.specs.Prelude.{◌≡◌, ℕ, List, codes}
+use Rattle.std.specs.Prelude.{◌≡◌, List, codes}
 use Rattle.std.specs.Option.{option_map}
-use Rattle.rr_base.specs.declared.name.Sym.{Sym}
 use Rattle.rr_tree.specs.Methods.{number_in, symbol_named}
 use Rattle.rr_tree.specs.Tree.{tree_at}
 use Rattle.rr_tree.specs.declared.node.Node.{Node}

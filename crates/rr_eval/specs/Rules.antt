@@ -22,7 +22,7 @@ use Rattle.rr_builtin.specs.Kinds.{has}
 use Rattle.rr_builtin.specs.declared.method.BuiltInMethod.{BuiltInMethod}
 use Rattle.rr_space.specs.Kinds.{kind_at}
 use Rattle.rr_space.specs.declared.kind.Kind.{Kind}
-use Rattle.rr_eval.specs.Script.{State, Script, Ret, Go, See, Ask, Does, Part, TreePart, TurnPart, CallPart, AssignPart, Memory, World, Outcome, Ended, Spent, Waits, Evaluation, run}
+use Rattle.rr_eval.specs.Script.{State, Script, Ret, Go, See, Part, TreePart, TurnPart, CallPart, AssignPart, Memory, World, Outcome, Ended, Spent, Waits, Evaluation, run}
 use Rattle.rr_eval.specs.declared.iterating.Visits.TheVariants.{Forever}
 use Rattle.rr_eval.specs.Iterating.{continued, turned, body_in, iteration_rule, is_loop}
 use Rattle.rr_eval.specs.Above.{super_rule, parameters_of}

@@ -1,5 +1,5 @@
 -- Assignments to several targets.
-use Rattle.std.specs.Prelude.{ℕ, List, [], ◌∷◌, ◌++◌, length, drop, Option, Some, None, if◌then◌else◌}
+use Rattle.std.specs.Prelude.{List, [], ◌∷◌, ◌++◌, length, drop, Option, Some, None, if◌then◌else◌}
 use Rattle.rr_builtin.specs.Elements.{count_at}
 use Rattle.rr_builtin.specs.Kinds.{is_array_kind}
 use Rattle.rr_space.specs.Kinds.{kind_at}

@@ -2,7 +2,7 @@
 use Rattle.std.specs.Prelude.{ℕ, zero, suc, nat_eq, Bool, true, false, not, ◌&&◌, ◌||◌, if◌then◌else◌, List, [], ◌∷◌, length, slice_get, slice_index_or, codes, Option, Some, None}
 use Rattle.std.specs.Str.{bytes_eq}
 use Rattle.rr_base.specs.declared.name.TheConstants.ClassId.{RACTOR}
-use Rattle.rr_space.specs.Graph.{Graph, Own, Published, Value, Plain, At, Nil, Truth, Integer, SymbolNo, ClassNo, RactorNo, Label, Object}
+use Rattle.rr_space.specs.Graph.{Graph, Own, Published, Value, Plain, At, SymbolNo, Label, Object}
 use Rattle.rr_space.specs.Kinds.{kind_at}
 use Rattle.rr_space.specs.Labels.{triples_at}
 use Rattle.rr_space.specs.Parts.{value_of}

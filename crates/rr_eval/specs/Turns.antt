@@ -1,5 +1,5 @@
 -- What the machine has still to do, and what a turn does of it.
-use Rattle.std.specs.Prelude.{◌≡◌, ◌+◌, ◌*◌, ◌<◌, ◌≤◌, length, map, ℕ, Option, Some, None, Vec, Result, Ok, Err, List, reverse, Bool, true, false}
+use Rattle.std.specs.Prelude.{◌≡◌, ◌+◌, ◌*◌, ◌<◌, ◌≤◌, length, map, ℕ, Option, Some, None, Vec, Result, Ok, Err, List, reverse}
 use Rattle.rr_base.specs.declared.fault.Fault.{Fault}
 use Rattle.std.specs.Option.{option_map}
 use Rattle.rr_frames.specs.Frames.{Frame as Activated}
@@ -19,7 +19,6 @@ use Rattle.rr_eval.specs.declared.engine.Turn.{Turn}
 use Rattle.rr_eval.specs.declared.engine.Turn.TheVariants as turns
 use Rattle.rr_eval.specs.Acts.{IsRefusal}
 use Rattle.rr_eval.specs.declared.request.Request.{Request}
-use Rattle.rr_eval.specs.declared.problem.Problem.TheVariants.{NotHere}
 use Rattle.rr_eval.specs.declared.problem.Response.{Response}
 use Rattle.rr_eval.specs.declared.problem.Response.TheVariants as response
 use Rattle.rr_eval.specs.Script.{State, Script, Ask, World, Asked, Outcome, Ended, Spent, Waits}

@@ -2,7 +2,7 @@
 use Rattle.std.specs.Prelude.{◌≡◌, ◌+◌, ℕ}
 use Rattle.rr_space.specs.Tables.{Table}
 use Rattle.rr_space.specs.declared.refer.Ref.{Ref}
-use Rattle.rr_tree.specs.Tree.{Tree, tree_at}
+use Rattle.rr_tree.specs.Tree.{Tree}
 use Rattle.rr_tree.specs.declared.program.Program.{Program}
 use Rattle.rr_eval.specs.declared.problem.Answer.TheVariants.{Gave}
 use Rattle.rr_eval.specs.Frames.{Code, means}

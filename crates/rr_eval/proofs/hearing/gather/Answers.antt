@@ -1,12 +1,10 @@
 -- One value more is seen.
-use Rattle.std.proofs.Common.{◌≡◌, ◌∙◌, ◌+◌, ◌-◌, ◌<◌, ◌≤◌, ◌++◌, ℕ, ap, sym, subst, arith, suc, drop, take, length, length-append, slice_index_or, Option}
+use Rattle.std.proofs.Common.{◌≡◌, ◌∙◌, ◌+◌, ◌++◌, ap, sym, subst, arith, suc, drop, length, length-append, slice_index_or}
 use Rattle.std.specs.List.{All}
-use Rattle.std.proofs.lemmas.List.{take-append-le}
-use Rattle.rr_space.specs.declared.refer.Ref.{Ref}
 use Rattle.rr_space.specs.declared.refer.Ref.TheVariants.{Nil}
 use Rattle.rr_eval.specs.declared.hearing.Heard.TheVariants.{Said, Runs, Fails}
 use Rattle.rr_eval.specs.declared.hearing.Gathered.TheVariants.{Runs as RunsThen}
-use Rattle.rr_eval.specs.Heard.{SameThere, IsHeardBy, IsHeardReached, still_asked, script_of}
+use Rattle.rr_eval.specs.Heard.{SameThere, IsHeardBy, still_asked, script_of}
 use Rattle.rr_eval.specs.Speaking.{sayer, printed_for}
 use Rattle.rr_eval.specs.Turns.{context_of}
 use Rattle.rr_eval.specs.Within.{reach, IsReached}

@@ -1,5 +1,5 @@
 -- A variable is read, and a text in it is said.
-use Rattle.std.proofs.Common.{◌≡◌, ◌∙◌, sym, subst, length, Some, Option}
+use Rattle.std.proofs.Common.{◌∙◌, sym, subst, length, Some}
 use Rattle.rr_eval.specs.declared.hearing.Heard.TheVariants.{Said}
 use Rattle.rr_eval.specs.Heard.{IsHeardBy}
 use Rattle.rr_eval.specs.Methods.{Reads}

@@ -1,10 +1,8 @@
 -- The leaves of one value more stand behind the others.
-use Rattle.std.proofs.Common.{◌≡◌, ◌∙◌, ◌++◌, ◌∷◌, [], ap, sym, subst, arith, length, take, drop, ◌-◌}
-use Rattle.std.specs.List.{All}
+use Rattle.std.proofs.Common.{◌≡◌, ◌∙◌, ◌++◌, ◌∷◌, ap, sym, subst, arith, length, take, drop, ◌-◌}
 use Rattle.rr_text.specs.Walk.{Wrote, followed}
 use Rattle.rr_eval.specs.Leaves.{leaves_in, all_leaves, found_in, AreItemsReached, IsItemReached, IsFoundReached}
 use Rattle.rr_eval.specs.Within.{reach, IsReached}
-use Rattle.rr_eval.specs.declared.leaves.Found.{Found}
 use Rattle.rr_eval.proofs.Holding.{all_take, all_drop, all_append}
 use Rattle.rr_eval.proofs.Inside.{first_more, leaves_next}
 use Rattle.rr_eval.proofs.leaves.all_leaves.Goals as goal

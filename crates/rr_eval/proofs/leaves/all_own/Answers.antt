@@ -1,5 +1,5 @@
 -- One value more is there.
-use Rattle.std.proofs.Common.{◌≡◌, ◌∙◌, ◌∷◌, [], ap, sym, subst, arith, length, take, drop, Some, ◌-◌}
+use Rattle.std.proofs.Common.{◌≡◌, ◌∙◌, ◌∷◌, ap, sym, subst, arith, length, take, drop, Some, ◌-◌}
 use Rattle.std.specs.List.{All}
 use Rattle.std.proofs.lemmas.List.Elements.{All-push}
 use Rattle.rr_eval.specs.Leaves.{Item, IsItemReached}

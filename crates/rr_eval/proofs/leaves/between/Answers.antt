@@ -1,5 +1,5 @@
 -- One value more stands behind the one between.
-use Rattle.std.proofs.Common.{◌≡◌, ◌∙◌, ◌∷◌, [], ap, sym, subst, arith, length, take, drop, ◌-◌}
+use Rattle.std.proofs.Common.{◌∙◌, sym, subst, arith, length, take, drop, ◌-◌}
 use Rattle.std.specs.List.{All}
 use Rattle.std.proofs.lemmas.List.Elements.{All-push}
 use Rattle.rr_eval.specs.Within.{IsReached}

@@ -1,6 +1,5 @@
 -- A key of the list is reached.
 use Rattle.std.proofs.Common.{◌<◌, length, arith, sym, subst, IfSome}
-use Rattle.rr_space.specs.declared.refer.Ref.TheVariants.{Nil}
 use Rattle.rr_eval.specs.Within.{reach, IsReached, IsAheadReached}
 use Rattle.rr_eval.proofs.pair_turns.pairs_ahead.Goals as goal
 

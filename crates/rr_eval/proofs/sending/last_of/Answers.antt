@@ -1,5 +1,5 @@
 -- The last value is the one that stands apart, or else the last of the others.
-use Rattle.std.proofs.Common.{◌++◌, ◌∙◌, ap, sym, arith, length}
+use Rattle.std.proofs.Common.{◌++◌, ◌∙◌, ap, sym, arith}
 use Rattle.std.proofs.lemmas.List.{append-nil}
 use Rattle.rr_frames.specs.Frames.{list_of}
 use Rattle.rr_eval.specs.Dispatch.{last_of}

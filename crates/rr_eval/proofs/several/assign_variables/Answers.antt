@@ -1,5 +1,5 @@
 -- The next target gets its value, where it is a variable.
-use Rattle.std.proofs.Common.{◌≡◌, ◌∙◌, ◌-◌, ◌<◌, sym, subst, ap, arith, drop}
+use Rattle.std.proofs.Common.{◌∙◌, ◌<◌, sym, subst, ap, arith, drop}
 use Rattle.std.specs.List.{All}
 use Rattle.rr_eval.specs.Basics.{variable_of}
 use Rattle.rr_eval.specs.Turns.{code_of}

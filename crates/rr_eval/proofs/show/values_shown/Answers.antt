@@ -1,5 +1,5 @@
 -- One value more.
-use Rattle.std.proofs.Common.{◌≡◌, ◌∙◌, ◌++◌, ◌∷◌, ◌-◌, [], ap, sym, subst, arith, append_assoc, length, take, drop}
+use Rattle.std.proofs.Common.{◌∙◌, ◌++◌, ◌∷◌, ◌-◌, [], ap, sym, subst, arith, append_assoc, length, take, drop}
 use Rattle.std.specs.List.{All}
 use Rattle.std.proofs.lemmas.List.Elements.{All-push}
 use Rattle.rr_eval.specs.Tasks.{values_shown}

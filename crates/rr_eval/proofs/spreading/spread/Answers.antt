@@ -1,10 +1,8 @@
 -- One element more is spread.
-use Rattle.std.proofs.Common.{◌≡◌, ◌∙◌, ◌+◌, ◌-◌, ◌<◌, ◌++◌, ◌∷◌, [], suc, sym, ap, subst, arith, length, Option, Some}
+use Rattle.std.proofs.Common.{◌≡◌, ◌∙◌, ◌+◌, ◌-◌, ◌<◌, ◌++◌, ◌∷◌, [], suc, sym, ap, subst, arith, length}
 use Rattle.std.specs.List.{All}
 use Rattle.std.proofs.lemmas.List.Elements.{All-push}
-use Rattle.rr_space.specs.Tables.{Below}
 use Rattle.rr_space.specs.declared.refer.Ref.TheVariants.{Nil}
-use Rattle.rr_builtin.specs.Rounds.{item_at}
 use Rattle.rr_eval.specs.Blocks.{spread_with, spread_read, spread_from}
 use Rattle.rr_eval.specs.Within.{reach, IsReached}
 use Rattle.rr_eval.proofs.Spreads.{behind, behind_more, spread_step}

@@ -1,6 +1,6 @@
 -- The values stand behind what is held below them.
-use Rattle.std.proofs.Common.{◌≡◌, ◌∙◌, ◌-◌, ◌++◌, ◌∷◌, [], refl, ap, sym, arith, length, reverse, take}
-use Rattle.std.proofs.lemmas.List.{take_all, take-append-le}
+use Rattle.std.proofs.Common.{◌∙◌, ◌-◌, ◌∷◌, [], refl, ap, sym, arith, length, reverse, take}
+use Rattle.std.proofs.lemmas.List.{take-append-le}
 use Rattle.rr_eval.specs.declared.asking.Asking.{Asking}
 use Rattle.rr_eval.specs.Frames.{runs_in, below_of, stand_of, unwind}
 use Rattle.rr_eval.specs.Heard.{still_asked}

@@ -1,5 +1,5 @@
 -- The values are reached that are held instead.
-use Rattle.std.proofs.Common.{◌≡◌, ap, sym, subst, length}
+use Rattle.std.proofs.Common.{ap, sym, subst, length}
 use Rattle.std.specs.List.{All}
 use Rattle.rr_eval.specs.Views.{view_of}
 use Rattle.rr_eval.specs.Within.{reach, IsReached}

@@ -1,5 +1,5 @@
 -- What is joined is reached.
-use Rattle.std.proofs.Common.{[], ◌∷◌, sym, subst, length, IfOk}
+use Rattle.std.proofs.Common.{[], sym, subst, length, IfOk}
 use Rattle.std.specs.List.{All}
 use Rattle.rr_eval.specs.Within.{reach, IsReached}
 use Rattle.rr_eval.proofs.Holding.{all_cons, all_nil}

@@ -1,5 +1,5 @@
 -- What stands in the values is reached.
-use Rattle.std.proofs.Common.{[], ◌∷◌, sym, subst, length, IfOk}
+use Rattle.std.proofs.Common.{[], sym, subst, length, IfOk}
 use Rattle.std.specs.List.{All}
 use Rattle.rr_eval.specs.Views.{view_of}
 use Rattle.rr_eval.specs.Within.{reach, IsReached}

@@ -1,5 +1,5 @@
 -- What was seen of the values does not turn what follows.
-use Rattle.std.proofs.Common.{◌≡◌, ◌∙◌, refl, ap, sym, arith, reverse, length, take}
+use Rattle.std.proofs.Common.{◌∙◌, refl, ap, sym, arith, reverse, length, take}
 use Rattle.rr_eval.specs.Frames.{evaluates, runs_in, unwind}
 use Rattle.rr_eval.specs.Heard.{script_of}
 use Rattle.rr_eval.specs.Turns.{code_of, state_of}

@@ -1,15 +1,14 @@
 -- A target is a step for the targets that are left.
-use Rattle.std.proofs.Common.{◌≡◌, ◌<◌, ◌+◌, ◌-◌, ◌∙◌, ◌++◌, ◌∷◌, [], ap, sym, arith, subst, drop, take, length, slice_index_or, reverse, Some, None}
+use Rattle.std.proofs.Common.{◌≡◌, ◌-◌, ◌∙◌, ap, sym, drop, take, slice_index_or, reverse, Some, None}
 use Rattle.std.specs.Option.{option_map}
 use Rattle.rr_space.specs.declared.refer.Ref.TheVariants.{Nil}
-use Rattle.rr_tree.specs.Nodes.{trees_before}
 use Rattle.rr_tree.specs.Tree.{tree_at}
 use Rattle.rr_eval.specs.declared.frame.Control.TheVariants.{Assign}
 use Rattle.rr_eval.specs.declared.frame.Frame.TheVariants.{Assigned}
 use Rattle.rr_eval.specs.Basics.{variable_of}
-use Rattle.rr_eval.specs.Frames.{runs_in, unwind, outcome_of}
-use Rattle.rr_eval.specs.Several.{spot_of, next_value, assign_each}
-use Rattle.rr_eval.specs.Turns.{context_of, code_of, state_of}
+use Rattle.rr_eval.specs.Frames.{unwind, outcome_of}
+use Rattle.rr_eval.specs.Several.{spot_of, next_value}
+use Rattle.rr_eval.specs.Turns.{code_of, state_of}
 use Rattle.rr_eval.specs.Views.{view_of}
 use Rattle.rr_eval.proofs.Holding.{held_reached}
 use Rattle.rr_eval.proofs.Spots.{assigns_over, frame_reached}

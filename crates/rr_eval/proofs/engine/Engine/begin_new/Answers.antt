@@ -1,9 +1,8 @@
 -- A new object is made for the frame that initializes it.
-use Rattle.std.proofs.Common.{◌++◌, ◌∙◌, ap, sym, reverse}
-use Rattle.std.specs.Option.{option_map}
+use Rattle.std.proofs.Common.{◌∙◌, ap, sym}
 use Rattle.rr_eval.specs.declared.frame.Making.{Making}
 use Rattle.rr_eval.specs.declared.frame.Control.TheVariants.{New}
-use Rattle.rr_eval.specs.Frames.{outcome_of, start, unwind}
+use Rattle.rr_eval.specs.Frames.{outcome_of}
 use Rattle.rr_eval.specs.Turns.{code_of, state_of}
 use Rattle.rr_eval.specs.Views.{view_of}
 use Rattle.rr_eval.proofs.Holding.{new_reached}

@@ -1,5 +1,5 @@
 -- An iteration over a hash asks nothing when it begins.
-use Rattle.std.proofs.Common.{◌≡◌, refl, subst, sym, Option, None, Result, Ok, Err, IfOk}
+use Rattle.std.proofs.Common.{◌≡◌, subst, sym, Option, None, Result, Ok, Err, IfOk}
 use Rattle.rr_base.specs.declared.fault.Fault.{Fault}
 use Rattle.rr_eval.specs.declared.request.Request.{Request}
 use Rattle.rr_eval.specs.Within.{Reach, IsAskedReached}

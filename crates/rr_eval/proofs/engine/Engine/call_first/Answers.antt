@@ -1,5 +1,5 @@
 -- A call that joins an array asks what stands in it.
-use Rattle.std.proofs.Common.{◌≡◌, ◌∙◌, ◌++◌, ◌∷◌, [], ap, sym, slice_index_or}
+use Rattle.std.proofs.Common.{◌∙◌, ◌++◌, ◌∷◌, [], ap, sym, slice_index_or}
 use Rattle.rr_space.specs.declared.refer.Ref.TheVariants.{Nil}
 use Rattle.rr_eval.specs.Frames.{stand_of}
 use Rattle.rr_eval.specs.Joins.{joined_by}

@@ -1,6 +1,5 @@
 -- A frame more for the method by which a value is asked, and what it holds is reached.
-use Rattle.std.proofs.Common.{◌≡◌, ◌∙◌, ◌++◌, ◌∷◌, ◌-◌, [], ap, sym, refl, reverse, drop, take, length, nat_lt, slice_index_or, Option, None}
-use Rattle.rr_space.specs.declared.refer.Ref.{Ref}
+use Rattle.std.proofs.Common.{◌≡◌, ◌∙◌, ◌++◌, ◌∷◌, ◌-◌, [], ap, sym, refl, reverse, drop, take, length, nat_lt, slice_index_or, None}
 use Rattle.rr_space.specs.declared.refer.Ref.TheVariants.{Nil}
 use Rattle.rr_tree.specs.Tree.{tree_at}
 use Rattle.rr_eval.specs.declared.call.Callee.TheVariants as callees

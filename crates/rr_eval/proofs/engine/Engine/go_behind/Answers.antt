@@ -1,5 +1,5 @@
 -- The next part is evaluated, or the last value is what the call waits for.
-use Rattle.std.proofs.Common.{◌≡◌, ◌∙◌, ◌+◌, ◌-◌, ◌<◌, ◌≤◌, ◌++◌, ◌∷◌, [], sym, ap, arith, length, length-append}
+use Rattle.std.proofs.Common.{◌≡◌, ◌∙◌, ◌-◌, ◌<◌, ◌≤◌, ◌++◌, ◌∷◌, [], sym, ap, arith, length, length-append}
 use Rattle.rr_eval.specs.declared.frame.Control.TheVariants.{Enter}
 use Rattle.rr_eval.specs.declared.frame.Frame.TheVariants.{Item}
 use Rattle.rr_eval.specs.Frames.{outcome_of}

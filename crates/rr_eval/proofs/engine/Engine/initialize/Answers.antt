@@ -1,5 +1,5 @@
 -- The program's `initialize` has the values that stand for the frame.
-use Rattle.std.proofs.Common.{◌∙◌, ap, sym, reverse}
+use Rattle.std.proofs.Common.{◌∙◌, ap, sym}
 use Rattle.rr_eval.specs.declared.frame.Control.TheVariants.{Give}
 use Rattle.rr_eval.specs.declared.frame.Frame.TheVariants.{Initialize}
 use Rattle.rr_eval.specs.declared.problem.Answer.TheVariants.{Gave}

@@ -1,12 +1,11 @@
 -- The method by which a value is asked ends, and its frame goes.
-use Rattle.std.proofs.Common.{◌≡◌, ◌∙◌, ◌++◌, ◌∷◌, [], ap, sym, subst, reverse, take, drop, List}
+use Rattle.std.proofs.Common.{◌∙◌, ap, sym, subst, reverse, take, drop, List}
 use Rattle.rr_space.specs.declared.refer.Ref.{Ref}
-use Rattle.rr_eval.specs.declared.call_stack.CallValue.TheVariants.{Method}
 use Rattle.rr_eval.specs.declared.frame.Frame.TheVariants.{Asking as AskingFrame, Asked as AskedFrame}
 use Rattle.rr_eval.specs.declared.frame.Control.TheVariants.{Give}
 use Rattle.rr_eval.specs.declared.problem.Answer.{Answer}
 use Rattle.rr_eval.specs.declared.problem.Answer.TheVariants.{Gave}
-use Rattle.rr_eval.specs.Blocks.{returned, valued, without_frame}
+use Rattle.rr_eval.specs.Blocks.{returned, without_frame}
 use Rattle.rr_eval.specs.Frames.{runs_in, outcome_of, unwind}
 use Rattle.rr_eval.specs.Script.{Ended}
 use Rattle.rr_eval.specs.Speaking.{heard, asked_on}

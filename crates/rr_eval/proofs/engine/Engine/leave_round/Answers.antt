@@ -1,5 +1,5 @@
 -- A turn ends, and its frame goes.
-use Rattle.std.proofs.Common.{◌≡◌, ◌∙◌, ◌++◌, ◌∷◌, [], ap, sym, subst, reverse, take, drop, List}
+use Rattle.std.proofs.Common.{◌∙◌, ap, sym, subst, reverse, take, drop, List}
 use Rattle.rr_space.specs.declared.refer.Ref.{Ref}
 use Rattle.rr_eval.specs.declared.frame.Frame.TheVariants.{Round, Turned as TurnedFrame}
 use Rattle.rr_eval.specs.declared.frame.Control.TheVariants.{Give}

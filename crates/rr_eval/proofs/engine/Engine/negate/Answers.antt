@@ -1,5 +1,5 @@
 -- What is no integer is a call.
-use Rattle.std.proofs.Common.{◌∙◌, ap, length, []}
+use Rattle.std.proofs.Common.{◌∙◌, ap, length}
 use Rattle.rr_eval.specs.Turns.{context_of, after_script}
 use Rattle.rr_eval.specs.Views.{view_of}
 use Rattle.rr_eval.specs.Within.{reach, IsReached}

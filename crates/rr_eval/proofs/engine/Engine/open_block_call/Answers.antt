@@ -1,5 +1,5 @@
 -- A method of the program comes first, and then `loop`.
-use Rattle.std.proofs.Common.{◌∙◌, ◌+◌, ap, sym, length, Option, None}
+use Rattle.std.proofs.Common.{◌∙◌, ◌+◌, ap, sym}
 use Rattle.std.specs.Option.{option_map}
 use Rattle.rr_tree.specs.Nodes.{trees_before}
 use Rattle.rr_tree.specs.Tree.{tree_at}

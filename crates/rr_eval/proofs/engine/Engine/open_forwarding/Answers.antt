@@ -1,5 +1,5 @@
 -- The parameters stand behind what is held, and go again.
-use Rattle.std.proofs.Common.{◌≡◌, ◌≤◌, ◌∙◌, ◌++◌, sym, ap, subst, arith, length, reverse, take}
+use Rattle.std.proofs.Common.{◌≡◌, ◌∙◌, ◌++◌, sym, ap, subst, arith, length, reverse, take}
 use Rattle.std.proofs.lemmas.List.{take_all, take-append-le}
 use Rattle.rr_eval.specs.Frames.{Nested}
 use Rattle.rr_eval.specs.Views.{view_of}

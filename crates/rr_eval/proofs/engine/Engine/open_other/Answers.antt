@@ -1,5 +1,5 @@
 -- A built-in method of `self` may have the name.
-use Rattle.std.proofs.Common.{◌≡◌, sym, subst, reverse, []}
+use Rattle.std.proofs.Common.{sym, subst, reverse}
 use Rattle.rr_eval.specs.Frames.{Nested}
 use Rattle.rr_eval.specs.Runs.{no_objects}
 use Rattle.rr_eval.specs.Views.{view_of}

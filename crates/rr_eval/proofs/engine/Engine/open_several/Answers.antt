@@ -3,7 +3,7 @@ use Rattle.std.proofs.Common.{◌∙◌, ap, []}
 use Rattle.rr_tree.specs.Nodes.{trees_before}
 use Rattle.rr_tree.specs.Tree.{tree_at}
 use Rattle.rr_eval.specs.Basics.{values, with_value}
-use Rattle.rr_eval.specs.Several.{all_parts, several}
+use Rattle.rr_eval.specs.Several.{several}
 use Rattle.rr_eval.specs.Turns.{context_of, after_script}
 use Rattle.rr_eval.specs.Views.{view_of}
 use Rattle.rr_eval.proofs.engine.Engine.open_several.Goals as goal

@@ -1,5 +1,5 @@
 -- A target gets a value by what it is.
-use Rattle.std.proofs.Common.{◌∙◌, ap, subst, length, [], ◌∷◌}
+use Rattle.std.proofs.Common.{◌∙◌, ap, subst, length, []}
 use Rattle.rr_eval.specs.Several.{put_in}
 use Rattle.rr_eval.specs.Turns.{context_of, after_script}
 use Rattle.rr_eval.specs.Views.{view_of}

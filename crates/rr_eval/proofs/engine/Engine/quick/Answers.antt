@@ -1,8 +1,7 @@
 -- A literal, a variable and `self` take one step.
 use Rattle.std.proofs.Common.{◌≡◌, sym, ap, ◌∙◌, refl, subst, rules, w64, to_z, of_z}
-use Rattle.rr_space.specs.declared.refer.Ref.{Ref}
 use Rattle.rr_space.specs.declared.refer.Ref.TheVariants.{Nil, Truth, Int, Symbol}
-use Rattle.rr_tree.specs.Tree.{tree_at, nil, truth, int, symbol, itself as self_tree, local, binary}
+use Rattle.rr_tree.specs.Tree.{tree_at, nil, truth, int, symbol, itself as self_tree, local}
 use Rattle.rr_eval.specs.declared.problem.Answer.TheVariants.{Gave}
 use Rattle.rr_eval.specs.Nodes.{evaluated_tree}
 use Rattle.rr_eval.specs.Script.{Ended}

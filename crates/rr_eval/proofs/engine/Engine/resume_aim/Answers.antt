@@ -1,5 +1,5 @@
 -- The value of a part is kept behind those before it.
-use Rattle.std.proofs.Common.{◌∙◌, ◌++◌, List, ◌∷◌, [], ap, sym, subst, drop, take, reverse}
+use Rattle.std.proofs.Common.{◌∙◌, ◌++◌, List, ◌∷◌, [], ap, subst, drop, take, reverse}
 use Rattle.rr_space.specs.declared.refer.Ref.{Ref}
 use Rattle.rr_tree.specs.Nodes.{trees_before}
 use Rattle.rr_tree.specs.Tree.{tree_at}

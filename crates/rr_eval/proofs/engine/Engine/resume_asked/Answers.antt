@@ -1,16 +1,14 @@
 -- What is printed for the value that was asked stands behind the values.
-use Rattle.std.proofs.Common.{◌≡◌, ◌∙◌, ◌+◌, ◌-◌, ◌≤◌, ◌++◌, refl, ap, sym, subst, arith, length, reverse, take, drop, slice_index_or, List, Option}
-use Rattle.std.specs.List.{All}
-use Rattle.rr_space.specs.declared.refer.Ref.{Ref}
+use Rattle.std.proofs.Common.{◌≡◌, ◌∙◌, ◌-◌, ◌++◌, refl, ap, sym, arith, length, reverse, take, drop, slice_index_or}
 use Rattle.rr_space.specs.declared.refer.Ref.TheVariants.{Nil}
-use Rattle.std.proofs.lemmas.List.{take_all, take-append-le}
+use Rattle.std.proofs.lemmas.List.{take-append-le}
 use Rattle.rr_eval.specs.Frames.{runs_in, unwind}
 use Rattle.rr_eval.specs.Heard.{still_asked}
 use Rattle.rr_eval.specs.Runs.{no_objects}
 use Rattle.rr_eval.specs.Speaking.{printed_for, text_in}
 use Rattle.rr_eval.specs.Turns.{code_of, state_of}
 use Rattle.rr_eval.specs.Views.{view_of}
-use Rattle.rr_eval.specs.Within.{reach, IsReached}
+use Rattle.rr_eval.specs.Within.{reach}
 use Rattle.rr_eval.proofs.Answered.{still_behind, printed_reached, text_reached, with_held, held_again}
 use Rattle.rr_eval.proofs.Holding.{held_reached, stands_reached}
 use Rattle.rr_eval.proofs.engine.Engine.resume_asked.Goals as goal

@@ -1,5 +1,5 @@
 -- The method by which a value is asked ends, and the other values are asked.
-use Rattle.std.proofs.Common.{◌≡◌, ◌∙◌, ◌+◌, ◌++◌, ◌∷◌, ◌≤◌, [], length, ap, sym, subst, reverse, take, drop, List}
+use Rattle.std.proofs.Common.{◌∙◌, ◌+◌, ◌++◌, ◌∷◌, ◌≤◌, [], length, ap, sym, subst, reverse, take, drop, List}
 use Rattle.rr_space.specs.declared.refer.Ref.{Ref}
 use Rattle.rr_eval.specs.declared.frame.Frame.TheVariants.{Asked as AskedFrame}
 use Rattle.rr_eval.specs.declared.problem.Answer.TheVariants.{Gave}

@@ -1,5 +1,5 @@
 -- A turn ends, and what is ahead follows.
-use Rattle.std.proofs.Common.{◌≡◌, ◌∙◌, ◌++◌, ◌∷◌, ◌≤◌, [], length, ap, sym, subst, reverse, take, drop, List}
+use Rattle.std.proofs.Common.{◌∙◌, ◌++◌, ◌∷◌, ◌≤◌, [], length, ap, sym, subst, reverse, take, drop, List}
 use Rattle.rr_space.specs.declared.refer.Ref.{Ref}
 use Rattle.rr_eval.specs.declared.frame.Frame.TheVariants.{Turned as TurnedFrame}
 use Rattle.rr_eval.specs.declared.problem.Answer.TheVariants.{Gave}

@@ -1,5 +1,5 @@
 -- The targets get what the right side has for them.
-use Rattle.std.proofs.Common.{◌≡◌, ◌∙◌, ◌-◌, ◌++◌, ◌∷◌, ap, sym, subst, arith, length, drop, take, reverse, Some, IfSome}
+use Rattle.std.proofs.Common.{◌≡◌, ◌∙◌, ◌-◌, ap, sym, subst, arith, length, drop, take, reverse, Some, IfSome}
 use Rattle.std.specs.List.{All}
 use Rattle.std.specs.Option.{option_map}
 use Rattle.rr_tree.specs.Nodes.{trees_before}

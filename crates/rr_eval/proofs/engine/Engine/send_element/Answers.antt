@@ -1,8 +1,6 @@
 -- The index stands behind what is held below it.
 use Rattle.std.proofs.Common.{◌≡◌, ◌≤◌, ◌∙◌, ◌++◌, ◌∷◌, [], ap, arith, length, take, drop, None}
 use Rattle.std.proofs.lemmas.List.{take_all, drop_all, take-append-le, drop-append-le}
-use Rattle.rr_space.specs.declared.refer.Ref.{Ref}
-use Rattle.std.specs.List.{All}
 use Rattle.rr_eval.specs.declared.call.Callee.TheVariants.{SetIndex}
 use Rattle.rr_eval.specs.Dispatch.{send_rule}
 use Rattle.rr_eval.specs.Runs.{no_objects}

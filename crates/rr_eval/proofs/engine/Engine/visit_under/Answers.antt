@@ -6,7 +6,7 @@ use Rattle.rr_eval.specs.Turns.{after_script, remaining_with}
 use Rattle.rr_eval.specs.Views.{view_of}
 use Rattle.rr_eval.proofs.Entered.{stepped}
 use Rattle.rr_eval.proofs.Holding.{with_left}
-use Rattle.rr_eval.proofs.Quickly.{under, waits_within}
+use Rattle.rr_eval.proofs.Quickly.{under}
 use Rattle.rr_eval.proofs.engine.Engine.visit_under.Goals as goal
 
 pub returns-in-true-clause-goes : goal.returns-in-true-clause-goes

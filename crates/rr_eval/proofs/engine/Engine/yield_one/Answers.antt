@@ -1,5 +1,5 @@
 -- The value is evaluated before the block is called.
-use Rattle.std.proofs.Common.{◌∙◌, ap, sym, ◌+◌, ◌-◌, ◌∷◌, [], arith, length}
+use Rattle.std.proofs.Common.{◌∙◌, ap, sym, ◌+◌, ◌-◌, [], arith, length}
 use Rattle.rr_eval.specs.Runs.{no_objects}
 use Rattle.rr_eval.specs.Turns.{remaining_with}
 use Rattle.rr_eval.specs.Views.{view_of}

@@ -1,5 +1,5 @@
 -- A value is found, or an array is begun.
-use Rattle.std.proofs.Common.{◌≡◌, ◌∙◌, ap, sym, subst}
+use Rattle.std.proofs.Common.{◌∙◌, ap, sym, subst}
 use Rattle.rr_eval.specs.Leaves.{Item, showing_of, IsItemReached}
 use Rattle.rr_eval.proofs.Inside.{found_none, found_value, item_reached, more_reached, grown_same}
 use Rattle.rr_eval.proofs.leaves.Taken.show.Goals as goal

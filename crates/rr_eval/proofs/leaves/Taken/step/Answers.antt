@@ -1,5 +1,5 @@
 -- The next element is shown, or the array is at its end.
-use Rattle.std.proofs.Common.{◌≡◌, ◌∙◌, ◌<◌, ◌+◌, length, refl, arith}
+use Rattle.std.proofs.Common.{◌∙◌, ◌<◌, ◌+◌, length, refl, arith}
 use Rattle.std.proofs.lemmas.List.Elements.{All-same, All-push}
 use Rattle.rr_builtin.specs.Elements.{count_at}
 use Rattle.rr_eval.specs.Leaves.{rest_of}
