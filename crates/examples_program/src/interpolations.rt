@@ -21,7 +21,7 @@ an exception in a text|puts \"a#{1 / 0}b\"^n||divided by 0 (ZeroDivisionError)
 what stands behind an exception is not evaluated|puts \"#{puts 1}#{nil + 1}#{puts 2}\"^n|1^n|undefined method '+' for nil (NoMethodError)
 a name that is missing in a text|puts 1; puts \"a#{foo}b\"^n|1^n|undefined local variable or method 'foo' (NameError)
 a method that is missing in a text|puts \"a#{1.foo}b\"^n||undefined method 'foo' for an instance of Integer (NoMethodError)
-what is not evaluated yet in a text|puts \"a#{Ractor.new { 1 }}b\"^n||not here yet (RuntimeError)
+what is not evaluated yet in a text|puts \"a#{Ractor[:a]}b\"^n||not here yet (RuntimeError)
 a new text each time|a = []; i = 0; while i < 2 do a << \"x#{i}\"; i += 1 end; p a, a[0].equal?(a[1]); i = 0; b = nil; while i < 2 do c = \"#{1}\"; p c.equal?(b); b = c; i += 1 end^n|[\"x0\", \"x1\"]^nfalse^nfalse^nfalse^n|
 an interpolated text is not frozen|a = \"x#{1}\"; p a.frozen?; a << \"y\"; p a^n|false^n\"x1y\"^n|
 a comment freezes texts without interpolations alone|# frozen_string_literal: true^np \"a\".frozen?, \"#{1}\".frozen?, \"a#{\"b\"}\".frozen?, \"#{\"b\"}\".frozen?^n|true^nfalse^nfalse^nfalse^n|

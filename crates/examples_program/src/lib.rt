@@ -66,6 +66,8 @@ mod speaking;
 #[cfg(test)]
 mod splats;
 #[cfg(test)]
+mod starting;
+#[cfg(test)]
 mod table;
 #[cfg(test)]
 mod targets;

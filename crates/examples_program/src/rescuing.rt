@@ -77,7 +77,7 @@ rescue in a loop|i = 0; n = 0; while i < 3; begin; raise \"a\" if i == 1; n += 1
 a retry by a loop|i = 0; while true; begin; i += 1; raise \"a\" if i < 4; break; rescue; next; end; end; p i^n|4^n|
 an exception in a condition|begin; if (raise \"a\") then 1 end; rescue; puts 2; end; begin; while (raise \"b\"); end; rescue; puts 3; end^n|2^n3^n|
 raise in a clause with a wrong value|begin; begin; raise \"a\"; rescue; raise 5; end; rescue TypeError => e; puts e.message; p e.cause; end^n|exception class/object expected^n#<RuntimeError: a>^n|
-what is not evaluated yet is rescued|begin; Ractor.new { 1 }; rescue => e; puts e.message; end^n|not here yet^n|";
+what is not evaluated yet is rescued|begin; Ractor[:a]; rescue => e; puts e.message; end^n|not here yet^n|";
 
 #[test]
 fn exceptions_are_rescued(rt: HostRuntime) -> Result<(), Fail> {

@@ -30,7 +30,7 @@ a bare name|puts a^n||undefined local variable or method 'a' (NameError)
 a command with another name|puts 1; foo 2^n|1^n|undefined method 'foo' for an instance of Object (NoMethodError)
 a call with another name|foo(1)^n||undefined method 'foo' for an instance of Object (NoMethodError)
 a bare name with a mark|a?^n||undefined local variable or method 'a?' (NameError)
-a part that is not evaluated yet|puts 1; Ractor.new { 1 }^n|1^n|not here yet (RuntimeError)
+a part that is not evaluated yet|puts 1; Ractor[:a]^n|1^n|not here yet (RuntimeError)
 what does not decide is not evaluated|puts false && a, true ^p^p a, (nil and a), (1 or a)^n|false^ntrue^n^n1^n|
 what decides is the value|puts nil ^p^p 7, 1 && 2, (not nil), !0^n|7^n2^ntrue^nfalse^n|
 and binds tighter than or|puts true ^p^p false && false, 1 < 2 && 2 < 3^n|true^ntrue^n|

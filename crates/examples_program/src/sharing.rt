@@ -35,7 +35,7 @@ no argument|begin; Ractor.make_shareable; rescue ArgumentError => e; puts e.mess
 an argument too many|begin; Ractor.shareable?(1, 2); rescue ArgumentError => e; puts e.message; end^n|wrong number of arguments (given 2, expected 1)^n|
 the class Ractor|p Ractor, Ractor.name, Ractor.equal?(Ractor), Ractor == String; r = Ractor; p r.shareable?(1)^n|Ractor^n\"Ractor\"^ntrue^nfalse^ntrue^n|
 a method that it has not|Ractor.foo^n||undefined method 'foo' for class Ractor (NoMethodError)
-what is not evaluated yet|begin; Ractor.new { 1 }; rescue RuntimeError => e; puts e.message; end; Ractor.current^n|not here yet^n|not here yet (RuntimeError)
+what is not evaluated yet|begin; Ractor[:a]; rescue RuntimeError => e; puts e.message; end; Ractor[:a] = 1^n|not here yet^n|not here yet (RuntimeError)
 another receiver|String.shareable?(1)^n||undefined method 'shareable?' for class String (NoMethodError)
 a method of the program of the name|class A; def shareable?(x); x + 1; end; end; p A.new.shareable?(1)^n|2^n|
 many objects inside one another|a = []; i = 1; while i < 100000; a = [a]; i = i + 1; end; p Ractor.shareable?(a); Ractor.make_shareable(a); p a.frozen?, Ractor.shareable?(a)^n|false^ntrue^ntrue^n|";

@@ -31,7 +31,7 @@ use Rattle.rr_builtin.specs.declared.built.Built.TheVariants as built
 use Rattle.rr_eval.specs.declared.problem.Problem.{Problem}
 use Rattle.rr_eval.specs.declared.problem.Response.{Response}
 use Rattle.rr_eval.specs.declared.problem.Response.TheVariants as response
-use Rattle.rr_eval.specs.declared.sharing.RactorMethod.{RactorMethod}
+use Rattle.rr_eval.specs.declared.ractor_method.RactorMethod.{RactorMethod}
 use Rattle.rr_eval.specs.Context.{Context}
 use Rattle.rr_eval.specs.Globals.{globals}
 use Rattle.rr_eval.specs.Callees.{method_of}

@@ -25,12 +25,14 @@ use Rattle.rr_eval.specs.Above.{method_above, initialize_above, is_initialize, s
 use Rattle.rr_eval.specs.Blocks.{Way, invocation, running}
 use Rattle.rr_eval.specs.Callees.{method_of}
 use Rattle.rr_eval.specs.Context.{Context}
-use Rattle.rr_eval.specs.Dispatch.{counted, valued_response, write_rule, run_work, run_method, method_for, way_of, handed_by, initializer, made_by, with_new, initialized, making, new_rule, built_in, dispatched, send_rule, operation, negation, iteration_of}
+use Rattle.rr_eval.specs.Dispatch.{counted, valued_response, last_of, write_rule, run_work, run_method, method_for, way_of, handed_by, initializer, made_by, with_new, initialized, making, new_rule, built_in, dispatched, send_rule, operation, negation, iteration_of}
 use Rattle.rr_eval.specs.Fields.{field_response}
 use Rattle.rr_eval.specs.Methods.{Work, Runs, Reads, Writes, NoWork, Callable}
 use Rattle.rr_eval.specs.Operators.{integers, opposite}
 use Rattle.rr_eval.specs.Rules.{throw, self_rule, block_sent, sent_block}
 use Rattle.rr_eval.specs.Script.{Script}
+use Rattle.rr_eval.specs.RactorMethods.{ractor_method}
+use Rattle.rr_eval.proofs.Isolating.{with_block_keeps}
 use Rattle.rr_eval.proofs.Keeping.{count, Keeps, if_keeps, throw_keeps, settled_keeps, framed_keeps, iteration_keeps}
 
 pub counted_keeps : (c : Context) (wanted : ℕ) (vs : List Ref) (next : Script) → Keeps next → Keeps (counted c wanted vs next)
@@ -65,7 +67,7 @@ new_keeps c class b vs = making_keeps c class _ (λ o. initialized_keeps c (init
 built_in_keeps : (c : Context) (made : Option ClassId) (callee : Callee) (b : Option Tree) (v : Ref) (vs : List Ref) → Keeps (built_in c made callee b v vs)
 built_in_keeps c (Some class) callee b v vs = new_keeps c class b vs
 built_in_keeps c None callee None v vs = settled_keeps c
-built_in_keeps c None callee (Some b) v vs = throw_keeps c NotHere
+built_in_keeps c None callee (Some b) v vs = with_block_keeps c (ractor_method c v callee) b (last_of vs)
 
 pub dispatched_keeps : (c : Context) (f : Option Callable) (callee : Callee) (b : Option Tree) (v : Ref) (vs : List Ref) → Keeps (dispatched c f callee b v vs)
 dispatched_keeps c (Some f) callee b v vs = method_keeps c f (way_of callee b v vs) vs

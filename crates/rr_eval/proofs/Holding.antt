@@ -24,7 +24,7 @@ use Rattle.rr_eval.specs.declared.frame.Making.{Making}
 use Rattle.rr_eval.specs.declared.iterating.Iterating.{Iterating}
 use Rattle.rr_eval.specs.declared.frame.Frame.TheVariants as frames
 use Rattle.rr_eval.specs.declared.frame.Control.{Control}
-use Rattle.rr_eval.specs.declared.frame.Control.TheVariants.{Enter, Operate, Give, Throw, Raise, RaiseValue, New, Send, Assign}
+use Rattle.rr_eval.specs.declared.frame.Control.TheVariants.{Enter, Operate, Give, Throw, Raise, RaiseValue, Start, New, Send, Assign}
 use Rattle.rr_eval.specs.declared.spot.Spot.{Spot}
 use Rattle.rr_eval.specs.declared.spot.Spot.TheVariants as spots
 use Rattle.rr_eval.specs.View.{View}
@@ -117,6 +117,7 @@ control_more k l cs le (Give a) h = answer_more k l cs le a h
 control_more k l cs le (Throw e) h = tt
 control_more k l cs le (Raise class message) h = ref_more k l cs le message h
 control_more k l cs le (RaiseValue v message) h = (ref_more k l cs le v h.0, All-weaker (IsReached (reach k cs)) (IsReached (reach l cs)) (ref_more k l cs le) (list_of message) h.1)
+control_more k l cs le (Start block problem) h = tt
 control_more k l cs le (New class) h = tt
 control_more k l cs le (Send callee v w) h = (ref_more k l cs le v h.0, All-weaker (IsReached (reach k cs)) (IsReached (reach l cs)) (ref_more k l cs le) (list_of w) h.1)
 control_more k l cs le (Assign spot v) h = (spot_more k l cs le spot h.0, ref_more k l cs le v h.1)

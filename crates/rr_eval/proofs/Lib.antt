@@ -15,6 +15,7 @@ pub mod Bytes
 pub mod Printed
 pub mod Keeping
 pub mod Splatted
+pub mod Isolating
 pub mod Dispatching
 pub mod CallParts
 pub mod Updates
@@ -51,3 +52,4 @@ pub mod Connecting
 pub mod Shares
 pub mod Settable
 pub mod Rare
+pub mod Refusing

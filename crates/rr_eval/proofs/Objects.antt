@@ -335,7 +335,7 @@ unwind_keeps k c adds (f ∷ fs) held o le =
     unwind_keeps k c adds fs (below_of f held) (after o next) (after_keeps k o next le (λ a s n. run_keeps c.world adds (evaluates c) (meaning_keeps c adds) (resumed c f (stand_of f held) a) (resumed_keeps c f (stand_of f held) a) s n))
 
 -- what a script comes to, and the frames after it, has no fewer objects than there are
-script_keeps : (p : Program) (m : View) (t : Table) (script : Script) (h : Course) (n : ℕ) → Adds h.world → Keeps script → count t ≤ objects_of (after_script p m t script h n)
+pub script_keeps : (p : Program) (m : View) (t : Table) (script : Script) (h : Course) (n : ℕ) → Adds h.world → Keeps script → count t ≤ objects_of (after_script p m t script h n)
 script_keeps p m t script h n adds keeps =
     let c = code_of p h.world in
     unwind_keeps (count t) c adds (reverse m.frames) m.held (runs_in c script (state_of p m t h) n) (run_keeps h.world adds (evaluates c) (meaning_keeps c adds) script keeps (state_of p m t h) n)

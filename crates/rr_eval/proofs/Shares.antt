@@ -25,8 +25,8 @@ use Rattle.rr_builtin.specs.Kinds.{is_hash}
 use Rattle.rr_eval.specs.declared.problem.Problem.{Problem}
 use Rattle.rr_eval.specs.declared.problem.Response.{Response}
 use Rattle.rr_eval.specs.declared.problem.Response.TheVariants.{Fails}
-use Rattle.rr_eval.specs.declared.sharing.RactorMethod.{RactorMethod}
-use Rattle.rr_eval.specs.declared.sharing.RactorMethod.TheVariants as methods
+use Rattle.rr_eval.specs.declared.ractor_method.RactorMethod.{RactorMethod}
+use Rattle.rr_eval.specs.declared.ractor_method.RactorMethod.TheVariants as methods
 use Rattle.rr_eval.specs.Context.{Context}
 use Rattle.rr_eval.specs.Script.{Reply}
 use Rattle.rr_eval.specs.Serves.{IsReplied, IsRefused}
@@ -330,6 +330,14 @@ ractor_adds c methods.MakeShareable [] t = omega arith
 ractor_adds c methods.MakeShareable (v ∷ []) t = if_adds t (leads_to_shell t v) _ _ (omega arith) (omega (arith, frozen_count (leads t v) 0 t.slots))
 ractor_adds c methods.MakeShareable (v ∷ w ∷ []) t = if_adds t (is_hash (kind_at t w)) _ _ (omega arith) (omega arith)
 ractor_adds c methods.MakeShareable (v ∷ w ∷ x ∷ vs) t = omega arith
+ractor_adds c methods.Start vs t = omega arith
+ractor_adds c methods.Current [] t = omega arith
+ractor_adds c methods.Current (v ∷ vs) t = omega arith
+ractor_adds c methods.IsMain [] t = omega arith
+ractor_adds c methods.IsMain (v ∷ vs) t = omega arith
+ractor_adds c methods.WithOthers vs t = omega arith
+ractor_adds c methods.Name [] t = omega arith
+ractor_adds c methods.Name (v ∷ vs) t = omega arith
 ractor_adds c methods.Later vs t = omega arith
 
 -- two arguments

@@ -1,6 +1,6 @@
 -- Which method a call runs. Methods are looked for class by class, from the class of the receiver upwards, and in each class the
 -- program's method comes before the built-in one. A program opens no built-in class.
-use Rattle.std.specs.Prelude.{ℕ, nat_eq, Bool, false, ◌&&◌, List, [], ◌∷◌, length, drop, codes, Option, Some, None, if◌then◌else◌, slice_index_or}
+use Rattle.std.specs.Prelude.{ℕ, nat_eq, Bool, false, ◌&&◌, List, [], ◌∷◌, length, drop, codes, Option, Some, None, if◌then◌else◌, slice_index_or, ◌||◌, is_some}
 use Rattle.std.specs.Option.{option_map}
 use Rattle.rr_base.specs.declared.name.ClassId.{ClassId}
 use Rattle.rr_base.specs.declared.name.Sym.{Sym}
@@ -46,7 +46,9 @@ use Rattle.rr_eval.specs.Context.{Context}
 use Rattle.rr_eval.specs.Fields.{field_response}
 use Rattle.rr_eval.specs.Methods.{Work, Runs, Reads, Writes, NoWork, Callable, method_in}
 use Rattle.rr_eval.specs.Operators.{integers, opposite}
+use Rattle.rr_eval.specs.RactorMethods.{ractor_method}
 use Rattle.rr_eval.specs.Script.{Script, Ret, See, Do, Ask, Does}
+use Rattle.rr_eval.specs.Starting.{with_block_rule}
 
 -- the name with a number
 abbrev pub plain_named : Option ℕ → Option MethodName
@@ -74,6 +76,10 @@ is_below k (Some m) i = has k m && stands_below_object k m
 is_below k None (Some i) = iterates k i
 is_below k None None = false
 
+-- whether a receiver has a method of a class below Object that a call finds: a built-in one, or one of Ractor or of a ractor
+unfoldable pub comes_first : Context → Table → Ref → Callee → Bool
+comes_first c t v callee = is_below (kind_at t v) (method_of c callee) (iteration_of c callee) || is_some (ractor_method c v callee)
+
 -- A top-level method belongs to Object, and so it comes behind the built-in methods of the classes below.
 abbrev pub unless_below : Bool → Option Callable → Option Callable
 unless_below below None = None
@@ -81,7 +87,7 @@ unless_below below (Some f) = if nat_eq f.class.0 OBJECT.0 && below then None el
 
 -- the program's method that a call of a receiver runs; none where it runs no method of the program
 abbrev pub method_for : Context → Table → Ref → Callee → Option Callable
-method_for c t v callee = unless_below (is_below (kind_at t v) (method_of c callee) (iteration_of c callee)) (method_called c (class_at t v) (called_name c callee))
+method_for c t v callee = unless_below (comes_first c t v callee) (method_called c (class_at t v) (called_name c callee))
 
 -- the arguments among the values of a call
 abbrev pub passed_on : Passing → List Ref → List Ref
@@ -174,11 +180,11 @@ making c class next = See (λ m. Do (λ k. record k { table = with_new c class k
 abbrev pub new_rule : Context → ClassId → Option Tree → List Ref → Script
 new_rule c class b vs = making c class (λ o. initialized c (initializer c class) b o vs)
 
--- a call of a built-in method, which is given no block yet; but a new object may get the program's `initialize`
+-- a call of a built-in method; a new object may get the program's `initialize`, and a block
 abbrev pub built_in : Context → Option ClassId → Callee → Option Tree → Ref → List Ref → Script
 built_in c (Some class) callee b v vs = new_rule c class b vs
 built_in c None callee None v vs = send_to c callee v vs
-built_in c None callee (Some b) v vs = not_here c
+built_in c None callee (Some b) v vs = with_block_rule c (ractor_method c v callee) b (last_of vs)
 
 -- a call that runs this method of the program, or, where there is none, a built-in one
 abbrev pub dispatched : Context → Option Callable → Callee → Option Tree → Ref → List Ref → Script

@@ -18,7 +18,7 @@ use Rattle.rr_eval.specs.declared.frame.Frame.{Frame}
 use Rattle.rr_eval.specs.declared.frame.Trial.{Trial}
 use Rattle.rr_eval.specs.declared.frame.Frame.TheVariants.{Not, Negation, And, Or, Left, Right, Store, SetField, Branch, Condition, Body, Break, Next, Return, Back, Past, Rest, Argument, Key, Value, Element, Read, Combine, Put, Rescue, Class, Handling, Ensure, Kept, Round, Turned, Initialize, Receiver, Item, Aim, Several, Assigned, Asking as AskingFrame, Asked as AskedFrame}
 use Rattle.rr_eval.specs.declared.frame.Control.{Control}
-use Rattle.rr_eval.specs.declared.frame.Control.TheVariants.{Enter, Operate, Give, Throw, Raise, RaiseValue, New, Send, Assign}
+use Rattle.rr_eval.specs.declared.frame.Control.TheVariants.{Enter, Operate, Give, Throw, Raise, RaiseValue, Start, New, Send, Assign}
 use Rattle.rr_eval.specs.declared.iterating.Iterating.{Iterating}
 use Rattle.std.specs.Option.{option_map}
 use Rattle.rr_eval.specs.Dispatch.{making, initialized, initializer, passed_on}
@@ -26,6 +26,7 @@ use Rattle.rr_eval.specs.Iterating.{continued_with, turned}
 use Rattle.rr_eval.specs.Script.{State, Iterated, Script, Ret, Evaluate, Go, CallPart, AssignPart, World, Evaluation, Outcome, Ended, run, after}
 use Rattle.rr_builtin.specs.Objects.{is_truthy}
 use Rattle.rr_eval.specs.Fields.{set_field_rule}
+use Rattle.rr_eval.specs.Starting.{start_rule}
 use Rattle.rr_eval.specs.Updating.{put, updated}
 use Rattle.rr_eval.specs.Rules.{Context, throw, raise, on_value, with_value, in_loop, turn_rule, operation, negation, write, statements, values, pair_parts, finish, back, past, return_rule, concluded, meaning_of, meaning, spread, arguments}
 use Rattle.rr_eval.specs.Bound.{bind}
@@ -244,6 +245,7 @@ start c (Give a) s n = Ended a s n
 start c (Throw e) s n = runs_in c (throw c.context e) s n
 start c (Raise class message) s n = runs_in c (raise class message) s n
 start c (RaiseValue v message) s n = runs_in c (raise_value c.context v message) s n
+start c (Start block problem) s n = runs_in c (start_rule c.context (tree_at c.nodes block) problem) s n
 start c (New class) s n = runs_in c (making c.context class (λ v. Ret (Gave v))) s n
 start c (Send callee v w) s n = evaluates c (CallPart callee v (list_of w)) s n
 start c (Assign spot v) s n = evaluates c (AssignPart spot v) s n

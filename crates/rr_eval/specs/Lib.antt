@@ -15,6 +15,7 @@ pub mod Constants
 pub mod Thrown
 pub mod Requests
 pub mod Calls
+pub mod RactorMethods
 pub mod Sharing
 pub mod Tasks
 pub mod Awaited
@@ -24,6 +25,7 @@ pub mod Basics
 pub mod Blocks
 pub mod Splats
 pub mod Iterating
+pub mod Starting
 pub mod Dispatch
 pub mod Several
 pub mod Updating

@@ -5,7 +5,7 @@ use Rattle.rr_base.specs.declared.class.BuiltInClass.TheVariants as built_in
 use Rattle.rr_text.specs.Names.{names_of}
 use Rattle.rr_builtin.specs.Problems.{problem_class, problem_text, missing_text}
 use Rattle.rr_eval.specs.declared.problem.Problem.{Problem}
-use Rattle.rr_eval.specs.declared.problem.Problem.TheVariants.{BuiltIn, MissingMethod, MissingName, MissingConstant, UnknownKeyword, NotRaisable, Unhandled, NoBlock, Jump, NotHere}
+use Rattle.rr_eval.specs.declared.problem.Problem.TheVariants.{BuiltIn, MissingMethod, MissingName, MissingConstant, UnknownKeyword, NoRactorBlock, UsesYield, NoRactors, NotRaisable, Unhandled, NoBlock, Jump, NotHere}
 use Rattle.rr_eval.specs.Callees.{callee_name}
 use Rattle.rr_eval.specs.Context.{Context}
 
@@ -15,6 +15,9 @@ message c (MissingMethod callee receiver) = missing_text (names_of c.program) (c
 message c (MissingName x) = codes "undefined local variable or method '" ++ slice_index_or c.symbols x.0 [] ++ codes "'"
 message c (MissingConstant x) = codes "uninitialized constant " ++ slice_index_or c.symbols x.0 []
 message c UnknownKeyword = codes "unknown keyword"
+message c NoRactorBlock = codes "must be called with a block"
+message c UsesYield = codes "can not isolate a Proc because it uses yield."
+message c NoRactors = codes "no ractors here"
 message c NotRaisable = codes "exception class/object expected"
 message c Unhandled = codes "unhandled exception"
 message c NoBlock = codes "no block"
@@ -28,6 +31,9 @@ exception_class (MissingMethod callee receiver) = built_in.NoMethodError
 exception_class (MissingName x) = built_in.NameError
 exception_class (MissingConstant x) = built_in.NameError
 exception_class UnknownKeyword = built_in.ArgumentError
+exception_class NoRactorBlock = built_in.ArgumentError
+exception_class UsesYield = built_in.ArgumentError
+exception_class NoRactors = built_in.RactorError
 exception_class NotRaisable = built_in.TypeError
 exception_class Unhandled = built_in.RuntimeError
 exception_class NoBlock = built_in.LocalJumpError

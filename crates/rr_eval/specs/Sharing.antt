@@ -1,8 +1,8 @@
 -- What ractors may share, as a script asks Ractor for it where nothing is published.
 use Rattle.std.specs.Prelude.{ℕ, zero, suc, nat_eq, Bool, true, false, not, ◌&&◌, ◌||◌, if◌then◌else◌, List, [], ◌∷◌, length, slice_get, slice_index_or, codes, Option, Some, None}
 use Rattle.std.specs.Str.{bytes_eq}
-use Rattle.rr_base.specs.declared.name.TheConstants.ClassId.{RACTOR}
 use Rattle.rr_space.specs.Graph.{Graph, Own, Published, Value, Plain, At, SymbolNo, Label, Object}
+use Rattle.rr_base.specs.declared.name.RactorNo.{RactorNo as RactorNumber}
 use Rattle.rr_space.specs.Kinds.{kind_at}
 use Rattle.rr_space.specs.Labels.{triples_at}
 use Rattle.rr_space.specs.Parts.{value_of}
@@ -13,14 +13,14 @@ use Rattle.rr_space.specs.declared.refer.Ref.TheVariants as refs
 use Rattle.rr_builtin.specs.Kinds.{is_hash}
 use Rattle.rr_builtin.specs.declared.problem.Problem.TheVariants.{Count, Moved}
 use Rattle.rr_eval.specs.declared.call.Callee.{Callee}
-use Rattle.rr_eval.specs.declared.call.Callee.TheVariants as callees
 use Rattle.rr_eval.specs.declared.problem.Problem.{Problem}
-use Rattle.rr_eval.specs.declared.problem.Problem.TheVariants.{BuiltIn, UnknownKeyword, NotHere}
+use Rattle.rr_eval.specs.declared.problem.Problem.TheVariants.{BuiltIn, UnknownKeyword, NoRactorBlock, NoRactors, NotHere}
 use Rattle.rr_eval.specs.declared.problem.Response.TheVariants.{Gives, Fails}
-use Rattle.rr_eval.specs.declared.sharing.RactorMethod.{RactorMethod}
-use Rattle.rr_eval.specs.declared.sharing.RactorMethod.TheVariants.{IsShareable, MakeShareable, Later}
+use Rattle.rr_eval.specs.declared.ractor_method.RactorMethod.{RactorMethod}
+use Rattle.rr_eval.specs.declared.ractor_method.RactorMethod.TheVariants.{IsShareable, MakeShareable, Start, Current, IsMain, WithOthers, Name, Later}
 use Rattle.rr_eval.specs.Calls.{call_reply}
 use Rattle.rr_eval.specs.Context.{Context}
+pub use Rattle.rr_eval.specs.RactorMethods.{ractor_method}
 use Rattle.rr_eval.specs.Script.{Reply}
 
 -- ---- Which objects a value leads to, as tests.
@@ -99,32 +99,6 @@ deep_frozen v t = record t { slots = frozen_from (leads t v) 0 t.slots }
 
 -- ---- The methods of Ractor.
 
--- names of methods of Ractor that are not evaluated yet: those that give ractors, and those that pass values
-abbrev pub is_of_ractors : List ℕ → Bool
-is_of_ractors name = bytes_eq name (codes "new") || bytes_eq name (codes "current") || bytes_eq name (codes "main") || bytes_eq name (codes "main?") || bytes_eq name (codes "select")
-
-abbrev pub is_of_values : List ℕ → Bool
-is_of_values name = bytes_eq name (codes "receive") || bytes_eq name (codes "recv") || bytes_eq name (codes "receive_if") || bytes_eq name (codes "yield") || bytes_eq name (codes "store_if_absent")
-
-abbrev pub later_named : List ℕ → Option RactorMethod
-later_named name = if is_of_ractors name then Some Later else (if is_of_values name then Some Later else None)
-
-abbrev pub ractor_named : List ℕ → Option RactorMethod
-ractor_named name =
-    if bytes_eq name (codes "shareable?") then Some IsShareable else
-    if bytes_eq name (codes "make_shareable") then Some MakeShareable else later_named name
-
--- the method of Ractor that is called by a name, or by brackets
-abbrev pub ractor_called : Context → Callee → Option RactorMethod
-ractor_called c (callees.Name x) = ractor_named (slice_index_or c.symbols x.0 [])
-ractor_called c callees.Index = Some Later
-ractor_called c callees.SetIndex = Some Later
-ractor_called c callee = None
-
-abbrev pub ractor_method : Context → Ref → Callee → Option RactorMethod
-ractor_method c (refs.Class k) callee = if nat_eq k.0 RACTOR.0 then ractor_called c callee else None
-ractor_method c v callee = None
-
 -- a call that changes nothing and raises
 abbrev pub fails : Problem → Table → Reply
 fails e t = record { response = Fails e; table = t }
@@ -164,9 +138,24 @@ make_shareable_reply c (v ∷ []) t = frozen_reply v t
 make_shareable_reply c (v ∷ w ∷ []) t = keyword_reply c v w t
 make_shareable_reply c vs t = one_wanted vs t
 
+-- a method without arguments, which gives a value
+abbrev pub given_alone : Ref → List Ref → Table → Reply
+given_alone v [] t = record { response = Gives v; table = t }
+given_alone v (w ∷ ws) t = fails (BuiltIn (Count (length (w ∷ ws)) 0 0)) t
+
+-- A script on its own is the main ractor, the first one, which has no name. It has no other ractor, no inbox and no port.
+abbrev pub main_ractor : RactorNumber
+main_ractor = record { 0 = 1 }
+
 abbrev pub ractor_reply : Context → RactorMethod → List Ref → Table → Reply
 ractor_reply c IsShareable vs t = shareable_reply vs t
 ractor_reply c MakeShareable vs t = make_shareable_reply c vs t
+-- with a block `new` is no request
+ractor_reply c Start vs t = fails NoRactorBlock t
+ractor_reply c Current vs t = given_alone (refs.Ractor main_ractor) vs t
+ractor_reply c IsMain vs t = given_alone (refs.Truth true) vs t
+ractor_reply c Name vs t = given_alone refs.Nil vs t
+ractor_reply c WithOthers vs t = fails NoRactors t
 ractor_reply c Later vs t = fails NotHere t
 
 -- a call: of a method of Ractor, or of another

@@ -344,6 +344,9 @@ impl Engine {
                 Control::RaiseValue(value, message) => {
                     self.raise_value(&prepared.program, space, value, message)?
                 }
+                Control::Start(block, problem) => {
+                    self.start(&prepared.program, space, block, problem)?
+                }
                 Control::New(class) => self.make_new(prepared, space, class)?,
                 Control::Operate(op, a, b) => {
                     if self.left == 0 {

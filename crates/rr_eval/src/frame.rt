@@ -144,6 +144,8 @@ pub enum Control {
     Raise(ClassId, Ref),
     /// `raise` of a value, with a message where one is given.
     RaiseValue(Ref, Option<Ref>),
+    /// The start of a ractor with the block of a node, which is isolated first, and what it comes to then.
+    Start(NodeId, Problem),
     /// A new object of a class, for which a frame waits.
     New(ClassId),
     /// A call of a receiver with one argument or none, for whose value a frame waits.

@@ -12,7 +12,7 @@ ghost use Rattle.rr_space.specs.Kinds.{kind_at};
 ghost use Rattle.rr_eval.specs.Callees.{method_of};
 ghost use Rattle.rr_eval.specs.declared.call.Callee.{Callee as Called};
 ghost use Rattle.rr_eval.specs.Rules.{has_built_in};
-ghost use Rattle.rr_eval.specs.Dispatch.{called_name, is_below, iteration_of, method_called, method_for, initializer, made_by};
+ghost use Rattle.rr_eval.specs.Dispatch.{called_name, is_below, comes_first, iteration_of, method_called, method_for, initializer, made_by};
 ghost use Rattle.rr_eval.specs.Methods.{method_in, work_of};
 ghost use Rattle.rr_eval.specs.Prepared.{AreSymbolsOf, callable_of, work_in, initializer_of};
 ghost use Rattle.rr_eval.specs.Speaking.{symbol_asked};
@@ -22,6 +22,7 @@ use crate::asking::Saying;
 use crate::call::Callee;
 use crate::nodes::evaluated_node;
 use crate::operator_symbols::OperatorSymbols;
+use crate::ractor_method::ractor_method;
 use crate::serve::method_of;
 use rr_base::{ClassId, Sym};
 use rr_builtin::{
@@ -208,6 +209,15 @@ impl Prepared {
         }
     }
 
+    /// Whether the receiver has a method of a class below Object that a call finds: a built-in one, or one of Ractor or of a ractor.
+    #[tactic(auto, unfolding(crate::specs::Dispatch::comes_first))]
+    fn comes_first(&self, space: &Space, receiver: Ref, callee: Callee) -> bool
+        ensures { result ≡ comes_first (context_of self.now.program) space.now receiver callee }
+    {
+        self.is_below(space, receiver, callee)
+            || ractor_method(&self.program, receiver, callee).is_some()
+    }
+
     /// The program's method that a call of a receiver runs; none where it runs no method of the program.
     pub(crate) fn method_for(
         &self,
@@ -220,7 +230,7 @@ impl Prepared {
         match self.method_called(space.class_of(receiver), callee) {
             Some(definition) => {
                 if definition.class.0 == ClassId::OBJECT.0
-                    && self.is_below(space, receiver, callee)
+                    && self.comes_first(space, receiver, callee)
                 {
                     None
                 } else {

@@ -25,6 +25,12 @@ pub enum Problem {
     MissingConstant(Sym),
     /// ArgumentError: a keyword that the method does not take.
     UnknownKeyword,
+    /// ArgumentError: `Ractor.new` without a block.
+    NoRactorBlock,
+    /// ArgumentError: `yield` in the block of a ractor.
+    UsesYield,
+    /// Ractor::Error: a script on its own has no other ractor, no inbox and no port.
+    NoRactors,
     /// TypeError: what would be raised is neither an exception nor a class of exceptions.
     NotRaisable,
     /// RuntimeError: nothing is given that would be raised.

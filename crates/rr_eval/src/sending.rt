@@ -27,7 +27,6 @@ use crate::frame::{Control, Frame, Making, clear, first_standing, standing};
 use crate::invoke::Way;
 use crate::operator::{on_integers, opposite};
 use crate::prepared::Prepared;
-use crate::problem::Problem;
 use crate::request::Request;
 use rr_base::{ClassId, Fault, Sym};
 use rr_space::{Ref, Space};
@@ -45,7 +44,7 @@ pub fn handed_by(block: Option<NodeId>) -> Handed
 }
 
 /// The last of these values and one more; nil where there is none.
-fn last_of(values: &[Ref], last: Option<Ref>) -> Ref
+pub fn last_of(values: &[Ref], last: Option<Ref>) -> Ref
     ensures is { result ≡ last_of (values.now ++ list_of last) }
     ensures within { (k : Reach) → All (IsReached k) values.now → All (IsReached k) (list_of last) → IsReached k result }
 {
@@ -204,8 +203,10 @@ impl Engine {
                 Ok(None)
             }
             (None, None) => self.ask_method(receiver, callee, passing, frame, last),
-            (None, Some(_)) => {
-                self.refuse(frame, Problem::NotHere);
+            (None, Some(block)) => {
+                self.send_with_block(
+                    prepared, space, receiver, callee, passing, block, frame, last,
+                );
                 Ok(None)
             }
         }

@@ -25,8 +25,9 @@ ghost use Rattle.rr_eval.specs.Within.{reach, IsReached, IsCallReached, IsReques
 use crate::call::{Arguments, Call, Callee, Task};
 use crate::print::{Served, serve_task};
 use crate::problem::{Problem, Response};
+use crate::ractor_method::ractor_method;
 use crate::request::Request;
-use crate::sharing::{ractor_method, serve_ractor};
+use crate::sharing::serve_ractor;
 use rr_base::Fault;
 use rr_builtin::{
     Built, BuiltInMethod, ContentMethod, Methods, NumberMethod, Problem as BuiltInProblem,

@@ -17,114 +17,19 @@ ghost use Rattle.rr_eval.specs.declared.problem.Problem.{Problem};
 ghost use Rattle.rr_eval.specs.declared.problem.Response.{Response};
 ghost use Rattle.rr_eval.specs.Requests.{arguments_of};
 ghost use Rattle.rr_eval.specs.Serves.{IsReplied, IsRefused};
-ghost use Rattle.rr_eval.specs.Sharing.{leads, is_shareable, deep_frozen, is_of_ractors, is_of_values, later_named, ractor_named, ractor_called, ractor_method, names_copy, is_copy, asks_copy, keyword_reply, frozen_reply, shareable_reply, make_shareable_reply, ractor_reply};
+ghost use Rattle.rr_eval.specs.Sharing.{leads, is_shareable, deep_frozen, given_alone, names_copy, is_copy, asks_copy, keyword_reply, frozen_reply, shareable_reply, make_shareable_reply, ractor_reply};
 ghost use Rattle.rr_eval.specs.Turns.{context_of};
-ghost use Rattle.rr_eval.specs.Within.{reach, IsReached};
+ghost use Rattle.rr_eval.specs.Within.{Reach, reach, IsReached, IsResponseReached};
 
-use crate::call::{Arguments, Callee};
+use crate::call::Arguments;
 use crate::problem::{Problem, Response};
-use rr_base::{ClassId, Fault};
+use crate::ractor_method::RactorMethod;
+use rr_base::{Fault, RactorNo};
 use rr_builtin::Problem as BuiltInProblem;
 use rr_share::{deep_freeze, is_shareable};
 use rr_space::{Kind, Label, Ref, Space};
 use rr_tree::Program;
 use std::alloc::Global;
-
-/// A method of Ractor.
-#[derive(Clone, Copy)]
-pub enum RactorMethod {
-    /// `shareable?`.
-    IsShareable,
-    /// `make_shareable`.
-    MakeShareable,
-    /// One that is not evaluated yet.
-    Later,
-}
-
-/// Whether it is the name of a method of Ractor that gives ractors.
-fn is_of_ractors(name: &[u8]) -> bool
-    ensures { result ≡ is_of_ractors name.now }
-{
-    name == b"new".as_slice()
-        || name == b"current".as_slice()
-        || name == b"main".as_slice()
-        || name == b"main?".as_slice()
-        || name == b"select".as_slice()
-}
-
-/// Whether it is the name of a method of Ractor that passes values.
-fn is_of_values(name: &[u8]) -> bool
-    ensures { result ≡ is_of_values name.now }
-{
-    name == b"receive".as_slice()
-        || name == b"recv".as_slice()
-        || name == b"receive_if".as_slice()
-        || name == b"yield".as_slice()
-        || name == b"store_if_absent".as_slice()
-}
-
-/// The method of Ractor of a name, where it is not evaluated yet.
-fn later_named(name: &[u8]) -> Option<RactorMethod>
-    ensures { result ≡ later_named name.now }
-{
-    if is_of_ractors(name) {
-        return Some(RactorMethod::Later);
-    }
-    if is_of_values(name) {
-        return Some(RactorMethod::Later);
-    }
-    None
-}
-
-/// The method of Ractor of a name.
-fn ractor_named(name: &[u8]) -> Option<RactorMethod>
-    ensures { result ≡ ractor_named name.now }
-{
-    if name == b"shareable?".as_slice() {
-        return Some(RactorMethod::IsShareable);
-    }
-    if name == b"make_shareable".as_slice() {
-        return Some(RactorMethod::MakeShareable);
-    }
-    later_named(name)
-}
-
-/// The method of Ractor that is called by a name, or by brackets.
-fn ractor_called(program: &Program, callee: Callee) -> Option<RactorMethod>
-    ensures { result ≡ ractor_called (context_of program.now) callee }
-{
-    match callee {
-        Callee::Name(name) => ractor_named(program.symbol_bytes(name)),
-        Callee::Index => Some(RactorMethod::Later),
-        Callee::SetIndex => Some(RactorMethod::Later),
-        Callee::Operator(_) => None,
-        Callee::Opposite => None,
-        Callee::Append => None,
-        Callee::Initialize => None,
-        Callee::Setter(_) => None,
-    }
-}
-
-/// The method of Ractor that a call calls, where it calls one.
-pub fn ractor_method(program: &Program, receiver: Ref, callee: Callee) -> Option<RactorMethod>
-    ensures { result ≡ ractor_method (context_of program.now) receiver callee }
-{
-    match receiver {
-        Ref::Class(class) => {
-            if class.0 == ClassId::RACTOR.0 {
-                return ractor_called(program, callee);
-            }
-            None
-        }
-        Ref::Nil => None,
-        Ref::Truth(_) => None,
-        Ref::Int(_) => None,
-        Ref::Symbol(_) => None,
-        Ref::Ractor(_) => None,
-        Ref::Local(_) => None,
-        Ref::Shared(_, _) => None,
-    }
-}
 
 /// Whether a key is `:copy`.
 fn names_copy(program: &Program, key: Ref) -> bool
@@ -244,6 +149,21 @@ fn serve_make_shareable(
     }
 }
 
+/// Gives a value, where there are no arguments.
+fn give_alone(value: Ref, values: &[Ref]) -> Response
+    ensures is { (t : Table) → given_alone value values.now t ≡ record { response = result; table = t } }
+    ensures within { (k : Reach) → IsReached k value → IsResponseReached k result }
+{
+    match values {
+        [] => Response::Gives(value),
+        [_, ..] => Response::Fails(Problem::BuiltIn(BuiltInProblem::Count {
+            given: values.len(),
+            least: 0,
+            most: 0,
+        })),
+    }
+}
+
 /// Serves a method of Ractor. A refused growth leaves the objects as they were.
 fn serve_values(
     alloc: Global,
@@ -260,6 +180,11 @@ fn serve_values(
     match method {
         RactorMethod::IsShareable => serve_shareable(alloc, space, values),
         RactorMethod::MakeShareable => serve_make_shareable(alloc, space, program, values),
+        RactorMethod::Start => Ok(Response::Fails(Problem::NoRactorBlock)),
+        RactorMethod::Current => Ok(give_alone(Ref::Ractor(RactorNo(1)), values)),
+        RactorMethod::IsMain => Ok(give_alone(Ref::Truth(true), values)),
+        RactorMethod::Name => Ok(give_alone(Ref::Nil, values)),
+        RactorMethod::WithOthers => Ok(Response::Fails(Problem::NoRactors)),
         RactorMethod::Later => Ok(Response::Fails(Problem::NotHere)),
     }
 }

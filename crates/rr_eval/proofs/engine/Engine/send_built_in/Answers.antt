@@ -5,4 +5,4 @@ pub returns-in-None-None-clause-within : goal.returns-in-None-None-clause-within
 returns-in-None-None-clause-within c k h last = c.ask_method.ensures.within k h
 
 pub returns-in-None-Some-clause-within : goal.returns-in-None-Some-clause-within
-returns-in-None-Some-clause-within c k h last = c.refuse.ensures.within k h
+returns-in-None-Some-clause-within c k h last = c.send_with_block.ensures.within k h

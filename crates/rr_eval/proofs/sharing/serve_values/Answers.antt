@@ -1,0 +1,36 @@
+-- A value is given alone.
+use Rattle.std.proofs.Common.{refl, sym, subst, length, [], Some}
+use Rattle.rr_space.specs.declared.refer.Ref.TheVariants as refs
+use Rattle.rr_eval.specs.Serves.{IsReplied}
+use Rattle.rr_eval.specs.Sharing.{given_alone, main_ractor, ractor_reply}
+use Rattle.rr_eval.specs.Turns.{context_of}
+use Rattle.rr_eval.specs.Within.{reach}
+use Rattle.rr_eval.proofs.Shares.{same_replied}
+use Rattle.rr_eval.proofs.sharing.serve_values.Goals as goal
+
+pub returns-in-Current-clause-replied : goal.returns-in-Current-clause-replied
+returns-in-Current-clause-replied c =
+    let vs = c.args.values.now in
+    let t = c.args.space.now in
+    let r = c.give_alone.result in
+    let given = c.give_alone.ensures in
+    subst (λ m. IsReplied (ractor_reply (context_of c.args.program.now) m vs t) t r t) (sym c.in-Current.is)
+    (same_replied (given_alone (refs.Ractor main_ractor) vs t) t t r (given.is t) refl c.requires.read (given.within (reach (length t.slots) (Some [])) tt))
+
+pub returns-in-IsMain-clause-replied : goal.returns-in-IsMain-clause-replied
+returns-in-IsMain-clause-replied c =
+    let vs = c.args.values.now in
+    let t = c.args.space.now in
+    let r = c.give_alone-in-IsMain.result in
+    let given = c.give_alone-in-IsMain.ensures in
+    subst (λ m. IsReplied (ractor_reply (context_of c.args.program.now) m vs t) t r t) (sym c.in-IsMain.is)
+    (same_replied _ t t r (given.is t) refl c.requires.read (given.within (reach (length t.slots) (Some [])) tt))
+
+pub returns-in-Name-clause-replied : goal.returns-in-Name-clause-replied
+returns-in-Name-clause-replied c =
+    let vs = c.args.values.now in
+    let t = c.args.space.now in
+    let r = c.give_alone-in-Name.result in
+    let given = c.give_alone-in-Name.ensures in
+    subst (λ m. IsReplied (ractor_reply (context_of c.args.program.now) m vs t) t r t) (sym c.in-Name.is)
+    (same_replied _ t t r (given.is t) refl c.requires.read (given.within (reach (length t.slots) (Some [])) tt))
