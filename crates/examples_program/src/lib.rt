@@ -48,7 +48,11 @@ mod objects;
 #[cfg(test)]
 mod operators;
 #[cfg(test)]
+mod own_messages;
+#[cfg(test)]
 mod raising;
+#[cfg(test)]
+mod raising_new;
 #[cfg(test)]
 mod rescuing;
 #[cfg(test)]

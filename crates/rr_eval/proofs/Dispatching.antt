@@ -1,16 +1,15 @@
 -- Calls take no object away.
-use Rattle.std.proofs.Common.{nat_eq, ◌≤◌, ℕ, arith, List, [], ◌∷◌, length, length-append, Option, Some, None}
+use Rattle.std.proofs.Common.{nat_eq, ◌≤◌, ℕ, Bool, true, false, arith, List, [], ◌∷◌, length, length-append, Option, Some, None}
 use Rattle.rr_base.specs.declared.name.ClassId.{ClassId}
 use Rattle.rr_base.specs.declared.name.Sym.{Sym}
-use Rattle.rr_space.specs.Graph.{Plain, Nil as NilValue}
 use Rattle.rr_space.specs.Kinds.{kind_at}
 use Rattle.rr_space.specs.Tables.{Table, Here}
 use Rattle.rr_space.specs.declared.kind.Kind.{Kind}
 use Rattle.rr_space.specs.declared.kind.Kind.TheVariants as kinds
 use Rattle.rr_space.specs.declared.refer.Ref.{Ref}
-use Rattle.rr_space.specs.declared.refer.Ref.TheVariants.{Int, Local}
+use Rattle.rr_space.specs.declared.refer.Ref.TheVariants.{Nil, Int, Local}
 use Rattle.rr_builtin.specs.Fields.{field_at}
-use Rattle.rr_builtin.specs.News.{new_object, is_exception_class}
+use Rattle.rr_builtin.specs.News.{new_plain, is_exception_class}
 use Rattle.rr_builtin.specs.declared.iterations.Iteration.{Iteration}
 use Rattle.rr_builtin.specs.declared.problem.Problem.TheVariants.{Count}
 use Rattle.rr_frames.specs.declared.activation.Activation.{Activation}
@@ -18,14 +17,13 @@ use Rattle.rr_tree.specs.Tree.{Tree}
 use Rattle.rr_tree.specs.declared.node.BinaryOperator.{BinaryOperator}
 use Rattle.rr_eval.specs.declared.call.Callee.{Callee}
 use Rattle.rr_eval.specs.declared.call.Callee.TheVariants as callees
-use Rattle.rr_eval.specs.declared.call_stack.CallValue.TheVariants as value
 use Rattle.rr_eval.specs.declared.call_stack.Entry.TheVariants.{OfMethod}
 use Rattle.rr_eval.specs.declared.problem.Problem.TheVariants.{BuiltIn, NotHere}
 use Rattle.rr_eval.specs.Above.{method_above, initialize_above, is_initialize, super_sent, super_rule}
 use Rattle.rr_eval.specs.Blocks.{Way, invocation, running}
 use Rattle.rr_eval.specs.Callees.{method_of}
 use Rattle.rr_eval.specs.Context.{Context}
-use Rattle.rr_eval.specs.Dispatch.{counted, valued_response, last_of, write_rule, run_work, run_method, method_for, way_of, handed_by, initializer, made_by, with_new, initialized, making, new_rule, built_in, dispatched, send_rule, operation, negation, iteration_of}
+use Rattle.rr_eval.specs.Dispatch.{counted, valued_response, last_of, write_rule, run_work, run_method, method_for, way_of, handed_by, initializer, made_by, with_new, initialized, making, built_in, dispatched, send_rule, operation, negation, iteration_of, made_object, made_value, made_rule}
 use Rattle.rr_eval.specs.Fields.{field_response}
 use Rattle.rr_eval.specs.Methods.{Work, Runs, Reads, Writes, NoWork, Callable}
 use Rattle.rr_eval.specs.Operators.{integers, opposite}
@@ -33,7 +31,7 @@ use Rattle.rr_eval.specs.Rules.{throw, self_rule, block_sent, sent_block}
 use Rattle.rr_eval.specs.Script.{Script}
 use Rattle.rr_eval.specs.RactorMethods.{ractor_method}
 use Rattle.rr_eval.proofs.Isolating.{with_block_keeps}
-use Rattle.rr_eval.proofs.Keeping.{count, Keeps, if_keeps, throw_keeps, settled_keeps, framed_keeps, iteration_keeps}
+use Rattle.rr_eval.proofs.Keeping.{count, Keeps, if_keeps, throw_keeps, settled_keeps, framed_keeps, iteration_keeps, exception_keeps}
 
 pub counted_keeps : (c : Context) (wanted : ℕ) (vs : List Ref) (next : Script) → Keeps next → Keeps (counted c wanted vs next)
 counted_keeps c wanted vs next kept = if_keeps (nat_eq (length vs) wanted) next (throw c (BuiltIn (Count (length vs) wanted wanted))) kept (throw_keeps c (BuiltIn (Count (length vs) wanted wanted)))
@@ -51,21 +49,22 @@ work_keeps c class NoWork w vs = throw_keeps c NotHere
 pub method_keeps : (c : Context) (f : Callable) (w : Way) (vs : List Ref) → Keeps (run_method c f w vs)
 method_keeps c f w vs = work_keeps c f.class f.work w vs
 
-pub initialized_keeps : (c : Context) (f : Option Callable) (b : Option Tree) (o : Ref) (vs : List Ref) → Keeps (initialized c f b o vs)
-initialized_keeps c None b o vs = tt
-initialized_keeps c (Some f) b o vs = method_keeps c f (record { receiver = o; block = handed_by b; tree = b; value = value.Other o }) vs
+pub initialized_keeps : (c : Context) (raises : Bool) (f : Option Callable) (b : Option Tree) (o : Ref) (vs : List Ref) → Keeps (initialized c raises f b o vs)
+initialized_keeps c raises None b o vs = tt
+initialized_keeps c raises (Some f) b o vs = method_keeps c f (record { receiver = o; block = handed_by b; tree = b; value = made_value raises o }) vs
 
-with_new_keeps : (c : Context) (class : ClassId) (t : Table) → count t ≤ count (with_new c class t)
-with_new_keeps c class t = omega (arith, length-append t.slots (Here (new_object (is_exception_class c.program class.0) class.0 (Plain NilValue)) ∷ []))
+object_keeps : (is : Bool) (class : ClassId) (cause : Ref) (t : Table) → count t ≤ count (made_object is class cause t)
+object_keeps true class cause t = exception_keeps class Nil cause t
+object_keeps false class cause t = omega (arith, length-append t.slots (Here (new_plain class.0) ∷ []))
 
-pub making_keeps : (c : Context) (class : ClassId) (next : Ref → Script) → ((v : Ref) → Keeps (next v)) → Keeps (making c class next)
-making_keeps c class next kept = λ m. (λ k. with_new_keeps c class k.table, kept (Local (length m.table.slots)))
+pub making_keeps : (c : Context) (class : ClassId) (cause : Ref) (next : Ref → Script) → ((v : Ref) → Keeps (next v)) → Keeps (making c class cause next)
+making_keeps c class cause next kept = λ m. (λ k. object_keeps (is_exception_class c.program class.0) class cause k.table, kept (Local (length m.table.slots)))
 
-new_keeps : (c : Context) (class : ClassId) (b : Option Tree) (vs : List Ref) → Keeps (new_rule c class b vs)
-new_keeps c class b vs = making_keeps c class _ (λ o. initialized_keeps c (initializer c class) b o vs)
+pub made_keeps : (c : Context) (class : ClassId) (cause : Ref) (raises : Bool) (b : Option Tree) (vs : List Ref) → Keeps (made_rule c class cause raises b vs)
+made_keeps c class cause raises b vs = making_keeps c class cause _ (λ o. initialized_keeps c raises (initializer c class) b o vs)
 
 built_in_keeps : (c : Context) (made : Option ClassId) (callee : Callee) (b : Option Tree) (v : Ref) (vs : List Ref) → Keeps (built_in c made callee b v vs)
-built_in_keeps c (Some class) callee b v vs = new_keeps c class b vs
+built_in_keeps c (Some class) callee b v vs = made_keeps c class Nil false b vs
 built_in_keeps c None callee None v vs = settled_keeps c
 built_in_keeps c None callee (Some b) v vs = with_block_keeps c (ractor_method c v callee) b (last_of vs)
 

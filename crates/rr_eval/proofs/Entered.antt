@@ -33,7 +33,7 @@ first_is c (Throw problem) tree e s n = absurd (cc e)
 first_is c (Raise class message) tree e s n = absurd (cc e)
 first_is c (RaiseValue v message) tree e s n = absurd (cc e)
 first_is c (Start block problem) tree e s n = absurd (cc e)
-first_is c (New class) tree e s n = absurd (cc e)
+first_is c (New class cause) tree e s n = absurd (cc e)
 first_is c (Send callee v w) tree e s n = absurd (cc e)
 first_is c (Assign spot v) tree e s n = absurd (cc e)
 

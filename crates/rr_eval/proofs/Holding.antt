@@ -54,6 +54,7 @@ call_value_more : (k l : ℕ) (cs : Option Below) → k ≤ l → (by : CallValu
 call_value_more k l cs le values.Method h = tt
 call_value_more k l cs le (values.Other v) h = ref_more k l cs le v h
 call_value_more k l cs le values.Opposite h = tt
+call_value_more k l cs le (values.Raises e) h = ref_more k l cs le e h
 
 answer_more : (k l : ℕ) (cs : Option Below) → k ≤ l → (a : Answer) → IsAnswerReached (reach k cs) a → IsAnswerReached (reach l cs) a
 answer_more k l cs le (Gave v) h = ref_more k l cs le v h
@@ -118,7 +119,7 @@ control_more k l cs le (Throw e) h = tt
 control_more k l cs le (Raise class message) h = ref_more k l cs le message h
 control_more k l cs le (RaiseValue v message) h = (ref_more k l cs le v h.0, All-weaker (IsReached (reach k cs)) (IsReached (reach l cs)) (ref_more k l cs le) (list_of message) h.1)
 control_more k l cs le (Start block problem) h = tt
-control_more k l cs le (New class) h = tt
+control_more k l cs le (New class cause) h = ref_more k l cs le cause h
 control_more k l cs le (Send callee v w) h = (ref_more k l cs le v h.0, All-weaker (IsReached (reach k cs)) (IsReached (reach l cs)) (ref_more k l cs le) (list_of w) h.1)
 control_more k l cs le (Assign spot v) h = (spot_more k l cs le spot h.0, ref_more k l cs le v h.1)
 
@@ -341,11 +342,11 @@ unfolding AreReached
 without_values k m f held cleared h = record { control = h.control; frames = h.frames; held = subst (All (IsReached k)) (sym cleared) (below_reached (IsReached k) f m.held h.held); calls = h.calls; rescuing = h.rescuing }
 
 -- a frame that initializes a new object, with the values that stand for it
-pub new_reached : (k : Reach) (m : View) (x : Making) (fs : List Frame) (held : List Ref) (last : Option Ref) → fs ≡ m.frames ++ frames.Initialize x ∷ [] → held ≡ m.held ++ list_of last → AreReached k m → All (IsReached k) (list_of last)
-    → AreReached k (record m { control = New x.class; frames = fs; held = held })
+pub new_reached : (k : Reach) (m : View) (x : Making) (cause : Ref) (fs : List Frame) (held : List Ref) (last : Option Ref) → fs ≡ m.frames ++ frames.Initialize x ∷ [] → held ≡ m.held ++ list_of last → AreReached k m → IsReached k cause → All (IsReached k) (list_of last)
+    → AreReached k (record m { control = New x.class cause; frames = fs; held = held })
 unfolding AreReached
-new_reached k m x fs held last pushed holds h value = record {
-  control = tt;
+new_reached k m x cause fs held last pushed holds h why value = record {
+  control = why;
   frames = subst (All (IsFrameReached k)) (sym pushed) (All-push (IsFrameReached k) m.frames (frames.Initialize x) h.frames tt);
   held = subst (All (IsReached k)) (sym holds) (all_append (IsReached k) m.held (list_of last) h.held value);
   calls = h.calls;

@@ -42,6 +42,7 @@ pub mod Spreads
 pub mod Inside
 pub mod PairTurns
 pub mod Raises
+pub mod RaisesNew
 pub mod Trying
 pub mod Assigning
 pub mod NewObjects

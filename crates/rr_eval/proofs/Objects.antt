@@ -61,11 +61,12 @@ use Rattle.rr_eval.specs.Messages.{message, exception_class}
 use Rattle.rr_eval.specs.Exceptions.{with_exception}
 use Rattle.rr_eval.specs.Frames.{Code, evaluates, runs_in, iterated, option_trees, taker, behind_class, resumed, stand_of, below_of, unwind}
 use Rattle.rr_eval.specs.Several.{all_parts}
-use Rattle.rr_eval.proofs.Keeping.{count, make_keeps, Keeps, on_value_keeps, loop_keeps, raise_keeps, throw_keeps, settled_keeps, if_keeps, back_keeps, past_keeps, yield_keeps, continued_keeps, continued_with_keeps, turned_keeps, return_keeps, raise_rule_keeps}
+use Rattle.rr_eval.proofs.Keeping.{count, make_keeps, Keeps, on_value_keeps, loop_keeps, raise_keeps, throw_keeps, settled_keeps, if_keeps, back_keeps, past_keeps, yield_keeps, continued_keeps, continued_with_keeps, turned_keeps, return_keeps}
 use Rattle.rr_eval.specs.declared.call_stack.CallValue.TheVariants.{Method}
 use Rattle.rr_eval.proofs.Speeches.{task_keeps, joining_call_keeps, asking_on_keeps, asked_on_keeps}
 use Rattle.rr_eval.proofs.Dispatching.{method_keeps, initialized_keeps, dispatched_keeps, self_keeps, sent_block_keeps, operates, negates, super_keeps}
 use Rattle.rr_eval.proofs.CallParts.{part_called_keeps}
+use Rattle.rr_eval.proofs.RaisesNew.{raised_keeps}
 use Rattle.rr_eval.proofs.Settable.{or_keeps}
 use Rattle.rr_eval.proofs.Updates.{put_keeps, updated_keeps, accessed_keeps, operator_keeps, update_keeps}
 use Rattle.rr_eval.proofs.Splatted.{spread_keeps, arguments_keep}
@@ -79,7 +80,7 @@ finish_keeps c (Update getter setter how b) vs = accessed_keeps c getter setter 
 finish_keeps c (Own x b) vs = self_keeps c x (option_map (tree_at c.program.nodes.items) b) vs
 finish_keeps c Super vs = super_keeps c vs
 finish_keeps c Yield vs = λ m. yield_keeps c (running m.calls.frames).given vs m
-finish_keeps c Raise vs = raise_rule_keeps c vs
+finish_keeps c Raise vs = raised_keeps c vs
 finish_keeps c (Iterate x b) vs = sent_block_keeps c x (tree_at c.program.nodes.items b) vs
 
 statements_keep : (ts : List Tree) → Keeps (statements ts)
@@ -286,7 +287,7 @@ resumed_keeps c (Ensure part) stand = ensure_keeps (tree_at c.nodes part)
 resumed_keeps c (Kept a) stand = on_value_keeps _ (λ v. tt)
 resumed_keeps c (Round i) stand = turned_keeps c.context (iterated c i stand)
 resumed_keeps c (Turned i) stand = on_value_keeps _ (λ v. continued_with_keeps c.context (iterated c i stand) v)
-resumed_keeps c (Initialize x) stand = on_value_keeps _ (λ v. initialized_keeps c.context (initializer c.context x.class) (option_map (tree_at c.nodes) x.block) v (passed_on x.passing stand))
+resumed_keeps c (Initialize x) stand = on_value_keeps _ (λ v. initialized_keeps c.context x.raises (initializer c.context x.class) (option_map (tree_at c.nodes) x.block) v (passed_on x.passing stand))
 
 -- an evaluation that takes no object away
 abbrev KeepsAll : Evaluation → Type 0

@@ -86,7 +86,7 @@ module _ (own : Context) where
   start_grows c (Raise class message) s n = run_grows c.world (evaluates c) (meaning_grows c) (raise class message) s n
   start_grows c (RaiseValue v message) s n = run_grows c.world (evaluates c) (meaning_grows c) (raise_value c.context v message) s n
   start_grows c (Start block problem) s n = run_grows c.world (evaluates c) (meaning_grows c) (start_rule c.context (tree_at c.nodes block) problem) s n
-  start_grows c (New class) s n = run_grows c.world (evaluates c) (meaning_grows c) (making c.context class (λ v. Ret (Gave v))) s n
+  start_grows c (New class cause) s n = run_grows c.world (evaluates c) (meaning_grows c) (making c.context class cause (λ v. Ret (Gave v))) s n
   start_grows c (Send callee v w) s n = meaning_grows c (CallPart callee v (list_of w)) s n
   start_grows c (Assign spot v) s n = meaning_grows c (AssignPart spot v) s n
 

@@ -8,7 +8,7 @@ use Rattle.rr_frames.specs.Frames.{list_of}
 use Rattle.rr_eval.specs.declared.problem.Answer.{Answer}
 use Rattle.rr_eval.specs.declared.problem.Answer.TheVariants.{Gave}
 use Rattle.rr_eval.specs.declared.frame.Making.{Making}
-use Rattle.rr_eval.specs.Dispatch.{making, new_rule, passed_on}
+use Rattle.rr_eval.specs.Dispatch.{making, made_rule, passed_on}
 use Rattle.rr_eval.specs.declared.frame.Frame.{Frame}
 use Rattle.rr_eval.specs.declared.frame.Frame.TheVariants.{Left, Argument, Key, Value, Read, Combine, Put, Round, Turned, Initialize, Receiver, Item, Aim, Several, Assigned, Asking as AskingFrame, Asked as AskedFrame}
 use Rattle.rr_eval.specs.declared.frame.Control.TheVariants.{Enter, Give, New}
@@ -156,13 +156,13 @@ kept c fs target end (suc more) place base held v s n h at le =
     ∙ ap (λ m. unwind c (reverse (fs ++ Argument target end m base ∷ [])) (held ++ v ∷ []) o) (sym k)
 
 -- a new object is made for a frame that initializes it, over the values that stand for it
-pub begins_new : (c : Code) (fs : List Frame) (x : Making) (f : Frame) (held all : List Ref) (last : Option Ref) (s : State) (n : ℕ) → all ≡ held ++ list_of last → x.base ≤ length held → drop x.base held ≡ stand_of f held → take x.base held ≡ below_of f held
-    → unwind c (reverse fs) (below_of f held) (runs_in c (new_rule c.context x.class (option_map (tree_at c.nodes) x.block) (passed_on x.passing (stand_of f held ++ list_of last))) s n) ≡ outcome_of c (fs ++ Initialize x ∷ []) all (New x.class) s n
-begins_new c fs x f held all last s n push le stand below =
-    let next = λ (vs : List Ref). runs_in c (new_rule c.context x.class (option_map (tree_at c.nodes) x.block) (passed_on x.passing vs)) s n in
+pub begins_new : (c : Code) (fs : List Frame) (x : Making) (cause : Ref) (f : Frame) (held all : List Ref) (last : Option Ref) (s : State) (n : ℕ) → all ≡ held ++ list_of last → x.base ≤ length held → drop x.base held ≡ stand_of f held → take x.base held ≡ below_of f held
+    → unwind c (reverse fs) (below_of f held) (runs_in c (made_rule c.context x.class cause x.raises (option_map (tree_at c.nodes) x.block) (passed_on x.passing (stand_of f held ++ list_of last))) s n) ≡ outcome_of c (fs ++ Initialize x ∷ []) all (New x.class cause) s n
+begins_new c fs x cause f held all last s n push le stand below =
+    let next = λ (vs : List Ref). runs_in c (made_rule c.context x.class cause x.raises (option_map (tree_at c.nodes) x.block) (passed_on x.passing vs)) s n in
     ap (λ h. unwind c (reverse fs) h (next (stand_of f held ++ list_of last))) (sym below ∙ sym (take-append-le x.base held (list_of last) le) ∙ ap (take x.base) (sym push))
     ∙ ap (λ vs. unwind c (reverse fs) (take x.base all) (next vs)) (ap (λ l. l ++ list_of last) (sym stand) ∙ sym (drop-append-le x.base held (list_of last) le) ∙ ap (drop x.base) (sym push))
-    ∙ sym (rest_push c fs (Initialize x) all (runs_in c (making c.context x.class (λ v. Ret (Gave v))) s n))
+    ∙ sym (rest_push c fs (Initialize x) all (runs_in c (making c.context x.class cause (λ v. Ret (Gave v))) s n))
 
 -- a frame that is put back, where all else stands
 pub frame_back : (m n : View) (t : Table) (f : Frame) (fault : Fault) (fs : List Frame) → Stands m n t t fault → fs ≡ n.frames ++ f ∷ [] → record m { frames = m.frames ++ f ∷ [] } ≡ record n { frames = fs }

@@ -71,9 +71,17 @@ abbrev pub value_by : CallValue → Ref → Ref
 value_by value.Method v = v
 value_by (value.Other w) v = w
 value_by value.Opposite v = Truth (not (is_truthy v))
+value_by (value.Raises e) v = e
+
+-- what a call ends with whose method has a value: an exception that was made for `raise` is raised
+abbrev pub gave_by : CallValue → Ref → Answer
+gave_by value.Method v = Gave (value_by value.Method v)
+gave_by (value.Other w) v = Gave (value_by (value.Other w) v)
+gave_by value.Opposite v = Gave (value_by value.Opposite v)
+gave_by (value.Raises e) v = Raised e
 
 abbrev pub valued : CallValue → Answer → Answer
-valued by (Gave v) = Gave (value_by by v)
+valued by (Gave v) = gave_by by v
 valued by (Raised e) = Raised e
 valued by (Broke v) = Broke v
 valued by (Done v) = Done v

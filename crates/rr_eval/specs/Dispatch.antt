@@ -1,6 +1,6 @@
 -- Which method a call runs. Methods are looked for class by class, from the class of the receiver upwards, and in each class the
 -- program's method comes before the built-in one. A program opens no built-in class.
-use Rattle.std.specs.Prelude.{ℕ, nat_eq, Bool, false, ◌&&◌, List, [], ◌∷◌, length, drop, codes, Option, Some, None, if◌then◌else◌, slice_index_or, ◌||◌, is_some}
+use Rattle.std.specs.Prelude.{ℕ, nat_eq, Bool, false, ◌&&◌, List, [], ◌∷◌, length, drop, codes, Option, Some, None, if◌then◌else◌, slice_index_or, ◌||◌, is_some, true}
 use Rattle.std.specs.Option.{option_map}
 use Rattle.rr_base.specs.declared.name.ClassId.{ClassId}
 use Rattle.rr_base.specs.declared.name.Sym.{Sym}
@@ -19,9 +19,8 @@ use Rattle.rr_space.specs.declared.refer.Ref.TheVariants.{Nil, Int, Class, Local
 use Rattle.rr_builtin.specs.Fields.{field_at}
 use Rattle.rr_builtin.specs.Iterations.{iteration_named, iterates}
 use Rattle.rr_builtin.specs.Kinds.{has, stands_below_object}
-use Rattle.rr_builtin.specs.News.{may_make, new_object, is_exception_class}
+use Rattle.rr_builtin.specs.News.{may_make, new_plain, is_exception_class}
 use Rattle.rr_builtin.specs.Acts.{with_object}
-use Rattle.rr_space.specs.Graph.{Plain as Immediately, Nil as NilValue}
 use Rattle.rr_builtin.specs.declared.iterations.Iteration.{Iteration}
 use Rattle.rr_builtin.specs.declared.method.BuiltInMethod.{BuiltInMethod}
 use Rattle.rr_builtin.specs.declared.method.BuiltInMethod.TheVariants.{New}
@@ -40,9 +39,10 @@ use Rattle.rr_eval.specs.declared.problem.Problem.TheVariants.{BuiltIn}
 use Rattle.rr_eval.specs.declared.problem.Response.{Response}
 use Rattle.rr_eval.specs.declared.problem.Response.TheVariants.{Gives, Throws, Fails}
 use Rattle.rr_eval.specs.Basics.{throw, settled, send_to, not_here}
-use Rattle.rr_eval.specs.Blocks.{Way, entered, value_by}
+use Rattle.rr_eval.specs.Blocks.{Way, entered, value_by, valued}
 use Rattle.rr_eval.specs.Callees.{callee_name, method_of}
 use Rattle.rr_eval.specs.Context.{Context}
+use Rattle.rr_eval.specs.Exceptions.{with_exception}
 use Rattle.rr_eval.specs.Fields.{field_response}
 use Rattle.rr_eval.specs.Methods.{Work, Runs, Reads, Writes, NoWork, Callable, method_in}
 use Rattle.rr_eval.specs.Operators.{integers, opposite}
@@ -164,21 +164,33 @@ abbrev pub made_by : Context → Option BuiltInMethod → Ref → Option ClassId
 made_by c (Some New) (Class k) = if may_make c.program (Class k) then class_with k (initializer c k) else None
 made_by c m v = None
 
--- the objects with a new one of a class; an exception has no message yet
-abbrev pub with_new : Context → ClassId → Table → Table
-with_new c class t = with_object (new_object (is_exception_class c.program class.0) class.0 (Immediately NilValue)) [] t
+-- the objects with a new one of a class; an exception has a cause, and no message yet
+abbrev pub made_object : Bool → ClassId → Ref → Table → Table
+made_object true class cause t = with_exception class Nil cause t
+made_object false class cause t = with_object (new_plain class.0) [] t
 
-abbrev pub initialized : Context → Option Callable → Option Tree → Ref → List Ref → Script
-initialized c None b o vs = Ret (Gave o)
-initialized c (Some f) b o vs = run_method c f (record { receiver = o; block = handed_by b; tree = b; value = value.Other o }) vs
+abbrev pub with_new : Context → ClassId → Ref → Table → Table
+with_new c class cause t = made_object (is_exception_class c.program class.0) class cause t
 
--- a new object of a class is made
-abbrev pub making : Context → ClassId → (Ref → Script) → Script
-making c class next = See (λ m. Do (λ k. record k { table = with_new c class k.table }) (next (Local (length m.table.slots))))
+-- a new object is the value of the call, or it is raised
+abbrev pub made_value : Bool → Ref → CallValue
+made_value true o = value.Raises o
+made_value false o = value.Other o
 
--- A new object of a class is made and initialized, and is the value of the call.
+abbrev pub initialized : Context → Bool → Option Callable → Option Tree → Ref → List Ref → Script
+initialized c raises None b o vs = Ret (valued (made_value raises o) (Gave o))
+initialized c raises (Some f) b o vs = run_method c f (record { receiver = o; block = handed_by b; tree = b; value = made_value raises o }) vs
+
+-- a new object of a class is made, with a cause where it is an exception
+abbrev pub making : Context → ClassId → Ref → (Ref → Script) → Script
+making c class cause next = See (λ m. Do (λ k. record k { table = with_new c class cause k.table }) (next (Local (length m.table.slots))))
+
+-- A new object of a class is made and initialized, and is the value of the call, or is raised.
+abbrev pub made_rule : Context → ClassId → Ref → Bool → Option Tree → List Ref → Script
+made_rule c class cause raises b vs = making c class cause (λ o. initialized c raises (initializer c class) b o vs)
+
 abbrev pub new_rule : Context → ClassId → Option Tree → List Ref → Script
-new_rule c class b vs = making c class (λ o. initialized c (initializer c class) b o vs)
+new_rule c class b vs = made_rule c class Nil false b vs
 
 -- a call of a built-in method; a new object may get the program's `initialize`, and a block
 abbrev pub built_in : Context → Option ClassId → Callee → Option Tree → Ref → List Ref → Script

@@ -108,7 +108,7 @@ resumed c (Ensure part) stand = ensure_rule (tree_at c.nodes part)
 resumed c (Kept a) stand = on_value (λ v. Ret a)
 resumed c (Round i) stand = turned c.context (iterated c i stand)
 resumed c (Turned i) stand = on_value (λ v. continued_with c.context (iterated c i stand) v)
-resumed c (Initialize x) stand = on_value (λ v. initialized c.context (initializer c.context x.class) (option_map (tree_at c.nodes) x.block) v (passed_on x.passing stand))
+resumed c (Initialize x) stand = on_value (λ v. initialized c.context x.raises (initializer c.context x.class) (option_map (tree_at c.nodes) x.block) v (passed_on x.passing stand))
 
 -- the frame that waits for the answer of a body that has a frame of its own
 abbrev pub waits_for : Entry → Frame
@@ -246,7 +246,7 @@ start c (Throw e) s n = runs_in c (throw c.context e) s n
 start c (Raise class message) s n = runs_in c (raise class message) s n
 start c (RaiseValue v message) s n = runs_in c (raise_value c.context v message) s n
 start c (Start block problem) s n = runs_in c (start_rule c.context (tree_at c.nodes block) problem) s n
-start c (New class) s n = runs_in c (making c.context class (λ v. Ret (Gave v))) s n
+start c (New class cause) s n = runs_in c (making c.context class cause (λ v. Ret (Gave v))) s n
 start c (Send callee v w) s n = evaluates c (CallPart callee v (list_of w)) s n
 start c (Assign spot v) s n = evaluates c (AssignPart spot v) s n
 

@@ -35,6 +35,7 @@ pub mod Speaking
 pub mod Joins
 pub mod Above
 pub mod Raising
+pub mod RaisingNew
 pub mod Rescuing
 pub mod Rules
 pub mod Nodes

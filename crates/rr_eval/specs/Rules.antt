@@ -34,7 +34,7 @@ use Rattle.rr_eval.specs.Values.{goes_on}
 use Rattle.rr_eval.specs.Operators.{make}
 use Rattle.rr_eval.specs.Tasks.{task_named}
 use Rattle.rr_eval.specs.Awaited.{is_awaited, is_raise, is_block_given}
-use Rattle.rr_eval.specs.Raising.{raise_rule}
+use Rattle.rr_eval.specs.RaisingNew.{raised_with}
 use Rattle.rr_eval.specs.Rescuing.{rescue_rule, ensure_rule}
 use Rattle.rr_eval.specs.Joins.{joining_call}
 use Rattle.rr_eval.specs.Speaking.{task_rule}
@@ -97,7 +97,7 @@ finish c (Update getter setter how b) vs = accessed c getter setter how (tree_at
 finish c (Own x b) vs = self_rule c x (option_map (tree_at c.program.nodes.items) b) vs
 finish c Super vs = super_rule c vs
 finish c Yield vs = yield_rule c vs
-finish c Raise vs = raise_rule c vs
+finish c Raise vs = raised_with c vs
 finish c (Iterate x b) vs = sent_block c x (tree_at c.program.nodes.items b) vs
 
 -- what a name prints by: `puts`, `p` and `print`

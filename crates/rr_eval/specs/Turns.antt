@@ -152,7 +152,7 @@ waits (Throw e) = 4
 waits (RaiseValue v message) = 4
 waits (Start block problem) = 4
 -- the object is given to the frame that waits for it at once
-waits (New class) = 1
+waits (New class cause) = 1
 waits (Send callee v w) = 0
 waits (Assign spot v) = 0
 

@@ -10,7 +10,7 @@ use Rattle.rr_space.specs.declared.refer.Ref.TheVariants.{Local, Shared}
 use Rattle.rr_text.specs.Reads.{IsReadWith}
 use Rattle.rr_eval.specs.declared.call.Call.{Call}
 use Rattle.rr_eval.specs.declared.call_stack.CallValue.{CallValue}
-use Rattle.rr_eval.specs.declared.call_stack.CallValue.TheVariants.{Other}
+use Rattle.rr_eval.specs.declared.call_stack.CallValue.TheVariants.{Other, Raises}
 use Rattle.rr_eval.specs.declared.call_stack.Entry.{Entry}
 use Rattle.rr_eval.specs.declared.call_stack.Entry.TheVariants.{OfMethod, OfBlock}
 use Rattle.rr_eval.specs.declared.invoke.Way.{Way}
@@ -23,7 +23,7 @@ use Rattle.rr_eval.specs.declared.problem.Response.TheVariants.{Gives, Throws, F
 use Rattle.rr_eval.specs.declared.frame.Frame.{Frame}
 use Rattle.rr_eval.specs.declared.frame.Frame.TheVariants.{Right, Combine, Back, Class, Handling, Kept}
 use Rattle.rr_eval.specs.declared.frame.Control.{Control}
-use Rattle.rr_eval.specs.declared.frame.Control.TheVariants.{Give, Raise, RaiseValue, Send, Assign}
+use Rattle.rr_eval.specs.declared.frame.Control.TheVariants.{Give, Raise, RaiseValue, New, Send, Assign}
 use Rattle.rr_eval.specs.declared.spot.Spot.{Spot}
 use Rattle.rr_eval.specs.declared.spot.Spot.TheVariants as spots
 use Rattle.rr_eval.specs.declared.request.Request.{Request}
@@ -73,6 +73,7 @@ AreVariablesReached k f = All (IsReached k) (f.activation.itself ∷ f.variables
 
 abbrev pub IsCallValueReached : Reach → CallValue → Type 0
 IsCallValueReached k (Other v) = IsReached k v
+IsCallValueReached k (Raises e) = IsReached k e
 IsCallValueReached k _ = Unit {0}
 
 -- the receiver of a call, and its value
@@ -103,6 +104,7 @@ abbrev pub IsControlReached : Reach → Control → Type 0
 IsControlReached k (Give a) = IsAnswerReached k a
 IsControlReached k (Raise class message) = IsReached k message
 IsControlReached k (RaiseValue v message) = IsReached k v × All (IsReached k) (list_of message)
+IsControlReached k (New class cause) = IsReached k cause
 IsControlReached k (Send callee v w) = IsReached k v × All (IsReached k) (list_of w)
 IsControlReached k (Assign spot v) = IsSpotReached k spot × IsReached k v
 IsControlReached k _ = Unit {0}

@@ -41,6 +41,8 @@ pub enum CallValue {
     Other(Ref),
     /// Whether the method's value is nil or false.
     Opposite,
+    /// None: a new exception is raised.
+    Raises(Ref),
 }
 
 /// A call of a method.

@@ -347,7 +347,7 @@ impl Engine {
                 Control::Start(block, problem) => {
                     self.start(&prepared.program, space, block, problem)?
                 }
-                Control::New(class) => self.make_new(prepared, space, class)?,
+                Control::New(class, cause) => self.make_new(prepared, space, class, cause)?,
                 Control::Operate(op, a, b) => {
                     if self.left == 0 {
                         return Ok(Turn::StepLimit);

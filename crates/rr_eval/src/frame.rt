@@ -40,6 +40,8 @@ pub struct Making {
     pub passing: Passing,
     /// Where these values begin.
     pub base: usize,
+    /// Whether the object, an exception, is raised then.
+    pub raises: bool,
 }
 
 /// What waits for the answer of a part.
@@ -146,8 +148,8 @@ pub enum Control {
     RaiseValue(Ref, Option<Ref>),
     /// The start of a ractor with the block of a node, which is isolated first, and what it comes to then.
     Start(NodeId, Problem),
-    /// A new object of a class, for which a frame waits.
-    New(ClassId),
+    /// A new object of a class, for which a frame waits, and its cause, where it is an exception.
+    New(ClassId, Ref),
     /// A call of a receiver with one argument or none, for whose value a frame waits.
     Send(Callee, Ref, Option<Ref>),
     /// An assignment to one of several targets, for which a frame waits.

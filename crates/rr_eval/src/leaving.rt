@@ -13,7 +13,7 @@ ghost use Rattle.rr_eval.specs.Within.{Reach, IsReached, AreReached, IsCallValue
 use crate::call_stack::{CallValue, is_outside};
 use crate::engine::Engine;
 use crate::frame::Control;
-use crate::problem::{Answer, Problem, value_by};
+use crate::problem::{Answer, Problem, valued};
 use rr_space::Ref;
 
 impl Engine {
@@ -29,7 +29,7 @@ impl Engine {
         ensures size { size (view_of self.new) ≡ 3 * length self.old.frames.items + 2 }
     {
         self.drop_frame();
-        self.control = Control::Give(Answer::Gave(value_by(by, value)));
+        self.control = Control::Give(valued(by, Answer::Gave(value)));
     }
 
     /// A block that a `yield` calls ends with a value, and its variables go.

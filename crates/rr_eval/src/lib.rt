@@ -44,6 +44,7 @@ mod print;
 mod problem;
 mod ractor_method;
 mod raising;
+mod raising_new;
 mod request;
 mod rescuing;
 mod resume;

@@ -3,22 +3,24 @@
 ghost use Rattle.std.specs.Prelude.{◌≡◌, ◌+◌, ◌*◌, ◌<◌, ◌≤◌, ℕ, [], length, reverse, take, vec_capacity, Option, IfOk, IfErr, OnOk};
 ghost use Rattle.rr_base.specs.declared.fault.Fault.{Fault};
 ghost use Rattle.rr_space.specs.Tables.{Below, Table};
-ghost use Rattle.rr_builtin.specs.Acts.{with_object};
+ghost use Rattle.rr_builtin.specs.Acts.{with_object, IsRefAmong};
+ghost use Rattle.rr_space.specs.Parts.{IsWithin};
 ghost use Rattle.rr_builtin.specs.News.{new_plain};
 ghost use Rattle.rr_eval.specs.declared.problem.Answer.{Answer};
 ghost use Rattle.rr_eval.specs.declared.frame.Control.{Control};
 ghost use Rattle.rr_eval.specs.declared.frame.Frame.{Frame};
 ghost use Rattle.rr_eval.specs.Begun.{IsBegun};
+ghost use Rattle.rr_eval.specs.Blocks.{valued};
 ghost use Rattle.rr_eval.specs.Frames.{Nested, base_of, below_of};
 ghost use Rattle.rr_text.specs.Reads.{IsReadWith};
 ghost use Rattle.rr_eval.specs.Acts.{IsRefusal, Passes};
 ghost use Rattle.rr_eval.specs.Changes.{Changes};
-ghost use Rattle.rr_eval.specs.Dispatch.{with_new};
+ghost use Rattle.rr_eval.specs.Dispatch.{with_new, made_value};
 ghost use Rattle.rr_eval.specs.Script.{objects_of};
 ghost use Rattle.rr_eval.specs.Requests.{Course, Adds};
-ghost use Rattle.rr_eval.specs.Turns.{context_of, IsNested, remaining, remaining_with, after_answer, Stands, size};
+ghost use Rattle.rr_eval.specs.Turns.{context_of, IsNested, remaining, remaining_with, after_answer, Stands, more_of, size};
 ghost use Rattle.rr_eval.specs.Views.{view_of};
-ghost use Rattle.rr_eval.specs.Within.{Reach, reach, AreReached, IsReached, IsFrameReached, AreWithin, KeepsReach, KeepsRead};
+ghost use Rattle.rr_eval.specs.Within.{Reach, reach, AreReached, IsReached, IsAnswerReached, IsCallValueReached, IsFrameReached, AreWithin, KeepsReach, KeepsRead};
 
 use crate::call_stack::CallValue;
 use crate::engine::{Engine, push_within};
@@ -50,26 +52,53 @@ pub fn make_plain(alloc: Global, space: &mut Space, class: ClassId) -> Result<Re
     }
 }
 
-/// Makes a new object of a class; an exception has no message yet. A refused growth leaves the objects as they were.
+/// Makes a new object of a class; an exception has a cause, and no message yet. A refused growth leaves the objects as they were.
 fn make_object(
     alloc: Global,
     space: &mut Space,
     program: &Program,
     class: ClassId,
+    cause: Ref,
 ) -> Result<Ref, Fault>
+    requires cause { IsWithin (length space.old.slots) cause }
     ensures name { IfOk result (λ object. object ≡ Ref.Local (length space.old.slots)) }
-    ensures made { IfOk result (λ _. space.new ≡ with_new (context_of program.now) class space.old) }
-    ensures read { (below : Below) → IsReadWith space.old below → IsReadWith space.new below }
+    ensures made { IfOk result (λ _. space.new ≡ with_new (context_of program.now) class cause space.old) }
+    ensures read { (below : Below) → IsReadWith space.old below → IsRefAmong below cause → IsReadWith space.new below }
     ensures kept { IfErr result (λ _. space.new ≡ space.old) }
     ensures refused { IfErr result IsRefusal }
     ensures limit { space.new.limit ≡ space.old.limit }
     ensures changed { Changes space.old space.new }
-    ensures full { IfErr result (λ f. Passes f space.old.limit (length (with_new (context_of program.now) class space.old).slots)) }
+    ensures full { IfErr result (λ f. Passes f space.old.limit (length (with_new (context_of program.now) class cause space.old).slots)) }
 {
     if program.descends(class, ClassId::EXCEPTION) {
-        make_exception(alloc, space, class, Ref::Nil, Ref::Nil)
+        make_exception(alloc, space, class, Ref::Nil, cause)
     } else {
         make_plain(alloc, space, class)
+    }
+}
+
+/// What the value of a call is that makes a new object, which is given or raised.
+fn made_value(raises: bool, object: Ref) -> CallValue
+    ensures is { result ≡ made_value raises object }
+    ensures within { (k : Reach) → IsReached k object → IsCallValueReached k result }
+{
+    if raises {
+        CallValue::Raises(object)
+    } else {
+        CallValue::Other(object)
+    }
+}
+
+/// What a new object comes to that is not initialized: it is given or raised.
+fn made(raises: bool, object: Ref) -> Answer
+    ensures is { result ≡ valued (made_value raises object) (Answer.Gave object) }
+    ensures more { more_of result ≡ 0 }
+    ensures within { (k : Reach) → IsReached k object → IsAnswerReached k result }
+{
+    if raises {
+        Answer::Raised(object)
+    } else {
+        Answer::Gave(object)
     }
 }
 
@@ -102,13 +131,13 @@ impl Engine {
                     receiver: object,
                     handed: handed_by(making.block),
                     block: making.block,
-                    value: CallValue::Other(object),
+                    value: made_value(making.raises, object),
                 };
                 self.run_body(method.class, method.body, way, making.passing, frame, None)
             }
             None => {
                 clear(&mut self.held, frame);
-                self.control = Control::Give(Answer::Gave(object));
+                self.control = Control::Give(made(making.raises, object));
                 Ok(())
             }
         }
@@ -201,8 +230,9 @@ impl Engine {
         prepared: &Prepared,
         space: &mut Space,
         class: ClassId,
+        cause: Ref,
     ) -> Result<(), Fault>
-        requires control { self.old.control ≡ Control.New class }
+        requires control { self.old.control ≡ Control.New class cause }
         requires nested { IsNested (view_of self.old) }
         requires within { AreWithin (length space.old.slots) (view_of self.old) }
         ensures goes { (h : Course) → remaining prepared.now.program (view_of self.old) space.old h ≡ remaining prepared.now.program (view_of self.new) space.new h }
@@ -216,7 +246,7 @@ impl Engine {
         ensures changed { Changes space.old space.new }
         ensures full { IfErr result (λ f. (h : Course) → Adds h.world → Passes f space.old.limit (objects_of (remaining prepared.now.program (view_of self.old) space.old h))) }
     {
-        let object = match make_object(self.alloc, space, &prepared.program, class) {
+        let object = match make_object(self.alloc, space, &prepared.program, class, cause) {
             Ok(object) => object,
             Err(fault) => return Err(fault),
         };

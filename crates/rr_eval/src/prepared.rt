@@ -1,6 +1,6 @@
 //! Programs that are ready to run.
 
-ghost use Rattle.std.specs.Prelude.{◌≡◌, ℕ, [], codes, map, None, Some, OnOk, IfOk, slice_index_or};
+ghost use Rattle.std.specs.Prelude.{◌≡◌, ◌++◌, ◌∷◌, ℕ, [], codes, map, None, Some, OnOk, IfOk, slice_index_or};
 ghost use Rattle.rr_eval.specs.Above.{method_above};
 ghost use Rattle.std.specs.Option.{option_map};
 ghost use Rattle.rr_tree.specs.Tree.{tree_at};
@@ -14,6 +14,7 @@ ghost use Rattle.rr_eval.specs.declared.call.Callee.{Callee as Called};
 ghost use Rattle.rr_eval.specs.Rules.{has_built_in};
 ghost use Rattle.rr_eval.specs.Dispatch.{called_name, is_below, comes_first, iteration_of, method_called, method_for, initializer, made_by};
 ghost use Rattle.rr_eval.specs.Methods.{method_in, work_of};
+ghost use Rattle.rr_eval.specs.RaisingNew.{initialized_class, class_raised};
 ghost use Rattle.rr_eval.specs.Prepared.{AreSymbolsOf, callable_of, work_in, initializer_of};
 ghost use Rattle.rr_eval.specs.Speaking.{symbol_asked};
 ghost use Rattle.rr_eval.specs.Turns.{context_of};
@@ -285,6 +286,35 @@ impl Prepared {
                     None
                 }
             }
+            _ => None,
+        }
+    }
+
+    /// The class of the exception that `raise` of a value makes, where it gets the program's `initialize`.
+    pub(crate) fn initialized_class(&self, value: Ref) -> Option<ClassId>
+        ensures { result ≡ initialized_class (context_of self.now.program) value }
+    {
+        match value {
+            Ref::Class(class) => {
+                if self.program.descends(class, ClassId::EXCEPTION)
+                    && self.initializer(class).is_some()
+                {
+                    Some(class)
+                } else {
+                    None
+                }
+            }
+            _ => None,
+        }
+    }
+
+    /// The same of the values of a `raise`, of which the last one stands apart.
+    pub(crate) fn class_raised(&self, values: &[Ref], last: Ref) -> Option<ClassId>
+        ensures { result ≡ class_raised (context_of self.now.program) (values.now ++ last ∷ []) }
+    {
+        match values {
+            [] => self.initialized_class(last),
+            [first] => self.initialized_class(*first),
             _ => None,
         }
     }

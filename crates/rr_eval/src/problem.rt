@@ -1,7 +1,7 @@
 //! How an evaluation ends, and what an exception says.
 
 ghost use Rattle.std.specs.Prelude.{◌≡◌, ◌≤◌};
-ghost use Rattle.rr_eval.specs.Blocks.{returned, passed, value_by, valued};
+ghost use Rattle.rr_eval.specs.Blocks.{returned, passed, value_by, gave_by, valued};
 ghost use Rattle.rr_eval.specs.Rules.{ended};
 ghost use Rattle.rr_eval.specs.Turns.{more_of};
 ghost use Rattle.rr_eval.specs.Within.{Reach, IsReached, IsAnswerReached, IsCallValueReached};
@@ -115,6 +115,21 @@ pub fn value_by(by: CallValue, value: Ref) -> Ref
         CallValue::Method => value,
         CallValue::Other(other) => other,
         CallValue::Opposite => Ref::Truth(!is_truthy(value)),
+        CallValue::Raises(exception) => exception,
+    }
+}
+
+/// What a call ends with whose method has a value: an exception that was made for `raise` is raised.
+fn gave_by(by: CallValue, value: Ref) -> Answer
+    ensures is { result ≡ gave_by by value }
+    ensures more { more_of result ≡ 0 }
+    ensures within { (k : Reach) → IsCallValueReached k by → IsReached k value → IsAnswerReached k result }
+{
+    match by {
+        CallValue::Method => Answer::Gave(value),
+        CallValue::Other(other) => Answer::Gave(other),
+        CallValue::Opposite => Answer::Gave(Ref::Truth(!is_truthy(value))),
+        CallValue::Raises(exception) => Answer::Raised(exception),
     }
 }
 
@@ -125,7 +140,7 @@ pub fn valued(by: CallValue, answer: Answer) -> Answer
     ensures within { (k : Reach) → IsCallValueReached k by → IsAnswerReached k answer → IsAnswerReached k result }
 {
     match answer {
-        Answer::Gave(value) => Answer::Gave(value_by(by, value)),
+        Answer::Gave(value) => gave_by(by, value),
         Answer::Raised(exception) => Answer::Raised(exception),
         Answer::Broke(value) => Answer::Broke(value),
         Answer::Done(value) => Answer::Done(value),

@@ -309,10 +309,10 @@ impl Engine {
                     Err(fault) => Err(fault),
                 }
             }
-            Target::Raise => {
-                self.finish_raise(frame, value);
-                Ok(None)
-            }
+            Target::Raise => match self.raise_first(prepared, frame, value) {
+                Ok(()) => Ok(None),
+                Err(fault) => Err(fault),
+            },
             Target::Iterate(name, block) => {
                 self.send_block(prepared, space, name, block, frame, value)
             }

@@ -10,7 +10,7 @@ ghost use Rattle.rr_space.specs.Tables.{Table, Below};
 ghost use Rattle.rr_tree.specs.Tree.{tree_at};
 ghost use Rattle.rr_tree.specs.declared.program.Program.{Program};
 ghost use Rattle.rr_eval.specs.declared.call.Target.{Target};
-ghost use Rattle.rr_eval.specs.Dispatch.{passed_on, handed_by, last_of, value_of_call, way_of, new_rule, dispatched};
+ghost use Rattle.rr_eval.specs.Dispatch.{passed_on, handed_by, last_of, value_of_call, way_of, made_rule, dispatched};
 ghost use Rattle.rr_eval.specs.Rules.{operation, negation, finish, send_to, send_rule};
 ghost use Rattle.rr_eval.specs.Updating.{sent_first};
 ghost use Rattle.rr_eval.specs.Requests.{Course};
@@ -134,11 +134,13 @@ impl Engine {
         Ok(Some(Request::Call(call)))
     }
 
-    /// Begins to make a new object of a class, which gets the program's `initialize`.
+    /// Begins to make a new object of a class, which gets the program's `initialize`, and is raised then or given.
     #[tactic(auto, unfolding(crate::specs::Within::AreReached))]
-    fn begin_new(
+    pub fn begin_new(
         &mut self,
         class: ClassId,
+        cause: Ref,
+        raises: bool,
         passing: Passing,
         block: Option<NodeId>,
         frame: Frame,
@@ -147,8 +149,8 @@ impl Engine {
         requires room { length self.old.frames.items < vec_capacity self.old.frames }
         requires base { base_of frame ≤ length self.old.held.items }
         requires nested { Nested (reverse self.old.frames.items) (below_of frame self.old.held.items) }
-        ensures goes { OnOk result ((p : Program) (t : Table) (h : Course) (n : ℕ) → after_values p (view_of self.old) t frame (new_rule (context_of p) class (option_map (tree_at p.nodes.items) block) (passed_on passing (stand_of frame self.old.held.items ++ list_of last))) h n ≡ remaining_with p (view_of self.new) t h n) }
-        ensures within { (k : Reach) → AreReached k (view_of self.old) → All (IsReached k) (list_of last) → AreReached k (view_of self.new) }
+        ensures goes { OnOk result ((p : Program) (t : Table) (h : Course) (n : ℕ) → after_values p (view_of self.old) t frame (made_rule (context_of p) class cause raises (option_map (tree_at p.nodes.items) block) (passed_on passing (stand_of frame self.old.held.items ++ list_of last))) h n ≡ remaining_with p (view_of self.new) t h n) }
+        ensures within { (k : Reach) → AreReached k (view_of self.old) → IsReached k cause → All (IsReached k) (list_of last) → AreReached k (view_of self.new) }
         ensures nested { OnOk result (IsNested (view_of self.new)) }
         ensures left { self.new.left ≡ self.old.left }
         ensures err { (t : Table) → IfErr result (λ f. Stands (view_of self.old) (view_of self.new) t t f) }
@@ -165,9 +167,10 @@ impl Engine {
                 block,
                 passing,
                 base,
+                raises,
             }),
         );
-        self.control = Control::New(class);
+        self.control = Control::New(class, cause);
         Ok(())
     }
 
@@ -199,7 +202,7 @@ impl Engine {
     {
         match (prepared.made_by(receiver, callee), block) {
             (Some(class), _) => {
-                self.begin_new(class, passing, block, frame, last)?;
+                self.begin_new(class, Ref::Nil, false, passing, block, frame, last)?;
                 Ok(None)
             }
             (None, None) => self.ask_method(receiver, callee, passing, frame, last),

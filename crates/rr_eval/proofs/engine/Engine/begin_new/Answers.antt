@@ -14,11 +14,11 @@ returns-clause-goes c p t h n =
     let m = view_of c.args.self.now in
     let code = code_of p h.world in
     let s = state_of p m t h in
-    let x : Making = record { class = c.args.class; block = c.args.block; passing = c.args.passing; base = c.first_standing-base.result } in
-    begins_new code m.frames x c.args.frame m.held c.hold_last.new.held.items c.args.last s n c.in_ok-hold_last.ensures.held c.first_standing-base.ensures.inside c.first_standing-base.ensures.stand c.first_standing-base.ensures.below
-    ∙ ap (λ fs. outcome_of code fs c.hold_last.new.held.items (New c.args.class) s n) (sym c.push_within.ensures)
+    let x : Making = record { class = c.args.class; block = c.args.block; passing = c.args.passing; base = c.first_standing-base.result; raises = c.args.raises } in
+    begins_new code m.frames x c.args.cause c.args.frame m.held c.hold_last.new.held.items c.args.last s n c.in_ok-hold_last.ensures.held c.first_standing-base.ensures.inside c.first_standing-base.ensures.stand c.first_standing-base.ensures.below
+    ∙ ap (λ fs. outcome_of code fs c.hold_last.new.held.items (New c.args.class c.args.cause) s n) (sym c.push_within.ensures)
 
 pub returns-clause-within : goal.returns-clause-within
-returns-clause-within c k h last =
-    let x : Making = record { class = c.args.class; block = c.args.block; passing = c.args.passing; base = c.first_standing-base.result } in
-    new_reached k (view_of c.args.self.now) x _ _ c.args.last c.push_within.ensures c.in_ok-hold_last.ensures.held h last
+returns-clause-within c k h cause last =
+    let x : Making = record { class = c.args.class; block = c.args.block; passing = c.args.passing; base = c.first_standing-base.result; raises = c.args.raises } in
+    new_reached k (view_of c.args.self.now) x c.args.cause _ _ c.args.last c.push_within.ensures c.in_ok-hold_last.ensures.held h cause last

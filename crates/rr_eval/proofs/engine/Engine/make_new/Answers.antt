@@ -7,14 +7,22 @@ use Rattle.rr_eval.specs.Frames.{outcome_of}
 use Rattle.rr_eval.specs.Script.{Ret, objects_of}
 use Rattle.rr_eval.specs.Turns.{context_of, code_of, state_of, remaining, after_script}
 use Rattle.rr_eval.specs.Views.{view_of}
-use Rattle.rr_eval.proofs.NewObjects.{making_passes, new_more, new_given, waiting_reached}
+use Rattle.rr_eval.specs.Within.{reach}
+use Rattle.rr_eval.proofs.Holding.{ref_among, ref_within}
+use Rattle.rr_eval.proofs.Changing.{changes_trans}
+use Rattle.rr_eval.proofs.NewObjects.{cause_reached, making_passes, new_more, new_given, waiting_reached}
 use Rattle.rr_eval.proofs.engine.Engine.make_new.Goals as goal
+
+pub make_object-requires : goal.make_object-requires
+make_object-requires c =
+    let k = length c.args.space.now.slots in
+    record { cause = ref_within k None c.args.cause (cause_reached (reach k None) (view_of c.args.self.now) c.args.class c.args.cause c.requires.control c.requires.within) }
 
 pub give_object-requires-clause-within : goal.give_object-requires-clause-within
 give_object-requires-clause-within c =
     let t = c.args.space.now in
     let u = c.make_object.new.space in
-    let lt = new_more (context_of c.args.prepared.now.program) c.args.class t u c.in-Ok.ensures.made in
+    let lt = new_more (context_of c.args.prepared.now.program) c.args.class c.args.cause t u c.in-Ok.ensures.made in
     new_given (length t.slots) (length u.slots) None (view_of c.args.self.now) c.pop.new.self.items (c.in-Some.frame ∷ []) c.in-Ok.object lt c.in-Some.ensures.items c.in-Ok.ensures.name c.requires.within
 
 pub returns-in-Some-clause-within : goal.returns-in-Some-clause-within
@@ -22,7 +30,7 @@ returns-in-Some-clause-within c clusters h =
     let t = c.args.space.now in
     let u = c.make_object.new.space in
     let m = view_of c.args.self.now in
-    let lt = new_more (context_of c.args.prepared.now.program) c.args.class t u c.in-Ok.ensures.made in
+    let lt = new_more (context_of c.args.prepared.now.program) c.args.class c.args.cause t u c.in-Ok.ensures.made in
     c.give_object.ensures.within clusters
     (new_given (length t.slots) (length u.slots) clusters m c.pop.new.self.items (c.in-Some.frame ∷ []) c.in-Ok.object lt c.in-Some.ensures.items c.in-Ok.ensures.name h)
     (waiting_reached (length t.slots) (length u.slots) clusters m c.pop.new.self.items c.in-Some.frame lt c.in-Some.ensures.items h)
@@ -31,19 +39,25 @@ pub returns-in-Some-clause-read : goal.returns-in-Some-clause-read
 returns-in-Some-clause-read c below read h =
     let t = c.args.space.now in
     let u = c.make_object.new.space in
-    let lt = new_more (context_of c.args.prepared.now.program) c.args.class t u c.in-Ok.ensures.made in
-    c.give_object.ensures.read below (c.in-Ok.ensures.read below read)
+    let lt = new_more (context_of c.args.prepared.now.program) c.args.class c.args.cause t u c.in-Ok.ensures.made in
+    let k = length t.slots in
+    c.give_object.ensures.read below (c.in-Ok.ensures.read below read (ref_among k below c.args.cause (cause_reached (reach k (Some below)) (view_of c.args.self.now) c.args.class c.args.cause c.requires.control h)))
     (new_given (length t.slots) (length u.slots) (Some below) (view_of c.args.self.now) c.pop.new.self.items (c.in-Some.frame ∷ []) c.in-Ok.object lt c.in-Some.ensures.items c.in-Ok.ensures.name h)
+
+pub returns-in-Some-clause-changed : goal.returns-in-Some-clause-changed
+returns-in-Some-clause-changed c = changes_trans c.args.space.now c.make_object.new.space c.give_object.new.space c.in-Ok.ensures.changed c.give_object.ensures.changed
 
 pub returns-in-None-clause-within : goal.returns-in-None-clause-within
 returns-in-None-clause-within c clusters h =
     let t = c.args.space.now in
     let u = c.make_object.new.space in
-    let lt = new_more (context_of c.args.prepared.now.program) c.args.class t u c.in-Ok.ensures.made in
+    let lt = new_more (context_of c.args.prepared.now.program) c.args.class c.args.cause t u c.in-Ok.ensures.made in
     new_given (length t.slots) (length u.slots) clusters (view_of c.args.self.now) c.pop.new.self.items [] c.in-Ok.object lt c.in-None.ensures.items c.in-Ok.ensures.name h
 
 pub returns-in-None-clause-read : goal.returns-in-None-clause-read
-returns-in-None-clause-read c below read h = c.in-Ok.ensures.read below read
+returns-in-None-clause-read c below read h =
+    let k = length c.args.space.now.slots in
+    c.in-Ok.ensures.read below read (ref_among k below c.args.cause (cause_reached (reach k (Some below)) (view_of c.args.self.now) c.args.class c.args.cause c.requires.control h))
 
 pub returns-in-Err-clause-full : goal.returns-in-Err-clause-full
 returns-in-Err-clause-full c = λ h adds.
@@ -51,5 +65,5 @@ returns-in-Err-clause-full c = λ h adds.
     let m = view_of c.args.self.now in
     let t = c.args.space.now in
     let f = c.in-Err.fault in
-    let at : remaining p m t h ≡ after_script p m t (making (context_of p) c.args.class (λ v. Ret (Gave v))) h m.left = ap (λ k. outcome_of (code_of p h.world) m.frames m.held k (state_of p m t h) m.left) c.requires.control in
-    subst (λ o. Passes f t.limit (objects_of o)) (sym at) (making_passes p m t c.args.class f h m.left adds c.in-Err.ensures.full)
+    let at : remaining p m t h ≡ after_script p m t (making (context_of p) c.args.class c.args.cause (λ v. Ret (Gave v))) h m.left = ap (λ k. outcome_of (code_of p h.world) m.frames m.held k (state_of p m t h) m.left) c.requires.control in
+    subst (λ o. Passes f t.limit (objects_of o)) (sym at) (making_passes p m t c.args.class c.args.cause f h m.left adds c.in-Err.ensures.full)
