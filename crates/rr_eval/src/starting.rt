@@ -178,6 +178,7 @@ fn told(
 
 /// What is raised at a start with the block of a node, once the block is isolated: the class, and the message. The only fault is want of
 /// memory.
+#[tactic(auto, unfolding(crate::specs::Starting::start_rule))]
 fn refusal(
     alloc: Global,
     program: &Program,
