@@ -23,3 +23,4 @@ pub mod Fielding
 pub mod Fixing
 pub mod Owning
 pub mod Messaging
+pub mod Causing

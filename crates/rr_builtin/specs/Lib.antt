@@ -26,3 +26,4 @@ pub mod Iterations
 pub mod Fixed
 pub mod Fields
 pub mod Messages
+pub mod Causes

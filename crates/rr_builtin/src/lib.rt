@@ -4,6 +4,7 @@
 mod arrays;
 mod built;
 mod calls;
+mod causes;
 mod characters;
 mod contents;
 mod copies;
@@ -30,6 +31,7 @@ mod texts;
 
 pub use built::Built;
 pub use calls::call;
+pub use causes::set_cause;
 pub use deed::make_array;
 pub use dividing::{division_rounds_down, floor_div, floor_mod};
 pub use fields::{field_at, set_field};

@@ -14,7 +14,7 @@ use crate::problem::Problem;
 use rr_space::{Label, Ref, Space};
 
 /// Whether a value is an exception that may be written.
-fn is_open_exception(space: &Space, value: Ref) -> bool
+pub(crate) fn is_open_exception(space: &Space, value: Ref) -> bool
     ensures { result ≡ is_open_exception space.now value }
 {
     is_exception(space.kind_of(value)) && space.can_write(value)
