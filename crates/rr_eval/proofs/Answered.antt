@@ -38,13 +38,11 @@ use Rattle.rr_eval.specs.declared.frame.Frame.TheVariants.{Asking as AskingFrame
 use Rattle.rr_eval.specs.declared.hearing.Heard.TheVariants.{Said, Runs as RunsBody, Fails as FailsBy}
 use Rattle.rr_eval.specs.declared.hearing.Gathered.TheVariants as gathered
 use Rattle.rr_eval.specs.declared.prepared.Body.{Body}
-use Rattle.rr_eval.specs.declared.problem.Answer.{Answer}
-use Rattle.rr_eval.specs.declared.problem.Answer.TheVariants.{Gave, Raised, Broke, Done, Returned, Ends}
 use Rattle.rr_eval.specs.declared.problem.Problem.{Problem}
 use Rattle.rr_eval.specs.declared.problem.Problem.TheVariants.{BuiltIn, NotHere}
 use Rattle.rr_eval.specs.declared.problem.Response.TheVariants.{Gives, Throws, Fails}
 use Rattle.rr_eval.specs.Basics.{throw, settled}
-use Rattle.rr_eval.specs.Blocks.{invocation, activation_in, entered, with_frame, back, valued}
+use Rattle.rr_eval.specs.Blocks.{invocation, activation_in, entered, with_frame, back}
 use Rattle.rr_eval.specs.Bound.{bind}
 use Rattle.rr_eval.specs.Context.{Context}
 use Rattle.rr_eval.specs.Dispatch.{way_of, valued_response}
@@ -321,15 +319,6 @@ asked_too_deep p w go x v class body next s n full =
     let f : Activated = record { variables = laid body.shape.parameters body.shape.size []; activation = activation_in entry s.memory.calls.frames } in
     ap (λ b. run w go (bind (if b then Do (with_frame f None) (Go (tree_at p.nodes.items body.node) (back ByMethod)) else throw c (BuiltIn TooDeep)) (heard next)) s n) full
     ∙ thrown_passes c (BuiltIn TooDeep) next w go s n
-
--- a method's value is the value of its call
-pub by_method : (a : Answer) → valued ByMethod a ≡ a
-by_method (Gave v) = refl
-by_method (Raised e) = refl
-by_method (Broke v) = refl
-by_method (Done v) = refl
-by_method (Returned v) = refl
-by_method (Ends number v) = refl
 
 -- values that are held behind others
 pub kept_length : {A : Type 0} (xs ys : List A) → take (length xs) ys ≡ xs → length xs ≤ length ys

@@ -20,6 +20,7 @@ use Rattle.rr_builtin.specs.Acts.{Act, Answers, Makes, Freezes, Appends, Pushes,
 use Rattle.rr_base.specs.declared.name.Sym.{Sym}
 use Rattle.rr_space.specs.Kinds.{kind_at, class_at}
 use Rattle.rr_builtin.specs.Calls.{call_act}
+use Rattle.rr_builtin.specs.Causes.{with_cause, takes_cause, caused}
 use Rattle.rr_builtin.specs.Fields.{can_set, set_field, with_field}
 use Rattle.rr_builtin.specs.Kinds.{is_shell_kind}
 use Rattle.rr_builtin.specs.Messages.{is_open_exception, with_message, write_message}
@@ -36,14 +37,14 @@ use Rattle.rr_eval.specs.Context.{Context}
 use Rattle.rr_eval.specs.Globals.{globals}
 use Rattle.rr_eval.specs.Callees.{method_of}
 use Rattle.rr_eval.specs.Calls.{sent, unpublished, reply_with, call_reply}
-use Rattle.rr_eval.specs.Tasks.{task_reply, array_reply, field_reply, message_reply, global_reply, text_reply, joined_texts, inspected_reply, given_by, unless_lacking, lack_of, texts_of, given_or_ended, on_given, empty_reply, filled, hash_reply, values_shown}
+use Rattle.rr_eval.specs.Tasks.{task_reply, array_reply, field_reply, message_reply, cause_reply, global_reply, text_reply, joined_texts, inspected_reply, given_by, unless_lacking, lack_of, texts_of, given_or_ended, on_given, empty_reply, filled, hash_reply, values_shown}
 use Rattle.rr_eval.specs.Responses.{ref_of, response_from, response_of}
 use Rattle.rr_eval.specs.Requests.{Adds, arguments_of}
 use Rattle.rr_eval.specs.Runs.{alone}
 use Rattle.rr_eval.specs.Sharing.{called_reply, ractor_method}
 use Rattle.rr_eval.specs.Script.{Does, Calls, Reply}
 use Rattle.rr_eval.specs.declared.call.Task.{Task}
-use Rattle.rr_eval.specs.declared.call.Task.TheVariants.{Puts as PutsTask, Inspect, Print, MakeArray, MakeText, MakeHash, SetField, SetMessage, SetGlobal, Show, Lines}
+use Rattle.rr_eval.specs.declared.call.Task.TheVariants.{Puts as PutsTask, Inspect, Print, MakeArray, MakeText, MakeHash, SetField, SetMessage, SetCause, SetGlobal, Show, Lines}
 use Rattle.rr_builtin.specs.declared.problem.Problem.{Problem as BuiltInProblem}
 use Rattle.rr_text.specs.Names.{names_of}
 use Rattle.rr_eval.specs.Within.{reach, IsReached, IsCallReached, IsResponseReached}
@@ -247,6 +248,18 @@ message_adds [] t = omega arith
 message_adds (exception ∷ []) t = omega arith
 message_adds (exception ∷ v ∷ vs) t = write_message_adds (value_of v) exception t
 
+either_adds : (t : Table) (b : Bool) (u w : Table) → count t ≤ count u → count t ≤ count w → count t ≤ count (if b then u else w)
+either_adds t true u w first second = first
+either_adds t false u w first second = second
+
+pub caused_adds : (x : Value) (v : Ref) (t : Table) → count t ≤ count (caused x v t)
+caused_adds x v t = either_adds t (takes_cause t x v) (changed (with_cause x) v t) t (changed_adds (with_cause x) v t) (omega arith)
+
+cause_adds : (vs : List Ref) (t : Table) → count t ≤ count (cause_reply vs t).table
+cause_adds [] t = omega arith
+cause_adds (exception ∷ []) t = omega arith
+cause_adds (exception ∷ cause ∷ vs) t = caused_adds (value_of cause) exception t
+
 global_adds : (x : Sym) (vs : List Ref) (t : Table) → count t ≤ count (global_reply x vs t).table
 global_adds x [] t = omega arith
 global_adds x (v ∷ vs) t = set_field_adds x.0 (value_of v) globals t
@@ -259,6 +272,7 @@ given_adds Inspect c s vs t = inspected_adds vs t
 given_adds Show c s vs t = inspected_adds (values_shown vs) t
 given_adds (SetField x) c s vs t = field_adds x vs t
 given_adds SetMessage c s vs t = message_adds vs t
+given_adds SetCause c s vs t = cause_adds vs t
 given_adds (SetGlobal x) c s vs t = global_adds x vs t
 given_adds PutsTask c s vs t = omega arith
 given_adds Print c s vs t = omega arith

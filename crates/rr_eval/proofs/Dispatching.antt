@@ -23,7 +23,7 @@ use Rattle.rr_eval.specs.Above.{method_above, initialize_above, is_initialize, s
 use Rattle.rr_eval.specs.Blocks.{Way, invocation, running}
 use Rattle.rr_eval.specs.Callees.{method_of}
 use Rattle.rr_eval.specs.Context.{Context}
-use Rattle.rr_eval.specs.Dispatch.{counted, valued_response, last_of, write_rule, run_work, run_method, method_for, way_of, handed_by, initializer, made_by, with_new, initialized, making, built_in, dispatched, send_rule, operation, negation, iteration_of, made_object, made_value, made_rule}
+use Rattle.rr_eval.specs.Dispatch.{counted, valued_response, last_of, write_rule, run_work, run_method, method_for, way_of, handed_by, initializer, made_by, initialized, making, built_in, dispatched, send_rule, operation, negation, iteration_of, made_object, made_value, made_rule}
 use Rattle.rr_eval.specs.Fields.{field_response}
 use Rattle.rr_eval.specs.Methods.{Work, Runs, Reads, Writes, NoWork, Callable}
 use Rattle.rr_eval.specs.Operators.{integers, opposite}

@@ -14,7 +14,7 @@ use Rattle.rr_tree.specs.declared.program.Program.{Program}
 use Rattle.rr_eval.specs.declared.frame.Frame.{Frame}
 use Rattle.rr_eval.specs.declared.frame.Frame.TheVariants.{Left}
 use Rattle.rr_eval.specs.declared.frame.Control.{Control}
-use Rattle.rr_eval.specs.declared.frame.Control.TheVariants.{Enter, Operate, Give, Throw, Raise, RaiseValue, Start, New, Send, Assign}
+use Rattle.rr_eval.specs.declared.frame.Control.TheVariants.{Enter, Operate, Give, Throw, Raise, RaiseValue, Start, New, Pair, Send, Assign}
 use Rattle.rr_eval.specs.View.{View}
 use Rattle.rr_eval.specs.Script.{State, Script, World, Spent, Ended, Waits, run, after, taken}
 use Rattle.rr_eval.specs.Requests.{Course, asking}
@@ -34,6 +34,7 @@ first_is c (Raise class message) tree e s n = absurd (cc e)
 first_is c (RaiseValue v message) tree e s n = absurd (cc e)
 first_is c (Start block problem) tree e s n = absurd (cc e)
 first_is c (New class cause) tree e s n = absurd (cc e)
+first_is c (Pair v w) tree e s n = absurd (cc e)
 first_is c (Send callee v w) tree e s n = absurd (cc e)
 first_is c (Assign spot v) tree e s n = absurd (cc e)
 

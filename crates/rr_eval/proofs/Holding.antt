@@ -24,7 +24,7 @@ use Rattle.rr_eval.specs.declared.frame.Making.{Making}
 use Rattle.rr_eval.specs.declared.iterating.Iterating.{Iterating}
 use Rattle.rr_eval.specs.declared.frame.Frame.TheVariants as frames
 use Rattle.rr_eval.specs.declared.frame.Control.{Control}
-use Rattle.rr_eval.specs.declared.frame.Control.TheVariants.{Enter, Operate, Give, Throw, Raise, RaiseValue, Start, New, Send, Assign}
+use Rattle.rr_eval.specs.declared.frame.Control.TheVariants.{Enter, Operate, Give, Throw, Raise, RaiseValue, Start, New, Pair, Send, Assign}
 use Rattle.rr_eval.specs.declared.spot.Spot.{Spot}
 use Rattle.rr_eval.specs.declared.spot.Spot.TheVariants as spots
 use Rattle.rr_eval.specs.View.{View}
@@ -103,6 +103,7 @@ frame_more k l cs le (frames.Ensure part) h = tt
 frame_more k l cs le (frames.Kept a) h = answer_more k l cs le a h
 frame_more k l cs le (frames.Round i) h = tt
 frame_more k l cs le (frames.Turned i) h = tt
+frame_more k l cs le (frames.Paired i) h = tt
 frame_more k l cs le (frames.Initialize x) h = tt
 
 spot_more : (k l : ℕ) (cs : Option Below) → k ≤ l → (x : Spot) → IsSpotReached (reach k cs) x → IsSpotReached (reach l cs) x
@@ -120,6 +121,7 @@ control_more k l cs le (Raise class message) h = ref_more k l cs le message h
 control_more k l cs le (RaiseValue v message) h = (ref_more k l cs le v h.0, All-weaker (IsReached (reach k cs)) (IsReached (reach l cs)) (ref_more k l cs le) (list_of message) h.1)
 control_more k l cs le (Start block problem) h = tt
 control_more k l cs le (New class cause) h = ref_more k l cs le cause h
+control_more k l cs le (Pair v w) h = (ref_more k l cs le v h.0, ref_more k l cs le w h.1)
 control_more k l cs le (Send callee v w) h = (ref_more k l cs le v h.0, All-weaker (IsReached (reach k cs)) (IsReached (reach l cs)) (ref_more k l cs le) (list_of w) h.1)
 control_more k l cs le (Assign spot v) h = (spot_more k l cs le spot h.0, ref_more k l cs le v h.1)
 
@@ -329,6 +331,7 @@ below_reached P (frames.Combine x) held h = all_take P x.base held h
 below_reached P (frames.Put place base) held h = all_take P base held h
 below_reached P (frames.Round i) held h = all_take P i.base held h
 below_reached P (frames.Turned i) held h = all_take P i.base held h
+below_reached P (frames.Paired i) held h = all_take P i.base held h
 below_reached P (frames.Initialize x) held h = all_take P x.base held h
 below_reached P _ held h = h
 
@@ -349,6 +352,17 @@ new_reached k m x cause fs held last pushed holds h why value = record {
   control = why;
   frames = subst (All (IsFrameReached k)) (sym pushed) (All-push (IsFrameReached k) m.frames (frames.Initialize x) h.frames tt);
   held = subst (All (IsReached k)) (sym holds) (all_append (IsReached k) m.held (list_of last) h.held value);
+  calls = h.calls;
+  rescuing = h.rescuing;
+}
+
+-- a frame that waits for an array of two values
+pub paired_reached : (k : Reach) (m : View) (i : Iterating) (v w : Ref) (fs : List Frame) → fs ≡ m.frames ++ frames.Paired i ∷ [] → AreReached k m → IsReached k v → IsReached k w → AreReached k (record m { control = Pair v w; frames = fs })
+unfolding AreReached
+paired_reached k m i v w fs pushed h first second = record {
+  control = (first, second);
+  frames = subst (All (IsFrameReached k)) (sym pushed) (All-push (IsFrameReached k) m.frames (frames.Paired i) h.frames tt);
+  held = h.held;
   calls = h.calls;
   rescuing = h.rescuing;
 }

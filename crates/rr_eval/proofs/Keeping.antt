@@ -35,8 +35,9 @@ use Rattle.rr_eval.specs.declared.iterating.Ahead.{Ahead}
 use Rattle.rr_eval.specs.declared.iterating.Ahead.TheVariants.{Another, Finished, Stopped}
 use Rattle.rr_eval.specs.declared.iterating.Visits.{Visits}
 use Rattle.rr_eval.specs.declared.iterating.Visits.TheVariants.{Times, Upto, Elements, Pairs, Nothing, Forever}
-use Rattle.rr_eval.specs.Iterating.{ahead, kept, finished, turn_of, taken_up, continued, continued_by, continued_with, turn_ended, turned, beginning, stand_of_first, begun_over, begun, iteration_rule}
-use Rattle.rr_eval.specs.Raising.{message_or_nil, raise_new, raise_kind, raise_again, raise_rule}
+use Rattle.rr_eval.specs.Pairs.{both_object, with_both, paired}
+use Rattle.rr_eval.specs.Iterating.{ahead, kept, finished, turn_of, array_turn, takes_array, or_nil, turn_over, taken_up, continued, continued_by, continued_with, turn_ended, turned, beginning, stand_of_first, begun_over, begun, iteration_rule}
+use Rattle.rr_eval.specs.Raising.{message_or_nil, raise_new, raise_kind, raise_again, raise_values, raised_beside, raise_beside, raise_rule}
 use Rattle.rr_builtin.specs.News.{is_exception_class}
 use Rattle.rr_space.specs.Kinds.{kind_at}
 use Rattle.rr_space.specs.declared.kind.Kind.{Kind}
@@ -142,8 +143,21 @@ finished_keeps c (Pairs place) stand = tt
 finished_keeps c Nothing stand = tt
 finished_keeps c Forever stand = tt
 
+both_keeps : (v w : Ref) (t : Table) → count t ≤ count (with_both v w t)
+both_keeps v w t = omega (arith, length-append t.slots (Here (both_object v w) ∷ []))
+
+pub paired_keeps : (v w : Ref) (next : Ref → Script) → ((a : Ref) → Keeps (next a)) → Keeps (paired v w next)
+paired_keeps v w next kept = λ m. (λ k. both_keeps v w k.table, kept (Local (length m.table.slots)))
+
+pub array_turn_keeps : (c : Context) (i : Iterated) (a : Ref) → Keeps (array_turn c i a)
+array_turn_keeps c i a = λ m. turn_of_keeps c i (shape_in (Some i.block)) (a ∷ []) m
+
+turn_over_keeps : (c : Context) (i : Iterated) (array : Bool) (first last : Option Ref) (m : Memory) → Keeps (turn_over c i array first last m)
+turn_over_keeps c i true first last m = paired_keeps (or_nil first) (or_nil last) (array_turn c i) (array_turn_keeps c i)
+turn_over_keeps c i false first last m = turn_of_keeps c i (shape_in (Some i.block)) (list_of first ++ list_of last) m
+
 pub taken_up_keeps : (c : Context) (i : Iterated) (a : Ahead) (m : Memory) → Keeps (taken_up c i a m)
-taken_up_keeps c i (Another first last more) m = turn_of_keeps c (record i { visits = more }) (shape_in (Some i.block)) (list_of first ++ list_of last) m
+taken_up_keeps c i (Another first last more) m = turn_over_keeps c (record i { visits = more }) (takes_array more (shape_in (Some i.block))) first last m
 taken_up_keeps c i Finished m = finished_keeps c i.visits i.stand
 taken_up_keeps c i (Stopped problem) m = throw_keeps c problem
 
@@ -173,7 +187,7 @@ begun_over_keeps c visits b None = throw_keeps c NotHere
 begun_over_keeps c visits b (Some stand) = continued_keeps c (record { visits = visits; stand = stand; block = b })
 
 pub begun_keeps : (c : Context) (r : Result Visits Problem) (vs : List Ref) (b : Tree) (t : Table) → Keeps (begun c r vs b t)
-begun_keeps c (Ok visits) vs b t = begun_over_keeps c visits b (stand_of_first visits (shape_in (Some b)) vs t)
+begun_keeps c (Ok visits) vs b t = begun_over_keeps c visits b (stand_of_first visits vs t)
 begun_keeps c (Err problem) vs b t = throw_keeps c problem
 
 pub iteration_keeps : (c : Context) (x : Sym) (b : Tree) (vs : List Ref) → Keeps (iteration_rule c x b vs)
@@ -203,8 +217,15 @@ pub again_keeps : (c : Context) (e : Ref) → Keeps (raise_again c e)
 again_keeps c refs.Nil = throw_keeps c Unhandled
 again_keeps c _ = tt
 
+raise_values_keeps : (c : Context) (vs : List Ref) → Keeps (raise_values c vs)
+raise_values_keeps c [] = λ m. again_keeps c m.rescuing
+raise_values_keeps c (v ∷ []) = λ m. raise_kind_keeps c v None (kind_at m.table v)
+raise_values_keeps c (v ∷ w ∷ []) = λ m. raise_kind_keeps c v (Some w) (kind_at m.table v)
+raise_values_keeps c (v ∷ w ∷ x ∷ vs) = throw_keeps c (BuiltIn (Count (length (v ∷ w ∷ x ∷ vs)) 0 2))
+
+raise_beside_keeps : (c : Context) (vs : List Ref) (two : Option (Ref × Ref)) → Keeps (raise_beside c vs two)
+raise_beside_keeps c vs None = raise_values_keeps c vs
+raise_beside_keeps c vs (Some two) = λ m. settled_keeps c
+
 pub raise_rule_keeps : (c : Context) (vs : List Ref) → Keeps (raise_rule c vs)
-raise_rule_keeps c [] = λ m. again_keeps c m.rescuing
-raise_rule_keeps c (v ∷ []) = λ m. raise_kind_keeps c v None (kind_at m.table v)
-raise_rule_keeps c (v ∷ w ∷ []) = λ m. raise_kind_keeps c v (Some w) (kind_at m.table v)
-raise_rule_keeps c (v ∷ w ∷ x ∷ vs) = throw_keeps c (BuiltIn (Count (length (v ∷ w ∷ x ∷ vs)) 0 2))
+raise_rule_keeps c vs = λ m. raise_beside_keeps c vs (raised_beside m.table m.rescuing vs)

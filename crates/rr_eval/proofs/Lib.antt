@@ -10,7 +10,9 @@ pub mod Unknown
 pub mod Unwind
 pub mod Entered
 pub mod Quickly
+pub mod QuickParts
 pub mod QuickCalls
+pub mod QuickSends
 pub mod Bytes
 pub mod Printed
 pub mod Keeping
@@ -46,6 +48,7 @@ pub mod RaisesNew
 pub mod Trying
 pub mod Assigning
 pub mod NewObjects
+pub mod PairArrays
 pub mod Supers
 pub mod Forwarding
 pub mod Looping

@@ -31,7 +31,7 @@ use Rattle.rr_eval.specs.declared.problem.Problem.{Problem}
 use Rattle.rr_eval.specs.declared.problem.Problem.TheVariants.{BuiltIn, MissingName, MissingConstant, NotHere}
 use Rattle.rr_builtin.specs.declared.problem.Problem.TheVariants.{WrongType}
 use Rattle.rr_eval.specs.declared.frame.Frame.{Frame}
-use Rattle.rr_eval.specs.declared.frame.Frame.TheVariants.{Not, Negation, And, Or, Left, Right, Store, SetField, Branch, Condition, Body, Break, Next, Return, Back, Past, Rest, Argument, Key, Value, Element, Read, Combine, Put, Rescue, Class, Handling, Ensure, Kept, Round, Turned, Initialize, Receiver, Item, Aim, Several, Assigned, Asking as AskingFrame, Asked as AskedFrame}
+use Rattle.rr_eval.specs.declared.frame.Frame.TheVariants.{Not, Negation, And, Or, Left, Right, Store, SetField, Branch, Condition, Body, Break, Next, Return, Back, Past, Rest, Argument, Key, Value, Element, Read, Combine, Put, Rescue, Class, Handling, Ensure, Kept, Round, Turned, Paired, Initialize, Receiver, Item, Aim, Several, Assigned, Asking as AskingFrame, Asked as AskedFrame}
 use Rattle.rr_eval.specs.Script.{Memory, State, Script, Ret, Part, TreePart, TurnPart, CallPart, AssignPart, Evaluate, Go, See, Do, Ask, Asked, Reply, World, Outcome, Ended, Spent, Waits, Evaluation, run, after, taken, objects_of}
 use Rattle.rr_eval.specs.Requests.{Course, Adds, AddsTo, asking}
 use Rattle.rr_base.specs.declared.fault.Fault.{Fault}
@@ -61,7 +61,7 @@ use Rattle.rr_eval.specs.Messages.{message, exception_class}
 use Rattle.rr_eval.specs.Exceptions.{with_exception}
 use Rattle.rr_eval.specs.Frames.{Code, evaluates, runs_in, iterated, option_trees, taker, behind_class, resumed, stand_of, below_of, unwind}
 use Rattle.rr_eval.specs.Several.{all_parts}
-use Rattle.rr_eval.proofs.Keeping.{count, make_keeps, Keeps, on_value_keeps, loop_keeps, raise_keeps, throw_keeps, settled_keeps, if_keeps, back_keeps, past_keeps, yield_keeps, continued_keeps, continued_with_keeps, turned_keeps, return_keeps}
+use Rattle.rr_eval.proofs.Keeping.{count, make_keeps, Keeps, on_value_keeps, loop_keeps, raise_keeps, throw_keeps, settled_keeps, if_keeps, back_keeps, past_keeps, yield_keeps, continued_keeps, continued_with_keeps, turned_keeps, array_turn_keeps, return_keeps}
 use Rattle.rr_eval.specs.declared.call_stack.CallValue.TheVariants.{Method}
 use Rattle.rr_eval.proofs.Speeches.{task_keeps, joining_call_keeps, asking_on_keeps, asked_on_keeps}
 use Rattle.rr_eval.proofs.Dispatching.{method_keeps, initialized_keeps, dispatched_keeps, self_keeps, sent_block_keeps, operates, negates, super_keeps}
@@ -287,6 +287,7 @@ resumed_keeps c (Ensure part) stand = ensure_keeps (tree_at c.nodes part)
 resumed_keeps c (Kept a) stand = on_value_keeps _ (λ v. tt)
 resumed_keeps c (Round i) stand = turned_keeps c.context (iterated c i stand)
 resumed_keeps c (Turned i) stand = on_value_keeps _ (λ v. continued_with_keeps c.context (iterated c i stand) v)
+resumed_keeps c (Paired i) stand = on_value_keeps _ (λ v. array_turn_keeps c.context (iterated c i stand) v)
 resumed_keeps c (Initialize x) stand = on_value_keeps _ (λ v. initialized_keeps c.context x.raises (initializer c.context x.class) (option_map (tree_at c.nodes) x.block) v (passed_on x.passing stand))
 
 -- an evaluation that takes no object away

@@ -11,12 +11,13 @@ use Rattle.rr_eval.specs.declared.problem.Answer.TheVariants.{Gave}
 use Rattle.rr_eval.specs.declared.problem.Response.{Response}
 use Rattle.rr_eval.specs.declared.frame.Frame.{Frame}
 use Rattle.rr_eval.specs.declared.frame.Control.{Control}
-use Rattle.rr_eval.specs.declared.frame.Control.TheVariants.{Enter, Operate, Give, Throw, Raise, RaiseValue, Start, New, Send, Assign}
+use Rattle.rr_eval.specs.declared.frame.Control.TheVariants.{Enter, Operate, Give, Throw, Raise, RaiseValue, Start, New, Pair, Send, Assign}
 use Rattle.rr_eval.specs.Script.{State, Script, Ret, Part, TreePart, CallPart, AssignPart, Evaluate, See, Do, Ask, Asked, Reply, World, Outcome, Ended, Spent, Waits, Evaluation, run, after, taken}
 use Rattle.rr_eval.specs.Rules.{Context, throw, raise, settled, part_rule, eval}
 use Rattle.rr_eval.specs.Starting.{start_rule}
 use Rattle.rr_eval.specs.Raising.{raise_value}
 use Rattle.rr_eval.specs.Dispatch.{making}
+use Rattle.rr_eval.specs.Pairs.{paired}
 use Rattle.rr_eval.specs.Requests.{Course}
 use Rattle.rr_eval.specs.Frames.{Code, evaluates, runs_in, resumed, stand_of, below_of, unwind, start}
 use Rattle.rr_eval.specs.View.{View}
@@ -86,6 +87,7 @@ module _ (own : Context) where
   start_grows c (Raise class message) s n = run_grows c.world (evaluates c) (meaning_grows c) (raise class message) s n
   start_grows c (RaiseValue v message) s n = run_grows c.world (evaluates c) (meaning_grows c) (raise_value c.context v message) s n
   start_grows c (Start block problem) s n = run_grows c.world (evaluates c) (meaning_grows c) (start_rule c.context (tree_at c.nodes block) problem) s n
+  start_grows c (Pair v w) s n = run_grows c.world (evaluates c) (meaning_grows c) (paired v w (λ a. Ret (Gave a))) s n
   start_grows c (New class cause) s n = run_grows c.world (evaluates c) (meaning_grows c) (making c.context class cause (λ v. Ret (Gave v))) s n
   start_grows c (Send callee v w) s n = meaning_grows c (CallPart callee v (list_of w)) s n
   start_grows c (Assign spot v) s n = meaning_grows c (AssignPart spot v) s n

@@ -9,9 +9,12 @@ use Rattle.rr_eval.specs.declared.problem.Answer.{Answer}
 use Rattle.rr_eval.specs.declared.problem.Answer.TheVariants.{Gave}
 use Rattle.rr_eval.specs.declared.frame.Making.{Making}
 use Rattle.rr_eval.specs.Dispatch.{making, made_rule, passed_on}
+use Rattle.rr_eval.specs.Iterating.{array_turn}
+use Rattle.rr_eval.specs.Pairs.{paired}
+use Rattle.rr_eval.specs.declared.iterating.Iterating.{Iterating}
 use Rattle.rr_eval.specs.declared.frame.Frame.{Frame}
-use Rattle.rr_eval.specs.declared.frame.Frame.TheVariants.{Left, Argument, Key, Value, Read, Combine, Put, Round, Turned, Initialize, Receiver, Item, Aim, Several, Assigned, Asking as AskingFrame, Asked as AskedFrame}
-use Rattle.rr_eval.specs.declared.frame.Control.TheVariants.{Enter, Give, New}
+use Rattle.rr_eval.specs.declared.frame.Frame.TheVariants.{Left, Argument, Key, Value, Read, Combine, Put, Round, Turned, Paired, Initialize, Receiver, Item, Aim, Several, Assigned, Asking as AskingFrame, Asked as AskedFrame}
+use Rattle.rr_eval.specs.declared.frame.Control.TheVariants.{Enter, Give, New, Pair}
 use Rattle.rr_eval.specs.Script.{State, Ret, Go, Outcome, Ended, Spent, Waits, after}
 use Rattle.rr_eval.specs.Rules.{values, finish}
 use Rattle.rr_eval.specs.declared.call.Target.{Target}
@@ -20,7 +23,7 @@ use Rattle.rr_eval.specs.Turns.{Stands}
 use Rattle.rr_space.specs.Tables.{Table}
 use Rattle.rr_base.specs.declared.fault.Fault.{Fault}
 use Rattle.rr_tree.specs.Nodes.{trees_before}
-use Rattle.rr_eval.specs.Frames.{Code, means, runs_in, IsNew, resumed, stand_of, below_of, unwind, Nested, base_of, outcome_of}
+use Rattle.rr_eval.specs.Frames.{Code, means, runs_in, iterated, IsNew, resumed, stand_of, below_of, unwind, Nested, base_of, outcome_of}
 
 -- an evaluation whose answer is the answer
 pub after_ended : (o : Outcome) → after o Ended ≡ o
@@ -89,6 +92,10 @@ asking_frame c fs (Turned i) held o new =
     ap (λ h. unwind c (reverse fs) h (after o (λ a. runs_in c (resumed c (Turned i) [] a)))) (sym (take_all i.base held (omega arith)))
     ∙ ap (λ h. unwind c (reverse fs) (take i.base held) (after o (λ a. runs_in c (resumed c (Turned i) h a)))) (sym (drop_all i.base held (omega arith)))
     ∙ sym (rest_push c fs (Turned i) held o)
+asking_frame c fs (Paired i) held o new =
+    ap (λ h. unwind c (reverse fs) h (after o (λ a. runs_in c (resumed c (Paired i) [] a)))) (sym (take_all i.base held (omega arith)))
+    ∙ ap (λ h. unwind c (reverse fs) (take i.base held) (after o (λ a. runs_in c (resumed c (Paired i) h a)))) (sym (drop_all i.base held (omega arith)))
+    ∙ sym (rest_push c fs (Paired i) held o)
 asking_frame c fs (Initialize x) held o new =
     ap (λ h. unwind c (reverse fs) h (after o (λ a. runs_in c (resumed c (Initialize x) [] a)))) (sym (take_all x.base held (omega arith)))
     ∙ ap (λ h. unwind c (reverse fs) (take x.base held) (after o (λ a. runs_in c (resumed c (Initialize x) h a)))) (sym (drop_all x.base held (omega arith)))
@@ -127,6 +134,7 @@ nested_new fs (Combine x) held new nested = nested_push fs (Combine x) held (ome
 nested_new fs (Put place b) held new nested = nested_push fs (Put place b) held (omega arith) (subst (λ h. Nested (reverse fs) h) (sym (take_all b held (omega arith))) nested)
 nested_new fs (Round i) held new nested = nested_push fs (Round i) held (omega arith) (subst (λ h. Nested (reverse fs) h) (sym (take_all i.base held (omega arith))) nested)
 nested_new fs (Turned i) held new nested = nested_push fs (Turned i) held (omega arith) (subst (λ h. Nested (reverse fs) h) (sym (take_all i.base held (omega arith))) nested)
+nested_new fs (Paired i) held new nested = nested_push fs (Paired i) held (omega arith) (subst (λ h. Nested (reverse fs) h) (sym (take_all i.base held (omega arith))) nested)
 nested_new fs (Initialize x) held new nested = nested_push fs (Initialize x) held (omega arith) (subst (λ h. Nested (reverse fs) h) (sym (take_all x.base held (omega arith))) nested)
 nested_new fs (Left op b) held new nested = nested_push fs (Left op b) held (omega arith) nested
 nested_new fs f held new nested = nested_push fs f held (omega arith) nested
@@ -163,6 +171,11 @@ begins_new c fs x cause f held all last s n push le stand below =
     ap (λ h. unwind c (reverse fs) h (next (stand_of f held ++ list_of last))) (sym below ∙ sym (take-append-le x.base held (list_of last) le) ∙ ap (take x.base) (sym push))
     ∙ ap (λ vs. unwind c (reverse fs) (take x.base all) (next vs)) (ap (λ l. l ++ list_of last) (sym stand) ∙ sym (drop-append-le x.base held (list_of last) le) ∙ ap (drop x.base) (sym push))
     ∙ sym (rest_push c fs (Initialize x) all (runs_in c (making c.context x.class cause (λ v. Ret (Gave v))) s n))
+
+-- an array is made for a frame that begins a turn with it
+pub begins_paired : (c : Code) (fs : List Frame) (i : Iterating) (v w : Ref) (held : List Ref) (s : State) (n : ℕ)
+    → unwind c (reverse fs) (take i.base held) (runs_in c (paired v w (array_turn c.context (iterated c i (drop i.base held)))) s n) ≡ outcome_of c (fs ++ Paired i ∷ []) held (Pair v w) s n
+begins_paired c fs i v w held s n = sym (rest_push c fs (Paired i) held (runs_in c (paired v w (λ a. Ret (Gave a))) s n))
 
 -- a frame that is put back, where all else stands
 pub frame_back : (m n : View) (t : Table) (f : Frame) (fault : Fault) (fs : List Frame) → Stands m n t t fault → fs ≡ n.frames ++ f ∷ [] → record m { frames = m.frames ++ f ∷ [] } ≡ record n { frames = fs }

@@ -23,6 +23,7 @@ use Rattle.rr_eval.specs.declared.call_stack.CallValue.TheVariants as value
 use Rattle.rr_builtin.specs.Objects.{is_truthy}
 use Rattle.rr_eval.specs.declared.call_stack.Entry.TheVariants.{OfMethod, OfBlock}
 use Rattle.rr_eval.specs.declared.problem.Answer.{Answer}
+use Rattle.rr_eval.specs.declared.problem.Exit.TheVariants as exits
 use Rattle.rr_eval.specs.declared.problem.Answer.TheVariants.{Gave, Raised, Broke, Done, Returned, Ends}
 use Rattle.rr_eval.specs.declared.problem.Problem.TheVariants.{BuiltIn, NoBlock, Jump}
 use Rattle.rr_eval.specs.Basics.{throw, not_here}
@@ -56,15 +57,16 @@ with_frame f b m = record m { calls = record m.calls { frames = m.calls.frames +
 abbrev pub without_frame : Memory → Memory
 without_frame m = record m { calls = record m.calls { frames = left m.calls.frames }; blocks = take (length m.blocks - 1) m.blocks }
 
--- What ends a method, whose frame has the number: a `return`, and what ends that frame. No `break` and no `next` stands outside of a
--- loop or block; one would end the method too.
+-- What ends a method, whose frame has the number: a `return`, and what ends that frame. A `break` out of the block that its call has ends the
+-- call. No other `break` and no `next` stands outside of a loop or block; one would end the method too.
 abbrev pub returned : ℕ → Answer → Answer
 returned number (Gave v) = Gave v
 returned number (Raised e) = Raised e
 returned number (Broke v) = Gave v
 returned number (Done v) = Gave v
 returned number (Returned v) = Gave v
-returned number (Ends other v) = if nat_eq other number then Gave v else Ends other v
+returned number (Ends (exits.Method other) v) = if nat_eq other number then Gave v else Ends (exits.Method other) v
+returned number (Ends (exits.Call other) v) = if nat_eq other number then Broke v else Ends (exits.Call other) v
 
 -- the value of a call, by the method's
 abbrev pub value_by : CallValue → Ref → Ref
@@ -80,10 +82,11 @@ gave_by (value.Other w) v = Gave (value_by (value.Other w) v)
 gave_by value.Opposite v = Gave (value_by value.Opposite v)
 gave_by (value.Raises e) v = Raised e
 
+-- the value of a `break` that ends the call is the call's, whatever the method's would be
 abbrev pub valued : CallValue → Answer → Answer
 valued by (Gave v) = gave_by by v
 valued by (Raised e) = Raised e
-valued by (Broke v) = Broke v
+valued by (Broke v) = Gave v
 valued by (Done v) = Done v
 valued by (Returned v) = Returned v
 valued by (Ends number v) = Ends number v
@@ -92,19 +95,27 @@ valued by (Ends number v) = Ends number v
 abbrev pub back : CallValue → Answer → Script
 back by a = See (λ m. Do without_frame (Ret (valued by (returned (top m.calls.frames) a))))
 
+-- the frame of the method that was given the block which a `yield` in a frame calls
+abbrev pub given_frame : Given → ℕ → ℕ
+given_frame given.Nothing root = root
+given_frame (given.Block number home) root = number
+
+abbrev pub owner_in : Activation → ℕ
+owner_in a = given_frame a.given a.root
+
 -- What ends a block that a `yield` calls: `next` ends its turn, `break` the call that has the block, whose frame is `owner`, and
 -- `return` the method in which the block stands, whose frame is `root`.
 abbrev pub passed : ℕ → ℕ → Answer → Answer
 passed owner root (Gave v) = Gave v
 passed owner root (Raised e) = Raised e
-passed owner root (Broke v) = Ends owner v
+passed owner root (Broke v) = Ends (exits.Call owner) v
 passed owner root (Done v) = Gave v
-passed owner root (Returned v) = Ends root v
+passed owner root (Returned v) = Ends (exits.Method root) v
 passed owner root (Ends other v) = Ends other v
 
 -- a block ends, and its frame goes
 abbrev pub past : Answer → Script
-past a = See (λ m. Do without_frame (See (λ k. Ret (passed (running k.calls.frames).root (running m.calls.frames).root a))))
+past a = See (λ m. Do without_frame (See (λ k. Ret (passed (owner_in (running k.calls.frames)) (running m.calls.frames).root a))))
 
 -- how a new frame ends
 abbrev pub left_by : Entry → Answer → Script

@@ -16,13 +16,14 @@ use Rattle.rr_eval.specs.declared.problem.Answer.{Answer}
 use Rattle.rr_eval.specs.declared.problem.Answer.TheVariants.{Gave, Broke, Done}
 use Rattle.rr_eval.specs.declared.frame.Frame.{Frame}
 use Rattle.rr_eval.specs.declared.frame.Trial.{Trial}
-use Rattle.rr_eval.specs.declared.frame.Frame.TheVariants.{Not, Negation, And, Or, Left, Right, Store, SetField, Branch, Condition, Body, Break, Next, Return, Back, Past, Rest, Argument, Key, Value, Element, Read, Combine, Put, Rescue, Class, Handling, Ensure, Kept, Round, Turned, Initialize, Receiver, Item, Aim, Several, Assigned, Asking as AskingFrame, Asked as AskedFrame}
+use Rattle.rr_eval.specs.declared.frame.Frame.TheVariants.{Not, Negation, And, Or, Left, Right, Store, SetField, Branch, Condition, Body, Break, Next, Return, Back, Past, Rest, Argument, Key, Value, Element, Read, Combine, Put, Rescue, Class, Handling, Ensure, Kept, Round, Turned, Paired, Initialize, Receiver, Item, Aim, Several, Assigned, Asking as AskingFrame, Asked as AskedFrame}
 use Rattle.rr_eval.specs.declared.frame.Control.{Control}
-use Rattle.rr_eval.specs.declared.frame.Control.TheVariants.{Enter, Operate, Give, Throw, Raise, RaiseValue, Start, New, Send, Assign}
+use Rattle.rr_eval.specs.declared.frame.Control.TheVariants.{Enter, Operate, Give, Throw, Raise, RaiseValue, Start, New, Pair, Send, Assign}
 use Rattle.rr_eval.specs.declared.iterating.Iterating.{Iterating}
 use Rattle.std.specs.Option.{option_map}
 use Rattle.rr_eval.specs.Dispatch.{making, initialized, initializer, passed_on}
-use Rattle.rr_eval.specs.Iterating.{continued_with, turned}
+use Rattle.rr_eval.specs.Iterating.{continued_with, turned, array_turn}
+use Rattle.rr_eval.specs.Pairs.{paired}
 use Rattle.rr_eval.specs.Script.{State, Iterated, Script, Ret, Evaluate, Go, CallPart, AssignPart, World, Evaluation, Outcome, Ended, run, after}
 use Rattle.rr_builtin.specs.Objects.{is_truthy}
 use Rattle.rr_eval.specs.Fields.{set_field_rule}
@@ -108,6 +109,7 @@ resumed c (Ensure part) stand = ensure_rule (tree_at c.nodes part)
 resumed c (Kept a) stand = on_value (λ v. Ret a)
 resumed c (Round i) stand = turned c.context (iterated c i stand)
 resumed c (Turned i) stand = on_value (λ v. continued_with c.context (iterated c i stand) v)
+resumed c (Paired i) stand = on_value (array_turn c.context (iterated c i stand))
 resumed c (Initialize x) stand = on_value (λ v. initialized c.context x.raises (initializer c.context x.class) (option_map (tree_at c.nodes) x.block) v (passed_on x.passing stand))
 
 -- the frame that waits for the answer of a body that has a frame of its own
@@ -132,6 +134,7 @@ stand_of (Combine x) held = drop x.base held
 stand_of (Put place base) held = drop base held
 stand_of (Round i) held = drop i.base held
 stand_of (Turned i) held = drop i.base held
+stand_of (Paired i) held = drop i.base held
 stand_of (Initialize x) held = drop x.base held
 stand_of _ held = []
 
@@ -151,6 +154,7 @@ below_of (Combine x) held = take x.base held
 below_of (Put place base) held = take base held
 below_of (Round i) held = take i.base held
 below_of (Turned i) held = take i.base held
+below_of (Paired i) held = take i.base held
 below_of (Initialize x) held = take x.base held
 below_of _ held = held
 
@@ -173,6 +177,7 @@ IsNew (Combine x) n = x.base ≡ n
 IsNew (Put place base) n = base ≡ n
 IsNew (Round i) n = i.base ≡ n
 IsNew (Turned i) n = i.base ≡ n
+IsNew (Paired i) n = i.base ≡ n
 IsNew (Initialize x) n = x.base ≡ n
 IsNew _ n = Unit {0}
 
@@ -200,6 +205,7 @@ base_of (Combine x) = x.base
 base_of (Put place base) = base
 base_of (Round i) = i.base
 base_of (Turned i) = i.base
+base_of (Paired i) = i.base
 base_of (Initialize x) = x.base
 base_of _ = 0
 
@@ -234,8 +240,37 @@ IsRareFrame (Ensure part) = Unit {0}
 IsRareFrame (Kept a) = Unit {0}
 IsRareFrame (Round i) = Unit {0}
 IsRareFrame (Turned i) = Unit {0}
+IsRareFrame (Paired i) = Unit {0}
 IsRareFrame (Initialize x) = Unit {0}
 IsRareFrame _ = ⊥
+
+-- one of these frames that asks nothing for its value
+abbrev pub IsAloneFrame : Frame → Type 0
+IsAloneFrame (Aim x) = Unit {0}
+IsAloneFrame (Several end count base) = Unit {0}
+IsAloneFrame (Assigned x) = Unit {0}
+IsAloneFrame (Read u) = Unit {0}
+IsAloneFrame (Combine x) = Unit {0}
+IsAloneFrame (Rescue end count otherwise) = Unit {0}
+IsAloneFrame (Class r) = Unit {0}
+IsAloneFrame (Handling old) = Unit {0}
+IsAloneFrame (Ensure part) = Unit {0}
+IsAloneFrame (Kept a) = Unit {0}
+IsAloneFrame (Paired i) = Unit {0}
+IsAloneFrame (Initialize x) = Unit {0}
+IsAloneFrame _ = ⊥
+
+-- and that takes no memory for it
+abbrev pub IsQuietFrame : Frame → Type 0
+IsQuietFrame (Assigned x) = Unit {0}
+IsQuietFrame (Read u) = Unit {0}
+IsQuietFrame (Combine x) = Unit {0}
+IsQuietFrame (Rescue end count otherwise) = Unit {0}
+IsQuietFrame (Class r) = Unit {0}
+IsQuietFrame (Handling old) = Unit {0}
+IsQuietFrame (Ensure part) = Unit {0}
+IsQuietFrame (Kept a) = Unit {0}
+IsQuietFrame _ = ⊥
 
 -- what comes first
 abbrev pub start : Code → Control → State → ℕ → Outcome
@@ -247,6 +282,7 @@ start c (Raise class message) s n = runs_in c (raise class message) s n
 start c (RaiseValue v message) s n = runs_in c (raise_value c.context v message) s n
 start c (Start block problem) s n = runs_in c (start_rule c.context (tree_at c.nodes block) problem) s n
 start c (New class cause) s n = runs_in c (making c.context class cause (λ v. Ret (Gave v))) s n
+start c (Pair v w) s n = runs_in c (paired v w (λ a. Ret (Gave a))) s n
 start c (Send callee v w) s n = evaluates c (CallPart callee v (list_of w)) s n
 start c (Assign spot v) s n = evaluates c (AssignPart spot v) s n
 

@@ -1,5 +1,5 @@
 -- Built-in methods that call their block again and again.
-use Rattle.std.specs.Prelude.{◌+◌, ◌-◌, ◌^◌, ◌+ℤ◌, ℕ, ℤ, nat_eq, nat_lt, not, ◌&&◌, drop, pos, int_lt, List, [], ◌∷◌, ◌++◌, slice_index_or, codes, Bool, false, if◌then◌else◌, Option, Some, None, Result, Ok, Err}
+use Rattle.std.specs.Prelude.{◌+◌, ◌-◌, ◌^◌, ◌+ℤ◌, ℕ, ℤ, nat_eq, nat_lt, drop, pos, int_lt, List, [], ◌∷◌, ◌++◌, slice_index_or, codes, Bool, true, false, if◌then◌else◌, Option, Some, None, Result, Ok, Err}
 use Rattle.std.specs.Option.{option_map}
 use Rattle.std.specs.Ordering.{int_eq}
 use Rattle.std.specs.Str.{bytes_eq}
@@ -33,12 +33,14 @@ use Rattle.rr_eval.specs.declared.iterating.Ahead.TheVariants.{Another, Finished
 use Rattle.rr_eval.specs.declared.iterating.Visits.{Visits}
 use Rattle.rr_eval.specs.declared.iterating.Visits.TheVariants.{Times, Upto, Elements, Pairs, Nothing, Forever}
 use Rattle.rr_eval.specs.declared.problem.Answer.{Answer}
+use Rattle.rr_eval.specs.declared.problem.Exit.TheVariants.{Method}
 use Rattle.rr_eval.specs.declared.problem.Answer.TheVariants.{Gave, Raised, Broke, Done, Returned, Ends}
 use Rattle.rr_eval.specs.declared.problem.Problem.{Problem}
 use Rattle.rr_eval.specs.declared.problem.Problem.TheVariants.{BuiltIn, MissingMethod, NoBlock, NotHere}
 use Rattle.rr_eval.specs.Basics.{throw, settled}
 use Rattle.rr_eval.specs.Blocks.{running, without_frame, opened, spread_with, given_values, to_given, shape_in}
 use Rattle.rr_eval.specs.Context.{Context}
+use Rattle.rr_eval.specs.Pairs.{paired}
 use Rattle.rr_eval.specs.Responses.{own_of, receiver_of}
 use Rattle.rr_eval.specs.Script.{Script, Ret, Evaluate, TurnPart, See, Do, Ask, Does, Iterated, Memory}
 use Rattle.rr_eval.specs.Variables.{top}
@@ -139,8 +141,26 @@ turn_of c i None vs m = throw c NoBlock
 turn_of c i (Some shape) vs m =
     to_given c (given_values shape.parameters vs m.table) (λ ws. opened c (OfBlock (top m.calls.frames)) shape.parameters shape.size ws None m.calls (Evaluate (TurnPart i) Ret))
 
+-- the turn of a block that gets a new array
+abbrev pub array_turn : Context → Iterated → Ref → Script
+array_turn c i a = See (λ m. turn_of c i (shape_in (Some i.block)) (a ∷ []) m)
+
+-- whether a block gets a key and its value as one array: where it has one parameter
+abbrev pub takes_array : Visits → Option Shape → Bool
+takes_array (Pairs place) (Some shape) = nat_eq shape.parameters 1
+takes_array visits shape = false
+
+abbrev pub or_nil : Option Ref → Ref
+or_nil None = Nil
+or_nil (Some v) = v
+
+-- the turn over up to two values, of which an array is made, where the block gets one
+abbrev pub turn_over : Context → Iterated → Bool → Option Ref → Option Ref → Memory → Script
+turn_over c i true first last m = paired (or_nil first) (or_nil last) (array_turn c i)
+turn_over c i false first last m = turn_of c i (shape_in (Some i.block)) (list_of first ++ list_of last) m
+
 abbrev pub taken_up : Context → Iterated → Ahead → Memory → Script
-taken_up c i (Another first last more) m = turn_of c (record i { visits = more }) (shape_in (Some i.block)) (list_of first ++ list_of last) m
+taken_up c i (Another first last more) m = turn_over c (record i { visits = more }) (takes_array more (shape_in (Some i.block))) first last m
 taken_up c i Finished m = finished c i.visits i.stand
 taken_up c i (Stopped problem) m = throw c problem
 
@@ -168,7 +188,7 @@ left_turn c visits root t (Gave v) = Gave v
 left_turn c visits root t (Raised e) = stopped c visits e t
 left_turn c visits root t (Broke v) = Gave v
 left_turn c visits root t (Done v) = Gave v
-left_turn c visits root t (Returned v) = Ends root v
+left_turn c visits root t (Returned v) = Ends (Method root) v
 left_turn c visits root t (Ends number v) = Ends number v
 
 -- the statements' value and `next` end the turn alone
@@ -216,26 +236,21 @@ abbrev pub own_values : List Value → Option (List Ref)
 own_values [] = Some []
 own_values (x ∷ xs) = spread_with (own_of x) (own_values xs)
 
--- whether a block takes a key and its value apart: one parameter would have an array of both
-abbrev pub takes_pairs : Option Shape → Bool
-takes_pairs (Some shape) = not (nat_eq shape.parameters 1)
-takes_pairs None = false
-
 -- the key objects that a hash has now; where they are not given yet, none
-abbrev pub keys_given : Option Shape → Table → Ref → Option (List Ref)
-keys_given shape t v = if takes_pairs shape && is_own_hash t v then own_values (names_of_hash t v) else None
+abbrev pub keys_given : Table → Ref → Option (List Ref)
+keys_given t v = if is_own_hash t v then own_values (names_of_hash t v) else None
 
 -- the values that stand for an iteration that begins: its receiver and its arguments, and then the keys of a hash
-abbrev pub stand_of_first : Visits → Option Shape → List Ref → Table → Option (List Ref)
-stand_of_first (Pairs place) shape vs t = option_map (λ keys. vs ++ keys) (keys_given shape t (slice_index_or vs 0 Nil))
-stand_of_first visits shape vs t = Some vs
+abbrev pub stand_of_first : Visits → List Ref → Table → Option (List Ref)
+stand_of_first (Pairs place) vs t = option_map (λ keys. vs ++ keys) (keys_given t (slice_index_or vs 0 Nil))
+stand_of_first visits vs t = Some vs
 
 abbrev pub begun_over : Context → Visits → Tree → Option (List Ref) → Script
 begun_over c visits b None = throw c NotHere
 begun_over c visits b (Some stand) = continued c (record { visits = visits; stand = stand; block = b })
 
 abbrev pub begun : Context → Result Visits Problem → List Ref → Tree → Table → Script
-begun c (Ok visits) vs b t = begun_over c visits b (stand_of_first visits (shape_in (Some b)) vs t)
+begun c (Ok visits) vs b t = begun_over c visits b (stand_of_first visits vs t)
 begun c (Err problem) vs b t = throw c problem
 
 -- a call of an iteration with a block

@@ -24,6 +24,7 @@ pub mod Variables
 pub mod Basics
 pub mod Blocks
 pub mod Splats
+pub mod Pairs
 pub mod Iterating
 pub mod Starting
 pub mod Dispatch

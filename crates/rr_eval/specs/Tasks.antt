@@ -11,6 +11,7 @@ use Rattle.rr_text.specs.Walk.{Walked, Wrote, Deep}
 use Rattle.rr_text.specs.Forms.{Names, spoken, inspected, lines, within_text}
 use Rattle.rr_text.specs.Names.{names_of}
 use Rattle.rr_builtin.specs.Acts.{MakesArray, MakesObject, performed}
+use Rattle.rr_builtin.specs.Causes.{caused}
 use Rattle.rr_builtin.specs.Fields.{set_field}
 use Rattle.rr_builtin.specs.Kinds.{is_array_kind}
 use Rattle.rr_builtin.specs.Messages.{write_message}
@@ -20,11 +21,11 @@ use Rattle.rr_builtin.specs.declared.problem.Problem.{Problem as BuiltInProblem}
 use Rattle.rr_builtin.specs.declared.problem.Problem.TheVariants.{Moved, TooDeep}
 use Rattle.rr_eval.specs.declared.call.Callee.TheVariants.{SetIndex}
 use Rattle.rr_eval.specs.declared.call.Task.{Task}
-use Rattle.rr_eval.specs.declared.call.Task.TheVariants.{Puts, Inspect, Print, MakeArray, MakeText, MakeHash, SetField, SetMessage, SetGlobal, Show, Lines}
+use Rattle.rr_eval.specs.declared.call.Task.TheVariants.{Puts, Inspect, Print, MakeArray, MakeText, MakeHash, SetField, SetMessage, SetCause, SetGlobal, Show, Lines}
 use Rattle.rr_eval.specs.declared.problem.Problem.TheVariants.{BuiltIn, NotHere}
 use Rattle.rr_eval.specs.declared.problem.Response.{Response}
-use Rattle.rr_eval.specs.declared.problem.Response.TheVariants.{Gives, Fails}
-use Rattle.rr_eval.specs.Calls.{call_reply, reply_with}
+use Rattle.rr_eval.specs.declared.problem.Response.TheVariants.{Gives, Throws, Fails}
+use Rattle.rr_eval.specs.Calls.{call_reply, reply_with, unpublished}
 use Rattle.rr_eval.specs.Context.{Context}
 use Rattle.rr_eval.specs.Globals.{globals}
 use Rattle.rr_eval.specs.Operators.{make}
@@ -68,6 +69,7 @@ texts_of MakeArray names t vs = []
 texts_of MakeHash names t vs = []
 texts_of (SetField x) names t vs = []
 texts_of SetMessage names t vs = []
+texts_of SetCause names t vs = []
 texts_of Show names t vs = texts_shown names t vs
 texts_of (SetGlobal x) names t vs = []
 texts_of Puts names t [] = Wrote (10 ∷ []) ∷ []
@@ -144,6 +146,11 @@ abbrev pub message_reply : List Ref → Table → Reply
 message_reply (exception ∷ v ∷ vs) t = reply_with NotHere t (write_message (value_of v) exception t)
 message_reply vs t = value_reply Nil t
 
+-- the second of two exceptions becomes the cause of the first one, where it takes one, and the first one is raised
+abbrev pub cause_reply : List Ref → Table → Reply
+cause_reply (exception ∷ cause ∷ vs) t = record { response = Throws exception; table = unpublished t (caused (value_of cause) exception t) }
+cause_reply vs t = value_reply Nil t
+
 -- the value becomes a global variable, or a constant, and is given
 abbrev pub global_reply : Sym → List Ref → Table → Reply
 global_reply x (v ∷ vs) t = reply_with NotHere t (set_field x.0 (value_of v) globals t)
@@ -158,6 +165,7 @@ given_by Inspect c s vs t = inspected_reply vs t
 given_by Show c s vs t = inspected_reply (values_shown vs) t
 given_by (SetField x) c s vs t = field_reply x vs t
 given_by SetMessage c s vs t = message_reply vs t
+given_by SetCause c s vs t = cause_reply vs t
 given_by (SetGlobal x) c s vs t = global_reply x vs t
 given_by _ c s vs t = value_reply Nil t
 

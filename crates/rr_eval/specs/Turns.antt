@@ -14,7 +14,7 @@ use Rattle.rr_eval.specs.declared.problem.Answer.{Answer}
 use Rattle.rr_eval.specs.declared.problem.Answer.TheVariants.{Gave, Raised, Broke, Done, Returned, Ends}
 use Rattle.rr_eval.specs.declared.frame.Frame.{Frame}
 use Rattle.rr_eval.specs.declared.frame.Control.{Control}
-use Rattle.rr_eval.specs.declared.frame.Control.TheVariants.{Enter, Operate, Give, Throw, Raise, RaiseValue, Start, New, Send, Assign}
+use Rattle.rr_eval.specs.declared.frame.Control.TheVariants.{Enter, Operate, Give, Throw, Raise, RaiseValue, Start, New, Pair, Send, Assign}
 use Rattle.rr_eval.specs.declared.engine.Turn.{Turn}
 use Rattle.rr_eval.specs.declared.engine.Turn.TheVariants as turns
 use Rattle.rr_eval.specs.Acts.{IsRefusal}
@@ -151,8 +151,9 @@ waits (Raise class message) = 3
 waits (Throw e) = 4
 waits (RaiseValue v message) = 4
 waits (Start block problem) = 4
--- the object is given to the frame that waits for it at once
+-- the object, or the array, is given to the frame that waits for it at once
 waits (New class cause) = 1
+waits (Pair v w) = 1
 waits (Send callee v w) = 0
 waits (Assign spot v) = 0
 

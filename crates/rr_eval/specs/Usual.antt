@@ -1,14 +1,17 @@
 -- Parts whose value needs no frame.
-use Rattle.std.specs.Prelude.{◌≡◌, ◌+◌, ℕ}
+use Rattle.std.specs.Prelude.{◌≡◌, ◌+◌, ◌++◌, ℕ, List, length, take}
 use Rattle.rr_space.specs.Tables.{Table}
 use Rattle.rr_space.specs.declared.refer.Ref.{Ref}
 use Rattle.rr_tree.specs.Tree.{Tree}
+use Rattle.rr_tree.specs.declared.node.Node.{Node}
+use Rattle.rr_tree.specs.declared.node.Node.TheVariants as node
 use Rattle.rr_tree.specs.declared.program.Program.{Program}
 use Rattle.rr_eval.specs.declared.problem.Answer.TheVariants.{Gave}
-use Rattle.rr_eval.specs.Frames.{Code, means}
+use Rattle.rr_eval.specs.Frames.{Code, means, runs_in}
 use Rattle.rr_eval.specs.Requests.{Course}
-use Rattle.rr_eval.specs.Script.{State, Ended}
-use Rattle.rr_eval.specs.Turns.{code_of, state_of}
+use Rattle.rr_eval.specs.Rules.{arguments}
+use Rattle.rr_eval.specs.Script.{State, Script, Ended}
+use Rattle.rr_eval.specs.Turns.{context_of, code_of, state_of}
 use Rattle.rr_eval.specs.View.{View}
 
 -- a tree takes so many steps, leaves all as it is, and has this value
@@ -18,3 +21,32 @@ Takes c tree s steps v = (n : ℕ) → means c tree s (steps + n) ≡ Ended (Gav
 -- the tree does so whatever the objects are, and whatever was asked before
 abbrev pub TakesNow : Program → View → Tree → ℕ → Ref → Type 0
 TakesNow p m tree steps v = (t : Table) (h : Course) → Takes (code_of p h.world) tree (state_of p m t h) steps v
+
+-- a script takes so many steps, leaves all as it is, and goes on as another
+abbrev pub ComesTo : Program → View → Table → Script → ℕ → Script → Type 0
+ComesTo p m t script steps next = (h : Course) (n : ℕ) → runs_in (code_of p h.world) script (state_of p m t h) (steps + n) ≡ runs_in (code_of p h.world) next (state_of p m t h) n
+
+-- The first of the parts of a list, all but these, take so many steps, leave all as it is, and stand for these values, whatever the objects are,
+-- whatever stands before, and whatever follows.
+abbrev pub TakeFirst : Program → View → List Tree → ℕ → List Ref → List Tree → Type 0
+TakeFirst p m trees steps vs others =
+    (t : Table) (stand : List Ref) (next : List Ref → Script) → ComesTo p m t (arguments (context_of p) trees stand next) steps (arguments (context_of p) others (stand ++ vs) next)
+
+-- more values are held, behind those that were, and all else is as it was
+pub record HoldsMore (old new : View) : Type 0 where
+  pub control : new.control ≡ old.control
+  pub frames : new.frames ≡ old.frames
+  pub held : take (length old.held) new.held ≡ old.held
+  pub calls : new.calls ≡ old.calls
+  pub blocks : new.blocks ≡ old.blocks
+  pub rescuing : new.rescuing ≡ old.rescuing
+  pub left : new.left ≡ old.left
+
+-- a call of a receiver
+abbrev pub IsSendNode : Node → Type 0
+IsSendNode (node.Send a x first count site) = Unit {0}
+IsSendNode (node.Index a b) = Unit {0}
+IsSendNode (node.Append a b) = Unit {0}
+IsSendNode (node.SetAttribute a x b site) = Unit {0}
+IsSendNode (node.SetIndex a b d) = Unit {0}
+IsSendNode _ = ⊥

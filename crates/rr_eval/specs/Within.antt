@@ -23,7 +23,7 @@ use Rattle.rr_eval.specs.declared.problem.Response.TheVariants.{Gives, Throws, F
 use Rattle.rr_eval.specs.declared.frame.Frame.{Frame}
 use Rattle.rr_eval.specs.declared.frame.Frame.TheVariants.{Right, Combine, Back, Class, Handling, Kept}
 use Rattle.rr_eval.specs.declared.frame.Control.{Control}
-use Rattle.rr_eval.specs.declared.frame.Control.TheVariants.{Give, Raise, RaiseValue, New, Send, Assign}
+use Rattle.rr_eval.specs.declared.frame.Control.TheVariants.{Give, Raise, RaiseValue, New, Pair, Send, Assign}
 use Rattle.rr_eval.specs.declared.spot.Spot.{Spot}
 use Rattle.rr_eval.specs.declared.spot.Spot.TheVariants as spots
 use Rattle.rr_eval.specs.declared.request.Request.{Request}
@@ -105,6 +105,7 @@ IsControlReached k (Give a) = IsAnswerReached k a
 IsControlReached k (Raise class message) = IsReached k message
 IsControlReached k (RaiseValue v message) = IsReached k v × All (IsReached k) (list_of message)
 IsControlReached k (New class cause) = IsReached k cause
+IsControlReached k (Pair v w) = IsReached k v × IsReached k w
 IsControlReached k (Send callee v w) = IsReached k v × All (IsReached k) (list_of w)
 IsControlReached k (Assign spot v) = IsSpotReached k spot × IsReached k v
 IsControlReached k _ = Unit {0}

@@ -229,6 +229,7 @@ impl Engine {
 
     /// Calls a method of the first of the values that stand for a frame and of one more, with the others; `join` of an array asks what it
     /// joins. A refused growth leaves all as it is.
+    #[inline(always)]
     pub fn call_first(
         &mut self,
         prepared: &Prepared,

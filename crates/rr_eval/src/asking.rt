@@ -50,6 +50,7 @@ pub fn saying_of(task: Task) -> Option<Saying>
         Task::MakeHash => None,
         Task::SetField(_) => None,
         Task::SetMessage => None,
+        Task::SetCause => None,
         Task::SetGlobal(_) => None,
     }
 }

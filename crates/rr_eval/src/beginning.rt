@@ -9,7 +9,6 @@ ghost use Rattle.rr_space.specs.declared.refer.Ref.{Ref};
 ghost use Rattle.rr_tree.specs.Tree.{tree_at};
 ghost use Rattle.rr_eval.specs.declared.frame.Frame.{Frame};
 ghost use Rattle.rr_eval.specs.declared.iterating.Visits.{Visits};
-ghost use Rattle.rr_eval.specs.Blocks.{shape_in};
 ghost use Rattle.rr_eval.specs.Frames.{iterated, Nested};
 ghost use Rattle.rr_eval.specs.Iterating.{continued, keys_given, begun_over, begun};
 ghost use Rattle.rr_eval.specs.Requests.{Course};
@@ -72,7 +71,7 @@ impl Engine {
         requires room { length self.old.frames.items < vec_capacity self.old.frames }
         requires base { iteration.base ≤ length self.old.held.items }
         requires nested { Nested (reverse self.old.frames.items) (take iteration.base self.old.held.items) }
-        ensures goes { IfOk result (λ q. (h : Course) (n : ℕ) → after_values program.now (view_of self.old) space.now (Frame.Turned iteration) (begun_over (context_of program.now) iteration.visits (tree_at program.now.nodes.items iteration.block) (option_map (λ keys. drop iteration.base self.old.held.items ++ keys) (keys_given (shape_in (Some (tree_at program.now.nodes.items iteration.block))) space.now (slice_index_or (drop iteration.base self.old.held.items) 0 Ref.Nil)))) h n ≡ continuing program.now (view_of self.new) space.now q h n) }
+        ensures goes { IfOk result (λ q. (h : Course) (n : ℕ) → after_values program.now (view_of self.old) space.now (Frame.Turned iteration) (begun_over (context_of program.now) iteration.visits (tree_at program.now.nodes.items iteration.block) (option_map (λ keys. drop iteration.base self.old.held.items ++ keys) (keys_given space.now (slice_index_or (drop iteration.base self.old.held.items) 0 Ref.Nil)))) h n ≡ continuing program.now (view_of self.new) space.now q h n) }
         ensures nested { OnOk result (IsNested (view_of self.new)) }
         ensures within { (clusters : Option Below) → AreReached (reach (length space.now.slots) clusters) (view_of self.old) → AreReached (reach (length space.now.slots) clusters) (view_of self.new) }
         ensures pairs { (place : ℕ) → iteration.visits ≡ Visits.Pairs place → IfOk result (λ q. q ≡ None) }
@@ -83,7 +82,7 @@ impl Engine {
         ensures fault { IfErr result (λ f. f ≡ Fault.Memory) }
     {
         let hash = value_at(standing(&self.held, Frame::Turned(iteration)), 0);
-        match keys_given(self.alloc, program, space, iteration.block, hash)? {
+        match keys_given(self.alloc, space, hash)? {
             Some(keys) => self.begin_with(program, space, iteration, keys.as_slice()),
             None => {
                 self.refuse(Frame::Turned(iteration), Problem::NotHere);

@@ -56,6 +56,9 @@ pub enum Task {
     SetField(Sym),
     /// The second of two values becomes the message of the first one, an exception.
     SetMessage,
+    /// The second of two exceptions becomes the cause of the first one, unless that one has a cause, may not be written, or is the second one
+    /// or behind it. The first one is raised.
+    SetCause,
     /// The value becomes the global variable, or the constant, of this name, and is given.
     SetGlobal(Sym),
 }
@@ -107,6 +110,7 @@ pub struct Call {
 }
 
 /// These values and one more.
+#[inline(always)]
 pub fn arguments_of(alloc: Global, values: &[Ref], last: Ref) -> Result<Arguments, AllocError>
     ensures are { IfOk result (λ arguments. arguments_of arguments ≡ values.now ++ last ∷ []) }
     ensures within { (k : Reach) → All (IsReached k) values.now → IsReached k last → IfOk result (λ arguments. All (IsReached k) (arguments_of arguments)) }
@@ -123,6 +127,7 @@ pub fn arguments_of(alloc: Global, values: &[Ref], last: Ref) -> Result<Argument
 }
 
 /// These values, and one more, where there is one.
+#[inline(always)]
 pub fn arguments_with(
     alloc: Global,
     values: &[Ref],
@@ -141,6 +146,7 @@ pub fn arguments_with(
 }
 
 /// The arguments among the values of a call, of which the last one stands apart.
+#[inline(always)]
 pub fn passed(passing: Passing, values: &[Ref], last: Option<Ref>) -> (&[Ref], Option<Ref>)
     ensures are { result.0.now ++ list_of result.1 ≡ passed_on passing (values.now ++ list_of last) }
     ensures within { (k : Reach) → All (IsReached k) values.now → All (IsReached k) (list_of last) → All (IsReached k) result.0.now × All (IsReached k) (list_of result.1) }
@@ -155,6 +161,7 @@ pub fn passed(passing: Passing, values: &[Ref], last: Option<Ref>) -> (&[Ref], O
 }
 
 /// A call of a receiver with the arguments among these values, of which the last one stands apart.
+#[inline(always)]
 pub fn call_of(
     alloc: Global,
     receiver: Ref,

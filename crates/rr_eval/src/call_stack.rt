@@ -206,6 +206,7 @@ impl CallStack {
     }
 
     /// What the frame of a method has beside its variables.
+    #[inline(always)]
     fn activation_of(&self, call: Invocation) -> Activation
         ensures { length self.now.frames < self.now.limit → result ≡ activation_in (Entry.OfMethod call) self.now.frames }
     {
@@ -230,6 +231,7 @@ impl CallStack {
     }
 
     /// What a new frame has beside its variables.
+    #[inline(always)]
     fn activation_in(&self, entry: Entry) -> Activation
         ensures { length self.now.frames < self.now.limit → result ≡ activation_in entry self.now.frames }
     {
@@ -246,6 +248,7 @@ impl CallStack {
     ///
     /// The faults leave the frames as they were. `Limit(Frames)`: there are as many as there may be. `Memory`: a growth was
     /// refused.
+    #[inline(always)]
     pub fn push(
         &mut self,
         values: &[Ref],

@@ -17,6 +17,7 @@ ghost use Rattle.rr_eval.specs.Frames.{below_of, base_of, Nested, first_tree};
 ghost use Rattle.rr_eval.specs.Rules.{ended};
 ghost use Rattle.rr_eval.specs.Nodes.{evaluated_tree, IsEvaluated, IsRareNode};
 ghost use Rattle.rr_eval.specs.Turns.{context_of, state_of, remaining, remaining_with, after_script, after_answer, continuing, IsNested, Stands, leaf_value, stop_of, Turned, more_of, size, sized, waits, power, Falls};
+ghost use Rattle.rr_eval.specs.Usual.{IsSendNode};
 ghost use Rattle.rr_eval.specs.Views.{view_of};
 ghost use Rattle.rr_eval.specs.Within.{Reach, reach, IsReached, IsAnswerReached, IsFrameReached, AreVariablesReached, IsAskedReached, IsTurnReached, AreReached, AreWithin, KeepsReach, KeepsRead};
 ghost use Rattle.std.specs.List.{All};
@@ -28,6 +29,7 @@ use crate::operator::on_integers;
 use crate::prepared::Prepared;
 use crate::problem::Answer;
 use crate::request::Request;
+use crate::usual_sends::is_send;
 use rr_base::Fault;
 use rr_space::{Ref, Space};
 use rr_tree::{BinaryOperator, Node, NodeId, Program};
@@ -146,8 +148,8 @@ impl Engine {
         }
     }
 
-    /// Evaluates a node that needs neither the objects nor memory: one step, or more where the part that comes first needs no
-    /// frame and the steps do not stop before.
+    /// Evaluates a node that needs neither the objects nor memory and calls no receiver: one step, or more where the part that comes
+    /// first needs no frame and the steps do not stop before.
     #[inline(always)]
     fn visit_usual(&mut self, program: &Program, here: NodeId, node: Node, stop: u64) -> bool
         requires control { self.old.control ≡ Control.Enter here }
@@ -163,10 +165,13 @@ impl Engine {
         ensures spends { IsTrue result → self.new.left < self.old.left }
         ensures falls { IsTrue result → power (view_of self.new) + self.old.left ≤ power (view_of self.old) + self.new.left }
         ensures same { IsFalse result → self.new ≡ self.old }
-        ensures rare { IsFalse result → IsRareNode node }
+        ensures rare { IsFalse result → (IsSendNode node → ⊥) → IsRareNode node }
     {
         if self.visit_first(program, here, node, stop) {
             return true;
+        }
+        if is_send(node) {
+            return false;
         }
         self.visit_one(program, here, node)
     }
@@ -348,6 +353,7 @@ impl Engine {
                     self.start(&prepared.program, space, block, problem)?
                 }
                 Control::New(class, cause) => self.make_new(prepared, space, class, cause)?,
+                Control::Pair(first, last) => self.make_pair(prepared, space, first, last)?,
                 Control::Operate(op, a, b) => {
                     if self.left == 0 {
                         return Ok(Turn::StepLimit);
@@ -368,9 +374,7 @@ impl Engine {
                     self.make_room()?;
                     let node = evaluated_node(&prepared.program, here);
                     if !self.visit_usual(&prepared.program, here, node, stop)
-                        && let Some(request) = self.visit_other(
-                            prepared, space, here, node, stop,
-                        )?
+                        && let Some(request) = self.visit_node(prepared, space, here, node, stop)?
                     {
                         return Ok(Turn::Ask(request));
                     }

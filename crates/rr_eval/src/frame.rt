@@ -129,6 +129,8 @@ pub enum Frame {
     Round(Iterating),
     /// An iteration whose turn ends with the answer.
     Turned(Iterating),
+    /// An iteration that begins a turn with an array that is made for it.
+    Paired(Iterating),
     /// A new object, which is then initialized.
     Initialize(Making),
 }
@@ -150,6 +152,8 @@ pub enum Control {
     Start(NodeId, Problem),
     /// A new object of a class, for which a frame waits, and its cause, where it is an exception.
     New(ClassId, Ref),
+    /// A new array of two values, for which a frame waits.
+    Pair(Ref, Ref),
     /// A call of a receiver with one argument or none, for whose value a frame waits.
     Send(Callee, Ref, Option<Ref>),
     /// An assignment to one of several targets, for which a frame waits.
@@ -157,6 +161,7 @@ pub enum Control {
 }
 
 /// The values that stand for a frame.
+#[inline(always)]
 pub fn standing(held: &Vec<Ref>, frame: Frame) -> &[Ref]
     requires { base_of frame ≤ length held.now.items }
     ensures is { result.now ≡ stand_of frame held.now.items }
@@ -178,12 +183,14 @@ pub fn standing(held: &Vec<Ref>, frame: Frame) -> &[Ref]
         Frame::Put(_, base) => &held[base..],
         Frame::Round(iteration) => &held[iteration.base..],
         Frame::Turned(iteration) => &held[iteration.base..],
+        Frame::Paired(iteration) => &held[iteration.base..],
         Frame::Initialize(making) => &held[making.base..],
         _ => &[],
     }
 }
 
 /// Where the values begin that stand for a frame: behind all of them, where none do.
+#[inline(always)]
 pub fn first_standing(held: &Vec<Ref>, frame: Frame) -> usize
     requires { base_of frame ≤ length held.now.items }
     ensures inside { result ≤ length held.now.items }
@@ -206,6 +213,7 @@ pub fn first_standing(held: &Vec<Ref>, frame: Frame) -> usize
         Frame::Put(_, base) => base,
         Frame::Round(iteration) => iteration.base,
         Frame::Turned(iteration) => iteration.base,
+        Frame::Paired(iteration) => iteration.base,
         Frame::Initialize(making) => making.base,
         _ => held.len(),
     }
@@ -232,6 +240,7 @@ pub fn clear(held: &mut Vec<Ref>, frame: Frame)
         Frame::Put(_, base) => held.truncate(base),
         Frame::Round(iteration) => held.truncate(iteration.base),
         Frame::Turned(iteration) => held.truncate(iteration.base),
+        Frame::Paired(iteration) => held.truncate(iteration.base),
         Frame::Initialize(making) => held.truncate(making.base),
         _ => (),
     }

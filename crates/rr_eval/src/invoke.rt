@@ -37,6 +37,7 @@ use rr_space::{Ref, Space};
 use rr_tree::NodeId;
 
 /// How many arguments there are among these values and one more.
+#[inline(always)]
 pub fn count_of(passing: Passing, values: &[Ref], last: Option<Ref>) -> usize
     ensures { result ≡ length (passed_on passing (values.now ++ list_of last)) }
 {
@@ -59,6 +60,7 @@ pub struct Way {
 }
 
 /// A call of a method that stands in a class.
+#[inline(always)]
 pub fn invocation(way: Way, class: ClassId, body: Body) -> Invocation
     ensures is { (p : Program) → result ≡ invocation (way_in p.nodes.items way) class (method_of p.nodes.items body) }
     ensures within { (k : Reach) → IsWayReached k way → IsEntryReached k (Entry.OfMethod result) }
@@ -112,6 +114,7 @@ fn valued_response(by: CallValue, response: Response) -> Response
 }
 
 /// What waits for the answer of a body that has a frame of its own.
+#[inline(always)]
 fn leaving(entry: Entry) -> Frame
     ensures { result ≡ waits_for entry }
 {
@@ -141,6 +144,7 @@ impl Engine {
     /// Evaluates a body in a frame of its own, whose parameters have the arguments among the values that stand for a frame and one
     /// more. A refused growth leaves all as it is.
     #[tactic(auto, unfolding(crate::specs::Within::AreReached))]
+    #[inline(always)]
     pub fn enter(
         &mut self,
         frame: Frame,
@@ -224,6 +228,7 @@ impl Engine {
 
     /// Evaluates the statements of a method, with the arguments among the values that stand for a frame and one more, where they are
     /// as many as it has parameters. A refused growth leaves all as it is.
+    #[inline(always)]
     pub fn run_body(
         &mut self,
         class: ClassId,
@@ -323,6 +328,7 @@ impl Engine {
 
     /// Runs a method of the program, with the arguments among the values that stand for a frame and one more. A refused growth leaves
     /// all as it is.
+    #[inline(always)]
     pub fn run_method(
         &mut self,
         space: &Space,

@@ -16,7 +16,7 @@ ghost use Rattle.rr_eval.specs.Within.{Reach, reach, IsReached, IsAheadReached, 
 
 use crate::call::Callee;
 use crate::pair_turns::pairs_ahead;
-use crate::problem::{Answer, Problem};
+use crate::problem::{Answer, Exit, Problem};
 use crate::serve::receiver_of;
 use rr_base::{ClassId, Fault, Sym};
 use rr_builtin::{Built, Iteration, Problem as BuiltInProblem, Round, is_truthy, item_at, refused};
@@ -296,8 +296,8 @@ pub fn left_turn(
         (Answer::Raised(exception), _) => Answer::Raised(exception),
         (Answer::Broke(value), _) => Answer::Gave(value),
         (Answer::Done(value), _) => Answer::Gave(value),
-        (Answer::Returned(value), _) => Answer::Ends(root, value),
-        (Answer::Ends(number, value), _) => Answer::Ends(number, value),
+        (Answer::Returned(value), _) => Answer::Ends(Exit::Method(root), value),
+        (Answer::Ends(exit, value), _) => Answer::Ends(exit, value),
     }
 }
 

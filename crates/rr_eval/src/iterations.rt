@@ -12,6 +12,7 @@ ghost use Rattle.rr_eval.specs.declared.frame.Control.{Control};
 ghost use Rattle.rr_eval.specs.declared.frame.Frame.{Frame};
 ghost use Rattle.rr_eval.specs.declared.iterating.Visits.{Visits};
 ghost use Rattle.rr_eval.specs.declared.problem.Answer.{Answer};
+ghost use Rattle.rr_eval.specs.Begun.{IsBegun};
 ghost use Rattle.rr_eval.specs.Blocks.{spreads, shape_in, opened};
 ghost use Rattle.rr_eval.specs.Frames.{below_of, base_of, stand_of, iterated, Nested};
 ghost use Rattle.rr_eval.specs.Iterating.{turn_of, finished, continued, continued_with, turned, iteration_rule};
@@ -123,6 +124,7 @@ impl Engine {
         ensures goes { OnOk result ((p : Program) (t : Table) (h : Course) (n : ℕ) → shape_in (Some (tree_at p.nodes.items iteration.block)) ≡ Some shape → after_values p (view_of self.old) t (Frame.Round iteration) (opened (context_of p) (Entry.OfBlock (top self.old.calls.frames)) shape.parameters shape.size (list_of first ++ list_of last) None self.old.calls (Evaluate (TurnPart (iterated (code_of p h.world) iteration (drop iteration.base self.old.held.items))) Ret)) h n ≡ remaining_with p (view_of self.new) t h n) }
         ensures nested { OnOk result (IsNested (view_of self.new)) }
         ensures within { (k : Reach) → AreReached k (view_of self.old) → All (IsReached k) (list_of first ++ list_of last) → AreReached k (view_of self.new) }
+        ensures begun { OnOk result (IsBegun self.new.control) }
         ensures left { self.new.left ≡ self.old.left }
         ensures err { (t : Table) → IfErr result (λ f. Stands (view_of self.old) (view_of self.new) t t f) }
         ensures size { OnOk result (size (view_of self.new) ≤ 3 * length self.old.frames.items + 4) }
@@ -167,6 +169,7 @@ impl Engine {
         ensures goes { OnOk result ((p : Program) (t : Table) (h : Course) (n : ℕ) → shape_in (Some (tree_at p.nodes.items iteration.block)) ≡ Some shape → after_values p (view_of self.old) t (Frame.Round iteration) (opened (context_of p) (Entry.OfBlock (top self.old.calls.frames)) shape.parameters shape.size values.now None self.old.calls (Evaluate (TurnPart (iterated (code_of p h.world) iteration (drop iteration.base self.old.held.items))) Ret)) h n ≡ remaining_with p (view_of self.new) t h n) }
         ensures nested { OnOk result (IsNested (view_of self.new)) }
         ensures within { (k : Reach) → AreReached k (view_of self.old) → All (IsReached k) values.now → AreReached k (view_of self.new) }
+        ensures begun { OnOk result (IsBegun self.new.control) }
         ensures left { self.new.left ≡ self.old.left }
         ensures err { (t : Table) → IfErr result (λ f. Stands (view_of self.old) (view_of self.new) t t f) }
         ensures size { OnOk result (size (view_of self.new) ≤ 3 * length self.old.frames.items + 4) }
@@ -208,6 +211,7 @@ impl Engine {
         ensures goes { OnOk result ((h : Course) (n : ℕ) → after_values program.now (view_of self.old) space.now (Frame.Round iteration) (turn_of (context_of program.now) (iterated (code_of program.now h.world) iteration (drop iteration.base self.old.held.items)) (shape_in (Some (tree_at program.now.nodes.items iteration.block))) (list_of first ++ list_of last) (state_of program.now (view_of self.old) space.now h).memory) h n ≡ remaining_with program.now (view_of self.new) space.now h n) }
         ensures nested { OnOk result (IsNested (view_of self.new)) }
         ensures within { (clusters : Option Below) → AreReached (reach (length space.now.slots) clusters) (view_of self.old) → All (IsReached (reach (length space.now.slots) clusters)) (list_of first ++ list_of last) → AreReached (reach (length space.now.slots) clusters) (view_of self.new) }
+        ensures begun { OnOk result (IsBegun self.new.control) }
         ensures left { self.new.left ≡ self.old.left }
         ensures err { (t : Table) → IfErr result (λ f. Stands (view_of self.old) (view_of self.new) t t f) }
         ensures size { OnOk result (size (view_of self.new) ≤ 3 * length self.old.frames.items + 4) }
@@ -261,7 +265,7 @@ impl Engine {
                     visits,
                     ..iteration
                 };
-                match self.call_turn(program, space, next, first, last) {
+                match self.take_turn(program, space, next, first, last) {
                     Ok(()) => Ok(None),
                     Err(fault) => Err(fault),
                 }

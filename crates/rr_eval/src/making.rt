@@ -143,15 +143,22 @@ impl Engine {
         }
     }
 
-    /// Begins the program's `initialize` of a new object for the frame that waits for it. A refused growth leaves all as it is.
-    fn begin_object(&mut self, prepared: &Prepared, frame: Frame, object: Ref) -> Result<(), Fault>
+    /// Begins what a frame does with the new object for which it waits: the program's `initialize`, or a turn of an iteration. A refused
+    /// growth leaves all as it is.
+    fn begin_object(
+        &mut self,
+        prepared: &Prepared,
+        space: &Space,
+        frame: Frame,
+        object: Ref,
+    ) -> Result<(), Fault>
         requires room { length self.old.frames.items < vec_capacity self.old.frames }
         requires base { base_of frame ≤ length self.old.held.items }
         requires nested { Nested (reverse self.old.frames.items) (below_of frame self.old.held.items) }
-        ensures goes { OnOk result ((t : Table) (h : Course) (n : ℕ) → after_answer prepared.now.program (view_of self.old) t frame (Answer.Gave object) h n ≡ remaining_with prepared.now.program (view_of self.new) t h n) }
+        ensures goes { OnOk result ((h : Course) (n : ℕ) → after_answer prepared.now.program (view_of self.old) space.now frame (Answer.Gave object) h n ≡ remaining_with prepared.now.program (view_of self.new) space.now h n) }
         ensures nested { OnOk result (IsNested (view_of self.new)) }
         ensures begun { OnOk result (IsBegun self.new.control) }
-        ensures within { (k : Reach) → AreReached k (view_of self.old) → IsReached k object → AreReached k (view_of self.new) }
+        ensures within { (clusters : Option Below) → AreReached (reach (length space.now.slots) clusters) (view_of self.old) → IsReached (reach (length space.now.slots) clusters) object → AreReached (reach (length space.now.slots) clusters) (view_of self.new) }
         ensures left { self.new.left ≡ self.old.left }
         ensures err { (t : Table) → IfErr result (λ f. Stands (view_of self.old) (view_of self.new) t t f) }
         ensures size { OnOk result (size (view_of self.new) ≤ 3 * length self.old.frames.items + 4) }
@@ -160,6 +167,9 @@ impl Engine {
     {
         match frame {
             Frame::Initialize(making) => self.initialize(prepared, making, object),
+            Frame::Paired(iteration) => {
+                self.call_turn(&prepared.program, space, iteration, Some(object), None)
+            }
             // No other frame waits for a new object.
             _ => Err(Fault::Memory),
         }
@@ -190,7 +200,7 @@ impl Engine {
 
     /// Gives a new object to the frame that waits for it, which was taken off the stack. A refused growth leaves what is still to be
     /// done as it is.
-    fn give_object(
+    pub fn give_object(
         &mut self,
         prepared: &Prepared,
         space: &mut Space,
@@ -213,7 +223,7 @@ impl Engine {
         ensures changed { Changes space.old space.new }
         ensures full { IfErr result (λ f. (h : Course) → Adds h.world → Passes f space.old.limit (objects_of (after_answer prepared.now.program (view_of self.old) space.old frame (Answer.Gave object) h self.old.left))) }
     {
-        match self.begin_object(prepared, frame, object) {
+        match self.begin_object(prepared, space, frame, object) {
             Ok(()) => self.throw_begun(&prepared.program, space),
             Err(fault) => {
                 push_within(&mut self.frames, frame);

@@ -45,6 +45,7 @@ fn printing(program: &Program, name: Sym) -> Option<Task>
 
 impl Engine {
     /// The method of the program that a name calls on `self`.
+    #[inline(always)]
     pub fn own_method(&self, prepared: &Prepared, space: &Space, name: Sym) -> Option<Definition>
         ensures { (h : Course) → option_map (callable_of prepared.now.program.nodes.items) result ≡ own_method (context_of prepared.now.program) name.0 (state_of prepared.now.program (view_of self.now) space.now h).memory }
     {

@@ -92,7 +92,7 @@ impl Engine {
     /// Evaluates the receiver of a call, and then its arguments, the last `count` parts before `end`.
     #[tactic(auto, unfolding(crate::specs::Within::AreReached))]
     #[inline(always)]
-    fn open_send(&mut self, callee: Callee, receiver: NodeId, end: NodeId, count: u32)
+    pub fn open_send(&mut self, callee: Callee, receiver: NodeId, end: NodeId, count: u32)
         requires room { length self.old.frames.items < vec_capacity self.old.frames }
         requires nested { IsNested (view_of self.old) }
         ensures goes { (p : Program) (t : Table) (h : Course) (n : ℕ) → after_script p (view_of self.old) t (values (tree_at p.nodes.items receiver ∷ trees_before p.nodes.items end count) [] (finish (context_of p) (Target.Call callee))) h n ≡ remaining_with p (view_of self.new) t h n }

@@ -78,6 +78,7 @@ impl OperatorSymbols {
     }
 
     /// What calls a method of the program: a name, or the symbol of an operator.
+    #[inline(always)]
     pub fn called_name(&self, program: &Program, callee: Callee) -> Option<MethodName>
         requires { AreSymbolsOf program.now self.now }
         ensures { result ≡ called_name (context_of program.now) callee }

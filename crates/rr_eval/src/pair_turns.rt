@@ -8,21 +8,17 @@ ghost use Rattle.rr_frames.specs.Frames.{list_of};
 ghost use Rattle.rr_space.specs.Parts.{value_of, IsWithin};
 ghost use Rattle.rr_space.specs.Tables.{Below};
 ghost use Rattle.rr_space.specs.declared.refer.Ref.{Ref};
-ghost use Rattle.rr_tree.specs.Tree.{tree_at};
 ghost use Rattle.rr_builtin.specs.Acts.{element_at};
 ghost use Rattle.rr_builtin.specs.Elements.{names_of_hash};
 ghost use Rattle.rr_builtin.specs.Rounds.{read_of, IsRoundWithin};
-ghost use Rattle.rr_eval.specs.Blocks.{shape_in};
-ghost use Rattle.rr_eval.specs.Iterating.{pair_given, pair_read, left_hash, pair_turn, pairs_ahead, own_values, takes_pairs, keys_given};
+ghost use Rattle.rr_eval.specs.Iterating.{pair_given, pair_read, left_hash, pair_turn, pairs_ahead, own_values, keys_given};
 ghost use Rattle.rr_eval.specs.Within.{Reach, reach, IsReached, IsAheadReached};
 
-use crate::blocks::shape_at;
 use crate::iterating::{Ahead, Visits, own, value_at};
 use crate::problem::Problem;
 use rr_base::Fault;
 use rr_builtin::{Problem as BuiltInProblem, Round, is_own_hash, own_pair_at};
 use rr_space::{Kind, Ref, Space};
-use rr_tree::{NodeId, Program};
 use std::alloc::{AllocError, Global};
 
 /// A turn over a key and its value.
@@ -131,28 +127,12 @@ fn own_keys(alloc: Global, space: &Space, hash: Ref) -> Result<Option<Vec<Ref>>,
     Ok(Some(keys))
 }
 
-/// Whether the block at a place takes a key and its value apart.
-fn takes_pairs(program: &Program, block: NodeId) -> bool
-    ensures { result ≡ takes_pairs (shape_in (Some (tree_at program.now.nodes.items block))) }
-{
-    match shape_at(program, block) {
-        Some(shape) => shape.parameters != 1,
-        None => false,
-    }
-}
-
-/// The key objects that a hash has now, for the block at a place; none where they are not given yet.
-pub fn keys_given(
-    alloc: Global,
-    program: &Program,
-    space: &Space,
-    block: NodeId,
-    hash: Ref,
-) -> Result<Option<Vec<Ref>>, AllocError>
-    ensures are { IfOk result (λ keys. option_map (λ ks. ks.items) keys ≡ keys_given (shape_in (Some (tree_at program.now.nodes.items block))) space.now hash) }
+/// The key objects that a hash has now; none where they are not given yet.
+pub fn keys_given(alloc: Global, space: &Space, hash: Ref) -> Result<Option<Vec<Ref>>, AllocError>
+    ensures are { IfOk result (λ keys. option_map (λ ks. ks.items) keys ≡ keys_given space.now hash) }
     ensures within { (clusters : Option Below) → IfOk result (λ keys. IfSome keys (λ ks. All (IsReached (reach (length space.now.slots) clusters)) ks.items)) }
 {
-    if takes_pairs(program, block) && is_own_hash(space, hash) {
+    if is_own_hash(space, hash) {
         own_keys(alloc, space, hash)
     } else {
         Ok(None)

@@ -9,6 +9,7 @@ ghost use Rattle.rr_eval.specs.Rescuing.{rescue_rule};
 ghost use Rattle.rr_tree.specs.declared.program.Program.{Program};
 ghost use Rattle.rr_eval.specs.declared.frame.Control.{Control};
 ghost use Rattle.rr_eval.specs.declared.problem.Answer.{Answer};
+ghost use Rattle.rr_eval.specs.Blocks.{owner_in};
 ghost use Rattle.rr_eval.specs.Rules.{in_loop, back, past};
 ghost use Rattle.rr_eval.specs.Script.{Script, Ret, Go};
 ghost use Rattle.rr_eval.specs.Requests.{Course};
@@ -21,8 +22,19 @@ use crate::call_stack::CallValue;
 use crate::engine::Engine;
 use crate::frame::{Control, Frame, clear};
 use crate::problem::{Answer, passed, returned, valued};
+use rr_frames::{Activation, Given};
 use rr_space::Space;
 use rr_tree::{NodeId, Program};
+
+/// The frame of the method that was given the block which a `yield` in such a frame calls.
+fn owner_in(activation: Activation) -> u32
+    ensures { result ≡ owner_in activation }
+{
+    match activation.given {
+        Given::Nothing => activation.root,
+        Given::Block { block, home: _ } => block,
+    }
+}
 
 impl Engine {
     /// Passes an answer that is no value through a part of a loop, whose place is `place`.
@@ -69,7 +81,7 @@ impl Engine {
     {
         let root = self.calls.running().root;
         self.drop_frame();
-        let owner = self.calls.running().root;
+        let owner = owner_in(self.calls.running());
         self.control = Control::Give(passed(owner, root, answer));
     }
 

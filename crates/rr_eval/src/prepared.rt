@@ -93,6 +93,7 @@ pub struct Prepared {
 }
 
 /// What a call of the method does that a node defines.
+#[inline(always)]
 fn work_at(program: &Program, place: NodeId) -> Work
     ensures { work_in program.now.nodes.items result ≡ work_of (tree_at program.now.nodes.items place) }
 {
@@ -137,6 +138,7 @@ impl Prepared {
     }
 
     /// The method of a class, or of the nearest class above it.
+    #[inline(always)]
     fn method_in(&self, class: ClassId, name: MethodName) -> Option<Definition>
         ensures { option_map (callable_of self.now.program.nodes.items) result ≡ method_in self.now.program class name }
     {
@@ -150,6 +152,7 @@ impl Prepared {
     }
 
     /// The method that a call finds for a class.
+    #[inline(always)]
     fn method_called(&self, class: ClassId, callee: Callee) -> Option<Definition>
         ensures { option_map (callable_of self.now.program.nodes.items) result ≡ method_called (context_of self.now.program) class (called_name (context_of self.now.program) callee) }
     {
@@ -220,6 +223,7 @@ impl Prepared {
     }
 
     /// The program's method that a call of a receiver runs; none where it runs no method of the program.
+    #[inline(always)]
     pub(crate) fn method_for(
         &self,
         space: &Space,

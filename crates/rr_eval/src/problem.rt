@@ -43,6 +43,15 @@ pub enum Problem {
     NotHere,
 }
 
+/// What ends, and with it the frames above it, by the number of a frame.
+#[derive(Clone, Copy)]
+pub enum Exit {
+    /// The method whose frame it is, by a `return` out of a block.
+    Method(u32),
+    /// The call of that method, by a `break` out of the block that the call has.
+    Call(u32),
+}
+
 /// How the evaluation of a tree ends.
 #[derive(Clone, Copy)]
 pub enum Answer {
@@ -55,8 +64,8 @@ pub enum Answer {
     Done(Ref),
     /// With the value of a `return`, which leaves the method.
     Returned(Ref),
-    /// With the value of a method, by the number of its frame, which ends with it.
-    Ends(u32, Ref),
+    /// With a value, with which a method or a call ends.
+    Ends(Exit, Ref),
 }
 
 /// What an operation or a request comes to.
@@ -84,7 +93,7 @@ pub fn ended(answer: Answer) -> Answer
     }
 }
 
-/// What a method ends with, whose frame has the number and whose statements end so.
+/// What a method ends with, whose frame has the number and whose statements end so: with the value of a `break` where that ends its call.
 pub fn returned(number: u32, answer: Answer) -> Answer
     ensures is { result ≡ returned number answer }
     ensures more { more_of result ≤ more_of answer }
@@ -96,11 +105,18 @@ pub fn returned(number: u32, answer: Answer) -> Answer
         Answer::Broke(value) => Answer::Gave(value),
         Answer::Done(value) => Answer::Gave(value),
         Answer::Returned(value) => Answer::Gave(value),
-        Answer::Ends(other, value) => {
+        Answer::Ends(Exit::Method(other), value) => {
             if other == number {
                 Answer::Gave(value)
             } else {
-                Answer::Ends(other, value)
+                Answer::Ends(Exit::Method(other), value)
+            }
+        }
+        Answer::Ends(Exit::Call(other), value) => {
+            if other == number {
+                Answer::Broke(value)
+            } else {
+                Answer::Ends(Exit::Call(other), value)
             }
         }
     }
@@ -136,16 +152,16 @@ fn gave_by(by: CallValue, value: Ref) -> Answer
 /// What a call ends with, whose method ends so.
 pub fn valued(by: CallValue, answer: Answer) -> Answer
     ensures is { result ≡ valued by answer }
-    ensures more { more_of result ≡ more_of answer }
+    ensures more { more_of result ≤ more_of answer }
     ensures within { (k : Reach) → IsCallValueReached k by → IsAnswerReached k answer → IsAnswerReached k result }
 {
     match answer {
         Answer::Gave(value) => gave_by(by, value),
         Answer::Raised(exception) => Answer::Raised(exception),
-        Answer::Broke(value) => Answer::Broke(value),
+        Answer::Broke(value) => Answer::Gave(value),
         Answer::Done(value) => Answer::Done(value),
         Answer::Returned(value) => Answer::Returned(value),
-        Answer::Ends(number, value) => Answer::Ends(number, value),
+        Answer::Ends(exit, value) => Answer::Ends(exit, value),
     }
 }
 
@@ -159,9 +175,9 @@ pub fn passed(owner: u32, root: u32, answer: Answer) -> Answer
     match answer {
         Answer::Gave(value) => Answer::Gave(value),
         Answer::Raised(exception) => Answer::Raised(exception),
-        Answer::Broke(value) => Answer::Ends(owner, value),
+        Answer::Broke(value) => Answer::Ends(Exit::Call(owner), value),
         Answer::Done(value) => Answer::Gave(value),
-        Answer::Returned(value) => Answer::Ends(root, value),
-        Answer::Ends(other, value) => Answer::Ends(other, value),
+        Answer::Returned(value) => Answer::Ends(Exit::Method(root), value),
+        Answer::Ends(exit, value) => Answer::Ends(exit, value),
     }
 }

@@ -11,7 +11,7 @@ ghost use Rattle.rr_eval.specs.declared.call.Target.{Target};
 ghost use Rattle.rr_eval.specs.declared.frame.Control.{Control};
 ghost use Rattle.rr_eval.specs.Acts.{IsRefusal, Passes};
 ghost use Rattle.rr_eval.specs.Script.{State, World, objects_of};
-ghost use Rattle.rr_eval.specs.Raising.{message_or_nil, raise_new, raise_kind, raise_value, raise_rule};
+ghost use Rattle.rr_eval.specs.Raising.{message_or_nil, raise_new, raise_kind, raise_value, raise_values, raise_rule};
 ghost use Rattle.rr_eval.specs.Requests.{Course, Adds};
 ghost use Rattle.rr_eval.specs.Changes.{Changes};
 ghost use Rattle.rr_eval.specs.Rules.{arguments, finish, raises, asks_block, bare_rule, name_rule};
@@ -108,7 +108,7 @@ fn raised(
 
 /// What `raise` with these arguments and one more comes to.
 fn raised_by(values: &[Ref], last: Ref) -> Control
-    ensures goes { (c : Code) (s : State) (n : ℕ) → runs_in c (raise_rule c.context (values.now ++ last ∷ [])) s n ≡ start c result s n }
+    ensures goes { (c : Code) (s : State) (n : ℕ) → runs_in c (raise_values c.context (values.now ++ last ∷ [])) s n ≡ start c result s n }
     ensures within { (k : Reach) → All (IsReached k) values.now → IsReached k last → IsControlReached k result }
     ensures waits { waits result ≤ 4 }
 {
@@ -236,12 +236,12 @@ impl Engine {
         }
     }
 
-    /// Does what `raise` does with the values that stand for a frame and with one more.
+    /// Does what `raise` does with the values that stand for a frame and with one more, where no exception gets a cause first.
     #[tactic(auto, unfolding(crate::specs::Within::AreReached))]
-    pub fn finish_raise(&mut self, frame: Frame, value: Ref)
+    pub fn raise_values(&mut self, frame: Frame, value: Ref)
         requires base { base_of frame ≤ length self.old.held.items }
         requires nested { Nested (reverse self.old.frames.items) (below_of frame self.old.held.items) }
-        ensures goes { (p : Program) (t : Table) (h : Course) (n : ℕ) → after_values p (view_of self.old) t frame (raise_rule (context_of p) (stand_of frame self.old.held.items ++ value ∷ [])) h n ≡ remaining_with p (view_of self.new) t h n }
+        ensures goes { (p : Program) (t : Table) (h : Course) (n : ℕ) → after_values p (view_of self.old) t frame (raise_values (context_of p) (stand_of frame self.old.held.items ++ value ∷ [])) h n ≡ remaining_with p (view_of self.new) t h n }
         ensures nested { IsNested (view_of self.new) }
         ensures within { (k : Reach) → AreReached k (view_of self.old) → IsReached k value → AreReached k (view_of self.new) }
         ensures left { self.new.left ≡ self.old.left }

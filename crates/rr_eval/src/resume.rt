@@ -4,6 +4,7 @@ ghost use Rattle.std.specs.Prelude.{◌≡◌, ◌+◌, ◌*◌, ◌<◌, ◌≤
 ghost use Rattle.rr_base.specs.declared.fault.Fault.{Fault};
 ghost use Rattle.rr_space.specs.Tables.{Table, Below};
 ghost use Rattle.rr_tree.specs.declared.program.Program.{Program};
+ghost use Rattle.rr_eval.specs.declared.asking.Asking.{Asking};
 ghost use Rattle.rr_eval.specs.declared.problem.Answer.{Answer};
 ghost use Rattle.rr_eval.specs.declared.frame.Control.{Control};
 ghost use Rattle.rr_eval.specs.declared.frame.Frame.{Frame};
@@ -213,12 +214,14 @@ impl Engine {
             | Frame::Kept(_)
             | Frame::Round(_)
             | Frame::Turned(_)
+            | Frame::Paired(_)
             | Frame::Initialize(_) => false,
         }
     }
 
     /// Keeps the value of an argument and evaluates the next one.
     #[tactic(auto, unfolding(crate::specs::Within::AreReached))]
+    #[inline(always)]
     fn keep(
         &mut self,
         target: Target,
@@ -309,10 +312,7 @@ impl Engine {
                     Err(fault) => Err(fault),
                 }
             }
-            Target::Raise => match self.raise_first(prepared, frame, value) {
-                Ok(()) => Ok(None),
-                Err(fault) => Err(fault),
-            },
+            Target::Raise => self.raise_first(prepared, space, frame, value),
             Target::Iterate(name, block) => {
                 self.send_block(prepared, space, name, block, frame, value)
             }
@@ -320,6 +320,7 @@ impl Engine {
     }
 
     /// Goes on with the values for a target.
+    #[inline(always)]
     fn resume_values(
         &mut self,
         prepared: &Prepared,
@@ -356,6 +357,7 @@ impl Engine {
     }
 
     /// Does what a frame does with a value, where that needs the objects or memory.
+    #[inline(always)]
     pub fn resume_value(
         &mut self,
         prepared: &Prepared,
@@ -369,6 +371,7 @@ impl Engine {
         requires rare { IsRareFrame frame }
         requires inside { (i : Iterating) → frame ≡ Frame.Round i → ⊥ }
         requires whole { (target : Target) (end count base : ℕ) → frame ≡ Frame.Item target end count base → ⊥ }
+        requires unasked { (asking : Asking) → frame ≡ Frame.Asking asking → ⊥ }
         ensures goes { IfOk result (λ q. (h : Course) (n : ℕ) → after_answer prepared.now.program (view_of self.old) space.now frame (Answer.Gave value) h n ≡ continuing prepared.now.program (view_of self.new) space.now q h n) }
         ensures nested { OnOk result (IsNested (view_of self.new)) }
         ensures within { (clusters : Option Below) → AreReached (reach (length space.now.slots) clusters) (view_of self.old) → IsFrameReached (reach (length space.now.slots) clusters) frame → IsReached (reach (length space.now.slots) clusters) value → AreReached (reach (length space.now.slots) clusters) (view_of self.new) }
@@ -389,64 +392,20 @@ impl Engine {
             Frame::Receiver(target, end, count, base) => {
                 self.resume_receiver(prepared, space, target, end, count, base, value)
             }
-            Frame::Aim(aiming) => {
-                self.resume_aim(&prepared.program, aiming, value)?;
-                Ok(None)
-            }
-            Frame::Several(end, count, base) => {
-                self.resume_several(&prepared.program, space, end, count, base, value)?;
-                Ok(None)
-            }
-            Frame::Assigned(assigning) => {
-                self.assign_next(&prepared.program, assigning);
-                Ok(None)
-            }
             Frame::Key(next, end, count, base) => self.keep_key(next, end, count, base, value),
             Frame::Value(end, count, base) => {
                 self.resume_pairs(&prepared.program, end, count, base, value)
             }
-            // Its variables go first.
-            Frame::Asking(_) => Err(Fault::Memory),
             Frame::Asked(asking) => self.resume_asked(prepared, space, asking, value),
             Frame::Element(index, end) => self.keep_receiver(index, end, value),
-            Frame::Read(updating) => {
-                self.resume_read(updating, value);
-                Ok(None)
-            }
-            Frame::Combine(combining) => {
-                self.resume_combine(combining, value);
-                Ok(None)
-            }
             Frame::Put(place, base) => self.resume_put(prepared, space, place, base, value),
-            Frame::Rescue(_, _, otherwise) => {
-                self.go_else(&prepared.program, otherwise, value);
-                Ok(None)
-            }
-            Frame::Class(trial) => {
-                self.resume_class(&prepared.program, space, trial, value);
-                Ok(None)
-            }
-            Frame::Handling(old) => {
-                self.rescuing = old;
-                self.control = Control::Give(Answer::Gave(value));
-                Ok(None)
-            }
-            Frame::Ensure(part) => {
-                self.enter_above(Frame::Kept(Answer::Gave(value)), part);
-                Ok(None)
-            }
-            Frame::Kept(answer) => {
-                self.control = Control::Give(answer);
-                Ok(None)
-            }
             Frame::Turned(iteration) => {
                 self.resume_turned(&prepared.program, space, iteration, value)
             }
-            Frame::Initialize(making) => {
-                self.initialize(prepared, making, value)?;
+            _ => {
+                self.resume_alone(prepared, space, frame, value)?;
                 Ok(None)
             }
-            _ => unreachable!(),
         }
     }
 }

@@ -3,6 +3,7 @@
 ghost use Rattle.std.specs.Prelude.{◌≡◌, ◌+◌, ◌*◌, ◌<◌, ◌≤◌, ℕ, length, reverse, vec_capacity, Option, IfOk, IfErr};
 ghost use Rattle.rr_base.specs.declared.fault.Fault.{Fault};
 ghost use Rattle.rr_space.specs.Tables.{Below};
+ghost use Rattle.rr_eval.specs.declared.asking.Asking.{Asking};
 ghost use Rattle.rr_eval.specs.declared.call.Target.{Target};
 ghost use Rattle.rr_eval.specs.declared.problem.Answer.{Answer};
 ghost use Rattle.rr_eval.specs.declared.frame.Control.{Control};
@@ -25,6 +26,7 @@ impl Engine {
     /// Does what a frame, which is taken off the stack, does with a value, where that needs the objects or memory. A
     /// refused growth puts the frame back.
     #[tactic(auto, unfolding(crate::specs::Within::AreReached))]
+    #[inline(always)]
     pub fn resume_other(
         &mut self,
         prepared: &Prepared,
@@ -39,6 +41,7 @@ impl Engine {
         requires rare { IsRareFrame frame }
         requires inside { (i : Iterating) → frame ≡ Frame.Round i → ⊥ }
         requires whole { (target : Target) (end count base : ℕ) → frame ≡ Frame.Item target end count base → ⊥ }
+        requires unasked { (asking : Asking) → frame ≡ Frame.Asking asking → ⊥ }
         ensures goes { IfOk result (λ q. (h : Course) → after_answer prepared.now.program (view_of self.old) space.now frame (Answer.Gave value) h self.old.left ≡ continuing prepared.now.program (view_of self.new) space.now q h self.new.left) }
         ensures nested { IsNested (view_of self.new) }
         ensures within { (clusters : Option Below) → AreReached (reach (length space.now.slots) clusters) (view_of self.old) → IsFrameReached (reach (length space.now.slots) clusters) frame → IsReached (reach (length space.now.slots) clusters) value → AreReached (reach (length space.now.slots) clusters) (view_of self.new) }

@@ -107,6 +107,7 @@ fn hold_last(held: &mut Vec<Ref>, last: Option<Ref>) -> Result<(), AllocError>
 impl Engine {
     /// Asks for a call of a built-in method of a receiver, with the arguments among the values that stand for a frame and one more.
     #[tactic(auto, unfolding(crate::specs::Within::AreReached))]
+    #[inline(always)]
     pub fn ask_method(
         &mut self,
         receiver: Ref,
@@ -176,6 +177,7 @@ impl Engine {
 
     /// Calls a built-in method of a receiver; a new object gets the program's `initialize`, where there is one.
     #[tactic(auto, unfolding(crate::specs::Within::AreReached))]
+    #[inline(always)]
     pub fn send_built_in(
         &mut self,
         prepared: &Prepared,

@@ -25,7 +25,7 @@ use crate::hearing::{Gathered, gather};
 use crate::invoke::{Way, invocation};
 use crate::iterating::value_at;
 use crate::prepared::{Body, Prepared};
-use crate::problem::{Answer, Problem, returned};
+use crate::problem::{Answer, Problem, returned, valued};
 use crate::request::Request;
 use rr_base::{ClassId, Fault, LimitKind, Sym};
 use rr_builtin::Problem as BuiltInProblem;
@@ -341,7 +341,7 @@ impl Engine {
     {
         let number = self.calls.top();
         self.pop_call();
-        match returned(number, answer) {
+        match valued(CallValue::Method, returned(number, answer)) {
             Answer::Gave(value) => {
                 push_within(&mut self.frames, Frame::Asked(asking));
                 self.control = Control::Give(Answer::Gave(value));

@@ -1,10 +1,12 @@
 -- The call is one step, and its argument is evaluated before.
-use Rattle.std.proofs.Common.{◌∙◌, ap, sym, ◌+◌, ◌-◌, arith, length}
+use Rattle.std.proofs.Common.{◌∙◌, ap, sym, ◌+◌, ◌-◌, [], arith, length}
 use Rattle.rr_eval.specs.Prepared.{callable_of}
+use Rattle.rr_eval.specs.Runs.{no_objects}
 use Rattle.rr_eval.specs.Turns.{continuing}
 use Rattle.rr_eval.specs.Views.{view_of}
-use Rattle.rr_eval.specs.Within.{reach}
-use Rattle.rr_eval.proofs.Holding.{with_left}
+use Rattle.rr_eval.specs.Within.{reach, IsReached}
+use Rattle.rr_eval.proofs.Holding.{all_cons, all_nil, with_left}
+use Rattle.rr_eval.proofs.Invoking.{nested_still}
 use Rattle.rr_eval.proofs.QuickCalls.{own_called}
 use Rattle.rr_eval.proofs.engine.Engine.call_own.Goals as goal
 
@@ -22,10 +24,15 @@ returns-in-Ok-clause-goes c h =
 pub returns-in-Ok-clause-within : goal.returns-in-Ok-clause-within
 returns-in-Ok-clause-within c clusters h =
     let k = reach (length c.args.space.now.slots) clusters in
-    with_left k (view_of c.run_with.new.self) _ (c.in-Ok.ensures.within clusters h (c.requires.value k h))
+    with_left k (view_of c.run_with.new.self) _ (c.in-Ok.ensures.within clusters h (all_cons (IsReached k) c.args.found.value [] (c.requires.value k h) (all_nil (IsReached k))))
 
 pub returns-in-Ok-clause-asks : goal.returns-in-Ok-clause-asks
-returns-in-Ok-clause-asks c k h = c.in-Ok.ensures.asks k h (c.requires.value k h)
+returns-in-Ok-clause-asks c k h = c.in-Ok.ensures.asks k h (all_cons (IsReached k) c.args.found.value [] (c.requires.value k h) (all_nil (IsReached k)))
 
 pub returns-in-Err-clause-within : goal.returns-in-Err-clause-within
-returns-in-Err-clause-within c clusters h = c.in-Err.ensures.within clusters h (c.requires.value (reach (length c.args.space.now.slots) clusters) h)
+returns-in-Err-clause-within c clusters h =
+    let k = reach (length c.args.space.now.slots) clusters in
+    c.in-Err.ensures.within clusters h (all_cons (IsReached k) c.args.found.value [] (c.requires.value k h) (all_nil (IsReached k)))
+
+pub returns-in-Err-clause-nested : goal.returns-in-Err-clause-nested
+returns-in-Err-clause-nested c = nested_still c.run_with.result (view_of c.args.self.now) (view_of c.run_with.new.self) (no_objects 0) c.requires.nested c.run_with.ensures.nested c.run_with.ensures.err

@@ -14,14 +14,14 @@ pub returns-in-Ok-clause-goes : goal.returns-in-Ok-clause-goes
 returns-in-Ok-clause-goes c = λ h.
     let p = c.args.prepared.now.program in
     let t = c.args.space.now in
-    c.in-Ok.ensures.goes t h c.args.self.now.left
+    c.in-Ok.ensures.goes h c.args.self.now.left
     ∙ ap (remaining_with p (view_of c.begin_object.new.self) t h) (sym c.begin_object.ensures.left)
     ∙ c.throw_begun.ensures.goes h
 
 pub returns-in-Ok-clause-within : goal.returns-in-Ok-clause-within
 returns-in-Ok-clause-within c clusters h frame =
     let k = reach (length c.args.space.now.slots) clusters in
-    c.throw_begun.ensures.within clusters (c.begin_object.ensures.within k h (given_within k (view_of c.args.self.now) (Gave c.args.object) c.requires.control h))
+    c.throw_begun.ensures.within clusters (c.begin_object.ensures.within clusters h (given_within k (view_of c.args.self.now) (Gave c.args.object) c.requires.control h))
 
 pub returns-in-Err-clause-nested : goal.returns-in-Err-clause-nested
 returns-in-Err-clause-nested c =
@@ -49,9 +49,9 @@ returns-in-Err-clause-goes c = λ h.
 pub throw_begun-requires-clause-within : goal.throw_begun-requires-clause-within
 throw_begun-requires-clause-within c =
     let k = reach (length c.args.space.now.slots) None in
-    c.begin_object.ensures.within k c.requires.within (given_within k (view_of c.args.self.now) (Gave c.args.object) c.requires.control c.requires.within)
+    c.begin_object.ensures.within None c.requires.within (given_within k (view_of c.args.self.now) (Gave c.args.object) c.requires.control c.requires.within)
 
 pub returns-in-Ok-clause-read : goal.returns-in-Ok-clause-read
 returns-in-Ok-clause-read c below read h =
     let k = reach (length c.args.space.now.slots) (Some below) in
-    c.throw_begun.ensures.read below read (c.begin_object.ensures.within k h (given_within k (view_of c.args.self.now) (Gave c.args.object) c.requires.control h))
+    c.throw_begun.ensures.read below read (c.begin_object.ensures.within (Some below) h (given_within k (view_of c.args.self.now) (Gave c.args.object) c.requires.control h))

@@ -9,13 +9,13 @@ pub returns-in-Ok-clause-within : goal.returns-in-Ok-clause-within
 returns-in-Ok-clause-within c clusters h =
     let k = reach (length c.args.space.now.slots) clusters in
     let stand = c.standing-stand.ensures.within k (held_reached k (view_of c.args.self.now) h) in
-    c.call_turn.ensures.within clusters h (subst (IsAheadReached k) c.in-Another.is (c.in_ok-ahead.ensures.within clusters stand))
+    c.take_turn.ensures.within clusters h (subst (IsAheadReached k) c.in-Another.is (c.in_ok-ahead.ensures.within clusters stand))
 
 pub returns-in-Err-clause-within : goal.returns-in-Err-clause-within
 returns-in-Err-clause-within c clusters h =
     let k = reach (length c.args.space.now.slots) clusters in
     let stand = c.standing-stand.ensures.within k (held_reached k (view_of c.args.self.now) h) in
-    c.call_turn.ensures.within clusters h (subst (IsAheadReached k) c.in-Another.is (c.in_ok-ahead.ensures.within clusters stand))
+    c.take_turn.ensures.within clusters h (subst (IsAheadReached k) c.in-Another.is (c.in_ok-ahead.ensures.within clusters stand))
 
 pub returns-in-Finished-clause-within : goal.returns-in-Finished-clause-within
 returns-in-Finished-clause-within c clusters h = c.finish_iteration.ensures.within (reach (length c.args.space.now.slots) clusters) h

@@ -5,15 +5,14 @@ use Rattle.rr_eval.specs.declared.frame.Frame.TheVariants.{Asking as AskingFrame
 use Rattle.rr_eval.specs.declared.frame.Control.TheVariants.{Give}
 use Rattle.rr_eval.specs.declared.problem.Answer.{Answer}
 use Rattle.rr_eval.specs.declared.problem.Answer.TheVariants.{Gave}
-use Rattle.rr_eval.specs.Blocks.{returned, without_frame}
+use Rattle.rr_eval.specs.Blocks.{returned, valued, without_frame}
 use Rattle.rr_eval.specs.Frames.{runs_in, outcome_of, unwind}
 use Rattle.rr_eval.specs.Script.{Ended}
 use Rattle.rr_eval.specs.Speaking.{heard, asked_on}
 use Rattle.rr_eval.specs.Turns.{context_of, code_of, state_of}
-use Rattle.rr_eval.specs.Variables.{top}
 use Rattle.rr_eval.specs.Views.{view_of}
 use Rattle.rr_eval.specs.Within.{AreReached, IsAnswerReached}
-use Rattle.rr_eval.proofs.Answered.{by_method}
+use Rattle.rr_eval.specs.declared.call_stack.CallValue.TheVariants.{Method as ByMethod}
 use Rattle.rr_eval.proofs.Holding.{with_cleared, with_frame}
 use Rattle.rr_eval.proofs.Invoking.{value_passes}
 use Rattle.rr_eval.proofs.Unwind.{given}
@@ -29,7 +28,7 @@ returns-in-Gave-clause-goes c p t h n =
     let s = state_of p new t h in
     let first = record (state_of p m t h) { memory = without_frame (state_of p m t h).memory } in
     let next = λ (held : List Ref) (x : Answer). heard (asked_on (context_of p) a (drop a.base held)) x in
-    let is = by_method (returned (top m.calls.frames) c.args.answer) ∙ ap (λ k. returned k c.args.answer) (sym c.top-number.ensures) ∙ sym c.returned.ensures.is ∙ c.in-Gave.is in
+    let is = ap (valued ByMethod) (ap (λ k. returned k c.args.answer) (sym c.top-number.ensures) ∙ sym c.returned.ensures.is) ∙ sym c.valued.ensures.is ∙ c.in-Gave.is in
     ap (λ x. unwind code (reverse m.frames) (take a.base m.held) (runs_in code (next m.held x) first n)) is
     ∙ ap (λ x. unwind code (reverse m.frames) (take a.base m.held) (runs_in code (next m.held (Gave v)) x n)) (c.pop_call.ensures.state p t h)
     ∙ ap (λ fs. unwind code (reverse fs.items) (take a.base m.held) (runs_in code (next m.held (Gave v)) s n)) (sym c.pop_call.ensures.frames)
@@ -43,7 +42,7 @@ returns-in-Gave-clause-within c k h answer =
     let a = c.args.asking in
     let v = c.in-Gave.value in
     subst (λ fs. AreReached k (record new { control = Give (Gave v); frames = fs })) (sym c.push_within.ensures)
-    (with_frame k new (AskedFrame a) (Give (Gave v)) (c.pop_call.ensures.within k h) tt (subst (IsAnswerReached k) c.in-Gave.is (c.returned.ensures.within k answer)))
+    (with_frame k new (AskedFrame a) (Give (Gave v)) (c.pop_call.ensures.within k h) tt (subst (IsAnswerReached k) c.in-Gave.is (c.valued.ensures.within k tt (c.returned.ensures.within k answer))))
 
 pub returns-in_default-clause-goes : goal.returns-in_default-clause-goes
 returns-in_default-clause-goes c p t h n =
@@ -54,8 +53,8 @@ returns-in_default-clause-goes c p t h n =
     let s = state_of p new t h in
     let first = record (state_of p m t h) { memory = without_frame (state_of p m t h).memory } in
     let next = λ (held : List Ref) (x : Answer). heard (asked_on (context_of p) a (drop a.base held)) x in
-    let ended = c.returned.result in
-    let is = by_method (returned (top m.calls.frames) c.args.answer) ∙ ap (λ k. returned k c.args.answer) (sym c.top-number.ensures) ∙ sym c.returned.ensures.is in
+    let ended = c.valued.result in
+    let is = ap (valued ByMethod) (ap (λ k. returned k c.args.answer) (sym c.top-number.ensures) ∙ sym c.returned.ensures.is) ∙ sym c.valued.ensures.is in
     ap (λ x. unwind code (reverse m.frames) (take a.base m.held) (runs_in code (next m.held x) first n)) is
     ∙ ap (λ script. unwind code (reverse m.frames) (take a.base m.held) (runs_in code script first n)) (value_passes _ ended c.in_default.not-Gave)
     ∙ ap (λ x. unwind code (reverse m.frames) (take a.base m.held) (Ended ended x n)) (c.pop_call.ensures.state p t h)
@@ -65,4 +64,4 @@ returns-in_default-clause-goes c p t h n =
 
 pub returns-in_default-clause-within : goal.returns-in_default-clause-within
 returns-in_default-clause-within c k h answer =
-    with_cleared k (view_of c.pop_call.new.self) (AskingFrame c.args.asking) _ (Give c.returned.result) c.clear.ensures (c.pop_call.ensures.within k h) (c.returned.ensures.within k answer)
+    with_cleared k (view_of c.pop_call.new.self) (AskingFrame c.args.asking) _ (Give c.valued.result) c.clear.ensures (c.pop_call.ensures.within k h) (c.valued.ensures.within k tt (c.returned.ensures.within k answer))

@@ -34,7 +34,7 @@ returns-then-self-eq0-4-clause-turned c =
 
 pub returns-in-Enter-clause-ends_within : goal.returns-in-Enter-clause-ends_within
 returns-in-Enter-clause-ends_within c clusters h =
-    let k = reach (length c.visit_other.new.space.slots) clusters in
+    let k = reach (length c.visit_node.new.space.slots) clusters in
     let here = reach (length c.loop-self.space.slots) clusters in
     subst (IsAskedReached k) c.in-Some-3.is (c.in_ok-request-in-Enter.ensures.asks clusters (c.visit_usual.ensures.within here (c.make_room-in-Enter.ensures.within here (c.loop-self.invariant.reaches clusters h))))
 
@@ -60,7 +60,7 @@ loop-self-preserved-else-not-visit_usual c = elim c.else-not-visit_usual.branch 
     within = search rules;
     falls = search rules;
     fell = search rules;
-    changed = rw (w.space-is) (changes_trans _ _ _ c.loop-self.invariant.changed w.visit_other.ensures.changed);
+    changed = rw (w.space-is) (changes_trans _ _ _ c.loop-self.invariant.changed w.visit_node.ensures.changed);
     limit = search rules;
     same = search rules;
   }

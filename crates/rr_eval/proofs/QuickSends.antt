@@ -1,0 +1,178 @@
+-- Calls of a receiver and with arguments that need no frame.
+use Rattle.std.proofs.Common.{◌≡◌, ℕ, suc, ◌+◌, ◌-◌, ◌<◌, ◌≤◌, sym, ap, subst, refl, ◌∙◌, arith, List, [], ◌∷◌, ◌++◌, length, length-append, take, drop, reverse}
+use Rattle.std.proofs.lemmas.List.{append_assoc, take_all, take-append-drop, take-append-le, drop-append-le}
+use Rattle.std.proofs.Math.Seq.{take-append_seam, drop-append_seam, get_or-append_seam}
+use Rattle.std.specs.List.{All}
+use Rattle.rr_base.specs.declared.fault.Fault.{Fault}
+use Rattle.rr_space.specs.Tables.{Table}
+use Rattle.rr_space.specs.declared.refer.Ref.{Ref}
+use Rattle.rr_space.specs.declared.refer.Ref.TheVariants.{Nil}
+use Rattle.rr_tree.specs.Nodes.{trees_before}
+use Rattle.rr_tree.specs.Tree.{Tree, tree_at}
+use Rattle.rr_tree.specs.declared.node.Node.{Node}
+use Rattle.rr_tree.specs.declared.node.Node.TheVariants as node
+use Rattle.rr_base.specs.declared.name.Sym.{Sym}
+use Rattle.rr_tree.specs.declared.program.Program.{Program}
+use Rattle.rr_eval.specs.declared.call.Callee.{Callee}
+use Rattle.rr_eval.specs.declared.call.Callee.TheVariants.{SetIndex}
+use Rattle.rr_eval.specs.declared.call.Target.TheVariants.{Call}
+use Rattle.rr_eval.specs.declared.frame.Control.TheVariants.{Enter}
+use Rattle.rr_eval.specs.declared.frame.Frame.TheVariants.{Argument}
+use Rattle.rr_eval.specs.Frames.{first_tree, runs_in, unwind}
+use Rattle.rr_eval.specs.Requests.{Course}
+use Rattle.rr_eval.specs.Rules.{rule, on_value, with_value, values, arguments, finish}
+use Rattle.rr_eval.specs.Script.{Script, Go}
+use Rattle.rr_eval.specs.Turns.{context_of, code_of, state_of, remaining, after_script, after_values, Stands}
+use Rattle.rr_eval.specs.Usual.{TakesNow, ComesTo, HoldsMore, IsSendNode}
+use Rattle.rr_eval.specs.View.{View}
+use Rattle.rr_eval.specs.Within.{Reach, IsReached, AreReached}
+use Rattle.rr_eval.proofs.Entered.{stepped}
+use Rattle.rr_eval.proofs.Holding.{all_take}
+use Rattle.rr_eval.proofs.QuickParts.{part_comes, comes_then, held_comes}
+
+-- one value more is held
+pub holds_push : (m : View) (held : List Ref) (v : Ref) → held ≡ m.held ++ v ∷ [] → HoldsMore m (record m { held = held })
+holds_push m held v pushed = record { control = refl; frames = refl; held = ap (take (length m.held)) pushed ∙ take-append_seam m.held (v ∷ []); calls = refl; blocks = refl; rescuing = refl; left = refl }
+
+-- values behind one more
+pub behind_one : (held ones all : List Ref) (v : Ref) → ones ≡ held ++ v ∷ [] → take (length ones) all ≡ ones → all ≡ held ++ v ∷ drop (length ones) all
+behind_one held ones all v pushed kept =
+    let others = drop (length ones) all in
+    sym (take-append-drop (length ones) all) ∙ ap (λ l. l ++ others) (kept ∙ pushed) ∙ append_assoc held (v ∷ []) others
+
+pub dropped_behind : (held ones all : List Ref) (v : Ref) → ones ≡ held ++ v ∷ [] → take (length ones) all ≡ ones → v ∷ drop (length ones) all ≡ drop (length held) all
+dropped_behind held ones all v pushed kept = sym (ap (drop (length held)) (behind_one held ones all v pushed kept) ∙ drop-append_seam held (v ∷ drop (length ones) all))
+
+pub holds_behind : (m n : View) (ones : List Ref) (v : Ref) → ones ≡ m.held ++ v ∷ [] → HoldsMore (record m { held = ones }) n → HoldsMore m n
+holds_behind m n ones v pushed is = record {
+  control = is.control;
+  frames = is.frames;
+  held = ap (take (length m.held)) (behind_one m.held ones n.held v pushed is.held) ∙ take-append_seam m.held (v ∷ drop (length ones) n.held);
+  calls = is.calls;
+  blocks = is.blocks;
+  rescuing = is.rescuing;
+  left = is.left;
+}
+
+-- A receiver is evaluated before the one argument.
+pub pair_first : (p : Program) (m : View) (t : Table) (here base receiver argument i : ℕ) (v : Ref) (held : List Ref) (callee : Callee) (h : Course) → m.control ≡ Enter here
+    → rule (context_of p) (tree_at p.nodes.items here) ≡ values (tree_at p.nodes.items receiver ∷ tree_at p.nodes.items argument ∷ []) [] (finish (context_of p) (Call callee)) → TakesNow p m (tree_at p.nodes.items receiver) i v → base ≡ length m.held → held ≡ m.held ++ v ∷ [] → i < m.left
+    → remaining p m t h ≡ after_values p (record m { held = held }) t (Argument (Call callee) 0 0 base) (values (tree_at p.nodes.items argument ∷ []) (drop base held) (finish (context_of p) (Call callee))) h (m.left - (i + 1))
+pair_first p m t here base receiver argument i v held callee h at script takes all pushed less =
+    let own = context_of p in
+    let ns = p.nodes.items in
+    let n = record m { held = held } in
+    let next = λ (l : List Ref). values (tree_at ns argument ∷ []) l (finish own (Call callee)) in
+    let comes : ComesTo p m t (rule own (tree_at ns here)) i (next (v ∷ [])) = λ g k.
+    ap (λ r. runs_in (code_of p g.world) r (state_of p m t g) (i + k)) script ∙ part_comes p m t (tree_at ns receiver) i v (on_value (λ u. next (u ∷ []))) takes g k in
+    let one : v ∷ [] ≡ drop base held = sym (ap (drop base) pushed ∙ ap (λ b. drop b (m.held ++ v ∷ [])) all ∙ drop-append_seam m.held (v ∷ [])) in
+    held_comes p m n t here base i 0 (Call callee) (next (v ∷ [])) h at all (holds_push m held v pushed) comes less
+    ∙ ap (λ l. after_values p n t (Argument (Call callee) 0 0 base) (next l) h (m.left - (i + 1))) one
+
+-- the last part of a call is evaluated, over those that are held
+pub last_comes : (p : Program) (n : View) (t : Table) (base part steps j : ℕ) (w : Ref) (callee : Callee) (h : Course) → TakesNow p n (tree_at p.nodes.items part) j w → steps + j < n.left
+    → after_values p n t (Argument (Call callee) 0 0 base) (values (tree_at p.nodes.items part ∷ []) (drop base n.held) (finish (context_of p) (Call callee))) h (n.left - (steps + 1))
+    ≡ after_values p n t (Argument (Call callee) 0 0 base) (finish (context_of p) (Call callee) (drop base n.held ++ w ∷ [])) h (n.left - (steps + j + 1))
+last_comes p n t base part steps j w callee h takes less =
+    let k = n.left - (steps + j + 1) in
+    let sum : n.left - (steps + 1) ≡ j + k = omega (arith, less) in
+    let next = λ (u : Ref). finish (context_of p) (Call callee) (drop base n.held ++ u ∷ []) in
+    ap (λ i. after_values p n t (Argument (Call callee) 0 0 base) (Go (tree_at p.nodes.items part) (on_value next)) h i) sum
+    ∙ ap (unwind (code_of p h.world) (reverse n.frames) (take base n.held)) (part_comes p n t (tree_at p.nodes.items part) j w (on_value next) takes h k)
+
+-- A receiver is evaluated before the arguments.
+pub sent_comes : (p : Program) (m : View) (t : Table) (here receiver i : ℕ) (v : Ref) (trees : List Tree) (next : List Ref → Script) → rule (context_of p) (tree_at p.nodes.items here) ≡ with_value (tree_at p.nodes.items receiver) (λ u. arguments (context_of p) trees (u ∷ []) next)
+    → TakesNow p m (tree_at p.nodes.items receiver) i v → ComesTo p m t (rule (context_of p) (tree_at p.nodes.items here)) i (arguments (context_of p) trees (v ∷ []) next)
+sent_comes p m t here receiver i v trees next script takes = λ h n.
+    ap (λ r. runs_in (code_of p h.world) r (state_of p m t h) (i + n)) script
+    ∙ part_comes p m t (tree_at p.nodes.items receiver) i v (on_value (λ u. arguments (context_of p) trees (u ∷ []) next)) takes h n
+
+-- the next argument is evaluated
+pub sent_waits : (p : Program) (m n : View) (t : Table) (here base i j end rest : ℕ) (v : Ref) (trees : List Tree) (callee : Callee) (h : Course) → m.control ≡ Enter here
+    → ComesTo p m t (rule (context_of p) (tree_at p.nodes.items here)) i (arguments (context_of p) trees (v ∷ []) (finish (context_of p) (Call callee)))
+    → ((t : Table) (next : List Ref → Script) → ComesTo p m t (arguments (context_of p) trees (v ∷ []) next) j (arguments (context_of p) (trees_before p.nodes.items end rest) (drop (length m.held) n.held) next)) → base ≡ length m.held → HoldsMore m n → i + j < m.left
+    → remaining p m t h ≡ after_values p n t (Argument (Call callee) end 0 base) (arguments (context_of p) (trees_before p.nodes.items end rest) (drop base n.held) (finish (context_of p) (Call callee))) h (n.left - (i + j + 1))
+sent_waits p m n t here base i j end rest v trees callee h at first others all is less =
+    let own = context_of p in
+    let last = λ (l : List Ref). arguments own (trees_before p.nodes.items end rest) l (finish own (Call callee)) in
+    let start = arguments own trees (v ∷ []) (finish own (Call callee)) in
+    held_comes p m n t here base (i + j) end (Call callee) (last (drop (length m.held) n.held)) h at all is (comes_then p m t (rule own (tree_at p.nodes.items here)) start (last (drop (length m.held) n.held)) i j first (others t (finish own (Call callee)))) less
+    ∙ ap (λ b. after_values p n t (Argument (Call callee) end 0 base) (last (drop b n.held)) h (n.left - (i + j + 1))) (sym all)
+
+-- the call is done with all of them, of which the last is apart
+pub last_apart : (p : Program) (n : View) (t : Table) (base end rest k : ℕ) (held : List Ref) (last : Ref) (callee : Callee) (h : Course) → rest ≡ 0 → n.held ≡ held ++ last ∷ [] → base ≤ length held
+    → after_values p n t (Argument (Call callee) end 0 base) (arguments (context_of p) (trees_before p.nodes.items end rest) (drop base n.held) (finish (context_of p) (Call callee))) h k
+    ≡ after_values p (record n { held = held }) t (Argument (Call callee) end 0 base) (finish (context_of p) (Call callee) (drop base held ++ last ∷ [])) h k
+last_apart p n t base end rest k held last callee h none is le =
+    let c = code_of p h.world in
+    let next = λ (r : ℕ) (l : List Ref). runs_in c (arguments (context_of p) (trees_before p.nodes.items end r) l (finish (context_of p) (Call callee))) (state_of p n t h) k in
+    ap (λ r. unwind c (reverse n.frames) (take base n.held) (next r (drop base n.held))) none
+    ∙ ap (λ l. unwind c (reverse n.frames) (take base l) (next 0 (drop base l))) is
+    ∙ ap (λ l. unwind c (reverse n.frames) l (next 0 (drop base (held ++ last ∷ [])))) (take-append-le base held (last ∷ []) le)
+    ∙ ap (λ l. unwind c (reverse n.frames) (take base held) (next 0 l)) (drop-append-le base held (last ∷ []) le)
+
+-- a growth was refused behind values that are held, and they went
+pub stands_without : (m n k : View) (t : Table) (f : Fault) (base : ℕ) (held : List Ref) → base ≡ length m.held → HoldsMore m n → take base held ≡ take base n.held → Stands (record n { held = take base held }) k t t f → Stands m k t t f
+stands_without m n k t f base held all is same stands = record {
+  control = stands.control ∙ is.control;
+  frames = stands.frames ∙ is.frames;
+  held = stands.held ∙ same ∙ ap (λ b. take b n.held) all ∙ is.held;
+  calls = stands.calls ∙ is.calls;
+  blocks = stands.blocks ∙ is.blocks;
+  rescuing = stands.rescuing ∙ is.rescuing;
+  left = stands.left ∙ is.left;
+  objects = stands.objects;
+  refusal = stands.refusal;
+}
+
+-- what is held below is reached, and so is the last value
+pub below_reached : (k : Reach) (m : View) (base : ℕ) → AreReached k m → AreReached k (record m { held = take base m.held })
+unfolding AreReached
+below_reached k m base h = record { control = h.control; frames = h.frames; held = all_take (IsReached k) base m.held h.held; calls = h.calls; rescuing = h.rescuing }
+
+pub apart_reached : (k : Reach) (m : View) (held : List Ref) (v : Ref) → m.held ≡ held ++ v ∷ [] → AreReached k m → AreReached k (record m { held = held }) × IsReached k v
+unfolding AreReached
+apart_reached k m held v e h =
+    let all : All (IsReached k) (held ++ v ∷ []) = subst (All (IsReached k)) e h.held in
+    let last : IsReached k v = subst (IsReached k) (get_or-append_seam held v [] Nil) (all (length held) Nil (omega (arith, length-append held (v ∷ [])))) in
+    (record { control = h.control; frames = h.frames; held = subst (All (IsReached k)) (take-append-le (length held) held (v ∷ []) (omega arith) ∙ take_all (length held) held (omega arith)) (all_take (IsReached k) (length held) (held ++ v ∷ []) all); calls = h.calls; rescuing = h.rescuing }, last)
+
+-- An assignment to an element: its receiver and its index are evaluated before the value.
+pub comes_first : (p : Program) (m : View) (t : Table) (here steps : ℕ) (next : Script) (h : Course) → m.control ≡ Enter here → ComesTo p m t (rule (context_of p) (tree_at p.nodes.items here)) steps next → steps < m.left → remaining p m t h ≡ after_script p m t next h (m.left - (steps + 1))
+comes_first p m t here steps next h at comes less =
+    let k = m.left - (steps + 1) in
+    let tree = tree_at p.nodes.items here in
+    let one : m.left ≡ suc (m.left - 1) = omega (arith, less) in
+    let others : m.left - 1 ≡ steps + k = omega (arith, less) in
+    stepped p m t (m.left - 1) tree (ap (first_tree p.nodes.items) at) one h
+    ∙ ap (after_script p m t (rule (context_of p) tree) h) others
+    ∙ ap (unwind (code_of p h.world) (reverse m.frames) m.held) (comes h k)
+
+-- values more are held
+pub holds_values : (m : View) (held vs : List Ref) → held ≡ m.held ++ vs → HoldsMore m (record m { held = held })
+holds_values m held vs pushed = record { control = refl; frames = refl; held = ap (take (length m.held)) pushed ∙ take-append_seam m.held vs; calls = refl; blocks = refl; rescuing = refl; left = refl }
+
+pub element_comes : (p : Program) (m : View) (t : Table) (here base index value i j : ℕ) (v w : Ref) (held : List Ref) (h : Course) → m.control ≡ Enter here
+    → ComesTo p m t (rule (context_of p) (tree_at p.nodes.items here)) i (values (tree_at p.nodes.items index ∷ tree_at p.nodes.items value ∷ []) (v ∷ []) (finish (context_of p) (Call SetIndex))) → TakesNow p m (tree_at p.nodes.items index) j w → base ≡ length m.held → held ≡ m.held ++ v ∷ w ∷ [] → i + j < m.left
+    → remaining p m t h ≡ after_values p (record m { held = held }) t (Argument (Call SetIndex) 0 0 base) (values (tree_at p.nodes.items value ∷ []) (drop base held) (finish (context_of p) (Call SetIndex))) h (m.left - (i + j + 1))
+element_comes p m t here base index value i j v w held h at first takes all pushed less =
+    let own = context_of p in
+    let ns = p.nodes.items in
+    let vs = v ∷ w ∷ [] in
+    let n = record m { held = held } in
+    let next = λ (l : List Ref). values (tree_at ns value ∷ []) l (finish own (Call SetIndex)) in
+    let start = values (tree_at ns index ∷ tree_at ns value ∷ []) (v ∷ []) (finish own (Call SetIndex)) in
+    let comes = comes_then p m t (rule own (tree_at ns here)) start (next vs) i j first (part_comes p m t (tree_at ns index) j w (on_value (λ u. next (v ∷ u ∷ []))) takes) in
+    let two : vs ≡ drop base held = sym (ap (drop base) pushed ∙ ap (λ b. drop b (m.held ++ vs)) all ∙ drop-append_seam m.held vs) in
+    held_comes p m n t here base (i + j) 0 (Call SetIndex) (next vs) h at all (holds_values m held vs pushed) comes less
+    ∙ ap (λ l. after_values p n t (Argument (Call SetIndex) 0 0 base) (next l) h (m.left - (i + j + 1))) two
+
+-- a node of none of these kinds calls no receiver
+pub no_send : (n : Node) → ((a : ℕ) (x : Sym) (first count site : ℕ) → n ≡ node.Send a x first count site → ⊥) → ((a b : ℕ) → n ≡ node.Index a b → ⊥) → ((a b : ℕ) → n ≡ node.Append a b → ⊥)
+    → ((a : ℕ) (x : Sym) (b site : ℕ) → n ≡ node.SetAttribute a x b site → ⊥) → ((a b d : ℕ) → n ≡ node.SetIndex a b d → ⊥) → IsSendNode n → ⊥
+no_send (node.Send a x first count site) send index append attribute element is = send a x first count site refl
+no_send (node.Index a b) send index append attribute element is = index a b refl
+no_send (node.Append a b) send index append attribute element is = append a b refl
+no_send (node.SetAttribute a x b site) send index append attribute element is = attribute a x b site refl
+no_send (node.SetIndex a b d) send index append attribute element is = element a b d refl
+no_send _ send index append attribute element is = is

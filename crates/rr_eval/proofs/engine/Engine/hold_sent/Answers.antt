@@ -1,0 +1,35 @@
+-- The receiver is held before the arguments.
+use Rattle.std.proofs.Common.{◌≡◌, ◌∙◌, ◌++◌, ◌∷◌, [], ap}
+use Rattle.rr_tree.specs.Nodes.{trees_before}
+use Rattle.rr_eval.specs.Frames.{runs_in}
+use Rattle.rr_eval.specs.Rules.{arguments}
+use Rattle.rr_eval.specs.Turns.{context_of, code_of, state_of}
+use Rattle.rr_eval.specs.Views.{view_of}
+use Rattle.rr_eval.specs.Within.{IsReached}
+use Rattle.rr_eval.proofs.Holding.{all_cons, all_nil}
+use Rattle.rr_eval.proofs.QuickSends.{dropped_behind, holds_behind}
+use Rattle.rr_eval.proofs.Splatted.{items_reached}
+use Rattle.rr_eval.proofs.engine.Engine.hold_sent.Goals as goal
+
+pub returns-clause-comes : goal.returns-clause-comes
+returns-clause-comes c = λ t next h n.
+    let p = c.args.program.now in
+    let m = view_of c.args.self.now in
+    let ones = c.push_reserved.new.self.items in
+    let all = c.hold_reserved.new.self.held.items in
+    let parts = c.hold_reserved.result in
+    let pushed : ones ≡ m.held ++ c.args.receiver ∷ [] = c.push_reserved.ensures.items ∙ ap (λ l. l ++ c.args.receiver ∷ []) c.reserve.ensures.items in
+    c.hold_reserved.ensures.takes t (c.args.receiver ∷ []) next h n
+    ∙ ap (λ l. runs_in (code_of p h.world) (arguments (context_of p) (trees_before p.nodes.items c.args.end parts.rest) l next) (state_of p m t h) n) (dropped_behind m.held ones all c.args.receiver pushed c.hold_reserved.ensures.holds.held)
+
+pub returns-clause-holds : goal.returns-clause-holds
+returns-clause-holds c =
+    let m = view_of c.args.self.now in
+    let pushed = c.push_reserved.ensures.items ∙ ap (λ l. l ++ c.args.receiver ∷ []) c.reserve.ensures.items in
+    holds_behind m (view_of c.hold_reserved.new.self) c.push_reserved.new.self.items c.args.receiver pushed c.hold_reserved.ensures.holds
+
+pub returns-clause-within : goal.returns-clause-within
+returns-clause-within c k h receiver =
+    let m = view_of c.args.self.now in
+    let pushed = c.push_reserved.ensures.items ∙ ap (λ l. l ++ c.args.receiver ∷ []) c.reserve.ensures.items in
+    c.hold_reserved.ensures.within k (items_reached k m c.push_reserved.new.self.items (c.args.receiver ∷ []) pushed h (all_cons (IsReached k) c.args.receiver [] receiver (all_nil (IsReached k))))
