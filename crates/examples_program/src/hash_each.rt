@@ -19,7 +19,7 @@ nil and false in each of a hash|{nil => false, true => nil}.each { ^pk, v^p p k,
 each of a hash without parameters|n = 0; {a: 1, b: 2}.each { n += 1 }; p n^n|2^n|
 each of a hash with three parameters|{a: 1}.each { ^pk, v, w^p p k, v, w }^n|:a^n1^nnil^n|
 each of a hash with an array as value|{a: [1, 2]}.each { ^pk, v^p p k, v }^n|:a^n[1, 2]^n|
-each of a hash with one parameter|{a: 1}.each { ^px^p p x }^n||not here yet (RuntimeError)
+each of a hash with one parameter|{a: 1}.each { ^px^p p x }^n|[:a, 1]^n|
 each of a hash in each of a hash|{a: 1, b: 2}.each { ^pk, v^p {c: 3}.each { ^pl, w^p p k, l, v + w } }^n|:a^n:c^n4^n:b^n:c^n5^n|
 each of one hash in itself|h = {a: 1, b: 2}; h.each { ^pk, v^p h.each { ^pl, w^p print v, w } }^n|11122122|
 each of an array in each of a hash|{a: [1, 2], b: []}.each { ^pk, v^p v.each { ^px^p p k, x } }^n|:a^n1^n:a^n2^n|

@@ -18,6 +18,8 @@ mod builtins;
 #[cfg(test)]
 mod calls;
 #[cfg(test)]
+mod causes;
+#[cfg(test)]
 mod classes;
 #[cfg(test)]
 mod constants;
@@ -29,6 +31,8 @@ mod fields;
 mod globals;
 #[cfg(test)]
 mod hash_each;
+#[cfg(test)]
+mod hash_pairs;
 #[cfg(test)]
 mod hashes;
 #[cfg(test)]
@@ -43,6 +47,8 @@ mod limits;
 mod loops;
 #[cfg(test)]
 mod methods;
+#[cfg(test)]
+mod new_breaks;
 #[cfg(test)]
 mod objects;
 #[cfg(test)]
