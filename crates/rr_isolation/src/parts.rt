@@ -5,7 +5,7 @@ ghost use Rattle.rr_tree.specs.Tree.{tree_at, HasPartsBefore};
 ghost use Rattle.rr_tree.specs.Nodes.{node_tree, IsNoItem};
 ghost use Rattle.rr_tree.specs.declared.node.Node.{Node};
 ghost use Rattle.rr_isolation.specs.Parts.{parts};
-ghost use Rattle.rr_isolation.specs.Numbers.{numbers};
+ghost use Rattle.rr_isolation.specs.Numbers.{numbers, ArePartsOf, HasList, HasSeveral};
 
 use rr_tree::{Node, NodeId};
 
@@ -44,56 +44,12 @@ impl PartNumbers {
         }
     }
 
-    /// The parts of a node, and of a block its statements. Those of a method and of a class are left out: they see no
-    /// variable of what stands round them.
+    /// The parts of a node that has a list.
     #[tactic(auto, using(crate::proofs::Tables::listed_parts, crate::proofs::Tables::range_below))]
-    pub(crate) fn of(node: Node) -> PartNumbers
-        ensures trees { (ns : List Node) (i : ℕ) → IsNoItem node → HasPartsBefore i node → i ≤ length ns → map (tree_at ns) (numbers result) ≡ parts (node_tree ns node) }
-        ensures item { (a : ℕ) → node ≡ Node.Item a → numbers result ≡ a ∷ [] }
-        ensures before { (i : ℕ) → HasPartsBefore i node → All (λ k. k < i) (numbers result) }
-        ensures list_before { (i : ℕ) → HasPartsBefore i node → result.first + result.count ≤ i }
+    fn listed(node: Node) -> PartNumbers
+        ensures { HasList node → ArePartsOf node result }
     {
         match node {
-            Node::SetConstant(_, a)
-            | Node::Assign { value: a, .. }
-            | Node::SetField(_, a)
-            | Node::SetGlobal(_, a)
-            | Node::Not(a)
-            | Node::Negate(a)
-            | Node::Block { body: a, .. }
-            | Node::Break(a)
-            | Node::Next(a)
-            | Node::Return(a)
-            | Node::Splat(a)
-            | Node::Item(a) => PartNumbers::alone(Some(a), None, None),
-            Node::And(a, b)
-            | Node::Or(a, b)
-            | Node::Binary(_, a, b)
-            | Node::Append(a, b)
-            | Node::Loop {
-                condition: a,
-                body: b,
-                ..
-            }
-            | Node::WithBlock(a, b)
-            | Node::Ensure(a, b)
-            | Node::OperatorAssign(_, a, b)
-            | Node::AppendAssign(a, b)
-            | Node::OrAssign(a, b)
-            | Node::AndAssign(a, b)
-            | Node::Index(a, b)
-            | Node::SetAttribute {
-                receiver: a,
-                value: b,
-                ..
-            }
-            | Node::Pair(a, b) => PartNumbers::alone(Some(a), Some(b), None),
-            Node::Choose(a, b, c)
-            | Node::SetIndex {
-                receiver: a,
-                index: b,
-                value: c,
-            } => PartNumbers::alone(Some(a), Some(b), Some(c)),
             Node::Array { first, count }
             | Node::Hash { first, count }
             | Node::Pairs { first, count }
@@ -125,6 +81,68 @@ impl PartNumbers {
                 target: a,
                 body: b,
             } => PartNumbers::list(Some(a), Some(b), first, count),
+            _ => PartNumbers::alone(None, None, None),
+        }
+    }
+
+    /// The parts of a node that has several, or a list.
+    fn several(node: Node) -> PartNumbers
+        ensures { HasSeveral node → ArePartsOf node result }
+    {
+        match node {
+            Node::And(a, b)
+            | Node::Or(a, b)
+            | Node::Binary(_, a, b)
+            | Node::Append(a, b)
+            | Node::Loop {
+                condition: a,
+                body: b,
+                ..
+            }
+            | Node::WithBlock(a, b)
+            | Node::Ensure(a, b)
+            | Node::OperatorAssign(_, a, b)
+            | Node::AppendAssign(a, b)
+            | Node::OrAssign(a, b)
+            | Node::AndAssign(a, b)
+            | Node::Index(a, b)
+            | Node::SetAttribute {
+                receiver: a,
+                value: b,
+                ..
+            }
+            | Node::Pair(a, b) => PartNumbers::alone(Some(a), Some(b), None),
+            Node::Choose(a, b, c)
+            | Node::SetIndex {
+                receiver: a,
+                index: b,
+                value: c,
+            } => PartNumbers::alone(Some(a), Some(b), Some(c)),
+            _ => PartNumbers::listed(node),
+        }
+    }
+
+    /// The parts of a node, and of a block its statements. Those of a method and of a class are left out: they see no
+    /// variable of what stands round them.
+    pub(crate) fn of(node: Node) -> PartNumbers
+        ensures trees { (ns : List Node) (i : ℕ) → IsNoItem node → HasPartsBefore i node → i ≤ length ns → map (tree_at ns) (numbers result) ≡ parts (node_tree ns node) }
+        ensures item { (a : ℕ) → node ≡ Node.Item a → numbers result ≡ a ∷ [] }
+        ensures before { (i : ℕ) → HasPartsBefore i node → All (λ k. k < i) (numbers result) }
+        ensures list_before { (i : ℕ) → HasPartsBefore i node → result.first + result.count ≤ i }
+    {
+        match node {
+            Node::SetConstant(_, a)
+            | Node::Assign { value: a, .. }
+            | Node::SetField(_, a)
+            | Node::SetGlobal(_, a)
+            | Node::Not(a)
+            | Node::Negate(a)
+            | Node::Block { body: a, .. }
+            | Node::Break(a)
+            | Node::Next(a)
+            | Node::Return(a)
+            | Node::Splat(a)
+            | Node::Item(a) => PartNumbers::alone(Some(a), None, None),
             Node::Nil
             | Node::Truth(_)
             | Node::Int(_)
@@ -142,6 +160,7 @@ impl PartNumbers {
             | Node::Reader(_)
             | Node::Writer(_)
             | Node::ClassBody { .. } => PartNumbers::alone(None, None, None),
+            _ => PartNumbers::several(node),
         }
     }
 }
