@@ -10,10 +10,10 @@ use Rattle.rr_space.specs.declared.kind.Kind.TheVariants as kind
 use Rattle.rr_text.specs.Walk.{Outcome, Wrote, Circular, Leaf, Branch, followed, walk}
 use Rattle.rr_text.specs.Rest.{Begun, load, keys, rest, begun, showing, whole}
 use Rattle.rr_text.specs.Frames.{breadth, lead_at}
-use Rattle.rr_text.specs.Forms.{Names, Piece, spelled, spoken, pieced}
+use Rattle.rr_text.specs.Forms.{Names, Piece, spelled, spoken, pieced, unanswered}
 use Rattle.rr_text.specs.Same.{same_value, kind_in, triples_in}
 use Rattle.rr_text.specs.Comparing.{value_in, values_in}
-use Rattle.rr_text.specs.Joining.{Joint, joined_parts, joined_look, look_joined, joint, come_to, key_of, numbered, begun_of, whole_of, showing_of, ahead, rest_of, IsGrown}
+use Rattle.rr_text.specs.Joining.{Joint, joined_parts, joined_look, look_joined, joint, joined, come_to, key_of, numbered, begun_of, whole_of, showing_of, ahead, rest_of, IsGrown}
 use Rattle.rr_text.specs.declared.joining.Opened.{Opened}
 use Rattle.rr_text.specs.declared.joining.Going.{Going}
 use Rattle.rr_text.specs.declared.joining.Going.TheVariants as going
@@ -165,6 +165,11 @@ module _ (names : Names) (g : Graph) (asks : ℕ → Bool) (levels : ℕ) (separ
   pub ends : (fs : List Opened) (out : List Piece) → length fs ≡ 0 → whole_of names g asks levels separator slots fs out ≡ Wrote out
   ends [] out e = ap Wrote (append-nil out)
   ends (f ∷ fs) out e = absurd (let no : ⊥ = omega (arith, e) in no)
+
+-- the text is what was joined
+pub joined_is : (names : Names) (g : Graph) (levels : ℕ) (separator : List ℕ) (v : Value) (w : Outcome Piece) → joint names g (λ _. false) levels separator v ≡ w → unanswered w ≡ joined names g levels separator v
+unfolding joined
+joined_is names g levels separator v w e = ap unanswered (sym e)
 
 -- ---- Less is left.
 

@@ -1,6 +1,5 @@
 -- What is written of an object that is no container, and of an immediate.
-use Rattle.std.proofs.Common.{◌≡◌, ℕ, ◌&&◌, Bool, true, false, List, [], ◌∷◌, ◌++◌, refl, ap, sym, ◌∙◌}
-use Rattle.std.proofs.lemmas.List.{append-nil}
+use Rattle.std.proofs.Common.{◌≡◌, ℕ, ◌&&◌, Bool, true, false, List, ◌++◌, refl, ap, ◌∙◌}
 use Rattle.rr_space.specs.Graph.{Name, Value, Plain, At, Object, Kind, text, array, hash, plain, exception, shell, Graph}
 use Rattle.rr_space.specs.Tables.{Slot, Below, Table, resolve, graph_of}
 use Rattle.rr_space.specs.Sound.{IsTableSound}
@@ -8,19 +7,22 @@ use Rattle.rr_space.specs.Parts.{value_of}
 use Rattle.rr_space.specs.Kinds.{kind_at}
 use Rattle.rr_space.specs.declared.refer.Ref.{Ref}
 use Rattle.rr_text.specs.Walk.{Walked, Wrote, Differs, Deep, Circular, Shell, Leaf}
-use Rattle.rr_text.specs.Forms.{Names, Way, Item, Piece, Ask, spelled, look, leaf_text, leaf_look, object_look, may_answer, asks_objects, text_or_ask, same_key, immediate_written}
+use Rattle.rr_text.specs.Forms.{Names, Way, spoken, inspected, lines, Item, Piece, spelled, look, leaf_text, object_look, asks_objects, text_or_ask, same_key, immediate_written}
 use Rattle.rr_text.specs.Reads.{IsAmong, IsReadWith, IsAtEnd}
 use Rattle.rr_text.specs.Frames.{thing_in, begun_of, Showed}
 use Rattle.rr_text.specs.Ways.{IsWrittenNow}
-use Rattle.rr_text.specs.Told.{told_kind, told_object, IsLeafWritten, IsLeafPieced}
+use Rattle.rr_text.specs.Told.{told_kind, told_object, IsLeafWritten}
 use Rattle.rr_text.specs.declared.walk.Frame.{Frame}
 use Rattle.rr_text.specs.declared.walk.Going.TheVariants.{On, Shell as GoingShell}
 use Rattle.rr_text.proofs.Looking.{in_kind, in_bytes, in_triples, in_class, looked_at}
+use Rattle.rr_text.proofs.Spelling.{spelled_more}
 use Rattle.rr_text.proofs.Stack.{leaf_showed, leaf_shell}
 
-pub both_first : (a b : Bool) → (a && b) ≡ true → a ≡ true
-both_first true b e = refl
-both_first false b e = absurd (let w : ⊥ = cc in w)
+-- no object is asked where no class is
+unasked : (way : Way) → (asks_objects way && false) ≡ false
+unasked spoken = refl
+unasked inspected = refl
+unasked lines = refl
 
 module _ (names : Names) (g : Graph) where
   same_text : (way : Way) (k : Kind) (o p : Object) → o.bytes ≡ p.bytes → o.triples ≡ p.triples → ((k ≡ shell → ⊥) → o.class ≡ p.class) → leaf_text names g way k o ≡ leaf_text names g way k p
@@ -33,68 +35,49 @@ module _ (names : Names) (g : Graph) where
       ∙ ap (λ ts. leaf_text names g way exception (record p { triples = ts })) triples
   same_text way shell o p bytes triples class = refl
 
-  module _ (asks : ℕ → Bool) where
-    same_asked : (way : Way) (k : Kind) (o p : Object) → ((k ≡ shell → ⊥) → o.class ≡ p.class) → (may_answer k && (asks_objects way && asks o.class)) ≡ (may_answer k && (asks_objects way && asks p.class))
-    same_asked way text o p class = refl
-    same_asked way array o p class = refl
-    same_asked way hash o p class = refl
-    same_asked way plain o p class = ap (λ (c : ℕ). asks_objects way && asks c) (class (λ e. absurd (let w : ⊥ = cc in w)))
-    same_asked way exception o p class = ap (λ (c : ℕ). asks_objects way && asks c) (class (λ e. absurd (let w : ⊥ = cc in w)))
-    same_asked way shell o p class = refl
+  -- an object that is no container
+  alone : (way : Way) (k : Kind) (v : Value) (o : Object) → (k ≡ array → ⊥) → (k ≡ hash → ⊥) → object_look names g (λ _. false) way k v o ≡ Leaf (text_or_ask false (way, v) (leaf_text names g way k o))
+  alone way text v o row pairs = refl
+  alone way array v o row pairs = absurd (row refl)
+  alone way hash v o row pairs = absurd (pairs refl)
+  alone way plain v o row pairs = ap (λ b. Leaf (text_or_ask b (way, v) (leaf_text names g way plain o))) (unasked way)
+  alone way exception v o row pairs = ap (λ b. Leaf (text_or_ask b (way, v) (leaf_text names g way exception o))) (unasked way)
+  alone way shell v o row pairs = refl
 
-    -- an object that is no container
-    alone : (way : Way) (k : Kind) (v : Value) (o : Object) → (k ≡ array → ⊥) → (k ≡ hash → ⊥) → object_look names g asks way k v o ≡ leaf_look names g asks way k v o
-    alone way text v o row pairs = refl
-    alone way array v o row pairs = absurd (row refl)
-    alone way hash v o row pairs = absurd (pairs refl)
-    alone way plain v o row pairs = refl
-    alone way exception v o row pairs = refl
-    alone way shell v o row pairs = refl
+  -- what is written, and the walk goes on where it was
+  pub leaf_shows : (levels : ℕ) (frames : List Frame) (bytes bytes' : List ℕ) (i : Item) (w : Walked) → look names g (λ _. false) i ≡ Leaf (text_or_ask false i w) → IsLeafWritten w true bytes bytes'
+      → Showed names g (λ _. false) levels frames (spelled bytes) i On frames (spelled bytes')
+  leaf_shows levels frames bytes bytes' i (Wrote s) e (written, more) =
+      leaf_showed (look names g (λ _. false)) same_key (begun_of names g) levels frames frames (spelled bytes) (spelled bytes') (spelled s) i e refl (spelled_more bytes bytes' s more)
+  leaf_shows levels frames bytes bytes' i Shell e none = absurd (let w : ⊥ = cc in w)
+  leaf_shows levels frames bytes bytes' i Differs e h = absurd h
+  leaf_shows levels frames bytes bytes' i Deep e h = absurd h
+  leaf_shows levels frames bytes bytes' i Circular e h = absurd h
 
-    same_leaf : (way : Way) (k : Kind) (v : Value) (o p : Object) → o.bytes ≡ p.bytes → o.triples ≡ p.triples → ((k ≡ shell → ⊥) → o.class ≡ p.class) → leaf_look names g asks way k v o ≡ leaf_look names g asks way k v p
-    same_leaf way k v o p bytes triples class =
-        ap (λ b. Leaf (text_or_ask b (way, v) (leaf_text names g way k o))) (same_asked way k o p class)
-        ∙ ap (λ w. Leaf (text_or_ask (may_answer k && (asks_objects way && asks p.class)) (way, v) w)) (same_text way k o p bytes triples class)
+  pub shell_shows : (levels : ℕ) (frames : List Frame) (out out' : List Piece) (bytes bytes' : List ℕ) (i : Item) (w : Walked) → look names g (λ _. false) i ≡ Leaf (text_or_ask false i w)
+      → IsLeafWritten w false bytes bytes' → Showed names g (λ _. false) levels frames out i GoingShell frames out'
+  shell_shows levels frames out out' bytes bytes' i Shell e none = leaf_shell (look names g (λ _. false)) same_key (begun_of names g) levels frames out i e
+  shell_shows levels frames out out' bytes bytes' i (Wrote s) e (written, more) = absurd (let w : ⊥ = cc in w)
+  shell_shows levels frames out out' bytes bytes' i Differs e h = absurd h
+  shell_shows levels frames out out' bytes bytes' i Deep e h = absurd h
+  shell_shows levels frames out out' bytes bytes' i Circular e h = absurd h
 
-    -- what is written, and the walk goes on where it was
-    pub leaf_shows : (levels : ℕ) (frames : List Frame) (out out' : List Piece) (bytes bytes' : List ℕ) (i : Item) (asked : Bool) (w : Walked) → look names g asks i ≡ Leaf (text_or_ask asked i w)
-        → IsLeafWritten w true bytes bytes' → ((s : List ℕ) → bytes' ≡ bytes ++ s → IsLeafPieced asked i s out out') → Showed names g asks levels frames out i On frames out'
-    leaf_shows levels frames out out' bytes bytes' i true (Wrote s) e (written, more) pieced = leaf_showed (look names g asks) same_key (begun_of names g) levels frames frames out out' (Ask i s ∷ []) i e refl (pieced s more)
-    leaf_shows levels frames out out' bytes bytes' i false (Wrote s) e (written, more) pieced = leaf_showed (look names g asks) same_key (begun_of names g) levels frames frames out out' (spelled s) i e refl (pieced s more)
-    leaf_shows levels frames out out' bytes bytes' i asked Shell e none pieced = absurd (let w : ⊥ = cc in w)
-    leaf_shows levels frames out out' bytes bytes' i asked Differs e h pieced = absurd h
-    leaf_shows levels frames out out' bytes bytes' i asked Deep e h pieced = absurd h
-    leaf_shows levels frames out out' bytes bytes' i asked Circular e h pieced = absurd h
-
-    pub shell_shows : (levels : ℕ) (frames : List Frame) (out out' : List Piece) (bytes bytes' : List ℕ) (i : Item) (asked : Bool) (w : Walked) → look names g asks i ≡ Leaf (text_or_ask asked i w)
-        → IsLeafWritten w false bytes bytes' → Showed names g asks levels frames out i GoingShell frames out'
-    shell_shows levels frames out out' bytes bytes' i true Shell e none = leaf_shell (look names g asks) same_key (begun_of names g) levels frames out i e
-    shell_shows levels frames out out' bytes bytes' i false Shell e none = leaf_shell (look names g asks) same_key (begun_of names g) levels frames out i e
-    shell_shows levels frames out out' bytes bytes' i asked (Wrote s) e (written, more) = absurd (let w : ⊥ = cc in w)
-    shell_shows levels frames out out' bytes bytes' i asked Differs e h = absurd h
-    shell_shows levels frames out out' bytes bytes' i asked Deep e h = absurd h
-    shell_shows levels frames out out' bytes bytes' i asked Circular e h = absurd h
-
-pub told_leaf : (names : Names) (asks : ℕ → Bool) (t : Table) (below : Below) (r : Ref) (n : Name) (way : Way) → IsTableSound t.slots t.below → IsReadWith t below → IsAmong below r → IsAtEnd t r → value_of r ≡ At n
+pub told_leaf : (names : Names) (t : Table) (below : Below) (r : Ref) (n : Name) (way : Way) → IsTableSound t.slots t.below → IsReadWith t below → IsAmong below r → IsAtEnd t r → value_of r ≡ At n
     → (told_kind (kind_at t r) ≡ array → ⊥) → (told_kind (kind_at t r) ≡ hash → ⊥)
-    → look names (graph_of t.slots below) asks (way, value_of r) ≡ leaf_look names (graph_of t.slots below) asks way (told_kind (kind_at t r)) (value_of r) (told_object t r)
-told_leaf names asks t below r n way sound read among end e row pairs =
+    → look names (graph_of t.slots below) (λ _. false) (way, value_of r) ≡ Leaf (text_or_ask false (way, value_of r) (leaf_text names (graph_of t.slots below) way (told_kind (kind_at t r)) (told_object t r)))
+told_leaf names t below r n way sound read among end e row pairs =
     let g = graph_of t.slots below in
     let k = told_kind (kind_at t r) in
-    looked_at names g asks way (value_of r) n k e (in_kind names t below sound read r among end)
-    ∙ alone names g asks way k (value_of r) (thing_in names g (value_of r)) row pairs
-    ∙ same_leaf names g asks way k (value_of r) (thing_in names g (value_of r)) (told_object t r)
-    (in_bytes names t below sound read r among end) (in_triples names t below sound read r among end) (in_class names t below sound read r among end)
+    looked_at names g (λ _. false) way (value_of r) n k e (in_kind names t below sound read r among end)
+    ∙ alone names g way k (value_of r) (thing_in names g (value_of r)) row pairs
+    ∙ ap (λ w. Leaf (text_or_ask false (way, value_of r) w))
+    (same_text names g way k (thing_in names g (value_of r)) (told_object t r)
+    (in_bytes names t below sound read r among end) (in_triples names t below sound read r among end) (in_class names t below sound read r among end))
 
 -- a value that was not written now is an object
 pub is_object : (names : Names) (way : Way) (v : Value) (now : Bool) (out out' : List ℕ) → IsWrittenNow names way v now out out' → now ≡ false → (n : Name) × (v ≡ At n) × (out' ≡ out)
 is_object names way (Plain i) now out out' (e, more) h = absurd (let w : ⊥ = cc in w)
 is_object names way (At n) now out out' (e, same) h = (n, refl, same)
-
--- it grew at most by bytes
-pub immediate_more : (names : Names) (way : Way) (v : Value) (now : Bool) (out out' : List ℕ) → IsWrittenNow names way v now out out' → (s : List ℕ) × (out' ≡ out ++ s)
-immediate_more names way (Plain i) now out out' (e, more) = (immediate_written names way i, more)
-immediate_more names way (At n) now out out' (e, same) = ([], same ∙ sym (append-nil out))
 
 -- and one that was is an immediate
 pub written_shows : (names : Names) (g : Graph) (asks : ℕ → Bool) (slots : List Slot) (levels : ℕ) (frames : List Frame) (out out' : List Piece) (bytes bytes' : List ℕ) (way : Way) (v : Value) (now : Bool)

@@ -2,9 +2,7 @@ pub mod Quoting
 pub mod Stack
 pub mod Seeing
 pub mod Loads
-pub mod Drafting
-mod Unasked
-mod Answering
+mod Spelling
 pub mod Looking
 mod Leaves
 pub mod Turning

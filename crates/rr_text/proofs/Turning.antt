@@ -1,5 +1,5 @@
 -- The next part of a container, or its end.
-use Rattle.std.proofs.Common.{◌≡◌, ℕ, suc, ◌+◌, ◌-◌, ◌<◌, ◌≤◌, Bool, List, [], ◌∷◌, ◌++◌, drop, length, codes, slice_get, Some, None, ap, sym, ◌∙◌, arith}
+use Rattle.std.proofs.Common.{◌≡◌, ℕ, suc, ◌+◌, ◌-◌, ◌<◌, ◌≤◌, Bool, false, List, [], ◌∷◌, ◌++◌, drop, length, codes, slice_get, Some, None, ap, sym, ◌∙◌, arith}
 use Rattle.std.proofs.lemmas.List.{append-nil, length-map}
 use Rattle.rr_space.specs.Graph.{Name, Value, At, Label, Graph}
 use Rattle.rr_space.specs.Tables.{Slot, Below, Table, resolve, resolve_triple, graph_of}
@@ -8,7 +8,7 @@ use Rattle.rr_space.specs.Parts.{value_of}
 use Rattle.rr_space.specs.Views.{text_at}
 use Rattle.rr_space.specs.Labels.{triples_at}
 use Rattle.rr_space.specs.declared.refer.Ref.{Ref}
-use Rattle.rr_text.specs.Forms.{Names, Way, Piece, spelled, pieced, inspected, lines, elements, entries, key_text, look, same_key}
+use Rattle.rr_text.specs.Forms.{Names, Way, Piece, spelled, pieced, printed, unanswered, inspected, lines, elements, entries, key_text, look, same_key}
 use Rattle.rr_text.specs.Quoted.{quoted}
 use Rattle.rr_text.specs.Ways.{way_of}
 use Rattle.rr_text.specs.Reads.{IsAmong, IsReadWith, IsAtEnd}
@@ -16,7 +16,7 @@ use Rattle.rr_text.specs.Frames.{lead_at, thing_in, parts_from, closing_of, begu
 use Rattle.rr_text.specs.declared.walk.Part.{Part}
 use Rattle.rr_text.specs.declared.walk.Going.{Going}
 use Rattle.rr_text.specs.declared.walk.Going.TheVariants.{On}
-use Rattle.rr_text.proofs.Stack.{next_top, closed_top, followed_end}
+use Rattle.rr_text.proofs.Stack.{next_top, closed_top, followed_none, followed_end}
 use Rattle.rr_text.specs.Walk.{Outcome, Wrote, followed, walk}
 use Rattle.rr_text.specs.declared.form.Form.{Form}
 use Rattle.rr_text.specs.declared.walk.Shape.{Shape}
@@ -123,3 +123,10 @@ starts names g asks levels fs out way v e =
 pub ends : (names : Names) (g : Graph) (asks : ℕ → Bool) (levels : ℕ) (fs : List Frame) (out : List Piece) → length fs ≡ 0 → whole_of names g asks levels fs out ≡ Wrote out
 ends names g asks levels [] out e = ap Wrote (append-nil out)
 ends names g asks levels (f ∷ fs) out e = absurd (let no : ⊥ = omega (arith, e) in no)
+
+-- the text is what is written behind nothing
+pub printed_is : (names : Names) (g : Graph) (levels : ℕ) (way : Way) (v : Value) (before : List ℕ) (now : Outcome Piece) → before ≡ [] → followed (Wrote (spelled before)) (pieced names g (λ _. false) levels way v) ≡ now
+    → unanswered now ≡ printed names g levels way v
+printed_is names g levels way v before now none e =
+    let one : Outcome Piece = pieced names g (λ _. false) levels way v in
+    ap unanswered (sym e ∙ ap (λ (s : List ℕ). followed (Wrote (spelled s)) one) none ∙ followed_none one)

@@ -14,10 +14,7 @@ use Rattle.rr_text.specs.Comparing.{values_in}
 use Rattle.rr_text.specs.Reads.{IsAmong}
 use Rattle.rr_text.specs.Rest.{Begun, whole, showing, load}
 use Rattle.rr_text.specs.Frames.{breadth, lead_at}
-use Rattle.rr_text.specs.Drafts.{pieces_in, AreAsksKnown}
 use Rattle.rr_text.specs.declared.walk.Frame.{Frame}
-use Rattle.rr_text.specs.declared.drafts.JoinedPieces.{JoinedPieces}
-use Rattle.rr_text.specs.declared.drafts.JoinedPieces.TheVariants as pieces
 use Rattle.rr_text.specs.declared.joining.Opened.{Opened}
 use Rattle.rr_text.specs.declared.joining.Going.{Going}
 use Rattle.rr_text.specs.declared.joining.Going.TheVariants as going
@@ -57,19 +54,6 @@ outcome_of (text.Bytes bytes) = Wrote bytes.items
 outcome_of text.Deep = Deep
 outcome_of text.Circular = Circular
 outcome_of text.Shell = Shell
-
-abbrev pub found_in : JoinedPieces → Outcome Piece
-found_in (pieces.Draft draft) = Wrote (pieces_in draft.asks.items draft.bytes.items)
-found_in pieces.Deep = Deep
-found_in pieces.Circular = Circular
-found_in pieces.Shell = Shell
-
--- what is known of the objects that are asked
-abbrev pub IsFoundKnown : Table → Below → JoinedPieces → Type 0
-IsFoundKnown t below (pieces.Draft draft) = AreAsksKnown t below draft.asks.items
-IsFoundKnown t below pieces.Deep = Unit {0}
-IsFoundKnown t below pieces.Circular = Unit {0}
-IsFoundKnown t below pieces.Shell = Unit {0}
 
 -- what writing a value comes to
 abbrev pub come_to : Going → List Piece → Outcome Piece

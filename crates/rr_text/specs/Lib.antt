@@ -13,6 +13,3 @@ pub mod Keys
 pub mod Comparing
 pub mod Beside
 pub mod Joining
-pub mod Asking
-pub mod Drafts
-pub mod Found

@@ -1,5 +1,5 @@
 -- What a space tells of a reference.
-use Rattle.std.specs.Prelude.{◌≡◌, ℕ, Bool, true, false, List, [], ◌∷◌, ◌++◌, map}
+use Rattle.std.specs.Prelude.{◌≡◌, ℕ, Bool, true, false, List, ◌++◌, map}
 use Rattle.rr_space.specs.Graph.{Kind, text, array, hash, plain, exception, shell, Object, Value, Plain, At}
 use Rattle.rr_space.specs.Tables.{Table, resolve_triple}
 use Rattle.rr_space.specs.Views.{text_at}
@@ -9,7 +9,7 @@ use Rattle.rr_space.specs.declared.refer.Ref.{Ref}
 use Rattle.rr_space.specs.declared.kind.Kind.{Kind as ValueKind}
 use Rattle.rr_space.specs.declared.kind.Kind.TheVariants.{Nil as NilKind, Truth as TruthKind, Integer as IntegerKind, Symbol as SymbolKind, Class as ClassKind, Ractor as RactorKind, Text as TextKind, Array as ArrayKind, Hash as HashKind, Object as ObjectKind, Exception as ExceptionKind, Shell as ShellKind}
 use Rattle.rr_text.specs.Walk.{Walked, Wrote, Differs, Deep, Circular, Shell}
-use Rattle.rr_text.specs.Forms.{Names, Item, Piece, Ask, spelled, told_by}
+use Rattle.rr_text.specs.Forms.{Names, told_by}
 use Rattle.rr_text.specs.declared.raised.Told.{Told}
 use Rattle.rr_text.specs.declared.raised.Told.TheVariants.{Text, Name as NameTold, Shell as ShellTold}
 
@@ -49,8 +49,3 @@ IsLeafWritten Shell now out out' = now ≡ false
 IsLeafWritten Differs now out out' = ⊥
 IsLeafWritten Deep now out out' = ⊥
 IsLeafWritten Circular now out out' = ⊥
-
--- the text of what stands alone was written, or the object is asked for it
-abbrev pub IsLeafPieced : Bool → Item → List ℕ → List Piece → List Piece → Type 0
-IsLeafPieced true i s out out' = out' ≡ out ++ Ask i s ∷ []
-IsLeafPieced false i s out out' = out' ≡ out ++ spelled s

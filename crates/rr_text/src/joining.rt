@@ -1,23 +1,20 @@
 //! The text of an array whose elements are joined, by a stack of the arrays that are being joined.
 
-ghost use Rattle.std.specs.Prelude.{◌≡◌, ℕ, Bool, ◌<◌, ◌≤◌, ◌∷◌, ◌++◌, [], List, length, IfOk, IfErr, OnOk};
+ghost use Rattle.std.specs.Prelude.{◌≡◌, false, ℕ, Bool, ◌<◌, ◌≤◌, ◌∷◌, ◌++◌, [], List, length, IfOk, IfErr, OnOk};
 ghost use Rattle.std.specs.List.{list_any};
 ghost use Rattle.rr_space.specs.Graph.{Graph};
 ghost use Rattle.rr_space.specs.Tables.{Below, graph_of, resolve};
 ghost use Rattle.rr_space.specs.Parts.{value_of};
 ghost use Rattle.rr_text.specs.Walk.{Wrote, followed};
-ghost use Rattle.rr_text.specs.Forms.{Names, Piece, spoken, pieced};
+ghost use Rattle.rr_text.specs.Forms.{Names, Piece, spelled, spoken, pieced};
 ghost use Rattle.rr_text.specs.Same.{same_value, kind_in};
 ghost use Rattle.rr_text.specs.Names.{names_of};
 ghost use Rattle.rr_text.specs.Reads.{IsAmong, IsReadWith};
 ghost use Rattle.rr_text.specs.Rest.{load};
 ghost use Rattle.rr_text.specs.Frames.{breadth, lead_at};
-ghost use Rattle.rr_text.specs.Asking.{asked_by};
-ghost use Rattle.rr_text.specs.Drafts.{pieces_in, ArePlaced, AreAsksKnown};
-ghost use Rattle.rr_text.specs.Joining.{joint, joined, outcome_of, found_in, IsFoundKnown, key_of, come_to, whole_of, showing_of, ahead, rest_of, AreAmong, IsGrown, IsEmptied};
+ghost use Rattle.rr_text.specs.Joining.{joined, outcome_of, key_of, come_to, whole_of, showing_of, ahead, rest_of, AreAmong, IsGrown, IsEmptied};
 
 use crate::beside::value_at;
-use crate::drafts::{Draft, JoinedPieces};
 use crate::form::Form;
 use crate::likeness::is_one;
 use crate::walk::{Going as Written, Walk};
@@ -83,20 +80,16 @@ fn write_value(
     walk: &mut Walk,
     space: &Space,
     program: &Program,
-    asking: &[bool],
     levels: usize,
     value: Ref,
 ) -> Result<Going, AllocError>
     requires none { walk.old.frames.items ≡ [] }
-    requires placed { ArePlaced walk.old.asks.items walk.old.out.items }
     ensures written { IfOk result (λ now. (below : Below) → IsReadWith space.now below → IsAmong below value
-        → followed (Wrote (pieces_in walk.old.asks.items walk.old.out.items)) (pieced (names_of program.now) (graph_of space.now.slots below) (asked_by asking.now) levels spoken (resolve space.now.slots (value_of value)))
-        ≡ come_to now (pieces_in walk.new.asks.items walk.new.out.items)) }
-    ensures placed { IfOk result (λ _. ArePlaced walk.new.asks.items walk.new.out.items) }
+        → followed (Wrote (spelled walk.old.out.items)) (pieced (names_of program.now) (graph_of space.now.slots below) (λ _. false) levels spoken (resolve space.now.slots (value_of value)))
+        ≡ come_to now (spelled walk.new.out.items)) }
     ensures none { IfOk result (λ now. IsEmptied now walk.new.frames.items) }
-    ensures known { IfOk result (λ _. (below : Below) → IsReadWith space.now below → IsAmong below value → AreAsksKnown space.now below walk.old.asks.items → AreAsksKnown space.now below walk.new.asks.items) }
 {
-    match walk.write(space, program, asking, levels, Form::ToS, value)? {
+    match walk.write(space, program, levels, Form::ToS, value)? {
         Written::On => Ok(Going::On),
         Written::Deep => Ok(Going::Deep),
         Written::Shell => Ok(Going::Shell),
@@ -142,21 +135,17 @@ impl Joining {
         &mut self,
         space: &Space,
         program: &Program,
-        asking: &[bool],
         levels: usize,
         value: Ref,
     ) -> Result<Going, AllocError>
         requires fit { length self.old.arrays.items ≤ levels }
         requires none { self.old.walk.frames.items ≡ [] }
-        requires placed { ArePlaced self.old.walk.asks.items self.old.walk.out.items }
         ensures showed { IfOk result (λ going. (below : Below) (separator : List ℕ) → IsReadWith space.now below → IsAmong below value
-            → showing_of (names_of program.now) (graph_of space.now.slots below) (asked_by asking.now) levels separator space.now.slots self.old.arrays.items (pieces_in self.old.walk.asks.items self.old.walk.out.items) (resolve space.now.slots (value_of value))
-            ≡ ahead (names_of program.now) (graph_of space.now.slots below) (asked_by asking.now) levels separator space.now.slots going self.new.arrays.items (pieces_in self.new.walk.asks.items self.new.walk.out.items)) }
+            → showing_of (names_of program.now) (graph_of space.now.slots below) (λ _. false) levels separator space.now.slots self.old.arrays.items (spelled self.old.walk.out.items) (resolve space.now.slots (value_of value))
+            ≡ ahead (names_of program.now) (graph_of space.now.slots below) (λ _. false) levels separator space.now.slots going self.new.arrays.items (spelled self.new.walk.out.items)) }
         ensures grown { IfOk result (λ _. IsGrown space.now levels self.old.arrays.items self.new.arrays.items) }
-        ensures placed { IfOk result (λ _. ArePlaced self.new.walk.asks.items self.new.walk.out.items) }
         ensures none { IfOk result (λ going. IsEmptied going self.new.walk.frames.items) }
         ensures among { IfOk result (λ _. (below : Below) → AreAmong below self.old.arrays.items → IsAmong below value → AreAmong below self.new.arrays.items) }
-        ensures known { IfOk result (λ _. (below : Below) → IsReadWith space.now below → IsAmong below value → AreAsksKnown space.now below self.old.walk.asks.items → AreAsksKnown space.now below self.new.walk.asks.items) }
     {
         // No reference leads nowhere, as the clause of the number says.
         let _count = space.len();
@@ -167,7 +156,7 @@ impl Joining {
             }
             _ => {
                 let left = levels - self.arrays.len();
-                let going = write_value(&mut self.walk, space, program, asking, left, value)?;
+                let going = write_value(&mut self.walk, space, program, left, value)?;
                 Ok(going)
             }
         }
@@ -178,23 +167,19 @@ impl Joining {
         &mut self,
         space: &Space,
         program: &Program,
-        asking: &[bool],
         levels: usize,
         separator: &[u8],
         top: Opened,
     ) -> Result<Going, AllocError>
         requires depth { length self.old.arrays.items < levels }
         requires none { self.old.walk.frames.items ≡ [] }
-        requires placed { ArePlaced self.old.walk.asks.items self.old.walk.out.items }
         ensures stepped { IfOk result (λ going. (below : Below) → IsReadWith space.now below → IsAmong below top.array
-            → whole_of (names_of program.now) (graph_of space.now.slots below) (asked_by asking.now) levels separator.now space.now.slots (self.old.arrays.items ++ top ∷ []) (pieces_in self.old.walk.asks.items self.old.walk.out.items)
-            ≡ ahead (names_of program.now) (graph_of space.now.slots below) (asked_by asking.now) levels separator.now space.now.slots going self.new.arrays.items (pieces_in self.new.walk.asks.items self.new.walk.out.items)) }
+            → whole_of (names_of program.now) (graph_of space.now.slots below) (λ _. false) levels separator.now space.now.slots (self.old.arrays.items ++ top ∷ []) (spelled self.old.walk.out.items)
+            ≡ ahead (names_of program.now) (graph_of space.now.slots below) (λ _. false) levels separator.now space.now.slots going self.new.arrays.items (spelled self.new.walk.out.items)) }
         ensures fit { IfOk result (λ _. length self.new.arrays.items ≤ levels) }
-        ensures placed { IfOk result (λ _. ArePlaced self.new.walk.asks.items self.new.walk.out.items) }
         ensures none { IfOk result (λ going. IsEmptied going self.new.walk.frames.items) }
         ensures among { IfOk result (λ _. (below : Below) → IsReadWith space.now below → AreAmong below self.old.arrays.items → IsAmong below top.array → AreAmong below self.new.arrays.items) }
         ensures lighter { IfOk result (λ _. load (rest_of space.now) breadth levels self.new.arrays.items < load (rest_of space.now) breadth levels (self.old.arrays.items ++ top ∷ [])) }
-        ensures known { IfOk result (λ _. (below : Below) → IsReadWith space.now below → IsAmong below top.array → AreAsksKnown space.now below self.old.walk.asks.items → AreAsksKnown space.now below self.new.walk.asks.items) }
     {
         let _count = space.len();
         if top.next >= space.arity(top.array) {
@@ -206,7 +191,7 @@ impl Joining {
             array: top.array,
             next: top.next + 1,
         })?;
-        let going = self.show(space, program, asking, levels, value)?;
+        let going = self.show(space, program, levels, value)?;
         Ok(going)
     }
 }
@@ -246,72 +231,24 @@ pub fn join_within(
         → outcome_of joint ≡ joined (names_of program.now) (graph_of space.now.slots below) levels separator.now (resolve space.now.slots (value_of array))) }
     ensures fault { IfErr result (λ e. e ≡ Fault.Memory) }
 {
-    match join_pieces_within(alloc, space, program, &[], levels, array, separator)? {
-        JoinedPieces::Draft(draft) => Ok(Joined::Bytes(draft.bytes)),
-        JoinedPieces::Deep => Ok(Joined::Deep),
-        JoinedPieces::Circular => Ok(Joined::Circular),
-        JoinedPieces::Shell => Ok(Joined::Shell),
-    }
-}
-
-/// The text of an array as `join` gives it, and the objects that a program may give another text there: those of its elements,
-/// and of the elements of arrays in it, that are plain objects or exceptions whose class the table of classes tells to be
-/// asked. `Deep`, `Circular` and `Shell` come where they come of `join`.
-///
-/// An object's answer, if that is a text, comes in the place of the bytes of its ask; with no answers the text is `join`'s.
-pub fn join_pieces(
-    alloc: Global,
-    space: &Space,
-    program: &Program,
-    asking: &[bool],
-    array: Ref,
-    separator: &[u8],
-) -> Result<JoinedPieces, Fault>
-    ensures pieces { IfOk result (λ found. (below : Below) → IsReadWith space.now below → IsAmong below array
-        → found_in found ≡ joint (names_of program.now) (graph_of space.now.slots below) (asked_by asking.now) Limits.DEFAULT.levels separator.now (resolve space.now.slots (value_of array))) }
-    ensures known { IfOk result (λ found. (below : Below) → IsReadWith space.now below → IsAmong below array → IsFoundKnown space.now below found) }
-    ensures fault { IfErr result (λ e. e ≡ Fault.Memory) }
-{
-    let levels = Limits::DEFAULT.levels as usize;
-    join_pieces_within(alloc, space, program, asking, levels, array, separator)
-}
-
-/// The pieces of an array, as `join_pieces` gives them, where at most `levels` containers may be begun inside one another.
-pub fn join_pieces_within(
-    alloc: Global,
-    space: &Space,
-    program: &Program,
-    asking: &[bool],
-    levels: usize,
-    array: Ref,
-    separator: &[u8],
-) -> Result<JoinedPieces, Fault>
-    ensures pieces { IfOk result (λ found. (below : Below) → IsReadWith space.now below → IsAmong below array
-        → found_in found ≡ joint (names_of program.now) (graph_of space.now.slots below) (asked_by asking.now) levels separator.now (resolve space.now.slots (value_of array))) }
-    ensures known { IfOk result (λ found. (below : Below) → IsReadWith space.now below → IsAmong below array → IsFoundKnown space.now below found) }
-    ensures fault { IfErr result (λ e. e ≡ Fault.Memory) }
-{
     let mut joining = Joining {
         arrays: Vec::new(alloc),
         walk: Walk::new(alloc),
     };
-    match joining.show(space, program, asking, levels, array)? {
+    match joining.show(space, program, levels, array)? {
         Going::On => (),
-        Going::Deep => return Ok(JoinedPieces::Deep),
-        Going::Circular => return Ok(JoinedPieces::Circular),
-        Going::Shell => return Ok(JoinedPieces::Shell),
+        Going::Deep => return Ok(Joined::Deep),
+        Going::Circular => return Ok(Joined::Circular),
+        Going::Shell => return Ok(Joined::Shell),
     }
     while let Some(top) = joining.arrays.pop() {
-        match joining.step(space, program, asking, levels, separator, top)? {
+        match joining.step(space, program, levels, separator, top)? {
             Going::On => (),
-            Going::Deep => return Ok(JoinedPieces::Deep),
-            Going::Circular => return Ok(JoinedPieces::Circular),
-            Going::Shell => return Ok(JoinedPieces::Shell),
+            Going::Deep => return Ok(Joined::Deep),
+            Going::Circular => return Ok(Joined::Circular),
+            Going::Shell => return Ok(Joined::Shell),
         }
     }
     let walk = joining.walk;
-    Ok(JoinedPieces::Draft(Draft {
-        bytes: walk.out,
-        asks: walk.asks,
-    }))
+    Ok(Joined::Bytes(walk.out))
 }

@@ -1,11 +1,8 @@
 //! The printed text of values.
 #![tactic(auto)]
 
-mod asks;
 mod beside;
 mod comparing;
-mod drafts;
-mod filling;
 mod form;
 mod joining;
 mod laws;
@@ -23,14 +20,12 @@ mod sight;
 mod walk;
 mod writing;
 
-pub use asks::Ask;
 pub use comparing::{compare, compare_within};
-pub use drafts::{Draft, JoinedPieces, Pieces};
 pub use form::{Form, Text};
-pub use joining::{Joined, join, join_pieces, join_pieces_within, join_within};
-pub use laws::{no_text_is_no_answer, shown_by_rows, unanswered_is_joint, unanswered_is_text};
+pub use joining::{Joined, join, join_within};
+pub use laws::shown_by_rows;
 pub use names::{class_name, symbol_name};
 pub use pairs::pair_with;
-pub use printing::{pieces, pieces_within, text, text_within};
+pub use printing::{text, text_within};
 pub use searching::search;
 pub use sight::Compared;

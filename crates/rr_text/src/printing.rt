@@ -3,14 +3,11 @@
 ghost use Rattle.std.specs.Prelude.{◌≡◌, IfOk, IfErr};
 ghost use Rattle.rr_space.specs.Parts.{value_of};
 ghost use Rattle.rr_space.specs.Tables.{Below, graph_of, resolve};
-ghost use Rattle.rr_text.specs.Forms.{pieced, printed};
+ghost use Rattle.rr_text.specs.Forms.{printed};
 ghost use Rattle.rr_text.specs.Names.{names_of};
 ghost use Rattle.rr_text.specs.Ways.{way_of, text_of};
-ghost use Rattle.rr_text.specs.Asking.{asked_by};
-ghost use Rattle.rr_text.specs.Found.{found_in, IsFoundKnown};
 ghost use Rattle.rr_text.specs.Reads.{IsAmong, IsReadWith};
 
-use crate::drafts::{Draft, Pieces};
 use crate::form::{Form, Text};
 use crate::walk::{Going, Walk};
 use rr_base::{Fault, Limits};
@@ -52,58 +49,10 @@ pub fn text_within(
         → text_of text ≡ printed (names_of program.now) (graph_of space.now.slots below) levels (way_of form) (resolve space.now.slots (value_of value))) }
     ensures fault { IfErr result (λ e. e ≡ Fault.Memory) }
 {
-    match pieces_within(alloc, space, program, &[], levels, value, form)? {
-        Pieces::Draft(draft) => Ok(Text::Bytes(draft.bytes)),
-        Pieces::Deep => Ok(Text::Deep),
-        Pieces::Shell => Ok(Text::Shell),
-    }
-}
-
-/// The text of a value as `text` gives it, and the objects that a program may give another text there: plain objects and
-/// exceptions whose class the table of classes tells to be asked. `Deep` and `Shell` come where they come of `text`.
-///
-/// What `inspect` writes asks no object, so none in a hash, and none in an array that `puts` does not take apart. An object
-/// that stands in several places is asked in each. Its answer, if that is a text, comes in the place of the bytes of its ask;
-/// with no answers the text is `text`'s.
-pub fn pieces(
-    alloc: Global,
-    space: &Space,
-    program: &Program,
-    asking: &[bool],
-    value: Ref,
-    form: Form,
-) -> Result<Pieces, Fault>
-    ensures pieces { IfOk result (λ found. (below : Below) → IsReadWith space.now below → IsAmong below value
-        → found_in found ≡ pieced (names_of program.now) (graph_of space.now.slots below) (asked_by asking.now) Limits.DEFAULT.levels (way_of form) (resolve space.now.slots (value_of value))) }
-    ensures known { IfOk result (λ found. (below : Below) → IsReadWith space.now below → IsAmong below value → IsFoundKnown space.now below found) }
-    ensures fault { IfErr result (λ e. e ≡ Fault.Memory) }
-{
-    let levels = Limits::DEFAULT.levels as usize;
-    pieces_within(alloc, space, program, asking, levels, value, form)
-}
-
-/// The pieces of a value, as `pieces` gives them, where at most `levels` containers may be begun inside one another.
-pub fn pieces_within(
-    alloc: Global,
-    space: &Space,
-    program: &Program,
-    asking: &[bool],
-    levels: usize,
-    value: Ref,
-    form: Form,
-) -> Result<Pieces, Fault>
-    ensures pieces { IfOk result (λ found. (below : Below) → IsReadWith space.now below → IsAmong below value
-        → found_in found ≡ pieced (names_of program.now) (graph_of space.now.slots below) (asked_by asking.now) levels (way_of form) (resolve space.now.slots (value_of value))) }
-    ensures known { IfOk result (λ found. (below : Below) → IsReadWith space.now below → IsAmong below value → IsFoundKnown space.now below found) }
-    ensures fault { IfErr result (λ e. e ≡ Fault.Memory) }
-{
     let mut walk = Walk::new(alloc);
-    match walk.write(space, program, asking, levels, form, value)? {
-        Going::On => Ok(Pieces::Draft(Draft {
-            bytes: walk.out,
-            asks: walk.asks,
-        })),
-        Going::Deep => Ok(Pieces::Deep),
-        Going::Shell => Ok(Pieces::Shell),
+    match walk.write(space, program, levels, form, value)? {
+        Going::On => Ok(Text::Bytes(walk.out)),
+        Going::Deep => Ok(Text::Deep),
+        Going::Shell => Ok(Text::Shell),
     }
 }

@@ -1,6 +1,6 @@
 //! A walk over nested containers, by a stack of its own.
 
-ghost use Rattle.std.specs.Prelude.{◌≡◌, ℕ, ◌+◌, ◌-◌, ◌*◌, ◌^◌, ◌<◌, ◌≤◌, ◌++◌, ◌∷◌, [], List, Bool, codes, length, IfOk, IfSome, OnOk, MatchOption, reverse, map};
+ghost use Rattle.std.specs.Prelude.{◌≡◌, false, ℕ, ◌+◌, ◌-◌, ◌*◌, ◌^◌, ◌<◌, ◌≤◌, ◌++◌, ◌∷◌, [], List, Bool, codes, length, IfOk, IfSome, OnOk, MatchOption, reverse, map};
 ghost use Rattle.std.specs.List.{list_any};
 ghost use Rattle.rr_space.specs.Graph.{Name as NameView, Own, Published, At, Graph, array, hash};
 ghost use Rattle.rr_space.specs.Kinds.{kind_at};
@@ -9,16 +9,13 @@ ghost use Rattle.rr_space.specs.Parts.{value_of};
 ghost use Rattle.rr_space.specs.Tables.{Below, graph_of, resolve};
 ghost use Rattle.rr_space.specs.Labels.{triples_at};
 ghost use Rattle.rr_space.specs.Sound.{IsWell};
-ghost use Rattle.rr_text.specs.Forms.{Names, Item, same_key, same_object, same_walker, line_end, look, row_look, line_look, hash_look};
+ghost use Rattle.rr_text.specs.Forms.{Names, Item, spelled, same_key, same_object, same_walker, line_end, look, row_look, line_look, hash_look};
 ghost use Rattle.rr_text.specs.Names.{names_of};
 ghost use Rattle.rr_text.specs.Ways.{way_of};
 ghost use Rattle.rr_text.specs.Reads.{IsAmong, IsReadWith, IsAtEnd};
 ghost use Rattle.rr_text.specs.Rest.{load};
 ghost use Rattle.rr_text.specs.Frames.{key_of, walker_of, parts_of, IsEntered, AreAmong, IsFit, IsGrown, AreAtEnd, breadth, thing_in, Showed, Stepped};
-ghost use Rattle.rr_text.specs.Asking.{asked_by};
-ghost use Rattle.rr_text.specs.Drafts.{pieces_in, ArePlaced, AreAsksKnown};
 
-use crate::asks::{Ask, is_asked};
 use crate::form::Form;
 use crate::leaf::write_leaf;
 use crate::parts::next_part;
@@ -147,20 +144,16 @@ fn is_above(frames: &[Frame], frame: Frame) -> bool
 pub(crate) struct Walk {
     pub(crate) frames: Vec<Frame>,
     pub(crate) out: Vec<u8>,
-    /// The objects that are asked for some of the bytes.
-    pub(crate) asks: Vec<Ask>,
 }
 
 impl Walk {
     pub(crate) fn new(alloc: Global) -> Walk
         ensures none { result.frames.items ≡ [] }
         ensures out { result.out.items ≡ [] }
-        ensures asks { result.asks.items ≡ [] }
     {
         Walk {
             frames: Vec::new(alloc),
             out: Vec::new(alloc),
-            asks: Vec::new(alloc),
         }
     }
 
@@ -174,13 +167,10 @@ impl Walk {
         frame: Frame,
     ) -> Result<Going, AllocError>
         requires fit { IsFit space.now levels self.old.frames.items }
-        requires placed { ArePlaced self.old.asks.items self.old.out.items }
         requires end { IsAtEnd space.now frame.object }
-        ensures entered { IfOk result (λ going. IsEntered levels again.now opening.now frame self.old.frames.items (pieces_in self.old.asks.items self.old.out.items) going self.new.frames.items (pieces_in self.new.asks.items self.new.out.items)) }
+        ensures entered { IfOk result (λ going. IsEntered levels again.now opening.now frame self.old.frames.items (spelled self.old.out.items) going self.new.frames.items (spelled self.new.out.items)) }
         ensures grown { IfOk result (λ _. IsGrown space.now levels self.old.frames.items self.new.frames.items) }
-        ensures placed { IfOk result (λ _. ArePlaced self.new.asks.items self.new.out.items) }
         ensures among { IfOk result (λ _. (below : Below) → AreAmong below self.old.frames.items → IsAmong below frame.object → AreAmong below self.new.frames.items) }
-        ensures asks { IfOk result (λ _. self.new.asks.items ≡ self.old.asks.items) }
     {
         // The number of its parts bounds the turns that the container takes.
         let _parts = space.arity(frame.object);
@@ -204,14 +194,11 @@ impl Walk {
         array: Ref,
     ) -> Result<Going, AllocError>
         requires fit { IsFit space.now levels self.old.frames.items }
-        requires placed { ArePlaced self.old.asks.items self.old.out.items }
         requires end { IsAtEnd space.now array }
         ensures showed { IfOk result (λ going. (names : Names) (g : Graph) (asks : ℕ → Bool) (i : Item) → look names g asks i ≡ row_look names g (value_of array) (thing_in names g (value_of array)).triples
-            → Showed names g asks levels self.old.frames.items (pieces_in self.old.asks.items self.old.out.items) i going self.new.frames.items (pieces_in self.new.asks.items self.new.out.items)) }
+            → Showed names g asks levels self.old.frames.items (spelled self.old.out.items) i going self.new.frames.items (spelled self.new.out.items)) }
         ensures grown { IfOk result (λ _. IsGrown space.now levels self.old.frames.items self.new.frames.items) }
-        ensures placed { IfOk result (λ _. ArePlaced self.new.asks.items self.new.out.items) }
         ensures among { IfOk result (λ _. (below : Below) → AreAmong below self.old.frames.items → IsAmong below array → AreAmong below self.new.frames.items) }
-        ensures asks { IfOk result (λ _. self.new.asks.items ≡ self.old.asks.items) }
     {
         let frame = Frame {
             shape: Shape::Elements,
@@ -225,14 +212,11 @@ impl Walk {
     /// Begins an array on lines.
     fn enter_lines(&mut self, space: &Space, levels: usize, array: Ref) -> Result<Going, AllocError>
         requires fit { IsFit space.now levels self.old.frames.items }
-        requires placed { ArePlaced self.old.asks.items self.old.out.items }
         requires end { IsAtEnd space.now array }
         ensures showed { IfOk result (λ going. (names : Names) (g : Graph) (asks : ℕ → Bool) (i : Item) → 0 < length (thing_in names g (value_of array)).triples → look names g asks i ≡ line_look names g (value_of array) (thing_in names g (value_of array)).triples
-            → Showed names g asks levels self.old.frames.items (pieces_in self.old.asks.items self.old.out.items) i going self.new.frames.items (pieces_in self.new.asks.items self.new.out.items)) }
+            → Showed names g asks levels self.old.frames.items (spelled self.old.out.items) i going self.new.frames.items (spelled self.new.out.items)) }
         ensures grown { IfOk result (λ _. IsGrown space.now levels self.old.frames.items self.new.frames.items) }
-        ensures placed { IfOk result (λ _. ArePlaced self.new.asks.items self.new.out.items) }
         ensures among { IfOk result (λ _. (below : Below) → AreAmong below self.old.frames.items → IsAmong below array → AreAmong below self.new.frames.items) }
-        ensures asks { IfOk result (λ _. self.new.asks.items ≡ self.old.asks.items) }
     {
         let frame = Frame {
             shape: Shape::Lines,
@@ -252,14 +236,11 @@ impl Walk {
         hash: Ref,
     ) -> Result<Going, AllocError>
         requires fit { IsFit space.now levels self.old.frames.items }
-        requires placed { ArePlaced self.old.asks.items self.old.out.items }
         requires end { IsAtEnd space.now hash }
         ensures showed { IfOk result (λ going. (names : Names) (g : Graph) (asks : ℕ → Bool) (i : Item) → look names g asks i ≡ hash_look names g (way_of form) (value_of hash) (thing_in names g (value_of hash)).triples
-            → Showed names g asks levels self.old.frames.items (pieces_in self.old.asks.items self.old.out.items) i going self.new.frames.items (pieces_in self.new.asks.items self.new.out.items)) }
+            → Showed names g asks levels self.old.frames.items (spelled self.old.out.items) i going self.new.frames.items (spelled self.new.out.items)) }
         ensures grown { IfOk result (λ _. IsGrown space.now levels self.old.frames.items self.new.frames.items) }
-        ensures placed { IfOk result (λ _. ArePlaced self.new.asks.items self.new.out.items) }
         ensures among { IfOk result (λ _. (below : Below) → AreAmong below self.old.frames.items → IsAmong below hash → AreAmong below self.new.frames.items) }
-        ensures asks { IfOk result (λ _. self.new.asks.items ≡ self.old.asks.items) }
     {
         let frame = Frame {
             shape: Shape::Pairs(form),
@@ -280,16 +261,13 @@ impl Walk {
     ) -> Result<Going, AllocError>
         requires well { IsWell space.now }
         requires fit { IsFit space.now levels self.old.frames.items }
-        requires placed { ArePlaced self.old.asks.items self.old.out.items }
         requires end { IsAtEnd space.now array }
         requires object { (n : NameView) × (value_of array ≡ At n) }
         requires kind { kind_at space.now array ≡ Kind.Array }
         ensures showed { IfOk result (λ going. (names : Names) (asks : ℕ → Bool) (below : Below) → IsReadWith space.now below → IsAmong below array
-            → Showed names (graph_of space.now.slots below) asks levels self.old.frames.items (pieces_in self.old.asks.items self.old.out.items) (way_of form, value_of array) going self.new.frames.items (pieces_in self.new.asks.items self.new.out.items)) }
+            → Showed names (graph_of space.now.slots below) asks levels self.old.frames.items (spelled self.old.out.items) (way_of form, value_of array) going self.new.frames.items (spelled self.new.out.items)) }
         ensures grown { IfOk result (λ _. IsGrown space.now levels self.old.frames.items self.new.frames.items) }
-        ensures placed { IfOk result (λ _. ArePlaced self.new.asks.items self.new.out.items) }
         ensures among { IfOk result (λ _. (below : Below) → AreAmong below self.old.frames.items → IsAmong below array → AreAmong below self.new.frames.items) }
-        ensures asks { IfOk result (λ _. self.new.asks.items ≡ self.old.asks.items) }
     {
         match form {
             Form::ToS => {
@@ -317,38 +295,24 @@ impl Walk {
         &mut self,
         space: &Space,
         program: &Program,
-        asking: &[bool],
         levels: usize,
         form: Form,
         object: Ref,
     ) -> Result<Going, AllocError>
         requires well { IsWell space.now }
         requires fit { IsFit space.now levels self.old.frames.items }
-        requires placed { ArePlaced self.old.asks.items self.old.out.items }
         requires end { IsAtEnd space.now object }
         requires object { (n : NameView) × (value_of object ≡ At n) }
         requires array { told_kind (kind_at space.now object) ≡ array → ⊥ }
         requires hash { told_kind (kind_at space.now object) ≡ hash → ⊥ }
         ensures showed { IfOk result (λ going. (below : Below) → IsReadWith space.now below → IsAmong below object
-            → Showed (names_of program.now) (graph_of space.now.slots below) (asked_by asking.now) levels self.old.frames.items (pieces_in self.old.asks.items self.old.out.items) (way_of form, value_of object) going self.new.frames.items (pieces_in self.new.asks.items self.new.out.items)) }
+            → Showed (names_of program.now) (graph_of space.now.slots below) (λ _. false) levels self.old.frames.items (spelled self.old.out.items) (way_of form, value_of object) going self.new.frames.items (spelled self.new.out.items)) }
         ensures same { IfOk result (λ _. self.new.frames.items ≡ self.old.frames.items) }
-        ensures placed { IfOk result (λ _. ArePlaced self.new.asks.items self.new.out.items) }
-        ensures known { IfOk result (λ _. (below : Below) → IsReadWith space.now below → IsAmong below object → AreAsksKnown space.now below self.old.asks.items → AreAsksKnown space.now below self.new.asks.items) }
     {
-        let start = self.out.len();
-        let written = write_leaf(&mut self.out, space, program, form, object)?;
-        if !written {
-            Ok(Going::Shell)
-        } else if is_asked(space, asking, form, object) {
-            self.asks.push(Ask {
-                object,
-                form,
-                start,
-                end: self.out.len(),
-            })?;
+        if write_leaf(&mut self.out, space, program, form, object)? {
             Ok(Going::On)
         } else {
-            Ok(Going::On)
+            Ok(Going::Shell)
         }
     }
 
@@ -357,22 +321,18 @@ impl Walk {
         &mut self,
         space: &Space,
         program: &Program,
-        asking: &[bool],
         levels: usize,
         form: Form,
         object: Ref,
     ) -> Result<Going, AllocError>
         requires well { IsWell space.now }
         requires fit { IsFit space.now levels self.old.frames.items }
-        requires placed { ArePlaced self.old.asks.items self.old.out.items }
         requires end { IsAtEnd space.now object }
         requires object { (n : NameView) × (value_of object ≡ At n) }
         ensures showed { IfOk result (λ going. (below : Below) → IsReadWith space.now below → IsAmong below object
-            → Showed (names_of program.now) (graph_of space.now.slots below) (asked_by asking.now) levels self.old.frames.items (pieces_in self.old.asks.items self.old.out.items) (way_of form, value_of object) going self.new.frames.items (pieces_in self.new.asks.items self.new.out.items)) }
+            → Showed (names_of program.now) (graph_of space.now.slots below) (λ _. false) levels self.old.frames.items (spelled self.old.out.items) (way_of form, value_of object) going self.new.frames.items (spelled self.new.out.items)) }
         ensures grown { IfOk result (λ _. IsGrown space.now levels self.old.frames.items self.new.frames.items) }
-        ensures placed { IfOk result (λ _. ArePlaced self.new.asks.items self.new.out.items) }
         ensures among { IfOk result (λ _. (below : Below) → AreAmong below self.old.frames.items → IsAmong below object → AreAmong below self.new.frames.items) }
-        ensures known { IfOk result (λ _. (below : Below) → IsReadWith space.now below → IsAmong below object → AreAsksKnown space.now below self.old.asks.items → AreAsksKnown space.now below self.new.asks.items) }
     {
         match space.kind_of(object) {
             Kind::Array => {
@@ -384,7 +344,7 @@ impl Walk {
                 Ok(going)
             }
             _ => {
-                let going = self.show_leaf(space, program, asking, levels, form, object)?;
+                let going = self.show_leaf(space, program, levels, form, object)?;
                 Ok(going)
             }
         }
@@ -395,26 +355,22 @@ impl Walk {
         &mut self,
         space: &Space,
         program: &Program,
-        asking: &[bool],
         levels: usize,
         form: Form,
         value: Ref,
     ) -> Result<Going, AllocError>
         requires well { IsWell space.now }
         requires fit { IsFit space.now levels self.old.frames.items }
-        requires placed { ArePlaced self.old.asks.items self.old.out.items }
         ensures showed { IfOk result (λ going. (below : Below) → IsReadWith space.now below → IsAmong below value
-            → Showed (names_of program.now) (graph_of space.now.slots below) (asked_by asking.now) levels self.old.frames.items (pieces_in self.old.asks.items self.old.out.items) (way_of form, resolve space.now.slots (value_of value)) going self.new.frames.items (pieces_in self.new.asks.items self.new.out.items)) }
+            → Showed (names_of program.now) (graph_of space.now.slots below) (λ _. false) levels self.old.frames.items (spelled self.old.out.items) (way_of form, resolve space.now.slots (value_of value)) going self.new.frames.items (spelled self.new.out.items)) }
         ensures grown { IfOk result (λ _. IsGrown space.now levels self.old.frames.items self.new.frames.items) }
-        ensures placed { IfOk result (λ _. ArePlaced self.new.asks.items self.new.out.items) }
         ensures among { IfOk result (λ _. (below : Below) → IsReadWith space.now below → AreAmong below self.old.frames.items → IsAmong below value → AreAmong below self.new.frames.items) }
-        ensures known { IfOk result (λ _. (below : Below) → IsReadWith space.now below → IsAmong below value → AreAsksKnown space.now below self.old.asks.items → AreAsksKnown space.now below self.new.asks.items) }
     {
         if push_immediate(&mut self.out, program, form, value)? {
             return Ok(Going::On);
         }
         let object = space.resolve(value);
-        let going = self.show_object(space, program, asking, levels, form, object)?;
+        let going = self.show_object(space, program, levels, form, object)?;
         Ok(going)
     }
 
@@ -423,27 +379,23 @@ impl Walk {
         &mut self,
         space: &Space,
         program: &Program,
-        asking: &[bool],
         levels: usize,
         top: Frame,
     ) -> Result<Going, AllocError>
         requires well { IsWell space.now }
         requires depth { length self.old.frames.items < levels }
-        requires placed { ArePlaced self.old.asks.items self.old.out.items }
         requires ends { AreAtEnd space.now self.old.frames.items }
         requires end { IsAtEnd space.now top.object }
         ensures stepped { IfOk result (λ going. (below : Below) → IsReadWith space.now below → IsAmong below top.object
-            → Stepped (names_of program.now) (graph_of space.now.slots below) (asked_by asking.now) levels self.old.frames.items top (pieces_in self.old.asks.items self.old.out.items) going self.new.frames.items (pieces_in self.new.asks.items self.new.out.items)) }
+            → Stepped (names_of program.now) (graph_of space.now.slots below) (λ _. false) levels self.old.frames.items top (spelled self.old.out.items) going self.new.frames.items (spelled self.new.out.items)) }
         ensures fit { IfOk result (λ _. IsFit space.now levels self.new.frames.items) }
-        ensures placed { IfOk result (λ _. ArePlaced self.new.asks.items self.new.out.items) }
         ensures among { IfOk result (λ _. (below : Below) → IsReadWith space.now below → AreAmong below self.old.frames.items → IsAmong below top.object → AreAmong below self.new.frames.items) }
         ensures lighter { IfOk result (λ _. load (parts_of space.now) breadth levels self.new.frames.items < load (parts_of space.now) breadth levels (self.old.frames.items ++ top ∷ [])) }
-        ensures known { IfOk result (λ _. (below : Below) → IsReadWith space.now below → IsAmong below top.object → AreAsksKnown space.now below self.old.asks.items → AreAsksKnown space.now below self.new.asks.items) }
     {
         match next_part(&mut self.out, space, program, top)? {
             Some(part) => {
                 self.frames.push(part.frame)?;
-                let going = self.show(space, program, asking, levels, part.form, part.value)?;
+                let going = self.show(space, program, levels, part.form, part.value)?;
                 Ok(going)
             }
             None => Ok(Going::On),

@@ -1,16 +1,15 @@
-use Rattle.std.proofs.Common.{◌∙◌, ◌<◌, ◌+◌, length, refl, arith}
+use Rattle.std.proofs.Common.{◌∙◌, ◌<◌, ◌+◌, length, refl, arith, false}
 use Rattle.std.proofs.lemmas.List.Elements.{All-same, All-push}
 use Rattle.rr_space.specs.Tables.{graph_of, resolve}
 use Rattle.rr_space.specs.Parts.{value_of}
+use Rattle.rr_text.specs.Forms.{spelled}
 use Rattle.rr_text.specs.Names.{names_of}
 use Rattle.rr_text.specs.Reads.{IsAmong}
-use Rattle.rr_text.specs.Asking.{asked_by}
-use Rattle.rr_text.specs.Drafts.{pieces_in}
 use Rattle.rr_text.specs.Frames.{lead_at}
 use Rattle.rr_text.specs.Same.{triples_in}
 use Rattle.rr_text.specs.Joining.{rest_of}
 use Rattle.rr_text.specs.declared.joining.Opened.{Opened}
-use Rattle.rr_text.proofs.Drafting.{bytes_more, placed_more}
+use Rattle.rr_text.proofs.Spelling.{spelled_more}
 use Rattle.rr_text.proofs.Looking.{among_child}
 use Rattle.rr_text.proofs.Sided.{count_told, value_told}
 use Rattle.rr_text.proofs.Joins.{element_next, elements_end, lighter_next, lighter_closed}
@@ -20,7 +19,7 @@ pub returns-then-top-arity-clause-stepped : goal.returns-then-top-arity-clause-s
 returns-then-top-arity-clause-stepped c = λ below read among.
     let t = c.args.space.now in
     let all = count_told t below c.len-count.ensures.well.sound read c.args.top.array among in
-    elements_end (names_of c.args.program.now) (graph_of t.slots below) (asked_by c.args.asking.now) c.args.levels c.args.separator.now t.slots c.args.self.now.arrays.items c.args.top (pieces_in c.args.self.now.walk.asks.items c.args.self.now.walk.out.items) c.requires.depth
+    elements_end (names_of c.args.program.now) (graph_of t.slots below) (λ _. false) c.args.levels c.args.separator.now t.slots c.args.self.now.arrays.items c.args.top (spelled c.args.self.now.walk.out.items) c.requires.depth
     (omega (arith, all, c.arity.ensures.count, c.if-top-arity.true))
 
 pub returns-then-top-arity-clause-lighter : goal.returns-then-top-arity-clause-lighter
@@ -33,11 +32,11 @@ returns-clause-stepped c = λ below read among.
     let f : Opened = record { array = c.args.top.array; next = c.args.top.next + 1 } in
     let all = count_told t below sound read c.args.top.array among in
     let lt : c.args.top.next < length (triples_in (graph_of t.slots below) (resolve t.slots (value_of c.args.top.array))) = omega (arith, all, c.arity.ensures.count, c.if-top-arity.false) in
-    element_next (names_of c.args.program.now) (graph_of t.slots below) (asked_by c.args.asking.now) c.args.levels c.args.separator.now t.slots c.args.self.now.arrays.items c.args.top (pieces_in c.args.self.now.walk.asks.items c.args.self.now.walk.out.items)
-    c.push.new.self.items f (pieces_in c.args.self.now.walk.asks.items c.push_separator.new.out.items) (resolve t.slots (value_of c.value_at-value.result)) lt
+    element_next (names_of c.args.program.now) (graph_of t.slots below) (λ _. false) c.args.levels c.args.separator.now t.slots c.args.self.now.arrays.items c.args.top (spelled c.args.self.now.walk.out.items)
+    c.push.new.self.items f (spelled c.push_separator.new.out.items) (resolve t.slots (value_of c.value_at-value.result)) lt
     (value_told t below sound read c.args.top.array c.value_at-value.result c.args.top.next among c.value_at-value.ensures.is)
     refl c.in_ok-push.ensures.items
-    (bytes_more c.args.self.now.walk.asks.items c.args.self.now.walk.out.items c.push_separator.new.out.items (lead_at c.args.top.next c.args.separator.now) c.requires.placed c.in_ok-push_separator.ensures)
+    (spelled_more c.args.self.now.walk.out.items c.push_separator.new.out.items (lead_at c.args.top.next c.args.separator.now) c.in_ok-push_separator.ensures)
     ∙ c.in_ok-going.ensures.showed below c.args.separator.now read (among_child t below c.args.top.array c.value_at-value.result read among c.value_at-value.ensures.known)
 
 pub returns-clause-among : goal.returns-clause-among
@@ -53,11 +52,3 @@ returns-clause-lighter c =
     let f : Opened = record { array = c.args.top.array; next = c.args.top.next + 1 } in
     let less : rest_of t f < rest_of t c.args.top = omega (arith, c.arity.ensures.count, c.if-top-arity.false) in
     lighter_next t c.args.levels c.args.self.now.arrays.items c.push.new.self.items c.show.new.self.arrays.items c.args.top f c.in_ok-push.ensures.items c.requires.depth less c.in_ok-going.ensures.grown
-
-pub show-requires-clause-placed : goal.show-requires-clause-placed
-show-requires-clause-placed c =
-    placed_more c.args.self.now.walk.asks.items c.args.self.now.walk.out.items c.push_separator.new.out.items (lead_at c.args.top.next c.args.separator.now) c.requires.placed c.in_ok-push_separator.ensures
-
-pub returns-clause-known : goal.returns-clause-known
-returns-clause-known c = λ below read one all.
-    c.in_ok-going.ensures.known below read (among_child c.args.space.now below c.args.top.array c.value_at-value.result read one c.value_at-value.ensures.known) all

@@ -1,11 +1,10 @@
 use Rattle.std.proofs.Common.{◌≡◌, ◌∙◌, ◌<◌, ◌++◌, ◌∷◌, [], length, ◌^◌, ap, refl, arith, rules, subst, sym, List}
 use Rattle.std.specs.List.{list_any}
 use Rattle.rr_space.specs.Labels.{triples_at}
-use Rattle.rr_text.specs.Forms.{same_key}
-use Rattle.rr_text.specs.Drafts.{pieces_in}
+use Rattle.rr_text.specs.Forms.{spelled, same_key}
 use Rattle.rr_text.specs.Frames.{key_of, IsGrown, AreAmong}
 use Rattle.rr_text.specs.declared.walk.Frame.{Frame}
-use Rattle.rr_text.proofs.Drafting.{bytes_more, placed_more}
+use Rattle.rr_text.proofs.Spelling.{spelled_more}
 use Rattle.rr_text.proofs.Looking.{again_entered, newly_entered}
 use Rattle.rr_text.proofs.Loads.{grown_same, grown_push, among_push}
 use Rattle.rr_text.proofs.walk.Walk.enter.Goals as goal
@@ -13,29 +12,19 @@ use Rattle.rr_text.proofs.walk.Walk.enter.Goals as goal
 pub returns-in_ok-extend_from_slice-clause-entered : goal.returns-in_ok-extend_from_slice-clause-entered
 returns-in_ok-extend_from_slice-clause-entered c =
     let fs = c.args.self.now.frames.items in
-    let asks = c.args.self.now.asks.items in
     let bytes = c.args.self.now.out.items in
-    again_entered c.args.levels c.args.again.now c.args.opening.now c.args.frame fs fs (pieces_in asks bytes) (pieces_in asks c.extend_from_slice.new.self.items)
+    again_entered c.args.levels c.args.again.now c.args.opening.now c.args.frame fs fs (spelled bytes) (spelled c.extend_from_slice.new.self.items)
     (ap (list_any (λ e. same_key (key_of c.args.frame) (key_of e))) (sym c.deref.ensures.value) ∙ sym c.is_above.ensures ∙ c.if-is_above.true) refl
-    (bytes_more asks bytes c.extend_from_slice.new.self.items c.args.again.now c.requires.placed c.in_ok-extend_from_slice.ensures.items)
-
-pub returns-in_ok-extend_from_slice-clause-placed : goal.returns-in_ok-extend_from_slice-clause-placed
-returns-in_ok-extend_from_slice-clause-placed c =
-    placed_more c.args.self.now.asks.items c.args.self.now.out.items c.extend_from_slice.new.self.items c.args.again.now c.requires.placed c.in_ok-extend_from_slice.ensures.items
+    (spelled_more bytes c.extend_from_slice.new.self.items c.args.again.now c.in_ok-extend_from_slice.ensures.items)
 
 pub returns-in_ok-push-clause-entered : goal.returns-in_ok-push-clause-entered
 returns-in_ok-push-clause-entered c =
     let fs = c.args.self.now.frames.items in
-    let asks = c.args.self.now.asks.items in
     let bytes = c.args.self.now.out.items in
-    newly_entered c.args.levels c.args.again.now c.args.opening.now c.args.frame fs c.push.new.self.items (pieces_in asks bytes) (pieces_in asks c.extend_from_slice-else-len-levels.new.self.items)
+    newly_entered c.args.levels c.args.again.now c.args.opening.now c.args.frame fs c.push.new.self.items (spelled bytes) (spelled c.extend_from_slice-else-len-levels.new.self.items)
     (ap (list_any (λ e. same_key (key_of c.args.frame) (key_of e))) (sym c.deref.ensures.value) ∙ sym c.is_above.ensures ∙ c.if-is_above.false)
     (omega (arith, c.len.ensures, c.if-len-levels.false)) c.in_ok-push.ensures.items
-    (bytes_more asks bytes c.extend_from_slice-else-len-levels.new.self.items c.args.opening.now c.requires.placed c.in_ok-extend_from_slice-2.ensures.items)
-
-pub returns-in_ok-push-clause-placed : goal.returns-in_ok-push-clause-placed
-returns-in_ok-push-clause-placed c =
-    placed_more c.args.self.now.asks.items c.args.self.now.out.items c.extend_from_slice-else-len-levels.new.self.items c.args.opening.now c.requires.placed c.in_ok-extend_from_slice-2.ensures.items
+    (spelled_more bytes c.extend_from_slice-else-len-levels.new.self.items c.args.opening.now c.in_ok-extend_from_slice-2.ensures.items)
 
 pub returns-in_ok-extend_from_slice-clause-grown : goal.returns-in_ok-extend_from_slice-clause-grown
 returns-in_ok-extend_from_slice-clause-grown c = grown_same c.args.space.now c.args.levels c.args.self.now.frames.items c.requires.fit

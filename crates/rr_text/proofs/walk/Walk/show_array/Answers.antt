@@ -4,8 +4,7 @@ use Rattle.rr_space.specs.Tables.{graph_of}
 use Rattle.rr_text.specs.Forms.{Way, spelled, look, same_key, array_look}
 use Rattle.rr_text.specs.Ways.{way_of}
 use Rattle.rr_text.specs.Frames.{thing_in, begun_of}
-use Rattle.rr_text.specs.Drafts.{pieces_in}
-use Rattle.rr_text.proofs.Drafting.{bytes_more, placed_more}
+use Rattle.rr_text.proofs.Spelling.{spelled_more}
 use Rattle.rr_text.proofs.Loads.{grown_same}
 use Rattle.rr_text.proofs.Looking.{array_found, count_found, line_none}
 use Rattle.rr_text.proofs.Stack.{leaf_showed}
@@ -32,18 +31,15 @@ returns-in_ok-push-in-Puts-clause-showed c = λ names asks below read among.
     let none : length ts ≡ 0 =
     count_found names asks c.args.space.now below c.args.array c.requires.object.0 (way_of c.args.form) c.requires.well.sound read among c.requires.end c.requires.object.1
     ∙ sym c.arity.ensures.count ∙ c.if-arity-eq0.true in
-    leaf_showed (look names g asks) same_key (begun_of names g) c.args.levels c.args.self.now.frames.items c.args.self.now.frames.items (pieces_in c.args.self.now.asks.items c.args.self.now.out.items) (pieces_in c.args.self.now.asks.items c.push.new.self.items) (spelled (10 ∷ []))
+    leaf_showed (look names g asks) same_key (begun_of names g) c.args.levels c.args.self.now.frames.items c.args.self.now.frames.items (spelled c.args.self.now.out.items) (spelled c.push.new.self.items) (spelled (10 ∷ []))
     (way_of c.args.form, value_of c.args.array)
     (array_found names asks c.args.space.now below c.args.array c.requires.object.0 (way_of c.args.form) c.requires.well.sound read among c.requires.end c.requires.object.1 c.requires.kind
     ∙ ap (λ (w : Way). array_look names g w (value_of c.args.array) ts) (ap way_of c.in-Puts.is)
     ∙ line_none names g (value_of c.args.array) ts none)
-    refl (bytes_more c.args.self.now.asks.items c.args.self.now.out.items c.push.new.self.items (10 ∷ []) c.requires.placed c.in_ok-push-in-Puts.ensures.items)
+    refl (spelled_more c.args.self.now.out.items c.push.new.self.items (10 ∷ []) c.in_ok-push-in-Puts.ensures.items)
 
 pub returns-in_ok-push-in-Puts-clause-grown : goal.returns-in_ok-push-in-Puts-clause-grown
 returns-in_ok-push-in-Puts-clause-grown c = grown_same c.args.space.now c.args.levels c.args.self.now.frames.items c.requires.fit
-
-pub returns-in_ok-push-in-Puts-clause-placed : goal.returns-in_ok-push-in-Puts-clause-placed
-returns-in_ok-push-in-Puts-clause-placed c = placed_more c.args.self.now.asks.items c.args.self.now.out.items c.push.new.self.items (10 ∷ []) c.requires.placed c.in_ok-push-in-Puts.ensures.items
 
 pub returns-in_ok-going-in-Puts-clause-showed : goal.returns-in_ok-going-in-Puts-clause-showed
 returns-in_ok-going-in-Puts-clause-showed c = λ names asks below read among.

@@ -1,12 +1,10 @@
-use Rattle.std.proofs.Common.{◌≡◌}
+use Rattle.std.proofs.Common.{◌≡◌, false}
 use Rattle.rr_space.specs.Tables.{Below, graph_of, resolve}
 use Rattle.rr_space.specs.Parts.{value_of}
 use Rattle.rr_text.specs.Walk.{Wrote, followed}
-use Rattle.rr_text.specs.Forms.{pieced}
+use Rattle.rr_text.specs.Forms.{spelled, pieced}
 use Rattle.rr_text.specs.Names.{names_of}
 use Rattle.rr_text.specs.Ways.{way_of}
-use Rattle.rr_text.specs.Asking.{asked_by}
-use Rattle.rr_text.specs.Drafts.{pieces_in, ArePlaced, AreAsksKnown}
 use Rattle.rr_text.specs.Reads.{IsReadWith, IsAmong}
 use Rattle.rr_text.specs.Rest.{load}
 use Rattle.rr_text.specs.Frames.{IsFit, AreAmong, whole_of, parts_of, breadth}
@@ -15,12 +13,10 @@ use Rattle.rr_text.proofs.walk.Walk.write.Given as goal
 abbrev pub invariant-loop-top : goal.invariant-loop-top
 invariant-loop-top l = record {
   fit : IsFit l.space l.levels l.self.frames.items;
-  placed : ArePlaced l.self.asks.items l.self.out.items;
   among : (below : Below) → IsReadWith l.space below → IsAmong below l.fn.value → AreAmong below l.self.frames.items;
-  known : (below : Below) → IsReadWith l.space below → IsAmong below l.fn.value → AreAsksKnown l.space below l.fn.self.asks.items → AreAsksKnown l.space below l.self.asks.items;
   same : (below : Below) → IsReadWith l.space below → IsAmong below l.fn.value
-      → followed (Wrote (pieces_in l.fn.self.asks.items l.fn.self.out.items)) (pieced (names_of l.program) (graph_of l.space.slots below) (asked_by l.asking) l.levels (way_of l.fn.form) (resolve l.space.slots (value_of l.fn.value)))
-      ≡ whole_of (names_of l.program) (graph_of l.space.slots below) (asked_by l.asking) l.levels l.self.frames.items (pieces_in l.self.asks.items l.self.out.items);
+      → followed (Wrote (spelled l.fn.self.out.items)) (pieced (names_of l.program) (graph_of l.space.slots below) (λ _. false) l.levels (way_of l.fn.form) (resolve l.space.slots (value_of l.fn.value)))
+      ≡ whole_of (names_of l.program) (graph_of l.space.slots below) (λ _. false) l.levels l.self.frames.items (spelled l.self.out.items);
 }
 
 abbrev pub decreases-loop-top : goal.decreases-loop-top
