@@ -29,6 +29,7 @@ pub mod ClassDeep
 pub mod Deep
 pub mod Making
 pub mod Choosing
+pub mod Alone
 pub mod Gathering
 pub mod Calling
 pub mod Spots

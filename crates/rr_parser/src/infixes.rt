@@ -1,13 +1,16 @@
 //! What stands between two operands, between two conditions, or between a statement and its condition.
 
-ghost use Rattle.std.specs.Prelude.{◌≡◌};
+ghost use Rattle.std.specs.Prelude.{◌≡◌, ℕ, ◌≤◌, false, None};
 ghost use Rattle.rr_parser.specs.Grammar.Operators.{level_of_binary, level_of, operator_of, at_level, operator, connective_of, connective};
 ghost use Rattle.rr_parser.specs.Grammar.Sequences.{modifier};
 ghost use Rattle.rr_parser.specs.Meets.{Sees};
+ghost use Rattle.rr_parser.specs.Places.{word, is_kind};
+ghost use Rattle.rr_parser.specs.declared.word.WordKind.TheVariants.{Question};
 
 use crate::word::{Connective, Infix, Modifier, Word, WordKind};
 use rr_tree::BinaryOperator;
 
+#[inline(always)]
 fn level_of_binary(operator: BinaryOperator) -> u8
     ensures { result ≡ level_of_binary operator }
 {
@@ -23,6 +26,7 @@ fn level_of_binary(operator: BinaryOperator) -> u8
 }
 
 /// The level of an operator. The tightest is 1, and 5 does not associate.
+#[inline(always)]
 pub(crate) fn level_of(operator: Infix) -> u8
     ensures { result ≡ level_of operator }
 {
@@ -33,6 +37,7 @@ pub(crate) fn level_of(operator: Infix) -> u8
 }
 
 /// The operator of a level that a word is.
+#[inline(always)]
 fn operator_of(level: u8, kind: WordKind) -> Option<Infix>
     ensures { result ≡ operator_of level kind }
 {
@@ -43,6 +48,7 @@ fn operator_of(level: u8, kind: WordKind) -> Option<Infix>
     }
 }
 
+#[inline(always)]
 fn at_level(level: u8, operator: Infix) -> Option<Infix>
     ensures { result ≡ at_level level operator }
 {
@@ -54,6 +60,7 @@ fn at_level(level: u8, operator: Infix) -> Option<Infix>
 }
 
 /// An operator of a level.
+#[inline(always)]
 pub(crate) fn operator(level: u8, words: &[Word]) -> Option<(Infix, &[Word])>
     ensures { Sees result (operator level words.now) }
 {
@@ -62,8 +69,58 @@ pub(crate) fn operator(level: u8, words: &[Word]) -> Option<(Infix, &[Word])>
     Some((operator, rest))
 }
 
+/// Whether a word is an operator of this level or of a tighter one.
+#[inline(always)]
+fn is_within(level: u8, kind: WordKind) -> bool
+    ensures { result ≡ false → (n : ℕ) → n ≤ level → operator_of n kind ≡ None }
+{
+    match kind {
+        WordKind::Operator(operator) => level_of(operator) <= level,
+        WordKind::Minus => level >= 2,
+        _ => false,
+    }
+}
+
+/// Whether an operator of this level or of a tighter one comes.
+#[inline(always)]
+pub(crate) fn binds(level: u8, words: &[Word]) -> bool
+    ensures { result ≡ false → (n : ℕ) → n ≤ level → operator n words.now ≡ None }
+{
+    match words.first() {
+        Some(word) => is_within(level, word.kind),
+        None => false,
+    }
+}
+
+/// Whether a word may stand behind an operand and before another one, inside one operand between commas.
+#[inline(always)]
+fn joins(kind: WordKind) -> bool
+    ensures operators { result ≡ false → (n : ℕ) → operator_of n kind ≡ None }
+    ensures connectives { result ≡ false → (n : ℕ) → n ≤ 2 → connective_of n kind ≡ None }
+    ensures question { result ≡ false → is_kind kind Question ≡ false }
+{
+    matches!(
+        kind,
+        WordKind::Operator(_) | WordKind::Minus | WordKind::And | WordKind::Or | WordKind::Question
+    )
+}
+
+/// Whether an operator comes, or what joins conditions, or a `?`.
+#[inline(always)]
+pub(crate) fn goes_on(words: &[Word]) -> bool
+    ensures operators { result ≡ false → (n : ℕ) → operator n words.now ≡ None }
+    ensures connectives { result ≡ false → (n : ℕ) → n ≤ 2 → connective n words.now ≡ None }
+    ensures question { result ≡ false → word Question words.now ≡ None }
+{
+    match words.first() {
+        Some(word) => joins(word.kind),
+        None => false,
+    }
+}
+
 /// What joins conditions at a level that a word is. `&&` is level 1, `||` level 2, and the words `and` and `or` are
 /// level 3.
+#[inline(always)]
 fn connective_of(level: u8, kind: WordKind) -> Option<Connective>
     ensures { result ≡ connective_of level kind }
 {
@@ -77,6 +134,7 @@ fn connective_of(level: u8, kind: WordKind) -> Option<Connective>
 }
 
 /// What joins conditions at a level.
+#[inline(always)]
 pub(crate) fn connective(level: u8, words: &[Word]) -> Option<(Connective, &[Word])>
     ensures { Sees result (connective level words.now) }
 {
@@ -86,6 +144,7 @@ pub(crate) fn connective(level: u8, words: &[Word]) -> Option<(Connective, &[Wor
 }
 
 /// What says whether, or how often, a statement is done.
+#[inline(always)]
 pub(crate) fn modifier(words: &[Word]) -> Option<(Modifier, &[Word])>
     ensures { Sees result (modifier words.now) }
 {

@@ -9,7 +9,7 @@ ghost use Rattle.rr_parser.specs.Reading.Answers.{across};
 ghost use Rattle.rr_parser.specs.Reading.Operators.{binary_on, binary_of, equality_on, logical_on, logical_of, ternary_on, ternary_of};
 ghost use Rattle.rr_parser.specs.Reading.{readers};
 
-use crate::infixes::{connective, operator};
+use crate::infixes::{binds, connective, goes_on, operator};
 use crate::look::behind;
 use crate::parser::{Parsed, Parser};
 use crate::refusal::Refusal;
@@ -20,6 +20,7 @@ impl Parser {
     ghost use Rattle.rr_parser.specs.Meets.{Gives, place};
 
     #[cycle(parser)]
+    #[inline(always)]
     pub fn ternary<'w>(&mut self, inside: bool, depth: u32, words: &'w [Word]) -> Parsed<'w, NodeId>
         ensures { Gives self.old self.new result (ternary_of (readers inside depth) (place self.old words.now)) }
     {
@@ -29,6 +30,7 @@ impl Parser {
 
     #[cycle(parser)]
     #[tactic(auto, unfolding(crate::specs::Reading::Operators::ternary_on))]
+    #[inline(always)]
     pub fn ternary_on<'w>(
         &mut self,
         left: NodeId,
@@ -39,6 +41,9 @@ impl Parser {
         requires { left < length self.old.nodes.items }
         ensures { Gives self.old self.new result (ternary_on (readers inside depth) (tree_at self.old.nodes.items left) (place self.old words.now)) }
     {
+        if !goes_on(words) {
+            return Ok((left, words));
+        }
         let (condition, rest) = self.logical_on(2, left, inside, depth, words)?;
         match behind(WordKind::Question, rest) {
             Some(after) => self.alternatives(condition, inside, depth, after),
@@ -48,6 +53,7 @@ impl Parser {
 
     /// The two operands between which is chosen.
     #[cycle(parser)]
+    #[inline(never)]
     fn alternatives<'w>(
         &mut self,
         condition: NodeId,
@@ -67,6 +73,7 @@ impl Parser {
     }
 
     #[cycle(parser)]
+    #[inline(always)]
     fn logical<'w>(
         &mut self,
         level: u8,
@@ -109,6 +116,7 @@ impl Parser {
 
     #[cycle(parser)]
     #[tactic(auto, unfolding(crate::specs::Reading::Operators::equality_on))]
+    #[inline(always)]
     fn equality_on<'w>(
         &mut self,
         left: NodeId,
@@ -128,6 +136,7 @@ impl Parser {
     }
 
     #[cycle(parser)]
+    #[inline(always)]
     fn binary<'w>(
         &mut self,
         level: u8,
@@ -157,6 +166,9 @@ impl Parser {
         ensures { Gives self.old self.new result (binary_on (readers inside depth) level (tree_at self.old.nodes.items left) (place self.old words.now)) }
     {
         if level == 0 {
+            return Ok((left, words));
+        }
+        if !binds(level, words) {
             return Ok((left, words));
         }
         let (mut left, mut rest) = self.binary_on(level - 1, left, inside, depth, words)?;

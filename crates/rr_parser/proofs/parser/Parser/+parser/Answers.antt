@@ -26,6 +26,7 @@ use Rattle.rr_parser.proofs.Listing.{Steps-another}
 use Rattle.rr_parser.proofs.Steps.{Steps-comma, Steps-operator, Steps-connective, Steps-modifier, Steps-elsif, Steps-middle, Steps-rescues}
 use Rattle.rr_parser.proofs.Shrinking.{shrinks_nested}
 use Rattle.rr_parser.proofs.Making.{stable_nodes, stable_pairs, goes_ends, goes_fails, goes_smaller, list_on, operators_on, nested_part, nested_bracketed, nested_ordered, gives_outside}
+use Rattle.rr_parser.proofs.Alone.{made_unbound, made_alone}
 use Rattle.rr_parser.proofs.Choosing.{made_alternatives, made_pair, made_branch, made_loop, made_choice, made_unless}
 use Rattle.rr_parser.proofs.Spots.{gives_sent, made_element, made_attribute, made_setting, gives_ordered}
 use Rattle.rr_parser.proofs.Gathering.{turns_fail, turns_smaller, turns_go, turns_end, made_key, made_added}
@@ -189,6 +190,15 @@ binary_on-loop-operator-preserved t c = record {
 pub binary_on-returns : goal.binary_on-returns
 binary_on-returns t c =
     goes_ends nodes nodes (operator c.args.level) infixed (binary_of (readers c.args.inside c.args.depth) (c.args.level - 1)) (Steps-operator c.args.level) ((shrinks_nested c.args.inside c.args.depth).binary (c.args.level - 1)) _ _ _ _ _ c.loop-operator.invariant.goes c.in_default.ensures
+
+pub binary_on-returns-then-not-binds : goal.binary_on-returns-then-not-binds
+binary_on-returns-then-not-binds t c =
+    made_unbound (readers c.args.inside c.args.depth) (shrinks_nested c.args.inside c.args.depth) c.args.self.now c.args.left c.args.words.now c.requires.left c.args.level (c.binds.ensures c.if-not-binds.true)
+
+pub ternary_on-returns-then-not-goes_on : goal.ternary_on-returns-then-not-goes_on
+ternary_on-returns-then-not-goes_on t c =
+    made_alone (readers c.args.inside c.args.depth) (shrinks_nested c.args.inside c.args.depth) c.args.self.now c.args.left c.args.words.now c.requires (c.goes_on.ensures.operators c.if-not-goes_on.true)
+    (c.goes_on.ensures.connectives c.if-not-goes_on.true) (c.goes_on.ensures.question c.if-not-goes_on.true)
 
 pub logical_on-returns-in_err-right : goal.logical_on-returns-in_err-right
 logical_on-returns-in_err-right t c =
