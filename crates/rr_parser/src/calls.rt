@@ -39,6 +39,7 @@ impl Parser {
     }
 
     #[cycle(parser)]
+    #[inline(always)]
     fn operand<'w>(
         &mut self,
         commands: bool,
@@ -58,6 +59,7 @@ impl Parser {
     /// A command, or an operand or an assignment to it.
     #[cycle(parser)]
     #[tactic(auto, unfolding(crate::specs::Reading::Calls::phrase_of))]
+    #[inline(always)]
     fn phrase<'w>(&mut self, inside: bool, depth: u32, words: &'w [Word]) -> Parsed<'w, NodeId>
         ensures { Gives self.old self.new result (phrase_of (readers inside depth) (place self.old words.now)) }
     {
@@ -69,6 +71,7 @@ impl Parser {
 
     #[cycle(parser)]
     #[tactic(auto, unfolding(crate::specs::Reading::Calls::command_of))]
+    #[inline(always)]
     pub fn command<'w>(&mut self, inside: bool, depth: u32, words: &'w [Word]) -> Parsed<'w, NodeId>
         ensures { Gives self.old self.new result (command_of (readers inside depth) (place self.old words.now)) }
     {
@@ -81,6 +84,7 @@ impl Parser {
     /// A command from behind its first word on, with the block that may stand behind it.
     #[cycle(parser)]
     #[tactic(auto, unfolding(crate::specs::Reading::Calls::headed_of))]
+    #[inline(always)]
     pub fn headed<'w>(
         &mut self,
         head: Head,

@@ -8,6 +8,7 @@ ghost use Rattle.rr_parser.specs.Meets.{Sees};
 use crate::word::{Behind, Fence, Head, Part, Word, WordKind};
 
 /// Whether a call or a command takes the word `do`, where calls do.
+#[inline(always)]
 fn takes_word(behind: Behind) -> bool
     ensures { result ≡ takes_word behind }
 {
@@ -18,6 +19,7 @@ fn takes_word(behind: Behind) -> bool
 }
 
 /// What stands round the block that a word begins.
+#[inline(always)]
 fn fence_of(behind: Behind, takes_do: bool, kind: WordKind) -> Option<Fence>
     ensures { result ≡ fence_of behind takes_do kind }
 {
@@ -29,6 +31,7 @@ fn fence_of(behind: Behind, takes_do: bool, kind: WordKind) -> Option<Fence>
 }
 
 /// The beginning of a block.
+#[inline(always)]
 pub(crate) fn opening(behind: Behind, takes_do: bool, words: &[Word]) -> Option<(Fence, &[Word])>
     ensures { Sees result (opening behind takes_do words.now) }
 {
@@ -38,6 +41,7 @@ pub(crate) fn opening(behind: Behind, takes_do: bool, words: &[Word]) -> Option<
 }
 
 /// The word that ends a block.
+#[inline(always)]
 pub(crate) fn fence_end(fence: Fence) -> WordKind
     ensures { result ≡ fence_end fence }
 {
@@ -48,6 +52,7 @@ pub(crate) fn fence_end(fence: Fence) -> WordKind
 }
 
 /// Whether calls in the arguments of a command take the word `do`, where calls did before it.
+#[inline(always)]
 pub(crate) fn within_head(head: Head, takes_do: bool) -> bool
     ensures { result ≡ within_head head takes_do }
 {
@@ -58,6 +63,7 @@ pub(crate) fn within_head(head: Head, takes_do: bool) -> bool
 }
 
 /// Whether a part ends with a word of its own, so that calls in it take the word `do`.
+#[inline(always)]
 pub(crate) fn is_enclosed(part: Part) -> bool
     ensures { result ≡ is_enclosed part }
 {

@@ -38,6 +38,7 @@ impl Model for Locals {
 }
 
 // What the table has for a name.
+#[inline(always)]
 fn place_of(newest: &[Option<usize>], name: Sym) -> Option<usize>
     ensures { result ≡ slice_index_or newest.now name.0 None }
 {
@@ -71,6 +72,7 @@ impl Locals {
         }
     }
 
+    #[inline(always)]
     pub fn len(&self) -> usize
         ensures { result ≡ length self.now }
     {
@@ -78,6 +80,7 @@ impl Locals {
     }
 
     /// The last variable of this name.
+    #[inline(always)]
     pub fn find(&self, name: Sym) -> Option<Local>
         ensures { result ≡ find name.0 self.now }
     {

@@ -22,6 +22,7 @@ use rr_tree::BinaryOperator;
 pub(crate) const INTEGERS: u64 = 9_223_372_036_854_775_808;
 
 /// The negative of an integer.
+#[inline(always)]
 pub(crate) fn negated(n: u64) -> i64
     requires { n ≤ 9223372036854775808 }
     ensures { result ≡ negated n }
@@ -33,6 +34,7 @@ pub(crate) fn negated(n: u64) -> i64
 }
 
 /// The words behind a word of this kind.
+#[inline(always)]
 pub(crate) fn behind(kind: WordKind, words: &[Word]) -> Option<&[Word]>
     ensures { SeesRest result (word kind words.now) }
 {
@@ -43,6 +45,7 @@ pub(crate) fn behind(kind: WordKind, words: &[Word]) -> Option<&[Word]>
 }
 
 /// A name.
+#[inline(always)]
 pub(crate) fn name(words: &[Word]) -> Option<(Sym, &[Word])>
     ensures { Sees result (name words.now) }
 {
@@ -59,6 +62,7 @@ pub(crate) fn name(words: &[Word]) -> Option<(Sym, &[Word])>
 }
 
 /// What may begin a command.
+#[inline(always)]
 pub(crate) fn head(words: &[Word]) -> Option<(Head, &[Word])>
     ensures { Sees result (head words.now) }
 {
@@ -72,6 +76,7 @@ pub(crate) fn head(words: &[Word]) -> Option<(Head, &[Word])>
 }
 
 /// What is assigned to.
+#[inline(always)]
 pub(crate) fn target_word(words: &[Word]) -> Option<(Target, &[Word])>
     ensures { Sees result (target_word words.now) }
 {
@@ -87,6 +92,7 @@ pub(crate) fn target_word(words: &[Word]) -> Option<(Target, &[Word])>
 }
 
 /// The key of a pair.
+#[inline(always)]
 pub(crate) fn label(words: &[Word]) -> Option<(Sym, &[Word])>
     ensures { Sees result (label words.now) }
 {
@@ -103,6 +109,7 @@ pub(crate) fn label(words: &[Word]) -> Option<(Sym, &[Word])>
 }
 
 /// The integer that stands first with no blank before it.
+#[inline(always)]
 pub(crate) fn joined(words: &[Word]) -> Option<(u64, &[Word])>
     ensures { Sees result (joined words.now) }
 {
@@ -119,6 +126,7 @@ pub(crate) fn joined(words: &[Word]) -> Option<(u64, &[Word])>
 }
 
 /// A minus that belongs to no integer.
+#[inline(always)]
 pub(crate) fn prefix_minus(words: &[Word]) -> Option<&[Word]>
     ensures { SeesRest result (prefix_minus words.now) }
 {
@@ -130,6 +138,7 @@ pub(crate) fn prefix_minus(words: &[Word]) -> Option<&[Word]>
 }
 
 /// The bracket of arguments, which stands directly behind a name.
+#[inline(always)]
 pub(crate) fn bracket(words: &[Word]) -> Option<&[Word]>
     ensures { SeesRest result (bracket words.now) }
 {
@@ -146,6 +155,7 @@ pub(crate) fn bracket(words: &[Word]) -> Option<&[Word]>
 }
 
 /// The bracket of an index, which stands directly behind an operand.
+#[inline(always)]
 fn square(words: &[Word]) -> Option<&[Word]>
     ensures { SeesRest result (square words.now) }
 {
@@ -162,6 +172,7 @@ fn square(words: &[Word]) -> Option<&[Word]>
 }
 
 /// The call that stands behind a dot, unless it is a command.
+#[inline(always)]
 fn sent(words: &[Word]) -> Option<(Tail, &[Word])>
     ensures { Sees result (sent (name words.now)) }
 {
@@ -174,6 +185,7 @@ fn sent(words: &[Word]) -> Option<(Tail, &[Word])>
 }
 
 /// What follows an operand.
+#[inline(always)]
 pub(crate) fn tail(words: &[Word]) -> Option<(Tail, &[Word])>
     ensures { Sees result (tail words.now) }
 {
@@ -185,6 +197,7 @@ pub(crate) fn tail(words: &[Word]) -> Option<(Tail, &[Word])>
 }
 
 /// A dot and the name of a call that operands follow.
+#[inline(always)]
 pub(crate) fn order(words: &[Word]) -> Option<(Sym, &[Word])>
     ensures { Sees result (order words.now) }
 {
@@ -198,6 +211,7 @@ pub(crate) fn order(words: &[Word]) -> Option<(Sym, &[Word])>
 }
 
 /// The word that ends a list.
+#[inline(always)]
 pub(crate) fn closing(list: Listed, words: &[Word]) -> Option<&[Word]>
     ensures { SeesRest result (closing list words.now) }
 {
@@ -210,6 +224,7 @@ pub(crate) fn closing(list: Listed, words: &[Word]) -> Option<&[Word]>
 }
 
 /// The word that ends a list, before which a comma may stand.
+#[inline(always)]
 pub(crate) fn last(list: Listed, words: &[Word]) -> Option<&[Word]>
     ensures { SeesRest result (last list words.now) }
 {
@@ -220,6 +235,7 @@ pub(crate) fn last(list: Listed, words: &[Word]) -> Option<&[Word]>
 }
 
 /// A comma, unless the list ends behind it.
+#[inline(always)]
 pub(crate) fn another(list: Listed, words: &[Word]) -> Option<&[Word]>
     ensures { SeesRest result (another list words.now) }
 {
@@ -231,6 +247,7 @@ pub(crate) fn another(list: Listed, words: &[Word]) -> Option<&[Word]>
 }
 
 /// The sign of an assignment.
+#[inline(always)]
 pub(crate) fn sign(words: &[Word]) -> Option<(Sign, &[Word])>
     ensures { Sees result (sign words.now) }
 {
@@ -247,6 +264,7 @@ pub(crate) fn sign(words: &[Word]) -> Option<(Sign, &[Word])>
 }
 
 /// How many words are left, as a use of a variable tells it of those behind it.
+#[inline(always)]
 pub(crate) fn told_behind(words: &[Word]) -> u32
     ensures { result ≡ told_behind words.now }
 {
@@ -254,6 +272,7 @@ pub(crate) fn told_behind(words: &[Word]) -> u32
 }
 
 /// What is assigned to, and the sign of the assignment.
+#[inline(always)]
 pub(crate) fn target(words: &[Word]) -> Option<(Aim, &[Word])>
     ensures { Sees result (target words.now) }
 {
@@ -269,6 +288,7 @@ pub(crate) fn target(words: &[Word]) -> Option<(Aim, &[Word])>
 }
 
 /// A target that is a word, and a comma.
+#[inline(always)]
 pub(crate) fn several(words: &[Word]) -> Option<&[Word]>
     ensures { SeesRest result (several words.now) }
 {
@@ -277,6 +297,7 @@ pub(crate) fn several(words: &[Word]) -> Option<&[Word]>
 }
 
 /// Whether a comma comes, or the sign of a plain assignment.
+#[inline(always)]
 fn ends_target(words: &[Word]) -> bool
     ensures { result ≡ ends_target words.now }
 {
@@ -285,6 +306,7 @@ fn ends_target(words: &[Word]) -> bool
 }
 
 /// A target that is a word, of several.
+#[inline(always)]
 pub(crate) fn lone_target(words: &[Word]) -> Option<(Target, &[Word])>
     ensures { Sees result (lone_target words.now) }
 {
@@ -297,6 +319,7 @@ pub(crate) fn lone_target(words: &[Word]) -> Option<(Target, &[Word])>
 }
 
 /// The words from the first on that is no separator.
+#[inline(always)]
 pub(crate) fn without_separators(words: &[Word]) -> &[Word]
     ensures { result.now ≡ without_separators words.now }
 {
@@ -315,6 +338,7 @@ pub(crate) fn without_separators(words: &[Word]) -> &[Word]
 }
 
 /// The words behind one separator or more.
+#[inline(always)]
 pub(crate) fn separators(words: &[Word]) -> Option<&[Word]>
     ensures { SeesRest result (separators words.now) }
 {
@@ -323,6 +347,7 @@ pub(crate) fn separators(words: &[Word]) -> Option<&[Word]>
 }
 
 /// The words behind separators and a word of this kind.
+#[inline(always)]
 pub(crate) fn row_of(kind: WordKind, words: &[Word]) -> Option<&[Word]>
     ensures { SeesRest result (row_of kind words.now) }
 {
@@ -330,6 +355,7 @@ pub(crate) fn row_of(kind: WordKind, words: &[Word]) -> Option<&[Word]>
     behind(kind, rest)
 }
 
+#[inline(always)]
 fn ends_at(kind: WordKind) -> bool
     ensures { result ≡ ends_at kind }
 {
@@ -348,6 +374,7 @@ fn ends_at(kind: WordKind) -> bool
 }
 
 /// Whether what ends a list of statements comes.
+#[inline(always)]
 pub(crate) fn ends(words: &[Word]) -> bool
     ensures { result ≡ ends words.now }
 {
@@ -358,6 +385,7 @@ pub(crate) fn ends(words: &[Word]) -> bool
 }
 
 /// Separators that a statement follows.
+#[inline(always)]
 pub(crate) fn row(words: &[Word]) -> Option<&[Word]>
     ensures { SeesRest result (row words.now) }
 {
@@ -366,6 +394,7 @@ pub(crate) fn row(words: &[Word]) -> Option<&[Word]>
 }
 
 /// What stands between a condition and its statements: separators, a `then`, or both.
+#[inline(always)]
 pub(crate) fn thens(words: &[Word]) -> Option<&[Word]>
     ensures { SeesRest result (thens words.now) }
 {
@@ -380,6 +409,7 @@ pub(crate) fn thens(words: &[Word]) -> Option<&[Word]>
 }
 
 /// What stands between the condition of a loop and its statements: the word `do`, or separators.
+#[inline(always)]
 pub(crate) fn loops(words: &[Word]) -> Option<&[Word]>
     ensures { SeesRest result (loops words.now) }
 {
@@ -390,6 +420,7 @@ pub(crate) fn loops(words: &[Word]) -> Option<&[Word]>
 }
 
 /// Whether operands follow a name: a blank, and a word that begins an operand.
+#[inline(always)]
 pub(crate) fn begins_operands(words: &[Word]) -> bool
     ensures { result ≡ begins_operands words.now }
 {
@@ -399,6 +430,7 @@ pub(crate) fn begins_operands(words: &[Word]) -> bool
     word.blank && begins_operand(word.kind, is_tight(rest))
 }
 
+#[inline(always)]
 fn begins_operand(kind: WordKind, tight: bool) -> bool
     ensures { result ≡ begins_operand kind tight }
 {
@@ -425,6 +457,7 @@ fn begins_operand(kind: WordKind, tight: bool) -> bool
     }
 }
 
+#[inline(always)]
 fn begins_argument(kind: WordKind) -> bool
     ensures { result ≡ begins_argument kind }
 {
@@ -432,6 +465,7 @@ fn begins_argument(kind: WordKind) -> bool
 }
 
 /// Whether the value of a jump follows.
+#[inline(always)]
 pub(crate) fn begins_arguments(words: &[Word]) -> bool
     ensures { result ≡ begins_arguments words.now }
 {
@@ -442,6 +476,7 @@ pub(crate) fn begins_arguments(words: &[Word]) -> bool
 }
 
 /// Whether a word follows with no blank before it.
+#[inline(always)]
 fn is_tight(words: &[Word]) -> bool
     ensures { result ≡ is_tight words.now }
 {

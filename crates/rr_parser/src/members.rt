@@ -267,6 +267,7 @@ impl Parser {
 }
 
 /// Whether no operand begins there: a label or a `*` comes, a target and a sign, or a word before an operand.
+#[inline(always)]
 pub(crate) fn is_introduced(words: &[Word]) -> bool
     ensures { result ≡ is_introduced words.now }
 {
@@ -274,6 +275,7 @@ pub(crate) fn is_introduced(words: &[Word]) -> bool
 }
 
 /// A `*` before an argument, where items may stand.
+#[inline(always)]
 fn star_unless(only: bool, words: &[Word]) -> Option<&[Word]>
     ensures { SeesRest result (star_unless only words.now) }
 {

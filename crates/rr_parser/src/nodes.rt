@@ -31,6 +31,7 @@ impl Parser {
     ghost use Rattle.rr_parser.specs.Meets.{Gives, Appends, Puts, pairs, place};
 
     /// The number of the next call.
+    #[inline(always)]
     pub fn site(&mut self) -> Result<u32, Storage>
         ensures nodes { self.new.nodes.items ≡ self.old.nodes.items }
         ensures known { self.new.known ≡ self.old.known }
@@ -43,6 +44,7 @@ impl Parser {
         Ok(site)
     }
 
+    #[inline(always)]
     pub fn put(&mut self, node: Node) -> Result<NodeId, Storage>
         requires { HasPartsBefore (length self.old.nodes.items) node }
         ensures appends { IfOk result (λ id. Appends self.old self.new node id) }
@@ -57,6 +59,7 @@ impl Parser {
     }
 
     /// Puts an operator between two operands.
+    #[inline(always)]
     pub fn put_infix(
         &mut self,
         operator: Infix,
@@ -74,6 +77,7 @@ impl Parser {
     }
 
     /// Puts two conditions that are joined.
+    #[inline(always)]
     pub fn put_joined(
         &mut self,
         connective: Connective,
@@ -349,6 +353,7 @@ impl Parser {
         }
     }
 
+    #[inline(always)]
     fn put_plain_assignment(
         &mut self,
         target: Target,
@@ -414,6 +419,7 @@ impl Parser {
     }
 
     /// Puts a use of a local variable that is seen so, behind which so many words stand.
+    #[inline(always)]
     pub fn put_local(
         &mut self,
         name: Sym,
@@ -430,6 +436,7 @@ impl Parser {
         })
     }
 
+    #[inline(always)]
     pub fn put_bare(&mut self, name: Sym) -> Result<NodeId, Storage>
         ensures { IfOk result (λ id. Puts self.old self.new (bare name.0) id) }
     {
@@ -455,6 +462,7 @@ impl Parser {
     }
 
     #[tactic(auto, unfolding(crate::specs::Reading::Operands::int_at))]
+    #[inline(always)]
     pub fn int<'w>(&mut self, n: u64, rest: &'w [Word]) -> Parsed<'w, NodeId>
         ensures { Gives self.old self.new result (int_at n (place self.old rest.now)) }
     {

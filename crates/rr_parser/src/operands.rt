@@ -20,6 +20,7 @@ impl Parser {
 
     #[cycle(parser)]
     #[tactic(auto, unfolding(crate::specs::Reading::Operands::minus_of))]
+    #[inline(always)]
     pub fn minus<'w>(&mut self, inside: bool, depth: u32, words: &'w [Word]) -> Parsed<'w, NodeId>
         ensures { Gives self.old self.new result (minus_of (readers inside depth) (place self.old words.now)) }
     {
@@ -32,6 +33,7 @@ impl Parser {
 
     #[cycle(parser)]
     #[tactic(auto, unfolding(crate::specs::Reading::Operands::bang_of))]
+    #[inline(always)]
     pub fn bang<'w>(&mut self, inside: bool, depth: u32, words: &'w [Word]) -> Parsed<'w, NodeId>
         ensures { Gives self.old self.new result (bang_of (readers inside depth) (place self.old words.now)) }
     {
@@ -68,6 +70,7 @@ impl Parser {
     }
 
     #[cycle(parser)]
+    #[inline(always)]
     fn tailed<'w>(
         &mut self,
         tail: Tail,
@@ -172,6 +175,7 @@ impl Parser {
 
     #[cycle(parser)]
     #[tactic(auto, unfolding(crate::specs::Reading::Operands::primary_of))]
+    #[inline(always)]
     fn primary<'w>(&mut self, inside: bool, depth: u32, words: &'w [Word]) -> Parsed<'w, NodeId>
         ensures { Gives self.old self.new result (primary_of (readers inside depth) (place self.old words.now)) }
     {
@@ -206,6 +210,7 @@ impl Parser {
 
     #[cycle(parser)]
     #[tactic(auto, unfolding(crate::specs::Reading::Operands::name_of))]
+    #[inline(always)]
     fn name<'w>(
         &mut self,
         inside: bool,
@@ -266,6 +271,7 @@ impl Parser {
     }
 
     /// A local variable, or a call without arguments.
+    #[inline(always)]
     fn variable_or_call<'w>(&mut self, name: Sym, words: &'w [Word]) -> Parsed<'w, NodeId>
         ensures { Gives self.old self.new result (variable_or_call name (place self.old words.now)) }
     {
@@ -281,6 +287,7 @@ impl Parser {
     /// A call or a command, with the block that may stand behind it.
     #[cycle(parser)]
     #[tactic(auto, unfolding(crate::specs::Reading::Operands::blocked_of))]
+    #[inline(always)]
     pub fn blocked<'w>(
         &mut self,
         behind: Behind,

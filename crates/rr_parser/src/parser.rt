@@ -42,6 +42,7 @@ impl Parser {
     ghost use Rattle.rr_parser.specs.Meets.{Gives, GivesList, Marks, Aims, Enters, Leaves, SetsLoop, SetsDo, Sees, place, known_of};
 
     /// From here on the name is a local variable.
+    #[inline(always)]
     pub fn mark(&mut self, name: Sym) -> Result<Variable, Storage>
         ensures { IfOk result (Marks self.old self.new name) }
     {
@@ -49,6 +50,7 @@ impl Parser {
     }
 
     /// From here on the target is known.
+    #[inline(always)]
     pub fn aim(&mut self, target: Target) -> Result<Variable, Storage>
         ensures { IfOk result (Aims self.old self.new target) }
     {
@@ -75,6 +77,7 @@ impl Parser {
     }
 
     /// From here on the place is in a loop, or not.
+    #[inline(always)]
     pub fn set_loop(&mut self, in_loop: bool)
         ensures { SetsLoop self.old self.new in_loop }
     {
@@ -82,6 +85,7 @@ impl Parser {
     }
 
     /// From here on calls take the word `do`, or not.
+    #[inline(always)]
     pub fn set_do(&mut self, takes_do: bool)
         ensures { SetsDo self.old self.new takes_do }
     {
@@ -89,6 +93,7 @@ impl Parser {
     }
 
     /// Whether the target is assigned to there.
+    #[inline(always)]
     pub fn settable(&self, target: Target) -> bool
         ensures { result ≡ is_settable target (known_of self.now) }
     {
@@ -99,6 +104,7 @@ impl Parser {
     }
 
     /// Whether a jump may stand there.
+    #[inline(always)]
     pub fn allows(&self, jump: Jump) -> bool
         ensures { result ≡ is_allowed jump (known_of self.now) }
     {
@@ -109,6 +115,7 @@ impl Parser {
     }
 
     /// Whether a command is begun by it, where these words stand behind it.
+    #[inline(always)]
     fn begins(&self, head: Head, words: &[Word]) -> bool
         ensures { result ≡ begins_head head (place self.now words.now) }
     {
@@ -120,6 +127,7 @@ impl Parser {
     }
 
     /// What begins a command.
+    #[inline(always)]
     pub fn command_head<'w>(&self, words: &'w [Word]) -> Option<(Head, &'w [Word])>
         ensures { Sees result (command (known_of self.now) words.now) }
     {
@@ -134,6 +142,7 @@ impl Parser {
     /// One construct more that is open.
     #[cycle(parser)]
     #[tactic(auto, unfolding(crate::specs::Reading::readers_inside, crate::specs::Reading::readers_outside))]
+    #[inline(always)]
     pub fn part<'w>(
         &mut self,
         part: Part,
@@ -206,6 +215,7 @@ impl Parser {
     /// The arguments behind the bracket of a call.
     #[cycle(parser)]
     #[tactic(auto, unfolding(crate::specs::Reading::readers_inside, crate::specs::Reading::readers_outside))]
+    #[inline(always)]
     pub fn inner_arguments<'w>(
         &mut self,
         inside: bool,
@@ -235,6 +245,7 @@ impl Parser {
     /// The right side of an assignment.
     #[cycle(parser)]
     #[tactic(auto, unfolding(crate::specs::Reading::readers_inside, crate::specs::Reading::readers_outside))]
+    #[inline(always)]
     pub fn right_side<'w>(
         &mut self,
         commands: bool,

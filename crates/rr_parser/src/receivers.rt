@@ -18,6 +18,7 @@ impl Parser {
     /// What stands behind an operand where commands may stand: it may be the receiver of one.
     #[cycle(parser)]
     #[tactic(auto, unfolding(crate::specs::Reading::Calls::order_on))]
+    #[inline(always)]
     pub fn behind_order<'w>(
         &mut self,
         operand: Reached,

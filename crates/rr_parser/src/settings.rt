@@ -61,6 +61,7 @@ impl Parser {
     /// An operand, or an assignment to it; and a command with a receiver too where commands may stand.
     #[cycle(parser)]
     #[tactic(auto, unfolding(crate::specs::Reading::Calls::settled_by))]
+    #[inline(always)]
     pub fn settled<'w>(
         &mut self,
         commands: bool,
@@ -82,6 +83,7 @@ impl Parser {
 
     /// What stands behind an operand.
     #[cycle(parser)]
+    #[inline(always)]
     fn behind_operand<'w>(
         &mut self,
         operand: Reached,
@@ -102,6 +104,7 @@ impl Parser {
 
     /// What stands behind an operand that is no receiver of a command.
     #[cycle(parser)]
+    #[inline(always)]
     pub fn reached<'w>(
         &mut self,
         operand: Reached,

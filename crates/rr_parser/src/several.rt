@@ -16,6 +16,7 @@ use crate::word::{Reached, Sign, Target, Word, WordKind};
 use rr_tree::{Node, NodeId};
 
 /// Whether a target and a sign come, or a word that stands before an operand.
+#[inline(always)]
 pub(crate) fn is_prefixed(words: &[Word]) -> bool
     ensures { result ≡ is_prefixed words.now }
 {

@@ -83,6 +83,7 @@ impl Parser {
     }
 
     /// Whether no operand begins there: `not` comes, a command, a target and a sign, or a word before an operand.
+    #[inline(always)]
     fn is_led(&self, words: &[Word]) -> bool
         ensures { result ≡ is_led (known_of self.now) words.now }
     {
@@ -94,6 +95,7 @@ impl Parser {
     /// An assignment to several targets, or an expression.
     #[cycle(parser)]
     #[tactic(auto, unfolding(crate::specs::Reading::Sequences::simple_of))]
+    #[inline(always)]
     fn simple<'w>(&mut self, inside: bool, depth: u32, words: &'w [Word]) -> Parsed<'w, NodeId>
         ensures { Gives self.old self.new result (simple_of (readers inside depth) (place self.old words.now)) }
     {
@@ -111,6 +113,7 @@ impl Parser {
     /// target.
     #[cycle(parser)]
     #[tactic(auto, unfolding(crate::specs::Reading::Sequences::spotted_on))]
+    #[inline(always)]
     fn spotted<'w>(
         &mut self,
         operand: Reached,
@@ -130,6 +133,7 @@ impl Parser {
     /// An expression from behind its first operand.
     #[cycle(parser)]
     #[tactic(auto, unfolding(crate::specs::Reading::Sequences::expression_on))]
+    #[inline(always)]
     fn expression_on<'w>(
         &mut self,
         operand: Reached,
@@ -146,6 +150,7 @@ impl Parser {
 
     #[cycle(parser)]
     #[tactic(auto, unfolding(crate::specs::Reading::Sequences::expression_of))]
+    #[inline(always)]
     pub fn expression<'w>(
         &mut self,
         inside: bool,
@@ -161,6 +166,7 @@ impl Parser {
     /// An expression from behind what has come of it.
     #[cycle(parser)]
     #[tactic(auto, unfolding(crate::specs::Reading::Sequences::connected_on))]
+    #[inline(always)]
     fn connected<'w>(
         &mut self,
         first: NodeId,
@@ -183,6 +189,7 @@ impl Parser {
 
     #[cycle(parser)]
     #[tactic(auto, unfolding(crate::specs::Reading::Sequences::negation_of))]
+    #[inline(always)]
     pub fn negation<'w>(
         &mut self,
         inside: bool,

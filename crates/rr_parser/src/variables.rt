@@ -48,6 +48,7 @@ pub(crate) struct Variables {
 }
 
 impl Variables {
+    #[inline(always)]
     fn seen(&self, local: Local) -> Variable
         ensures { result ≡ seen_from (known_in self.now) (Some local) }
     {
@@ -58,6 +59,7 @@ impl Variables {
     }
 
     /// How the variable of this name is seen, where the name is one.
+    #[inline(always)]
     pub fn variable(&self, name: Sym) -> Option<Variable>
         ensures is { is_some result ≡ is_some (find name.0 self.now.locals) }
         ensures seen { IfSome result (λ v. v ≡ seen_from (known_in self.now) (find name.0 self.now.locals)) }
@@ -85,6 +87,7 @@ impl Variables {
     }
 
     /// From here on the name is a local variable: it gets the next number, unless it is one already.
+    #[inline(always)]
     pub fn mark(&mut self, name: Sym) -> Result<Variable, Storage>
         ensures known { OnOk result (known_in self.new ≡ with_variable (known_in self.old) name (find name.0 self.old.locals)) }
         ensures seen { IfOk result (λ v. v ≡ seen_from (known_in self.new) (find name.0 self.new.locals)) }
