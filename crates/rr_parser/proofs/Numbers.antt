@@ -10,10 +10,19 @@ use Rattle.rr_lexer.specs.declared.kind.Kind.TheVariants as kinds
 use Rattle.rr_lexer.specs.declared.kind.Token.{Token}
 use Rattle.rr_lexer.specs.Lines.{is_def}
 use Rattle.rr_parser.specs.declared.method_names.MethodName.{MethodName}
+use Rattle.rr_parser.specs.declared.word.Sign.{Sign}
 use Rattle.rr_parser.specs.declared.word.Word.{Word}
+use Rattle.rr_parser.specs.declared.word.WordKind.{WordKind}
+use Rattle.rr_parser.specs.declared.word.WordKind.TheVariants as word_kinds
+use Rattle.rr_parser.specs.Grammar.Calls.{sign_of_kind}
 use Rattle.rr_parser.specs.MethodNames.{operator_name, name_from, method_name_at}
 use Rattle.rr_parser.specs.Words.{with_symbol_of, with_text, symbols_behind, word_with, words_behind}
 use Rattle.rr_parser.specs.Numbering.{with_text_of}
+
+-- what has the sign of an assignment is one
+pub assigned_kind : (k : WordKind) (q : Sign) → Some q ≡ sign_of_kind k → word_kinds.Assign q ≡ k
+assigned_kind (word_kinds.Assign r) q e = cc
+assigned_kind _ q e = absurd cc
 
 abbrev now : Bor (List ℕ) → List ℕ
 now k = k.now

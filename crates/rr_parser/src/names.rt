@@ -1,8 +1,9 @@
 //! Words from tokens: each name and each text gets its number.
 
-ghost use Rattle.std.specs.Prelude.{◌≡◌, ◌∷◌, [], ◌++◌, length, map, IfOk, OnOk};
+ghost use Rattle.std.specs.Prelude.{◌≡◌, ◌∷◌, [], ◌++◌, length, map, None, IfOk, OnOk};
 ghost use Rattle.rr_base.specs.ClassNames.{class_named};
 ghost use Rattle.rr_lexer.specs.Contents.{word_of, contents_of};
+ghost use Rattle.rr_parser.specs.Grammar.Calls.{sign_of_kind};
 ghost use Rattle.rr_parser.specs.Words.{keyword_kind, op_kind, is_marked, accessor_named, name_kind, naming_of, token_name, with_name, number_of, with_symbol, with_symbol_of, with_text, word_kind, word_with, words_of, symbols_of, texts_of, classes_of};
 
 use crate::method_names::{MethodName, is_def, method_name_at};
@@ -60,8 +61,35 @@ fn keyword_kind(keyword: Keyword) -> WordKind
     }
 }
 
-fn op_kind(op: Op) -> WordKind
-    ensures { result ≡ op_kind op }
+/// The sign of an assignment that an operator is, if it is one.
+fn sign_of(op: Op) -> Option<Sign>
+    ensures { result ≡ sign_of_kind (op_kind op) }
+{
+    match op {
+        Op::Assign => Some(Sign::Plain),
+        Op::PlusAssign => Some(Sign::With(Operation::Infix(Infix::Binary(BinaryOperator::Add)))),
+        Op::MinusAssign => Some(Sign::With(Operation::Infix(Infix::Binary(
+            BinaryOperator::Subtract,
+        )))),
+        Op::StarAssign => Some(Sign::With(Operation::Infix(Infix::Binary(
+            BinaryOperator::Multiply,
+        )))),
+        Op::SlashAssign => Some(Sign::With(Operation::Infix(Infix::Binary(
+            BinaryOperator::Divide,
+        )))),
+        Op::PercentAssign => Some(Sign::With(Operation::Infix(Infix::Binary(
+            BinaryOperator::Remainder,
+        )))),
+        Op::ShiftAssign => Some(Sign::With(Operation::Infix(Infix::Append))),
+        Op::OrAssign => Some(Sign::With(Operation::Connective(Connective::Or))),
+        Op::AndAssign => Some(Sign::With(Operation::Connective(Connective::And))),
+        _ => None,
+    }
+}
+
+/// What an operator is that is no sign of an assignment.
+fn unsigned_kind(op: Op) -> WordKind
+    ensures { sign_of_kind (op_kind op) ≡ None → result ≡ op_kind op }
 {
     match op {
         Op::Open => WordKind::Open,
@@ -73,25 +101,6 @@ fn op_kind(op: Op) -> WordKind
         Op::Arrow => WordKind::Arrow,
         Op::Comma => WordKind::Comma,
         Op::Semicolon => WordKind::Separator,
-        Op::Assign => WordKind::Assign(Sign::Plain),
-        Op::PlusAssign => WordKind::Assign(Sign::With(Operation::Infix(Infix::Binary(
-            BinaryOperator::Add,
-        )))),
-        Op::MinusAssign => WordKind::Assign(Sign::With(Operation::Infix(Infix::Binary(
-            BinaryOperator::Subtract,
-        )))),
-        Op::StarAssign => WordKind::Assign(Sign::With(Operation::Infix(Infix::Binary(
-            BinaryOperator::Multiply,
-        )))),
-        Op::SlashAssign => WordKind::Assign(Sign::With(Operation::Infix(Infix::Binary(
-            BinaryOperator::Divide,
-        )))),
-        Op::PercentAssign => WordKind::Assign(Sign::With(Operation::Infix(Infix::Binary(
-            BinaryOperator::Remainder,
-        )))),
-        Op::ShiftAssign => WordKind::Assign(Sign::With(Operation::Infix(Infix::Append))),
-        Op::OrAssign => WordKind::Assign(Sign::With(Operation::Connective(Connective::Or))),
-        Op::AndAssign => WordKind::Assign(Sign::With(Operation::Connective(Connective::And))),
         Op::Minus => WordKind::Minus,
         Op::Plus => WordKind::Operator(Infix::Binary(BinaryOperator::Add)),
         Op::Star => WordKind::Operator(Infix::Binary(BinaryOperator::Multiply)),
@@ -111,6 +120,17 @@ fn op_kind(op: Op) -> WordKind
         Op::Bar => WordKind::Bar,
         Op::Question => WordKind::Question,
         Op::Colon => WordKind::Colon,
+        _ => WordKind::Other,
+    }
+}
+
+#[tactic(auto, using(crate::proofs::Numbers::assigned_kind))]
+fn op_kind(op: Op) -> WordKind
+    ensures { result ≡ op_kind op }
+{
+    match sign_of(op) {
+        Some(sign) => WordKind::Assign(sign),
+        None => unsigned_kind(op),
     }
 }
 
