@@ -6,6 +6,7 @@ ghost use Rattle.rr_parser.specs.Reading.{readers};
 
 use crate::fences::within_head;
 use crate::look::{behind, closing, last, target};
+use crate::marks::close_square;
 use crate::members::is_introduced;
 use crate::parser::{Parsed, ParsedList, Parser};
 use crate::refusal::Refusal;
@@ -183,7 +184,7 @@ impl Parser {
         ensures { Gives self.old self.new result (index_of (readers inside depth) (place self.old words.now)) }
     {
         let (index, rest) = self.value(false, inside, depth, words)?;
-        match behind(WordKind::CloseSquare, rest) {
+        match close_square(rest) {
             Some(rest) => Ok((index, rest)),
             None => Err(Refusal::Unexpected(rest.len())),
         }

@@ -14,6 +14,7 @@ mod infixes;
 mod interpolations;
 mod locals;
 mod look;
+mod marks;
 mod members;
 mod method_names;
 mod names;

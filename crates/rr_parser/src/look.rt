@@ -14,6 +14,7 @@ ghost use Rattle.rr_parser.specs.Reading.Several.{ends_target, lone_target};
 ghost use Rattle.rr_parser.specs.Reading.Sequences.{ends_at, ends, row};
 ghost use Rattle.rr_parser.specs.Meets.{Sees, SeesRest};
 
+use crate::marks::{close, close_brace, close_square, comma, dot, minus, separator};
 use crate::word::{Aim, Head, Infix, Listed, NameKind, Sign, Tail, Target, Word, WordKind};
 use rr_base::Sym;
 use rr_tree::BinaryOperator;
@@ -130,7 +131,7 @@ pub(crate) fn joined(words: &[Word]) -> Option<(u64, &[Word])>
 pub(crate) fn prefix_minus(words: &[Word]) -> Option<&[Word]>
     ensures { SeesRest result (prefix_minus words.now) }
 {
-    let rest = behind(WordKind::Minus, words)?;
+    let rest = minus(words)?;
     match joined(rest) {
         Some(_) => None,
         None => Some(rest),
@@ -189,7 +190,7 @@ fn sent(words: &[Word]) -> Option<(Tail, &[Word])>
 pub(crate) fn tail(words: &[Word]) -> Option<(Tail, &[Word])>
     ensures { Sees result (tail words.now) }
 {
-    if let Some(rest) = behind(WordKind::Dot, words) {
+    if let Some(rest) = dot(words) {
         return sent(rest);
     }
     let rest = square(words)?;
@@ -201,7 +202,7 @@ pub(crate) fn tail(words: &[Word]) -> Option<(Tail, &[Word])>
 pub(crate) fn order(words: &[Word]) -> Option<(Sym, &[Word])>
     ensures { Sees result (order words.now) }
 {
-    let rest = behind(WordKind::Dot, words)?;
+    let rest = dot(words)?;
     let (name, rest) = name(rest)?;
     if begins_operands(rest) {
         Some((name, rest))
@@ -217,9 +218,9 @@ pub(crate) fn closing(list: Listed, words: &[Word]) -> Option<&[Word]>
 {
     match list {
         Listed::Command => None,
-        Listed::Call => behind(WordKind::Close, words),
-        Listed::Array => behind(WordKind::CloseSquare, words),
-        Listed::Hash => behind(WordKind::CloseBrace, words),
+        Listed::Call => close(words),
+        Listed::Array => close_square(words),
+        Listed::Hash => close_brace(words),
     }
 }
 
@@ -228,7 +229,7 @@ pub(crate) fn closing(list: Listed, words: &[Word]) -> Option<&[Word]>
 pub(crate) fn last(list: Listed, words: &[Word]) -> Option<&[Word]>
     ensures { SeesRest result (last list words.now) }
 {
-    match behind(WordKind::Comma, words) {
+    match comma(words) {
         Some(rest) => closing(list, rest),
         None => closing(list, words),
     }
@@ -239,7 +240,7 @@ pub(crate) fn last(list: Listed, words: &[Word]) -> Option<&[Word]>
 pub(crate) fn another(list: Listed, words: &[Word]) -> Option<&[Word]>
     ensures { SeesRest result (another list words.now) }
 {
-    let rest = behind(WordKind::Comma, words)?;
+    let rest = comma(words)?;
     match closing(list, rest) {
         Some(_) => None,
         None => Some(rest),
@@ -293,7 +294,7 @@ pub(crate) fn several(words: &[Word]) -> Option<&[Word]>
     ensures { SeesRest result (several words.now) }
 {
     let (_, rest) = target_word(words)?;
-    behind(WordKind::Comma, rest)
+    comma(rest)
 }
 
 /// Whether a comma comes, or the sign of a plain assignment.
@@ -301,8 +302,7 @@ pub(crate) fn several(words: &[Word]) -> Option<&[Word]>
 fn ends_target(words: &[Word]) -> bool
     ensures { result ≡ ends_target words.now }
 {
-    behind(WordKind::Comma, words).is_some()
-        || behind(WordKind::Assign(Sign::Plain), words).is_some()
+    comma(words).is_some() || behind(WordKind::Assign(Sign::Plain), words).is_some()
 }
 
 /// A target that is a word, of several.
@@ -342,7 +342,7 @@ pub(crate) fn without_separators(words: &[Word]) -> &[Word]
 pub(crate) fn separators(words: &[Word]) -> Option<&[Word]>
     ensures { SeesRest result (separators words.now) }
 {
-    let rest = behind(WordKind::Separator, words)?;
+    let rest = separator(words)?;
     Some(without_separators(rest))
 }
 

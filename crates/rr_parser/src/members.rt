@@ -9,6 +9,7 @@ ghost use Rattle.rr_parser.specs.Reading.{readers};
 ghost use Rattle.rr_parser.specs.Meets.{AddsMember, SeesRest, givens};
 
 use crate::look::{another, behind, label};
+use crate::marks::arrow;
 use crate::parser::{Parsed, ParsedList, Parser};
 use crate::refusal::{Refusal, Storage};
 use crate::several::is_prefixed;
@@ -142,7 +143,7 @@ impl Parser {
         requires { argument < length self.old.nodes.items }
         ensures { GivesMember self.old self.new result (key_on (readers inside depth) only (tree_at self.old.nodes.items argument) (place self.old words.now)) }
     {
-        let Some(rest) = behind(WordKind::Arrow, words) else {
+        let Some(rest) = arrow(words) else {
             if only {
                 return Err(Refusal::Unexpected(words.len()));
             }

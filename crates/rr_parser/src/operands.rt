@@ -9,6 +9,7 @@ use crate::fences::opening;
 use crate::look::{
     begins_arguments, begins_operands, behind, bracket, prefix_minus, tail, told_behind,
 };
+use crate::marks::bang;
 use crate::parser::{Parsed, Parser};
 use crate::refusal::Refusal;
 use crate::word::{Behind, Fence, Jump, Part, Passing, Reached, Spot, Tail, Word, WordKind};
@@ -37,7 +38,7 @@ impl Parser {
     pub fn bang<'w>(&mut self, inside: bool, depth: u32, words: &'w [Word]) -> Parsed<'w, NodeId>
         ensures { Gives self.old self.new result (bang_of (readers inside depth) (place self.old words.now)) }
     {
-        let Some(rest) = behind(WordKind::Bang, words) else {
+        let Some(rest) = bang(words) else {
             let (operand, rest) = self.postfix(inside, depth, words)?;
             return Ok((operand.node, rest));
         };

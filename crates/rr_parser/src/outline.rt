@@ -9,6 +9,7 @@ ghost use Rattle.rr_parser.specs.Meets.{Adds};
 
 use crate::class_bodies::{class_head, class_word, unopened};
 use crate::look::{behind, ends, row, without_separators};
+use crate::marks::def_word;
 use crate::parser::{Parsed, Parser};
 use crate::refusal::Storage;
 use crate::word::{Opening, Part, Word, WordKind};
@@ -87,7 +88,7 @@ impl Parser {
     fn entry<'w>(&mut self, depth: u32, words: &'w [Word]) -> Parsed<'w, Entry>
         ensures { GivesEntry self.old self.new result (entry_of (readers false depth) (place self.old words.now)) }
     {
-        if let Some(rest) = behind(WordKind::Def, words) {
+        if let Some(rest) = def_word(words) {
             let (definition, rest) = self.part(Part::Definition, false, depth, rest)?;
             return Ok((Entry::Definition(definition), rest));
         }

@@ -7,6 +7,7 @@ ghost use Rattle.rr_parser.specs.Reading.Calls.{setting_of, reached_on, settled_
 ghost use Rattle.rr_parser.specs.Reading.{readers};
 
 use crate::look::{behind, prefix_minus, sign};
+use crate::marks::bang;
 use crate::parser::{Parsed, Parser};
 use crate::refusal::Storage;
 use crate::word::{Reached, Sign, Spot, Word, WordKind};
@@ -74,7 +75,7 @@ impl Parser {
         if prefix_minus(words).is_some() {
             return self.ternary(inside, depth, words);
         }
-        if behind(WordKind::Bang, words).is_some() {
+        if bang(words).is_some() {
             return self.ternary(inside, depth, words);
         }
         let (operand, rest) = self.postfix(inside, depth, words)?;

@@ -10,6 +10,7 @@ ghost use Rattle.rr_parser.specs.Reading.Calls.{is_prefixed};
 ghost use Rattle.rr_parser.specs.Reading.{readers};
 
 use crate::look::{behind, lone_target, order, prefix_minus, target, told_behind};
+use crate::marks::{bang, comma};
 use crate::parser::{Parsed, ParsedList, Parser};
 use crate::refusal::{Refusal, Storage};
 use crate::word::{Reached, Sign, Target, Word, WordKind};
@@ -20,9 +21,7 @@ use rr_tree::{Node, NodeId};
 pub(crate) fn is_prefixed(words: &[Word]) -> bool
     ensures { result ≡ is_prefixed words.now }
 {
-    target(words).is_some()
-        || prefix_minus(words).is_some()
-        || behind(WordKind::Bang, words).is_some()
+    target(words).is_some() || prefix_minus(words).is_some() || bang(words).is_some()
 }
 
 impl Parser {
@@ -79,7 +78,7 @@ impl Parser {
         let mut targets = Vec::new(self.alloc);
         let (first, mut rest) = self.targeted(inside, depth, words)?;
         targets.push(first)?;
-        while let Some(after) = behind(WordKind::Comma, rest) {
+        while let Some(after) = comma(rest) {
             let (next, after) = self.targeted(inside, depth, after)?;
             targets.push(next)?;
             rest = after;
@@ -138,7 +137,7 @@ impl Parser {
         ensures { Gives self.old self.new result (several_of (readers inside depth) (place self.old words.now)) }
     {
         let (first, rest) = self.targeted(inside, depth, words)?;
-        match behind(WordKind::Comma, rest) {
+        match comma(rest) {
             Some(rest) => self.several_on(first, inside, depth, rest),
             None => Err(Refusal::Unexpected(rest.len())),
         }
@@ -214,7 +213,7 @@ impl Parser {
         let mut items = Vec::new(self.alloc);
         items.push(first)?;
         let mut rest = words;
-        while let Some(after) = behind(WordKind::Comma, rest) {
+        while let Some(after) = comma(rest) {
             let (next, after) = self.value(false, inside, depth, after)?;
             items.push(next)?;
             rest = after;

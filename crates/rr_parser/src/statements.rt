@@ -7,6 +7,7 @@ ghost use Rattle.rr_parser.specs.Reading.{readers};
 
 use crate::infixes::{connective, modifier};
 use crate::look::{behind, ends, row, several, without_separators};
+use crate::marks::{close, comma, not_word};
 use crate::parser::{Parsed, ParsedList, Parser};
 use crate::refusal::Refusal;
 use crate::several::is_prefixed;
@@ -23,7 +24,7 @@ impl Parser {
         ensures { Gives self.old self.new result (group_of (readers inside depth) (place self.old words.now)) }
     {
         let (group, rest) = self.statements(inside, depth, words)?;
-        match behind(WordKind::Close, rest) {
+        match close(rest) {
             Some(rest) => Ok((group, rest)),
             None => Err(Refusal::Unexpected(rest.len())),
         }
@@ -87,9 +88,7 @@ impl Parser {
     fn is_led(&self, words: &[Word]) -> bool
         ensures { result ≡ is_led (known_of self.now) words.now }
     {
-        behind(WordKind::NotWord, words).is_some()
-            || self.command_head(words).is_some()
-            || is_prefixed(words)
+        not_word(words).is_some() || self.command_head(words).is_some() || is_prefixed(words)
     }
 
     /// An assignment to several targets, or an expression.
@@ -124,7 +123,7 @@ impl Parser {
         requires { reaches.within (length self.old.nodes.items) operand }
         ensures { Gives self.old self.new result (spotted_on (readers inside depth) (reaches.tree self.old.nodes.items operand) (place self.old words.now)) }
     {
-        match (operand.spot, behind(WordKind::Comma, words)) {
+        match (operand.spot, comma(words)) {
             (Some(_), Some(rest)) => self.several_on(operand.node, inside, depth, rest),
             _ => self.expression_on(operand, inside, depth, words),
         }
@@ -198,7 +197,7 @@ impl Parser {
     ) -> Parsed<'w, NodeId>
         ensures { Gives self.old self.new result (negation_of (readers inside depth) (place self.old words.now)) }
     {
-        let Some(rest) = behind(WordKind::NotWord, words) else {
+        let Some(rest) = not_word(words) else {
             return self.value(true, inside, depth, words);
         };
         let (operand, rest) = self.part(Part::Not, inside, depth, rest)?;
