@@ -1,5 +1,5 @@
 -- The names of the program's classes among its words.
-use Rattle.std.proofs.Common.{◌≡◌, ℕ, zero, suc, ◌+◌, ◌<◌, Bool, true, false, not, cond, ◌||◌, if◌then◌else◌, List, [], ◌∷◌, ◌++◌, length, take, get_or, map, filter, Option, Some, None, option_map, option_to_list, refl, sym, ap, ◌∙◌, arith, length-append}
+use Rattle.std.proofs.Common.{◌≡◌, ℕ, zero, suc, ◌+◌, ◌<◌, ◌≤◌, Bool, true, false, not, cond, ◌||◌, if◌then◌else◌, List, [], ◌∷◌, ◌++◌, length, take, get_or, set, map, filter, Option, Some, None, option_map, option_to_list, refl, sym, ap, ◌∙◌, arith, length-append}
 use Rattle.std.specs.Prelude.{nat_eq, slice_get, Vec}
 use Rattle.std.specs.Map.{keys_of, lookup}
 use Rattle.std.proofs.lemmas.Bool.{eqb-true, cond-true, cond-false}
@@ -67,20 +67,46 @@ kind_same : (own other : ℕ → Bool) → ((x : ℕ) → own x ≡ other x) →
 kind_same own other same (kind.Constant x n) = ap (λ b. kind.Constant x (naming_by b n)) (same x.0)
 kind_same own other same k = refl
 
-abbrev own_in : List Word → ℕ → Bool
+abbrev pub own_in : List Word → ℕ → Bool
 own_in ws x = list_any (nat_eq x) (classes_in ws)
 
-pub told_first : (told ws : List Word) → told ≡ [] → told ++ map (word_by (own_in ws)) ws ≡ with_classes ws
-told_first told ws e = ap (λ (l : List Word). l ++ map (word_by (own_in ws)) ws) e
+-- words of which so many, the first ones, were told
+unfoldable pub part_told : (Word → Word) → ℕ → List Word → List Word
+part_told f zero ws = ws
+part_told f (suc i) [] = []
+part_told f (suc i) (w ∷ ws) = f w ∷ part_told f i ws
 
-pub told_more : (all words told more l ws : List Word) (names : List ℕ) (w : Word) (k : WordKind) → ((x : ℕ) → list_any (nat_eq x) names ≡ own_in words x) → l ≡ w ∷ ws → k ≡ kind_by (λ x. list_any (nat_eq x) names) w.kind → more ≡ told ++ record { kind = k; blank = w.blank } ∷ []
-    → told ++ map (word_by (own_in words)) l ≡ all → more ++ map (word_by (own_in words)) ws ≡ all
-told_more all words told more l ws names w k same here is e h =
-    ap (λ (q : List Word). q ++ map (word_by (own_in words)) ws) e
-    ∙ append_assoc told (record { kind = k; blank = w.blank } ∷ []) (map (word_by (own_in words)) ws)
-    ∙ ap (λ (q : WordKind). told ++ record { kind = q; blank = w.blank } ∷ map (word_by (own_in words)) ws) (is ∙ kind_same (λ x. list_any (nat_eq x) names) (own_in words) same w.kind)
-    ∙ ap (λ (q : List Word). told ++ map (word_by (own_in words)) q) (sym here)
-    ∙ h
+pub told_none : (f : Word → Word) (ws : List Word) → ws ≡ part_told f 0 ws
+unfolding part_told
+told_none f ws = refl
+
+-- one word more
+told_at : (f : Word → Word) (i : ℕ) (ws : List Word) (d : Word) → i < length ws → set (part_told f i ws) i (f (get_or (part_told f i ws) i d)) ≡ part_told f (suc i) ws
+unfolding part_told
+told_at f i [] d lt = let never : ⊥ = omega (arith, lt) in absurd never
+told_at f zero (w ∷ ws) d lt = refl
+told_at f (suc i) (w ∷ ws) d lt = ap (λ (l : List Word). f w ∷ l) (told_at f i ws d (omega (arith, lt)))
+
+told_whole : (f : Word → Word) (i : ℕ) (ws : List Word) → length ws ≤ i → part_told f i ws ≡ map f ws
+unfolding part_told
+told_whole f zero [] le = refl
+told_whole f zero (w ∷ ws) le = let never : ⊥ = omega (arith, le) in absurd never
+told_whole f (suc i) [] le = refl
+told_whole f (suc i) (w ∷ ws) le = ap (λ (l : List Word). f w ∷ l) (told_whole f i ws (omega (arith, le)))
+
+-- what the code makes of the word at a place
+pub told_on : (ws now : List Word) (i : ℕ) (d : Word) (names : List ℕ) (k : WordKind) → i < length ws → ((x : ℕ) → list_any (nat_eq x) names ≡ own_in ws x) → now ≡ part_told (word_by (own_in ws)) i ws
+    → k ≡ kind_by (λ x. list_any (nat_eq x) names) (get_or now i d).kind → set now i (record { kind = k; blank = (get_or now i d).blank }) ≡ part_told (word_by (own_in ws)) (i + 1) ws
+told_on ws now i d names k lt same here is =
+    let f = word_by (own_in ws) in
+    let e : suc i ≡ i + 1 = omega arith in
+    ap (λ (q : WordKind). set now i (record { kind = q; blank = (get_or now i d).blank })) (is ∙ kind_same (λ x. list_any (nat_eq x) names) (own_in ws) same (get_or now i d).kind)
+    ∙ ap (λ (l : List Word). set l i (f (get_or l i d))) here
+    ∙ told_at f i ws d lt
+    ∙ ap (λ (n : ℕ). part_told f n ws) e
+
+pub told_each : (f : Word → Word) (i : ℕ) (ws now : List Word) → length ws ≤ i → now ≡ part_told f i ws → now ≡ map f ws
+told_each f i ws now le here = here ∙ told_whole f i ws le
 
 -- ---- superclasses
 

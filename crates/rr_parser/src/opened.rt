@@ -101,21 +101,15 @@ fn kind_by(names: &IndexSet<u32>, kind: WordKind) -> WordKind
     }
 }
 
-/// The words, where the names of the program's classes are told from other constants.
-fn with_classes(alloc: Global, words: &[Word]) -> Result<Vec<Word>, Storage>
-    ensures { IfOk result (λ v. v.items ≡ with_classes words.now) }
+/// Tells the names of the program's classes from other constants among the words.
+fn with_classes(alloc: Global, words: &mut [Word]) -> Result<(), Storage>
+    ensures { OnOk result (words.new ≡ with_classes words.old) }
 {
     let names = classes_in(alloc, words)?;
-    let mut told = Vec::with_capacity(alloc, words.len())?;
-    let mut left = words;
-    while let Some((word, rest)) = left.split_first() {
-        told.push(Word {
-            kind: kind_by(&names, word.kind),
-            blank: word.blank,
-        })?;
-        left = rest;
+    for word in words.iter_mut() {
+        word.kind = kind_by(&names, word.kind);
     }
-    Ok(told)
+    Ok(())
 }
 
 /// What comes of the heads of classes, from left to right.
@@ -339,6 +333,7 @@ pub(crate) fn told(alloc: Global, symbols: &[Vec<u8>], words: Vec<Word>) -> Resu
             classes: Vec::new(alloc),
         });
     }
-    let told = with_classes(alloc, &words)?;
-    open(alloc, symbols, &told)
+    let mut words = words;
+    with_classes(alloc, words.as_mut_slice())?;
+    open(alloc, symbols, &words)
 }
