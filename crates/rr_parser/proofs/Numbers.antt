@@ -16,7 +16,7 @@ use Rattle.rr_parser.specs.declared.word.WordKind.{WordKind}
 use Rattle.rr_parser.specs.declared.word.WordKind.TheVariants as word_kinds
 use Rattle.rr_parser.specs.Grammar.Calls.{sign_of_kind}
 use Rattle.rr_parser.specs.MethodNames.{operator_name, name_from, method_name_at}
-use Rattle.rr_parser.specs.Words.{with_symbol_of, with_text, symbols_behind, word_with, words_behind}
+use Rattle.rr_parser.specs.Words.{with_symbol_of, with_text, symbols_behind, word_kind_of, word_with, words_behind}
 use Rattle.rr_parser.specs.Numbering.{with_text_of}
 
 -- what has the sign of an assignment is one
@@ -85,14 +85,14 @@ module _ (source : List ℕ) (names more : List (List ℕ)) (texts held : List (
   texts_now : held ≡ with_text source texts t t.kind
   texts_now = f ∙ ap (with_text_of source texts t) is ∙ name_is_no_text source texts def t us
 
-  pub words_more : (ws new : List Word) (w : Word) (all : List Word) → ws ++ words_behind source names texts def l ≡ all → new ≡ ws ++ w ∷ [] → w ≡ word_with source names (length texts) t m
+  pub words_more : (ws new : List Word) (k : WordKind) (all : List Word) → ws ++ words_behind source names texts def l ≡ all → new ≡ ws ++ record { kind = k; blank = t.blank } ∷ [] → k ≡ word_kind_of source names (length texts) t m
       → new ++ words_behind source more held behind us ≡ all
-  words_more ws new w all h i j =
+  words_more ws new k all h i j =
       let next = word_with source names (length texts) t (method_name_at def t us) in
       let known = with_symbol_of source names t (method_name_at def t us) in
       ap (λ (q : List Word). q ++ words_behind source more held behind us) i
-      ∙ append_assoc ws (w ∷ []) (words_behind source more held behind us)
-      ∙ ap (λ (v : Word). ws ++ v ∷ words_behind source more held behind us) (j ∙ ap (word_with source names (length texts) t) is)
+      ∙ append_assoc ws (record { kind = k; blank = t.blank } ∷ []) (words_behind source more held behind us)
+      ∙ ap (λ (v : Word). ws ++ v ∷ words_behind source more held behind us) (ap (λ (q : WordKind). record { kind = q; blank = t.blank }) j ∙ ap (word_with source names (length texts) t) is)
       ∙ ap (λ (q : List (List ℕ)). ws ++ next ∷ words_behind source q held behind us) symbols_now
       ∙ ap (λ (q : List (List ℕ)). ws ++ next ∷ words_behind source known q behind us) texts_now
       ∙ ap (λ (b : Bool). ws ++ next ∷ words_behind source known (with_text source texts t t.kind) b us) g

@@ -1,10 +1,11 @@
 //! Words from tokens: each name and each text gets its number.
 
-ghost use Rattle.std.specs.Prelude.{◌≡◌, ◌∷◌, [], ◌++◌, length, map, None, IfOk, OnOk};
+ghost use Rattle.std.specs.Prelude.{◌≡◌, ◌∷◌, [], ◌++◌, ℕ, List, length, map, None, IfSome, OnSome, IfOk, OnOk};
 ghost use Rattle.rr_base.specs.ClassNames.{class_named};
+ghost use Rattle.rr_lexer.specs.declared.kind.Token.{Token};
 ghost use Rattle.rr_lexer.specs.Contents.{word_of, contents_of};
 ghost use Rattle.rr_parser.specs.Grammar.Calls.{sign_of_kind};
-ghost use Rattle.rr_parser.specs.Words.{keyword_kind, op_kind, is_marked, accessor_named, name_kind, naming_of, token_name, with_name, number_of, with_symbol, with_symbol_of, with_text, word_kind, word_with, words_of, symbols_of, texts_of, classes_of};
+ghost use Rattle.rr_parser.specs.Words.{keyword_kind, op_kind, is_marked, accessor_named, name_kind, naming_of, token_name, with_name, number_of, with_symbol, with_symbol_of, with_text, word_kind, word_kind_of, words_of, symbols_of, texts_of, classes_of};
 
 use crate::method_names::{MethodName, is_def, method_name_at};
 use crate::opened::{Opened, told};
@@ -134,6 +135,23 @@ fn op_kind(op: Op) -> WordKind
     }
 }
 
+/// The word that a token is by its kind alone, if that tells it.
+#[inline(always)]
+fn plain_kind(kind: Kind) -> Option<WordKind>
+    ensures kind { IfSome result (λ k. (source : List ℕ) (names : List (List ℕ)) (texts : ℕ) (token : Token) → word_kind source names texts token kind ≡ k) }
+    ensures names { OnSome result ((source : List ℕ) (names : List (List ℕ)) (token : Token) → with_symbol source names token kind ≡ names) }
+    ensures texts { OnSome result ((source : List ℕ) (texts : List (List ℕ)) (token : Token) → with_text source texts token kind ≡ texts) }
+{
+    match kind {
+        Kind::Keyword(keyword) => Some(keyword_kind(keyword)),
+        Kind::Op(op) => Some(op_kind(op)),
+        Kind::LineEnd => Some(WordKind::Separator),
+        Kind::OpenBrace => Some(WordKind::OpenBrace),
+        Kind::CloseBrace => Some(WordKind::CloseBrace),
+        _ => None,
+    }
+}
+
 /// Whether a name ends with `?` or `!`.
 fn is_marked(name: &[u8]) -> bool
     ensures { result ≡ is_marked name.now }
@@ -220,7 +238,9 @@ impl<'s> Numbering<'s> {
         Ok(place)
     }
 
-    /// What a token is as a word.
+    /// What a token is as a word. Each arm has room of its own for what it calls, which is cleared first: so it is no part of
+    /// the loop over all tokens.
+    #[inline(never)]
     fn kind(&mut self, alloc: Global, source: &'s [u8], token: Token) -> Result<WordKind, Storage>
         ensures kind { IfOk result (λ k. k ≡ word_kind source.now (names_of self.old) (length (texts_held self.old)) token token.kind) }
         ensures names { OnOk result (names_of self.new ≡ with_symbol source.now (names_of self.old) token token.kind) }
@@ -266,26 +286,26 @@ impl<'s> Numbering<'s> {
         Ok(WordKind::MethodName(name, method.more))
     }
 
-    /// The word that stands for a token, which may be the first one of a method's name.
-    fn word(
+    /// What a token is as a word, where it may be the first one of a method's name.
+    #[inline(always)]
+    fn word_kind(
         &mut self,
         alloc: Global,
         source: &'s [u8],
         token: Token,
         method: Option<MethodName>,
-    ) -> Result<Word, Storage>
-        ensures word { IfOk result (λ w. w ≡ word_with source.now (names_of self.old) (length (texts_held self.old)) token method) }
+    ) -> Result<WordKind, Storage>
+        ensures kind { IfOk result (λ k. k ≡ word_kind_of source.now (names_of self.old) (length (texts_held self.old)) token method) }
         ensures names { OnOk result (names_of self.new ≡ with_symbol_of source.now (names_of self.old) token method) }
         ensures texts { OnOk result (texts_held self.new ≡ with_text_of source.now (texts_held self.old) token method) }
     {
-        let kind = match method {
-            Some(method) => self.method_name(source, method)?,
-            None => self.kind(alloc, source, token)?,
-        };
-        Ok(Word {
-            kind,
-            blank: token.blank,
-        })
+        match method {
+            Some(method) => self.method_name(source, method),
+            None => match plain_kind(token.kind) {
+                Some(kind) => Ok(kind),
+                None => self.kind(alloc, source, token),
+            },
+        }
     }
 }
 
@@ -316,7 +336,11 @@ pub(crate) fn read_words(alloc: Global, source: &[u8], tokens: &[Token]) -> Resu
     let mut left = tokens;
     while let Some((token, rest)) = left.split_first() {
         let method = method_name_at(behind_def, *token, rest);
-        words.push_reserved(numbering.word(alloc, source, *token, method)?);
+        let kind = numbering.word_kind(alloc, source, *token, method)?;
+        words.push_reserved(Word {
+            kind,
+            blank: token.blank,
+        });
         behind_def = is_def(token.kind);
         left = rest;
     }
