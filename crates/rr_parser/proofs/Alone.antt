@@ -41,8 +41,5 @@ module _ (N : Readers) (shrinks : ReadersShrink N) (l : Tree) (m : Place) where
       ap (λ (q : Answer Tree). q >>= λ c. question_or N c.0 c.1 (at (word kind.Question) c.1)) (logical_alone 2 none unjoined) ∙ ap (λ o. question_or N l m (placed m.known o)) unasked
 
 module _ (N : Readers) (shrinks : ReadersShrink N) (p : Parser) (left : ℕ) (words : List Word) (there : left < length p.nodes.items) where
-  pub made_unbound : (level : ℕ) → ((n : ℕ) → n ≤ level → operator n words ≡ None) → Made nodes p p left words (binary_on N level (tree_at p.nodes.items left) (place p words))
-  made_unbound level none = record { there = there; tree = binary_alone N shrinks (tree_at p.nodes.items left) (place p words) level none; kept = Extends-refl p.nodes.items }
-
   pub made_alone : ((n : ℕ) → operator n words ≡ None) → ((n : ℕ) → n ≤ 2 → connective n words ≡ None) → word kind.Question words ≡ None → Made nodes p p left words (ternary_on N (tree_at p.nodes.items left) (place p words))
   made_alone none unjoined unasked = record { there = there; tree = ternary_alone N shrinks (tree_at p.nodes.items left) (place p words) none unjoined unasked; kept = Extends-refl p.nodes.items }

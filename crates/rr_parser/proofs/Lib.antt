@@ -30,6 +30,7 @@ pub mod Deep
 pub mod Making
 pub mod Choosing
 pub mod Alone
+pub mod Levels
 pub mod Gathering
 pub mod Calling
 pub mod Spots

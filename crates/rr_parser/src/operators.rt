@@ -1,11 +1,12 @@
 //! Reading operators between two operands, from the first operand on.
 
-ghost use Rattle.std.specs.Prelude.{◌≡◌, ◌<◌, ◌≤◌, length};
+ghost use Rattle.std.specs.Prelude.{◌≡◌, ◌-◌, ◌<◌, ◌≤◌, length};
 ghost use Rattle.rr_tree.specs.Tree.{tree_at, choose};
 ghost use Rattle.rr_parser.specs.declared.word.Part.TheVariants.{Branch};
 ghost use Rattle.rr_parser.specs.declared.word.WordKind.TheVariants.{Colon};
 ghost use Rattle.rr_parser.specs.Places.{word};
-ghost use Rattle.rr_parser.specs.Reading.Answers.{across};
+ghost use Rattle.rr_parser.specs.Grammar.Operators.{operator, infixed, connective, joined_by};
+ghost use Rattle.rr_parser.specs.Reading.Answers.{across, chain_on};
 ghost use Rattle.rr_parser.specs.Reading.Operators.{binary_on, binary_of, equality_on, logical_on, logical_of, ternary_on, ternary_of};
 ghost use Rattle.rr_parser.specs.Reading.{readers};
 
@@ -89,7 +90,6 @@ impl Parser {
     }
 
     #[cycle(parser)]
-    #[tactic(auto, unfolding(crate::specs::Reading::Operators::logical_on))]
     fn logical_on<'w>(
         &mut self,
         level: u8,
@@ -102,10 +102,35 @@ impl Parser {
         requires left { left < length self.old.nodes.items }
         ensures { Gives self.old self.new result (logical_on (readers inside depth) level (tree_at self.old.nodes.items left) (place self.old words.now)) }
     {
-        if level == 0 {
-            return self.equality_on(left, inside, depth, words);
+        let (mut left, mut rest) = self.equality_on(left, inside, depth, words)?;
+        let mut under = 0;
+        while under < level {
+            under += 1;
+            let (made, after) = self.joined_on(under, left, inside, depth, rest)?;
+            left = made;
+            rest = after;
         }
-        let (mut left, mut rest) = self.logical_on(level - 1, left, inside, depth, words)?;
+        Ok((left, rest))
+    }
+
+    /// What conditions joined at one level make of what stands before them.
+    #[cycle(parser)]
+    #[inline(always)]
+    fn joined_on<'w>(
+        &mut self,
+        level: u8,
+        first: NodeId,
+        inside: bool,
+        depth: u32,
+        words: &'w [Word],
+    ) -> Parsed<'w, NodeId>
+        requires above { 0 < level }
+        requires level { level ≤ 2 }
+        requires first { first < length self.old.nodes.items }
+        ensures { Gives self.old self.new result (chain_on (connective level) joined_by (logical_of (readers inside depth) (level - 1)) (tree_at self.old.nodes.items first) (place self.old words.now)) }
+    {
+        let mut left = first;
+        let mut rest = words;
         while let Some((connective, after)) = connective(level, rest) {
             let (right, after) = self.logical(level - 1, inside, depth, after)?;
             left = self.put_joined(connective, left, right)?;
@@ -152,26 +177,52 @@ impl Parser {
     }
 
     #[cycle(parser)]
-    #[tactic(auto, unfolding(crate::specs::Reading::Operators::binary_on))]
     fn binary_on<'w>(
         &mut self,
         level: u8,
-        left: NodeId,
+        first: NodeId,
         inside: bool,
         depth: u32,
         words: &'w [Word],
     ) -> Parsed<'w, NodeId>
         requires level { level ≤ 4 }
-        requires left { left < length self.old.nodes.items }
-        ensures { Gives self.old self.new result (binary_on (readers inside depth) level (tree_at self.old.nodes.items left) (place self.old words.now)) }
+        requires first { first < length self.old.nodes.items }
+        ensures { Gives self.old self.new result (binary_on (readers inside depth) level (tree_at self.old.nodes.items first) (place self.old words.now)) }
     {
-        if level == 0 {
-            return Ok((left, words));
+        let mut left = first;
+        let mut rest = words;
+        let mut under = 0;
+        while under < level {
+            // Where no operator as tight comes any more, the levels that are left make nothing.
+            if !binds(level, rest) {
+                return Ok((left, rest));
+            }
+            under += 1;
+            let (made, after) = self.infixed_on(under, left, inside, depth, rest)?;
+            left = made;
+            rest = after;
         }
-        if !binds(level, words) {
-            return Ok((left, words));
-        }
-        let (mut left, mut rest) = self.binary_on(level - 1, left, inside, depth, words)?;
+        Ok((left, rest))
+    }
+
+    /// What the operators of one level make of what stands before them.
+    #[cycle(parser)]
+    #[inline(always)]
+    fn infixed_on<'w>(
+        &mut self,
+        level: u8,
+        first: NodeId,
+        inside: bool,
+        depth: u32,
+        words: &'w [Word],
+    ) -> Parsed<'w, NodeId>
+        requires above { 0 < level }
+        requires level { level ≤ 4 }
+        requires first { first < length self.old.nodes.items }
+        ensures { Gives self.old self.new result (chain_on (operator level) infixed (binary_of (readers inside depth) (level - 1)) (tree_at self.old.nodes.items first) (place self.old words.now)) }
+    {
+        let mut left = first;
+        let mut rest = words;
         while let Some((operator, after)) = operator(level, rest) {
             let (right, after) = self.binary(level - 1, inside, depth, after)?;
             left = self.put_infix(operator, left, right)?;

@@ -8,7 +8,7 @@ use Rattle.rr_parser.specs.Grammar.Operators.{operator, infixed, connective, joi
 use Rattle.rr_parser.specs.Grammar.Sequences.{modifier, modified}
 use Rattle.rr_parser.specs.Grammar.Control.{elsif}
 use Rattle.rr_parser.specs.Reading.Answers.{Parse}
-use Rattle.rr_parser.specs.Reading.Operators.{binary_of, logical_of}
+use Rattle.rr_parser.specs.Reading.Operators.{binary_on, binary_of, logical_on, logical_of}
 use Rattle.rr_parser.specs.Grammar.Calls.{comma}
 use Rattle.rr_parser.specs.Reading.Calls.{argument_of, another, adding_to}
 use Rattle.rr_parser.specs.Reading.Sequences.{modifying_of, negation_of, expression_of, statement_of, statements_of, row}
@@ -26,7 +26,8 @@ use Rattle.rr_parser.proofs.Listing.{Steps-another}
 use Rattle.rr_parser.proofs.Steps.{Steps-comma, Steps-operator, Steps-connective, Steps-modifier, Steps-elsif, Steps-middle, Steps-rescues}
 use Rattle.rr_parser.proofs.Shrinking.{shrinks_nested}
 use Rattle.rr_parser.proofs.Making.{stable_nodes, stable_pairs, goes_ends, goes_fails, goes_smaller, list_on, operators_on, nested_part, nested_bracketed, nested_ordered, gives_outside}
-use Rattle.rr_parser.proofs.Alone.{made_unbound, made_alone}
+use Rattle.rr_parser.proofs.Alone.{made_alone}
+use Rattle.rr_parser.proofs.Levels.{infixed_at, infixed_up, infixed_first, joined_at, joined_up, joined_first, joined_refused, levels_begin, levels_refused, levels_on, levels_fail, levels_end, levels_unbound}
 use Rattle.rr_parser.proofs.Choosing.{made_alternatives, made_pair, made_branch, made_loop, made_choice, made_unless}
 use Rattle.rr_parser.proofs.Spots.{gives_sent, made_element, made_attribute, made_setting, gives_ordered}
 use Rattle.rr_parser.proofs.Gathering.{turns_fail, turns_smaller, turns_go, turns_end, made_key, made_added}
@@ -171,54 +172,119 @@ pub connected-returns : goal.connected-returns
 connected-returns t c =
     goes_ends nodes nodes (connective 3) joined_by (negation_of (readers c.args.inside c.args.depth)) (Steps-connective 3) (shrinks_nested c.args.inside c.args.depth).negation _ _ _ _ _ c.loop-connective.invariant c.in_default.ensures
 
-pub binary_on-returns-in_err-right : goal.binary_on-returns-in_err-right
-binary_on-returns-in_err-right t c =
-    let p = err_from_is_err_and c.from_residual-in_err-right.result c.from_residual-in_err-right.ensures.1 in
+pub infixed_on-returns-in_err-right : goal.infixed_on-returns-in_err-right
+infixed_on-returns-in_err-right t c =
+    let p = err_from_is_err_and c.from_residual.result c.from_residual.ensures.1 in
     rw (p.1, p.2) (goes_fails nodes nodes (operator c.args.level) infixed (binary_of (readers c.args.inside c.args.depth) (c.args.level - 1)) (Steps-operator c.args.level) ((shrinks_nested c.args.inside c.args.depth).binary (c.args.level - 1)) _ _ _ _ _ _ _ _ c.loop-operator.invariant.goes c.in-Some.ensures c.in_err-right.ensures)
 
-pub binary_on-loop-operator-smaller : goal.binary_on-loop-operator-smaller
-binary_on-loop-operator-smaller t c =
+pub infixed_on-loop-operator-smaller : goal.infixed_on-loop-operator-smaller
+infixed_on-loop-operator-smaller t c =
     goes_smaller nodes nodes (operator c.args.level) infixed (binary_of (readers c.args.inside c.args.depth) (c.args.level - 1)) (Steps-operator c.args.level) ((shrinks_nested c.args.inside c.args.depth).binary (c.args.level - 1)) _ _ _ _ _ _ _ c.in-Some.ensures c.in_ok-right.ensures
 
-pub binary_on-loop-operator-preserved : goal.binary_on-loop-operator-preserved
-binary_on-loop-operator-preserved t c = record {
+pub infixed_on-loop-operator-preserved : goal.infixed_on-loop-operator-preserved
+infixed_on-loop-operator-preserved t c = record {
   above = c.loop-operator.invariant.above;
   at_most = c.loop-operator.invariant.at_most;
-  goes = operators_on (operator c.args.level) infixed (binary_of (readers c.args.inside c.args.depth) (c.args.level - 1)) (Steps-operator c.args.level) ((shrinks_nested c.args.inside c.args.depth).binary (c.args.level - 1)) _ _ _ _ _ _ _ _ _ _ _ _ c.loop-operator.invariant.goes c.in-Some.ensures c.in_ok-right.ensures c.in_ok-left-2.ensures;
+  goes = operators_on (operator c.args.level) infixed (binary_of (readers c.args.inside c.args.depth) (c.args.level - 1)) (Steps-operator c.args.level) ((shrinks_nested c.args.inside c.args.depth).binary (c.args.level - 1)) _ _ _ _ _ _ _ _ _ _ _ _ c.loop-operator.invariant.goes c.in-Some.ensures c.in_ok-right.ensures c.in_ok-left.ensures;
 }
 
-pub binary_on-returns : goal.binary_on-returns
-binary_on-returns t c =
+pub infixed_on-returns : goal.infixed_on-returns
+infixed_on-returns t c =
     goes_ends nodes nodes (operator c.args.level) infixed (binary_of (readers c.args.inside c.args.depth) (c.args.level - 1)) (Steps-operator c.args.level) ((shrinks_nested c.args.inside c.args.depth).binary (c.args.level - 1)) _ _ _ _ _ c.loop-operator.invariant.goes c.in_default.ensures
-
-pub binary_on-returns-then-not-binds : goal.binary_on-returns-then-not-binds
-binary_on-returns-then-not-binds t c =
-    made_unbound (readers c.args.inside c.args.depth) (shrinks_nested c.args.inside c.args.depth) c.args.self.now c.args.left c.args.words.now c.requires.left c.args.level (c.binds.ensures c.if-not-binds.true)
 
 pub ternary_on-returns-then-not-goes_on : goal.ternary_on-returns-then-not-goes_on
 ternary_on-returns-then-not-goes_on t c =
     made_alone (readers c.args.inside c.args.depth) (shrinks_nested c.args.inside c.args.depth) c.args.self.now c.args.left c.args.words.now c.requires (c.goes_on.ensures.operators c.if-not-goes_on.true)
     (c.goes_on.ensures.connectives c.if-not-goes_on.true) (c.goes_on.ensures.question c.if-not-goes_on.true)
 
-pub logical_on-returns-in_err-right : goal.logical_on-returns-in_err-right
-logical_on-returns-in_err-right t c =
-    let p = err_from_is_err_and c.from_residual-in_err-right.result c.from_residual-in_err-right.ensures.1 in
+pub joined_on-returns-in_err-right : goal.joined_on-returns-in_err-right
+joined_on-returns-in_err-right t c =
+    let p = err_from_is_err_and c.from_residual.result c.from_residual.ensures.1 in
     rw (p.1, p.2) (goes_fails nodes nodes (connective c.args.level) joined_by (logical_of (readers c.args.inside c.args.depth) (c.args.level - 1)) (Steps-connective c.args.level) ((shrinks_nested c.args.inside c.args.depth).logical (c.args.level - 1)) _ _ _ _ _ _ _ _ c.loop-connective.invariant.goes c.in-Some.ensures c.in_err-right.ensures)
 
-pub logical_on-loop-connective-smaller : goal.logical_on-loop-connective-smaller
-logical_on-loop-connective-smaller t c =
+pub joined_on-loop-connective-smaller : goal.joined_on-loop-connective-smaller
+joined_on-loop-connective-smaller t c =
     goes_smaller nodes nodes (connective c.args.level) joined_by (logical_of (readers c.args.inside c.args.depth) (c.args.level - 1)) (Steps-connective c.args.level) ((shrinks_nested c.args.inside c.args.depth).logical (c.args.level - 1)) _ _ _ _ _ _ _ c.in-Some.ensures c.in_ok-right.ensures
 
-pub logical_on-loop-connective-preserved : goal.logical_on-loop-connective-preserved
-logical_on-loop-connective-preserved t c = record {
+pub joined_on-loop-connective-preserved : goal.joined_on-loop-connective-preserved
+joined_on-loop-connective-preserved t c = record {
   above = c.loop-connective.invariant.above;
   at_most = c.loop-connective.invariant.at_most;
-  goes = operators_on (connective c.args.level) joined_by (logical_of (readers c.args.inside c.args.depth) (c.args.level - 1)) (Steps-connective c.args.level) ((shrinks_nested c.args.inside c.args.depth).logical (c.args.level - 1)) _ _ _ _ _ _ _ _ _ _ _ _ c.loop-connective.invariant.goes c.in-Some.ensures c.in_ok-right.ensures c.in_ok-left-2.ensures;
+  goes = operators_on (connective c.args.level) joined_by (logical_of (readers c.args.inside c.args.depth) (c.args.level - 1)) (Steps-connective c.args.level) ((shrinks_nested c.args.inside c.args.depth).logical (c.args.level - 1)) _ _ _ _ _ _ _ _ _ _ _ _ c.loop-connective.invariant.goes c.in-Some.ensures c.in_ok-right.ensures c.in_ok-left.ensures;
 }
+
+pub joined_on-returns : goal.joined_on-returns
+joined_on-returns t c =
+    goes_ends nodes nodes (connective c.args.level) joined_by (logical_of (readers c.args.inside c.args.depth) (c.args.level - 1)) (Steps-connective c.args.level) ((shrinks_nested c.args.inside c.args.depth).logical (c.args.level - 1)) _ _ _ _ _ c.loop-connective.invariant.goes c.in_default.ensures
+
+pub binary_on-loop-under-init : goal.binary_on-loop-under-init
+binary_on-loop-under-init t c =
+    let N = readers c.args.inside c.args.depth in
+    record {
+      at_most = c.requires.level;
+      under = omega arith;
+      goes = levels_begin (infixed_at N) (binary_on N) (infixed_up N) c.args.level c.args.self.now c.args.self.now _ c.args.words.now c.args.words.now c.args.first (infixed_first N c.args.self.now c.args.first c.args.words.now c.requires.first);
+    }
+
+pub binary_on-returns-then-not-binds : goal.binary_on-returns-then-not-binds
+binary_on-returns-then-not-binds t c =
+    let N = readers c.args.inside c.args.depth in
+    levels_unbound N (shrinks_nested c.args.inside c.args.depth) c.args.level c.loop-under.under (omega arith) c.args.self.now c.loop-under.self c.loop-under.left _ _ c.loop-under.invariant.goes (c.binds.ensures c.if-not-binds.true)
+
+pub binary_on-returns-in_err-made : goal.binary_on-returns-in_err-made
+binary_on-returns-in_err-made t c =
+    let N = readers c.args.inside c.args.depth in
+    let p = err_from_is_err_and c.from_residual.result c.from_residual.ensures.1 in
+    rw (p.1, p.2) (levels_fail (infixed_at N) (binary_on N) (infixed_up N) c.args.level c.loop-under.under (omega arith) c.args.self.now c.loop-under.self c.loop-under.left _ _ c.loop-under.invariant.goes _ c.in_err-made.ensures)
+
+pub binary_on-loop-under-preserved : goal.binary_on-loop-under-preserved
+binary_on-loop-under-preserved t c =
+    let N = readers c.args.inside c.args.depth in
+    record {
+      at_most = c.loop-under.invariant.at_most;
+      under = omega arith;
+      goes = levels_on (infixed_at N) (binary_on N) (infixed_up N) c.args.level c.loop-under.under (omega arith) c.args.self.now c.loop-under.self c.loop-under.left _ _ c.loop-under.invariant.goes _ _ _ c.in_ok-made.ensures;
+    }
+
+pub binary_on-returns : goal.binary_on-returns
+binary_on-returns t c =
+    let N = readers c.args.inside c.args.depth in
+    levels_end (infixed_at N) (binary_on N) (infixed_up N) c.args.level c.loop-under.under (omega arith) c.args.self.now c.loop-under.self c.loop-under.left _ _ c.loop-under.invariant.goes
+
+pub logical_on-returns-in_err-left : goal.logical_on-returns-in_err-left
+logical_on-returns-in_err-left t c =
+    let N = readers c.args.inside c.args.depth in
+    let p = err_from_is_err_and c.from_residual.result c.from_residual.ensures.1 in
+    rw (p.1, p.2) (levels_refused (joined_at N) (logical_on N) (joined_up N) c.args.level _ _ _ (joined_refused N _ _ _ c.in_err-left.ensures))
+
+pub logical_on-loop-under-init : goal.logical_on-loop-under-init
+logical_on-loop-under-init t c =
+    let N = readers c.args.inside c.args.depth in
+    record {
+      at_most = c.requires.level;
+      under = omega arith;
+      goes = levels_begin (joined_at N) (logical_on N) (joined_up N) c.args.level c.args.self.now _ _ c.args.words.now _ _ (joined_first N _ _ _ _ c.args.words.now _ c.in_ok-left.ensures);
+    }
+
+pub logical_on-returns-in_err-made : goal.logical_on-returns-in_err-made
+logical_on-returns-in_err-made t c =
+    let N = readers c.args.inside c.args.depth in
+    let p = err_from_is_err_and c.from_residual-in_err-made.result c.from_residual-in_err-made.ensures.1 in
+    rw (p.1, p.2) (levels_fail (joined_at N) (logical_on N) (joined_up N) c.args.level c.loop-under.under (omega arith) c.args.self.now c.loop-under.self c.loop-under.left _ _ c.loop-under.invariant.goes _ c.in_err-made.ensures)
+
+pub logical_on-loop-under-preserved : goal.logical_on-loop-under-preserved
+logical_on-loop-under-preserved t c =
+    let N = readers c.args.inside c.args.depth in
+    record {
+      at_most = c.loop-under.invariant.at_most;
+      under = omega arith;
+      goes = levels_on (joined_at N) (logical_on N) (joined_up N) c.args.level c.loop-under.under (omega arith) c.args.self.now c.loop-under.self c.loop-under.left _ _ c.loop-under.invariant.goes _ _ _ c.in_ok-made.ensures;
+    }
 
 pub logical_on-returns : goal.logical_on-returns
 logical_on-returns t c =
-    goes_ends nodes nodes (connective c.args.level) joined_by (logical_of (readers c.args.inside c.args.depth) (c.args.level - 1)) (Steps-connective c.args.level) ((shrinks_nested c.args.inside c.args.depth).logical (c.args.level - 1)) _ _ _ _ _ c.loop-connective.invariant.goes c.in_default.ensures
+    let N = readers c.args.inside c.args.depth in
+    levels_end (joined_at N) (logical_on N) (joined_up N) c.args.level c.loop-under.under (omega arith) c.args.self.now c.loop-under.self c.loop-under.left _ _ c.loop-under.invariant.goes
 
 pub part-returns : goal.part-returns
 part-returns t c =

@@ -21,41 +21,42 @@ use Rattle.rr_parser.specs.Grammar.Classes.{member_row}
 use Rattle.rr_parser.specs.Reading.Classes.{class_member_of, methods_of}
 use Rattle.rr_parser.specs.Reading.{readers}
 use Rattle.rr_parser.specs.Meets.{place, nodes, pairs, lists, givens, reaches}
+use Rattle.rr_parser.proofs.Levels.{levels, infixed_at, infixed_up, joined_at, joined_up}
 use Rattle.rr_parser.proofs.Making.{Goes}
 use Rattle.rr_parser.proofs.parser.Parser.+parser.Given as goal
 
 abbrev pub decreases-part : goal.decreases-part
-decreases-part l = 128 * l.depth + cond l.inside 0 64 + 0
+decreases-part l = 256 * l.depth + cond l.inside 0 128 + 0
 
 abbrev pub decreases-inner_arguments : goal.decreases-inner_arguments
-decreases-inner_arguments l = 128 * l.depth + cond l.inside 0 64 + 0
+decreases-inner_arguments l = 256 * l.depth + cond l.inside 0 128 + 0
 
 abbrev pub decreases-right_side : goal.decreases-right_side
-decreases-right_side l = 128 * l.depth + cond l.inside 0 64 + 0
+decreases-right_side l = 256 * l.depth + cond l.inside 0 128 + 0
 
 abbrev pub decreases-right_sides : goal.decreases-right_sides
-decreases-right_sides l = 128 * l.depth + cond l.inside 0 64 + 0
+decreases-right_sides l = 256 * l.depth + cond l.inside 0 128 + 0
 
 abbrev pub decreases-rights : goal.decreases-rights
-decreases-rights l = 128 * l.depth + cond l.inside 0 64 + 42
+decreases-rights l = 256 * l.depth + cond l.inside 0 128 + 84
 
 abbrev pub decreases-behind_receiver : goal.decreases-behind_receiver
-decreases-behind_receiver l = 128 * l.depth + cond l.inside 0 64 + 41
+decreases-behind_receiver l = 256 * l.depth + cond l.inside 0 128 + 82
 
 abbrev pub decreases-right : goal.decreases-right
-decreases-right l = 128 * l.depth + cond l.inside 0 64 + 32
+decreases-right l = 256 * l.depth + cond l.inside 0 128 + 64
 
 abbrev pub decreases-arguments_from : goal.decreases-arguments_from
-decreases-arguments_from l = 128 * l.depth + cond l.inside 0 64 + 31
+decreases-arguments_from l = 256 * l.depth + cond l.inside 0 128 + 62
 
 abbrev pub decreases-targeted_spot : goal.decreases-targeted_spot
-decreases-targeted_spot l = 128 * l.depth + cond l.inside 0 64 + 7
+decreases-targeted_spot l = 256 * l.depth + cond l.inside 0 128 + 14
 
 abbrev pub decreases-targeted : goal.decreases-targeted
-decreases-targeted l = 128 * l.depth + cond l.inside 0 64 + 8
+decreases-targeted l = 256 * l.depth + cond l.inside 0 128 + 16
 
 abbrev pub decreases-targets : goal.decreases-targets
-decreases-targets l = 128 * l.depth + cond l.inside 0 64 + 9
+decreases-targets l = 256 * l.depth + cond l.inside 0 128 + 18
 
 abbrev pub invariant-targets-loop-after : goal.invariant-targets-loop-after
 invariant-targets-loop-after l =
@@ -66,22 +67,22 @@ abbrev pub decreases-targets-loop-after : goal.decreases-targets-loop-after
 decreases-targets-loop-after l = length l.rest
 
 abbrev pub decreases-several_on : goal.decreases-several_on
-decreases-several_on l = 128 * l.depth + cond l.inside 0 64 + 10
+decreases-several_on l = 256 * l.depth + cond l.inside 0 128 + 20
 
 abbrev pub decreases-several : goal.decreases-several
-decreases-several l = 128 * l.depth + cond l.inside 0 64 + 11
+decreases-several l = 256 * l.depth + cond l.inside 0 128 + 22
 
 abbrev pub decreases-connected : goal.decreases-connected
-decreases-connected l = 128 * l.depth + cond l.inside 0 64 + 48
+decreases-connected l = 256 * l.depth + cond l.inside 0 128 + 96
 
 abbrev pub decreases-expression_on : goal.decreases-expression_on
-decreases-expression_on l = 128 * l.depth + cond l.inside 0 64 + 49
+decreases-expression_on l = 256 * l.depth + cond l.inside 0 128 + 98
 
 abbrev pub decreases-spotted : goal.decreases-spotted
-decreases-spotted l = 128 * l.depth + cond l.inside 0 64 + 50
+decreases-spotted l = 256 * l.depth + cond l.inside 0 128 + 100
 
 abbrev pub decreases-simple : goal.decreases-simple
-decreases-simple l = 128 * l.depth + cond l.inside 0 64 + 51
+decreases-simple l = 256 * l.depth + cond l.inside 0 128 + 102
 
 abbrev pub invariant-arguments_from-loop-after : goal.invariant-arguments_from-loop-after
 invariant-arguments_from-loop-after l =
@@ -92,112 +93,112 @@ abbrev pub decreases-arguments_from-loop-after : goal.decreases-arguments_from-l
 decreases-arguments_from-loop-after l = length l.rest
 
 abbrev pub decreases-name : goal.decreases-name
-decreases-name l = 128 * l.depth + cond l.inside 0 64 + 3
+decreases-name l = 256 * l.depth + cond l.inside 0 128 + 6
 
 abbrev pub decreases-alternatives : goal.decreases-alternatives
-decreases-alternatives l = 128 * l.depth + cond l.inside 0 64 + 3
+decreases-alternatives l = 256 * l.depth + cond l.inside 0 128 + 6
 
 abbrev pub decreases-primary : goal.decreases-primary
-decreases-primary l = 128 * l.depth + cond l.inside 0 64 + 4
+decreases-primary l = 256 * l.depth + cond l.inside 0 128 + 8
 
 abbrev pub decreases-bang : goal.decreases-bang
-decreases-bang l = 128 * l.depth + cond l.inside 0 64 + 7
+decreases-bang l = 256 * l.depth + cond l.inside 0 128 + 14
 
 abbrev pub decreases-minus : goal.decreases-minus
-decreases-minus l = 128 * l.depth + cond l.inside 0 64 + 8
+decreases-minus l = 256 * l.depth + cond l.inside 0 128 + 16
 
 abbrev pub decreases-equality_on : goal.decreases-equality_on
-decreases-equality_on l = 128 * l.depth + cond l.inside 0 64 + 18
+decreases-equality_on l = 256 * l.depth + cond l.inside 0 128 + 36
 
 abbrev pub decreases-ternary_on : goal.decreases-ternary_on
-decreases-ternary_on l = 128 * l.depth + cond l.inside 0 64 + 24
+decreases-ternary_on l = 256 * l.depth + cond l.inside 0 128 + 48
 
 abbrev pub decreases-ternary : goal.decreases-ternary
-decreases-ternary l = 128 * l.depth + cond l.inside 0 64 + 25
+decreases-ternary l = 256 * l.depth + cond l.inside 0 128 + 50
 
 abbrev pub decreases-commanded : goal.decreases-commanded
-decreases-commanded l = 128 * l.depth + cond l.inside 0 64 + 38
+decreases-commanded l = 256 * l.depth + cond l.inside 0 128 + 76
 
 abbrev pub decreases-bracketed : goal.decreases-bracketed
-decreases-bracketed l = 128 * l.depth + cond l.inside 0 64 + 38
+decreases-bracketed l = 256 * l.depth + cond l.inside 0 128 + 76
 
 abbrev pub decreases-phrase : goal.decreases-phrase
-decreases-phrase l = 128 * l.depth + cond l.inside 0 64 + 44
+decreases-phrase l = 256 * l.depth + cond l.inside 0 128 + 88
 
 abbrev pub decreases-command : goal.decreases-command
-decreases-command l = 128 * l.depth + cond l.inside 0 64 + 44
+decreases-command l = 256 * l.depth + cond l.inside 0 128 + 88
 
 abbrev pub decreases-negation : goal.decreases-negation
-decreases-negation l = 128 * l.depth + cond l.inside 0 64 + 47
+decreases-negation l = 256 * l.depth + cond l.inside 0 128 + 94
 
 abbrev pub decreases-expression : goal.decreases-expression
-decreases-expression l = 128 * l.depth + cond l.inside 0 64 + 49
+decreases-expression l = 256 * l.depth + cond l.inside 0 128 + 98
 
 abbrev pub decreases-statement : goal.decreases-statement
-decreases-statement l = 128 * l.depth + cond l.inside 0 64 + 52
+decreases-statement l = 256 * l.depth + cond l.inside 0 128 + 104
 
 abbrev pub decreases-rows : goal.decreases-rows
-decreases-rows l = 128 * l.depth + cond l.inside 0 64 + 53
+decreases-rows l = 256 * l.depth + cond l.inside 0 128 + 106
 
 abbrev pub decreases-statements : goal.decreases-statements
-decreases-statements l = 128 * l.depth + cond l.inside 0 64 + 54
+decreases-statements l = 256 * l.depth + cond l.inside 0 128 + 108
 
 abbrev pub decreases-group : goal.decreases-group
-decreases-group l = 128 * l.depth + cond l.inside 0 64 + 55
+decreases-group l = 256 * l.depth + cond l.inside 0 128 + 110
 
 abbrev pub decreases-otherwise : goal.decreases-otherwise
-decreases-otherwise l = 128 * l.depth + cond l.inside 0 64 + 55
+decreases-otherwise l = 256 * l.depth + cond l.inside 0 128 + 110
 
 abbrev pub decreases-branch : goal.decreases-branch
-decreases-branch l = 128 * l.depth + cond l.inside 0 64 + 55
+decreases-branch l = 256 * l.depth + cond l.inside 0 128 + 110
 
 abbrev pub decreases-repeat : goal.decreases-repeat
-decreases-repeat l = 128 * l.depth + cond l.inside 0 64 + 55
+decreases-repeat l = 256 * l.depth + cond l.inside 0 128 + 110
 
 abbrev pub decreases-branches : goal.decreases-branches
-decreases-branches l = 128 * l.depth + cond l.inside 0 64 + 56
+decreases-branches l = 256 * l.depth + cond l.inside 0 128 + 112
 
 abbrev pub decreases-choice : goal.decreases-choice
-decreases-choice l = 128 * l.depth + cond l.inside 0 64 + 57
+decreases-choice l = 256 * l.depth + cond l.inside 0 128 + 114
 
 abbrev pub decreases-unless : goal.decreases-unless
-decreases-unless l = 128 * l.depth + cond l.inside 0 64 + 57
+decreases-unless l = 256 * l.depth + cond l.inside 0 128 + 114
 
 abbrev pub decreases-part_within : goal.decreases-part_within
-decreases-part_within l = 128 * l.depth + cond l.inside 0 64 + 62
+decreases-part_within l = 256 * l.depth + cond l.inside 0 128 + 124
 
 abbrev pub decreases-binary_on : goal.decreases-binary_on
-decreases-binary_on l = 128 * l.depth + cond l.inside 0 64 + (2 * l.level + 8)
+decreases-binary_on l = 256 * l.depth + cond l.inside 0 128 + (4 * l.level + 16)
 
 abbrev pub decreases-binary : goal.decreases-binary
-decreases-binary l = 128 * l.depth + cond l.inside 0 64 + (2 * l.level + 9)
+decreases-binary l = 256 * l.depth + cond l.inside 0 128 + (4 * l.level + 18)
 
 abbrev pub decreases-logical_on : goal.decreases-logical_on
-decreases-logical_on l = 128 * l.depth + cond l.inside 0 64 + (2 * l.level + 19)
+decreases-logical_on l = 256 * l.depth + cond l.inside 0 128 + (4 * l.level + 38)
 
 abbrev pub decreases-logical : goal.decreases-logical
-decreases-logical l = 128 * l.depth + cond l.inside 0 64 + (2 * l.level + 20)
+decreases-logical l = 256 * l.depth + cond l.inside 0 128 + (4 * l.level + 40)
 
 abbrev pub decreases-operand : goal.decreases-operand
-decreases-operand l = 128 * l.depth + cond l.inside 0 64 + cond l.commands 45 29
+decreases-operand l = 256 * l.depth + cond l.inside 0 128 + cond l.commands 90 58
 
 abbrev pub decreases-value : goal.decreases-value
-decreases-value l = 128 * l.depth + cond l.inside 0 64 + cond l.commands 46 30
+decreases-value l = 256 * l.depth + cond l.inside 0 128 + cond l.commands 92 60
 
 abbrev pub decreases-headed : goal.decreases-headed
-decreases-headed l = 128 * l.depth + cond l.inside 0 64 + 40
+decreases-headed l = 256 * l.depth + cond l.inside 0 128 + 80
 
 abbrev pub decreases-arguments : goal.decreases-arguments
-decreases-arguments l = 128 * l.depth + cond l.inside 0 64 + 39
+decreases-arguments l = 256 * l.depth + cond l.inside 0 128 + 78
 
 abbrev pub decreases-condition : goal.decreases-condition
-decreases-condition l = 128 * l.depth + cond l.inside 0 64 + 52
+decreases-condition l = 256 * l.depth + cond l.inside 0 128 + 104
 
 abbrev pub decreases-form : goal.decreases-form
-decreases-form l = 128 * l.depth + cond l.inside 0 64 + 61
+decreases-form l = 256 * l.depth + cond l.inside 0 128 + 122
 
 abbrev pub decreases-call_arguments : goal.decreases-call_arguments
-decreases-call_arguments l = 128 * l.depth + cond l.inside 0 64 + 39
+decreases-call_arguments l = 256 * l.depth + cond l.inside 0 128 + 78
 
 abbrev pub invariant-members_on-loop-after : goal.invariant-members_on-loop-after
 invariant-members_on-loop-after l =
@@ -208,19 +209,19 @@ abbrev pub decreases-members_on-loop-after : goal.decreases-members_on-loop-afte
 decreases-members_on-loop-after l = length l.rest
 
 abbrev pub decreases-members_on : goal.decreases-members_on
-decreases-members_on l = 128 * l.depth + cond l.inside 0 64 + 34
+decreases-members_on l = 256 * l.depth + cond l.inside 0 128 + 68
 
 abbrev pub decreases-first_on : goal.decreases-first_on
-decreases-first_on l = 128 * l.depth + cond l.inside 0 64 + 32
+decreases-first_on l = 256 * l.depth + cond l.inside 0 128 + 64
 
 abbrev pub decreases-listed_on : goal.decreases-listed_on
-decreases-listed_on l = 128 * l.depth + cond l.inside 0 64 + 35
+decreases-listed_on l = 256 * l.depth + cond l.inside 0 128 + 70
 
 abbrev pub decreases-commanded_on : goal.decreases-commanded_on
-decreases-commanded_on l = 128 * l.depth + cond l.inside 0 64 + 36
+decreases-commanded_on l = 256 * l.depth + cond l.inside 0 128 + 72
 
 abbrev pub decreases-inner_order : goal.decreases-inner_order
-decreases-inner_order l = 128 * l.depth + cond l.inside 0 64 + 0
+decreases-inner_order l = 256 * l.depth + cond l.inside 0 128 + 0
 
 abbrev pub invariant-postfix-loop-tail : goal.invariant-postfix-loop-tail
 invariant-postfix-loop-tail l =
@@ -262,84 +263,112 @@ invariant-connected-loop-connective l =
 abbrev pub decreases-connected-loop-connective : goal.decreases-connected-loop-connective
 decreases-connected-loop-connective l = length l.rest
 
-abbrev pub invariant-binary_on-loop-operator : goal.invariant-binary_on-loop-operator
-invariant-binary_on-loop-operator l = record {
+abbrev pub invariant-binary_on-loop-under : goal.invariant-binary_on-loop-under
+invariant-binary_on-loop-under l = record {
+  at_most : l.level ≤ 4;
+  under : l.under ≤ l.level;
+  goes : Goes nodes l.fn.self l.self l.left (binary_on (readers l.inside l.depth) l.level (tree_at l.fn.self.nodes.items l.fn.first) (place l.fn.self l.fn.words))
+      (levels (infixed_at (readers l.inside l.depth)) (binary_on (readers l.inside l.depth)) (infixed_up (readers l.inside l.depth)) (l.level - l.under) l.under (tree_at l.self.nodes.items l.left) (place l.self l.rest));
+}
+
+abbrev pub decreases-binary_on-loop-under : goal.decreases-binary_on-loop-under
+decreases-binary_on-loop-under l = l.level - l.under
+
+abbrev pub invariant-infixed_on-loop-operator : goal.invariant-infixed_on-loop-operator
+invariant-infixed_on-loop-operator l = record {
   above : 0 < l.level;
   at_most : l.level ≤ 4;
-  goes : Goes nodes l.fn.self l.self l.left (binary_on (readers l.inside l.depth) l.level (tree_at l.fn.self.nodes.items l.fn.left) (place l.fn.self l.fn.words))
+  goes : Goes nodes l.fn.self l.self l.left (chain_on (operator l.level) infixed (binary_of (readers l.inside l.depth) (l.level - 1)) (tree_at l.fn.self.nodes.items l.fn.first) (place l.fn.self l.fn.words))
       (chain_on (operator l.level) infixed (binary_of (readers l.inside l.depth) (l.level - 1)) (tree_at l.self.nodes.items l.left) (place l.self l.rest));
 }
 
-abbrev pub decreases-binary_on-loop-operator : goal.decreases-binary_on-loop-operator
-decreases-binary_on-loop-operator l = length l.rest
+abbrev pub decreases-infixed_on-loop-operator : goal.decreases-infixed_on-loop-operator
+decreases-infixed_on-loop-operator l = length l.rest
 
-abbrev pub invariant-logical_on-loop-connective : goal.invariant-logical_on-loop-connective
-invariant-logical_on-loop-connective l = record {
+abbrev pub decreases-infixed_on : goal.decreases-infixed_on
+decreases-infixed_on l = 256 * l.depth + cond l.inside 0 128 + (4 * l.level + 15)
+
+abbrev pub invariant-logical_on-loop-under : goal.invariant-logical_on-loop-under
+invariant-logical_on-loop-under l = record {
+  at_most : l.level ≤ 2;
+  under : l.under ≤ l.level;
+  goes : Goes nodes l.fn.self l.self l.left (logical_on (readers l.inside l.depth) l.level (tree_at l.fn.self.nodes.items l.fn.left) (place l.fn.self l.fn.words))
+      (levels (joined_at (readers l.inside l.depth)) (logical_on (readers l.inside l.depth)) (joined_up (readers l.inside l.depth)) (l.level - l.under) l.under (tree_at l.self.nodes.items l.left) (place l.self l.rest));
+}
+
+abbrev pub decreases-logical_on-loop-under : goal.decreases-logical_on-loop-under
+decreases-logical_on-loop-under l = l.level - l.under
+
+abbrev pub invariant-joined_on-loop-connective : goal.invariant-joined_on-loop-connective
+invariant-joined_on-loop-connective l = record {
   above : 0 < l.level;
   at_most : l.level ≤ 2;
-  goes : Goes nodes l.fn.self l.self l.left (logical_on (readers l.inside l.depth) l.level (tree_at l.fn.self.nodes.items l.fn.left) (place l.fn.self l.fn.words))
+  goes : Goes nodes l.fn.self l.self l.left (chain_on (connective l.level) joined_by (logical_of (readers l.inside l.depth) (l.level - 1)) (tree_at l.fn.self.nodes.items l.fn.first) (place l.fn.self l.fn.words))
       (chain_on (connective l.level) joined_by (logical_of (readers l.inside l.depth) (l.level - 1)) (tree_at l.self.nodes.items l.left) (place l.self l.rest));
 }
 
-abbrev pub decreases-logical_on-loop-connective : goal.decreases-logical_on-loop-connective
-decreases-logical_on-loop-connective l = length l.rest
+abbrev pub decreases-joined_on-loop-connective : goal.decreases-joined_on-loop-connective
+decreases-joined_on-loop-connective l = length l.rest
+
+abbrev pub decreases-joined_on : goal.decreases-joined_on
+decreases-joined_on l = 256 * l.depth + cond l.inside 0 128 + (4 * l.level + 37)
 
 abbrev pub decreases-tailed : goal.decreases-tailed
-decreases-tailed l = 128 * l.depth + cond l.inside 0 64 + 5
+decreases-tailed l = 256 * l.depth + cond l.inside 0 128 + 10
 
 abbrev pub decreases-postfix : goal.decreases-postfix
-decreases-postfix l = 128 * l.depth + cond l.inside 0 64 + 6
+decreases-postfix l = 256 * l.depth + cond l.inside 0 128 + 12
 
 abbrev pub decreases-member : goal.decreases-member
-decreases-member l = 128 * l.depth + cond l.inside 0 64 + 32
+decreases-member l = 256 * l.depth + cond l.inside 0 128 + 64
 
 abbrev pub decreases-members : goal.decreases-members
-decreases-members l = 128 * l.depth + cond l.inside 0 64 + 36
+decreases-members l = 256 * l.depth + cond l.inside 0 128 + 72
 
 abbrev pub decreases-array : goal.decreases-array
-decreases-array l = 128 * l.depth + cond l.inside 0 64 + 39
+decreases-array l = 256 * l.depth + cond l.inside 0 128 + 78
 
 abbrev pub decreases-hash : goal.decreases-hash
-decreases-hash l = 128 * l.depth + cond l.inside 0 64 + 39
+decreases-hash l = 256 * l.depth + cond l.inside 0 128 + 78
 
 abbrev pub decreases-index : goal.decreases-index
-decreases-index l = 128 * l.depth + cond l.inside 0 64 + 39
+decreases-index l = 256 * l.depth + cond l.inside 0 128 + 78
 
 abbrev pub decreases-block_behind : goal.decreases-block_behind
-decreases-block_behind l = 128 * l.depth + cond l.inside 0 64 + 1
+decreases-block_behind l = 256 * l.depth + cond l.inside 0 128 + 2
 
 abbrev pub decreases-blocked : goal.decreases-blocked
-decreases-blocked l = 128 * l.depth + cond l.inside 0 64 + 2
+decreases-blocked l = 256 * l.depth + cond l.inside 0 128 + 4
 
 abbrev pub decreases-block : goal.decreases-block
-decreases-block l = 128 * l.depth + cond l.inside 0 64 + 60
+decreases-block l = 256 * l.depth + cond l.inside 0 128 + 120
 
 abbrev pub decreases-looped : goal.decreases-looped
-decreases-looped l = 128 * l.depth + cond l.inside 0 64 + 56
+decreases-looped l = 256 * l.depth + cond l.inside 0 128 + 112
 
 abbrev pub decreases-passing : goal.decreases-passing
-decreases-passing l = 128 * l.depth + cond l.inside 0 64 + 3
+decreases-passing l = 256 * l.depth + cond l.inside 0 128 + 6
 
 abbrev pub decreases-definition : goal.decreases-definition
-decreases-definition l = 128 * l.depth + cond l.inside 0 64 + 60
+decreases-definition l = 256 * l.depth + cond l.inside 0 128 + 120
 
 abbrev pub decreases-clause : goal.decreases-clause
-decreases-clause l = 128 * l.depth + cond l.inside 0 64 + 55
+decreases-clause l = 256 * l.depth + cond l.inside 0 128 + 110
 
 abbrev pub decreases-clauses : goal.decreases-clauses
-decreases-clauses l = 128 * l.depth + cond l.inside 0 64 + 56
+decreases-clauses l = 256 * l.depth + cond l.inside 0 128 + 112
 
 abbrev pub decreases-rescued : goal.decreases-rescued
-decreases-rescued l = 128 * l.depth + cond l.inside 0 64 + 57
+decreases-rescued l = 256 * l.depth + cond l.inside 0 128 + 114
 
 abbrev pub decreases-body : goal.decreases-body
-decreases-body l = 128 * l.depth + cond l.inside 0 64 + 58
+decreases-body l = 256 * l.depth + cond l.inside 0 128 + 116
 
 abbrev pub decreases-begun : goal.decreases-begun
-decreases-begun l = 128 * l.depth + cond l.inside 0 64 + 59
+decreases-begun l = 256 * l.depth + cond l.inside 0 128 + 118
 
 abbrev pub decreases-held : goal.decreases-held
-decreases-held l = 128 * l.depth + cond l.inside 0 64 + 59
+decreases-held l = 256 * l.depth + cond l.inside 0 128 + 118
 
 abbrev pub invariant-clauses-loop-after : goal.invariant-clauses-loop-after
 invariant-clauses-loop-after l =
@@ -350,10 +379,10 @@ abbrev pub decreases-clauses-loop-after : goal.decreases-clauses-loop-after
 decreases-clauses-loop-after l = length l.rest
 
 abbrev pub decreases-pieces : goal.decreases-pieces
-decreases-pieces l = 128 * l.depth + cond l.inside 0 64 + 55
+decreases-pieces l = 256 * l.depth + cond l.inside 0 128 + 110
 
 abbrev pub decreases-interpolation : goal.decreases-interpolation
-decreases-interpolation l = 128 * l.depth + cond l.inside 0 64 + 56
+decreases-interpolation l = 256 * l.depth + cond l.inside 0 128 + 112
 
 abbrev pub invariant-pieces-loop-middle : goal.invariant-pieces-loop-middle
 invariant-pieces-loop-middle l =
@@ -364,43 +393,43 @@ abbrev pub decreases-pieces-loop-middle : goal.decreases-pieces-loop-middle
 decreases-pieces-loop-middle l = length l.rest
 
 abbrev pub decreases-element : goal.decreases-element
-decreases-element l = 128 * l.depth + cond l.inside 0 64 + 3
+decreases-element l = 256 * l.depth + cond l.inside 0 128 + 6
 
 abbrev pub decreases-sent_arguments : goal.decreases-sent_arguments
-decreases-sent_arguments l = 128 * l.depth + cond l.inside 0 64 + 3
+decreases-sent_arguments l = 256 * l.depth + cond l.inside 0 128 + 6
 
 abbrev pub decreases-sent : goal.decreases-sent
-decreases-sent l = 128 * l.depth + cond l.inside 0 64 + 3
+decreases-sent l = 256 * l.depth + cond l.inside 0 128 + 6
 
 abbrev pub decreases-sent_call : goal.decreases-sent_call
-decreases-sent_call l = 128 * l.depth + cond l.inside 0 64 + 4
+decreases-sent_call l = 256 * l.depth + cond l.inside 0 128 + 8
 
 abbrev pub decreases-setting : goal.decreases-setting
-decreases-setting l = 128 * l.depth + cond l.inside 0 64 + 25
+decreases-setting l = 256 * l.depth + cond l.inside 0 128 + 50
 
 abbrev pub decreases-behind_operand : goal.decreases-behind_operand
-decreases-behind_operand l = 128 * l.depth + cond l.inside 0 64 + cond l.commands 42 27
+decreases-behind_operand l = 256 * l.depth + cond l.inside 0 128 + cond l.commands 84 54
 
 abbrev pub decreases-settled : goal.decreases-settled
-decreases-settled l = 128 * l.depth + cond l.inside 0 64 + cond l.commands 43 28
+decreases-settled l = 256 * l.depth + cond l.inside 0 128 + cond l.commands 86 56
 
 abbrev pub decreases-ordered : goal.decreases-ordered
-decreases-ordered l = 128 * l.depth + cond l.inside 0 64 + 40
+decreases-ordered l = 256 * l.depth + cond l.inside 0 128 + 80
 
 abbrev pub decreases-behind_order : goal.decreases-behind_order
-decreases-behind_order l = 128 * l.depth + cond l.inside 0 64 + 41
+decreases-behind_order l = 256 * l.depth + cond l.inside 0 128 + 82
 
 abbrev pub decreases-reached : goal.decreases-reached
-decreases-reached l = 128 * l.depth + cond l.inside 0 64 + 26
+decreases-reached l = 256 * l.depth + cond l.inside 0 128 + 52
 
 abbrev pub decreases-behind_key : goal.decreases-behind_key
-decreases-behind_key l = 128 * l.depth + cond l.inside 0 64 + 31
+decreases-behind_key l = 256 * l.depth + cond l.inside 0 128 + 62
 
 abbrev pub decreases-added : goal.decreases-added
-decreases-added l = 128 * l.depth + cond l.inside 0 64 + 33
+decreases-added l = 256 * l.depth + cond l.inside 0 128 + 66
 
 abbrev pub decreases-listed : goal.decreases-listed
-decreases-listed l = 128 * l.depth + cond l.inside 0 64 + 37
+decreases-listed l = 256 * l.depth + cond l.inside 0 128 + 74
 
 abbrev pub invariant-methods-loop-after : goal.invariant-methods-loop-after
 invariant-methods-loop-after l =
@@ -411,13 +440,13 @@ abbrev pub decreases-methods-loop-after : goal.decreases-methods-loop-after
 decreases-methods-loop-after l = length l.rest
 
 abbrev pub decreases-class_member : goal.decreases-class_member
-decreases-class_member l = 128 * l.depth + cond l.inside 0 64 + 57
+decreases-class_member l = 256 * l.depth + cond l.inside 0 128 + 114
 
 abbrev pub decreases-methods : goal.decreases-methods
-decreases-methods l = 128 * l.depth + cond l.inside 0 64 + 58
+decreases-methods l = 256 * l.depth + cond l.inside 0 128 + 116
 
 abbrev pub decreases-inner : goal.decreases-inner
-decreases-inner l = 128 * l.depth + cond l.inside 0 64 + 59
+decreases-inner l = 256 * l.depth + cond l.inside 0 128 + 118
 
 abbrev pub decreases-class_body : goal.decreases-class_body
-decreases-class_body l = 128 * l.depth + cond l.inside 0 64 + 60
+decreases-class_body l = 256 * l.depth + cond l.inside 0 128 + 120
