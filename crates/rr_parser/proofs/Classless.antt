@@ -1,5 +1,5 @@
 -- Where no class is among the words, they are taken as they are.
-use Rattle.std.proofs.Common.{◌≡◌, ℕ, Bool, true, false, if◌then◌else◌, List, [], ◌∷◌, ◌++◌, map, None, option_to_list, refl, sym, ap, ◌∙◌}
+use Rattle.std.proofs.Common.{◌≡◌, ℕ, Bool, true, false, ◌||◌, if◌then◌else◌, List, [], ◌∷◌, ◌++◌, map, None, option_to_list, refl, sym, ap, ◌∙◌}
 use Rattle.std.specs.Prelude.{nat_eq}
 use Rattle.std.specs.List.{list_any}
 use Rattle.rr_tree.specs.declared.class.Class.{Class}
@@ -9,6 +9,27 @@ use Rattle.rr_parser.specs.declared.word.WordKind.{WordKind}
 use Rattle.rr_parser.specs.declared.word.WordKind.TheVariants as kind
 use Rattle.rr_parser.specs.ClassWords.{has_class}
 use Rattle.rr_parser.specs.Opened.{Head, is_class, first_constant, classes_in, kind_by, word_by, with_classes, head_behind, heads_in, classes_by, opened_kind, opened_words, class_of_entry}
+
+-- one word more, with the word `class` among those before it or not
+found_behind : (k : WordKind) (ws more : Bool) (b : Bool) → more ≡ (ws || b) → (if is_class k then true else more) ≡ ((if is_class k then true else ws) || b)
+found_behind (kind.Class o) ws more b e = refl
+found_behind k ws more b e = by (is_class k)
+  where
+    by : (c : Bool) → (if c then true else more) ≡ ((if c then true else ws) || b)
+    by true = refl
+    by false = e
+
+found_last : (b : Bool) → (if b then true else false) ≡ (false || b)
+found_last true = refl
+found_last false = refl
+
+has_class-more : (ws : List Word) (w : Word) → has_class (ws ++ w ∷ []) ≡ (has_class ws || is_class w.kind)
+has_class-more [] w = found_last (is_class w.kind)
+has_class-more (v ∷ ws) w = found_behind v.kind (has_class ws) (has_class (ws ++ w ∷ [])) (is_class w.kind) (has_class-more ws w)
+
+pub class_found : (ws more : List Word) (k : WordKind) (blank : Bool) (b c : Bool) → b ≡ has_class ws → c ≡ (b || is_class k) → more ≡ ws ++ record { kind = k; blank = blank } ∷ [] → c ≡ has_class more
+class_found ws more k blank b c is step e =
+    step ∙ ap (λ (x : Bool). x || is_class k) is ∙ sym (has_class-more ws (record { kind = k; blank = blank })) ∙ ap has_class (sym e)
 
 no_class_first : (k : WordKind) (rest : Bool) → (if is_class k then true else rest) ≡ false → is_class k ≡ false
 no_class_first (kind.Class o) rest h = absurd cc

@@ -8,7 +8,7 @@ ghost use Rattle.rr_parser.specs.Grammar.Calls.{sign_of_kind};
 ghost use Rattle.rr_parser.specs.Words.{keyword_kind, op_kind, is_marked, accessor_named, name_kind, naming_of, token_name, with_name, number_of, with_symbol, with_symbol_of, with_text, word_kind, word_kind_of, words_of, symbols_of, texts_of, classes_of};
 
 use crate::method_names::{MethodName, is_def, method_name_at};
-use crate::opened::{Opened, told};
+use crate::opened::{Opened, is_class_among, told};
 use crate::refusal::Storage;
 use crate::word::{
     Access, Connective, Infix, Jump, NameKind, Naming, Opening, Operation, Passing, Sign, Word,
@@ -135,23 +135,6 @@ fn op_kind(op: Op) -> WordKind
     }
 }
 
-/// The word that a token is by its kind alone, if that tells it.
-#[inline(always)]
-fn plain_kind(kind: Kind) -> Option<WordKind>
-    ensures kind { IfSome result (λ k. (source : List ℕ) (names : List (List ℕ)) (texts : ℕ) (token : Token) → word_kind source names texts token kind ≡ k) }
-    ensures names { OnSome result ((source : List ℕ) (names : List (List ℕ)) (token : Token) → with_symbol source names token kind ≡ names) }
-    ensures texts { OnSome result ((source : List ℕ) (texts : List (List ℕ)) (token : Token) → with_text source texts token kind ≡ texts) }
-{
-    match kind {
-        Kind::Keyword(keyword) => Some(keyword_kind(keyword)),
-        Kind::Op(op) => Some(op_kind(op)),
-        Kind::LineEnd => Some(WordKind::Separator),
-        Kind::OpenBrace => Some(WordKind::OpenBrace),
-        Kind::CloseBrace => Some(WordKind::CloseBrace),
-        _ => None,
-    }
-}
-
 /// Whether a name ends with `?` or `!`.
 fn is_marked(name: &[u8]) -> bool
     ensures { result ≡ is_marked name.now }
@@ -238,9 +221,7 @@ impl<'s> Numbering<'s> {
         Ok(place)
     }
 
-    /// What a token is as a word. Each arm has room of its own for what it calls, which is cleared first: so it is no part of
-    /// the loop over all tokens.
-    #[inline(never)]
+    /// What a token is as a word.
     fn kind(&mut self, alloc: Global, source: &'s [u8], token: Token) -> Result<WordKind, Storage>
         ensures kind { IfOk result (λ k. k ≡ word_kind source.now (names_of self.old) (length (texts_held self.old)) token token.kind) }
         ensures names { OnOk result (names_of self.new ≡ with_symbol source.now (names_of self.old) token token.kind) }
@@ -301,10 +282,7 @@ impl<'s> Numbering<'s> {
     {
         match method {
             Some(method) => self.method_name(source, method),
-            None => match plain_kind(token.kind) {
-                Some(kind) => Ok(kind),
-                None => self.kind(alloc, source, token),
-            },
+            None => self.kind(alloc, source, token),
         }
     }
 }
@@ -333,10 +311,12 @@ pub(crate) fn read_words(alloc: Global, source: &[u8], tokens: &[Token]) -> Resu
     };
     let mut words = Vec::with_capacity(alloc, tokens.len())?;
     let mut behind_def = false;
+    let mut with_class = false;
     let mut left = tokens;
     while let Some((token, rest)) = left.split_first() {
         let method = method_name_at(behind_def, *token, rest);
         let kind = numbering.word_kind(alloc, source, *token, method)?;
+        with_class = is_class_among(with_class, kind);
         words.push_reserved(Word {
             kind,
             blank: token.blank,
@@ -346,7 +326,7 @@ pub(crate) fn read_words(alloc: Global, source: &[u8], tokens: &[Token]) -> Resu
     }
     let symbols = symbols(alloc, &numbering.names)?;
     let Numbering { names: _, texts } = numbering;
-    let Opened { words, classes } = told(alloc, &symbols, words)?;
+    let Opened { words, classes } = told(alloc, &symbols, words, with_class)?;
     Ok(Words {
         words,
         symbols,

@@ -1,6 +1,6 @@
 //! The classes of a program among its words: their names, and what their heads tell.
 
-ghost use Rattle.std.specs.Prelude.{◌≡◌, ℕ, List, ◌++◌, [], nat_eq, map, option_map, IfOk, OnOk};
+ghost use Rattle.std.specs.Prelude.{◌≡◌, ℕ, List, ◌||◌, ◌++◌, [], nat_eq, map, option_map, IfOk, OnOk};
 ghost use Rattle.std.specs.List.{list_any};
 ghost use Rattle.std.specs.Map.{keys_of, lookup};
 ghost use Rattle.indexmap.specs.IndexSet.{contains};
@@ -49,18 +49,11 @@ fn is_class(kind: WordKind) -> bool
     matches!(kind, WordKind::Class(_))
 }
 
-/// Whether the word `class` stands among the words.
-fn has_class(words: &[Word]) -> bool
-    ensures { result ≡ has_class words.now }
+/// Whether the word `class` stands among words, the last of which is of this kind, where it does among those before or not.
+pub(crate) fn is_class_among(before: bool, kind: WordKind) -> bool
+    ensures { result ≡ (before || is_class kind) }
 {
-    let mut left = words;
-    while let Some((word, rest)) = left.split_first() {
-        if is_class(word.kind) {
-            return true;
-        }
-        left = rest;
-    }
-    false
+    before || is_class(kind)
 }
 
 fn note(names: &mut IndexSet<u32>, number: Option<u32>) -> Result<(), Storage>
@@ -323,11 +316,17 @@ fn open(alloc: Global, symbols: &[Vec<u8>], words: &[Word]) -> Result<Opened, St
 
 /// The words, where the names of the program's classes are told from other constants, and each `class` is told its
 /// superclass; and the classes of the program. Where no class is among the words, they are taken as they are.
-pub(crate) fn told(alloc: Global, symbols: &[Vec<u8>], words: Vec<Word>) -> Result<Opened, Storage>
+pub(crate) fn told(
+    alloc: Global,
+    symbols: &[Vec<u8>],
+    words: Vec<Word>,
+    with_class: bool,
+) -> Result<Opened, Storage>
+    requires { with_class ≡ has_class words.items }
     ensures words { IfOk result (λ o. o.words.items ≡ opened_words (map (λ s. s.items) symbols.now) [] (with_classes words.items)) }
     ensures classes { IfOk result (λ o. o.classes.items ≡ map class_of_entry (classes_by (map (λ s. s.items) symbols.now) (heads_in (with_classes words.items)))) }
 {
-    if !has_class(&words) {
+    if !with_class {
         return Ok(Opened {
             words,
             classes: Vec::new(alloc),
