@@ -1,5 +1,5 @@
 -- The names of the program's classes among its words.
-use Rattle.std.proofs.Common.{◌≡◌, ℕ, zero, suc, ◌+◌, ◌<◌, ◌≤◌, Bool, true, false, not, cond, ◌||◌, if◌then◌else◌, List, [], ◌∷◌, ◌++◌, length, take, get_or, set, map, filter, Option, Some, None, option_map, option_to_list, refl, sym, ap, ◌∙◌, arith, length-append}
+use Rattle.std.proofs.Common.{◌≡◌, ℕ, zero, suc, ◌+◌, ◌<◌, ◌≤◌, Bool, true, false, not, cond, ◌||◌, if◌then◌else◌, List, [], ◌∷◌, ◌++◌, length, take, drop, get_or, set, map, filter, Option, Some, None, option_map, option_to_list, refl, sym, ap, ◌∙◌, arith, length-append}
 use Rattle.std.specs.Prelude.{nat_eq, slice_get, Vec}
 use Rattle.std.specs.Map.{keys_of, lookup}
 use Rattle.std.proofs.lemmas.Bool.{eqb-true, cond-true, cond-false}
@@ -234,12 +234,77 @@ opening_more own names same cs more w ws l told new words k here adds is f O =
           ∙ O.opened;
     }
 
+-- the first word behind those that were told
+behind_told : (told ws : List Word) (w d : Word) → get_or (told ++ w ∷ ws) (length told) d ≡ w
+behind_told [] ws w d = refl
+behind_told (t ∷ told) ws w d = behind_told told ws w d
+
+set_told : (told ws : List Word) (w y : Word) → set (told ++ w ∷ ws) (length told) y ≡ told ++ y ∷ ws
+set_told [] ws w y = refl
+set_told (t ∷ told) ws w y = ap (λ (l : List Word). t ∷ l) (set_told told ws w y)
+
+drop_told : (told ws : List Word) (w : Word) → drop (suc (length told)) (told ++ w ∷ ws) ≡ ws
+drop_told [] ws w = refl
+drop_told (t ∷ told) ws w = drop_told told ws w
+
+-- The same among the words themselves, of which so many were told.
+pub record IsOpeningIn (names : List (List ℕ)) (cs : Earlier) (i : ℕ) (now words : List Word) : Type 0 where
+  pub told : List Word
+  pub left : List Word
+  pub here : now ≡ told ++ left
+  pub count : length told ≡ i
+  pub opening : IsOpening names cs told left words
+
+pub opening_begin : (names : List (List ℕ)) (cs : Earlier) (words : List Word) → cs ≡ [] → IsOpeningIn names cs 0 words words
+opening_begin names cs words e = record { told = []; left = words; here = refl; count = refl; opening = opening_first names cs [] words e refl }
+
+pub opening_on : (own names : List (Vec ℕ Global)) → own ≡ names → (cs more : Earlier) (i : ℕ) (now words behind : List Word) (d : Word) (k : WordKind) → i < length now → behind ≡ drop (i + 1) now
+    → ((hs : List Head) → cs ≡ classes_by (texts own) hs → more ≡ classes_by (texts own) (hs ++ head_behind (get_or now i d).kind behind))
+    → ((hs : List Head) → cs ≡ classes_by (texts own) hs → k ≡ opened_kind (texts own) hs (get_or now i d).kind behind)
+    → IsOpeningIn (texts names) cs i now words → IsOpeningIn (texts names) more (i + 1) (set now i (record { kind = k; blank = (get_or now i d).blank })) words
+opening_on own names same cs more i now words behind d k lt e adds is O = by O.told O.left O.here O.count O.opening
+  where
+    by : (told left : List Word) → now ≡ told ++ left → length told ≡ i → IsOpening (texts names) cs told left words → IsOpeningIn (texts names) more (i + 1) (set now i (record { kind = k; blank = (get_or now i d).blank })) words
+    by told [] here count P = let never : ⊥ = omega (arith, lt, count, ap length here, length-append told []) in absurd never
+    by told (w ∷ ws) here count P =
+        let y : Word = record { kind = k; blank = w.blank } in
+        let up : i + 1 ≡ suc (length told) = omega (arith, count) in
+        let first : get_or now i d ≡ w = ap (λ (l : List Word). get_or l i d) here ∙ ap (λ (n : ℕ). get_or (told ++ w ∷ ws) n d) (sym count) ∙ behind_told told ws w d in
+        let rest : behind ≡ ws = e ∙ ap (drop (i + 1)) here ∙ ap (λ (n : ℕ). drop n (told ++ w ∷ ws)) up ∙ drop_told told ws w in
+        record {
+          told = told ++ y ∷ [];
+          left = ws;
+          here =
+              ap (λ (q : Word). set now i (record { kind = k; blank = q.blank })) first
+              ∙ ap (λ (l : List Word). set l i y) here
+              ∙ ap (λ (n : ℕ). set (told ++ w ∷ ws) n y) (sym count)
+              ∙ set_told told ws w y
+              ∙ sym (append_assoc told (y ∷ []) ws);
+          count = omega (arith, length-append told (y ∷ []), count);
+          opening =
+              opening_more own names same cs more w ws (w ∷ ws) told (told ++ y ∷ []) words k refl
+              (λ hs f. adds hs f ∙ ap (λ (q : Word). classes_by (texts own) (hs ++ head_behind q.kind behind)) first ∙ ap (λ (q : List Word). classes_by (texts own) (hs ++ head_behind w.kind q)) rest)
+              (λ hs f. is hs f ∙ ap (λ (q : Word). opened_kind (texts own) hs q.kind behind) first ∙ ap (λ (q : List Word). opened_kind (texts own) hs w.kind q) rest)
+              refl P;
+        }
+
+none_left : (told left now : List Word) (i : ℕ) → now ≡ told ++ left → length told ≡ i → length now ≤ i → length left ≡ 0
+none_left told left now i here count le = omega (arith, ap length here, length-append told left, count, le)
+
 pub opened_last : (names : List (List ℕ)) (cs : Earlier) (told left words : List Word) → length left ≡ 0 → IsOpening names cs told left words → told ≡ opened_words names [] words
 opened_last names cs told left words e O = sym (append-nil told) ∙ ap (λ (q : List Word). told ++ opened_words names O.heads q) (sym (none left e)) ∙ O.opened
 
 pub classes_last : (names : List (List ℕ)) (cs : Earlier) (told left words : List Word) → length left ≡ 0 → IsOpening names cs told left words → cs ≡ classes_by names (heads_in words)
 classes_last names cs told left words e O =
     O.are ∙ ap (classes_by names) (sym (append-nil O.heads) ∙ ap (λ (q : List Word). O.heads ++ heads_in q) (sym (none left e)) ∙ O.whole)
+
+pub opened_whole : (names : List (List ℕ)) (cs : Earlier) (i : ℕ) (now words : List Word) → length now ≤ i → IsOpeningIn names cs i now words → now ≡ opened_words names [] words
+opened_whole names cs i now words le O =
+    let e = none_left O.told O.left now i O.here O.count le in
+    O.here ∙ ap (λ (l : List Word). O.told ++ l) (none O.left e) ∙ append-nil O.told ∙ opened_last names cs O.told O.left words e O.opening
+
+pub classes_whole_in : (names : List (List ℕ)) (cs : Earlier) (i : ℕ) (now words : List Word) → length now ≤ i → IsOpeningIn names cs i now words → cs ≡ classes_by names (heads_in words)
+classes_whole_in names cs i now words le O = classes_last names cs O.told O.left words (none_left O.told O.left now i O.here O.count le) O.opening
 
 pub told_all : (source : List ℕ) (names held : List (List ℕ)) (def : Bool) (tokens l : List Token) (ws told : List Word) → length l ≡ 0 → ws ++ words_behind source names held def l ≡ words_behind source [] [] false tokens → told ≡ with_classes ws
     → told ≡ told_words source tokens

@@ -288,30 +288,22 @@ fn classes(alloc: Global, entries: &IndexMap<u32, ClassId>) -> Result<Vec<Class>
     Ok(classes)
 }
 
-/// The words, where each `class` is told its superclass, and the classes of the program.
-fn open(alloc: Global, symbols: &[Vec<u8>], words: &[Word]) -> Result<Opened, Storage>
-    ensures words { IfOk result (λ o. o.words.items ≡ opened_words (map (λ s. s.items) symbols.now) [] words.now) }
-    ensures classes { IfOk result (λ o. o.classes.items ≡ map class_of_entry (classes_by (map (λ s. s.items) symbols.now) (heads_in words.now))) }
+/// Tells each `class` among the words its superclass. The classes of the program.
+fn open(alloc: Global, symbols: &[Vec<u8>], words: &mut [Word]) -> Result<Vec<Class>, Storage>
+    ensures words { OnOk result (words.new ≡ opened_words (map (λ s. s.items) symbols.now) [] words.old) }
+    ensures classes { IfOk result (λ v. v.items ≡ map class_of_entry (classes_by (map (λ s. s.items) symbols.now) (heads_in words.old))) }
 {
     let mut openings = Openings {
         symbols,
         classes: IndexMap::new(alloc),
     };
-    let mut opened = Vec::with_capacity(alloc, words.len())?;
-    let mut left = words;
-    while let Some((word, rest)) = left.split_first() {
-        let kind = openings.kind(word.kind, rest)?;
-        opened.push(Word {
-            kind,
-            blank: word.blank,
-        })?;
-        left = rest;
+    let mut place = 0;
+    while place < words.len() {
+        let kind = openings.kind(words[place].kind, &words[place + 1..])?;
+        words[place].kind = kind;
+        place += 1;
     }
-    let classes = classes(alloc, &openings.classes)?;
-    Ok(Opened {
-        words: opened,
-        classes,
-    })
+    Ok(classes(alloc, &openings.classes)?)
 }
 
 /// The words, where the names of the program's classes are told from other constants, and each `class` is told its
@@ -334,5 +326,6 @@ pub(crate) fn told(
     }
     let mut words = words;
     with_classes(alloc, words.as_mut_slice())?;
-    open(alloc, symbols, &words)
+    let classes = open(alloc, symbols, words.as_mut_slice())?;
+    Ok(Opened { words, classes })
 }

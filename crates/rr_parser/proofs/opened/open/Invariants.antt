@@ -1,12 +1,13 @@
-use Rattle.std.proofs.Common.{◌≡◌, length, map}
-use Rattle.rr_parser.proofs.Openings.{IsOpening}
+use Rattle.std.proofs.Common.{◌≡◌, ◌-◌, length, map}
+use Rattle.rr_parser.proofs.Openings.{IsOpeningIn}
 use Rattle.rr_parser.proofs.opened.open.Given as goal
 
-abbrev pub invariant-loop-word : goal.invariant-loop-word
-invariant-loop-word l = record {
+abbrev pub invariant-loop-place : goal.invariant-loop-place
+invariant-loop-place l = record {
   symbols : l.openings.symbols.now ≡ l.symbols;
-  opening : IsOpening (map (λ s. s.items) l.symbols) l.openings.classes.entries l.opened.items l.left l.words;
+  long : length l.words ≡ length l.fn.words;
+  opening : IsOpeningIn (map (λ s. s.items) l.symbols) l.openings.classes.entries l.place l.words l.fn.words;
 }
 
-abbrev pub decreases-loop-word : goal.decreases-loop-word
-decreases-loop-word l = length l.left
+abbrev pub decreases-loop-place : goal.decreases-loop-place
+decreases-loop-place l = length l.words - l.place
