@@ -68,11 +68,13 @@ fn read_nodes(alloc: Global, words: &[Word], depth: u32) -> Result<Nodes, Refusa
     let root = parser.put_sequence(&statements)?;
     let Parser {
         alloc: _,
-        nodes,
+        mut nodes,
         known: _,
         spare: _,
         sites,
     } = parser;
+    // The table has grown by doubling.
+    nodes.shrink_to_fit();
     Ok(Nodes {
         nodes,
         root,

@@ -12,8 +12,8 @@ returns-in_err-outline c =
 
 pub returns : goal.returns
 returns c = record {
-  tree =
-      made_program c.args.depth c.args.words.now _ _ _ _ _ _ _ c.deref.ensures.value
+  tree = rw (c.shrink_to_fit.ensures.items)
+      (made_program c.args.depth c.args.words.now _ _ _ _ _ _ _ c.deref.ensures.value
       (ap (λ (ls : List Local). record { known = record { locals = ls; level = 0; count = 0; begun = 0; in_loop = false; in_method = false; takes_do = true }; rest = c.args.words.now }) c.new-2.ensures)
-      c.in_ok-outline.ensures (none_left _ c.if-not-is_empty.ensures) c.in_ok-root.ensures;
+      c.in_ok-outline.ensures (none_left _ c.if-not-is_empty.ensures) c.in_ok-root.ensures);
 }
