@@ -1,5 +1,5 @@
 -- An operand that stands alone: no operator goes on with it.
-use Rattle.std.proofs.Common.{◌≡◌, ℕ, zero, suc, ◌<◌, ◌≤◌, length, List, Option, Some, None, Ok, refl, ap, ◌∙◌, arith}
+use Rattle.std.proofs.Common.{◌≡◌, ℕ, zero, suc, ◌<◌, ◌≤◌, length, List, None, Ok, refl, ap, ◌∙◌, arith}
 use Rattle.rr_tree.specs.Tree.{Tree, tree_at}
 use Rattle.rr_tree.proofs.Growth.{Extends-refl}
 use Rattle.rr_parser.specs.declared.parser.Parser.{Parser}

@@ -1,11 +1,11 @@
 -- Operators and conditions level by level, from the tightest on.
-use Rattle.std.proofs.Common.{◌≡◌, ℕ, zero, suc, ◌+◌, ◌-◌, ◌<◌, ◌≤◌, length, List, Option, Some, None, Ok, Err, Result, refl, sym, ap, ◌∙◌, subst, arith}
+use Rattle.std.proofs.Common.{◌≡◌, ℕ, zero, suc, ◌+◌, ◌-◌, ◌<◌, ◌≤◌, length, List, None, Ok, Err, Result, refl, sym, ap, ◌∙◌, arith}
 use Rattle.rr_tree.specs.Tree.{Tree, tree_at}
 use Rattle.rr_tree.proofs.Growth.{Extends-refl, Extends-trans}
 use Rattle.rr_parser.specs.declared.parser.Parser.{Parser}
 use Rattle.rr_parser.specs.declared.refusal.Refusal.{Refusal}
 use Rattle.rr_parser.specs.declared.word.Word.{Word}
-use Rattle.rr_parser.specs.Places.{Place, placed, at}
+use Rattle.rr_parser.specs.Places.{Place, placed}
 use Rattle.rr_parser.specs.Grammar.Operators.{operator, infixed, connective, joined_by}
 use Rattle.rr_parser.specs.Reading.Answers.{◌>>=◌, Answer, Parse, Refused, chain_on}
 use Rattle.rr_parser.specs.Reading.Nesting.{Readers}
