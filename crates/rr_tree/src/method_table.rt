@@ -91,6 +91,7 @@ fn put_entry(
 }
 
 /// The definitions of a name.
+#[inline(always)]
 fn list_of(lists: &[Vec<Entry>], name: Sym) -> &[Entry]
     ensures { result.now ≡ slice_index_or (map (λ l. l.items) lists.now) name.0 [] }
 {
@@ -255,6 +256,7 @@ impl MethodTable {
     }
 
     /// The definitions of what is called so.
+    #[inline(always)]
     fn entries_under(&self, name: MethodName) -> &[Entry]
         ensures { result.now ≡ entries_under self.now name }
     {
@@ -265,6 +267,7 @@ impl MethodTable {
     }
 
     /// The class's own method: the node of its last definition of what is called so.
+    #[inline(always)]
     pub fn own(&self, program: &Program, class: ClassId, name: MethodName) -> Option<NodeId>
         requires { IsTableOf program.now self.now }
         ensures { option_map (tree_at program.now.nodes.items) result ≡ own_method program.now class.0 name }

@@ -31,6 +31,7 @@ pub struct Program {
 }
 
 impl Program {
+    #[inline(always)]
     fn entry(&self, id: NodeId) -> Node
         ensures { result ≡ slice_index_or self.now.nodes.items id Node.Nil }
     {
@@ -41,6 +42,7 @@ impl Program {
     }
 
     /// The node with a number; nil where there is none.
+    #[inline(always)]
     pub fn node(&self, id: NodeId) -> Node
         ensures node { result ≡ slice_index_or self.now.nodes.items id Node.Nil }
         // Its tree is made of its parts' trees.
