@@ -87,7 +87,7 @@ fn there_is_a_limit(rt: HostRuntime) -> Result<(), Fail> {
     frames.push(&[], None, TWO_OF_THREE, METHOD)?;
     let refused = frames.push(&[], None, TWO_OF_THREE, METHOD);
     assert!(rt; matches!(refused, Err(Fault::Limit(LimitKind::Frames))));
-    assert!(rt; !frames.push_usual(None, None, TWO_OF_THREE, METHOD));
+    assert!(rt; !frames.push_usual(&[], None, TWO_OF_THREE, METHOD));
     assert_eq!(rt; frames.len(), 2);
     Ok(())
 }
@@ -102,7 +102,7 @@ fn many_frames_and_large_ones(rt: HostRuntime) -> Result<(), Fail> {
     frames.push(&[Ref::Int(0)], None, large, METHOD)?;
     frames.pop();
     // What was taken before is there, so that a usual push takes nothing.
-    assert!(rt; frames.push_usual(Some(Ref::Int(1)), Some(Ref::Int(2)), TWO_OF_THREE, METHOD));
+    assert!(rt; frames.push_usual(&[Ref::Int(1)], Some(Ref::Int(2)), TWO_OF_THREE, METHOD));
     for k in 1..10_000 {
         frames.push(&[Ref::Int(k)], None, TWO_OF_THREE, METHOD)?;
     }

@@ -7,7 +7,7 @@ ghost use Rattle.rr_base.specs.declared.limits.LimitKind.{LimitKind};
 ghost use Rattle.rr_frames.specs.Frames.{no_frames, list_of, laid, read_at, write_at, read_last, write_last, left};
 
 use crate::activation::{Activation, Shape};
-use crate::slots::{add_within, append_within, cut_within, replace_at};
+use crate::slots::{append_within, cut_within, replace_at};
 use rr_base::{Fault, LimitKind};
 use rr_space::Ref;
 use std::alloc::Global;
@@ -168,17 +168,16 @@ impl Frames {
         Ok(())
     }
 
-    /// The same for at most two values, where it takes no memory: it answers whether it was done. Where it answers `false`,
-    /// nothing was done.
+    /// The same where it takes no memory: it answers whether it was done. Where it answers `false`, nothing was done.
     #[inline(always)]
     pub fn push_usual(
         &mut self,
-        first: Option<Ref>,
+        values: &[Ref],
         last: Option<Ref>,
         shape: Shape,
         activation: Activation,
     ) -> bool
-        ensures pushed { IsTrue result → self.new.frames ≡ self.old.frames ++ record { variables = laid shape.parameters shape.size (list_of first ++ list_of last); activation = activation } ∷ [] }
+        ensures pushed { IsTrue result → self.new.frames ≡ self.old.frames ++ record { variables = laid shape.parameters shape.size (values.now ++ list_of last); activation = activation } ∷ [] }
         ensures room { IsTrue result → length self.old.frames < self.old.limit }
         ensures limit { self.new.limit ≡ self.old.limit }
         ensures declined { IsFalse result → self.new ≡ self.old }
@@ -187,13 +186,13 @@ impl Frames {
         let size = shape.size as usize;
         if self.rows.len() >= self.limit
             || self.rows.len() >= self.rows.capacity()
-            || room < 2
+            || room <= values.len()
             || room < size
         {
             return false;
         }
         let base = self.slots.len();
-        add_within(&mut self.slots, first, last);
+        append_within(&mut self.slots, values, last);
         self.slots.truncate(base + shape.parameters as usize);
         cut_within(&mut self.slots, base + size);
         self.rows.push_reserved(Row {

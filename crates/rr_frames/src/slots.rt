@@ -16,6 +16,7 @@ pub(crate) fn replace_at<T: Copy>(items: &mut Vec<T>, place: usize, item: T)
 }
 
 /// More values, where there is room.
+#[inline(always)]
 pub(crate) fn append_within(slots: &mut Vec<Ref>, values: &[Ref], last: Option<Ref>)
     requires { length slots.old.items + length values.now + 1 ≤ vec_capacity slots.old }
     ensures items { slots.new.items ≡ slots.old.items ++ values.now ++ list_of last }
@@ -24,21 +25,6 @@ pub(crate) fn append_within(slots: &mut Vec<Ref>, values: &[Ref], last: Option<R
     match slots.extend_from_slice(values) {
         Ok(()) => (),
         Err(_) => unreachable!(),
-    }
-    if let Some(value) = last {
-        slots.push_reserved(value);
-    }
-}
-
-/// At most two more values, where there is room.
-#[inline(always)]
-pub(crate) fn add_within(slots: &mut Vec<Ref>, first: Option<Ref>, last: Option<Ref>)
-    requires { length slots.old.items + 2 ≤ vec_capacity slots.old }
-    ensures items { slots.new.items ≡ slots.old.items ++ list_of first ++ list_of last }
-    ensures capacity { vec_capacity slots.old ≤ vec_capacity slots.new }
-{
-    if let Some(value) = first {
-        slots.push_reserved(value);
     }
     if let Some(value) = last {
         slots.push_reserved(value);

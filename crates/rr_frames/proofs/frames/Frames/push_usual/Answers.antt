@@ -27,14 +27,14 @@ pub returns-clause-pushed : goal.returns-clause-pushed
 returns-clause-pushed c = λ done.
     let i = c.self.inside in
     let old = i.slots.items in
-    let xs = list_of c.args.first ++ list_of c.args.last in
+    let xs = c.args.values.now ++ list_of c.args.last in
     let base : c.len-base.result ≡ length old = omega arith in
     let row : Row = record { base = c.len-base.result; size = c.args.shape.size; activation = c.args.activation } in
     let cut = λ (b : ℕ) (l : List Ref). take (b + c.args.shape.size) l ++ replicate (b + c.args.shape.size - length l) Nil in
     let now : c.cut_within.new.slots.items ≡ old ++ laid c.args.shape.parameters c.args.shape.size xs =
     c.cut_within.ensures
     ∙ ap (cut c.len-base.result) c.truncate.ensures.items
-    ∙ ap (λ l. cut c.len-base.result (take (c.len-base.result + c.args.shape.parameters) l)) (c.add_within.ensures.items ∙ append_assoc old (list_of c.args.first) (list_of c.args.last))
+    ∙ ap (λ l. cut c.len-base.result (take (c.len-base.result + c.args.shape.parameters) l)) (c.append_within.ensures.items ∙ append_assoc old (c.args.values.now) (list_of c.args.last))
     ∙ ap (λ b. cut b (take (b + c.args.shape.parameters) (old ++ xs))) base
     ∙ filled old xs c.args.shape.parameters c.args.shape.size in
     let new : Frame = record { variables = laid c.args.shape.parameters c.args.shape.size xs; activation = c.args.activation } in
