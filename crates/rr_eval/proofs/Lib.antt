@@ -57,3 +57,4 @@ pub mod Shares
 pub mod Settable
 pub mod Rare
 pub mod Refusing
+pub mod Topmost

@@ -130,3 +130,16 @@ stands_below m n k t f base held all is stands kept = record {
 
 pub nested_stands : (m n : View) (t : Table) (f : Fault) → Stands m n t t f → IsNested m → IsNested n
 nested_stands m n t f is nested = subst (λ fs. Nested (reverse fs) n.held) (sym is.frames) (subst (Nested (reverse m.frames)) (sym is.held) nested)
+
+-- the values that were held more are let go
+pub view_back : (m n k : View) (base : ℕ) (held : List Ref) → base ≡ length m.held → HoldsMore m n → k ≡ n → held ≡ take base k.held → record k { held = held } ≡ m
+view_back m n k base held at is same cut =
+    let there : held ≡ m.held = cut ∙ ap (λ (v : View). take base v.held) same ∙ ap (λ b. take b n.held) at ∙ is.held in
+    ap (λ (v : View). record v { held = held }) same
+    ∙ ap (λ h. record n { held = h }) there
+    ∙ ap (λ x. record n { control = x; held = m.held }) is.control
+    ∙ ap (λ x. record n { control = m.control; frames = x; held = m.held }) is.frames
+    ∙ ap (λ x. record n { control = m.control; frames = m.frames; held = m.held; calls = x }) is.calls
+    ∙ ap (λ x. record n { control = m.control; frames = m.frames; held = m.held; calls = m.calls; blocks = x }) is.blocks
+    ∙ ap (λ x. record n { control = m.control; frames = m.frames; held = m.held; calls = m.calls; blocks = m.blocks; rescuing = x }) is.rescuing
+    ∙ ap (λ x. record n { control = m.control; frames = m.frames; held = m.held; calls = m.calls; blocks = m.blocks; rescuing = m.rescuing; left = x }) is.left

@@ -1,11 +1,12 @@
 -- Parts whose value needs no frame.
-use Rattle.std.specs.Prelude.{◌≡◌, ◌+◌, ◌++◌, ℕ, List, length, take}
+use Rattle.std.specs.Prelude.{◌≡◌, ◌+◌, ◌-◌, ◌++◌, ℕ, List, Some, length, slice_get, take}
 use Rattle.rr_space.specs.Tables.{Table}
 use Rattle.rr_space.specs.declared.refer.Ref.{Ref}
 use Rattle.rr_tree.specs.Tree.{Tree}
 use Rattle.rr_tree.specs.declared.node.Node.{Node}
 use Rattle.rr_tree.specs.declared.node.Node.TheVariants as node
 use Rattle.rr_tree.specs.declared.program.Program.{Program}
+use Rattle.rr_eval.specs.declared.frame.Frame.{Frame}
 use Rattle.rr_eval.specs.declared.problem.Answer.TheVariants.{Gave}
 use Rattle.rr_eval.specs.Frames.{Code, means, runs_in}
 use Rattle.rr_eval.specs.Requests.{Course}
@@ -50,3 +51,7 @@ IsSendNode (node.Append a b) = Unit {0}
 IsSendNode (node.SetAttribute a x b site) = Unit {0}
 IsSendNode (node.SetIndex a b d) = Unit {0}
 IsSendNode _ = ⊥
+
+-- a frame lies on top of the others
+abbrev pub IsTop : List Frame → Frame → Type 0
+IsTop fs f = slice_get fs (length fs - 1) ≡ Some f

@@ -85,7 +85,8 @@ fn starts_loop(program: &Program, name: Sym, count: u32) -> bool
 
 impl Engine {
     /// The place of the block that the method was given whose frame has the number.
-    fn block_at(&self, number: u32) -> Option<NodeId>
+    #[inline(always)]
+    pub fn block_at(&self, number: u32) -> Option<NodeId>
         ensures { (p : Program) → option_map (tree_at p.nodes.items) result ≡ slice_index_or (blocks_of p.nodes.items self.now.blocks.items) number None }
     {
         match self.blocks.get(number as usize) {

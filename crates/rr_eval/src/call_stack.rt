@@ -1,6 +1,6 @@
 //! The frames of the program and of the methods and blocks that run, by numbers of 32 bits.
 
-ghost use Rattle.std.specs.Prelude.{false, ◌≡◌, ◌+◌, ◌-◌, ◌<◌, ◌∷◌, ◌++◌, [], nat_lt, length, IfOk, IfErr, OnOk, OnErr, if◌then◌else◌};
+ghost use Rattle.std.specs.Prelude.{false, ◌≡◌, ◌+◌, ◌-◌, ◌<◌, ◌∷◌, ◌++◌, [], nat_lt, length, IfOk, IfErr, IsTrue, IsFalse, OnOk, OnErr, if◌then◌else◌};
 ghost use Rattle.std.specs.List.{All};
 ghost use Rattle.rr_base.specs.declared.fault.Fault.{Fault};
 ghost use Rattle.rr_base.specs.declared.limits.LimitKind.{LimitKind};
@@ -266,6 +266,24 @@ impl CallStack {
         self.frames.push(values, last, shape, activation)
     }
 
+    /// The same where it takes no memory: it answers whether it was done. Where it answers `false`, nothing was done.
+    #[inline(always)]
+    pub fn push_usual(
+        &mut self,
+        values: &[Ref],
+        last: Option<Ref>,
+        shape: Shape,
+        entry: Entry,
+    ) -> bool
+        ensures pushed { IsTrue result → self.new.frames ≡ self.old.frames ++ record { variables = laid shape.parameters shape.size (values.now ++ list_of last); activation = activation_in entry self.old.frames } ∷ [] }
+        ensures room { IsTrue result → length self.old.frames < self.old.limit }
+        ensures limit { self.new.limit ≡ self.old.limit }
+        ensures declined { IsFalse result → self.new ≡ self.old }
+    {
+        let activation = self.activation_in(entry);
+        self.frames.push_usual(values, last, shape, activation)
+    }
+
     /// The same with these values alone.
     pub fn push_all(&mut self, values: &[Ref], shape: Shape, entry: Entry) -> Result<(), Fault>
         ensures pushed { OnOk result (self.new.frames ≡ self.old.frames ++ record { variables = laid shape.parameters shape.size values.now; activation = activation_in entry self.old.frames } ∷ []) }
@@ -294,6 +312,27 @@ impl CallStack {
         match first {
             Some(value) => self.push(&[value], last, shape, entry),
             None => self.push(&[], last, shape, entry),
+        }
+    }
+
+    /// The same with up to two values, where it takes no memory.
+    #[inline(always)]
+    pub fn push_two(
+        &mut self,
+        first: Option<Ref>,
+        last: Option<Ref>,
+        shape: Shape,
+        entry: Entry,
+    ) -> bool
+        ensures pushed { IsTrue result → self.new.frames ≡ self.old.frames ++ record { variables = laid shape.parameters shape.size (list_of first ++ list_of last); activation = activation_in entry self.old.frames } ∷ [] }
+        ensures room { IsTrue result → length self.old.frames < self.old.limit }
+        ensures limit { self.new.limit ≡ self.old.limit }
+        ensures declined { IsFalse result → self.new ≡ self.old }
+    {
+        match (first, last) {
+            (Some(value), None) => self.push_usual(&[], Some(value), shape, entry),
+            (Some(value), Some(_)) => self.push_usual(&[value], last, shape, entry),
+            (None, _) => self.push_usual(&[], last, shape, entry),
         }
     }
 

@@ -127,7 +127,13 @@ impl Engine {
 
     /// Three steps at once, where both operands are integers that need no frame.
     #[inline(always)]
-    fn visit_leaves(&mut self, program: &Program, op: BinaryOperator, a: NodeId, b: NodeId) -> bool
+    pub fn visit_leaves(
+        &mut self,
+        program: &Program,
+        op: BinaryOperator,
+        a: NodeId,
+        b: NodeId,
+    ) -> bool
         requires first { first_tree program.now.nodes.items self.old.control ≡ Some (binary op (tree_at program.now.nodes.items a) (tree_at program.now.nodes.items b)) }
         requires some { 2 < self.old.left }
         requires nested { IsNested (view_of self.old) }
@@ -327,6 +333,7 @@ impl Engine {
     {
         let stop = self.left.saturating_sub(u64::from(budget));
         loop {
+            self.act_usual(prepared, space, stop);
             match self.control {
                 Control::Give(Answer::Gave(value)) => {
                     let Some(frame) = self.pop_frame(Answer::Gave(value)) else {

@@ -115,7 +115,7 @@ fn valued_response(by: CallValue, response: Response) -> Response
 
 /// What waits for the answer of a body that has a frame of its own.
 #[inline(always)]
-fn leaving(entry: Entry) -> Frame
+pub fn leaving(entry: Entry) -> Frame
     ensures { result ≡ waits_for entry }
 {
     match entry {

@@ -73,7 +73,7 @@ pub fn value_at(stand: &[Ref], place: usize) -> Ref
 }
 
 /// The integers below one.
-fn below(here: i64, bound: Ref) -> Ahead
+pub fn below(here: i64, bound: Ref) -> Ahead
     ensures is { result ≡ below here bound }
     ensures within { (k : Reach) → IsAheadReached k result }
 {
@@ -86,7 +86,7 @@ fn below(here: i64, bound: Ref) -> Ahead
 }
 
 /// The integers up to one.
-fn up_to(here: i64, bound: Ref) -> Ahead
+pub fn up_to(here: i64, bound: Ref) -> Ahead
     ensures is { result ≡ up_to here bound }
     ensures within { (k : Reach) → IsAheadReached k result }
 {
@@ -149,7 +149,7 @@ fn element_given(iteration: Iteration, place: usize, element: Option<Ref>) -> Ah
 }
 
 /// What is ahead of an iteration over an array.
-fn element_ahead(space: &Space, iteration: Iteration, array: Ref, place: usize) -> Ahead
+pub fn element_ahead(space: &Space, iteration: Iteration, array: Ref, place: usize) -> Ahead
     ensures is { result ≡ element_ahead iteration place (item_at space.now array place) }
     ensures within { (clusters : Option Below) → IsAheadReached (reach (length space.now.slots) clusters) result }
 {

@@ -68,8 +68,12 @@ mod throw;
 mod update;
 mod updating;
 mod usual;
+mod usual_bodies;
 mod usual_calls;
+mod usual_rounds;
 mod usual_sends;
+mod usual_turn;
+mod usual_visits;
 mod value;
 
 pub use call::{Arguments, Call, Callee, Task};

@@ -44,7 +44,7 @@ impl Engine {
     /// Evaluates the last `count` parts before `end` from the first one on, up to one that needs a frame or before which the steps
     /// stop, and holds their values, for which there is room.
     #[inline(always)]
-    pub fn hold_reserved(
+    pub fn hold_parts(
         &mut self,
         program: &Program,
         end: NodeId,
@@ -76,30 +76,6 @@ impl Engine {
         QuickParts { rest, steps }
     }
 
-    /// The same, and makes room for the values before. A refused growth leaves all as it is.
-    #[inline(always)]
-    pub fn hold_parts(
-        &mut self,
-        program: &Program,
-        end: NodeId,
-        count: u32,
-        stop: u64,
-    ) -> Result<QuickParts, Fault>
-        requires some { stop < self.old.left }
-        ensures takes { IfOk result (λ parts. TakeFirst program.now (view_of self.old) (trees_before program.now.nodes.items end count) parts.steps (drop (length self.old.held.items) self.new.held.items) (trees_before program.now.nodes.items end parts.rest)) }
-        ensures rest { IfOk result (λ parts. length self.new.held.items + parts.rest ≡ length self.old.held.items + count) }
-        ensures fewer { IfOk result (λ parts. parts.rest ≤ count) }
-        ensures enough { IfOk result (λ parts. stop + parts.steps < self.old.left) }
-        ensures holds { OnOk result (HoldsMore (view_of self.old) (view_of self.new)) }
-        ensures within { (k : Reach) → AreReached k (view_of self.old) → AreReached k (view_of self.new) }
-        ensures room { vec_capacity self.new.frames ≡ vec_capacity self.old.frames }
-        ensures err { (t : Table) → IfErr result (λ f. Stands (view_of self.old) (view_of self.new) t t f) }
-        ensures fault { IfErr result (λ f. f ≡ Fault.Memory) }
-    {
-        self.held.reserve(count as usize)?;
-        Ok(self.hold_reserved(program, end, count, stop))
-    }
-
     /// Holds the receiver of a call, and the values of its first arguments, which are the last `count` parts before `end`, up to one
     /// that needs a frame or before which the steps stop. A refused growth leaves all as it is.
     #[inline(always)]
@@ -124,7 +100,7 @@ impl Engine {
     {
         self.held.reserve(count as usize + 1)?;
         self.held.push_reserved(receiver);
-        Ok(self.hold_reserved(program, end, count, stop))
+        Ok(self.hold_parts(program, end, count, stop))
     }
 
     /// Evaluates the next part of a list, behind a frame that waits for it over the values that are held from `base` on. The

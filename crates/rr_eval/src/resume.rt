@@ -20,7 +20,7 @@ ghost use Rattle.rr_eval.specs.Views.{view_of};
 ghost use Rattle.rr_eval.specs.Within.{Reach, reach, IsReached, IsFrameReached, IsCallReached, IsAskedReached, AreReached};
 
 use crate::call::{Target, Task, arguments_of};
-use crate::call_stack::is_outside;
+use crate::call_stack::{Variable, is_outside};
 use crate::engine::{Engine, push_within};
 use crate::frame::{Control, Frame, clear, standing};
 use crate::operator::on_integers;
@@ -89,7 +89,7 @@ impl Engine {
     /// Goes on with the body of a loop, or behind the loop, by the value of its condition.
     #[tactic(auto, unfolding(crate::specs::Within::AreReached))]
     #[inline(always)]
-    fn go_round(&mut self, until: bool, body: NodeId, place: NodeId, condition: Ref)
+    pub fn go_round(&mut self, until: bool, body: NodeId, place: NodeId, condition: Ref)
         requires room { length self.old.frames.items < vec_capacity self.old.frames }
         requires nested { IsNested (view_of self.old) }
         ensures goes { (p : Program) (t : Table) (h : Course) (n : ℕ) → after_script p (view_of self.old) t (resumed (code_of p h.world) (Frame.Condition until body place) [] (Answer.Gave condition)) h n ≡ remaining_with p (view_of self.new) t h n }
@@ -103,6 +103,61 @@ impl Engine {
         } else {
             self.control = Control::Give(Answer::Gave(Ref::Nil));
         }
+    }
+
+    /// Goes on behind the left operand of an operator: at once, where the right one is a leaf and both are integers.
+    #[tactic(auto, unfolding(crate::specs::Within::AreReached))]
+    #[inline(always)]
+    pub fn operate_left(
+        &mut self,
+        program: &Program,
+        op: BinaryOperator,
+        left: Ref,
+        b: NodeId,
+        stop: u64,
+    )
+        requires room { length self.old.frames.items < vec_capacity self.old.frames }
+        requires nested { IsNested (view_of self.old) }
+        requires within { stop ≤ self.old.left }
+        ensures goes { (t : Table) (h : Course) → after_answer program.now (view_of self.old) t (Frame.Left op b) (Answer.Gave left) h self.old.left ≡ remaining program.now (view_of self.new) t h }
+        ensures nested { IsNested (view_of self.new) }
+        ensures within { (k : Reach) → AreReached k (view_of self.old) → IsReached k left → AreReached k (view_of self.new) }
+        ensures left { stop ≤ self.new.left }
+        ensures kept { self.new.left ≤ self.old.left }
+        ensures size { size (view_of self.new) ≤ 3 * length self.old.frames.items + 4 }
+    {
+        if !self.operate_leaf(program, op, left, b, stop) {
+            self.enter_above(Frame::Right(op, left), b);
+        }
+    }
+
+    /// Assigns to a local variable.
+    #[tactic(auto, unfolding(crate::specs::Within::AreReached))]
+    #[inline(always)]
+    pub fn store(&mut self, variable: Variable, value: Ref)
+        requires nested { IsNested (view_of self.old) }
+        ensures goes { (p : Program) (t : Table) (h : Course) (n : ℕ) → after_answer p (view_of self.old) t (Frame.Store variable) (Answer.Gave value) h n ≡ remaining_with p (view_of self.new) t h n }
+        ensures nested { IsNested (view_of self.new) }
+        ensures within { (k : Reach) → AreReached k (view_of self.old) → IsReached k value → AreReached k (view_of self.new) }
+        ensures left { self.new.left ≡ self.old.left }
+        ensures size { size (view_of self.new) ≤ 3 * length self.old.frames.items + 4 }
+    {
+        self.calls.write(variable, value);
+        self.control = Control::Give(Answer::Gave(value));
+    }
+
+    /// Goes on with one part of a choice, by the value of its condition.
+    #[tactic(auto, unfolding(crate::specs::Within::AreReached))]
+    #[inline(always)]
+    pub fn take_branch(&mut self, yes: NodeId, no: NodeId, condition: Ref)
+        requires nested { IsNested (view_of self.old) }
+        ensures goes { (p : Program) (t : Table) (h : Course) (n : ℕ) → after_answer p (view_of self.old) t (Frame.Branch yes no) (Answer.Gave condition) h n ≡ remaining_with p (view_of self.new) t h n }
+        ensures nested { IsNested (view_of self.new) }
+        ensures within { (k : Reach) → AreReached k (view_of self.old) → AreReached k (view_of self.new) }
+        ensures left { self.new.left ≡ self.old.left }
+        ensures size { size (view_of self.new) ≤ 3 * length self.old.frames.items + 4 }
+    {
+        self.control = Control::Enter(if is_truthy(condition) { yes } else { no });
     }
 
     /// Does what a frame, which is taken off the stack, does with a value, unless that needs the objects or memory.
@@ -124,19 +179,16 @@ impl Engine {
     {
         match frame {
             Frame::Left(op, b) => {
-                if !self.operate_leaf(program, op, value, b, stop) {
-                    self.enter_above(Frame::Right(op, value), b);
-                }
+                self.operate_left(program, op, value, b, stop);
                 true
             }
             Frame::Right(op, left) => self.operate_integers(op, left, value),
             Frame::Store(variable) => {
-                self.calls.write(variable, value);
-                self.control = Control::Give(Answer::Gave(value));
+                self.store(variable, value);
                 true
             }
-            Frame::Branch(b, d) => {
-                self.control = Control::Enter(if is_truthy(value) { b } else { d });
+            Frame::Branch(yes, no) => {
+                self.take_branch(yes, no, value);
                 true
             }
             Frame::And(b) => {

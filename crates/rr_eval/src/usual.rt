@@ -135,6 +135,7 @@ impl Engine {
         requires some { stop < self.now.left }
         ensures takes { IfSome result (λ q. TakesNow program.now (view_of self.now) (tree_at program.now.nodes.items place) q.steps q.value) }
         ensures plain { IfSome result (λ _. is_splat (tree_at program.now.nodes.items place) ≡ false) }
+        ensures some { IfSome result (λ q. 0 < q.steps) }
         ensures few { IfSome result (λ q. q.steps ≤ 3) }
         ensures enough { IfSome result (λ q. stop + q.steps < self.now.left) }
         ensures within { (k : Reach) → AreReached k (view_of self.now) → IfSome result (λ q. IsReached k q.value) }

@@ -443,7 +443,7 @@ impl Engine {
             | Node::Append(_, _)
             | Node::SetAttribute { .. }
             | Node::SetIndex { .. } => self.visit_send(prepared, space, here, node, stop),
-            _ => self.visit_other(prepared, space, here, node, stop),
+            _ => self.visit_rare(prepared, space, here, node),
         }
     }
 }

@@ -16,20 +16,20 @@ returns-clause-comes c = λ t next h n.
     let p = c.args.program.now in
     let m = view_of c.args.self.now in
     let ones = c.push_reserved.new.self.items in
-    let all = c.hold_reserved.new.self.held.items in
-    let parts = c.hold_reserved.result in
+    let all = c.hold_parts.new.self.held.items in
+    let parts = c.hold_parts.result in
     let pushed : ones ≡ m.held ++ c.args.receiver ∷ [] = c.push_reserved.ensures.items ∙ ap (λ l. l ++ c.args.receiver ∷ []) c.reserve.ensures.items in
-    c.hold_reserved.ensures.takes t (c.args.receiver ∷ []) next h n
-    ∙ ap (λ l. runs_in (code_of p h.world) (arguments (context_of p) (trees_before p.nodes.items c.args.end parts.rest) l next) (state_of p m t h) n) (dropped_behind m.held ones all c.args.receiver pushed c.hold_reserved.ensures.holds.held)
+    c.hold_parts.ensures.takes t (c.args.receiver ∷ []) next h n
+    ∙ ap (λ l. runs_in (code_of p h.world) (arguments (context_of p) (trees_before p.nodes.items c.args.end parts.rest) l next) (state_of p m t h) n) (dropped_behind m.held ones all c.args.receiver pushed c.hold_parts.ensures.holds.held)
 
 pub returns-clause-holds : goal.returns-clause-holds
 returns-clause-holds c =
     let m = view_of c.args.self.now in
     let pushed = c.push_reserved.ensures.items ∙ ap (λ l. l ++ c.args.receiver ∷ []) c.reserve.ensures.items in
-    holds_behind m (view_of c.hold_reserved.new.self) c.push_reserved.new.self.items c.args.receiver pushed c.hold_reserved.ensures.holds
+    holds_behind m (view_of c.hold_parts.new.self) c.push_reserved.new.self.items c.args.receiver pushed c.hold_parts.ensures.holds
 
 pub returns-clause-within : goal.returns-clause-within
 returns-clause-within c k h receiver =
     let m = view_of c.args.self.now in
     let pushed = c.push_reserved.ensures.items ∙ ap (λ l. l ++ c.args.receiver ∷ []) c.reserve.ensures.items in
-    c.hold_reserved.ensures.within k (items_reached k m c.push_reserved.new.self.items (c.args.receiver ∷ []) pushed h (all_cons (IsReached k) c.args.receiver [] receiver (all_nil (IsReached k))))
+    c.hold_parts.ensures.within k (items_reached k m c.push_reserved.new.self.items (c.args.receiver ∷ []) pushed h (all_cons (IsReached k) c.args.receiver [] receiver (all_nil (IsReached k))))

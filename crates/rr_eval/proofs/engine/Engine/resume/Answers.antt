@@ -7,17 +7,17 @@ use Rattle.rr_eval.specs.Views.{view_of}
 use Rattle.rr_eval.specs.Within.{IsFrameReached}
 use Rattle.rr_eval.proofs.engine.Engine.resume.Goals as goal
 
-pub returns-then-not-operate_leaf-clause-within : goal.returns-then-not-operate_leaf-clause-within
-returns-then-not-operate_leaf-clause-within c k h frame value = c.enter_above.ensures.within k (c.operate_leaf.ensures.within k h) value
+pub returns-in-Left-clause-within : goal.returns-in-Left-clause-within
+returns-in-Left-clause-within c k h frame value = c.operate_left.ensures.within k h value
 
-pub returns-else-not-operate_leaf-clause-within : goal.returns-else-not-operate_leaf-clause-within
-returns-else-not-operate_leaf-clause-within c k h frame value = c.operate_leaf.ensures.within k h
+pub returns-in-Store-clause-within : goal.returns-in-Store-clause-within
+returns-in-Store-clause-within c k h frame value = c.store.ensures.within k h value
+
+pub returns-in-Branch-clause-within : goal.returns-in-Branch-clause-within
+returns-in-Branch-clause-within c k h frame value = c.take_branch.ensures.within k h
 
 pub returns-in-Right-clause-within : goal.returns-in-Right-clause-within
 returns-in-Right-clause-within c k h frame value = c.operate_integers.ensures.within k h
-
-pub returns-in-Store-clause-within : goal.returns-in-Store-clause-within
-returns-in-Store-clause-within c k h frame value = with_variable k (view_of c.args.self.now) c.write.new.self c.in-Store.variable c.args.value (Give (Gave c.args.value)) c.write.ensures.frames h value value
 
 pub returns-in-Back-clause-within : goal.returns-in-Back-clause-within
 returns-in-Back-clause-within c k h frame value = c.end_method.ensures.within k h (subst (IsFrameReached k) c.in-Back.is frame) value

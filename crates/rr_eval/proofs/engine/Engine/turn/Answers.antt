@@ -14,29 +14,29 @@ pub returns-then-self-eq0-clause-turned : goal.returns-then-self-eq0-clause-turn
 returns-then-self-eq0-clause-turned c =
     let p = c.args.prepared.now.program in
     let ns = p.nodes.items in
-    (omega arith, c.if-self-eq0.true, λ h. c.loop-self.invariant.same h ∙ limit p (view_of c.loop-self.self) c.loop-self.space _ (ap (first_tree ns) c.in-Operate.is) c.if-self-eq0.true h)
+    (omega arith, c.if-self-eq0.true, λ h. c.loop-self.invariant.same h ∙ c.act_usual.ensures.goes h ∙ limit p (view_of c.act_usual.new.self) c.loop-self.space _ (ap (first_tree ns) c.in-Operate.is) c.if-self-eq0.true h)
 
 pub returns-then-self-eq0-2-clause-turned : goal.returns-then-self-eq0-2-clause-turned
 returns-then-self-eq0-2-clause-turned c =
     let p = c.args.prepared.now.program in
     let ns = p.nodes.items in
-    (omega arith, c.if-self-eq0-2.true, λ h. c.loop-self.invariant.same h ∙ limit p (view_of c.loop-self.self) c.loop-self.space _ (ap (first_tree ns) c.in-Enter.is) c.if-self-eq0-2.true h)
+    (omega arith, c.if-self-eq0-2.true, λ h. c.loop-self.invariant.same h ∙ c.act_usual.ensures.goes h ∙ limit p (view_of c.act_usual.new.self) c.loop-self.space _ (ap (first_tree ns) c.in-Enter.is) c.if-self-eq0-2.true h)
 
 pub returns-then-self-eq0-3-clause-turned : goal.returns-then-self-eq0-3-clause-turned
 returns-then-self-eq0-3-clause-turned c =
     let p = c.args.prepared.now.program in
-    (omega arith, c.if-self-eq0-3.true, λ h. c.loop-self.invariant.same h ∙ call_limit p (view_of c.loop-self.self) c.loop-self.space _ _ _ c.in-Send.is c.if-self-eq0-3.true h)
+    (omega arith, c.if-self-eq0-3.true, λ h. c.loop-self.invariant.same h ∙ c.act_usual.ensures.goes h ∙ call_limit p (view_of c.act_usual.new.self) c.loop-self.space _ _ _ c.in-Send.is c.if-self-eq0-3.true h)
 
 pub returns-then-self-eq0-4-clause-turned : goal.returns-then-self-eq0-4-clause-turned
 returns-then-self-eq0-4-clause-turned c =
     let p = c.args.prepared.now.program in
-    (omega arith, c.if-self-eq0-4.true, λ h. c.loop-self.invariant.same h ∙ assign_limit p (view_of c.loop-self.self) c.loop-self.space _ _ c.in-Assign.is c.if-self-eq0-4.true h)
+    (omega arith, c.if-self-eq0-4.true, λ h. c.loop-self.invariant.same h ∙ c.act_usual.ensures.goes h ∙ assign_limit p (view_of c.act_usual.new.self) c.loop-self.space _ _ c.in-Assign.is c.if-self-eq0-4.true h)
 
 pub returns-in-Enter-clause-ends_within : goal.returns-in-Enter-clause-ends_within
 returns-in-Enter-clause-ends_within c clusters h =
     let k = reach (length c.visit_node.new.space.slots) clusters in
     let here = reach (length c.loop-self.space.slots) clusters in
-    subst (IsAskedReached k) c.in-Some-3.is (c.in_ok-request-in-Enter.ensures.asks clusters (c.visit_usual.ensures.within here (c.make_room-in-Enter.ensures.within here (c.loop-self.invariant.reaches clusters h))))
+    subst (IsAskedReached k) c.in-Some-3.is (c.in_ok-request-in-Enter.ensures.asks clusters (c.visit_usual.ensures.within here (c.make_room-in-Enter.ensures.within here (c.act_usual.ensures.within clusters (c.loop-self.invariant.reaches clusters h)))))
 
 pub loop-self-preserved-else-not-visit_usual : goal.loop-self-preserved-else-not-visit_usual
 loop-self-preserved-else-not-visit_usual c = elim c.else-not-visit_usual.branch [

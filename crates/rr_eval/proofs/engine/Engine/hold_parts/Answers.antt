@@ -8,7 +8,7 @@ use Rattle.rr_eval.specs.Within.{IsReached}
 use Rattle.rr_eval.proofs.Holding.{all_cons, all_nil}
 use Rattle.rr_eval.proofs.QuickParts.{first_none, first_more, takes_before, holds_more}
 use Rattle.rr_eval.proofs.Splatted.{items_reached}
-use Rattle.rr_eval.proofs.engine.Engine.hold_reserved.Goals as goal
+use Rattle.rr_eval.proofs.engine.Engine.hold_parts.Goals as goal
 
 pub loop-rest-init : goal.loop-rest-init
 loop-rest-init c =

@@ -4,7 +4,7 @@ use Rattle.rr_tree.specs.Nodes.{trees_before}
 use Rattle.rr_eval.specs.Usual.{TakeFirst, HoldsMore}
 use Rattle.rr_eval.specs.Views.{view_of}
 use Rattle.rr_eval.specs.Within.{Reach, AreReached}
-use Rattle.rr_eval.proofs.engine.Engine.hold_reserved.Given as goal
+use Rattle.rr_eval.proofs.engine.Engine.hold_parts.Given as goal
 
 abbrev pub invariant-loop-rest : goal.invariant-loop-rest
 invariant-loop-rest l = record {

@@ -1,0 +1,281 @@
+//! What a turn does most: acts that need neither memory nor the objects, one after the other.
+
+ghost use Rattle.std.specs.Prelude.{◌≡◌, ◌+◌, ◌*◌, ◌<◌, ◌≤◌, length, reverse, vec_capacity, Option, IsTrue, IsFalse};
+ghost use Rattle.rr_space.specs.Tables.{Table, Below};
+ghost use Rattle.rr_tree.specs.declared.program.Program.{Program};
+ghost use Rattle.rr_eval.specs.declared.frame.Control.{Control};
+ghost use Rattle.rr_eval.specs.declared.frame.Frame.{Frame};
+ghost use Rattle.rr_eval.specs.declared.problem.Answer.{Answer};
+ghost use Rattle.rr_eval.specs.Frames.{below_of, base_of, Nested};
+ghost use Rattle.rr_eval.specs.Requests.{Course};
+ghost use Rattle.rr_eval.specs.Turns.{IsNested, remaining, after_answer, power, size};
+ghost use Rattle.rr_eval.specs.Usual.{IsTop};
+ghost use Rattle.rr_eval.specs.Views.{view_of};
+ghost use Rattle.rr_eval.specs.Within.{Reach, reach, IsReached, IsFrameReached, AreReached};
+
+use crate::call_stack::{CallValue, Variable};
+use crate::engine::Engine;
+use crate::frame::{Control, Frame};
+use crate::operator::on_integers;
+use crate::prepared::Prepared;
+use crate::problem::Answer;
+use rr_space::{Ref, Space};
+use rr_tree::{BinaryOperator, NodeId, Program};
+
+impl Engine {
+    /// Takes the topmost frame, which is this one, off the stack.
+    #[tactic(auto, unfolding(crate::specs::Within::AreReached))]
+    #[inline(always)]
+    pub fn take_top(&mut self, frame: Frame, value: Ref)
+        requires control { self.old.control ≡ Control.Give (Answer.Gave value) }
+        requires top { IsTop self.old.frames.items frame }
+        requires nested { IsNested (view_of self.old) }
+        ensures goes { (p : Program) (t : Table) (h : Course) → remaining p (view_of self.old) t h ≡ after_answer p (view_of self.new) t frame (Answer.Gave value) h self.new.left }
+        ensures nested { Nested (reverse self.new.frames.items) (below_of frame self.new.held.items) }
+        ensures base { base_of frame ≤ length self.new.held.items }
+        ensures within { (k : Reach) → AreReached k (view_of self.old) → AreReached k (view_of self.new) }
+        ensures frame { (k : Reach) → AreReached k (view_of self.old) → IsFrameReached k frame }
+        ensures given { (k : Reach) → AreReached k (view_of self.old) → IsReached k value }
+        ensures room { length self.new.frames.items < vec_capacity self.new.frames }
+        ensures size { size (view_of self.old) ≡ 3 * length self.new.frames.items + 5 }
+        ensures control { self.new.control ≡ self.old.control }
+        ensures left { self.new.left ≡ self.old.left }
+    {
+        let rest = self.frames.len().saturating_sub(1);
+        self.frames.truncate(rest);
+    }
+
+    /// Goes on behind the left operand of an operator.
+    #[inline(always)]
+    fn resume_left(
+        &mut self,
+        program: &Program,
+        op: BinaryOperator,
+        b: NodeId,
+        value: Ref,
+        stop: u64,
+    )
+        requires control { self.old.control ≡ Control.Give (Answer.Gave value) }
+        requires top { IsTop self.old.frames.items (Frame.Left op b) }
+        requires nested { IsNested (view_of self.old) }
+        requires within { stop ≤ self.old.left }
+        ensures goes { (t : Table) (h : Course) → remaining program.now (view_of self.old) t h ≡ remaining program.now (view_of self.new) t h }
+        ensures nested { IsNested (view_of self.new) }
+        ensures within { (k : Reach) → AreReached k (view_of self.old) → AreReached k (view_of self.new) }
+        ensures left { stop ≤ self.new.left }
+        ensures kept { self.new.left ≤ self.old.left }
+        ensures falls { size (view_of self.new) < size (view_of self.old) }
+    {
+        self.take_top(Frame::Left(op, b), value);
+        self.operate_left(program, op, value, b, stop);
+    }
+
+    /// Does an operation on two integers.
+    #[inline(always)]
+    fn resume_right(&mut self, op: BinaryOperator, left: Ref, value: Ref) -> bool
+        requires control { self.old.control ≡ Control.Give (Answer.Gave value) }
+        requires top { IsTop self.old.frames.items (Frame.Right op left) }
+        requires nested { IsNested (view_of self.old) }
+        ensures goes { (p : Program) (t : Table) (h : Course) → remaining p (view_of self.old) t h ≡ remaining p (view_of self.new) t h }
+        ensures nested { IsNested (view_of self.new) }
+        ensures within { (k : Reach) → AreReached k (view_of self.old) → AreReached k (view_of self.new) }
+        ensures left { self.new.left ≡ self.old.left }
+        ensures falls { IsTrue result → size (view_of self.new) < size (view_of self.old) }
+        ensures same { IsFalse result → self.new ≡ self.old }
+    {
+        match (left, value) {
+            (Ref::Int(x), Ref::Int(y)) => {
+                self.take_top(Frame::Right(op, left), value);
+                self.settle(on_integers(op, x, y));
+                true
+            }
+            _ => false,
+        }
+    }
+
+    /// Assigns to a local variable.
+    #[inline(always)]
+    fn resume_store(&mut self, variable: Variable, value: Ref)
+        requires control { self.old.control ≡ Control.Give (Answer.Gave value) }
+        requires top { IsTop self.old.frames.items (Frame.Store variable) }
+        requires nested { IsNested (view_of self.old) }
+        ensures goes { (p : Program) (t : Table) (h : Course) → remaining p (view_of self.old) t h ≡ remaining p (view_of self.new) t h }
+        ensures nested { IsNested (view_of self.new) }
+        ensures within { (k : Reach) → AreReached k (view_of self.old) → AreReached k (view_of self.new) }
+        ensures left { self.new.left ≡ self.old.left }
+        ensures falls { size (view_of self.new) < size (view_of self.old) }
+    {
+        self.take_top(Frame::Store(variable), value);
+        self.store(variable, value);
+    }
+
+    /// Goes on with one part of a choice.
+    #[inline(always)]
+    fn resume_branch(&mut self, yes: NodeId, no: NodeId, value: Ref)
+        requires control { self.old.control ≡ Control.Give (Answer.Gave value) }
+        requires top { IsTop self.old.frames.items (Frame.Branch yes no) }
+        requires nested { IsNested (view_of self.old) }
+        ensures goes { (p : Program) (t : Table) (h : Course) → remaining p (view_of self.old) t h ≡ remaining p (view_of self.new) t h }
+        ensures nested { IsNested (view_of self.new) }
+        ensures within { (k : Reach) → AreReached k (view_of self.old) → AreReached k (view_of self.new) }
+        ensures left { self.new.left ≡ self.old.left }
+        ensures falls { size (view_of self.new) < size (view_of self.old) }
+    {
+        self.take_top(Frame::Branch(yes, no), value);
+        self.take_branch(yes, no, value);
+    }
+
+    /// Goes on behind the condition of a loop.
+    #[inline(always)]
+    fn resume_condition(&mut self, until: bool, body: NodeId, here: NodeId, value: Ref)
+        requires control { self.old.control ≡ Control.Give (Answer.Gave value) }
+        requires top { IsTop self.old.frames.items (Frame.Condition until body here) }
+        requires nested { IsNested (view_of self.old) }
+        ensures goes { (p : Program) (t : Table) (h : Course) → remaining p (view_of self.old) t h ≡ remaining p (view_of self.new) t h }
+        ensures nested { IsNested (view_of self.new) }
+        ensures within { (k : Reach) → AreReached k (view_of self.old) → AreReached k (view_of self.new) }
+        ensures left { self.new.left ≡ self.old.left }
+        ensures falls { size (view_of self.new) < size (view_of self.old) }
+    {
+        self.take_top(Frame::Condition(until, body, here), value);
+        self.go_round(until, body, here, value);
+    }
+
+    /// Goes on behind the body of a loop.
+    #[inline(always)]
+    fn resume_body(&mut self, here: NodeId, value: Ref)
+        requires control { self.old.control ≡ Control.Give (Answer.Gave value) }
+        requires top { IsTop self.old.frames.items (Frame.Body here) }
+        requires nested { IsNested (view_of self.old) }
+        ensures goes { (p : Program) (t : Table) (h : Course) → remaining p (view_of self.old) t h ≡ remaining p (view_of self.new) t h }
+        ensures nested { IsNested (view_of self.new) }
+        ensures within { (k : Reach) → AreReached k (view_of self.old) → AreReached k (view_of self.new) }
+        ensures left { self.new.left ≡ self.old.left }
+        ensures falls { size (view_of self.new) < size (view_of self.old) }
+    {
+        self.take_top(Frame::Body(here), value);
+        self.control = Control::Enter(here);
+    }
+
+    /// Goes on with the next statement.
+    #[inline(always)]
+    fn resume_rest(&mut self, end: NodeId, count: u32, value: Ref)
+        requires control { self.old.control ≡ Control.Give (Answer.Gave value) }
+        requires top { IsTop self.old.frames.items (Frame.Rest end count) }
+        requires nested { IsNested (view_of self.old) }
+        ensures goes { (p : Program) (t : Table) (h : Course) → remaining p (view_of self.old) t h ≡ remaining p (view_of self.new) t h }
+        ensures nested { IsNested (view_of self.new) }
+        ensures within { (k : Reach) → AreReached k (view_of self.old) → AreReached k (view_of self.new) }
+        ensures left { self.new.left ≡ self.old.left }
+        ensures falls { size (view_of self.new) < size (view_of self.old) }
+    {
+        self.take_top(Frame::Rest(end, count), value);
+        self.begin(end, count);
+    }
+
+    /// Ends a method.
+    #[inline(always)]
+    fn resume_back(&mut self, by: CallValue, value: Ref)
+        requires control { self.old.control ≡ Control.Give (Answer.Gave value) }
+        requires top { IsTop self.old.frames.items (Frame.Back by) }
+        requires nested { IsNested (view_of self.old) }
+        ensures goes { (p : Program) (t : Table) (h : Course) → remaining p (view_of self.old) t h ≡ remaining p (view_of self.new) t h }
+        ensures nested { IsNested (view_of self.new) }
+        ensures within { (k : Reach) → AreReached k (view_of self.old) → AreReached k (view_of self.new) }
+        ensures left { self.new.left ≡ self.old.left }
+        ensures falls { size (view_of self.new) < size (view_of self.old) }
+    {
+        self.take_top(Frame::Back(by), value);
+        self.end_method(by, value);
+    }
+
+    /// Ends a block.
+    #[inline(always)]
+    fn resume_past(&mut self, value: Ref)
+        requires control { self.old.control ≡ Control.Give (Answer.Gave value) }
+        requires top { IsTop self.old.frames.items (Frame.Past) }
+        requires nested { IsNested (view_of self.old) }
+        ensures goes { (p : Program) (t : Table) (h : Course) → remaining p (view_of self.old) t h ≡ remaining p (view_of self.new) t h }
+        ensures nested { IsNested (view_of self.new) }
+        ensures within { (k : Reach) → AreReached k (view_of self.old) → AreReached k (view_of self.new) }
+        ensures left { self.new.left ≡ self.old.left }
+        ensures falls { size (view_of self.new) < size (view_of self.old) }
+    {
+        self.take_top(Frame::Past, value);
+        self.end_block(value);
+    }
+
+    /// Gives the topmost frame a value, where that is usual: it answers whether it was done.
+    #[inline(always)]
+    fn resume_often(&mut self, program: &Program, space: &Space, value: Ref, stop: u64) -> bool
+        requires control { self.old.control ≡ Control.Give (Answer.Gave value) }
+        requires nested { IsNested (view_of self.old) }
+        requires within { stop ≤ self.old.left }
+        ensures goes { (h : Course) → remaining program.now (view_of self.old) space.now h ≡ remaining program.now (view_of self.new) space.now h }
+        ensures nested { IsNested (view_of self.new) }
+        ensures within { (clusters : Option Below) → AreReached (reach (length space.now.slots) clusters) (view_of self.old) → AreReached (reach (length space.now.slots) clusters) (view_of self.new) }
+        ensures left { stop ≤ self.new.left }
+        ensures kept { self.new.left ≤ self.old.left }
+        ensures falls { IsTrue result → size (view_of self.new) < size (view_of self.old) }
+        ensures less { size (view_of self.new) ≤ size (view_of self.old) }
+    {
+        match self.frames.last() {
+            Some(&Frame::Left(op, b)) => self.resume_left(program, op, b, value, stop),
+            Some(&Frame::Right(op, left)) => return self.resume_right(op, left, value),
+            Some(&Frame::Store(variable)) => self.resume_store(variable, value),
+            Some(&Frame::Branch(yes, no)) => self.resume_branch(yes, no, value),
+            Some(&Frame::Condition(until, body, here)) => {
+                self.resume_condition(until, body, here, value);
+            }
+            Some(&Frame::Body(here)) => self.resume_body(here, value),
+            Some(&Frame::Rest(end, count)) => self.resume_rest(end, count, value),
+            Some(&Frame::Back(by)) => self.resume_back(by, value),
+            Some(&Frame::Past) => self.resume_past(value),
+            Some(&Frame::Round(iteration)) => {
+                return self.resume_turn(program, space, iteration, value);
+            }
+            _ => return false,
+        }
+        true
+    }
+
+    /// One usual act, where what comes next is one: it answers whether it was done.
+    #[inline(always)]
+    fn act_often(&mut self, prepared: &Prepared, space: &Space, stop: u64) -> bool
+        requires nested { IsNested (view_of self.old) }
+        requires within { stop ≤ self.old.left }
+        ensures goes { (h : Course) → remaining prepared.now.program (view_of self.old) space.now h ≡ remaining prepared.now.program (view_of self.new) space.now h }
+        ensures nested { IsNested (view_of self.new) }
+        ensures within { (clusters : Option Below) → AreReached (reach (length space.now.slots) clusters) (view_of self.old) → AreReached (reach (length space.now.slots) clusters) (view_of self.new) }
+        ensures left { stop ≤ self.new.left }
+        ensures kept { self.new.left ≤ self.old.left }
+        ensures falls { power (view_of self.new) + self.old.left ≤ power (view_of self.old) + self.new.left }
+        ensures drops { IsTrue result → power (view_of self.new) < power (view_of self.old) }
+    {
+        match self.control {
+            Control::Give(Answer::Gave(value)) => {
+                self.resume_often(&prepared.program, space, value, stop)
+            }
+            Control::Enter(here) => {
+                self.left > stop
+                    && self.frames.len() < self.frames.capacity()
+                    && self.visit_often(prepared, space, here, stop)
+            }
+            _ => false,
+        }
+    }
+
+    /// Usual acts, up to one that is none, or before which the steps stop.
+    pub fn act_usual(&mut self, prepared: &Prepared, space: &Space, stop: u64)
+        requires nested { IsNested (view_of self.old) }
+        requires within { stop ≤ self.old.left }
+        ensures goes { (h : Course) → remaining prepared.now.program (view_of self.old) space.now h ≡ remaining prepared.now.program (view_of self.new) space.now h }
+        ensures nested { IsNested (view_of self.new) }
+        ensures within { (clusters : Option Below) → AreReached (reach (length space.now.slots) clusters) (view_of self.old) → AreReached (reach (length space.now.slots) clusters) (view_of self.new) }
+        ensures left { stop ≤ self.new.left }
+        ensures kept { self.new.left ≤ self.old.left }
+        ensures falls { power (view_of self.new) + self.old.left ≤ power (view_of self.old) + self.new.left }
+    {
+        while self.act_often(prepared, space, stop) {}
+    }
+}

@@ -1,0 +1,318 @@
+//! Nodes that are usual: what they do needs neither memory nor the objects.
+
+ghost use Rattle.std.specs.Prelude.{◌≡◌, ◌+◌, ◌*◌, ◌<◌, ◌≤◌, ◌^◌, ℕ, [], length, reverse, slice_get, vec_capacity, Some, IfSome, IsTrue, MatchOption};
+ghost use Rattle.rr_space.specs.Tables.{Table};
+ghost use Rattle.rr_tree.specs.Tree.{tree_at, binary, choose};
+ghost use Rattle.rr_tree.specs.declared.node.Node.{Node};
+ghost use Rattle.rr_eval.specs.declared.frame.Control.{Control};
+ghost use Rattle.rr_eval.specs.declared.frame.Frame.{Frame};
+ghost use Rattle.rr_eval.specs.declared.problem.Answer.{Answer};
+ghost use Rattle.rr_eval.specs.Frames.{below_of, base_of, resumed, IsNew, Nested};
+ghost use Rattle.rr_eval.specs.Nodes.{evaluated_tree};
+ghost use Rattle.rr_eval.specs.Requests.{Course};
+ghost use Rattle.rr_eval.specs.Rules.{rule};
+ghost use Rattle.rr_eval.specs.Script.{Go, Ret, World};
+ghost use Rattle.rr_eval.specs.Turns.{context_of, code_of, IsNested, remaining, after_answer, power, size};
+ghost use Rattle.rr_eval.specs.Views.{view_of};
+ghost use Rattle.rr_eval.specs.Within.{Reach, IsReached, IsFrameReached, AreReached};
+
+use crate::call_stack::Variable;
+use crate::engine::Engine;
+use crate::frame::{Control, Frame};
+use crate::nodes::evaluated_place;
+use crate::prepared::Prepared;
+use crate::problem::Answer;
+use rr_space::{Ref, Space};
+use rr_tree::{BinaryOperator, Node, NodeId, Program};
+
+impl Engine {
+    /// Evaluates the part that a node evaluates first: its value, where it needs no frame. Otherwise a frame waits for it.
+    #[inline(always)]
+    fn first_value(
+        &mut self,
+        program: &Program,
+        here: NodeId,
+        frame: Frame,
+        part: NodeId,
+        stop: u64,
+    ) -> Option<Ref>
+        requires control { self.old.control ≡ Control.Enter here }
+        requires script { (w : World) → rule (context_of program.now) (tree_at program.now.nodes.items here) ≡ Go (tree_at program.now.nodes.items part) (resumed (code_of program.now w) frame []) }
+        requires new { IsNew frame (length self.old.held.items) }
+        requires some { stop < self.old.left }
+        requires room { length self.old.frames.items < vec_capacity self.old.frames }
+        requires nested { IsNested (view_of self.old) }
+        ensures goes { (t : Table) (h : Course) → MatchOption result (remaining program.now (view_of self.old) t h ≡ remaining program.now (view_of self.new) t h) (λ v. remaining program.now (view_of self.old) t h ≡ after_answer program.now (view_of self.new) t frame (Answer.Gave v) h self.new.left) }
+        ensures nested { MatchOption result (IsNested (view_of self.new)) (λ _. Nested (reverse self.new.frames.items) (below_of frame self.new.held.items)) }
+        ensures within { (k : Reach) → AreReached k (view_of self.old) → IsFrameReached k frame → AreReached k (view_of self.new) }
+        ensures value { (k : Reach) → AreReached k (view_of self.old) → IfSome result (IsReached k) }
+        ensures base { IfSome result (λ _. base_of frame ≤ length self.new.held.items) }
+        ensures frames { IfSome result (λ _. self.new.frames ≡ self.old.frames) }
+        ensures left { stop ≤ self.new.left }
+        ensures spends { self.new.left < self.old.left }
+        ensures size { MatchOption result (size (view_of self.new) ≤ 3 * length self.old.frames.items + 4) (λ _. self.new.left + 2 ≤ self.old.left) }
+    {
+        match self.quick_before(program, part, stop) {
+            Some(found) => {
+                self.left -= found.steps + 1;
+                Some(found.value)
+            }
+            None => {
+                self.enter_above(frame, part);
+                self.left -= 1;
+                None
+            }
+        }
+    }
+
+    /// Evaluates a choice.
+    #[inline(always)]
+    fn visit_choice(
+        &mut self,
+        program: &Program,
+        here: NodeId,
+        condition: NodeId,
+        yes: NodeId,
+        no: NodeId,
+        stop: u64,
+    )
+        requires control { self.old.control ≡ Control.Enter here }
+        requires tree { tree_at program.now.nodes.items here ≡ evaluated_tree program.now.nodes.items (Node.Choose condition yes no) }
+        requires some { stop < self.old.left }
+        requires room { length self.old.frames.items < vec_capacity self.old.frames }
+        requires nested { IsNested (view_of self.old) }
+        ensures goes { (t : Table) (h : Course) → remaining program.now (view_of self.old) t h ≡ remaining program.now (view_of self.new) t h }
+        ensures nested { IsNested (view_of self.new) }
+        ensures within { (k : Reach) → AreReached k (view_of self.old) → AreReached k (view_of self.new) }
+        ensures left { stop ≤ self.new.left }
+        ensures spends { self.new.left < self.old.left }
+        ensures falls { power (view_of self.new) + self.old.left ≤ power (view_of self.old) + self.new.left }
+    {
+        let frame = Frame::Branch(yes, no);
+        if let Some(value) = self.first_value(program, here, frame, condition, stop) {
+            self.take_branch(yes, no, value);
+        }
+    }
+
+    /// Evaluates a loop.
+    #[inline(always)]
+    fn visit_loop(
+        &mut self,
+        program: &Program,
+        here: NodeId,
+        until: bool,
+        condition: NodeId,
+        body: NodeId,
+        stop: u64,
+    )
+        requires control { self.old.control ≡ Control.Enter here }
+        requires tree { tree_at program.now.nodes.items here ≡ evaluated_tree program.now.nodes.items (Node.Loop until condition body) }
+        requires some { stop < self.old.left }
+        requires room { length self.old.frames.items < vec_capacity self.old.frames }
+        requires nested { IsNested (view_of self.old) }
+        ensures goes { (t : Table) (h : Course) → remaining program.now (view_of self.old) t h ≡ remaining program.now (view_of self.new) t h }
+        ensures nested { IsNested (view_of self.new) }
+        ensures within { (k : Reach) → AreReached k (view_of self.old) → AreReached k (view_of self.new) }
+        ensures left { stop ≤ self.new.left }
+        ensures spends { self.new.left < self.old.left }
+        ensures falls { power (view_of self.new) + self.old.left ≤ power (view_of self.old) + self.new.left }
+    {
+        let frame = Frame::Condition(until, body, here);
+        if let Some(value) = self.first_value(program, here, frame, condition, stop) {
+            self.go_round(until, body, here, value);
+        }
+    }
+
+    /// Evaluates an assignment to a local variable, whose name it has and how many words stand behind it.
+    #[inline(always)]
+    fn visit_store(
+        &mut self,
+        program: &Program,
+        here: NodeId,
+        variable: Variable,
+        value: NodeId,
+        stop: u64,
+    )
+        requires control { self.old.control ≡ Control.Enter here }
+        requires script { (w : World) → rule (context_of program.now) (tree_at program.now.nodes.items here) ≡ Go (tree_at program.now.nodes.items value) (resumed (code_of program.now w) (Frame.Store variable) []) }
+        requires some { stop < self.old.left }
+        requires room { length self.old.frames.items < vec_capacity self.old.frames }
+        requires nested { IsNested (view_of self.old) }
+        ensures goes { (t : Table) (h : Course) → remaining program.now (view_of self.old) t h ≡ remaining program.now (view_of self.new) t h }
+        ensures nested { IsNested (view_of self.new) }
+        ensures within { (k : Reach) → AreReached k (view_of self.old) → AreReached k (view_of self.new) }
+        ensures left { stop ≤ self.new.left }
+        ensures spends { self.new.left < self.old.left }
+        ensures falls { power (view_of self.new) + self.old.left ≤ power (view_of self.old) + self.new.left }
+    {
+        let frame = Frame::Store(variable);
+        if let Some(value) = self.first_value(program, here, frame, value, stop) {
+            self.store(variable, value);
+        }
+    }
+
+    /// Evaluates an operator and its operands.
+    #[inline(always)]
+    fn visit_operands(
+        &mut self,
+        program: &Program,
+        here: NodeId,
+        op: BinaryOperator,
+        a: NodeId,
+        b: NodeId,
+        stop: u64,
+    )
+        requires control { self.old.control ≡ Control.Enter here }
+        requires tree { tree_at program.now.nodes.items here ≡ evaluated_tree program.now.nodes.items (Node.Binary op a b) }
+        requires some { stop < self.old.left }
+        requires room { length self.old.frames.items < vec_capacity self.old.frames }
+        requires nested { IsNested (view_of self.old) }
+        ensures goes { (t : Table) (h : Course) → remaining program.now (view_of self.old) t h ≡ remaining program.now (view_of self.new) t h }
+        ensures nested { IsNested (view_of self.new) }
+        ensures within { (k : Reach) → AreReached k (view_of self.old) → AreReached k (view_of self.new) }
+        ensures left { stop ≤ self.new.left }
+        ensures spends { self.new.left < self.old.left }
+        ensures falls { power (view_of self.new) + self.old.left ≤ power (view_of self.old) + self.new.left }
+    {
+        if self.left - stop > 2 && self.visit_leaves(program, op, a, b) {
+            return;
+        }
+        let frame = Frame::Left(op, b);
+        if let Some(value) = self.first_value(program, here, frame, a, stop) {
+            self.operate_left(program, op, value, b, stop);
+        }
+    }
+
+    /// Evaluates statements.
+    #[inline(always)]
+    fn visit_statements(
+        &mut self,
+        program: &Program,
+        here: NodeId,
+        first: NodeId,
+        count: u32,
+        stop: u64,
+    )
+        requires control { self.old.control ≡ Control.Enter here }
+        requires tree { tree_at program.now.nodes.items here ≡ evaluated_tree program.now.nodes.items (Node.Sequence first count) }
+        requires small { first + count < 2 ^ 32 }
+        requires some { stop < self.old.left }
+        requires room { length self.old.frames.items < vec_capacity self.old.frames }
+        requires nested { IsNested (view_of self.old) }
+        ensures goes { (t : Table) (h : Course) → remaining program.now (view_of self.old) t h ≡ remaining program.now (view_of self.new) t h }
+        ensures nested { IsNested (view_of self.new) }
+        ensures within { (k : Reach) → AreReached k (view_of self.old) → AreReached k (view_of self.new) }
+        ensures left { stop ≤ self.new.left }
+        ensures spends { self.new.left < self.old.left }
+        ensures falls { power (view_of self.new) + self.old.left ≤ power (view_of self.old) + self.new.left }
+    {
+        self.begin(first + count, count);
+        self.left -= 1;
+    }
+
+    /// Evaluates the statements of a block.
+    #[inline(always)]
+    fn visit_body(&mut self, program: &Program, here: NodeId, body: NodeId, stop: u64)
+        requires control { self.old.control ≡ Control.Enter here }
+        requires script { rule (context_of program.now) (tree_at program.now.nodes.items here) ≡ Go (tree_at program.now.nodes.items body) Ret }
+        requires some { stop < self.old.left }
+        requires nested { IsNested (view_of self.old) }
+        ensures goes { (t : Table) (h : Course) → remaining program.now (view_of self.old) t h ≡ remaining program.now (view_of self.new) t h }
+        ensures nested { IsNested (view_of self.new) }
+        ensures within { (k : Reach) → AreReached k (view_of self.old) → AreReached k (view_of self.new) }
+        ensures left { stop ≤ self.new.left }
+        ensures spends { self.new.left < self.old.left }
+        ensures falls { power (view_of self.new) + self.old.left ≤ power (view_of self.old) + self.new.left }
+    {
+        self.control = Control::Enter(body);
+        self.left -= 1;
+    }
+
+    /// Evaluates a node that needs no frame, where the steps do not stop before what follows.
+    #[inline(always)]
+    fn visit_quick(&mut self, program: &Program, here: NodeId, stop: u64) -> bool
+        requires control { self.old.control ≡ Control.Enter here }
+        requires some { stop < self.old.left }
+        requires room { length self.old.frames.items < vec_capacity self.old.frames }
+        requires nested { IsNested (view_of self.old) }
+        ensures goes { (t : Table) (h : Course) → remaining program.now (view_of self.old) t h ≡ remaining program.now (view_of self.new) t h }
+        ensures nested { IsNested (view_of self.new) }
+        ensures within { (k : Reach) → AreReached k (view_of self.old) → AreReached k (view_of self.new) }
+        ensures left { stop ≤ self.new.left }
+        ensures kept { self.new.left ≤ self.old.left }
+        ensures spends { IsTrue result → self.new.left < self.old.left }
+        ensures falls { power (view_of self.new) + self.old.left ≤ power (view_of self.old) + self.new.left }
+    {
+        match self.quick_before(program, here, stop) {
+            Some(found) => {
+                self.left -= found.steps;
+                self.control = Control::Give(Answer::Gave(found.value));
+                true
+            }
+            None => false,
+        }
+    }
+
+    /// Evaluates a node, where that is usual: it answers whether it was done.
+    #[inline(always)]
+    pub fn visit_often(
+        &mut self,
+        prepared: &Prepared,
+        space: &Space,
+        here: NodeId,
+        stop: u64,
+    ) -> bool
+        requires control { self.old.control ≡ Control.Enter here }
+        requires some { stop < self.old.left }
+        requires room { length self.old.frames.items < vec_capacity self.old.frames }
+        requires nested { IsNested (view_of self.old) }
+        ensures goes { (h : Course) → remaining prepared.now.program (view_of self.old) space.now h ≡ remaining prepared.now.program (view_of self.new) space.now h }
+        ensures nested { IsNested (view_of self.new) }
+        ensures within { (k : Reach) → AreReached k (view_of self.old) → AreReached k (view_of self.new) }
+        ensures left { stop ≤ self.new.left }
+        ensures kept { self.new.left ≤ self.old.left }
+        ensures spends { IsTrue result → self.new.left < self.old.left }
+        ensures falls { power (view_of self.new) + self.old.left ≤ power (view_of self.old) + self.new.left }
+    {
+        let program = &prepared.program;
+        let place = evaluated_place(program, here);
+        match program.nodes.get(place as usize) {
+            Some(&Node::Choose(condition, yes, no)) => {
+                self.visit_choice(program, here, condition, yes, no, stop);
+            }
+            Some(
+                &Node::Loop {
+                    until,
+                    condition,
+                    body,
+                },
+            ) => self.visit_loop(program, here, until, condition, body, stop),
+            Some(
+                &Node::Assign {
+                    depth,
+                    slot,
+                    value,
+                    ..
+                },
+            ) => self.visit_store(program, here, Variable { depth, slot }, value, stop),
+            Some(&Node::Binary(op, a, b)) => self.visit_operands(program, here, op, a, b, stop),
+            Some(&Node::Sequence { first, count }) => {
+                self.visit_statements(program, here, first, count, stop);
+            }
+            Some(
+                &Node::Call {
+                    name,
+                    first,
+                    count,
+                    ..
+                },
+            ) => return self.call_usual(prepared, space, here, name, first, count, stop),
+            Some(&Node::Yield { first, count }) => {
+                return self.yield_usual(prepared, space, here, first, count, stop);
+            }
+            Some(&Node::Block { body, .. }) => self.visit_body(program, here, body, stop),
+            _ => return self.visit_quick(program, here, stop),
+        }
+        true
+    }
+}
