@@ -58,3 +58,4 @@ pub mod Settable
 pub mod Rare
 pub mod Refusing
 pub mod Topmost
+pub mod Acting

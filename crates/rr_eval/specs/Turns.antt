@@ -173,3 +173,30 @@ abbrev pub Falls : {E : Type 0} → View → Result Turn E → View → Type 0
 Falls old (Ok turns.More) new = power new < power old
 Falls old (Ok (turns.Ask q)) new = 6 * new.left + sized (Some q) new < power old
 Falls old _ new = Unit {0}
+
+-- what comes first is a step
+abbrev pub IsStep : Control → Type 0
+IsStep (Enter part) = Unit {0}
+IsStep (Operate op a b) = Unit {0}
+IsStep (Send callee v w) = Unit {0}
+IsStep (Assign spot v) = Unit {0}
+IsStep _ = ⊥
+
+-- One act: what was still to be done is what it did, and then what is still to be done. The turn goes on, or stops there, with as many steps
+-- left as `stop` where they are spent.
+abbrev pub Acted : Program → View → Table → ℕ → Result (Option Turn) Fault → View → Table → Type 0
+Acted p old t stop (Ok None) new u = (h : Course) → remaining p old t h ≡ remaining p new u h
+Acted p old t stop (Ok (Some turns.More)) new u = (0 < new.left) × (new.left ≡ stop) × ((h : Course) → remaining p old t h ≡ remaining p new u h)
+Acted p old t stop (Ok (Some (turns.Ask q))) new u = (h : Course) → remaining p old t h ≡ asking_then p new u (asked_of u q) h
+Acted p old t stop (Ok (Some (turns.Done v))) new u = (h : Course) → remaining p old t h ≡ Ended (Gave v) (state_of p new u h) new.left
+Acted p old t stop (Ok (Some (turns.Raised e))) new u = (h : Course) → remaining p old t h ≡ Ended (Raised e) (state_of p new u h) new.left
+Acted p old t stop (Ok (Some turns.StepLimit)) new u = (new.left ≡ 0) × ((h : Course) → remaining p old t h ≡ Spent (state_of p new u h))
+-- a growth was refused, and the next turn goes on from there
+Acted p old t stop (Err f) new u = IsRefusal f × ((h : Course) → remaining p old t h ≡ remaining p new u h)
+
+-- what falls from act to act, each step by one at least
+abbrev pub Descends : View → Option Turn → View → Type 0
+Descends old None new = (power new < power old) × (power new + old.left ≤ power old + new.left)
+Descends old (Some turns.More) new = power new + old.left ≤ power old + new.left
+Descends old (Some (turns.Ask q)) new = 6 * new.left + sized (Some q) new < power old
+Descends old _ new = Unit {0}

@@ -69,7 +69,7 @@ pub enum Turn {
 }
 
 /// How a turn stops where all ends with an answer.
-fn stop_of(answer: Answer) -> Turn
+pub fn stop_of(answer: Answer) -> Turn
     ensures is { result ≡ stop_of answer }
 {
     match answer {
@@ -157,7 +157,7 @@ impl Engine {
     /// Evaluates a node that needs neither the objects nor memory and calls no receiver: one step, or more where the part that comes
     /// first needs no frame and the steps do not stop before.
     #[inline(always)]
-    fn visit_usual(&mut self, program: &Program, here: NodeId, node: Node, stop: u64) -> bool
+    pub fn visit_usual(&mut self, program: &Program, here: NodeId, node: Node, stop: u64) -> bool
         requires control { self.old.control ≡ Control.Enter here }
         requires tree { tree_at program.now.nodes.items here ≡ evaluated_tree program.now.nodes.items node }
         requires evaluated { IsEvaluated node }
@@ -209,7 +209,7 @@ impl Engine {
     /// Evaluates an operator and its operands: one step, or three where the operands need no frame and the steps do not
     /// stop before.
     #[inline(always)]
-    fn visit_operation(
+    pub fn visit_operation(
         &mut self,
         program: &Program,
         op: BinaryOperator,
@@ -276,7 +276,7 @@ impl Engine {
     /// Takes the topmost frame off the stack, where there is one.
     #[tactic(auto, unfolding(crate::specs::Within::AreReached))]
     #[inline(always)]
-    fn pop_frame(&mut self, answer: Answer) -> Option<Frame>
+    pub fn pop_frame(&mut self, answer: Answer) -> Option<Frame>
         requires control { self.old.control ≡ Control.Give answer }
         requires nested { IsNested (view_of self.old) }
         ensures goes { (p : Program) (t : Table) (h : Course) → MatchOption result (remaining p (view_of self.old) t h ≡ Ended (ended answer) (state_of p (view_of self.new) t h) self.new.left) (λ f. remaining p (view_of self.old) t h ≡ after_answer p (view_of self.new) t f answer h self.new.left) }
@@ -296,7 +296,7 @@ impl Engine {
     /// Makes room for one more frame.
     #[tactic(auto, unfolding(crate::specs::Within::AreReached))]
     #[inline(always)]
-    fn make_room(&mut self) -> Result<(), Fault>
+    pub fn make_room(&mut self) -> Result<(), Fault>
         requires nested { IsNested (view_of self.old) }
         ensures nested { IsNested (view_of self.new) }
         ensures within { (k : Reach) → AreReached k (view_of self.old) → AreReached k (view_of self.new) }
@@ -334,84 +334,8 @@ impl Engine {
         let stop = self.left.saturating_sub(u64::from(budget));
         loop {
             self.act_usual(prepared, space, stop);
-            match self.control {
-                Control::Give(Answer::Gave(value)) => {
-                    let Some(frame) = self.pop_frame(Answer::Gave(value)) else {
-                        return Ok(Turn::Done(value));
-                    };
-                    if !self.resume(&prepared.program, frame, value, stop)
-                        && let Some(request) = self.resume_rare(prepared, space, frame, value)?
-                    {
-                        return Ok(Turn::Ask(request));
-                    }
-                }
-                Control::Give(answer) => {
-                    let Some(frame) = self.pop_frame(answer) else {
-                        return Ok(stop_of(answer));
-                    };
-                    self.pass(&prepared.program, space, frame, answer);
-                }
-                Control::Throw(problem) => self.throw(&prepared.program, space, problem)?,
-                Control::Raise(class, message) => self.raise(space, class, message)?,
-                Control::RaiseValue(value, message) => {
-                    self.raise_value(&prepared.program, space, value, message)?
-                }
-                Control::Start(block, problem) => {
-                    self.start(&prepared.program, space, block, problem)?
-                }
-                Control::New(class, cause) => self.make_new(prepared, space, class, cause)?,
-                Control::Pair(first, last) => self.make_pair(prepared, space, first, last)?,
-                Control::Operate(op, a, b) => {
-                    if self.left == 0 {
-                        return Ok(Turn::StepLimit);
-                    }
-                    if self.left <= stop {
-                        return Ok(Turn::More);
-                    }
-                    self.make_room()?;
-                    self.visit_operation(&prepared.program, op, a, b, stop);
-                }
-                Control::Enter(here) => {
-                    if self.left == 0 {
-                        return Ok(Turn::StepLimit);
-                    }
-                    if self.left <= stop {
-                        return Ok(Turn::More);
-                    }
-                    self.make_room()?;
-                    let node = evaluated_node(&prepared.program, here);
-                    if !self.visit_usual(&prepared.program, here, node, stop)
-                        && let Some(request) = self.visit_node(prepared, space, here, node, stop)?
-                    {
-                        return Ok(Turn::Ask(request));
-                    }
-                }
-                Control::Send(callee, receiver, argument) => {
-                    if self.left == 0 {
-                        return Ok(Turn::StepLimit);
-                    }
-                    if self.left <= stop {
-                        return Ok(Turn::More);
-                    }
-                    self.make_room()?;
-                    if let Some(request) = self.visit_call(
-                        prepared, space, callee, receiver, argument,
-                    )? {
-                        return Ok(Turn::Ask(request));
-                    }
-                }
-                Control::Assign(spot, value) => {
-                    if self.left == 0 {
-                        return Ok(Turn::StepLimit);
-                    }
-                    if self.left <= stop {
-                        return Ok(Turn::More);
-                    }
-                    self.make_room()?;
-                    if let Some(request) = self.visit_assignment(prepared, space, spot, value)? {
-                        return Ok(Turn::Ask(request));
-                    }
-                }
+            if let Some(turn) = self.act(prepared, space, stop)? {
+                return Ok(turn);
             }
         }
     }

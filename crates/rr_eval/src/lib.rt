@@ -2,6 +2,7 @@
 #![tactic(auto)]
 
 mod above;
+mod acts;
 mod apart;
 mod asking;
 mod assigned;
