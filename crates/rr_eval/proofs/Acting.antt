@@ -1,16 +1,13 @@
--- Acts of a turn, one after the other.
-use Rattle.std.proofs.Common.{◌≡◌, ℕ, ◌+◌, ◌*◌, ◌-◌, ◌<◌, ◌≤◌, ◌∙◌, ap, arith, Some, Ok}
+-- Steps, where none is left.
+use Rattle.std.proofs.Common.{◌≡◌, ap}
 use Rattle.rr_space.specs.Tables.{Table}
-use Rattle.rr_base.specs.declared.fault.Fault.{Fault}
 use Rattle.rr_tree.specs.declared.program.Program.{Program}
-use Rattle.rr_eval.specs.declared.engine.Turn.{Turn}
-use Rattle.rr_eval.specs.declared.engine.Turn.TheVariants as turns
 use Rattle.rr_eval.specs.declared.frame.Control.{Control}
 use Rattle.rr_eval.specs.declared.frame.Control.TheVariants.{Enter, Operate, Give, Throw, Raise, RaiseValue, Start, New, Pair, Send, Assign}
 use Rattle.rr_eval.specs.Frames.{first_tree}
 use Rattle.rr_eval.specs.Requests.{Course}
 use Rattle.rr_eval.specs.Script.{Spent}
-use Rattle.rr_eval.specs.Turns.{state_of, remaining, IsStep, Acted, Descends, Turned, Falls, power}
+use Rattle.rr_eval.specs.Turns.{state_of, remaining, IsStep}
 use Rattle.rr_eval.specs.View.{View}
 use Rattle.rr_eval.proofs.CallParts.{call_limit}
 use Rattle.rr_eval.proofs.Entered.{limit}

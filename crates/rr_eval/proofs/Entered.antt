@@ -104,11 +104,3 @@ leaves p m t n a b op x y at left first second h =
     ∙ ap (unwind (code_of p h.world) (reverse m.frames) m.held)
     (ap (λ o. after o (λ r. run h.world (meaning_of c h.world) (on_value (λ v. with_value (tree_at ns b) (operation c op v)) r))) (leaf c h.world (tree_at ns a) s (suc n) (Int x) first)
     ∙ ap (λ o. after o (λ r. run h.world (meaning_of c h.world) (on_value (operation c op (Int x)) r))) (leaf c h.world (tree_at ns b) s n (Int y) second))
-
--- an operator on an integer and a right operand that is a leaf
-pub leaf_right : (p : Program) (m : View) (t : Table) (n b : ℕ) (op : BinaryOperator) (x y : ℤ) → m.left ≡ suc n → leaf_value (tree_at p.nodes.items b) m.calls.frames ≡ Some (Int y) → (h : Course) → after_script p m t (resumed (code_of p h.world) (Left op b) [] (Gave (Int x))) h m.left ≡ after_script p m t (settled (context_of p) (integers op x y)) h n
-leaf_right p m t n b op x y left there h =
-    let c = context_of p in
-    let ns = p.nodes.items in
-    ap (after_script p m t (resumed (code_of p h.world) (Left op b) [] (Gave (Int x))) h) left
-    ∙ ap (λ o. unwind (code_of p h.world) (reverse m.frames) m.held (after o (λ r. run h.world (meaning_of c h.world) (on_value (operation c op (Int x)) r)))) (leaf c h.world (tree_at ns b) (state_of p m t h) n (Int y) there)

@@ -7,6 +7,7 @@ use Rattle.rr_tree.specs.Tree.{Tree, int, local, binary, tree_at}
 use Rattle.rr_tree.specs.declared.node.BinaryOperator.{BinaryOperator}
 use Rattle.rr_tree.specs.declared.program.Program.{Program}
 use Rattle.rr_eval.specs.declared.frame.Frame.{Frame}
+use Rattle.rr_eval.specs.declared.frame.Frame.TheVariants.{Left}
 use Rattle.rr_eval.specs.declared.frame.Control.TheVariants.{Enter}
 use Rattle.rr_eval.specs.declared.problem.Answer.{Answer}
 use Rattle.rr_eval.specs.declared.problem.Answer.TheVariants.{Gave}
@@ -72,3 +73,13 @@ under p m t here part steps v f h at script new takes less =
 -- a frame that waits for a part begins within what stands
 pub waits_within : (m : View) (f : Frame) → IsNew f (length m.held) → Nested (reverse m.frames) m.held → (base_of f ≤ length m.held) × Nested (reverse m.frames) (below_of f m.held)
 waits_within m f new nested = nested_pop m.frames f m.held (nested_new m.frames f m.held new nested)
+
+-- an operator on an integer and a right operand that has a value
+pub quick_right : (p : Program) (m : View) (t : Table) (b steps : ℕ) (op : BinaryOperator) (x y : ℤ) (h : Course) → TakesNow p m (tree_at p.nodes.items b) steps (Int y) → steps ≤ m.left
+    → after_script p m t (resumed (code_of p h.world) (Left op b) [] (Gave (Int x))) h m.left ≡ after_script p m t (settled (context_of p) (integers op x y)) h (m.left - steps)
+quick_right p m t b steps op x y h takes less =
+    let c = code_of p h.world in
+    let n = m.left - steps in
+    let all : m.left ≡ steps + n = omega (arith, less) in
+    ap (after_script p m t (resumed c (Left op b) [] (Gave (Int x))) h) all
+    ∙ ap (λ o. unwind c (reverse m.frames) m.held (after o (λ r. runs_in c (on_value (operation c.context op (Int x)) r)))) (takes t h n)

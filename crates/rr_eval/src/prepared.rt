@@ -199,6 +199,7 @@ impl Prepared {
     }
 
     /// Whether the receiver has a built-in method that stands in a class below Object.
+    #[inline(always)]
     fn is_below(&self, space: &Space, receiver: Ref, callee: Callee) -> bool
         ensures { result ≡ is_below (kind_at space.now receiver) (method_of (context_of self.now.program) callee) (iteration_of (context_of self.now.program) callee) }
     {
@@ -215,6 +216,7 @@ impl Prepared {
 
     /// Whether the receiver has a method of a class below Object that a call finds: a built-in one, or one of Ractor or of a ractor.
     #[tactic(auto, unfolding(crate::specs::Dispatch::comes_first))]
+    #[inline(always)]
     fn comes_first(&self, space: &Space, receiver: Ref, callee: Callee) -> bool
         ensures { result ≡ comes_first (context_of self.now.program) space.now receiver callee }
     {

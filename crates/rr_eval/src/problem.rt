@@ -123,6 +123,7 @@ pub fn returned(number: u32, answer: Answer) -> Answer
 }
 
 /// What the value of a call is, by the method's.
+#[inline(always)]
 pub fn value_by(by: CallValue, value: Ref) -> Ref
     ensures is { result ≡ value_by by value }
     ensures within { (k : Reach) → IsCallValueReached k by → IsReached k value → IsReached k result }
@@ -150,6 +151,7 @@ fn gave_by(by: CallValue, value: Ref) -> Answer
 }
 
 /// What a call ends with, whose method ends so.
+#[inline(always)]
 pub fn valued(by: CallValue, answer: Answer) -> Answer
     ensures is { result ≡ valued by answer }
     ensures more { more_of result ≤ more_of answer }

@@ -140,6 +140,7 @@ fn own_called(program: &Program, callee: Callee) -> Option<RactorMethod>
 
 /// The method of Ractor, or of a ractor, that a call calls, where it calls one.
 #[tactic(auto, unfolding(crate::specs::RactorMethods::ractor_method))]
+#[inline(always)]
 pub fn ractor_method(program: &Program, receiver: Ref, callee: Callee) -> Option<RactorMethod>
     ensures { result ≡ ractor_method (context_of program.now) receiver callee }
 {

@@ -34,10 +34,10 @@ use rr_space::{Ref, Space};
 use rr_tree::{BinaryOperator, NodeId, Program};
 
 impl Engine {
-    /// An operator on an integer and its right operand, which is evaluated in one step, where it is an integer that needs
-    /// no frame and the steps do not stop before.
+    /// An operator on an integer and its right operand, where that is an integer that needs no frame and the steps do not stop
+    /// before.
     #[inline(always)]
-    fn operate_leaf(
+    fn operate_quick(
         &mut self,
         program: &Program,
         op: BinaryOperator,
@@ -57,9 +57,10 @@ impl Engine {
     {
         if let Ref::Int(x) = left
             && self.left > stop
-            && let Some(y) = self.leaf(program, b)
+            && let Some(found) = self.quick_before(program, b, stop)
+            && let Ref::Int(y) = found.value
         {
-            self.left -= 1;
+            self.left -= found.steps;
             self.settle(on_integers(op, x, y));
             return true;
         }
@@ -105,7 +106,7 @@ impl Engine {
         }
     }
 
-    /// Goes on behind the left operand of an operator: at once, where the right one is a leaf and both are integers.
+    /// Goes on behind the left operand of an operator: at once, where the right one needs no frame and both are integers.
     #[tactic(auto, unfolding(crate::specs::Within::AreReached))]
     #[inline(always)]
     pub fn operate_left(
@@ -126,7 +127,7 @@ impl Engine {
         ensures kept { self.new.left ≤ self.old.left }
         ensures size { size (view_of self.new) ≤ 3 * length self.old.frames.items + 4 }
     {
-        if !self.operate_leaf(program, op, left, b, stop) {
+        if !self.operate_quick(program, op, left, b, stop) {
             self.enter_above(Frame::Right(op, left), b);
         }
     }

@@ -31,6 +31,7 @@ use crate::engine::{Engine, push_within};
 use crate::frame::{Control, Frame, standing};
 use crate::iterating::{Ahead, Iterating, Visits, below, element_ahead, up_to, value_at};
 use crate::iterations::spreads_few;
+use crate::problem::Answer;
 use rr_builtin::Iteration;
 use rr_frames::Shape;
 use rr_space::{Ref, Space};
@@ -192,7 +193,7 @@ impl Engine {
         ensures kept { size (view_of self.new) ≤ size (view_of self.old) }
         ensures falls { IsTrue result → size (view_of self.new) < size (view_of self.old) }
     {
-        self.take_top(Frame::Round(iteration), value);
+        self.take_top(Frame::Round(iteration), Answer::Gave(value));
         self.pop_call();
         if self.begin_next(program, space, iteration, value) {
             return true;

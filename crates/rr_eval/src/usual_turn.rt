@@ -8,10 +8,10 @@ ghost use Rattle.rr_eval.specs.declared.frame.Frame.{Frame};
 ghost use Rattle.rr_eval.specs.declared.problem.Answer.{Answer};
 ghost use Rattle.rr_eval.specs.Frames.{below_of, base_of, Nested};
 ghost use Rattle.rr_eval.specs.Requests.{Course};
-ghost use Rattle.rr_eval.specs.Turns.{IsNested, remaining, after_answer, power, size};
+ghost use Rattle.rr_eval.specs.Turns.{IsNested, remaining, after_answer, more_of, power, size};
 ghost use Rattle.rr_eval.specs.Usual.{IsTop};
 ghost use Rattle.rr_eval.specs.Views.{view_of};
-ghost use Rattle.rr_eval.specs.Within.{Reach, reach, IsReached, IsFrameReached, AreReached};
+ghost use Rattle.rr_eval.specs.Within.{Reach, reach, IsFrameReached, IsAnswerReached, AreReached};
 
 use crate::call_stack::{CallValue, Variable};
 use crate::engine::Engine;
@@ -26,18 +26,18 @@ impl Engine {
     /// Takes the topmost frame, which is this one, off the stack.
     #[tactic(auto, unfolding(crate::specs::Within::AreReached))]
     #[inline(always)]
-    pub fn take_top(&mut self, frame: Frame, value: Ref)
-        requires control { self.old.control ≡ Control.Give (Answer.Gave value) }
+    pub fn take_top(&mut self, frame: Frame, answer: Answer)
+        requires control { self.old.control ≡ Control.Give answer }
         requires top { IsTop self.old.frames.items frame }
         requires nested { IsNested (view_of self.old) }
-        ensures goes { (p : Program) (t : Table) (h : Course) → remaining p (view_of self.old) t h ≡ after_answer p (view_of self.new) t frame (Answer.Gave value) h self.new.left }
+        ensures goes { (p : Program) (t : Table) (h : Course) → remaining p (view_of self.old) t h ≡ after_answer p (view_of self.new) t frame answer h self.new.left }
         ensures nested { Nested (reverse self.new.frames.items) (below_of frame self.new.held.items) }
         ensures base { base_of frame ≤ length self.new.held.items }
         ensures within { (k : Reach) → AreReached k (view_of self.old) → AreReached k (view_of self.new) }
         ensures frame { (k : Reach) → AreReached k (view_of self.old) → IsFrameReached k frame }
-        ensures given { (k : Reach) → AreReached k (view_of self.old) → IsReached k value }
+        ensures given { (k : Reach) → AreReached k (view_of self.old) → IsAnswerReached k answer }
         ensures room { length self.new.frames.items < vec_capacity self.new.frames }
-        ensures size { size (view_of self.old) ≡ 3 * length self.new.frames.items + 5 }
+        ensures size { size (view_of self.old) ≡ 3 * length self.new.frames.items + 5 + more_of answer }
         ensures control { self.new.control ≡ self.old.control }
         ensures left { self.new.left ≡ self.old.left }
     {
@@ -66,7 +66,7 @@ impl Engine {
         ensures kept { self.new.left ≤ self.old.left }
         ensures falls { size (view_of self.new) < size (view_of self.old) }
     {
-        self.take_top(Frame::Left(op, b), value);
+        self.take_top(Frame::Left(op, b), Answer::Gave(value));
         self.operate_left(program, op, value, b, stop);
     }
 
@@ -85,7 +85,7 @@ impl Engine {
     {
         match (left, value) {
             (Ref::Int(x), Ref::Int(y)) => {
-                self.take_top(Frame::Right(op, left), value);
+                self.take_top(Frame::Right(op, left), Answer::Gave(value));
                 self.settle(on_integers(op, x, y));
                 true
             }
@@ -105,7 +105,7 @@ impl Engine {
         ensures left { self.new.left ≡ self.old.left }
         ensures falls { size (view_of self.new) < size (view_of self.old) }
     {
-        self.take_top(Frame::Store(variable), value);
+        self.take_top(Frame::Store(variable), Answer::Gave(value));
         self.store(variable, value);
     }
 
@@ -121,7 +121,7 @@ impl Engine {
         ensures left { self.new.left ≡ self.old.left }
         ensures falls { size (view_of self.new) < size (view_of self.old) }
     {
-        self.take_top(Frame::Branch(yes, no), value);
+        self.take_top(Frame::Branch(yes, no), Answer::Gave(value));
         self.take_branch(yes, no, value);
     }
 
@@ -137,7 +137,7 @@ impl Engine {
         ensures left { self.new.left ≡ self.old.left }
         ensures falls { size (view_of self.new) < size (view_of self.old) }
     {
-        self.take_top(Frame::Condition(until, body, here), value);
+        self.take_top(Frame::Condition(until, body, here), Answer::Gave(value));
         self.go_round(until, body, here, value);
     }
 
@@ -153,7 +153,7 @@ impl Engine {
         ensures left { self.new.left ≡ self.old.left }
         ensures falls { size (view_of self.new) < size (view_of self.old) }
     {
-        self.take_top(Frame::Body(here), value);
+        self.take_top(Frame::Body(here), Answer::Gave(value));
         self.control = Control::Enter(here);
     }
 
@@ -169,7 +169,7 @@ impl Engine {
         ensures left { self.new.left ≡ self.old.left }
         ensures falls { size (view_of self.new) < size (view_of self.old) }
     {
-        self.take_top(Frame::Rest(end, count), value);
+        self.take_top(Frame::Rest(end, count), Answer::Gave(value));
         self.begin(end, count);
     }
 
@@ -185,7 +185,7 @@ impl Engine {
         ensures left { self.new.left ≡ self.old.left }
         ensures falls { size (view_of self.new) < size (view_of self.old) }
     {
-        self.take_top(Frame::Back(by), value);
+        self.take_top(Frame::Back(by), Answer::Gave(value));
         self.end_method(by, value);
     }
 
@@ -201,7 +201,7 @@ impl Engine {
         ensures left { self.new.left ≡ self.old.left }
         ensures falls { size (view_of self.new) < size (view_of self.old) }
     {
-        self.take_top(Frame::Past, value);
+        self.take_top(Frame::Past, Answer::Gave(value));
         self.end_block(value);
     }
 
@@ -239,6 +239,57 @@ impl Engine {
         true
     }
 
+    /// Passes a `return` over statements.
+    #[inline(always)]
+    fn pass_rest(&mut self, end: NodeId, count: u32, value: Ref)
+        requires control { self.old.control ≡ Control.Give (Answer.Returned value) }
+        requires top { IsTop self.old.frames.items (Frame.Rest end count) }
+        requires nested { IsNested (view_of self.old) }
+        ensures goes { (p : Program) (t : Table) (h : Course) → remaining p (view_of self.old) t h ≡ remaining p (view_of self.new) t h }
+        ensures nested { IsNested (view_of self.new) }
+        ensures within { (k : Reach) → AreReached k (view_of self.old) → AreReached k (view_of self.new) }
+        ensures left { self.new.left ≡ self.old.left }
+        ensures falls { size (view_of self.new) < size (view_of self.old) }
+    {
+        self.take_top(Frame::Rest(end, count), Answer::Returned(value));
+    }
+
+    /// Ends a method by a `return`.
+    #[inline(always)]
+    fn pass_back(&mut self, by: CallValue, value: Ref)
+        requires control { self.old.control ≡ Control.Give (Answer.Returned value) }
+        requires top { IsTop self.old.frames.items (Frame.Back by) }
+        requires nested { IsNested (view_of self.old) }
+        ensures goes { (p : Program) (t : Table) (h : Course) → remaining p (view_of self.old) t h ≡ remaining p (view_of self.new) t h }
+        ensures nested { IsNested (view_of self.new) }
+        ensures within { (k : Reach) → AreReached k (view_of self.old) → AreReached k (view_of self.new) }
+        ensures left { self.new.left ≡ self.old.left }
+        ensures falls { size (view_of self.new) < size (view_of self.old) }
+    {
+        self.take_top(Frame::Back(by), Answer::Returned(value));
+        self.end_method(by, value);
+    }
+
+    /// Passes a `return` through the topmost frame, where that is usual: it answers whether it was done.
+    #[inline(always)]
+    fn pass_often(&mut self, value: Ref) -> bool
+        requires control { self.old.control ≡ Control.Give (Answer.Returned value) }
+        requires nested { IsNested (view_of self.old) }
+        ensures goes { (p : Program) (t : Table) (h : Course) → remaining p (view_of self.old) t h ≡ remaining p (view_of self.new) t h }
+        ensures nested { IsNested (view_of self.new) }
+        ensures within { (k : Reach) → AreReached k (view_of self.old) → AreReached k (view_of self.new) }
+        ensures left { self.new.left ≡ self.old.left }
+        ensures less { size (view_of self.new) ≤ size (view_of self.old) }
+        ensures falls { IsTrue result → size (view_of self.new) < size (view_of self.old) }
+    {
+        match self.frames.last() {
+            Some(&Frame::Rest(end, count)) => self.pass_rest(end, count, value),
+            Some(&Frame::Back(by)) => self.pass_back(by, value),
+            _ => return false,
+        }
+        true
+    }
+
     /// One usual act, where what comes next is one: it answers whether it was done.
     #[inline(always)]
     fn act_often(&mut self, prepared: &Prepared, space: &Space, stop: u64) -> bool
@@ -256,6 +307,7 @@ impl Engine {
             Control::Give(Answer::Gave(value)) => {
                 self.resume_often(&prepared.program, space, value, stop)
             }
+            Control::Give(Answer::Returned(value)) => self.pass_often(value),
             Control::Enter(here) => {
                 self.left > stop
                     && self.frames.len() < self.frames.capacity()

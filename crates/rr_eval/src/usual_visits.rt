@@ -1,6 +1,6 @@
 //! Nodes that are usual: what they do needs neither memory nor the objects.
 
-ghost use Rattle.std.specs.Prelude.{◌≡◌, ◌+◌, ◌*◌, ◌<◌, ◌≤◌, ◌^◌, ℕ, [], length, reverse, slice_get, vec_capacity, Some, IfSome, IsTrue, MatchOption};
+ghost use Rattle.std.specs.Prelude.{◌≡◌, ◌+◌, ◌*◌, ◌<◌, ◌≤◌, ◌^◌, ℕ, [], length, reverse, slice_get, vec_capacity, Some, IfSome, IsTrue, IsFalse, MatchOption};
 ghost use Rattle.rr_space.specs.Tables.{Table};
 ghost use Rattle.rr_tree.specs.Tree.{tree_at, binary, choose};
 ghost use Rattle.rr_tree.specs.declared.node.Node.{Node};
@@ -19,7 +19,7 @@ ghost use Rattle.rr_eval.specs.Within.{Reach, IsReached, IsFrameReached, AreReac
 use crate::call_stack::Variable;
 use crate::engine::Engine;
 use crate::frame::{Control, Frame};
-use crate::nodes::evaluated_place;
+use crate::nodes::{evaluated_node, evaluated_place};
 use crate::prepared::Prepared;
 use crate::problem::Answer;
 use rr_space::{Ref, Space};
@@ -174,9 +174,6 @@ impl Engine {
         ensures spends { self.new.left < self.old.left }
         ensures falls { power (view_of self.new) + self.old.left ≤ power (view_of self.old) + self.new.left }
     {
-        if self.left - stop > 2 && self.visit_leaves(program, op, a, b) {
-            return;
-        }
         let frame = Frame::Left(op, b);
         if let Some(value) = self.first_value(program, here, frame, a, stop) {
             self.operate_left(program, op, value, b, stop);
@@ -242,6 +239,7 @@ impl Engine {
         ensures kept { self.new.left ≤ self.old.left }
         ensures spends { IsTrue result → self.new.left < self.old.left }
         ensures falls { power (view_of self.new) + self.old.left ≤ power (view_of self.old) + self.new.left }
+        ensures same { IsFalse result → self.new ≡ self.old }
     {
         match self.quick_before(program, here, stop) {
             Some(found) => {
@@ -251,6 +249,27 @@ impl Engine {
             }
             None => false,
         }
+    }
+
+    /// Evaluates a node of another kind, where that is usual: it answers whether it was done.
+    fn visit_apart(&mut self, program: &Program, here: NodeId, stop: u64) -> bool
+        requires control { self.old.control ≡ Control.Enter here }
+        requires some { stop < self.old.left }
+        requires room { length self.old.frames.items < vec_capacity self.old.frames }
+        requires nested { IsNested (view_of self.old) }
+        ensures goes { (t : Table) (h : Course) → remaining program.now (view_of self.old) t h ≡ remaining program.now (view_of self.new) t h }
+        ensures nested { IsNested (view_of self.new) }
+        ensures within { (k : Reach) → AreReached k (view_of self.old) → AreReached k (view_of self.new) }
+        ensures left { stop ≤ self.new.left }
+        ensures kept { self.new.left ≤ self.old.left }
+        ensures spends { IsTrue result → self.new.left < self.old.left }
+        ensures falls { power (view_of self.new) + self.old.left ≤ power (view_of self.old) + self.new.left }
+    {
+        if self.visit_quick(program, here, stop) {
+            return true;
+        }
+        let node = evaluated_node(program, here);
+        self.visit_first(program, here, node, stop)
     }
 
     /// Evaluates a node, where that is usual: it answers whether it was done.
@@ -311,7 +330,7 @@ impl Engine {
                 return self.yield_usual(prepared, space, here, first, count, stop);
             }
             Some(&Node::Block { body, .. }) => self.visit_body(program, here, body, stop),
-            _ => return self.visit_quick(program, here, stop),
+            _ => return self.visit_apart(program, here, stop),
         }
         true
     }

@@ -1,6 +1,5 @@
 -- The topmost frame gets the value.
 use Rattle.std.proofs.Common.{◌≡◌, ◌++◌, ◌∷◌, [], ◌∙◌, ap, arith, reverse, subst}
-use Rattle.rr_eval.specs.declared.problem.Answer.TheVariants.{Gave}
 use Rattle.rr_eval.specs.Frames.{Nested, outcome_of}
 use Rattle.rr_eval.specs.Turns.{code_of, state_of}
 use Rattle.rr_eval.specs.Views.{view_of}
@@ -19,7 +18,7 @@ returns-clause-goes c = λ p t h.
     let s = state_of p m t h in
     ap (λ fs. outcome_of code fs m.held m.control s m.left) is
     ∙ ap (λ k. outcome_of code (rest ++ f ∷ []) m.held k s m.left) c.requires.control
-    ∙ given code rest f m.held (Gave c.args.value) s m.left
+    ∙ given code rest f m.held c.args.answer s m.left
 
 pub returns-clause-nested : goal.returns-clause-nested
 returns-clause-nested c =
@@ -44,4 +43,4 @@ pub returns-clause-frame : goal.returns-clause-frame
 returns-clause-frame c k h = top_reached k (view_of c.args.self.now) c.args.frame c.requires.top h
 
 pub returns-clause-given : goal.returns-clause-given
-returns-clause-given c k h = given_within k (view_of c.args.self.now) (Gave c.args.value) c.requires.control h
+returns-clause-given c k h = given_within k (view_of c.args.self.now) c.args.answer c.requires.control h

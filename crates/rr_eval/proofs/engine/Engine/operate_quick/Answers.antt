@@ -1,29 +1,34 @@
--- The right operand takes one step.
-use Rattle.std.proofs.Common.{◌≡◌, suc, ◌-◌, sym, ap, ◌∙◌, arith, rules, w64, to_z, of_z}
+-- The right operand has its value.
+use Rattle.std.proofs.Common.{◌≡◌, ◌+◌, ◌-◌, ◌≤◌, sym, ap, ◌∙◌, arith, rules, subst, w64, to_z, of_z}
+use Rattle.rr_space.specs.declared.refer.Ref.TheVariants.{Int}
+use Rattle.rr_tree.specs.Tree.{tree_at}
 use Rattle.rr_eval.specs.declared.problem.Answer.TheVariants.{Gave}
 use Rattle.rr_eval.specs.declared.frame.Frame.TheVariants.{Left}
 use Rattle.rr_eval.specs.Operators.{integers}
 use Rattle.rr_eval.specs.Rules.{settled}
 use Rattle.rr_eval.specs.Turns.{context_of, after_script, remaining_with, after_answer}
-use Rattle.rr_eval.proofs.Entered.{leaf_right}
+use Rattle.rr_eval.specs.Usual.{TakesNow}
 use Rattle.rr_eval.specs.Views.{view_of}
 use Rattle.rr_eval.proofs.Holding.{with_left}
-use Rattle.rr_eval.proofs.engine.Engine.operate_leaf.Goals as goal
+use Rattle.rr_eval.proofs.Quickly.{quick_right}
+use Rattle.rr_eval.proofs.engine.Engine.operate_quick.Goals as goal
 
 pub returns-clause-goes : goal.returns-clause-goes
 returns-clause-goes c = λ _ t h.
     let p = c.args.program.now in
     let m = view_of c.args.self.now in
     let x = c.in-Int.x in
-    let y = c.in-Some.y in
+    let y = c.in-Int-value.y in
+    let steps = c.in-Some.found.steps in
     let fx : to_z w64 (of_z w64 x) ≡ x = search rules in
     let fy : to_z w64 (of_z w64 y) ≡ y = search rules in
     let given = c.on_integers.ensures.does ∙ ap (λ z. integers c.args.op z (to_z w64 (of_z w64 y))) fx ∙ ap (integers c.args.op x) fy in
-    let some : m.left ≡ suc (m.left - 1) = omega arith in
+    let enough = c.in-Some.ensures.enough in
+    let takes : TakesNow p m (tree_at p.nodes.items c.args.b) steps (Int y) = subst (TakesNow p m (tree_at p.nodes.items c.args.b) steps) c.in-Int-value.is c.in-Some.ensures.takes in
     ap (λ v. after_answer p m t (Left c.args.op c.args.b) (Gave v) h m.left) c.in-Int.is
-    ∙ leaf_right p m t (m.left - 1) c.args.b c.args.op x y some c.in-Some.ensures h
-    ∙ ap (λ r. after_script p m t (settled (context_of p) r) h (m.left - 1)) (sym given)
-    ∙ c.settle.ensures.goes p t h (m.left - 1)
+    ∙ quick_right p m t c.args.b steps c.args.op x y h takes (omega (arith, enough))
+    ∙ ap (λ r. after_script p m t (settled (context_of p) r) h (m.left - steps)) (sym given)
+    ∙ c.settle.ensures.goes p t h (m.left - steps)
     ∙ ap (remaining_with p (view_of c.settle.new.self) t h) (sym c.settle.ensures.left)
 
 pub returns-clause-within : goal.returns-clause-within
