@@ -59,3 +59,4 @@ pub mod Rare
 pub mod Refusing
 pub mod Topmost
 pub mod Acting
+pub mod OtherFrames

@@ -161,6 +161,42 @@ impl Engine {
         self.control = Control::Enter(if is_truthy(condition) { yes } else { no });
     }
 
+    /// Evaluates the right operand of `&&`, where the left one is true.
+    #[tactic(auto, unfolding(crate::specs::Within::AreReached))]
+    #[inline(always)]
+    fn and_then(&mut self, b: NodeId, value: Ref)
+        requires nested { IsNested (view_of self.old) }
+        ensures goes { (p : Program) (t : Table) (h : Course) (n : ℕ) → after_answer p (view_of self.old) t (Frame.And b) (Answer.Gave value) h n ≡ remaining_with p (view_of self.new) t h n }
+        ensures nested { IsNested (view_of self.new) }
+        ensures within { (k : Reach) → AreReached k (view_of self.old) → IsReached k value → AreReached k (view_of self.new) }
+        ensures left { self.new.left ≡ self.old.left }
+        ensures size { size (view_of self.new) ≤ 3 * length self.old.frames.items + 4 }
+    {
+        self.control = if is_truthy(value) {
+            Control::Enter(b)
+        } else {
+            Control::Give(Answer::Gave(value))
+        };
+    }
+
+    /// Evaluates the right operand of `||`, where the left one is not true.
+    #[tactic(auto, unfolding(crate::specs::Within::AreReached))]
+    #[inline(always)]
+    fn or_else(&mut self, b: NodeId, value: Ref)
+        requires nested { IsNested (view_of self.old) }
+        ensures goes { (p : Program) (t : Table) (h : Course) (n : ℕ) → after_answer p (view_of self.old) t (Frame.Or b) (Answer.Gave value) h n ≡ remaining_with p (view_of self.new) t h n }
+        ensures nested { IsNested (view_of self.new) }
+        ensures within { (k : Reach) → AreReached k (view_of self.old) → IsReached k value → AreReached k (view_of self.new) }
+        ensures left { self.new.left ≡ self.old.left }
+        ensures size { size (view_of self.new) ≤ 3 * length self.old.frames.items + 4 }
+    {
+        self.control = if is_truthy(value) {
+            Control::Give(Answer::Gave(value))
+        } else {
+            Control::Enter(b)
+        };
+    }
+
     /// Does what a frame, which is taken off the stack, does with a value, unless that needs the objects or memory.
     #[tactic(auto, unfolding(crate::specs::Within::AreReached))]
     #[inline(always)]
@@ -179,97 +215,24 @@ impl Engine {
         ensures rare { IsFalse result → IsRareFrame frame }
     {
         match frame {
-            Frame::Left(op, b) => {
-                self.operate_left(program, op, value, b, stop);
-                true
-            }
-            Frame::Right(op, left) => self.operate_integers(op, left, value),
-            Frame::Store(variable) => {
-                self.store(variable, value);
-                true
-            }
-            Frame::Branch(yes, no) => {
-                self.take_branch(yes, no, value);
-                true
-            }
-            Frame::And(b) => {
-                self.control = if is_truthy(value) {
-                    Control::Enter(b)
-                } else {
-                    Control::Give(Answer::Gave(value))
-                };
-                true
-            }
-            Frame::Or(b) => {
-                self.control = if is_truthy(value) {
-                    Control::Give(Answer::Gave(value))
-                } else {
-                    Control::Enter(b)
-                };
-                true
-            }
-            Frame::Not => {
-                self.control = Control::Give(Answer::Gave(Ref::Truth(!is_truthy(value))));
-                true
-            }
-            Frame::Condition(until, body, place) => {
-                self.go_round(until, body, place, value);
-                true
-            }
-            Frame::Body(place) => {
-                self.control = Control::Enter(place);
-                true
-            }
-            Frame::Rest(end, count) => {
-                self.begin(end, count);
-                true
-            }
-            Frame::Break => {
-                self.control = Control::Give(Answer::Broke(value));
-                true
-            }
-            Frame::Next => {
-                self.control = Control::Give(Answer::Done(value));
-                true
-            }
-            Frame::Return => {
-                self.leave_method(value);
-                true
-            }
-            Frame::Back(by) => {
-                self.end_method(by, value);
-                true
-            }
-            Frame::Past => {
-                self.end_block(value);
-                true
-            }
-            Frame::Negation
-            | Frame::SetField(_)
-            | Frame::Argument(_, _, _, _)
-            | Frame::Receiver(_, _, _, _)
-            | Frame::Item(_, _, _, _)
-            | Frame::Aim(_)
-            | Frame::Several(_, _, _)
-            | Frame::Assigned(_)
-            | Frame::Key(_, _, _, _)
-            | Frame::Value(_, _, _)
-            | Frame::Asking(_)
-            | Frame::Asked(_)
-            | Frame::Element(_, _)
-            | Frame::Read(_)
-            | Frame::Combine(_)
-            | Frame::Put(_, _)
-            | Frame::Rescue(_, _, _)
-            | Frame::Class(_)
-            | Frame::Handling(_)
-            | Frame::Ensure(_)
-            | Frame::Kept(_)
-            | Frame::Round(_)
-            | Frame::Turned(_)
-            | Frame::Paired(_)
-            | Frame::Initialize(_) => false,
+            Frame::Left(op, b) => self.operate_left(program, op, value, b, stop),
+            Frame::Right(op, left) => return self.operate_integers(op, left, value),
+            Frame::Store(variable) => self.store(variable, value),
+            Frame::Branch(yes, no) => self.take_branch(yes, no, value),
+            Frame::And(b) => self.and_then(b, value),
+            Frame::Or(b) => self.or_else(b, value),
+            Frame::Not => self.answer(Answer::Gave(Ref::Truth(!is_truthy(value)))),
+            Frame::Condition(until, body, place) => self.go_round(until, body, place, value),
+            Frame::Body(place) => self.control = Control::Enter(place),
+            Frame::Rest(end, count) => self.begin(end, count),
+            Frame::Break => self.answer(Answer::Broke(value)),
+            Frame::Next => self.answer(Answer::Done(value)),
+            Frame::Return => self.leave_method(value),
+            Frame::Back(by) => self.end_method(by, value),
+            Frame::Past => self.end_block(value),
+            _ => return false,
         }
+        true
     }
 
     /// Keeps the value of an argument and evaluates the next one.

@@ -5,6 +5,7 @@ use Rattle.rr_eval.specs.declared.problem.Answer.TheVariants.{Gave}
 use Rattle.rr_eval.proofs.Holding.{with_variable}
 use Rattle.rr_eval.specs.Views.{view_of}
 use Rattle.rr_eval.specs.Within.{IsFrameReached}
+use Rattle.rr_eval.proofs.OtherFrames.{other_rare}
 use Rattle.rr_eval.proofs.engine.Engine.resume.Goals as goal
 
 pub returns-in-Left-clause-within : goal.returns-in-Left-clause-within
@@ -33,3 +34,29 @@ returns-in-Return-clause-within c k h frame value = c.leave_method.ensures.withi
 
 pub returns-in-Past-clause-within : goal.returns-in-Past-clause-within
 returns-in-Past-clause-within c k h frame value = c.end_block.ensures.within k h value
+
+pub returns-in-And-clause-within : goal.returns-in-And-clause-within
+returns-in-And-clause-within c k h frame value = c.and_then.ensures.within k h value
+
+pub returns-in-Or-clause-within : goal.returns-in-Or-clause-within
+returns-in-Or-clause-within c k h frame value = c.or_else.ensures.within k h value
+
+pub returns-in_default-clause-rare : goal.returns-in_default-clause-rare
+returns-in_default-clause-rare c = λ _.
+    let is = c.in_default in
+    other_rare c.args.frame (record {
+      no_left = is.not-Left;
+      no_store = is.not-Store;
+      no_branch = is.not-Branch;
+      no_and = is.not-And;
+      no_or = is.not-Or;
+      no_not = is.not-Not;
+      no_condition = is.not-Condition;
+      no_body = is.not-Body;
+      no_rest = is.not-Rest;
+      no_break = is.not-Break;
+      no_next = is.not-Next;
+      no_return = is.not-Return;
+      no_back = is.not-Back;
+      no_past = is.not-Past;
+    })
