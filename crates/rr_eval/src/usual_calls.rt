@@ -10,7 +10,7 @@ ghost use Rattle.rr_eval.specs.declared.call.Target.{Target};
 ghost use Rattle.rr_eval.specs.declared.frame.Control.{Control};
 ghost use Rattle.rr_eval.specs.Prepared.{callable_of};
 ghost use Rattle.rr_eval.specs.Requests.{Course};
-ghost use Rattle.rr_eval.specs.Rules.{rule, arguments, finish, call_rule, own_method, printing, raises, awaited};
+ghost use Rattle.rr_eval.specs.Rules.{rule, arguments, finish, call_rule, own_method, printing, raises, awaited, bare_rule, asks_block};
 ghost use Rattle.rr_eval.specs.Script.{See};
 ghost use Rattle.rr_eval.specs.Turns.{context_of, state_of, IsNested, remaining, power, size};
 ghost use Rattle.rr_eval.specs.Usual.{TakesNow};
@@ -242,6 +242,39 @@ impl Engine {
             return self.call_one(prepared, space, here, name, first, definition, found, stop);
         }
         self.call_all(prepared, space, here, name, first, count, definition, stop)
+    }
+
+    /// Calls a method of the program on `self` without arguments, where it has one of this name.
+    #[inline(always)]
+    pub fn bare_usual(
+        &mut self,
+        prepared: &Prepared,
+        space: &Space,
+        here: NodeId,
+        name: Sym,
+        stop: u64,
+    ) -> bool
+        requires control { self.old.control ≡ Control.Enter here }
+        requires script { rule (context_of prepared.now.program) (tree_at prepared.now.program.nodes.items here) ≡ See (λ m. bare_rule (context_of prepared.now.program) (own_method (context_of prepared.now.program) name.0 m) (printing (context_of prepared.now.program) name.0) (raises (context_of prepared.now.program) name.0) (asks_block (context_of prepared.now.program) name.0) name) }
+        requires some { stop < self.old.left }
+        requires room { length self.old.frames.items < vec_capacity self.old.frames }
+        requires nested { IsNested (view_of self.old) }
+        ensures goes { (h : Course) → remaining prepared.now.program (view_of self.old) space.now h ≡ remaining prepared.now.program (view_of self.new) space.now h }
+        ensures nested { IsNested (view_of self.new) }
+        ensures within { (k : Reach) → AreReached k (view_of self.old) → AreReached k (view_of self.new) }
+        ensures left { stop ≤ self.new.left }
+        ensures kept { self.new.left ≤ self.old.left }
+        ensures spends { IsTrue result → self.new.left < self.old.left }
+        ensures falls { power (view_of self.new) + self.old.left ≤ power (view_of self.old) + self.new.left }
+    {
+        let Some(definition) = self.own_method(prepared, space, name) else {
+            return false;
+        };
+        if self.begin_method(definition, Frame::Not, None) {
+            self.left -= 1;
+            return true;
+        }
+        false
     }
 
     /// Gives values to the block of the method that runs.

@@ -326,6 +326,9 @@ impl Engine {
                     ..
                 },
             ) => return self.call_usual(prepared, space, here, name, first, count, stop),
+            Some(&Node::Bare { name, .. }) => {
+                return self.bare_usual(prepared, space, here, name, stop);
+            }
             Some(&Node::Yield { first, count }) => {
                 return self.yield_usual(prepared, space, here, first, count, stop);
             }

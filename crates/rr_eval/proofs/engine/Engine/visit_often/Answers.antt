@@ -97,3 +97,14 @@ visit_body-requires-clause-script c =
     let inside : c.evaluated_place-place.result < length all = grind (arith, nat_tests) in
     let there = tree_found ns all p.ordered c.args.here c.evaluated_place-place.result call.field-0.now c.evaluated_place-place.ensures.same c.deref.ensures.value inside call.ensures.lookup.1 in
     ap (rule (context_of p)) (there ∙ ap (evaluated_tree ns) call.field-0-is)
+
+pub bare_usual-requires-clause-script : goal.bare_usual-requires-clause-script
+bare_usual-requires-clause-script c =
+    let p = c.args.prepared.now.program in
+    let ns = p.nodes.items in
+    let all = c.deref.result.now in
+    let call = c.in-Some-Bare in
+    let test = call.ensures.lookup.0 in
+    let inside : c.evaluated_place-place.result < length all = grind (arith, nat_tests) in
+    let there = tree_found ns all p.ordered c.args.here c.evaluated_place-place.result call.field-0.now c.evaluated_place-place.ensures.same c.deref.ensures.value inside call.ensures.lookup.1 in
+    ap (rule (context_of p)) (there ∙ ap (evaluated_tree ns) call.field-0-is)
