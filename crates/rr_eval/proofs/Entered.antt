@@ -12,7 +12,6 @@ use Rattle.rr_eval.specs.Operators.{integers}
 use Rattle.rr_tree.specs.declared.node.Node.{Node}
 use Rattle.rr_tree.specs.declared.program.Program.{Program}
 use Rattle.rr_eval.specs.declared.frame.Frame.{Frame}
-use Rattle.rr_eval.specs.declared.frame.Frame.TheVariants.{Left}
 use Rattle.rr_eval.specs.declared.frame.Control.{Control}
 use Rattle.rr_eval.specs.declared.frame.Control.TheVariants.{Enter, Operate, Give, Throw, Raise, RaiseValue, Start, New, Pair, Send, Assign}
 use Rattle.rr_eval.specs.View.{View}
@@ -20,7 +19,7 @@ use Rattle.rr_eval.specs.Script.{State, Script, World, Spent, Ended, Waits, run,
 use Rattle.rr_eval.specs.Requests.{Course, asking}
 use Rattle.rr_eval.specs.Rules.{Context, rule, meaning_of, meaning, on_value, with_value, settled, operation}
 use Rattle.rr_eval.specs.Nodes.{evaluated_tree}
-use Rattle.rr_eval.specs.Frames.{Code, means, runs_in, resumed, start, first_tree, unwind, outcome_of, below_of}
+use Rattle.rr_eval.specs.Frames.{Code, means, runs_in, start, first_tree, unwind, outcome_of, below_of}
 use Rattle.rr_eval.specs.Turns.{context_of, code_of, state_of, remaining, after_script, control_of, Replied, leaf_value}
 use Rattle.rr_eval.proofs.Depth.{meaning_rule}
 

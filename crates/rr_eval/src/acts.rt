@@ -17,12 +17,14 @@ use crate::nodes::evaluated_node;
 use crate::prepared::Prepared;
 use crate::problem::Answer;
 use crate::request::Request;
+use crate::usual_sends::is_send;
 use rr_base::Fault;
 use rr_space::Space;
 use rr_tree::NodeId;
 
 impl Engine {
     /// Gives the topmost frame an answer: what stops the turn then. Where there is no frame, the answer is that of all.
+    #[inline(always)]
     fn give(
         &mut self,
         prepared: &Prepared,
@@ -67,6 +69,7 @@ impl Engine {
     }
 
     /// Evaluates a node.
+    #[inline(always)]
     fn visit_here(
         &mut self,
         prepared: &Prepared,
@@ -95,13 +98,17 @@ impl Engine {
         ensures full { IfErr result (λ f. (h : Course) → Adds h.world → Passes f space.old.limit (objects_of (remaining prepared.now.program (view_of self.old) space.old h))) }
     {
         let node = evaluated_node(&prepared.program, here);
-        if self.visit_usual(&prepared.program, here, node, stop) {
+        if is_send(node) {
+            return self.visit_node(prepared, space, here, node, stop);
+        }
+        if self.visit_one(&prepared.program, here, node) {
             return Ok(None);
         }
         self.visit_node(prepared, space, here, node, stop)
     }
 
     /// Does a step, and those of the parts that come first and need no frame. A refused growth leaves what is still to be done as it is.
+    #[inline(always)]
     fn visit(
         &mut self,
         prepared: &Prepared,
@@ -178,6 +185,7 @@ impl Engine {
     }
 
     /// One act: what stops the turn then, where something does. A refused growth leaves what is still to be done as it is.
+    #[inline(always)]
     pub fn act(
         &mut self,
         prepared: &Prepared,

@@ -1,6 +1,6 @@
 //! The machine: a stack of frames, each of which waits for the answer of a part.
 
-ghost use Rattle.std.specs.Prelude.{◌≡◌, ◌+◌, ◌*◌, ◌<◌, ◌≤◌, ℕ, List, [], ◌∷◌, ◌++◌, length, reverse, vec_capacity, Option, Some, IfOk, IfErr, IfSome, IsTrue, IsFalse, OnOk, MatchOption};
+ghost use Rattle.std.specs.Prelude.{◌≡◌, ◌+◌, ◌*◌, ◌<◌, ◌≤◌, List, [], ◌∷◌, ◌++◌, length, reverse, vec_capacity, Option, Some, IfOk, IfErr, IfSome, IsTrue, IsFalse, OnOk, MatchOption};
 ghost use Rattle.rr_base.specs.declared.fault.Fault.{Fault};
 ghost use Rattle.rr_space.specs.declared.refer.Ref.{Ref};
 ghost use Rattle.rr_eval.specs.Blocks.{running};
@@ -16,8 +16,7 @@ ghost use Rattle.rr_eval.specs.Changes.{Changes};
 ghost use Rattle.rr_eval.specs.Frames.{below_of, base_of, Nested, first_tree};
 ghost use Rattle.rr_eval.specs.Rules.{ended};
 ghost use Rattle.rr_eval.specs.Nodes.{evaluated_tree, IsEvaluated, IsRareNode};
-ghost use Rattle.rr_eval.specs.Turns.{context_of, state_of, remaining, remaining_with, after_script, after_answer, continuing, IsNested, Stands, leaf_value, stop_of, Turned, more_of, size, sized, waits, power, Falls};
-ghost use Rattle.rr_eval.specs.Usual.{IsSendNode};
+ghost use Rattle.rr_eval.specs.Turns.{state_of, remaining, after_answer, continuing, IsNested, Stands, leaf_value, stop_of, Turned, more_of, size, sized, waits, power, Falls};
 ghost use Rattle.rr_eval.specs.Views.{view_of};
 ghost use Rattle.rr_eval.specs.Within.{Reach, reach, IsReached, IsAnswerReached, IsFrameReached, AreVariablesReached, IsAskedReached, IsTurnReached, AreReached, AreWithin, KeepsReach, KeepsRead};
 ghost use Rattle.std.specs.List.{All};
@@ -29,7 +28,6 @@ use crate::operator::on_integers;
 use crate::prepared::Prepared;
 use crate::problem::Answer;
 use crate::request::Request;
-use crate::usual_sends::is_send;
 use rr_base::Fault;
 use rr_space::{Ref, Space};
 use rr_tree::{BinaryOperator, Node, NodeId, Program};
@@ -154,37 +152,9 @@ impl Engine {
         }
     }
 
-    /// Evaluates a node that needs neither the objects nor memory and calls no receiver: one step, or more where the part that comes
-    /// first needs no frame and the steps do not stop before.
-    #[inline(always)]
-    pub fn visit_usual(&mut self, program: &Program, here: NodeId, node: Node, stop: u64) -> bool
-        requires control { self.old.control ≡ Control.Enter here }
-        requires tree { tree_at program.now.nodes.items here ≡ evaluated_tree program.now.nodes.items node }
-        requires evaluated { IsEvaluated node }
-        requires some { stop < self.old.left }
-        requires room { length self.old.frames.items < vec_capacity self.old.frames }
-        requires nested { IsNested (view_of self.old) }
-        ensures goes { IsTrue result → (t : Table) (h : Course) → remaining program.now (view_of self.old) t h ≡ remaining program.now (view_of self.new) t h }
-        ensures nested { IsNested (view_of self.new) }
-        ensures within { (k : Reach) → AreReached k (view_of self.old) → AreReached k (view_of self.new) }
-        ensures left { IsTrue result → stop ≤ self.new.left }
-        ensures spends { IsTrue result → self.new.left < self.old.left }
-        ensures falls { IsTrue result → power (view_of self.new) + self.old.left ≤ power (view_of self.old) + self.new.left }
-        ensures same { IsFalse result → self.new ≡ self.old }
-        ensures rare { IsFalse result → (IsSendNode node → ⊥) → IsRareNode node }
-    {
-        if self.visit_first(program, here, node, stop) {
-            return true;
-        }
-        if is_send(node) {
-            return false;
-        }
-        self.visit_one(program, here, node)
-    }
-
     /// Evaluates a node that needs neither the objects nor memory, which is one step.
     #[inline(always)]
-    fn visit_one(&mut self, program: &Program, here: NodeId, node: Node) -> bool
+    pub fn visit_one(&mut self, program: &Program, here: NodeId, node: Node) -> bool
         requires control { self.old.control ≡ Control.Enter here }
         requires tree { tree_at program.now.nodes.items here ≡ evaluated_tree program.now.nodes.items node }
         requires evaluated { IsEvaluated node }

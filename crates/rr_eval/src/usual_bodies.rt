@@ -3,14 +3,13 @@
 ghost use Rattle.std.specs.Prelude.{◌≡◌, ◌+◌, ◌*◌, ◌<◌, ◌≤◌, ℕ, ◌++◌, length, reverse, vec_capacity, slice_index_or, Option, None, Some, IsTrue, IsFalse};
 ghost use Rattle.std.specs.List.{All};
 ghost use Rattle.std.specs.Option.{option_map};
-ghost use Rattle.rr_base.specs.declared.name.ClassId.{ClassId as ClassNumber};
 ghost use Rattle.rr_base.specs.declared.name.Sym.{Sym};
 ghost use Rattle.rr_frames.specs.Frames.{list_of};
-ghost use Rattle.rr_space.specs.Tables.{Table, Below};
+ghost use Rattle.rr_space.specs.Tables.{Table};
 ghost use Rattle.rr_tree.specs.Tree.{tree_at};
 ghost use Rattle.rr_tree.specs.declared.program.Program.{Program};
 ghost use Rattle.rr_eval.specs.declared.call.Callee.{Callee};
-ghost use Rattle.rr_eval.specs.Blocks.{running, called, called_as, framed, yield_rule};
+ghost use Rattle.rr_eval.specs.Blocks.{running, called, framed, yield_rule};
 ghost use Rattle.rr_eval.specs.Dispatch.{run_method, run_work, way_of};
 ghost use Rattle.rr_eval.specs.Frames.{below_of, base_of, stand_of, Nested};
 ghost use Rattle.rr_eval.specs.Methods.{Runs};
@@ -18,7 +17,7 @@ ghost use Rattle.rr_eval.specs.Prepared.{callable_of, method_of, way_in};
 ghost use Rattle.rr_eval.specs.Requests.{Course};
 ghost use Rattle.rr_eval.specs.Turns.{context_of, blocks_of, state_of, IsNested, after_values, remaining_with, size};
 ghost use Rattle.rr_eval.specs.Views.{view_of};
-ghost use Rattle.rr_eval.specs.Within.{Reach, reach, AreReached, IsReached, IsEntryReached, IsWayReached};
+ghost use Rattle.rr_eval.specs.Within.{Reach, AreReached, IsReached, IsEntryReached, IsWayReached};
 
 use crate::blocks::{shape_at, spreads};
 use crate::call::Passing;

@@ -1,9 +1,8 @@
 //! Calls that are usual: of a method of the program on `self`, and of a block by `yield`, with arguments that need no frame, where they
 //! take no memory.
 
-ghost use Rattle.std.specs.Prelude.{◌≡◌, ◌+◌, ◌*◌, ◌<◌, ◌≤◌, ◌^◌, ℕ, [], ◌++◌, false, length, vec_capacity, Option, None, Some, IsTrue, IsFalse};
+ghost use Rattle.std.specs.Prelude.{◌≡◌, ◌+◌, ◌*◌, ◌<◌, ◌≤◌, ◌^◌, [], false, length, vec_capacity, None, Some, IsTrue, IsFalse};
 ghost use Rattle.rr_parser.specs.Grammar.Names.{is_splat};
-ghost use Rattle.rr_space.specs.Tables.{Table, Below};
 ghost use Rattle.rr_tree.specs.Nodes.{trees_before};
 ghost use Rattle.rr_tree.specs.Tree.{tree_at};
 ghost use Rattle.rr_eval.specs.declared.call.Target.{Target};
@@ -15,7 +14,7 @@ ghost use Rattle.rr_eval.specs.Script.{See};
 ghost use Rattle.rr_eval.specs.Turns.{context_of, state_of, IsNested, remaining, power, size};
 ghost use Rattle.rr_eval.specs.Usual.{TakesNow};
 ghost use Rattle.rr_eval.specs.Views.{view_of};
-ghost use Rattle.rr_eval.specs.Within.{Reach, reach, IsReached, AreReached};
+ghost use Rattle.rr_eval.specs.Within.{Reach, IsReached, AreReached};
 
 use crate::call::Target;
 use crate::engine::Engine;

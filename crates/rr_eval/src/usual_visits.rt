@@ -1,8 +1,8 @@
 //! Nodes that are usual: what they do needs neither memory nor the objects.
 
-ghost use Rattle.std.specs.Prelude.{◌≡◌, ◌+◌, ◌*◌, ◌<◌, ◌≤◌, ◌^◌, ℕ, [], length, reverse, slice_get, vec_capacity, Some, IfSome, IsTrue, IsFalse, MatchOption};
+ghost use Rattle.std.specs.Prelude.{◌≡◌, ◌+◌, ◌*◌, ◌<◌, ◌≤◌, ◌^◌, [], length, reverse, vec_capacity, Some, IfSome, IsTrue, IsFalse, MatchOption};
 ghost use Rattle.rr_space.specs.Tables.{Table};
-ghost use Rattle.rr_tree.specs.Tree.{tree_at, binary, choose};
+ghost use Rattle.rr_tree.specs.Tree.{tree_at};
 ghost use Rattle.rr_tree.specs.declared.node.Node.{Node};
 ghost use Rattle.rr_eval.specs.declared.frame.Control.{Control};
 ghost use Rattle.rr_eval.specs.declared.frame.Frame.{Frame};

@@ -1,6 +1,6 @@
 -- An item has the tree of its part; any other node is evaluated.
-use Rattle.std.proofs.Common.{◌<◌, ◌^◌, sym, ap, subst, ◌∙◌, arith}
-use Rattle.rr_eval.specs.Nodes.{evaluated_tree, IsEvaluated}
+use Rattle.std.proofs.Common.{◌<◌, ◌^◌, sym, ap, ◌∙◌, arith}
+use Rattle.rr_eval.specs.Nodes.{evaluated_tree}
 use Rattle.rr_eval.proofs.Trees.{tree_is, evaluated, item_falls}
 use Rattle.rr_eval.proofs.nodes.evaluated_place.Goals as goal
 

@@ -1,5 +1,5 @@
 -- A frame more for a turn, and what it holds is reached.
-use Rattle.std.proofs.Common.{◌++◌, ◌∷◌, [], ◌∙◌, ap, sym, reverse, refl, take, drop, None}
+use Rattle.std.proofs.Common.{◌++◌, ◌∙◌, ap, sym, reverse, refl, take, drop, None}
 use Rattle.rr_tree.specs.Tree.{tree_at}
 use Rattle.rr_frames.specs.Frames.{list_of}
 use Rattle.rr_eval.specs.declared.call_stack.Entry.TheVariants.{OfBlock}

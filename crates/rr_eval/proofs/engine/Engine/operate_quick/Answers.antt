@@ -1,5 +1,5 @@
 -- The right operand has its value.
-use Rattle.std.proofs.Common.{◌≡◌, ◌+◌, ◌-◌, ◌≤◌, sym, ap, ◌∙◌, arith, rules, subst, w64, to_z, of_z}
+use Rattle.std.proofs.Common.{◌≡◌, ◌-◌, sym, ap, ◌∙◌, arith, rules, subst, w64, to_z, of_z}
 use Rattle.rr_space.specs.declared.refer.Ref.TheVariants.{Int}
 use Rattle.rr_tree.specs.Tree.{tree_at}
 use Rattle.rr_eval.specs.declared.problem.Answer.TheVariants.{Gave}

@@ -1,9 +1,5 @@
 -- What is held stays within.
 use Rattle.std.proofs.Common.{subst}
-use Rattle.rr_eval.specs.declared.frame.Control.TheVariants.{Give}
-use Rattle.rr_eval.specs.declared.problem.Answer.TheVariants.{Gave}
-use Rattle.rr_eval.proofs.Holding.{with_variable}
-use Rattle.rr_eval.specs.Views.{view_of}
 use Rattle.rr_eval.specs.Within.{IsFrameReached}
 use Rattle.rr_eval.proofs.OtherFrames.{other_rare}
 use Rattle.rr_eval.proofs.engine.Engine.resume.Goals as goal

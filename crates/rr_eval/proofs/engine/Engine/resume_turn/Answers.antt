@@ -7,7 +7,6 @@ use Rattle.rr_eval.specs.declared.problem.Answer.TheVariants.{Gave}
 use Rattle.rr_eval.specs.Frames.{runs_in, outcome_of, unwind, iterated}
 use Rattle.rr_eval.specs.Iterating.{continued_with}
 use Rattle.rr_eval.specs.Turns.{context_of, code_of, state_of, remaining, remaining_with}
-use Rattle.rr_eval.specs.View.{View}
 use Rattle.rr_eval.specs.Views.{view_of}
 use Rattle.rr_eval.specs.Within.{reach, AreReached, IsControlReached}
 use Rattle.rr_eval.proofs.Holding.{with_frame}

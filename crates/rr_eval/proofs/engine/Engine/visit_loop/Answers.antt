@@ -1,5 +1,5 @@
 -- The rule of a loop is what its frame waits for.
-use Rattle.std.proofs.Common.{◌≡◌, sym, ap, ◌∙◌}
+use Rattle.std.proofs.Common.{sym, ap, ◌∙◌}
 use Rattle.rr_tree.specs.Tree.{tree_at}
 use Rattle.rr_eval.specs.Rules.{rule, loop_rule}
 use Rattle.rr_eval.specs.Script.{Go, Ret}
