@@ -150,6 +150,7 @@ impl Engine {
     }
 
     /// Does a step, where one is left: what stops the turn before it, or then.
+    #[inline(always)]
     fn step(
         &mut self,
         prepared: &Prepared,
@@ -209,10 +210,10 @@ impl Engine {
     {
         match self.control {
             Control::Give(answer) => self.give(prepared, space, answer, stop),
-            Control::Enter(_) => self.step(prepared, space, stop),
-            Control::Operate(_, _, _) => self.step(prepared, space, stop),
-            Control::Send(_, _, _) => self.step(prepared, space, stop),
-            Control::Assign(_, _) => self.step(prepared, space, stop),
+            Control::Enter(_)
+            | Control::Operate(_, _, _)
+            | Control::Send(_, _, _)
+            | Control::Assign(_, _) => self.step(prepared, space, stop),
             Control::Throw(problem) => {
                 self.throw(&prepared.program, space, problem)?;
                 Ok(None)
