@@ -125,13 +125,7 @@ impl Engine {
 
     /// Three steps at once, where both operands are integers that need no frame.
     #[inline(always)]
-    pub fn visit_leaves(
-        &mut self,
-        program: &Program,
-        op: BinaryOperator,
-        a: NodeId,
-        b: NodeId,
-    ) -> bool
+    fn visit_leaves(&mut self, program: &Program, op: BinaryOperator, a: NodeId, b: NodeId) -> bool
         requires first { first_tree program.now.nodes.items self.old.control ≡ Some (binary op (tree_at program.now.nodes.items a) (tree_at program.now.nodes.items b)) }
         requires some { 2 < self.old.left }
         requires nested { IsNested (view_of self.old) }
