@@ -24,7 +24,7 @@ pub assigned_kind : (k : WordKind) (q : Sign) → Some q ≡ sign_of_kind k → 
 assigned_kind (word_kinds.Assign r) q e = cc
 assigned_kind _ q e = absurd cc
 
-abbrev now : Bor (List ℕ) → List ℕ
+abbrev pub now : Bor (List ℕ) → List ℕ
 now k = k.now
 
 pub any_now : (q : List ℕ → Bool) (ks : List (Bor (List ℕ))) → list_any (λ y. q y.now) ks ≡ list_any q (map now ks)

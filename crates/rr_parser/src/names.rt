@@ -1,6 +1,6 @@
 //! Words from tokens: each name and each text gets its number.
 
-ghost use Rattle.std.specs.Prelude.{◌≡◌, ◌∷◌, [], ◌++◌, ℕ, List, length, map, None, IfSome, OnSome, IfOk, OnOk};
+ghost use Rattle.std.specs.Prelude.{◌≡◌, ◌<◌, ◌∷◌, [], ◌++◌, ℕ, List, length, map, None, IfSome, OnSome, IfOk, OnOk, IsTrue};
 ghost use Rattle.rr_base.specs.ClassNames.{class_named};
 ghost use Rattle.rr_lexer.specs.declared.kind.Token.{Token};
 ghost use Rattle.rr_lexer.specs.Contents.{word_of, contents_of};
@@ -186,6 +186,36 @@ fn naming(name: &[u8]) -> Naming
 pub(crate) struct Numbering<'s> {
     pub names: IndexSet<&'s [u8]>,
     pub texts: Vec<Vec<u8>>,
+    /// Numbers of names that came lately: most names are found by one of them, with no look into the table.
+    recent: [u32; 64],
+}
+
+/// Where the number of a name is kept that came lately.
+#[inline(always)]
+fn recent_place(name: &[u8]) -> usize
+    ensures { result < 64 }
+{
+    match name {
+        [first, .., last] => (usize::from(*first) * 5 + usize::from(*last) + name.len() % 64) % 64,
+        [only] => usize::from(*only) % 64,
+        [] => 0,
+    }
+}
+
+/// Whether these are the same bytes. Names are short, so that it goes from byte to byte.
+#[inline(always)]
+fn are_same(one: &[u8], other: &[u8]) -> bool
+    ensures { IsTrue result → one.now ≡ other.now }
+{
+    if one.len() != other.len() {
+        return false;
+    }
+    for i in 0..one.len() {
+        if one[i] != other[i] {
+            return false;
+        }
+    }
+    true
 }
 
 /// A count as a number.
@@ -201,13 +231,40 @@ pub(crate) fn number(count: usize) -> Result<u32, Storage>
 impl<'s> Numbering<'s> {
     ghost use Rattle.rr_parser.specs.Numbering.{names_of, texts_held, with_text_of};
 
-    fn name(&mut self, name: &'s [u8]) -> Result<Sym, Storage>
+    /// The number of a name, by the table.
+    #[inline(never)]
+    fn looked_up(&mut self, name: &'s [u8]) -> Result<Sym, Storage>
         ensures names { OnOk result (names_of self.new ≡ with_name (names_of self.old) name.now) }
         ensures number { IfOk result (λ x. x ≡ number_of (names_of self.old) name.now) }
         ensures texts { self.new.texts.items ≡ self.old.texts.items }
     {
         let (place, _) = self.names.insert_full(name)?;
         Ok(Sym(number(place)?))
+    }
+
+    /// Whether the table has this name under this number.
+    #[inline(always)]
+    fn has(&self, number: u32, name: &[u8]) -> bool
+        ensures known { IsTrue result → with_name (names_of self.now) name.now ≡ names_of self.now }
+        ensures number { IsTrue result → number_of (names_of self.now) name.now ≡ record { 0 = number } }
+    {
+        let index = number as usize;
+        index < self.names.len() && are_same(self.names[index], name)
+    }
+
+    fn name(&mut self, name: &'s [u8]) -> Result<Sym, Storage>
+        ensures names { OnOk result (names_of self.new ≡ with_name (names_of self.old) name.now) }
+        ensures number { IfOk result (λ x. x ≡ number_of (names_of self.old) name.now) }
+        ensures texts { self.new.texts.items ≡ self.old.texts.items }
+    {
+        let place = recent_place(name);
+        let recent = self.recent[place];
+        if self.has(recent, name) {
+            return Ok(Sym(recent));
+        }
+        let number = self.looked_up(name)?;
+        self.recent[place] = number.0;
+        Ok(number)
     }
 
     /// The number of the text, or of the piece of one, that a token stands for.
@@ -308,6 +365,7 @@ pub(crate) fn read_words(alloc: Global, source: &[u8], tokens: &[Token]) -> Resu
     let mut numbering = Numbering {
         names: IndexSet::new(alloc),
         texts: Vec::new(alloc),
+        recent: [0; 64],
     };
     let mut words = Vec::with_capacity(alloc, tokens.len())?;
     let mut behind_def = false;
@@ -325,7 +383,11 @@ pub(crate) fn read_words(alloc: Global, source: &[u8], tokens: &[Token]) -> Resu
         left = rest;
     }
     let symbols = symbols(alloc, &numbering.names)?;
-    let Numbering { names: _, texts } = numbering;
+    let Numbering {
+        names: _,
+        texts,
+        recent: _,
+    } = numbering;
     let Opened { words, classes } = told(alloc, &symbols, words, with_class)?;
     Ok(Words {
         words,

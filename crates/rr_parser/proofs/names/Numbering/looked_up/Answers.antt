@@ -2,7 +2,7 @@ use Rattle.std.proofs.Common.{ap, ◌∙◌, ℕ}
 use Rattle.std.specs.Prelude.{bytes_eq}
 use Rattle.rr_base.specs.declared.name.Sym.{Sym}
 use Rattle.rr_parser.proofs.Numbers.{names_added, place_now}
-use Rattle.rr_parser.proofs.names.Numbering.name.Goals as goal
+use Rattle.rr_parser.proofs.names.Numbering.looked_up.Goals as goal
 
 abbrev sym_of : ℕ → Sym
 sym_of n = record { 0 = n }
