@@ -1,9 +1,9 @@
 //! Words from tokens: each name and each text gets its number.
 
-ghost use Rattle.std.specs.Prelude.{◌≡◌, ◌<◌, ◌∷◌, [], ◌++◌, ℕ, List, length, map, None, IfSome, OnSome, IfOk, OnOk, IsTrue};
+ghost use Rattle.std.specs.Prelude.{◌≡◌, ◌<◌, ◌≤◌, ◌∷◌, [], ◌++◌, ℕ, List, length, map, take, false, None, IfSome, OnSome, IfOk, OnOk, IsTrue};
 ghost use Rattle.rr_base.specs.ClassNames.{class_named};
 ghost use Rattle.rr_lexer.specs.declared.kind.Token.{Token};
-ghost use Rattle.rr_lexer.specs.Contents.{word_of, contents_of};
+ghost use Rattle.rr_lexer.specs.Contents.{word_of, contents_of, text_body};
 ghost use Rattle.rr_parser.specs.Grammar.Calls.{sign_of_kind};
 ghost use Rattle.rr_parser.specs.Words.{keyword_kind, op_kind, is_marked, accessor_named, name_kind, naming_of, token_name, with_name, number_of, with_symbol, with_symbol_of, with_text, word_kind, word_kind_of, words_of, symbols_of, texts_of, classes_of};
 
@@ -16,9 +16,9 @@ use crate::word::{
 };
 use indexmap::IndexSet;
 use rr_base::{BuiltInClass, Sym};
-use rr_lexer::{Keyword, Kind, Op, Token, int_value, name, text_contents};
+use rr_lexer::{Keyword, Kind, Op, Token, int_value, name, text_contents, word};
 use rr_tree::{BinaryOperator, Class};
-use std::alloc::Global;
+use std::alloc::{AllocError, Global};
 
 /// The words of a source, and what their numbers stand for.
 #[derive(Drop)]
@@ -218,6 +218,37 @@ fn are_same(one: &[u8], other: &[u8]) -> bool
     true
 }
 
+/// How many bytes stand before the first quote, where each of them stands for itself.
+#[inline(always)]
+fn plain_length(bytes: &[u8]) -> Option<usize>
+    ensures within { IfSome result (λ n. n ≤ length bytes.now) }
+    ensures plain { IfSome result (λ n. text_body bytes.now false ≡ take n bytes.now) }
+{
+    for i in 0..bytes.len() {
+        let b = bytes[i];
+        if b == b'"' {
+            return Some(i);
+        }
+        if b == b'\\' || b == b'#' || b == b'\r' {
+            return None;
+        }
+    }
+    None
+}
+
+/// The text that a token stands for. Where nothing in it is to be replaced, its bytes are copied at once.
+#[inline(always)]
+fn contents(alloc: Global, source: &[u8], token: Token) -> Result<Vec<u8>, AllocError>
+    ensures { IfOk result (λ t. t.items ≡ contents_of (word_of source.now token)) }
+{
+    if let [b'"', body @ ..] = word(source, token)
+        && let Some(size) = plain_length(body)
+    {
+        return Vec::from_slice(alloc, &body[..size]);
+    }
+    text_contents(alloc, source, token)
+}
+
 /// A count as a number.
 pub(crate) fn number(count: usize) -> Result<u32, Storage>
     ensures { IfOk result (λ n. n ≡ count) }
@@ -274,7 +305,7 @@ impl<'s> Numbering<'s> {
         ensures names { self.new.names.keys ≡ self.old.names.keys }
     {
         let place = number(self.texts.len())?;
-        self.texts.push(text_contents(alloc, source, token)?)?;
+        self.texts.push(contents(alloc, source, token)?)?;
         Ok(place)
     }
 
