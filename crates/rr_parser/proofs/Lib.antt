@@ -37,6 +37,7 @@ pub mod Spots
 pub mod Exact
 pub mod Lists
 pub mod Numbers
+pub mod Numerals
 pub mod Lately
 pub mod Scopes
 pub mod Formals

@@ -3,7 +3,7 @@
 ghost use Rattle.std.specs.Prelude.{◌≡◌, ◌<◌, ◌≤◌, ◌∷◌, [], ◌++◌, ℕ, List, length, map, take, false, None, IfSome, OnSome, IfOk, OnOk, IsTrue};
 ghost use Rattle.rr_base.specs.ClassNames.{class_named};
 ghost use Rattle.rr_lexer.specs.declared.kind.Token.{Token};
-ghost use Rattle.rr_lexer.specs.Contents.{word_of, contents_of, text_body};
+ghost use Rattle.rr_lexer.specs.Contents.{word_of, contents_of, int_value_of, text_body};
 ghost use Rattle.rr_parser.specs.Grammar.Calls.{sign_of_kind};
 ghost use Rattle.rr_parser.specs.Words.{keyword_kind, op_kind, is_marked, accessor_named, name_kind, naming_of, token_name, with_name, number_of, with_symbol, with_symbol_of, with_text, word_kind, word_kind_of, words_of, symbols_of, texts_of, classes_of};
 
@@ -249,6 +249,17 @@ fn contents(alloc: Global, source: &[u8], token: Token) -> Result<Vec<u8>, Alloc
     text_contents(alloc, source, token)
 }
 
+/// The number that a token spells. Most numbers are a digit.
+#[inline(always)]
+fn spelled(source: &[u8], token: Token) -> Option<u64>
+    ensures { result ≡ int_value_of (word_of source.now token) }
+{
+    match word(source, token) {
+        [digit] if b'0' <= *digit && *digit <= b'9' => Some(u64::from(*digit - b'0')),
+        _ => int_value(source, token),
+    }
+}
+
 /// A count as a number.
 pub(crate) fn number(count: usize) -> Result<u32, Storage>
     ensures { IfOk result (λ n. n ≡ count) }
@@ -328,7 +339,7 @@ impl<'s> Numbering<'s> {
             Kind::GlobalVariable => WordKind::Global(self.name(name(source, token))?),
             Kind::Symbol => WordKind::Symbol(self.name(name(source, token))?),
             Kind::Label => WordKind::Label(self.name(name(source, token))?),
-            Kind::Int => match int_value(source, token) {
+            Kind::Int => match spelled(source, token) {
                 Some(value) => WordKind::Int(value),
                 None => WordKind::Other,
             },
