@@ -9,6 +9,7 @@ use Rattle.rr_parser.specs.Places.{Place, placed, word, at}
 use Rattle.rr_parser.specs.Grammar.Operators.{operator, infixed, connective, joined_by}
 use Rattle.rr_parser.specs.Reading.Answers.{◌>>=◌, Answer, chain_on}
 use Rattle.rr_parser.specs.Reading.Nesting.{Readers}
+use Rattle.rr_parser.specs.Reading.Operands.{minus_of}
 use Rattle.rr_parser.specs.Reading.Operators.{binary_on, binary_of, pair_or, equality_on, logical_on, logical_of, question_or, ternary_on}
 use Rattle.rr_parser.specs.Meets.{nodes, Made, place}
 use Rattle.rr_parser.proofs.Chains.{chain_on-ends}
@@ -39,6 +40,15 @@ module _ (N : Readers) (shrinks : ReadersShrink N) (l : Tree) (m : Place) where
   unfolding ternary_on
   ternary_alone none unjoined unasked =
       ap (λ (q : Answer Tree). q >>= λ c. question_or N c.0 c.1 (at (word kind.Question) c.1)) (logical_alone 2 none unjoined) ∙ ap (λ o. question_or N l m (placed m.known o)) unasked
+
+module _ (N : Readers) (shrinks : ReadersShrink N) where
+  -- an operand behind which no operator as tight comes
+  pub binary_made : (level : ℕ) (old new : Parser) (i : ℕ) (words rest : List Word) → Made nodes old new i rest (minus_of N (place old words)) → ((n : ℕ) → n ≤ level → operator n rest ≡ None) → Made nodes old new i rest (binary_of N level (place old words))
+  binary_made level old new i words rest m none = record {
+    there = m.there;
+    tree = ap (λ (q : Answer Tree). q >>= λ x. binary_on N level x.0 x.1) m.tree ∙ binary_alone N shrinks (tree_at new.nodes.items i) (place new rest) level none;
+    kept = m.kept;
+  }
 
 module _ (N : Readers) (shrinks : ReadersShrink N) (p : Parser) (left : ℕ) (words : List Word) (there : left < length p.nodes.items) where
   pub made_alone : ((n : ℕ) → operator n words ≡ None) → ((n : ℕ) → n ≤ 2 → connective n words ≡ None) → word kind.Question words ≡ None → Made nodes p p left words (ternary_on N (tree_at p.nodes.items left) (place p words))

@@ -173,6 +173,10 @@ impl Parser {
         ensures { Gives self.old self.new result (binary_of (readers inside depth) level (place self.old words.now)) }
     {
         let (left, rest) = self.minus(inside, depth, words)?;
+        // Mostly no operator as tight comes.
+        if !binds(level, rest) {
+            return Ok((left, rest));
+        }
         self.binary_on(level, left, inside, depth, rest)
     }
 

@@ -26,7 +26,7 @@ use Rattle.rr_parser.proofs.Listing.{Steps-another}
 use Rattle.rr_parser.proofs.Steps.{Steps-comma, Steps-operator, Steps-connective, Steps-modifier, Steps-elsif, Steps-middle, Steps-rescues}
 use Rattle.rr_parser.proofs.Shrinking.{shrinks_nested}
 use Rattle.rr_parser.proofs.Making.{stable_nodes, stable_pairs, goes_ends, goes_fails, goes_smaller, list_on, operators_on, nested_part, nested_bracketed, nested_ordered, gives_outside}
-use Rattle.rr_parser.proofs.Alone.{made_alone}
+use Rattle.rr_parser.proofs.Alone.{binary_made, made_alone}
 use Rattle.rr_parser.proofs.Levels.{infixed_at, infixed_up, infixed_first, joined_at, joined_up, joined_first, joined_refused, levels_begin, levels_refused, levels_on, levels_fail, levels_end, levels_unbound}
 use Rattle.rr_parser.proofs.Choosing.{made_alternatives, made_pair, made_branch, made_loop, made_choice, made_unless}
 use Rattle.rr_parser.proofs.Spots.{gives_sent, made_element, made_attribute, made_setting, gives_ordered}
@@ -196,6 +196,10 @@ pub ternary_on-returns-then-not-goes_on : goal.ternary_on-returns-then-not-goes_
 ternary_on-returns-then-not-goes_on t c =
     made_alone (readers c.args.inside c.args.depth) (shrinks_nested c.args.inside c.args.depth) c.args.self.now c.args.left c.args.words.now c.requires (c.goes_on.ensures.operators c.if-not-goes_on.true)
     (c.goes_on.ensures.connectives c.if-not-goes_on.true) (c.goes_on.ensures.question c.if-not-goes_on.true)
+
+pub binary-returns-then-not-binds : goal.binary-returns-then-not-binds
+binary-returns-then-not-binds t c =
+    binary_made (readers c.args.inside c.args.depth) (shrinks_nested c.args.inside c.args.depth) c.args.level c.args.self.now c.minus.new.self _ _ _ c.in_ok-left.ensures (c.binds.ensures c.if-not-binds.true)
 
 pub joined_on-returns-in_err-right : goal.joined_on-returns-in_err-right
 joined_on-returns-in_err-right t c =
