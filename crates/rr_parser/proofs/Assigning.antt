@@ -1,5 +1,5 @@
 -- What the code made of assignments to several targets, and of modifiers.
-use Rattle.std.proofs.Common.{◌≡◌, ℕ, zero, suc, ◌<◌, Bool, true, false, List, [], ◌∷◌, ◌++◌, length, map, Some, Result, Ok, refl, sym, ap, ◌∙◌, subst, arith, cond, Err}
+use Rattle.std.proofs.Common.{◌≡◌, ℕ, zero, suc, ◌<◌, Bool, true, false, List, [], ◌∷◌, ◌++◌, length, map, Some, None, Result, Ok, refl, sym, ap, ◌∙◌, subst, arith, cond, Err}
 use Rattle.std.specs.Prelude.{All, IfOk}
 use Rattle.std.specs.Borrow.{Bor}
 use Rattle.rr_tree.specs.declared.node.Node.{Node}
@@ -15,18 +15,18 @@ use Rattle.rr_parser.specs.declared.word.Target.{Target}
 use Rattle.rr_parser.specs.declared.word.Word.{Word}
 use Rattle.rr_parser.specs.Places.{Place, word, at}
 use Rattle.rr_parser.specs.Grammar.Chains.{and_one}
-use Rattle.rr_parser.specs.Grammar.Names.{told_behind}
+use Rattle.rr_parser.specs.Grammar.Names.{told_behind, command}
 use Rattle.rr_parser.specs.Grammar.Calls.{with_target, target_tree, target_variable, comma, is_settable}
 use Rattle.rr_parser.specs.Grammar.Several.{plain_sign, assigned_to_several}
 use Rattle.rr_parser.specs.Grammar.Sequences.{modified}
 use Rattle.rr_parser.specs.Reading.Answers.{◌>>=◌, Answer, Parse, built, on_seen, chain_on, wrong}
 use Rattle.rr_parser.specs.Reading.Nesting.{Readers}
-use Rattle.rr_parser.specs.Reading.Calls.{argument_of}
-use Rattle.rr_parser.specs.Reading.Several.{word_target, targets_of, several_on, values_on, rights_of}
+use Rattle.rr_parser.specs.Reading.Calls.{argument_of, is_prefixed}
+use Rattle.rr_parser.specs.Reading.Several.{word_target, targets_of, several_on, values_on, right_on, rights_at, rights_or, rights_of}
 use Rattle.rr_parser.specs.Reading.Sequences.{expression_of, modifying_of}
 use Rattle.rr_parser.specs.Reading.{readers_outside, readers}
 use Rattle.rr_parser.specs.Meets.{nodes, lists, Made, Fails, Gives, Puts, Aims, place, known_of}
-use Rattle.rr_parser.proofs.Making.{Goes, made_put, made_over, fails_bind, seen_at, stable_nodes, kept_list}
+use Rattle.rr_parser.proofs.Making.{Goes, made_put, made_over, fails_bind, seen_at, unseen_at, gives_from, stable_nodes, kept_list}
 use Rattle.rr_parser.proofs.Lists.{list_ok}
 
 -- ---- targets
@@ -97,6 +97,15 @@ rights_outside (suc d) = refl
 pub gives_rights_outside : (old new : Parser) (r : Result (ℕ × Bor (List Word)) Refusal) (b : Bool) (d : ℕ) (s : Place) → b ≡ false → Gives old new r (rights_of (readers true d) s) → Gives old new r ((readers b d).values s)
 gives_rights_outside old new r true d s e g = absurd cc
 gives_rights_outside old new r false d s e g = subst (λ (p : Parse Tree). Gives old new r (p s)) (sym (rights_outside d)) g
+
+-- an argument that begins with no operand, and what stands behind it
+pub gives_rights_prefixed : (N : Readers) (old mid new : Parser) (a : ℕ) (words rest : List Word) (b : Bool) (r : Result (ℕ × Bor (List Word)) Refusal) → command (known_of old) words ≡ None → b ≡ is_prefixed words → b ≡ true
+    → Made nodes old mid a rest (argument_of N (place old words)) → Gives mid new r (right_on N (tree_at mid.nodes.items a) (place mid rest)) → Gives old new r (rights_of N (place old words))
+unfolding rights_of
+gives_rights_prefixed N old mid new a words rest b r none is so m g =
+    let e : rights_of N (place old words) ≡ (argument_of N (place old words) >>= λ x. right_on N x.0 x.1) =
+    ap (rights_or N (place old words)) (unseen_at old (command (known_of old)) words none) ∙ ap (λ (c : Bool). rights_at N c (place old words)) (sym is ∙ so) in
+    subst (λ (q : Answer Tree). Gives old new r q) (sym e) (gives_from old mid new a rest (argument_of N (place old words)) (λ c s. right_on N c s) r m g)
 
 -- ---- modifiers
 

@@ -276,7 +276,7 @@ module _ (N : Readers) (k : Listed) where
 -- ---- arguments from behind the operand that they begin with
 
 module _ (N : Readers) (o : Reached) where
-  pub made_first : (old m1 m2 : Parser) (none g : CodeGiven) (a : ℕ) (e : CodeMember) (words after rest : List Word) → none.items.items ≡ [] → none.pairs.items ≡ [] → Made nodes old m1 a after (reached_on N false o (place old words))
+  made_first : (old m1 m2 : Parser) (none g : CodeGiven) (a : ℕ) (e : CodeMember) (words after rest : List Word) → none.items.items ≡ [] → none.pairs.items ≡ [] → Made nodes old m1 a after (reached_on N false o (place old words))
       → Made members m1 m2 e rest (key_on N false (tree_at m1.nodes.items a) (place m1 after)) → AddsMember none g e → Made givens old m2 g rest (first_on N o (place old words))
   unfolding first_on
   made_first old m1 m2 none g a e words after rest i p m k add = record {
@@ -288,6 +288,17 @@ module _ (N : Readers) (o : Reached) where
         ∙ ap (λ (v : Given). Ok (v, place m2 rest)) (added_tree m2.nodes.items none g e add);
     kept = Extends-trans old.nodes.items m1.nodes.items m2.nodes.items m.kept k.kept;
   }
+
+  -- the same where the room of the first member is taken last
+  pub made_first_in_room : (old m1 m2 new : Parser) (none g : CodeGiven) (a : ℕ) (e : CodeMember) (words after rest : List Word) → none.items.items ≡ [] → none.pairs.items ≡ [] → new.nodes.items ≡ m2.nodes.items → new.known ≡ m2.known
+      → Made nodes old m1 a after (reached_on N false o (place old words)) → Made members m1 m2 e rest (key_on N false (tree_at m1.nodes.items a) (place m1 after)) → AddsMember none g e → Made givens old new g rest (first_on N o (place old words))
+  made_first_in_room old m1 m2 new none g a e words after rest i p same known m k add =
+      let made = made_first old m1 m2 none g a e words after rest i p m k add in
+      record {
+        there = subst (λ (l : List Node). givens.within (length l) g) (sym same) made.there;
+        tree = made.tree ∙ ap (λ (l : List Node). Ok (givens.tree l g, place m2 rest)) (sym same) ∙ ap (λ (s : Place). Ok (givens.tree new.nodes.items g, s)) (sym (same_place m2 new rest known));
+        kept = subst (λ (l : List Node). Extends old.nodes.items l) (sym same) made.kept;
+      }
 
   pub fails_operand : (old : Parser) (words : List Word) (d : Refusal) → Fails d (reached_on N false o (place old words)) → Fails d (first_on N o (place old words))
   unfolding first_on

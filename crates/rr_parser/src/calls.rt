@@ -1,6 +1,8 @@
 //! Reading assignments, arguments and commands.
 
-ghost use Rattle.std.specs.Prelude.{◌≡◌};
+ghost use Rattle.std.specs.Prelude.{◌≡◌, ◌<◌, length, map, All, IfOk};
+ghost use Rattle.rr_tree.specs.Tree.{tree_at};
+ghost use Rattle.rr_parser.specs.Grammar.Names.{headed};
 ghost use Rattle.rr_parser.specs.Reading.Calls.{bracketed_of, array_of, hash_of, index_of, commanded_of, arguments_of, headed_of, command_of, phrase_of, operand_of, value_of};
 ghost use Rattle.rr_parser.specs.Reading.{readers};
 
@@ -9,12 +11,12 @@ use crate::look::{behind, closing, last, target};
 use crate::marks::close_square;
 use crate::members::is_introduced;
 use crate::parser::{Parsed, ParsedList, Parser};
-use crate::refusal::Refusal;
+use crate::refusal::{Refusal, Storage};
 use crate::word::{Behind, Head, Listed, Part, Word, WordKind};
 use rr_tree::NodeId;
 
 impl Parser {
-    ghost use Rattle.rr_parser.specs.Meets.{Gives, GivesList, place};
+    ghost use Rattle.rr_parser.specs.Meets.{Gives, GivesList, Puts, place};
 
     /// An assignment or an operand, and a command too where commands may stand.
     #[cycle(parser)]
@@ -82,6 +84,17 @@ impl Parser {
         self.headed(head, inside, depth, rest)
     }
 
+    /// Puts a command, and leaves the room of its arguments to those of another one.
+    #[inline(always)]
+    fn put_command(&mut self, head: Head, items: Vec<NodeId>) -> Result<NodeId, Storage>
+        requires { All (λ i. i < length self.old.nodes.items) items.items }
+        ensures { IfOk result (λ id. Puts self.old self.new (headed head (map (tree_at self.old.nodes.items) items.items)) id) }
+    {
+        let command = self.put_headed(head, &items)?;
+        self.room = items;
+        Ok(command)
+    }
+
     /// A command from behind its first word on, with the block that may stand behind it.
     #[cycle(parser)]
     #[tactic(auto, unfolding(crate::specs::Reading::Calls::headed_of))]
@@ -96,7 +109,7 @@ impl Parser {
         ensures { Gives self.old self.new result (headed_of (readers inside depth) head (place self.old words.now)) }
     {
         let (items, rest) = self.arguments(head, inside, depth, words)?;
-        let command = self.put_headed(head, &items)?;
+        let command = self.put_command(head, items)?;
         self.blocked(Behind::Command(head), command, inside, depth, rest)
     }
 

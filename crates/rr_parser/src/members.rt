@@ -16,6 +16,7 @@ use crate::several::is_prefixed;
 use crate::word::{Infix, Listed, Reached, Word, WordKind};
 use rr_tree::{BinaryOperator, Node, NodeId};
 use std::alloc::Global;
+use std::mem::replace;
 
 /// A member of a list, by its node.
 #[derive(Clone, Copy, Drop)]
@@ -53,6 +54,7 @@ impl Given {
     }
 
     /// The same with one member more.
+    #[inline(always)]
     fn with(self, member: Member) -> Result<Given, Storage>
         ensures { IfOk result (λ g. AddsMember self g member) }
     {
@@ -71,6 +73,22 @@ impl Given {
 impl Parser {
     ghost use Rattle.rr_parser.specs.Meets.{GivesList, GivesMember, GivesGiven, Puts, PutsList, reaches, place};
 
+    /// No members yet, in the room that the arguments of an earlier command have left.
+    #[inline(always)]
+    fn no_members(&mut self) -> Given
+        ensures items { result.items.items ≡ [] }
+        ensures pairs { result.pairs.items ≡ [] }
+        ensures nodes { self.new.nodes.items ≡ self.old.nodes.items }
+        ensures known { self.new.known ≡ self.old.known }
+    {
+        let mut items = replace(&mut self.room, Vec::new(self.alloc));
+        items.clear();
+        Given {
+            items,
+            pairs: Vec::new(self.alloc),
+        }
+    }
+
     /// Puts pairs without braces.
     fn put_pairs(&mut self, items: &[NodeId]) -> Result<NodeId, Storage>
         requires { All (λ i. i < length self.old.nodes.items) items.now }
@@ -81,6 +99,7 @@ impl Parser {
     }
 
     /// Items, and the pairs behind them as one more.
+    #[inline(always)]
     fn put_packed(&mut self, given: Given) -> Result<Vec<NodeId>, Storage>
         requires { givens.within (length self.old.nodes.items) given }
         ensures { IfOk result (λ l. PutsList self.old self.new (with_pairs (map (tree_at self.old.nodes.items) given.items.items) (map (tree_at self.old.nodes.items) given.pairs.items)) l.items) }
@@ -95,6 +114,7 @@ impl Parser {
     }
 
     /// What a list has: in a list of arguments the pairs are one, the last.
+    #[inline(always)]
     fn put_given(&mut self, list: Listed, given: Given) -> Result<Vec<NodeId>, Storage>
         requires { givens.within (length self.old.nodes.items) given }
         ensures { IfOk result (λ l. PutsList self.old self.new (contents list (givens.tree self.old.nodes.items given)) l.items) }
@@ -132,6 +152,7 @@ impl Parser {
     /// What stands behind an argument, which may be the key of a pair.
     #[cycle(parser)]
     #[tactic(auto, unfolding(crate::specs::Reading::Calls::key_on))]
+    #[inline(always)]
     fn behind_key<'w>(
         &mut self,
         only: bool,
@@ -192,6 +213,7 @@ impl Parser {
 
     /// Members of a list behind those that came, with commas before them.
     #[cycle(parser)]
+    #[inline(always)]
     fn members_on<'w>(
         &mut self,
         list: Listed,
@@ -216,6 +238,7 @@ impl Parser {
     /// The first argument of a command, from behind the operand that it begins with.
     #[cycle(parser)]
     #[tactic(auto, unfolding(crate::specs::Reading::Calls::first_on))]
+    #[inline(always)]
     fn first_on<'w>(
         &mut self,
         operand: Reached,
@@ -228,13 +251,14 @@ impl Parser {
     {
         let (argument, rest) = self.reached(operand, false, inside, depth, words)?;
         let (member, rest) = self.behind_key(false, argument, inside, depth, rest)?;
-        let first = Given::new(self.alloc).with(member)?;
+        let first = self.no_members().with(member)?;
         Ok((first, rest))
     }
 
     /// The arguments of a command, from behind the operand that they begin with.
     #[cycle(parser)]
     #[tactic(auto, unfolding(crate::specs::Reading::Calls::listed_on))]
+    #[inline(always)]
     pub fn listed_on<'w>(
         &mut self,
         operand: Reached,

@@ -28,6 +28,8 @@ pub(crate) struct Parser {
     pub known: Variables,
     /// The table of local variables that the next method gets.
     pub spare: Locals,
+    /// The room that the arguments of the last command have left.
+    pub room: Vec<NodeId>,
     /// How many calls are numbered.
     pub sites: u32,
     ghost ordered: { IsOrdered nodes.items } by { IsOrdered-prop nodes.items },

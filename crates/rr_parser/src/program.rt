@@ -55,6 +55,7 @@ fn read_nodes(alloc: Global, words: &[Word], depth: u32) -> Result<Nodes, Refusa
             takes_do: true,
         },
         spare: Locals::new(alloc),
+        room: Vec::new(alloc),
         sites: 0,
     };
     let (outline, rest) = parser.outline(depth, words)?;
@@ -71,6 +72,7 @@ fn read_nodes(alloc: Global, words: &[Word], depth: u32) -> Result<Nodes, Refusa
         mut nodes,
         known: _,
         spare: _,
+        room: _,
         sites,
     } = parser;
     // The table has grown by doubling.

@@ -38,6 +38,7 @@ impl Parser {
     /// What stands behind the operand that the arguments of a command begin with: it may be the receiver of another one.
     #[cycle(parser)]
     #[tactic(auto, unfolding(crate::specs::Reading::Calls::commanded_on))]
+    #[inline(always)]
     pub fn commanded_on<'w>(
         &mut self,
         operand: Reached,

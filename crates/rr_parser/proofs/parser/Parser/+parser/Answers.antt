@@ -1,4 +1,4 @@
-use Rattle.std.proofs.Common.{List, [], ◌∷◌, ◌++◌, ◌-◌, ap, sym, ◌∙◌, subst, arith}
+use Rattle.std.proofs.Common.{List, [], ◌∷◌, ◌++◌, ◌-◌, ap, refl, sym, ◌∙◌, subst, arith}
 use Rattle.rr_parser.specs.Reading.Several.{targeted_of}
 use Rattle.std.proofs.lemmas.Result.{err_from_is_err_and}
 use Rattle.rr_base.specs.declared.name.Sym.{Sym}
@@ -34,7 +34,7 @@ use Rattle.rr_parser.proofs.Gathering.{turns_fail, turns_smaller, turns_go, turn
 use Rattle.rr_parser.proofs.Calling.{gives_headed, made_behind, trail_fails, trail_smaller, trail_goes, trail_ends}
 use Rattle.rr_parser.proofs.Rescuing.{made_clause, made_rescued, made_ensured}
 use Rattle.rr_parser.proofs.Interpolating.{pieces_begin, pieces_on, made_interpolation}
-use Rattle.rr_parser.proofs.Assigning.{made_several, values_begin, gives_rights_outside, made_modifying, fails_modifying}
+use Rattle.rr_parser.proofs.Assigning.{made_several, values_begin, gives_rights_outside, gives_rights_prefixed, made_modifying, fails_modifying}
 use Rattle.rr_parser.specs.Grammar.Classes.{member_row}
 use Rattle.rr_parser.specs.Reading.Classes.{class_member_of, methods_of}
 use Rattle.rr_parser.proofs.Opening.{made_class}
@@ -201,6 +201,10 @@ pub binary-returns-then-not-binds : goal.binary-returns-then-not-binds
 binary-returns-then-not-binds t c =
     binary_made (readers c.args.inside c.args.depth) (shrinks_nested c.args.inside c.args.depth) c.args.level c.args.self.now c.minus.new.self _ _ _ c.in_ok-left.ensures (c.binds.ensures c.if-not-binds.true)
 
+pub rights-returns-then-is_prefixed : goal.rights-returns-then-is_prefixed
+rights-returns-then-is_prefixed t c =
+    gives_rights_prefixed (readers c.args.inside c.args.depth) c.args.self.now c.value.new.self c.right.new.self _ _ _ c.is_prefixed.result c.right.result c.in_default.ensures c.is_prefixed.ensures c.if-is_prefixed.true c.in_ok-first.ensures c.right.ensures
+
 pub joined_on-returns-in_err-right : goal.joined_on-returns-in_err-right
 joined_on-returns-in_err-right t c =
     let p = err_from_is_err_and c.from_residual.result c.from_residual.ensures.1 in
@@ -365,7 +369,7 @@ sent_arguments-returns t c =
 
 pub headed-returns : goal.headed-returns
 headed-returns t c =
-    gives_headed (readers c.args.inside c.args.depth) c.args.self.now c.arguments.new.self c.put_headed.new.self c.blocked.new.self _ c.args.head c.in_ok-items.items.items c.deref.result.now _ _ c.blocked.result c.deref.ensures.value c.in_ok-items.ensures
+    gives_headed (readers c.args.inside c.args.depth) c.args.self.now c.arguments.new.self c.put_command.new.self c.blocked.new.self _ c.args.head c.in_ok-items.items.items c.in_ok-items.items.items _ _ c.blocked.result refl c.in_ok-items.ensures
     c.in_ok-command.ensures c.blocked.ensures
 
 pub clauses-returns-in_err-next : goal.clauses-returns-in_err-next
