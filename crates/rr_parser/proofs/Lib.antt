@@ -33,6 +33,7 @@ pub mod Alone
 pub mod Levels
 pub mod Gathering
 pub mod Calling
+pub mod Commanded
 pub mod Spots
 pub mod Exact
 pub mod Lists

@@ -101,6 +101,10 @@ impl Parser {
         if let Some(_) = several(words) {
             return self.several(inside, depth, words);
         }
+        if let Some((head, rest)) = self.command_head(words) {
+            let (command, rest) = self.headed(head, inside, depth, rest)?;
+            return self.connected(command, inside, depth, rest);
+        }
         if self.is_led(words) {
             return self.expression(inside, depth, words);
         }

@@ -32,6 +32,7 @@ use Rattle.rr_parser.proofs.Choosing.{made_alternatives, made_pair, made_branch,
 use Rattle.rr_parser.proofs.Spots.{gives_sent, made_element, made_attribute, made_setting, gives_ordered}
 use Rattle.rr_parser.proofs.Gathering.{turns_fail, turns_smaller, turns_go, turns_end, made_key, made_added}
 use Rattle.rr_parser.proofs.Calling.{gives_headed, made_behind, trail_fails, trail_smaller, trail_goes, trail_ends}
+use Rattle.rr_parser.proofs.Commanded.{gives_commanded, fails_commanded}
 use Rattle.rr_parser.proofs.Rescuing.{made_clause, made_rescued, made_ensured}
 use Rattle.rr_parser.proofs.Interpolating.{pieces_begin, pieces_on, made_interpolation}
 use Rattle.rr_parser.proofs.Assigning.{made_several, values_begin, gives_rights_outside, gives_rights_prefixed, made_modifying, fails_modifying}
@@ -200,6 +201,15 @@ ternary_on-returns-then-not-goes_on t c =
 pub binary-returns-then-not-binds : goal.binary-returns-then-not-binds
 binary-returns-then-not-binds t c =
     binary_made (readers c.args.inside c.args.depth) (shrinks_nested c.args.inside c.args.depth) c.args.level c.args.self.now c.minus.new.self _ _ _ c.in_ok-left.ensures (c.binds.ensures c.if-not-binds.true)
+
+pub simple-returns-in_err-command : goal.simple-returns-in_err-command
+simple-returns-in_err-command t c =
+    let p = err_from_is_err_and c.from_residual.result c.from_residual.ensures.1 in
+    rw (p.1, p.2) (fails_commanded (readers c.args.inside c.args.depth) c.args.self.now _ _ _ c.in_default.ensures c.in-Some-command_head.ensures _ c.in_err-command.ensures)
+
+pub simple-returns-in-Some-command_head : goal.simple-returns-in-Some-command_head
+simple-returns-in-Some-command_head t c =
+    gives_commanded (readers c.args.inside c.args.depth) c.args.self.now _ _ _ c.in_default.ensures c.in-Some-command_head.ensures c.headed.new.self c.connected.new.self _ _ c.connected.result c.in_ok-command.ensures c.connected.ensures
 
 pub rights-returns-then-is_prefixed : goal.rights-returns-then-is_prefixed
 rights-returns-then-is_prefixed t c =
