@@ -310,6 +310,7 @@ impl<'s> Numbering<'s> {
     }
 
     /// The number of the text, or of the piece of one, that a token stands for.
+    #[inline(always)]
     fn text(&mut self, alloc: Global, source: &[u8], token: Token) -> Result<u32, Storage>
         ensures texts { OnOk result (texts_held self.new ≡ texts_held self.old ++ contents_of (word_of source.now token) ∷ []) }
         ensures number { IfOk result (λ n. n ≡ length (texts_held self.old)) }

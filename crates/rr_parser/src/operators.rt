@@ -90,6 +90,7 @@ impl Parser {
     }
 
     #[cycle(parser)]
+    #[inline(always)]
     fn logical_on<'w>(
         &mut self,
         level: u8,

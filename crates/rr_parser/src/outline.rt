@@ -42,6 +42,7 @@ impl Outline {
         }
     }
 
+    #[inline(always)]
     fn push(&mut self, entry: Entry) -> Result<(), Storage>
         ensures { OnOk result (Adds self.old self.new entry) }
     {
@@ -85,6 +86,7 @@ impl Parser {
     }
 
     #[tactic(auto, unfolding(crate::specs::Reading::Programs::entry_of))]
+    #[inline(always)]
     fn entry<'w>(&mut self, depth: u32, words: &'w [Word]) -> Parsed<'w, Entry>
         ensures { GivesEntry self.old self.new result (entry_of (readers false depth) (place self.old words.now)) }
     {
