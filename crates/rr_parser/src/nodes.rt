@@ -54,7 +54,8 @@ impl Parser {
             return Err(Storage::Slots);
         }
         let id = self.nodes.len() as u32;
-        self.nodes.push(node)?;
+        self.nodes.reserve(1)?;
+        self.nodes.push_reserved(node);
         Ok(id)
     }
 
