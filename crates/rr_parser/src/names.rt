@@ -261,6 +261,7 @@ fn spelled(source: &[u8], token: Token) -> Option<u64>
 }
 
 /// A count as a number.
+#[inline(always)]
 pub(crate) fn number(count: usize) -> Result<u32, Storage>
     ensures { IfOk result (λ n. n ≡ count) }
 {
