@@ -4,6 +4,7 @@ pub mod Lasts
 pub mod Operating
 pub mod Pairing
 pub mod Pieces
+pub mod Plain
 pub mod Showing
 pub mod Depth
 pub mod Unknown

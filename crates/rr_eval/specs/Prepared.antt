@@ -1,7 +1,15 @@
 -- What a prepared program knows of its methods.
-use Rattle.std.specs.Prelude.{◌≡◌, List, codes}
+use Rattle.std.specs.Prelude.{◌≡◌, ℕ, List, Option, Some, codes, slice_get}
 use Rattle.std.specs.Option.{option_map}
+use Rattle.rr_base.specs.declared.name.Sym.{Sym}
+use Rattle.rr_base.specs.declared.name.TheConstants.ClassId.{OBJECT}
+use Rattle.rr_space.specs.declared.kind.Kind.TheVariants.{Object}
+use Rattle.rr_space.specs.declared.refer.Ref.{Ref}
+use Rattle.rr_space.specs.declared.refer.Ref.TheVariants.{Local}
+use Rattle.rr_tree.specs.declared.method_table.MethodName.TheVariants.{Plain}
 use Rattle.rr_tree.specs.Methods.{number_in, symbol_named}
+use Rattle.std.proofs.Props.{props}
+use Rattle.rr_tree.specs.Sets.{Tree-set}
 use Rattle.rr_tree.specs.Tree.{tree_at}
 use Rattle.rr_tree.specs.declared.node.Node.{Node}
 use Rattle.rr_tree.specs.declared.program.Program.{Program}
@@ -13,7 +21,11 @@ use Rattle.rr_eval.specs.declared.prepared.Initializer.{Initializer}
 use Rattle.rr_eval.specs.declared.prepared.Work.{Work as Kept}
 use Rattle.rr_eval.specs.declared.prepared.Work.TheVariants as kept
 use Rattle.rr_eval.specs.Blocks.{Way}
-use Rattle.rr_eval.specs.Methods.{Method, Work, Runs, Reads, Writes, NoWork, Callable}
+use Rattle.rr_eval.specs.declared.call.Callee.TheVariants.{Name}
+use Rattle.rr_eval.specs.Callees.{method_of as built_in_of}
+use Rattle.rr_eval.specs.Context.{Context}
+use Rattle.rr_eval.specs.Dispatch.{is_below, iteration_of, unless_below}
+use Rattle.rr_eval.specs.Methods.{Method, Work, Runs, Reads, Writes, NoWork, Callable, method_in}
 
 abbrev pub method_of : List Node → Body → Method
 method_of ns b = record { name = b.name.0; parameters = b.shape.parameters; size = b.shape.size; body = tree_at ns b.node }
@@ -52,3 +64,19 @@ pub record AreSymbolsOf (p : Program) (s : OperatorSymbols) : Type 0 where
   pub append : number_in s.append ≡ symbol_named p (codes "<<")
   pub set_index : number_in s.set_index ≡ symbol_named p (codes "[]=")
   pub initialize : number_in s.initialize ≡ symbol_named p (codes "initialize")
+
+-- an object of the space itself
+abbrev pub IsLocal : Ref → Type 0
+IsLocal (Local n) = Unit {0}
+IsLocal _ = ⊥
+
+-- the method that a call of a plain object of class Object finds
+abbrev pub plain_method : Context → Sym → Option Callable
+plain_method c x = unless_below (is_below Object (built_in_of c (Name x)) (iteration_of c (Name x))) (method_in c.program OBJECT (Plain x))
+
+-- methods by the numbers of their names
+abbrev pub ArePlain : Context → List (Option Definition) → Type 0
+ArePlain c found = (x : ℕ) (f : Option Definition) → slice_get found x ≡ Some f → option_map (callable_of c.program.nodes.items) f ≡ plain_method c (record { 0 = x })
+
+pub ArePlain-prop : (c : Context) (found : List (Option Definition)) → IsProp (ArePlain c found)
+ArePlain-prop c found = Prim.hlevel (props, Tree-set)

@@ -1,6 +1,6 @@
 //! Programs that are ready to run.
 
-ghost use Rattle.std.specs.Prelude.{◌≡◌, ◌++◌, ◌∷◌, ℕ, [], codes, map, None, Some, OnOk, IfOk, slice_index_or};
+ghost use Rattle.std.specs.Prelude.{◌≡◌, ◌++◌, ◌∷◌, ℕ, [], codes, map, None, Some, OnOk, IfOk, IsTrue, slice_index_or};
 ghost use Rattle.rr_eval.specs.Above.{method_above};
 ghost use Rattle.std.specs.Option.{option_map};
 ghost use Rattle.rr_tree.specs.Tree.{tree_at};
@@ -15,7 +15,10 @@ ghost use Rattle.rr_eval.specs.Rules.{has_built_in};
 ghost use Rattle.rr_eval.specs.Dispatch.{called_name, is_below, comes_first, iteration_of, method_called, method_for, initializer, made_by};
 ghost use Rattle.rr_eval.specs.Methods.{method_in, work_of};
 ghost use Rattle.rr_eval.specs.RaisingNew.{initialized_class, class_raised};
-ghost use Rattle.rr_eval.specs.Prepared.{AreSymbolsOf, callable_of, work_in, initializer_of};
+ghost use Rattle.rr_base.specs.declared.name.TheConstants.ClassId.{OBJECT};
+ghost use Rattle.rr_space.specs.declared.kind.Kind.{Kind as Kinds};
+ghost use Rattle.rr_space.specs.Kinds.{class_at};
+ghost use Rattle.rr_eval.specs.Prepared.{AreSymbolsOf, ArePlain, ArePlain-prop, IsLocal, callable_of, plain_method, work_in, initializer_of};
 ghost use Rattle.rr_eval.specs.Speaking.{symbol_asked};
 ghost use Rattle.rr_eval.specs.Turns.{context_of};
 
@@ -31,7 +34,7 @@ use rr_builtin::{
     stands_below_object,
 };
 use rr_frames::{Activation, Shape};
-use rr_space::{Ref, Space};
+use rr_space::{Kind, Ref, Space};
 use rr_tree::{MethodName, MethodTable, Node, NodeId, Program};
 use std::alloc::{AllocError, Global};
 
@@ -84,12 +87,15 @@ pub struct Prepared {
     pub(crate) methods: Methods,
     /// The iterations, by the numbers of their names.
     pub(crate) iterations: Iterations,
+    /// The methods that a call of a plain object of class Object finds, by the numbers of their names.
+    plain: Vec<Option<Definition>>,
     ghost finds: { IsTableOf program table } by { IsTableOf-prop program table },
     ghost operates: { AreSymbolsOf program operators },
     ghost speaks: { number_in to_s ≡ symbol_named program (codes "to_s") },
     ghost inspects: { number_in inspect ≡ symbol_named program (codes "inspect") },
     ghost names: { methods ≡ map (λ s. method_named s.items) program.symbols.items },
     ghost iterates: { iterations ≡ map (λ s. iteration_named s.items) program.symbols.items },
+    ghost plains: { ArePlain (context_of program) plain.items } by { ArePlain-prop (context_of program) plain.items },
 }
 
 /// What a call of the method does that a node defines.
@@ -115,6 +121,105 @@ fn work_at(program: &Program, place: NodeId) -> Work
     }
 }
 
+/// The method of a class, or of the nearest class above it.
+#[inline(always)]
+fn definition_in(
+    program: &Program,
+    table: &MethodTable,
+    class: ClassId,
+    name: MethodName,
+) -> Option<Definition>
+    requires { IsTableOf program.now table.now }
+    ensures { option_map (callable_of program.now.nodes.items) result ≡ method_in program.now class name }
+{
+    match table.find(program, class, name) {
+        Some(found) => Some(Definition {
+            class: found.class,
+            work: work_at(program, found.node),
+        }),
+        None => None,
+    }
+}
+
+/// Whether values of the kind have a built-in method that stands in a class below Object.
+#[inline(always)]
+fn is_below(kind: Kind, method: Option<BuiltInMethod>, iteration: Option<Iteration>) -> bool
+    ensures { result ≡ is_below kind method iteration }
+{
+    match (method, iteration) {
+        (Some(method), _) => has(kind, method) && stands_below_object(kind, method),
+        (None, Some(iteration)) => iterates(kind, iteration),
+        (None, None) => false,
+    }
+}
+
+/// The method that a call of a plain object of class Object finds.
+fn plain_method(
+    program: &Program,
+    table: &MethodTable,
+    methods: &Methods,
+    iterations: &Iterations,
+    name: Sym,
+) -> Option<Definition>
+    requires table { IsTableOf program.now table.now }
+    requires methods { methods.now ≡ map (λ s. method_named s.items) program.now.symbols.items }
+    requires iterations { iterations.now ≡ map (λ s. iteration_named s.items) program.now.symbols.items }
+    ensures { option_map (callable_of program.now.nodes.items) result ≡ plain_method (context_of program.now) name }
+{
+    iterations_have_names();
+    let definition = definition_in(program, table, ClassId::OBJECT, MethodName::Plain(name))?;
+    let method = method_of(program, methods, Callee::Name(name));
+    if definition.class.0 == ClassId::OBJECT.0
+        && is_below(Kind::Object, method, iterations.find(name))
+    {
+        None
+    } else {
+        Some(definition)
+    }
+}
+
+/// The methods that calls of a plain object of class Object find, by the numbers of their names.
+fn plain_methods(
+    alloc: Global,
+    program: &Program,
+    table: &MethodTable,
+    methods: &Methods,
+    iterations: &Iterations,
+) -> Result<Vec<Option<Definition>>, AllocError>
+    requires table { IsTableOf program.now table.now }
+    requires methods { methods.now ≡ map (λ s. method_named s.items) program.now.symbols.items }
+    requires iterations { iterations.now ≡ map (λ s. iteration_named s.items) program.now.symbols.items }
+    ensures { IfOk result (λ plain. ArePlain (context_of program.now) plain.items) }
+{
+    let mut plain = Vec::new(alloc);
+    for number in 0..program.symbols.len() {
+        let Ok(name) = u32::try_from(number) else {
+            return Ok(plain);
+        };
+        plain.push(plain_method(program, table, methods, iterations, Sym(name)))?;
+    }
+    Ok(plain)
+}
+
+/// Whether a value is an object of its space without contents of its own, whose class is Object.
+#[inline(always)]
+fn is_plain(space: &Space, value: Ref) -> bool
+    ensures own { IsTrue result → IsLocal value }
+    ensures kind { IsTrue result → kind_at space.now value ≡ Kinds.Object }
+    ensures class { IsTrue result → class_at space.now value ≡ OBJECT }
+{
+    match value {
+        Ref::Local(_) => {
+            space.class_of(value).0 == ClassId::OBJECT.0
+                && match space.kind_of(value) {
+                    Kind::Object => true,
+                    _ => false,
+                }
+        }
+        _ => false,
+    }
+}
+
 impl Prepared {
     /// The program, ready to run. The only fault is want of memory.
     pub fn of(alloc: Global, program: Program) -> Result<Prepared, AllocError>
@@ -126,6 +231,7 @@ impl Prepared {
         let inspect = program.symbol_named(b"inspect");
         let methods = Methods::of(alloc, &program)?;
         let iterations = Iterations::of(alloc, &program)?;
+        let plain = plain_methods(alloc, &program, &table, &methods, &iterations)?;
         Ok(Prepared {
             program,
             table,
@@ -134,6 +240,7 @@ impl Prepared {
             inspect,
             methods,
             iterations,
+            plain,
         })
     }
 
@@ -142,13 +249,7 @@ impl Prepared {
     fn method_in(&self, class: ClassId, name: MethodName) -> Option<Definition>
         ensures { option_map (callable_of self.now.program.nodes.items) result ≡ method_in self.now.program class name }
     {
-        match self.table.find(&self.program, class, name) {
-            Some(found) => Some(Definition {
-                class: found.class,
-                work: work_at(&self.program, found.node),
-            }),
-            None => None,
-        }
+        definition_in(&self.program, &self.table, class, name)
     }
 
     /// The method that a call finds for a class.
@@ -203,15 +304,8 @@ impl Prepared {
     fn is_below(&self, space: &Space, receiver: Ref, callee: Callee) -> bool
         ensures { result ≡ is_below (kind_at space.now receiver) (method_of (context_of self.now.program) callee) (iteration_of (context_of self.now.program) callee) }
     {
-        let kind = space.kind_of(receiver);
-        match (
-            method_of(&self.program, &self.methods, callee),
-            self.iteration_of(callee),
-        ) {
-            (Some(method), _) => has(kind, method) && stands_below_object(kind, method),
-            (None, Some(iteration)) => iterates(kind, iteration),
-            (None, None) => false,
-        }
+        let method = method_of(&self.program, &self.methods, callee);
+        is_below(space.kind_of(receiver), method, self.iteration_of(callee))
     }
 
     /// Whether the receiver has a method of a class below Object that a call finds: a built-in one, or one of Ractor or of a ractor.
@@ -232,6 +326,19 @@ impl Prepared {
         receiver: Ref,
         callee: Callee,
     ) -> Option<Definition>
+        ensures { option_map (callable_of self.now.program.nodes.items) result ≡ method_for (context_of self.now.program) space.now receiver callee }
+    {
+        if let Callee::Name(name) = callee
+            && let Some(found) = self.plain.get(name.0 as usize)
+            && is_plain(space, receiver)
+        {
+            return *found;
+        }
+        self.method_looked_up(space, receiver, callee)
+    }
+
+    /// The same, class by class.
+    fn method_looked_up(&self, space: &Space, receiver: Ref, callee: Callee) -> Option<Definition>
         ensures { option_map (callable_of self.now.program.nodes.items) result ≡ method_for (context_of self.now.program) space.now receiver callee }
     {
         match self.method_called(space.class_of(receiver), callee) {

@@ -1,0 +1,55 @@
+-- The methods that plain objects find, one after the other.
+use Rattle.std.proofs.Common.{◌≡◌, ℕ, ◌+◌, ◌∙◌, Bool, true, false, ◌||◌, refl, List, [], ◌∷◌, ◌++◌, length, Option, Some, slice_get, sym, ap, subst, inl, inr, arith}
+use Rattle.std.specs.Option.{option_map}
+use Rattle.std.proofs.lemmas.Option.{slice_get_within}
+use Rattle.rr_eval.specs.declared.prepared.Definition.{Definition}
+use Rattle.rr_space.proofs.Hands.{append_cases}
+use Rattle.rr_eval.specs.Context.{Context}
+use Rattle.rr_base.specs.declared.name.Sym.{Sym}
+use Rattle.rr_base.specs.declared.name.TheConstants.ClassId.{OBJECT}
+use Rattle.rr_space.specs.Kinds.{class_at, kind_at}
+use Rattle.rr_space.specs.Tables.{Table}
+use Rattle.rr_space.specs.declared.kind.Kind.TheVariants.{Object}
+use Rattle.rr_space.specs.declared.refer.Ref.{Ref}
+use Rattle.rr_space.specs.declared.refer.Ref.TheVariants.{Local}
+use Rattle.rr_tree.specs.declared.method_table.MethodName.TheVariants.{Plain}
+use Rattle.rr_eval.specs.declared.call.Callee.TheVariants.{Name}
+use Rattle.rr_eval.specs.Callees.{method_of}
+use Rattle.rr_eval.specs.Dispatch.{comes_first, is_below, iteration_of, method_for, unless_below}
+use Rattle.rr_eval.specs.Methods.{Callable, method_in}
+use Rattle.rr_eval.specs.RactorMethods.{ractor_method}
+use Rattle.rr_eval.specs.Prepared.{ArePlain, IsLocal, callable_of, plain_method}
+
+-- one method more
+pub plain_more : (c : Context) (found : List (Option Definition)) (d : Option Definition) (n : ℕ) → length found ≡ n → ArePlain c found → option_map (callable_of c.program.nodes.items) d ≡ plain_method c (record { 0 = n }) → ArePlain c (found ++ d ∷ [])
+plain_more c found d n at are is = λ x f e.
+    elim (append_cases found (d ∷ []) x f e) [
+      | inl l ↦ are x f l
+      | inr r ↦
+          let within = slice_get_within (d ∷ []) r.0 f r.2 in
+          let none : r.0 ≡ 0 = omega (arith, within) in
+          let first = subst (λ j. slice_get (d ∷ []) j ≡ Some f) none r.2 in
+          let same : d ≡ f = cc first in
+          let there : n ≡ x = omega (arith, at, r.1, none) in
+          sym (ap (option_map (callable_of c.program.nodes.items)) same) ∙ is ∙ ap (λ k. plain_method c (record { 0 = k })) there
+    ]
+
+-- nothing more
+or_none : (b : Bool) → b || false ≡ b
+or_none true = refl
+or_none false = refl
+
+-- no method of Ractor, or of a ractor, comes first for an object of the space itself
+comes_plain : (c : Context) (t : Table) (n : ℕ) (x : Sym) → kind_at t (Local n) ≡ Object → comes_first c t (Local n) (Name x) ≡ is_below Object (method_of c (Name x)) (iteration_of c (Name x))
+unfolding comes_first ractor_method
+comes_plain c t n x kind =
+    ap (λ k. is_below k (method_of c (Name x)) (iteration_of c (Name x)) || false) kind ∙ or_none (is_below Object (method_of c (Name x)) (iteration_of c (Name x)))
+
+-- what a plain object finds is what a call finds
+pub plain_found : (c : Context) (t : Table) (v : Ref) (x : Sym) (f : Option Callable) → IsLocal v → kind_at t v ≡ Object → class_at t v ≡ OBJECT → f ≡ plain_method c x → f ≡ method_for c t v (Name x)
+plain_found c t (Local n) x f own kind class is =
+    let below = is_below Object (method_of c (Name x)) (iteration_of c (Name x)) in
+    is
+    ∙ ap (λ k. unless_below below (method_in c.program k (Plain x))) (sym class)
+    ∙ ap (λ b. unless_below b (method_in c.program (class_at t (Local n)) (Plain x))) (sym (comes_plain c t n x kind))
+plain_found c t _ x f own kind class is = absurd own
