@@ -61,6 +61,54 @@ IsRareNode node.ForwardingSuper = Unit {0}
 IsRareNode (node.Yield first count) = Unit {0}
 IsRareNode _ = ⊥
 
+-- a node that has a value at once
+abbrev pub IsValueNode : Node → Type 0
+IsValueNode node.Nil = Unit {0}
+IsValueNode (node.Truth b) = Unit {0}
+IsValueNode (node.Int z) = Unit {0}
+IsValueNode (node.Symbol x) = Unit {0}
+IsValueNode (node.Class k) = Unit {0}
+IsValueNode (node.Local depth slot x behind) = Unit {0}
+IsValueNode node.Itself = Unit {0}
+IsValueNode _ = ⊥
+
+-- a node that evaluates one part first, which is no receiver
+abbrev pub IsFirstNode : Node → Type 0
+IsFirstNode (node.And a b) = Unit {0}
+IsFirstNode (node.Or a b) = Unit {0}
+IsFirstNode (node.Not a) = Unit {0}
+IsFirstNode (node.Negate a) = Unit {0}
+IsFirstNode (node.Binary o a b) = Unit {0}
+IsFirstNode (node.Choose a b d) = Unit {0}
+IsFirstNode (node.Assign depth slot x behind a) = Unit {0}
+IsFirstNode (node.SetField x a) = Unit {0}
+IsFirstNode (node.Loop until a b) = Unit {0}
+IsFirstNode (node.Break a) = Unit {0}
+IsFirstNode (node.Next a) = Unit {0}
+IsFirstNode (node.Return a) = Unit {0}
+IsFirstNode (node.Rescue a first count b) = Unit {0}
+IsFirstNode (node.Ensure a b) = Unit {0}
+IsFirstNode _ = ⊥
+
+-- a call of a receiver
+abbrev pub IsSendNode : Node → Type 0
+IsSendNode (node.Send a x first count site) = Unit {0}
+IsSendNode (node.Index a b) = Unit {0}
+IsSendNode (node.Append a b) = Unit {0}
+IsSendNode (node.SetAttribute a x b site) = Unit {0}
+IsSendNode (node.SetIndex a b d) = Unit {0}
+IsSendNode _ = ⊥
+
+-- an assignment to several targets, to a global or a constant, or with an operator
+abbrev pub IsAssignNode : Node → Type 0
+IsAssignNode (node.MultipleAssign first count a) = Unit {0}
+IsAssignNode (node.SetGlobal x a) = Unit {0}
+IsAssignNode (node.SetConstant x a) = Unit {0}
+IsAssignNode (node.OperatorAssign o a b) = Unit {0}
+IsAssignNode (node.AppendAssign a b) = Unit {0}
+IsAssignNode (node.AndAssign a b) = Unit {0}
+IsAssignNode _ = ⊥
+
 -- a node that is not evaluated yet
 abbrev pub is_unknown : Node → Bool
 is_unknown node.Nil = false

@@ -3,8 +3,6 @@ use Rattle.std.specs.Prelude.{◌≡◌, ◌+◌, ◌-◌, ◌++◌, ℕ, List, 
 use Rattle.rr_space.specs.Tables.{Table}
 use Rattle.rr_space.specs.declared.refer.Ref.{Ref}
 use Rattle.rr_tree.specs.Tree.{Tree}
-use Rattle.rr_tree.specs.declared.node.Node.{Node}
-use Rattle.rr_tree.specs.declared.node.Node.TheVariants as node
 use Rattle.rr_tree.specs.declared.program.Program.{Program}
 use Rattle.rr_eval.specs.declared.frame.Frame.{Frame}
 use Rattle.rr_eval.specs.declared.problem.Answer.TheVariants.{Gave}
@@ -42,15 +40,6 @@ pub record HoldsMore (old new : View) : Type 0 where
   pub blocks : new.blocks ≡ old.blocks
   pub rescuing : new.rescuing ≡ old.rescuing
   pub left : new.left ≡ old.left
-
--- a call of a receiver
-abbrev pub IsSendNode : Node → Type 0
-IsSendNode (node.Send a x first count site) = Unit {0}
-IsSendNode (node.Index a b) = Unit {0}
-IsSendNode (node.Append a b) = Unit {0}
-IsSendNode (node.SetAttribute a x b site) = Unit {0}
-IsSendNode (node.SetIndex a b d) = Unit {0}
-IsSendNode _ = ⊥
 
 -- a frame lies on top of the others
 abbrev pub IsTop : List Frame → Frame → Type 0

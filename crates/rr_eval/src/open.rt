@@ -1,6 +1,6 @@
 //! What a node does first.
 
-ghost use Rattle.std.specs.Prelude.{◌≡◌, ◌+◌, ◌-◌, ◌*◌, ◌<◌, ◌≤◌, ◌^◌, ℕ, [], ◌∷◌, true, false, length, slice_index_or, vec_capacity, Option, None, Some, IfOk, IfErr, IsTrue, IsFalse};
+ghost use Rattle.std.specs.Prelude.{◌≡◌, ◌+◌, ◌-◌, ◌*◌, ◌<◌, ◌≤◌, ◌^◌, ℕ, [], ◌∷◌, true, false, length, slice_index_or, vec_capacity, Option, None, Some, IfOk, IfErr, IfSome, IfNone, IsTrue, IsFalse};
 ghost use Rattle.rr_base.specs.declared.fault.Fault.{Fault};
 ghost use Rattle.rr_space.specs.Tables.{Table, Below};
 ghost use Rattle.rr_tree.specs.Tree.{tree_at};
@@ -8,17 +8,18 @@ ghost use Rattle.rr_tree.specs.declared.node.Node.{Node};
 ghost use Rattle.rr_tree.specs.declared.program.Program.{Program};
 ghost use Rattle.rr_eval.specs.declared.frame.Control.{Control};
 ghost use Rattle.rr_eval.specs.Acts.{Passes};
-ghost use Rattle.rr_eval.specs.Script.{Go, objects_of};
+ghost use Rattle.rr_eval.specs.Script.{Go, Ret, objects_of};
+ghost use Rattle.rr_eval.specs.declared.problem.Answer.{Answer as Answered};
 ghost use Rattle.rr_eval.specs.Requests.{Course, Adds};
 ghost use Rattle.rr_eval.specs.Changes.{Changes};
 ghost use Rattle.rr_eval.specs.Operators.{make};
 ghost use Rattle.rr_eval.specs.Rules.{rule, statements, values, arguments, on_table, finish};
 ghost use Rattle.rr_tree.specs.Nodes.{trees_before};
-ghost use Rattle.rr_eval.specs.Nodes.{evaluated_tree, IsEvaluated, IsRareNode, is_unknown};
+ghost use Rattle.rr_eval.specs.Nodes.{evaluated_tree, IsEvaluated, IsValueNode, IsFirstNode, IsSendNode, IsAssignNode, IsRareNode, is_unknown};
 ghost use Rattle.rr_eval.specs.Frames.{resumed, IsNew};
 ghost use Rattle.rr_eval.specs.Turns.{context_of, code_of, IsNested, after_script, remaining_with, continuing, Stands, size, sized};
 ghost use Rattle.rr_eval.specs.Views.{view_of};
-ghost use Rattle.rr_eval.specs.Within.{Reach, reach, AreReached, AreWithin, IsFrameReached, IsAskedReached, KeepsReach, KeepsRead};
+ghost use Rattle.rr_eval.specs.Within.{Reach, reach, AreReached, AreWithin, IsReached, IsFrameReached, IsAskedReached, KeepsReach, KeepsRead};
 
 use crate::call::{Arguments, Callee, Target, Task};
 use crate::call_stack::Variable;
@@ -29,6 +30,7 @@ use crate::prepared::Prepared;
 use crate::problem::{Answer, Problem};
 use crate::request::Request;
 use crate::updating::Update;
+use crate::usual::awaited_part;
 use rr_base::Fault;
 use rr_space::{Ref, Space};
 use rr_tree::{Node, NodeId, Program};
@@ -249,37 +251,39 @@ impl Engine {
         }
     }
 
-    /// Does what a node does first, unless that needs the objects or memory.
+    /// The value of a node that has one at once.
     #[tactic(auto, unfolding(crate::specs::Within::AreReached))]
     #[inline(always)]
-    pub fn open(&mut self, program: &Program, here: NodeId, node: Node) -> bool
-        requires tree { tree_at program.now.nodes.items here ≡ evaluated_tree program.now.nodes.items node }
+    fn value_at_once(&self, node: Node) -> Option<Ref>
+        ensures value { IfSome result (λ v. (p : Program) (t : Table) (h : Course) (n : ℕ) → after_script p (view_of self.now) t (rule (context_of p) (evaluated_tree p.nodes.items node)) h n ≡ after_script p (view_of self.now) t (Ret (Answered.Gave v)) h n) }
+        ensures within { (k : Reach) → AreReached k (view_of self.now) → IfSome result (IsReached k) }
+        ensures none { IfNone result (IsValueNode node → ⊥) }
+    {
+        match node {
+            Node::Nil => Some(Ref::Nil),
+            Node::Symbol(symbol) => Some(Ref::Symbol(symbol)),
+            Node::Class(class) => Some(Ref::Class(class)),
+            Node::Truth(truth) => Some(Ref::Truth(truth)),
+            Node::Int(z) => Some(Ref::Int(z)),
+            Node::Itself => Some(self.itself()),
+            Node::Local { depth, slot, .. } => Some(self.variable(Variable { depth, slot })),
+            _ => None,
+        }
+    }
+
+    /// Evaluates the receiver of a call.
+    fn open_sent(&mut self, node: Node)
+        requires send { IsSendNode node }
         requires evaluated { IsEvaluated node }
         requires room { length self.old.frames.items < vec_capacity self.old.frames }
         requires nested { IsNested (view_of self.old) }
-        ensures goes { IsTrue result → (t : Table) (h : Course) (n : ℕ) → after_script program.now (view_of self.old) t (rule (context_of program.now) (evaluated_tree program.now.nodes.items node)) h n ≡ remaining_with program.now (view_of self.new) t h n }
+        ensures goes { (p : Program) (t : Table) (h : Course) (n : ℕ) → after_script p (view_of self.old) t (rule (context_of p) (evaluated_tree p.nodes.items node)) h n ≡ remaining_with p (view_of self.new) t h n }
         ensures nested { IsNested (view_of self.new) }
         ensures within { (k : Reach) → AreReached k (view_of self.old) → AreReached k (view_of self.new) }
         ensures left { self.new.left ≡ self.old.left }
         ensures size { size (view_of self.new) ≤ 3 * length self.old.frames.items + 4 }
-        ensures same { IsFalse result → self.new ≡ self.old }
-        ensures rare { IsFalse result → IsRareNode node }
     {
         match node {
-            Node::Nil => self.answer(Answer::Gave(Ref::Nil)),
-            Node::Symbol(symbol) => self.answer(Answer::Gave(Ref::Symbol(symbol))),
-            Node::Class(class) => self.answer(Answer::Gave(Ref::Class(class))),
-            Node::Truth(truth) => self.answer(Answer::Gave(Ref::Truth(truth))),
-            Node::Int(z) => self.answer(Answer::Gave(Ref::Int(z))),
-            Node::Itself => self.answer(Answer::Gave(self.itself())),
-            Node::Local { depth, slot, .. } => {
-                self.answer(Answer::Gave(self.variable(Variable { depth, slot })));
-            }
-            Node::And(a, b) => self.enter_above(Frame::And(b), a),
-            Node::Or(a, b) => self.enter_above(Frame::Or(b), a),
-            Node::Not(a) => self.enter_above(Frame::Not, a),
-            Node::Negate(a) => self.enter_above(Frame::Negation, a),
-            Node::Binary(op, a, b) => self.enter_above(Frame::Left(op, b), a),
             Node::Send {
                 receiver,
                 name,
@@ -300,13 +304,23 @@ impl Engine {
                 index,
                 value,
             } => self.enter_above(Frame::Element(index, value + 1), receiver),
-            Node::Assign {
-                depth,
-                slot,
-                value,
-                ..
-            } => self.enter_above(Frame::Store(Variable { depth, slot }), value),
-            Node::SetField(name, value) => self.enter_above(Frame::SetField(name), value),
+            _ => unreachable!(),
+        }
+    }
+
+    /// Begins an assignment to several targets, to a global or a constant, or with an operator.
+    fn open_assigned(&mut self, program: &Program, node: Node)
+        requires assigns { IsAssignNode node }
+        requires evaluated { IsEvaluated node }
+        requires room { length self.old.frames.items < vec_capacity self.old.frames }
+        requires nested { IsNested (view_of self.old) }
+        ensures goes { (t : Table) (h : Course) (n : ℕ) → after_script program.now (view_of self.old) t (rule (context_of program.now) (evaluated_tree program.now.nodes.items node)) h n ≡ remaining_with program.now (view_of self.new) t h n }
+        ensures nested { IsNested (view_of self.new) }
+        ensures within { (k : Reach) → AreReached k (view_of self.old) → AreReached k (view_of self.new) }
+        ensures left { self.new.left ≡ self.old.left }
+        ensures size { size (view_of self.new) ≤ 3 * length self.old.frames.items + 4 }
+    {
+        match node {
             Node::MultipleAssign {
                 first,
                 count,
@@ -323,26 +337,41 @@ impl Engine {
             Node::AndAssign(target, value) => {
                 self.open_update(program, Update::And, target, value);
             }
-            Node::Break(value) => self.enter_above(Frame::Break, value),
-            Node::Next(value) => self.enter_above(Frame::Next, value),
-            Node::Return(value) => self.enter_above(Frame::Return, value),
-            Node::Rescue {
-                body,
-                first,
-                count,
-                otherwise,
-            } => self.enter_above(Frame::Rescue(first + count, count, otherwise), body),
-            Node::Ensure(body, part) => self.enter_above(Frame::Ensure(part), body),
-            Node::Choose(a, b, d) => self.enter_above(Frame::Branch(b, d), a),
-            Node::Loop {
-                until,
-                condition,
-                body,
-            } => self.enter_above(Frame::Condition(until, body, here), condition),
+            _ => unreachable!(),
+        }
+    }
+
+    /// Does what a node does first that has no value at once and evaluates no part first, unless that needs the objects or memory.
+    #[tactic(auto, unfolding(crate::specs::Within::AreReached))]
+    fn open_apart(&mut self, program: &Program, node: Node) -> bool
+        requires evaluated { IsEvaluated node }
+        requires value { IsValueNode node → ⊥ }
+        requires first { IsFirstNode node → ⊥ }
+        requires room { length self.old.frames.items < vec_capacity self.old.frames }
+        requires nested { IsNested (view_of self.old) }
+        ensures goes { IsTrue result → (t : Table) (h : Course) (n : ℕ) → after_script program.now (view_of self.old) t (rule (context_of program.now) (evaluated_tree program.now.nodes.items node)) h n ≡ remaining_with program.now (view_of self.new) t h n }
+        ensures nested { IsNested (view_of self.new) }
+        ensures within { (k : Reach) → AreReached k (view_of self.old) → AreReached k (view_of self.new) }
+        ensures left { self.new.left ≡ self.old.left }
+        ensures size { size (view_of self.new) ≤ 3 * length self.old.frames.items + 4 }
+        ensures same { IsFalse result → self.new ≡ self.old }
+        ensures rare { IsFalse result → IsRareNode node }
+    {
+        match node {
             Node::Sequence { first, count } => self.begin(first + count, count),
             Node::Splat(part) => self.control = Control::Enter(part),
             Node::Block { body, .. } => self.control = Control::Enter(body),
-            Node::Item(_) => unreachable!(),
+            Node::Send { .. }
+            | Node::SetAttribute { .. }
+            | Node::Index(_, _)
+            | Node::Append(_, _)
+            | Node::SetIndex { .. } => self.open_sent(node),
+            Node::MultipleAssign { .. }
+            | Node::SetGlobal(_, _)
+            | Node::SetConstant(_, _)
+            | Node::OperatorAssign(_, _, _)
+            | Node::AppendAssign(_, _)
+            | Node::AndAssign(_, _) => self.open_assigned(program, node),
             Node::Text(_)
             | Node::Array { .. }
             | Node::Interpolation { .. }
@@ -357,11 +386,37 @@ impl Engine {
             | Node::WithBlock(_, _)
             | Node::Super { .. }
             | Node::ForwardingSuper
-            | Node::Yield { .. } => {
-                return false;
-            }
+            | Node::Yield { .. } => return false,
+            Node::Item(_) => unreachable!(),
             _ => self.open_unknown(node),
         }
         true
+    }
+
+    /// Does what a node does first, unless that needs the objects or memory.
+    #[tactic(auto, unfolding(crate::specs::Within::AreReached))]
+    #[inline(always)]
+    pub fn open(&mut self, program: &Program, here: NodeId, node: Node) -> bool
+        requires tree { tree_at program.now.nodes.items here ≡ evaluated_tree program.now.nodes.items node }
+        requires evaluated { IsEvaluated node }
+        requires room { length self.old.frames.items < vec_capacity self.old.frames }
+        requires nested { IsNested (view_of self.old) }
+        ensures goes { IsTrue result → (t : Table) (h : Course) (n : ℕ) → after_script program.now (view_of self.old) t (rule (context_of program.now) (evaluated_tree program.now.nodes.items node)) h n ≡ remaining_with program.now (view_of self.new) t h n }
+        ensures nested { IsNested (view_of self.new) }
+        ensures within { (k : Reach) → AreReached k (view_of self.old) → AreReached k (view_of self.new) }
+        ensures left { self.new.left ≡ self.old.left }
+        ensures size { size (view_of self.new) ≤ 3 * length self.old.frames.items + 4 }
+        ensures same { IsFalse result → self.new ≡ self.old }
+        ensures rare { IsFalse result → IsRareNode node }
+    {
+        if let Some(value) = self.value_at_once(node) {
+            self.answer(Answer::Gave(value));
+            return true;
+        }
+        if let Some((frame, part)) = awaited_part(here, node) {
+            self.enter_above(frame, part);
+            return true;
+        }
+        self.open_apart(program, node)
     }
 }

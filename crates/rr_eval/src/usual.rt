@@ -1,27 +1,28 @@
 //! What is usual, in front of what there is of all kinds: a part whose value needs no frame is evaluated at once, with what waits for it.
 
-ghost use Rattle.std.specs.Prelude.{◌≡◌, ◌+◌, ◌<◌, ◌≤◌, ℕ, [], false, length, vec_capacity, IfSome, IsTrue, IsFalse};
+ghost use Rattle.std.specs.Prelude.{◌≡◌, ◌+◌, ◌*◌, ◌<◌, ◌≤◌, ℕ, [], false, length, vec_capacity, IfSome, IfNone, IsTrue, IsFalse};
 ghost use Rattle.rr_parser.specs.Grammar.Names.{is_splat};
 ghost use Rattle.rr_space.specs.Tables.{Table};
 ghost use Rattle.rr_tree.specs.Tree.{tree_at, binary};
 ghost use Rattle.rr_eval.specs.declared.frame.Control.{Control};
 ghost use Rattle.rr_tree.specs.declared.program.Program.{Program};
+ghost use Rattle.rr_eval.specs.declared.problem.Answer.{Answer};
 ghost use Rattle.rr_eval.specs.Script.{Go, World};
 ghost use Rattle.rr_eval.specs.Requests.{Course};
 ghost use Rattle.rr_eval.specs.Rules.{rule};
-ghost use Rattle.rr_eval.specs.Frames.{resumed, IsNew, IsRareFrame};
-ghost use Rattle.rr_eval.specs.Nodes.{evaluated_tree};
-ghost use Rattle.rr_eval.specs.Turns.{context_of, code_of, IsNested, remaining, power};
+ghost use Rattle.rr_eval.specs.Frames.{resumed, IsNew};
+ghost use Rattle.rr_eval.specs.Nodes.{evaluated_tree, IsEvaluated, IsFirstNode};
+ghost use Rattle.rr_eval.specs.Turns.{context_of, code_of, IsNested, remaining, remaining_with, after_answer, power, size};
 ghost use Rattle.rr_eval.specs.Usual.{TakesNow};
 ghost use Rattle.rr_eval.specs.Views.{view_of};
 ghost use Rattle.rr_eval.specs.Within.{Reach, IsReached, IsFrameReached, AreReached};
 
 use crate::call_stack::Variable;
-use crate::engine::Engine;
-use crate::frame::Frame;
+use crate::engine::{Engine, push_within};
+use crate::frame::{Control, Frame};
 use crate::nodes::evaluated_node;
 use crate::operator::on_integers;
-use crate::problem::Response;
+use crate::problem::{Answer, Response};
 use rr_space::Ref;
 use rr_tree::{BinaryOperator, Node, NodeId, Program};
 
@@ -32,18 +33,20 @@ pub struct Quick {
     pub steps: u64,
 }
 
-/// The part that a node evaluates first, behind the frame that waits for it, where the frame needs neither the objects nor memory.
+/// The part that a node evaluates first, behind the frame that waits for it, where that is one part and no receiver.
 #[inline(always)]
-fn usual_first(here: NodeId, node: Node) -> Option<(Frame, NodeId)>
+pub fn awaited_part(here: NodeId, node: Node) -> Option<(Frame, NodeId)>
+    requires { IsEvaluated node }
     ensures script { IfSome result (λ x. (p : Program) (w : World) → tree_at p.nodes.items here ≡ evaluated_tree p.nodes.items node → rule (context_of p) (tree_at p.nodes.items here) ≡ Go (tree_at p.nodes.items x.1) (resumed (code_of p w) x.0 [])) }
-    ensures usual { IfSome result (λ x. IsRareFrame x.0 → ⊥) }
     ensures new { (n : ℕ) → IfSome result (λ x. IsNew x.0 n) }
     ensures within { (k : Reach) → IfSome result (λ x. IsFrameReached k x.0) }
+    ensures none { IfNone result (IsFirstNode node → ⊥) }
 {
     match node {
         Node::And(a, b) => Some((Frame::And(b), a)),
         Node::Or(a, b) => Some((Frame::Or(b), a)),
         Node::Not(a) => Some((Frame::Not, a)),
+        Node::Negate(a) => Some((Frame::Negation, a)),
         Node::Binary(op, a, b) => Some((Frame::Left(op, b), a)),
         Node::Choose(a, b, d) => Some((Frame::Branch(b, d), a)),
         Node::Assign {
@@ -52,6 +55,7 @@ fn usual_first(here: NodeId, node: Node) -> Option<(Frame, NodeId)>
             value,
             ..
         } => Some((Frame::Store(Variable { depth, slot }), value)),
+        Node::SetField(name, value) => Some((Frame::SetField(name), value)),
         Node::Loop {
             until,
             condition,
@@ -60,6 +64,13 @@ fn usual_first(here: NodeId, node: Node) -> Option<(Frame, NodeId)>
         Node::Break(value) => Some((Frame::Break, value)),
         Node::Next(value) => Some((Frame::Next, value)),
         Node::Return(value) => Some((Frame::Return, value)),
+        Node::Rescue {
+            body,
+            first,
+            count,
+            otherwise,
+        } => Some((Frame::Rescue(first + count, count, otherwise), body)),
+        Node::Ensure(body, part) => Some((Frame::Ensure(part), body)),
         _ => None,
     }
 }
@@ -149,6 +160,23 @@ impl Engine {
         }
     }
 
+    /// Puts a frame that has no values yet over all, and gives it a value.
+    #[tactic(auto, unfolding(crate::specs::Within::AreReached))]
+    #[inline(always)]
+    fn give_above(&mut self, frame: Frame, value: Ref)
+        requires room { length self.old.frames.items < vec_capacity self.old.frames }
+        requires new { IsNew frame (length self.old.held.items) }
+        requires nested { IsNested (view_of self.old) }
+        ensures goes { (p : Program) (t : Table) (h : Course) (n : ℕ) → after_answer p (view_of self.old) t frame (Answer.Gave value) h n ≡ remaining_with p (view_of self.new) t h n }
+        ensures nested { IsNested (view_of self.new) }
+        ensures within { (k : Reach) → AreReached k (view_of self.old) → IsFrameReached k frame → IsReached k value → AreReached k (view_of self.new) }
+        ensures left { self.new.left ≡ self.old.left }
+        ensures size { size (view_of self.new) ≤ 3 * length self.old.frames.items + 5 }
+    {
+        push_within(&mut self.frames, frame);
+        self.control = Control::Give(Answer::Gave(value));
+    }
+
     /// Evaluates a node that evaluates a part first. The frame that waits for the part gets its value at once, where the part needs
     /// no frame.
     #[inline(always)]
@@ -162,7 +190,6 @@ impl Engine {
     )
         requires control { self.old.control ≡ Control.Enter here }
         requires script { (w : World) → rule (context_of program.now) (tree_at program.now.nodes.items here) ≡ Go (tree_at program.now.nodes.items part) (resumed (code_of program.now w) frame []) }
-        requires usual { IsRareFrame frame → ⊥ }
         requires new { IsNew frame (length self.old.held.items) }
         requires some { stop < self.old.left }
         requires room { length self.old.frames.items < vec_capacity self.old.frames }
@@ -177,9 +204,8 @@ impl Engine {
         match self.quick_before(program, part, stop) {
             Some(found) => {
                 self.left -= found.steps + 1;
-                match self.resume(program, frame, found.value, stop) {
-                    true => (),
-                    false => unreachable!(),
+                if !self.resume(program, frame, found.value, stop) {
+                    self.give_above(frame, found.value);
                 }
             }
             None => {
@@ -189,11 +215,12 @@ impl Engine {
         }
     }
 
-    /// Evaluates a node that evaluates a part first, where the frame that waits for the part needs no objects and no memory.
+    /// Evaluates a node that evaluates a part first, where that is one part and no receiver.
     #[inline(always)]
     pub fn visit_first(&mut self, program: &Program, here: NodeId, node: Node, stop: u64) -> bool
         requires control { self.old.control ≡ Control.Enter here }
         requires tree { tree_at program.now.nodes.items here ≡ evaluated_tree program.now.nodes.items node }
+        requires evaluated { IsEvaluated node }
         requires some { stop < self.old.left }
         requires room { length self.old.frames.items < vec_capacity self.old.frames }
         requires nested { IsNested (view_of self.old) }
@@ -205,7 +232,7 @@ impl Engine {
         ensures falls { IsTrue result → power (view_of self.new) + self.old.left ≤ power (view_of self.old) + self.new.left }
         ensures same { IsFalse result → self.new ≡ self.old }
     {
-        match usual_first(here, node) {
+        match awaited_part(here, node) {
             Some((frame, part)) => {
                 self.visit_under(program, here, frame, part, stop);
                 true

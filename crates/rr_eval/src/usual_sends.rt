@@ -11,12 +11,12 @@ ghost use Rattle.rr_eval.specs.declared.frame.Control.{Control};
 ghost use Rattle.rr_eval.specs.Acts.{Passes};
 ghost use Rattle.rr_eval.specs.Changes.{Changes};
 ghost use Rattle.rr_eval.specs.Frames.{Nested};
-ghost use Rattle.rr_eval.specs.Nodes.{evaluated_tree, IsEvaluated, IsRareNode};
+ghost use Rattle.rr_eval.specs.Nodes.{evaluated_tree, IsEvaluated, IsRareNode, IsSendNode};
 ghost use Rattle.rr_eval.specs.Requests.{Course, Adds};
 ghost use Rattle.rr_eval.specs.Rules.{rule, with_value, values, arguments, finish};
 ghost use Rattle.rr_eval.specs.Script.{objects_of};
 ghost use Rattle.rr_eval.specs.Turns.{context_of, IsNested, remaining, after_values, continuing, Stands, size, sized};
-ghost use Rattle.rr_eval.specs.Usual.{ComesTo, IsSendNode};
+ghost use Rattle.rr_eval.specs.Usual.{ComesTo};
 ghost use Rattle.rr_eval.specs.Views.{view_of};
 ghost use Rattle.rr_eval.specs.Within.{Reach, reach, IsReached, IsAskedReached, AreReached, AreWithin, KeepsReach, KeepsRead};
 

@@ -1,11 +1,14 @@
 -- The rule of a node that evaluates a part first is what its frame waits for.
-use Rattle.std.proofs.Common.{◌≡◌, sym, ap, ◌∙◌}
+use Rattle.std.proofs.Common.{◌≡◌, ◌+◌, sym, ap, ◌∙◌}
+use Rattle.rr_tree.specs.Nodes.{trees_before}
 use Rattle.rr_tree.specs.Tree.{tree_at, repeat}
 use Rattle.rr_eval.specs.Nodes.{evaluated_tree}
+use Rattle.rr_eval.specs.Rescuing.{rescue_rule}
 use Rattle.rr_eval.specs.Rules.{rule, loop_rule}
 use Rattle.rr_eval.specs.Script.{Go, Ret}
 use Rattle.rr_eval.specs.Turns.{context_of}
-use Rattle.rr_eval.proofs.usual.usual_first.Goals as goal
+use Rattle.rr_eval.proofs.Trees.{items_listed}
+use Rattle.rr_eval.proofs.usual.awaited_part.Goals as goal
 
 pub returns-in-And-clause-script : goal.returns-in-And-clause-script
 returns-in-And-clause-script c = λ p w e. ap (rule (context_of p)) (e ∙ ap (evaluated_tree p.nodes.items) c.in-And.is)
@@ -42,3 +45,20 @@ returns-in-Loop-clause-script c = λ p w e.
     let b = tree_at ns c.in-Loop.body in
     let there : tree_at ns c.args.here ≡ repeat until a b = e ∙ ap (evaluated_tree ns) c.in-Loop.is in
     ap (rule (context_of p)) there ∙ ap (λ loop. loop_rule until a b (Go loop Ret)) (sym there)
+
+pub returns-in-Negate-clause-script : goal.returns-in-Negate-clause-script
+returns-in-Negate-clause-script c = λ p w e. ap (rule (context_of p)) (e ∙ ap (evaluated_tree p.nodes.items) c.in-Negate.is)
+
+pub returns-in-SetField-clause-script : goal.returns-in-SetField-clause-script
+returns-in-SetField-clause-script c = λ p w e. ap (rule (context_of p)) (e ∙ ap (evaluated_tree p.nodes.items) c.in-SetField.is)
+
+pub returns-in-Rescue-clause-script : goal.returns-in-Rescue-clause-script
+returns-in-Rescue-clause-script c = λ p w e.
+    let ns = p.nodes.items in
+    let own = context_of p in
+    let clauses = trees_before ns (c.in-Rescue.first + c.in-Rescue.count) c.in-Rescue.count in
+    ap (rule own) (e ∙ ap (evaluated_tree ns) c.in-Rescue.is)
+    ∙ ap (λ cs. Go (tree_at ns c.in-Rescue.body) (rescue_rule own cs (tree_at ns c.in-Rescue.otherwise))) (items_listed clauses)
+
+pub returns-in-Ensure-clause-script : goal.returns-in-Ensure-clause-script
+returns-in-Ensure-clause-script c = λ p w e. ap (rule (context_of p)) (e ∙ ap (evaluated_tree p.nodes.items) c.in-Ensure.is)
