@@ -20,7 +20,7 @@ use rr_tree::Program;
 
 impl Engine {
     /// Does what a frame does with a value, where that takes no memory either.
-    fn resume_quietly(&mut self, program: &Program, space: &Space, frame: Frame, value: Ref)
+    pub fn resume_quietly(&mut self, program: &Program, space: &Space, frame: Frame, value: Ref)
         requires room { length self.old.frames.items < vec_capacity self.old.frames }
         requires base { base_of frame ≤ length self.old.held.items }
         requires nested { Nested (reverse self.old.frames.items) (below_of frame self.old.held.items) }

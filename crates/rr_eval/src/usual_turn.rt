@@ -6,7 +6,7 @@ ghost use Rattle.rr_tree.specs.declared.program.Program.{Program};
 ghost use Rattle.rr_eval.specs.declared.frame.Control.{Control};
 ghost use Rattle.rr_eval.specs.declared.frame.Frame.{Frame};
 ghost use Rattle.rr_eval.specs.declared.problem.Answer.{Answer};
-ghost use Rattle.rr_eval.specs.Frames.{below_of, base_of, Nested};
+ghost use Rattle.rr_eval.specs.Frames.{below_of, base_of, Nested, IsRareFrame, IsQuietFrame};
 ghost use Rattle.rr_eval.specs.Requests.{Course};
 ghost use Rattle.rr_eval.specs.Turns.{IsNested, remaining, after_answer, more_of, power, size};
 ghost use Rattle.rr_eval.specs.Usual.{IsTop};
@@ -205,6 +205,85 @@ impl Engine {
         self.end_block(value);
     }
 
+    /// Gives the topmost frame, which needs neither the objects nor memory, a value.
+    #[inline(always)]
+    fn resume_plainly(&mut self, program: &Program, frame: Frame, value: Ref, stop: u64)
+        requires control { self.old.control ≡ Control.Give (Answer.Gave value) }
+        requires top { IsTop self.old.frames.items frame }
+        requires plain { IsRareFrame frame → ⊥ }
+        requires nested { IsNested (view_of self.old) }
+        requires within { stop ≤ self.old.left }
+        ensures goes { (t : Table) (h : Course) → remaining program.now (view_of self.old) t h ≡ remaining program.now (view_of self.new) t h }
+        ensures nested { IsNested (view_of self.new) }
+        ensures within { (k : Reach) → AreReached k (view_of self.old) → AreReached k (view_of self.new) }
+        ensures left { stop ≤ self.new.left }
+        ensures kept { self.new.left ≤ self.old.left }
+        ensures falls { size (view_of self.new) < size (view_of self.old) }
+    {
+        self.take_top(frame, Answer::Gave(value));
+        match self.resume(program, frame, value, stop) {
+            true => (),
+            false => unreachable!(),
+        }
+    }
+
+    /// Gives the topmost frame, which takes no memory and asks nothing, a value.
+    fn resume_silently(&mut self, program: &Program, space: &Space, frame: Frame, value: Ref)
+        requires control { self.old.control ≡ Control.Give (Answer.Gave value) }
+        requires top { IsTop self.old.frames.items frame }
+        requires quiet { IsQuietFrame frame }
+        requires nested { IsNested (view_of self.old) }
+        ensures goes { (h : Course) → remaining program.now (view_of self.old) space.now h ≡ remaining program.now (view_of self.new) space.now h }
+        ensures nested { IsNested (view_of self.new) }
+        ensures within { (clusters : Option Below) → AreReached (reach (length space.now.slots) clusters) (view_of self.old) → AreReached (reach (length space.now.slots) clusters) (view_of self.new) }
+        ensures left { self.new.left ≡ self.old.left }
+        ensures falls { size (view_of self.new) < size (view_of self.old) }
+    {
+        self.take_top(frame, Answer::Gave(value));
+        self.resume_quietly(program, space, frame, value);
+    }
+
+    /// Gives the topmost frame, which is told apart from those before, a value, where that is usual.
+    fn resume_apart(
+        &mut self,
+        program: &Program,
+        space: &Space,
+        frame: Frame,
+        value: Ref,
+        stop: u64,
+    ) -> bool
+        requires control { self.old.control ≡ Control.Give (Answer.Gave value) }
+        requires top { IsTop self.old.frames.items frame }
+        requires nested { IsNested (view_of self.old) }
+        requires within { stop ≤ self.old.left }
+        ensures goes { (h : Course) → remaining program.now (view_of self.old) space.now h ≡ remaining program.now (view_of self.new) space.now h }
+        ensures nested { IsNested (view_of self.new) }
+        ensures within { (clusters : Option Below) → AreReached (reach (length space.now.slots) clusters) (view_of self.old) → AreReached (reach (length space.now.slots) clusters) (view_of self.new) }
+        ensures left { stop ≤ self.new.left }
+        ensures kept { self.new.left ≤ self.old.left }
+        ensures falls { IsTrue result → size (view_of self.new) < size (view_of self.old) }
+        ensures less { size (view_of self.new) ≤ size (view_of self.old) }
+    {
+        match frame {
+            Frame::And(_)
+            | Frame::Or(_)
+            | Frame::Not
+            | Frame::Break
+            | Frame::Next
+            | Frame::Return => self.resume_plainly(program, frame, value, stop),
+            Frame::Rescue(_, _, _)
+            | Frame::Class(_)
+            | Frame::Handling(_)
+            | Frame::Ensure(_)
+            | Frame::Kept(_)
+            | Frame::Assigned(_)
+            | Frame::Read(_)
+            | Frame::Combine(_) => self.resume_silently(program, space, frame, value),
+            _ => return false,
+        }
+        true
+    }
+
     /// Gives the topmost frame a value, where that is usual: it answers whether it was done.
     #[inline(always)]
     fn resume_often(&mut self, program: &Program, space: &Space, value: Ref, stop: u64) -> bool
@@ -234,7 +313,8 @@ impl Engine {
             Some(&Frame::Round(iteration)) => {
                 return self.resume_turn(program, space, iteration, value);
             }
-            _ => return false,
+            Some(&frame) => return self.resume_apart(program, space, frame, value, stop),
+            None => return false,
         }
         true
     }
