@@ -1,5 +1,5 @@
 -- Calls of a receiver and with arguments that need no frame.
-use Rattle.std.proofs.Common.{◌≡◌, ℕ, suc, ◌+◌, ◌-◌, ◌<◌, ◌≤◌, sym, ap, subst, refl, ◌∙◌, arith, List, [], ◌∷◌, ◌++◌, length, length-append, take, drop, reverse}
+use Rattle.std.proofs.Common.{◌≡◌, ℕ, suc, ◌+◌, ◌-◌, ◌<◌, ◌≤◌, sym, ap, subst, refl, ◌∙◌, arith, List, [], ◌∷◌, ◌++◌, length, length-append, take, drop, reverse, Some, None, Bool, true, false, ◌*◌, IsTrue, IsFalse}
 use Rattle.std.proofs.lemmas.List.{append_assoc, take_all, take-append-drop, take-append-le, drop-append-le}
 use Rattle.std.proofs.Math.Seq.{take-append_seam, drop-append_seam, get_or-append_seam}
 use Rattle.std.specs.List.{All}
@@ -14,21 +14,27 @@ use Rattle.rr_tree.specs.declared.node.Node.TheVariants as node
 use Rattle.rr_base.specs.declared.name.Sym.{Sym}
 use Rattle.rr_tree.specs.declared.program.Program.{Program}
 use Rattle.rr_eval.specs.declared.call.Callee.{Callee}
-use Rattle.rr_eval.specs.declared.call.Callee.TheVariants.{SetIndex}
+use Rattle.rr_eval.specs.declared.call.Callee.TheVariants.{Name, SetIndex}
 use Rattle.rr_eval.specs.declared.call.Target.TheVariants.{Call}
 use Rattle.rr_eval.specs.declared.frame.Control.TheVariants.{Enter}
 use Rattle.rr_eval.specs.declared.frame.Frame.TheVariants.{Argument}
+use Rattle.rr_parser.specs.Grammar.Names.{is_splat}
+use Rattle.rr_builtin.proofs.Gathering.{append_nil}
+use Rattle.rr_eval.specs.Dispatch.{dispatched, method_for, run_method, way_of}
+use Rattle.rr_eval.specs.Joins.{joined_by, joined_or_sent}
+use Rattle.rr_eval.specs.Methods.{Callable}
+use Rattle.rr_eval.specs.Nodes.{IsSendNode}
 use Rattle.rr_eval.specs.Frames.{first_tree, runs_in, unwind}
 use Rattle.rr_eval.specs.Requests.{Course}
 use Rattle.rr_eval.specs.Rules.{rule, on_value, with_value, values, arguments, finish}
 use Rattle.rr_eval.specs.Script.{Script, Go}
-use Rattle.rr_eval.specs.Turns.{context_of, code_of, state_of, remaining, after_script, after_values, Stands}
-use Rattle.rr_eval.specs.Usual.{TakesNow, ComesTo, HoldsMore, IsSendNode}
+use Rattle.rr_eval.specs.Turns.{context_of, code_of, state_of, remaining, after_script, after_values, Stands, size, power, waits}
+use Rattle.rr_eval.specs.Usual.{TakesNow, ComesTo, HoldsMore}
 use Rattle.rr_eval.specs.View.{View}
 use Rattle.rr_eval.specs.Within.{Reach, IsReached, AreReached}
 use Rattle.rr_eval.proofs.Entered.{stepped}
 use Rattle.rr_eval.proofs.Holding.{all_take}
-use Rattle.rr_eval.proofs.QuickParts.{part_comes, comes_then, held_comes}
+use Rattle.rr_eval.proofs.QuickParts.{argument_comes, part_comes, comes_then, held_comes}
 
 -- one value more is held
 pub holds_push : (m : View) (held : List Ref) (v : Ref) → held ≡ m.held ++ v ∷ [] → HoldsMore m (record m { held = held })
@@ -176,3 +182,69 @@ no_send (node.Append a b) send index append attribute element is = append a b re
 no_send (node.SetAttribute a x b site) send index append attribute element is = attribute a x b site refl
 no_send (node.SetIndex a b d) send index append attribute element is = element a b d refl
 no_send _ send index append attribute element is = is
+
+-- A method of the program is called on a receiver, where the call joins no array: without arguments,
+pub sent_bare : (p : Program) (m : View) (t : Table) (here steps : ℕ) (v : Ref) (x : Sym) (f : Callable) (h : Course) → m.control ≡ Enter here
+    → ComesTo p m t (rule (context_of p) (tree_at p.nodes.items here)) steps (arguments (context_of p) [] (v ∷ []) (finish (context_of p) (Call (Name x)))) → joined_by (context_of p) t (Name x) v ≡ None → Some f ≡ method_for (context_of p) t v (Name x) → steps < m.left
+    → remaining p m t h ≡ after_script p m t (run_method (context_of p) f (way_of (Name x) None v []) []) h (m.left - (steps + 1))
+sent_bare p m t here steps v x f h at comes joins method less =
+    let own = context_of p in
+    comes_first p m t here steps (arguments own [] (v ∷ []) (finish own (Call (Name x)))) h at comes less
+    ∙ ap (λ o. after_script p m t (joined_or_sent own o (Name x) v []) h (m.left - (steps + 1))) joins
+    ∙ ap (λ g. after_script p m t (dispatched own g (Name x) None v []) h (m.left - (steps + 1))) (sym method)
+
+-- with one,
+pub sent_one : (p : Program) (m : View) (t : Table) (here first i j : ℕ) (v w : Ref) (x : Sym) (f : Callable) (h : Course) → m.control ≡ Enter here
+    → ComesTo p m t (rule (context_of p) (tree_at p.nodes.items here)) i (arguments (context_of p) (trees_before p.nodes.items (first + 1) 1) (v ∷ []) (finish (context_of p) (Call (Name x)))) → joined_by (context_of p) t (Name x) v ≡ None → Some f ≡ method_for (context_of p) t v (Name x)
+    → TakesNow p m (tree_at p.nodes.items first) j w → is_splat (tree_at p.nodes.items first) ≡ false → i + j < m.left
+    → remaining p m t h ≡ after_script p m t (run_method (context_of p) f (way_of (Name x) None v (w ∷ [])) (w ∷ [])) h (m.left - (i + j + 1))
+sent_one p m t here first i j v w x f h at comes joins method takes plain less =
+    let own = context_of p in
+    let ns = p.nodes.items in
+    let next = finish own (Call (Name x)) in
+    let k = m.left - (i + j + 1) in
+    let place : first ≡ first + 1 - 1 = omega arith in
+    let last = argument_comes p m t (first + 1) 0 j w (v ∷ []) next (subst (λ k. is_splat (tree_at ns k) ≡ false) place plain) (subst (λ k. TakesNow p m (tree_at ns k) j w) place takes) in
+    comes_first p m t here (i + j) (next (v ∷ w ∷ [])) h at (comes_then p m t (rule own (tree_at ns here)) (arguments own (trees_before ns (first + 1) 1) (v ∷ []) next) (next (v ∷ w ∷ [])) i j comes last) less
+    ∙ ap (λ o. after_script p m t (joined_or_sent own o (Name x) v (w ∷ [])) h k) joins
+    ∙ ap (λ g. after_script p m t (dispatched own g (Name x) None v (w ∷ [])) h k) (sym method)
+
+-- the receiver is the first of the values that are held more
+pub first_held : (held ones all : List Ref) (v : Ref) → ones ≡ held ++ v ∷ [] → take (length ones) all ≡ ones → v ∷ drop (length held + 1) all ≡ drop (length held) all
+first_held held ones all v pushed kept =
+    let one : length held + 1 ≡ length ones = sym (ap length pushed ∙ length-append held (v ∷ [])) in
+    ap (λ n. v ∷ drop n all) one ∙ dropped_behind held ones all v pushed kept
+
+-- and with values that are held
+pub sent_held : (p : Program) (m n : View) (t : Table) (here base i j end rest : ℕ) (v : Ref) (x : Sym) (f : Callable) (trees : List Tree) (h : Course) → m.control ≡ Enter here
+    → ComesTo p m t (rule (context_of p) (tree_at p.nodes.items here)) i (arguments (context_of p) trees (v ∷ []) (finish (context_of p) (Call (Name x))))
+    → ((t : Table) (next : List Ref → Script) → ComesTo p m t (arguments (context_of p) trees (v ∷ []) next) j (arguments (context_of p) (trees_before p.nodes.items end rest) (drop (length m.held) n.held) next)) → base ≡ length m.held → HoldsMore m n
+    → v ∷ drop (length m.held + 1) n.held ≡ drop (length m.held) n.held → joined_by (context_of p) t (Name x) v ≡ None → Some f ≡ method_for (context_of p) t v (Name x) → rest ≡ 0 → i + j < m.left
+    → remaining p m t h ≡ after_values p n t (Argument (Call (Name x)) end 0 base) (run_method (context_of p) f (way_of (Name x) None v (drop 1 (drop base n.held ++ []))) (drop 1 (drop base n.held ++ []))) h (n.left - (i + j + 1))
+sent_held p m n t here base i j end rest v x f trees h at first others all is heads joins method none less =
+    let own = context_of p in
+    let frame = Argument (Call (Name x)) end 0 base in
+    let k = n.left - (i + j + 1) in
+    let args = drop (length m.held + 1) n.held in
+    let vs = drop base n.held in
+    let values : vs ≡ v ∷ args = ap (λ b. drop b n.held) all ∙ sym heads in
+    let passed : args ≡ drop 1 (vs ++ []) = append_nil args ∙ ap (λ (l : List Ref). drop 1 (l ++ [])) (sym values) in
+    sent_waits p m n t here base i j end rest v trees (Name x) h at first others all is less
+    ∙ ap (λ r. after_values p n t frame (arguments own (trees_before p.nodes.items end r) vs (finish own (Call (Name x)))) h k) none
+    ∙ ap (λ (l : List Ref). after_values p n t frame (finish own (Call (Name x)) l) h k) values
+    ∙ ap (λ o. after_values p n t frame (joined_or_sent own o (Name x) v args) h k) joins
+    ∙ ap (λ g. after_values p n t frame (dispatched own g (Name x) None v args) h k) (sym method)
+    ∙ ap (λ (l : List Ref). after_values p n t frame (run_method own f (way_of (Name x) None v l) l) h k) passed
+
+-- what was done goes on as before, and where nothing was done all is as before
+pub usual_goes : (p : Program) (m n : View) (t : Table) (done : Bool) → (IsTrue done → (h : Course) → remaining p m t h ≡ remaining p n t h) → (IsFalse done → n ≡ m) → (h : Course) → remaining p m t h ≡ remaining p n t h
+usual_goes p m n t true goes same = goes refl
+usual_goes p m n t false goes same = λ h. ap (λ v. remaining p v t h) (sym (same refl))
+
+pub usual_falls : (m n : View) (here : ℕ) (done : Bool) → m.control ≡ Enter here → (IsTrue done → n.left < m.left) → (IsTrue done → size n ≤ 3 * length m.frames + 4) → (IsFalse done → n ≡ m) → power n + m.left ≤ power m + n.left
+usual_falls m n here true at spends fits same =
+    let first = spends refl in
+    let second = fits refl in
+    let all = ap (λ k. 3 * length m.frames + waits k) at in
+    omega (arith, first, second, all)
+usual_falls m n here false at spends fits same = subst (λ v. power v + m.left ≤ power m + v.left) (sym (same refl)) (omega arith)

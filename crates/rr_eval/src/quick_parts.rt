@@ -77,6 +77,32 @@ impl Engine {
     }
 
     /// Holds the receiver of a call, and the values of its first arguments, which are the last `count` parts before `end`, up to one
+    /// that needs a frame or before which the steps stop. There is room for all of them.
+    #[inline(always)]
+    pub fn hold_receiver(
+        &mut self,
+        program: &Program,
+        receiver: Ref,
+        end: NodeId,
+        count: u32,
+        stop: u64,
+    ) -> QuickParts
+        requires some { stop < self.old.left }
+        requires space { length self.old.held.items + count < vec_capacity self.old.held }
+        ensures comes { (t : Table) (next : List Ref → Script) → ComesTo program.now (view_of self.old) t (arguments (context_of program.now) (trees_before program.now.nodes.items end count) (receiver ∷ []) next) result.steps (arguments (context_of program.now) (trees_before program.now.nodes.items end result.rest) (drop (length self.old.held.items) self.new.held.items) next) }
+        ensures first { receiver ∷ drop (length self.old.held.items + 1) self.new.held.items ≡ drop (length self.old.held.items) self.new.held.items }
+        ensures rest { length self.new.held.items + result.rest ≡ length self.old.held.items + count + 1 }
+        ensures fewer { result.rest ≤ count }
+        ensures enough { stop + result.steps < self.old.left }
+        ensures holds { HoldsMore (view_of self.old) (view_of self.new) }
+        ensures within { (k : Reach) → AreReached k (view_of self.old) → IsReached k receiver → AreReached k (view_of self.new) }
+        ensures room { vec_capacity self.new.frames ≡ vec_capacity self.old.frames }
+    {
+        self.held.push_reserved(receiver);
+        self.hold_parts(program, end, count, stop)
+    }
+
+    /// Holds the receiver of a call, and the values of its first arguments, which are the last `count` parts before `end`, up to one
     /// that needs a frame or before which the steps stop. A refused growth leaves all as it is.
     #[inline(always)]
     pub fn hold_sent(
@@ -99,8 +125,7 @@ impl Engine {
         ensures fault { IfErr result (λ f. f ≡ Fault.Memory) }
     {
         self.held.reserve(count as usize + 1)?;
-        self.held.push_reserved(receiver);
-        Ok(self.hold_parts(program, end, count, stop))
+        Ok(self.hold_receiver(program, receiver, end, count, stop))
     }
 
     /// Evaluates the next part of a list, behind a frame that waits for it over the values that are held from `base` on. The

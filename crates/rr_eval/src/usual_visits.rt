@@ -1,20 +1,20 @@
 //! Nodes that are usual: what they do needs neither memory nor the objects.
 
-ghost use Rattle.std.specs.Prelude.{◌≡◌, ◌+◌, ◌*◌, ◌<◌, ◌≤◌, ◌^◌, [], length, reverse, vec_capacity, Some, IfSome, IsTrue, IsFalse, MatchOption};
-ghost use Rattle.rr_space.specs.Tables.{Table};
+ghost use Rattle.std.specs.Prelude.{◌≡◌, ◌+◌, ◌*◌, ◌<◌, ◌≤◌, ◌^◌, [], length, reverse, vec_capacity, Option, Some, IfSome, IsTrue, IsFalse, MatchOption};
+ghost use Rattle.rr_space.specs.Tables.{Table, Below};
 ghost use Rattle.rr_tree.specs.Tree.{tree_at};
 ghost use Rattle.rr_tree.specs.declared.node.Node.{Node};
 ghost use Rattle.rr_eval.specs.declared.frame.Control.{Control};
 ghost use Rattle.rr_eval.specs.declared.frame.Frame.{Frame};
 ghost use Rattle.rr_eval.specs.declared.problem.Answer.{Answer};
 ghost use Rattle.rr_eval.specs.Frames.{below_of, base_of, resumed, IsNew, Nested};
-ghost use Rattle.rr_eval.specs.Nodes.{evaluated_tree};
+ghost use Rattle.rr_eval.specs.Nodes.{evaluated_tree, IsEvaluated};
 ghost use Rattle.rr_eval.specs.Requests.{Course};
 ghost use Rattle.rr_eval.specs.Rules.{rule};
 ghost use Rattle.rr_eval.specs.Script.{Go, Ret, World};
 ghost use Rattle.rr_eval.specs.Turns.{context_of, code_of, IsNested, remaining, after_answer, power, size};
 ghost use Rattle.rr_eval.specs.Views.{view_of};
-ghost use Rattle.rr_eval.specs.Within.{Reach, IsReached, IsFrameReached, AreReached};
+ghost use Rattle.rr_eval.specs.Within.{Reach, reach, IsReached, IsFrameReached, AreReached};
 
 use crate::call_stack::Variable;
 use crate::engine::Engine;
@@ -22,6 +22,7 @@ use crate::frame::{Control, Frame};
 use crate::nodes::{evaluated_node, evaluated_place};
 use crate::prepared::Prepared;
 use crate::problem::Answer;
+use rr_base::Sym;
 use rr_space::{Ref, Space};
 use rr_tree::{BinaryOperator, Node, NodeId, Program};
 
@@ -251,6 +252,24 @@ impl Engine {
         }
     }
 
+    /// Evaluates an instance variable of `self`.
+    #[inline(always)]
+    fn visit_field(&mut self, program: &Program, space: &Space, here: NodeId, name: Sym, stop: u64)
+        requires control { self.old.control ≡ Control.Enter here }
+        requires tree { tree_at program.now.nodes.items here ≡ evaluated_tree program.now.nodes.items (Node.Field name) }
+        requires some { stop < self.old.left }
+        requires nested { IsNested (view_of self.old) }
+        ensures goes { (h : Course) → remaining program.now (view_of self.old) space.now h ≡ remaining program.now (view_of self.new) space.now h }
+        ensures nested { IsNested (view_of self.new) }
+        ensures within { (clusters : Option Below) → AreReached (reach (length space.now.slots) clusters) (view_of self.old) → AreReached (reach (length space.now.slots) clusters) (view_of self.new) }
+        ensures left { stop ≤ self.new.left }
+        ensures spends { self.new.left < self.old.left }
+        ensures falls { power (view_of self.new) + self.old.left ≤ power (view_of self.old) + self.new.left }
+    {
+        self.open_field(space, name);
+        self.left -= 1;
+    }
+
     /// Evaluates a node of another kind, where that is usual: it answers whether it was done.
     fn visit_apart(&mut self, program: &Program, here: NodeId, stop: u64) -> bool
         requires control { self.old.control ≡ Control.Enter here }
@@ -272,6 +291,60 @@ impl Engine {
         self.visit_first(program, here, node, stop)
     }
 
+    /// Evaluates a call, or an instance variable, or a node of another kind, where that is usual: it answers whether it was done.
+    #[inline(always)]
+    fn visit_called(
+        &mut self,
+        prepared: &Prepared,
+        space: &Space,
+        here: NodeId,
+        node: Node,
+        stop: u64,
+    ) -> bool
+        requires control { self.old.control ≡ Control.Enter here }
+        requires tree { tree_at prepared.now.program.nodes.items here ≡ evaluated_tree prepared.now.program.nodes.items node }
+        requires evaluated { IsEvaluated node }
+        requires some { stop < self.old.left }
+        requires room { length self.old.frames.items < vec_capacity self.old.frames }
+        requires nested { IsNested (view_of self.old) }
+        ensures goes { (h : Course) → remaining prepared.now.program (view_of self.old) space.now h ≡ remaining prepared.now.program (view_of self.new) space.now h }
+        ensures nested { IsNested (view_of self.new) }
+        ensures within { (clusters : Option Below) → AreReached (reach (length space.now.slots) clusters) (view_of self.old) → AreReached (reach (length space.now.slots) clusters) (view_of self.new) }
+        ensures left { stop ≤ self.new.left }
+        ensures kept { self.new.left ≤ self.old.left }
+        ensures spends { IsTrue result → self.new.left < self.old.left }
+        ensures falls { power (view_of self.new) + self.old.left ≤ power (view_of self.old) + self.new.left }
+    {
+        match node {
+            Node::Call {
+                name,
+                first,
+                count,
+                ..
+            } => self.call_usual(prepared, space, here, name, first, count, stop),
+            Node::Send {
+                receiver,
+                name,
+                first,
+                count,
+                ..
+            } => self.send_usual(prepared, space, here, name, receiver, first, count, stop),
+            Node::Bare { name, .. } => self.bare_usual(prepared, space, here, name, stop),
+            Node::Yield { first, count } => {
+                self.yield_usual(prepared, space, here, first, count, stop)
+            }
+            Node::Field(name) => {
+                self.visit_field(&prepared.program, space, here, name, stop);
+                true
+            }
+            Node::Index(_, _)
+            | Node::Append(_, _)
+            | Node::SetIndex { .. }
+            | Node::SetAttribute { .. } => { false }
+            _ => self.visit_apart(&prepared.program, here, stop),
+        }
+    }
+
     /// Evaluates a node, where that is usual: it answers whether it was done.
     #[inline(always)]
     pub fn visit_often(
@@ -287,7 +360,7 @@ impl Engine {
         requires nested { IsNested (view_of self.old) }
         ensures goes { (h : Course) → remaining prepared.now.program (view_of self.old) space.now h ≡ remaining prepared.now.program (view_of self.new) space.now h }
         ensures nested { IsNested (view_of self.new) }
-        ensures within { (k : Reach) → AreReached k (view_of self.old) → AreReached k (view_of self.new) }
+        ensures within { (clusters : Option Below) → AreReached (reach (length space.now.slots) clusters) (view_of self.old) → AreReached (reach (length space.now.slots) clusters) (view_of self.new) }
         ensures left { stop ≤ self.new.left }
         ensures kept { self.new.left ≤ self.old.left }
         ensures spends { IsTrue result → self.new.left < self.old.left }
@@ -318,22 +391,9 @@ impl Engine {
             Some(&Node::Sequence { first, count }) => {
                 self.visit_statements(program, here, first, count, stop);
             }
-            Some(
-                &Node::Call {
-                    name,
-                    first,
-                    count,
-                    ..
-                },
-            ) => return self.call_usual(prepared, space, here, name, first, count, stop),
-            Some(&Node::Bare { name, .. }) => {
-                return self.bare_usual(prepared, space, here, name, stop);
-            }
-            Some(&Node::Yield { first, count }) => {
-                return self.yield_usual(prepared, space, here, first, count, stop);
-            }
             Some(&Node::Block { body, .. }) => self.visit_body(program, here, body, stop),
-            _ => return self.visit_apart(program, here, stop),
+            Some(&node) => return self.visit_called(prepared, space, here, node, stop),
+            None => return self.visit_apart(program, here, stop),
         }
         true
     }

@@ -3,7 +3,6 @@ use Rattle.std.proofs.Common.{◌≡◌, ◌++◌, ◌∙◌, ap, sym, length}
 use Rattle.std.specs.Option.{option_map}
 use Rattle.rr_frames.specs.Frames.{list_of}
 use Rattle.rr_tree.specs.Tree.{tree_at}
-use Rattle.rr_eval.specs.declared.call.Passing.TheVariants.{All as Everything}
 use Rattle.rr_eval.specs.declared.call_stack.Entry.TheVariants.{OfMethod}
 use Rattle.rr_eval.specs.Blocks.{entered}
 use Rattle.rr_eval.specs.Dispatch.{passed_on}
@@ -21,8 +20,8 @@ returns-clause-goes c = λ done p t h n.
     let m = view_of c.args.self.now in
     let f = c.args.frame in
     let body = c.args.body in
-    let vs = stand_of f m.held ++ list_of c.args.last in
-    let count : c.count_of-given.result ≡ length vs = c.count_of-given.ensures ∙ ap (λ l. length (passed_on Everything (l ++ list_of c.args.last))) c.standing.ensures.is in
+    let vs = passed_on c.args.passing (stand_of f m.held ++ list_of c.args.last) in
+    let count : c.count_of-given.result ≡ length vs = c.count_of-given.ensures ∙ ap (λ l. length (passed_on c.args.passing (l ++ list_of c.args.last))) c.standing.ensures.is in
     let same : length vs ≡ body.shape.parameters = sym count ∙ c.if-given-body.false in
     let own = context_of p in
     let ns = p.nodes.items in

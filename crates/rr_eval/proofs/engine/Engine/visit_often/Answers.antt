@@ -4,7 +4,6 @@ use Rattle.std.proofs.lemmas.Bool.Decides.{nat_tests}
 use Rattle.rr_eval.specs.Nodes.{evaluated_tree}
 use Rattle.rr_eval.specs.Rules.{rule}
 use Rattle.rr_eval.specs.Turns.{context_of}
-use Rattle.rr_eval.proofs.Lists.{call_is, yield_is}
 use Rattle.rr_eval.proofs.Topmost.{tree_found}
 use Rattle.rr_eval.proofs.engine.Engine.visit_often.Goals as goal
 
@@ -63,30 +62,6 @@ visit_statements-requires-clause-tree c =
     let there = tree_found ns all p.ordered c.args.here c.evaluated_place-place.result call.field-0.now c.evaluated_place-place.ensures.same c.deref.ensures.value inside call.ensures.lookup.1 in
     there ∙ ap (evaluated_tree ns) call.field-0-is
 
-pub call_usual-requires-clause-script : goal.call_usual-requires-clause-script
-call_usual-requires-clause-script c =
-    let p = c.args.prepared.now.program in
-    let ns = p.nodes.items in
-    let all = c.deref.result.now in
-    let call = c.in-Some-Call in
-    let test = call.ensures.lookup.0 in
-    let inside : c.evaluated_place-place.result < length all = grind (arith, nat_tests) in
-    let there = tree_found ns all p.ordered c.args.here c.evaluated_place-place.result call.field-0.now c.evaluated_place-place.ensures.same c.deref.ensures.value inside call.ensures.lookup.1 in
-    ap (rule (context_of p)) (there ∙ ap (evaluated_tree ns) call.field-0-is)
-    ∙ sym (call_is ns (context_of p) call.name call.first call.count call.field-0-3)
-
-pub yield_usual-requires-clause-script : goal.yield_usual-requires-clause-script
-yield_usual-requires-clause-script c =
-    let p = c.args.prepared.now.program in
-    let ns = p.nodes.items in
-    let all = c.deref.result.now in
-    let call = c.in-Some-Yield in
-    let test = call.ensures.lookup.0 in
-    let inside : c.evaluated_place-place.result < length all = grind (arith, nat_tests) in
-    let there = tree_found ns all p.ordered c.args.here c.evaluated_place-place.result call.field-0.now c.evaluated_place-place.ensures.same c.deref.ensures.value inside call.ensures.lookup.1 in
-    ap (rule (context_of p)) (there ∙ ap (evaluated_tree ns) call.field-0-is)
-    ∙ sym (yield_is ns (context_of p) call.first call.count)
-
 pub visit_body-requires-clause-script : goal.visit_body-requires-clause-script
 visit_body-requires-clause-script c =
     let p = c.args.prepared.now.program in
@@ -98,13 +73,12 @@ visit_body-requires-clause-script c =
     let there = tree_found ns all p.ordered c.args.here c.evaluated_place-place.result call.field-0.now c.evaluated_place-place.ensures.same c.deref.ensures.value inside call.ensures.lookup.1 in
     ap (rule (context_of p)) (there ∙ ap (evaluated_tree ns) call.field-0-is)
 
-pub bare_usual-requires-clause-script : goal.bare_usual-requires-clause-script
-bare_usual-requires-clause-script c =
+pub visit_called-requires-clause-tree : goal.visit_called-requires-clause-tree
+visit_called-requires-clause-tree c =
     let p = c.args.prepared.now.program in
     let ns = p.nodes.items in
     let all = c.deref.result.now in
-    let call = c.in-Some-Bare in
+    let call = c.in-Some in
     let test = call.ensures.lookup.0 in
     let inside : c.evaluated_place-place.result < length all = grind (arith, nat_tests) in
-    let there = tree_found ns all p.ordered c.args.here c.evaluated_place-place.result call.field-0.now c.evaluated_place-place.ensures.same c.deref.ensures.value inside call.ensures.lookup.1 in
-    ap (rule (context_of p)) (there ∙ ap (evaluated_tree ns) call.field-0-is)
+    tree_found ns all p.ordered c.args.here c.evaluated_place-place.result call.field-0.now c.evaluated_place-place.ensures.same c.deref.ensures.value inside call.ensures.lookup.1
