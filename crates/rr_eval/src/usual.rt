@@ -98,7 +98,7 @@ impl Engine {
         }
     }
 
-    /// The value of a part, where that is a literal, a variable, `self`, or an operator on two leaves that are integers.
+    /// The value of a part, where that is a literal, a class, a variable, `self`, or an operator on two leaves that are integers.
     #[inline(always)]
     pub fn quick(&self, program: &Program, place: NodeId) -> Option<Quick>
         ensures takes { IfSome result (λ q. TakesNow program.now (view_of self.now) (tree_at program.now.nodes.items place) q.steps q.value) }
@@ -122,6 +122,10 @@ impl Engine {
             }),
             Node::Symbol(name) => Some(Quick {
                 value: Ref::Symbol(name),
+                steps: 1,
+            }),
+            Node::Class(class) => Some(Quick {
+                value: Ref::Class(class),
                 steps: 1,
             }),
             Node::Itself => Some(Quick {

@@ -1,7 +1,7 @@
--- A literal, a variable and `self` take one step.
+-- A literal, a class, a variable and `self` take one step.
 use Rattle.std.proofs.Common.{◌≡◌, sym, ap, ◌∙◌, refl, subst, rules, w64, to_z, of_z}
-use Rattle.rr_space.specs.declared.refer.Ref.TheVariants.{Nil, Truth, Int, Symbol}
-use Rattle.rr_tree.specs.Tree.{tree_at, nil, truth, int, symbol, itself as self_tree, local}
+use Rattle.rr_space.specs.declared.refer.Ref.TheVariants.{Nil, Truth, Int, Symbol, Class}
+use Rattle.rr_tree.specs.Tree.{tree_at, nil, truth, int, symbol, class_named, itself as self_tree, local}
 use Rattle.rr_eval.specs.declared.problem.Answer.TheVariants.{Gave}
 use Rattle.rr_eval.specs.Nodes.{evaluated_tree}
 use Rattle.rr_eval.specs.Script.{Ended}
@@ -42,6 +42,13 @@ returns-in-Symbol-clause-takes c = λ t h.
     let ns = p.nodes.items in
     let there : tree_at ns c.args.place ≡ symbol c.in-Symbol.name.0 = c.evaluated_node.ensures.tree ∙ ap (evaluated_tree ns) c.in-Symbol.is in
     answers (code_of p h.world) (tree_at ns c.args.place) (symbol c.in-Symbol.name.0) (state_of p (view_of c.args.self.now) t h) (Symbol c.in-Symbol.name) there (λ n. refl)
+
+pub returns-in-Class-clause-takes : goal.returns-in-Class-clause-takes
+returns-in-Class-clause-takes c = λ t h.
+    let p = c.args.program.now in
+    let ns = p.nodes.items in
+    let there : tree_at ns c.args.place ≡ class_named c.in-Class.class = c.evaluated_node.ensures.tree ∙ ap (evaluated_tree ns) c.in-Class.is in
+    answers (code_of p h.world) (tree_at ns c.args.place) (class_named c.in-Class.class) (state_of p (view_of c.args.self.now) t h) (Class c.in-Class.class) there (λ n. refl)
 
 pub returns-in-Itself-clause-takes : goal.returns-in-Itself-clause-takes
 returns-in-Itself-clause-takes c = λ t h.
