@@ -92,6 +92,8 @@ f(*a) -> Bare { name: Sym(1), site: 0 }, Splat(0), Item(1), Call { name: Sym(0),
 a.b(* c * d) -> Bare { name: Sym(0), site: 0 }, Bare { name: Sym(2), site: 1 }, Bare { name: Sym(3), site: 2 }, Binary(Multiply, 1, 2), Splat(3), Item(4), Send { receiver: 0, name: Sym(1), first: 5, count: 1, site: 3 }, Item(6), Sequence { first: 7, count: 1 }
 puts [*a] -> Bare { name: Sym(1), site: 0 }, Splat(0), Item(1), Array { first: 2, count: 1 }, Item(3), Call { name: Sym(0), first: 4, count: 1, site: 1 }, Item(5), Sequence { first: 6, count: 1 }
 [*x = 1] -> Int(1), Assign { depth: 0, slot: 0, name: Sym(0), behind: 3, value: 0 }, Splat(1), Item(2), Array { first: 3, count: 1 }, Item(4), Sequence { first: 5, count: 1 }
+f (1), 2 -> Int(1), Item(0), Sequence { first: 1, count: 1 }, Int(2), Item(2), Item(3), Call { name: Sym(0), first: 4, count: 2, site: 0 }, Item(6), Sequence { first: 7, count: 1 }
+f(1) { } -> Int(1), Item(0), Call { name: Sym(0), first: 1, count: 1, site: 0 }, Sequence { first: 3, count: 0 }, Block { scope: 1, parameters: 0, size: 0, body: 3 }, WithBlock(2, 4), Item(5), Sequence { first: 6, count: 1 }
 puts [1] -> Int(1), Item(0), Array { first: 1, count: 1 }, Item(2), Call { name: Sym(0), first: 3, count: 1, site: 0 }, Item(4), Sequence { first: 5, count: 1 }
 puts [1][0] -> Int(1), Item(0), Array { first: 1, count: 1 }, Int(0), Index(2, 3), Item(4), Call { name: Sym(0), first: 5, count: 1, site: 0 }, Item(6), Sequence { first: 7, count: 1 }
 a[0] -> Bare { name: Sym(0), site: 0 }, Int(0), Index(0, 1), Item(2), Sequence { first: 3, count: 1 }
