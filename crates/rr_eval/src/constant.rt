@@ -9,6 +9,9 @@ ghost use Rattle.rr_eval.specs.Requests.{Course};
 ghost use Rattle.rr_eval.specs.Constants.{own_class, constant_rule, set_response, plain_constant};
 ghost use Rattle.rr_eval.specs.Globals.{globals};
 ghost use Rattle.rr_eval.specs.Rules.{rule};
+ghost use Rattle.rr_eval.specs.Script.{Ret};
+ghost use Rattle.rr_eval.specs.declared.problem.Answer.{Answer as Answered};
+ghost use Rattle.rr_space.specs.declared.refer.Ref.{Ref as Value};
 ghost use Rattle.rr_eval.specs.Turns.{context_of, IsNested, after_script, remaining_with, size};
 ghost use Rattle.rr_eval.specs.Views.{view_of};
 ghost use Rattle.rr_eval.specs.Within.{Reach, reach, AreReached, IsResponseReached};
@@ -43,6 +46,17 @@ fn own_class(program: &Program, name: Sym) -> Option<ClassId>
             Err(_) => None,
         },
         None => None,
+    }
+}
+
+/// The class of the program that a path names.
+#[inline(always)]
+pub fn class_at_path(program: &Program, path: Path) -> Option<ClassId>
+    ensures { IfSome result (λ k. rule (context_of program.now) (constant path) ≡ Ret (Answered.Gave (Value.Class k))) }
+{
+    match path {
+        Path::Plain(name) => own_class(program, name),
+        Path::Ractor(_) => None,
     }
 }
 

@@ -18,6 +18,7 @@ ghost use Rattle.rr_eval.specs.Views.{view_of};
 ghost use Rattle.rr_eval.specs.Within.{Reach, IsReached, IsFrameReached, AreReached};
 
 use crate::call_stack::Variable;
+use crate::constant::class_at_path;
 use crate::engine::{Engine, push_within};
 use crate::frame::{Control, Frame};
 use crate::nodes::evaluated_node;
@@ -140,6 +141,11 @@ impl Engine {
                 Some(value) => Some(Quick { value, steps: 3 }),
                 None => None,
             },
+            Node::Constant(path) => {
+                let class = class_at_path(program, path)?;
+                let value = Ref::Class(class);
+                Some(Quick { value, steps: 1 })
+            }
             _ => None,
         }
     }
