@@ -30,6 +30,7 @@ const NESTING: u32 = 200;
 /// The nodes of a program.
 #[derive(Drop)]
 struct Nodes {
+    /// With no room behind them: a table that has grown by doubling is cut.
     pub nodes: Vec<Node>,
     pub root: NodeId,
     pub definitions: Vec<NodeId>,
@@ -75,7 +76,6 @@ fn read_nodes(alloc: Global, words: &[Word], depth: u32) -> Result<Nodes, Refusa
         room: _,
         sites,
     } = parser;
-    // The table has grown by doubling.
     nodes.shrink_to_fit();
     Ok(Nodes {
         nodes,

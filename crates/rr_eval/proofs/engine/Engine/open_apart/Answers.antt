@@ -1,5 +1,5 @@
 -- A sequence has these statements, and the nodes that are not evaluated yet are those that are none of the others.
-use Rattle.std.proofs.Common.{◌≡◌, sym, ap, ◌∙◌}
+use Rattle.std.proofs.Common.{sym, ap, ◌∙◌}
 use Rattle.rr_eval.specs.Nodes.{evaluated_tree}
 use Rattle.rr_eval.specs.Rules.{rule}
 use Rattle.rr_eval.specs.Turns.{context_of, after_script}

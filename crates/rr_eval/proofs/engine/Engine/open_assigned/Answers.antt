@@ -1,5 +1,5 @@
 -- An assignment to several targets has these.
-use Rattle.std.proofs.Common.{◌≡◌, sym, ap, ◌∙◌}
+use Rattle.std.proofs.Common.{sym, ap, ◌∙◌}
 use Rattle.rr_eval.specs.Nodes.{evaluated_tree}
 use Rattle.rr_eval.specs.Rules.{rule}
 use Rattle.rr_eval.specs.Turns.{context_of, after_script}

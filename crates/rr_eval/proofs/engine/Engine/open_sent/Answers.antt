@@ -1,5 +1,5 @@
 -- A call has these arguments.
-use Rattle.std.proofs.Common.{◌≡◌, sym, ap, ◌∙◌}
+use Rattle.std.proofs.Common.{sym, ap, ◌∙◌}
 use Rattle.rr_eval.specs.Nodes.{evaluated_tree}
 use Rattle.rr_eval.specs.Rules.{rule}
 use Rattle.rr_eval.specs.Turns.{context_of, after_script}

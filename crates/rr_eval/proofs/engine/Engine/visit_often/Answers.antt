@@ -1,5 +1,5 @@
 -- The tree at the place is that of the node there.
-use Rattle.std.proofs.Common.{◌<◌, ◌∙◌, ap, sym, arith, length}
+use Rattle.std.proofs.Common.{◌<◌, ◌∙◌, ap, arith, length}
 use Rattle.std.proofs.lemmas.Bool.Decides.{nat_tests}
 use Rattle.rr_eval.specs.Nodes.{evaluated_tree}
 use Rattle.rr_eval.specs.Rules.{rule}
