@@ -1,13 +1,13 @@
 -- The variables of frames lie one after the other.
 use Rattle.std.proofs.Common.{◌≡◌, ℕ, zero, suc, ◌+◌, ◌-◌, ◌≤◌, ◌<◌, sym, ap, ◌∙◌, arith, refl, subst, List, [], ◌∷◌, ◌++◌, length, take, drop, map}
 use Rattle.std.specs.Prelude.{replicate, slice_index_or, slice_set}
-use Rattle.std.proofs.Math.Seq.{take-append-add, take-set-lt, take-append_seam, drop-append_seam, take-length}
-use Rattle.std.proofs.lemmas.List.{drop-append-le, take-append-le, drop-set-lt, drop-set-add, take-set-le, take-append-drop, take_all, map-append, length-drop, length-take, length-replicate, length-append, append_assoc, get_or-take, get_or-drop, append-nil}
+use Rattle.std.proofs.Math.Seq.{get_or-append_seam, take-append-add, take-set-lt, take-append_seam, drop-append_seam, take-length}
+use Rattle.std.proofs.lemmas.List.{drop-append-le, take-append-le, drop-set-lt, drop-set-add, take-set-le, take-append-drop, take_all, map-append, length-drop, length-take, length-replicate, length-append, append_assoc, get_or-take, get_or-drop, get_or_past, append-nil, length-map}
 use Rattle.rr_space.specs.declared.refer.Ref.{Ref}
 use Rattle.rr_space.specs.declared.refer.Ref.TheVariants.{Nil}
 use Rattle.rr_frames.specs.declared.frames.Row.{Row}
-use Rattle.rr_frames.specs.Frames.{Frame, laid, left, no_frame, write_at}
-use Rattle.rr_frames.specs.Layout.{frame_of, LieFrom}
+use Rattle.rr_frames.specs.Frames.{Frame, laid, left, no_frame, read_at, read_last, write_at, write_last}
+use Rattle.rr_frames.specs.Layout.{frame_of, LieFrom, no_row, last_row, IsLast}
 
 pub laid_le : (n : ℕ) (rows : List Row) (end : ℕ) → LieFrom n rows end → n ≤ end
 laid_le n [] end e = omega arith
@@ -102,6 +102,13 @@ read_within rows k slot a slots h lt =
     read_in rows k slot a slots h.0 (subst (λ x. slot < x.size) (h.1) lt)
     ∙ ap (λ x. slice_index_or slots (x.base + slot) Nil) (sym (h.1))
 
+-- a call has no further variables
+pub read_past : (rows : List Row) (k slot : ℕ) (slots : List Ref) → (slice_index_or rows k no_row).size ≤ slot → Nil ≡ read_at k slot (map (frame_of slots) rows)
+read_past [] k slot slots le = refl
+read_past (a ∷ rows) zero slot slots le =
+    sym (get_or_past (take a.size (drop a.base slots)) slot Nil (let e = length-take a.size (drop a.base slots) in omega arith))
+read_past (a ∷ rows) (suc k) slot slots le = read_past rows k slot slots le
+
 pub write_within : (rows : List Row) (k slot end : ℕ) (a : Row) (v : Ref) (slots : List Ref) → LieFrom 0 rows end → Found rows k a → slot < a.size
     → map (frame_of (slice_set slots (a.base + slot) v)) rows ≡ write_at k slot v (map (frame_of slots) rows)
 write_within rows k slot end a v slots l h lt =
@@ -169,3 +176,40 @@ uncut l end e =
     sym (append-nil l)
     ∙ ap (λ x. x ++ []) (sym (take_all end l (omega arith)))
     ∙ ap (λ n. take end l ++ replicate n Nil) (let k : 0 ≡ end - length l = omega arith in k)
+
+-- the last call of some calls and one more is that one
+pub last_entered : (rows : List Row) (a : Row) → IsLast (rows ++ a ∷ []) a.base a.size
+last_entered rows a =
+    let e : length (rows ++ a ∷ []) - 1 ≡ length rows = omega (arith, length-append rows (a ∷ [])) in
+    let is : a ≡ last_row (rows ++ a ∷ []) = sym (ap (λ k. slice_index_or (rows ++ a ∷ []) k no_row) e ∙ get_or-append_seam rows a [] no_row) in
+    (ap (λ (x : Row). x.base) is, ap (λ (x : Row). x.size) is)
+
+-- a call that has variables is there
+last_stands : (rows : List Row) (slot : ℕ) → slot < (last_row rows).size → length rows - 1 < length rows
+last_stands [] slot lt = absurd (omega arith)
+last_stands (a ∷ rows) slot lt = omega arith
+
+-- the last call lies within what stands
+pub last_within : (rows : List Row) (base size slot end : ℕ) → LieFrom 0 rows end → IsLast rows base size → slot < size → base + size ≤ end
+last_within rows base size slot end l (b, s) lt =
+    let h = (base_ge rows 0 (length rows - 1) end no_row l (last_stands rows slot (omega arith))).1 in
+    omega arith
+
+last_number : (rows : List Row) (slots : List Ref) → length rows - 1 ≡ length (map (frame_of slots) rows) - 1
+last_number rows slots = omega (arith, length-map rows (frame_of slots))
+
+-- the variables of the last call, read in place
+pub read_last_within : (rows : List Row) (base size slot : ℕ) (slots : List Ref) → IsLast rows base size → slot < size → slice_index_or slots (base + slot) Nil ≡ read_last slot (map (frame_of slots) rows)
+read_last_within rows base size slot slots (b, s) lt =
+    let lt' : slot < (last_row rows).size = omega arith in
+    ap (λ k. slice_index_or slots (k + slot) Nil) b
+    ∙ sym (read_in rows (length rows - 1) slot no_row slots (last_stands rows slot lt') lt')
+    ∙ ap (λ k. read_at k slot (map (frame_of slots) rows)) (last_number rows slots)
+
+pub write_last_within : (rows : List Row) (base size slot : ℕ) (v : Ref) (slots : List Ref) → LieFrom 0 rows (length slots) → IsLast rows base size → slot < size
+    → map (frame_of (slice_set slots (base + slot) v)) rows ≡ write_last slot v (map (frame_of slots) rows)
+write_last_within rows base size slot v slots l (b, s) lt =
+    let lt' : slot < (last_row rows).size = omega arith in
+    ap (λ k. map (frame_of (slice_set slots (k + slot) v)) rows) b
+    ∙ written rows 0 (length rows - 1) slot (length slots) no_row v slots l (last_stands rows slot lt') lt'
+    ∙ ap (λ k. write_at k slot v (map (frame_of slots) rows)) (last_number rows slots)

@@ -7,7 +7,7 @@ ghost use Rattle.rr_base.specs.declared.limits.LimitKind.{LimitKind};
 ghost use Rattle.rr_frames.specs.Frames.{no_frames, list_of, laid, read_at, write_at, read_last, write_last, left};
 
 use crate::activation::{Activation, Shape};
-use crate::slots::{append_within, cut_within, replace_at};
+use crate::slots::{append_within, cut_within, last_of, replace_at};
 use rr_base::{Fault, LimitKind};
 use rr_space::Ref;
 use std::alloc::Global;
@@ -28,17 +28,20 @@ pub struct Frames {
     slots: Vec<Ref>,
     rows: Vec<Row>,
     limit: usize,
+    // What the last row has, since the variables of the last frame are read and written most.
+    base: usize,
+    size: usize,
 }
 
 impl Model for Frames {
     ghost use Rattle.rr_frames.specs.Frames.{Stack};
-    ghost use Rattle.rr_frames.specs.Layout.{frames_of, IsLaid};
+    ghost use Rattle.rr_frames.specs.Layout.{frames_of, IsLaid, IsLast};
 
     ghost Value = { Stack };
 
     ghost view = { λ s. record { frames = frames_of s.slots.items s.rows.items; limit = s.limit } };
 
-    ghost invariant = { λ s. IsLaid s.slots.items s.rows.items s.limit };
+    ghost invariant = { λ s. IsLaid s.slots.items s.rows.items s.limit × IsLast s.rows.items s.base s.size };
 }
 
 impl Frames {
@@ -50,6 +53,8 @@ impl Frames {
             slots: Vec::new(alloc),
             rows: Vec::new(alloc),
             limit,
+            base: 0,
+            size: 0,
         }
     }
 
@@ -107,12 +112,8 @@ impl Frames {
     pub fn read(&self, place: u32) -> Ref
         ensures { result ≡ read_last place self.now.frames }
     {
-        let count = self.rows.len();
-        if count > 0 {
-            let row = self.rows[count - 1];
-            if (place as usize) < row.size {
-                return self.slots[row.base + place as usize];
-            }
+        if (place as usize) < self.size {
+            return self.slots[self.base + place as usize];
         }
         Ref::Nil
     }
@@ -122,12 +123,8 @@ impl Frames {
     pub fn write(&mut self, place: u32, other: Ref)
         ensures { self.new ≡ record self.old { frames = write_last place other self.old.frames } }
     {
-        let count = self.rows.len();
-        if count > 0 {
-            let row = self.rows[count - 1];
-            if (place as usize) < row.size {
-                replace_at(&mut self.slots, row.base + place as usize, other);
-            }
+        if (place as usize) < self.size {
+            replace_at(&mut self.slots, self.base + place as usize, other);
         }
     }
 
@@ -165,6 +162,8 @@ impl Frames {
             size,
             activation,
         });
+        self.base = base;
+        self.size = size;
         Ok(())
     }
 
@@ -200,6 +199,8 @@ impl Frames {
             size,
             activation,
         });
+        self.base = base;
+        self.size = size;
         true
     }
 
@@ -211,6 +212,9 @@ impl Frames {
     {
         if let Some(row) = self.rows.pop() {
             self.slots.truncate(row.base);
+            let (base, size) = last_of(&self.rows);
+            self.base = base;
+            self.size = size;
         }
     }
 }

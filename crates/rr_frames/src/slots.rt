@@ -3,7 +3,9 @@
 ghost use Rattle.std.specs.Prelude.{◌≡◌, ◌<◌, ◌≤◌, ◌+◌, ◌-◌, ◌++◌, length, take, replicate, vec_capacity, vec_len, slice_set};
 ghost use Rattle.rr_space.specs.declared.refer.Ref.{Ref};
 ghost use Rattle.rr_frames.specs.Frames.{list_of};
+ghost use Rattle.rr_frames.specs.Layout.{IsLast};
 
+use crate::frames::Row;
 use rr_space::Ref;
 
 /// One element in the place of another.
@@ -22,9 +24,12 @@ pub(crate) fn append_within(slots: &mut Vec<Ref>, values: &[Ref], last: Option<R
     ensures items { slots.new.items ≡ slots.old.items ++ values.now ++ list_of last }
     ensures capacity { vec_capacity slots.old ≤ vec_capacity slots.new }
 {
-    match slots.extend_from_slice(values) {
-        Ok(()) => (),
-        Err(_) => unreachable!(),
+    // A call with no arguments is spared the copy.
+    if !values.is_empty() {
+        match slots.extend_from_slice(values) {
+            Ok(()) => (),
+            Err(_) => unreachable!(),
+        }
     }
     if let Some(value) = last {
         slots.push_reserved(value);
@@ -50,5 +55,16 @@ pub(crate) fn cut_within(slots: &mut Vec<Ref>, end: usize)
 {
     if slots.len() != end {
         fill_within(slots, end);
+    }
+}
+
+/// Where the variables of the last frame lie, and how many it has; 0 and 0 where there is no frame.
+#[inline(always)]
+pub(crate) fn last_of(rows: &[Row]) -> (usize, usize)
+    ensures { IsLast rows.now result.0 result.1 }
+{
+    match rows.last() {
+        Some(row) => (row.base, row.size),
+        None => (0, 0),
     }
 }

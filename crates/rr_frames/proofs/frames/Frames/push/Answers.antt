@@ -5,8 +5,8 @@ use Rattle.rr_space.specs.declared.refer.Ref.{Ref}
 use Rattle.rr_space.specs.declared.refer.Ref.TheVariants.{Nil}
 use Rattle.rr_frames.specs.declared.frames.Row.{Row}
 use Rattle.rr_frames.specs.Frames.{Frame, Stack, laid, list_of}
-use Rattle.rr_frames.specs.Layout.{LieFrom, frame_of}
-use Rattle.rr_frames.proofs.Laid.{entered, filled, laid_push, laid_length, filled_length}
+use Rattle.rr_frames.specs.Layout.{LieFrom, IsLast, frame_of}
+use Rattle.rr_frames.proofs.Laid.{entered, filled, laid_push, laid_length, filled_length, last_entered}
 use Rattle.rr_frames.proofs.frames.Frames.push.Goals as goal
 
 pub invariant_of-self-2 : goal.invariant_of-self-2
@@ -19,8 +19,11 @@ invariant_of-self-2 c =
     let all : length old + c.args.shape.size ≡ length c.cut_within.new.slots.items = filled_length _ _ _ c.len-base.result c.args.shape.size (length old) base c.cut_within.ensures in
     let few = c.if-len-self.false in
     let one = length-append i.rows.items (row ∷ []) in (
-      subst (λ l. LieFrom 0 l (length c.cut_within.new.slots.items)) (sym is) (laid_push 0 i.rows.items (length old) row _ c.self.invariant.0 base all),
-      subst (λ l. length l ≤ i.limit) (sym is) (omega arith),
+      (
+        subst (λ l. LieFrom 0 l (length c.cut_within.new.slots.items)) (sym is) (laid_push 0 i.rows.items (length old) row _ c.self.invariant.0.0 base all),
+        subst (λ l. length l ≤ i.limit) (sym is) (omega arith),
+      ),
+      subst (λ l. IsLast l c.len-base.result c.args.shape.size) (sym is) (last_entered i.rows.items row),
     )
 
 pub returns-clause-pushed : goal.returns-clause-pushed
@@ -40,5 +43,5 @@ returns-clause-pushed c =
     let new : Frame = record { variables = laid c.args.shape.parameters c.args.shape.size xs; activation = c.args.activation } in
     ap (λ l. map (frame_of l) c.push_reserved.new.self.items) now
     ∙ ap (map (frame_of (old ++ laid c.args.shape.parameters c.args.shape.size xs))) (c.push_reserved.ensures.items ∙ ap (λ l. l ++ row ∷ []) c.reserve.ensures.items)
-    ∙ entered i.rows.items row old (laid c.args.shape.parameters c.args.shape.size xs) c.self.invariant.0 base (laid_length c.args.shape.parameters c.args.shape.size xs)
+    ∙ entered i.rows.items row old (laid c.args.shape.parameters c.args.shape.size xs) c.self.invariant.0.0 base (laid_length c.args.shape.parameters c.args.shape.size xs)
     ∙ ap (λ (s : Stack). s.frames ++ new ∷ []) c.self.view_is
