@@ -47,3 +47,5 @@ pub mod Labelling
 pub mod Paging
 pub mod KeyObjects
 pub mod KeyCopies
+pub mod Reading
+pub mod Putting

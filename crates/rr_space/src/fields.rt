@@ -1,17 +1,19 @@
-//! The fields of plain objects and of exceptions: what sets one.
+//! The fields of plain objects and of exceptions: what finds one and what sets one.
 
-ghost use Rattle.std.specs.Prelude.{◌≡◌, ℕ, ◌+◌, ◌⊎◌, List, [], ◌∷◌, ◌++◌, length, map, Some, slice_get, slice_set, Contains, IsTrue, IsOk, IfOk, IfErr, MatchOption};
-ghost use Rattle.rr_space.specs.Graph.{Object, plain, exception, Field};
+ghost use Rattle.std.specs.Prelude.{◌≡◌, ℕ, ◌+◌, ◌<◌, ◌⊎◌, Bool, [], ◌∷◌, ◌++◌, length, map, Some, slice_get, slice_set, vec_len, Contains, IsTrue, IsOk, IfOk, IfErr, IfSome, IfNone, MatchOption};
+ghost use Rattle.rr_space.specs.Graph.{Object, Field};
 ghost use Rattle.rr_space.specs.Tables.{Here, IsRestKept};
-ghost use Rattle.rr_space.specs.Parts.{value_of, below_ref, field_part};
-ghost use Rattle.rr_space.specs.Views.{can_write_at, node_kind, node_parts, below_node, IsWithin, IsNodeWithin, IsHeadKept, IsLedBy};
-ghost use Rattle.rr_space.specs.Views.{IsFirstAt, label_part, ref_label, field_names};
+ghost use Rattle.rr_space.specs.Parts.{value_of, field_part};
+ghost use Rattle.rr_space.specs.Views.{can_write_at, IsWithin, IsLedBy, IsFieldWritten};
+ghost use Rattle.rr_space.specs.Views.{IsFirstAt, label_part, field_names};
 ghost use Rattle.rr_space.specs.Kinds.{kind_at};
+ghost use Rattle.rr_space.specs.declared.node.Node.{Node as NodeView};
+ghost use Rattle.rr_space.specs.declared.node.Held.TheVariants.{Whole};
 
 use crate::kind::Kind;
 use crate::node::{Held, Node};
 use crate::refer::Ref;
-use crate::replace::replace_at;
+use crate::replace::{change_at, replace_at};
 use crate::space::Space;
 use rr_base::{Fault, Sym};
 
@@ -34,44 +36,50 @@ impl Space {
         ensures refused { IfErr result (λ _. self.new ≡ self.old) }
         ensures fault { IfErr result (λ e. e ≡ Fault.Memory) }
     {
-        if let Ref::Local(slot) = object {
-            match self.take(slot) {
-                Held::Whole(frozen, node) => {
-                    let (changed, written) = node.with_field(name, value);
-                    self.put(slot, Held::Whole(frozen, changed));
-                    return written;
-                }
-                other => self.put(slot, other),
-            }
+        match object {
+            Ref::Local(slot) => write_field_at(&mut self.slots, slot as usize, name, value),
+            _ => Ok(()),
         }
-        Ok(())
+    }
+}
+
+/// Sets a field of the object in a slot. The object is changed where it lies: to take it out and to put it back would move
+/// all of it twice.
+#[inline(always)]
+fn write_field_at(slots: &mut Vec<Held>, slot: usize, name: Sym, value: Ref) -> Result<(), Fault>
+    requires { slot < vec_len slots.old }
+    ensures written { (f : Bool) (a : NodeView) → slice_get slots.old.items slot ≡ Some (Whole f a) → (b : NodeView) × (slots.new.items ≡ slice_set slots.old.items slot (Whole f b)) × IsFieldWritten a b name.0 value result }
+    ensures fault { IfErr result (λ e. e ≡ Fault.Memory) }
+{
+    change_at(slots, slot, |held: &mut Held| held.write_field(name, value))
+}
+
+impl Held {
+    /// Sets a field of the object, if there is one.
+    #[inline(always)]
+    fn write_field(&mut self, name: Sym, value: Ref) -> Result<(), Fault>
+        ensures written { (f : Bool) (a : NodeView) → self.old ≡ Whole f a → (b : NodeView) × (self.new ≡ Whole f b) × IsFieldWritten a b name.0 value result }
+        ensures fault { IfErr result (λ e. e ≡ Fault.Memory) }
+    {
+        match self {
+            Held::Whole(_, node) => node.write_field(name, value),
+            _ => Ok(()),
+        }
     }
 }
 
 impl Node {
-    /// The node with `value` in a field of a plain object or an exception, and whether there was memory for it; as it is
-    /// where it is neither.
-    fn with_field(self, name: Sym, value: Ref) -> (Node, Result<(), Fault>)
-        ensures present { (i : ℕ) → IsFirstAt (map ref_label (node_parts self)) (Field name.0) i
-            → IsOk result.1 × ((node_kind self ≡ plain) ⊎ (node_kind self ≡ exception) → node_parts result.0 ≡ slice_set (node_parts self) i (Field name.0, value)) }
-        ensures absent { (node_kind self ≡ plain) ⊎ (node_kind self ≡ exception) → (Contains (map ref_label (node_parts self)) (Field name.0) → ⊥)
-            → IfOk result.1 (λ _. node_parts result.0 ≡ node_parts self ++ (Field name.0, value) ∷ []) }
-        ensures refused { IfErr result.1 (λ _. node_parts result.0 ≡ node_parts self) }
-        ensures fault { IfErr result.1 (λ e. e ≡ Fault.Memory) }
-        ensures head { IsHeadKept self result.0 }
-        ensures within { (k : ℕ) → IsNodeWithin k self → IsWithin k value → IsNodeWithin k result.0 }
-        ensures below { (e : ℕ × List Object) → Contains (below_node result.0) e → Contains (below_node self) e ⊎ Contains (below_ref value) e }
+    /// Puts `value` into a field of a plain object or an exception, and says whether there was memory for it; leaves the
+    /// node as it is where it is neither.
+    #[inline(always)]
+    fn write_field(&mut self, name: Sym, value: Ref) -> Result<(), Fault>
+        ensures written { IsFieldWritten self.old self.new name.0 value result }
+        ensures fault { IfErr result (λ e. e ≡ Fault.Memory) }
     {
         match self {
-            Node::Object(class, mut fields) => {
-                let written = set_field(&mut fields, name, value);
-                (Node::Object(class, fields), written)
-            }
-            Node::Exception(class, mut raised) => {
-                let written = set_field(&mut raised.fields, name, value);
-                (Node::Exception(class, raised), written)
-            }
-            other => (other, Ok(())),
+            Node::Object(_, fields) => set_field(fields, name, value),
+            Node::Exception(_, raised) => set_field(&mut raised.fields, name, value),
+            _ => Ok(()),
         }
     }
 }
@@ -95,7 +103,20 @@ fn set_field(fields: &mut Vec<(Sym, Ref)>, name: Sym, value: Ref) -> Result<(), 
     }
 }
 
+/// The value of the first field of that name.
+#[inline(always)]
+pub(crate) fn field_named(fields: &[(Sym, Ref)], name: Sym) -> Option<Ref>
+    ensures some { IfSome result (λ r. (k : ℕ) × IsFirstAt (field_names fields.now) name.0 k × (slice_get (map field_part fields.now) k ≡ Some (Field name.0, r))) }
+    ensures none { IfNone result (Contains (field_names fields.now) name.0 → ⊥) }
+{
+    match place_of_field(fields, name) {
+        Some(place) => Some(fields[place].1),
+        None => None,
+    }
+}
+
 /// The place of the first field of that name.
+#[inline(always)]
 fn place_of_field(fields: &[(Sym, Ref)], name: Sym) -> Option<usize>
     ensures { MatchOption result (Contains (field_names fields.now) name.0 → ⊥) (IsFirstAt (field_names fields.now) name.0) }
 {

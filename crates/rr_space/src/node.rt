@@ -71,6 +71,7 @@ impl Node {
         }
     }
 
+    #[inline(always)]
     pub(crate) fn kind(&self) -> Kind
         ensures { result ≡ kind_named (object_of self.now).kind }
     {
@@ -83,6 +84,7 @@ impl Node {
         }
     }
 
+    #[inline(always)]
     pub(crate) fn class(&self) -> ClassId
         ensures { result ≡ class_named (object_of self.now).class }
     {

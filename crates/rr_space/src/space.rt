@@ -139,6 +139,7 @@ impl Space {
     }
 
     /// What `value` is: which immediate, or the kind of the object that it leads to. What leads nowhere is as nil.
+    #[inline(always)]
     pub fn kind_of(&self, value: Ref) -> Kind
         ensures { result ≡ kind_at self.now value }
     {
@@ -160,6 +161,7 @@ impl Space {
     }
 
     /// The class of `value`, or of the object that it leads to. What leads nowhere is as nil.
+    #[inline(always)]
     pub fn class_of(&self, value: Ref) -> ClassId
         ensures { result ≡ class_at self.now value }
     {

@@ -1,18 +1,20 @@
 //! What objects lead to, one reference at a time, and when two values are the same.
 
-ghost use Rattle.std.specs.Prelude.{◌≡◌, ◌↔◌, ◌⊎◌, ℕ, List, length, slice_get, Contains, IsTrue, IfSome, IfNone};
+ghost use Rattle.std.specs.Prelude.{◌≡◌, ◌↔◌, ◌⊎◌, ℕ, List, length, map, slice_get, Contains, IsTrue, IfSome, IfNone};
 ghost use Rattle.std.specs.Option.{option_map};
-ghost use Rattle.rr_space.specs.Graph.{Object, Value};
-ghost use Rattle.rr_space.specs.Parts.{IsWithin};
-ghost use Rattle.rr_space.specs.Tables.{below_hold, resolve, outer_objects};
-ghost use Rattle.rr_space.specs.Parts.{below_ref, value_of};
+ghost use Rattle.rr_space.specs.Graph.{Object, Value, Field};
+ghost use Rattle.rr_space.specs.Parts.{IsWithin, AllWithin};
+ghost use Rattle.rr_space.specs.Tables.{below_hold, joined, resolve, outer_objects};
+ghost use Rattle.rr_space.specs.Parts.{below_parts, below_ref, field_part, value_of, value_triple};
 ghost use Rattle.rr_space.specs.Views.{can_freeze_at, can_write_at, frozen_at, is_frozen_here, IsKnownFrom};
 ghost use Rattle.rr_space.specs.Labels.{label_of, labelled_value, triples_at, triples_of, IsFirstUnder, IsPlacedAt, AreLabelsPlaced};
 
+use crate::fields::field_named;
 use crate::label::Label;
-use crate::node::Held;
+use crate::node::{Held, Node};
 use crate::refer::{Cluster, Ref};
 use crate::space::Space;
+use rr_base::Sym;
 
 impl Space {
     /// The number of references in the object that `value` leads to; 0 for an immediate. Each but a field has the place that
@@ -70,10 +72,46 @@ impl Space {
         ensures known { IfSome result (λ r. IsKnownFrom self.now value r) }
         ensures none { IfNone result ((x : Value) → Contains (triples_at self.now value) (label_of label, x) → ⊥) }
     {
+        if let Label::Field(name) = label {
+            return self.read_field(value, name);
+        }
         match place_of(label) {
             Some(place) => self.read_at(value, label, place),
             None => self.search(value, label),
         }
+    }
+
+    /// What stands under a field. A plain object in a slot of this space is the usual one, and its fields are looked
+    /// through as they lie, with no label made of each.
+    #[inline(always)]
+    fn read_field(&self, value: Ref, name: Sym) -> Option<Ref>
+        ensures some { IfSome result (λ r. Contains (triples_at self.now value) (Field name.0, value_of r)) }
+        ensures first { IfSome result (λ r. IsFirstUnder (triples_at self.now value) (Field name.0) (value_of r)) }
+        ensures within { IfSome result (λ r. IsWithin (length self.now.slots) r) }
+        ensures known { IfSome result (λ r. IsKnownFrom self.now value r) }
+        ensures none { IfNone result ((x : Value) → Contains (triples_at self.now value) (Field name.0, x) → ⊥) }
+    {
+        match self.own_fields(value) {
+            Some(fields) => field_named(fields, name),
+            None => self.search(value, Label::Field(name)),
+        }
+    }
+
+    /// The fields of the plain object in the slot that `value` names; none of anything else.
+    #[inline(always)]
+    fn own_fields(&self, value: Ref) -> Option<&[(Sym, Ref)]>
+        ensures triples { IfSome result (λ fs. triples_at self.now value ≡ map value_triple (map field_part fs.now)) }
+        ensures within { IfSome result (λ fs. AllWithin (length self.now.slots) (map field_part fs.now)) }
+        ensures known { IfSome result (λ fs. (e : ℕ × List Object) → Contains (below_parts (map field_part fs.now)) e → Contains (joined self.now.below) e) }
+    {
+        if let Ref::Local(slot) = value {
+            if (slot as usize) < self.slots.len() {
+                if let Held::Whole(_, Node::Object(_, fields)) = &self.slots[slot as usize] {
+                    return Some(fields);
+                }
+            }
+        }
+        None
     }
 
     /// What stands under `label`, which can stand at `place` alone.
