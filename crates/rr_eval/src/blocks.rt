@@ -52,6 +52,7 @@ pub fn shape_at(program: &Program, place: NodeId) -> Option<Shape>
 }
 
 /// Whether one array is given to several parameters.
+#[inline(always)]
 pub fn spreads(space: &Space, parameters: u32, values: &[Ref], last: Option<Ref>) -> bool
     ensures { result ≡ spreads parameters (values.now ++ list_of last) space.now }
 {

@@ -65,6 +65,7 @@ fn given_array(first: Option<Ref>, last: Option<Ref>) -> Ref
 }
 
 /// Whether one array is given to several parameters.
+#[inline(always)]
 pub fn spreads_few(space: &Space, parameters: u32, first: Option<Ref>, last: Option<Ref>) -> bool
     ensures { result ≡ spreads parameters (list_of first ++ list_of last) space.now }
 {

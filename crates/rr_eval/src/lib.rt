@@ -76,6 +76,7 @@ mod usual_rounds;
 mod usual_sends;
 mod usual_turn;
 mod usual_visits;
+mod usual_waits;
 mod value;
 
 pub use call::{Arguments, Call, Callee, Task};

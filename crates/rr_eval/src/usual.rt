@@ -173,7 +173,7 @@ impl Engine {
     /// Puts a frame that has no values yet over all, and gives it a value.
     #[tactic(auto, unfolding(crate::specs::Within::AreReached))]
     #[inline(always)]
-    fn give_above(&mut self, frame: Frame, value: Ref)
+    pub fn give_above(&mut self, frame: Frame, value: Ref)
         requires room { length self.old.frames.items < vec_capacity self.old.frames }
         requires new { IsNew frame (length self.old.held.items) }
         requires nested { IsNested (view_of self.old) }

@@ -189,6 +189,45 @@ impl Engine {
         self.end_method(by, value);
     }
 
+    /// Leaves a method by a `return`.
+    #[inline(always)]
+    fn resume_return(&mut self, value: Ref)
+        requires control { self.old.control ≡ Control.Give (Answer.Gave value) }
+        requires top { IsTop self.old.frames.items (Frame.Return) }
+        requires nested { IsNested (view_of self.old) }
+        ensures goes { (p : Program) (t : Table) (h : Course) → remaining p (view_of self.old) t h ≡ remaining p (view_of self.new) t h }
+        ensures nested { IsNested (view_of self.new) }
+        ensures within { (k : Reach) → AreReached k (view_of self.old) → AreReached k (view_of self.new) }
+        ensures left { self.new.left ≡ self.old.left }
+        ensures falls { size (view_of self.new) < size (view_of self.old) }
+    {
+        self.take_top(Frame::Return, Answer::Gave(value));
+        self.leave_method(value);
+    }
+
+    /// Goes on behind statements that clauses rescue, where nothing was raised.
+    #[inline(always)]
+    fn resume_rescue(
+        &mut self,
+        program: &Program,
+        end: NodeId,
+        count: u32,
+        otherwise: NodeId,
+        value: Ref,
+    )
+        requires control { self.old.control ≡ Control.Give (Answer.Gave value) }
+        requires top { IsTop self.old.frames.items (Frame.Rescue end count otherwise) }
+        requires nested { IsNested (view_of self.old) }
+        ensures goes { (t : Table) (h : Course) → remaining program.now (view_of self.old) t h ≡ remaining program.now (view_of self.new) t h }
+        ensures nested { IsNested (view_of self.new) }
+        ensures within { (k : Reach) → AreReached k (view_of self.old) → AreReached k (view_of self.new) }
+        ensures left { self.new.left ≡ self.old.left }
+        ensures falls { size (view_of self.new) < size (view_of self.old) }
+    {
+        self.take_top(Frame::Rescue(end, count, otherwise), Answer::Gave(value));
+        self.go_else(program, otherwise, value);
+    }
+
     /// Ends a block.
     #[inline(always)]
     fn resume_past(&mut self, value: Ref)
@@ -265,14 +304,9 @@ impl Engine {
         ensures less { size (view_of self.new) ≤ size (view_of self.old) }
     {
         match frame {
-            Frame::And(_)
-            | Frame::Or(_)
-            | Frame::Not
-            | Frame::Break
-            | Frame::Next
-            | Frame::Return => self.resume_plainly(program, frame, value, stop),
-            Frame::Rescue(_, _, _)
-            | Frame::Class(_)
+            Frame::And(_) | Frame::Or(_) | Frame::Not | Frame::Break | Frame::Next =>
+                self.resume_plainly(program, frame, value, stop),
+            Frame::Class(_)
             | Frame::Handling(_)
             | Frame::Ensure(_)
             | Frame::Kept(_)
@@ -310,6 +344,10 @@ impl Engine {
             Some(&Frame::Rest(end, count)) => self.resume_rest(end, count, value),
             Some(&Frame::Back(by)) => self.resume_back(by, value),
             Some(&Frame::Past) => self.resume_past(value),
+            Some(&Frame::Return) => self.resume_return(value),
+            Some(&Frame::Rescue(end, count, otherwise)) => {
+                self.resume_rescue(program, end, count, otherwise, value);
+            }
             Some(&Frame::Round(iteration)) => {
                 return self.resume_turn(program, space, iteration, value);
             }

@@ -29,7 +29,7 @@ use rr_tree::{BinaryOperator, Node, NodeId, Program};
 impl Engine {
     /// Evaluates the part that a node evaluates first: its value, where it needs no frame. Otherwise a frame waits for it.
     #[inline(always)]
-    fn first_value(
+    pub fn first_value(
         &mut self,
         program: &Program,
         here: NodeId,
@@ -208,24 +208,6 @@ impl Engine {
         self.left -= 1;
     }
 
-    /// Evaluates the statements of a block.
-    #[inline(always)]
-    fn visit_body(&mut self, program: &Program, here: NodeId, body: NodeId, stop: u64)
-        requires control { self.old.control ≡ Control.Enter here }
-        requires script { rule (context_of program.now) (tree_at program.now.nodes.items here) ≡ Go (tree_at program.now.nodes.items body) Ret }
-        requires some { stop < self.old.left }
-        requires nested { IsNested (view_of self.old) }
-        ensures goes { (t : Table) (h : Course) → remaining program.now (view_of self.old) t h ≡ remaining program.now (view_of self.new) t h }
-        ensures nested { IsNested (view_of self.new) }
-        ensures within { (k : Reach) → AreReached k (view_of self.old) → AreReached k (view_of self.new) }
-        ensures left { stop ≤ self.new.left }
-        ensures spends { self.new.left < self.old.left }
-        ensures falls { power (view_of self.new) + self.old.left ≤ power (view_of self.old) + self.new.left }
-    {
-        self.control = Control::Enter(body);
-        self.left -= 1;
-    }
-
     /// Evaluates a node that needs no frame, where the steps do not stop before what follows.
     #[inline(always)]
     fn visit_quick(&mut self, program: &Program, here: NodeId, stop: u64) -> bool
@@ -271,7 +253,7 @@ impl Engine {
     }
 
     /// Evaluates a node of another kind, where that is usual: it answers whether it was done.
-    fn visit_apart(&mut self, program: &Program, here: NodeId, stop: u64) -> bool
+    pub fn visit_apart(&mut self, program: &Program, here: NodeId, stop: u64) -> bool
         requires control { self.old.control ≡ Control.Enter here }
         requires some { stop < self.old.left }
         requires room { length self.old.frames.items < vec_capacity self.old.frames }
@@ -341,7 +323,7 @@ impl Engine {
             | Node::Append(_, _)
             | Node::SetIndex { .. }
             | Node::SetAttribute { .. } => { false }
-            _ => self.visit_apart(&prepared.program, here, stop),
+            _ => self.visit_waiting(&prepared.program, here, node, stop),
         }
     }
 
@@ -391,7 +373,6 @@ impl Engine {
             Some(&Node::Sequence { first, count }) => {
                 self.visit_statements(program, here, first, count, stop);
             }
-            Some(&Node::Block { body, .. }) => self.visit_body(program, here, body, stop),
             Some(&node) => return self.visit_called(prepared, space, here, node, stop),
             None => return self.visit_apart(program, here, stop),
         }

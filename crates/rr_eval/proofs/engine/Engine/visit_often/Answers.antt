@@ -62,17 +62,6 @@ visit_statements-requires-clause-tree c =
     let there = tree_found ns all p.ordered c.args.here c.evaluated_place-place.result call.field-0.now c.evaluated_place-place.ensures.same c.deref.ensures.value inside call.ensures.lookup.1 in
     there ∙ ap (evaluated_tree ns) call.field-0-is
 
-pub visit_body-requires-clause-script : goal.visit_body-requires-clause-script
-visit_body-requires-clause-script c =
-    let p = c.args.prepared.now.program in
-    let ns = p.nodes.items in
-    let all = c.deref.result.now in
-    let call = c.in-Some-Block in
-    let test = call.ensures.lookup.0 in
-    let inside : c.evaluated_place-place.result < length all = grind (arith, nat_tests) in
-    let there = tree_found ns all p.ordered c.args.here c.evaluated_place-place.result call.field-0.now c.evaluated_place-place.ensures.same c.deref.ensures.value inside call.ensures.lookup.1 in
-    ap (rule (context_of p)) (there ∙ ap (evaluated_tree ns) call.field-0-is)
-
 pub visit_called-requires-clause-tree : goal.visit_called-requires-clause-tree
 visit_called-requires-clause-tree c =
     let p = c.args.prepared.now.program in

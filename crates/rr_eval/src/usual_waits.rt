@@ -1,0 +1,150 @@
+//! Nodes that are usual and wait for one part: what they do needs neither memory nor the objects.
+
+ghost use Rattle.std.specs.Prelude.{◌≡◌, ◌+◌, ◌<◌, ◌≤◌, [], length, vec_capacity, IsTrue};
+ghost use Rattle.rr_space.specs.Tables.{Table};
+ghost use Rattle.rr_tree.specs.Tree.{tree_at};
+ghost use Rattle.rr_tree.specs.declared.node.Node.{Node};
+ghost use Rattle.rr_eval.specs.declared.frame.Control.{Control};
+ghost use Rattle.rr_eval.specs.declared.frame.Frame.{Frame};
+ghost use Rattle.rr_eval.specs.Frames.{resumed};
+ghost use Rattle.rr_eval.specs.Nodes.{evaluated_tree, IsEvaluated};
+ghost use Rattle.rr_eval.specs.Requests.{Course};
+ghost use Rattle.rr_eval.specs.Rules.{rule};
+ghost use Rattle.rr_eval.specs.Script.{Go, Ret, World};
+ghost use Rattle.rr_eval.specs.Turns.{context_of, code_of, IsNested, remaining, power};
+ghost use Rattle.rr_eval.specs.Views.{view_of};
+ghost use Rattle.rr_eval.specs.Within.{Reach, AreReached};
+
+use crate::engine::Engine;
+use crate::frame::{Control, Frame};
+use rr_base::Sym;
+use rr_tree::{Node, NodeId, Program};
+
+impl Engine {
+    /// Evaluates the statements of a block.
+    #[inline(always)]
+    fn visit_body(&mut self, program: &Program, here: NodeId, body: NodeId, stop: u64)
+        requires control { self.old.control ≡ Control.Enter here }
+        requires script { rule (context_of program.now) (tree_at program.now.nodes.items here) ≡ Go (tree_at program.now.nodes.items body) Ret }
+        requires some { stop < self.old.left }
+        requires nested { IsNested (view_of self.old) }
+        ensures goes { (t : Table) (h : Course) → remaining program.now (view_of self.old) t h ≡ remaining program.now (view_of self.new) t h }
+        ensures nested { IsNested (view_of self.new) }
+        ensures within { (k : Reach) → AreReached k (view_of self.old) → AreReached k (view_of self.new) }
+        ensures left { stop ≤ self.new.left }
+        ensures spends { self.new.left < self.old.left }
+        ensures falls { power (view_of self.new) + self.old.left ≤ power (view_of self.old) + self.new.left }
+    {
+        self.control = Control::Enter(body);
+        self.left -= 1;
+    }
+
+    /// Evaluates a `return`.
+    #[inline(always)]
+    fn visit_return(&mut self, program: &Program, here: NodeId, value: NodeId, stop: u64)
+        requires control { self.old.control ≡ Control.Enter here }
+        requires tree { tree_at program.now.nodes.items here ≡ evaluated_tree program.now.nodes.items (Node.Return value) }
+        requires some { stop < self.old.left }
+        requires room { length self.old.frames.items < vec_capacity self.old.frames }
+        requires nested { IsNested (view_of self.old) }
+        ensures goes { (t : Table) (h : Course) → remaining program.now (view_of self.old) t h ≡ remaining program.now (view_of self.new) t h }
+        ensures nested { IsNested (view_of self.new) }
+        ensures within { (k : Reach) → AreReached k (view_of self.old) → AreReached k (view_of self.new) }
+        ensures left { stop ≤ self.new.left }
+        ensures spends { self.new.left < self.old.left }
+        ensures falls { power (view_of self.new) + self.old.left ≤ power (view_of self.old) + self.new.left }
+    {
+        if let Some(found) = self.first_value(program, here, Frame::Return, value, stop) {
+            self.leave_method(found);
+        }
+    }
+
+    /// Evaluates statements that clauses rescue: the number behind the last clause, how many there are, and what follows where nothing
+    /// is raised.
+    #[inline(always)]
+    fn visit_rescue(
+        &mut self,
+        program: &Program,
+        here: NodeId,
+        body: NodeId,
+        end: NodeId,
+        count: u32,
+        otherwise: NodeId,
+        stop: u64,
+    )
+        requires control { self.old.control ≡ Control.Enter here }
+        requires script { (w : World) → rule (context_of program.now) (tree_at program.now.nodes.items here) ≡ Go (tree_at program.now.nodes.items body) (resumed (code_of program.now w) (Frame.Rescue end count otherwise) []) }
+        requires some { stop < self.old.left }
+        requires room { length self.old.frames.items < vec_capacity self.old.frames }
+        requires nested { IsNested (view_of self.old) }
+        ensures goes { (t : Table) (h : Course) → remaining program.now (view_of self.old) t h ≡ remaining program.now (view_of self.new) t h }
+        ensures nested { IsNested (view_of self.new) }
+        ensures within { (k : Reach) → AreReached k (view_of self.old) → AreReached k (view_of self.new) }
+        ensures left { stop ≤ self.new.left }
+        ensures spends { self.new.left < self.old.left }
+        ensures falls { power (view_of self.new) + self.old.left ≤ power (view_of self.old) + self.new.left }
+    {
+        self.enter_above(Frame::Rescue(end, count, otherwise), body);
+        self.left -= 1;
+    }
+
+    /// Evaluates what is assigned to an instance variable of `self`.
+    #[inline(always)]
+    fn visit_set_field(
+        &mut self,
+        program: &Program,
+        here: NodeId,
+        name: Sym,
+        value: NodeId,
+        stop: u64,
+    )
+        requires control { self.old.control ≡ Control.Enter here }
+        requires tree { tree_at program.now.nodes.items here ≡ evaluated_tree program.now.nodes.items (Node.SetField name value) }
+        requires some { stop < self.old.left }
+        requires room { length self.old.frames.items < vec_capacity self.old.frames }
+        requires nested { IsNested (view_of self.old) }
+        ensures goes { (t : Table) (h : Course) → remaining program.now (view_of self.old) t h ≡ remaining program.now (view_of self.new) t h }
+        ensures nested { IsNested (view_of self.new) }
+        ensures within { (k : Reach) → AreReached k (view_of self.old) → AreReached k (view_of self.new) }
+        ensures left { stop ≤ self.new.left }
+        ensures spends { self.new.left < self.old.left }
+        ensures falls { power (view_of self.new) + self.old.left ≤ power (view_of self.old) + self.new.left }
+    {
+        let frame = Frame::SetField(name);
+        if let Some(found) = self.first_value(program, here, frame, value, stop) {
+            self.give_above(frame, found);
+        }
+    }
+
+    /// Evaluates a node that waits for one part, or a node of another kind, where that is usual: it answers whether it was done.
+    #[inline(always)]
+    pub fn visit_waiting(&mut self, program: &Program, here: NodeId, node: Node, stop: u64) -> bool
+        requires control { self.old.control ≡ Control.Enter here }
+        requires tree { tree_at program.now.nodes.items here ≡ evaluated_tree program.now.nodes.items node }
+        requires evaluated { IsEvaluated node }
+        requires some { stop < self.old.left }
+        requires room { length self.old.frames.items < vec_capacity self.old.frames }
+        requires nested { IsNested (view_of self.old) }
+        ensures goes { (t : Table) (h : Course) → remaining program.now (view_of self.old) t h ≡ remaining program.now (view_of self.new) t h }
+        ensures nested { IsNested (view_of self.new) }
+        ensures within { (k : Reach) → AreReached k (view_of self.old) → AreReached k (view_of self.new) }
+        ensures left { stop ≤ self.new.left }
+        ensures kept { self.new.left ≤ self.old.left }
+        ensures spends { IsTrue result → self.new.left < self.old.left }
+        ensures falls { power (view_of self.new) + self.old.left ≤ power (view_of self.old) + self.new.left }
+    {
+        match node {
+            Node::Block { body, .. } => self.visit_body(program, here, body, stop),
+            Node::Return(value) => self.visit_return(program, here, value, stop),
+            Node::SetField(name, value) => self.visit_set_field(program, here, name, value, stop),
+            Node::Rescue {
+                body,
+                first,
+                count,
+                otherwise,
+            } => self.visit_rescue(program, here, body, first + count, count, otherwise, stop),
+            _ => return self.visit_apart(program, here, stop),
+        }
+        true
+    }
+}
