@@ -1,6 +1,6 @@
 //! A script from its bytes to its printed bytes.
 
-ghost use Rattle.std.specs.Prelude.{◌≡◌, ◌+◌, ◌<◌, ◌≤◌, ◌^◌, [], length, IfOk, IfErr};
+ghost use Rattle.std.specs.Prelude.{◌≡◌, ◌+◌, ◌<◌, ◌≤◌, ◌^◌, [], length, Some, IfOk, IfErr};
 ghost use Rattle.rr_base.specs.declared.name.TheConstants.ClassId.{OBJECT};
 ghost use Rattle.rr_lexer.specs.Tokens.{AreTokensOf};
 ghost use Rattle.rr_text.specs.Reads.{IsReadWith};
@@ -9,8 +9,9 @@ ghost use Rattle.rr_builtin.specs.News.{new_plain};
 ghost use Rattle.rr_eval.specs.Acts.{IsRefusal, Passes};
 ghost use Rattle.rr_eval.specs.Counted.{failures, counted};
 ghost use Rattle.rr_eval.specs.Written.{written_to};
-ghost use Rattle.rr_eval.specs.Turns.{context_of};
-ghost use Rattle.rr_eval.specs.Runs.{Reads, Leaves, WithinSlots, Meets, program_meaning};
+ghost use Rattle.rr_eval.specs.Turns.{context_of, remaining};
+ghost use Rattle.rr_eval.specs.Within.{AreReached, AreWithin, reach};
+ghost use Rattle.rr_eval.specs.Runs.{Reads, Leaves, WithinSlots, Meets, alone, program_meaning};
 
 use crate::counted::Counted;
 use crate::engine::Turn;
@@ -90,6 +91,62 @@ fn objects_fit(space: &Space)
     let _count = space.len();
 }
 
+/// Runs a machine that has a whole program still to do, in turns of so many steps. The limits are those of the program.
+fn run_machine<O: Output>(
+    alloc: Global,
+    prepared: &Prepared,
+    limits: Limits,
+    turn: u32,
+    mut space: Space,
+    mut machine: Machine,
+    output: &mut O,
+) -> Outcome
+    requires some { 0 < turn }
+    requires room { O.failures output.old + 1 < 2 ^ 64 }
+    requires within { AreWithin (length space.slots) machine }
+    requires reached { AreReached (reach (length space.slots) (Some [])) machine }
+    requires read { IsReadWith space [] }
+    requires limit { space.limit ≡ limits.slots }
+    requires whole { program_meaning prepared.now.program limits ≡ remaining prepared.now.program machine space (record { asked = []; world = alone (context_of prepared.now.program) }) }
+    ensures leaves { Leaves (context_of prepared.now.program) (written_to O.contents O.failures output.old) (written_to O.contents O.failures output.new) (program_meaning prepared.now.program limits) result }
+    ensures slots { WithinSlots limits.slots (program_meaning prepared.now.program limits) result }
+{
+    let program = &prepared.program;
+    let methods = &prepared.methods;
+    loop {
+        match machine.turn(prepared, &mut space, turn) {
+            Ok(Turn::More) => {}
+            Ok(Turn::Ask(request)) => {
+                match serve(alloc, &mut space, program, methods, request) {
+                    Ok(served) => {
+                        if !put(output, served.piece.as_slice()) {
+                            return Outcome::OutputFailed;
+                        }
+                        machine.answer(served.response);
+                    }
+                    Err(fault) => return Outcome::Stopped(fault),
+                }
+            }
+            Ok(Turn::Done(_)) => {
+                objects_fit(&space);
+                return Outcome::Done;
+            }
+            Ok(Turn::Raised(exception)) => {
+                objects_fit(&space);
+                return match report(alloc, program, &space, exception) {
+                    Ok(told) => Outcome::Raised(told),
+                    Err(_) => Outcome::Stopped(Fault::Memory),
+                };
+            }
+            Ok(Turn::StepLimit) => {
+                objects_fit(&space);
+                return Outcome::StepLimit;
+            }
+            Err(fault) => return Outcome::Stopped(fault),
+        }
+    }
+}
+
 /// Runs a program on the main ractor, in turns of so many steps.
 fn run_program<O: Output>(
     alloc: Global,
@@ -108,47 +165,9 @@ fn run_program<O: Output>(
         Ok(itself) => itself,
         Err(fault) => return Outcome::Stopped(fault),
     };
-    let mut machine = match Machine::new(alloc, prepared, limits, itself) {
-        Ok(machine) => machine,
-        Err(fault) => return Outcome::Stopped(fault),
-    };
-    loop {
-        match machine.turn(prepared, &mut space, turn) {
-            Ok(Turn::More) => {}
-            Ok(Turn::Ask(request)) => {
-                match serve(
-                    alloc,
-                    &mut space,
-                    &prepared.program,
-                    &prepared.methods,
-                    request,
-                ) {
-                    Ok(served) => {
-                        if !put(output, served.piece.as_slice()) {
-                            return Outcome::OutputFailed;
-                        }
-                        machine.answer(served.response);
-                    }
-                    Err(fault) => return Outcome::Stopped(fault),
-                }
-            }
-            Ok(Turn::Done(_)) => {
-                objects_fit(&space);
-                return Outcome::Done;
-            }
-            Ok(Turn::Raised(exception)) => {
-                objects_fit(&space);
-                return match report(alloc, &prepared.program, &space, exception) {
-                    Ok(told) => Outcome::Raised(told),
-                    Err(_) => Outcome::Stopped(Fault::Memory),
-                };
-            }
-            Ok(Turn::StepLimit) => {
-                objects_fit(&space);
-                return Outcome::StepLimit;
-            }
-            Err(fault) => return Outcome::Stopped(fault),
-        }
+    match Machine::new(alloc, prepared, limits, itself) {
+        Ok(machine) => run_machine(alloc, prepared, limits, turn, space, machine, output),
+        Err(fault) => Outcome::Stopped(fault),
     }
 }
 

@@ -1,4 +1,4 @@
--- What one turn did, and how its request was served.
+-- A program has two objects first, and all is still to be done.
 use Rattle.std.proofs.Common.{◌≡◌, inl, refl, sym, subst, ◌∙◌, arith, ap, List, [], ◌∷◌, length, length-append, ◌<◌, ◌≤◌, Option, Some, None}
 use Rattle.rr_base.specs.declared.name.TheConstants.ClassId.{OBJECT}
 use Rattle.rr_space.specs.Tables.{Table, Slot, Here, Below}
@@ -19,10 +19,9 @@ use Rattle.rr_eval.proofs.Holding.{within_more, reached_more, response_within}
 use Rattle.rr_eval.proofs.Objects.{asking_keeps, begun_keeps}
 use Rattle.rr_eval.proofs.Running.{in_world, nothing_written, first_table, first_state, running_first, running_on, running_more, running_failed, running_raised, running_stopped, running_done, running_spent, running_fits}
 use Rattle.rr_eval.proofs.run.run_program.Goals as goal
-use Rattle.rr_eval.proofs.run.run_program.Goals.{in-Ok-report, in-Err-report}
 
-pub loop-request-init : goal.loop-request-init
-loop-request-init g c =
+pub run_machine-requires-clause-within : goal.run_machine-requires-clause-within
+run_machine-requires-clause-within g c =
     let p = c.args.prepared.now.program in
     let w = alone (context_of p) in
     let made = c.new-space.ensures in
@@ -33,16 +32,58 @@ loop-request-init g c =
     let zero : itself ≡ Local 0 = first.name ∙ ap (λ (s : List Slot). Local (length s)) made.slots in
     let one : 0 < length u.slots = omega (arith, ap (λ (x : Table). length x.slots) first.made, length-append (with_object (new_plain OBJECT.0) [] t).slots (Here (new_plain OBJECT.0) ∷ [])) in
     let reached = λ (clusters : Option Below). subst (IsReached (reach (length u.slots) clusters)) (sym zero) one in
+    c.in-Ok-new.ensures.within (reach (length u.slots) None) (reached None)
+
+pub run_machine-requires-clause-reached : goal.run_machine-requires-clause-reached
+run_machine-requires-clause-reached g c =
+    let p = c.args.prepared.now.program in
+    let w = alone (context_of p) in
+    let made = c.new-space.ensures in
+    let first = c.in-Ok.ensures in
+    let t = c.new-space.result in
+    let u = c.make_first.new.space in
+    let itself = c.in-Ok.itself in
+    let zero : itself ≡ Local 0 = first.name ∙ ap (λ (s : List Slot). Local (length s)) made.slots in
+    let one : 0 < length u.slots = omega (arith, ap (λ (x : Table). length x.slots) first.made, length-append (with_object (new_plain OBJECT.0) [] t).slots (Here (new_plain OBJECT.0) ∷ [])) in
+    let reached = λ (clusters : Option Below). subst (IsReached (reach (length u.slots) clusters)) (sym zero) one in
+    c.in-Ok-new.ensures.within (reach (length u.slots) (Some [])) (reached (Some []))
+
+pub run_machine-requires-clause-read : goal.run_machine-requires-clause-read
+run_machine-requires-clause-read g c =
+    let p = c.args.prepared.now.program in
+    let w = alone (context_of p) in
+    let made = c.new-space.ensures in
+    let first = c.in-Ok.ensures in
+    let t = c.new-space.result in
+    let u = c.make_first.new.space in
+    let itself = c.in-Ok.itself in
+    first.read (none_read t made.below)
+
+pub run_machine-requires-clause-limit : goal.run_machine-requires-clause-limit
+run_machine-requires-clause-limit g c =
+    let p = c.args.prepared.now.program in
+    let w = alone (context_of p) in
+    let made = c.new-space.ensures in
+    let first = c.in-Ok.ensures in
+    let t = c.new-space.result in
+    let u = c.make_first.new.space in
+    let itself = c.in-Ok.itself in
+    ap (λ (x : Table). x.limit) first.made ∙ made.limit
+
+pub run_machine-requires-clause-whole : goal.run_machine-requires-clause-whole
+run_machine-requires-clause-whole g c =
+    let p = c.args.prepared.now.program in
+    let w = alone (context_of p) in
+    let made = c.new-space.ensures in
+    let first = c.in-Ok.ensures in
+    let t = c.new-space.result in
+    let u = c.make_first.new.space in
+    let itself = c.in-Ok.itself in
+    let zero : itself ≡ Local 0 = first.name ∙ ap (λ (s : List Slot). Local (length s)) made.slots in
+    let one : 0 < length u.slots = omega (arith, ap (λ (x : Table). length x.slots) first.made, length-append (with_object (new_plain OBJECT.0) [] t).slots (Here (new_plain OBJECT.0) ∷ [])) in
     let begins = first_state p t u c.args.limits.frames c.args.limits.slots (first_table t c.args.limits.slots made.slots made.below made.keys made.limit made.owner made.next_message) first.made in
     let whole = c.in-Ok-new.ensures.whole u (in_world w []) in
-    record {
-      within = c.in-Ok-new.ensures.within (reach (length u.slots) None) (reached None);
-      reached = c.in-Ok-new.ensures.within (reach (length u.slots) (Some [])) (reached (Some []));
-      read = first.read (none_read t made.below);
-      limit = ap (λ (x : Table). x.limit) first.made ∙ made.limit;
-      running = running_first w p c.in-Ok-new.machine u _ _
-          (ap (λ s. begun (context_of p) w (tree_at p.nodes.items p.root) s c.args.limits.steps) (begins ∙ ap (λ v. record { memory = first_memory (context_of p) c.args.limits.frames v u; asked = [] }) (sym zero)) ∙ sym whole);
-    }
+    ap (λ s. begun (context_of p) w (tree_at p.nodes.items p.root) s c.args.limits.steps) (begins ∙ ap (λ v. record { memory = first_memory (context_of p) c.args.limits.frames v u; asked = [] }) (sym zero)) ∙ sym whole
 
 pub returns-in-Err-clause-slots : goal.returns-in-Err-clause-slots
 returns-in-Err-clause-slots g c = λ is.
@@ -64,121 +105,3 @@ pub returns-in-Err-new-clause-leaves : goal.returns-in-Err-new-clause-leaves
 returns-in-Err-new-clause-leaves g c =
     let p = c.args.prepared.now.program in
     (inl c.in-Err-new.ensures.fault, nothing_written (context_of p) (program_meaning p c.args.limits) _)
-
-pub loop-request-preserved-in-Ok-More : goal.loop-request-preserved-in-Ok-More
-loop-request-preserved-in-Ok-More g c =
-    let on = c.in-Ok-More.ensures in
-    let before = c.loop-request.invariant in
-    let turned = rw c.in-Ok-More.field-0-is at on.turned in
-    record {
-      within = on.within;
-      reached = on.reach (Some []) before.reached;
-      read = on.read [] before.read before.reached;
-      limit = on.limit ∙ before.limit;
-      running = running_on (alone (context_of c.args.prepared.now.program)) c.args.prepared.now.program c.loop-request.machine c.turn.new.self c.loop-request.space c.turn.new.space _ _ _ before.running turned.1;
-    }
-
-pub serve-requires-clause-read : goal.serve-requires-clause-read
-serve-requires-clause-read g c = c.in-Ok-Ask.ensures.read [] c.loop-request.invariant.read c.loop-request.invariant.reached
-
-pub serve-requires-clause-reached : goal.serve-requires-clause-reached
-serve-requires-clause-reached g c = rw c.in-Ok-Ask.field-0-is at (c.in-Ok-Ask.ensures.ends_reach (Some []) c.loop-request.invariant.reached)
-
-pub returns-in-Err-serve-clause-leaves : goal.returns-in-Err-serve-clause-leaves
-returns-in-Err-serve-clause-leaves g c = (c.in-Err-serve.ensures.refused.refused, running_stopped (alone (context_of c.args.prepared.now.program)) _ _ _ _ _ _ c.loop-request.invariant.running)
-
-pub returns-in-Err-serve-clause-slots : goal.returns-in-Err-serve-clause-slots
-returns-in-Err-serve-clause-slots g c = λ is.
-    let asks = c.in-Ok-Ask.ensures in
-    let running = c.loop-request.invariant.running in
-    let turned = rw c.in-Ok-Ask.field-0-is at asks.turned in
-    let h = in_world (alone (context_of c.args.prepared.now.program)) running.asked in
-    let q = asked_of c.turn.new.space c.in-Ok-Ask.request in
-    let more = c.in-Err-serve.ensures.refused.full is in
-    let kept = asking_keeps c.args.prepared.now.program c.turn.new.self c.turn.new.space q h _ (alone_adds (context_of c.args.prepared.now.program)) refl in
-    let all = ap objects_of (running.same ∙ turned.1 h) in
-    omega (arith, more, kept, all, asks.limit, c.loop-request.invariant.limit)
-
-pub returns-then-not-put-clause-leaves : goal.returns-then-not-put-clause-leaves
-returns-then-not-put-clause-leaves g c =
-    let turned = rw c.in-Ok-Ask.field-0-is at c.in-Ok-Ask.ensures.turned in
-    let now = written_to g.O.Output.contents g.O.Output.failures c.loop-request.output in
-    let new = written_to g.O.Output.contents g.O.Output.failures c.put.new.output in
-    let q = asked_of c.turn.new.space c.in-Ok-Ask.request in
-    running_failed (alone (context_of c.args.prepared.now.program)) c.args.prepared.now.program c.loop-request.machine c.turn.new.self c.loop-request.space c.turn.new.space _ _ now new q c.loop-request.invariant.running turned.1
-    (subst (λ text. FallsShort now new text) (c.as_slice.ensures.value ∙ c.in-Ok-serve.ensures.piece) c.if-not-put.ensures)
-
-pub loop-request-preserved : goal.loop-request-preserved
-loop-request-preserved g c =
-    let w = alone (context_of c.args.prepared.now.program) in
-    let asks = c.in-Ok-Ask.ensures in
-    let before = c.loop-request.invariant in
-    let turned = rw c.in-Ok-Ask.field-0-is at asks.turned in
-    let now = written_to g.O.Output.contents g.O.Output.failures c.loop-request.output in
-    let new = written_to g.O.Output.contents g.O.Output.failures c.put.new.output in
-    let q = asked_of c.turn.new.space c.in-Ok-Ask.request in
-    let k = length c.serve.new.space.slots in
-    let served = c.in-Ok-serve.ensures.replied in
-    let reached = asks.reach (Some []) before.reached in
-    let wrote = subst (λ text. WritesAll now new text) (c.as_slice.ensures.value ∙ c.in-Ok-serve.ensures.piece) c.if-not-put.ensures in
-    record {
-      within = c.answer.ensures.within (reach k None) (within_more _ _ served.grows _ asks.within) (response_within k (Some []) _ served.reached);
-      reached = c.answer.ensures.within (reach k (Some [])) (reached_more _ _ (Some []) served.grows _ reached) served.reached;
-      read = served.read;
-      limit = served.limit ∙ asks.limit ∙ before.limit;
-      running = rw c.answer.ensures.goes (running_more w c.args.prepared.now.program c.loop-request.machine c.turn.new.self c.loop-request.space c.turn.new.space c.serve.new.space _ _ now new q c.in-Ok-serve.served.response before.running turned.1 (λ asked. ap (λ r. Some r) served.is) wrote);
-    }
-
-pub returns-in-Err-turn-clause-leaves : goal.returns-in-Err-turn-clause-leaves
-returns-in-Err-turn-clause-leaves g c =
-    let turned = rw c.in-Err-turn.fault-is at c.in-Err-turn.ensures.turned in
-    (turned.0, running_stopped (alone (context_of c.args.prepared.now.program)) _ _ _ _ _ _ c.loop-request.invariant.running)
-
-pub returns-in-Err-turn-clause-slots : goal.returns-in-Err-turn-clause-slots
-returns-in-Err-turn-clause-slots g c =
-    let running = c.loop-request.invariant.running in
-    let passes = rw c.in-Err-turn.fault-is at c.in-Err-turn.ensures.full in
-    let fault = c.in-Err-turn.fault in
-    let rest = remaining c.args.prepared.now.program c.loop-request.machine c.loop-request.space (in_world (alone (context_of c.args.prepared.now.program)) running.asked) in
-    subst (λ o. Passes fault c.args.limits.slots (objects_of o)) (sym running.same) (subst (λ k. Passes fault k (objects_of rest)) c.loop-request.invariant.limit (passes (in_world (alone (context_of c.args.prepared.now.program)) running.asked) (alone_adds (context_of c.args.prepared.now.program))))
-
-pub returns-in-Ok-Raised-clause-leaves : goal.returns-in-Ok-Raised-clause-leaves
-returns-in-Ok-Raised-clause-leaves g c =
-    let turned = rw c.in-Ok-Raised.field-0-is at c.in-Ok-Raised.ensures.turned in
-    let running = c.loop-request.invariant.running in
-    elim c.match-report.branch [
-      | in-Ok-report w ↦ rw (w.result-is) (running_raised (alone (context_of c.args.prepared.now.program)) c.args.prepared.now.program c.loop-request.machine c.turn.new.self c.loop-request.space c.turn.new.space _ _ _ c.in-Ok-Raised.exception w.in-Ok-report.told.items running turned.1 w.in-Ok-report.ensures)
-      | in-Err-report w ↦ rw (w.result-is) (inl refl, running_stopped (alone (context_of c.args.prepared.now.program)) _ _ _ _ _ _ running)
-    ]
-
-pub returns-in-Ok-Raised-clause-slots : goal.returns-in-Ok-Raised-clause-slots
-returns-in-Ok-Raised-clause-slots g c =
-    let turned = rw c.in-Ok-Raised.field-0-is at c.in-Ok-Raised.ensures.turned in
-    let fits : length c.turn.new.space.slots ≤ c.args.limits.slots = omega (arith, c.objects_fit-in-Ok-Raised.ensures, c.in-Ok-Raised.ensures.limit, c.loop-request.invariant.limit) in
-    let most = running_fits (alone (context_of c.args.prepared.now.program)) c.args.prepared.now.program c.loop-request.machine c.loop-request.space _ _ _ _ c.loop-request.invariant.running _ turned.1 (λ h. fits) in
-    elim c.match-report.branch [
-      | in-Ok-report w ↦ rw (w.result-is) most
-      | in-Err-report w ↦ rw (w.result-is) (λ is. absurd (cc is))
-    ]
-
-pub returns-in-Ok-Done-clause-leaves : goal.returns-in-Ok-Done-clause-leaves
-returns-in-Ok-Done-clause-leaves g c =
-    let turned = rw c.in-Ok-Done.field-0-is at c.in-Ok-Done.ensures.turned in
-    running_done (alone (context_of c.args.prepared.now.program)) c.args.prepared.now.program c.loop-request.machine c.turn.new.self c.loop-request.space c.turn.new.space _ _ _ _ c.loop-request.invariant.running turned.1
-
-pub returns-in-Ok-Done-clause-slots : goal.returns-in-Ok-Done-clause-slots
-returns-in-Ok-Done-clause-slots g c =
-    let turned = rw c.in-Ok-Done.field-0-is at c.in-Ok-Done.ensures.turned in
-    let fits : length c.turn.new.space.slots ≤ c.args.limits.slots = omega (arith, c.objects_fit.ensures, c.in-Ok-Done.ensures.limit, c.loop-request.invariant.limit) in
-    running_fits (alone (context_of c.args.prepared.now.program)) c.args.prepared.now.program c.loop-request.machine c.loop-request.space _ _ _ _ c.loop-request.invariant.running _ turned.1 (λ h. fits)
-
-pub returns-in-Ok-StepLimit-clause-leaves : goal.returns-in-Ok-StepLimit-clause-leaves
-returns-in-Ok-StepLimit-clause-leaves g c =
-    let turned = rw c.in-Ok-StepLimit.field-0-is at c.in-Ok-StepLimit.ensures.turned in
-    running_spent (alone (context_of c.args.prepared.now.program)) c.args.prepared.now.program c.loop-request.machine c.turn.new.self c.loop-request.space c.turn.new.space _ _ _ c.loop-request.invariant.running turned.2
-
-pub returns-in-Ok-StepLimit-clause-slots : goal.returns-in-Ok-StepLimit-clause-slots
-returns-in-Ok-StepLimit-clause-slots g c =
-    let turned = rw c.in-Ok-StepLimit.field-0-is at c.in-Ok-StepLimit.ensures.turned in
-    let fits : length c.turn.new.space.slots ≤ c.args.limits.slots = omega (arith, c.objects_fit-in-Ok-StepLimit.ensures, c.in-Ok-StepLimit.ensures.limit, c.loop-request.invariant.limit) in
-    running_fits (alone (context_of c.args.prepared.now.program)) c.args.prepared.now.program c.loop-request.machine c.loop-request.space _ _ _ _ c.loop-request.invariant.running _ turned.2 (λ h. fits)

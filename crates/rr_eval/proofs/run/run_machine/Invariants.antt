@@ -6,7 +6,7 @@ use Rattle.rr_eval.specs.Within.{AreWithin, AreReached, reach}
 use Rattle.rr_eval.specs.Written.{written_to}
 use Rattle.rr_eval.specs.Runs.{alone, program_meaning}
 use Rattle.rr_eval.proofs.Running.{IsRunning}
-use Rattle.rr_eval.proofs.run.run_program.Given as goal
+use Rattle.rr_eval.proofs.run.run_machine.Given as goal
 
 abbrev pub invariant-loop-request : goal.invariant-loop-request
 invariant-loop-request g l = record {
