@@ -49,3 +49,8 @@ pub mod KeyObjects
 pub mod KeyCopies
 pub mod Reading
 pub mod Putting
+pub mod Rewriting
+pub mod Arrays
+pub mod Bytes
+pub mod Hashes
+pub mod Shortening

@@ -1,23 +1,19 @@
 -- Nodes with other elements, and the tables that they are put into.
-use Rattle.std.proofs.Common.{◌≡◌, ℕ, zero, suc, ◌+◌, ◌<◌, ◌⊎◌, ⊎_elim, inl, inr, Bool, List, [], ◌∷◌, ◌++◌, length, map, slice_get, slice_set, Some, Result, Ok, Err, IfOk, IfErr, Vec, Global, Contains, sym, ap, ◌∙◌, subst, refl, arith, length-set}
+use Rattle.std.proofs.Common.{◌≡◌, ℕ, zero, suc, ◌+◌, ◌⊎◌, ⊎_elim, inl, inr, Bool, List, [], ◌∷◌, ◌++◌, length, map, slice_get, slice_set, Result, Ok, Err, IfOk, IfErr, Contains, sym, ap, ◌∙◌, refl, arith}
 use Rattle.std.proofs.lemmas.List.{length-map}
 use Rattle.std.proofs.lemmas.List.Elements.{Contains-append_left, Contains-append_right, Contains-append_cases}
-use Rattle.std.proofs.lemmas.Option.{same_Some, slice_get_within}
-use Rattle.rr_space.specs.Graph.{Label, Place, Value, Object, Kind, text, array, hash, plain, exception, shell}
-use Rattle.rr_space.specs.Tables.{Here, Below, Table}
+use Rattle.rr_space.specs.Graph.{Label, Place, Value, Object}
+use Rattle.rr_space.specs.Tables.{Here, Table}
 use Rattle.rr_space.specs.Parts.{Parts, places_from, value_of, value_triple, below_ref, below_parts}
-use Rattle.rr_space.specs.Views.{node_kind, node_class, node_parts, node_keys, node_object, below_node, with_held, StandsAt, IsWithin, AllWithin, IsLedBy, IsHeadKept, slot_object}
+use Rattle.rr_space.specs.Views.{node_kind, node_class, node_parts, node_object, StandsAt, IsWithin, AllWithin, IsHeadKept, slot_object}
 use Rattle.rr_space.specs.Kinds.{kind_at, kind_named, object_kind}
 use Rattle.rr_space.specs.Labels.{triples_at, triples_of}
-use Rattle.rr_space.specs.declared.kind.Kind.TheVariants.{Array as ArrayKind, Text as TextKind}
 use Rattle.rr_space.specs.declared.refer.Ref.{Ref}
 use Rattle.rr_space.specs.declared.refer.Ref.TheVariants.{Local}
 use Rattle.rr_space.specs.declared.node.Node.{Node}
-use Rattle.rr_space.specs.declared.node.Node.TheVariants.{Text, Array, Hash, Object as PlainObject, Exception}
 use Rattle.rr_space.specs.declared.node.Held.TheVariants.{Whole}
 use Rattle.rr_space.proofs.Listing.{length-places_from}
-use Rattle.rr_space.proofs.Keeping.{set_same, set_other}
-use Rattle.rr_space.proofs.Placing.{map_set, put_back}
+use Rattle.rr_space.proofs.Placing.{map_set}
 
 pub places_set : (rs : List Ref) (j k : ℕ) (r : Ref) → places_from j (slice_set rs k r) ≡ slice_set (places_from j rs) k (Place (j + k), r)
 places_set [] j k r = refl
@@ -59,17 +55,6 @@ below_push (x ∷ ts) t e has = ⊎_elim (λ q. inl (Contains-append_left (below
 pub kind_is : (t : Table) (n : ℕ) (node : Node) (f : Bool) → StandsAt t n (Whole f node) → kind_at t (Local n) ≡ kind_named (node_kind node)
 kind_is t n node f s = ap (λ x. object_kind (slot_object x (slice_get t.below n))) s.slot
 
-array_only : (k : Kind) → kind_named k ≡ ArrayKind → k ≡ array
-array_only text e = absurd (let w : ⊥ = cc in w)
-array_only array e = refl
-array_only hash e = absurd (let w : ⊥ = cc in w)
-array_only plain e = absurd (let w : ⊥ = cc in w)
-array_only exception e = absurd (let w : ⊥ = cc in w)
-array_only shell e = absurd (let w : ⊥ = cc in w)
-
-pub array_at : (t : Table) (n : ℕ) (v : Ref) (node : Node) (f : Bool) → v ≡ Local n → StandsAt t n (Whole f node) → kind_at t v ≡ ArrayKind → node_kind node ≡ array
-array_at t n v node f is s e = array_only (node_kind node) (sym (kind_is t n node f s) ∙ ap (kind_at t) (sym is) ∙ e)
-
 pub triples_is : (t : Table) (n : ℕ) (v : Ref) (node : Node) (f : Bool) → v ≡ Local n → StandsAt t n (Whole f node) → triples_at t v ≡ map value_triple (node_parts node)
 triples_is t n v node f is s = ap (triples_at t) is ∙ ap (λ x. triples_of (slot_object x (slice_get t.below n))) s.slot
 
@@ -90,42 +75,6 @@ push_values a b v e =
     ap (map value_triple) e ∙ map_push value_triple (node_parts a) (Place (length (node_parts a)), v)
     ∙ ap (λ n. map value_triple (node_parts a) ++ (Place n, value_of v) ∷ []) (sym (length-map (node_parts a) value_triple))
 
-local_one : (n m : ℕ) (v : Ref) → v ≡ Local n → v ≡ Local m → n ≡ m
-local_one n m v p q = let e : Local n ≡ Local m = sym p ∙ q in cc
-
-led_by : (t new : Table) (n : ℕ) (v : Ref) (a b : Node) (f : Bool) → StandsAt t n (Whole f a) → new ≡ with_held t n (Whole f b)
-    → ((e : ℕ × List Object) → Contains (below_node b) e → Contains (below_node a) e ⊎ Contains (below_ref v) e) → n < length t.below → IsLedBy v n t.below new.below
-led_by t new n v a b f s is more lt =
-    let e : new.below ≡ slice_set t.below n (below_node b) = ap (λ (u : Table). u.below) is in
-    record {
-      size = ap length e ∙ length-set t.below n (below_node b);
-      others = λ m differ. ap (λ (bs : List Below). slice_get bs m) e ∙ set_other t.below n m (below_node b) (λ q. differ (sym q));
-      same = λ x y d at at2 has.
-          let was : below_node a ≡ x = same_Some (below_node a) x (sym s.below ∙ at) in
-          let now : below_node b ≡ y = same_Some (below_node b) y (sym (ap (λ (bs : List Below). slice_get bs n) e ∙ set_same t.below n (below_node b) lt) ∙ at2) in
-          subst (λ (z : Below). Contains z d ⊎ Contains (below_ref v) d) was (more d (subst (λ (z : Below). Contains z d) (sym now) has));
-    }
-
-pub set_led : (t new : Table) (n m p : ℕ) (v w : Ref) (a b : Node) (f : Bool) → w ≡ Local n → w ≡ Local m → StandsAt t n (Whole f a) → new ≡ with_held t n (Whole f b)
-    → node_parts b ≡ slice_set (node_parts a) p (Place p, v) → IsLedBy v m t.below new.below
-set_led t new n m p v w a b f is_n is_m s is e =
-    subst (λ k. IsLedBy v k t.below new.below) (local_one n m w is_n is_m)
-    (led_by t new n v a b f s is (λ d has. below_set (node_parts a) p (Place p, v) d (subst (λ (ts : Parts). Contains (below_parts ts) d) e has)) (slice_get_within t.below n (below_node a) s.below))
-
-pub push_led : (t new : Table) (n m : ℕ) (v w : Ref) (a b : Node) (f : Bool) → w ≡ Local n → w ≡ Local m → StandsAt t n (Whole f a) → new ≡ with_held t n (Whole f b)
-    → node_parts b ≡ node_parts a ++ (Place (length (node_parts a)), v) ∷ [] → IsLedBy v m t.below new.below
-push_led t new n m v w a b f is_n is_m s is e =
-    subst (λ k. IsLedBy v k t.below new.below) (local_one n m w is_n is_m)
-    (led_by t new n v a b f s is (λ d has. below_push (node_parts a) (Place (length (node_parts a)), v) d (subst (λ (ts : Parts). Contains (below_parts ts) d) e has)) (slice_get_within t.below n (below_node a) s.below))
-
--- a node that is as it was is put back
-pub same_back : (t new : Table) (n : ℕ) (a b : Node) (f : Bool) → StandsAt t n (Whole f a) → new ≡ with_held t n (Whole f b) → IsHeadKept a b → node_parts b ≡ node_parts a → new ≡ t
-same_back t new n a b f s is h e = is ∙ put_back t n (Whole f b) (record {
-  slot = s.slot ∙ ap Some (sym (object_by_parts a b f (map value_triple (node_parts a)) h (ap (map value_triple) e)));
-  below = s.below ∙ ap (λ (ts : Parts). Some (below_parts ts)) (sym e);
-  keys = s.keys ∙ ap Some (sym h.keys);
-})
-
 pub pushed_parts : (items : List Ref) (r : Ref) (new : List Ref) → new ≡ items ++ r ∷ [] → places_from 0 new ≡ places_from 0 items ++ (Place (length (places_from 0 items)), r) ∷ []
 pushed_parts items r new e =
     ap (places_from 0) e ∙ places_push items 0 r
@@ -145,24 +94,3 @@ on_err (Err e) P Q f h = f h
 pub either_way : {A E : Type 0} (r : Result A E) (P Q R : Type 0) → IfOk r (λ _. P) → IfErr r (λ _. Q) → (P → R) → (Q → R) → R
 either_way (Ok a) P Q R p q f g = f p
 either_way (Err e) P Q R p q f g = g q
-
-text_only : (k : Kind) → kind_named k ≡ TextKind → k ≡ text
-text_only text e = refl
-text_only array e = absurd (let w : ⊥ = cc in w)
-text_only hash e = absurd (let w : ⊥ = cc in w)
-text_only plain e = absurd (let w : ⊥ = cc in w)
-text_only exception e = absurd (let w : ⊥ = cc in w)
-text_only shell e = absurd (let w : ⊥ = cc in w)
-
--- the slot of a text holds a text
-text_by : (a : Node) (f : Bool) (bytes : Vec ℕ Global) → node_kind a ≡ text
-    → (Here (node_object (Text bytes) f) ≡ Here (record (node_object a f) { bytes = bytes.items })) × (below_node (Text bytes) ≡ below_node a) × (node_keys (Text bytes) ≡ node_keys a)
-text_by (Text b) f bytes e = (refl, refl, refl)
-text_by (Array items) f bytes e = absurd (let w : ⊥ = cc in w)
-text_by (Hash entries) f bytes e = absurd (let w : ⊥ = cc in w)
-text_by (PlainObject class fields) f bytes e = absurd (let w : ⊥ = cc in w)
-text_by (Exception class raised) f bytes e = absurd (let w : ⊥ = cc in w)
-
-pub text_at_slot : (t : Table) (n : ℕ) (v : Ref) (a : Node) (f : Bool) (bytes : Vec ℕ Global) → v ≡ Local n → StandsAt t n (Whole f a) → kind_at t v ≡ TextKind
-    → (Here (node_object (Text bytes) f) ≡ Here (record (node_object a f) { bytes = bytes.items })) × (below_node (Text bytes) ≡ below_node a) × (node_keys (Text bytes) ≡ node_keys a)
-text_at_slot t n v a f bytes is s e = text_by a f bytes (text_only (node_kind a) (sym (kind_is t n a f s) ∙ ap (kind_at t) (sym is) ∙ e))

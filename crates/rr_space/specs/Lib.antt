@@ -6,6 +6,7 @@ pub mod Parts
 pub mod Elements
 pub mod Falls
 pub mod Views
+pub mod Writes
 pub mod Kinds
 pub mod Names
 pub mod Labels

@@ -1,9 +1,9 @@
 -- How what stands in a slot gives its object, keys and clusters; what writes, carrying and renumbering do to it.
-use Rattle.std.specs.Prelude.{nat_eq, not, ◌&&◌, ℕ, Bool, true, false, List, [], ◌∷◌, map, slice_get, Option, Some, None, slice_set, ◌≡◌, length, Contains, ◌⊎◌, ◌+◌, ◌<◌, ◌++◌, slice_index, Result, IsOk, IfOk, IfErr}
+use Rattle.std.specs.Prelude.{nat_eq, not, ◌&&◌, ℕ, Bool, true, false, List, [], ◌∷◌, map, slice_get, Option, Some, None, slice_set, ◌≡◌, length, Contains, ◌⊎◌, ◌+◌, ◌<◌, ◌++◌, slice_index}
 use Rattle.std.specs.List.{IsDistinct}
 use Rattle.rr_base.specs.declared.name.Sym.{Sym}
 use Rattle.rr_base.specs.declared.name.TheConstants.ClassId.{ARRAY, HASH, MOVED_OBJECT, STRING}
-use Rattle.rr_space.specs.Graph.{Nil, Truth, Integer, SymbolNo, ClassNo, RactorNo, Kind, Object, text, array, hash, plain, exception, shell, Value, Label, Place, Field, KeyAt, ValueAt, Own, At, SameValue, IsAt}
+use Rattle.rr_space.specs.Graph.{Nil, Truth, Integer, SymbolNo, ClassNo, RactorNo, Kind, Object, text, array, hash, plain, exception, shell, Value, Label, Place, KeyAt, ValueAt, Own, At, SameValue, IsAt}
 use Rattle.rr_space.specs.Tables.{joined, Below, Slot, Here, Led, Table, HashKey, PlainKey, TextKey, below_hold, outer_objects, published_at, resolve, here_behind}
 use Rattle.rr_space.specs.Parts.{Parts, places_from, pairs_from, field_part, raised_parts, below_ref, below_parts, value_triple, bytes_of, is_frozen_object}
 use Rattle.rr_space.specs.Sound.{IsHold}
@@ -255,15 +255,6 @@ label_part t = t.0
 
 abbrev pub ref_label : Label × Ref → Label
 ref_label t = t.0
-
--- the first field of that name has the value, or a new one behind the others; after an error the references are as they were
-pub record IsFieldWritten {A E : Type 0} (old new : Node) (name : ℕ) (value : Ref) (r : Result A E) : Type 0 where
-  pub present : (i : ℕ) → IsFirstAt (map ref_label (node_parts old)) (Field name) i → IsOk r × ((node_kind old ≡ plain) ⊎ (node_kind old ≡ exception) → node_parts new ≡ slice_set (node_parts old) i (Field name, value))
-  pub absent : (node_kind old ≡ plain) ⊎ (node_kind old ≡ exception) → (Contains (map ref_label (node_parts old)) (Field name) → ⊥) → IfOk r (λ _. node_parts new ≡ node_parts old ++ (Field name, value) ∷ [])
-  pub refused : IfErr r (λ _. node_parts new ≡ node_parts old)
-  pub head : IsHeadKept old new
-  pub within : (k : ℕ) → IsNodeWithin k old → IsWithin k value → IsNodeWithin k new
-  pub below : (e : ℕ × List Object) → Contains (below_node new) e → Contains (below_node old) e ⊎ Contains (below_ref value) e
 
 -- the names of fields, in their order
 abbrev pub field_names : List (Sym × Ref) → List ℕ

@@ -1,7 +1,7 @@
 //! The pairs of the hash that a node may be.
 
-ghost use Rattle.std.specs.Prelude.{◌≡◌, ℕ, ◌+◌, ◌*◌, ◌⊎◌, List, [], ◌∷◌, ◌++◌, length, map, None, remove, slice_get, slice_set, Contains, IsOk, IfOk, IfErr, IfSome, IfNone, MatchOption, OnOk, OnErr};
-ghost use Rattle.rr_space.specs.Graph.{Object, hash, KeyAt, ValueAt};
+ghost use Rattle.std.specs.Prelude.{◌≡◌, ℕ, ◌+◌, List, ◌++◌, length, map, None, remove, slice_get, Contains, IfErr, IfSome, IfNone, MatchOption, OnOk, OnErr};
+ghost use Rattle.rr_space.specs.Graph.{Object, hash};
 ghost use Rattle.rr_space.specs.Parts.{below_ref, value_triple};
 ghost use Rattle.rr_space.specs.Views.{key_of, entry_pair, node_keys, node_kind, node_pairs, node_parts, below_node, IsWithin, IsNodeWithin, IsBareHeadKept};
 ghost use Rattle.rr_space.specs.Views.{IsFirstAt, kept_name};
@@ -9,6 +9,7 @@ ghost use Rattle.indexmap.specs.IndexMap.{insert_entry};
 ghost use Rattle.std.specs.Map.{lookup};
 ghost use Rattle.rr_space.specs.Labels.{IsPairThere};
 ghost use Rattle.rr_space.specs.Lookups.{AreDistinct};
+ghost use Rattle.rr_space.specs.Writes.{IsPairWritten};
 ghost use Rattle.std.specs.Option.{option_map};
 
 use crate::behind::replace_value;
@@ -36,24 +37,16 @@ impl Node {
         }
     }
 
-    /// The node with `value` under a key of a hash, and whether there was memory for it; as it is where it is no hash.
-    pub(crate) fn with_pair(self, key: Key, name: Ref, value: Ref) -> (Node, Result<(), Fault>)
-        ensures present { (i : ℕ) → node_kind self ≡ hash → IsFirstAt (node_keys self) (key_of key) i
-            → IsOk result.1 × (node_parts result.0 ≡ slice_set (node_parts self) (2 * i + 1) (ValueAt i, value)) × (node_keys result.0 ≡ node_keys self) }
-        ensures absent { node_kind self ≡ hash → (Contains (node_keys self) (key_of key) → ⊥)
-            → IfOk result.1 (λ _. (node_parts result.0 ≡ node_parts self ++ (KeyAt (length (node_keys self)), name) ∷ (ValueAt (length (node_keys self)), value) ∷ []) × (node_keys result.0 ≡ node_keys self ++ key_of key ∷ [])) }
-        ensures refused { IfErr result.1 (λ _. (node_parts result.0 ≡ node_parts self) × (node_keys result.0 ≡ node_keys self)) }
-        ensures fault { IfErr result.1 (λ e. e ≡ Fault.Memory) }
-        ensures head { IsBareHeadKept self result.0 }
-        ensures within { (k : ℕ) → IsNodeWithin k self → IsWithin k name → IsWithin k value → IsNodeWithin k result.0 }
-        ensures below { (e : ℕ × List Object) → Contains (below_node result.0) e → Contains (below_node self) e ⊎ Contains (below_ref name ++ below_ref value) e }
+    /// Puts `value` under a key of a hash, and says whether there was memory for it; leaves the node as it is where it is no
+    /// hash.
+    #[inline(always)]
+    pub(crate) fn write_pair(&mut self, key: Key, name: Ref, value: Ref) -> Result<(), Fault>
+        ensures written { IsPairWritten self.old self.new (key_of key) name value result }
+        ensures fault { IfErr result (λ e. e ≡ Fault.Memory) }
     {
         match self {
-            Node::Hash(mut entries) => {
-                let written = put_pair(&mut entries, key, name, value);
-                (Node::Hash(entries), written)
-            }
-            other => (other, Ok(())),
+            Node::Hash(entries) => put_pair(entries, key, name, value),
+            _ => Ok(()),
         }
     }
 

@@ -1,14 +1,13 @@
 //! The fields of plain objects and of exceptions: what finds one and what sets one.
 
-ghost use Rattle.std.specs.Prelude.{◌≡◌, ℕ, ◌+◌, ◌<◌, ◌⊎◌, Bool, [], ◌∷◌, ◌++◌, length, map, Some, slice_get, slice_set, vec_len, Contains, IsTrue, IsOk, IfOk, IfErr, IfSome, IfNone, MatchOption};
+ghost use Rattle.std.specs.Prelude.{◌≡◌, ℕ, ◌+◌, ◌<◌, ◌⊎◌, [], ◌∷◌, ◌++◌, length, map, Some, slice_get, slice_set, vec_len, Contains, IsTrue, IsOk, IfOk, IfErr, IfSome, IfNone, MatchOption};
 ghost use Rattle.rr_space.specs.Graph.{Object, Field};
 ghost use Rattle.rr_space.specs.Tables.{Here, IsRestKept};
 ghost use Rattle.rr_space.specs.Parts.{value_of, field_part};
-ghost use Rattle.rr_space.specs.Views.{can_write_at, IsWithin, IsLedBy, IsFieldWritten};
+ghost use Rattle.rr_space.specs.Views.{can_write_at, IsWithin, IsLedBy};
+ghost use Rattle.rr_space.specs.Writes.{IsHeldRewritten, IsSlotRewritten, IsFieldWritten};
 ghost use Rattle.rr_space.specs.Views.{IsFirstAt, label_part, field_names};
 ghost use Rattle.rr_space.specs.Kinds.{kind_at};
-ghost use Rattle.rr_space.specs.declared.node.Node.{Node as NodeView};
-ghost use Rattle.rr_space.specs.declared.node.Held.TheVariants.{Whole};
 
 use crate::kind::Kind;
 use crate::node::{Held, Node};
@@ -48,7 +47,7 @@ impl Space {
 #[inline(always)]
 fn write_field_at(slots: &mut Vec<Held>, slot: usize, name: Sym, value: Ref) -> Result<(), Fault>
     requires { slot < vec_len slots.old }
-    ensures written { (f : Bool) (a : NodeView) → slice_get slots.old.items slot ≡ Some (Whole f a) → (b : NodeView) × (slots.new.items ≡ slice_set slots.old.items slot (Whole f b)) × IsFieldWritten a b name.0 value result }
+    ensures written { IsSlotRewritten (λ a b. IsFieldWritten a b name.0 value result) slot slots.old.items slots.new.items }
     ensures fault { IfErr result (λ e. e ≡ Fault.Memory) }
 {
     change_at(slots, slot, |held: &mut Held| held.write_field(name, value))
@@ -58,7 +57,7 @@ impl Held {
     /// Sets a field of the object, if there is one.
     #[inline(always)]
     fn write_field(&mut self, name: Sym, value: Ref) -> Result<(), Fault>
-        ensures written { (f : Bool) (a : NodeView) → self.old ≡ Whole f a → (b : NodeView) × (self.new ≡ Whole f b) × IsFieldWritten a b name.0 value result }
+        ensures written { IsHeldRewritten (λ a b. IsFieldWritten a b name.0 value result) self.old self.new }
         ensures fault { IfErr result (λ e. e ≡ Fault.Memory) }
     {
         match self {

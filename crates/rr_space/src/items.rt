@@ -15,6 +15,7 @@ use crate::shifted::Shifted;
 use rr_base::Fault;
 use std::alloc::Global;
 use std::marker::Model;
+use std::mem;
 
 /// The elements of an array. Up to two of them lie in place, without memory of their own.
 #[derive(Drop)]
@@ -123,49 +124,59 @@ impl Items {
         ensures refused { IfErr result.1 (λ _. result.0 ≡ self) }
         ensures fault { IfErr result.1 (λ e. e ≡ Fault.Memory) }
     {
-        let Items { kept } = self;
-        match kept {
-            Kept::Empty(alloc) => (Items::one(alloc, item), Ok(())),
-            Kept::One(alloc, first) => (Items::two(alloc, first, item), Ok(())),
-            Kept::Two(alloc, first, second) => match three(alloc, first, second, item) {
-                Ok(items) => (Items::from_vec(items), Ok(())),
-                Err(fault) => (Items::two(alloc, first, second), Err(fault)),
+        let mut items = self;
+        let pushed = items.push(item);
+        (items, pushed)
+    }
+
+    /// Puts `item` behind the others.
+    #[inline(always)]
+    pub(crate) fn push(&mut self, item: Ref) -> Result<(), Fault>
+        ensures pushed { IfOk result (λ _. self.new ≡ self.old ++ item ∷ []) }
+        ensures refused { IfErr result (λ _. self.new ≡ self.old) }
+        ensures fault { IfErr result (λ e. e ≡ Fault.Memory) }
+    {
+        match &mut self.kept {
+            Kept::Many(items) => match items.push(item) {
+                Ok(()) => Ok(()),
+                Err(_) => Err(Fault::Memory),
             },
-            Kept::Many(mut items) => match items.push(item) {
-                Ok(()) => (Items::from_vec(items), Ok(())),
-                Err(_) => (Items::from_vec(items), Err(Fault::Memory)),
-            },
-            Kept::Late(mut items) => match items.push(item) {
-                Ok(()) => (Items::late(items), Ok(())),
-                Err(fault) => (Items::late(items), Err(fault)),
-            },
+            Kept::Late(items) => items.push(item),
+            _ => self.push_in_place(item),
         }
     }
 
-    /// The elements with `item` in the place of the `k`-th.
-    pub(crate) fn with_set(self, k: usize, item: Ref) -> Items
-        requires { k < length self }
-        ensures { result ≡ slice_set self k item }
+    /// The same for elements that lie in place. Those that have memory of their own do not come here, and would be refused.
+    fn push_in_place(&mut self, item: Ref) -> Result<(), Fault>
+        ensures pushed { IfOk result (λ _. self.new ≡ self.old ++ item ∷ []) }
+        ensures refused { IfErr result (λ _. self.new ≡ self.old) }
+        ensures fault { IfErr result (λ e. e ≡ Fault.Memory) }
     {
-        let Items { kept } = self;
-        match kept {
-            Kept::Empty(alloc) => Items::new(alloc),
-            Kept::One(alloc, _) => Items::one(alloc, item),
-            Kept::Two(alloc, first, second) => {
-                if k == 0 {
-                    Items::two(alloc, item, second)
-                } else {
-                    Items::two(alloc, first, item)
-                }
+        let kept = match &self.kept {
+            Kept::Empty(alloc) => Kept::One(*alloc, item),
+            Kept::One(alloc, first) => Kept::Two(*alloc, *first, item),
+            Kept::Two(alloc, first, second) => Kept::Many(three(*alloc, *first, *second, item)?),
+            Kept::Many(_) | Kept::Late(_) => return Err(Fault::Memory),
+        };
+        self.kept = kept;
+        Ok(())
+    }
+
+    /// Puts `item` in the place of the `k`-th element.
+    #[inline(always)]
+    pub(crate) fn set(&mut self, k: usize, item: Ref)
+        requires { k < length self.old }
+        ensures { self.new ≡ slice_set self.old k item }
+    {
+        match &mut self.kept {
+            Kept::Empty(_) => (),
+            Kept::One(_, first) => *first = item,
+            Kept::Two(_, first, _) if k == 0 => *first = item,
+            Kept::Two(_, _, second) => *second = item,
+            Kept::Many(items) => {
+                replace_at(items, k, item);
             }
-            Kept::Many(mut items) => {
-                replace_at(&mut items, k, item);
-                Items::from_vec(items)
-            }
-            Kept::Late(mut items) => {
-                items.set(k, item);
-                Items::late(items)
-            }
+            Kept::Late(items) => items.set(k, item),
         }
     }
 
@@ -217,8 +228,43 @@ impl Items {
         }
     }
 
-    /// The elements without the `k`-th. Taking all elements from the front costs a few moves each, however many there are.
-    pub(crate) fn without(self, k: usize) -> Items
+    /// Takes the `k`-th element away. Taking all elements from the front costs a few moves each, however many there are.
+    #[inline(always)]
+    pub(crate) fn remove(&mut self, k: usize)
+        requires { k < length self.old }
+        ensures { self.new ≡ remove self.old k }
+    {
+        match &mut self.kept {
+            Kept::Many(items) if k > 0 || items.len() <= FEW => {
+                items.remove(k);
+            }
+            Kept::Late(items) if k == 0 && !items.is_mostly_taken() => items.take_first(),
+            _ => self.remake_without(k),
+        }
+    }
+
+    /// The same where what is left may be kept in another way. All of it is moved out and in again.
+    fn remake_without(&mut self, k: usize)
+        requires { k < length self.old }
+        ensures { self.new ≡ remove self.old k }
+    {
+        let none = Items::new(self.allocator());
+        let items = mem::replace(self, none);
+        *self = items.without(k);
+    }
+
+    fn allocator(&self) -> Global {
+        match &self.kept {
+            Kept::Empty(alloc) => *alloc,
+            Kept::One(alloc, _) => *alloc,
+            Kept::Two(alloc, _, _) => *alloc,
+            Kept::Many(items) => *items.allocator(),
+            Kept::Late(items) => items.allocator(),
+        }
+    }
+
+    /// The elements without the `k`-th.
+    fn without(self, k: usize) -> Items
         requires { k < length self }
         ensures { result ≡ remove self k }
     {
@@ -234,9 +280,10 @@ impl Items {
                 }
             }
             Kept::Many(items) => without_one(items, k),
-            Kept::Late(items) => {
+            Kept::Late(mut items) => {
                 if k == 0 {
-                    shortened(items.without_first())
+                    items.take_first();
+                    shortened(items)
                 } else {
                     without_one(items.into_vec(), k)
                 }

@@ -4,6 +4,7 @@
 mod append;
 mod behind;
 mod carried;
+mod elements;
 mod entries;
 mod fields;
 mod indexes;
@@ -24,6 +25,7 @@ mod replace;
 mod shifted;
 mod slot_set;
 mod space;
+mod texts;
 mod walk;
 mod write;
 

@@ -1,12 +1,11 @@
 //! What an object is made of, and what stands in a slot.
 
-ghost use Rattle.std.specs.Prelude.{◌≡◌, ℕ, ◌<◌, List, [], ◌∷◌, ◌++◌, length, map, remove, slice_get, slice_set, Contains, IsTrue, IfOk, IfErr, IfSome, IfNone};
+ghost use Rattle.std.specs.Prelude.{◌≡◌, ◌<◌, [], length, map, slice_get, slice_set, IsTrue};
 ghost use Rattle.std.specs.Option.{option_map};
-ghost use Rattle.rr_space.specs.Views.{object_of, node_bytes, node_kind, IsAllButBytesKept, node_items, node_parts, below_node, entry_pair, IsHeadKept, IsWithin, IsNodeWithin};
-ghost use Rattle.rr_space.specs.Graph.{array, text, exception, Place as PlaceLabel, Object as ObjectView};
+ghost use Rattle.rr_space.specs.Views.{object_of, node_kind, node_parts, entry_pair, IsHeadKept};
+ghost use Rattle.rr_space.specs.Graph.{array, text, exception, Place as PlaceLabel};
 ghost use Rattle.rr_space.specs.Kinds.{kind_named, class_named};
 ghost use Rattle.rr_space.specs.Labels.{labelled, label_of, is_raised_label, raised_place};
-ghost use Rattle.rr_space.specs.Parts.{below_ref};
 
 use crate::items::Items;
 use crate::kind::Kind;
@@ -14,7 +13,7 @@ use crate::label::Label;
 use crate::part::{half_of_pair, nth_field, nth_of_raised};
 use crate::refer::{Cluster, Raised, Ref};
 use indexmap::IndexMap;
-use rr_base::{ClassId, Fault, Sym};
+use rr_base::{ClassId, Sym};
 
 /// What finds a pair of a hash: an immediate, or the bytes of a text.
 #[derive(PartialEq, Eq, Hash, Drop)]
@@ -126,38 +125,6 @@ impl Node {
 }
 
 impl Node {
-    /// The node with bytes behind those of a text, and whether there was memory for them; as it is where it is no text.
-    pub(crate) fn with_bytes(self, bytes: &[u8]) -> (Node, Result<(), Fault>)
-        ensures bytes { node_kind self ≡ text → IfOk result.1 (λ _. node_bytes result.0 ≡ node_bytes self ++ bytes.now) }
-        ensures refused { IfErr result.1 (λ _. node_bytes result.0 ≡ node_bytes self) }
-        ensures fault { IfErr result.1 (λ e. e ≡ Fault.Memory) }
-        ensures rest { IsAllButBytesKept self result.0 }
-    {
-        match self {
-            Node::Text(mut old) => match old.extend_from_slice(bytes) {
-                Ok(()) => (Node::Text(old), Ok(())),
-                Err(_) => (Node::Text(old), Err(Fault::Memory)),
-            },
-            other => (other, Ok(())),
-        }
-    }
-
-    /// The node with `value` in the place of an element; as it is where it is no array or has no such element.
-    pub(crate) fn with_element(self, place: usize, value: Ref) -> Node
-        ensures parts { node_kind self ≡ array → place < length (node_parts self) → node_parts result ≡ slice_set (node_parts self) place (PlaceLabel place, value) }
-        ensures head { IsHeadKept self result }
-    {
-        match self {
-            Node::Array(items) => {
-                if place >= items.len() {
-                    return Node::Array(items);
-                }
-                Node::Array(items.with_set(place, value))
-            }
-            other => other,
-        }
-    }
-
     /// The node with `value` in the place of the message, the cause or the ractor of an exception; as it is where it is none.
     pub(crate) fn with_raised(self, label: Label, value: Ref) -> Node
         ensures parts { node_kind self ≡ exception → IsTrue (is_raised_label (label_of label)) → node_parts result ≡ slice_set (node_parts self) (raised_place (label_of label)) (label_of label, value) }
@@ -174,42 +141,6 @@ impl Node {
                 Node::Exception(class, raised)
             }
             other => other,
-        }
-    }
-
-    /// The node with `value` behind the elements of an array, and whether there was memory for it; as it is where it is
-    /// no array.
-    pub(crate) fn with_more(self, value: Ref) -> (Node, Result<(), Fault>)
-        ensures parts { node_kind self ≡ array → IfOk result.1 (λ _. node_parts result.0 ≡ node_parts self ++ (PlaceLabel (length (node_parts self)), value) ∷ []) }
-        ensures refused { IfErr result.1 (λ _. node_parts result.0 ≡ node_parts self) }
-        ensures fault { IfErr result.1 (λ e. e ≡ Fault.Memory) }
-        ensures head { IsHeadKept self result.0 }
-    {
-        match self {
-            Node::Array(items) => {
-                let (changed, pushed) = items.with(value);
-                (Node::Array(changed), pushed)
-            }
-            other => (other, Ok(())),
-        }
-    }
-
-    /// The node without an element of an array, and that element; as it is where it is no array or has no such element.
-    pub(crate) fn without_element(self, place: usize) -> (Node, Option<Ref>)
-        ensures taken { node_kind self ≡ array → result.1 ≡ slice_get (node_items self) place }
-        ensures items { node_kind self ≡ array → node_items result.0 ≡ remove (node_items self) place }
-        ensures none { IfNone result.1 (node_parts result.0 ≡ node_parts self) }
-        ensures head { IsHeadKept self result.0 }
-        ensures within { (k : ℕ) → IsNodeWithin k self → IsNodeWithin k result.0 × IfSome result.1 (λ r. IsWithin k r) }
-        ensures below_taken { IfSome result.1 (λ r. (e : ℕ × List ObjectView) → Contains (below_ref r) e → Contains (below_node self) e) }
-        ensures below { (e : ℕ × List ObjectView) → Contains (below_node result.0) e → Contains (below_node self) e }
-    {
-        match self {
-            Node::Array(items) => match items.get(place) {
-                Some(taken) => (Node::Array(items.without(place)), Some(taken)),
-                None => (Node::Array(items), None),
-            },
-            other => (other, None),
         }
     }
 }

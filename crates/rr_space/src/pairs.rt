@@ -1,6 +1,6 @@
 //! The pairs of hashes: which pair a key has, and what sets one and takes one away.
 
-ghost use Rattle.std.specs.Prelude.{◌≡◌, ◌<◌, ◌+◌, ◌*◌, ◌↔◌, ℕ, List, [], ◌∷◌, ◌++◌, length, remove, Some, slice_get, slice_set, Contains, IsTrue, IsOk, IsSome, IfOk, IfErr, IfSome, IfNone, MatchOption, ◌≤◌, ◌⊎◌, take};
+ghost use Rattle.std.specs.Prelude.{◌≡◌, ◌<◌, ◌+◌, ◌*◌, ◌↔◌, ℕ, List, [], ◌∷◌, ◌++◌, length, remove, Some, slice_get, slice_set, Contains, IsTrue, IsOk, IsSome, IfOk, IfErr, IfSome, IfNone, MatchOption, vec_len, ◌≤◌, ◌⊎◌, take};
 ghost use Rattle.rr_space.specs.Graph.{Object, Value, KeyAt, ValueAt, At, Own, Label as LabelView};
 ghost use Rattle.rr_space.specs.Graph.{hash as hash_kind};
 ghost use Rattle.rr_space.specs.Lookups.{frozen_text, IsOneEach, IsPairOf, AreDistinct, key_at, published_object, below_of};
@@ -9,11 +9,13 @@ ghost use Rattle.rr_space.specs.Parts.{value_of, below_ref};
 ghost use Rattle.rr_space.specs.Views.{key_of, can_write_at, IsKnownTo, IsWithin, IsLedAlso};
 ghost use Rattle.rr_space.specs.Views.{IsFirstAt, paired_from, pair_values, keys_at};
 ghost use Rattle.rr_space.specs.Kinds.{kind_at};
+ghost use Rattle.rr_space.specs.Writes.{IsHeldRewritten, IsSlotRewritten, IsPairWritten};
 ghost use Rattle.rr_space.specs.Labels.{triples_at, IsPairThere};
 
 use crate::kind::Kind;
 use crate::node::{Held, Key, Node};
 use crate::refer::Ref;
+use crate::replace::change_at;
 use crate::space::Space;
 use rr_base::{Fault, LimitKind};
 use std::alloc::Global;
@@ -64,17 +66,10 @@ impl Space {
         ensures refused { IfErr result (λ _. self.new ≡ self.old) }
         ensures fault { IfErr result (λ e. e ≡ Fault.Memory) }
     {
-        if let Ref::Local(slot) = hash {
-            match self.take(slot) {
-                Held::Whole(frozen, node) => {
-                    let (changed, written) = node.with_pair(key, name, value);
-                    self.put(slot, Held::Whole(frozen, changed));
-                    return written;
-                }
-                other => self.put(slot, other),
-            }
+        match hash {
+            Ref::Local(slot) => write_pair_at(&mut self.slots, slot as usize, key, name, value),
+            _ => Ok(()),
         }
-        Ok(())
     }
 
     /// Puts a pair behind those of a hash, whose key is a new frozen text of these bytes. The hash has no such key, and
@@ -163,5 +158,39 @@ impl Space {
             }
         }
         None
+    }
+}
+
+/// Puts `value` under a key of the hash in a slot, which is changed where it lies.
+#[inline(always)]
+fn write_pair_at(
+    slots: &mut Vec<Held>,
+    slot: usize,
+    key: Key,
+    name: Ref,
+    value: Ref,
+) -> Result<(), Fault>
+    requires { slot < vec_len slots.old }
+    ensures written { IsSlotRewritten (λ a b. IsPairWritten a b (key_of key) name value result) slot slots.old.items slots.new.items }
+    ensures fault { IfErr result (λ e. e ≡ Fault.Memory) }
+{
+    change_at(
+        slots,
+        slot,
+        |held: &mut Held| held.write_pair(key, name, value),
+    )
+}
+
+impl Held {
+    /// Puts `value` under a key of a hash, if it is one.
+    #[inline(always)]
+    fn write_pair(&mut self, key: Key, name: Ref, value: Ref) -> Result<(), Fault>
+        ensures written { IsHeldRewritten (λ a b. IsPairWritten a b (key_of key) name value result) self.old self.new }
+        ensures fault { IfErr result (λ e. e ≡ Fault.Memory) }
+    {
+        match self {
+            Held::Whole(_, node) => node.write_pair(key, name, value),
+            _ => Ok(()),
+        }
     }
 }

@@ -5,6 +5,7 @@ ghost use Rattle.std.specs.Prelude.{◌≡◌, ◌+◌, ◌*◌, ◌<◌, ◌≤
 use crate::refer::Ref;
 use crate::replace::replace_at;
 use rr_base::Fault;
+use std::alloc::Global;
 use std::marker::Model;
 
 /// The elements of a vector behind those that were taken from its front.
@@ -75,15 +76,15 @@ impl Shifted {
     }
 
     /// Takes the first element away.
-    pub(crate) fn without_first(self) -> Shifted
-        requires { 1 ≤ length self }
-        ensures { result ≡ drop 1 self }
+    pub(crate) fn take_first(&mut self)
+        requires { 1 ≤ length self.old }
+        ensures { self.new ≡ drop 1 self.old }
     {
-        let Shifted { items, taken } = self;
-        Shifted {
-            items,
-            taken: taken + 1,
-        }
+        self.taken += 1;
+    }
+
+    pub(crate) fn allocator(&self) -> Global {
+        *self.items.allocator()
     }
 
     /// Whether most of the vector was taken.

@@ -1,13 +1,13 @@
-//! What changes one object: its flag, its bytes, and what stands under its labels.
+//! What changes one object: what stands in its slot, its flag, all its elements, and the parts of an exception.
 
-ghost use Rattle.std.specs.Prelude.{◌≡◌, ◌<◌, ℕ, true, [], ◌∷◌, ◌++◌, ◌↔◌, List, length, map, remove, Some, slice_get, slice_set, IsTrue, IsSome, IfOk, IfErr, IfSome, IfNone};
-ghost use Rattle.rr_space.specs.Graph.{Object, Place, Value};
+ghost use Rattle.std.specs.Prelude.{◌≡◌, ◌<◌, ℕ, true, [], List, length, map, Some, slice_get, slice_set, IsTrue};
+ghost use Rattle.rr_space.specs.Graph.{Object, Value};
 ghost use Rattle.rr_space.specs.Tables.{Here, Led, below_hold, IsRestKept};
 ghost use Rattle.rr_space.specs.Sound.{IsHold};
 ghost use Rattle.rr_space.specs.Parts.{value_of, places_from, below_parts, AllWithin};
-ghost use Rattle.rr_space.specs.Labels.{label_of, triples_at, is_raised_label, raised_place};
+ghost use Rattle.rr_space.specs.Labels.{label_of, is_raised_label, raised_place};
 ghost use Rattle.rr_space.specs.Views.{placed_from};
-ghost use Rattle.rr_space.specs.Views.{is_whole, is_frozen_here, IsKnownTo, can_freeze_at, can_write_at, with_held, StandsAt, IsWithin, IsHeldWithin, IsLedBy, IsLedAlso, emptied, node_object, below_node, node_keys, IsNodeWithin};
+ghost use Rattle.rr_space.specs.Views.{is_whole, is_frozen_here, can_freeze_at, can_write_at, with_held, StandsAt, IsWithin, IsHeldWithin, IsLedBy, IsLedAlso, emptied, node_object, below_node, node_keys, IsNodeWithin};
 ghost use Rattle.rr_space.specs.Kinds.{kind_at};
 
 use crate::items::Items;
@@ -17,7 +17,6 @@ use crate::node::{Held, Node};
 use crate::refer::{Cluster, Ref};
 use crate::replace::replace_at;
 use crate::space::Space;
-use rr_base::Fault;
 
 impl Space {
     /// What stands in the slot, with a shell in its place.
@@ -120,75 +119,6 @@ impl Space {
         }
     }
 
-    /// Gives a text other bytes. `can_write` tells whether `text` may be written.
-    pub fn write_text(&mut self, text: Ref, bytes: Vec<u8>)
-        requires can { IsTrue (can_write_at self.old text) }
-        requires kind { kind_at self.old text ≡ Kind.Text }
-        ensures slots { (n : ℕ) (o : Object) → text ≡ Ref.Local n → slice_get self.old.slots n ≡ Some (Here o)
-            → self.new.slots ≡ slice_set self.old.slots n (Here (record o { bytes = bytes.items })) }
-        ensures below { self.new.below ≡ self.old.below }
-        ensures keys { self.new.keys ≡ self.old.keys }
-        ensures rest { IsRestKept self.old self.new }
-    {
-        if let Ref::Local(slot) = text {
-            match self.take(slot) {
-                Held::Whole(frozen, _) => self.put(slot, Held::Whole(frozen, Node::Text(bytes))),
-                other => self.put(slot, other),
-            }
-        }
-    }
-
-    /// Puts bytes behind those of a text. `can_write` tells whether `text` may be written.
-    ///
-    /// Answers `Fault::Memory` where a growth was refused. The room grows by factors, so that bytes that come one by one are
-    /// copied a few times each.
-    pub fn append_text(&mut self, text: Ref, bytes: &[u8]) -> Result<(), Fault>
-        requires can { IsTrue (can_write_at self.old text) }
-        requires kind { kind_at self.old text ≡ Kind.Text }
-        ensures slots { (n : ℕ) (o : Object) → text ≡ Ref.Local n → slice_get self.old.slots n ≡ Some (Here o)
-            → IfOk result (λ _. self.new.slots ≡ slice_set self.old.slots n (Here (record o { bytes = o.bytes ++ bytes.now }))) }
-        ensures below { self.new.below ≡ self.old.below }
-        ensures keys { self.new.keys ≡ self.old.keys }
-        ensures rest { IsRestKept self.old self.new }
-        ensures refused { IfErr result (λ _. self.new ≡ self.old) }
-        ensures fault { IfErr result (λ e. e ≡ Fault.Memory) }
-    {
-        if let Ref::Local(slot) = text {
-            match self.take(slot) {
-                Held::Whole(frozen, node) => {
-                    let (changed, written) = node.with_bytes(bytes);
-                    self.put(slot, Held::Whole(frozen, changed));
-                    return written;
-                }
-                other => self.put(slot, other),
-            }
-        }
-        Ok(())
-    }
-
-    /// Puts `value` in the place of an element of an array. `can_write` tells whether `array` may be written.
-    pub fn write_element(&mut self, array: Ref, place: usize, value: Ref)
-        requires can { IsTrue (can_write_at self.old array) }
-        requires kind { kind_at self.old array ≡ Kind.Array }
-        requires place { place < length (triples_at self.old array) }
-        requires within { IsWithin (length self.old.slots) value }
-        ensures slots { (n : ℕ) (o : Object) → array ≡ Ref.Local n → slice_get self.old.slots n ≡ Some (Here o)
-            → self.new.slots ≡ slice_set self.old.slots n (Here (record o { triples = slice_set o.triples place (Place place, value_of value) })) }
-        ensures below { (n : ℕ) → array ≡ Ref.Local n → IsLedBy value n self.old.below self.new.below }
-        ensures keys { self.new.keys ≡ self.old.keys }
-        ensures rest { IsRestKept self.old self.new }
-    {
-        if let Ref::Local(slot) = array {
-            match self.take(slot) {
-                Held::Whole(frozen, node) => {
-                    let changed = node.with_element(place, value);
-                    self.put(slot, Held::Whole(frozen, changed))
-                }
-                other => self.put(slot, other),
-            }
-        }
-    }
-
     /// Gives an array other elements. `can_write` tells whether `array` may be written.
     pub fn write_elements(&mut self, array: Ref, items: Vec<Ref>)
         requires can { IsTrue (can_write_at self.old array) }
@@ -209,62 +139,5 @@ impl Space {
                 other => self.put(slot, other),
             }
         }
-    }
-
-    /// Puts `value` behind the elements of an array. `can_write` tells whether `array` may be written.
-    ///
-    /// Answers `Fault::Memory` where a growth was refused.
-    pub fn push_element(&mut self, array: Ref, value: Ref) -> Result<(), Fault>
-        requires can { IsTrue (can_write_at self.old array) }
-        requires kind { kind_at self.old array ≡ Kind.Array }
-        requires within { IsWithin (length self.old.slots) value }
-        ensures slots { (n : ℕ) (o : Object) → array ≡ Ref.Local n → slice_get self.old.slots n ≡ Some (Here o)
-            → IfOk result (λ _. self.new.slots ≡ slice_set self.old.slots n (Here (record o { triples = o.triples ++ (Place (length o.triples), value_of value) ∷ [] }))) }
-        ensures below { (n : ℕ) → array ≡ Ref.Local n → IfOk result (λ _. IsLedBy value n self.old.below self.new.below) }
-        ensures keys { self.new.keys ≡ self.old.keys }
-        ensures rest { IsRestKept self.old self.new }
-        ensures refused { IfErr result (λ _. self.new ≡ self.old) }
-        ensures fault { IfErr result (λ e. e ≡ Fault.Memory) }
-    {
-        if let Ref::Local(slot) = array {
-            match self.take(slot) {
-                Held::Whole(frozen, node) => {
-                    let (changed, pushed) = node.with_more(value);
-                    self.put(slot, Held::Whole(frozen, changed));
-                    return pushed;
-                }
-                other => self.put(slot, other),
-            }
-        }
-        Ok(())
-    }
-
-    /// Takes an element out of an array, and gives it; later ones close up. None where there is no such element.
-    /// `can_write` tells whether `array` may be written.
-    pub fn take_element(&mut self, array: Ref, place: usize) -> Option<Ref>
-        requires can { IsTrue (can_write_at self.old array) }
-        requires kind { kind_at self.old array ≡ Kind.Array }
-        ensures slots { (n : ℕ) (o : Object) → array ≡ Ref.Local n → slice_get self.old.slots n ≡ Some (Here o)
-            → IfSome result (λ r. (vs : List Value) × (o.triples ≡ placed_from 0 vs) × (slice_get vs place ≡ Some (value_of r))
-            × (self.new.slots ≡ slice_set self.old.slots n (Here (record o { triples = placed_from 0 (remove vs place) })))) }
-        ensures some { IsSome result ↔ (place < length (triples_at self.old array)) }
-        ensures below { (n : ℕ) → array ≡ Ref.Local n → IsLedAlso [] n self.old.below self.new.below }
-        ensures within { IfSome result (λ r. IsWithin (length self.old.slots) r) }
-        ensures known { IfSome result (λ r. IsKnownTo self.old r) }
-        ensures keys { self.new.keys ≡ self.old.keys }
-        ensures rest { IsRestKept self.old self.new }
-        ensures none { IfNone result (self.new ≡ self.old) }
-    {
-        if let Ref::Local(slot) = array {
-            match self.take(slot) {
-                Held::Whole(frozen, node) => {
-                    let (changed, taken) = node.without_element(place);
-                    self.put(slot, Held::Whole(frozen, changed));
-                    return taken;
-                }
-                other => self.put(slot, other),
-            }
-        }
-        None
     }
 }

@@ -20,9 +20,14 @@ returns-in-Object-clause-written c =
           (p.0, λ kind. rw c.in-Object.is p.1);
       absent = λ kind out. rw c.in-Object.is (object_absent old q.new.fields.items c.args.name c.args.value q.result s (rw c.in-Object.is at out));
       refused = on_err q.result _ _ (λ same. rw c.in-Object.is (ap (λ (fs : List (Sym × Ref)). map field_part fs) same)) s.refused;
-      head = rw c.in-Object.is (record { kind = refl; class = refl; bytes = refl; keys = refl });
-      within = λ m all v. written_within m _ _ t w (rw c.in-Object.is at all) v;
-      below = λ e has. rw c.in-Object.is (written_below _ _ t w e has);
+      one = record {
+        grown = record {
+          head = rw c.in-Object.is (record { kind = refl; class = refl; bytes = refl });
+          within = λ m all v. written_within m _ _ t w (rw c.in-Object.is at all) v;
+          below = λ e has. rw c.in-Object.is (written_below _ _ t w e has);
+        };
+        keys = rw c.in-Object.is refl;
+      };
     }
 
 pub returns-in-Exception-clause-written : goal.returns-in-Exception-clause-written
@@ -42,7 +47,12 @@ returns-in-Exception-clause-written c =
           (raised_absent e.fields.items q.new.fields.items c.args.name c.args.value e.message e.cause e.ractor q.result s (rw c.in-Exception.is at out));
       refused = on_err q.result _ _
           (λ same. rw (c.in-Exception.is, c.deref_mut.ensures.value) (ap (λ (fs : List (Sym × Ref)). (Message, e.message) ∷ (Cause, e.cause) ∷ (Ractor, e.ractor) ∷ map field_part fs) same)) s.refused;
-      head = rw c.in-Exception.is (record { kind = refl; class = refl; bytes = refl; keys = refl });
-      within = λ m all v. rw c.deref_mut.ensures.value (written_within m _ _ t w (rw c.in-Exception.is at all) v);
-      below = λ x has. rw c.in-Exception.is (written_below _ _ t w x (rw c.deref_mut.ensures.value at has));
+      one = record {
+        grown = record {
+          head = rw c.in-Exception.is (record { kind = refl; class = refl; bytes = refl });
+          within = λ m all v. rw c.deref_mut.ensures.value (written_within m _ _ t w (rw c.in-Exception.is at all) v);
+          below = λ x has. rw c.in-Exception.is (written_below _ _ t w x (rw c.deref_mut.ensures.value at has));
+        };
+        keys = rw c.in-Exception.is refl;
+      };
     }

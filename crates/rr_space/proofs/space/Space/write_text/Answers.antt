@@ -1,35 +1,23 @@
-use Rattle.std.proofs.Common.{refl}
-use Rattle.rr_space.specs.Views.{node_object}
-use Rattle.rr_space.specs.declared.node.Node.TheVariants.{Text}
-use Rattle.rr_space.specs.declared.node.Held.TheVariants.{Whole, Shell}
-use Rattle.rr_space.proofs.Placing.{put_after, changed_slots, below_back, keys_back}
-use Rattle.rr_space.proofs.Writing.{text_at_slot}
+use Rattle.rr_space.specs.Writes.{IsTextWritten}
+use Rattle.rr_space.proofs.Bytes.{text_within, text_slots, bytes_below, bytes_keys}
+use Rattle.rr_space.proofs.Rewriting.{rewrite, rewrite_well}
 use Rattle.rr_space.proofs.space.Space.write_text.Goals as goal
 
-pub returns-in-Whole-clause-slots : goal.returns-in-Whole-clause-slots
-returns-in-Whole-clause-slots c = λ m o is at.
-    let t = c.args.self.now in
-    let old = c.in-Whole.field-1 in
-    let f = c.in-Whole.frozen in
-    let new = Whole f (Text c.args.bytes) in
-    let w = text_at_slot t c.in-Local.slot c.args.text old f c.args.bytes c.in-Local.is c.in-Whole.ensures.stood c.requires.kind in
-    changed_slots (λ x. record x { bytes = c.args.bytes.items }) t c.put.new.self c.in-Local.slot m c.args.text (Whole f old) new o (node_object old f)
-    c.in-Local.is is c.in-Whole.ensures.stood refl w.0 (put_after t c.take.new.self c.put.new.self c.in-Local.slot Shell new c.in-Whole.ensures.rest c.put.ensures) at
+pub invariant_of-self : goal.invariant_of-self
+invariant_of-self c =
+    rewrite_well (λ a b. IsTextWritten a b c.args.bytes.items) _ _ _ _ _ c.in-Local.is c.self.view_is c.requires.can c.write_text_at.ensures
+    (λ a b w all. text_within _ w.rest all) c.self.invariant
 
-pub returns-in-Whole-clause-below : goal.returns-in-Whole-clause-below
-returns-in-Whole-clause-below c =
-    let t = c.args.self.now in
-    let old = c.in-Whole.field-1 in
-    let f = c.in-Whole.frozen in
-    let w = text_at_slot t c.in-Local.slot c.args.text old f c.args.bytes c.in-Local.is c.in-Whole.ensures.stood c.requires.kind in
-    below_back t c.put.new.self c.in-Local.slot (Whole f old) (Whole f (Text c.args.bytes)) c.in-Whole.ensures.stood
-    (put_after t c.take.new.self c.put.new.self c.in-Local.slot Shell (Whole f (Text c.args.bytes)) c.in-Whole.ensures.rest c.put.ensures) w.1
+pub returns-in-Local-clause-slots : goal.returns-in-Local-clause-slots
+returns-in-Local-clause-slots c =
+    text_slots c.args.text c.in-Local.is (rewrite (λ a b. IsTextWritten a b c.args.bytes.items) _ _ _ _ _ c.in-Local.is c.self.view_is c.requires.can c.write_text_at.ensures) c.requires.kind
 
-pub returns-in-Whole-clause-keys : goal.returns-in-Whole-clause-keys
-returns-in-Whole-clause-keys c =
-    let t = c.args.self.now in
-    let old = c.in-Whole.field-1 in
-    let f = c.in-Whole.frozen in
-    let w = text_at_slot t c.in-Local.slot c.args.text old f c.args.bytes c.in-Local.is c.in-Whole.ensures.stood c.requires.kind in
-    keys_back t c.put.new.self c.in-Local.slot (Whole f old) (Whole f (Text c.args.bytes)) c.in-Whole.ensures.stood
-    (put_after t c.take.new.self c.put.new.self c.in-Local.slot Shell (Whole f (Text c.args.bytes)) c.in-Whole.ensures.rest c.put.ensures) w.2
+pub returns-in-Local-clause-below : goal.returns-in-Local-clause-below
+returns-in-Local-clause-below c =
+    let w = rewrite (λ a b. IsTextWritten a b c.args.bytes.items) _ _ _ _ _ c.in-Local.is c.self.view_is c.requires.can c.write_text_at.ensures in
+    bytes_below c.args.text c.in-Local.is w w.how.rest
+
+pub returns-in-Local-clause-keys : goal.returns-in-Local-clause-keys
+returns-in-Local-clause-keys c =
+    let w = rewrite (λ a b. IsTextWritten a b c.args.bytes.items) _ _ _ _ _ c.in-Local.is c.self.view_is c.requires.can c.write_text_at.ensures in
+    bytes_keys c.args.text c.in-Local.is w w.how.rest
