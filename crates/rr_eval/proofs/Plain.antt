@@ -1,5 +1,5 @@
 -- The methods that plain objects find, one after the other.
-use Rattle.std.proofs.Common.{◌≡◌, ℕ, ◌+◌, ◌∙◌, Bool, true, false, ◌||◌, refl, List, [], ◌∷◌, ◌++◌, length, Option, Some, slice_get, sym, ap, subst, inl, inr, arith}
+use Rattle.std.proofs.Common.{◌≡◌, ℕ, ◌∙◌, Bool, true, false, ◌||◌, refl, List, [], ◌∷◌, ◌++◌, length, Option, Some, slice_get, sym, ap, subst, inl, inr, arith}
 use Rattle.std.specs.Option.{option_map}
 use Rattle.std.proofs.lemmas.Option.{slice_get_within}
 use Rattle.rr_eval.specs.declared.prepared.Definition.{Definition}

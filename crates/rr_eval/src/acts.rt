@@ -56,7 +56,7 @@ impl Engine {
                 if self.resume(&prepared.program, frame, value, stop) {
                     return Ok(None);
                 }
-                match self.resume_rare(prepared, space, frame, value)? {
+                match self.resume_any(prepared, space, frame, value)? {
                     Some(request) => Ok(Some(Turn::Ask(request))),
                     None => Ok(None),
                 }

@@ -96,4 +96,34 @@ impl Engine {
             _ => self.resume_other(prepared, space, frame, value),
         }
     }
+
+    /// The same, where an assignment to an instance variable, which is what needs them most often, asks at once.
+    #[tactic(auto, unfolding(crate::specs::Within::AreReached))]
+    #[inline(always)]
+    pub fn resume_any(
+        &mut self,
+        prepared: &Prepared,
+        space: &Space,
+        frame: Frame,
+        value: Ref,
+    ) -> Result<Option<Request>, Fault>
+        requires control { self.old.control ≡ Control.Give (Answer.Gave value) }
+        requires room { length self.old.frames.items < vec_capacity self.old.frames }
+        requires base { base_of frame ≤ length self.old.held.items }
+        requires nested { Nested (reverse self.old.frames.items) (below_of frame self.old.held.items) }
+        requires rare { IsRareFrame frame }
+        ensures goes { IfOk result (λ q. (h : Course) → after_answer prepared.now.program (view_of self.old) space.now frame (Answer.Gave value) h self.old.left ≡ continuing prepared.now.program (view_of self.new) space.now q h self.new.left) }
+        ensures nested { IsNested (view_of self.new) }
+        ensures within { (clusters : Option Below) → AreReached (reach (length space.now.slots) clusters) (view_of self.old) → IsFrameReached (reach (length space.now.slots) clusters) frame → IsReached (reach (length space.now.slots) clusters) value → AreReached (reach (length space.now.slots) clusters) (view_of self.new) }
+        ensures asks { (clusters : Option Below) → AreReached (reach (length space.now.slots) clusters) (view_of self.old) → IsFrameReached (reach (length space.now.slots) clusters) frame → IsReached (reach (length space.now.slots) clusters) value → IfOk result (IsAskedReached (reach (length space.now.slots) clusters)) }
+        ensures left { self.new.left ≡ self.old.left }
+        ensures size { IfOk result (λ q. sized q (view_of self.new) ≤ 3 * length self.old.frames.items + 4) }
+        ensures fault { IfErr result (λ f. f ≡ Fault.Memory) }
+        ensures back { IfErr result (λ _. (h : Course) → after_answer prepared.now.program (view_of self.old) space.now frame (Answer.Gave value) h self.old.left ≡ remaining prepared.now.program (view_of self.new) space.now h) }
+    {
+        match frame {
+            Frame::SetField(name) => Ok(Some(self.ask_field(name, value))),
+            _ => self.resume_rare(prepared, space, frame, value),
+        }
+    }
 }

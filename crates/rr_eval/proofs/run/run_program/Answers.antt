@@ -1,23 +1,18 @@
 -- A program has two objects first, and all is still to be done.
-use Rattle.std.proofs.Common.{◌≡◌, inl, refl, sym, subst, ◌∙◌, arith, ap, List, [], ◌∷◌, length, length-append, ◌<◌, ◌≤◌, Option, Some, None}
+use Rattle.std.proofs.Common.{◌≡◌, inl, sym, subst, ◌∙◌, arith, ap, List, [], ◌∷◌, length, length-append, ◌<◌, Option, Some, None}
 use Rattle.rr_base.specs.declared.name.TheConstants.ClassId.{OBJECT}
 use Rattle.rr_space.specs.Tables.{Table, Slot, Here, Below}
 use Rattle.rr_space.specs.declared.refer.Ref.TheVariants.{Local}
 use Rattle.rr_builtin.specs.Acts.{with_object}
 use Rattle.rr_builtin.specs.News.{new_plain}
 use Rattle.rr_tree.specs.Tree.{tree_at}
-use Rattle.rr_eval.specs.Acts.{Passes}
-use Rattle.rr_eval.specs.Script.{objects_of}
-use Rattle.rr_eval.specs.Turns.{context_of, code_of, remaining}
+use Rattle.rr_eval.specs.Turns.{context_of, code_of}
 use Rattle.rr_eval.specs.Rules.{begun, first_memory, start_state}
 use Rattle.rr_eval.specs.Runs.{alone, first_objects, program_meaning}
-use Rattle.rr_eval.specs.Requests.{asked_of}
 use Rattle.rr_eval.specs.Within.{reach, IsReached}
-use Rattle.rr_eval.specs.Written.{written_to, WritesAll, FallsShort}
 use Rattle.rr_eval.proofs.Calling.{alone_adds, none_read}
-use Rattle.rr_eval.proofs.Holding.{within_more, reached_more, response_within}
-use Rattle.rr_eval.proofs.Objects.{asking_keeps, begun_keeps}
-use Rattle.rr_eval.proofs.Running.{in_world, nothing_written, first_table, first_state, running_first, running_on, running_more, running_failed, running_raised, running_stopped, running_done, running_spent, running_fits}
+use Rattle.rr_eval.proofs.Objects.{begun_keeps}
+use Rattle.rr_eval.proofs.Running.{in_world, nothing_written, first_table, first_state}
 use Rattle.rr_eval.proofs.run.run_program.Goals as goal
 
 pub run_machine-requires-clause-within : goal.run_machine-requires-clause-within
