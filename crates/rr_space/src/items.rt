@@ -124,9 +124,23 @@ impl Items {
         ensures refused { IfErr result.1 (λ _. result.0 ≡ self) }
         ensures fault { IfErr result.1 (λ e. e ≡ Fault.Memory) }
     {
-        let mut items = self;
-        let pushed = items.push(item);
-        (items, pushed)
+        let Items { kept } = self;
+        match kept {
+            Kept::Empty(alloc) => (Items::one(alloc, item), Ok(())),
+            Kept::One(alloc, first) => (Items::two(alloc, first, item), Ok(())),
+            Kept::Two(alloc, first, second) => match three(alloc, first, second, item) {
+                Ok(items) => (Items::from_vec(items), Ok(())),
+                Err(fault) => (Items::two(alloc, first, second), Err(fault)),
+            },
+            Kept::Many(mut items) => match items.push(item) {
+                Ok(()) => (Items::from_vec(items), Ok(())),
+                Err(_) => (Items::from_vec(items), Err(Fault::Memory)),
+            },
+            Kept::Late(mut items) => match items.push(item) {
+                Ok(()) => (Items::late(items), Ok(())),
+                Err(fault) => (Items::late(items), Err(fault)),
+            },
+        }
     }
 
     /// Puts `item` behind the others.
@@ -142,24 +156,20 @@ impl Items {
                 Err(_) => Err(Fault::Memory),
             },
             Kept::Late(items) => items.push(item),
-            _ => self.push_in_place(item),
+            _ => self.remake_with(item),
         }
     }
 
-    /// The same for elements that lie in place. Those that have memory of their own do not come here, and would be refused.
-    fn push_in_place(&mut self, item: Ref) -> Result<(), Fault>
+    /// The same where what is there is kept in another way then. All of it is moved out and in again.
+    fn remake_with(&mut self, item: Ref) -> Result<(), Fault>
         ensures pushed { IfOk result (λ _. self.new ≡ self.old ++ item ∷ []) }
         ensures refused { IfErr result (λ _. self.new ≡ self.old) }
         ensures fault { IfErr result (λ e. e ≡ Fault.Memory) }
     {
-        let kept = match &self.kept {
-            Kept::Empty(alloc) => Kept::One(*alloc, item),
-            Kept::One(alloc, first) => Kept::Two(*alloc, *first, item),
-            Kept::Two(alloc, first, second) => Kept::Many(three(*alloc, *first, *second, item)?),
-            Kept::Many(_) | Kept::Late(_) => return Err(Fault::Memory),
-        };
-        self.kept = kept;
-        Ok(())
+        let none = Items::new(self.allocator());
+        let (items, pushed) = mem::replace(self, none).with(item);
+        *self = items;
+        pushed
     }
 
     /// Puts `item` in the place of the `k`-th element.
