@@ -142,6 +142,13 @@ impl StoreState {
         }
     }
 
+    /// The number of clusters, which the next one has.
+    pub fn count(&self) -> usize
+        ensures { result ≡ length self.now.clusters }
+    {
+        self.clusters.len()
+    }
+
     /// What happened so far.
     pub fn history(&self) -> &[StoreEvent<Sym>]
         ensures events { result.now ≡ self.now.history }
