@@ -1,117 +1,45 @@
--- What a call leaves where nothing is published.
-use Rattle.std.proofs.Common.{◌≡◌, ◌∙◌, ◌≤◌, ℕ, ap, map, sym, refl, subst, arith, replicate, List, [], ◌∷◌, length, length-append, length-set, Contains, Option, Some, None, slice_get, slice_set, Result, true, false, Bool, if◌then◌else◌}
+-- What a call leaves.
+use Rattle.std.proofs.Common.{◌≡◌, ◌∙◌, ◌≤◌, ◌<◌, ℕ, zero, ap, map, sym, refl, subst, inl, inr, arith, List, [], ◌∷◌, length, length-append, length-set, Contains, Option, Some, None, Result, Ok, Err, true, false, Bool, if◌then◌else◌, slice_get, slice_set}
+use Rattle.std.proofs.Math.Logic.{⊎_elim}
+use Rattle.std.specs.List.{All}
 use Rattle.rr_base.specs.declared.fault.Fault.{Fault}
 use Rattle.rr_space.specs.Graph.{Object, Value, At, Own}
 use Rattle.rr_space.specs.Lookups.{text_object, frozen_text}
 use Rattle.rr_space.specs.Parts.{value_of}
-use Rattle.rr_space.specs.Sound.{IsWell}
-use Rattle.rr_space.specs.Tables.{Table, Slot, Here, Led, Below, HashKey, TextKey, IsRestKept, joined}
+use Rattle.rr_space.specs.Kinds.{kind_at, class_at}
+use Rattle.rr_space.specs.Tables.{Table, Slot, Here, Led, Below, HashKey, TextKey, joined}
 use Rattle.rr_space.specs.Views.{is_shell}
 use Rattle.rr_space.specs.declared.refer.Ref.{Ref}
 use Rattle.rr_space.specs.declared.refer.Ref.TheVariants as refs
-use Rattle.std.specs.List.{All}
-use Rattle.std.proofs.lemmas.List.Elements.{All-weaker}
 use Rattle.rr_text.specs.Reads.{IsReadWith, IsAmong}
 use Rattle.rr_builtin.proofs.Among.{among_of, none_in}
-use Rattle.rr_eval.specs.declared.call.Call.{Call}
-use Rattle.rr_eval.specs.declared.call.Callee.{Callee}
-use Rattle.rr_eval.specs.declared.call.Callee.TheVariants.{SetIndex}
-use Rattle.rr_builtin.specs.Acts.{Act, Answers, Makes, Freezes, Appends, Pushes, Takes, MakesArray, Puts, SetsValue, AddsPair, AddsText, TakesPair, MakesObject, Outcome, Gives, Raises, outcome_of, performed, changed, changed_slot, froze, froze_slot, added, with_key, array_object, with_pair, without_pair, without_key, key_count, IsRefAmong, IsBuiltWithin, IsBuiltAmong, IsDone, Acts}
-use Rattle.rr_base.specs.declared.name.Sym.{Sym}
-use Rattle.rr_space.specs.Kinds.{kind_at, class_at}
+use Rattle.rr_builtin.specs.Acts.{Act, Answers, Makes, Freezes, Appends, Pushes, Takes, MakesArray, Puts, SetsValue, AddsPair, AddsText, TakesPair, MakesObject, Outcome, Gives, Raises, outcome_of, performed, changed, changed_slot, froze, froze_slot, added, with_key, array_object, with_pair, without_pair, without_key, key_count, IsRefAmong, IsBuiltWithin, IsBuiltAmong, IsDone, Acts, IsRefusal as ActRefusal}
 use Rattle.rr_builtin.specs.Calls.{call_act}
 use Rattle.rr_builtin.specs.Causes.{with_cause, takes_cause, caused}
 use Rattle.rr_builtin.specs.Fields.{can_set, set_field, with_field}
 use Rattle.rr_builtin.specs.Kinds.{is_shell_kind}
 use Rattle.rr_builtin.specs.Messages.{is_open_exception, with_message, write_message}
-use Rattle.rr_builtin.specs.declared.problem.Problem.TheVariants.{Frozen, Moved}
 use Rattle.rr_builtin.specs.News.{empty_hash}
-use Rattle.rr_builtin.specs.declared.method.BuiltInMethod.{BuiltInMethod}
 use Rattle.rr_builtin.specs.declared.built.Built.{Built}
 use Rattle.rr_builtin.specs.declared.built.Built.TheVariants as built
+use Rattle.rr_builtin.specs.declared.method.BuiltInMethod.{BuiltInMethod}
+use Rattle.rr_builtin.specs.declared.problem.Problem.TheVariants.{Frozen, Moved}
+use Rattle.rr_eval.specs.declared.call.Call.{Call}
 use Rattle.rr_eval.specs.declared.problem.Problem.{Problem}
+use Rattle.rr_eval.specs.declared.problem.Problem.TheVariants.{MissingMethod}
 use Rattle.rr_eval.specs.declared.problem.Response.{Response}
 use Rattle.rr_eval.specs.declared.problem.Response.TheVariants as response
-use Rattle.rr_eval.specs.declared.ractor_method.RactorMethod.{RactorMethod}
-use Rattle.rr_eval.specs.Context.{Context}
-use Rattle.rr_eval.specs.Globals.{globals}
 use Rattle.rr_eval.specs.Callees.{method_of}
-use Rattle.rr_eval.specs.Calls.{sent, unpublished, reply_with, call_reply}
-use Rattle.rr_eval.specs.Tasks.{task_reply, array_reply, field_reply, message_reply, cause_reply, global_reply, text_reply, joined_texts, inspected_reply, given_by, unless_lacking, lack_of, texts_of, given_or_ended, on_given, empty_reply, filled, hash_reply, values_shown}
-use Rattle.rr_eval.specs.Responses.{ref_of, response_from, response_of}
-use Rattle.rr_eval.specs.Requests.{Adds, arguments_of}
-use Rattle.rr_eval.specs.Runs.{alone}
-use Rattle.rr_eval.specs.Sharing.{called_reply, ractor_method}
-use Rattle.rr_eval.specs.Script.{Does, Calls, Reply}
-use Rattle.rr_eval.specs.declared.call.Task.{Task}
-use Rattle.rr_eval.specs.declared.call.Task.TheVariants.{Puts as PutsTask, Inspect, Print, MakeArray, MakeText, MakeHash, SetField, SetMessage, SetCause, SetGlobal, Show, Lines}
-use Rattle.rr_builtin.specs.declared.problem.Problem.{Problem as BuiltInProblem}
-use Rattle.rr_text.specs.Names.{names_of}
+use Rattle.rr_eval.specs.Calls.{sent, reply_with, call_reply}
+use Rattle.rr_eval.specs.Context.{Context}
+use Rattle.rr_eval.specs.Effects.{Effect, said, said_of, led}
+use Rattle.rr_eval.specs.Requests.{arguments_of}
+use Rattle.rr_eval.specs.Responses.{receiver_of, response_from}
+use Rattle.rr_eval.specs.Serves.{IsLeft, IsReplied, IsRefusedBy, IsRefused}
+use Rattle.rr_eval.specs.Tasks.{array_reply, empty_reply}
 use Rattle.rr_eval.specs.Within.{reach, IsReached, IsCallReached, IsResponseReached}
-use Rattle.rr_eval.proofs.Holding.{ref_reached, ref_among}
-use Rattle.rr_eval.proofs.Shares.{ractor_adds}
-
--- no slot leads to a cluster
-no_cluster : (bs : List Below) → ((e : ℕ × List Object) → Contains (joined bs) e → Contains [] e) → bs ≡ replicate (length bs) []
-no_cluster [] h = refl
-no_cluster ([] ∷ bs) h = ap (λ l. [] ∷ l) (no_cluster bs h)
-no_cluster ((e ∷ b) ∷ bs) h =
-    let there = (h e (0, omega arith, refl)).1 in
-    absurd (omega arith)
-
--- the table that is left is the only one with these slots and keys
-pub one_table : (t u w : Table) → u.slots ≡ w.slots → u.keys ≡ w.keys → IsRestKept t u → IsReadWith u [] → IsWell u → unpublished t w ≡ u
-one_table t u w slots keys rest read well =
-    let below : u.below ≡ replicate (length w.slots) [] = no_cluster u.below read.all ∙ ap (λ n. replicate n []) (well.sound.count ∙ ap length slots) in
-    ap (λ x. record { slots = x; below = replicate (length w.slots) []; keys = w.keys; limit = t.limit; owner = t.owner; next_message = t.next_message }) (sym slots)
-    ∙ ap (λ x. record { slots = u.slots; below = x; keys = w.keys; limit = t.limit; owner = t.owner; next_message = t.next_message }) (sym below)
-    ∙ ap (λ x. record { slots = u.slots; below = u.below; keys = x; limit = t.limit; owner = t.owner; next_message = t.next_message }) (sym keys)
-    ∙ ap (λ x. record { slots = u.slots; below = u.below; keys = u.keys; limit = x; owner = t.owner; next_message = t.next_message }) (sym rest.limit)
-    ∙ ap (λ x. record { slots = u.slots; below = u.below; keys = u.keys; limit = u.limit; owner = x; next_message = t.next_message }) (sym rest.owner)
-    ∙ ap (λ x. record { slots = u.slots; below = u.below; keys = u.keys; limit = u.limit; owner = u.owner; next_message = x }) (sym rest.next_message)
-
--- a value that is not published has one reference
-one_ref : (r : Ref) → IsRefAmong [] r → ref_of (value_of r) ≡ r
-one_ref refs.Nil among = refl
-one_ref (refs.Truth b) among = refl
-one_ref (refs.Int z) among = refl
-one_ref (refs.Symbol s) among = refl
-one_ref (refs.Class c) among = refl
-one_ref (refs.Ractor r) among = refl
-one_ref (refs.Local n) among = refl
-one_ref (refs.Shared p c) among =
-    let there = (among _ (0, omega arith, refl)).1 in
-    absurd (omega arith)
-
-one_response : (missing : Problem) (b : Built) → IsBuiltAmong [] b → response_of missing (outcome_of b) ≡ response_from missing b
-one_response missing (built.Value r) among = ap response.Gives (one_ref r among)
-one_response missing (built.Raised p) among = refl
-one_response missing built.Missing among = refl
-
-pub response_reached : (k : ℕ) (missing : Problem) (b : Built) → IsBuiltWithin k b → IsBuiltAmong [] b → IsResponseReached (reach k (Some [])) (response_from missing b)
-response_reached k missing (built.Value r) within among = ref_reached k [] r within among
-response_reached k missing (built.Raised p) within among = tt
-response_reached k missing built.Missing within among = tt
-
--- the reply is the only one
-pub one_reply : (missing : Problem) (t u : Table) (done : Outcome × Table) (b : Built) → IsDone [] done t u b → IsWell u
-    → reply_with missing t done ≡ record { response = response_from missing b; table = u }
-one_reply missing t u done b is well =
-    let first : response_of missing done.0 ≡ response_from missing b = ap (response_of missing) (sym is.outcome) ∙ one_response missing b is.among in
-    ap (λ (r : Response). record { response = r; table = unpublished t done.1 }) first
-    ∙ ap (λ (x : Table). record { response = response_from missing b; table = x }) (one_table t u done.1 is.slots is.keys is.rest is.read well)
-
--- where nothing is published, the clusters are none
-pub call_acts : (p : Context) (call : Call) (t u : Table) (m : Option BuiltInMethod) (r : Result Built Fault)
-    → ((below : Below) → IsReadWith t below → IsAmong below call.receiver → All (IsRefAmong below) (arguments_of call.arguments) → Acts below (sent p below call.receiver m (arguments_of call.arguments)) t u r)
-    → IsReadWith t [] → IsCallReached (reach (length t.slots) (Some [])) call → m ≡ method_of p call.callee
-    → Acts [] (sent p [] call.receiver (method_of p call.callee) (arguments_of call.arguments)) t u r
-call_acts p call t u m r acts read reached is =
-    let k = length t.slots in
-    let args = arguments_of call.arguments in
-    let receiver = among_of [] call.receiver (ref_among k [] call.receiver reached.receiver) in
-    let arguments = All-weaker (IsReached (reach k (Some []))) (IsRefAmong []) (ref_among k []) args reached.arguments in
-    subst (λ (x : Option BuiltInMethod). Acts [] (sent p [] call.receiver x args) t u r) is (acts [] read receiver arguments)
+use Rattle.rr_eval.proofs.Holding.{all_cons, all_rest, ref_among, ref_reached}
+use Rattle.rr_eval.proofs.Led.{led_has, led_read, reached_among, reached_refs}
 
 -- a call takes no object away
 abbrev count : Table → ℕ
@@ -180,48 +108,78 @@ pub sent_adds : (c : Context) (below : Below) (v : Ref) (m : Option BuiltInMetho
 sent_adds c below v None args t = omega arith
 sent_adds c below v (Some m) args t = act_adds (call_act c.program below v m args t) v t
 
+-- the reference of what was built says it
+said_is : (missing : Problem) (b : Built) → said (response_from missing b) ≡ said_of missing (outcome_of b)
+said_is missing (built.Value r) = refl
+said_is missing (built.Raised p) = refl
+said_is missing built.Missing = refl
+
+response_reached : (k : ℕ) (below : Below) (missing : Problem) (b : Built) → IsBuiltWithin k b → IsBuiltAmong below b → IsResponseReached (reach k (Some below)) (response_from missing b)
+response_reached k below missing (built.Value r) within among = ref_reached k below r within among
+response_reached k below missing (built.Raised p) within among = tt
+response_reached k below missing built.Missing within among = tt
+
+-- What is done is the reply. It may be told with other clusters than those that all lead to.
+pub done_replied : (missing : Problem) (below led : Below) (t u : Table) (done other : Outcome × Table) (b : Built) → IsDone led done t u b → IsDone below other t u b → length t.slots ≤ length done.1.slots
+    → IsReplied below (reply_with missing done) t (response_from missing b) u
+done_replied missing below led t u done other b told is adds = record {
+  said = said_is missing b ∙ ap (said_of missing) told.outcome;
+  slots = told.slots;
+  keys = told.keys;
+  left = record {
+    read = is.read;
+    reached = response_reached (length u.slots) below missing b is.within is.among;
+    grows = omega (arith, ap (λ l. length l) told.slots, adds);
+    rest = is.rest;
+  };
+}
+
+-- a refused act did nothing
+pub act_refused : (limit objects : ℕ) (f : Fault) → ActRefusal f limit objects → IsRefusedBy (limit < objects) f
+act_refused limit objects f is = record {
+  refused = ⊎_elim (λ m. inl m) (λ s. inr s.0) is;
+  full = λ e. ⊎_elim (λ m. absurd (cc (sym m ∙ e))) (λ s. s.1) is;
+}
+
+-- a call, where the receiver and the arguments are reached
+abbrev pub CallActs : Context → Call → Option BuiltInMethod → Table → Table → Result Built Fault → Type 0
+CallActs p call m t u r = (below : Below) → IsReadWith t below → IsAmong below call.receiver → All (IsRefAmong below) (arguments_of call.arguments) → Acts below (sent p below call.receiver m (arguments_of call.arguments)) t u r
+
+module _ (p : Context) (call : Call) (t u : Table) (m : Option BuiltInMethod) (below : Below) (read : IsReadWith t below) (reached : IsCallReached (reach (length t.slots) (Some below)) call) (is : m ≡ method_of p call.callee) where
+  abbrev args : List Ref
+  args = arguments_of call.arguments
+
+  abbrev all : All (IsReached (reach (length t.slots) (Some below))) (call.receiver ∷ args)
+  all = all_cons (IsReached (reach (length t.slots) (Some below))) call.receiver args reached.receiver reached.arguments
+
+  abbrev lead : Below
+  lead = led t (call.receiver ∷ args)
+
+  told : (r : Result Built Fault) → CallActs p call m t u r → Acts lead (sent p lead call.receiver (method_of p call.callee) args) t u r
+  told r acts =
+      let has = led_has t (call.receiver ∷ args) in
+      let first = among_of lead call.receiver (has zero call.receiver (omega arith)) in
+      let others = all_rest (IsRefAmong lead) call.receiver args has in
+      subst (λ (x : Option BuiltInMethod). Acts lead (sent p lead call.receiver x args) t u r) is
+      (acts lead (led_read t (call.receiver ∷ args) below read (reached_among (length t.slots) below (call.receiver ∷ args) all)) first others)
+
+  done : (r : Result Built Fault) → CallActs p call m t u r → Acts below (sent p below call.receiver m args) t u r
+  done r acts = acts below read (among_of below call.receiver (ref_among (length t.slots) below call.receiver reached.receiver)) (reached_refs (length t.slots) below args reached.arguments)
+
+  pub call_replied : (missing : Problem) (b : Built) → CallActs p call m t u (Ok b) → missing ≡ MissingMethod call.callee (receiver_of t call.receiver) → IsReplied below (call_reply p call.receiver call.callee args t) t (response_from missing b) u
+  call_replied missing b acts e =
+      let d = sent p lead call.receiver (method_of p call.callee) args t in
+      subst (λ x. IsReplied below (reply_with x d) t (response_from missing b) u) e
+      (done_replied missing below lead t u d (sent p below call.receiver m args t) b (told (Ok b) acts) (done (Ok b) acts) (sent_adds p lead call.receiver (method_of p call.callee) args t))
+
+  pub call_refused : (f : Fault) → CallActs p call m t u (Err f) → IsRefused (call_reply p call.receiver call.callee args t) t f
+  call_refused f acts = act_refused t.limit _ f (told (Err f) acts).1
+
 pub array_adds : (vs : List Ref) (t : Table) → count t ≤ count (array_reply vs t).table
 array_adds vs t = act_adds (MakesArray (map value_of vs)) refs.Nil t
 
-inspected_adds : (vs : List Ref) (t : Table) → count t ≤ count (inspected_reply vs t).table
-inspected_adds [] t = omega arith
-inspected_adds (v ∷ []) t = omega arith
-inspected_adds (v ∷ w ∷ vs) t = array_adds (v ∷ w ∷ vs) t
-
-text_adds : (bytes : List ℕ) (t : Table) → count t ≤ count (text_reply bytes t).table
-text_adds bytes t = omega (arith, length-append t.slots (Here (text_object bytes) ∷ []))
-
--- what is done next takes no object away
-abbrev pub AddsNext : (Ref → Table → Reply) → Type 0
-AddsNext next = (v : Ref) (u : Table) → count u ≤ count (next v u).table
-
-ended_adds : (r : Response) (t : Table) (next : Ref → Table → Reply) → AddsNext next → count t ≤ count (given_or_ended r t next).table
-ended_adds (response.Gives v) t next h = h v t
-ended_adds (response.Throws e) t next h = omega arith
-ended_adds (response.Fails e) t next h = omega arith
-
-pub on_given_adds : (reply : Reply) (next : Ref → Table → Reply) → AddsNext next → count reply.table ≤ count (on_given reply next).table
-on_given_adds reply next h = ended_adds reply.response reply.table next h
-
-call_adds : (c : Context) (v : Ref) (callee : Callee) (args : List Ref) (t : Table) → count t ≤ count (call_reply c v callee args t).table
-call_adds c v callee args t = sent_adds c [] v (method_of c callee) args t
-
-pub filled_adds : (c : Context) (h : Ref) (vs : List Ref) (t : Table) → count t ≤ count (filled c h vs t).table
-filled_adds c h [] t = omega arith
-filled_adds c h (k ∷ []) t = omega arith
-filled_adds c h (k ∷ v ∷ vs) t =
-    let first = call_adds c h SetIndex (k ∷ v ∷ []) t in
-    let more = on_given_adds (call_reply c h SetIndex (k ∷ v ∷ []) t) (λ put u. filled c h vs u) (λ put u. filled_adds c h vs u) in
-    omega arith
-
 pub empty_adds : (t : Table) → count t ≤ count (empty_reply t).table
 empty_adds t = act_adds (MakesObject empty_hash []) refs.Nil t
-
-hash_adds : (c : Context) (vs : List Ref) (t : Table) → count t ≤ count (hash_reply c vs t).table
-hash_adds c vs t =
-    let first = empty_adds t in
-    let more = on_given_adds (empty_reply t) (λ h u. filled c h vs u) (λ h u. filled_adds c h vs u) in
-    omega arith
 
 -- one of two
 pick_adds : (t : Table) (b : Bool) (d e : Outcome × Table) → count t ≤ count d.1 → count t ≤ count e.1 → count t ≤ count (if b then d else e).1
@@ -238,16 +196,6 @@ write_message_adds x v t =
     pick_adds t (is_shell_kind (kind_at t v)) (Raises Moved, t) _ (omega arith)
     (pick_adds t (is_open_exception t v) (Gives (value_of v), changed (with_message x) v t) (Raises (Frozen (class_at t v)), t) (changed_adds (with_message x) v t) (omega arith))
 
-field_adds : (x : Sym) (vs : List Ref) (t : Table) → count t ≤ count (field_reply x vs t).table
-field_adds x [] t = omega arith
-field_adds x (object ∷ []) t = omega arith
-field_adds x (object ∷ v ∷ vs) t = set_field_adds x.0 (value_of v) object t
-
-message_adds : (vs : List Ref) (t : Table) → count t ≤ count (message_reply vs t).table
-message_adds [] t = omega arith
-message_adds (exception ∷ []) t = omega arith
-message_adds (exception ∷ v ∷ vs) t = write_message_adds (value_of v) exception t
-
 either_adds : (t : Table) (b : Bool) (u w : Table) → count t ≤ count u → count t ≤ count w → count t ≤ count (if b then u else w)
 either_adds t true u w first second = first
 either_adds t false u w first second = second
@@ -255,50 +203,10 @@ either_adds t false u w first second = second
 pub caused_adds : (x : Value) (v : Ref) (t : Table) → count t ≤ count (caused x v t)
 caused_adds x v t = either_adds t (takes_cause t x v) (changed (with_cause x) v t) t (changed_adds (with_cause x) v t) (omega arith)
 
-cause_adds : (vs : List Ref) (t : Table) → count t ≤ count (cause_reply vs t).table
-cause_adds [] t = omega arith
-cause_adds (exception ∷ []) t = omega arith
-cause_adds (exception ∷ cause ∷ vs) t = caused_adds (value_of cause) exception t
-
-global_adds : (x : Sym) (vs : List Ref) (t : Table) → count t ≤ count (global_reply x vs t).table
-global_adds x [] t = omega arith
-global_adds x (v ∷ vs) t = set_field_adds x.0 (value_of v) globals t
-
-given_adds : (task : Task) (c : Context) (s : List ℕ) (vs : List Ref) (t : Table) → count t ≤ count (given_by task c s vs t).table
-given_adds MakeText c s vs t = text_adds s t
-given_adds MakeArray c s vs t = array_adds vs t
-given_adds MakeHash c s vs t = hash_adds c vs t
-given_adds Inspect c s vs t = inspected_adds vs t
-given_adds Show c s vs t = inspected_adds (values_shown vs) t
-given_adds (SetField x) c s vs t = field_adds x vs t
-given_adds SetMessage c s vs t = message_adds vs t
-given_adds SetCause c s vs t = cause_adds vs t
-given_adds (SetGlobal x) c s vs t = global_adds x vs t
-given_adds PutsTask c s vs t = omega arith
-given_adds Print c s vs t = omega arith
-given_adds Lines c s vs t = omega arith
-
-lacking_adds : (lack : Option BuiltInProblem) (t : Table) (reply : Reply) → count t ≤ count reply.table → count t ≤ count (unless_lacking lack t reply).table
-lacking_adds None t reply le = le
-lacking_adds (Some problem) t reply le = omega arith
-
-task_adds : (task : Task) (c : Context) (vs : List Ref) (t : Table) → count t ≤ count (task_reply task c vs t).table
-task_adds task c vs t =
-    let texts = texts_of task (names_of c.program) t vs in
-    lacking_adds (lack_of texts) t (given_by task c (joined_texts texts) vs t) (given_adds task c (joined_texts texts) vs t)
-
--- a script that runs alone takes no object away
-called_adds : (c : Context) (m : Option RactorMethod) (v : Ref) (callee : Callee) (args : List Ref) (t : Table) → count t ≤ count (called_reply c m v callee args t).table
-called_adds c None v callee args t = sent_adds c [] v (method_of c callee) args t
-called_adds c (Some m) v callee args t = ractor_adds c m args t
-
-pub alone_adds : (c : Context) → Adds (alone c)
-alone_adds c asked (Does task vs u) t = task_adds task c vs t
-alone_adds c asked (Calls v callee args) t = called_adds c (ractor_method c v callee) v callee args t
-
 -- a space without objects leads to no cluster
 pub none_read : (t : Table) → t.below ≡ [] → IsReadWith t []
 none_read t e = record {
   one = λ c os ps first second. none_in (c, os) first;
   all = λ x has. subst (λ (bs : List Below). Contains (joined bs) x) e has;
 }
+

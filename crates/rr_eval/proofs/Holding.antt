@@ -1,11 +1,12 @@
 -- What the machine holds leads somewhere.
-use Rattle.std.proofs.Common.{◌≡◌, ℕ, ◌<◌, ◌≤◌, sym, subst, refl, arith, true, false, nat_lt, nat_eq, map, List, [], ◌∷◌, ◌++◌, length, get_or, set, take, drop, replicate, ◌-◌, zero, suc, Option, Some, None}
+use Rattle.std.proofs.Common.{◌≡◌, Contains, ℕ, ◌<◌, ◌≤◌, sym, subst, refl, arith, true, false, nat_lt, nat_eq, map, List, [], ◌∷◌, ◌++◌, length, get_or, set, take, drop, replicate, ◌-◌, zero, suc, Option, Some, None}
 use Rattle.std.specs.List.{All, IsDistinct}
 use Rattle.std.proofs.lemmas.Bool.Decides.{nat_tests}
 use Rattle.std.proofs.lemmas.List.Elements.{All-get_or, All-set, All-push, All-weaker}
 use Rattle.std.proofs.Math.ListN.{get_or-eq_default}
 use Rattle.rr_base.specs.declared.name.ClassId.{ClassId}
 use Rattle.rr_base.specs.declared.name.Sym.{Sym}
+use Rattle.rr_space.specs.Graph.{Object}
 use Rattle.rr_space.specs.Parts.{IsWithin}
 use Rattle.rr_base.specs.declared.fault.Fault.{Fault}
 use Rattle.rr_space.specs.Tables.{Below, Table}
@@ -50,90 +51,111 @@ ref_more k l cs le (refs.Symbol s) h = tt
 ref_more k l cs le (refs.Class c) h = tt
 ref_more k l cs le (refs.Ractor r) h = tt
 
-call_value_more : (k l : ℕ) (cs : Option Below) → k ≤ l → (by : CallValue) → IsCallValueReached (reach k cs) by → IsCallValueReached (reach l cs) by
-call_value_more k l cs le values.Method h = tt
-call_value_more k l cs le (values.Other v) h = ref_more k l cs le v h
-call_value_more k l cs le values.Opposite h = tt
-call_value_more k l cs le (values.Raises e) h = ref_more k l cs le e h
+-- what one reach has, another has too
+abbrev pub RefsReachMore : Reach → Reach → Type 0
+RefsReachMore j k = (r : Ref) → IsReached j r → IsReached k r
 
-answer_more : (k l : ℕ) (cs : Option Below) → k ≤ l → (a : Answer) → IsAnswerReached (reach k cs) a → IsAnswerReached (reach l cs) a
-answer_more k l cs le (Gave v) h = ref_more k l cs le v h
-answer_more k l cs le (Raised e) h = ref_more k l cs le e h
-answer_more k l cs le (Broke v) h = ref_more k l cs le v h
-answer_more k l cs le (Done v) h = ref_more k l cs le v h
-answer_more k l cs le (Returned v) h = ref_more k l cs le v h
-answer_more k l cs le (Ends number v) h = ref_more k l cs le v h
+call_value_by : (j k : Reach) → RefsReachMore j k → (by : CallValue) → IsCallValueReached j by → IsCallValueReached k by
+call_value_by j k more values.Method h = tt
+call_value_by j k more (values.Other v) h = more v h
+call_value_by j k more values.Opposite h = tt
+call_value_by j k more (values.Raises e) h = more e h
 
-frame_more : (k l : ℕ) (cs : Option Below) → k ≤ l → (f : Frame) → IsFrameReached (reach k cs) f → IsFrameReached (reach l cs) f
-frame_more k l cs le (frames.Right op v) h = ref_more k l cs le v h
-frame_more k l cs le frames.Not h = tt
-frame_more k l cs le (frames.And b) h = tt
-frame_more k l cs le (frames.Or b) h = tt
-frame_more k l cs le (frames.Condition until body loop) h = tt
-frame_more k l cs le (frames.Body loop) h = tt
-frame_more k l cs le frames.Negation h = tt
-frame_more k l cs le (frames.Left op b) h = tt
-frame_more k l cs le (frames.Store x) h = tt
-frame_more k l cs le (frames.SetField x) h = tt
-frame_more k l cs le (frames.Branch b d) h = tt
-frame_more k l cs le frames.Break h = tt
-frame_more k l cs le frames.Next h = tt
-frame_more k l cs le frames.Return h = tt
-frame_more k l cs le (frames.Back by) h = call_value_more k l cs le by h
-frame_more k l cs le frames.Past h = tt
-frame_more k l cs le (frames.Rest end count) h = tt
-frame_more k l cs le (frames.Argument target end count base) h = tt
-frame_more k l cs le (frames.Receiver target end count base) h = tt
-frame_more k l cs le (frames.Item target end count base) h = tt
-frame_more k l cs le (frames.Aim x) h = tt
-frame_more k l cs le (frames.Several end count base) h = tt
-frame_more k l cs le (frames.Assigned x) h = tt
-frame_more k l cs le (frames.Key next end count base) h = tt
-frame_more k l cs le (frames.Value end count base) h = tt
-frame_more k l cs le (frames.Asking a) h = tt
-frame_more k l cs le (frames.Asked a) h = tt
-frame_more k l cs le (frames.Element b end) h = tt
-frame_more k l cs le (frames.Read u) h = tt
-frame_more k l cs le (frames.Combine x) h = ref_more k l cs le x.old h
-frame_more k l cs le (frames.Put place base) h = tt
-frame_more k l cs le (frames.Rescue end count otherwise) h = tt
-frame_more k l cs le (frames.Class r) h = ref_more k l cs le r.exception h
-frame_more k l cs le (frames.Handling old) h = ref_more k l cs le old h
-frame_more k l cs le (frames.Ensure part) h = tt
-frame_more k l cs le (frames.Kept a) h = answer_more k l cs le a h
-frame_more k l cs le (frames.Round i) h = tt
-frame_more k l cs le (frames.Turned i) h = tt
-frame_more k l cs le (frames.Paired i) h = tt
-frame_more k l cs le (frames.Initialize x) h = tt
+answer_by : (j k : Reach) → RefsReachMore j k → (a : Answer) → IsAnswerReached j a → IsAnswerReached k a
+answer_by j k more (Gave v) h = more v h
+answer_by j k more (Raised e) h = more e h
+answer_by j k more (Broke v) h = more v h
+answer_by j k more (Done v) h = more v h
+answer_by j k more (Returned v) h = more v h
+answer_by j k more (Ends number v) h = more v h
 
-spot_more : (k l : ℕ) (cs : Option Below) → k ≤ l → (x : Spot) → IsSpotReached (reach k cs) x → IsSpotReached (reach l cs) x
-spot_more k l cs le (spots.Field x) h = tt
-spot_more k l cs le (spots.Global x) h = tt
-spot_more k l cs le (spots.Attribute x r) h = ref_more k l cs le r h
-spot_more k l cs le (spots.Element r i) h = (ref_more k l cs le r h.0, ref_more k l cs le i h.1)
+frame_by : (j k : Reach) → RefsReachMore j k → (f : Frame) → IsFrameReached j f → IsFrameReached k f
+frame_by j k more (frames.Right op v) h = more v h
+frame_by j k more frames.Not h = tt
+frame_by j k more (frames.And b) h = tt
+frame_by j k more (frames.Or b) h = tt
+frame_by j k more (frames.Condition until body loop) h = tt
+frame_by j k more (frames.Body loop) h = tt
+frame_by j k more frames.Negation h = tt
+frame_by j k more (frames.Left op b) h = tt
+frame_by j k more (frames.Store x) h = tt
+frame_by j k more (frames.SetField x) h = tt
+frame_by j k more (frames.Branch b d) h = tt
+frame_by j k more frames.Break h = tt
+frame_by j k more frames.Next h = tt
+frame_by j k more frames.Return h = tt
+frame_by j k more (frames.Back by) h = call_value_by j k more by h
+frame_by j k more frames.Past h = tt
+frame_by j k more (frames.Rest end count) h = tt
+frame_by j k more (frames.Argument target end count base) h = tt
+frame_by j k more (frames.Receiver target end count base) h = tt
+frame_by j k more (frames.Item target end count base) h = tt
+frame_by j k more (frames.Aim x) h = tt
+frame_by j k more (frames.Several end count base) h = tt
+frame_by j k more (frames.Assigned x) h = tt
+frame_by j k more (frames.Key next end count base) h = tt
+frame_by j k more (frames.Value end count base) h = tt
+frame_by j k more (frames.Asking a) h = tt
+frame_by j k more (frames.Asked a) h = tt
+frame_by j k more (frames.Element b end) h = tt
+frame_by j k more (frames.Read u) h = tt
+frame_by j k more (frames.Combine x) h = more x.old h
+frame_by j k more (frames.Put place base) h = tt
+frame_by j k more (frames.Rescue end count otherwise) h = tt
+frame_by j k more (frames.Class r) h = more r.exception h
+frame_by j k more (frames.Handling old) h = more old h
+frame_by j k more (frames.Ensure part) h = tt
+frame_by j k more (frames.Kept a) h = answer_by j k more a h
+frame_by j k more (frames.Round i) h = tt
+frame_by j k more (frames.Turned i) h = tt
+frame_by j k more (frames.Paired i) h = tt
+frame_by j k more (frames.Initialize x) h = tt
 
-control_more : (k l : ℕ) (cs : Option Below) → k ≤ l → (c : Control) → IsControlReached (reach k cs) c → IsControlReached (reach l cs) c
-control_more k l cs le (Enter part) h = tt
-control_more k l cs le (Operate op a b) h = tt
-control_more k l cs le (Give a) h = answer_more k l cs le a h
-control_more k l cs le (Throw e) h = tt
-control_more k l cs le (Raise class message) h = ref_more k l cs le message h
-control_more k l cs le (RaiseValue v message) h = (ref_more k l cs le v h.0, All-weaker (IsReached (reach k cs)) (IsReached (reach l cs)) (ref_more k l cs le) (list_of message) h.1)
-control_more k l cs le (Start block problem) h = tt
-control_more k l cs le (New class cause) h = ref_more k l cs le cause h
-control_more k l cs le (Pair v w) h = (ref_more k l cs le v h.0, ref_more k l cs le w h.1)
-control_more k l cs le (Send callee v w) h = (ref_more k l cs le v h.0, All-weaker (IsReached (reach k cs)) (IsReached (reach l cs)) (ref_more k l cs le) (list_of w) h.1)
-control_more k l cs le (Assign spot v) h = (spot_more k l cs le spot h.0, ref_more k l cs le v h.1)
+spot_by : (j k : Reach) → RefsReachMore j k → (x : Spot) → IsSpotReached j x → IsSpotReached k x
+spot_by j k more (spots.Field x) h = tt
+spot_by j k more (spots.Global x) h = tt
+spot_by j k more (spots.Attribute x r) h = more r h
+spot_by j k more (spots.Element r i) h = (more r h.0, more i h.1)
+
+control_by : (j k : Reach) → RefsReachMore j k → (c : Control) → IsControlReached j c → IsControlReached k c
+control_by j k more (Enter part) h = tt
+control_by j k more (Operate op a b) h = tt
+control_by j k more (Give a) h = answer_by j k more a h
+control_by j k more (Throw e) h = tt
+control_by j k more (Raise class message) h = more message h
+control_by j k more (RaiseValue v message) h = (more v h.0, All-weaker (IsReached j) (IsReached k) more (list_of message) h.1)
+control_by j k more (Start block problem) h = tt
+control_by j k more (New class cause) h = more cause h
+control_by j k more (Pair v w) h = (more v h.0, more w h.1)
+control_by j k more (Send callee v w) h = (more v h.0, All-weaker (IsReached j) (IsReached k) more (list_of w) h.1)
+control_by j k more (Assign spot v) h = (spot_by j k more spot h.0, more v h.1)
+
+pub reached_by : (j k : Reach) → RefsReachMore j k → (m : View) → AreReached j m → AreReached k m
+unfolding AreReached
+reached_by j k more m h = record {
+  control = control_by j k more m.control h.control;
+  frames = All-weaker (IsFrameReached j) (IsFrameReached k) (frame_by j k more) m.frames h.frames;
+  held = All-weaker (IsReached j) (IsReached k) more m.held h.held;
+  calls = All-weaker (AreVariablesReached j) (AreVariablesReached k) (λ f. All-weaker (IsReached j) (IsReached k) more (f.activation.itself ∷ f.variables)) m.calls.frames h.calls;
+  rescuing = more m.rescuing h.rescuing;
+}
 
 pub reached_more : (k l : ℕ) (cs : Option Below) → k ≤ l → (m : View) → AreReached (reach k cs) m → AreReached (reach l cs) m
-unfolding AreReached
-reached_more k l cs le m h = record {
-  control = control_more k l cs le m.control h.control;
-  frames = All-weaker (IsFrameReached (reach k cs)) (IsFrameReached (reach l cs)) (frame_more k l cs le) m.frames h.frames;
-  held = All-weaker (IsReached (reach k cs)) (IsReached (reach l cs)) (ref_more k l cs le) m.held h.held;
-  calls = All-weaker (AreVariablesReached (reach k cs)) (AreVariablesReached (reach l cs)) (λ f. All-weaker (IsReached (reach k cs)) (IsReached (reach l cs)) (ref_more k l cs le) (f.activation.itself ∷ f.variables)) m.calls.frames h.calls;
-  rescuing = ref_more k l cs le m.rescuing h.rescuing;
-}
+reached_more k l cs le m h = reached_by (reach k cs) (reach l cs) (ref_more k l cs le) m h
+
+-- more clusters
+pub ref_wider : (k : ℕ) (a b : Below) → ((e : ℕ × List Object) → Contains a e → Contains b e) → (r : Ref) → IsReached (reach k (Some a)) r → IsReached (reach k (Some b)) r
+ref_wider k a b wide (refs.Local n) h = h
+ref_wider k a b wide (refs.Shared p c) h = (h.0, λ e has. wide e (h.1 e has))
+ref_wider k a b wide refs.Nil h = tt
+ref_wider k a b wide (refs.Truth t) h = tt
+ref_wider k a b wide (refs.Int z) h = tt
+ref_wider k a b wide (refs.Symbol s) h = tt
+ref_wider k a b wide (refs.Class c) h = tt
+ref_wider k a b wide (refs.Ractor r) h = tt
+
+pub reached_wider : (k : ℕ) (a b : Below) → ((e : ℕ × List Object) → Contains a e → Contains b e) → (m : View) → AreReached (reach k (Some a)) m → AreReached (reach k (Some b)) m
+reached_wider k a b wide m h = reached_by (reach k (Some a)) (reach k (Some b)) (ref_wider k a b wide) m h
 
 pub within_more : (k l : ℕ) → k ≤ l → (m : View) → AreWithin k m → AreWithin l m
 within_more k l le m h = reached_more k l None le m h

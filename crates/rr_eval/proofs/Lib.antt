@@ -33,6 +33,7 @@ pub mod Telling
 pub mod Replies
 pub mod Serving
 pub mod Reading
+pub mod Led
 pub mod Calling
 pub mod Replying
 pub mod Filling

@@ -1,5 +1,5 @@
 -- What is still to be run, and what was written so far.
-use Rattle.std.proofs.Common.{◌≡◌, ◌≤◌, ℕ, false, map, ◌∙◌, sym, ap, subst, refl, List, [], ◌∷◌, ◌++◌, Some}
+use Rattle.std.proofs.Common.{◌≡◌, ◌<◌, ◌≤◌, ℕ, false, map, ◌∙◌, sym, ap, subst, refl, inl, inr, List, [], ◌∷◌, ◌++◌, Some}
 use Rattle.std.proofs.KnownBytes.{Appends-nil}
 use Rattle.rr_base.specs.declared.name.TheConstants.ClassId.{OBJECT}
 use Rattle.rr_builtin.specs.Acts.{with_object}
@@ -15,84 +15,107 @@ use Rattle.rr_tree.specs.declared.program.Program.{Program}
 use Rattle.rr_eval.specs.declared.problem.Response.{Response}
 use Rattle.rr_eval.specs.declared.problem.Answer.TheVariants.{Gave, Raised}
 use Rattle.rr_eval.specs.Script.{Asked, World, Outcome, Ended, Spent, objects_of}
-use Rattle.rr_eval.specs.Requests.{Course}
+use Rattle.rr_eval.specs.Requests.{Course, Adds}
+use Rattle.rr_eval.specs.Served.{Exchange, course_after, Served}
+use Rattle.rr_eval.specs.Serves.{RequestExceeds}
+use Rattle.rr_eval.specs.Published.{published}
+use Rattle.rr_store.specs.Stores.{Store, new_store}
+use Rattle.rr_eval.specs.declared.problem.Problem.TheVariants.{NotHere}
+use Rattle.rr_eval.specs.declared.problem.Response.TheVariants.{Fails}
 use Rattle.rr_eval.specs.Exceptions.{IsTold}
 use Rattle.rr_eval.specs.Rules.{Context, start_state, first_memory}
 use Rattle.rr_eval.specs.View.{View}
 use Rattle.rr_eval.specs.Turns.{context_of, remaining, asking_then, answered, state_of}
 use Rattle.rr_eval.specs.Written.{Written, IsBeginning, WritesAll, WritesBeginning, FallsShort}
-use Rattle.rr_eval.specs.Runs.{text_of, text_asked, piece_asked, no_objects, first_objects, IsRaised, IsDone, IsSpent}
+use Rattle.rr_eval.specs.Runs.{Alone, first_course, RepliesSo, IsWaitingFor, IsFull, text_of, text_asked, piece_asked, no_objects, first_objects, IsRaised, IsDone, IsSpent}
 use Rattle.rr_eval.proofs.Bytes.{writes_both, falls_short_after, falls_short_longer, writes_beginning}
 use Rattle.rr_eval.proofs.Entered.{replied}
 use Rattle.rr_eval.proofs.Printed.{text-push, remaining_grows, asking_grows}
 
--- what was asked, in this environment
-abbrev pub in_world : World → List Asked → Course
-in_world w asked = record { asked = asked; world = w }
+-- the course of these exchanges
+abbrev pub course_of : World → List Exchange → Course
+course_of w exchanges = course_after (first_course w) exchanges
+
+-- exchanges do not change the environment
+keeps_world : (w : World) (exchanges : List Exchange) → Adds w → Adds (course_of w exchanges).world
+keeps_world w [] adds = adds
+keeps_world w (x ∷ xs) adds = keeps_world w xs adds
 
 -- some requests were made and served, and the rest of what all means is still to be done
-pub record IsRunning (w : World) (p : Program) (m : View) (t : Table) (all : Outcome) (old now : Written) : Type 0 where
-  pub asked : List Asked
-  pub same : all ≡ remaining p m t (in_world w asked)
-  pub wrote : WritesAll old now (text_asked (context_of p) asked)
+pub record IsRunning (events : ℕ) (p : Program) (m : View) (t : Table) (all : World → Outcome) (old now : Written) (store : Store) : Type 0 where
+  pub exchanges : List Exchange
+  pub served : Served (Alone (context_of p)) (new_store events) exchanges store
+  pub same : (w : World) → RepliesSo w exchanges → all w ≡ remaining p m t (course_of w exchanges)
+  pub wrote : (w : World) → WritesAll old now (text_asked (context_of p) (course_of w exchanges).asked)
 
 -- at first
-pub running_first : (w : World) (p : Program) (m : View) (t : Table) (all : Outcome) (old : Written) → all ≡ remaining p m t (in_world w []) → IsRunning w p m t all old old
-running_first w p m t all old e = record { asked = []; same = e; wrote = record { wrote = Appends-nil old.bytes; failed = refl } }
+pub running_first : (events : ℕ) (p : Program) (m : View) (t : Table) (all : World → Outcome) (old : Written) → ((w : World) → all w ≡ remaining p m t (first_course w)) → IsRunning events p m t all old old (new_store events)
+running_first events p m t all old e = record { exchanges = []; served = refl; same = λ w so. e w; wrote = λ w. record { wrote = Appends-nil old.bytes; failed = refl } }
 
--- the machine went on without a request
-pub running_on : (w : World) (p : Program) (m n : View) (t u : Table) (all : Outcome) (old now : Written) → IsRunning w p m t all old now → ((h : Course) → remaining p m t h ≡ remaining p n u h) → IsRunning w p n u all old now
-running_on w p m n t u all old now r e = record { asked = r.asked; same = r.same ∙ e (in_world w r.asked); wrote = r.wrote }
+module _ (events : ℕ) (p : Program) (m : View) (t : Table) (all : World → Outcome) (old now : Written) (store : Store) (r : IsRunning events p m t all old now store) where
+  -- the machine went on without a request
+  pub running_on : (n : View) (u : Table) → ((h : Course) → remaining p m t h ≡ remaining p n u h) → IsRunning events p n u all old now store
+  running_on n u e = record { exchanges = r.exchanges; served = r.served; same = λ w so. r.same w so ∙ e (course_of w r.exchanges); wrote = r.wrote }
 
--- a request was served, and its piece written whole
-pub running_more : (w : World) (p : Program) (m n : View) (t u v : Table) (all : Outcome) (old now new : Written) (q : Asked) (a : Response) → IsRunning w p m t all old now → ((h : Course) → remaining p m t h ≡ asking_then p n u q h) → ((asked : List Asked) → w asked q u ≡ Some (record { response = a; table = v })) → WritesAll now new (piece_asked (context_of p) q) → IsRunning w p (answered n a) v all old new
-running_more w p m n t u v all old now new q a r e reply written = record {
-  asked = r.asked ++ q ∷ [];
-  same = r.same ∙ e (in_world w r.asked) ∙ (replied p n a).goes u v q (in_world w r.asked) (reply r.asked);
-  wrote = subst (WritesAll old new) (sym (text-push (context_of p) r.asked q)) (writes_both old now new (text_asked (context_of p) r.asked) (piece_asked (context_of p) q) r.wrote written);
-}
+  -- a request was served, and its piece written whole
+  pub running_more : (n : View) (u v : Table) (new : Written) (q : Asked) (a : Response) (after : Store) → ((h : Course) → remaining p m t h ≡ asking_then p n u q h) → Alone (context_of p) store q u (record { response = a; table = v }) after
+      → WritesAll now new (piece_asked (context_of p) q) → IsRunning events p (answered n a) v all old new after
+  running_more n u v new q a after e reply written = record {
+    exchanges = record { asked = q; table = u; reply = record { response = a; table = v } } ∷ r.exchanges;
+    served = (store, r.served, reply);
+    same = λ w so. r.same w so.1 ∙ e (course_of w r.exchanges) ∙ (replied p n a).goes u v q (course_of w r.exchanges) so.0;
+    wrote = λ w. let asked = (course_of w r.exchanges).asked in
+        subst (WritesAll old new) (sym (text-push (context_of p) asked q)) (writes_both old now new (text_asked (context_of p) asked) (piece_asked (context_of p) q) (r.wrote w) written);
+  }
 
--- a request was served that prints nothing
-pub running_called : (w : World) (p : Program) (m n : View) (t u v : Table) (all : Outcome) (old now : Written) (q : Asked) (a : Response) → IsRunning w p m t all old now → ((h : Course) → remaining p m t h ≡ asking_then p n u q h) → ((asked : List Asked) → w asked q u ≡ Some (record { response = a; table = v })) → piece_asked (context_of p) q ≡ [] → IsRunning w p (answered n a) v all old now
-running_called w p m n t u v all old now q a r e reply none =
-    running_more w p m n t u v all old now now q a r e reply (subst (WritesAll now now) (sym none) (record { wrote = Appends-nil now.bytes; failed = refl }))
+  -- a piece could not be written whole
+  pub running_failed : (n : View) (u : Table) (new : Written) (q : Asked) → ((h : Course) → remaining p m t h ≡ asking_then p n u q h) → FallsShort now new (piece_asked (context_of p) q)
+      → (w : World) → RepliesSo w r.exchanges → FallsShort old new (text_of (context_of p) (all w))
+  running_failed n u new q e written w so =
+      let h = course_of w r.exchanges in
+      let more = h.asked ++ q ∷ [] in
+      let short = falls_short_after old now new (text_asked (context_of p) h.asked) (piece_asked (context_of p) q) (r.wrote w) written in
+      let begins = subst (IsBeginning (text_asked (context_of p) more)) (sym (ap (text_of (context_of p)) (r.same w so ∙ e h))) (asking_grows (context_of p) p n u q h) in
+      falls_short_longer old new (text_asked (context_of p) h.asked ++ piece_asked (context_of p) q) (text_of (context_of p) (all w)) short (subst (λ l. IsBeginning l (text_of (context_of p) (all w))) (text-push (context_of p) h.asked q) begins)
 
--- a piece could not be written whole
-pub running_failed : (w : World) (p : Program) (m n : View) (t u : Table) (all : Outcome) (old now new : Written) (q : Asked) → IsRunning w p m t all old now → ((h : Course) → remaining p m t h ≡ asking_then p n u q h) → FallsShort now new (piece_asked (context_of p) q) → FallsShort old new (text_of (context_of p) all)
-running_failed w p m n t u all old now new q r e written =
-    let h = in_world w r.asked in
-    let more = r.asked ++ q ∷ [] in
-    let short = falls_short_after old now new (text_asked (context_of p) r.asked) (piece_asked (context_of p) q) r.wrote written in
-    let begins = subst (IsBeginning (text_asked (context_of p) more)) (sym (ap (text_of (context_of p)) (r.same ∙ e h))) (asking_grows (context_of p) p n u q h) in
-    falls_short_longer old new (text_asked (context_of p) r.asked ++ piece_asked (context_of p) q) (text_of (context_of p) all) short (subst (λ l. IsBeginning l (text_of (context_of p) all)) (text-push (context_of p) r.asked q) begins)
+  -- nothing more was printed
+  pub running_stopped : (w : World) → RepliesSo w r.exchanges → WritesBeginning old now (text_of (context_of p) (all w))
+  running_stopped w so =
+      let h = course_of w r.exchanges in
+      writes_beginning old now (text_asked (context_of p) h.asked) (text_of (context_of p) (all w)) (r.wrote w) (subst (IsBeginning (text_asked (context_of p) h.asked)) (sym (ap (text_of (context_of p)) (r.same w so))) (remaining_grows (context_of p) p m t h))
 
--- nothing more was printed
-pub running_stopped : (w : World) (p : Program) (m : View) (t : Table) (all : Outcome) (old now : Written) → IsRunning w p m t all old now → WritesBeginning old now (text_of (context_of p) all)
-running_stopped w p m t all old now r =
-    writes_beginning old now (text_asked (context_of p) r.asked) (text_of (context_of p) all) r.wrote (subst (IsBeginning (text_asked (context_of p) r.asked)) (sym (ap (text_of (context_of p)) r.same)) (remaining_grows (context_of p) p m t (in_world w r.asked)))
+  -- all ended with an exception, of which this is told
+  pub running_raised : (n : View) (u : Table) (v : Ref) (told : List ℕ) → ((h : Course) → remaining p m t h ≡ Ended (Raised v) (state_of p n u h) n.left) → IsTold u v told
+      → (w : World) → RepliesSo w r.exchanges → IsRaised (all w) told × WritesAll old now (text_of (context_of p) (all w))
+  running_raised n u v told ends is w so =
+      subst (λ (o : Outcome). IsRaised o told × WritesAll old now (text_of (context_of p) o)) (sym (r.same w so ∙ ends (course_of w r.exchanges))) (is, r.wrote w)
+
+  -- all ended with a value; all is out of steps
+  pub running_done : (n : View) (u : Table) (v : Ref) → ((h : Course) → remaining p m t h ≡ Ended (Gave v) (state_of p n u h) n.left) → (w : World) → RepliesSo w r.exchanges → IsDone (all w) × WritesAll old now (text_of (context_of p) (all w))
+  running_done n u v ends w so =
+      subst (λ (o : Outcome). IsDone o × WritesAll old now (text_of (context_of p) o)) (sym (r.same w so ∙ ends (course_of w r.exchanges))) (tt, r.wrote w)
+
+  pub running_spent : (n : View) (u : Table) → ((h : Course) → remaining p m t h ≡ Spent (state_of p n u h)) → (w : World) → RepliesSo w r.exchanges → IsSpent (all w) × WritesAll old now (text_of (context_of p) (all w))
+  running_spent n u ends w so =
+      subst (λ (o : Outcome). IsSpent o × WritesAll old now (text_of (context_of p) o)) (sym (r.same w so ∙ ends (course_of w r.exchanges))) (tt, r.wrote w)
+
+  -- no more objects than there may be
+  pub running_fits : (slots : ℕ) (o : Course → Outcome) → ((h : Course) → remaining p m t h ≡ o h) → ((h : Course) → objects_of (o h) ≤ slots) → (w : World) → RepliesSo w r.exchanges → objects_of (all w) ≤ slots
+  running_fits slots o ends fits w so =
+      subst (λ (x : Outcome). objects_of x ≤ slots) (sym (r.same w so ∙ ends (course_of w r.exchanges))) (fits (course_of w r.exchanges))
+
+  -- what is asked next comes to more objects than there may be
+  pub running_full : (slots : ℕ) (n : View) (u : Table) (q : Asked) → ((h : Course) → remaining p m t h ≡ asking_then p n u q h) → RequestExceeds (context_of p) (published store) slots q u → IsFull (context_of p) slots r.exchanges store all
+  running_full slots n u q e exceeds = inr (q, u, exceeds, λ w so none.
+      let h = course_of w r.exchanges in
+      subst (IsWaitingFor q u) (sym (r.same w so ∙ e h ∙ (replied p n (Fails NotHere)).none u q h none)) (refl, (h.asked, refl)))
+
+  -- the program makes more objects than there may be
+  pub running_passes : (slots : ℕ) → ((h : Course) → Adds h.world → slots < objects_of (remaining p m t h)) → IsFull (context_of p) slots r.exchanges store all
+  running_passes slots more = inl (λ w so adds. subst (λ (o : Outcome). slots < objects_of o) (sym (r.same w so)) (more (course_of w r.exchanges) (keeps_world w r.exchanges adds)))
 
 pub nothing_written : (c : Context) (all : Outcome) (now : Written) → WritesBeginning now now (text_of c all)
 nothing_written c all now = record { part = []; begins = (text_of c all, refl); wrote = Appends-nil now.bytes; failed = refl }
-
--- all ended with an exception, of which this is told
-pub running_raised : (w : World) (p : Program) (m n : View) (t u : Table) (all : Outcome) (old now : Written) (v : Ref) (told : List ℕ) → IsRunning w p m t all old now → ((h : Course) → remaining p m t h ≡ Ended (Raised v) (state_of p n u h) n.left) → IsTold u v told
-    → IsRaised all told × WritesAll old now (text_of (context_of p) all)
-running_raised w p m n t u all old now v told r ends is =
-    subst (λ (o : Outcome). IsRaised o told × WritesAll old now (text_of (context_of p) o)) (sym (r.same ∙ ends (in_world w r.asked))) (is, r.wrote)
-
--- all ended with a value; all is out of steps
-pub running_done : (w : World) (p : Program) (m n : View) (t u : Table) (all : Outcome) (old now : Written) (v : Ref) → IsRunning w p m t all old now → ((h : Course) → remaining p m t h ≡ Ended (Gave v) (state_of p n u h) n.left) → IsDone all × WritesAll old now (text_of (context_of p) all)
-running_done w p m n t u all old now v r ends =
-    subst (λ (o : Outcome). IsDone o × WritesAll old now (text_of (context_of p) o)) (sym (r.same ∙ ends (in_world w r.asked))) (tt, r.wrote)
-
-pub running_spent : (w : World) (p : Program) (m n : View) (t u : Table) (all : Outcome) (old now : Written) → IsRunning w p m t all old now → ((h : Course) → remaining p m t h ≡ Spent (state_of p n u h)) → IsSpent all × WritesAll old now (text_of (context_of p) all)
-running_spent w p m n t u all old now r ends =
-    subst (λ (o : Outcome). IsSpent o × WritesAll old now (text_of (context_of p) o)) (sym (r.same ∙ ends (in_world w r.asked))) (tt, r.wrote)
-
--- no more objects than there may be
-pub running_fits : (w : World) (p : Program) (m : View) (t : Table) (all : Outcome) (old now : Written) (slots : ℕ) → IsRunning w p m t all old now → (o : Course → Outcome) → ((h : Course) → remaining p m t h ≡ o h) → ((h : Course) → objects_of (o h) ≤ slots) → objects_of all ≤ slots
-running_fits w p m t all old now slots r o ends fits =
-    subst (λ (x : Outcome). objects_of x ≤ slots) (sym (r.same ∙ ends (in_world w r.asked))) (fits (in_world w r.asked))
 
 -- a script begins with no object
 pub first_table : (t : Table) (slots : ℕ) → t.slots ≡ [] → t.below ≡ [] → t.keys ≡ [] → t.limit ≡ slots → t.owner ≡ 1 → t.next_message ≡ 1 → no_objects slots ≡ t

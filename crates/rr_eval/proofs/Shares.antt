@@ -1,5 +1,5 @@
 -- What a value leads to, what is shareable, and what is frozen with it.
-use Rattle.std.proofs.Common.{◌≡◌, ℕ, zero, suc, ◌+◌, ◌<◌, ◌≤◌, ◌↔◌, ⊎_elim, inl, Bool, true, false, not, ◌||◌, ◌&&◌, nat_eq, if◌then◌else◌, IsTrue, refl, sym, ap, subst, ◌∙◌, arith, List, [], ◌∷◌, length, slice_get, get_or, Option, Some, None, Contains}
+use Rattle.std.proofs.Common.{◌≡◌, ℕ, zero, suc, ◌+◌, ◌<◌, ◌≤◌, ◌↔◌, ⊎_elim, inl, Bool, true, false, not, ◌||◌, ◌&&◌, nat_eq, if◌then◌else◌, IsTrue, refl, sym, ap, subst, ◌∙◌, arith, List, [], ◌∷◌, map, length, slice_get, get_or, Option, Some, None, Contains}
 use Rattle.std.specs.Option.{option_map}
 use Rattle.std.proofs.lemmas.Bool.{or_left, or_right, or_cases}
 use Rattle.std.proofs.lemmas.Bool.Decides.{nat_tests}
@@ -10,27 +10,22 @@ use Rattle.rr_space.specs.Graph.{Graph, Name, Own, Published, Value, Plain, At, 
 use Rattle.rr_space.specs.Moves.{IsDeepFrozen}
 use Rattle.rr_space.specs.Parts.{value_of}
 use Rattle.rr_space.specs.Sound.{IsTableSound}
-use Rattle.rr_space.specs.Kinds.{kind_at}
-use Rattle.rr_space.specs.Tables.{Slot, Here, Led, Table, Below, IsBelow, IsPublished, IsRestKept, joined, resolve, resolve_object, space_graph}
+use Rattle.rr_space.specs.Tables.{Slot, Here, Led, Table, Below, IsBelow, IsPublished, IsRestKept, joined, resolve, resolve_slot, resolve_triple, resolve_object, space_graph}
 use Rattle.rr_space.specs.Views.{is_shell}
 use Rattle.rr_space.specs.declared.refer.Ref.{Ref}
 use Rattle.rr_space.specs.declared.refer.Ref.TheVariants as refs
-use Rattle.rr_space.proofs.Sounds.{gets, raw_in, joined_in, sound_is_sealed}
+use Rattle.rr_space.proofs.Sounds.{raw_in, sound_is_sealed}
 use Rattle.rr_share.specs.Search.{LeadsAt, LeadsToShell}
 use Rattle.rr_share.proofs.Ends.{leads_within, reaches_on}
 use Rattle.rr_share.proofs.Searching.{at_contains}
 use Rattle.rr_share.proofs.Solids.{graph_here}
 use Rattle.rr_text.specs.Reads.{IsReadWith}
-use Rattle.rr_builtin.specs.Kinds.{is_hash}
 use Rattle.rr_eval.specs.declared.problem.Problem.{Problem}
 use Rattle.rr_eval.specs.declared.problem.Response.{Response}
-use Rattle.rr_eval.specs.declared.problem.Response.TheVariants.{Fails}
-use Rattle.rr_eval.specs.declared.ractor_method.RactorMethod.{RactorMethod}
-use Rattle.rr_eval.specs.declared.ractor_method.RactorMethod.TheVariants as methods
 use Rattle.rr_eval.specs.Context.{Context}
-use Rattle.rr_eval.specs.Script.{Reply}
+use Rattle.rr_eval.specs.Effects.{Effect, SaysFailed, said}
 use Rattle.rr_eval.specs.Serves.{IsReplied, IsRefused}
-use Rattle.rr_eval.specs.Sharing.{connects, one_below, is_own, has_own, object_has, steps, leads_in, leads, is_open, is_moved, is_shareable, leads_to_shell, frozen_slot, frozen_from, deep_frozen, keyword_reply, make_shareable_reply, ractor_reply}
+use Rattle.rr_eval.specs.Sharing.{connects, one_below, is_own, has_own, object_has, steps, leads_in, leads, is_open, is_moved, is_shareable, leads_to_shell, frozen_slot, frozen_from, deep_frozen, keyword_reply, make_shareable_reply}
 use Rattle.rr_eval.specs.Within.{reach, IsReached, IsResponseReached}
 use Rattle.rr_eval.proofs.Connecting.{joins, connects_step, connected, one_there, there_one, both, first, second}
 
@@ -256,19 +251,48 @@ same_elements [] (y ∷ ys) h = absurd (none-some y (h 0))
 same_elements (x ∷ xs) [] h = absurd (none-some x (sym (h 0)))
 same_elements (x ∷ xs) (y ∷ ys) h = ap (λ z. z ∷ xs) (same_Some x y (h 0)) ∙ ap (λ zs. y ∷ zs) (same_elements xs ys (λ i. h (suc i)))
 
--- where nothing is published no slot leads to a published object
-no_forward : (t : Table) → IsTableSound t.slots t.below → IsReadWith t [] → (n c p : ℕ) → slice_get t.slots n ≡ Some (Led c p) → ⊥
-no_forward t well read n c p q =
-    let lt = slice_get_within t.slots n (Led c p) q in
-    let b = gets t.below n (omega (arith, lt, well.count)) in
-    let place = well.slots n (Led c p) b.0 q b.1 in
-    let none = read.all (c, place.0) (joined_in t.below n b.0 (c, place.0) b.1 place.1) in
-    omega (arith, none.1)
+-- no value leads to a slot that is a forward, since values are resolved
+module _ (t : Table) (well : IsTableSound t.slots t.below) (i c p : ℕ) (forward : slice_get t.slots i ≡ Some (Led c p)) where
+  slot_not : (n : ℕ) (s : Option Slot) → slice_get t.slots n ≡ s → resolve_slot s n ≡ Own i → ⊥
+  slot_not n None q e = let same : n ≡ i = cc in let w : None ≡ Some (Led c p) = sym q ∙ ap (slice_get t.slots) same ∙ forward in none-some (Led c p) w
+  slot_not n (Some (Here o)) q e =
+      let same : n ≡ i = cc in
+      let w = same_Some (Here o) (Led c p) (sym q ∙ ap (slice_get t.slots) same ∙ forward) in
+      let x : ⊥ = cc in x
+  slot_not n (Some (Led d r)) q e = let x : ⊥ = cc in x
 
-module _ (t u : Table) (well : IsTableSound t.slots t.below) (read : IsReadWith t []) (root : Ref) (h : IsDeepFrozen (value_of root) t u) where
+  resolved_not : (x : Value) → resolve t.slots x ≡ At (Own i) → ⊥
+  resolved_not (Plain k) e = let x : ⊥ = cc in x
+  resolved_not (At (Own n)) e = slot_not n (slice_get t.slots n) refl (name_is (resolve_slot (slice_get t.slots n) n) (Own i) e)
+  resolved_not (At (Published d q)) e = let x : ⊥ = cc in x
+
+  triple_not : (ts : List (Label × Value)) (k : ℕ) (l : Label) (y : Value) → slice_get (map (resolve_triple t.slots) ts) k ≡ Some (l, y) → y ≡ At (Own i) → ⊥
+  triple_not [] k l y at e = none-some (l, y) at
+  triple_not (s ∷ ss) zero l y at e = resolved_not s.1 (ap (λ (z : Label × Value). z.1) (same_Some (resolve_triple t.slots s) (l, y) at) ∙ e)
+  triple_not (s ∷ ss) (suc k) l y at e = triple_not ss k l y at e
+
+  under_not : (n : Name) (o : Object) (l : Label) (y : Value) → space_graph t n ≡ Some o → Contains o.triples (l, y) → y ≡ At (Own i) → ⊥
+  under_not (Own k) o l y here has e =
+      let raw = raw_in t.slots (joined t.below) k o here in
+      let at = at_contains o.triples (l, y) has in
+      triple_not raw.0.triples at.0 l y (ap (λ (z : Object). slice_get z.triples at.0) raw.2 ∙ at.1) e
+  under_not (Published d q) o l y here has e = subst IsPublished e ((sound_is_sealed t.slots t.below well).shut d q o l y here has)
+
+  led_not : (path : List Label) (x : Value) → (x ≡ At (Own i) → ⊥) → Leads (space_graph t) x path (At (Own i)) → ⊥
+  led_not [] x other e = other e
+  led_not (l ∷ path) x other (y, (n, o, is, here, has), rest) = led_not path y (under_not n o l y here has) rest
+
+  pub forward_not : (x : Value) → Reaches (space_graph t) (resolve t.slots x) (Own i) → ⊥
+  forward_not x (path, r) = led_not path (resolve t.slots x) (resolved_not x) r
+
+module _ (t u : Table) (well : IsTableSound t.slots t.below) (root : Ref) (h : IsDeepFrozen (value_of root) t u) where
+  forward_is : (b : Bool) (c p : ℕ) → Some (frozen_slot b (Led c p)) ≡ Some (Led c p)
+  forward_is true c p = refl
+  forward_is false c p = refl
+
   slot_is : (i : ℕ) (s : Option Slot) → slice_get t.slots i ≡ s → option_map (frozen_slot (leads t root i)) s ≡ slice_get u.slots i
   slot_is i None q = sym (slice_get_past u.slots i (omega (arith, past_of t.slots i q, h.size)))
-  slot_is i (Some (Led c p)) q = absurd (no_forward t well read i c p q)
+  slot_is i (Some (Led c p)) q = forward_is (leads t root i) c p ∙ sym q ∙ sym (h.others i (forward_not t well i c p q (value_of root)))
   slot_is i (Some (Here o)) q = by_test (leads t root i) (Some (frozen_slot (leads t root i) (Here o)) ≡ slice_get u.slots i)
       (λ e. ap (λ b. Some (frozen_slot b (Here o))) e ∙ sym (h.reached i o (led_reached (space_graph t) (length t.slots) (resolve t.slots (value_of root)) i e) q))
       (λ e. ap (λ b. Some (frozen_slot b (Here o))) e ∙ sym q ∙ sym (h.others i (λ r. let z : true ≡ false = sym (reached_led t well (resolve t.slots (value_of root)) i r) ∙ e in let x : ⊥ = cc in x)))
@@ -277,34 +301,34 @@ module _ (t u : Table) (well : IsTableSound t.slots t.below) (read : IsReadWith 
   slots_are = same_elements (frozen_from (leads t root) 0 t.slots) u.slots
       (λ i. let e : 0 + i ≡ i = omega arith in frozen_at (leads t root) 0 t.slots i ∙ ap (λ k. option_map (frozen_slot (leads t root k)) (slice_get t.slots i)) e ∙ slot_is i (slice_get t.slots i) refl)
 
-  -- the table with these slots frozen is the one that is left
-  pub frozen_is : u.keys ≡ t.keys → IsRestKept t u → deep_frozen root t ≡ u
-  frozen_is keys rest =
-      ap (λ x. record { slots = x; below = t.below; keys = t.keys; limit = t.limit; owner = t.owner; next_message = t.next_message }) slots_are
-      ∙ ap (λ x. record { slots = u.slots; below = x; keys = t.keys; limit = t.limit; owner = t.owner; next_message = t.next_message }) (sym h.below)
-      ∙ ap (λ x. record { slots = u.slots; below = u.below; keys = x; limit = t.limit; owner = t.owner; next_message = t.next_message }) (sym keys)
-      ∙ ap (λ x. record { slots = u.slots; below = u.below; keys = u.keys; limit = x; owner = t.owner; next_message = t.next_message }) (sym rest.limit)
-      ∙ ap (λ x. record { slots = u.slots; below = u.below; keys = u.keys; limit = u.limit; owner = x; next_message = t.next_message }) (sym rest.owner)
-      ∙ ap (λ x. record { slots = u.slots; below = u.below; keys = u.keys; limit = u.limit; owner = u.owner; next_message = x }) (sym rest.next_message)
-
-  pub frozen_replied : (reply : Reply) (r : Response) → reply ≡ record { response = r; table = u } → IsRestKept t u → IsResponseReached (reach (length t.slots) (Some [])) r → IsReplied reply t r u
-  frozen_replied reply r is rest reached = record {
-    is = is;
-    read = record { one = read.one; all = subst (λ b. (e : ℕ × List Object) → Contains (joined b) e → Contains [] e) (sym h.below) read.all };
-    reached = subst (λ k. IsResponseReached (reach k (Some [])) r) (sym h.size) reached;
-    grows = omega (arith, h.size);
-    limit = rest.limit;
+  -- the slots that are left are these, frozen
+  pub frozen_replied : (below : Below) (effect : Effect) (r : Response) → effect ≡ record { said = said r; table = deep_frozen root t } → u.keys ≡ t.keys → IsRestKept t u → IsReadWith t below → IsResponseReached (reach (length t.slots) (Some below)) r → IsReplied below effect t r u
+  frozen_replied below effect r is keys rest read reached = record {
+    said = ap (λ (e : Effect). e.said) (sym is);
+    slots = sym slots_are ∙ ap (λ (e : Effect). e.table.slots) (sym is);
+    keys = keys ∙ ap (λ (e : Effect). e.table.keys) (sym is);
+    left = record {
+      read = record { one = read.one; all = subst (λ b. (e : ℕ × List Object) → Contains (joined b) e → Contains below e) (sym h.below) read.all };
+      reached = subst (λ k. IsResponseReached (reach k (Some below)) r) (sym h.size) reached;
+      grows = omega (arith, h.size);
+      rest = rest;
+    };
   }
 
 -- ---- What is replied.
 
 -- nothing was changed
-pub same_replied : (reply : Reply) (t u : Table) (r : Response) → reply ≡ record { response = r; table = t } → u ≡ t → IsReadWith t [] → IsResponseReached (reach (length t.slots) (Some [])) r → IsReplied reply t r u
-same_replied reply t u r is same read reached = subst (λ x. IsReplied reply t r x) (sym same) (record { is = is; read = read; reached = reached; grows = omega arith; limit = refl })
+pub same_replied : (below : Below) (effect : Effect) (t u : Table) (r : Response) → effect ≡ record { said = said r; table = t } → u ≡ t → IsReadWith t below → IsResponseReached (reach (length t.slots) (Some below)) r → IsReplied below effect t r u
+same_replied below effect t u r is same read reached = subst (λ x. IsReplied below effect t r x) (sym same) (record {
+  said = ap (λ (e : Effect). e.said) (sym is);
+  slots = ap (λ (e : Effect). e.table.slots) (sym is);
+  keys = ap (λ (e : Effect). e.table.keys) (sym is);
+  left = record { read = read; reached = reached; grows = omega arith; rest = record { limit = refl; owner = refl; next_message = refl } };
+})
 
 -- memory was refused
-pub memory_refused : (reply : Reply) (t : Table) (f : Fault) → f ≡ Memory → IsRefused reply t f
-memory_refused reply t f is = record { refused = inl is; full = λ e. absurd (cc (sym is ∙ e)) }
+pub memory_refused : (effect : Effect) (t : Table) (f : Fault) → f ≡ Memory → IsRefused effect t f
+memory_refused effect t f is = record { refused = inl is; full = λ e. absurd (cc (sym is ∙ e)) }
 
 -- the value is a slot there, or none
 pub below_of : (k : ℕ) (cs : Option Below) (r : Ref) → IsReached (reach k cs) r → IsBelow k (value_of r)
@@ -317,31 +341,8 @@ below_of k cs (refs.Symbol s) h = tt
 below_of k cs (refs.Class c) h = tt
 below_of k cs (refs.Ractor r) h = tt
 
--- a method of Ractor takes no object away
-if_adds : (t : Table) (b : Bool) (x y : Reply) → length t.slots ≤ length x.table.slots → length t.slots ≤ length y.table.slots → length t.slots ≤ length (if b then x else y).table.slots
-if_adds t true x y left right = left
-if_adds t false x y left right = right
-
-pub ractor_adds : (c : Context) (m : RactorMethod) (vs : List Ref) (t : Table) → length t.slots ≤ length (ractor_reply c m vs t).table.slots
-ractor_adds c methods.IsShareable [] t = omega arith
-ractor_adds c methods.IsShareable (v ∷ []) t = omega arith
-ractor_adds c methods.IsShareable (v ∷ w ∷ vs) t = omega arith
-ractor_adds c methods.MakeShareable [] t = omega arith
-ractor_adds c methods.MakeShareable (v ∷ []) t = if_adds t (leads_to_shell t v) _ _ (omega arith) (omega (arith, frozen_count (leads t v) 0 t.slots))
-ractor_adds c methods.MakeShareable (v ∷ w ∷ []) t = if_adds t (is_hash (kind_at t w)) _ _ (omega arith) (omega arith)
-ractor_adds c methods.MakeShareable (v ∷ w ∷ x ∷ vs) t = omega arith
-ractor_adds c methods.Start vs t = omega arith
-ractor_adds c methods.Current [] t = omega arith
-ractor_adds c methods.Current (v ∷ vs) t = omega arith
-ractor_adds c methods.IsMain [] t = omega arith
-ractor_adds c methods.IsMain (v ∷ vs) t = omega arith
-ractor_adds c methods.WithOthers vs t = omega arith
-ractor_adds c methods.Name [] t = omega arith
-ractor_adds c methods.Name (v ∷ vs) t = omega arith
-ractor_adds c methods.Later vs t = omega arith
-
 -- two arguments
-pub keywords_are : (c : Context) (vs : List Ref) (w : Ref) (t : Table) (e : Problem) → 2 ≤ length vs → length vs < 3 → w ≡ get_or vs 1 w → ((v : Ref) → keyword_reply c v w t ≡ record { response = Fails e; table = t }) → make_shareable_reply c vs t ≡ record { response = Fails e; table = t }
+pub keywords_are : (c : Context) (vs : List Ref) (w : Ref) (t : Table) (e : Problem) → 2 ≤ length vs → length vs < 3 → w ≡ get_or vs 1 w → ((v : Ref) → keyword_reply c v w t ≡ record { said = SaysFailed e; table = t }) → make_shareable_reply c vs t ≡ record { said = SaysFailed e; table = t }
 keywords_are c [] w t e least most is refused = absurd (omega (arith, least))
 keywords_are c (x ∷ []) w t e least most is refused = absurd (omega (arith, least))
 keywords_are c (x ∷ y ∷ []) w t e least most is refused = ap (λ z. keyword_reply c x z t) (sym is) ∙ refused x

@@ -7,6 +7,7 @@ use Rattle.rr_space.specs.declared.refer.Ref.TheVariants as refs
 use Rattle.rr_text.specs.Forms.{Names, spoken, within_text}
 use Rattle.rr_text.specs.Walk.{Walked, Wrote}
 use Rattle.rr_builtin.specs.Objects.{printed_text}
+use Rattle.rr_eval.specs.Effects.{led}
 use Rattle.rr_eval.specs.Tasks.{shown_by, texts_shown, values_shown, joined_texts}
 
 -- a value and what it said come before the others
@@ -38,7 +39,7 @@ values_end (v ∷ []) lt = refl
 values_end (v ∷ w ∷ vs) lt = absurd (omega (arith, lt))
 
 -- what was said, and not nil, is printed as it is
-pub said_shown : (names : Names) (t : Table) (v said : Ref) → (said ≡ refs.Nil → ⊥) → within_text (λ s. s ++ 10 ∷ []) (printed_text names [] spoken t said) ≡ shown_by names t v said
+pub said_shown : (names : Names) (t : Table) (v said : Ref) → (said ≡ refs.Nil → ⊥) → within_text (λ s. s ++ 10 ∷ []) (printed_text names (led t (said ∷ [])) spoken t said) ≡ shown_by names t v said
 said_shown names t v refs.Nil other = absurd (other refl)
 said_shown names t v (refs.Truth b) other = refl
 said_shown names t v (refs.Int z) other = refl

@@ -1,5 +1,5 @@
--- The reply to a call of a method where nothing is published.
-use Rattle.std.specs.Prelude.{List, [], length, replicate, Option, Some, None, if◌then◌else◌}
+-- The reply to a call of a method.
+use Rattle.std.specs.Prelude.{List, ◌∷◌, Option, Some, None, if◌then◌else◌}
 use Rattle.rr_space.specs.Kinds.{kind_at}
 use Rattle.rr_space.specs.Tables.{Table, Below}
 use Rattle.rr_space.specs.declared.refer.Ref.{Ref}
@@ -13,25 +13,18 @@ use Rattle.rr_eval.specs.declared.problem.Problem.{Problem}
 use Rattle.rr_eval.specs.declared.problem.Problem.TheVariants.{MissingMethod}
 use Rattle.rr_eval.specs.Callees.{method_of}
 use Rattle.rr_eval.specs.Context.{Context}
-use Rattle.rr_eval.specs.Responses.{receiver_of, response_of}
-use Rattle.rr_eval.specs.Script.{Reply}
+use Rattle.rr_eval.specs.Effects.{Effect, said_of, led}
+use Rattle.rr_eval.specs.Responses.{receiver_of}
 
 -- what a call comes to, and the table then, where no built-in method has the name, or one has it
 abbrev pub sent : Context → Below → Ref → Option BuiltInMethod → List Ref → Table → Outcome × Table
 sent c below v None args t = (if is_shell_kind (kind_at t v) then Raises Moved else Lacks, t)
 sent c below v (Some m) args t = called c.program below v m args t
 
--- the table with these slots and keys, where nothing is published, so that no slot leads to a cluster
-abbrev pub unpublished : Table → Table → Table
-unpublished t u = record t { slots = u.slots; below = replicate (length u.slots) []; keys = u.keys }
-
 -- what is replied, where `missing` is the problem of a method that the receiver lacks
-abbrev pub reply_with : Problem → Table → Outcome × Table → Reply
-reply_with missing t done = record { response = response_of missing done.0; table = unpublished t done.1 }
+abbrev pub reply_with : Problem → Outcome × Table → Effect
+reply_with missing done = record { said = said_of missing done.0; table = done.1 }
 
-abbrev pub reply_of : Callee → Ref → Table → Outcome × Table → Reply
-reply_of callee v t done = reply_with (MissingMethod callee (receiver_of t v)) t done
-
--- where nothing is published, the clusters that anything leads to are none
-abbrev pub call_reply : Context → Ref → Callee → List Ref → Table → Reply
-call_reply c v callee args t = reply_of callee v t (sent c [] v (method_of c callee) args t)
+-- the clusters are those that the objects, the receiver and the arguments lead to
+abbrev pub call_reply : Context → Ref → Callee → List Ref → Table → Effect
+call_reply c v callee args t = reply_with (MissingMethod callee (receiver_of t v)) (sent c (led t (v ∷ args)) v (method_of c callee) args t)

@@ -3,6 +3,8 @@ pub mod Script
 pub mod Methods
 pub mod Values
 pub mod Responses
+pub mod Effects
+pub mod Published
 pub mod Operators
 pub mod Acts
 pub mod Changes

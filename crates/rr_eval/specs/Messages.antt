@@ -5,7 +5,7 @@ use Rattle.rr_base.specs.declared.class.BuiltInClass.TheVariants as built_in
 use Rattle.rr_text.specs.Names.{names_of}
 use Rattle.rr_builtin.specs.Problems.{problem_class, problem_text, missing_text}
 use Rattle.rr_eval.specs.declared.problem.Problem.{Problem}
-use Rattle.rr_eval.specs.declared.problem.Problem.TheVariants.{BuiltIn, MissingMethod, MissingName, MissingConstant, UnknownKeyword, NoRactorBlock, UsesYield, NoRactors, NotRaisable, Unhandled, NoBlock, Jump, NotHere}
+use Rattle.rr_eval.specs.declared.problem.Problem.TheVariants.{BuiltIn, MissingMethod, MissingName, MissingConstant, UnknownKeyword, NoRactorBlock, UsesYield, NoRactors, HistoryFull, NotRaisable, Unhandled, NoBlock, Jump, NotHere}
 use Rattle.rr_eval.specs.Callees.{callee_name}
 use Rattle.rr_eval.specs.Context.{Context}
 
@@ -18,6 +18,7 @@ message c UnknownKeyword = codes "unknown keyword"
 message c NoRactorBlock = codes "must be called with a block"
 message c UsesYield = codes "can not isolate a Proc because it uses yield."
 message c NoRactors = codes "no ractors here"
+message c HistoryFull = codes "history full"
 message c NotRaisable = codes "exception class/object expected"
 message c Unhandled = codes "unhandled exception"
 message c NoBlock = codes "no block"
@@ -34,6 +35,7 @@ exception_class UnknownKeyword = built_in.ArgumentError
 exception_class NoRactorBlock = built_in.ArgumentError
 exception_class UsesYield = built_in.ArgumentError
 exception_class NoRactors = built_in.RactorError
+exception_class HistoryFull = built_in.RactorError
 exception_class NotRaisable = built_in.TypeError
 exception_class Unhandled = built_in.RuntimeError
 exception_class NoBlock = built_in.LocalJumpError

@@ -1,5 +1,5 @@
 -- What a run of a source leaves.
-use Rattle.std.specs.Prelude.{◌≡◌, ◌≤◌, ◌⊎◌, ℕ, List, [], length, Some, Result, Ok, Err, MatchResult, map}
+use Rattle.std.specs.Prelude.{◌≡◌, ◌<◌, ◌≤◌, ◌⊎◌, ℕ, List, [], ◌∷◌, ◌++◌, length, None, Result, Ok, Err, MatchResult, map}
 use Rattle.std.specs.List.{flat_map}
 use Rattle.std.specs.Io.KnownBytes.{Keeps}
 use Rattle.rr_base.specs.declared.fault.Fault.{Fault}
@@ -25,15 +25,19 @@ use Rattle.rr_tree.specs.declared.program.Program.{Program}
 use Rattle.rr_eval.specs.declared.problem.Answer.TheVariants.{Gave, Raised}
 use Rattle.rr_eval.specs.declared.run.Outcome.{Outcome as RunOutcome}
 use Rattle.rr_eval.specs.declared.run.Outcome.TheVariants as outcomes
-use Rattle.rr_eval.specs.Sharing.{called_reply, ractor_method}
-use Rattle.rr_eval.specs.Tasks.{piece_of, task_reply}
+use Rattle.rr_eval.specs.Tasks.{piece_of}
 use Rattle.rr_text.specs.Names.{names_of}
 use Rattle.rr_eval.specs.Script.{Asked, Does, Calls, Reply, World, Outcome, Ended, Spent, Waits, objects_of}
+use Rattle.rr_store.specs.Stores.{Store, new_store}
+use Rattle.rr_eval.specs.Published.{published}
+use Rattle.rr_eval.specs.Requests.{Course, Adds}
+use Rattle.rr_eval.specs.Served.{Exchange, course_after, Gives, Served}
+use Rattle.rr_eval.specs.Serves.{IsRequestReplied, RequestExceeds}
 use Rattle.rr_eval.specs.Rules.{Context, begun, start_state}
 use Rattle.rr_eval.specs.Exceptions.{IsTold}
 use Rattle.rr_eval.specs.Written.{Written, WritesAll, WritesBeginning, FallsShort}
 use Rattle.rr_eval.specs.Turns.{context_of}
-use Rattle.rr_eval.specs.Acts.{IsRefusal, Passes}
+use Rattle.rr_eval.specs.Acts.{IsRefusal}
 
 -- what a request prints
 abbrev pub piece_asked : Context → Asked → List ℕ
@@ -50,14 +54,10 @@ text_of c (Ended a s n) = text_asked c s.asked
 text_of c (Spent s) = text_asked c s.asked
 text_of c (Waits s) = text_asked c s.asked
 
--- what a script that runs alone is replied: nothing is published
-abbrev pub reply_to : Context → Asked → Table → Reply
-reply_to c (Does task vs u) t = task_reply task c vs t
-reply_to c (Calls receiver callee arguments) t = called_reply c (ractor_method c receiver callee) receiver callee arguments t
-
--- the environment of a script that runs alone: what is to be printed is printed, and a method that is called does what it does
-abbrev pub alone : Context → World
-alone c asked q t = Some (reply_to c q t)
+-- The environment of a script that runs alone: what is to be printed is printed, and a method that is called does what it does, among the
+-- clusters of its store. Nothing is published yet.
+abbrev pub Alone : Context → Store → Asked → Table → Reply → Store → Type 0
+Alone c store q t reply after = (after ≡ store) × IsRequestReplied c (published store) q t reply.response reply.table
 
 -- it ended with a value; it raised an exception, of which this is told; it ran out of steps
 abbrev pub IsDone : Outcome → Type 0
@@ -80,14 +80,51 @@ Leaves c old new o outcomes.StepLimit = IsSpent o × WritesAll old new (text_of 
 Leaves c old new o outcomes.OutputFailed = FallsShort old new (text_of c o)
 Leaves c old new o (outcomes.Stopped fault) = IsRefusal fault × WritesBeginning old new (text_of c o)
 
--- A run that comes to its end makes no more objects than there may be, and it stops at the limit of slots only where
--- more are made.
-abbrev pub WithinSlots : ℕ → Outcome → RunOutcome → Type 0
-WithinSlots slots o outcomes.Done = objects_of o ≤ slots
-WithinSlots slots o (outcomes.Raised told) = objects_of o ≤ slots
-WithinSlots slots o outcomes.StepLimit = objects_of o ≤ slots
-WithinSlots slots o outcomes.OutputFailed = Unit {0}
-WithinSlots slots o (outcomes.Stopped fault) = Passes fault slots (objects_of o)
+-- A run that comes to its end makes no more objects than there may be.
+abbrev pub FitsSlots : ℕ → Outcome → RunOutcome → Type 0
+FitsSlots slots o outcomes.Done = objects_of o ≤ slots
+FitsSlots slots o (outcomes.Raised told) = objects_of o ≤ slots
+FitsSlots slots o outcomes.StepLimit = objects_of o ≤ slots
+FitsSlots slots o _ = Unit {0}
+
+-- ---- What a run leaves of what a program means, which is a function of the environment.
+
+-- nothing was asked yet
+abbrev pub first_course : World → Course
+first_course w = record { asked = []; world = w }
+
+-- the environment gives these replies to the first requests
+abbrev pub RepliesSo : World → List Exchange → Type 0
+RepliesSo w exchanges = Gives (first_course w) exchanges
+
+-- it has no reply to the next one
+abbrev pub HasNoReply : World → List Exchange → Asked → Table → Type 0
+HasNoReply w exchanges q t = w (course_after (first_course w) exchanges).asked q t ≡ None
+
+-- the evaluation ends with this request, which has no reply, and with these objects
+abbrev pub IsWaitingFor : Asked → Table → Outcome → Type 0
+IsWaitingFor q t (Waits s) = (s.memory.table ≡ t) × ((before : List Asked) × (s.asked ≡ before ++ q ∷ []))
+IsWaitingFor q t _ = ⊥
+
+-- More objects are made than there may be: by the program, whatever the environment adds, or by what it asks for next.
+abbrev pub IsFull : Context → ℕ → List Exchange → Store → (World → Outcome) → Type 0
+IsFull c slots exchanges store meaning =
+    ((w : World) → RepliesSo w exchanges → Adds w → slots < objects_of (meaning w))
+    ⊎ ((q : Asked) × (t : Table) × RequestExceeds c (published store) slots q t × ((w : World) → RepliesSo w exchanges → HasNoReply w exchanges q t → IsWaitingFor q t (meaning w)))
+
+abbrev pub StopsWhereFull : Context → ℕ → List Exchange → Store → (World → Outcome) → RunOutcome → Type 0
+StopsWhereFull c slots exchanges store meaning (outcomes.Stopped fault) = fault ≡ faults.Limit limits.Slots → IsFull c slots exchanges store meaning
+StopsWhereFull c slots exchanges store meaning _ = Unit {0}
+
+-- The requests of a run, and the replies that a script has which runs alone. In each environment that replies so, the run leaves what the
+-- program means there.
+pub record IsRun (c : Context) (meaning : World → Outcome) (within : Limits) (old new : Written) (outcome : RunOutcome) : Type 0 where
+  pub exchanges : List Exchange
+  pub store : Store
+  pub served : Served (Alone c) (new_store within.events) exchanges store
+  pub leaves : (w : World) → RepliesSo w exchanges → Leaves c old new (meaning w) outcome
+  pub fits : (w : World) → RepliesSo w exchanges → FitsSlots within.slots (meaning w) outcome
+  pub full : StopsWhereFull c within.slots exchanges store meaning outcome
 
 -- The grammar gives these definitions and this tree to the bytes, with these names and texts; a comment may freeze the texts.
 pub record IsScript (source : List ℕ) (c : Context) (tree : Tree) : Type 0 where
@@ -143,12 +180,12 @@ no_objects slots = record { slots = []; below = []; keys = []; limit = slots; ow
 abbrev pub first_objects : ℕ → Table
 first_objects slots = with_object (new_plain OBJECT.0) [] (with_object (new_plain OBJECT.0) [] (no_objects slots))
 
--- what a script that runs alone does within limits
-abbrev pub script_meaning : Context → Tree → Limits → Outcome
-script_meaning c tree within = begun c (alone c) tree (start_state c within.frames (Local 0) (first_objects within.slots)) within.steps
+-- what a script does within limits, in an environment
+abbrev pub script_meaning : Context → Tree → Limits → World → Outcome
+script_meaning c tree within w = begun c w tree (start_state c within.frames (Local 0) (first_objects within.slots)) within.steps
 
 -- what a program does
-abbrev pub program_meaning : Program → Limits → Outcome
+abbrev pub program_meaning : Program → Limits → World → Outcome
 program_meaning p within = script_meaning (context_of p) (tree_at p.nodes.items p.root) within
 
 -- A run of a source within limits: what was seen of the output before and after it, and how it ended.
@@ -165,8 +202,7 @@ pub record RunsScript (r : Run) (outcome : RunOutcome) : Type 0 where
   pub tree : Tree
   pub script : IsScript r.source context tree
   pub own : context ≡ context_of context.program
-  pub leaves : Leaves context r.before r.after (script_meaning context tree r.limits) outcome
-  pub within : WithinSlots r.limits.slots (script_meaning context tree r.limits) outcome
+  pub run : IsRun context (script_meaning context tree r.limits) r.limits r.before r.after outcome
 
 -- The source was not read, and nothing was written.
 pub record RefusesSource (r : Run) (fault : Fault) : Type 0 where

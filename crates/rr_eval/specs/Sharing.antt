@@ -1,7 +1,7 @@
--- What ractors may share, as a script asks Ractor for it where nothing is published.
+-- What ractors may share, as a script asks Ractor for it.
 use Rattle.std.specs.Prelude.{ℕ, zero, suc, nat_eq, Bool, true, false, not, ◌&&◌, ◌||◌, if◌then◌else◌, List, [], ◌∷◌, length, slice_get, slice_index_or, codes, Option, Some, None}
 use Rattle.std.specs.Str.{bytes_eq}
-use Rattle.rr_space.specs.Graph.{Graph, Own, Published, Value, Plain, At, SymbolNo, Label, Object}
+use Rattle.rr_space.specs.Graph.{Graph, Own, Published, Value, Plain, At, SymbolNo, Truth, Label, Object}
 use Rattle.rr_base.specs.declared.name.RactorNo.{RactorNo as RactorNumber}
 use Rattle.rr_space.specs.Kinds.{kind_at}
 use Rattle.rr_space.specs.Labels.{triples_at}
@@ -15,13 +15,12 @@ use Rattle.rr_builtin.specs.declared.problem.Problem.TheVariants.{Count, Moved}
 use Rattle.rr_eval.specs.declared.call.Callee.{Callee}
 use Rattle.rr_eval.specs.declared.problem.Problem.{Problem}
 use Rattle.rr_eval.specs.declared.problem.Problem.TheVariants.{BuiltIn, UnknownKeyword, NoRactorBlock, NoRactors, NotHere}
-use Rattle.rr_eval.specs.declared.problem.Response.TheVariants.{Gives, Fails}
 use Rattle.rr_eval.specs.declared.ractor_method.RactorMethod.{RactorMethod}
 use Rattle.rr_eval.specs.declared.ractor_method.RactorMethod.TheVariants.{IsShareable, MakeShareable, Start, Current, IsMain, WithOthers, Name, Later}
 use Rattle.rr_eval.specs.Calls.{call_reply}
 use Rattle.rr_eval.specs.Context.{Context}
+use Rattle.rr_eval.specs.Effects.{Effect, Says, SaysFailed}
 pub use Rattle.rr_eval.specs.RactorMethods.{ractor_method}
-use Rattle.rr_eval.specs.Script.{Reply}
 
 -- ---- Which objects a value leads to, as tests.
 
@@ -100,16 +99,16 @@ deep_frozen v t = record t { slots = frozen_from (leads t v) 0 t.slots }
 -- ---- The methods of Ractor.
 
 -- a call that changes nothing and raises
-abbrev pub fails : Problem → Table → Reply
-fails e t = record { response = Fails e; table = t }
+abbrev pub fails : Problem → Table → Effect
+fails e t = record { said = SaysFailed e; table = t }
 
 -- a wrong count of arguments
-abbrev pub one_wanted : List Ref → Table → Reply
+abbrev pub one_wanted : List Ref → Table → Effect
 one_wanted vs t = fails (BuiltIn (Count (length vs) 1 1)) t
 
 -- `shareable?`
-abbrev pub shareable_reply : List Ref → Table → Reply
-shareable_reply (v ∷ []) t = record { response = Gives (refs.Truth (is_shareable t v)); table = t }
+abbrev pub shareable_reply : List Ref → Table → Effect
+shareable_reply (v ∷ []) t = record { said = Says (Plain (Truth (is_shareable t v))); table = t }
 shareable_reply vs t = one_wanted vs t
 
 -- whether a key is `:copy`
@@ -126,28 +125,28 @@ abbrev pub asks_copy : Context → Table → Ref → Bool
 asks_copy c t v = nat_eq (length (triples_at t v)) 2 && is_copy c (slice_get (triples_at t v) 0)
 
 -- a second argument, which is a hash of keywords; the only keyword is `copy`, which is not evaluated yet
-abbrev pub keyword_reply : Context → Ref → Ref → Table → Reply
+abbrev pub keyword_reply : Context → Ref → Ref → Table → Effect
 keyword_reply c v w t = if is_hash (kind_at t w) then fails (if asks_copy c t w then NotHere else UnknownKeyword) t else one_wanted (v ∷ w ∷ []) t
 
-abbrev pub frozen_reply : Ref → Table → Reply
-frozen_reply v t = if leads_to_shell t v then fails (BuiltIn Moved) t else record { response = Gives v; table = deep_frozen v t }
+abbrev pub frozen_reply : Ref → Table → Effect
+frozen_reply v t = if leads_to_shell t v then fails (BuiltIn Moved) t else record { said = Says (value_of v); table = deep_frozen v t }
 
 -- `make_shareable`
-abbrev pub make_shareable_reply : Context → List Ref → Table → Reply
+abbrev pub make_shareable_reply : Context → List Ref → Table → Effect
 make_shareable_reply c (v ∷ []) t = frozen_reply v t
 make_shareable_reply c (v ∷ w ∷ []) t = keyword_reply c v w t
 make_shareable_reply c vs t = one_wanted vs t
 
 -- a method without arguments, which gives a value
-abbrev pub given_alone : Ref → List Ref → Table → Reply
-given_alone v [] t = record { response = Gives v; table = t }
+abbrev pub given_alone : Ref → List Ref → Table → Effect
+given_alone v [] t = record { said = Says (value_of v); table = t }
 given_alone v (w ∷ ws) t = fails (BuiltIn (Count (length (w ∷ ws)) 0 0)) t
 
 -- A script on its own is the main ractor, the first one, which has no name. It has no other ractor, no inbox and no port.
 abbrev pub main_ractor : RactorNumber
 main_ractor = record { 0 = 1 }
 
-abbrev pub ractor_reply : Context → RactorMethod → List Ref → Table → Reply
+abbrev pub ractor_reply : Context → RactorMethod → List Ref → Table → Effect
 ractor_reply c IsShareable vs t = shareable_reply vs t
 ractor_reply c MakeShareable vs t = make_shareable_reply c vs t
 -- with a block `new` is no request
@@ -159,6 +158,6 @@ ractor_reply c WithOthers vs t = fails NoRactors t
 ractor_reply c Later vs t = fails NotHere t
 
 -- a call: of a method of Ractor, or of another
-abbrev pub called_reply : Context → Option RactorMethod → Ref → Callee → List Ref → Table → Reply
+abbrev pub called_reply : Context → Option RactorMethod → Ref → Callee → List Ref → Table → Effect
 called_reply c None v callee vs t = call_reply c v callee vs t
 called_reply c (Some m) v callee vs t = ractor_reply c m vs t

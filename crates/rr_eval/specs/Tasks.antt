@@ -1,4 +1,4 @@
--- What an environment does with values where nothing is published: it prints them, or makes an array, a text or a hash of them.
+-- What an environment does with values: it prints them, or makes an array, a text or a hash of them.
 use Rattle.std.specs.Prelude.{ℕ, false, List, [], ◌∷◌, ◌++◌, codes, map, Option, Some, None, if◌then◌else◌}
 use Rattle.std.specs.Str.{bytes_eq}
 use Rattle.rr_base.specs.declared.name.Sym.{Sym}
@@ -9,7 +9,6 @@ use Rattle.rr_space.specs.declared.refer.Ref.{Ref}
 use Rattle.rr_space.specs.declared.refer.Ref.TheVariants.{Nil}
 use Rattle.rr_text.specs.Walk.{Walked, Wrote, Deep}
 use Rattle.rr_text.specs.Forms.{Names, spoken, inspected, lines, within_text}
-use Rattle.rr_text.specs.Names.{names_of}
 use Rattle.rr_builtin.specs.Acts.{MakesArray, MakesObject, performed}
 use Rattle.rr_builtin.specs.Causes.{caused}
 use Rattle.rr_builtin.specs.Fields.{set_field}
@@ -19,17 +18,13 @@ use Rattle.rr_builtin.specs.News.{empty_hash}
 use Rattle.rr_builtin.specs.Objects.{printed_text}
 use Rattle.rr_builtin.specs.declared.problem.Problem.{Problem as BuiltInProblem}
 use Rattle.rr_builtin.specs.declared.problem.Problem.TheVariants.{Moved, TooDeep}
-use Rattle.rr_eval.specs.declared.call.Callee.TheVariants.{SetIndex}
 use Rattle.rr_eval.specs.declared.call.Task.{Task}
 use Rattle.rr_eval.specs.declared.call.Task.TheVariants.{Puts, Inspect, Print, MakeArray, MakeText, MakeHash, SetField, SetMessage, SetCause, SetGlobal, Show, Lines}
 use Rattle.rr_eval.specs.declared.problem.Problem.TheVariants.{BuiltIn, NotHere}
-use Rattle.rr_eval.specs.declared.problem.Response.{Response}
-use Rattle.rr_eval.specs.declared.problem.Response.TheVariants.{Gives, Throws, Fails}
-use Rattle.rr_eval.specs.Calls.{call_reply, reply_with, unpublished}
-use Rattle.rr_eval.specs.Context.{Context}
+use Rattle.rr_eval.specs.Calls.{reply_with}
+use Rattle.rr_eval.specs.Effects.{Effect, Says, SaysRaised, SaysFailed, said, led}
 use Rattle.rr_eval.specs.Globals.{globals}
 use Rattle.rr_eval.specs.Operators.{make}
-use Rattle.rr_eval.specs.Script.{Reply}
 
 -- what a name prints by
 abbrev pub task_named : List ℕ → Option Task
@@ -41,15 +36,15 @@ task_named name =
 -- What is written of a value: `puts` ends it with a line end, unless it ends with one; where it has taken arrays apart, one that is left stands
 -- inside itself. `p` inspects it and ends the line.
 abbrev pub written_by : Task → Names → Table → Ref → Walked
-written_by Puts names t v = printed_text names [] lines t v
-written_by Lines names t v = if is_array_kind (kind_at t v) then Wrote (codes "[...]" ++ 10 ∷ []) else printed_text names [] lines t v
-written_by Inspect names t v = within_text (λ s. s ++ 10 ∷ []) (printed_text names [] inspected t v)
-written_by _ names t v = printed_text names [] spoken t v
+written_by Puts names t v = printed_text names (led t (v ∷ [])) lines t v
+written_by Lines names t v = if is_array_kind (kind_at t v) then Wrote (codes "[...]" ++ 10 ∷ []) else printed_text names (led t (v ∷ [])) lines t v
+written_by Inspect names t v = within_text (λ s. s ++ 10 ∷ []) (printed_text names (led t (v ∷ [])) inspected t v)
+written_by _ names t v = printed_text names (led t (v ∷ [])) spoken t v
 
 -- what `p` writes of a value whose class has an `inspect` of the program: the text that this gave, or else as it inspects it
 abbrev pub shown_by : Names → Table → Ref → Ref → Walked
 shown_by names t v Nil = written_by Inspect names t v
-shown_by names t v said = within_text (λ s. s ++ 10 ∷ []) (printed_text names [] spoken t said)
+shown_by names t v said = within_text (λ s. s ++ 10 ∷ []) (printed_text names (led t (said ∷ [])) spoken t said)
 
 -- the same of values and what they said, which stand by turns
 abbrev pub texts_shown : Names → Table → List Ref → List Walked
@@ -98,81 +93,58 @@ abbrev pub piece_of : Task → Names → Table → List Ref → List ℕ
 piece_of task names t vs = printed_by task (joined_texts (texts_of task names t vs))
 
 -- a new text
-abbrev pub text_reply : List ℕ → Table → Reply
-text_reply bytes t = record { response = (make false bytes t).0; table = (make false bytes t).1 }
+abbrev pub text_reply : List ℕ → Table → Effect
+text_reply bytes t = record { said = said (make false bytes t).0; table = (make false bytes t).1 }
 
 -- a new array of values
-abbrev pub array_reply : List Ref → Table → Reply
-array_reply vs t = reply_with NotHere t (performed (MakesArray (map value_of vs)) Nil t)
+abbrev pub array_reply : List Ref → Table → Effect
+array_reply vs t = reply_with NotHere (performed (MakesArray (map value_of vs)) Nil t)
 
-abbrev pub value_reply : Ref → Table → Reply
-value_reply v t = record { response = Gives v; table = t }
-
--- goes on with the value that was given, and with the objects then; an exception ends all
-abbrev pub given_or_ended : Response → Table → (Ref → Table → Reply) → Reply
-given_or_ended (Gives v) t next = next v t
-given_or_ended ended t next = record { response = ended; table = t }
-
-abbrev pub on_given : Reply → (Ref → Table → Reply) → Reply
-on_given reply next = given_or_ended reply.response reply.table next
+abbrev pub value_reply : Ref → Table → Effect
+value_reply v t = record { said = Says (value_of v); table = t }
 
 -- a new hash without pairs
-abbrev pub empty_reply : Table → Reply
-empty_reply t = reply_with NotHere t (performed (MakesObject empty_hash []) Nil t)
-
--- the hash, after keys and values, which stand by turns, were put into it as the call `h[k] = v` puts them
-abbrev pub filled : Context → Ref → List Ref → Table → Reply
-filled c h [] t = value_reply h t
-filled c h (k ∷ []) t = value_reply h t
-filled c h (k ∷ v ∷ vs) t = on_given (call_reply c h SetIndex (k ∷ v ∷ []) t) (λ put u. filled c h vs u)
-
--- a new hash of keys and values, which stand by turns
-abbrev pub hash_reply : Context → List Ref → Table → Reply
-hash_reply c vs t = on_given (empty_reply t) (λ h u. filled c h vs u)
+abbrev pub empty_reply : Table → Effect
+empty_reply t = reply_with NotHere (performed (MakesObject empty_hash []) Nil t)
 
 -- `p` gives its argument, an array of several, and nil for none; `puts` and `print` give nil
-abbrev pub inspected_reply : List Ref → Table → Reply
+abbrev pub inspected_reply : List Ref → Table → Effect
 inspected_reply [] t = value_reply Nil t
 inspected_reply (v ∷ []) t = value_reply v t
 inspected_reply (v ∷ w ∷ vs) t = array_reply (v ∷ w ∷ vs) t
 
 -- the second of two values becomes an instance variable of the first one, and is given
-abbrev pub field_reply : Sym → List Ref → Table → Reply
-field_reply x (object ∷ v ∷ vs) t = reply_with NotHere t (set_field x.0 (value_of v) object t)
+abbrev pub field_reply : Sym → List Ref → Table → Effect
+field_reply x (object ∷ v ∷ vs) t = reply_with NotHere (set_field x.0 (value_of v) object t)
 field_reply x vs t = value_reply Nil t
 
 -- the second of two values becomes the message of the first one, an exception, which is given
-abbrev pub message_reply : List Ref → Table → Reply
-message_reply (exception ∷ v ∷ vs) t = reply_with NotHere t (write_message (value_of v) exception t)
+abbrev pub message_reply : List Ref → Table → Effect
+message_reply (exception ∷ v ∷ vs) t = reply_with NotHere (write_message (value_of v) exception t)
 message_reply vs t = value_reply Nil t
 
 -- the second of two exceptions becomes the cause of the first one, where it takes one, and the first one is raised
-abbrev pub cause_reply : List Ref → Table → Reply
-cause_reply (exception ∷ cause ∷ vs) t = record { response = Throws exception; table = unpublished t (caused (value_of cause) exception t) }
+abbrev pub cause_reply : List Ref → Table → Effect
+cause_reply (exception ∷ cause ∷ vs) t = record { said = SaysRaised (value_of exception); table = caused (value_of cause) exception t }
 cause_reply vs t = value_reply Nil t
 
 -- the value becomes a global variable, or a constant, and is given
-abbrev pub global_reply : Sym → List Ref → Table → Reply
-global_reply x (v ∷ vs) t = reply_with NotHere t (set_field x.0 (value_of v) globals t)
+abbrev pub global_reply : Sym → List Ref → Table → Effect
+global_reply x (v ∷ vs) t = reply_with NotHere (set_field x.0 (value_of v) globals t)
 global_reply x [] t = value_reply Nil t
 
--- what a task gives, where these are the texts of the values, one after the other
-abbrev pub given_by : Task → Context → List ℕ → List Ref → Table → Reply
-given_by MakeText c s vs t = text_reply s t
-given_by MakeArray c s vs t = array_reply vs t
-given_by MakeHash c s vs t = hash_reply c vs t
-given_by Inspect c s vs t = inspected_reply vs t
-given_by Show c s vs t = inspected_reply (values_shown vs) t
-given_by (SetField x) c s vs t = field_reply x vs t
-given_by SetMessage c s vs t = message_reply vs t
-given_by SetCause c s vs t = cause_reply vs t
-given_by (SetGlobal x) c s vs t = global_reply x vs t
-given_by _ c s vs t = value_reply Nil t
+-- what a task gives that makes no hash, where these are the texts of the values, one after the other
+abbrev pub given_by : Task → List ℕ → List Ref → Table → Effect
+given_by MakeText s vs t = text_reply s t
+given_by MakeArray s vs t = array_reply vs t
+given_by Inspect s vs t = inspected_reply vs t
+given_by Show s vs t = inspected_reply (values_shown vs) t
+given_by (SetField x) s vs t = field_reply x vs t
+given_by SetMessage s vs t = message_reply vs t
+given_by SetCause s vs t = cause_reply vs t
+given_by (SetGlobal x) s vs t = global_reply x vs t
+given_by _ s vs t = value_reply Nil t
 
-abbrev pub unless_lacking : Option BuiltInProblem → Table → Reply → Reply
-unless_lacking None t reply = reply
-unless_lacking (Some problem) t reply = record { response = Fails (BuiltIn problem); table = t }
-
--- the reply: an exception, where a value has no text
-abbrev pub task_reply : Task → Context → List Ref → Table → Reply
-task_reply task c vs t = unless_lacking (lack_of (texts_of task (names_of c.program) t vs)) t (given_by task c (joined_texts (texts_of task (names_of c.program) t vs)) vs t)
+-- a value has no text, so that an exception is raised
+abbrev pub lacking_reply : BuiltInProblem → Table → Effect
+lacking_reply problem t = record { said = SaysFailed (BuiltIn problem); table = t }

@@ -9,6 +9,7 @@ ghost use Rattle.rr_builtin.specs.Kinds.{is_exception};
 ghost use Rattle.rr_builtin.specs.Objects.{is_nil};
 ghost use Rattle.rr_eval.specs.Frames.{below_of, base_of, stand_of, Nested};
 ghost use Rattle.rr_eval.specs.Raising.{raised_beside, raise_rule};
+ghost use Rattle.rr_eval.specs.Published.{published};
 ghost use Rattle.rr_eval.specs.Requests.{Course};
 ghost use Rattle.rr_eval.specs.Serves.{IsReplied};
 ghost use Rattle.rr_eval.specs.Tasks.{cause_reply};
@@ -23,6 +24,7 @@ use crate::problem::Response;
 use crate::request::Request;
 use rr_builtin::set_cause;
 use rr_space::{Kind, Ref, Space};
+use rr_store::StoreState;
 
 /// Whether a value of a kind is raised itself, while another exception is being rescued.
 fn is_beside(kind: Kind, rescued: Ref) -> bool
@@ -50,23 +52,23 @@ fn raised_beside(space: &Space, rescued: Ref, values: &[Ref], last: Ref) -> Opti
 
 /// The second of two exceptions becomes the cause of the first one, where it takes one, and the first one is raised, where nothing is
 /// published.
-pub fn give_cause(space: &mut Space, values: &[Ref]) -> Response
-    requires read { IsReadWith space.old [] }
-    requires reached { All (IsReached (reach (length space.old.slots) (Some []))) values.now }
-    ensures replied { IsReplied (cause_reply values.now space.old) space.old result space.new }
+pub fn give_cause(space: &mut Space, store: &StoreState, values: &[Ref]) -> Response
+    requires read { IsReadWith space.old (published store.now) }
+    requires reached { All (IsReached (reach (length space.old.slots) (Some (published store.now)))) values.now }
+    ensures replied { IsReplied (published store.now) (cause_reply values.now space.old) space.old result space.new }
 {
     match values {
-        [exception, cause, ..] => raise_with_cause(space, *exception, *cause),
+        [exception, cause, ..] => raise_with_cause(space, store, *exception, *cause),
         _ => Response::Gives(Ref::Nil),
     }
 }
 
 /// An exception gets a cause, where it takes one, and is raised, where nothing is published.
-fn raise_with_cause(space: &mut Space, exception: Ref, cause: Ref) -> Response
-    requires read { IsReadWith space.old [] }
-    requires exception { IsReached (reach (length space.old.slots) (Some [])) exception }
-    requires cause { IsReached (reach (length space.old.slots) (Some [])) cause }
-    ensures replied { IsReplied (cause_reply (exception ∷ cause ∷ []) space.old) space.old result space.new }
+fn raise_with_cause(space: &mut Space, store: &StoreState, exception: Ref, cause: Ref) -> Response
+    requires read { IsReadWith space.old (published store.now) }
+    requires exception { IsReached (reach (length space.old.slots) (Some (published store.now))) exception }
+    requires cause { IsReached (reach (length space.old.slots) (Some (published store.now))) cause }
+    ensures replied { IsReplied (published store.now) (cause_reply (exception ∷ cause ∷ []) space.old) space.old result space.new }
 {
     set_cause(space, exception, cause);
     let _after = space.len();

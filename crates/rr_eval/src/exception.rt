@@ -30,6 +30,7 @@ pub fn exception_class(problem: Problem) -> BuiltInClass
         Problem::NoRactorBlock => BuiltInClass::ArgumentError,
         Problem::UsesYield => BuiltInClass::ArgumentError,
         Problem::NoRactors => BuiltInClass::RactorError,
+        Problem::HistoryFull => BuiltInClass::RactorError,
         Problem::NotRaisable => BuiltInClass::TypeError,
         Problem::NoBlock | Problem::Jump => BuiltInClass::LocalJumpError,
         Problem::Unhandled | Problem::NotHere => BuiltInClass::RuntimeError,

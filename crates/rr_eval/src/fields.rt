@@ -11,6 +11,7 @@ ghost use Rattle.rr_tree.specs.declared.program.Program.{Program};
 ghost use Rattle.rr_eval.specs.declared.problem.Problem.{Problem};
 ghost use Rattle.rr_eval.specs.Calls.{reply_with};
 ghost use Rattle.rr_eval.specs.Fields.{field_response, field_rule, set_field_rule};
+ghost use Rattle.rr_eval.specs.Published.{published};
 ghost use Rattle.rr_eval.specs.Requests.{Course, asked_of};
 ghost use Rattle.rr_eval.specs.Serves.{IsReplied, IsRefused};
 ghost use Rattle.rr_eval.specs.Tasks.{field_reply, message_reply};
@@ -27,6 +28,7 @@ use crate::serve::response_from;
 use rr_base::{Fault, Sym};
 use rr_builtin::{Problem as BuiltInProblem, Round, field_at, set_field, write_message};
 use rr_space::{Ref, Space};
+use rr_store::StoreState;
 
 /// What an instance variable of an object holds.
 pub fn read_field(space: &Space, object: Ref, name: Sym) -> Response
@@ -45,12 +47,12 @@ pub fn read_field(space: &Space, object: Ref, name: Sym) -> Response
 
 /// Gives an instance variable of an object a value, and gives the value, where nothing is published. A refused growth leaves the
 /// objects as they were.
-fn write_field(space: &mut Space, object: Ref, name: Sym, value: Ref) -> Result<Response, Fault>
-    requires read { IsReadWith space.old [] }
-    requires object { IsReached (reach (length space.old.slots) (Some [])) object }
-    requires value { IsReached (reach (length space.old.slots) (Some [])) value }
-    ensures replied { IfOk result (λ r. IsReplied (reply_with Problem.NotHere space.old (set_field name.0 (value_of value) object space.old)) space.old r space.new) }
-    ensures refused { IfErr result (IsRefused (reply_with Problem.NotHere space.old (set_field name.0 (value_of value) object space.old)) space.old) }
+fn write_field(space: &mut Space, store: &StoreState, object: Ref, name: Sym, value: Ref) -> Result<Response, Fault>
+    requires read { IsReadWith space.old (published store.now) }
+    requires object { IsReached (reach (length space.old.slots) (Some (published store.now))) object }
+    requires value { IsReached (reach (length space.old.slots) (Some (published store.now))) value }
+    ensures replied { IfOk result (λ r. IsReplied (published store.now) (reply_with Problem.NotHere (set_field name.0 (value_of value) object space.old)) space.old r space.new) }
+    ensures refused { IfErr result (IsRefused (reply_with Problem.NotHere (set_field name.0 (value_of value) object space.old)) space.old) }
 {
     match set_field(space, object, name, value) {
         Ok(built) => {
@@ -63,23 +65,23 @@ fn write_field(space: &mut Space, object: Ref, name: Sym, value: Ref) -> Result<
 
 /// The second of two values becomes an instance variable of the first one, and is given. A refused growth leaves the objects as
 /// they were.
-pub fn give_field(space: &mut Space, name: Sym, values: &[Ref]) -> Result<Response, Fault>
-    requires read { IsReadWith space.old [] }
-    requires reached { All (IsReached (reach (length space.old.slots) (Some []))) values.now }
-    ensures replied { IfOk result (λ r. IsReplied (field_reply name values.now space.old) space.old r space.new) }
+pub fn give_field(space: &mut Space, store: &StoreState, name: Sym, values: &[Ref]) -> Result<Response, Fault>
+    requires read { IsReadWith space.old (published store.now) }
+    requires reached { All (IsReached (reach (length space.old.slots) (Some (published store.now)))) values.now }
+    ensures replied { IfOk result (λ r. IsReplied (published store.now) (field_reply name values.now space.old) space.old r space.new) }
     ensures refused { IfErr result (IsRefused (field_reply name values.now space.old) space.old) }
 {
     match values {
-        [object, value, ..] => write_field(space, *object, name, *value),
+        [object, value, ..] => write_field(space, store, *object, name, *value),
         _ => Ok(Response::Gives(Ref::Nil)),
     }
 }
 
 /// Gives an exception another message, and gives the exception, where nothing is published.
-fn replace_message(space: &mut Space, exception: Ref, message: Ref) -> Response
-    requires read { IsReadWith space.old [] }
-    requires message { IsReached (reach (length space.old.slots) (Some [])) message }
-    ensures replied { IsReplied (reply_with Problem.NotHere space.old (write_message (value_of message) exception space.old)) space.old result space.new }
+fn replace_message(space: &mut Space, store: &StoreState, exception: Ref, message: Ref) -> Response
+    requires read { IsReadWith space.old (published store.now) }
+    requires message { IsReached (reach (length space.old.slots) (Some (published store.now))) message }
+    ensures replied { IsReplied (published store.now) (reply_with Problem.NotHere (write_message (value_of message) exception space.old)) space.old result space.new }
 {
     let built = write_message(space, exception, message);
     let _after = space.len();
@@ -87,13 +89,13 @@ fn replace_message(space: &mut Space, exception: Ref, message: Ref) -> Response
 }
 
 /// The second of two values becomes the message of the first one, an exception, which is given, where nothing is published.
-pub fn give_message(space: &mut Space, values: &[Ref]) -> Response
-    requires read { IsReadWith space.old [] }
-    requires reached { All (IsReached (reach (length space.old.slots) (Some []))) values.now }
-    ensures replied { IsReplied (message_reply values.now space.old) space.old result space.new }
+pub fn give_message(space: &mut Space, store: &StoreState, values: &[Ref]) -> Response
+    requires read { IsReadWith space.old (published store.now) }
+    requires reached { All (IsReached (reach (length space.old.slots) (Some (published store.now)))) values.now }
+    ensures replied { IsReplied (published store.now) (message_reply values.now space.old) space.old result space.new }
 {
     match values {
-        [exception, message, ..] => replace_message(space, *exception, *message),
+        [exception, message, ..] => replace_message(space, store, *exception, *message),
         _ => Response::Gives(Ref::Nil),
     }
 }

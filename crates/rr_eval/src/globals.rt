@@ -12,6 +12,7 @@ ghost use Rattle.rr_eval.specs.declared.problem.Problem.{Problem};
 ghost use Rattle.rr_eval.specs.Calls.{reply_with};
 ghost use Rattle.rr_eval.specs.Globals.{globals, global_rule, set_global_rule};
 ghost use Rattle.rr_eval.specs.Frames.{below_of, base_of, Nested};
+ghost use Rattle.rr_eval.specs.Published.{published};
 ghost use Rattle.rr_eval.specs.Requests.{Course, asked_of};
 ghost use Rattle.rr_eval.specs.Rules.{with_value};
 ghost use Rattle.rr_eval.specs.Serves.{IsReplied, IsRefused};
@@ -30,6 +31,7 @@ use crate::serve::response_from;
 use rr_base::{Fault, Sym};
 use rr_builtin::set_field;
 use rr_space::{Ref, Space};
+use rr_store::StoreState;
 use rr_tree::NodeId;
 
 /// The object whose fields are the global variables and the constants: the second one of a script.
@@ -37,11 +39,11 @@ pub const GLOBALS: Ref = Ref::Local(1);
 
 /// Gives a global variable, or a constant, a value, and gives the value, where nothing is published. A refused growth leaves the
 /// objects as they were.
-fn write_global(space: &mut Space, name: Sym, value: Ref) -> Result<Response, Fault>
-    requires read { IsReadWith space.old [] }
-    requires value { IsReached (reach (length space.old.slots) (Some [])) value }
-    ensures replied { IfOk result (λ r. IsReplied (reply_with Problem.NotHere space.old (set_field name.0 (value_of value) globals space.old)) space.old r space.new) }
-    ensures refused { IfErr result (IsRefused (reply_with Problem.NotHere space.old (set_field name.0 (value_of value) globals space.old)) space.old) }
+fn write_global(space: &mut Space, store: &StoreState, name: Sym, value: Ref) -> Result<Response, Fault>
+    requires read { IsReadWith space.old (published store.now) }
+    requires value { IsReached (reach (length space.old.slots) (Some (published store.now))) value }
+    ensures replied { IfOk result (λ r. IsReplied (published store.now) (reply_with Problem.NotHere (set_field name.0 (value_of value) globals space.old)) space.old r space.new) }
+    ensures refused { IfErr result (IsRefused (reply_with Problem.NotHere (set_field name.0 (value_of value) globals space.old)) space.old) }
 {
     match set_field(space, GLOBALS, name, value) {
         Ok(built) => {
@@ -53,14 +55,14 @@ fn write_global(space: &mut Space, name: Sym, value: Ref) -> Result<Response, Fa
 }
 
 /// The value becomes a global variable, or a constant, and is given. A refused growth leaves the objects as they were.
-pub fn give_global(space: &mut Space, name: Sym, values: &[Ref]) -> Result<Response, Fault>
-    requires read { IsReadWith space.old [] }
-    requires reached { All (IsReached (reach (length space.old.slots) (Some []))) values.now }
-    ensures replied { IfOk result (λ r. IsReplied (global_reply name values.now space.old) space.old r space.new) }
+pub fn give_global(space: &mut Space, store: &StoreState, name: Sym, values: &[Ref]) -> Result<Response, Fault>
+    requires read { IsReadWith space.old (published store.now) }
+    requires reached { All (IsReached (reach (length space.old.slots) (Some (published store.now)))) values.now }
+    ensures replied { IfOk result (λ r. IsReplied (published store.now) (global_reply name values.now space.old) space.old r space.new) }
     ensures refused { IfErr result (IsRefused (global_reply name values.now space.old) space.old) }
 {
     match values {
-        [value, ..] => write_global(space, name, *value),
+        [value, ..] => write_global(space, store, name, *value),
         _ => Ok(Response::Gives(Ref::Nil)),
     }
 }

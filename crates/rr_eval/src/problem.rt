@@ -31,6 +31,8 @@ pub enum Problem {
     UsesYield,
     /// Ractor::Error: a script on its own has no other ractor, no inbox and no port.
     NoRactors,
+    /// Ractor::Error: the history of what is shared has no room for another event.
+    HistoryFull,
     /// TypeError: what would be raised is neither an exception nor a class of exceptions.
     NotRaisable,
     /// RuntimeError: nothing is given that would be raised.

@@ -11,7 +11,8 @@ ghost use Rattle.rr_eval.specs.Counted.{failures, counted};
 ghost use Rattle.rr_eval.specs.Written.{written_to};
 ghost use Rattle.rr_eval.specs.Turns.{context_of, remaining};
 ghost use Rattle.rr_eval.specs.Within.{AreReached, AreWithin, reach};
-ghost use Rattle.rr_eval.specs.Runs.{Reads, Leaves, WithinSlots, Meets, alone, program_meaning};
+ghost use Rattle.rr_eval.specs.Runs.{Reads, IsRun, Meets, first_course, program_meaning};
+ghost use Rattle.rr_eval.specs.Script.{World};
 
 use crate::counted::Counted;
 use crate::engine::Turn;
@@ -26,6 +27,7 @@ use rr_builtin::Methods;
 use rr_lexer::{Token, lex, tokens_are_one};
 use rr_parser::parse;
 use rr_space::{Ref, Space};
+use rr_store::StoreState;
 use rr_tree::Program;
 use std::alloc::Global;
 use std::io::Write;
@@ -107,17 +109,17 @@ fn run_machine<O: Output>(
     requires reached { AreReached (reach (length space.slots) (Some [])) machine }
     requires read { IsReadWith space [] }
     requires limit { space.limit ≡ limits.slots }
-    requires whole { program_meaning prepared.now.program limits ≡ remaining prepared.now.program machine space (record { asked = []; world = alone (context_of prepared.now.program) }) }
-    ensures leaves { Leaves (context_of prepared.now.program) (written_to O.contents O.failures output.old) (written_to O.contents O.failures output.new) (program_meaning prepared.now.program limits) result }
-    ensures slots { WithinSlots limits.slots (program_meaning prepared.now.program limits) result }
+    requires whole { (w : World) → program_meaning prepared.now.program limits w ≡ remaining prepared.now.program machine space (first_course w) }
+    ensures { IsRun (context_of prepared.now.program) (program_meaning prepared.now.program limits) limits (written_to O.contents O.failures output.old) (written_to O.contents O.failures output.new) result }
 {
     let program = &prepared.program;
     let methods = &prepared.methods;
+    let store = StoreState::new(alloc, limits.events);
     loop {
         match machine.turn(prepared, &mut space, turn) {
             Ok(Turn::More) => {}
             Ok(Turn::Ask(request)) => {
-                match serve(alloc, &mut space, program, methods, request) {
+                match serve(alloc, &mut space, &store, program, methods, request) {
                     Ok(served) => {
                         if !put(output, served.piece.as_slice()) {
                             return Outcome::OutputFailed;
@@ -157,8 +159,7 @@ fn run_program<O: Output>(
 ) -> Outcome
     requires some { 0 < turn }
     requires room { O.failures output.old + 1 < 2 ^ 64 }
-    ensures leaves { Leaves (context_of prepared.now.program) (written_to O.contents O.failures output.old) (written_to O.contents O.failures output.new) (program_meaning prepared.now.program limits) result }
-    ensures slots { WithinSlots limits.slots (program_meaning prepared.now.program limits) result }
+    ensures { IsRun (context_of prepared.now.program) (program_meaning prepared.now.program limits) limits (written_to O.contents O.failures output.old) (written_to O.contents O.failures output.new) result }
 {
     let mut space = Space::new(alloc, RactorNo(1), limits.slots);
     let itself = match make_first(alloc, &mut space) {
@@ -181,8 +182,7 @@ fn run_prepared<O: Output>(
 ) -> Outcome
     requires some { 0 < turn }
     requires room { O.failures output.old + 1 < 2 ^ 64 }
-    ensures leaves { Leaves (context_of program) (written_to O.contents O.failures output.old) (written_to O.contents O.failures output.new) (program_meaning program limits) result }
-    ensures slots { WithinSlots limits.slots (program_meaning program limits) result }
+    ensures { IsRun (context_of program) (program_meaning program limits) limits (written_to O.contents O.failures output.old) (written_to O.contents O.failures output.new) result }
 {
     match Prepared::of(alloc, program) {
         Ok(prepared) => run_program(alloc, &prepared, limits, turn, output),

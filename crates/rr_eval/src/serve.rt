@@ -13,10 +13,11 @@ ghost use Rattle.rr_eval.specs.Acts.{IsRefusal, Passes};
 ghost use Rattle.rr_eval.specs.Callees.{method_of};
 ghost use Rattle.rr_eval.specs.Calls.{sent, call_reply};
 ghost use Rattle.rr_eval.specs.Requests.{arguments_of, asked_of};
-ghost use Rattle.rr_eval.specs.Runs.{piece_asked, reply_to};
-ghost use Rattle.rr_eval.specs.Serves.{IsReplied, IsRefused};
+ghost use Rattle.rr_eval.specs.Published.{published};
+ghost use Rattle.rr_eval.specs.Runs.{piece_asked};
+ghost use Rattle.rr_eval.specs.Serves.{IsLeft, IsReplied, IsRefused, IsTaskReplied, IsTaskRefused, IsRequestReplied, IsRequestRefused};
 ghost use Rattle.rr_eval.specs.Sharing.{called_reply, ractor_method};
-ghost use Rattle.rr_eval.specs.Tasks.{piece_of, task_reply};
+ghost use Rattle.rr_eval.specs.Tasks.{piece_of};
 ghost use Rattle.rr_text.specs.Names.{names_of};
 ghost use Rattle.rr_eval.specs.Responses.{receiver_of, response_from};
 ghost use Rattle.rr_eval.specs.Turns.{context_of};
@@ -34,6 +35,7 @@ use rr_builtin::{
     Receiver, call, methods_have_names,
 };
 use rr_space::{Kind, Ref, Space};
+use rr_store::StoreState;
 use rr_tree::Program;
 use std::alloc::Global;
 
@@ -138,23 +140,17 @@ pub fn response_from(missing: Problem, built: Built) -> Response
 /// they were.
 pub fn serve_method(
     alloc: Global,
-    space: &mut Space,
+    space: &mut Space, store: &StoreState,
     program: &Program,
     call: &Call,
     method: Option<BuiltInMethod>,
 ) -> Result<Response, Fault>
     requires method { method ≡ method_of (context_of program.now) call.now.callee }
-    requires read { IsReadWith space.old [] }
-    requires reached { IsCallReached (reach (length space.old.slots) (Some [])) call.now }
-    ensures reply { IfOk result (λ r. call_reply (context_of program.now) call.now.receiver call.now.callee (arguments_of call.now.arguments) space.old ≡ record { response = r; table = space.new }) }
-    ensures read { IsReadWith space.new [] }
-    ensures reached { IfOk result (IsResponseReached (reach (length space.new.slots) (Some []))) }
-    ensures grows { length space.old.slots ≤ length space.new.slots }
-    ensures limit { space.new.limit ≡ space.old.limit }
-    ensures refused { IfErr result IsRefusal }
-    ensures full { IfErr result (λ f. Passes f space.old.limit (length (call_reply (context_of program.now) call.now.receiver call.now.callee (arguments_of call.now.arguments) space.old).table.slots)) }
+    requires read { IsReadWith space.old (published store.now) }
+    requires reached { IsCallReached (reach (length space.old.slots) (Some (published store.now))) call.now }
+    ensures replied { IfOk result (λ r. IsReplied (published store.now) (call_reply (context_of program.now) call.now.receiver call.now.callee (arguments_of call.now.arguments) space.old) space.old r space.new) }
+    ensures refused { IfErr result (IsRefused (call_reply (context_of program.now) call.now.receiver call.now.callee (arguments_of call.now.arguments) space.old) space.old) }
 {
-    let _before = space.len();
     let missing = Problem::MissingMethod(call.callee, receiver_of(space, call.receiver));
     match send_with(
         alloc,
@@ -175,67 +171,63 @@ pub fn serve_method(
 /// Serves a call where nothing is published. A refused growth leaves the objects as they were.
 fn serve_call(
     alloc: Global,
-    space: &mut Space,
+    space: &mut Space, store: &StoreState,
     program: &Program,
     methods: &Methods,
     call: &Call,
 ) -> Result<Response, Fault>
     requires methods { methods.now ≡ map (λ s. method_named s.items) program.now.symbols.items }
-    requires read { IsReadWith space.old [] }
-    requires reached { IsCallReached (reach (length space.old.slots) (Some [])) call.now }
-    ensures reply { IfOk result (λ r. call_reply (context_of program.now) call.now.receiver call.now.callee (arguments_of call.now.arguments) space.old ≡ record { response = r; table = space.new }) }
-    ensures read { IsReadWith space.new [] }
-    ensures reached { IfOk result (IsResponseReached (reach (length space.new.slots) (Some []))) }
-    ensures grows { length space.old.slots ≤ length space.new.slots }
-    ensures limit { space.new.limit ≡ space.old.limit }
-    ensures refused { IfErr result IsRefusal }
-    ensures full { IfErr result (λ f. Passes f space.old.limit (length (call_reply (context_of program.now) call.now.receiver call.now.callee (arguments_of call.now.arguments) space.old).table.slots)) }
+    requires read { IsReadWith space.old (published store.now) }
+    requires reached { IsCallReached (reach (length space.old.slots) (Some (published store.now))) call.now }
+    ensures replied { IfOk result (λ r. IsReplied (published store.now) (call_reply (context_of program.now) call.now.receiver call.now.callee (arguments_of call.now.arguments) space.old) space.old r space.new) }
+    ensures refused { IfErr result (IsRefused (call_reply (context_of program.now) call.now.receiver call.now.callee (arguments_of call.now.arguments) space.old) space.old) }
 {
     let method = method_of(program, methods, call.callee);
-    serve_method(alloc, space, program, call, method)
+    serve_method(alloc, space, store, program, call, method)
 }
 
 /// Serves a call, of a method of Ractor too, where nothing is published. A refused growth leaves the objects as they were.
 fn serve_called(
     alloc: Global,
-    space: &mut Space,
+    space: &mut Space, store: &StoreState,
     program: &Program,
     methods: &Methods,
     call: &Call,
 ) -> Result<Response, Fault>
     requires methods { methods.now ≡ map (λ s. method_named s.items) program.now.symbols.items }
-    requires read { IsReadWith space.old [] }
-    requires reached { IsCallReached (reach (length space.old.slots) (Some [])) call.now }
-    ensures replied { IfOk result (λ r. IsReplied (called_reply (context_of program.now) (ractor_method (context_of program.now) call.now.receiver call.now.callee) call.now.receiver call.now.callee (arguments_of call.now.arguments) space.old) space.old r space.new) }
+    requires read { IsReadWith space.old (published store.now) }
+    requires reached { IsCallReached (reach (length space.old.slots) (Some (published store.now))) call.now }
+    ensures replied { IfOk result (λ r. IsReplied (published store.now) (called_reply (context_of program.now) (ractor_method (context_of program.now) call.now.receiver call.now.callee) call.now.receiver call.now.callee (arguments_of call.now.arguments) space.old) space.old r space.new) }
     ensures refused { IfErr result (IsRefused (called_reply (context_of program.now) (ractor_method (context_of program.now) call.now.receiver call.now.callee) call.now.receiver call.now.callee (arguments_of call.now.arguments) space.old) space.old) }
 {
     match ractor_method(program, call.receiver, call.callee) {
-        Some(method) => serve_ractor(alloc, space, program, method, &call.arguments),
-        None => serve_call(alloc, space, program, methods, call),
+        Some(method) => serve_ractor(alloc, space, store, program, method, &call.arguments),
+        None => serve_call(alloc, space, store, program, methods, call),
     }
 }
 
 /// Does a task with these values.
 fn serve_values(
     alloc: Global,
-    space: &mut Space,
+    space: &mut Space, store: &StoreState,
     program: &Program,
     task: Task,
     values: &Arguments,
 ) -> Result<Served, Fault>
-    requires read { IsReadWith space.old [] }
-    requires reached { All (IsReached (reach (length space.old.slots) (Some []))) (arguments_of values.now) }
+    requires read { IsReadWith space.old (published store.now) }
+    requires reached { All (IsReached (reach (length space.old.slots) (Some (published store.now)))) (arguments_of values.now) }
     ensures piece { IfOk result (λ served. served.piece.items ≡ piece_of task (names_of program.now) space.old (arguments_of values.now)) }
-    ensures replied { IfOk result (λ served. IsReplied (task_reply task (context_of program.now) (arguments_of values.now) space.old) space.old served.response space.new) }
-    ensures refused { IfErr result (IsRefused (task_reply task (context_of program.now) (arguments_of values.now) space.old) space.old) }
+    ensures replied { IfOk result (λ served. IsTaskReplied (context_of program.now) (published store.now) task (arguments_of values.now) space.old served.response space.new) }
+    ensures left { IfOk result (λ served. IsLeft (published store.now) space.old served.response space.new) }
+    ensures refused { IfErr result (IsTaskRefused (context_of program.now) (published store.now) task (arguments_of values.now) space.old) }
 {
     match values {
-        Arguments::Without => serve_task(alloc, space, program, task, &[]),
-        Arguments::One(first) => serve_task(alloc, space, program, task, &[*first]),
+        Arguments::Without => serve_task(alloc, space, store, program, task, &[]),
+        Arguments::One(first) => serve_task(alloc, space, store, program, task, &[*first]),
         Arguments::Two(first, second) => {
-            serve_task(alloc, space, program, task, &[*first, *second])
+            serve_task(alloc, space, store, program, task, &[*first, *second])
         }
-        Arguments::Many(values) => serve_task(alloc, space, program, task, values.as_slice()),
+        Arguments::Many(values) => serve_task(alloc, space, store, program, task, values.as_slice()),
     }
 }
 
@@ -243,22 +235,23 @@ fn serve_values(
 /// of its keys, to which nothing leads.
 pub fn serve(
     alloc: Global,
-    space: &mut Space,
+    space: &mut Space, store: &StoreState,
     program: &Program,
     methods: &Methods,
     request: Request,
 ) -> Result<Served, Fault>
     requires methods { methods.now ≡ map (λ s. method_named s.items) program.now.symbols.items }
-    requires read { IsReadWith space.old [] }
-    requires reached { IsRequestReached (reach (length space.old.slots) (Some [])) request }
+    requires read { IsReadWith space.old (published store.now) }
+    requires reached { IsRequestReached (reach (length space.old.slots) (Some (published store.now))) request }
     ensures piece { IfOk result (λ served. served.piece.items ≡ piece_asked (context_of program.now) (asked_of space.old request)) }
-    ensures replied { IfOk result (λ served. IsReplied (reply_to (context_of program.now) (asked_of space.old request) space.old) space.old served.response space.new) }
-    ensures refused { IfErr result (IsRefused (reply_to (context_of program.now) (asked_of space.old request) space.old) space.old) }
+    ensures replied { IfOk result (λ served. IsRequestReplied (context_of program.now) (published store.now) (asked_of space.old request) space.old served.response space.new) }
+    ensures left { IfOk result (λ served. IsLeft (published store.now) space.old served.response space.new) }
+    ensures refused { IfErr result (IsRequestRefused (context_of program.now) (published store.now) (asked_of space.old request) space.old) }
 {
     match request {
-        Request::Do(task, values) => serve_values(alloc, space, program, task, &values),
+        Request::Do(task, values) => serve_values(alloc, space, store, program, task, &values),
         Request::Call(call) => {
-            let response = serve_called(alloc, space, program, methods, &call)?;
+            let response = serve_called(alloc, space, store, program, methods, &call)?;
             Ok(Served {
                 piece: Vec::new(alloc),
                 response,

@@ -15,6 +15,8 @@ ghost use Rattle.rr_text.specs.Reads.{IsReadWith};
 ghost use Rattle.rr_builtin.specs.declared.problem.Problem.{Problem as BuiltInProblem};
 ghost use Rattle.rr_eval.specs.declared.problem.Problem.{Problem};
 ghost use Rattle.rr_eval.specs.declared.problem.Response.{Response};
+ghost use Rattle.rr_eval.specs.Effects.{SaysFailed, said};
+ghost use Rattle.rr_eval.specs.Published.{published};
 ghost use Rattle.rr_eval.specs.Requests.{arguments_of};
 ghost use Rattle.rr_eval.specs.Serves.{IsReplied, IsRefused};
 ghost use Rattle.rr_eval.specs.Sharing.{leads, is_shareable, deep_frozen, given_alone, names_copy, is_copy, asks_copy, keyword_reply, frozen_reply, shareable_reply, make_shareable_reply, ractor_reply};
@@ -28,6 +30,7 @@ use rr_base::{Fault, RactorNo};
 use rr_builtin::Problem as BuiltInProblem;
 use rr_share::{deep_freeze, is_shareable};
 use rr_space::{Kind, Label, Ref, Space};
+use rr_store::StoreState;
 use rr_tree::Program;
 use std::alloc::Global;
 
@@ -78,7 +81,7 @@ fn one_wanted(given: usize) -> Problem
 
 /// What a second argument of `make_shareable` comes to.
 fn refuse_keyword(program: &Program, space: &Space, keywords: Ref) -> Problem
-    ensures { (value : Ref) → keyword_reply (context_of program.now) value keywords space.now ≡ record { response = Response.Fails result; table = space.now } }
+    ensures { (value : Ref) → keyword_reply (context_of program.now) value keywords space.now ≡ record { said = SaysFailed result; table = space.now } }
 {
     match space.kind_of(keywords) {
         Kind::Hash => {
@@ -102,10 +105,10 @@ fn tell_shareable(alloc: Global, space: &Space, value: Ref) -> Result<Response, 
 }
 
 /// Freezes all that a value leads to, and gives the value. A refused growth leaves the objects as they were.
-fn make_shareable(alloc: Global, space: &mut Space, value: Ref) -> Result<Response, Fault>
-    requires read { IsReadWith space.old [] }
-    requires value { IsReached (reach (length space.old.slots) (Some [])) value }
-    ensures replied { IfOk result (λ r. IsReplied (frozen_reply value space.old) space.old r space.new) }
+fn make_shareable(alloc: Global, space: &mut Space, store: &StoreState, value: Ref) -> Result<Response, Fault>
+    requires read { IsReadWith space.old (published store.now) }
+    requires value { IsReached (reach (length space.old.slots) (Some (published store.now))) value }
+    ensures replied { IfOk result (λ r. IsReplied (published store.now) (frozen_reply value space.old) space.old r space.new) }
     ensures fault { IfErr result (λ f. f ≡ Fault.Memory) }
 {
     let _before = space.len();
@@ -117,9 +120,9 @@ fn make_shareable(alloc: Global, space: &mut Space, value: Ref) -> Result<Respon
 }
 
 /// Serves `shareable?`.
-fn serve_shareable(alloc: Global, space: &Space, values: &[Ref]) -> Result<Response, Fault>
-    requires read { IsReadWith space.now [] }
-    ensures replied { IfOk result (λ r. IsReplied (shareable_reply values.now space.now) space.now r space.now) }
+fn serve_shareable(alloc: Global, space: &Space, store: &StoreState, values: &[Ref]) -> Result<Response, Fault>
+    requires read { IsReadWith space.now (published store.now) }
+    ensures replied { IfOk result (λ r. IsReplied (published store.now) (shareable_reply values.now space.now) space.now r space.now) }
     ensures fault { IfErr result (λ f. f ≡ Fault.Memory) }
 {
     match values {
@@ -132,18 +135,18 @@ fn serve_shareable(alloc: Global, space: &Space, values: &[Ref]) -> Result<Respo
 /// Serves `make_shareable`. A refused growth leaves the objects as they were.
 fn serve_make_shareable(
     alloc: Global,
-    space: &mut Space,
+    space: &mut Space, store: &StoreState,
     program: &Program,
     values: &[Ref],
 ) -> Result<Response, Fault>
-    requires read { IsReadWith space.old [] }
-    requires reached { All (IsReached (reach (length space.old.slots) (Some []))) values.now }
-    ensures replied { IfOk result (λ r. IsReplied (make_shareable_reply (context_of program.now) values.now space.old) space.old r space.new) }
+    requires read { IsReadWith space.old (published store.now) }
+    requires reached { All (IsReached (reach (length space.old.slots) (Some (published store.now)))) values.now }
+    ensures replied { IfOk result (λ r. IsReplied (published store.now) (make_shareable_reply (context_of program.now) values.now space.old) space.old r space.new) }
     ensures fault { IfErr result (λ f. f ≡ Fault.Memory) }
 {
     match values {
         [] => Ok(Response::Fails(one_wanted(0))),
-        [value] => make_shareable(alloc, space, *value),
+        [value] => make_shareable(alloc, space, store, *value),
         [_, keywords] => Ok(Response::Fails(refuse_keyword(program, space, *keywords))),
         [_, _, _, ..] => Ok(Response::Fails(one_wanted(values.len()))),
     }
@@ -151,7 +154,7 @@ fn serve_make_shareable(
 
 /// Gives a value, where there are no arguments.
 fn give_alone(value: Ref, values: &[Ref]) -> Response
-    ensures is { (t : Table) → given_alone value values.now t ≡ record { response = result; table = t } }
+    ensures is { (t : Table) → given_alone value values.now t ≡ record { said = said result; table = t } }
     ensures within { (k : Reach) → IsReached k value → IsResponseReached k result }
 {
     match values {
@@ -167,19 +170,19 @@ fn give_alone(value: Ref, values: &[Ref]) -> Response
 /// Serves a method of Ractor. A refused growth leaves the objects as they were.
 fn serve_values(
     alloc: Global,
-    space: &mut Space,
+    space: &mut Space, store: &StoreState,
     program: &Program,
     method: RactorMethod,
     values: &[Ref],
 ) -> Result<Response, Fault>
-    requires read { IsReadWith space.old [] }
-    requires reached { All (IsReached (reach (length space.old.slots) (Some []))) values.now }
-    ensures replied { IfOk result (λ r. IsReplied (ractor_reply (context_of program.now) method values.now space.old) space.old r space.new) }
+    requires read { IsReadWith space.old (published store.now) }
+    requires reached { All (IsReached (reach (length space.old.slots) (Some (published store.now)))) values.now }
+    ensures replied { IfOk result (λ r. IsReplied (published store.now) (ractor_reply (context_of program.now) method values.now space.old) space.old r space.new) }
     ensures refused { IfErr result (IsRefused (ractor_reply (context_of program.now) method values.now space.old) space.old) }
 {
     match method {
-        RactorMethod::IsShareable => serve_shareable(alloc, space, values),
-        RactorMethod::MakeShareable => serve_make_shareable(alloc, space, program, values),
+        RactorMethod::IsShareable => serve_shareable(alloc, space, store, values),
+        RactorMethod::MakeShareable => serve_make_shareable(alloc, space, store, program, values),
         RactorMethod::Start => Ok(Response::Fails(Problem::NoRactorBlock)),
         RactorMethod::Current => Ok(give_alone(Ref::Ractor(RactorNo(1)), values)),
         RactorMethod::IsMain => Ok(give_alone(Ref::Truth(true), values)),
@@ -192,24 +195,24 @@ fn serve_values(
 /// Serves a method of Ractor with these arguments. A refused growth leaves the objects as they were.
 pub fn serve_ractor(
     alloc: Global,
-    space: &mut Space,
+    space: &mut Space, store: &StoreState,
     program: &Program,
     method: RactorMethod,
     arguments: &Arguments,
 ) -> Result<Response, Fault>
-    requires read { IsReadWith space.old [] }
-    requires reached { All (IsReached (reach (length space.old.slots) (Some []))) (arguments_of arguments.now) }
-    ensures replied { IfOk result (λ r. IsReplied (ractor_reply (context_of program.now) method (arguments_of arguments.now) space.old) space.old r space.new) }
+    requires read { IsReadWith space.old (published store.now) }
+    requires reached { All (IsReached (reach (length space.old.slots) (Some (published store.now)))) (arguments_of arguments.now) }
+    ensures replied { IfOk result (λ r. IsReplied (published store.now) (ractor_reply (context_of program.now) method (arguments_of arguments.now) space.old) space.old r space.new) }
     ensures refused { IfErr result (IsRefused (ractor_reply (context_of program.now) method (arguments_of arguments.now) space.old) space.old) }
 {
     match arguments {
-        Arguments::Without => serve_values(alloc, space, program, method, &[]),
-        Arguments::One(first) => serve_values(alloc, space, program, method, &[*first]),
+        Arguments::Without => serve_values(alloc, space, store, program, method, &[]),
+        Arguments::One(first) => serve_values(alloc, space, store, program, method, &[*first]),
         Arguments::Two(first, second) => {
-            serve_values(alloc, space, program, method, &[*first, *second])
+            serve_values(alloc, space, store, program, method, &[*first, *second])
         }
         Arguments::Many(values) => {
-            serve_values(alloc, space, program, method, values.as_slice())
+            serve_values(alloc, space, store, program, method, values.as_slice())
         }
     }
 }

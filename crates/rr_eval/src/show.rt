@@ -7,6 +7,7 @@ ghost use Rattle.rr_text.specs.Forms.{within_text};
 ghost use Rattle.rr_text.specs.Names.{names_of};
 ghost use Rattle.rr_text.specs.Reads.{IsReadWith, IsAmong};
 ghost use Rattle.rr_text.specs.Ways.{text_of};
+ghost use Rattle.rr_eval.specs.Published.{published};
 ghost use Rattle.rr_eval.specs.Serves.{IsReplied, IsRefused};
 ghost use Rattle.rr_eval.specs.Tasks.{shown_by, texts_shown, values_shown, joined_texts, lack_of, inspected_reply};
 ghost use Rattle.rr_eval.specs.Within.{Reach, reach, IsReached};
@@ -17,6 +18,7 @@ use crate::problem::Response;
 use rr_base::Fault;
 use rr_builtin::Problem as BuiltInProblem;
 use rr_space::{Ref, Space};
+use rr_store::StoreState;
 use rr_text::{Form, Text, text};
 use rr_tree::Program;
 use std::alloc::{AllocError, Global};
@@ -38,19 +40,19 @@ fn ended(text: Text) -> Result<Text, AllocError>
 /// What is printed of a value for which the program's `inspect` gave this text, or nil where it gave none.
 fn shown_text(
     alloc: Global,
-    space: &Space,
+    space: &Space, store: &StoreState,
     program: &Program,
     value: Ref,
     said: Ref,
 ) -> Result<Text, Fault>
-    requires read { IsReadWith space.now [] }
-    requires value { IsAmong [] value }
-    requires said { IsAmong [] said }
+    requires read { IsReadWith space.now (published store.now) }
+    requires value { IsAmong (published store.now) value }
+    requires said { IsAmong (published store.now) said }
     ensures text { IfOk result (λ text. text_of text ≡ shown_by (names_of program.now) space.now value said) }
     ensures fault { IfErr result (λ f. f ≡ Fault.Memory) }
 {
     if let Ref::Nil = said {
-        return written_text(alloc, space, program, Task::Inspect, value);
+        return written_text(alloc, space, store, program, Task::Inspect, value);
     }
     let text = text(alloc, space, program, said, Form::ToS)?;
     Ok(ended(text)?)
@@ -60,13 +62,13 @@ fn shown_text(
 /// none.
 pub fn write_shown(
     alloc: Global,
-    space: &Space,
+    space: &Space, store: &StoreState,
     program: &Program,
     values: &[Ref],
     piece: &mut Vec<u8>,
 ) -> Result<Option<BuiltInProblem>, Fault>
-    requires read { IsReadWith space.now [] }
-    requires among { All (IsAmong []) values.now }
+    requires read { IsReadWith space.now (published store.now) }
+    requires among { All (IsAmong (published store.now)) values.now }
     ensures piece { OnOk result (piece.new.items ≡ piece.old.items ++ joined_texts (texts_shown (names_of program.now) space.now values.now)) }
     ensures lack { IfOk result (λ lack. lack ≡ lack_of (texts_shown (names_of program.now) space.now values.now)) }
     ensures fault { IfErr result (λ f. f ≡ Fault.Memory) }
@@ -74,7 +76,7 @@ pub fn write_shown(
     let mut rest = values;
     while let [value, said, more @ ..] = rest {
         rest = more;
-        match shown_text(alloc, space, program, *value, *said)? {
+        match shown_text(alloc, space, store, program, *value, *said)? {
             Text::Bytes(bytes) => piece.extend_from_slice(bytes.as_slice())?,
             Text::Deep => return Ok(Some(BuiltInProblem::TooDeep)),
             Text::Shell => return Ok(Some(BuiltInProblem::Moved)),
@@ -98,12 +100,12 @@ fn values_shown(alloc: Global, values: &[Ref]) -> Result<Vec<Ref>, AllocError>
 }
 
 /// What `p` gives for values and what they said, which stand by turns.
-pub fn give_shown(alloc: Global, space: &mut Space, values: &[Ref]) -> Result<Response, Fault>
-    requires read { IsReadWith space.old [] }
-    requires reached { All (IsReached (reach (length space.old.slots) (Some []))) values.now }
-    ensures replied { IfOk result (λ r. IsReplied (inspected_reply (values_shown values.now) space.old) space.old r space.new) }
+pub fn give_shown(alloc: Global, space: &mut Space, store: &StoreState, values: &[Ref]) -> Result<Response, Fault>
+    requires read { IsReadWith space.old (published store.now) }
+    requires reached { All (IsReached (reach (length space.old.slots) (Some (published store.now)))) values.now }
+    ensures replied { IfOk result (λ r. IsReplied (published store.now) (inspected_reply (values_shown values.now) space.old) space.old r space.new) }
     ensures refused { IfErr result (IsRefused (inspected_reply (values_shown values.now) space.old) space.old) }
 {
     let shown = values_shown(alloc, values)?;
-    give_inspected(alloc, space, shown.as_slice())
+    give_inspected(alloc, space, store, shown.as_slice())
 }

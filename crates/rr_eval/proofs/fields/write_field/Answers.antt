@@ -1,19 +1,22 @@
--- The reply is the only one, and a refused assignment did nothing.
-use Rattle.std.proofs.Common.{[], length, Some}
+-- The reply is the assignment's, and a refused one did nothing.
+use Rattle.std.proofs.Common.{length, Some}
 use Rattle.rr_space.specs.Parts.{value_of}
+use Rattle.rr_eval.specs.Published.{published}
 use Rattle.rr_eval.proofs.Assigning.{set_field_replied, set_field_refused}
 use Rattle.rr_eval.proofs.Holding.{ref_among, ref_within}
 use Rattle.rr_eval.proofs.fields.write_field.Goals as goal
 
 pub set_field-requires : goal.set_field-requires
-set_field-requires c = ref_within (length c.args.space.now.slots) (Some []) c.args.value c.requires.value
+set_field-requires c = ref_within (length c.args.space.now.slots) (Some (published c.args.store.now)) c.args.value c.requires.value
 
 pub returns-in-Ok-clause-replied : goal.returns-in-Ok-clause-replied
 returns-in-Ok-clause-replied c =
-    let among = ref_among (length c.args.space.now.slots) [] c.args.value c.requires.value in
-    set_field_replied c.args.name.0 (value_of c.args.value) c.args.object c.args.space.now c.set_field.new.space c.in-Ok.built c.response_from.result (c.in-Ok.ensures.act [] c.requires.read among) c.len-after.ensures.well c.response_from.ensures.is
+    let below = published c.args.store.now in
+    let among = ref_among (length c.args.space.now.slots) below c.args.value c.requires.value in
+    set_field_replied below c.args.name.0 (value_of c.args.value) c.args.object c.args.space.now c.set_field.new.space c.in-Ok.built c.response_from.result (c.in-Ok.ensures.act below c.requires.read among) c.response_from.ensures.is
 
 pub returns-in-Err-clause-refused : goal.returns-in-Err-clause-refused
 returns-in-Err-clause-refused c =
-    let among = ref_among (length c.args.space.now.slots) [] c.args.value c.requires.value in
-    set_field_refused c.args.name.0 (value_of c.args.value) c.args.object c.args.space.now c.set_field.new.space c.in-Err.fault (c.in-Err.ensures.act [] c.requires.read among)
+    let below = published c.args.store.now in
+    let among = ref_among (length c.args.space.now.slots) below c.args.value c.requires.value in
+    set_field_refused below c.args.name.0 (value_of c.args.value) c.args.object c.args.space.now c.set_field.new.space c.in-Err.fault (c.in-Err.ensures.act below c.requires.read among)

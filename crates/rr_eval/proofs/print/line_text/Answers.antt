@@ -1,4 +1,5 @@
 -- A value that is no array is printed as by `puts`.
+use Rattle.rr_eval.specs.Published.{published}
 use Rattle.std.proofs.Common.{◌≡◌, sym, subst, IfOk}
 use Rattle.rr_text.specs.Forms.{lines}
 use Rattle.rr_text.specs.Names.{names_of}
@@ -13,6 +14,6 @@ returns-in_default c =
     let v = c.args.value in
     record {
       text = subst (λ w. IfOk c.text.result (λ x. text_of x ≡ w)) (line_other names t v c.kind_of.result (sym c.kind_of.ensures) c.in_default.not-Array)
-          (text_is c.text.result names t v lines c.text.ensures.text c.requires.read c.requires.among);
+          (text_is c.text.result names t v lines (published c.args.store.now) c.text.ensures.text c.requires.read c.requires.among);
       fault = c.text.ensures.fault;
     }

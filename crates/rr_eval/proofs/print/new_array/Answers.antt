@@ -1,14 +1,17 @@
 -- A new array is the reply.
 use Rattle.std.proofs.Common.{Ok, Err}
+use Rattle.rr_eval.specs.Published.{published}
 use Rattle.rr_eval.proofs.Replying.{array_acts, array_replied, array_refused}
 use Rattle.rr_eval.proofs.print.new_array.Goals as goal
 
 pub returns-in-Ok-clause-replied : goal.returns-in-Ok-clause-replied
 returns-in-Ok-clause-replied c =
-    let is = array_acts c.in_ok-items.items.items c.args.values.now c.args.space.now c.make_array.new.space (Ok c.in-Ok.built) c.in_ok-items.ensures.items c.in-Ok.ensures.act c.requires.read c.requires.reached in
-    array_replied c.args.values.now c.args.space.now c.make_array.new.space c.in-Ok.built c.response_from.result is c.len-after.ensures.well c.response_from.ensures.is
+    let below = published c.args.store.now in
+    let is = array_acts below c.in_ok-items.items.items c.args.values.now c.args.space.now c.make_array.new.space (Ok c.in-Ok.built) c.in_ok-items.ensures.items c.in-Ok.ensures.act c.requires.read c.requires.reached in
+    array_replied below c.args.values.now c.args.space.now c.make_array.new.space c.in-Ok.built c.response_from.result is c.response_from.ensures.is
 
 pub returns-in-Err-clause-refused : goal.returns-in-Err-clause-refused
 returns-in-Err-clause-refused c =
-    let is = array_acts c.in_ok-items.items.items c.args.values.now c.args.space.now c.make_array.new.space (Err c.in-Err.fault) c.in_ok-items.ensures.items c.in-Err.ensures.act c.requires.read c.requires.reached in
-    array_refused c.args.values.now c.args.space.now c.make_array.new.space c.in-Err.fault is
+    let below = published c.args.store.now in
+    let is = array_acts below c.in_ok-items.items.items c.args.values.now c.args.space.now c.make_array.new.space (Err c.in-Err.fault) c.in_ok-items.ensures.items c.in-Err.ensures.act c.requires.read c.requires.reached in
+    array_refused below c.args.values.now c.args.space.now c.make_array.new.space c.in-Err.fault is

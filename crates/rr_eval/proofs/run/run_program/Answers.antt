@@ -1,5 +1,5 @@
 -- A program has two objects first, and all is still to be done.
-use Rattle.std.proofs.Common.{◌≡◌, inl, sym, subst, ◌∙◌, arith, ap, List, [], ◌∷◌, length, length-append, ◌<◌, Option, Some, None}
+use Rattle.std.proofs.Common.{◌≡◌, inl, sym, refl, subst, ◌∙◌, arith, ap, List, [], ◌∷◌, length, length-append, ◌<◌, Option, Some, None}
 use Rattle.rr_base.specs.declared.name.TheConstants.ClassId.{OBJECT}
 use Rattle.rr_space.specs.Tables.{Table, Slot, Here, Below}
 use Rattle.rr_space.specs.declared.refer.Ref.TheVariants.{Local}
@@ -8,17 +8,25 @@ use Rattle.rr_builtin.specs.News.{new_plain}
 use Rattle.rr_tree.specs.Tree.{tree_at}
 use Rattle.rr_eval.specs.Turns.{context_of, code_of}
 use Rattle.rr_eval.specs.Rules.{begun, first_memory, start_state}
-use Rattle.rr_eval.specs.Runs.{alone, first_objects, program_meaning}
+use Rattle.rr_base.specs.declared.fault.Fault.{Fault}
+use Rattle.rr_base.specs.declared.fault.Fault.TheVariants.{Limit}
+use Rattle.rr_base.specs.declared.limits.Limits.{Limits}
+use Rattle.rr_base.specs.declared.limits.LimitKind.TheVariants.{Slots}
+use Rattle.rr_store.specs.Stores.{new_store}
+use Rattle.rr_tree.specs.declared.program.Program.{Program}
+use Rattle.rr_eval.specs.declared.run.Outcome.TheVariants.{Stopped}
+use Rattle.rr_eval.specs.Acts.{IsRefusal}
+use Rattle.rr_eval.specs.Written.{Written}
+use Rattle.rr_eval.specs.Runs.{IsRun, IsFull, first_course, first_objects, program_meaning}
 use Rattle.rr_eval.specs.Within.{reach, IsReached}
-use Rattle.rr_eval.proofs.Calling.{alone_adds, none_read}
+use Rattle.rr_eval.proofs.Calling.{none_read}
 use Rattle.rr_eval.proofs.Objects.{begun_keeps}
-use Rattle.rr_eval.proofs.Running.{in_world, nothing_written, first_table, first_state}
+use Rattle.rr_eval.proofs.Running.{nothing_written, first_table, first_state}
 use Rattle.rr_eval.proofs.run.run_program.Goals as goal
 
 pub run_machine-requires-clause-within : goal.run_machine-requires-clause-within
 run_machine-requires-clause-within g c =
     let p = c.args.prepared.now.program in
-    let w = alone (context_of p) in
     let made = c.new-space.ensures in
     let first = c.in-Ok.ensures in
     let t = c.new-space.result in
@@ -32,7 +40,6 @@ run_machine-requires-clause-within g c =
 pub run_machine-requires-clause-reached : goal.run_machine-requires-clause-reached
 run_machine-requires-clause-reached g c =
     let p = c.args.prepared.now.program in
-    let w = alone (context_of p) in
     let made = c.new-space.ensures in
     let first = c.in-Ok.ensures in
     let t = c.new-space.result in
@@ -46,7 +53,6 @@ run_machine-requires-clause-reached g c =
 pub run_machine-requires-clause-read : goal.run_machine-requires-clause-read
 run_machine-requires-clause-read g c =
     let p = c.args.prepared.now.program in
-    let w = alone (context_of p) in
     let made = c.new-space.ensures in
     let first = c.in-Ok.ensures in
     let t = c.new-space.result in
@@ -57,7 +63,6 @@ run_machine-requires-clause-read g c =
 pub run_machine-requires-clause-limit : goal.run_machine-requires-clause-limit
 run_machine-requires-clause-limit g c =
     let p = c.args.prepared.now.program in
-    let w = alone (context_of p) in
     let made = c.new-space.ensures in
     let first = c.in-Ok.ensures in
     let t = c.new-space.result in
@@ -66,37 +71,41 @@ run_machine-requires-clause-limit g c =
     ap (λ (x : Table). x.limit) first.made ∙ made.limit
 
 pub run_machine-requires-clause-whole : goal.run_machine-requires-clause-whole
-run_machine-requires-clause-whole g c =
+run_machine-requires-clause-whole g c w =
     let p = c.args.prepared.now.program in
-    let w = alone (context_of p) in
     let made = c.new-space.ensures in
     let first = c.in-Ok.ensures in
     let t = c.new-space.result in
     let u = c.make_first.new.space in
     let itself = c.in-Ok.itself in
     let zero : itself ≡ Local 0 = first.name ∙ ap (λ (s : List Slot). Local (length s)) made.slots in
-    let one : 0 < length u.slots = omega (arith, ap (λ (x : Table). length x.slots) first.made, length-append (with_object (new_plain OBJECT.0) [] t).slots (Here (new_plain OBJECT.0) ∷ [])) in
     let begins = first_state p t u c.args.limits.frames c.args.limits.slots (first_table t c.args.limits.slots made.slots made.below made.keys made.limit made.owner made.next_message) first.made in
-    let whole = c.in-Ok-new.ensures.whole u (in_world w []) in
+    let whole = c.in-Ok-new.ensures.whole u (first_course w) in
     ap (λ s. begun (context_of p) w (tree_at p.nodes.items p.root) s c.args.limits.steps) (begins ∙ ap (λ v. record { memory = first_memory (context_of p) c.args.limits.frames v u; asked = [] }) (sym zero)) ∙ sym whole
 
-pub returns-in-Err-clause-slots : goal.returns-in-Err-clause-slots
-returns-in-Err-clause-slots g c = λ is.
+-- what stops before anything is asked
+abbrev stopped : (p : Program) (limits : Limits) (now : Written) (fault : Fault) → IsRefusal fault → (fault ≡ Limit Slots → IsFull (context_of p) limits.slots [] (new_store limits.events) (program_meaning p limits)) → IsRun (context_of p) (program_meaning p limits) limits now now (Stopped fault)
+stopped p limits now fault refused full = record {
+  exchanges = [];
+  store = new_store limits.events;
+  served = refl;
+  leaves = λ w so. (refused, nothing_written (context_of p) (program_meaning p limits w) now);
+  fits = λ w so. tt;
+  full = full;
+}
+
+pub returns-in-Err : goal.returns-in-Err
+returns-in-Err g c =
     let p = c.args.prepared.now.program in
-    let w = alone (context_of p) in
     let t = c.new-space.result in
     let made = c.new-space.ensures in
-    let more = c.in-Err.ensures.full is in
-    let kept = begun_keeps (code_of p w) (alone_adds (context_of p)) (tree_at p.nodes.items p.root) (start_state (context_of p) c.args.limits.frames (Local 0) (first_objects c.args.limits.slots)) c.args.limits.steps in
-    let next = length-append (with_object (new_plain OBJECT.0) [] t).slots (Here (new_plain OBJECT.0) ∷ []) in
-    omega (arith, more, kept, made.limit, ap (λ (s : List Slot). length s) made.slots, length-append t.slots (Here (new_plain OBJECT.0) ∷ []), next)
+    stopped p c.args.limits _ c.in-Err.fault c.in-Err.ensures.refused (λ is. inl (λ w so adds.
+        let more = c.in-Err.ensures.full is in
+        let kept = begun_keeps (code_of p w) adds (tree_at p.nodes.items p.root) (start_state (context_of p) c.args.limits.frames (Local 0) (first_objects c.args.limits.slots)) c.args.limits.steps in
+        let next = length-append (with_object (new_plain OBJECT.0) [] t).slots (Here (new_plain OBJECT.0) ∷ []) in
+        omega (arith, more, kept, made.limit, ap (λ (s : List Slot). length s) made.slots, length-append t.slots (Here (new_plain OBJECT.0) ∷ []), next)))
 
-pub returns-in-Err-clause-leaves : goal.returns-in-Err-clause-leaves
-returns-in-Err-clause-leaves g c =
+pub returns-in-Err-new : goal.returns-in-Err-new
+returns-in-Err-new g c =
     let p = c.args.prepared.now.program in
-    (c.in-Err.ensures.refused, nothing_written (context_of p) (program_meaning p c.args.limits) _)
-
-pub returns-in-Err-new-clause-leaves : goal.returns-in-Err-new-clause-leaves
-returns-in-Err-new-clause-leaves g c =
-    let p = c.args.prepared.now.program in
-    (inl c.in-Err-new.ensures.fault, nothing_written (context_of p) (program_meaning p c.args.limits) _)
+    stopped p c.args.limits _ c.in-Err-new.fault (inl c.in-Err-new.ensures.fault) (λ is. absurd (cc (sym c.in-Err-new.ensures.fault ∙ is)))

@@ -1,4 +1,5 @@
 -- A value is given alone.
+use Rattle.rr_eval.specs.Published.{published}
 use Rattle.std.proofs.Common.{refl, sym, subst, length, [], Some}
 use Rattle.rr_space.specs.declared.refer.Ref.TheVariants as refs
 use Rattle.rr_eval.specs.Serves.{IsReplied}
@@ -14,8 +15,8 @@ returns-in-Current-clause-replied c =
     let t = c.args.space.now in
     let r = c.give_alone.result in
     let given = c.give_alone.ensures in
-    subst (λ m. IsReplied (ractor_reply (context_of c.args.program.now) m vs t) t r t) (sym c.in-Current.is)
-    (same_replied (given_alone (refs.Ractor main_ractor) vs t) t t r (given.is t) refl c.requires.read (given.within (reach (length t.slots) (Some [])) tt))
+    subst (λ m. IsReplied (published c.args.store.now) (ractor_reply (context_of c.args.program.now) m vs t) t r t) (sym c.in-Current.is)
+    (same_replied (published c.args.store.now) (given_alone (refs.Ractor main_ractor) vs t) t t r (given.is t) refl c.requires.read (given.within (reach (length t.slots) (Some (published c.args.store.now))) tt))
 
 pub returns-in-IsMain-clause-replied : goal.returns-in-IsMain-clause-replied
 returns-in-IsMain-clause-replied c =
@@ -23,8 +24,8 @@ returns-in-IsMain-clause-replied c =
     let t = c.args.space.now in
     let r = c.give_alone-in-IsMain.result in
     let given = c.give_alone-in-IsMain.ensures in
-    subst (λ m. IsReplied (ractor_reply (context_of c.args.program.now) m vs t) t r t) (sym c.in-IsMain.is)
-    (same_replied _ t t r (given.is t) refl c.requires.read (given.within (reach (length t.slots) (Some [])) tt))
+    subst (λ m. IsReplied (published c.args.store.now) (ractor_reply (context_of c.args.program.now) m vs t) t r t) (sym c.in-IsMain.is)
+    (same_replied (published c.args.store.now) _ t t r (given.is t) refl c.requires.read (given.within (reach (length t.slots) (Some (published c.args.store.now))) tt))
 
 pub returns-in-Name-clause-replied : goal.returns-in-Name-clause-replied
 returns-in-Name-clause-replied c =
@@ -32,5 +33,5 @@ returns-in-Name-clause-replied c =
     let t = c.args.space.now in
     let r = c.give_alone-in-Name.result in
     let given = c.give_alone-in-Name.ensures in
-    subst (λ m. IsReplied (ractor_reply (context_of c.args.program.now) m vs t) t r t) (sym c.in-Name.is)
-    (same_replied _ t t r (given.is t) refl c.requires.read (given.within (reach (length t.slots) (Some [])) tt))
+    subst (λ m. IsReplied (published c.args.store.now) (ractor_reply (context_of c.args.program.now) m vs t) t r t) (sym c.in-Name.is)
+    (same_replied (published c.args.store.now) _ t t r (given.is t) refl c.requires.read (given.within (reach (length t.slots) (Some (published c.args.store.now))) tt))

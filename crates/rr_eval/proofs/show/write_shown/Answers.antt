@@ -1,4 +1,5 @@
 -- One value more is written.
+use Rattle.rr_eval.specs.Published.{published}
 use Rattle.std.proofs.Common.{◌≡◌, ◌∙◌, ◌++◌, ◌-◌, [], ap, sym, subst, arith, length, take, drop}
 use Rattle.rr_text.specs.Names.{names_of}
 use Rattle.rr_text.specs.Reads.{IsAmong}
@@ -11,10 +12,10 @@ use Rattle.rr_eval.proofs.Showing.{texts_next, joined_next}
 use Rattle.rr_eval.proofs.show.write_shown.Goals as goal
 
 pub shown_text-requires-clause-value : goal.shown_text-requires-clause-value
-shown_text-requires-clause-value c = subst (IsAmong []) (sym c.value-item.is) (c.loop-rest.invariant.among 0 c.value-item.result (omega (arith, c.in-len2-up.len_at_least)))
+shown_text-requires-clause-value c = subst (IsAmong (published c.args.store.now)) (sym c.value-item.is) (c.loop-rest.invariant.among 0 c.value-item.result (omega (arith, c.in-len2-up.len_at_least)))
 
 pub shown_text-requires-clause-said : goal.shown_text-requires-clause-said
-shown_text-requires-clause-said c = subst (IsAmong []) (sym c.said-item.is) (c.loop-rest.invariant.among 1 c.said-item.result (omega (arith, c.in-len2-up.len_at_least)))
+shown_text-requires-clause-said c = subst (IsAmong (published c.args.store.now)) (sym c.said-item.is) (c.loop-rest.invariant.among 1 c.said-item.result (omega (arith, c.in-len2-up.len_at_least)))
 
 pub loop-rest-preserved : goal.loop-rest-preserved
 loop-rest-preserved c =
@@ -32,5 +33,5 @@ loop-rest-preserved c =
     record {
       piece = c.loop-rest.invariant.piece ∙ joined_next c.loop-rest.piece.items bytes c.extend_from_slice.new.self.items (texts_shown names t rest) (texts_shown names t more) texts push;
       lack = c.loop-rest.invariant.lack ∙ ap lack_of texts;
-      among = all_take (IsAmong []) (length rest - 2) (drop 2 rest) (all_drop (IsAmong []) 2 rest c.loop-rest.invariant.among);
+      among = all_take (IsAmong (published c.args.store.now)) (length rest - 2) (drop 2 rest) (all_drop (IsAmong (published c.args.store.now)) 2 rest c.loop-rest.invariant.among);
     }

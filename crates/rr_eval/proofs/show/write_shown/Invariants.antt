@@ -1,4 +1,5 @@
 -- What is still to be written is the texts of the other values.
+use Rattle.rr_eval.specs.Published.{published}
 use Rattle.std.proofs.Common.{◌≡◌, ◌++◌, [], length}
 use Rattle.std.specs.List.{All}
 use Rattle.rr_text.specs.Names.{names_of}
@@ -12,7 +13,7 @@ invariant-loop-rest l =
     record {
       piece : l.initial.piece.items ++ joined_texts (texts l.values) ≡ l.piece.items ++ joined_texts (texts l.rest);
       lack : lack_of (texts l.values) ≡ lack_of (texts l.rest);
-      among : All (IsAmong []) l.rest;
+      among : All (IsAmong (published l.store)) l.rest;
     }
 
 abbrev pub decreases-loop-rest : goal.decreases-loop-rest
