@@ -106,22 +106,22 @@ own_gives None e is = cc is
 own_gives (Some v) e is = cc is
 
 -- a variable that is read makes no exception
-pub no_throw : (r : Read) (e : Ref) → field_response r ≡ Throws e → ⊥
-no_throw (ReadsValue x) e is = own_gives (own_of x) e is
-no_throw ReadsNone e is = cc is
-no_throw IsMoved e is = cc is
+pub no_throw : (t : Table) (r : Read) (e : Ref) → field_response t r ≡ Throws e → ⊥
+no_throw t (ReadsValue x) e is = own_gives (own_of t x) e is
+no_throw t ReadsNone e is = cc is
+no_throw t IsMoved e is = cc is
 
-pub reads_heard : (p : Program) (t : Table) (x : Sym) (v : Ref) (class : ClassId) (field : Sym) (w : Ref) → field_response (field_at t v field.0) ≡ Gives w → IsHeardBy p t (Some (record { class = class; work = Reads field })) x v (Said (text_in t w))
+pub reads_heard : (p : Program) (t : Table) (x : Sym) (v : Ref) (class : ClassId) (field : Sym) (w : Ref) → field_response t (field_at t v field.0) ≡ Gives w → IsHeardBy p t (Some (record { class = class; work = Reads field })) x v (Said (text_in t w))
 reads_heard p t x v class field r is = λ next w go s n e.
     let c = context_of p in
-    ap (λ u. run w go (bind (settled c (valued_response ByMethod (field_response (field_at u v field.0)))) (heard next)) s n) e
+    ap (λ u. run w go (bind (settled c (valued_response ByMethod (field_response u (field_at u v field.0)))) (heard next)) s n) e
     ∙ ap (λ o. run w go (bind (settled c (valued_response ByMethod o)) (heard next)) s n) is
     ∙ ap (λ u. run w go (next (text_in u r)) s n) e
 
-pub moved_heard : (p : Program) (t : Table) (x : Sym) (v : Ref) (class : ClassId) (field : Sym) (problem : Problem) → field_response (field_at t v field.0) ≡ Fails problem → IsHeardBy p t (Some (record { class = class; work = Reads field })) x v (FailsBy problem)
+pub moved_heard : (p : Program) (t : Table) (x : Sym) (v : Ref) (class : ClassId) (field : Sym) (problem : Problem) → field_response t (field_at t v field.0) ≡ Fails problem → IsHeardBy p t (Some (record { class = class; work = Reads field })) x v (FailsBy problem)
 moved_heard p t x v class field problem is = λ next w go s n e.
     let c = context_of p in
-    ap (λ u. run w go (bind (settled c (valued_response ByMethod (field_response (field_at u v field.0)))) (heard next)) s n) e
+    ap (λ u. run w go (bind (settled c (valued_response ByMethod (field_response u (field_at u v field.0)))) (heard next)) s n) e
     ∙ ap (λ o. run w go (bind (settled c (valued_response ByMethod o)) (heard next)) s n) is
     ∙ thrown_passes c problem next w go s n
 

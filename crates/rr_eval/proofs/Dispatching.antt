@@ -42,7 +42,7 @@ write_keeps c x v (w ∷ ws) = λ m. settled_keeps c
 
 work_keeps : (c : Context) (class : ClassId) (f : Work) (w : Way) (vs : List Ref) → Keeps (run_work c class f w vs)
 work_keeps c class (Runs m) w vs = counted_keeps c m.parameters vs _ (λ k. framed_keeps c (OfMethod (invocation w class m)) m.parameters m.size vs w.tree m.body k.calls)
-work_keeps c class (Reads x) w vs = counted_keeps c 0 vs _ (λ k. settled_keeps c (valued_response w.value (field_response (field_at k.table w.receiver x.0))))
+work_keeps c class (Reads x) w vs = counted_keeps c 0 vs _ (λ k. settled_keeps c (valued_response w.value (field_response k.table (field_at k.table w.receiver x.0))))
 work_keeps c class (Writes x) w vs = counted_keeps c 1 vs (write_rule c x w.receiver vs) (write_keeps c x w.receiver vs)
 work_keeps c class NoWork w vs = throw_keeps c NotHere
 

@@ -27,6 +27,7 @@ pub mod Spots
 pub mod Speeches
 pub mod Objects
 pub mod Running
+pub mod Registering
 pub mod Changing
 pub mod Holding
 pub mod Telling

@@ -115,7 +115,7 @@ unless_keeps c None otherwise kept = kept
 
 plain_keeps : (c : Context) (class : Option ClassId) (x : Sym) → Keeps (plain_constant c class x)
 plain_keeps c (Some k) x = tt
-plain_keeps c None x = λ m. unless_keeps c (set_response (field_at m.table globals x.0)) _ (constant_keeps c (class_named (slice_index_or c.symbols x.0 [])) x)
+plain_keeps c None x = λ m. unless_keeps c (set_response m.table (field_at m.table globals x.0)) _ (constant_keeps c (class_named (slice_index_or c.symbols x.0 [])) x)
 
 call_keeps : (c : Context) (m : Option Callable) (task : Option Task) (raises later : Bool) (x : Sym) (ts : List Tree) → Keeps (call_rule c m task raises later x ts)
 call_keeps c (Some m) task raises later x ts = arguments_keep c _ (finish_keeps c (Own x None)) ts []
@@ -208,9 +208,9 @@ rule_keeps c (constant (InRactor x)) = constant_keeps c (class_named (codes "Rac
 rule_keeps c (text i) = λ m. (λ k. make_keeps c.program.freezes _ k.table, tt)
 rule_keeps c (local depth slot x behind) = λ m. tt
 rule_keeps c self_tree = λ m. tt
-rule_keeps c (field x) = λ m. settled_keeps c (field_response (field_at m.table (running m.calls.frames).itself x))
+rule_keeps c (field x) = λ m. settled_keeps c (field_response m.table (field_at m.table (running m.calls.frames).itself x))
 rule_keeps c (set_field x a) = on_value_keeps _ (λ v. set_field_keeps c (record { 0 = x }) v)
-rule_keeps c (global x) = λ m. settled_keeps c (field_response (field_at m.table globals x))
+rule_keeps c (global x) = λ m. settled_keeps c (field_response m.table (field_at m.table globals x))
 rule_keeps c (set_global x a) = on_value_keeps _ (λ v. set_global_keeps c (record { 0 = x }) v)
 rule_keeps c (set_constant x a) = on_value_keeps _ (λ v. set_global_keeps c (record { 0 = x }) v)
 rule_keeps c (bare x) = λ m. bare_keeps c (own_method c x m) (printing c x) (raises c x) (asks_block c x) (record { 0 = x })

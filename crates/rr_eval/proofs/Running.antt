@@ -2,7 +2,7 @@
 use Rattle.std.proofs.Common.{◌≡◌, ◌<◌, ◌≤◌, ℕ, false, map, ◌∙◌, sym, ap, subst, refl, inl, inr, List, [], ◌∷◌, ◌++◌, Some}
 use Rattle.std.proofs.KnownBytes.{Appends-nil}
 use Rattle.rr_base.specs.declared.name.TheConstants.ClassId.{OBJECT}
-use Rattle.rr_builtin.specs.Acts.{with_object}
+use Rattle.rr_builtin.specs.Acts.{with_array, with_object}
 use Rattle.rr_builtin.specs.News.{new_plain}
 use Rattle.rr_base.specs.declared.name.ClassId.{ClassId}
 use Rattle.rr_base.specs.declared.name.Sym.{Sym}
@@ -142,6 +142,6 @@ one_plain t u class fields none slots below keys rest =
     ∙ ap (λ x. record { slots = w.slots; below = w.below; keys = w.keys; limit = w.limit; owner = x; next_message = u.next_message }) rest.owner
     ∙ ap (λ x. record { slots = w.slots; below = w.below; keys = w.keys; limit = w.limit; owner = w.owner; next_message = x }) rest.next_message
 
--- the first two objects
-pub first_state : (p : Program) (t u : Table) (most slots : ℕ) → no_objects slots ≡ t → u ≡ with_object (new_plain OBJECT.0) [] (with_object (new_plain OBJECT.0) [] t) → start_state (context_of p) most (Local 0) (first_objects slots) ≡ record { memory = first_memory (context_of p) most (Local 0) u; asked = [] }
-first_state p t u most slots e made = ap (start_state (context_of p) most (Local 0)) (ap (λ x. with_object (new_plain OBJECT.0) [] (with_object (new_plain OBJECT.0) [] x)) e ∙ sym made)
+-- the first three objects
+pub first_state : (p : Program) (t u : Table) (most slots : ℕ) → no_objects slots ≡ t → u ≡ with_array [] (with_object (new_plain OBJECT.0) [] (with_object (new_plain OBJECT.0) [] t)) → start_state (context_of p) most (Local 0) (first_objects slots) ≡ record { memory = first_memory (context_of p) most (Local 0) u; asked = [] }
+first_state p t u most slots e made = ap (start_state (context_of p) most (Local 0)) (ap (λ x. with_array [] (with_object (new_plain OBJECT.0) [] (with_object (new_plain OBJECT.0) [] x))) e ∙ sym made)

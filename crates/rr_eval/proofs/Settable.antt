@@ -20,5 +20,5 @@ constant_keeps c None x b = on_value_keeps _ (λ v m. settled_keeps c)
 constant_keeps c (Some r) x b = update_keeps c updates.Or (constant (paths.Plain x)) b (Some (places.Global x))
 
 pub or_keeps : (c : Context) (a b : Tree) → Keeps (or_rule c a b)
-or_keeps c (constant (paths.Plain x)) b = λ m. constant_keeps c (set_response (field_at m.table globals x.0)) x b
+or_keeps c (constant (paths.Plain x)) b = λ m. constant_keeps c (set_response m.table (field_at m.table globals x.0)) x b
 or_keeps c a b = update_keeps c updates.Or a b (place_of a)

@@ -15,7 +15,7 @@ behind_none None = refl
 behind_none (Some ws) = refl
 
 -- one element more
-pub spread_step : (t : Table) (v : Ref) (place count : ℕ) → place < count → spread_from t v place (count - place) ≡ spread_read (item_at t v place) (spread_from t v (suc place) (count - suc place))
+pub spread_step : (t : Table) (v : Ref) (place count : ℕ) → place < count → spread_from t v place (count - place) ≡ spread_read t (item_at t v place) (spread_from t v (suc place) (count - suc place))
 spread_step t v place count lt =
     let e : count - place ≡ suc (count - suc place) = omega arith in
     ap (spread_from t v place) e

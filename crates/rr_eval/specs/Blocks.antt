@@ -156,21 +156,21 @@ abbrev pub spread_with : Option Ref → Option (List Ref) → Option (List Ref)
 spread_with (Some v) (Some vs) = Some (v ∷ vs)
 spread_with _ _ = None
 
-abbrev pub spread_read : Read → Option (List Ref) → Option (List Ref)
-spread_read (Reads x) others = spread_with (own_of x) others
-spread_read ReadsNone others = Some []
-spread_read IsMoved others = None
+abbrev pub spread_read : Table → Read → Option (List Ref) → Option (List Ref)
+spread_read t (Reads x) others = spread_with (own_of t x) others
+spread_read t ReadsNone others = Some []
+spread_read t IsMoved others = None
 
--- so many elements of an array from a place on, where none of them is published
+-- so many elements of an array from a place on, where each of them that is published is known
 abbrev pub spread_from : Table → Ref → ℕ → ℕ → Option (List Ref)
 spread_from t v place zero = Some []
-spread_from t v place (suc count) = spread_read (item_at t v place) (spread_from t v (suc place) count)
+spread_from t v place (suc count) = spread_read t (item_at t v place) (spread_from t v (suc place) count)
 
 -- what the parameters of a block get: the elements of one array, where it is given to several
 abbrev pub given_values : ℕ → List Ref → Table → Option (List Ref)
 given_values parameters vs t = if spreads parameters vs t then spread_from t (slice_index_or vs 0 Nil) 0 parameters else Some vs
 
--- a published element is not spread yet
+-- a published element that is not known is not spread yet
 abbrev pub to_given : Context → Option (List Ref) → (List Ref → Script) → Script
 to_given c None next = not_here c
 to_given c (Some vs) next = next vs

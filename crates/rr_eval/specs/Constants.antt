@@ -5,6 +5,7 @@ use Rattle.rr_base.specs.ClassNames.{class_named}
 use Rattle.rr_base.specs.declared.class.BuiltInClass.{BuiltInClass}
 use Rattle.rr_base.specs.declared.name.ClassId.{ClassId}
 use Rattle.rr_base.specs.declared.name.Sym.{Sym}
+use Rattle.rr_space.specs.Tables.{Table}
 use Rattle.rr_space.specs.declared.refer.Ref.TheVariants.{Class}
 use Rattle.rr_tree.specs.declared.program.Program.{Program}
 use Rattle.rr_builtin.specs.Fields.{field_at}
@@ -35,10 +36,10 @@ constant_rule c (Some k) x = Ret (Gave (Class (class_id k)))
 constant_rule c None x = throw c (MissingConstant x)
 
 -- what a constant was set to, where it was set
-abbrev pub set_response : Read → Option Response
-set_response (Reads x) = Some (own_response (own_of x))
-set_response ReadsNone = None
-set_response IsMoved = Some (Fails (BuiltIn Moved))
+abbrev pub set_response : Table → Read → Option Response
+set_response t (Reads x) = Some (own_response (own_of t x))
+set_response t ReadsNone = None
+set_response t IsMoved = Some (Fails (BuiltIn Moved))
 
 abbrev pub unless_set : Context → Option Response → Script → Script
 unless_set c (Some r) otherwise = settled c r
@@ -48,4 +49,4 @@ unless_set c None otherwise = otherwise
 -- constant is set that names a class.
 abbrev pub plain_constant : Context → Option ClassId → Sym → Script
 plain_constant c (Some k) x = Ret (Gave (Class k))
-plain_constant c None x = See (λ m. unless_set c (set_response (field_at m.table globals x.0)) (constant_rule c (class_named (slice_index_or c.symbols x.0 [])) x))
+plain_constant c None x = See (λ m. unless_set c (set_response m.table (field_at m.table globals x.0)) (constant_rule c (class_named (slice_index_or c.symbols x.0 [])) x))

@@ -112,7 +112,7 @@ write_rule c x v (w ∷ ws) = See (λ m. Ask (Does (SetField x) (v ∷ w ∷ [])
 -- a call of a method of the program
 abbrev pub run_work : Context → ClassId → Work → Way → List Ref → Script
 run_work c class (Runs m) w vs = counted c m.parameters vs (See (λ k. entered c w class m vs k.calls))
-run_work c class (Reads x) w vs = counted c 0 vs (See (λ k. settled c (valued_response w.value (field_response (field_at k.table w.receiver x.0)))))
+run_work c class (Reads x) w vs = counted c 0 vs (See (λ k. settled c (valued_response w.value (field_response k.table (field_at k.table w.receiver x.0)))))
 run_work c class (Writes x) w vs = counted c 1 vs (write_rule c x w.receiver vs)
 run_work c class NoWork w vs = not_here c
 

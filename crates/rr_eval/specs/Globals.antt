@@ -17,7 +17,7 @@ globals = Local 1
 
 -- what a global variable holds; nil where it is unset
 abbrev pub global_rule : Context → Sym → Script
-global_rule c x = See (λ m. settled c (field_response (field_at m.table globals x.0)))
+global_rule c x = See (λ m. settled c (field_response m.table (field_at m.table globals x.0)))
 
 -- a global variable, or a constant, gets a value, which is the value of the assignment
 abbrev pub set_global_rule : Context → Sym → Ref → Script

@@ -1,5 +1,5 @@
 -- Built-in methods that call their block again and again.
-use Rattle.std.specs.Prelude.{◌+◌, ◌-◌, ◌^◌, ◌+ℤ◌, ℕ, ℤ, nat_eq, nat_lt, drop, pos, int_lt, List, [], ◌∷◌, ◌++◌, slice_index_or, codes, Bool, true, false, if◌then◌else◌, Option, Some, None, Result, Ok, Err}
+use Rattle.std.specs.Prelude.{◌+◌, ◌-◌, ◌*◌, ◌^◌, ◌+ℤ◌, ℕ, ℤ, nat_eq, nat_lt, drop, pos, int_lt, List, [], ◌∷◌, ◌++◌, slice_index_or, codes, Bool, true, false, if◌then◌else◌, Option, Some, None, Result, Ok, Err}
 use Rattle.std.specs.Option.{option_map}
 use Rattle.std.specs.Ordering.{int_eq}
 use Rattle.std.specs.Str.{bytes_eq}
@@ -10,7 +10,7 @@ use Rattle.rr_frames.specs.declared.activation.Shape.{Shape}
 use Rattle.rr_space.specs.Graph.{Value}
 use Rattle.rr_space.specs.Kinds.{class_at, kind_at}
 use Rattle.rr_space.specs.declared.kind.Kind.{Kind}
-use Rattle.rr_space.specs.declared.kind.Kind.TheVariants.{Array, Hash}
+use Rattle.rr_space.specs.declared.kind.Kind.TheVariants.{Array, Hash, Shell}
 use Rattle.rr_space.specs.Tables.{Table}
 use Rattle.rr_space.specs.declared.refer.Ref.{Ref}
 use Rattle.rr_space.specs.declared.refer.Ref.TheVariants.{Nil, Int}
@@ -19,9 +19,9 @@ use Rattle.rr_builtin.specs.Acts.{Outcome, Gives, Raises, Lacks}
 use Rattle.rr_tree.specs.Ancestors.{descends}
 use Rattle.rr_builtin.specs.Elements.{names_of_hash}
 use Rattle.rr_builtin.specs.Iterations.{iteration_named, refusal}
-use Rattle.rr_builtin.specs.Kinds.{is_shell_kind}
-use Rattle.rr_builtin.specs.Objects.{is_truthy}
-use Rattle.rr_builtin.specs.Rounds.{Read, Reads, ReadsNone, IsMoved, item_at, pair_at, is_own_hash}
+use Rattle.rr_builtin.specs.Kinds.{is_hash}
+use Rattle.rr_builtin.specs.Objects.{is_truthy, identical}
+use Rattle.rr_builtin.specs.Rounds.{Read, Reads, ReadsNone, IsMoved, item_at, pair_at, is_own_hash, element_found, found}
 use Rattle.rr_builtin.specs.declared.problem.Problem.TheVariants.{Moved, OutOfRange}
 use Rattle.rr_eval.specs.declared.call.Task.TheVariants.{MakeArray}
 use Rattle.rr_builtin.specs.declared.iterations.Iteration.{Iteration}
@@ -61,34 +61,52 @@ abbrev pub index_of : Iteration → ℕ → Option Ref
 index_of iterations.EachWithIndex place = Some (Int (pos place))
 index_of i place = None
 
--- what is published is not given yet
+-- what is published and not known is not given yet
 abbrev pub element_given : Iteration → ℕ → Option Ref → Ahead
 element_given i place None = Stopped NotHere
 element_given i place (Some v) = if nat_lt place (2 ^ 63) then Another (Some v) (index_of i place) (Elements i (place + 1)) else Stopped (BuiltIn OutOfRange)
 
-abbrev pub element_ahead : Iteration → ℕ → Read → Ahead
-element_ahead i place (Reads x) = element_given i place (own_of x)
-element_ahead i place ReadsNone = Finished
-element_ahead i place IsMoved = Stopped (BuiltIn Moved)
+abbrev pub element_ahead : Table → Iteration → ℕ → Read → Ahead
+element_ahead t i place (Reads x) = element_given i place (own_of t x)
+element_ahead t i place ReadsNone = Finished
+element_ahead t i place IsMoved = Stopped (BuiltIn Moved)
 
--- a key of a hash and its value, which come before what stands behind the key; what is published is not given yet
+-- a key of a hash and its value, which come before what stands behind the key; what is published and not known is not given yet
 abbrev pub pair_given : ℕ → Ref → Option Ref → Ahead
 pair_given place key None = Stopped NotHere
 pair_given place key (Some v) = Another (Some key) (Some v) (Pairs (place + 1))
 
 -- a key that the hash no longer has is passed over
-abbrev pub pair_read : ℕ → Ref → Read → Option Ahead
-pair_read place key (Reads x) = Some (pair_given place key (own_of x))
-pair_read place key ReadsNone = None
-pair_read place key IsMoved = Some (Stopped (BuiltIn Moved))
+abbrev pub pair_read : Table → ℕ → Ref → Read → Option Ahead
+pair_read t place key (Reads x) = Some (pair_given place key (own_of t x))
+pair_read t place key ReadsNone = None
+pair_read t place key IsMoved = Some (Stopped (BuiltIn Moved))
 
--- why a hash is visited no further: it was moved away, or published
-abbrev pub left_hash : Kind → Problem
-left_hash k = if is_shell_kind k then BuiltIn Moved else NotHere
+-- whether what is read is a key
+abbrev pub is_same_key : Table → Ref → Option Ref → Bool
+is_same_key t key None = false
+is_same_key t key (Some v) = identical t key v
+
+abbrev pub is_key : Table → Ref → Read → Bool
+is_key t key (Reads x) = is_same_key t key (own_of t x)
+is_key t key _ = false
+
+-- A published hash changes no more, so that its pairs are read by place: the first key stands behind the receiver. Where that pair has
+-- another key, the hash was changed in a turn and published then, and is not visited further yet.
+abbrev pub pair_published : Table → Ref → ℕ → Ref → Option Ahead
+pair_published t v place key =
+    if is_key t key (found (element_found t v (2 * (place - 1)))) then pair_read t place key (found (element_found t v (2 * (place - 1) + 1))) else
+    Some (Stopped NotHere)
+
+-- the turn over a key of what is no hash of the space
+abbrev pub pair_elsewhere : Kind → Table → Ref → ℕ → Ref → Option Ahead
+pair_elsewhere Shell t v place key = Some (Stopped (BuiltIn Moved))
+pair_elsewhere Hash t v place key = pair_published t v place key
+pair_elsewhere k t v place key = Some (Stopped NotHere)
 
 -- the turn over a key, where there is one
 abbrev pub pair_turn : Table → Ref → ℕ → Ref → Option Ahead
-pair_turn t v place key = if is_own_hash t v then pair_read place key (pair_at [] t v key) else Some (Stopped (left_hash (kind_at t v)))
+pair_turn t v place key = if is_own_hash t v then pair_read t place key (pair_at [] t v key) else pair_elsewhere (kind_at t v) t v place key
 
 abbrev pub turn_or : Ahead → Option Ahead → Ahead
 turn_or others None = others
@@ -101,11 +119,11 @@ pairs_ahead t v place (key ∷ keys) = turn_or (pairs_ahead t v (place + 1) keys
 
 -- What is ahead of an iteration: another turn, what its block is given, and what is visited after it; or nothing more; or an exception. The
 -- receiver stands first among the values that stand for it, and the bound of `upto` or the keys of a hash behind it. An array is read by
--- place, as it is then, and a hash by key.
+-- place, as it is then, and a hash by key, or by place where it is published.
 abbrev pub ahead : Visits → List Ref → Table → Ahead
 ahead (Times here) vs t = below here (slice_index_or vs 0 Nil)
 ahead (Upto here) vs t = up_to here (slice_index_or vs 1 Nil)
-ahead (Elements i place) vs t = element_ahead i place (item_at t (slice_index_or vs 0 Nil) place)
+ahead (Elements i place) vs t = element_ahead t i place (item_at t (slice_index_or vs 0 Nil) place)
 ahead (Pairs place) vs t = pairs_ahead t (slice_index_or vs 0 Nil) place (drop place vs)
 ahead Nothing vs t = Finished
 ahead Forever vs t = Another None None Forever
@@ -115,15 +133,15 @@ abbrev pub chosen_own : Option Ref → Result (Option Ref) Problem
 chosen_own None = Err NotHere
 chosen_own (Some v) = Ok (Some v)
 
-abbrev pub chosen : Read → Result (Option Ref) Problem
-chosen (Reads x) = chosen_own (own_of x)
-chosen ReadsNone = Ok (Some Nil)
-chosen IsMoved = Err (BuiltIn Moved)
+abbrev pub chosen : Table → Read → Result (Option Ref) Problem
+chosen t (Reads x) = chosen_own (own_of t x)
+chosen t ReadsNone = Ok (Some Nil)
+chosen t IsMoved = Err (BuiltIn Moved)
 
 -- What is kept of a turn that had a value: `map` keeps the value, and `select` the element where the value is true. The next place is known.
 abbrev pub kept : Visits → Ref → List Ref → Table → Result (Option Ref) Problem
 kept (Elements iterations.Map next) v stand t = Ok (Some v)
-kept (Elements iterations.Select next) v stand t = if is_truthy v then chosen (item_at t (slice_index_or stand 0 Nil) (next - 1)) else Ok None
+kept (Elements iterations.Select next) v stand t = if is_truthy v then chosen t (item_at t (slice_index_or stand 0 Nil) (next - 1)) else Ok None
 kept visits v stand t = Ok None
 
 -- An iteration that has no more turns gives its receiver; `map` and `select` give a new array of what they kept.
@@ -231,14 +249,14 @@ beginning x None vs t = Err NotHere
 beginning x (Some i) [] t = Err NotHere
 beginning x (Some i) (v ∷ vs) t = begins (MissingMethod (callees.Name x) (receiver_of t v)) (refusal t v i vs) (visits_of i v (kind_at t v))
 
--- values, where none of them is published
-abbrev pub own_values : List Value → Option (List Ref)
-own_values [] = Some []
-own_values (x ∷ xs) = spread_with (own_of x) (own_values xs)
+-- values, where each of them that is published is known
+abbrev pub own_values : Table → List Value → Option (List Ref)
+own_values t [] = Some []
+own_values t (x ∷ xs) = spread_with (own_of t x) (own_values t xs)
 
 -- the key objects that a hash has now; where they are not given yet, none
 abbrev pub keys_given : Table → Ref → Option (List Ref)
-keys_given t v = if is_own_hash t v then own_values (names_of_hash t v) else None
+keys_given t v = if is_hash (kind_at t v) then own_values t (names_of_hash t v) else None
 
 -- the values that stand for an iteration that begins: its receiver and its arguments, and then the keys of a hash
 abbrev pub stand_of_first : Visits → List Ref → Table → Option (List Ref)

@@ -29,17 +29,17 @@ use Rattle.rr_eval.specs.Responses.{own_of}
 use Rattle.rr_eval.specs.Splats.{own_items}
 use Rattle.rr_eval.specs.Within.{Reach, IsReached}
 
--- a value that stands in an array; none where it is published
+-- a value that stands in an array; none where it is published and not known
 abbrev pub Item : Type 0
 Item = Option Ref
 
-abbrev pub own_read : Read → Item
-own_read (Reads x) = own_of x
-own_read ReadsNone = None
-own_read IsMoved = None
+abbrev pub own_read : Table → Read → Item
+own_read t (Reads x) = own_of t x
+own_read t ReadsNone = None
+own_read t IsMoved = None
 
 abbrev pub element : Table → Ref → ℕ → Item
-element t v place = own_read (item_at t v place)
+element t v place = own_read t (item_at t v place)
 
 -- so many elements of an array, from a place on
 abbrev pub elements : Table → Ref → ℕ → ℕ → List Item
@@ -80,7 +80,7 @@ abbrev pub all_leaves : Taking → Table → ℕ → List Ref → Outcome Item
 all_leaves how t levels [] = Wrote []
 all_leaves how t levels (v ∷ vs) = followed (leaves_in how t levels v) (all_leaves how t levels vs)
 
--- the values, or what is raised: published ones are not told yet
+-- the values, or what is raised: published ones that are not known are not told yet
 abbrev pub told : Outcome Item → Result (List Ref) Problem
 told (Wrote items) = own_items (all_there items)
 told Deep = Err (BuiltIn TooDeep)

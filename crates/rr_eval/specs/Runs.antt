@@ -18,7 +18,7 @@ use Rattle.rr_parser.specs.Words.{symbols_of, texts_of}
 use Rattle.rr_base.specs.declared.name.TheConstants.ClassId.{OBJECT}
 use Rattle.rr_space.specs.Tables.{Table}
 use Rattle.rr_space.specs.declared.refer.Ref.TheVariants.{Local}
-use Rattle.rr_builtin.specs.Acts.{with_object}
+use Rattle.rr_builtin.specs.Acts.{with_array, with_object}
 use Rattle.rr_builtin.specs.News.{new_plain}
 use Rattle.rr_tree.specs.Tree.{Tree, tree_at}
 use Rattle.rr_tree.specs.declared.program.Program.{Program}
@@ -175,10 +175,10 @@ Reads source (Err fault) = Refuses source fault
 abbrev pub no_objects : ℕ → Table
 no_objects slots = record { slots = []; below = []; keys = []; limit = slots; owner = 1; next_message = 1 }
 
--- The objects of a script that begins are two of class Object without fields: its `self`, and the one that has its global variables and
--- constants.
+-- The objects of a script that begins are two of class Object without fields, its `self` and the one that has its global variables and
+-- constants, and the array in which the slots stand that published objects were in, which is empty.
 abbrev pub first_objects : ℕ → Table
-first_objects slots = with_object (new_plain OBJECT.0) [] (with_object (new_plain OBJECT.0) [] (no_objects slots))
+first_objects slots = with_array [] (with_object (new_plain OBJECT.0) [] (with_object (new_plain OBJECT.0) [] (no_objects slots)))
 
 -- what a script does within limits, in an environment
 abbrev pub script_meaning : Context → Tree → Limits → World → Outcome

@@ -22,7 +22,7 @@ use Rattle.rr_eval.specs.Globals.{set_global_rule}
 use Rattle.rr_eval.specs.Script.{Script, Ret, Evaluate, AssignPart, See, Do}
 use Rattle.rr_eval.specs.Variables.{write_variable}
 
--- What the right side gives to the targets: the elements of an array, where none of them is published, or any other value itself.
+-- What the right side gives to the targets: the elements of an array, where each that is published is known, or any other value itself.
 abbrev pub right_values : Table → Ref → Option (List Ref)
 right_values t v = if is_array_kind (kind_at t v) then spread_from t v 0 (count_at t v) else Some (v ∷ [])
 

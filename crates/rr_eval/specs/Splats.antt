@@ -16,7 +16,7 @@ use Rattle.rr_eval.specs.Blocks.{spread_from}
 use Rattle.rr_eval.specs.Context.{Context}
 use Rattle.rr_eval.specs.Script.{Script, See}
 
--- a published element is not spread yet
+-- a published element that is not known is not spread yet
 abbrev pub own_items : Option (List Ref) → Result (List Ref) Problem
 own_items None = Err NotHere
 own_items (Some vs) = Ok vs

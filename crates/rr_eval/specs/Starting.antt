@@ -50,7 +50,7 @@ named_by t (Some v) = if is_name (kind_at t v) then NoRactors else BuiltIn (Wron
 
 abbrev pub named_in : Table → Option (Label × Value) → Problem
 named_in t None = NoRactors
-named_in t (Some x) = named_by t (own_of x.1)
+named_in t (Some x) = named_by t (own_of t x.1)
 
 -- what comes of a start whose last argument this is
 abbrev pub start_problem : Context → Table → Ref → Problem

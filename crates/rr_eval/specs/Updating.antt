@@ -85,5 +85,5 @@ or_constant c None x b = with_value b (set_global_rule c x)
 or_constant c (Some r) x b = update_rule c updates.Or (constant (Plain x)) b (Some (places.Global x))
 
 abbrev pub or_rule : Context → Tree → Tree → Script
-or_rule c (constant (Plain x)) b = See (λ m. or_constant c (set_response (field_at m.table globals x.0)) x b)
+or_rule c (constant (Plain x)) b = See (λ m. or_constant c (set_response m.table (field_at m.table globals x.0)) x b)
 or_rule c a b = update_rule c updates.Or a b (place_of a)

@@ -62,11 +62,11 @@ pub fn class_at_path(program: &Program, path: Path) -> Option<ClassId>
 
 /// What a constant was set to, where it was set.
 pub fn set_constant(space: &Space, name: Sym) -> Option<Response>
-    ensures is { result ≡ set_response (field_at space.now globals name.0) }
+    ensures is { result ≡ set_response space.now (field_at space.now globals name.0) }
     ensures within { (clusters : Option Below) → IfSome result (IsResponseReached (reach (length space.now.slots) clusters)) }
 {
     match field_at(space, GLOBALS, name) {
-        Round::Item(value) => match own(value) {
+        Round::Item(value) => match own(space, value) {
             Some(value) => Some(Response::Gives(value)),
             None => Some(Response::Fails(Problem::NotHere)),
         },

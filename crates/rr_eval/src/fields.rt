@@ -32,11 +32,11 @@ use rr_store::StoreState;
 
 /// What an instance variable of an object holds.
 pub fn read_field(space: &Space, object: Ref, name: Sym) -> Response
-    ensures is { result ≡ field_response (field_at space.now object name.0) }
+    ensures is { result ≡ field_response space.now (field_at space.now object name.0) }
     ensures within { (clusters : Option Below) → IsResponseReached (reach (length space.now.slots) clusters) result }
 {
     match field_at(space, object, name) {
-        Round::Item(value) => match own(value) {
+        Round::Item(value) => match own(space, value) {
             Some(value) => Response::Gives(value),
             None => Response::Fails(Problem::NotHere),
         },

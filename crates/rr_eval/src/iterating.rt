@@ -1,6 +1,6 @@
 //! Iterations that run, and what is ahead of them.
 
-ghost use Rattle.std.specs.Prelude.{◌≡◌, ◌<◌, ◌≤◌, ◌^◌, ℕ, length, slice_index_or, Option, IfOk, IfErr};
+ghost use Rattle.std.specs.Prelude.{◌≡◌, ◌<◌, ◌≤◌, ◌^◌, length, slice_index_or, Option, IfOk, IfErr};
 ghost use Rattle.std.specs.List.{All};
 ghost use Rattle.rr_frames.specs.Frames.{list_of};
 ghost use Rattle.rr_base.specs.declared.fault.Fault.{Fault};
@@ -15,6 +15,7 @@ ghost use Rattle.rr_eval.specs.Turns.{context_of, more_of};
 ghost use Rattle.rr_eval.specs.Within.{Reach, reach, IsReached, IsAheadReached, IsAnswerReached};
 
 use crate::call::Callee;
+use crate::known::known;
 use crate::pair_turns::pairs_ahead;
 use crate::problem::{Answer, Exit, Problem};
 use crate::serve::receiver_of;
@@ -104,10 +105,10 @@ pub fn up_to(here: i64, bound: Ref) -> Ahead
 /// No place of an element is as great.
 const PLACES: usize = 9_223_372_036_854_775_808;
 
-/// A value that is not published.
-pub fn own(value: Ref) -> Option<Ref>
-    ensures is { result ≡ own_of (value_of value) }
-    ensures within { (k : ℕ) (clusters : Option Below) → IsWithin k value → All (IsReached (reach k clusters)) (list_of result) }
+/// A value that the space has: where it is published, the slot that stands for it, if that is known.
+pub fn own(space: &Space, value: Ref) -> Option<Ref>
+    ensures is { result ≡ own_of space.now (value_of value) }
+    ensures within { (clusters : Option Below) → IsWithin (length space.now.slots) value → All (IsReached (reach (length space.now.slots) clusters)) (list_of result) }
 {
     match value {
         Ref::Nil => Some(Ref::Nil),
@@ -117,7 +118,7 @@ pub fn own(value: Ref) -> Option<Ref>
         Ref::Class(class) => Some(Ref::Class(class)),
         Ref::Ractor(ractor) => Some(Ref::Ractor(ractor)),
         Ref::Local(slot) => Some(Ref::Local(slot)),
-        Ref::Shared(_, _) => None,
+        Ref::Shared(place, cluster) => known(space, cluster.number(), place),
     }
 }
 
@@ -150,11 +151,11 @@ fn element_given(iteration: Iteration, place: usize, element: Option<Ref>) -> Ah
 
 /// What is ahead of an iteration over an array.
 pub fn element_ahead(space: &Space, iteration: Iteration, array: Ref, place: usize) -> Ahead
-    ensures is { result ≡ element_ahead iteration place (item_at space.now array place) }
+    ensures is { result ≡ element_ahead space.now iteration place (item_at space.now array place) }
     ensures within { (clusters : Option Below) → IsAheadReached (reach (length space.now.slots) clusters) result }
 {
     match item_at(space, array, place) {
-        Round::Item(value) => element_given(iteration, place, own(value)),
+        Round::Item(value) => element_given(iteration, place, own(space, value)),
         Round::Absent => Ahead::Finished,
         Round::Moved => Ahead::Stopped(Problem::BuiltIn(BuiltInProblem::Moved)),
     }
@@ -162,11 +163,11 @@ pub fn element_ahead(space: &Space, iteration: Iteration, array: Ref, place: usi
 
 /// An element that `select` chooses, as it is behind the turn.
 fn chosen(space: &Space, array: Ref, place: usize) -> Result<Option<Ref>, Problem>
-    ensures is { result ≡ chosen (item_at space.now array place) }
+    ensures is { result ≡ chosen space.now (item_at space.now array place) }
     ensures within { (clusters : Option Below) → IfOk result (λ found. All (IsReached (reach (length space.now.slots) clusters)) (list_of found)) }
 {
     match item_at(space, array, place) {
-        Round::Item(value) => match own(value) {
+        Round::Item(value) => match own(space, value) {
             Some(value) => Ok(Some(value)),
             None => Err(Problem::NotHere),
         },

@@ -46,7 +46,7 @@ pub enum Going {
     Circular,
 }
 
-/// The values that were found, or why none are. None stands for a published one.
+/// The values that were found, or why none are. None stands for a published one that is not known.
 #[derive(Drop)]
 pub enum Found {
     Items(Vec<Option<Ref>>),
@@ -64,19 +64,19 @@ fn is_above(space: &Space, arrays: &[Opened], array: Ref) -> bool
 }
 
 /// Whether two references lead to one object.
-fn is_identical(space: &Space, left: Ref, right: Ref) -> bool
+pub fn is_identical(space: &Space, left: Ref, right: Ref) -> bool
     ensures { result ≡ identical space.now left right }
 {
     space.same(left, right)
 }
 
-/// The element at a place of an array; none where it is published.
+/// The element at a place of an array; none where it is published and not known.
 fn element(space: &Space, array: Ref, place: usize) -> Option<Ref>
     ensures is { result ≡ element space.now array place }
     ensures within { (clusters : Option Below) → IsItemReached (reach (length space.now.slots) clusters) result }
 {
     match item_at(space, array, place) {
-        Round::Item(item) => own(item),
+        Round::Item(item) => own(space, item),
         Round::Absent => None,
         Round::Moved => None,
     }
@@ -248,7 +248,7 @@ fn all_leaves(
     Ok(Found::Items(items))
 }
 
-/// The values, where none of them is published.
+/// The values, where each of them that is published is known.
 fn all_own(alloc: Global, items: &[Option<Ref>]) -> Result<Option<Vec<Ref>>, AllocError>
     ensures are { IfOk result (λ values. option_map (λ vs. vs.items) values ≡ all_there items.now) }
     ensures within { (k : Reach) → AreItemsReached k items.now → IfOk result (λ values. IfSome values (λ vs. All (IsReached k) vs.items)) }

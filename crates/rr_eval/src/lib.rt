@@ -27,6 +27,7 @@ mod hearing;
 mod invoke;
 mod iterating;
 mod iterations;
+mod known;
 mod leaves;
 mod leaving;
 mod machine;

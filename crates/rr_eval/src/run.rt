@@ -4,7 +4,7 @@ ghost use Rattle.std.specs.Prelude.{◌≡◌, ◌+◌, ◌<◌, ◌≤◌, ◌^
 ghost use Rattle.rr_base.specs.declared.name.TheConstants.ClassId.{OBJECT};
 ghost use Rattle.rr_lexer.specs.Tokens.{AreTokensOf};
 ghost use Rattle.rr_text.specs.Reads.{IsReadWith};
-ghost use Rattle.rr_builtin.specs.Acts.{with_object};
+ghost use Rattle.rr_builtin.specs.Acts.{with_array, with_object};
 ghost use Rattle.rr_builtin.specs.News.{new_plain};
 ghost use Rattle.rr_eval.specs.Acts.{IsRefusal, Passes};
 ghost use Rattle.rr_eval.specs.Counted.{failures, counted};
@@ -17,6 +17,7 @@ ghost use Rattle.rr_eval.specs.Script.{World};
 use crate::counted::Counted;
 use crate::engine::Turn;
 use crate::exception::report;
+use crate::known::make_registry;
 use crate::machine::Machine;
 use crate::making::make_plain;
 use crate::output::{Output, put};
@@ -72,17 +73,18 @@ fn read_program(alloc: Global, source: &[u8]) -> Result<Program, Fault>
     }
 }
 
-/// Makes the first objects of a program, of class Object and without fields: its `self`, which is given, and the one that has its
-/// global variables and constants.
+/// Makes the first objects of a program: its `self`, which is given, the one that has its global variables and constants, both of class
+/// Object and without fields, and the array in which the slots stand that published objects were in.
 fn make_first(alloc: Global, space: &mut Space) -> Result<Ref, Fault>
     ensures name { IfOk result (λ itself. itself ≡ Ref.Local (length space.old.slots)) }
-    ensures made { IfOk result (λ _. space.new ≡ with_object (new_plain OBJECT.0) [] (with_object (new_plain OBJECT.0) [] space.old)) }
+    ensures made { IfOk result (λ _. space.new ≡ with_array [] (with_object (new_plain OBJECT.0) [] (with_object (new_plain OBJECT.0) [] space.old))) }
     ensures read { IfOk result (λ _. IsReadWith space.old [] → IsReadWith space.new []) }
     ensures refused { IfErr result IsRefusal }
-    ensures full { IfErr result (λ f. Passes f space.old.limit (length (with_object (new_plain OBJECT.0) [] (with_object (new_plain OBJECT.0) [] space.old)).slots)) }
+    ensures full { IfErr result (λ f. Passes f space.old.limit (length (with_array [] (with_object (new_plain OBJECT.0) [] (with_object (new_plain OBJECT.0) [] space.old))).slots)) }
 {
     let itself = make_plain(alloc, space, ClassId::OBJECT)?;
     make_plain(alloc, space, ClassId::OBJECT)?;
+    make_registry(alloc, space)?;
     Ok(itself)
 }
 

@@ -33,7 +33,7 @@ use rr_space::{Kind, Ref, Space};
 use rr_tree::{NodeId, Program};
 use std::alloc::{AllocError, Global};
 
-/// What the right side gives to the targets, where no published element is among it.
+/// What the right side gives to the targets, where no published element that is not known is among it.
 fn right_values(alloc: Global, space: &Space, value: Ref) -> Result<Option<Vec<Ref>>, AllocError>
     ensures are { IfOk result (λ values. option_map (λ vs. vs.items) values ≡ right_values space.now value) }
     ensures within { (clusters : Option Below) → IsReached (reach (length space.now.slots) clusters) value → IfOk result (λ values. IfSome values (λ vs. All (IsReached (reach (length space.now.slots) clusters)) vs.items)) }

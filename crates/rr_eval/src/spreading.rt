@@ -16,7 +16,7 @@ use rr_builtin::{Problem as BuiltInProblem, Round, item_at};
 use rr_space::{Kind, Ref, Space};
 use std::alloc::{AllocError, Global};
 
-/// The first elements of an array, at most so many, where none of them is published.
+/// The first elements of an array, at most so many, where each of them that is published is known.
 pub fn spread(
     alloc: Global,
     space: &Space,
@@ -30,7 +30,7 @@ pub fn spread(
     let mut place = 0;
     while place < count {
         match item_at(space, array, place) {
-            Round::Item(item) => match own(item) {
+            Round::Item(item) => match own(space, item) {
                 Some(value) => values.push(value)?,
                 None => return Ok(None),
             },
@@ -42,7 +42,7 @@ pub fn spread(
     Ok(Some(values))
 }
 
-/// The elements of an array, where none of them is published.
+/// The elements of an array, where each of them that is published is known.
 fn array_items(
     alloc: Global,
     space: &Space,

@@ -94,7 +94,7 @@ fn named_in(space: &Space, part: Option<(Label, Ref)>) -> Problem
     ensures { result ≡ named_in space.now (option_map labelled_value part) }
 {
     match part {
-        Some((_, name)) => named_by(space, own(name)),
+        Some((_, name)) => named_by(space, own(space, name)),
         None => Problem::NoRactors,
     }
 }

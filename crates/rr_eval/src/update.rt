@@ -153,7 +153,7 @@ impl Engine {
         requires tree { tree_at program.now.nodes.items target ≡ constant (Plain name) }
         requires room { length self.old.frames.items < vec_capacity self.old.frames }
         requires nested { IsNested (view_of self.old) }
-        ensures goes { (h : Course) (n : ℕ) → after_script program.now (view_of self.old) space.now (or_constant (context_of program.now) (set_response (field_at space.now globals name.0)) name (tree_at program.now.nodes.items value)) h n ≡ remaining_with program.now (view_of self.new) space.now h n }
+        ensures goes { (h : Course) (n : ℕ) → after_script program.now (view_of self.old) space.now (or_constant (context_of program.now) (set_response space.now (field_at space.now globals name.0)) name (tree_at program.now.nodes.items value)) h n ≡ remaining_with program.now (view_of self.new) space.now h n }
         ensures nested { IsNested (view_of self.new) }
         ensures within { (k : Reach) → AreReached k (view_of self.old) → AreReached k (view_of self.new) }
         ensures left { self.new.left ≡ self.old.left }

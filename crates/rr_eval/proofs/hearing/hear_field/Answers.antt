@@ -19,7 +19,7 @@ returns-in-Gives-clause-within c clusters =
     text_reached k c.args.space.now c.in-Gives.said c.text_in.result c.text_in.ensures (subst (IsResponseReached k) c.in-Gives.is (c.read_field.ensures.within clusters))
 
 pub unreachable-requires : goal.unreachable-requires
-unreachable-requires c = no_throw (field_at c.args.space.now c.args.value c.args.field.0) _ (sym c.read_field.ensures.is ∙ c.in-Throws.is)
+unreachable-requires c = no_throw c.args.space.now (field_at c.args.space.now c.args.value c.args.field.0) _ (sym c.read_field.ensures.is ∙ c.in-Throws.is)
 
 pub returns-in-Fails-clause-is : goal.returns-in-Fails-clause-is
 returns-in-Fails-clause-is c p x class = moved_heard p c.args.space.now x c.args.value class c.args.field c.in-Fails.problem (sym c.read_field.ensures.is ∙ c.in-Fails.is)

@@ -22,7 +22,7 @@ loop-pair-preserved c =
     let keys = c.loop-pair.keys.items in
     let x = c.in-Some.key in
     let all = c.push.new.self.items in
-    let others = own_values (drop (suc n) (names_of_hash t v)) in
+    let others = own_values t (drop (suc n) (names_of_hash t v)) in
     let new : all ≡ keys ++ x ∷ [] = c.in_ok-push-in-Some.ensures.items in
     let half : n < length (triples_at t v) / 2 = search rules in
     let lt : 2 * n + 1 < length (triples_at t v) = omega (arith, half) in
@@ -30,13 +30,13 @@ loop-pair-preserved c =
     record {
       same =
           c.loop-pair.invariant.same
-          ∙ ap (behind keys) (ap own_values (keys_next t v n lt) ∙ ap (λ y. spread_with (own_of y) others) (sym c.element.ensures.is) ∙ ap (λ o. spread_with o others) (sym c.in-Some.ensures.is))
+          ∙ ap (behind keys) (ap (own_values t) (keys_next t v n lt) ∙ ap (λ y. spread_with (own_of t y) others) (sym c.element.ensures.is) ∙ ap (λ o. spread_with o others) (sym c.in-Some.ensures.is))
           ∙ behind_more keys x others
           ∙ ap (λ l. behind l others) (sym new)
-          ∙ ap (λ k. behind all (own_values (drop k (names_of_hash t v)))) next;
+          ∙ ap (λ k. behind all (own_values t (drop k (names_of_hash t v)))) next;
       reached = λ clusters.
           let k = reach (length t.slots) clusters in
-          let given = c.in-Some.ensures.within (length t.slots) clusters c.element.ensures.within in
+          let given = c.in-Some.ensures.within clusters c.element.ensures.within in
           subst (All (IsReached k)) (sym new) (All-push (IsReached k) keys x (c.loop-pair.invariant.reached clusters) (given 0 Nil (omega arith)));
     }
 
@@ -46,12 +46,12 @@ returns-in-None-clause-are c =
     let v = c.args.hash in
     let n = c.loop-pair.pair in
     let keys = c.loop-pair.keys.items in
-    let others = own_values (drop (suc n) (names_of_hash t v)) in
+    let others = own_values t (drop (suc n) (names_of_hash t v)) in
     let half : n < length (triples_at t v) / 2 = search rules in
     let lt : 2 * n + 1 < length (triples_at t v) = omega (arith, half) in
     sym (
     c.loop-pair.invariant.same
-    ∙ ap (behind keys) (ap own_values (keys_next t v n lt) ∙ ap (λ y. spread_with (own_of y) others) (sym c.element.ensures.is) ∙ ap (λ o. spread_with o others) (sym c.in-None.ensures.is)))
+    ∙ ap (behind keys) (ap (own_values t) (keys_next t v n lt) ∙ ap (λ y. spread_with (own_of t y) others) (sym c.element.ensures.is) ∙ ap (λ o. spread_with o others) (sym c.in-None.ensures.is)))
 
 pub returns-clause-are : goal.returns-clause-are
 returns-clause-are c =
@@ -61,4 +61,4 @@ returns-clause-are c =
     let keys = c.loop-pair.keys.items in
     let half : n ≡ length (triples_at t v) / 2 = search rules in
     let le : length (triples_at t v) ≤ 2 * n + 1 = omega (arith, half) in
-    sym (c.loop-pair.invariant.same ∙ ap (behind keys) (ap own_values (keys_end t v n le)) ∙ ap Some (sym (append_nil keys)))
+    sym (c.loop-pair.invariant.same ∙ ap (behind keys) (ap (own_values t) (keys_end t v n le)) ∙ ap Some (sym (append_nil keys)))

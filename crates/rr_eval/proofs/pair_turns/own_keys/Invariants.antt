@@ -10,6 +10,6 @@ use Rattle.rr_eval.proofs.pair_turns.own_keys.Given as goal
 
 abbrev pub invariant-loop-pair : goal.invariant-loop-pair
 invariant-loop-pair l = record {
-  same : own_values (names_of_hash l.space l.hash) ≡ behind l.keys.items (own_values (drop l.pair (names_of_hash l.space l.hash)));
+  same : own_values l.space (names_of_hash l.space l.hash) ≡ behind l.keys.items (own_values l.space (drop l.pair (names_of_hash l.space l.hash)));
   reached : (clusters : Option Below) → All (IsReached (reach (length l.space.slots) clusters)) l.keys.items;
 }

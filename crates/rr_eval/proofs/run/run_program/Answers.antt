@@ -1,9 +1,9 @@
--- A program has two objects first, and all is still to be done.
+-- A program has three objects first, and all is still to be done.
 use Rattle.std.proofs.Common.{◌≡◌, inl, sym, refl, subst, ◌∙◌, arith, ap, List, [], ◌∷◌, length, length-append, ◌<◌, Option, Some, None}
 use Rattle.rr_base.specs.declared.name.TheConstants.ClassId.{OBJECT}
 use Rattle.rr_space.specs.Tables.{Table, Slot, Here, Below}
 use Rattle.rr_space.specs.declared.refer.Ref.TheVariants.{Local}
-use Rattle.rr_builtin.specs.Acts.{with_object}
+use Rattle.rr_builtin.specs.Acts.{array_object, with_object}
 use Rattle.rr_builtin.specs.News.{new_plain}
 use Rattle.rr_tree.specs.Tree.{tree_at}
 use Rattle.rr_eval.specs.Turns.{context_of, code_of}
@@ -33,7 +33,7 @@ run_machine-requires-clause-within g c =
     let u = c.make_first.new.space in
     let itself = c.in-Ok.itself in
     let zero : itself ≡ Local 0 = first.name ∙ ap (λ (s : List Slot). Local (length s)) made.slots in
-    let one : 0 < length u.slots = omega (arith, ap (λ (x : Table). length x.slots) first.made, length-append (with_object (new_plain OBJECT.0) [] t).slots (Here (new_plain OBJECT.0) ∷ [])) in
+    let one : 0 < length u.slots = omega (arith, ap (λ (x : Table). length x.slots) first.made, length-append (with_object (new_plain OBJECT.0) [] (with_object (new_plain OBJECT.0) [] t)).slots (Here (array_object []) ∷ [])) in
     let reached = λ (clusters : Option Below). subst (IsReached (reach (length u.slots) clusters)) (sym zero) one in
     c.in-Ok-new.ensures.within (reach (length u.slots) None) (reached None)
 
@@ -46,7 +46,7 @@ run_machine-requires-clause-reached g c =
     let u = c.make_first.new.space in
     let itself = c.in-Ok.itself in
     let zero : itself ≡ Local 0 = first.name ∙ ap (λ (s : List Slot). Local (length s)) made.slots in
-    let one : 0 < length u.slots = omega (arith, ap (λ (x : Table). length x.slots) first.made, length-append (with_object (new_plain OBJECT.0) [] t).slots (Here (new_plain OBJECT.0) ∷ [])) in
+    let one : 0 < length u.slots = omega (arith, ap (λ (x : Table). length x.slots) first.made, length-append (with_object (new_plain OBJECT.0) [] (with_object (new_plain OBJECT.0) [] t)).slots (Here (array_object []) ∷ [])) in
     let reached = λ (clusters : Option Below). subst (IsReached (reach (length u.slots) clusters)) (sym zero) one in
     c.in-Ok-new.ensures.within (reach (length u.slots) (Some [])) (reached (Some []))
 
@@ -102,8 +102,9 @@ returns-in-Err g c =
     stopped p c.args.limits _ c.in-Err.fault c.in-Err.ensures.refused (λ is. inl (λ w so adds.
         let more = c.in-Err.ensures.full is in
         let kept = begun_keeps (code_of p w) adds (tree_at p.nodes.items p.root) (start_state (context_of p) c.args.limits.frames (Local 0) (first_objects c.args.limits.slots)) c.args.limits.steps in
-        let next = length-append (with_object (new_plain OBJECT.0) [] t).slots (Here (new_plain OBJECT.0) ∷ []) in
-        omega (arith, more, kept, made.limit, ap (λ (s : List Slot). length s) made.slots, length-append t.slots (Here (new_plain OBJECT.0) ∷ []), next)))
+        let second = length-append (with_object (new_plain OBJECT.0) [] t).slots (Here (new_plain OBJECT.0) ∷ []) in
+        let third = length-append (with_object (new_plain OBJECT.0) [] (with_object (new_plain OBJECT.0) [] t)).slots (Here (array_object []) ∷ []) in
+        omega (arith, more, kept, made.limit, ap (λ (s : List Slot). length s) made.slots, length-append t.slots (Here (new_plain OBJECT.0) ∷ []), second, third)))
 
 pub returns-in-Err-new : goal.returns-in-Err-new
 returns-in-Err-new g c =

@@ -24,12 +24,12 @@ loop-place-preserved c =
     record {
       same =
           c.loop-place.invariant.same
-          ∙ ap (behind values) (spread_step t v place count lt ∙ ap (λ r. spread_read r others) (sym c.in-Item.ensures.is) ∙ ap (λ o. spread_with o others) (sym c.in-Some.ensures.is))
+          ∙ ap (behind values) (spread_step t v place count lt ∙ ap (λ r. spread_read t r others) (sym c.in-Item.ensures.is) ∙ ap (λ o. spread_with o others) (sym c.in-Some.ensures.is))
           ∙ behind_more values x others
           ∙ ap (λ l. behind l others) (sym new)
           ∙ ap (λ k. behind all (spread_from t v k (count - k))) next;
       reached = λ clusters.
           let k = reach (length t.slots) clusters in
-          let given = c.in-Some.ensures.within (length t.slots) clusters c.in-Item.ensures.within in
+          let given = c.in-Some.ensures.within clusters c.in-Item.ensures.within in
           subst (All (IsReached k)) (sym new) (All-push (IsReached k) values x (c.loop-place.invariant.reached clusters) (given 0 Nil (omega arith)));
     }

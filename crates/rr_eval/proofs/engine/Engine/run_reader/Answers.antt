@@ -24,7 +24,7 @@ returns-then-given-eq0-clause-goes c p class h n =
     let t = c.args.space.now in
     let by = c.args.way.value in
     let vs = passed_on c.args.passing (stand_of f m.held ++ list_of c.args.last) in
-    let next = See (λ k. settled own (valued_response by (field_response (field_at k.table c.args.way.receiver c.args.name.0)))) in
+    let next = See (λ k. settled own (valued_response by (field_response k.table (field_at k.table c.args.way.receiver c.args.name.0)))) in
     let count : c.count_of-given.result ≡ length vs = c.count_of-given.ensures ∙ ap (λ l. length (passed_on c.args.passing (l ++ list_of c.args.last))) c.standing.ensures.is in
     let same : length vs ≡ 0 = sym count ∙ c.if-given-eq0.true in
     ap (λ r. after_values p m t f r h n) (sym (as_many own 0 vs next same))
@@ -44,7 +44,7 @@ returns-else-given-eq0-clause-goes c p class h n =
     let own = context_of p in
     let t = c.args.space.now in
     let vs = passed_on c.args.passing (stand_of f m.held ++ list_of c.args.last) in
-    let next = See (λ k. settled own (valued_response c.args.way.value (field_response (field_at k.table c.args.way.receiver c.args.name.0)))) in
+    let next = See (λ k. settled own (valued_response c.args.way.value (field_response k.table (field_at k.table c.args.way.receiver c.args.name.0)))) in
     let count : c.count_of-given.result ≡ length vs = c.count_of-given.ensures ∙ ap (λ l. length (passed_on c.args.passing (l ++ list_of c.args.last))) c.standing.ensures.is in
     let other = λ (e : length vs ≡ 0). c.if-given-eq0.false (count ∙ e) in
     ap (λ r. after_values p m t f r h n) (sym (others own 0 vs next other))
