@@ -63,3 +63,7 @@ pub mod Refusing
 pub mod Topmost
 pub mod Acting
 pub mod OtherFrames
+pub mod Published
+pub mod Noted
+pub mod Cleared
+pub mod CopiesFrozen

@@ -54,4 +54,5 @@ pub mod Heard
 pub mod Served
 pub mod Written
 pub mod Counted
+pub mod Publishing
 pub mod Runs

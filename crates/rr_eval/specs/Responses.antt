@@ -5,7 +5,6 @@ use Rattle.rr_space.specs.Kinds.{class_at}
 use Rattle.rr_space.specs.Tables.{Table, resolve}
 use Rattle.rr_space.specs.declared.refer.Ref.{Ref}
 use Rattle.rr_space.specs.declared.refer.Ref.TheVariants as refs
-use Rattle.rr_builtin.specs.Acts.{Outcome, Gives, Raises, Lacks}
 use Rattle.rr_builtin.specs.Rounds.{Read, Reads, item_at}
 use Rattle.rr_builtin.specs.declared.built.Built.{Built}
 use Rattle.rr_builtin.specs.declared.built.Built.TheVariants as built
@@ -29,8 +28,11 @@ ref_of (At (Published c p)) = refs.Nil
 
 -- The third object of a script, to which no value leads. It is an array that has, for each cluster by its number, an array of the slots
 -- in which the places of the cluster were before they were published.
+abbrev pub registry_slot : ℕ
+registry_slot = 2
+
 abbrev pub registry : Ref
-registry = refs.Local 2
+registry = refs.Local registry_slot
 
 -- the slot that is read, if one is
 abbrev pub slot_read : Read → Option ℕ
@@ -73,9 +75,3 @@ abbrev pub response_from : Problem → Built → Response
 response_from missing (built.Value r) = response.Gives r
 response_from missing (built.Raised p) = response.Fails (BuiltIn p)
 response_from missing built.Missing = response.Fails missing
-
--- what a call came to, where `missing` is the problem of a method that the receiver lacks
-abbrev pub response_of : Problem → Outcome → Response
-response_of missing (Gives x) = response.Gives (ref_of x)
-response_of missing (Raises p) = response.Fails (BuiltIn p)
-response_of missing Lacks = response.Fails missing

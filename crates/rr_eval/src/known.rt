@@ -19,7 +19,7 @@ use std::alloc::Global;
 
 /// The registry: the array that has, for each cluster by its number, an array of the slots in which its places were. It is the third
 /// object of a script.
-const REGISTRY: Ref = Ref::Local(2);
+pub const REGISTRY: Ref = Ref::Local(2);
 
 /// Makes the registry, which is empty. A refused growth leaves the objects as they were.
 pub fn make_registry(alloc: Global, space: &mut Space) -> Result<(), Fault>
