@@ -209,4 +209,3 @@ none_read t e = record {
   one = λ c os ps first second. none_in (c, os) first;
   all = λ x has. subst (λ (bs : List Below). Contains (joined bs) x) e has;
 }
-

@@ -176,3 +176,15 @@ module _ (w : Whole) (places : List ℕ) (old noted new : Table) (S : IsStanding
       let s = share (Own n) (resolve_object new.slots found.1.0) ([], refl) (graph_here new n found.1.0 here) in
       (S.array found.1.0 (array_here found.1.0 found.1.1)).0 s.frozen)
       (path_back is reach.0 v n reach.1)
+
+  -- what is shareable was published: it is no slot any more
+  pub cleared_public : (v : Value)
+      → ((n : ℕ) → Contains places n ↔ (Reaches (space_graph old) (resolve old.slots v) (Own n) × IsShareable (space_graph old) (At (Own n))))
+      → IsShareable (space_graph old) (resolve old.slots v) → (n : ℕ) → resolve new.slots v ≡ At (Own n) → ⊥
+  cleared_public v exact share n e =
+      let s = still_own v n e in
+      s.1 ((exact n).1 (([], s.0), subst (IsShareable (space_graph old)) s.0 share))
+
+-- where nothing shareable of the space is found, a shareable value is no slot
+pub found_public : (t : Table) (v : Value) → IsPromoted t v → IsShareable (space_graph t) (resolve t.slots v) → (n : ℕ) → resolve t.slots v ≡ At (Own n) → ⊥
+found_public t v promoted share n e = promoted n ([], e) (subst (IsShareable (space_graph t)) e share)

@@ -66,4 +66,6 @@ pub mod OtherFrames
 pub mod Published
 pub mod Noted
 pub mod Cleared
+pub mod Copied
+pub mod Specials
 pub mod CopiesFrozen

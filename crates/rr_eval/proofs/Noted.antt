@@ -22,7 +22,7 @@ use Rattle.rr_builtin.specs.Acts.{with_put}
 use Rattle.rr_builtin.proofs.Arraying.{put_behind, put_inside}
 use Rattle.rr_builtin.proofs.Performing.{read_grown}
 use Rattle.rr_eval.specs.Responses.{registry_slot}
-use Rattle.rr_eval.specs.Publishing.{own_value, slots_array, IsRegistry, IsNoted, Notes}
+use Rattle.rr_eval.specs.Publishing.{own_value, slots_array, IsRegistry, IsNoted, Notes, IsUnpublished}
 
 -- ---- The array of the slots.
 
@@ -246,6 +246,14 @@ module _ (places : List ℕ) (t mid : Table) (its : List Ref) (are : its ≡ map
     rest = record { limit = on.limit ∙ rest.limit; owner = on.owner ∙ rest.owner; next_message = on.next_message ∙ rest.next_message };
   }
 
+  -- no object that was there is another one
+  pub array_unpublished : IsUnpublished t mid
+  array_unpublished = record {
+    slots = λ n lt off. ap (λ ss. slice_get ss n) mid_slots ∙ grown_at t.slots (Here (slots_array places)) n (λ e. omega (arith, lt, e));
+    grows = let size = ap length mid_slots in let grown = grown_within t.slots (Here (slots_array places)) in omega (arith, size, grown);
+    rest = rest;
+  }
+
 -- no slot is lost
 pub noted_grows : (c : ℕ) (places : List ℕ) (t noted : Table) → Notes c places t noted → length t.slots ≤ length noted.slots
 noted_grows c places t noted (inl N) =
@@ -253,6 +261,18 @@ noted_grows c places t noted (inl N) =
     let grown = grown_within t.slots (Here (slots_array places)) in
     omega (arith, size, grown)
 noted_grows c places t noted (inr (none, same)) = let size = ap (λ (x : Table). length x.slots) same in omega (arith, size)
+
+pub same_unpublished : (t new : Table) → new ≡ t → IsUnpublished t new
+same_unpublished t new same = subst (IsUnpublished t) (sym same) (record { slots = λ n lt off. refl; grows = omega arith; rest = record { limit = refl; owner = refl; next_message = refl } })
+
+-- no object that was there is another one, but the registry
+pub noted_unpublished : (c : ℕ) (places : List ℕ) (t noted : Table) → Notes c places t noted → IsUnpublished t noted
+noted_unpublished c places t noted (inl N) = record {
+  slots = λ n lt off. at_other c places t noted N n off (λ e. omega (arith, lt, e));
+  grows = noted_grows c places t noted (inl N);
+  rest = N.rest;
+}
+noted_unpublished c places t noted (inr (none, same)) = same_unpublished t noted same
 
 -- ---- What was planned still is.
 

@@ -17,17 +17,22 @@ use Rattle.rr_eval.specs.declared.problem.Answer.TheVariants.{Gave, Raised}
 use Rattle.rr_eval.specs.Script.{Asked, World, Outcome, Ended, Spent, objects_of}
 use Rattle.rr_eval.specs.Requests.{Course, Adds}
 use Rattle.rr_eval.specs.Served.{Exchange, course_after, Served}
-use Rattle.rr_eval.specs.Serves.{RequestExceeds}
-use Rattle.rr_eval.specs.Published.{published}
+use Rattle.rr_eval.specs.Alone.{Alone, AloneExceeds}
 use Rattle.rr_store.specs.Stores.{Store, new_store}
 use Rattle.rr_eval.specs.declared.problem.Problem.TheVariants.{NotHere}
 use Rattle.rr_eval.specs.declared.problem.Response.TheVariants.{Fails}
+use Rattle.rr_base.specs.declared.fault.Fault.{Fault}
+use Rattle.rr_base.specs.declared.fault.Fault.TheVariants.{Limit}
+use Rattle.rr_base.specs.declared.limits.Limits.{Limits}
+use Rattle.rr_base.specs.declared.limits.LimitKind.TheVariants.{Slots}
+use Rattle.rr_eval.specs.declared.run.Outcome.TheVariants.{Stopped}
+use Rattle.rr_eval.specs.Acts.{IsRefusal}
 use Rattle.rr_eval.specs.Exceptions.{IsTold}
 use Rattle.rr_eval.specs.Rules.{Context, start_state, first_memory}
 use Rattle.rr_eval.specs.View.{View}
 use Rattle.rr_eval.specs.Turns.{context_of, remaining, asking_then, answered, state_of}
 use Rattle.rr_eval.specs.Written.{Written, IsBeginning, WritesAll, WritesBeginning, FallsShort}
-use Rattle.rr_eval.specs.Runs.{Alone, first_course, RepliesSo, IsWaitingFor, IsFull, text_of, text_asked, piece_asked, no_objects, first_objects, IsRaised, IsDone, IsSpent}
+use Rattle.rr_eval.specs.Runs.{IsRun, program_meaning, first_course, RepliesSo, IsWaitingFor, IsFull, text_of, text_asked, piece_asked, no_objects, first_objects, IsRaised, IsDone, IsSpent}
 use Rattle.rr_eval.proofs.Bytes.{writes_both, falls_short_after, falls_short_longer, writes_beginning}
 use Rattle.rr_eval.proofs.Entered.{replied}
 use Rattle.rr_eval.proofs.Printed.{text-push, remaining_grows, asking_grows}
@@ -40,6 +45,10 @@ course_of w exchanges = course_after (first_course w) exchanges
 keeps_world : (w : World) (exchanges : List Exchange) → Adds w → Adds (course_of w exchanges).world
 keeps_world w [] adds = adds
 keeps_world w (x ∷ xs) adds = keeps_world w xs adds
+
+world_same : (w : World) (exchanges : List Exchange) → (course_of w exchanges).world ≡ w
+world_same w [] = refl
+world_same w (x ∷ xs) = world_same w xs
 
 -- some requests were made and served, and the rest of what all means is still to be done
 pub record IsRunning (events : ℕ) (p : Program) (m : View) (t : Table) (all : World → Outcome) (old now : Written) (store : Store) : Type 0 where
@@ -105,10 +114,15 @@ module _ (events : ℕ) (p : Program) (m : View) (t : Table) (all : World → Ou
       subst (λ (x : Outcome). objects_of x ≤ slots) (sym (r.same w so ∙ ends (course_of w r.exchanges))) (fits (course_of w r.exchanges))
 
   -- what is asked next comes to more objects than there may be
-  pub running_full : (slots : ℕ) (n : View) (u : Table) (q : Asked) → ((h : Course) → remaining p m t h ≡ asking_then p n u q h) → RequestExceeds (context_of p) (published store) slots q u → IsFull (context_of p) slots r.exchanges store all
-  running_full slots n u q e exceeds = inr (q, u, exceeds, λ w so none.
-      let h = course_of w r.exchanges in
-      subst (IsWaitingFor q u) (sym (r.same w so ∙ e h ∙ (replied p n (Fails NotHere)).none u q h none)) (refl, (h.asked, refl)))
+  pub running_full : (slots : ℕ) (n : View) (u : Table) (q : Asked) → ((h : Course) → remaining p m t h ≡ asking_then p n u q h) → AloneExceeds (context_of p) store slots q u → IsFull (context_of p) slots r.exchanges store all
+  running_full slots n u q e exceeds = inr (
+    q,
+    u,
+    exceeds,
+    λ w so none.
+        let h = course_of w r.exchanges in
+        subst (IsWaitingFor q u) (sym (r.same w so ∙ e h ∙ (replied p n (Fails NotHere)).none u q h (ap (λ (z : World). z h.asked q u) (world_same w r.exchanges) ∙ none))) (refl, (h.asked, refl)),
+  )
 
   -- the program makes more objects than there may be
   pub running_passes : (slots : ℕ) → ((h : Course) → Adds h.world → slots < objects_of (remaining p m t h)) → IsFull (context_of p) slots r.exchanges store all
@@ -116,6 +130,17 @@ module _ (events : ℕ) (p : Program) (m : View) (t : Table) (all : World → Ou
 
 pub nothing_written : (c : Context) (all : Outcome) (now : Written) → WritesBeginning now now (text_of c all)
 nothing_written c all now = record { part = []; begins = (text_of c all, refl); wrote = Appends-nil now.bytes; failed = refl }
+
+-- what stops before anything is asked
+pub stopped_first : (p : Program) (limits : Limits) (now : Written) (fault : Fault) → IsRefusal fault → (fault ≡ Limit Slots → IsFull (context_of p) limits.slots [] (new_store limits.events) (program_meaning p limits)) → IsRun (context_of p) (program_meaning p limits) limits now now (Stopped fault)
+stopped_first p limits now fault refused full = record {
+  exchanges = [];
+  store = new_store limits.events;
+  served = refl;
+  leaves = λ w so. (refused, nothing_written (context_of p) (program_meaning p limits w) now);
+  fits = λ w so. tt;
+  full = full;
+}
 
 -- a script begins with no object
 pub first_table : (t : Table) (slots : ℕ) → t.slots ≡ [] → t.below ≡ [] → t.keys ≡ [] → t.limit ≡ slots → t.owner ≡ 1 → t.next_message ≡ 1 → no_objects slots ≡ t

@@ -20,12 +20,11 @@ use Rattle.rr_share.proofs.Ends.{leads_within, reaches_on}
 use Rattle.rr_share.proofs.Searching.{at_contains}
 use Rattle.rr_share.proofs.Solids.{graph_here}
 use Rattle.rr_text.specs.Reads.{IsReadWith}
-use Rattle.rr_eval.specs.declared.problem.Problem.{Problem}
 use Rattle.rr_eval.specs.declared.problem.Response.{Response}
 use Rattle.rr_eval.specs.Context.{Context}
 use Rattle.rr_eval.specs.Effects.{Effect, SaysFailed, said}
 use Rattle.rr_eval.specs.Serves.{IsReplied, IsRefused}
-use Rattle.rr_eval.specs.Sharing.{connects, one_below, is_own, has_own, object_has, steps, leads_in, leads, is_open, is_moved, is_shareable, leads_to_shell, frozen_slot, frozen_from, deep_frozen, keyword_reply, make_shareable_reply}
+use Rattle.rr_eval.specs.Sharing.{connects, one_below, is_own, has_own, object_has, steps, leads_in, leads, is_open, is_moved, is_shareable, leads_to_shell, frozen_slot, frozen_from, deep_frozen}
 use Rattle.rr_eval.specs.Within.{reach, IsReached, IsResponseReached}
 use Rattle.rr_eval.proofs.Connecting.{joins, connects_step, connected, one_there, there_one, both, first, second}
 
@@ -342,11 +341,11 @@ below_of k cs (refs.Class c) h = tt
 below_of k cs (refs.Ractor r) h = tt
 
 -- two arguments
-pub keywords_are : (c : Context) (vs : List Ref) (w : Ref) (t : Table) (e : Problem) → 2 ≤ length vs → length vs < 3 → w ≡ get_or vs 1 w → ((v : Ref) → keyword_reply c v w t ≡ record { said = SaysFailed e; table = t }) → make_shareable_reply c vs t ≡ record { said = SaysFailed e; table = t }
-keywords_are c [] w t e least most is refused = absurd (omega (arith, least))
-keywords_are c (x ∷ []) w t e least most is refused = absurd (omega (arith, least))
-keywords_are c (x ∷ y ∷ []) w t e least most is refused = ap (λ z. keyword_reply c x z t) (sym is) ∙ refused x
-keywords_are c (x ∷ y ∷ z ∷ zs) w t e least most is refused = absurd (omega (arith, most))
+pub pair_is : (vs : List Ref) (v w : Ref) → 2 ≤ length vs → length vs < 3 → v ≡ get_or vs 0 v → w ≡ get_or vs 1 w → vs ≡ v ∷ w ∷ []
+pair_is [] v w least most first second = absurd (omega (arith, least))
+pair_is (x ∷ []) v w least most first second = absurd (omega (arith, least))
+pair_is (x ∷ y ∷ []) v w least most first second = ap (λ z. z ∷ y ∷ []) (sym first) ∙ ap (λ z. v ∷ z ∷ []) (sym second)
+pair_is (x ∷ y ∷ z ∷ zs) v w least most first second = absurd (omega (arith, most))
 
 -- ---- The tests and the table are what they say.
 

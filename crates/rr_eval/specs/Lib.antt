@@ -55,4 +55,5 @@ pub mod Served
 pub mod Written
 pub mod Counted
 pub mod Publishing
+pub mod Alone
 pub mod Runs

@@ -82,6 +82,12 @@ pub record IsPublishedOf (s : Store) (t : Table) (v : Value) (u : Store) (new : 
 abbrev pub IsPublishing : Store → Table → Value → Store → Table → Type 0
 IsPublishing s t v u new = HasNothingNew s t v u new ⊎ IsPublishedOf s t v u new
 
+-- nothing was published: each object is as it was but the registry, and an array may have come
+pub record IsUnpublished (t u : Table) : Type 0 where
+  pub slots : (n : ℕ) → n < length t.slots → (registry_slot ≡ n → ⊥) → slice_get u.slots n ≡ slice_get t.slots n
+  pub grows : length t.slots ≤ length u.slots
+  pub rest : IsRestKept t u
+
 -- why nothing is published; no other fault is answered
 abbrev pub IsPublishRefusal : Fault → Store → Table → Value → Type 0
 IsPublishRefusal Memory s t v = Unit {0}

@@ -27,12 +27,11 @@ use Rattle.rr_eval.specs.declared.run.Outcome.{Outcome as RunOutcome}
 use Rattle.rr_eval.specs.declared.run.Outcome.TheVariants as outcomes
 use Rattle.rr_eval.specs.Tasks.{piece_of}
 use Rattle.rr_text.specs.Names.{names_of}
-use Rattle.rr_eval.specs.Script.{Asked, Does, Calls, Reply, World, Outcome, Ended, Spent, Waits, objects_of}
+use Rattle.rr_eval.specs.Script.{Asked, Does, Calls, World, Outcome, Ended, Spent, Waits, objects_of}
 use Rattle.rr_store.specs.Stores.{Store, new_store}
-use Rattle.rr_eval.specs.Published.{published}
+use Rattle.rr_eval.specs.Alone.{Alone, AloneExceeds}
 use Rattle.rr_eval.specs.Requests.{Course, Adds}
 use Rattle.rr_eval.specs.Served.{Exchange, course_after, Gives, Served}
-use Rattle.rr_eval.specs.Serves.{IsRequestReplied, RequestExceeds}
 use Rattle.rr_eval.specs.Rules.{Context, begun, start_state}
 use Rattle.rr_eval.specs.Exceptions.{IsTold}
 use Rattle.rr_eval.specs.Written.{Written, WritesAll, WritesBeginning, FallsShort}
@@ -53,11 +52,6 @@ abbrev pub text_of : Context → Outcome → List ℕ
 text_of c (Ended a s n) = text_asked c s.asked
 text_of c (Spent s) = text_asked c s.asked
 text_of c (Waits s) = text_asked c s.asked
-
--- The environment of a script that runs alone: what is to be printed is printed, and a method that is called does what it does, among the
--- clusters of its store. Nothing is published yet.
-abbrev pub Alone : Context → Store → Asked → Table → Reply → Store → Type 0
-Alone c store q t reply after = (after ≡ store) × IsRequestReplied c (published store) q t reply.response reply.table
 
 -- it ended with a value; it raised an exception, of which this is told; it ran out of steps
 abbrev pub IsDone : Outcome → Type 0
@@ -110,7 +104,7 @@ IsWaitingFor q t _ = ⊥
 abbrev pub IsFull : Context → ℕ → List Exchange → Store → (World → Outcome) → Type 0
 IsFull c slots exchanges store meaning =
     ((w : World) → RepliesSo w exchanges → Adds w → slots < objects_of (meaning w))
-    ⊎ ((q : Asked) × (t : Table) × RequestExceeds c (published store) slots q t × ((w : World) → RepliesSo w exchanges → HasNoReply w exchanges q t → IsWaitingFor q t (meaning w)))
+    ⊎ ((q : Asked) × (t : Table) × AloneExceeds c store slots q t × ((w : World) → RepliesSo w exchanges → HasNoReply w exchanges q t → IsWaitingFor q t (meaning w)))
 
 abbrev pub StopsWhereFull : Context → ℕ → List Exchange → Store → (World → Outcome) → RunOutcome → Type 0
 StopsWhereFull c slots exchanges store meaning (outcomes.Stopped fault) = fault ≡ faults.Limit limits.Slots → IsFull c slots exchanges store meaning

@@ -124,12 +124,12 @@ is_copy c (Some x) = names_copy c x.1
 abbrev pub asks_copy : Context → Table → Ref → Bool
 asks_copy c t v = nat_eq (length (triples_at t v)) 2 && is_copy c (slice_get (triples_at t v) 0)
 
--- a second argument, which is a hash of keywords; the only keyword is `copy`, which is not evaluated yet
-abbrev pub keyword_reply : Context → Ref → Ref → Table → Effect
-keyword_reply c v w t = if is_hash (kind_at t w) then fails (if asks_copy c t w then NotHere else UnknownKeyword) t else one_wanted (v ∷ w ∷ []) t
-
 abbrev pub frozen_reply : Ref → Table → Effect
 frozen_reply v t = if leads_to_shell t v then fails (BuiltIn Moved) t else record { said = Says (value_of v); table = deep_frozen v t }
+
+-- A second argument, which is a hash of keywords. The only keyword is `copy`, and no copy is asked for by its value.
+abbrev pub keyword_reply : Context → Ref → Ref → Table → Effect
+keyword_reply c v w t = if is_hash (kind_at t w) then (if asks_copy c t w then frozen_reply v t else fails UnknownKeyword t) else one_wanted (v ∷ w ∷ []) t
 
 -- `make_shareable`
 abbrev pub make_shareable_reply : Context → List Ref → Table → Effect

@@ -50,8 +50,7 @@ fn raised_beside(space: &Space, rescued: Ref, values: &[Ref], last: Ref) -> Opti
     }
 }
 
-/// The second of two exceptions becomes the cause of the first one, where it takes one, and the first one is raised, where nothing is
-/// published.
+/// The second of two exceptions becomes the cause of the first one, where it takes one, and the first one is raised.
 pub fn give_cause(space: &mut Space, store: &StoreState, values: &[Ref]) -> Response
     requires read { IsReadWith space.old (published store.now) }
     requires reached { All (IsReached (reach (length space.old.slots) (Some (published store.now)))) values.now }
@@ -63,7 +62,7 @@ pub fn give_cause(space: &mut Space, store: &StoreState, values: &[Ref]) -> Resp
     }
 }
 
-/// An exception gets a cause, where it takes one, and is raised, where nothing is published.
+/// An exception gets a cause, where it takes one, and is raised.
 fn raise_with_cause(space: &mut Space, store: &StoreState, exception: Ref, cause: Ref) -> Response
     requires read { IsReadWith space.old (published store.now) }
     requires exception { IsReached (reach (length space.old.slots) (Some (published store.now))) exception }

@@ -45,9 +45,15 @@ pub fn read_field(space: &Space, object: Ref, name: Sym) -> Response
     }
 }
 
-/// Gives an instance variable of an object a value, and gives the value, where nothing is published. A refused growth leaves the
+/// Gives an instance variable of an object a value, and gives the value. A refused growth leaves the
 /// objects as they were.
-fn write_field(space: &mut Space, store: &StoreState, object: Ref, name: Sym, value: Ref) -> Result<Response, Fault>
+fn write_field(
+    space: &mut Space,
+    store: &StoreState,
+    object: Ref,
+    name: Sym,
+    value: Ref,
+) -> Result<Response, Fault>
     requires read { IsReadWith space.old (published store.now) }
     requires object { IsReached (reach (length space.old.slots) (Some (published store.now))) object }
     requires value { IsReached (reach (length space.old.slots) (Some (published store.now))) value }
@@ -65,7 +71,12 @@ fn write_field(space: &mut Space, store: &StoreState, object: Ref, name: Sym, va
 
 /// The second of two values becomes an instance variable of the first one, and is given. A refused growth leaves the objects as
 /// they were.
-pub fn give_field(space: &mut Space, store: &StoreState, name: Sym, values: &[Ref]) -> Result<Response, Fault>
+pub fn give_field(
+    space: &mut Space,
+    store: &StoreState,
+    name: Sym,
+    values: &[Ref],
+) -> Result<Response, Fault>
     requires read { IsReadWith space.old (published store.now) }
     requires reached { All (IsReached (reach (length space.old.slots) (Some (published store.now)))) values.now }
     ensures replied { IfOk result (λ r. IsReplied (published store.now) (field_reply name values.now space.old) space.old r space.new) }
@@ -77,7 +88,7 @@ pub fn give_field(space: &mut Space, store: &StoreState, name: Sym, values: &[Re
     }
 }
 
-/// Gives an exception another message, and gives the exception, where nothing is published.
+/// Gives an exception another message, and gives the exception.
 fn replace_message(space: &mut Space, store: &StoreState, exception: Ref, message: Ref) -> Response
     requires read { IsReadWith space.old (published store.now) }
     requires message { IsReached (reach (length space.old.slots) (Some (published store.now))) message }
@@ -88,7 +99,7 @@ fn replace_message(space: &mut Space, store: &StoreState, exception: Ref, messag
     response_from(Problem::NotHere, built)
 }
 
-/// The second of two values becomes the message of the first one, an exception, which is given, where nothing is published.
+/// The second of two values becomes the message of the first one, an exception, which is given.
 pub fn give_message(space: &mut Space, store: &StoreState, values: &[Ref]) -> Response
     requires read { IsReadWith space.old (published store.now) }
     requires reached { All (IsReached (reach (length space.old.slots) (Some (published store.now)))) values.now }

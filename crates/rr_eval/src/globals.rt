@@ -37,9 +37,14 @@ use rr_tree::NodeId;
 /// The object whose fields are the global variables and the constants: the second one of a script.
 pub const GLOBALS: Ref = Ref::Local(1);
 
-/// Gives a global variable, or a constant, a value, and gives the value, where nothing is published. A refused growth leaves the
+/// Gives a global variable, or a constant, a value, and gives the value. A refused growth leaves the
 /// objects as they were.
-fn write_global(space: &mut Space, store: &StoreState, name: Sym, value: Ref) -> Result<Response, Fault>
+pub fn write_global(
+    space: &mut Space,
+    store: &StoreState,
+    name: Sym,
+    value: Ref,
+) -> Result<Response, Fault>
     requires read { IsReadWith space.old (published store.now) }
     requires value { IsReached (reach (length space.old.slots) (Some (published store.now))) value }
     ensures replied { IfOk result (λ r. IsReplied (published store.now) (reply_with Problem.NotHere (set_field name.0 (value_of value) globals space.old)) space.old r space.new) }
@@ -55,7 +60,12 @@ fn write_global(space: &mut Space, store: &StoreState, name: Sym, value: Ref) ->
 }
 
 /// The value becomes a global variable, or a constant, and is given. A refused growth leaves the objects as they were.
-pub fn give_global(space: &mut Space, store: &StoreState, name: Sym, values: &[Ref]) -> Result<Response, Fault>
+pub fn give_global(
+    space: &mut Space,
+    store: &StoreState,
+    name: Sym,
+    values: &[Ref],
+) -> Result<Response, Fault>
     requires read { IsReadWith space.old (published store.now) }
     requires reached { All (IsReached (reach (length space.old.slots) (Some (published store.now)))) values.now }
     ensures replied { IfOk result (λ r. IsReplied (published store.now) (global_reply name values.now space.old) space.old r space.new) }

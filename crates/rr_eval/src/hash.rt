@@ -1,4 +1,4 @@
-//! New hashes, as an environment makes them where nothing is published.
+//! New hashes, as an environment makes them.
 
 ghost use Rattle.std.specs.Prelude.{[], ◌∷◌, length, Some, IfOk, IfErr};
 ghost use Rattle.std.specs.List.{All};
@@ -39,7 +39,8 @@ fn new_empty(alloc: Global, space: &mut Space, store: &StoreState) -> Result<Res
 /// Puts a value under a key, as `hash[key] = value` does. A refused growth leaves the objects as they were.
 fn put_pair(
     alloc: Global,
-    space: &mut Space, store: &StoreState,
+    space: &mut Space,
+    store: &StoreState,
     program: &Program,
     hash: Ref,
     key: Ref,
@@ -64,7 +65,8 @@ fn put_pair(
 /// Puts pairs of keys and values, which stand by turns, up to one that raises. A refused growth leaves some of them there.
 fn fill(
     alloc: Global,
-    space: &mut Space, store: &StoreState,
+    space: &mut Space,
+    store: &StoreState,
     program: &Program,
     hash: Ref,
     values: &[Ref],
@@ -93,7 +95,8 @@ fn fill(
 /// nothing leads.
 pub fn new_hash(
     alloc: Global,
-    space: &mut Space, store: &StoreState,
+    space: &mut Space,
+    store: &StoreState,
     program: &Program,
     values: &[Ref],
 ) -> Result<Response, Fault>

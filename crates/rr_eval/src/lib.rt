@@ -3,6 +3,7 @@
 
 mod above;
 mod acts;
+mod alone;
 mod apart;
 mod asking;
 mod assigned;
@@ -60,10 +61,12 @@ mod resuming_alone;
 mod run;
 mod sending;
 mod serve;
+mod setting;
 mod several;
 mod sharing;
 mod show;
 mod speaking;
+mod special;
 mod splats;
 mod spot;
 mod spreading;

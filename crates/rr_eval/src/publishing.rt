@@ -2,7 +2,7 @@
 
 ghost use Rattle.std.specs.Prelude.{◌≡◌, ◌≤◌, ◌<◌, ◌⊎◌, ℕ, [], List, length, map, slice_set, Contains, IfOk, IfErr};
 ghost use Rattle.std.specs.Bool.{OnTrue, OnFalse};
-ghost use Rattle.rr_space.specs.Graph.{Object, IsFreeOfShells};
+ghost use Rattle.rr_space.specs.Graph.{Object, At, Own, IsFreeOfShells, IsShareable};
 ghost use Rattle.rr_space.specs.Moves.{IsPlanned, IsPromoted};
 ghost use Rattle.rr_space.specs.Parts.{value_of, below_ref, IsWithin};
 ghost use Rattle.rr_space.specs.Tables.{Here, Below, IsRestKept, joined, resolve, space_graph};
@@ -12,7 +12,7 @@ ghost use Rattle.rr_text.specs.Reads.{IsReadWith};
 ghost use Rattle.rr_builtin.specs.Acts.{with_put};
 ghost use Rattle.rr_eval.specs.Published.{published};
 ghost use Rattle.rr_eval.specs.Responses.{registry_slot};
-ghost use Rattle.rr_eval.specs.Publishing.{own_value, IsRegistry, Notes, IsPublishedAs, IsPublishing, IsPublishRefusal};
+ghost use Rattle.rr_eval.specs.Publishing.{IsRegistry, Notes, IsPublishedAs, IsPublishing, IsPublishRefusal, IsUnpublished};
 
 use crate::known::REGISTRY;
 use rr_base::{Fault, LimitKind, RactorNo};
@@ -83,6 +83,7 @@ fn note_places(
     ensures read { (below : Below) → IsReadWith space.old below → IsReadWith space.new below }
     ensures grows { length space.old.slots ≤ length space.new.slots }
     ensures limit { space.new.limit ≡ space.old.limit }
+    ensures unpublished { IsUnpublished space.old space.new }
     ensures fault { IfErr result (λ fault. (fault ≡ Fault.Memory) ⊎ ((fault ≡ Fault.Limit LimitKind.Slots) × (length space.old.slots ≡ space.old.limit))) }
 {
     if !has_registry(space, number) {
@@ -117,6 +118,7 @@ fn publish_plan(
     ensures constants { store.new.constants ≡ store.old.constants }
     ensures room { store.new.limit ≡ store.old.limit }
     ensures kept { IfErr result (λ _. store.new ≡ store.old) }
+    ensures unpublished { IfErr result (λ _. IsUnpublished space.old space.new) }
     ensures fault { IfErr result (λ fault. (fault ≡ Fault.Memory) ⊎ (((fault ≡ Fault.Limit LimitKind.Slots) × (length space.old.slots ≡ space.old.limit)) ⊎ ((fault ≡ Fault.HistoryFull) × (HasEvent store.old → ⊥)))) }
 {
     let Plan { cluster, places } = plan;
@@ -149,6 +151,7 @@ pub fn publish_shareable(
     requires value { IsWithin (length space.old.slots) value }
     ensures published { IfOk result (λ _. IsPublishing store.old space.old (value_of value) store.new space.new) }
     ensures promoted { IfOk result (λ _. IsPromoted space.new (value_of value)) }
+    ensures public { IfOk result (λ _. IsShareable (space_graph space.old) (resolve space.old.slots (value_of value)) → (n : ℕ) → resolve space.new.slots (value_of value) ≡ At (Own n) → ⊥) }
     ensures free { IfOk result (λ _. IsFreeOfShells (space_graph space.old) (resolve space.old.slots (value_of value))) }
     ensures read { IsReadWith space.new (published store.new) }
     ensures more { (e : ℕ × List Object) → Contains (published store.old) e → Contains (published store.new) e }
@@ -157,6 +160,8 @@ pub fn publish_shareable(
     ensures constants { store.new.constants ≡ store.old.constants }
     ensures room { store.new.limit ≡ store.old.limit }
     ensures kept { IfErr result (λ _. store.new ≡ store.old) }
+    ensures unpublished { IfErr result (λ _. IsUnpublished space.old space.new) }
+    ensures shell { IfErr result (λ fault. fault ≡ Fault.HoldsShell → space.new ≡ space.old) }
     ensures fault { IfErr result (λ fault. IsPublishRefusal fault store.old space.old (value_of value)) }
 {
     // With the numbers of slots comes that no reference in them leads nowhere.

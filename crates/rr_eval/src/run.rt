@@ -14,6 +14,7 @@ ghost use Rattle.rr_eval.specs.Within.{AreReached, AreWithin, reach};
 ghost use Rattle.rr_eval.specs.Runs.{Reads, IsRun, Meets, first_course, program_meaning};
 ghost use Rattle.rr_eval.specs.Script.{World};
 
+use crate::alone::serve_alone;
 use crate::counted::Counted;
 use crate::engine::Turn;
 use crate::exception::report;
@@ -22,7 +23,6 @@ use crate::machine::Machine;
 use crate::making::make_plain;
 use crate::output::{Output, put};
 use crate::prepared::Prepared;
-use crate::serve::serve;
 use rr_base::{ClassId, Fault, Limits, RactorNo};
 use rr_builtin::Methods;
 use rr_lexer::{Token, lex, tokens_are_one};
@@ -116,12 +116,12 @@ fn run_machine<O: Output>(
 {
     let program = &prepared.program;
     let methods = &prepared.methods;
-    let store = StoreState::new(alloc, limits.events);
+    let mut store = StoreState::new(alloc, limits.events);
     loop {
         match machine.turn(prepared, &mut space, turn) {
             Ok(Turn::More) => {}
             Ok(Turn::Ask(request)) => {
-                match serve(alloc, &mut space, &store, program, methods, request) {
+                match serve_alone(alloc, &mut space, &mut store, program, methods, request) {
                     Ok(served) => {
                         if !put(output, served.piece.as_slice()) {
                             return Outcome::OutputFailed;

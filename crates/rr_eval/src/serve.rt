@@ -1,4 +1,4 @@
-//! Calls of methods, as an environment serves them.
+//! Calls of methods, as an environment serves them. The store is given for its clusters, among which are all that the space leads to.
 
 ghost use Rattle.std.specs.Prelude.{◌≡◌, ◌≤◌, [], length, map, Some, Ok, Err, Result, if◌then◌else◌, IfOk, IfErr};
 ghost use Rattle.std.specs.List.{All};
@@ -136,11 +136,12 @@ pub fn response_from(missing: Problem, built: Built) -> Response
     }
 }
 
-/// Serves a call of a built-in method, where there is one and nothing is published. A refused growth leaves the objects as
+/// Serves a call of a built-in method, where there is one. A refused growth leaves the objects as
 /// they were.
 pub fn serve_method(
     alloc: Global,
-    space: &mut Space, store: &StoreState,
+    space: &mut Space,
+    store: &StoreState,
     program: &Program,
     call: &Call,
     method: Option<BuiltInMethod>,
@@ -168,10 +169,11 @@ pub fn serve_method(
     }
 }
 
-/// Serves a call where nothing is published. A refused growth leaves the objects as they were.
+/// Serves a call. A refused growth leaves the objects as they were.
 fn serve_call(
     alloc: Global,
-    space: &mut Space, store: &StoreState,
+    space: &mut Space,
+    store: &StoreState,
     program: &Program,
     methods: &Methods,
     call: &Call,
@@ -186,10 +188,11 @@ fn serve_call(
     serve_method(alloc, space, store, program, call, method)
 }
 
-/// Serves a call, of a method of Ractor too, where nothing is published. A refused growth leaves the objects as they were.
+/// Serves a call, of a method of Ractor too. A refused growth leaves the objects as they were.
 fn serve_called(
     alloc: Global,
-    space: &mut Space, store: &StoreState,
+    space: &mut Space,
+    store: &StoreState,
     program: &Program,
     methods: &Methods,
     call: &Call,
@@ -209,7 +212,8 @@ fn serve_called(
 /// Does a task with these values.
 fn serve_values(
     alloc: Global,
-    space: &mut Space, store: &StoreState,
+    space: &mut Space,
+    store: &StoreState,
     program: &Program,
     task: Task,
     values: &Arguments,
@@ -227,15 +231,23 @@ fn serve_values(
         Arguments::Two(first, second) => {
             serve_task(alloc, space, store, program, task, &[*first, *second])
         }
-        Arguments::Many(values) => serve_task(alloc, space, store, program, task, values.as_slice()),
+        Arguments::Many(values) => serve_task(
+            alloc,
+            space,
+            store,
+            program,
+            task,
+            values.as_slice(),
+        ),
     }
 }
 
-/// Serves a request where nothing is published. A refused growth leaves the objects as they were, beside a new hash and some
+/// Serves a request, with the clusters of a store. A refused growth leaves the objects as they were, beside a new hash and some
 /// of its keys, to which nothing leads.
 pub fn serve(
     alloc: Global,
-    space: &mut Space, store: &StoreState,
+    space: &mut Space,
+    store: &StoreState,
     program: &Program,
     methods: &Methods,
     request: Request,

@@ -1,4 +1,4 @@
-//! What ractors may share, as a script asks Ractor for it, where nothing is published.
+//! What ractors may share, as a script asks Ractor for it.
 
 ghost use Rattle.std.specs.Prelude.{◌≡◌, ◌↔◌, ◌&&◌, ℕ, [], length, nat_eq, Option, Some, slice_get, IsTrue, IfOk, IfErr};
 ghost use Rattle.std.specs.List.{All};
@@ -61,7 +61,7 @@ fn is_copy(program: &Program, key: Option<(Label, Ref)>) -> bool
 }
 
 /// Whether a hash has the key `:copy` alone.
-fn asks_copy(program: &Program, space: &Space, hash: Ref) -> bool
+pub fn asks_copy(program: &Program, space: &Space, hash: Ref) -> bool
     ensures { result ≡ asks_copy (context_of program.now) space.now hash }
 {
     let key = space.part(hash, 0);
@@ -79,21 +79,6 @@ fn one_wanted(given: usize) -> Problem
     })
 }
 
-/// What a second argument of `make_shareable` comes to.
-fn refuse_keyword(program: &Program, space: &Space, keywords: Ref) -> Problem
-    ensures { (value : Ref) → keyword_reply (context_of program.now) value keywords space.now ≡ record { said = SaysFailed result; table = space.now } }
-{
-    match space.kind_of(keywords) {
-        Kind::Hash => {
-            if asks_copy(program, space, keywords) {
-                return Problem::NotHere;
-            }
-            Problem::UnknownKeyword
-        }
-        _ => one_wanted(2),
-    }
-}
-
 /// Whether ractors may share a value.
 fn tell_shareable(alloc: Global, space: &Space, value: Ref) -> Result<Response, Fault>
     ensures is { IfOk result (λ r. r ≡ Response.Gives (Ref.Truth (is_shareable space.now value))) }
@@ -105,7 +90,12 @@ fn tell_shareable(alloc: Global, space: &Space, value: Ref) -> Result<Response, 
 }
 
 /// Freezes all that a value leads to, and gives the value. A refused growth leaves the objects as they were.
-fn make_shareable(alloc: Global, space: &mut Space, store: &StoreState, value: Ref) -> Result<Response, Fault>
+fn make_shareable(
+    alloc: Global,
+    space: &mut Space,
+    store: &StoreState,
+    value: Ref,
+) -> Result<Response, Fault>
     requires read { IsReadWith space.old (published store.now) }
     requires value { IsReached (reach (length space.old.slots) (Some (published store.now))) value }
     ensures replied { IfOk result (λ r. IsReplied (published store.now) (frozen_reply value space.old) space.old r space.new) }
@@ -119,8 +109,39 @@ fn make_shareable(alloc: Global, space: &mut Space, store: &StoreState, value: R
     }
 }
 
+/// Serves `make_shareable` with a second argument, which asks for no copy. A refused growth leaves the objects as they were.
+fn serve_keyword(
+    alloc: Global,
+    space: &mut Space,
+    store: &StoreState,
+    program: &Program,
+    value: Ref,
+    keywords: Ref,
+) -> Result<Response, Fault>
+    requires read { IsReadWith space.old (published store.now) }
+    requires value { IsReached (reach (length space.old.slots) (Some (published store.now))) value }
+    ensures replied { IfOk result (λ r. IsReplied (published store.now) (keyword_reply (context_of program.now) value keywords space.old) space.old r space.new) }
+    ensures fault { IfErr result (λ f. f ≡ Fault.Memory) }
+{
+    match space.kind_of(keywords) {
+        Kind::Hash => {
+            if asks_copy(program, space, keywords) {
+                make_shareable(alloc, space, store, value)
+            } else {
+                Ok(Response::Fails(Problem::UnknownKeyword))
+            }
+        }
+        _ => Ok(Response::Fails(one_wanted(2))),
+    }
+}
+
 /// Serves `shareable?`.
-fn serve_shareable(alloc: Global, space: &Space, store: &StoreState, values: &[Ref]) -> Result<Response, Fault>
+fn serve_shareable(
+    alloc: Global,
+    space: &Space,
+    store: &StoreState,
+    values: &[Ref],
+) -> Result<Response, Fault>
     requires read { IsReadWith space.now (published store.now) }
     ensures replied { IfOk result (λ r. IsReplied (published store.now) (shareable_reply values.now space.now) space.now r space.now) }
     ensures fault { IfErr result (λ f. f ≡ Fault.Memory) }
@@ -135,7 +156,8 @@ fn serve_shareable(alloc: Global, space: &Space, store: &StoreState, values: &[R
 /// Serves `make_shareable`. A refused growth leaves the objects as they were.
 fn serve_make_shareable(
     alloc: Global,
-    space: &mut Space, store: &StoreState,
+    space: &mut Space,
+    store: &StoreState,
     program: &Program,
     values: &[Ref],
 ) -> Result<Response, Fault>
@@ -147,7 +169,7 @@ fn serve_make_shareable(
     match values {
         [] => Ok(Response::Fails(one_wanted(0))),
         [value] => make_shareable(alloc, space, store, *value),
-        [_, keywords] => Ok(Response::Fails(refuse_keyword(program, space, *keywords))),
+        [value, keywords] => serve_keyword(alloc, space, store, program, *value, *keywords),
         [_, _, _, ..] => Ok(Response::Fails(one_wanted(values.len()))),
     }
 }
@@ -170,7 +192,8 @@ fn give_alone(value: Ref, values: &[Ref]) -> Response
 /// Serves a method of Ractor. A refused growth leaves the objects as they were.
 fn serve_values(
     alloc: Global,
-    space: &mut Space, store: &StoreState,
+    space: &mut Space,
+    store: &StoreState,
     program: &Program,
     method: RactorMethod,
     values: &[Ref],
@@ -195,7 +218,8 @@ fn serve_values(
 /// Serves a method of Ractor with these arguments. A refused growth leaves the objects as they were.
 pub fn serve_ractor(
     alloc: Global,
-    space: &mut Space, store: &StoreState,
+    space: &mut Space,
+    store: &StoreState,
     program: &Program,
     method: RactorMethod,
     arguments: &Arguments,

@@ -40,7 +40,8 @@ fn ended(text: Text) -> Result<Text, AllocError>
 /// What is printed of a value for which the program's `inspect` gave this text, or nil where it gave none.
 fn shown_text(
     alloc: Global,
-    space: &Space, store: &StoreState,
+    space: &Space,
+    store: &StoreState,
     program: &Program,
     value: Ref,
     said: Ref,
@@ -62,7 +63,8 @@ fn shown_text(
 /// none.
 pub fn write_shown(
     alloc: Global,
-    space: &Space, store: &StoreState,
+    space: &Space,
+    store: &StoreState,
     program: &Program,
     values: &[Ref],
     piece: &mut Vec<u8>,
@@ -100,7 +102,12 @@ fn values_shown(alloc: Global, values: &[Ref]) -> Result<Vec<Ref>, AllocError>
 }
 
 /// What `p` gives for values and what they said, which stand by turns.
-pub fn give_shown(alloc: Global, space: &mut Space, store: &StoreState, values: &[Ref]) -> Result<Response, Fault>
+pub fn give_shown(
+    alloc: Global,
+    space: &mut Space,
+    store: &StoreState,
+    values: &[Ref],
+) -> Result<Response, Fault>
     requires read { IsReadWith space.old (published store.now) }
     requires reached { All (IsReached (reach (length space.old.slots) (Some (published store.now)))) values.now }
     ensures replied { IfOk result (λ r. IsReplied (published store.now) (inspected_reply (values_shown values.now) space.old) space.old r space.new) }

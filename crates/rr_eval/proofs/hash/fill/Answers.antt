@@ -23,7 +23,7 @@ returns-in-Ok-Throws c =
     let rest = c.loop-rest.rest.now in
     let put = rw c.in-Ok-Throws.field-0-is at c.in-Ok-Throws.ensures.replied in
     let ended = filling_throws (context_of c.args.program.now) (published c.args.store.now) c.args.hash c.key-item.result c.value-item.result c.args.values.now rest (take (length rest - 2) (drop 2 rest)) c.args.space.now c.loop-rest.space c.loop-rest.invariant
-        (two_first rest c.key-item.result c.value-item.result c.in-len2-up.len_at_least c.key-item.is c.value-item.is) c.in-Ok-Throws.exception c.put_pair.new.space put in
+    (two_first rest c.key-item.result c.value-item.result c.in-len2-up.len_at_least c.key-item.is c.value-item.is) c.in-Ok-Throws.exception c.put_pair.new.space put in
     record { filled = ended.0; left = ended.1; refused = tt }
 
 pub returns-in-Ok-Fails : goal.returns-in-Ok-Fails
@@ -31,7 +31,7 @@ returns-in-Ok-Fails c =
     let rest = c.loop-rest.rest.now in
     let put = rw c.in-Ok-Fails.field-0-is at c.in-Ok-Fails.ensures.replied in
     let ended = filling_fails (context_of c.args.program.now) (published c.args.store.now) c.args.hash c.key-item.result c.value-item.result c.args.values.now rest (take (length rest - 2) (drop 2 rest)) c.args.space.now c.loop-rest.space c.loop-rest.invariant
-        (two_first rest c.key-item.result c.value-item.result c.in-len2-up.len_at_least c.key-item.is c.value-item.is) c.in-Ok-Fails.problem c.put_pair.new.space put in
+    (two_first rest c.key-item.result c.value-item.result c.in-len2-up.len_at_least c.key-item.is c.value-item.is) c.in-Ok-Fails.problem c.put_pair.new.space put in
     record { filled = ended.0; left = ended.1; refused = tt }
 
 pub returns-clause-filled : goal.returns-clause-filled

@@ -3,14 +3,14 @@ use Rattle.std.proofs.Common.{inl, refl, sym, subst, ◌∙◌, arith, ap, lengt
 use Rattle.rr_store.specs.Stores.{new_store}
 use Rattle.rr_text.specs.Reads.{IsReadWith}
 use Rattle.rr_eval.specs.Published.{published}
-use Rattle.rr_eval.specs.Script.{objects_of}
-use Rattle.rr_eval.specs.Serves.{RequestExceeds}
-use Rattle.rr_eval.specs.Turns.{context_of, remaining}
+use Rattle.rr_eval.specs.Script.{World}
+use Rattle.rr_eval.specs.Alone.{AloneExceeds}
+use Rattle.rr_eval.specs.Turns.{context_of}
 use Rattle.rr_eval.specs.Requests.{asked_of}
 use Rattle.rr_eval.specs.Runs.{program_meaning}
 use Rattle.rr_eval.specs.Within.{reach, AreReached}
 use Rattle.rr_eval.specs.Written.{written_to, WritesAll, FallsShort}
-use Rattle.rr_eval.proofs.Holding.{within_more, reached_more, response_within}
+use Rattle.rr_eval.proofs.Holding.{within_more, reached_more, reached_wider, response_within}
 use Rattle.rr_eval.proofs.Running.{running_first, running_on, running_more, running_failed, running_raised, running_stopped, running_done, running_spent, running_fits, running_full, running_passes}
 use Rattle.rr_eval.proofs.run.run_machine.Goals as goal
 use Rattle.rr_eval.proofs.run.run_machine.Goals.{in-Ok-report, in-Err-report}
@@ -32,7 +32,7 @@ loop-request-preserved-in-Ok-More g c =
     let on = c.in-Ok-More.ensures in
     let before = c.loop-request.invariant in
     let turned = rw c.in-Ok-More.field-0-is at on.turned in
-    let below = published c.new-store.result in
+    let below = published c.loop-request.store in
     record {
       within = on.within;
       reached = on.reach (Some below) before.reached;
@@ -41,14 +41,14 @@ loop-request-preserved-in-Ok-More g c =
       running = running_on c.args.limits.events c.args.prepared.now.program _ _ _ _ _ _ before.running c.turn.new.self c.turn.new.space turned.1;
     }
 
-pub serve-requires-clause-read : goal.serve-requires-clause-read
-serve-requires-clause-read g c = c.in-Ok-Ask.ensures.read (published c.new-store.result) c.loop-request.invariant.read c.loop-request.invariant.reached
+pub serve_alone-requires-clause-read : goal.serve_alone-requires-clause-read
+serve_alone-requires-clause-read g c = c.in-Ok-Ask.ensures.read (published c.loop-request.store) c.loop-request.invariant.read c.loop-request.invariant.reached
 
-pub serve-requires-clause-reached : goal.serve-requires-clause-reached
-serve-requires-clause-reached g c = rw c.in-Ok-Ask.field-0-is at (c.in-Ok-Ask.ensures.ends_reach (Some (published c.new-store.result)) c.loop-request.invariant.reached)
+pub serve_alone-requires-clause-reached : goal.serve_alone-requires-clause-reached
+serve_alone-requires-clause-reached g c = rw c.in-Ok-Ask.field-0-is at (c.in-Ok-Ask.ensures.ends_reach (Some (published c.loop-request.store)) c.loop-request.invariant.reached)
 
-pub returns-in-Err-serve : goal.returns-in-Err-serve
-returns-in-Err-serve g c =
+pub returns-in-Err-serve_alone : goal.returns-in-Err-serve_alone
+returns-in-Err-serve_alone g c =
     let p = c.args.prepared.now.program in
     let asks = c.in-Ok-Ask.ensures in
     let running = c.loop-request.invariant.running in
@@ -57,12 +57,12 @@ returns-in-Err-serve g c =
     let limit = asks.limit ∙ c.loop-request.invariant.limit in
     record {
       exchanges = running.exchanges;
-      store = c.new-store.result;
+      store = c.loop-request.store;
       served = running.served;
-      leaves = λ w so. (c.in-Err-serve.ensures.refused.refused, running_stopped c.args.limits.events p _ _ _ _ _ _ running w so);
+      leaves = λ w so. (c.in-Err-serve_alone.ensures.refused.refused, running_stopped c.args.limits.events p _ _ _ _ _ _ running w so);
       fits = λ w so. tt;
       full = λ is. running_full c.args.limits.events p _ _ _ _ _ _ running c.args.limits.slots c.turn.new.self c.turn.new.space q turned.1
-          (subst (λ slots. RequestExceeds (context_of p) (published c.new-store.result) slots q c.turn.new.space) limit (c.in-Err-serve.ensures.refused.full is));
+          (subst (λ slots. AloneExceeds (context_of p) c.loop-request.store slots q c.turn.new.space) limit (c.in-Err-serve_alone.ensures.refused.full is));
     }
 
 pub returns-then-not-put : goal.returns-then-not-put
@@ -75,7 +75,7 @@ returns-then-not-put g c =
     let q = asked_of c.turn.new.space c.in-Ok-Ask.request in
     record {
       exchanges = running.exchanges;
-      store = c.new-store.result;
+      store = c.loop-request.store;
       served = running.served;
       leaves = running_failed c.args.limits.events p _ _ _ _ _ _ running c.turn.new.self c.turn.new.space new q turned.1
           (subst (λ text. FallsShort now new text) (c.as_slice.ensures.value ∙ c.in-Ok.ensures.piece) c.if-not-put.ensures);
@@ -86,23 +86,24 @@ returns-then-not-put g c =
 pub loop-request-preserved : goal.loop-request-preserved
 loop-request-preserved g c =
     let p = c.args.prepared.now.program in
-    let below = published c.new-store.result in
+    let old = published c.loop-request.store in
+    let below = published c.serve_alone.new.store in
     let asks = c.in-Ok-Ask.ensures in
     let before = c.loop-request.invariant in
     let turned = rw c.in-Ok-Ask.field-0-is at asks.turned in
     let now = written_to g.O.Output.contents g.O.Output.failures c.loop-request.output in
     let new = written_to g.O.Output.contents g.O.Output.failures c.put.new.output in
     let q = asked_of c.turn.new.space c.in-Ok-Ask.request in
-    let k = length c.serve.new.space.slots in
+    let k = length c.serve_alone.new.space.slots in
     let left = c.in-Ok.ensures.left in
-    let reached = asks.reach (Some below) before.reached in
+    let reached = reached_wider (length c.turn.new.space.slots) old below c.in-Ok.ensures.more _ (asks.reach (Some old) before.reached) in
     let wrote = subst (λ text. WritesAll now new text) (c.as_slice.ensures.value ∙ c.in-Ok.ensures.piece) c.if-not-put.ensures in
     record {
       within = c.answer.ensures.within (reach k None) (within_more _ _ left.grows _ asks.within) (response_within k (Some below) _ left.reached);
       reached = c.answer.ensures.within (reach k (Some below)) (reached_more _ _ (Some below) left.grows _ reached) left.reached;
       read = left.read;
       limit = left.rest.limit ∙ asks.limit ∙ before.limit;
-      running = rw c.answer.ensures.goes (running_more c.args.limits.events p _ _ _ _ _ _ before.running c.turn.new.self c.turn.new.space c.serve.new.space new q c.in-Ok.served.response c.new-store.result turned.1 (refl, c.in-Ok.ensures.replied) wrote);
+      running = rw c.answer.ensures.goes (running_more c.args.limits.events p _ _ _ _ _ _ before.running c.turn.new.self c.turn.new.space c.serve_alone.new.space new q c.in-Ok.served.response c.serve_alone.new.store turned.1 c.in-Ok.ensures.replied wrote);
     }
 
 pub returns-in-Err : goal.returns-in-Err
@@ -111,10 +112,9 @@ returns-in-Err g c =
     let running = c.loop-request.invariant.running in
     let turned = rw c.in-Err.fault-is at c.in-Err.ensures.turned in
     let passes = rw c.in-Err.fault-is at c.in-Err.ensures.full in
-    let rest = λ h. remaining p c.loop-request.machine c.loop-request.space h in
     record {
       exchanges = running.exchanges;
-      store = c.new-store.result;
+      store = c.loop-request.store;
       served = running.served;
       leaves = λ w so. (turned.0, running_stopped c.args.limits.events p _ _ _ _ _ _ running w so);
       fits = λ w so. tt;
@@ -130,7 +130,7 @@ returns-in-Ok-Raised g c =
     elim c.match-report.branch [
       | in-Ok-report x ↦ rw (x.result-is) record {
         exchanges = running.exchanges;
-        store = c.new-store.result;
+        store = c.loop-request.store;
         served = running.served;
         leaves = running_raised c.args.limits.events p _ _ _ _ _ _ running c.turn.new.self c.turn.new.space c.in-Ok-Raised.exception x.in-Ok-report.told.items turned.1 x.in-Ok-report.ensures;
         fits = running_fits c.args.limits.events p _ _ _ _ _ _ running c.args.limits.slots _ turned.1 (λ h. fits);
@@ -138,7 +138,7 @@ returns-in-Ok-Raised g c =
       }
       | in-Err-report x ↦ rw (x.result-is) record {
         exchanges = running.exchanges;
-        store = c.new-store.result;
+        store = c.loop-request.store;
         served = running.served;
         leaves = λ w so. (inl refl, running_stopped c.args.limits.events p _ _ _ _ _ _ running w so);
         fits = λ w so. tt;
@@ -154,7 +154,7 @@ returns-in-Ok-Done g c =
     let fits : length c.turn.new.space.slots ≤ c.args.limits.slots = omega (arith, c.objects_fit.ensures, c.in-Ok-Done.ensures.limit, c.loop-request.invariant.limit) in
     record {
       exchanges = running.exchanges;
-      store = c.new-store.result;
+      store = c.loop-request.store;
       served = running.served;
       leaves = running_done c.args.limits.events p _ _ _ _ _ _ running c.turn.new.self c.turn.new.space _ turned.1;
       fits = running_fits c.args.limits.events p _ _ _ _ _ _ running c.args.limits.slots _ turned.1 (λ h. fits);
@@ -169,9 +169,15 @@ returns-in-Ok-StepLimit g c =
     let fits : length c.turn.new.space.slots ≤ c.args.limits.slots = omega (arith, c.objects_fit-in-Ok-StepLimit.ensures, c.in-Ok-StepLimit.ensures.limit, c.loop-request.invariant.limit) in
     record {
       exchanges = running.exchanges;
-      store = c.new-store.result;
+      store = c.loop-request.store;
       served = running.served;
       leaves = running_spent c.args.limits.events p _ _ _ _ _ _ running c.turn.new.self c.turn.new.space turned.2;
       fits = running_fits c.args.limits.events p _ _ _ _ _ _ running c.args.limits.slots _ turned.2 (λ h. fits);
       full = tt;
     }
+
+pub put-requires : goal.put-requires
+put-requires g c =
+    let none : World = λ asked q t. None in
+    let kept = (c.loop-request.invariant.running.wrote none).failed in
+    omega (arith, kept, c.requires.room)

@@ -21,7 +21,7 @@ use Rattle.rr_eval.specs.Runs.{IsRun, IsFull, first_course, first_objects, progr
 use Rattle.rr_eval.specs.Within.{reach, IsReached}
 use Rattle.rr_eval.proofs.Calling.{none_read}
 use Rattle.rr_eval.proofs.Objects.{begun_keeps}
-use Rattle.rr_eval.proofs.Running.{nothing_written, first_table, first_state}
+use Rattle.rr_eval.proofs.Running.{stopped_first, first_table, first_state}
 use Rattle.rr_eval.proofs.run.run_program.Goals as goal
 
 pub run_machine-requires-clause-within : goal.run_machine-requires-clause-within
@@ -83,30 +83,19 @@ run_machine-requires-clause-whole g c w =
     let whole = c.in-Ok-new.ensures.whole u (first_course w) in
     ap (λ s. begun (context_of p) w (tree_at p.nodes.items p.root) s c.args.limits.steps) (begins ∙ ap (λ v. record { memory = first_memory (context_of p) c.args.limits.frames v u; asked = [] }) (sym zero)) ∙ sym whole
 
--- what stops before anything is asked
-abbrev stopped : (p : Program) (limits : Limits) (now : Written) (fault : Fault) → IsRefusal fault → (fault ≡ Limit Slots → IsFull (context_of p) limits.slots [] (new_store limits.events) (program_meaning p limits)) → IsRun (context_of p) (program_meaning p limits) limits now now (Stopped fault)
-stopped p limits now fault refused full = record {
-  exchanges = [];
-  store = new_store limits.events;
-  served = refl;
-  leaves = λ w so. (refused, nothing_written (context_of p) (program_meaning p limits w) now);
-  fits = λ w so. tt;
-  full = full;
-}
-
 pub returns-in-Err : goal.returns-in-Err
 returns-in-Err g c =
     let p = c.args.prepared.now.program in
     let t = c.new-space.result in
     let made = c.new-space.ensures in
-    stopped p c.args.limits _ c.in-Err.fault c.in-Err.ensures.refused (λ is. inl (λ w so adds.
-        let more = c.in-Err.ensures.full is in
-        let kept = begun_keeps (code_of p w) adds (tree_at p.nodes.items p.root) (start_state (context_of p) c.args.limits.frames (Local 0) (first_objects c.args.limits.slots)) c.args.limits.steps in
-        let second = length-append (with_object (new_plain OBJECT.0) [] t).slots (Here (new_plain OBJECT.0) ∷ []) in
-        let third = length-append (with_object (new_plain OBJECT.0) [] (with_object (new_plain OBJECT.0) [] t)).slots (Here (array_object []) ∷ []) in
-        omega (arith, more, kept, made.limit, ap (λ (s : List Slot). length s) made.slots, length-append t.slots (Here (new_plain OBJECT.0) ∷ []), second, third)))
+    stopped_first p c.args.limits _ c.in-Err.fault c.in-Err.ensures.refused (λ is. inl (λ w so adds.
+    let more = c.in-Err.ensures.full is in
+    let kept = begun_keeps (code_of p w) adds (tree_at p.nodes.items p.root) (start_state (context_of p) c.args.limits.frames (Local 0) (first_objects c.args.limits.slots)) c.args.limits.steps in
+    let second = length-append (with_object (new_plain OBJECT.0) [] t).slots (Here (new_plain OBJECT.0) ∷ []) in
+    let third = length-append (with_object (new_plain OBJECT.0) [] (with_object (new_plain OBJECT.0) [] t)).slots (Here (array_object []) ∷ []) in
+    omega (arith, more, kept, made.limit, ap (λ (s : List Slot). length s) made.slots, length-append t.slots (Here (new_plain OBJECT.0) ∷ []), second, third)))
 
 pub returns-in-Err-new : goal.returns-in-Err-new
 returns-in-Err-new g c =
     let p = c.args.prepared.now.program in
-    stopped p c.args.limits _ c.in-Err-new.fault (inl c.in-Err-new.ensures.fault) (λ is. absurd (cc (sym c.in-Err-new.ensures.fault ∙ is)))
+    stopped_first p c.args.limits _ c.in-Err-new.fault (inl c.in-Err-new.ensures.fault) (λ is. absurd (cc (sym c.in-Err-new.ensures.fault ∙ is)))

@@ -1,0 +1,64 @@
+//! The environment of a script that runs alone, with its store.
+
+ghost use Rattle.std.specs.Prelude.{◌≡◌, ℕ, List, length, map, Some, Contains, IfOk, IfErr};
+ghost use Rattle.rr_space.specs.Graph.{Object};
+ghost use Rattle.rr_text.specs.Reads.{IsReadWith};
+ghost use Rattle.rr_builtin.specs.Methods.{method_named};
+ghost use Rattle.rr_eval.specs.Alone.{AloneBy, SpecialExceeds, special_of};
+ghost use Rattle.rr_eval.specs.Published.{published};
+ghost use Rattle.rr_eval.specs.Requests.{asked_of};
+ghost use Rattle.rr_eval.specs.Runs.{piece_asked};
+ghost use Rattle.rr_eval.specs.Serves.{IsLeft, IsRefusedBy};
+ghost use Rattle.rr_eval.specs.Turns.{context_of};
+ghost use Rattle.rr_eval.specs.Within.{reach, IsRequestReached};
+
+use crate::copying::shareable_copy;
+use crate::print::Served;
+use crate::request::Request;
+use crate::serve::serve;
+use crate::setting::set_constant;
+use crate::special::{Special, special_of};
+use rr_base::Fault;
+use rr_builtin::Methods;
+use rr_space::Space;
+use rr_store::StoreState;
+use rr_tree::Program;
+use std::alloc::Global;
+
+/// Serves a request of a script that runs alone. A refused growth leaves the objects as they were, beside new ones to which nothing
+/// leads.
+pub fn serve_alone(
+    alloc: Global,
+    space: &mut Space,
+    store: &mut StoreState,
+    program: &Program,
+    methods: &Methods,
+    request: Request,
+) -> Result<Served, Fault>
+    requires methods { methods.now ≡ map (λ s. method_named s.items) program.now.symbols.items }
+    requires read { IsReadWith space.old (published store.old) }
+    requires reached { IsRequestReached (reach (length space.old.slots) (Some (published store.old))) request }
+    ensures piece { IfOk result (λ served. served.piece.items ≡ piece_asked (context_of program.now) (asked_of space.old request)) }
+    ensures replied { IfOk result (λ served. AloneBy (special_of (context_of program.now) (asked_of space.old request) space.old) (context_of program.now) store.old (asked_of space.old request) space.old served.response space.new store.new) }
+    ensures left { IfOk result (λ served. IsLeft (published store.new) space.old served.response space.new) }
+    ensures more { (e : ℕ × List Object) → Contains (published store.old) e → Contains (published store.new) e }
+    ensures refused { IfErr result (λ f. IsRefusedBy (SpecialExceeds (special_of (context_of program.now) (asked_of space.old request) space.old) (context_of program.now) store.old space.old.limit (asked_of space.old request) space.old) f) }
+{
+    match special_of(program, space, &request) {
+        Special::Usual => serve(alloc, space, store, program, methods, request),
+        Special::Constant(name, value) => {
+            let response = set_constant(alloc, space, store, name, value)?;
+            Ok(Served {
+                piece: Vec::new(alloc),
+                response,
+            })
+        }
+        Special::Copy(value) => {
+            let response = shareable_copy(alloc, space, store, value)?;
+            Ok(Served {
+                piece: Vec::new(alloc),
+                response,
+            })
+        }
+    }
+}
