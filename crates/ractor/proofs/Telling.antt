@@ -10,8 +10,10 @@ use Rattle.rr_base.specs.declared.limits.LimitKind.{LimitKind}
 use Rattle.rr_base.specs.declared.limits.Limits.{Limits}
 use Rattle.rr_eval.specs.declared.run.Outcome.{Outcome}
 use Rattle.rr_eval.specs.declared.run.Outcome.TheVariants as outcomes
-use Rattle.rr_eval.specs.Runs.{Meets}
+use Rattle.rr_eval.specs.Runs.{Run, RunsScript, Leaves, Meets, script_meaning}
+use Rattle.rr_eval.specs.Served.{world_of}
 use Rattle.rr_eval.specs.Written.{Written, WritesAll, FallsShort, IsBeginning}
+use Rattle.rr_eval.proofs.Replies.{gives}
 use Rattle.rr_eval.proofs.Bytes.{writes_both, falls_short_after, falls_short_longer}
 use Rattle.ractor.specs.Lines.{fault_line}
 use Rattle.ractor.specs.Statuses.{status_of}
@@ -51,15 +53,19 @@ other_line (faults.Syntax l c k) syntax limit = absurd (syntax l c k refl)
 other_line (faults.Limit k) syntax limit = absurd (limit k refl)
 other_line _ syntax limit = refl
 
+-- what a run leaves, in an environment that replies as it was replied to
+left : {r : Run} {outcome : Outcome} (m : RunsScript r outcome) → Leaves m.context r.before r.after (script_meaning m.context m.tree r.limits (world_of 0 m.run.exchanges)) outcome
+left m = m.run.leaves (world_of 0 m.run.exchanges) (gives [] m.run.exchanges)
+
 -- the status is the one of failed output exactly where a write failed
 pub failed_status : (source : List ℕ) (limits : Limits) (before after : Written) (ended : Result Outcome Fault) (status : ℕ)
     → Meets (record { source = source; limits = limits; before = before; after = after; ended = ended }) → status ≡ status_of ended
     → (status ≡ 4 → after.failures ≡ before.failures + 1) × (after.failures ≡ before.failures + 1 → status ≡ 4)
-failed_status source limits before after (Ok outcomes.Done) status m e = let kept = m.leaves.1.failed in (λ h. absurd (omega arith), λ h. absurd (omega arith))
-failed_status source limits before after (Ok (outcomes.Raised told)) status m e = let kept = m.leaves.1.failed in (λ h. absurd (omega arith), λ h. absurd (omega arith))
-failed_status source limits before after (Ok outcomes.StepLimit) status m e = let kept = m.leaves.1.failed in (λ h. absurd (omega arith), λ h. absurd (omega arith))
-failed_status source limits before after (Ok (outcomes.Stopped fault)) status m e = let kept = m.leaves.1.failed in (λ h. absurd (omega arith), λ h. absurd (omega arith))
-failed_status source limits before after (Ok outcomes.OutputFailed) status m e = (λ h. m.leaves.failed, λ h. e)
+failed_status source limits before after (Ok outcomes.Done) status m e = let kept = (left m).1.failed in (λ h. absurd (omega arith), λ h. absurd (omega arith))
+failed_status source limits before after (Ok (outcomes.Raised told)) status m e = let kept = (left m).1.failed in (λ h. absurd (omega arith), λ h. absurd (omega arith))
+failed_status source limits before after (Ok outcomes.StepLimit) status m e = let kept = (left m).1.failed in (λ h. absurd (omega arith), λ h. absurd (omega arith))
+failed_status source limits before after (Ok (outcomes.Stopped fault)) status m e = let kept = (left m).1.failed in (λ h. absurd (omega arith), λ h. absurd (omega arith))
+failed_status source limits before after (Ok outcomes.OutputFailed) status m e = (λ h. (left m).failed, λ h. e)
 failed_status source limits before after (Err (faults.Syntax l c k)) status m e = let kept = m.failed in (λ h. absurd (omega arith), λ h. absurd (omega arith))
 failed_status source limits before after (Err (faults.Limit k)) status m e = let kept = m.failed in (λ h. absurd (omega arith), λ h. absurd (omega arith))
 failed_status source limits before after (Err _) status m e = let kept = m.failed in (λ h. absurd (omega arith), λ h. absurd (omega arith))
