@@ -114,12 +114,13 @@ fn each_key_and_each_value_is_a_step(rt: HostRuntime) -> Result<(), Fail> {
     Ok(())
 }
 
-// `self`, the object of the global variables, the hash, and for each of its two keys the text and its frozen copy.
+// `self`, the objects of the global variables and of what is published, the hash, and for each of its two keys the text and its frozen copy.
 #[test]
 fn a_hash_at_the_limit_of_slots(rt: HostRuntime) -> Result<(), Fail> {
     let script = b"h = {\"a\" => 1, \"b\" => 2}; p h.size\n";
     for (slots, ends) in [
-        (7, true),
+        (8, true),
+        (7, false),
         (6, false),
         (5, false),
         (4, false),

@@ -38,7 +38,7 @@ fn a_joined_text_over_64_kib(rt: HostRuntime) -> Result<(), Fail> {
 fn more_than_1_000_objects(rt: HostRuntime) -> Result<(), Fail> {
     let script = repeated(rt.alloc(), b"", b"puts \"o\"\n", 1_100, b"")?;
     let wanted = repeated(rt.alloc(), b"", b"o\n", 1_100, b"")?;
-    for (slots, lines) in [(1_102, 1_100), (1_101, 1_099), (1_000, 998)] {
+    for (slots, lines) in [(1_103, 1_100), (1_102, 1_099), (1_000, 997)] {
         let limits = Limits {
             slots,
             ..Limits::DEFAULT
@@ -48,7 +48,7 @@ fn more_than_1_000_objects(rt: HostRuntime) -> Result<(), Fail> {
             left.ended,
             Ok(Outcome::Stopped(Fault::Limit(LimitKind::Slots)))
         );
-        assert_eq!(rt; full, slots < 1_102, "{slots} slots");
+        assert_eq!(rt; full, slots < 1_103, "{slots} slots");
         assert!(rt; wanted.as_slice().starts_with(left.printed.as_slice()));
         assert_eq!(rt; left.printed.len(), 2 * lines, "{slots} slots");
     }

@@ -56,6 +56,8 @@ mod operators;
 #[cfg(test)]
 mod own_messages;
 #[cfg(test)]
+mod publishing;
+#[cfg(test)]
 mod raising;
 #[cfg(test)]
 mod raising_new;

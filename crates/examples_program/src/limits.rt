@@ -41,18 +41,18 @@ fn the_last_step_is_spent(rt: HostRuntime) -> Result<(), Fail> {
 #[test]
 fn the_last_slot_is_filled(rt: HostRuntime) -> Result<(), Fail> {
     let script = b"puts \"a\"\nputs \"b\" + \"c\"\n";
+    let seven = Limits {
+        slots: 7,
+        ..Limits::DEFAULT
+    };
+    let left = run_within(rt.alloc(), seven, script);
+    assert!(rt; matches!(left.ended, Ok(Outcome::Done)));
+    assert_eq!(rt; text_of(left.printed.as_slice()), "a\nbc\n");
     let six = Limits {
         slots: 6,
         ..Limits::DEFAULT
     };
     let left = run_within(rt.alloc(), six, script);
-    assert!(rt; matches!(left.ended, Ok(Outcome::Done)));
-    assert_eq!(rt; text_of(left.printed.as_slice()), "a\nbc\n");
-    let five = Limits {
-        slots: 5,
-        ..Limits::DEFAULT
-    };
-    let left = run_within(rt.alloc(), five, script);
     assert!(rt;
         matches!(
             left.ended,

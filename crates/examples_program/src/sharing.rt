@@ -29,7 +29,6 @@ self|@a = [\"x\"]; Ractor.make_shareable(self); p @a.frozen?, @a[0].frozen?; $g 
 a global variable and a constant|$g = [[1]]; A = Ractor.make_shareable([\"a\"]); Ractor.make_shareable($g); p $g[0].frozen?, A[0].frozen?; $g = 3; p $g^n|true^ntrue^n3^n|
 an unknown keyword|begin; Ractor.make_shareable([], foo: 1); rescue ArgumentError => e; puts e.message; end^n|unknown keyword^n|
 several keywords|begin; Ractor.make_shareable([], copy: true, foo: 1); rescue ArgumentError => e; puts e.message; end^n|unknown keyword^n|
-a copy is not made yet|a = [1]; begin; Ractor.make_shareable(a, copy: true); rescue RuntimeError => e; puts e.message; end; p a.frozen?^n|not here yet^nfalse^n|
 too many arguments|begin; Ractor.make_shareable([], 1); rescue ArgumentError => e; puts e.message; end; Ractor.make_shareable(1, 2, 3)^n|wrong number of arguments (given 2, expected 1)^n|wrong number of arguments (given 3, expected 1) (ArgumentError)
 no argument|begin; Ractor.make_shareable; rescue ArgumentError => e; puts e.message; end; Ractor.shareable?^n|wrong number of arguments (given 0, expected 1)^n|wrong number of arguments (given 0, expected 1) (ArgumentError)
 an argument too many|begin; Ractor.shareable?(1, 2); rescue ArgumentError => e; puts e.message; end^n|wrong number of arguments (given 2, expected 1)^n|
