@@ -1,5 +1,5 @@
 -- What an assignment to an instance variable, a new message and a new cause leave.
-use Rattle.std.proofs.Common.{◌≡◌, ◌∙◌, ap, sym, subst, arith, ℕ, ◌≤◌, [], ◌∷◌, length, Some, Result, Ok, Err, refl}
+use Rattle.std.proofs.Common.{◌≡◌, ◌∙◌, ap, sym, subst, arith, ℕ, ◌≤◌, [], ◌∷◌, length, Some, Ok, Err, refl}
 use Rattle.rr_base.specs.declared.fault.Fault.{Fault}
 use Rattle.rr_space.specs.Graph.{Value}
 use Rattle.rr_space.specs.Parts.{value_of}

@@ -27,15 +27,13 @@ use Rattle.rr_builtin.specs.declared.problem.Problem.TheVariants.{Frozen, Moved}
 use Rattle.rr_eval.specs.declared.call.Call.{Call}
 use Rattle.rr_eval.specs.declared.problem.Problem.{Problem}
 use Rattle.rr_eval.specs.declared.problem.Problem.TheVariants.{MissingMethod}
-use Rattle.rr_eval.specs.declared.problem.Response.{Response}
-use Rattle.rr_eval.specs.declared.problem.Response.TheVariants as response
 use Rattle.rr_eval.specs.Callees.{method_of}
 use Rattle.rr_eval.specs.Calls.{sent, reply_with, call_reply}
 use Rattle.rr_eval.specs.Context.{Context}
-use Rattle.rr_eval.specs.Effects.{Effect, said, said_of, led}
+use Rattle.rr_eval.specs.Effects.{said, said_of, led}
 use Rattle.rr_eval.specs.Requests.{arguments_of}
 use Rattle.rr_eval.specs.Responses.{receiver_of, response_from}
-use Rattle.rr_eval.specs.Serves.{IsLeft, IsReplied, IsRefusedBy, IsRefused}
+use Rattle.rr_eval.specs.Serves.{IsReplied, IsRefusedBy, IsRefused}
 use Rattle.rr_eval.specs.Tasks.{array_reply, empty_reply}
 use Rattle.rr_eval.specs.Within.{reach, IsReached, IsCallReached, IsResponseReached}
 use Rattle.rr_eval.proofs.Holding.{all_cons, all_rest, ref_among, ref_reached}

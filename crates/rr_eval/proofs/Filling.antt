@@ -18,7 +18,7 @@ use Rattle.rr_eval.specs.declared.call.Callee.TheVariants.{SetIndex}
 use Rattle.rr_eval.specs.Calls.{call_reply}
 use Rattle.rr_eval.specs.Context.{Context}
 use Rattle.rr_eval.specs.Responses.{response_from}
-use Rattle.rr_eval.specs.Serves.{IsLeft, IsReplied, IsRefused, GoesOn, IsFilled, FillingExceeds, IsFillingRefused, IsHashMade, IsHashRefused}
+use Rattle.rr_eval.specs.Serves.{IsLeft, IsReplied, IsRefused, IsFilled, FillingExceeds, IsFillingRefused, IsHashMade, IsHashRefused}
 use Rattle.rr_text.specs.Reads.{IsReadWith}
 use Rattle.rr_eval.specs.Tasks.{empty_reply}
 use Rattle.rr_eval.specs.Within.{reach, IsReached}

@@ -1,5 +1,5 @@
 -- What a new array and a new text leave.
-use Rattle.std.proofs.Common.{◌≡◌, ◌∙◌, ap, sym, subst, map, ◌≤◌, ℕ, false, List, [], length, Some, Result, Ok, Err, IfOk}
+use Rattle.std.proofs.Common.{◌≡◌, ◌∙◌, ap, sym, subst, map, ◌≤◌, ℕ, false, List, length, Some, Result, Ok, Err, IfOk}
 use Rattle.std.specs.List.{All}
 use Rattle.rr_base.specs.declared.fault.Fault.{Fault}
 use Rattle.rr_space.specs.Parts.{value_of}

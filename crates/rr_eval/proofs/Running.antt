@@ -1,5 +1,5 @@
 -- What is still to be run, and what was written so far.
-use Rattle.std.proofs.Common.{◌≡◌, ◌<◌, ◌≤◌, ℕ, false, map, ◌∙◌, sym, ap, subst, refl, inl, inr, List, [], ◌∷◌, ◌++◌, Some}
+use Rattle.std.proofs.Common.{◌≡◌, ◌<◌, ◌≤◌, ℕ, false, map, ◌∙◌, sym, ap, subst, refl, inl, inr, List, [], ◌∷◌, ◌++◌}
 use Rattle.std.proofs.KnownBytes.{Appends-nil}
 use Rattle.rr_base.specs.declared.name.TheConstants.ClassId.{OBJECT}
 use Rattle.rr_builtin.specs.Acts.{with_array, with_object}

@@ -1,5 +1,5 @@
 -- What a value leads to, what is shareable, and what is frozen with it.
-use Rattle.std.proofs.Common.{◌≡◌, ℕ, zero, suc, ◌+◌, ◌<◌, ◌≤◌, ◌↔◌, ⊎_elim, inl, Bool, true, false, not, ◌||◌, ◌&&◌, nat_eq, if◌then◌else◌, IsTrue, refl, sym, ap, subst, ◌∙◌, arith, List, [], ◌∷◌, map, length, slice_get, get_or, Option, Some, None, Contains}
+use Rattle.std.proofs.Common.{◌≡◌, ℕ, zero, suc, ◌+◌, ◌<◌, ◌≤◌, ◌↔◌, ⊎_elim, inl, Bool, true, false, not, ◌||◌, ◌&&◌, nat_eq, IsTrue, refl, sym, ap, subst, ◌∙◌, arith, List, [], ◌∷◌, map, length, slice_get, get_or, Option, Some, None, Contains}
 use Rattle.std.specs.Option.{option_map}
 use Rattle.std.proofs.lemmas.Bool.{or_left, or_right, or_cases}
 use Rattle.std.proofs.lemmas.Bool.Decides.{nat_tests}
@@ -21,8 +21,7 @@ use Rattle.rr_share.proofs.Searching.{at_contains}
 use Rattle.rr_share.proofs.Solids.{graph_here}
 use Rattle.rr_text.specs.Reads.{IsReadWith}
 use Rattle.rr_eval.specs.declared.problem.Response.{Response}
-use Rattle.rr_eval.specs.Context.{Context}
-use Rattle.rr_eval.specs.Effects.{Effect, SaysFailed, said}
+use Rattle.rr_eval.specs.Effects.{Effect, said}
 use Rattle.rr_eval.specs.Serves.{IsReplied, IsRefused}
 use Rattle.rr_eval.specs.Sharing.{connects, one_below, is_own, has_own, object_has, steps, leads_in, leads, is_open, is_moved, is_shareable, leads_to_shell, frozen_slot, frozen_from, deep_frozen}
 use Rattle.rr_eval.specs.Within.{reach, IsReached, IsResponseReached}

@@ -10,7 +10,6 @@ use Rattle.rr_eval.specs.declared.ractor_method.RactorMethod.{RactorMethod}
 use Rattle.rr_eval.specs.declared.ractor_method.RactorMethod.TheVariants.{IsShareable, MakeShareable, Start, Current, IsMain, WithOthers, Name, Later}
 use Rattle.rr_eval.specs.declared.request.Request.{Request}
 use Rattle.rr_eval.specs.declared.request.Request.TheVariants as requests
-use Rattle.rr_eval.specs.declared.special.Special.{Special}
 use Rattle.rr_eval.specs.declared.special.Special.TheVariants as specials
 use Rattle.rr_eval.specs.Alone.{is_constant, one_in, two_in, wants_copy, special_set, special_pair, special_called, special_of}
 use Rattle.rr_eval.specs.Context.{Context}

@@ -1,9 +1,8 @@
 -- The environment of a script that runs alone: what it does with its store.
 use Rattle.std.specs.Prelude.{◌≡◌, ◌≤◌, ◌⊎◌, ℕ, Bool, true, false, ◌&&◌, if◌then◌else◌, List, [], ◌∷◌, ◌++◌, length, slice_get, slice_index_or, Option, Some, None}
 use Rattle.std.specs.Char.{is_ascii_uppercase}
-use Rattle.rr_base.specs.declared.name.RactorNo.{RactorNo}
 use Rattle.rr_base.specs.declared.name.Sym.{Sym}
-use Rattle.rr_space.specs.Graph.{Value, Plain, At, Own, Nil, Truth, Label, IsShareable}
+use Rattle.rr_space.specs.Graph.{Value, Plain, Nil, Truth, Label, IsShareable}
 use Rattle.rr_space.specs.Kinds.{kind_at}
 use Rattle.rr_space.specs.Labels.{triples_at}
 use Rattle.rr_space.specs.Parts.{value_of}
@@ -28,7 +27,7 @@ use Rattle.rr_eval.specs.Context.{Context}
 use Rattle.rr_eval.specs.Published.{published}
 use Rattle.rr_eval.specs.Publishing.{script_ractor, IsPublishing, IsUnpublished, IsFrozenCopy, IsTooMany}
 use Rattle.rr_eval.specs.Script.{Asked, Does, Calls, Reply}
-use Rattle.rr_eval.specs.Serves.{Exceeds, IsReplied, IsRequestReplied, RequestExceeds}
+use Rattle.rr_eval.specs.Serves.{IsReplied, IsRequestReplied, RequestExceeds}
 use Rattle.rr_eval.specs.Sharing.{asks_copy, ractor_method}
 use Rattle.rr_eval.specs.Tasks.{global_reply}
 

@@ -2,7 +2,7 @@
 use Rattle.std.proofs.Common.{◌-◌, length, take, drop}
 use Rattle.rr_eval.specs.Published.{published}
 use Rattle.rr_eval.specs.Turns.{context_of}
-use Rattle.rr_eval.proofs.Filling.{filling_more, filling_refused, filling_throws, filling_fails, filling_done, filling_left, two_first}
+use Rattle.rr_eval.proofs.Filling.{filling_more, filling_refused, filling_throws, filling_fails, filling_done, two_first}
 use Rattle.rr_eval.proofs.hash.fill.Goals as goal
 
 pub loop-rest-preserved : goal.loop-rest-preserved

@@ -1,6 +1,6 @@
 -- What is written first, and then what is given.
 use Rattle.rr_eval.specs.Published.{published}
-use Rattle.std.proofs.Common.{[], length, Some}
+use Rattle.std.proofs.Common.{length, Some}
 use Rattle.std.proofs.lemmas.List.Elements.{All-weaker}
 use Rattle.rr_text.specs.Reads.{IsAmong}
 use Rattle.rr_builtin.proofs.Among.{among_of}

@@ -1,6 +1,6 @@
 -- Each value leads to no cluster.
 use Rattle.rr_eval.specs.Published.{published}
-use Rattle.std.proofs.Common.{sym, subst, []}
+use Rattle.std.proofs.Common.{sym, subst}
 use Rattle.rr_text.specs.Reads.{IsAmong}
 use Rattle.rr_eval.proofs.print.write_texts.Goals as goal
 

@@ -1,6 +1,5 @@
 -- What one turn did, and how its request was served.
 use Rattle.std.proofs.Common.{inl, refl, sym, subst, ◌∙◌, arith, ap, length, ◌≤◌, Some, None}
-use Rattle.rr_store.specs.Stores.{new_store}
 use Rattle.rr_text.specs.Reads.{IsReadWith}
 use Rattle.rr_eval.specs.Published.{published}
 use Rattle.rr_eval.specs.Script.{World}

@@ -1,6 +1,5 @@
 -- What was printed so far was written, and the machine has the rest to do.
 use Rattle.std.proofs.Common.{◌≡◌, length, Some}
-use Rattle.rr_store.specs.Stores.{new_store}
 use Rattle.rr_text.specs.Reads.{IsReadWith}
 use Rattle.rr_eval.specs.Published.{published}
 use Rattle.rr_eval.specs.Turns.{power}

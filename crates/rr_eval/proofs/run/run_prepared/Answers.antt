@@ -1,5 +1,5 @@
 -- The program that was made ready is the one that is run.
-use Rattle.std.proofs.Common.{inl, refl, sym, subst}
+use Rattle.std.proofs.Common.{inl, refl, subst}
 use Rattle.rr_tree.specs.declared.program.Program.{Program}
 use Rattle.rr_base.specs.declared.fault.Fault.TheVariants.{Memory}
 use Rattle.rr_eval.specs.Runs.{IsRun, program_meaning}

@@ -1,5 +1,5 @@
 -- A program has three objects first, and all is still to be done.
-use Rattle.std.proofs.Common.{◌≡◌, inl, sym, refl, subst, ◌∙◌, arith, ap, List, [], ◌∷◌, length, length-append, ◌<◌, Option, Some, None}
+use Rattle.std.proofs.Common.{◌≡◌, inl, sym, subst, ◌∙◌, arith, ap, List, [], ◌∷◌, length, length-append, ◌<◌, Option, Some, None}
 use Rattle.rr_base.specs.declared.name.TheConstants.ClassId.{OBJECT}
 use Rattle.rr_space.specs.Tables.{Table, Slot, Here, Below}
 use Rattle.rr_space.specs.declared.refer.Ref.TheVariants.{Local}
@@ -8,16 +8,7 @@ use Rattle.rr_builtin.specs.News.{new_plain}
 use Rattle.rr_tree.specs.Tree.{tree_at}
 use Rattle.rr_eval.specs.Turns.{context_of, code_of}
 use Rattle.rr_eval.specs.Rules.{begun, first_memory, start_state}
-use Rattle.rr_base.specs.declared.fault.Fault.{Fault}
-use Rattle.rr_base.specs.declared.fault.Fault.TheVariants.{Limit}
-use Rattle.rr_base.specs.declared.limits.Limits.{Limits}
-use Rattle.rr_base.specs.declared.limits.LimitKind.TheVariants.{Slots}
-use Rattle.rr_store.specs.Stores.{new_store}
-use Rattle.rr_tree.specs.declared.program.Program.{Program}
-use Rattle.rr_eval.specs.declared.run.Outcome.TheVariants.{Stopped}
-use Rattle.rr_eval.specs.Acts.{IsRefusal}
-use Rattle.rr_eval.specs.Written.{Written}
-use Rattle.rr_eval.specs.Runs.{IsRun, IsFull, first_course, first_objects, program_meaning}
+use Rattle.rr_eval.specs.Runs.{first_course, first_objects}
 use Rattle.rr_eval.specs.Within.{reach, IsReached}
 use Rattle.rr_eval.proofs.Calling.{none_read}
 use Rattle.rr_eval.proofs.Objects.{begun_keeps}

@@ -1,5 +1,5 @@
 -- What the call built is the reply, and a refused call did nothing.
-use Rattle.std.proofs.Common.{sym, ap, subst, Ok, Err}
+use Rattle.std.proofs.Common.{sym, ap, subst}
 use Rattle.rr_eval.specs.declared.problem.Problem.TheVariants.{MissingMethod}
 use Rattle.rr_eval.specs.Calls.{call_reply}
 use Rattle.rr_eval.specs.Published.{published}

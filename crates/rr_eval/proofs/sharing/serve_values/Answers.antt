@@ -1,6 +1,6 @@
 -- A value is given alone.
 use Rattle.rr_eval.specs.Published.{published}
-use Rattle.std.proofs.Common.{refl, sym, subst, length, [], Some}
+use Rattle.std.proofs.Common.{refl, sym, subst, length, Some}
 use Rattle.rr_space.specs.declared.refer.Ref.TheVariants as refs
 use Rattle.rr_eval.specs.Serves.{IsReplied}
 use Rattle.rr_eval.specs.Sharing.{given_alone, main_ractor, ractor_reply}

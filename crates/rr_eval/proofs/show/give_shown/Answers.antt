@@ -1,6 +1,6 @@
 -- The values are reached.
 use Rattle.rr_eval.specs.Published.{published}
-use Rattle.std.proofs.Common.{[], Some, sym, subst, length}
+use Rattle.std.proofs.Common.{Some, sym, subst, length}
 use Rattle.std.specs.List.{All}
 use Rattle.rr_eval.specs.Within.{reach, IsReached}
 use Rattle.rr_eval.proofs.show.give_shown.Goals as goal

@@ -1,6 +1,6 @@
 -- One value more is written.
 use Rattle.rr_eval.specs.Published.{published}
-use Rattle.std.proofs.Common.{◌≡◌, ◌∙◌, ◌++◌, ◌-◌, [], ap, sym, subst, arith, length, take, drop}
+use Rattle.std.proofs.Common.{◌≡◌, ◌∙◌, ◌++◌, ◌-◌, ap, sym, subst, arith, length, take, drop}
 use Rattle.rr_text.specs.Names.{names_of}
 use Rattle.rr_text.specs.Reads.{IsAmong}
 use Rattle.rr_text.specs.Walk.{Wrote}

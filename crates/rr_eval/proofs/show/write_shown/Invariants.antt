@@ -1,6 +1,6 @@
 -- What is still to be written is the texts of the other values.
 use Rattle.rr_eval.specs.Published.{published}
-use Rattle.std.proofs.Common.{◌≡◌, ◌++◌, [], length}
+use Rattle.std.proofs.Common.{◌≡◌, ◌++◌, length}
 use Rattle.std.specs.List.{All}
 use Rattle.rr_text.specs.Names.{names_of}
 use Rattle.rr_text.specs.Reads.{IsAmong}
