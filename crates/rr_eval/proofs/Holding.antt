@@ -114,6 +114,7 @@ frame_by j k more (frames.Initialize x) h = tt
 spot_by : (j k : Reach) → RefsReachMore j k → (x : Spot) → IsSpotReached j x → IsSpotReached k x
 spot_by j k more (spots.Field x) h = tt
 spot_by j k more (spots.Global x) h = tt
+spot_by j k more (spots.Constant x) h = tt
 spot_by j k more (spots.Attribute x r) h = more r h
 spot_by j k more (spots.Element r i) h = (more r h.0, more i h.1)
 
@@ -440,16 +441,20 @@ turn_reached k m i fs calls blocks parameters size body vs a pushed entered h it
 pub same_calls : (k : Reach) (m : View) (calls : Stack) → calls ≡ m.calls → AreReached k m → AreReached k (record m { calls = calls })
 same_calls k m calls e h = subst (λ s. AreReached k (record m { calls = s })) (sym e) h
 
--- a machine that begins
-pub first_reached : (k : Reach) (m : View) → IsControlReached k m.control → m.frames ≡ [] → m.held ≡ [] → All (AreVariablesReached k) m.calls.frames → IsReached k m.rescuing → AreReached k m
+-- a machine that begins, with the values that stand
+pub begun_reached : (k : Reach) (m : View) → IsControlReached k m.control → m.frames ≡ [] → All (IsReached k) m.held → All (AreVariablesReached k) m.calls.frames → IsReached k m.rescuing → AreReached k m
 unfolding AreReached
-first_reached k m control frames held calls rescuing = record {
+begun_reached k m control frames held calls rescuing = record {
   control = control;
   frames = subst (All (IsFrameReached k)) (sym frames) (all_nil (IsFrameReached k));
-  held = subst (All (IsReached k)) (sym held) (all_nil (IsReached k));
+  held = held;
   calls = calls;
   rescuing = rescuing;
 }
+
+-- a machine that begins
+pub first_reached : (k : Reach) (m : View) → IsControlReached k m.control → m.frames ≡ [] → m.held ≡ [] → All (AreVariablesReached k) m.calls.frames → IsReached k m.rescuing → AreReached k m
+first_reached k m control frames held calls rescuing = begun_reached k m control frames (subst (All (IsReached k)) (sym held) (all_nil (IsReached k))) calls rescuing
 
 -- the exception that is being rescued
 pub rescuing_reached : (k : Reach) (m : View) → AreReached k m → IsReached k m.rescuing

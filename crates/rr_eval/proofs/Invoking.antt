@@ -75,7 +75,7 @@ answer_passes c _ stand (Returned v) usual other = refl
 answer_passes c _ stand (Ends number v) usual other = refl
 
 -- a body in a frame of its own begins, where there may be one more
-waiting_push : (c : Code) (fs : List Frame) (entry : Entry) (held : List Ref) (o : Outcome) → unwind c (reverse fs) held (after o (λ a. runs_in c (left_by entry a))) ≡ unwind c (reverse (fs ++ waits_for entry ∷ [])) held o
+waiting_push : (c : Code) (fs : List Frame) (entry : Entry) (held : List Ref) (o : Outcome) → unwind c (reverse fs) held (after o (λ a. runs_in c (left_by c.context entry a))) ≡ unwind c (reverse (fs ++ waits_for entry ∷ [])) held o
 waiting_push c fs (OfMethod call) held o = sym (rest_push c fs (frames.Back call.value) held o)
 waiting_push c fs (OfBlock home) held o = sym (rest_push c fs frames.Past held o)
 
@@ -91,7 +91,7 @@ enters c fs held entry parameters size vs block body new blocks more s n room ar
     let b = option_map (tree_at c.nodes) block in
     let calls = stack_is new (s.memory.calls.frames ++ f ∷ []) s.memory.calls.limit frames limit in
     let all : blocks_of c.nodes more ≡ s.memory.blocks ++ b ∷ [] = ap (blocks_of c.nodes) push ∙ map_push (option_map (tree_at c.nodes)) blocks block ∙ ap (λ l. l ++ b ∷ []) (sym are) in
-    ap (λ x. unwind c (reverse fs) held (runs_in c (if x then Do (with_frame f b) (Go tree (left_by entry)) else throw c.context (BuiltIn TooDeep)) s n)) room
+    ap (λ x. unwind c (reverse fs) held (runs_in c (if x then Do (with_frame f b) (Go tree (left_by c.context entry)) else throw c.context (BuiltIn TooDeep)) s n)) room
     ∙ waiting_push c fs entry held (means c tree (record s { memory = with_frame f b s.memory }) n)
     ∙ ap (λ k. unwind c (reverse (fs ++ waits_for entry ∷ [])) held (means c tree (record s { memory = record s.memory { calls = k; blocks = s.memory.blocks ++ b ∷ [] } }) n)) (sym calls)
     ∙ ap (λ l. unwind c (reverse (fs ++ waits_for entry ∷ [])) held (means c tree (record s { memory = record s.memory { calls = new; blocks = l } }) n)) (sym all)
@@ -99,7 +99,7 @@ enters c fs held entry parameters size vs block body new blocks more s n room ar
 -- there may be no more
 pub too_deep : (c : Context) (entry : Entry) (parameters size : ℕ) (vs : List Ref) (b : Option Tree) (body : Tree) (s : Stack) → nat_lt (length s.frames) s.limit ≡ false → throw c (BuiltIn TooDeep) ≡ framed c entry parameters size vs b body s
 too_deep c entry parameters size vs b body s full =
-    ap (λ x. if x then Do (with_frame (record { variables = laid parameters size vs; activation = activation_in entry s.frames }) b) (Go body (left_by entry)) else throw c (BuiltIn TooDeep)) (sym full)
+    ap (λ x. if x then Do (with_frame (record { variables = laid parameters size vs; activation = activation_in entry s.frames }) b) (Go body (left_by c entry)) else throw c (BuiltIn TooDeep)) (sym full)
 
 -- as many values as are wanted, or not
 pub as_many : (c : Context) (wanted : ℕ) (vs : List Ref) (next : Script) → length vs ≡ wanted → next ≡ counted c wanted vs next

@@ -1,5 +1,5 @@
 -- Scripts that take no object away.
-use Rattle.std.proofs.Common.{nat_lt, slice_index_or, if◌then◌else◌, ◌≤◌, ℕ, Bool, arith, List, [], ◌∷◌, ◌++◌, length, length-append, Option, Some, None, Result, Ok, Err, true, false}
+use Rattle.std.proofs.Common.{nat_eq, nat_lt, slice_index_or, if◌then◌else◌, ◌≤◌, ℕ, Bool, arith, List, [], ◌∷◌, ◌++◌, length, length-append, Option, Some, None, Result, Ok, Err, true, false}
 use Rattle.rr_base.specs.Classes.{class_id}
 use Rattle.rr_base.specs.declared.name.Sym.{Sym}
 use Rattle.rr_base.specs.declared.name.TheConstants.ClassId.{RUNTIME_ERROR}
@@ -18,7 +18,7 @@ use Rattle.rr_eval.specs.declared.call_stack.CallValue.{CallValue}
 use Rattle.rr_eval.specs.declared.call_stack.Entry.{Entry}
 use Rattle.rr_eval.specs.declared.call_stack.Entry.TheVariants.{OfMethod, OfBlock}
 use Rattle.rr_eval.specs.Variables.{top}
-use Rattle.rr_eval.specs.Blocks.{given_values, to_given, shape_in, tree_in, called_as}
+use Rattle.rr_eval.specs.Blocks.{given_values, to_given, shape_in, tree_in, called_as, owner_in, left_block}
 use Rattle.rr_eval.specs.declared.problem.Answer.{Answer}
 use Rattle.rr_eval.specs.declared.problem.Answer.TheVariants.{Gave, Raised, Broke, Done, Returned, Ends}
 use Rattle.rr_eval.specs.declared.problem.Response.{Response}
@@ -98,18 +98,26 @@ if_keeps false p q kept other = other
 pub back_keeps : (by : CallValue) (a : Answer) → Keeps (back by a)
 back_keeps by a = λ l. (λ m. omega arith, tt)
 
-pub past_keeps : (a : Answer) → Keeps (past a)
-past_keeps a = λ l. (λ m. omega arith, λ k. tt)
+left_block_keeps : (c : Context) (owner root : ℕ) (a : Answer) → Keeps (left_block c owner root a)
+left_block_keeps c owner root (Gave v) = tt
+left_block_keeps c owner root (Raised e) = tt
+left_block_keeps c owner root (Broke v) = if_keeps (nat_eq owner 0) (throw c Jump) _ (throw_keeps c Jump) tt
+left_block_keeps c owner root (Done v) = tt
+left_block_keeps c owner root (Returned v) = tt
+left_block_keeps c owner root (Ends number v) = tt
 
-pub left_keeps : (entry : Entry) (a : Answer) → Keeps (left_by entry a)
-left_keeps (OfMethod call) a = back_keeps call.value a
-left_keeps (OfBlock home) a = past_keeps a
+pub past_keeps : (c : Context) (a : Answer) → Keeps (past c a)
+past_keeps c a = λ l. (λ m. omega arith, λ k. left_block_keeps c (owner_in (running k.calls.frames)) (running l.calls.frames).root a)
+
+pub left_keeps : (c : Context) (entry : Entry) (a : Answer) → Keeps (left_by c entry a)
+left_keeps c (OfMethod call) a = back_keeps call.value a
+left_keeps c (OfBlock home) a = past_keeps c a
 
 pub opened_keeps : (c : Context) (entry : Entry) (parameters size : ℕ) (vs : List Ref) (b : Option Tree) (s : Stack) (next : Script) → Keeps next → Keeps (opened c entry parameters size vs b s next)
 opened_keeps c entry parameters size vs b s next kept = if_keeps (nat_lt (length s.frames) s.limit) _ _ (λ l. omega arith, kept) (throw_keeps c (BuiltIn TooDeep))
 
 pub framed_keeps : (c : Context) (entry : Entry) (parameters size : ℕ) (vs : List Ref) (b : Option Tree) (body : Tree) (s : Stack) → Keeps (framed c entry parameters size vs b body s)
-framed_keeps c entry parameters size vs b body s = opened_keeps c entry parameters size vs b s (Go body (left_by entry)) (λ a. left_keeps entry a)
+framed_keeps c entry parameters size vs b body s = opened_keeps c entry parameters size vs b s (Go body (left_by c entry)) (λ a. left_keeps c entry a)
 
 pub to_given_keeps : (c : Context) (vs : Option (List Ref)) (next : List Ref → Script) → ((ws : List Ref) → Keeps (next ws)) → Keeps (to_given c vs next)
 to_given_keeps c None next kept = throw_keeps c NotHere

@@ -55,6 +55,7 @@ pub mod PairArrays
 pub mod Supers
 pub mod Forwarding
 pub mod Looping
+pub mod Mains
 pub mod Connecting
 pub mod Shares
 pub mod Settable

@@ -46,11 +46,13 @@ use Rattle.rr_eval.specs.Callees.{method_of}
 use Rattle.rr_eval.specs.Dispatch.{initializer, passed_on}
 use Rattle.rr_space.specs.Kinds.{kind_at}
 use Rattle.rr_builtin.specs.Fields.{field_at}
-use Rattle.rr_eval.specs.Constants.{set_response, unless_set}
+use Rattle.rr_eval.specs.Constants.{set_response, unless_set, asked_constant, set_constant_rule}
 use Rattle.rr_eval.specs.Fields.{field_response, set_field_rule}
 use Rattle.rr_eval.specs.Updating.{place_of, put}
 use Rattle.rr_eval.specs.declared.updating.Update.TheVariants as updates
-use Rattle.rr_eval.specs.Globals.{globals, set_global_rule}
+use Rattle.rr_eval.specs.Globals.{globals}
+use Rattle.rr_eval.specs.Owners.{is_main}
+use Rattle.rr_eval.proofs.Mains.{global_keeps, set_global_keeps}
 use Rattle.rr_eval.specs.declared.iterating.Visits.TheVariants.{Forever}
 use Rattle.rr_eval.specs.Iterating.{kept}
 use Rattle.rr_eval.specs.Rescuing.{class_parts, taken_by, with_caught, fitted, tried_classes, tried_clause, tried, else_rule, rescue_rule, ensure_rule, target_part}
@@ -113,9 +115,13 @@ unless_keeps : (c : Context) (r : Option Response) (otherwise : Script) → Keep
 unless_keeps c (Some r) otherwise kept = settled_keeps c r
 unless_keeps c None otherwise kept = kept
 
+asked_keeps : (c : Context) (class : Option BuiltInClass) (x : Sym) (t : Table) → Keeps (asked_constant c class x t)
+asked_keeps c (Some k) x t = tt
+asked_keeps c None x t = settled_keeps c
+
 plain_keeps : (c : Context) (class : Option ClassId) (x : Sym) → Keeps (plain_constant c class x)
 plain_keeps c (Some k) x = tt
-plain_keeps c None x = λ m. unless_keeps c (set_response m.table (field_at m.table globals x.0)) _ (constant_keeps c (class_named (slice_index_or c.symbols x.0 [])) x)
+plain_keeps c None x = λ m. if_keeps (is_main m.table) _ _ (unless_keeps c (set_response m.table (field_at m.table globals x.0)) _ (constant_keeps c (class_named (slice_index_or c.symbols x.0 [])) x)) (asked_keeps c (class_named (slice_index_or c.symbols x.0 [])) x m.table)
 
 call_keeps : (c : Context) (m : Option Callable) (task : Option Task) (raises later : Bool) (x : Sym) (ts : List Tree) → Keeps (call_rule c m task raises later x ts)
 call_keeps c (Some m) task raises later x ts = arguments_keep c _ (finish_keeps c (Own x None)) ts []
@@ -182,8 +188,8 @@ ensure_keeps t a = on_value_keeps _ (λ v. tt)
 set_field_keeps : (c : Context) (x : Sym) (v : Ref) → Keeps (set_field_rule c x v)
 set_field_keeps c x v = λ m. settled_keeps c
 
-set_global_keeps : (c : Context) (x : Sym) (v : Ref) → Keeps (set_global_rule c x v)
-set_global_keeps c x v = λ m. settled_keeps c
+set_constant_keeps : (c : Context) (x : Sym) (v : Ref) → Keeps (set_constant_rule c x v)
+set_constant_keeps c x v = λ m. settled_keeps c
 
 rule_keeps : (c : Context) (tree : Tree) → Keeps (rule c tree)
 rule_keeps c nil = tt
@@ -210,9 +216,9 @@ rule_keeps c (local depth slot x behind) = λ m. tt
 rule_keeps c self_tree = λ m. tt
 rule_keeps c (field x) = λ m. settled_keeps c (field_response m.table (field_at m.table (running m.calls.frames).itself x))
 rule_keeps c (set_field x a) = on_value_keeps _ (λ v. set_field_keeps c (record { 0 = x }) v)
-rule_keeps c (global x) = λ m. settled_keeps c (field_response m.table (field_at m.table globals x))
+rule_keeps c (global x) = global_keeps c (record { 0 = x })
 rule_keeps c (set_global x a) = on_value_keeps _ (λ v. set_global_keeps c (record { 0 = x }) v)
-rule_keeps c (set_constant x a) = on_value_keeps _ (λ v. set_global_keeps c (record { 0 = x }) v)
+rule_keeps c (set_constant x a) = on_value_keeps _ (λ v. set_constant_keeps c (record { 0 = x }) v)
 rule_keeps c (bare x) = λ m. bare_keeps c (own_method c x m) (printing c x) (raises c x) (asks_block c x) (record { 0 = x })
 rule_keeps c (call x list) = λ m. call_keeps c (own_method c x m) (printing c x) (raises c x) (awaited c x) (record { 0 = x }) (items list)
 rule_keeps c (logical_and a b) = on_value_keeps _ (λ v. if_keeps (is_truthy v) (Go b Ret) (Ret (Gave v)) (λ a'. tt) tt)
@@ -261,7 +267,7 @@ resumed_keeps c Break stand = on_value_keeps _ (λ v. tt)
 resumed_keeps c Next stand = on_value_keeps _ (λ v. tt)
 resumed_keeps c Return stand = on_value_keeps _ (λ v. return_keeps c.context v)
 resumed_keeps c (Back by) stand = back_keeps by
-resumed_keeps c Past stand = past_keeps
+resumed_keeps c Past stand = past_keeps c.context
 resumed_keeps c (Rest end more) stand = on_value_keeps _ (λ v. statements_keep (trees_before c.nodes end more))
 resumed_keeps c (Argument target end more base) stand = on_value_keeps _ (λ v. values_keep c.context target (trees_before c.nodes end more) (stand ++ v ∷ []))
 resumed_keeps c (Receiver target end more base) stand = on_value_keeps _ (λ v. arguments_keep c.context _ (finish_keeps c.context target) (trees_before c.nodes end more) (stand ++ v ∷ []))

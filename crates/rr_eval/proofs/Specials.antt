@@ -5,13 +5,13 @@ use Rattle.rr_base.specs.declared.name.Sym.{Sym}
 use Rattle.rr_space.specs.Tables.{Table}
 use Rattle.rr_space.specs.declared.refer.Ref.{Ref}
 use Rattle.rr_eval.specs.declared.call.Task.{Task}
-use Rattle.rr_eval.specs.declared.call.Task.TheVariants.{Puts, Inspect, Print, MakeArray, MakeText, MakeHash, SetField, SetMessage, SetCause, SetGlobal, Show, Lines}
+use Rattle.rr_eval.specs.declared.call.Task.TheVariants.{Puts, Inspect, Print, MakeArray, MakeText, MakeHash, SetField, SetMessage, SetCause, SetGlobal, SetConstant, GetConstant, FindConstant, Show, Lines}
 use Rattle.rr_eval.specs.declared.ractor_method.RactorMethod.{RactorMethod}
-use Rattle.rr_eval.specs.declared.ractor_method.RactorMethod.TheVariants.{IsShareable, MakeShareable, Start, Current, IsMain, WithOthers, Name, Later}
+use Rattle.rr_eval.specs.declared.ractor_method.RactorMethod.TheVariants.{IsShareable, MakeShareable, Start, Current, Main, IsMain, WithOthers, Name, Later}
 use Rattle.rr_eval.specs.declared.request.Request.{Request}
 use Rattle.rr_eval.specs.declared.request.Request.TheVariants as requests
 use Rattle.rr_eval.specs.declared.special.Special.TheVariants as specials
-use Rattle.rr_eval.specs.Alone.{is_constant, one_in, two_in, wants_copy, special_set, special_pair, special_called, special_of}
+use Rattle.rr_eval.specs.Alone.{one_in, two_in, wants_copy, special_set, special_pair, special_called, special_of}
 use Rattle.rr_eval.specs.Context.{Context}
 use Rattle.rr_eval.specs.Requests.{arguments_of, asked_of}
 use Rattle.rr_eval.specs.Script.{Does}
@@ -19,17 +19,16 @@ use Rattle.rr_eval.specs.Sharing.{ractor_method}
 use Rattle.rr_eval.specs.Within.{Reach, IsReached, IsRequestReached}
 
 module _ (k : Reach) (c : Context) (t : Table) (v : Ref) where
-  set_is : (b : Bool) (y x : Sym) (w : Ref) → (if b then specials.Constant y w else specials.Usual) ≡ specials.Constant x v → w ≡ v
-  set_is true y x w e = cc
-  set_is false y x w e = absurd (let no : ⊥ = cc in no)
-
-  set_value : (y x : Sym) (vs : List Ref) → special_set c y (one_in vs) ≡ specials.Constant x v → All (IsReached k) vs → IsReached k v
+  set_value : (y x : Sym) (vs : List Ref) → special_set y (one_in vs) ≡ specials.Constant x v → All (IsReached k) vs → IsReached k v
   set_value y x [] e all = absurd (let no : ⊥ = cc in no)
-  set_value y x (w ∷ []) e all = subst (IsReached k) (set_is (is_constant c y) y x w e) (all zero w (omega arith))
+  set_value y x (w ∷ []) e all = let same : w ≡ v = cc in subst (IsReached k) same (all zero w (omega arith))
   set_value y x (w ∷ z ∷ zs) e all = absurd (let no : ⊥ = cc in no)
 
   done_value : (task : Task) (x : Sym) (vs : List Ref) (u : Table) → special_of c (Does task vs u) t ≡ specials.Constant x v → All (IsReached k) vs → IsReached k v
-  done_value (SetGlobal y) x vs u e all = set_value y x vs e all
+  done_value (SetConstant y) x vs u e all = set_value y x vs e all
+  done_value (SetGlobal y) x vs u e all = absurd (let no : ⊥ = cc in no)
+  done_value (GetConstant y) x vs u e all = absurd (let no : ⊥ = cc in no)
+  done_value (FindConstant y) x vs u e all = absurd (let no : ⊥ = cc in no)
   done_value Puts x vs u e all = absurd (let no : ⊥ = cc in no)
   done_value Inspect x vs u e all = absurd (let no : ⊥ = cc in no)
   done_value Print x vs u e all = absurd (let no : ⊥ = cc in no)
@@ -58,19 +57,19 @@ module _ (k : Reach) (c : Context) (t : Table) (v : Ref) where
   called_value (Some IsShareable) vs e all = absurd (let no : ⊥ = cc in no)
   called_value (Some Start) vs e all = absurd (let no : ⊥ = cc in no)
   called_value (Some Current) vs e all = absurd (let no : ⊥ = cc in no)
+  called_value (Some Main) vs e all = absurd (let no : ⊥ = cc in no)
   called_value (Some IsMain) vs e all = absurd (let no : ⊥ = cc in no)
   called_value (Some WithOthers) vs e all = absurd (let no : ⊥ = cc in no)
   called_value (Some Name) vs e all = absurd (let no : ⊥ = cc in no)
   called_value (Some Later) vs e all = absurd (let no : ⊥ = cc in no)
 
-  set_not : (b : Bool) (y : Sym) (w : Ref) → (if b then specials.Constant y w else specials.Usual) ≡ specials.Copy v → ⊥
-  set_not true y w e = let no : ⊥ = cc in no
-  set_not false y w e = let no : ⊥ = cc in no
-
   done_not : (task : Task) (vs : List Ref) (u : Table) → special_of c (Does task vs u) t ≡ specials.Copy v → ⊥
-  done_not (SetGlobal y) [] u e = let no : ⊥ = cc in no
-  done_not (SetGlobal y) (w ∷ []) u e = set_not (is_constant c y) y w e
-  done_not (SetGlobal y) (w ∷ z ∷ zs) u e = let no : ⊥ = cc in no
+  done_not (SetConstant y) [] u e = let no : ⊥ = cc in no
+  done_not (SetConstant y) (w ∷ []) u e = let no : ⊥ = cc in no
+  done_not (SetConstant y) (w ∷ z ∷ zs) u e = let no : ⊥ = cc in no
+  done_not (SetGlobal y) vs u e = let no : ⊥ = cc in no
+  done_not (GetConstant y) vs u e = let no : ⊥ = cc in no
+  done_not (FindConstant y) vs u e = let no : ⊥ = cc in no
   done_not Puts vs u e = let no : ⊥ = cc in no
   done_not Inspect vs u e = let no : ⊥ = cc in no
   done_not Print vs u e = let no : ⊥ = cc in no
@@ -97,6 +96,7 @@ module _ (k : Reach) (c : Context) (t : Table) (v : Ref) where
   called_not (Some IsShareable) vs x e = let no : ⊥ = cc in no
   called_not (Some Start) vs x e = let no : ⊥ = cc in no
   called_not (Some Current) vs x e = let no : ⊥ = cc in no
+  called_not (Some Main) vs x e = let no : ⊥ = cc in no
   called_not (Some IsMain) vs x e = let no : ⊥ = cc in no
   called_not (Some WithOthers) vs x e = let no : ⊥ = cc in no
   called_not (Some Name) vs x e = let no : ⊥ = cc in no

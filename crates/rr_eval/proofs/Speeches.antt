@@ -22,7 +22,8 @@ use Rattle.rr_eval.specs.Leaves.{leaves_of, between}
 use Rattle.rr_eval.proofs.Dispatching.{method_keeps, send_keeps}
 use Rattle.rr_eval.proofs.Splatted.{items_keep}
 
-bind_keeps : (s : Script) (next : Answer → Script) → Keeps s → ((a : Answer) → Keeps (next a)) → Keeps (bind s next)
+-- a script, and then what follows
+pub bind_keeps : (s : Script) (next : Answer → Script) → Keeps s → ((a : Answer) → Keeps (next a)) → Keeps (bind s next)
 bind_keeps (Ret a) next kept more = more a
 bind_keeps (Evaluate part rest) next kept more = λ a. bind_keeps (rest a) next (kept a) more
 bind_keeps (See look) next kept more = λ m. bind_keeps (look m) next (kept m) more

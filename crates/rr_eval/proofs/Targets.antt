@@ -23,13 +23,15 @@ use Rattle.rr_eval.specs.Several.{right_values, parts_of, all_parts, spot_of, pu
 use Rattle.rr_eval.specs.Variables.{write_variable}
 use Rattle.rr_eval.proofs.Dispatching.{send_keeps}
 use Rattle.rr_eval.proofs.Invoking.{stack_is}
+use Rattle.rr_eval.proofs.Mains.{set_global_keeps}
 use Rattle.rr_eval.proofs.Keeping.{Keeps, on_value_keeps, settled_keeps, to_given_keeps, throw_keeps}
 use Rattle.rr_eval.proofs.Trees.{items_listed}
 
 -- no object goes
 pub put_in_keeps : (c : Context) (spot : Spot) (v : Ref) → Keeps (put_in c spot v)
 put_in_keeps c (spots.Field x) v = λ m. settled_keeps c
-put_in_keeps c (spots.Global x) v = λ m. settled_keeps c
+put_in_keeps c (spots.Global x) v = set_global_keeps c x v
+put_in_keeps c (spots.Constant x) v = λ m. settled_keeps c
 put_in_keeps c (spots.Attribute x r) v = send_keeps c (callees.Setter x) None r (v ∷ [])
 put_in_keeps c (spots.Element r i) v = send_keeps c callees.SetIndex None r (i ∷ v ∷ [])
 

@@ -31,6 +31,7 @@ use Rattle.rr_eval.specs.Script.{State, World, Script, Evaluate, CallPart, Go}
 use Rattle.rr_eval.specs.Updating.{sent_first, put, put_unless, updated, accessed, access_rule, operator_rule, update_rule}
 use Rattle.rr_eval.proofs.Keeping.{Keeps, on_value_keeps, settled_keeps, throw_keeps}
 use Rattle.rr_eval.proofs.Dispatching.{send_keeps}
+use Rattle.rr_eval.proofs.Mains.{set_global_keeps}
 
 -- they take no object away
 sent_first_keeps : (c : Context) (callee : Callee) (vs : List Ref) → Keeps (sent_first c callee vs)
@@ -40,7 +41,8 @@ sent_first_keeps c callee (v ∷ vs) = send_keeps c callee None v vs
 pub put_keeps : (c : Context) (place : Place) (stand : List Ref) (v : Ref) → Keeps (put c place stand v)
 put_keeps c (places.Variable x) stand v = (λ m. omega arith, tt)
 put_keeps c (places.Field x) stand v = λ m. settled_keeps c
-put_keeps c (places.Global x) stand v = λ m. settled_keeps c
+put_keeps c (places.Global x) stand v = set_global_keeps c x v
+put_keeps c (places.Constant x) stand v = λ m. settled_keeps c
 put_keeps c (places.Sent setter) stand v = sent_first_keeps c setter (stand ++ v ∷ [])
 
 put_unless_keeps : (there : Bool) (b : Tree) (assign : Ref → Script) → ((v : Ref) → Keeps (assign v)) → (old : Ref) → Keeps (put_unless there b assign old)

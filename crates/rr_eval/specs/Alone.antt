@@ -1,6 +1,6 @@
--- The environment of a script that runs alone: what it does with its store.
-use Rattle.std.specs.Prelude.{◌≡◌, ◌≤◌, ◌⊎◌, ℕ, Bool, true, false, ◌&&◌, if◌then◌else◌, List, [], ◌∷◌, ◌++◌, length, slice_get, slice_index_or, Option, Some, None}
-use Rattle.std.specs.Char.{is_ascii_uppercase}
+-- What a script does with its store, and the environment of one that runs alone.
+use Rattle.std.specs.Prelude.{◌≡◌, ◌≤◌, ◌⊎◌, ℕ, Bool, true, false, ◌&&◌, if◌then◌else◌, List, [], ◌∷◌, ◌++◌, length, slice_get, Option, Some, None}
+use Rattle.rr_base.specs.declared.name.RactorNo.{RactorNo}
 use Rattle.rr_base.specs.declared.name.Sym.{Sym}
 use Rattle.rr_space.specs.Graph.{Value, Plain, Nil, Truth, Label, IsShareable}
 use Rattle.rr_space.specs.Kinds.{kind_at}
@@ -13,33 +13,30 @@ use Rattle.rr_store.specs.Answers.{IsSet, told_of_value}
 use Rattle.rr_store.specs.Stores.{Store, HasEvent}
 use Rattle.rr_store.specs.declared.constant.ConstValue.{ConstValue}
 use Rattle.rr_store.specs.declared.constant.ConstValue.TheVariants.{Shareable, Own as OwnMark}
+use Rattle.rr_builtin.specs.Fields.{field_at}
 use Rattle.rr_builtin.specs.Kinds.{is_hash}
 use Rattle.rr_builtin.specs.declared.problem.Problem.TheVariants.{Moved}
-use Rattle.rr_eval.specs.declared.call.Task.TheVariants.{SetGlobal}
-use Rattle.rr_eval.specs.declared.problem.Problem.TheVariants.{BuiltIn, HistoryFull}
+use Rattle.rr_eval.specs.declared.call.Task.TheVariants.{SetConstant}
+use Rattle.rr_eval.specs.declared.problem.Problem.TheVariants.{BuiltIn, HistoryFull, IsolatedConstant}
 use Rattle.rr_eval.specs.declared.problem.Response.{Response}
 use Rattle.rr_eval.specs.declared.problem.Response.TheVariants.{Gives, Fails}
 use Rattle.rr_eval.specs.declared.ractor_method.RactorMethod.{RactorMethod}
 use Rattle.rr_eval.specs.declared.ractor_method.RactorMethod.TheVariants.{MakeShareable}
 use Rattle.rr_eval.specs.declared.special.Special.{Special}
 use Rattle.rr_eval.specs.declared.special.Special.TheVariants as specials
+use Rattle.rr_eval.specs.Constants.{set_response}
 use Rattle.rr_eval.specs.Context.{Context}
+use Rattle.rr_eval.specs.Effects.{Effect}
+use Rattle.rr_eval.specs.Globals.{globals}
+use Rattle.rr_eval.specs.Owners.{owner_of, is_main}
 use Rattle.rr_eval.specs.Published.{published}
-use Rattle.rr_eval.specs.Publishing.{script_ractor, IsPublishing, IsUnpublished, IsFrozenCopy, IsTooMany}
+use Rattle.rr_eval.specs.Publishing.{IsPublishing, IsUnpublished, IsFrozenCopy, IsTooMany}
 use Rattle.rr_eval.specs.Script.{Asked, Does, Calls, Reply}
 use Rattle.rr_eval.specs.Serves.{IsReplied, IsRequestReplied, RequestExceeds}
 use Rattle.rr_eval.specs.Sharing.{asks_copy, ractor_method}
-use Rattle.rr_eval.specs.Tasks.{global_reply}
+use Rattle.rr_eval.specs.Tasks.{global_reply, value_reply}
 
 -- ---- Which requests ask something of the store.
-
--- a name is a constant's that begins with a capital letter
-abbrev pub begins_large : List ℕ → Bool
-begins_large [] = false
-begins_large (b ∷ bs) = is_ascii_uppercase b
-
-abbrev pub is_constant : Context → Sym → Bool
-is_constant c x = begins_large (slice_index_or c.symbols x.0 [])
 
 abbrev pub one_in : List Ref → Option Ref
 one_in (v ∷ []) = Some v
@@ -62,9 +59,9 @@ holds (Some x) = is_true x.1
 abbrev pub wants_copy : Context → Table → Ref → Bool
 wants_copy c t w = is_hash (kind_at t w) && (asks_copy c t w && holds (slice_get (triples_at t w) 1))
 
-abbrev pub special_set : Context → Sym → Option Ref → Special
-special_set c x None = specials.Usual
-special_set c x (Some v) = if is_constant c x then specials.Constant x v else specials.Usual
+abbrev pub special_set : Sym → Option Ref → Special
+special_set x None = specials.Usual
+special_set x (Some v) = specials.Constant x v
 
 abbrev pub special_pair : Context → Option (Ref × Ref) → Table → Special
 special_pair c None t = specials.Usual
@@ -76,24 +73,28 @@ special_called c m vs t = specials.Usual
 
 -- a constant is set, or a shareable copy is asked for
 abbrev pub special_of : Context → Asked → Table → Special
-special_of c (Does (SetGlobal x) vs u) t = special_set c x (one_in vs)
+special_of c (Does (SetConstant x) vs u) t = special_set x (one_in vs)
 special_of c (Does task vs u) t = specials.Usual
 special_of c (Calls receiver callee vs) t = special_called c (ractor_method c receiver callee) vs t
 
 -- ---- What setting a constant leaves.
 
 -- what the store says of the constant, and its event
-pub record IsMarked (s : Store) (x : Sym) (mark : ConstValue) (u : Store) : Type 0 where
+pub record IsMarked (s : Store) (who : RactorNo) (x : Sym) (mark : ConstValue) (u : Store) : Type 0 where
   pub set : IsSet s x mark u
   pub room : HasEvent s
   pub clusters : u.clusters ≡ s.clusters
   pub limit : u.limit ≡ s.limit
-  pub history : u.history ≡ s.history ++ told_of_value mark x script_ractor ∷ []
+  pub history : u.history ≡ s.history ++ told_of_value mark x who ∷ []
+
+-- the main ractor keeps the value itself too
+abbrev pub set_reply : Sym → Ref → Table → Effect
+set_reply x v t = if is_main t then global_reply x (v ∷ []) t else value_reply v t
 
 -- the constant gets its mark and its value
 pub record HasBoth (s : Store) (x : Sym) (mark : ConstValue) (v : Ref) (t : Table) (r : Response) (u : Table) (after : Store) : Type 0 where
-  pub marked : IsMarked s x mark after
-  pub set : IsReplied (published after) (global_reply x (v ∷ []) t) t r u
+  pub marked : IsMarked s (owner_of t) x mark after
+  pub set : IsReplied (published after) (set_reply x v t) t r u
 
 -- the history has no room for the event
 pub record HasNoRoom (s : Store) (t : Table) (r : Response) (u : Table) (after : Store) : Type 0 where
@@ -105,12 +106,22 @@ pub record HasNoRoom (s : Store) (t : Table) (r : Response) (u : Table) (after :
 abbrev pub IsFinished : Store → Sym → ConstValue → Ref → Table → Response → Table → Store → Type 0
 IsFinished s x mark v t r u after = HasBoth s x mark v t r u after ⊎ HasNoRoom s t r u after
 
--- a value that is not shareable is the script's own
+-- a value that is not shareable is the main ractor's own
 pub record IsOwnSet (s : Store) (x : Sym) (v : Ref) (t : Table) (r : Response) (u : Table) (after : Store) : Type 0 where
   pub unshareable : IsShareable (space_graph t) (resolve t.slots (value_of v)) → ⊥
+  pub main : is_main t ≡ true
   pub both : HasBoth s x OwnMark v t r u after
 
--- of a shareable value all that is the script's own is published first
+-- no other ractor sets a constant to such a value
+pub record IsOwnRefused (s : Store) (x : Sym) (v : Ref) (t : Table) (r : Response) (u : Table) (after : Store) : Type 0 where
+  pub unshareable : IsShareable (space_graph t) (resolve t.slots (value_of v)) → ⊥
+  pub other : is_main t ≡ false
+  pub room : HasEvent s
+  pub says : r ≡ Fails (IsolatedConstant x)
+  pub store : after ≡ s
+  pub table : u ≡ t
+
+-- of a shareable value all that is the ractor's own is published first
 pub record IsSharedSet (s : Store) (x : Sym) (v : Ref) (t : Table) (r : Response) (u : Table) (after : Store) : Type 0 where
   pub shareable : IsShareable (space_graph t) (resolve t.slots (value_of v))
   pub store : Store
@@ -127,7 +138,22 @@ pub record IsSetRefused (s : Store) (v : Ref) (t : Table) (r : Response) (u : Ta
   pub left : ((after ≡ s) × IsUnpublished t u) ⊎ IsPublishing s t (value_of v) after u
 
 abbrev pub IsConstantSet : Store → Sym → Ref → Table → Response → Table → Store → Type 0
-IsConstantSet s x v t r u after = IsOwnSet s x v t r u after ⊎ (IsSharedSet s x v t r u after ⊎ IsSetRefused s v t r u after)
+IsConstantSet s x v t r u after = IsOwnSet s x v t r u after ⊎ (IsOwnRefused s x v t r u after ⊎ (IsSharedSet s x v t r u after ⊎ IsSetRefused s v t r u after))
+
+-- ---- What a constant is for a ractor that asks.
+
+abbrev pub or_unset : Option Response → Response → Response
+or_unset None unset = unset
+or_unset (Some r) unset = r
+
+-- only the main ractor has a value that is its own
+abbrev pub own_constant : Sym → Table → Response → Response
+own_constant x t unset = if is_main t then or_unset (set_response t (field_at t globals x.0)) unset else Fails (IsolatedConstant x)
+
+abbrev pub constant_response : Option ConstValue → Sym → Table → Response → Response
+constant_response None x t unset = unset
+constant_response (Some (Shareable v)) x t unset = Gives v
+constant_response (Some OwnMark) x t unset = own_constant x t unset
 
 -- ---- What a shareable copy is.
 

@@ -113,14 +113,19 @@ passed owner root (Done v) = Gave v
 passed owner root (Returned v) = Ends (exits.Method root) v
 passed owner root (Ends other v) = Ends other v
 
+-- The block of a ractor is no call's: the frame below is the program's, whose number is 0. A `break` out of it has no call to end.
+abbrev pub left_block : Context → ℕ → ℕ → Answer → Script
+left_block c owner root (Broke v) = if nat_eq owner 0 then throw c Jump else Ret (passed owner root (Broke v))
+left_block c owner root a = Ret (passed owner root a)
+
 -- a block ends, and its frame goes
-abbrev pub past : Answer → Script
-past a = See (λ m. Do without_frame (See (λ k. Ret (passed (owner_in (running k.calls.frames)) (running m.calls.frames).root a))))
+abbrev pub past : Context → Answer → Script
+past c a = See (λ m. Do without_frame (See (λ k. left_block c (owner_in (running k.calls.frames)) (running m.calls.frames).root a)))
 
 -- how a new frame ends
-abbrev pub left_by : Entry → Answer → Script
-left_by (OfMethod call) = back call.value
-left_by (OfBlock home) = past
+abbrev pub left_by : Context → Entry → Answer → Script
+left_by c (OfMethod call) = back call.value
+left_by c (OfBlock home) = past c
 
 -- goes on in a frame more, where there may be one, whose parameters have these values and whose other variables are nil
 abbrev pub opened : Context → Entry → ℕ → ℕ → List Ref → Option Tree → Stack → Script → Script
@@ -130,7 +135,7 @@ opened c entry parameters size vs b s next =
 
 -- a body in a frame of its own
 abbrev pub framed : Context → Entry → ℕ → ℕ → List Ref → Option Tree → Tree → Stack → Script
-framed c entry parameters size vs b body s = opened c entry parameters size vs b s (Go body (left_by entry))
+framed c entry parameters size vs b body s = opened c entry parameters size vs b s (Go body (left_by c entry))
 
 -- how a method of the program is called: on which receiver, with which block, whose tree is there, and what the value of the call is
 pub record Way : Type 0 where

@@ -6,6 +6,7 @@ pub mod Responses
 pub mod Effects
 pub mod Published
 pub mod Operators
+pub mod Owners
 pub mod Acts
 pub mod Changes
 pub mod Callees

@@ -5,7 +5,7 @@ use Rattle.rr_base.specs.declared.class.BuiltInClass.TheVariants as built_in
 use Rattle.rr_text.specs.Names.{names_of}
 use Rattle.rr_builtin.specs.Problems.{problem_class, problem_text, missing_text}
 use Rattle.rr_eval.specs.declared.problem.Problem.{Problem}
-use Rattle.rr_eval.specs.declared.problem.Problem.TheVariants.{BuiltIn, MissingMethod, MissingName, MissingConstant, UnknownKeyword, NoRactorBlock, UsesYield, NoRactors, HistoryFull, NotRaisable, Unhandled, NoBlock, Jump, NotHere}
+use Rattle.rr_eval.specs.declared.problem.Problem.TheVariants.{BuiltIn, MissingMethod, MissingName, MissingConstant, IsolatedConstant, IsolatedGlobal, UnknownKeyword, NoRactorBlock, UsesYield, NoRactors, HistoryFull, NotRaisable, Unhandled, NoBlock, Jump, NotHere}
 use Rattle.rr_eval.specs.Callees.{callee_name}
 use Rattle.rr_eval.specs.Context.{Context}
 
@@ -14,6 +14,8 @@ message c (BuiltIn p) = problem_text (names_of c.program) p
 message c (MissingMethod callee receiver) = missing_text (names_of c.program) (callee_name c callee) receiver
 message c (MissingName x) = codes "undefined local variable or method '" ++ slice_index_or c.symbols x.0 [] ++ codes "'"
 message c (MissingConstant x) = codes "uninitialized constant " ++ slice_index_or c.symbols x.0 []
+message c (IsolatedConstant x) = codes "constant " ++ slice_index_or c.symbols x.0 [] ++ codes " is not shareable"
+message c (IsolatedGlobal x) = codes "global " ++ slice_index_or c.symbols x.0 []
 message c UnknownKeyword = codes "unknown keyword"
 message c NoRactorBlock = codes "must be called with a block"
 message c UsesYield = codes "can not isolate a Proc because it uses yield."
@@ -31,6 +33,8 @@ exception_class (BuiltIn p) = problem_class p
 exception_class (MissingMethod callee receiver) = built_in.NoMethodError
 exception_class (MissingName x) = built_in.NameError
 exception_class (MissingConstant x) = built_in.NameError
+exception_class (IsolatedConstant x) = built_in.IsolationError
+exception_class (IsolatedGlobal x) = built_in.IsolationError
 exception_class UnknownKeyword = built_in.ArgumentError
 exception_class NoRactorBlock = built_in.ArgumentError
 exception_class UsesYield = built_in.ArgumentError

@@ -1,6 +1,5 @@
--- What is published of the objects of a script on its own, and what a frozen copy is.
+-- What is published of the objects of a ractor, and what a frozen copy is.
 use Rattle.std.specs.Prelude.{◌≡◌, ◌↔◌, ◌⊎◌, ◌≤◌, ◌<◌, ◌+◌, ℕ, false, List, [], ◌∷◌, ◌++◌, length, map, Contains, Some, slice_get, slice_set}
-use Rattle.rr_base.specs.declared.name.RactorNo.{RactorNo}
 use Rattle.rr_base.specs.declared.fault.Fault.{Fault}
 use Rattle.rr_base.specs.declared.fault.Fault.TheVariants.{Memory, Limit, HistoryFull, HoldsShell}
 use Rattle.rr_base.specs.declared.limits.LimitKind.TheVariants.{Slots}
@@ -14,6 +13,7 @@ use Rattle.rr_share.specs.Search.{LeadsToShell}
 use Rattle.rr_store.specs.Stores.{Store, HasEvent}
 use Rattle.rr_store.specs.Answers.{numbered_next}
 use Rattle.rr_builtin.specs.Acts.{array_object, with_put}
+use Rattle.rr_eval.specs.Owners.{owner_of}
 use Rattle.rr_eval.specs.Responses.{registry_slot}
 
 -- ---- Where it is written down which objects were published.
@@ -47,10 +47,6 @@ Notes c places t noted = IsNoted c places t noted ⊎ (((o : Object) → IsRegis
 
 -- ---- What is published.
 
--- A script on its own is the first ractor.
-abbrev pub script_ractor : RactorNo
-script_ractor = record { 0 = 1 }
-
 -- the cluster is the store's next one. The slots of its objects are written down, and then they are forwards to it
 pub record IsPublishedAs (w : Whole) (places : List ℕ) (s : Store) (t : Table) (u : Store) (new : Table) : Type 0 where
   pub noted : Table
@@ -58,7 +54,7 @@ pub record IsPublishedAs (w : Whole) (places : List ℕ) (s : Store) (t : Table)
   pub planned : IsPlanned noted w places
   pub room : HasEvent s
   pub clusters : u.clusters ≡ s.clusters ++ numbered_next s w ∷ []
-  pub history : u.history ≡ s.history ++ Published (length s.clusters) (length w.own) script_ractor ∷ []
+  pub history : u.history ≡ s.history ++ Published (length s.clusters) (length w.own) (owner_of t) ∷ []
   pub promoted : IsPromotedTo (numbered_next s w) places noted new
 
 -- the value leads to no shareable object of the space, and nothing changes

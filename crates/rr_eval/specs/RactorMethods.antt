@@ -7,19 +7,17 @@ use Rattle.rr_space.specs.declared.refer.Ref.TheVariants as refs
 use Rattle.rr_eval.specs.declared.call.Callee.{Callee}
 use Rattle.rr_eval.specs.declared.call.Callee.TheVariants as callees
 use Rattle.rr_eval.specs.declared.ractor_method.RactorMethod.{RactorMethod}
-use Rattle.rr_eval.specs.declared.ractor_method.RactorMethod.TheVariants.{IsShareable, MakeShareable, Start, Current, IsMain, WithOthers, Name, Later}
+use Rattle.rr_eval.specs.declared.ractor_method.RactorMethod.TheVariants.{IsShareable, MakeShareable, Start, Current, Main, IsMain, WithOthers, Name, Later}
 use Rattle.rr_eval.specs.Context.{Context}
 
 -- whether a method of Ractor passes values from ractor to ractor
 abbrev pub passes_values : List ℕ → Bool
 passes_values name = bytes_eq name (codes "select") || bytes_eq name (codes "receive") || bytes_eq name (codes "recv") || bytes_eq name (codes "receive_if") || bytes_eq name (codes "yield")
 
-abbrev pub gives_ractor : List ℕ → Bool
-gives_ractor name = bytes_eq name (codes "current") || bytes_eq name (codes "main")
-
 abbrev pub other_named : List ℕ → Option RactorMethod
 other_named name =
-    if gives_ractor name then Some Current else
+    if bytes_eq name (codes "current") then Some Current else
+    if bytes_eq name (codes "main") then Some Main else
     if passes_values name then Some WithOthers else
     if bytes_eq name (codes "main?") then Some IsMain else
     if bytes_eq name (codes "store_if_absent") then Some Later else None

@@ -44,7 +44,7 @@ use Rattle.rr_tree.specs.declared.node.Path.TheVariants.{Plain, Ractor as InRact
 pub use Rattle.rr_eval.specs.Context.{Context}
 pub use Rattle.rr_eval.specs.Basics.{items, on_value, with_value, read, write, raise, throw, settled, send_to, on_table, statements, values, variable_of, not_here}
 pub use Rattle.rr_eval.specs.Dispatch.{operation, part_called, negation, method_for, run_method, send_rule, dispatched, way_of, iteration_of}
-pub use Rattle.rr_eval.specs.Constants.{own_class, constant_rule, plain_constant}
+pub use Rattle.rr_eval.specs.Constants.{own_class, constant_rule, plain_constant, set_constant_rule}
 pub use Rattle.rr_eval.specs.Splats.{spread, arguments}
 use Rattle.rr_eval.specs.Several.{several_rule, put_in}
 pub use Rattle.rr_eval.specs.Blocks.{running, with_frame, without_frame, returned, back, passed, past, left_by, opened, framed, entered, called, yield_to, yield_rule, given_rule, is_outside, return_rule, activation_in}
@@ -202,7 +202,7 @@ rule c (field x) = field_rule c (record { 0 = x })
 rule c (set_field x a) = with_value a (set_field_rule c (record { 0 = x }))
 rule c (global x) = global_rule c (record { 0 = x })
 rule c (set_global x a) = with_value a (set_global_rule c (record { 0 = x }))
-rule c (set_constant x a) = with_value a (set_global_rule c (record { 0 = x }))
+rule c (set_constant x a) = with_value a (set_constant_rule c (record { 0 = x }))
 rule c (bare x) = See (λ m. bare_rule c (own_method c x m) (printing c x) (raises c x) (asks_block c x) (record { 0 = x }))
 rule c (call x list) = See (λ m. call_rule c (own_method c x m) (printing c x) (raises c x) (awaited c x) (record { 0 = x }) (items list))
 rule c (logical_and a b) = with_value a (λ v. if is_truthy v then Go b Ret else Ret (Gave v))
@@ -268,6 +268,10 @@ concluded (Waits s) = Waits s
 -- what a program does: its definitions are there before the first of its statements
 abbrev pub begun : Context → World → Tree → State → ℕ → Outcome
 begun c w t s n = concluded (meaning c w t s n)
+
+-- what the block of a ractor does: it is called with its arguments, as a `yield` calls a block that stands in no method
+abbrev pub block_begun : Context → World → Tree → List Ref → State → ℕ → Outcome
+block_begun c w b vs s n = concluded (run w (meaning_of c w) (called c (Some b) 0 vs s.memory) s n)
 
 -- the frame of a program, which stands in no method, whose variables are unset
 abbrev pub program_frame : Context → Ref → Activated

@@ -15,6 +15,7 @@ use Rattle.rr_eval.specs.declared.spot.Spot.{Spot}
 use Rattle.rr_eval.specs.declared.spot.Spot.TheVariants as spots
 use Rattle.rr_eval.specs.Basics.{not_here, on_value, values, variable_of, with_value}
 use Rattle.rr_eval.specs.Blocks.{spread_from, to_given}
+use Rattle.rr_eval.specs.Constants.{set_constant_rule}
 use Rattle.rr_eval.specs.Context.{Context}
 use Rattle.rr_eval.specs.Dispatch.{send_rule}
 use Rattle.rr_eval.specs.Fields.{set_field_rule}
@@ -41,7 +42,7 @@ all_parts (t ∷ ts) = parts_of t ++ all_parts ts
 abbrev pub spot_of : Tree → List Ref → Option Spot
 spot_of (field x) ps = Some (spots.Field (record { 0 = x }))
 spot_of (global x) ps = Some (spots.Global (record { 0 = x }))
-spot_of (constant (Plain x)) ps = Some (spots.Global x)
+spot_of (constant (Plain x)) ps = Some (spots.Constant x)
 spot_of (send a x list) (r ∷ ps) = Some (spots.Attribute (record { 0 = x }) r)
 spot_of (index a i) (r ∷ j ∷ ps) = Some (spots.Element r j)
 spot_of _ _ = None
@@ -50,6 +51,7 @@ spot_of _ _ = None
 abbrev pub put_in : Context → Spot → Ref → Script
 put_in c (spots.Field x) v = set_field_rule c x v
 put_in c (spots.Global x) v = set_global_rule c x v
+put_in c (spots.Constant x) v = set_constant_rule c x v
 put_in c (spots.Attribute x r) v = send_rule c (callees.Setter x) None r (v ∷ [])
 put_in c (spots.Element r i) v = send_rule c callees.SetIndex None r (i ∷ v ∷ [])
 

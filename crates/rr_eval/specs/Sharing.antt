@@ -16,10 +16,11 @@ use Rattle.rr_eval.specs.declared.call.Callee.{Callee}
 use Rattle.rr_eval.specs.declared.problem.Problem.{Problem}
 use Rattle.rr_eval.specs.declared.problem.Problem.TheVariants.{BuiltIn, UnknownKeyword, NoRactorBlock, NoRactors, NotHere}
 use Rattle.rr_eval.specs.declared.ractor_method.RactorMethod.{RactorMethod}
-use Rattle.rr_eval.specs.declared.ractor_method.RactorMethod.TheVariants.{IsShareable, MakeShareable, Start, Current, IsMain, WithOthers, Name, Later}
+use Rattle.rr_eval.specs.declared.ractor_method.RactorMethod.TheVariants.{IsShareable, MakeShareable, Start, Current, Main, IsMain, WithOthers, Name, Later}
 use Rattle.rr_eval.specs.Calls.{call_reply}
 use Rattle.rr_eval.specs.Context.{Context}
 use Rattle.rr_eval.specs.Effects.{Effect, Says, SaysFailed}
+use Rattle.rr_eval.specs.Owners.{owner_of, is_main}
 pub use Rattle.rr_eval.specs.RactorMethods.{ractor_method}
 
 -- ---- Which objects a value leads to, as tests.
@@ -142,18 +143,25 @@ abbrev pub given_alone : Ref → List Ref → Table → Effect
 given_alone v [] t = record { said = Says (value_of v); table = t }
 given_alone v (w ∷ ws) t = fails (BuiltIn (Count (length (w ∷ ws)) 0 0)) t
 
--- A script on its own is the main ractor, the first one, which has no name. It has no other ractor, no inbox and no port.
+-- The main ractor is the first one.
 abbrev pub main_ractor : RactorNumber
 main_ractor = record { 0 = 1 }
+
+-- it has no name, and what another one is called is not told yet
+abbrev pub name_reply : List Ref → Table → Effect
+name_reply vs t = if is_main t then given_alone refs.Nil vs t else fails NotHere t
+
+-- A script on its own has no other ractor, no inbox and no port.
 
 abbrev pub ractor_reply : Context → RactorMethod → List Ref → Table → Effect
 ractor_reply c IsShareable vs t = shareable_reply vs t
 ractor_reply c MakeShareable vs t = make_shareable_reply c vs t
 -- with a block `new` is no request
 ractor_reply c Start vs t = fails NoRactorBlock t
-ractor_reply c Current vs t = given_alone (refs.Ractor main_ractor) vs t
-ractor_reply c IsMain vs t = given_alone (refs.Truth true) vs t
-ractor_reply c Name vs t = given_alone refs.Nil vs t
+ractor_reply c Current vs t = given_alone (refs.Ractor (owner_of t)) vs t
+ractor_reply c Main vs t = given_alone (refs.Ractor main_ractor) vs t
+ractor_reply c IsMain vs t = given_alone (refs.Truth (is_main t)) vs t
+ractor_reply c Name vs t = name_reply vs t
 ractor_reply c WithOthers vs t = fails NoRactors t
 ractor_reply c Later vs t = fails NotHere t
 

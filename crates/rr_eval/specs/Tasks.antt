@@ -19,7 +19,7 @@ use Rattle.rr_builtin.specs.Objects.{printed_text}
 use Rattle.rr_builtin.specs.declared.problem.Problem.{Problem as BuiltInProblem}
 use Rattle.rr_builtin.specs.declared.problem.Problem.TheVariants.{Moved, TooDeep}
 use Rattle.rr_eval.specs.declared.call.Task.{Task}
-use Rattle.rr_eval.specs.declared.call.Task.TheVariants.{Puts, Inspect, Print, MakeArray, MakeText, MakeHash, SetField, SetMessage, SetCause, SetGlobal, Show, Lines}
+use Rattle.rr_eval.specs.declared.call.Task.TheVariants.{Puts, Inspect, Print, MakeArray, MakeText, MakeHash, SetField, SetMessage, SetCause, SetGlobal, SetConstant, GetConstant, FindConstant, Show, Lines}
 use Rattle.rr_eval.specs.declared.problem.Problem.TheVariants.{BuiltIn, NotHere}
 use Rattle.rr_eval.specs.Calls.{reply_with}
 use Rattle.rr_eval.specs.Effects.{Effect, Says, SaysRaised, SaysFailed, said, led}
@@ -67,6 +67,9 @@ texts_of SetMessage names t vs = []
 texts_of SetCause names t vs = []
 texts_of Show names t vs = texts_shown names t vs
 texts_of (SetGlobal x) names t vs = []
+texts_of (SetConstant x) names t vs = []
+texts_of (GetConstant x) names t vs = []
+texts_of (FindConstant x) names t vs = []
 texts_of Puts names t [] = Wrote (10 ∷ []) ∷ []
 texts_of task names t vs = map (written_by task names t) vs
 
@@ -128,7 +131,7 @@ abbrev pub cause_reply : List Ref → Table → Effect
 cause_reply (exception ∷ cause ∷ vs) t = record { said = SaysRaised (value_of exception); table = caused (value_of cause) exception t }
 cause_reply vs t = value_reply Nil t
 
--- the value becomes a global variable, or a constant, and is given
+-- the value becomes a global variable, or the main ractor's own value of a constant, and is given
 abbrev pub global_reply : Sym → List Ref → Table → Effect
 global_reply x (v ∷ vs) t = reply_with NotHere (set_field x.0 (value_of v) globals t)
 global_reply x [] t = value_reply Nil t
@@ -143,6 +146,10 @@ given_by (SetField x) s vs t = field_reply x vs t
 given_by SetMessage s vs t = message_reply vs t
 given_by SetCause s vs t = cause_reply vs t
 given_by (SetGlobal x) s vs t = global_reply x vs t
+-- what asks the store for constants has no reply without it
+given_by (SetConstant x) s vs t = record { said = SaysFailed NotHere; table = t }
+given_by (GetConstant x) s vs t = record { said = SaysFailed NotHere; table = t }
+given_by (FindConstant x) s vs t = record { said = SaysFailed NotHere; table = t }
 given_by _ s vs t = value_reply Nil t
 
 -- a value has no text, so that an exception is raised

@@ -167,11 +167,11 @@ sized (Some q) m = 3 * length m.frames + 4
 
 -- what falls from turn to turn, and over each reply
 abbrev pub power : View → ℕ
-power m = 6 * m.left + size m
+power m = 9 * m.left + size m
 
 abbrev pub Falls : {E : Type 0} → View → Result Turn E → View → Type 0
 Falls old (Ok turns.More) new = power new < power old
-Falls old (Ok (turns.Ask q)) new = 6 * new.left + sized (Some q) new < power old
+Falls old (Ok (turns.Ask q)) new = 9 * new.left + sized (Some q) new < power old
 Falls old _ new = Unit {0}
 
 -- what comes first is a step
@@ -198,5 +198,5 @@ Acted p old t stop (Err f) new u = IsRefusal f × ((h : Course) → remaining p 
 abbrev pub Descends : View → Option Turn → View → Type 0
 Descends old None new = (power new < power old) × (power new + old.left ≤ power old + new.left)
 Descends old (Some turns.More) new = power new + old.left ≤ power old + new.left
-Descends old (Some (turns.Ask q)) new = 6 * new.left + sized (Some q) new < power old
+Descends old (Some (turns.Ask q)) new = 9 * new.left + sized (Some q) new < power old
 Descends old _ new = Unit {0}

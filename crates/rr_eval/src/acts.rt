@@ -89,7 +89,7 @@ impl Engine {
         ensures asks { (clusters : Option Below) → AreReached (reach (length space.old.slots) clusters) (view_of self.old) → IfOk result (IsAskedReached (reach (length space.new.slots) clusters)) }
         ensures left { stop ≤ self.new.left }
         ensures kept { self.new.left ≤ self.old.left }
-        ensures falls { IfOk result (λ q. 6 * self.new.left + sized q (view_of self.new) < power (view_of self.old)) }
+        ensures falls { IfOk result (λ q. 9 * self.new.left + sized q (view_of self.new) < power (view_of self.old)) }
         ensures even { IfOk result (λ q. q ≡ Option.None → power (view_of self.new) + self.old.left ≤ power (view_of self.old) + self.new.left) }
         ensures refusal { IfErr result IsRefusal }
         ensures still { OnErr result ((h : Course) → remaining prepared.now.program (view_of self.old) space.old h ≡ remaining prepared.now.program (view_of self.new) space.new h) }
@@ -126,7 +126,7 @@ impl Engine {
         ensures asks { (clusters : Option Below) → AreReached (reach (length space.old.slots) clusters) (view_of self.old) → IfOk result (IsAskedReached (reach (length space.new.slots) clusters)) }
         ensures left { stop ≤ self.new.left }
         ensures kept { self.new.left ≤ self.old.left }
-        ensures falls { IfOk result (λ q. 6 * self.new.left + sized q (view_of self.new) < power (view_of self.old)) }
+        ensures falls { IfOk result (λ q. 9 * self.new.left + sized q (view_of self.new) < power (view_of self.old)) }
         ensures even { IfOk result (λ q. q ≡ Option.None → power (view_of self.new) + self.old.left ≤ power (view_of self.old) + self.new.left) }
         ensures refusal { IfErr result IsRefusal }
         ensures still { OnErr result ((h : Course) → remaining prepared.now.program (view_of self.old) space.old h ≡ remaining prepared.now.program (view_of self.new) space.new h) }

@@ -52,6 +52,9 @@ pub fn saying_of(task: Task) -> Option<Saying>
         Task::SetMessage => None,
         Task::SetCause => None,
         Task::SetGlobal(_) => None,
+        Task::SetConstant(_) => None,
+        Task::GetConstant(_) => None,
+        Task::FindConstant(_) => None,
     }
 }
 

@@ -3,37 +3,26 @@
 ghost use Rattle.std.specs.Prelude.{◌≡◌, ◌+◌, ◌*◌, ◌<◌, ◌≤◌, ◌∷◌, [], ℕ, length, vec_capacity, Option, None, IfOk, IfErr, OnOk};
 ghost use Rattle.rr_base.specs.declared.fault.Fault.{Fault};
 ghost use Rattle.rr_space.specs.Tables.{Table, Below};
-ghost use Rattle.rr_tree.specs.declared.program.Program.{Program};
 ghost use Rattle.rr_eval.specs.declared.call.Callee.{Callee};
 ghost use Rattle.rr_eval.specs.declared.frame.Control.{Control};
-ghost use Rattle.rr_eval.specs.Globals.{set_global_rule};
-ghost use Rattle.rr_eval.specs.Requests.{Course, asked_of};
+ghost use Rattle.rr_eval.specs.Requests.{Course};
 ghost use Rattle.rr_eval.specs.Rules.{send_rule};
 ghost use Rattle.rr_eval.specs.Several.{put_in};
-ghost use Rattle.rr_eval.specs.Turns.{context_of, IsNested, remaining, after_script, asking_with, continuing, Stands, sized, size};
+ghost use Rattle.rr_eval.specs.Turns.{context_of, IsNested, remaining, after_script, continuing, Stands, sized, size};
 ghost use Rattle.rr_eval.specs.Views.{view_of};
-ghost use Rattle.rr_eval.specs.Within.{Reach, reach, IsReached, IsSpotReached, IsRequestReached, IsAskedReached, AreReached};
+ghost use Rattle.rr_eval.specs.Within.{Reach, reach, IsReached, IsSpotReached, IsAskedReached, AreReached};
 
-use crate::call::{Arguments, Callee, Passing, Task};
+use crate::call::{Callee, Passing};
 use crate::engine::Engine;
 use crate::frame::{Control, Frame};
 use crate::prepared::Prepared;
 use crate::request::Request;
 use crate::spot::Spot;
 use crate::updating::Place;
-use rr_base::{Fault, Sym};
+use rr_base::Fault;
 use rr_space::{Ref, Space};
 
 impl Engine {
-    /// Asks for an assignment of a value to a global variable, or to a constant.
-    #[tactic(auto, unfolding(crate::specs::Within::AreReached))]
-    fn ask_global(&self, name: Sym, value: Ref) -> Request
-        ensures asks { (p : Program) (t : Table) (h : Course) (n : ℕ) → after_script p (view_of self.now) t (set_global_rule (context_of p) name value) h n ≡ asking_with p (view_of self.now) t (asked_of t result) h n }
-        ensures within { (k : Reach) → IsReached k value → IsRequestReached k result }
-    {
-        Request::Do(Task::SetGlobal(name), Arguments::One(value))
-    }
-
     /// Calls `[]=` of a receiver with an index and a value. A refused growth leaves all as it is.
     #[tactic(auto, unfolding(crate::specs::Within::AreReached))]
     fn send_element(
@@ -99,7 +88,8 @@ impl Engine {
     {
         match spot {
             Spot::Field(name) => Ok(Some(self.ask_field(name, value))),
-            Spot::Global(name) => Ok(Some(self.ask_global(name, value))),
+            Spot::Global(name) => Ok(self.ask_global(space, name, value)),
+            Spot::Constant(name) => Ok(Some(self.ask_set_constant(name, value))),
             Spot::Attribute(name, receiver) => {
                 let callee = Callee::Setter(name);
                 let frame = Frame::Not;

@@ -164,6 +164,37 @@ impl Engine {
         }
     }
 
+    /// Calls the block at a place, where one stands there, as one that stands in the frame `home`.
+    pub fn call_at(
+        &mut self,
+        program: &Program,
+        space: &Space,
+        place: NodeId,
+        home: u32,
+        frame: Frame,
+        last: Option<Ref>,
+    ) -> Result<(), Fault>
+        requires room { length self.old.frames.items < vec_capacity self.old.frames }
+        requires base { base_of frame ≤ length self.old.held.items }
+        requires nested { Nested (reverse self.old.frames.items) (below_of frame self.old.held.items) }
+        ensures goes { OnOk result ((h : Course) (n : ℕ) → after_values program.now (view_of self.old) space.now frame (called (context_of program.now) (Some (tree_at program.now.nodes.items place)) home (stand_of frame self.old.held.items ++ list_of last) (state_of program.now (view_of self.old) space.now h).memory) h n ≡ remaining_with program.now (view_of self.new) space.now h n) }
+        ensures nested { OnOk result (IsNested (view_of self.new)) }
+        ensures within { (clusters : Option Below) → AreReached (reach (length space.now.slots) clusters) (view_of self.old) → All (IsReached (reach (length space.now.slots) clusters)) (list_of last) → AreReached (reach (length space.now.slots) clusters) (view_of self.new) }
+        ensures left { self.new.left ≡ self.old.left }
+        ensures err { (t : Table) → IfErr result (λ f. Stands (view_of self.old) (view_of self.new) t t f) }
+        ensures size { OnOk result (size (view_of self.new) ≤ 3 * length self.old.frames.items + 4) }
+        ensures room { IfErr result (λ _. length self.new.frames.items < vec_capacity self.new.frames) }
+        ensures fault { IfErr result (λ f. f ≡ Fault.Memory) }
+    {
+        match shape_at(program, place) {
+            Some(shape) => self.enter_block(space, place, shape, home, frame, last),
+            None => {
+                self.refuse(frame, Problem::NoBlock);
+                Ok(())
+            }
+        }
+    }
+
     /// Calls the block that the method was given whose frame has the number. The block stands in the frame `home`.
     fn call_block(
         &mut self,
@@ -186,12 +217,8 @@ impl Engine {
         ensures room { IfErr result (λ _. length self.new.frames.items < vec_capacity self.new.frames) }
         ensures fault { IfErr result (λ f. f ≡ Fault.Memory) }
     {
-        let Some(place) = self.block_at(number) else {
-            self.refuse(frame, Problem::NoBlock);
-            return Ok(());
-        };
-        match shape_at(program, place) {
-            Some(shape) => self.enter_block(space, place, shape, home, frame, last),
+        match self.block_at(number) {
+            Some(place) => self.call_at(program, space, place, home, frame, last),
             None => {
                 self.refuse(frame, Problem::NoBlock);
                 Ok(())

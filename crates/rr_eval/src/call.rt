@@ -59,8 +59,14 @@ pub enum Task {
     /// The second of two exceptions becomes the cause of the first one, unless that one has a cause, may not be written, or is the second one
     /// or behind it. The first one is raised.
     SetCause,
-    /// The value becomes the global variable, or the constant, of this name, and is given.
+    /// The value becomes the global variable of this name, and is given.
     SetGlobal(Sym),
+    /// The value becomes the constant of this name, and is given.
+    SetConstant(Sym),
+    /// The value of the constant of this name is given, which another ractor than the main one wants.
+    GetConstant(Sym),
+    /// The same, and nil where the constant was never set.
+    FindConstant(Sym),
 }
 
 /// What is done with values that were evaluated from left to right.

@@ -1,26 +1,31 @@
 //! Constants, and the classes that they name.
 
-ghost use Rattle.std.specs.Prelude.{◌≡◌, ◌+◌, ◌*◌, ◌≤◌, ℕ, [], length, slice_index_or, position, nat_eq, Option, None, IfSome};
+ghost use Rattle.std.specs.Prelude.{◌≡◌, ◌+◌, ◌*◌, ◌≤◌, ℕ, [], length, reverse, slice_index_or, position, nat_eq, Option, None, IfSome};
+ghost use Rattle.rr_base.specs.ClassNames.{class_named};
 ghost use Rattle.rr_tree.specs.declared.class.Class.{Class};
 ghost use Rattle.rr_space.specs.Tables.{Table, Below};
 ghost use Rattle.rr_builtin.specs.Fields.{field_at};
 ghost use Rattle.rr_tree.specs.Tree.{constant};
-ghost use Rattle.rr_eval.specs.Requests.{Course};
-ghost use Rattle.rr_eval.specs.Constants.{own_class, constant_rule, set_response, plain_constant};
+ghost use Rattle.rr_eval.specs.Requests.{Course, asked_of};
+ghost use Rattle.rr_eval.specs.Constants.{own_class, constant_rule, set_response, unless_set, asked_constant, plain_constant, set_constant_rule};
+ghost use Rattle.rr_eval.specs.Frames.{below_of, base_of, Nested};
 ghost use Rattle.rr_eval.specs.Globals.{globals};
 ghost use Rattle.rr_eval.specs.Rules.{rule};
 ghost use Rattle.rr_eval.specs.Script.{Ret};
 ghost use Rattle.rr_eval.specs.declared.problem.Answer.{Answer as Answered};
 ghost use Rattle.rr_space.specs.declared.refer.Ref.{Ref as Value};
-ghost use Rattle.rr_eval.specs.Turns.{context_of, IsNested, after_script, remaining_with, size};
+ghost use Rattle.rr_eval.specs.Turns.{context_of, IsNested, after_script, after_values, asking_with, continuing, remaining_with, size, sized};
 ghost use Rattle.rr_eval.specs.Views.{view_of};
-ghost use Rattle.rr_eval.specs.Within.{Reach, reach, AreReached, IsResponseReached};
+ghost use Rattle.rr_eval.specs.Within.{Reach, reach, AreReached, IsReached, IsAskedReached, IsRequestReached, IsResponseReached};
 
+use crate::call::{Arguments, Task};
 use crate::engine::Engine;
-use crate::frame::Control;
+use crate::frame::{Control, Frame, clear};
 use crate::globals::GLOBALS;
 use crate::iterating::own;
+use crate::owners::is_main;
 use crate::problem::{Answer, Problem, Response};
+use crate::request::Request;
 use rr_base::{BuiltInClass, ClassId, Sym};
 use rr_builtin::{Problem as BuiltInProblem, Round, field_at};
 use rr_space::{Ref, Space};
@@ -93,11 +98,32 @@ impl Engine {
         };
     }
 
-    /// Evaluates a constant without a path that is no class of the program.
+    /// Evaluates a constant of this name, which is no class of the program, as another ractor than the main one does: it asks where no
+    /// built-in class has the name.
+    #[tactic(auto, unfolding(crate::specs::Within::AreReached))]
+    fn ask_constant(&mut self, class: Option<BuiltInClass>, name: Sym) -> Option<Request>
+        requires nested { IsNested (view_of self.old) }
+        ensures goes { (p : Program) (t : Table) (h : Course) (n : ℕ) → after_script p (view_of self.old) t (asked_constant (context_of p) class name t) h n ≡ continuing p (view_of self.new) t result h n }
+        ensures nested { IsNested (view_of self.new) }
+        ensures within { (k : Reach) → AreReached k (view_of self.old) → AreReached k (view_of self.new) }
+        ensures asks { (k : Reach) → IsAskedReached k result }
+        ensures left { self.new.left ≡ self.old.left }
+        ensures size { sized result (view_of self.new) ≤ 3 * length self.old.frames.items + 4 }
+    {
+        match class {
+            Some(class) => {
+                self.control = Control::Give(Answer::Gave(Ref::Class(class.id())));
+                None
+            }
+            None => Some(Request::Do(Task::GetConstant(name), Arguments::Without)),
+        }
+    }
+
+    /// Evaluates a constant of this name, which is no class of the program, as the main ractor does.
     #[tactic(auto, unfolding(crate::specs::Within::AreReached))]
     fn open_set(&mut self, program: &Program, space: &Space, name: Sym)
         requires nested { IsNested (view_of self.old) }
-        ensures goes { (h : Course) (n : ℕ) → after_script program.now (view_of self.old) space.now (plain_constant (context_of program.now) None name) h n ≡ remaining_with program.now (view_of self.new) space.now h n }
+        ensures goes { (h : Course) (n : ℕ) → after_script program.now (view_of self.old) space.now (unless_set (context_of program.now) (set_response space.now (field_at space.now globals name.0)) (constant_rule (context_of program.now) (class_named (slice_index_or (context_of program.now).symbols name.0 [])) name)) h n ≡ remaining_with program.now (view_of self.new) space.now h n }
         ensures nested { IsNested (view_of self.new) }
         ensures within { (clusters : Option Below) → AreReached (reach (length space.now.slots) clusters) (view_of self.old) → AreReached (reach (length space.now.slots) clusters) (view_of self.new) }
         ensures left { self.new.left ≡ self.old.left }
@@ -112,25 +138,73 @@ impl Engine {
         }
     }
 
-    /// Evaluates a constant by its path.
-    #[tactic(auto, unfolding(crate::specs::Within::AreReached))]
-    pub fn open_path(&mut self, program: &Program, space: &Space, path: Path)
+    /// Evaluates a constant without a path that is no class of the program.
+    fn open_plain(&mut self, program: &Program, space: &Space, name: Sym) -> Option<Request>
         requires nested { IsNested (view_of self.old) }
-        ensures goes { (h : Course) (n : ℕ) → after_script program.now (view_of self.old) space.now (rule (context_of program.now) (constant path)) h n ≡ remaining_with program.now (view_of self.new) space.now h n }
+        ensures goes { (h : Course) (n : ℕ) → after_script program.now (view_of self.old) space.now (plain_constant (context_of program.now) None name) h n ≡ continuing program.now (view_of self.new) space.now result h n }
         ensures nested { IsNested (view_of self.new) }
         ensures within { (clusters : Option Below) → AreReached (reach (length space.now.slots) clusters) (view_of self.old) → AreReached (reach (length space.now.slots) clusters) (view_of self.new) }
+        ensures asks { (k : Reach) → IsAskedReached k result }
         ensures left { self.new.left ≡ self.old.left }
-        ensures size { size (view_of self.new) ≤ 3 * length self.old.frames.items + 4 }
+        ensures size { sized result (view_of self.new) ≤ 3 * length self.old.frames.items + 4 }
+    {
+        if is_main(space) {
+            self.open_set(program, space, name);
+            return None;
+        }
+        let class = BuiltInClass::named(program.symbol_bytes(name));
+        self.ask_constant(class, name)
+    }
+
+    /// Evaluates a constant by its path.
+    #[tactic(auto, unfolding(crate::specs::Within::AreReached))]
+    pub fn open_path(&mut self, program: &Program, space: &Space, path: Path) -> Option<Request>
+        requires nested { IsNested (view_of self.old) }
+        ensures goes { (h : Course) (n : ℕ) → after_script program.now (view_of self.old) space.now (rule (context_of program.now) (constant path)) h n ≡ continuing program.now (view_of self.new) space.now result h n }
+        ensures nested { IsNested (view_of self.new) }
+        ensures within { (clusters : Option Below) → AreReached (reach (length space.now.slots) clusters) (view_of self.old) → AreReached (reach (length space.now.slots) clusters) (view_of self.new) }
+        ensures asks { (k : Reach) → IsAskedReached k result }
+        ensures left { self.new.left ≡ self.old.left }
+        ensures size { sized result (view_of self.new) ≤ 3 * length self.old.frames.items + 4 }
     {
         match path {
             Path::Plain(name) => match own_class(program, name) {
-                Some(class) => self.control = Control::Give(Answer::Gave(Ref::Class(class))),
-                None => self.open_set(program, space, name),
+                Some(class) => {
+                    self.control = Control::Give(Answer::Gave(Ref::Class(class)));
+                    None
+                }
+                None => self.open_plain(program, space, name),
             },
             Path::Ractor(name) => {
                 let class = BuiltInClass::named_in_ractor(program.symbol_bytes(name));
-                self.open_constant(program, class, name)
+                self.open_constant(program, class, name);
+                None
             }
         }
+    }
+
+    /// Asks for an assignment to a constant.
+    #[tactic(auto, unfolding(crate::specs::Within::AreReached))]
+    pub fn ask_set_constant(&self, name: Sym, value: Ref) -> Request
+        ensures asks { (p : Program) (t : Table) (h : Course) (n : ℕ) → after_script p (view_of self.now) t (set_constant_rule (context_of p) name value) h n ≡ asking_with p (view_of self.now) t (asked_of t result) h n }
+        ensures within { (k : Reach) → IsReached k value → IsRequestReached k result }
+    {
+        Request::Do(Task::SetConstant(name), Arguments::One(value))
+    }
+
+    /// Asks for an assignment to a constant in the place of what is done with the values that stand for a frame.
+    #[tactic(auto, unfolding(crate::specs::Within::AreReached))]
+    pub fn put_constant(&mut self, frame: Frame, name: Sym, value: Ref) -> Request
+        requires base { base_of frame ≤ length self.old.held.items }
+        requires nested { Nested (reverse self.old.frames.items) (below_of frame self.old.held.items) }
+        ensures goes { (p : Program) (t : Table) (h : Course) (n : ℕ) → after_values p (view_of self.old) t frame (set_constant_rule (context_of p) name value) h n ≡ asking_with p (view_of self.new) t (asked_of t result) h n }
+        ensures nested { IsNested (view_of self.new) }
+        ensures within { (k : Reach) → AreReached k (view_of self.old) → AreReached k (view_of self.new) }
+        ensures asks { (k : Reach) → IsReached k value → IsRequestReached k result }
+        ensures left { self.new.left ≡ self.old.left }
+        ensures frames { self.new.frames.items ≡ self.old.frames.items }
+    {
+        clear(&mut self.held, frame);
+        self.ask_set_constant(name, value)
     }
 }

@@ -222,7 +222,7 @@ impl Engine {
         ensures read { KeepsRead (view_of self.old) space.old space.new }
         ensures asks { (clusters : Option Below) → AreReached (reach (length space.old.slots) clusters) (view_of self.old) → IfOk result (IsAskedReached (reach (length space.new.slots) clusters)) }
         ensures left { OnOk result (self.new.left + 1 ≡ self.old.left) }
-        ensures size { IfOk result (λ q. sized q (view_of self.new) ≤ size (view_of self.old) + 4) }
+        ensures size { IfOk result (λ q. sized q (view_of self.new) ≤ size (view_of self.old) + 7) }
         ensures err { IfErr result (λ f. Stands (view_of self.old) (view_of self.new) space.old space.new f) }
         ensures limit { space.new.limit ≡ space.old.limit }
         ensures changed { Changes space.old space.new }

@@ -26,6 +26,7 @@ pub fn exception_class(problem: Problem) -> BuiltInClass
         Problem::BuiltIn(problem) => problem.class(),
         Problem::MissingMethod(_, _) => BuiltInClass::NoMethodError,
         Problem::MissingName(_) | Problem::MissingConstant(_) => BuiltInClass::NameError,
+        Problem::IsolatedConstant(_) | Problem::IsolatedGlobal(_) => BuiltInClass::IsolationError,
         Problem::UnknownKeyword => BuiltInClass::ArgumentError,
         Problem::NoRactorBlock => BuiltInClass::ArgumentError,
         Problem::UsesYield => BuiltInClass::ArgumentError,

@@ -1,30 +1,29 @@
 //! Global variables.
 
-ghost use Rattle.std.specs.Prelude.{◌≡◌, ◌+◌, ◌*◌, ◌<◌, ◌≤◌, ℕ, [], length, reverse, vec_capacity, Option, Some, IfOk, IfErr};
+ghost use Rattle.std.specs.Prelude.{◌≡◌, ◌+◌, ◌*◌, ◌≤◌, ℕ, length, reverse, Option, Some, IfOk, IfErr};
 ghost use Rattle.std.specs.List.{All};
 ghost use Rattle.rr_space.specs.Parts.{value_of};
 ghost use Rattle.rr_space.specs.Tables.{Table, Below};
 ghost use Rattle.rr_text.specs.Reads.{IsReadWith};
 ghost use Rattle.rr_builtin.specs.Fields.{set_field};
-ghost use Rattle.rr_tree.specs.Tree.{tree_at};
 ghost use Rattle.rr_tree.specs.declared.program.Program.{Program};
 ghost use Rattle.rr_eval.specs.declared.problem.Problem.{Problem};
 ghost use Rattle.rr_eval.specs.Calls.{reply_with};
 ghost use Rattle.rr_eval.specs.Globals.{globals, global_rule, set_global_rule};
 ghost use Rattle.rr_eval.specs.Frames.{below_of, base_of, Nested};
 ghost use Rattle.rr_eval.specs.Published.{published};
-ghost use Rattle.rr_eval.specs.Requests.{Course, asked_of};
-ghost use Rattle.rr_eval.specs.Rules.{with_value};
+ghost use Rattle.rr_eval.specs.Requests.{Course};
 ghost use Rattle.rr_eval.specs.Serves.{IsReplied, IsRefused};
 ghost use Rattle.rr_eval.specs.Tasks.{global_reply};
-ghost use Rattle.rr_eval.specs.Turns.{context_of, IsNested, after_script, after_values, asking_with, remaining_with, size};
+ghost use Rattle.rr_eval.specs.Turns.{context_of, IsNested, after_script, after_values, continuing, remaining_with, size, sized};
 ghost use Rattle.rr_eval.specs.Views.{view_of};
-ghost use Rattle.rr_eval.specs.Within.{Reach, reach, AreReached, IsReached, IsRequestReached};
+ghost use Rattle.rr_eval.specs.Within.{Reach, reach, AreReached, IsReached, IsAskedReached};
 
-use crate::call::{Arguments, Target, Task};
+use crate::call::{Arguments, Task};
 use crate::engine::Engine;
 use crate::fields::read_field;
-use crate::frame::{Frame, clear};
+use crate::frame::{Control, Frame, clear};
+use crate::owners::is_main;
 use crate::problem::{Problem, Response};
 use crate::request::Request;
 use crate::serve::response_from;
@@ -32,7 +31,6 @@ use rr_base::{Fault, Sym};
 use rr_builtin::set_field;
 use rr_space::{Ref, Space};
 use rr_store::StoreState;
-use rr_tree::NodeId;
 
 /// The object whose fields are the global variables and the constants: the second one of a script.
 pub const GLOBALS: Ref = Ref::Local(1);
@@ -78,7 +76,7 @@ pub fn give_global(
 }
 
 impl Engine {
-    /// Evaluates a global variable.
+    /// Evaluates a global variable, which only the main ractor uses.
     #[tactic(auto, unfolding(crate::specs::Within::AreReached))]
     pub fn open_global(&mut self, space: &Space, name: Sym)
         requires nested { IsNested (view_of self.old) }
@@ -88,40 +86,51 @@ impl Engine {
         ensures left { self.new.left ≡ self.old.left }
         ensures size { size (view_of self.new) ≤ 3 * length self.old.frames.items + 4 }
     {
-        let held = read_field(space, GLOBALS, name);
-        self.settle(held);
+        if is_main(space) {
+            let held = read_field(space, GLOBALS, name);
+            self.settle(held);
+        } else {
+            self.control = Control::Throw(Problem::IsolatedGlobal(name));
+        }
     }
 
-    /// Evaluates the value of an assignment to a global variable, or to a constant.
+    /// Asks for an assignment to a global variable. In another ractor than the main one it raises, and asks nothing.
     #[tactic(auto, unfolding(crate::specs::Within::AreReached))]
-    #[inline(always)]
-    pub fn open_assignment(&mut self, name: Sym, value: NodeId)
-        requires room { length self.old.frames.items < vec_capacity self.old.frames }
+    pub fn ask_global(&mut self, space: &Space, name: Sym, value: Ref) -> Option<Request>
         requires nested { IsNested (view_of self.old) }
-        ensures goes { (p : Program) (t : Table) (h : Course) (n : ℕ) → after_script p (view_of self.old) t (with_value (tree_at p.nodes.items value) (set_global_rule (context_of p) name)) h n ≡ remaining_with p (view_of self.new) t h n }
+        ensures goes { (p : Program) (h : Course) (n : ℕ) → after_script p (view_of self.old) space.now (set_global_rule (context_of p) name value) h n ≡ continuing p (view_of self.new) space.now result h n }
         ensures nested { IsNested (view_of self.new) }
         ensures within { (k : Reach) → AreReached k (view_of self.old) → AreReached k (view_of self.new) }
+        ensures asks { (k : Reach) → IsReached k value → IsAskedReached k result }
         ensures left { self.new.left ≡ self.old.left }
-        ensures size { size (view_of self.new) ≤ 3 * length self.old.frames.items + 4 }
+        ensures size { sized result (view_of self.new) ≤ 3 * length self.old.frames.items + 4 }
     {
-        let target = Target::Do(Task::SetGlobal(name));
-        let frame = Frame::Argument(target, value, 0, self.held.len());
-        self.enter_above(frame, value);
+        if is_main(space) {
+            return Some(Request::Do(Task::SetGlobal(name), Arguments::One(value)));
+        }
+        self.control = Control::Throw(Problem::IsolatedGlobal(name));
+        None
     }
 
-    /// Asks for an assignment to a global variable, or to a constant, in the place of what is done with the values that stand for a frame.
+    /// Assigns to a global variable in the place of what is done with the values that stand for a frame.
     #[tactic(auto, unfolding(crate::specs::Within::AreReached))]
-    pub fn put_global(&mut self, frame: Frame, name: Sym, value: Ref) -> Request
+    pub fn put_global(
+        &mut self,
+        space: &Space,
+        frame: Frame,
+        name: Sym,
+        value: Ref,
+    ) -> Option<Request>
         requires base { base_of frame ≤ length self.old.held.items }
         requires nested { Nested (reverse self.old.frames.items) (below_of frame self.old.held.items) }
-        ensures goes { (p : Program) (t : Table) (h : Course) (n : ℕ) → after_values p (view_of self.old) t frame (set_global_rule (context_of p) name value) h n ≡ asking_with p (view_of self.new) t (asked_of t result) h n }
+        ensures goes { (p : Program) (h : Course) (n : ℕ) → after_values p (view_of self.old) space.now frame (set_global_rule (context_of p) name value) h n ≡ continuing p (view_of self.new) space.now result h n }
         ensures nested { IsNested (view_of self.new) }
         ensures within { (k : Reach) → AreReached k (view_of self.old) → AreReached k (view_of self.new) }
-        ensures asks { (k : Reach) → AreReached k (view_of self.old) → IsReached k value → IsRequestReached k result }
+        ensures asks { (k : Reach) → IsReached k value → IsAskedReached k result }
         ensures left { self.new.left ≡ self.old.left }
-        ensures frames { self.new.frames.items ≡ self.old.frames.items }
+        ensures size { sized result (view_of self.new) ≤ 3 * length self.old.frames.items + 4 }
     {
         clear(&mut self.held, frame);
-        Request::Do(Task::SetGlobal(name), Arguments::One(value))
+        self.ask_global(space, name, value)
     }
 }

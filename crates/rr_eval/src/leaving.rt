@@ -37,7 +37,7 @@ impl Engine {
     #[inline(always)]
     pub fn end_block(&mut self, value: Ref)
         requires nested { IsNested (view_of self.old) }
-        ensures goes { (p : Program) (t : Table) (h : Course) (n : ℕ) → after_script p (view_of self.old) t (past (Answer.Gave value)) h n ≡ remaining_with p (view_of self.new) t h n }
+        ensures goes { (p : Program) (t : Table) (h : Course) (n : ℕ) → after_script p (view_of self.old) t (past (context_of p) (Answer.Gave value)) h n ≡ remaining_with p (view_of self.new) t h n }
         ensures nested { IsNested (view_of self.new) }
         ensures within { (k : Reach) → AreReached k (view_of self.old) → IsReached k value → AreReached k (view_of self.new) }
         ensures left { self.new.left ≡ self.old.left }

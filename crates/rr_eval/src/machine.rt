@@ -9,7 +9,7 @@ ghost use Rattle.rr_tree.specs.declared.program.Program.{Program};
 ghost use Rattle.rr_tree.specs.Tree.{Tree, tree_at, listed};
 ghost use Rattle.rr_eval.specs.Acts.{Passes};
 ghost use Rattle.rr_eval.specs.Script.{State, World, Evaluation, Iterated, TurnPart, Go, run, Ended, Spent, objects_of};
-ghost use Rattle.rr_eval.specs.Rules.{Context, rule, throw, meaning, meaning_of, begun, first_memory, items};
+ghost use Rattle.rr_eval.specs.Rules.{Context, rule, throw, meaning, meaning_of, begun, block_begun, first_memory, items};
 ghost use Rattle.rr_eval.specs.Iterating.{body_in, turned};
 ghost use Rattle.rr_eval.specs.Requests.{Course, Adds};
 ghost use Rattle.rr_eval.specs.Exceptions.{IsTold};
@@ -20,9 +20,10 @@ ghost use Rattle.rr_eval.specs.Changes.{Changes};
 ghost use Rattle.rr_eval.specs.Within.{Reach, reach, AreReached, AreVariablesReached, AreWithin, IsControlReached, IsReached, IsResponseReached, IsTurnReached, IsTurnWithin, KeepsReach, KeepsRead};
 ghost use Rattle.rr_eval.specs.Turns.{context_of, remaining, answered, Turned, Replied, Falls};
 
+use crate::call::Target;
 use crate::call_stack::CallStack;
 use crate::engine::{Engine, Turn};
-use crate::frame::Control;
+use crate::frame::{Control, Frame};
 use crate::prepared::Prepared;
 use crate::problem::{Problem, Response};
 use rr_base::{Fault, Limits};
@@ -100,6 +101,42 @@ impl Machine {
             left: limits.steps,
             alloc,
         };
+        Ok(Machine { engine })
+    }
+
+    /// A machine that has the block of a ractor still to call, with these arguments and with the ractor as `self`, within limits, of which
+    /// it takes the steps and the frames. The block is named by its node. A `return` or a `break` that leaves it raises LocalJumpError.
+    ///
+    /// The space of a ractor begins with the objects that `make_first` makes. The only fault is `Memory`.
+    #[tactic(auto, unfolding(crate::specs::Within::AreReached))]
+    pub fn for_block(
+        alloc: Global,
+        prepared: &Prepared,
+        space: &Space,
+        limits: Limits,
+        itself: Ref,
+        block: NodeId,
+        arguments: &[Ref],
+    ) -> Result<Machine, Fault>
+        ensures left { IfOk result (λ m. m.left ≡ limits.steps) }
+        ensures within { (clusters : Option Below) → IsReached (reach (length space.now.slots) clusters) itself → All (IsReached (reach (length space.now.slots) clusters)) arguments.now → IfOk result (AreReached (reach (length space.now.slots) clusters)) }
+        ensures whole { IfOk result (λ m. (h : Course) → remaining prepared.now.program m space.now h ≡ block_begun (context_of prepared.now.program) h.world (tree_at prepared.now.program.nodes.items block) arguments.now (record { memory = first_memory (context_of prepared.now.program) limits.frames itself space.now; asked = h.asked }) limits.steps) }
+        ensures fault { IfErr result (λ f. f ≡ Fault.Memory) }
+    {
+        let mut engine = Engine {
+            control: Control::Enter(block),
+            frames: Vec::new(alloc),
+            held: Vec::from_slice(alloc, arguments)?,
+            calls: first_calls(alloc, &prepared.program, limits.frames, itself)?,
+            blocks: first_blocks(alloc)?,
+            rescuing: Ref::Nil,
+            left: limits.steps,
+            alloc,
+        };
+        engine.frames.reserve(1)?;
+        // The arguments stand for a frame that is there no more.
+        let given = Frame::Argument(Target::Yield, 0, 0, 0);
+        engine.call_at(&prepared.program, space, block, 0, given, None)?;
         Ok(Machine { engine })
     }
 

@@ -29,7 +29,7 @@ use crate::operator::make;
 use crate::prepared::Prepared;
 use crate::problem::{Answer, Problem};
 use crate::request::Request;
-use crate::updating::Update;
+use crate::updating::{Place, Update};
 use crate::usual::awaited_part;
 use rr_base::Fault;
 use rr_space::{Ref, Space};
@@ -205,7 +205,7 @@ impl Engine {
         ensures left { self.new.left ≡ self.old.left }
         ensures asks { (clusters : Option Below) → AreReached (reach (length space.old.slots) clusters) (view_of self.old) → IfOk result (IsAskedReached (reach (length space.new.slots) clusters)) }
         ensures err { IfErr result (λ f. Stands (view_of self.old) (view_of self.new) space.old space.new f) }
-        ensures size { IfOk result (λ q. sized q (view_of self.new) ≤ 3 * length self.old.frames.items + 4) }
+        ensures size { IfOk result (λ q. sized q (view_of self.new) ≤ 3 * length self.old.frames.items + 7) }
         ensures limit { space.new.limit ≡ space.old.limit }
         ensures changed { Changes space.old space.new }
         ensures full { IfErr result (λ f. (h : Course) (n : ℕ) → Adds h.world → Passes f space.old.limit (objects_of (after_script prepared.now.program (view_of self.old) space.old (rule (context_of prepared.now.program) (evaluated_tree prepared.now.program.nodes.items node)) h n))) }
@@ -224,10 +224,7 @@ impl Engine {
                 self.open_global(space, name);
                 Ok(None)
             }
-            Node::Constant(path) => {
-                self.open_path(&prepared.program, space, path);
-                Ok(None)
-            }
+            Node::Constant(path) => Ok(self.open_path(&prepared.program, space, path)),
             Node::OrAssign(target, value) => {
                 self.open_or(&prepared.program, space, target, value)
             }
@@ -326,8 +323,10 @@ impl Engine {
                 count,
                 value,
             } => self.open_several(program, first + count, count, value),
-            Node::SetGlobal(name, value) => self.open_assignment(name, value),
-            Node::SetConstant(name, value) => self.open_assignment(name, value),
+            Node::SetGlobal(name, value) => self.open_assignment(Place::Global(name), value),
+            Node::SetConstant(name, value) => {
+                self.open_assignment(Place::Constant(name), value);
+            }
             Node::OperatorAssign(op, target, value) => {
                 self.open_operator(program, op, target, value);
             }

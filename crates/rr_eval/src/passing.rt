@@ -9,19 +9,20 @@ ghost use Rattle.rr_eval.specs.Rescuing.{rescue_rule};
 ghost use Rattle.rr_tree.specs.declared.program.Program.{Program};
 ghost use Rattle.rr_eval.specs.declared.frame.Control.{Control};
 ghost use Rattle.rr_eval.specs.declared.problem.Answer.{Answer};
-ghost use Rattle.rr_eval.specs.Blocks.{owner_in};
+ghost use Rattle.rr_eval.specs.Blocks.{left_block, owner_in};
 ghost use Rattle.rr_eval.specs.Rules.{in_loop, back, past};
 ghost use Rattle.rr_eval.specs.Script.{Script, Ret, Go};
 ghost use Rattle.rr_eval.specs.Requests.{Course};
 ghost use Rattle.rr_eval.specs.Frames.{below_of, base_of, Nested};
-ghost use Rattle.rr_eval.specs.Turns.{context_of, remaining, IsNested, after_script, after_answer, remaining_with, more_of, size};
+ghost use Rattle.rr_eval.specs.Turns.{context_of, remaining, IsNested, after_script, after_answer, remaining_with, more_of, size, waits};
+ghost use Rattle.rr_eval.specs.View.{View};
 ghost use Rattle.rr_eval.specs.Views.{view_of};
-ghost use Rattle.rr_eval.specs.Within.{Reach, IsAnswerReached, IsFrameReached, AreReached, IsCallValueReached};
+ghost use Rattle.rr_eval.specs.Within.{Reach, IsAnswerReached, IsControlReached, IsFrameReached, AreReached, IsCallValueReached};
 
 use crate::call_stack::CallValue;
 use crate::engine::Engine;
 use crate::frame::{Control, Frame, clear};
-use crate::problem::{Answer, passed, returned, valued};
+use crate::problem::{Answer, Problem, passed, returned, valued};
 use rr_frames::{Activation, Given};
 use rr_space::Space;
 use rr_tree::{NodeId, Program};
@@ -33,6 +34,25 @@ fn owner_in(activation: Activation) -> u32
     match activation.given {
         Given::Nothing => activation.root,
         Given::Block { block, home: _ } => block,
+    }
+}
+
+/// What comes when a block has ended so: `owner` is the frame of the method that was given it, and `root` that of the method in which it
+/// stands.
+fn left_block(owner: u32, root: u32, answer: Answer) -> Control
+    ensures goes { (p : Program) (m : View) (t : Table) (h : Course) (n : ℕ) → after_script p m t (left_block (context_of p) owner root answer) h n ≡ remaining_with p (record m { control = result }) t h n }
+    ensures within { (k : Reach) → IsAnswerReached k answer → IsControlReached k result }
+    ensures waits { waits result ≤ 3 + more_of answer }
+{
+    match answer {
+        Answer::Broke(_) => {
+            if owner == 0 {
+                Control::Throw(Problem::Jump)
+            } else {
+                Control::Give(passed(owner, root, answer))
+            }
+        }
+        _ => Control::Give(passed(owner, root, answer)),
     }
 }
 
@@ -73,16 +93,16 @@ impl Engine {
     /// Passes an answer that is no value through a block that a `yield` calls, which ends with it.
     fn leave_past(&mut self, answer: Answer)
         requires nested { IsNested (view_of self.old) }
-        ensures goes { (p : Program) (t : Table) (h : Course) (n : ℕ) → after_script p (view_of self.old) t (past answer) h n ≡ remaining_with p (view_of self.new) t h n }
+        ensures goes { (p : Program) (t : Table) (h : Course) (n : ℕ) → after_script p (view_of self.old) t (past (context_of p) answer) h n ≡ remaining_with p (view_of self.new) t h n }
         ensures nested { IsNested (view_of self.new) }
         ensures within { (k : Reach) → AreReached k (view_of self.old) → IsAnswerReached k answer → AreReached k (view_of self.new) }
         ensures left { self.new.left ≡ self.old.left }
-        ensures size { size (view_of self.new) ≤ 3 * length self.old.frames.items + 2 + more_of answer }
+        ensures size { size (view_of self.new) ≤ 3 * length self.old.frames.items + 3 + more_of answer }
     {
         let root = self.calls.running().root;
         self.drop_frame();
         let owner = owner_in(self.calls.running());
-        self.control = Control::Give(passed(owner, root, answer));
+        self.control = left_block(owner, root, answer);
     }
 
     /// Passes an answer that is no value through statements that clauses rescue, the last `count` ones before `end`.

@@ -23,6 +23,10 @@ pub enum Problem {
     MissingName(Sym),
     /// NameError: a constant that was never set.
     MissingConstant(Sym),
+    /// Ractor::IsolationError: a constant that has, or would have, a value which only the main ractor may have.
+    IsolatedConstant(Sym),
+    /// Ractor::IsolationError: a global variable in another ractor than the main one.
+    IsolatedGlobal(Sym),
     /// ArgumentError: a keyword that the method does not take.
     UnknownKeyword,
     /// ArgumentError: `Ractor.new` without a block.
@@ -39,7 +43,7 @@ pub enum Problem {
     Unhandled,
     /// LocalJumpError: `yield`, where the method was given no block.
     NoBlock,
-    /// LocalJumpError: a `return` that has no method to leave.
+    /// LocalJumpError: a `return` that has no method to leave, or a `break` that has no call to end.
     Jump,
     /// RuntimeError: what is not evaluated yet.
     NotHere,

@@ -1,4 +1,4 @@
-//! Publishing what is shareable of a value, for a script on its own.
+//! Publishing what is shareable of a value.
 
 ghost use Rattle.std.specs.Prelude.{◌≡◌, ◌≤◌, ◌<◌, ◌⊎◌, ℕ, [], List, length, map, slice_set, Contains, IfOk, IfErr};
 ghost use Rattle.std.specs.Bool.{OnTrue, OnFalse};
@@ -15,7 +15,7 @@ ghost use Rattle.rr_eval.specs.Responses.{registry_slot};
 ghost use Rattle.rr_eval.specs.Publishing.{IsRegistry, Notes, IsPublishedAs, IsPublishing, IsPublishRefusal, IsUnpublished};
 
 use crate::known::REGISTRY;
-use rr_base::{Fault, LimitKind, RactorNo};
+use rr_base::{Fault, LimitKind};
 use rr_share::{Plan, Prepared, prepare, promote};
 use rr_space::{Items, Kind, Node, Ref, SlotSet, Space};
 use rr_store::StoreState;
@@ -125,8 +125,9 @@ fn publish_plan(
     // With these numbers comes that there are no more objects than can be counted.
     let _slots = space.len();
     let _places = places.len();
+    let who = space.owner();
     note_places(alloc, space, store.count(), &places)?;
-    match store.publish(alloc, RactorNo(1), cluster) {
+    match store.publish(alloc, who, cluster) {
         Ok(published) => {
             // With the history comes that each cluster stands under its number.
             let _events = store.history();

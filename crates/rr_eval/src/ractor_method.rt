@@ -1,7 +1,7 @@
 //! The methods of Ractor, and those of a ractor.
 
 ghost use Rattle.std.specs.Prelude.{◌≡◌};
-ghost use Rattle.rr_eval.specs.RactorMethods.{passes_values, gives_ractor, other_named, ractor_named, ractor_called, needs_channel, own_named, own_called, ractor_method};
+ghost use Rattle.rr_eval.specs.RactorMethods.{passes_values, other_named, ractor_named, ractor_called, needs_channel, own_named, own_called, ractor_method};
 ghost use Rattle.rr_eval.specs.Turns.{context_of};
 
 use crate::call::Callee;
@@ -18,8 +18,10 @@ pub enum RactorMethod {
     MakeShareable,
     /// `new`.
     Start,
-    /// `current`, and `main`.
+    /// `current`.
     Current,
+    /// `main`.
+    Main,
     /// `main?`.
     IsMain,
     /// One that needs another ractor, an inbox or a port.
@@ -41,19 +43,15 @@ fn passes_values(name: &[u8]) -> bool
         || name == b"yield".as_slice()
 }
 
-/// Whether it is the name of a method of Ractor that gives a ractor.
-fn gives_ractor(name: &[u8]) -> bool
-    ensures { result ≡ gives_ractor name.now }
-{
-    name == b"current".as_slice() || name == b"main".as_slice()
-}
-
 /// The method of Ractor of a name, where it is none of those that start a ractor or tell of values.
 fn other_named(name: &[u8]) -> Option<RactorMethod>
     ensures { result ≡ other_named name.now }
 {
-    if gives_ractor(name) {
+    if name == b"current".as_slice() {
         return Some(RactorMethod::Current);
+    }
+    if name == b"main".as_slice() {
+        return Some(RactorMethod::Main);
     }
     if passes_values(name) {
         return Some(RactorMethod::WithOthers);

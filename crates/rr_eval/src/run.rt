@@ -73,9 +73,12 @@ fn read_program(alloc: Global, source: &[u8]) -> Result<Program, Fault>
     }
 }
 
-/// Makes the first objects of a program: its `self`, which is given, the one that has its global variables and constants, both of class
-/// Object and without fields, and the array in which the slots stand that published objects were in.
-fn make_first(alloc: Global, space: &mut Space) -> Result<Ref, Fault>
+/// Makes the first objects of a ractor's space, which has no object yet: the `self` of a program, which is given, the object that has its
+/// global variables and constants, both of class Object and without fields, and the array in which the slots stand that published
+/// objects were in. Another ractor than the main one uses the array alone.
+///
+/// The faults are `Memory`, and `Limit(Slots)` where there may be fewer objects.
+pub fn make_first(alloc: Global, space: &mut Space) -> Result<Ref, Fault>
     ensures name { IfOk result (λ itself. itself ≡ Ref.Local (length space.old.slots)) }
     ensures made { IfOk result (λ _. space.new ≡ with_array [] (with_object (new_plain OBJECT.0) [] (with_object (new_plain OBJECT.0) [] space.old))) }
     ensures read { IfOk result (λ _. IsReadWith space.old [] → IsReadWith space.new []) }

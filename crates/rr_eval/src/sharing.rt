@@ -19,14 +19,15 @@ ghost use Rattle.rr_eval.specs.Effects.{SaysFailed, said};
 ghost use Rattle.rr_eval.specs.Published.{published};
 ghost use Rattle.rr_eval.specs.Requests.{arguments_of};
 ghost use Rattle.rr_eval.specs.Serves.{IsReplied, IsRefused};
-ghost use Rattle.rr_eval.specs.Sharing.{leads, is_shareable, deep_frozen, given_alone, names_copy, is_copy, asks_copy, keyword_reply, frozen_reply, shareable_reply, make_shareable_reply, ractor_reply};
+ghost use Rattle.rr_eval.specs.Sharing.{leads, is_shareable, deep_frozen, given_alone, names_copy, is_copy, asks_copy, keyword_reply, frozen_reply, shareable_reply, make_shareable_reply, name_reply, ractor_reply};
 ghost use Rattle.rr_eval.specs.Turns.{context_of};
 ghost use Rattle.rr_eval.specs.Within.{Reach, reach, IsReached, IsResponseReached};
 
 use crate::call::Arguments;
+use crate::owners::{MAIN, is_main};
 use crate::problem::{Problem, Response};
 use crate::ractor_method::RactorMethod;
-use rr_base::{Fault, RactorNo};
+use rr_base::Fault;
 use rr_builtin::Problem as BuiltInProblem;
 use rr_share::{deep_freeze, is_shareable};
 use rr_space::{Kind, Label, Ref, Space};
@@ -189,6 +190,18 @@ fn give_alone(value: Ref, values: &[Ref]) -> Response
     }
 }
 
+/// Gives the name of a ractor, where there are no arguments: the main one has none, and what another one is called is not told yet.
+fn give_name(space: &Space, values: &[Ref]) -> Response
+    ensures is { name_reply values.now space.now ≡ record { said = said result; table = space.now } }
+    ensures within { (k : Reach) → IsResponseReached k result }
+{
+    if is_main(space) {
+        give_alone(Ref::Nil, values)
+    } else {
+        Response::Fails(Problem::NotHere)
+    }
+}
+
 /// Serves a method of Ractor. A refused growth leaves the objects as they were.
 fn serve_values(
     alloc: Global,
@@ -207,9 +220,10 @@ fn serve_values(
         RactorMethod::IsShareable => serve_shareable(alloc, space, store, values),
         RactorMethod::MakeShareable => serve_make_shareable(alloc, space, store, program, values),
         RactorMethod::Start => Ok(Response::Fails(Problem::NoRactorBlock)),
-        RactorMethod::Current => Ok(give_alone(Ref::Ractor(RactorNo(1)), values)),
-        RactorMethod::IsMain => Ok(give_alone(Ref::Truth(true), values)),
-        RactorMethod::Name => Ok(give_alone(Ref::Nil, values)),
+        RactorMethod::Current => Ok(give_alone(Ref::Ractor(space.owner()), values)),
+        RactorMethod::Main => Ok(give_alone(Ref::Ractor(MAIN), values)),
+        RactorMethod::IsMain => Ok(give_alone(Ref::Truth(is_main(space)), values)),
+        RactorMethod::Name => Ok(give_name(space, values)),
         RactorMethod::WithOthers => Ok(Response::Fails(Problem::NoRactors)),
         RactorMethod::Later => Ok(Response::Fails(Problem::NotHere)),
     }

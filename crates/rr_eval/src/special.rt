@@ -4,7 +4,7 @@ ghost use Rattle.std.specs.Prelude.{◌≡◌};
 ghost use Rattle.std.specs.Option.{option_map};
 ghost use Rattle.rr_space.specs.Labels.{labelled_value};
 ghost use Rattle.rr_space.specs.Parts.{value_of};
-ghost use Rattle.rr_eval.specs.Alone.{is_constant, one_in, two_in, is_true, holds, wants_copy, special_set, special_pair, special_called, special_of};
+ghost use Rattle.rr_eval.specs.Alone.{one_in, two_in, is_true, holds, wants_copy, special_set, special_pair, special_called, special_of};
 ghost use Rattle.rr_eval.specs.Requests.{arguments_of, asked_of};
 ghost use Rattle.rr_eval.specs.Turns.{context_of};
 
@@ -25,16 +25,6 @@ pub enum Special {
     Constant(Sym, Ref),
     /// A shareable copy is made of a value.
     Copy(Ref),
-}
-
-/// Whether a name is that of a constant, and not of a global variable.
-fn is_constant(program: &Program, name: Sym) -> bool
-    ensures { result ≡ is_constant (context_of program.now) name }
-{
-    match program.symbol_bytes(name) {
-        [first, ..] => first.is_ascii_uppercase(),
-        [] => false,
-    }
 }
 
 /// The only argument, where there is one alone.
@@ -104,18 +94,12 @@ fn wants_copy(program: &Program, space: &Space, keywords: Ref) -> bool
     }
 }
 
-/// What an assignment of a value to a name asks.
-fn special_set(program: &Program, name: Sym, value: Option<Ref>) -> Special
-    ensures { result ≡ special_set (context_of program.now) name value }
+/// What an assignment of a value to a constant asks.
+fn special_set(name: Sym, value: Option<Ref>) -> Special
+    ensures { result ≡ special_set name value }
 {
     match value {
-        Some(value) => {
-            if is_constant(program, name) {
-                Special::Constant(name, value)
-            } else {
-                Special::Usual
-            }
-        }
+        Some(value) => Special::Constant(name, value),
         None => Special::Usual,
     }
 }
@@ -156,7 +140,7 @@ pub fn special_of(program: &Program, space: &Space, request: &Request) -> Specia
     ensures { result ≡ special_of (context_of program.now) (asked_of space.now request.now) space.now }
 {
     match request {
-        Request::Do(Task::SetGlobal(name), values) => special_set(program, *name, one_in(values)),
+        Request::Do(Task::SetConstant(name), values) => special_set(*name, one_in(values)),
         Request::Do(_, _) => Special::Usual,
         Request::Call(call) => {
             let method = ractor_method(program, call.receiver, call.callee);

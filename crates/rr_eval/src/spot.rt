@@ -20,8 +20,10 @@ use rr_tree::{Node, NodeId, Path, Program};
 pub enum Spot {
     /// An instance variable of `self`.
     Field(Sym),
-    /// A global variable or a constant.
+    /// A global variable.
     Global(Sym),
+    /// A constant.
+    Constant(Sym),
     /// An attribute of a receiver.
     Attribute(Sym, Ref),
     /// An element of a receiver, by its index.
@@ -129,7 +131,7 @@ pub fn spot_of(program: &Program, target: NodeId, parts: &[Ref]) -> Option<(Spot
     match evaluated_node(program, target) {
         Node::Field(name) => Some((Spot::Field(name), 0)),
         Node::Global(name) => Some((Spot::Global(name), 0)),
-        Node::Constant(Path::Plain(name)) => Some((Spot::Global(name), 0)),
+        Node::Constant(Path::Plain(name)) => Some((Spot::Constant(name), 0)),
         Node::Send { name, .. } => match parts {
             [receiver, ..] => Some((Spot::Attribute(name, *receiver), 1)),
             _ => None,

@@ -120,6 +120,7 @@ fn refused_block(method: Option<RactorMethod>) -> Option<Problem>
         Some(RactorMethod::IsShareable) => Some(Problem::NotHere),
         Some(RactorMethod::MakeShareable) => Some(Problem::NotHere),
         Some(RactorMethod::Current) => Some(Problem::NotHere),
+        Some(RactorMethod::Main) => Some(Problem::NotHere),
         Some(RactorMethod::IsMain) => Some(Problem::NotHere),
         Some(RactorMethod::Name) => Some(Problem::NotHere),
         Some(RactorMethod::Later) => Some(Problem::NotHere),

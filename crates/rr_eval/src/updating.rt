@@ -37,8 +37,10 @@ pub enum Place {
     Variable(Variable),
     /// An instance variable of `self`.
     Field(Sym),
-    /// A global variable, or a constant.
+    /// A global variable.
     Global(Sym),
+    /// A constant.
+    Constant(Sym),
     /// What a call of this assigns to: an element or an attribute.
     Sent(Callee),
 }
@@ -225,7 +227,8 @@ impl Engine {
                 Ok(None)
             }
             Place::Field(name) => Ok(Some(self.put_field(frame, name, value))),
-            Place::Global(name) => Ok(Some(self.put_global(frame, name, value))),
+            Place::Global(name) => Ok(self.put_global(space, frame, name, value)),
+            Place::Constant(name) => Ok(Some(self.put_constant(frame, name, value))),
             Place::Sent(setter) => self.send_first(prepared, space, setter, frame, value),
         }
     }

@@ -1,5 +1,6 @@
 -- The plan is one still once it is written down, so that its cluster may be published and its slots may become forwards.
-use Rattle.std.proofs.Common.{length, subst, sym, arith}
+use Rattle.std.proofs.Common.{◌∙◌, ◌++◌, ◌∷◌, [], ap, length, subst, sym, arith}
+use Rattle.rr_base.specs.declared.event.StoreEvent.TheVariants.{Published as Event}
 use Rattle.rr_space.specs.Moves.{IsPlanned, IsPromotedTo}
 use Rattle.rr_share.proofs.Forwards.{planned_few}
 use Rattle.rr_store.specs.Answers.{numbered_next}
@@ -43,7 +44,7 @@ returns-in-Ok-clause-published c =
       planned = planned_stays places t noted stands c.args.plan.cluster c.requires.planned;
       room = c.in-Ok.ensures.published.1;
       clusters = c.in-Ok.ensures.clusters;
-      history = c.in-Ok.ensures.history;
+      history = c.in-Ok.ensures.history ∙ ap (λ n. c.args.store.now.history ++ Event (length c.args.store.now.clusters) (length c.args.plan.cluster.own) (record { 0 = n }) ∷ []) c.owner-who.ensures;
       promoted = subst (λ x. IsPromotedTo x places noted c.promote.new.space) c.in-Ok.ensures.published.0 c.promote.ensures.promoted;
     }
 

@@ -22,7 +22,7 @@ pub returns-in-Err-HistoryFull-clause-set : goal.returns-in-Err-HistoryFull-clau
 returns-in-Err-HistoryFull-clause-set c =
     let told = c.in-Err-HistoryFull.ensures in
     let full = rw c.in-Err-HistoryFull.field-0-is at told.fault in
-    inr (inr (record { says = refl; full = subst (λ s. HasEvent s → ⊥) (sym told.kept) full; left = inl (told.kept, told.unpublished) }))
+    inr (inr (inr (record { says = refl; full = subst (λ s. HasEvent s → ⊥) (sym told.kept) full; left = inl (told.kept, told.unpublished) })))
 
 pub returns-in-Err-HistoryFull-clause-left : goal.returns-in-Err-HistoryFull-clause-left
 returns-in-Err-HistoryFull-clause-left c =

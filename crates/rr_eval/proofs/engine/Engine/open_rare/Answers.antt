@@ -160,3 +160,6 @@ returns-in-OrAssign-clause-within c cs = c.open_or.ensures.within (reach (length
 
 pub returns-in-OrAssign-clause-asks : goal.returns-in-OrAssign-clause-asks
 returns-in-OrAssign-clause-asks c clusters h = c.open_or.ensures.asks (reach (length c.args.space.now.slots) clusters)
+
+pub returns-in-Constant-clause-asks : goal.returns-in-Constant-clause-asks
+returns-in-Constant-clause-asks c clusters h = c.open_path.ensures.asks (reach (length c.args.space.now.slots) clusters)

@@ -18,7 +18,13 @@ pub returns-in-Global-clause-goes : goal.returns-in-Global-clause-goes
 returns-in-Global-clause-goes c h n =
     let p = c.args.prepared.now.program in
     let t = c.args.space.now in
-    ap (λ x. after_script p (view_of c.args.self.now) t (put_in (context_of p) x c.args.value) h n) c.in-Global.is ∙ c.ask_global.ensures.asks p t h n
+    ap (λ x. after_script p (view_of c.args.self.now) t (put_in (context_of p) x c.args.value) h n) c.in-Global.is ∙ c.ask_global.ensures.goes p h n
+
+pub returns-in-Constant-clause-goes : goal.returns-in-Constant-clause-goes
+returns-in-Constant-clause-goes c h n =
+    let p = c.args.prepared.now.program in
+    let t = c.args.space.now in
+    ap (λ x. after_script p (view_of c.args.self.now) t (put_in (context_of p) x c.args.value) h n) c.in-Constant.is ∙ c.ask_set_constant.ensures.asks p t h n
 
 pub returns-in-Attribute-clause-goes : goal.returns-in-Attribute-clause-goes
 returns-in-Attribute-clause-goes c =
@@ -58,4 +64,7 @@ pub returns-in-Field-clause-asks : goal.returns-in-Field-clause-asks
 returns-in-Field-clause-asks c k h spot value = c.ask_field.ensures.within k h value
 
 pub returns-in-Global-clause-asks : goal.returns-in-Global-clause-asks
-returns-in-Global-clause-asks c k h spot value = c.ask_global.ensures.within k value
+returns-in-Global-clause-asks c k h spot value = c.ask_global.ensures.asks k value
+
+pub returns-in-Constant-clause-asks : goal.returns-in-Constant-clause-asks
+returns-in-Constant-clause-asks c k h spot value = c.ask_set_constant.ensures.within k value

@@ -33,7 +33,18 @@ returns-in-Global-clause-goes c h n =
     let m = view_of c.args.self.now in
     let t = c.args.space.now in
     let stand = drop c.args.base m.held in
-    ap (λ place. after_values p m t (Put c.args.place c.args.base) (put (context_of p) place stand c.args.value) h n) c.in-Global.is ∙ c.put_global.ensures.goes p t h n
+    ap (λ place. after_values p m t (Put c.args.place c.args.base) (put (context_of p) place stand c.args.value) h n) c.in-Global.is ∙ c.put_global.ensures.goes p h n
+
+pub returns-in-Global-clause-asks : goal.returns-in-Global-clause-asks
+returns-in-Global-clause-asks c k h value = c.put_global.ensures.asks k value
+
+pub returns-in-Constant-clause-goes : goal.returns-in-Constant-clause-goes
+returns-in-Constant-clause-goes c h n =
+    let p = c.args.prepared.now.program in
+    let m = view_of c.args.self.now in
+    let t = c.args.space.now in
+    let stand = drop c.args.base m.held in
+    ap (λ place. after_values p m t (Put c.args.place c.args.base) (put (context_of p) place stand c.args.value) h n) c.in-Constant.is ∙ c.put_constant.ensures.goes p t h n
 
 pub returns-in-Sent-clause-goes : goal.returns-in-Sent-clause-goes
 returns-in-Sent-clause-goes c =
@@ -46,3 +57,6 @@ returns-in-Sent-clause-goes c =
     ap (λ place. after_values p m t (Put c.args.place c.args.base) (put (context_of p) place stand c.args.value) h n) c.in-Sent.is
     ∙ goes h n)
     c.send_first.ensures.goes
+
+pub returns-in-Constant-clause-asks : goal.returns-in-Constant-clause-asks
+returns-in-Constant-clause-asks c k h value = c.put_constant.ensures.asks k value
