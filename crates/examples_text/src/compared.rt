@@ -4,6 +4,7 @@ use rr_base::RactorNo;
 use rr_space::{Cluster, Entries, Items, Key, Kind, Node, Ref, Sealed, Space};
 use rr_text::{Compared, compare, compare_within};
 use std::alloc::Global;
+use std::process::Abort;
 use std::test::Fail;
 
 /// An array of the first integers.
@@ -107,8 +108,27 @@ pub fn nested(alloc: Global, space: &mut Space, count: usize) -> Result<Ref, Fai
     Ok(array)
 }
 
-fn compared(alloc: Global, space: &Space, left: Ref, right: Ref) -> Result<Compared, Fail> {
-    Ok(compare(alloc, space, left, right)?)
+/// Two values compare so. Nothing is answered, since each way out of a test is proved with all that was made before it.
+fn check(rt: &impl Abort, alloc: Global, space: &Space, left: Ref, right: Ref, wanted: Compared) {
+    let found = compare(alloc, space, left, right);
+    assert!(rt; matches!(found, Ok(answer) if answer == wanted));
+}
+
+/// They compare so where the levels are limited.
+fn check_within(
+    rt: &impl Abort,
+    alloc: Global,
+    space: &Space,
+    levels: usize,
+    left: Ref,
+    right: Ref,
+    wanted: Compared,
+) {
+    let found = compare_within(alloc, space, levels, left, right);
+    assert!(rt;
+        matches!(found, Ok(answer) if answer == wanted),
+        "{levels} levels"
+    );
 }
 
 #[test]
@@ -119,10 +139,10 @@ fn arrays_are_compared_by_their_elements(rt: HostRuntime) -> Result<(), Fail> {
     let many = numbers(rt.alloc(), &mut space, 100_000)?;
     let as_many = numbers(rt.alloc(), &mut space, 100_000)?;
     let fewer = numbers(rt.alloc(), &mut space, 99_999)?;
-    assert!(rt; compared(rt.alloc(), &space, empty, none)? == Compared::Same);
-    assert!(rt; compared(rt.alloc(), &space, many, as_many)? == Compared::Same);
-    assert!(rt; compared(rt.alloc(), &space, many, fewer)? == Compared::Differs);
-    assert!(rt; compared(rt.alloc(), &space, empty, Ref::Nil)? == Compared::Differs);
+    check(&rt, rt.alloc(), &space, empty, none, Compared::Same);
+    check(&rt, rt.alloc(), &space, many, as_many, Compared::Same);
+    check(&rt, rt.alloc(), &space, many, fewer, Compared::Differs);
+    check(&rt, rt.alloc(), &space, empty, Ref::Nil, Compared::Differs);
     Ok(())
 }
 
@@ -133,9 +153,9 @@ fn hashes_are_compared_whatever_their_order(rt: HostRuntime) -> Result<(), Fail>
     let other = table(rt.alloc(), &mut space, &[3, 1, 2])?;
     let less = table(rt.alloc(), &mut space, &[3, 1])?;
     let another = table(rt.alloc(), &mut space, &[3, 1, 4])?;
-    assert!(rt; compared(rt.alloc(), &space, one, other)? == Compared::Same);
-    assert!(rt; compared(rt.alloc(), &space, one, less)? == Compared::Differs);
-    assert!(rt; compared(rt.alloc(), &space, one, another)? == Compared::Differs);
+    check(&rt, rt.alloc(), &space, one, other, Compared::Same);
+    check(&rt, rt.alloc(), &space, one, less, Compared::Differs);
+    check(&rt, rt.alloc(), &space, one, another, Compared::Differs);
     Ok(())
 }
 
@@ -146,12 +166,12 @@ fn hashes_are_compared_by_the_bytes_of_their_keys(rt: HostRuntime) -> Result<(),
     let other = letters(rt.alloc(), &mut space, "cab")?;
     let another = letters(rt.alloc(), &mut space, "abd")?;
     let less = letters(rt.alloc(), &mut space, "ab")?;
-    assert!(rt; compared(rt.alloc(), &space, one, other)? == Compared::Same);
-    assert!(rt; compared(rt.alloc(), &space, one, another)? == Compared::Differs);
-    assert!(rt; compared(rt.alloc(), &space, one, less)? == Compared::Differs);
-    assert!(rt; compared(rt.alloc(), &space, less, one)? == Compared::Differs);
+    check(&rt, rt.alloc(), &space, one, other, Compared::Same);
+    check(&rt, rt.alloc(), &space, one, another, Compared::Differs);
+    check(&rt, rt.alloc(), &space, one, less, Compared::Differs);
+    check(&rt, rt.alloc(), &space, less, one, Compared::Differs);
     let numbered = table(rt.alloc(), &mut space, &[97, 98, 99])?;
-    assert!(rt; compared(rt.alloc(), &space, one, numbered)? == Compared::Differs);
+    check(&rt, rt.alloc(), &space, one, numbered, Compared::Differs);
     Ok(())
 }
 
@@ -163,12 +183,12 @@ fn published_containers_are_compared_with_own_ones(rt: HostRuntime) -> Result<()
     let other = letters(rt.alloc(), &mut space, "ac")?;
     let hash = Ref::Shared(2, cluster);
     let array = Ref::Shared(3, cluster);
-    assert!(rt; compared(rt.alloc(), &space, own, hash)? == Compared::Same);
-    assert!(rt; compared(rt.alloc(), &space, hash, own)? == Compared::Same);
-    assert!(rt; compared(rt.alloc(), &space, hash, hash)? == Compared::Same);
-    assert!(rt; compared(rt.alloc(), &space, other, hash)? == Compared::Differs);
-    assert!(rt; compared(rt.alloc(), &space, hash, other)? == Compared::Differs);
-    assert!(rt; compared(rt.alloc(), &space, array, hash)? == Compared::Differs);
+    check(&rt, rt.alloc(), &space, own, hash, Compared::Same);
+    check(&rt, rt.alloc(), &space, hash, own, Compared::Same);
+    check(&rt, rt.alloc(), &space, hash, hash, Compared::Same);
+    check(&rt, rt.alloc(), &space, other, hash, Compared::Differs);
+    check(&rt, rt.alloc(), &space, hash, other, Compared::Differs);
+    check(&rt, rt.alloc(), &space, array, hash, Compared::Differs);
     Ok(())
 }
 
@@ -177,12 +197,9 @@ fn many_levels_are_compared(rt: HostRuntime) -> Result<(), Fail> {
     let mut space = Space::new(rt.alloc(), RactorNo(1), 10_000);
     let one = nested(rt.alloc(), &mut space, 1_000)?;
     let other = nested(rt.alloc(), &mut space, 1_000)?;
-    let same = compare_within(rt.alloc(), &space, 1_000, one, other)?;
-    assert!(rt; same == Compared::Same);
-    let deep = compare_within(rt.alloc(), &space, 999, one, other)?;
-    assert!(rt; deep == Compared::Deep);
-    let itself = compare_within(rt.alloc(), &space, 999, one, one)?;
-    assert!(rt; itself == Compared::Same);
+    check_within(&rt, rt.alloc(), &space, 1_000, one, other, Compared::Same);
+    check_within(&rt, rt.alloc(), &space, 999, one, other, Compared::Deep);
+    check_within(&rt, rt.alloc(), &space, 999, one, one, Compared::Same);
     Ok(())
 }
 
@@ -197,7 +214,7 @@ fn arrays_inside_themselves_are_equal(rt: HostRuntime) -> Result<(), Fail> {
     if space.can_write(other) && space.kind_of(other) == Kind::Array && space.len() > 1 {
         space.push_element(other, Ref::Local(1))?;
     }
-    assert!(rt; compared(rt.alloc(), &space, one, other)? == Compared::Same);
+    check(&rt, rt.alloc(), &space, one, other, Compared::Same);
     Ok(())
 }
 
@@ -208,12 +225,9 @@ fn containers_are_compared_so_deep(rt: HostRuntime) -> Result<(), Fail> {
     let one = space.alloc(Node::Array(Items::one(rt.alloc(), low)))?;
     let base = space.alloc(Node::Array(Items::new(rt.alloc())))?;
     let other = space.alloc(Node::Array(Items::one(rt.alloc(), base)))?;
-    let deep = compare_within(rt.alloc(), &space, 1, one, other)?;
-    assert!(rt; deep == Compared::Deep);
-    let same = compare_within(rt.alloc(), &space, 2, one, other)?;
-    assert!(rt; same == Compared::Same);
-    let itself = compare_within(rt.alloc(), &space, 0, one, one)?;
-    assert!(rt; itself == Compared::Same);
+    check_within(&rt, rt.alloc(), &space, 1, one, other, Compared::Deep);
+    check_within(&rt, rt.alloc(), &space, 2, one, other, Compared::Same);
+    check_within(&rt, rt.alloc(), &space, 0, one, one, Compared::Same);
     Ok(())
 }
 
@@ -226,8 +240,8 @@ fn what_was_moved_away_is_not_compared(rt: HostRuntime) -> Result<(), Fail> {
     if space.len() > 0 && space.can_freeze(Ref::Local(0)) {
         space.empty(0);
     }
-    assert!(rt; compared(rt.alloc(), &space, one, other)? == Compared::Shell);
-    assert!(rt; compared(rt.alloc(), &space, other, one)? == Compared::Shell);
-    assert!(rt; compared(rt.alloc(), &space, one, one)? == Compared::Same);
+    check(&rt, rt.alloc(), &space, one, other, Compared::Shell);
+    check(&rt, rt.alloc(), &space, other, one, Compared::Shell);
+    check(&rt, rt.alloc(), &space, one, one, Compared::Same);
     Ok(())
 }

@@ -1,14 +1,15 @@
 //! Texts of arrays, hashes and exceptions, in each form.
 
-use rr_base::{ClassId, RactorNo, Sym};
+use rr_base::{ClassId, Fault, RactorNo, Sym};
 use rr_space::{Entries, Items, Key, Kind, Node, Raised, Ref, Space};
 use rr_text::{Form, Text, text, text_within};
 use rr_tree::Program;
-use std::alloc::Global;
+use std::alloc::{AllocError, Global};
+use std::process::Abort;
 use std::test::Fail;
 
 /// A program with one name.
-pub fn program(alloc: Global) -> Result<Program, Fail> {
+pub fn program(alloc: Global) -> Result<Program, AllocError> {
     let mut symbols = Vec::new(alloc);
     symbols.push(b"name".to_vec(alloc)?)?;
     Ok(Program {
@@ -34,13 +35,19 @@ fn is(text: &Text, wanted: &str) -> bool {
 fn writes(
     alloc: Global,
     space: &Space,
-    program: &Program,
     value: Ref,
     form: Form,
     wanted: &str,
-) -> Result<bool, Fail> {
-    let found = text(alloc, space, program, value, form)?;
+) -> Result<bool, Fault> {
+    let program = program(alloc)?;
+    let found = text(alloc, space, &program, value, form)?;
     Ok(is(&found, wanted))
+}
+
+/// A value is written so. Nothing is answered, since each way out of a test is proved with all that was made before it.
+fn check(rt: &impl Abort, alloc: Global, space: &Space, value: Ref, form: Form, wanted: &str) {
+    let written = writes(alloc, space, value, form, wanted);
+    assert!(rt; matches!(written, Ok(true)), "{wanted}");
 }
 
 fn letters(alloc: Global, space: &mut Space, bytes: &[u8]) -> Result<Ref, Fail> {
@@ -58,82 +65,62 @@ fn exception(alloc: Global, space: &mut Space) -> Result<Ref, Fail> {
 }
 
 #[test]
-fn immediates_have_their_forms(rt: HostRuntime) -> Result<(), Fail> {
+fn immediates_have_their_forms(rt: HostRuntime) {
     let space = Space::new(rt.alloc(), RactorNo(1), 10);
-    let program = program(rt.alloc())?;
-    assert!(rt; writes(rt.alloc(), &space, &program, Ref::Nil, Form::Inspect, "nil")?);
-    assert!(rt; writes(rt.alloc(), &space, &program, Ref::Nil, Form::Puts, "\n")?);
-    assert!(rt;
-        writes(
-            rt.alloc(),
-            &space,
-            &program,
-            Ref::Int(-12),
-            Form::ToS,
-            "-12"
-        )?
+    check(&rt, rt.alloc(), &space, Ref::Nil, Form::Inspect, "nil");
+    check(&rt, rt.alloc(), &space, Ref::Nil, Form::Puts, "\n");
+    check(&rt, rt.alloc(), &space, Ref::Int(-12), Form::ToS, "-12");
+    check(
+        &rt,
+        rt.alloc(),
+        &space,
+        Ref::Symbol(Sym(0)),
+        Form::Inspect,
+        ":name",
     );
-    assert!(rt;
-        writes(
-            rt.alloc(),
-            &space,
-            &program,
-            Ref::Symbol(Sym(0)),
-            Form::Inspect,
-            ":name"
-        )?
+    check(
+        &rt,
+        rt.alloc(),
+        &space,
+        Ref::Symbol(Sym(0)),
+        Form::Puts,
+        "name\n",
     );
-    assert!(rt;
-        writes(
-            rt.alloc(),
-            &space,
-            &program,
-            Ref::Symbol(Sym(0)),
-            Form::Puts,
-            "name\n"
-        )?
+    check(
+        &rt,
+        rt.alloc(),
+        &space,
+        Ref::Class(ClassId::STRING),
+        Form::ToS,
+        "String",
     );
-    assert!(rt;
-        writes(
-            rt.alloc(),
-            &space,
-            &program,
-            Ref::Class(ClassId::STRING),
-            Form::ToS,
-            "String"
-        )?
+    check(
+        &rt,
+        rt.alloc(),
+        &space,
+        Ref::Ractor(RactorNo(7)),
+        Form::ToS,
+        "#<Ractor:#7>",
     );
-    assert!(rt;
-        writes(
-            rt.alloc(),
-            &space,
-            &program,
-            Ref::Ractor(RactorNo(7)),
-            Form::ToS,
-            "#<Ractor:#7>"
-        )?
-    );
-    Ok(())
 }
 
 #[test]
 fn an_array_is_written_in_each_form(rt: HostRuntime) -> Result<(), Fail> {
     let mut space = Space::new(rt.alloc(), RactorNo(1), 10);
-    let program = program(rt.alloc())?;
     let empty = space.alloc(Node::Array(Items::new(rt.alloc())))?;
     let array = space.alloc(Node::Array(Items::two(rt.alloc(), Ref::Int(1), empty)))?;
-    assert!(rt;
-        writes(
-            rt.alloc(),
-            &space,
-            &program,
-            array,
-            Form::Inspect,
-            "[1, []]"
-        )?
-    );
-    assert!(rt; writes(rt.alloc(), &space, &program, array, Form::ToS, "[1, []]")?);
-    assert!(rt; writes(rt.alloc(), &space, &program, array, Form::Puts, "1\n\n")?);
+    check(&rt, rt.alloc(), &space, array, Form::Inspect, "[1, []]");
+    check(&rt, rt.alloc(), &space, array, Form::ToS, "[1, []]");
+    check(&rt, rt.alloc(), &space, array, Form::Puts, "1\n\n");
+    Ok(())
+}
+
+#[test]
+fn an_array_is_written_so_deep(rt: HostRuntime) -> Result<(), Fail> {
+    let program = program(rt.alloc())?;
+    let mut space = Space::new(rt.alloc(), RactorNo(1), 10);
+    let empty = space.alloc(Node::Array(Items::new(rt.alloc())))?;
+    let array = space.alloc(Node::Array(Items::two(rt.alloc(), Ref::Int(1), empty)))?;
     let deep = text_within(rt.alloc(), &space, &program, 1, array, Form::Inspect)?;
     assert!(rt; matches!(deep, Text::Deep));
     let shallow = text_within(rt.alloc(), &space, &program, 1, array, Form::Puts)?;
@@ -144,70 +131,52 @@ fn an_array_is_written_in_each_form(rt: HostRuntime) -> Result<(), Fail> {
 #[test]
 fn an_array_stands_inside_itself(rt: HostRuntime) -> Result<(), Fail> {
     let mut space = Space::new(rt.alloc(), RactorNo(1), 10);
-    let program = program(rt.alloc())?;
     let array = space.alloc(Node::Array(Items::one(rt.alloc(), Ref::Truth(true))))?;
     if space.can_write(array) && space.kind_of(array) == Kind::Array && space.len() > 0 {
         space.push_element(array, Ref::Local(0))?;
     }
-    assert!(rt;
-        writes(
-            rt.alloc(),
-            &space,
-            &program,
-            array,
-            Form::Inspect,
-            "[true, [...]]"
-        )?
+    check(
+        &rt,
+        rt.alloc(),
+        &space,
+        array,
+        Form::Inspect,
+        "[true, [...]]",
     );
-    assert!(rt;
-        writes(
-            rt.alloc(),
-            &space,
-            &program,
-            array,
-            Form::Puts,
-            "true\n[...]\n"
-        )?
-    );
+    check(&rt, rt.alloc(), &space, array, Form::Puts, "true\n[...]\n");
     Ok(())
 }
 
 #[test]
 fn texts_are_escaped(rt: HostRuntime) -> Result<(), Fail> {
     let mut space = Space::new(rt.alloc(), RactorNo(1), 10);
-    let program = program(rt.alloc())?;
     let text = letters(rt.alloc(), &mut space, "a\"#{é# \n".as_bytes())?;
-    assert!(rt;
-        writes(
-            rt.alloc(),
-            &space,
-            &program,
-            text,
-            Form::Inspect,
-            "\"a\\\"\\#{é# \\n\""
-        )?
+    check(
+        &rt,
+        rt.alloc(),
+        &space,
+        text,
+        Form::Inspect,
+        "\"a\\\"\\#{é# \\n\"",
     );
-    assert!(rt; writes(rt.alloc(), &space, &program, text, Form::Puts, "a\"#{é# \n")?);
+    check(&rt, rt.alloc(), &space, text, Form::Puts, "a\"#{é# \n");
     Ok(())
 }
 
 #[test]
 fn a_hash_has_its_keys(rt: HostRuntime) -> Result<(), Fail> {
     let mut space = Space::new(rt.alloc(), RactorNo(1), 10);
-    let program = program(rt.alloc())?;
     let mut entries = Entries::new(rt.alloc());
     entries.insert(Key::Symbol(0), (Ref::Symbol(Sym(0)), Ref::Int(1)))?;
     entries.insert(Key::Int(2), (Ref::Int(2), Ref::Nil))?;
     let hash = space.alloc(Node::Hash(Box::new(rt.alloc(), entries)?))?;
-    assert!(rt;
-        writes(
-            rt.alloc(),
-            &space,
-            &program,
-            hash,
-            Form::Puts,
-            "{name: 1, 2 => nil}\n"
-        )?
+    check(
+        &rt,
+        rt.alloc(),
+        &space,
+        hash,
+        Form::Puts,
+        "{name: 1, 2 => nil}\n",
     );
     Ok(())
 }
@@ -215,18 +184,15 @@ fn a_hash_has_its_keys(rt: HostRuntime) -> Result<(), Fail> {
 #[test]
 fn an_exception_has_its_message(rt: HostRuntime) -> Result<(), Fail> {
     let mut space = Space::new(rt.alloc(), RactorNo(1), 10);
-    let program = program(rt.alloc())?;
     let bare = exception(rt.alloc(), &mut space)?;
-    assert!(rt; writes(rt.alloc(), &space, &program, bare, Form::ToS, "TypeError")?);
-    assert!(rt;
-        writes(
-            rt.alloc(),
-            &space,
-            &program,
-            bare,
-            Form::Inspect,
-            "#<TypeError: TypeError>"
-        )?
+    check(&rt, rt.alloc(), &space, bare, Form::ToS, "TypeError");
+    check(
+        &rt,
+        rt.alloc(),
+        &space,
+        bare,
+        Form::Inspect,
+        "#<TypeError: TypeError>",
     );
     Ok(())
 }
