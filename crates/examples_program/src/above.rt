@@ -1,6 +1,6 @@
 //! `super`, and classes of exceptions, as a table of scripts.
 
-use crate::table::check_row;
+use crate::table::check_rows;
 use std::test::Fail;
 
 /// As `RUN` of the rows: what it shows, the script, what it prints, and what is told of the exception that ends it.
@@ -24,8 +24,5 @@ super of an exception's initialize without a message|class E < StandardError; de
 
 #[test]
 fn super_and_exceptions_print_what_is_wanted(rt: HostRuntime) -> Result<(), Fail> {
-    for line in ROWS.lines() {
-        check_row(&rt, rt.alloc(), line)?;
-    }
-    Ok(())
+    check_rows(&rt, rt.alloc(), ROWS)
 }

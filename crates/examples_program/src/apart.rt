@@ -1,6 +1,6 @@
 //! Arrays that `puts` and `join` take apart, the objects in which are asked for their `to_s`, as a table of scripts.
 
-use crate::table::check_row;
+use crate::table::check_rows;
 use std::test::Fail;
 
 /// As `RUN` of the rows: what it shows, the script, what it prints, and what is told of the exception that ends it.
@@ -38,8 +38,5 @@ a method named join|class A; def to_s; \"x\"; end; def join(s); \"j\" + s; end; 
 
 #[test]
 fn objects_in_arrays_are_asked(rt: HostRuntime) -> Result<(), Fail> {
-    for line in APART.lines() {
-        check_row(&rt, rt.alloc(), line)?;
-    }
-    Ok(())
+    check_rows(&rt, rt.alloc(), APART)
 }

@@ -2,7 +2,7 @@
 //!
 //! As `RUN` of the rows: what it shows, the script, what it prints, and what is told of the exception that ends it.
 
-use crate::table::check_row;
+use crate::table::check_rows;
 use std::test::Fail;
 
 const ASSIGNMENTS: &str = "\
@@ -73,24 +73,15 @@ what raises|puts 1; raise \"x\"^n|1^n|x (RuntimeError)";
 
 #[test]
 fn assignments_with_an_operator(rt: HostRuntime) -> Result<(), Fail> {
-    for line in ASSIGNMENTS.lines() {
-        check_row(&rt, rt.alloc(), line)?;
-    }
-    Ok(())
+    check_rows(&rt, rt.alloc(), ASSIGNMENTS)
 }
 
 #[test]
 fn assignments_to_elements(rt: HostRuntime) -> Result<(), Fail> {
-    for line in ELEMENTS.lines() {
-        check_row(&rt, rt.alloc(), line)?;
-    }
-    Ok(())
+    check_rows(&rt, rt.alloc(), ELEMENTS)
 }
 
 #[test]
 fn calls_of_unknown_names(rt: HostRuntime) -> Result<(), Fail> {
-    for line in UNKNOWN.lines() {
-        check_row(&rt, rt.alloc(), line)?;
-    }
-    Ok(())
+    check_rows(&rt, rt.alloc(), UNKNOWN)
 }

@@ -1,9 +1,7 @@
 //! Scripts with blocks, as a table.
 
-use crate::run::run_within;
-use crate::table::check_row;
-use rr_base::Limits;
-use rr_eval::Outcome;
+use crate::endings::check_steps;
+use crate::table::check_rows;
 use std::test::Fail;
 
 /// As `RUN` of the rows: what it shows, the script, what it prints, and what is told of the exception that ends it.
@@ -116,25 +114,12 @@ pairs to the limit of calls|def f; [[1, 2]].each { ^px, y^p f }; end; begin; f; 
 
 #[test]
 fn blocks_are_called(rt: HostRuntime) -> Result<(), Fail> {
-    for line in BLOCKS.lines() {
-        check_row(&rt, rt.alloc(), line)?;
-    }
-    Ok(())
+    check_rows(&rt, rt.alloc(), BLOCKS)
 }
 
 // A call of a block is a step of its own: there are the list of statements, the call with its block, the list of the method,
 // `yield`, the block, its list, and the value in it.
 #[test]
-fn a_call_of_a_block_is_a_step(rt: HostRuntime) -> Result<(), Fail> {
-    let script = b"def f; yield; end\nf { 1 }\n";
-    for steps in 1..9 {
-        let limits = Limits {
-            steps,
-            ..Limits::DEFAULT
-        };
-        let left = run_within(rt.alloc(), limits, script);
-        let done = matches!(left.ended, Ok(Outcome::Done));
-        assert_eq!(rt; done, steps >= 7);
-    }
-    Ok(())
+fn a_call_of_a_block_is_a_step(rt: HostRuntime) {
+    check_steps(&rt, rt.alloc(), b"def f; yield; end\nf { 1 }\n", 7);
 }

@@ -2,7 +2,7 @@
 //!
 //! As `RUN` of the rows: what it shows, the script, what it prints, and what is told of the exception that ends it.
 
-use crate::table::check_row;
+use crate::table::check_rows;
 use std::test::Fail;
 
 /// Methods of integers.
@@ -217,40 +217,25 @@ methods of what methods give|p \"abc\".size.to_s.size, [1, \"ab\"].last.length, 
 
 #[test]
 fn methods_of_integers(rt: HostRuntime) -> Result<(), Fail> {
-    for line in INTEGERS.lines() {
-        check_row(&rt, rt.alloc(), line)?;
-    }
-    Ok(())
+    check_rows(&rt, rt.alloc(), INTEGERS)
 }
 
 #[test]
 fn methods_of_texts(rt: HostRuntime) -> Result<(), Fail> {
-    for line in TEXTS.lines() {
-        check_row(&rt, rt.alloc(), line)?;
-    }
-    Ok(())
+    check_rows(&rt, rt.alloc(), TEXTS)
 }
 
 #[test]
 fn methods_of_arrays(rt: HostRuntime) -> Result<(), Fail> {
-    for line in ARRAYS.lines() {
-        check_row(&rt, rt.alloc(), line)?;
-    }
-    Ok(())
+    check_rows(&rt, rt.alloc(), ARRAYS)
 }
 
 #[test]
 fn methods_of_classes(rt: HostRuntime) -> Result<(), Fail> {
-    for line in CLASSES.lines() {
-        check_row(&rt, rt.alloc(), line)?;
-    }
-    Ok(())
+    check_rows(&rt, rt.alloc(), CLASSES)
 }
 
 #[test]
 fn methods_of_all_values(rt: HostRuntime) -> Result<(), Fail> {
-    for line in VALUES.lines() {
-        check_row(&rt, rt.alloc(), line)?;
-    }
-    Ok(())
+    check_rows(&rt, rt.alloc(), VALUES)
 }

@@ -1,6 +1,6 @@
 //! Scripts that call built-in methods, as a table.
 
-use crate::table::check_row;
+use crate::table::check_rows;
 use std::test::Fail;
 
 /// As `RUN` of the rows: what it shows, the script, what it prints, and what is told of the exception that ends it.
@@ -64,8 +64,5 @@ a call with a block|3.times { ^pi^p puts i }^n|0^n1^n2^n|";
 
 #[test]
 fn calls_do_what_is_wanted(rt: HostRuntime) -> Result<(), Fail> {
-    for line in CALLS.lines() {
-        check_row(&rt, rt.alloc(), line)?;
-    }
-    Ok(())
+    check_rows(&rt, rt.alloc(), CALLS)
 }

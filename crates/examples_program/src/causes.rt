@@ -1,6 +1,6 @@
 //! Scripts that raise an exception while another one is rescued, as a table.
 
-use crate::table::check_row;
+use crate::table::check_rows;
 use std::test::Fail;
 
 /// As `RUN` of the rows: what it shows, the script, what it prints, and what is told of the exception that ends it.
@@ -26,8 +26,5 @@ a copy keeps the cause|begin; begin; raise \"a\"; rescue; raise TypeError.new(\"
 
 #[test]
 fn an_exception_gets_its_cause(rt: HostRuntime) -> Result<(), Fail> {
-    for line in CAUSES.lines() {
-        check_row(&rt, rt.alloc(), line)?;
-    }
-    Ok(())
+    check_rows(&rt, rt.alloc(), CAUSES)
 }

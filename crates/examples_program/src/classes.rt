@@ -1,6 +1,6 @@
 //! Methods of the program's classes, as a table of scripts.
 
-use crate::table::check_row;
+use crate::table::check_rows;
 use std::test::Fail;
 
 /// As `RUN` of the rows: what it shows, the script, what it prints, and what is told of the exception that ends it.
@@ -62,8 +62,5 @@ a method with ensure calls another|class A; def f; g; ensure; puts 1; end; def g
 
 #[test]
 fn methods_of_objects_print_what_is_wanted(rt: HostRuntime) -> Result<(), Fail> {
-    for line in ROWS.lines() {
-        check_row(&rt, rt.alloc(), line)?;
-    }
-    Ok(())
+    check_rows(&rt, rt.alloc(), ROWS)
 }

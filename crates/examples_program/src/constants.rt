@@ -1,6 +1,6 @@
 //! Constants, as a table of scripts.
 
-use crate::table::check_row;
+use crate::table::check_rows;
 use std::test::Fail;
 
 /// As `RUN` of the rows: what it shows, the script, what it prints, and what is told of the exception that ends it.
@@ -37,8 +37,5 @@ many of them|A = 1; B = 2; C = 3; D = 4; p A + B + C + D^n|10^n|";
 
 #[test]
 fn constants_print_what_is_wanted(rt: HostRuntime) -> Result<(), Fail> {
-    for line in CONSTANTS.lines() {
-        check_row(&rt, rt.alloc(), line)?;
-    }
-    Ok(())
+    check_rows(&rt, rt.alloc(), CONSTANTS)
 }

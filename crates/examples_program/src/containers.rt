@@ -1,8 +1,8 @@
 //! Scripts with arrays, and what `puts`, `p` and `print` write of any value, as a table.
 
-use crate::run::{repeated, run_script, text_of};
-use crate::table::check_row;
-use rr_eval::Outcome;
+use crate::endings::check_done;
+use crate::run::repeated;
+use crate::table::check_rows;
 use std::test::Fail;
 
 /// As `RUN` of the rows: what it shows, the script, what it prints, and what is told of the exception that ends it.
@@ -70,10 +70,7 @@ a copy of an array|a = [1, [2]]; b = a.dup; b << 3; b[1] << 4; p a, b, b.frozen?
 
 #[test]
 fn containers_are_written(rt: HostRuntime) -> Result<(), Fail> {
-    for line in CONTAINERS.lines() {
-        check_row(&rt, rt.alloc(), line)?;
-    }
-    Ok(())
+    check_rows(&rt, rt.alloc(), CONTAINERS)
 }
 
 /// A thousand elements, by a loop and by a literal.
@@ -81,17 +78,9 @@ fn containers_are_written(rt: HostRuntime) -> Result<(), Fail> {
 fn a_large_array(rt: HostRuntime) -> Result<(), Fail> {
     let looped =
         b"a = []; i = 0; while i < 1000 do a << i; i = i + 1 end; puts a.size, a[999], a.sum\n";
-    let left = run_script(rt.alloc(), looped.as_slice());
-    assert_eq!(rt; text_of(left.printed.as_slice()), "1000\n999\n499500\n");
-    let literal = repeated(
-        rt.alloc(),
-        b"a = [".as_slice(),
-        b"7, ".as_slice(),
-        1000,
-        b"]; puts a.size, a[999], a.sum\n".as_slice(),
-    )?;
-    let left = run_script(rt.alloc(), literal.as_slice());
-    assert_eq!(rt; text_of(left.printed.as_slice()), "1000\n7\n7000\n");
-    assert!(rt; matches!(left.ended, Ok(Outcome::Done)), "a large literal");
+    check_done(&rt, rt.alloc(), looped, "1000\n999\n499500\n");
+    let shown = b"]; puts a.size, a[999], a.sum\n";
+    let literal = repeated(rt.alloc(), b"a = [", b"7, ", 1000, shown)?;
+    check_done(&rt, rt.alloc(), literal.as_slice(), "1000\n7\n7000\n");
     Ok(())
 }

@@ -1,6 +1,6 @@
 //! `self` and instance variables, as a table of scripts.
 
-use crate::table::check_row;
+use crate::table::check_rows;
 use std::test::Fail;
 
 /// As `RUN` of the rows: what it shows, the script, what it prints, and what is told of the exception that ends it.
@@ -30,8 +30,5 @@ self among values|p self == self, [self].include?(self)^n|true^ntrue^n|";
 
 #[test]
 fn fields_print_what_is_wanted(rt: HostRuntime) -> Result<(), Fail> {
-    for line in FIELDS.lines() {
-        check_row(&rt, rt.alloc(), line)?;
-    }
-    Ok(())
+    check_rows(&rt, rt.alloc(), FIELDS)
 }

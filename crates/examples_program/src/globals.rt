@@ -1,6 +1,6 @@
 //! Global variables, as a table of scripts.
 
-use crate::table::check_row;
+use crate::table::check_rows;
 use std::test::Fail;
 
 /// As `RUN` of the rows: what it shows, the script, what it prints, and what is told of the exception that ends it.
@@ -37,8 +37,5 @@ many of them|$a = 1; $b = 2; $c = 3; $d = 4; $e = 5; p $e + $d + $c + $b + $a^n|
 
 #[test]
 fn globals_print_what_is_wanted(rt: HostRuntime) -> Result<(), Fail> {
-    for line in GLOBALS.lines() {
-        check_row(&rt, rt.alloc(), line)?;
-    }
-    Ok(())
+    check_rows(&rt, rt.alloc(), GLOBALS)
 }

@@ -1,6 +1,6 @@
 //! Scripts with `each` of hashes, as a table.
 
-use crate::table::check_row;
+use crate::table::check_rows;
 use std::test::Fail;
 
 /// As `RUN` of the rows: what it shows, the script, what it prints, and what is told of the exception that ends it.
@@ -37,8 +37,5 @@ each of a frozen hash|h = {a: 1}.freeze; h.each { ^pk, v^p p k, v }^n|:a^n1^n|";
 
 #[test]
 fn each_of_hashes_prints_what_is_wanted(rt: HostRuntime) -> Result<(), Fail> {
-    for line in HASH_EACH.lines() {
-        check_row(&rt, rt.alloc(), line)?;
-    }
-    Ok(())
+    check_rows(&rt, rt.alloc(), HASH_EACH)
 }

@@ -1,6 +1,6 @@
 //! Scripts with `each` of hashes whose block has one parameter, as a table.
 
-use crate::table::check_row;
+use crate::table::check_rows;
 use std::test::Fail;
 
 /// As `RUN` of the rows: what it shows, the script, what it prints, and what is told of the exception that ends it.
@@ -26,8 +26,5 @@ frozen keys|{\"a\" => 1}.each { ^px^p p x[0].frozen?, x.frozen? }^n|true^nfalse^
 
 #[test]
 fn each_of_hashes_gives_pairs(rt: HostRuntime) -> Result<(), Fail> {
-    for line in HASH_PAIRS.lines() {
-        check_row(&rt, rt.alloc(), line)?;
-    }
-    Ok(())
+    check_rows(&rt, rt.alloc(), HASH_PAIRS)
 }

@@ -1,9 +1,8 @@
 //! Scripts with hashes, as a table.
 
-use crate::run::{repeated, run_script, run_within, text_of};
-use crate::table::check_row;
-use rr_base::{Fault, LimitKind, Limits};
-use rr_eval::Outcome;
+use crate::endings::{check_done, check_steps, check_within, of_slots};
+use crate::run::repeated;
+use crate::table::check_rows;
 use std::test::Fail;
 
 /// As `RUN` of the rows: what it shows, the script, what it prints, and what is told of the exception that ends it.
@@ -66,83 +65,36 @@ a wrong key among pairs|def f(h)^n  puts 1^nend^nf(a: 1, [] => 2)^n||wrong type 
 
 #[test]
 fn hashes_are_made(rt: HostRuntime) -> Result<(), Fail> {
-    for line in HASHES.lines() {
-        check_row(&rt, rt.alloc(), line)?;
-    }
-    Ok(())
+    check_rows(&rt, rt.alloc(), HASHES)
 }
 
 #[test]
 fn pairs_without_braces_are_a_hash(rt: HostRuntime) -> Result<(), Fail> {
-    for line in PAIRS.lines() {
-        check_row(&rt, rt.alloc(), line)?;
-    }
-    Ok(())
+    check_rows(&rt, rt.alloc(), PAIRS)
 }
 
 /// A thousand pairs, by a loop and by a literal.
 #[test]
 fn a_large_hash(rt: HostRuntime) -> Result<(), Fail> {
     let looped = b"h = {}; i = 0; while i < 1000 do h[i] = i; i = i + 1 end; puts h.size, h[999]\n";
-    let left = run_script(rt.alloc(), looped.as_slice());
-    assert_eq!(rt; text_of(left.printed.as_slice()), "1000\n999\n");
-    let literal = repeated(
-        rt.alloc(),
-        b"h = {".as_slice(),
-        b"7 => 8, ".as_slice(),
-        1000,
-        b"}; p h\n".as_slice(),
-    )?;
-    let left = run_script(rt.alloc(), literal.as_slice());
-    assert_eq!(rt; text_of(left.printed.as_slice()), "{7 => 8}\n");
-    assert!(rt; matches!(left.ended, Ok(Outcome::Done)), "a large literal");
+    check_done(&rt, rt.alloc(), looped, "1000\n999\n");
+    let literal = repeated(rt.alloc(), b"h = {", b"7 => 8, ", 1000, b"}; p h\n")?;
+    check_done(&rt, rt.alloc(), literal.as_slice(), "{7 => 8}\n");
     Ok(())
 }
 
 // The script, its statement, the hash, and two keys and values: seven evaluations.
 #[test]
-fn each_key_and_each_value_is_a_step(rt: HostRuntime) -> Result<(), Fail> {
-    for (steps, ends) in [(7, true), (6, false)] {
-        let limits = Limits {
-            steps,
-            ..Limits::DEFAULT
-        };
-        let left = run_within(rt.alloc(), limits, b"h = {a: 1, b: 2}\n");
-        assert_eq!(rt; matches!(left.ended, Ok(Outcome::Done)), ends);
-        assert_eq!(rt; matches!(left.ended, Ok(Outcome::StepLimit)), !ends);
-    }
-    Ok(())
+fn each_key_and_each_value_is_a_step(rt: HostRuntime) {
+    check_steps(&rt, rt.alloc(), b"h = {a: 1, b: 2}\n", 7);
 }
 
 // `self`, the objects of the global variables and of what is published, the hash, and for each of its two keys the text and its frozen copy.
 #[test]
-fn a_hash_at_the_limit_of_slots(rt: HostRuntime) -> Result<(), Fail> {
+fn a_hash_at_the_limit_of_slots(rt: HostRuntime) {
     let script = b"h = {\"a\" => 1, \"b\" => 2}; p h.size\n";
-    for (slots, ends) in [
-        (8, true),
-        (7, false),
-        (6, false),
-        (5, false),
-        (4, false),
-        (2, false),
-        (1, false),
-        (0, false),
-    ] {
-        let limits = Limits {
-            slots,
-            ..Limits::DEFAULT
-        };
-        let left = run_within(rt.alloc(), limits, script);
-        let stopped = matches!(
-            left.ended,
-            Ok(Outcome::Stopped(Fault::Limit(LimitKind::Slots)))
-        );
-        assert_eq!(rt; matches!(left.ended, Ok(Outcome::Done)), ends);
-        assert_eq!(rt; stopped, !ends);
-        assert_eq!(rt;
-            text_of(left.printed.as_slice()),
-            if ends { "2\n" } else { "" }
-        );
+    check_within(&rt, rt.alloc(), of_slots(8), script, "2\n", "done");
+    for slots in 0..8 {
+        check_within(&rt, rt.alloc(), of_slots(slots), script, "", "out of slots");
     }
-    Ok(())
 }

@@ -1,6 +1,6 @@
 //! Texts with parts that are evaluated, as a table of scripts.
 
-use crate::table::check_row;
+use crate::table::check_rows;
 use std::test::Fail;
 
 /// As `RUN` of the rows: what it shows, the script, what it prints, and what is told of the exception that ends it.
@@ -50,8 +50,5 @@ a text behind an integer|p 1 + \"#{2}\"^n||wrong type String (TypeError)";
 
 #[test]
 fn interpolations_make_texts(rt: HostRuntime) -> Result<(), Fail> {
-    for line in INTERPOLATIONS.lines() {
-        check_row(&rt, rt.alloc(), line)?;
-    }
-    Ok(())
+    check_rows(&rt, rt.alloc(), INTERPOLATIONS)
 }

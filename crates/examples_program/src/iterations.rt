@@ -1,9 +1,7 @@
 //! Scripts with iterations, as a table.
 
-use crate::run::run_within;
-use crate::table::check_row;
-use rr_base::Limits;
-use rr_eval::Outcome;
+use crate::endings::{check_steps, check_within, of_steps};
+use crate::table::check_rows;
 use std::test::Fail;
 
 /// As `RUN` of the rows: what it shows, the script, what it prints, and what is told of the exception that ends it.
@@ -125,43 +123,30 @@ each with an argument|[1].each(2) { }^n||wrong number of arguments (given 1, exp
 
 #[test]
 fn iterations_call_their_blocks(rt: HostRuntime) -> Result<(), Fail> {
-    for line in ITERATIONS.lines() {
-        check_row(&rt, rt.alloc(), line)?;
-    }
-    Ok(())
+    check_rows(&rt, rt.alloc(), ITERATIONS)
 }
 
 #[test]
 fn iterations_visit_elements(rt: HostRuntime) -> Result<(), Fail> {
-    for line in ELEMENTS.lines() {
-        check_row(&rt, rt.alloc(), line)?;
-    }
-    Ok(())
+    check_rows(&rt, rt.alloc(), ELEMENTS)
 }
 
 // The list of statements, the call with its block, and the integer are evaluated once, and each turn has the call of the block, its
 // list, and the value in it.
 #[test]
-fn a_turn_of_an_iteration_is_a_step(rt: HostRuntime) -> Result<(), Fail> {
-    for steps in 1..12 {
-        let limits = Limits {
-            steps,
-            ..Limits::DEFAULT
-        };
-        let left = run_within(rt.alloc(), limits, b"2.times { 1 }\n");
-        assert_eq!(rt; matches!(left.ended, Ok(Outcome::Done)), steps >= 9);
-    }
-    Ok(())
+fn a_turn_of_an_iteration_is_a_step(rt: HostRuntime) {
+    check_steps(&rt, rt.alloc(), b"2.times { 1 }\n", 9);
 }
 
 #[test]
-fn a_loop_without_an_end_spends_its_steps(rt: HostRuntime) -> Result<(), Fail> {
-    let limits = Limits {
-        steps: 1_000,
-        ..Limits::DEFAULT
-    };
-    let left = run_within(rt.alloc(), limits, b"puts 1\nloop { }\nputs 2\n");
-    assert!(rt; matches!(left.ended, Ok(Outcome::StepLimit)));
-    assert_eq!(rt; left.printed.as_slice(), b"1\n".as_slice());
-    Ok(())
+fn a_loop_without_an_end_spends_its_steps(rt: HostRuntime) {
+    let script = b"puts 1\nloop { }\nputs 2\n";
+    check_within(
+        &rt,
+        rt.alloc(),
+        of_steps(1_000),
+        script,
+        "1\n",
+        "out of steps",
+    );
 }

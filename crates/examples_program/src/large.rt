@@ -1,16 +1,14 @@
 //! Large scripts and large texts.
 
-use crate::run::{repeated, run_script, run_within, text_of};
-use rr_base::{Fault, LimitKind, Limits};
-use rr_eval::Outcome;
+use crate::endings::{check_done, check_within, of_slots};
+use crate::run::{repeated, text_of};
 use std::alloc::Global;
 use std::test::Fail;
 
 #[test]
 fn a_long_chain(rt: HostRuntime) -> Result<(), Fail> {
     let chain = repeated(rt.alloc(), b"puts 1", b" + 1", 100_000, b"\n")?;
-    let left = run_script(rt.alloc(), chain.as_slice());
-    assert_eq!(rt; text_of(left.printed.as_slice()), "100001\n");
+    check_done(&rt, rt.alloc(), chain.as_slice(), "100001\n");
     Ok(())
 }
 
@@ -18,9 +16,12 @@ fn a_long_chain(rt: HostRuntime) -> Result<(), Fail> {
 fn a_text_over_64_kib(rt: HostRuntime) -> Result<(), Fail> {
     let script = repeated(rt.alloc(), b"puts \"", b"abcdefg", 10_000, b"\"\n")?;
     let wanted = repeated(rt.alloc(), b"", b"abcdefg", 10_000, b"\n")?;
-    let left = run_script(rt.alloc(), script.as_slice());
-    assert!(rt; matches!(left.ended, Ok(Outcome::Done)));
-    assert!(rt; left.printed.as_slice() == wanted.as_slice());
+    check_done(
+        &rt,
+        rt.alloc(),
+        script.as_slice(),
+        text_of(wanted.as_slice()),
+    );
     Ok(())
 }
 
@@ -28,29 +29,33 @@ fn a_text_over_64_kib(rt: HostRuntime) -> Result<(), Fail> {
 fn a_joined_text_over_64_kib(rt: HostRuntime) -> Result<(), Fail> {
     let script = repeated(rt.alloc(), b"a = \"x\"\n", b"a = a + a\n", 17, b"puts a\n")?;
     let wanted = repeated(rt.alloc(), b"", b"x", 131_072, b"\n")?;
-    let left = run_script(rt.alloc(), script.as_slice());
-    assert!(rt; matches!(left.ended, Ok(Outcome::Done)));
-    assert!(rt; left.printed.as_slice() == wanted.as_slice());
+    check_done(
+        &rt,
+        rt.alloc(),
+        script.as_slice(),
+        text_of(wanted.as_slice()),
+    );
     Ok(())
 }
 
 #[test]
 fn more_than_1_000_objects(rt: HostRuntime) -> Result<(), Fail> {
     let script = repeated(rt.alloc(), b"", b"puts \"o\"\n", 1_100, b"")?;
-    let wanted = repeated(rt.alloc(), b"", b"o\n", 1_100, b"")?;
-    for (slots, lines) in [(1_103, 1_100), (1_102, 1_099), (1_000, 997)] {
-        let limits = Limits {
-            slots,
-            ..Limits::DEFAULT
-        };
-        let left = run_within(rt.alloc(), limits, script.as_slice());
-        let full = matches!(
-            left.ended,
-            Ok(Outcome::Stopped(Fault::Limit(LimitKind::Slots)))
+    for (slots, lines, ended) in [
+        (1_103, 1_100, "done"),
+        (1_102, 1_099, "out of slots"),
+        (1_000, 997, "out of slots"),
+    ] {
+        let wanted = repeated(rt.alloc(), b"", b"o\n", lines, b"")?;
+        let printed = text_of(wanted.as_slice());
+        check_within(
+            &rt,
+            rt.alloc(),
+            of_slots(slots),
+            script.as_slice(),
+            printed,
+            ended,
         );
-        assert_eq!(rt; full, slots < 1_103, "{slots} slots");
-        assert!(rt; wanted.as_slice().starts_with(left.printed.as_slice()));
-        assert_eq!(rt; left.printed.len(), 2 * lines, "{slots} slots");
     }
     Ok(())
 }
@@ -59,10 +64,7 @@ fn more_than_1_000_objects(rt: HostRuntime) -> Result<(), Fail> {
 fn a_literal_past_1_mib(rt: HostRuntime) -> Result<(), Fail> {
     let comment = b"# fifteen bytes\n";
     let script = repeated(rt.alloc(), b"", comment, 70_000, b"puts \"past\", 'it'\n")?;
-    assert!(rt; script.len() > 1_048_576);
-    let left = run_script(rt.alloc(), script.as_slice());
-    assert!(rt; matches!(left.ended, Ok(Outcome::Done)));
-    assert_eq!(rt; text_of(left.printed.as_slice()), "past\nit\n");
+    check_done(&rt, rt.alloc(), script.as_slice(), "past\nit\n");
     Ok(())
 }
 
@@ -80,11 +82,7 @@ fn names(alloc: Global, count: u32) -> Result<Vec<u8>, Fail> {
 #[test]
 fn more_than_255_names_and_texts(rt: HostRuntime) -> Result<(), Fail> {
     let script = names(rt.alloc(), 300)?;
-    let left = run_script(rt.alloc(), script.as_slice());
-    assert!(rt; matches!(left.ended, Ok(Outcome::Done)));
-    assert_eq!(rt;
-        text_of(left.printed.as_slice()),
-        "t0\nt254\nt255\nt256\nt257\nt299\ntrue\n"
-    );
+    let wanted = "t0\nt254\nt255\nt256\nt257\nt299\ntrue\n";
+    check_done(&rt, rt.alloc(), script.as_slice(), wanted);
     Ok(())
 }

@@ -26,6 +26,8 @@ mod constants;
 #[cfg(test)]
 mod containers;
 #[cfg(test)]
+mod endings;
+#[cfg(test)]
 mod fields;
 #[cfg(test)]
 mod globals;

@@ -1,9 +1,7 @@
 //! Scripts with loops that are left, as a table.
 
-use crate::run::run_within;
-use crate::table::check_row;
-use rr_base::Limits;
-use rr_eval::Outcome;
+use crate::endings::{check_steps, check_within, of_steps};
+use crate::table::check_rows;
 use std::test::Fail;
 
 /// As `RUN` of the rows: what it shows, the script, what it prints, and what is told of the exception that ends it.
@@ -51,35 +49,18 @@ statements behind a break|while true; puts 1; break; puts 2; end; puts 3^n|1^n3^
 
 #[test]
 fn loops_are_left(rt: HostRuntime) -> Result<(), Fail> {
-    for line in LOOPS.lines() {
-        check_row(&rt, rt.alloc(), line)?;
-    }
-    Ok(())
+    check_rows(&rt, rt.alloc(), LOOPS)
 }
 
 // The script, the loop, its condition, its statements, `break`, and its nil.
 #[test]
-fn a_break_and_its_value_are_steps(rt: HostRuntime) -> Result<(), Fail> {
-    for (steps, ends) in [(6, true), (5, false)] {
-        let limits = Limits {
-            steps,
-            ..Limits::DEFAULT
-        };
-        let left = run_within(rt.alloc(), limits, b"while true; break; end\n");
-        assert_eq!(rt; matches!(left.ended, Ok(Outcome::Done)), ends);
-        assert_eq!(rt; matches!(left.ended, Ok(Outcome::StepLimit)), !ends);
-    }
-    Ok(())
+fn a_break_and_its_value_are_steps(rt: HostRuntime) {
+    check_steps(&rt, rt.alloc(), b"while true; break; end\n", 6);
 }
 
 // Each turn spends steps, so that a loop whose condition is always left ends at the limit.
 #[test]
-fn a_condition_that_is_left_spends_steps(rt: HostRuntime) -> Result<(), Fail> {
-    let limits = Limits {
-        steps: 1_000,
-        ..Limits::DEFAULT
-    };
-    let left = run_within(rt.alloc(), limits, b"while (next); end\n");
-    assert!(rt; matches!(left.ended, Ok(Outcome::StepLimit)));
-    Ok(())
+fn a_condition_that_is_left_spends_steps(rt: HostRuntime) {
+    let script = b"while (next); end\n";
+    check_within(&rt, rt.alloc(), of_steps(1_000), script, "", "out of steps");
 }

@@ -1,10 +1,9 @@
 //! Scripts with methods of their own, as a table.
 
-use crate::run::{run_script, run_within, text_of};
-use crate::table::check_row;
+use crate::endings::{check_steps, check_within};
+use crate::table::check_rows;
 use rr_base::Limits;
-use rr_eval::Outcome;
-use std::alloc::Global;
+use std::alloc::{AllocError, Global};
 use std::process::Abort;
 use std::test::Fail;
 
@@ -67,60 +66,45 @@ what decides is not called|def f(a); print a; a; end^np (f(false) && f(1)), (f(3
 
 #[test]
 fn methods_do_what_is_wanted(rt: HostRuntime) -> Result<(), Fail> {
-    for line in METHODS.lines() {
-        check_row(&rt, rt.alloc(), line)?;
-    }
-    Ok(())
+    check_rows(&rt, rt.alloc(), METHODS)
 }
 
 // The method calls itself as many times as its argument says, beside the first call.
-fn check_depth(rt: &impl Abort, alloc: Global, last: u32, fits: bool) -> Result<(), Fail> {
+fn check_depth(rt: &impl Abort, alloc: Global, last: u32, ended: &str) -> Result<(), AllocError> {
     let script = format!(in alloc; "def f(n); n == 0 ? 0 : 1 + f(n - 1); end\nputs f({last})\n")?;
-    let left = run_script(alloc, script.as_bytes());
-    assert_eq!(rt; matches!(left.ended, Ok(Outcome::Done)), fits);
-    assert_eq!(rt; matches!(left.ended, Ok(Outcome::Raised(_))), !fits);
     let printed = format!(in alloc; "{last}\n")?;
-    assert_eq!(rt;
-        text_of(left.printed.as_slice()),
-        if fits { printed.as_str() } else { "" }
-    );
+    let wanted = if ended == "done" {
+        printed.as_str()
+    } else {
+        ""
+    };
+    check_within(rt, alloc, Limits::DEFAULT, script.as_bytes(), wanted, ended);
     Ok(())
 }
 
 // A frame is one active call of a method. There may be 10,000.
 #[test]
 fn ten_thousand_calls_may_be_active(rt: HostRuntime) -> Result<(), Fail> {
-    check_depth(&rt, rt.alloc(), 9_998, true)?;
-    check_depth(&rt, rt.alloc(), 9_999, true)?;
-    check_depth(&rt, rt.alloc(), 10_000, false)
+    check_depth(&rt, rt.alloc(), 9_998, "done")?;
+    check_depth(&rt, rt.alloc(), 9_999, "done")?;
+    check_depth(&rt, rt.alloc(), 10_000, "raised")?;
+    Ok(())
 }
 
 #[test]
-fn as_many_calls_as_the_limit_says(rt: HostRuntime) -> Result<(), Fail> {
+fn as_many_calls_as_the_limit_says(rt: HostRuntime) {
     let script = b"def f(n); n == 0 ? 0 : f(n - 1); end\nf(2)\n";
-    for (frames, fits) in [(0, false), (2, false), (3, true)] {
+    for (frames, ended) in [(0, "raised"), (2, "raised"), (3, "done")] {
         let limits = Limits {
             frames,
             ..Limits::DEFAULT
         };
-        let left = run_within(rt.alloc(), limits, script);
-        assert_eq!(rt; matches!(left.ended, Ok(Outcome::Done)), fits);
-        assert_eq!(rt; matches!(left.ended, Ok(Outcome::Raised(_))), !fits);
+        check_within(&rt, rt.alloc(), limits, script, "", ended);
     }
-    Ok(())
 }
 
 // The call, its argument, and the body with its one statement; the script and its statement.
 #[test]
-fn each_part_of_a_call_is_a_step(rt: HostRuntime) -> Result<(), Fail> {
-    for (steps, ends) in [(5, true), (4, false)] {
-        let limits = Limits {
-            steps,
-            ..Limits::DEFAULT
-        };
-        let left = run_within(rt.alloc(), limits, b"def f(a); a; end\nf(1)\n");
-        assert_eq!(rt; matches!(left.ended, Ok(Outcome::Done)), ends);
-        assert_eq!(rt; matches!(left.ended, Ok(Outcome::StepLimit)), !ends);
-    }
-    Ok(())
+fn each_part_of_a_call_is_a_step(rt: HostRuntime) {
+    check_steps(&rt, rt.alloc(), b"def f(a); a; end\nf(1)\n", 5);
 }

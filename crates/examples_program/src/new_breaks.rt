@@ -1,6 +1,6 @@
 //! Scripts that leave `new` out of its block, as a table.
 
-use crate::table::check_row;
+use crate::table::check_rows;
 use std::test::Fail;
 
 /// As `RUN` of the rows: what it shows, the script, what it prints, and what is told of the exception that ends it.
@@ -25,8 +25,5 @@ break out of a block that is passed on twice|class A; def f; yield; puts 1; end;
 
 #[test]
 fn breaks_end_new(rt: HostRuntime) -> Result<(), Fail> {
-    for line in NEW_BREAKS.lines() {
-        check_row(&rt, rt.alloc(), line)?;
-    }
-    Ok(())
+    check_rows(&rt, rt.alloc(), NEW_BREAKS)
 }

@@ -1,6 +1,6 @@
 //! New objects, and their `initialize`, as a table of scripts.
 
-use crate::table::check_row;
+use crate::table::check_rows;
 use std::test::Fail;
 
 /// As `RUN` of the rows: what it shows, the script, what it prints, and what is told of the exception that ends it.
@@ -29,8 +29,5 @@ new in initialize|class B; def initialize(x); @x = x; end; def x; @x; end; end; 
 
 #[test]
 fn new_objects_print_what_is_wanted(rt: HostRuntime) -> Result<(), Fail> {
-    for line in ROWS.lines() {
-        check_row(&rt, rt.alloc(), line)?;
-    }
-    Ok(())
+    check_rows(&rt, rt.alloc(), ROWS)
 }

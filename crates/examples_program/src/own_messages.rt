@@ -1,6 +1,6 @@
 //! Exceptions whose classes have a `message` or a `to_s` of the program, as a table of scripts.
 
-use crate::table::check_row;
+use crate::table::check_rows;
 use std::test::Fail;
 
 /// As `RUN` of the rows: what it shows, the script, what it prints, and what is told of the exception that ends it.
@@ -16,8 +16,5 @@ an attribute named message|class E < StandardError; attr_reader :message; def in
 
 #[test]
 fn own_messages_are_called(rt: HostRuntime) -> Result<(), Fail> {
-    for line in MESSAGES.lines() {
-        check_row(&rt, rt.alloc(), line)?;
-    }
-    Ok(())
+    check_rows(&rt, rt.alloc(), MESSAGES)
 }

@@ -1,9 +1,8 @@
 //! Constants of shareable values, which are published, and shareable copies, as a table of scripts.
 
-use crate::run::{run_script, run_within, text_of};
-use crate::table::check_row;
+use crate::endings::{check_done, check_within};
+use crate::table::check_rows;
 use rr_base::Limits;
-use rr_eval::Outcome;
 use std::test::Fail;
 
 const PUBLISHING: &str =
@@ -50,40 +49,31 @@ a copy twice|a = [\"x\"]; b = Ractor.make_shareable(a, copy: true); c = Ractor.m
 
 #[test]
 fn publishing_prints_what_is_wanted(rt: HostRuntime) -> Result<(), Fail> {
-    for line in PUBLISHING.lines() {
-        check_row(&rt, rt.alloc(), line)?;
-    }
-    Ok(())
+    check_rows(&rt, rt.alloc(), PUBLISHING)
 }
 
 // A constant takes one event, and one more where its value is published first.
 #[test]
-fn a_full_history_is_told(rt: HostRuntime) -> Result<(), Fail> {
+fn a_full_history_is_told(rt: HostRuntime) {
     let script =
         b"begin; A = [1].freeze; B = 1; rescue Ractor::Error => e; puts e.message; end; puts 2\n";
-    for (events, wanted) in [
-        (0, "history full\n2\n"),
-        (1, "history full\n2\n"),
-        (2, "history full\n2\n"),
-        (3, "2\n"),
-    ] {
+    for events in 0..4 {
         let limits = Limits {
             events,
             ..Limits::DEFAULT
         };
-        let left = run_within(rt.alloc(), limits, script);
-        assert_eq!(rt; text_of(left.printed.as_slice()), wanted);
-        assert!(rt; matches!(left.ended, Ok(Outcome::Done)));
+        let wanted = if events < 3 {
+            "history full\n2\n"
+        } else {
+            "2\n"
+        };
+        check_within(&rt, rt.alloc(), limits, script, wanted, "done");
     }
-    Ok(())
 }
 
 #[test]
-fn many_objects_inside_one_another_are_published(rt: HostRuntime) -> Result<(), Fail> {
-    let script =
-        b"a = []; i = 1; while i < 100000; a = [a]; i = i + 1; end; Ractor.make_shareable(a); A = a; p A.size, A[0][0].frozen?\n";
-    let left = run_script(rt.alloc(), script);
-    assert_eq!(rt; text_of(left.printed.as_slice()), "1\ntrue\n");
-    assert!(rt; matches!(left.ended, Ok(Outcome::Done)));
-    Ok(())
+fn many_objects_inside_one_another_are_published(rt: HostRuntime) {
+    let script = b"a = []; i = 1; while i < 100000; a = [a]; i = i + 1; end
+Ractor.make_shareable(a); A = a; p A.size, A[0][0].frozen?\n";
+    check_done(&rt, rt.alloc(), script, "1\ntrue\n");
 }

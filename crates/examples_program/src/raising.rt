@@ -1,6 +1,6 @@
 //! Scripts that raise exceptions of their own, as a table.
 
-use crate::table::check_row;
+use crate::table::check_rows;
 use std::test::Fail;
 
 /// As `RUN` of the rows: what it shows, the script, what it prints, and what is told of the exception that ends it.
@@ -47,8 +47,5 @@ what follows is not evaluated|puts 1; raise \"a\"; puts 2^n|1^n|a (RuntimeError)
 
 #[test]
 fn exceptions_are_raised(rt: HostRuntime) -> Result<(), Fail> {
-    for line in RAISING.lines() {
-        check_row(&rt, rt.alloc(), line)?;
-    }
-    Ok(())
+    check_rows(&rt, rt.alloc(), RAISING)
 }

@@ -1,6 +1,6 @@
 //! `raise` of classes whose exceptions get the program's `initialize`, as a table of scripts.
 
-use crate::table::check_row;
+use crate::table::check_rows;
 use std::test::Fail;
 
 /// As `RUN` of the rows: what it shows, the script, what it prints, and what is told of the exception that ends it.
@@ -36,8 +36,5 @@ new objects are given still|class O; def initialize(x); @x = x; end; def x; @x; 
 
 #[test]
 fn exceptions_are_initialized(rt: HostRuntime) -> Result<(), Fail> {
-    for line in RAISED.lines() {
-        check_row(&rt, rt.alloc(), line)?;
-    }
-    Ok(())
+    check_rows(&rt, rt.alloc(), RAISED)
 }

@@ -1,9 +1,7 @@
 //! Scripts that rescue exceptions, as a table.
 
-use crate::run::run_within;
-use crate::table::check_row;
-use rr_base::Limits;
-use rr_eval::Outcome;
+use crate::endings::{check_within, of_steps};
+use crate::table::check_rows;
 use std::test::Fail;
 
 /// As `RUN` of the rows: what it shows, the script, what it prints, and what is told of the exception that ends it.
@@ -81,22 +79,12 @@ what is not evaluated yet is rescued|begin; Ractor[:a]; rescue => e; puts e.mess
 
 #[test]
 fn exceptions_are_rescued(rt: HostRuntime) -> Result<(), Fail> {
-    for line in RESCUING.lines() {
-        check_row(&rt, rt.alloc(), line)?;
-    }
-    Ok(())
+    check_rows(&rt, rt.alloc(), RESCUING)
 }
 
 // No clause and no `ensure` sees the limit.
 #[test]
-fn the_step_limit_is_not_rescued(rt: HostRuntime) -> Result<(), Fail> {
+fn the_step_limit_is_not_rescued(rt: HostRuntime) {
     let script = b"begin; while true; end; rescue Exception; puts 1; ensure; puts 2; end\n";
-    let limits = Limits {
-        steps: 1_000,
-        ..Limits::DEFAULT
-    };
-    let left = run_within(rt.alloc(), limits, script);
-    assert!(rt; matches!(left.ended, Ok(Outcome::StepLimit)));
-    assert_eq!(rt; left.printed.len(), 0);
-    Ok(())
+    check_within(&rt, rt.alloc(), of_steps(1_000), script, "", "out of steps");
 }

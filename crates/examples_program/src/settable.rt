@@ -1,6 +1,6 @@
 //! Assignments to global variables and constants that also read them, as a table of scripts.
 
-use crate::table::check_row;
+use crate::table::check_rows;
 use std::test::Fail;
 
 /// As `RUN` of the rows: what it shows, the script, what it prints, and what is told of the exception that ends it.
@@ -36,8 +36,5 @@ beside variables of the name|a = 1; @a = 2; $a = 3; A ^p^p= 4; a += 1; @a += 1; 
 
 #[test]
 fn settable_variables_print_what_is_wanted(rt: HostRuntime) -> Result<(), Fail> {
-    for line in SETTABLE.lines() {
-        check_row(&rt, rt.alloc(), line)?;
-    }
-    Ok(())
+    check_rows(&rt, rt.alloc(), SETTABLE)
 }

@@ -1,6 +1,6 @@
 //! Assignments to several targets, as a table of scripts.
 
-use crate::table::check_row;
+use crate::table::check_rows;
 use std::test::Fail;
 
 /// As `RUN` of the rows: what it shows, the script, what it prints, and what is told of the exception that ends it.
@@ -31,8 +31,5 @@ a splat among the values|a, b = [0, *[1, 2]]; p a, b^n|0^n1^n|";
 
 #[test]
 fn several_targets_print_what_is_wanted(rt: HostRuntime) -> Result<(), Fail> {
-    for line in SEVERAL.lines() {
-        check_row(&rt, rt.alloc(), line)?;
-    }
-    Ok(())
+    check_rows(&rt, rt.alloc(), SEVERAL)
 }

@@ -1,6 +1,6 @@
 //! What ractors may share, as a table of scripts.
 
-use crate::table::check_row;
+use crate::table::check_rows;
 use std::test::Fail;
 
 /// As `RUN` of the rows: what it shows, the script, what it prints, and what is told of the exception that ends it.
@@ -41,8 +41,5 @@ many objects inside one another|a = []; i = 1; while i < 100000; a = [a]; i = i 
 
 #[test]
 fn sharing_prints_what_is_wanted(rt: HostRuntime) -> Result<(), Fail> {
-    for line in SHARING.lines() {
-        check_row(&rt, rt.alloc(), line)?;
-    }
-    Ok(())
+    check_rows(&rt, rt.alloc(), SHARING)
 }

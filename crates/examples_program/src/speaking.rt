@@ -1,6 +1,6 @@
 //! A program's own `to_s` and `inspect`, as a table of scripts.
 
-use crate::table::check_row;
+use crate::table::check_rows;
 use std::test::Fail;
 
 /// As `RUN` of the rows: what it shows, the script, what it prints, and what is told of the exception that ends it.
@@ -47,8 +47,5 @@ many values|class A; def to_s; \"a\"; end; end; a = A.new; puts a, a, a, 1, a, a
 
 #[test]
 fn values_say_what_is_printed(rt: HostRuntime) -> Result<(), Fail> {
-    for line in SPEAKING.lines() {
-        check_row(&rt, rt.alloc(), line)?;
-    }
-    Ok(())
+    check_rows(&rt, rt.alloc(), SPEAKING)
 }

@@ -1,6 +1,6 @@
 //! Splats, as a table of scripts.
 
-use crate::table::check_row;
+use crate::table::check_rows;
 use std::test::Fail;
 
 /// As `RUN` of the rows: what it shows, the script, what it prints, and what is told of the exception that ends it.
@@ -44,8 +44,5 @@ a splat that leaves the loop|while true; x = [1, *(break)]; end; p x^n|nil^n|";
 
 #[test]
 fn splats_print_what_is_wanted(rt: HostRuntime) -> Result<(), Fail> {
-    for line in SPLATS.lines() {
-        check_row(&rt, rt.alloc(), line)?;
-    }
-    Ok(())
+    check_rows(&rt, rt.alloc(), SPLATS)
 }

@@ -1,6 +1,6 @@
 //! `Ractor.new` and the other methods of Ractor in a script on its own, as a table of scripts.
 
-use crate::table::check_row;
+use crate::table::check_rows;
 use std::test::Fail;
 
 /// As `RUN` of the rows: what it shows, the script, what it prints, and what is told of the exception that ends it.
@@ -45,8 +45,5 @@ many outer names|a = 1; b = 1; c = 1; d = 1; e = 1; f = 1; begin; Ractor.new { f
 
 #[test]
 fn starting_prints_what_is_wanted(rt: HostRuntime) -> Result<(), Fail> {
-    for line in STARTING.lines() {
-        check_row(&rt, rt.alloc(), line)?;
-    }
-    Ok(())
+    check_rows(&rt, rt.alloc(), STARTING)
 }

@@ -63,7 +63,7 @@ fn check_left(rt: &impl Abort, name: &str, left: &Ran, wanted: &[u8], told: &str
 }
 
 /// The row's script does what the row says, in turns of one step, of a few and of many.
-pub fn check_row(rt: &impl Abort, alloc: Global, line: &str) -> Result<(), Fail> {
+fn check_row(rt: &impl Abort, alloc: Global, line: &str) -> Result<(), Fail> {
     let (name, script, rest) = script_of(alloc, line)?;
     let (output, told) = rest.split_once("|").ok_or("a row without an ending")?;
     let wanted = field(alloc, output)?;
@@ -74,12 +74,17 @@ pub fn check_row(rt: &impl Abort, alloc: Global, line: &str) -> Result<(), Fail>
     Ok(())
 }
 
-#[test]
-fn scripts_print_what_is_wanted(rt: HostRuntime) -> Result<(), Fail> {
-    for line in RUN.lines() {
-        check_row(&rt, rt.alloc(), line)?;
+/// Each row of a table does what it says.
+pub fn check_rows(rt: &impl Abort, alloc: Global, table: &str) -> Result<(), Fail> {
+    for line in table.lines() {
+        check_row(rt, alloc, line)?;
     }
     Ok(())
+}
+
+#[test]
+fn scripts_print_what_is_wanted(rt: HostRuntime) -> Result<(), Fail> {
+    check_rows(&rt, rt.alloc(), RUN)
 }
 
 fn check_refused(rt: &impl Abort, alloc: Global, row: &str) -> Result<(), Fail> {

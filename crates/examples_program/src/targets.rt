@@ -1,6 +1,6 @@
 //! Assignments to several targets of each kind, as a table of scripts.
 
-use crate::table::check_row;
+use crate::table::check_rows;
 use std::test::Fail;
 
 /// As `RUN` of the rows: what it shows, the script, what it prints, and what is told of the exception that ends it.
@@ -50,8 +50,5 @@ a splat among the values|a = []; a[0], a[1] = [0, *[1, 2]]; p a^n|[0, 1]^n|";
 
 #[test]
 fn targets_print_what_is_wanted(rt: HostRuntime) -> Result<(), Fail> {
-    for line in TARGETS.lines() {
-        check_row(&rt, rt.alloc(), line)?;
-    }
-    Ok(())
+    check_rows(&rt, rt.alloc(), TARGETS)
 }

@@ -1,6 +1,6 @@
 //! Assignments that also read what they assign to, as tables of scripts.
 
-use crate::table::check_row;
+use crate::table::check_rows;
 use std::test::Fail;
 
 /// As `RUN` of the rows: what it shows, the script, what it prints, and what is told of the exception that ends it.
@@ -49,8 +49,5 @@ in a text and in arguments|h = {}; puts \"#{h[:a] ^p^p= 1} #{h[:a] += 1}\", h[:a
 
 #[test]
 fn assignments_that_read_print_what_is_wanted(rt: HostRuntime) -> Result<(), Fail> {
-    for line in UPDATES.lines() {
-        check_row(&rt, rt.alloc(), line)?;
-    }
-    Ok(())
+    check_rows(&rt, rt.alloc(), UPDATES)
 }

@@ -1,6 +1,6 @@
 //! Parts that are evaluated at once, as a table of scripts.
 
-use crate::table::check_row;
+use crate::table::check_rows;
 use std::test::Fail;
 
 /// As `RUN` of the rows: what it shows, the script, what it prints, and what is told of the exception that ends it.
@@ -25,8 +25,5 @@ a return of an operator|def f(a); return a * 2; p 1; end; p f(4)^n|8^n|";
 
 #[test]
 fn parts_at_once_print_what_is_wanted(rt: HostRuntime) -> Result<(), Fail> {
-    for line in USUAL.lines() {
-        check_row(&rt, rt.alloc(), line)?;
-    }
-    Ok(())
+    check_rows(&rt, rt.alloc(), USUAL)
 }

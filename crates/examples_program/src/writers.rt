@@ -1,7 +1,8 @@
 //! Writers that fail, that take a byte at a time, and that count their calls.
 
+use crate::endings::ending;
 use crate::run::text_of;
-use rr_eval::{Counted, Outcome, run_source};
+use rr_eval::{Counted, run_source};
 use std::alloc::Global;
 use std::io;
 use std::process::Abort;
@@ -49,7 +50,7 @@ const SCRIPT: &[u8] = b"puts 1, 2; puts 12";
 
 const PRINTED: &[u8] = b"1\n2\n12\n";
 
-/// Runs the script on a writer of this width that fails at a call; `wanted` bytes have to be there, after `calls` calls.
+/// Runs the script on a writer of this width that fails at a call: `wanted` bytes have to be there.
 fn check_failing(
     rt: &impl Abort,
     alloc: Global,
@@ -67,37 +68,23 @@ fn check_failing(
     });
     let ended = run_source(alloc, SCRIPT, &mut output);
     let fails = wanted < PRINTED.len();
-    assert_eq!(rt;
-        matches!(ended, Ok(Outcome::OutputFailed)),
-        fails,
-        "width {width}, failing at {fails_at}"
-    );
-    assert_eq!(rt;
-        matches!(ended, Ok(Outcome::Done)),
-        !fails,
-        "width {width}, failing at {fails_at}"
-    );
+    let told = if fails { "output failed" } else { "done" };
+    let place = (width, fails_at);
+    assert_eq!(rt; ending(&ended), told, "width and failing call {place:?}");
     assert_eq!(rt;
         output.failed_writes(),
         u64::from(fails),
-        "width {width}, failing at {fails_at}"
+        "width and failing call {place:?}"
     );
     let writer = output.into_inner();
     assert_eq!(rt;
         writer.held.len(),
         wanted,
-        "width {width}, failing at {fails_at}"
+        "width and failing call {place:?}"
     );
-    assert!(rt;
-        PRINTED.starts_with(writer.held.as_slice()),
-        "width {width}, failing at {fails_at}"
-    );
+    assert!(rt; PRINTED.starts_with(writer.held.as_slice()));
     if fails {
-        assert_eq!(rt;
-            writer.calls,
-            fails_at,
-            "width {width}, failing at {fails_at}"
-        );
+        assert_eq!(rt; writer.calls, fails_at, "width and failing call {place:?}");
     }
 }
 
@@ -139,7 +126,7 @@ fn each_puts_is_one_write(rt: HostRuntime) -> Result<(), Fail> {
     });
     let script = b"puts 1, \"two\", nil\nputs\nputs \"a\" + \"b\\n\"\nputs()\nputs (puts 3)\n";
     let ended = run_source(rt.alloc(), script, &mut output);
-    assert!(rt; matches!(ended, Ok(Outcome::Done)));
+    assert_eq!(rt; ending(&ended), "done");
     assert_eq!(rt;
         text_of(output.into_inner().held.as_slice()),
         ">1\ntwo\n\n>\n>ab\n>\n>3\n>\n"
@@ -153,12 +140,8 @@ fn whole_writes_are_no_failures(rt: HostRuntime) -> Result<(), Fail> {
     assert!(rt; output.has_room());
     assert!(rt; output.put(b"first"));
     assert!(rt; output.put(b""));
-    assert!(rt;
-        matches!(
-            run_source(rt.alloc(), b"puts 1", &mut output),
-            Ok(Outcome::Done)
-        )
-    );
+    let ended = run_source(rt.alloc(), b"puts 1", &mut output);
+    assert_eq!(rt; ending(&ended), "done");
     assert_eq!(rt; output.failed_writes(), 0);
     assert_eq!(rt; output.into_inner().as_slice(), b"first1\n".as_slice());
     Ok(())
