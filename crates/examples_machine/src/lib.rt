@@ -8,6 +8,8 @@ mod rows;
 #[cfg(test)]
 mod scripts;
 #[cfg(test)]
+mod setting;
+#[cfg(test)]
 mod spreading;
 #[cfg(test)]
 mod tables;
