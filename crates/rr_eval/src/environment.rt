@@ -1,7 +1,8 @@
 //! A machine over an environment that serves its requests.
 
-ghost use Rattle.std.specs.Prelude.{◌≡◌, ◌≤◌, List, length, None, IfOk, OnErr};
+ghost use Rattle.std.specs.Prelude.{◌≡◌, ◌≤◌, List, length, None, IfOk, IfErr, OnErr};
 ghost use Rattle.rr_space.specs.Tables.{Table};
+ghost use Rattle.rr_eval.specs.Acts.{IsRefusal};
 ghost use Rattle.rr_eval.specs.Script.{Asked, Reply};
 ghost use Rattle.rr_eval.specs.Requests.{Course, asked_of};
 ghost use Rattle.rr_eval.specs.Within.{AreWithin, IsResponseWithin, IsEndingWithin};
@@ -56,6 +57,7 @@ pub fn run_in<E: Environment>(
     requires { AreWithin (length space.old.slots) machine.old }
     ensures within { AreWithin (length space.new.slots) machine.new }
     ensures ends_within { IfOk result (IsEndingWithin (length space.new.slots)) }
+    ensures refused { IfErr result IsRefusal }
     ensures ran { Ran E.leads prepared.now.program machine.old space.old environment.old result machine.new space.new environment.new }
 {
     loop {
