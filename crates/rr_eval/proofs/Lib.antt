@@ -14,6 +14,7 @@ pub mod Quickly
 pub mod QuickParts
 pub mod QuickCalls
 pub mod QuickSends
+pub mod Finishing
 pub mod Bytes
 pub mod Printed
 pub mod Keeping

@@ -79,6 +79,7 @@ mod updating;
 mod usual;
 mod usual_bodies;
 mod usual_calls;
+mod usual_finish;
 mod usual_receivers;
 mod usual_rounds;
 mod usual_sends;

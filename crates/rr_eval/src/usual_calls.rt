@@ -112,7 +112,7 @@ impl Engine {
 
     /// Calls a method of the program on `self`, with `count` parts from `first` on as its arguments: one step, and those of the
     /// first arguments that need no frame.
-    #[inline(always)]
+    #[inline(never)]
     fn call_all(
         &mut self,
         prepared: &Prepared,
@@ -161,7 +161,7 @@ impl Engine {
 
     /// Gives the block of the method that runs `count` parts from `first` on: one step, and those of the first parts that need
     /// no frame.
-    #[inline(always)]
+    #[inline(never)]
     fn yield_all(
         &mut self,
         prepared: &Prepared,
@@ -244,7 +244,7 @@ impl Engine {
     }
 
     /// Calls a method of the program on `self` without arguments, where it has one of this name.
-    #[inline(always)]
+    #[inline(never)]
     pub fn bare_usual(
         &mut self,
         prepared: &Prepared,

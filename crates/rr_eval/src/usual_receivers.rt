@@ -122,7 +122,7 @@ impl Engine {
 
     /// Calls a method of the program on a receiver that is evaluated at once, with `count` parts from `first` on as its arguments: one
     /// step, and those of the receiver and of the first arguments that need no frame.
-    #[inline(always)]
+    #[inline(never)]
     fn send_all(
         &mut self,
         prepared: &Prepared,
@@ -177,7 +177,8 @@ impl Engine {
         false
     }
 
-    /// Calls a method of the program on a receiver that is evaluated at once, where its class has one of this name.
+    /// Calls a method of the program on a receiver that is evaluated at once, where its class has one of this name, or evaluates a
+    /// receiver that needs a frame.
     #[inline(always)]
     pub fn send_usual(
         &mut self,
@@ -204,10 +205,12 @@ impl Engine {
         ensures spends { IsTrue result → self.new.left < self.old.left }
         ensures falls { power (view_of self.new) + self.old.left ≤ power (view_of self.old) + self.new.left }
     {
-        let Some(found) = self.quick_before(&prepared.program, receiver, stop) else {
-            return false;
-        };
         let callee = Callee::Name(name);
+        let Some(found) = self.quick_before(&prepared.program, receiver, stop) else {
+            self.open_receiver(callee, receiver, first + count, count);
+            self.left -= 1;
+            return true;
+        };
         if prepared.joined_by(space, found.value, callee).is_some() {
             return false;
         }

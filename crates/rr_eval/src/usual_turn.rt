@@ -141,20 +141,25 @@ impl Engine {
         self.go_round(until, body, here, value);
     }
 
-    /// Goes on behind the body of a loop.
+    /// Goes on behind the body of a loop, with its condition at once where the steps do not stop before.
     #[inline(always)]
-    fn resume_body(&mut self, here: NodeId, value: Ref)
+    fn resume_body(&mut self, program: &Program, here: NodeId, value: Ref, stop: u64)
         requires control { self.old.control ≡ Control.Give (Answer.Gave value) }
         requires top { IsTop self.old.frames.items (Frame.Body here) }
         requires nested { IsNested (view_of self.old) }
-        ensures goes { (p : Program) (t : Table) (h : Course) → remaining p (view_of self.old) t h ≡ remaining p (view_of self.new) t h }
+        requires within { stop ≤ self.old.left }
+        ensures goes { (t : Table) (h : Course) → remaining program.now (view_of self.old) t h ≡ remaining program.now (view_of self.new) t h }
         ensures nested { IsNested (view_of self.new) }
         ensures within { (k : Reach) → AreReached k (view_of self.old) → AreReached k (view_of self.new) }
-        ensures left { self.new.left ≡ self.old.left }
+        ensures left { stop ≤ self.new.left }
+        ensures kept { self.new.left ≤ self.old.left }
         ensures falls { size (view_of self.new) < size (view_of self.old) }
     {
         self.take_top(Frame::Body(here), Answer::Gave(value));
         self.control = Control::Enter(here);
+        if self.left > stop {
+            self.visit_again(program, here, stop);
+        }
     }
 
     /// Goes on with the next statement.
@@ -285,7 +290,7 @@ impl Engine {
     /// Gives the topmost frame, which is told apart from those before, a value, where that is usual.
     fn resume_apart(
         &mut self,
-        program: &Program,
+        prepared: &Prepared,
         space: &Space,
         frame: Frame,
         value: Ref,
@@ -295,7 +300,7 @@ impl Engine {
         requires top { IsTop self.old.frames.items frame }
         requires nested { IsNested (view_of self.old) }
         requires within { stop ≤ self.old.left }
-        ensures goes { (h : Course) → remaining program.now (view_of self.old) space.now h ≡ remaining program.now (view_of self.new) space.now h }
+        ensures goes { (h : Course) → remaining prepared.now.program (view_of self.old) space.now h ≡ remaining prepared.now.program (view_of self.new) space.now h }
         ensures nested { IsNested (view_of self.new) }
         ensures within { (clusters : Option Below) → AreReached (reach (length space.now.slots) clusters) (view_of self.old) → AreReached (reach (length space.now.slots) clusters) (view_of self.new) }
         ensures left { stop ≤ self.new.left }
@@ -305,14 +310,17 @@ impl Engine {
     {
         match frame {
             Frame::And(_) | Frame::Or(_) | Frame::Not | Frame::Break | Frame::Next =>
-                self.resume_plainly(program, frame, value, stop),
+                self.resume_plainly(&prepared.program, frame, value, stop),
             Frame::Class(_)
             | Frame::Handling(_)
             | Frame::Ensure(_)
             | Frame::Kept(_)
             | Frame::Assigned(_)
             | Frame::Read(_)
-            | Frame::Combine(_) => self.resume_silently(program, space, frame, value),
+            | Frame::Combine(_) => self.resume_silently(&prepared.program, space, frame, value),
+            Frame::Argument(_, _, 0, _) | Frame::Receiver(_, _, _, _) | Frame::Item(_, _, _, _) => {
+                return self.resume_listed(prepared, space, frame, value);
+            }
             _ => return false,
         }
         true
@@ -320,11 +328,11 @@ impl Engine {
 
     /// Gives the topmost frame a value, where that is usual: it answers whether it was done.
     #[inline(always)]
-    fn resume_often(&mut self, program: &Program, space: &Space, value: Ref, stop: u64) -> bool
+    fn resume_often(&mut self, prepared: &Prepared, space: &Space, value: Ref, stop: u64) -> bool
         requires control { self.old.control ≡ Control.Give (Answer.Gave value) }
         requires nested { IsNested (view_of self.old) }
         requires within { stop ≤ self.old.left }
-        ensures goes { (h : Course) → remaining program.now (view_of self.old) space.now h ≡ remaining program.now (view_of self.new) space.now h }
+        ensures goes { (h : Course) → remaining prepared.now.program (view_of self.old) space.now h ≡ remaining prepared.now.program (view_of self.new) space.now h }
         ensures nested { IsNested (view_of self.new) }
         ensures within { (clusters : Option Below) → AreReached (reach (length space.now.slots) clusters) (view_of self.old) → AreReached (reach (length space.now.slots) clusters) (view_of self.new) }
         ensures left { stop ≤ self.new.left }
@@ -332,6 +340,7 @@ impl Engine {
         ensures falls { IsTrue result → size (view_of self.new) < size (view_of self.old) }
         ensures less { size (view_of self.new) ≤ size (view_of self.old) }
     {
+        let program = &prepared.program;
         match self.frames.last() {
             Some(&Frame::Left(op, b)) => self.resume_left(program, op, b, value, stop),
             Some(&Frame::Right(op, left)) => return self.resume_right(op, left, value),
@@ -340,7 +349,7 @@ impl Engine {
             Some(&Frame::Condition(until, body, here)) => {
                 self.resume_condition(until, body, here, value);
             }
-            Some(&Frame::Body(here)) => self.resume_body(here, value),
+            Some(&Frame::Body(here)) => self.resume_body(program, here, value, stop),
             Some(&Frame::Rest(end, count)) => self.resume_rest(end, count, value),
             Some(&Frame::Back(by)) => self.resume_back(by, value),
             Some(&Frame::Past) => self.resume_past(value),
@@ -351,7 +360,7 @@ impl Engine {
             Some(&Frame::Round(iteration)) => {
                 return self.resume_turn(program, space, iteration, value);
             }
-            Some(&frame) => return self.resume_apart(program, space, frame, value, stop),
+            Some(&frame) => return self.resume_apart(prepared, space, frame, value, stop),
             None => return false,
         }
         true
@@ -423,7 +432,7 @@ impl Engine {
     {
         match self.control {
             Control::Give(Answer::Gave(value)) => {
-                self.resume_often(&prepared.program, space, value, stop)
+                self.resume_often(prepared, space, value, stop)
             }
             Control::Give(Answer::Returned(value)) => self.pass_often(value),
             Control::Enter(here) => {

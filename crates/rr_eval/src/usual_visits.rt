@@ -66,6 +66,51 @@ impl Engine {
         }
     }
 
+    /// Evaluates a node that needs no frame, where the steps do not stop before what follows.
+    #[inline(always)]
+    fn visit_quick(&mut self, program: &Program, here: NodeId, stop: u64) -> bool
+        requires control { self.old.control ≡ Control.Enter here }
+        requires some { stop < self.old.left }
+        requires nested { IsNested (view_of self.old) }
+        ensures goes { (t : Table) (h : Course) → remaining program.now (view_of self.old) t h ≡ remaining program.now (view_of self.new) t h }
+        ensures nested { IsNested (view_of self.new) }
+        ensures within { (k : Reach) → AreReached k (view_of self.old) → AreReached k (view_of self.new) }
+        ensures left { stop ≤ self.new.left }
+        ensures kept { self.new.left ≤ self.old.left }
+        ensures spends { IsTrue result → self.new.left < self.old.left }
+        ensures falls { power (view_of self.new) + self.old.left ≤ power (view_of self.old) + self.new.left }
+        ensures same { IsFalse result → self.new ≡ self.old }
+    {
+        match self.quick_before(program, here, stop) {
+            Some(found) => {
+                self.left -= found.steps;
+                self.control = Control::Give(Answer::Gave(found.value));
+                true
+            }
+            None => false,
+        }
+    }
+
+    /// Gives nil at once, where `nil` comes next and the steps do not stop before: what a choice without an `else` is most of the time.
+    #[inline(always)]
+    fn give_nil(&mut self, program: &Program, stop: u64)
+        requires within { stop ≤ self.old.left }
+        requires nested { IsNested (view_of self.old) }
+        ensures goes { (t : Table) (h : Course) → remaining program.now (view_of self.old) t h ≡ remaining program.now (view_of self.new) t h }
+        ensures nested { IsNested (view_of self.new) }
+        ensures within { (k : Reach) → AreReached k (view_of self.old) → AreReached k (view_of self.new) }
+        ensures left { stop ≤ self.new.left }
+        ensures kept { self.new.left ≤ self.old.left }
+        ensures falls { power (view_of self.new) + self.old.left ≤ power (view_of self.old) + self.new.left }
+    {
+        if let Control::Enter(here) = self.control
+            && self.left > stop
+            && let Node::Nil = evaluated_node(program, here)
+        {
+            self.visit_quick(program, here, stop);
+        }
+    }
+
     /// Evaluates a choice.
     #[inline(always)]
     fn visit_choice(
@@ -92,6 +137,7 @@ impl Engine {
         let frame = Frame::Branch(yes, no);
         if let Some(value) = self.first_value(program, here, frame, condition, stop) {
             self.take_branch(yes, no, value);
+            self.give_nil(program, stop);
         }
     }
 
@@ -117,10 +163,38 @@ impl Engine {
         ensures left { stop ≤ self.new.left }
         ensures spends { self.new.left < self.old.left }
         ensures falls { power (view_of self.new) + self.old.left ≤ power (view_of self.old) + self.new.left }
+        ensures size { size (view_of self.new) ≤ 3 * length self.old.frames.items + 4 }
     {
         let frame = Frame::Condition(until, body, here);
         if let Some(value) = self.first_value(program, here, frame, condition, stop) {
             self.go_round(until, body, here, value);
+        }
+    }
+
+    /// Evaluates a loop once more, where a loop comes next.
+    #[inline(always)]
+    pub fn visit_again(&mut self, program: &Program, here: NodeId, stop: u64)
+        requires control { self.old.control ≡ Control.Enter here }
+        requires some { stop < self.old.left }
+        requires room { length self.old.frames.items < vec_capacity self.old.frames }
+        requires nested { IsNested (view_of self.old) }
+        ensures goes { (t : Table) (h : Course) → remaining program.now (view_of self.old) t h ≡ remaining program.now (view_of self.new) t h }
+        ensures nested { IsNested (view_of self.new) }
+        ensures within { (k : Reach) → AreReached k (view_of self.old) → AreReached k (view_of self.new) }
+        ensures left { stop ≤ self.new.left }
+        ensures kept { self.new.left ≤ self.old.left }
+        ensures size { size (view_of self.new) ≤ 3 * length self.old.frames.items + 4 }
+    {
+        let place = evaluated_place(program, here);
+        match program.nodes.get(place as usize) {
+            Some(
+                &Node::Loop {
+                    until,
+                    condition,
+                    body,
+                },
+            ) => self.visit_loop(program, here, until, condition, body, stop),
+            _ => (),
         }
     }
 
@@ -206,32 +280,6 @@ impl Engine {
     {
         self.begin(first + count, count);
         self.left -= 1;
-    }
-
-    /// Evaluates a node that needs no frame, where the steps do not stop before what follows.
-    #[inline(always)]
-    fn visit_quick(&mut self, program: &Program, here: NodeId, stop: u64) -> bool
-        requires control { self.old.control ≡ Control.Enter here }
-        requires some { stop < self.old.left }
-        requires room { length self.old.frames.items < vec_capacity self.old.frames }
-        requires nested { IsNested (view_of self.old) }
-        ensures goes { (t : Table) (h : Course) → remaining program.now (view_of self.old) t h ≡ remaining program.now (view_of self.new) t h }
-        ensures nested { IsNested (view_of self.new) }
-        ensures within { (k : Reach) → AreReached k (view_of self.old) → AreReached k (view_of self.new) }
-        ensures left { stop ≤ self.new.left }
-        ensures kept { self.new.left ≤ self.old.left }
-        ensures spends { IsTrue result → self.new.left < self.old.left }
-        ensures falls { power (view_of self.new) + self.old.left ≤ power (view_of self.old) + self.new.left }
-        ensures same { IsFalse result → self.new ≡ self.old }
-    {
-        match self.quick_before(program, here, stop) {
-            Some(found) => {
-                self.left -= found.steps;
-                self.control = Control::Give(Answer::Gave(found.value));
-                true
-            }
-            None => false,
-        }
     }
 
     /// Evaluates an instance variable of `self`.
