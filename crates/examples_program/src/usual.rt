@@ -21,7 +21,20 @@ one array for two parameters|def f; a = [1, 2]; yield a; end; f { ^px, y^p p x +
 one integer for two parameters|def f; yield 1; end; f { ^px, y^p p x, y }^n|1^nnil^n|
 no block|def f; yield 1; end; begin; f; rescue LocalJumpError => e; puts e.message; end^n|no block^n|
 a method too deep in itself|def f(n); f(n + 1); end; begin; f(0); rescue SystemStackError; p 1; end^n|1^n|
-a return of an operator|def f(a); return a * 2; p 1; end; p f(4)^n|8^n|";
+a return of an operator|def f(a); return a * 2; p 1; end; p f(4)^n|8^n|
+a condition that raises behind a turn|i = 1; begin; while 1 / i > 0 do i = i - 1 end; rescue ZeroDivisionError; p i; end^n|0^n|
+a choice without an else|p((if false then 1 end)); def f(n); return 1 if n > 2; end; p f(3), f(1)^n|nil^n1^nnil^n|
+a receiver that a call gives|class A; attr_reader :b; def initialize(b); @b = b; end; end; p A.new(A.new(7)).b.b^n|7^n|
+a receiver that a call gives, with an argument|class A; def add(a, b); a + b; end; end; def a; A.new; end; p a.add(1, a.add(2, 3))^n|6^n|
+an argument that a call gives|def f(a, b); a - b; end; p f(1, f(9, 3))^n|-5^n|
+a call without the method, of what a call gives|def f; 3; end; begin; f.none; rescue NoMethodError; p 4; end^n|4^n|
+too few arguments, of which a call gives the last|def f(a, b); end; def g; 1; end; begin; f(g); rescue ArgumentError => e; puts e.message; end^n|wrong number of arguments (given 1, expected 2)^n|
+a method that needs arguments, of what a call gives|class A; def f(a); end; end; def a; A.new; end; begin; a.f; rescue ArgumentError => e; puts e.message; end^n|wrong number of arguments (given 0, expected 1)^n|
+an array that a call gives is joined|class A; def to_s; \"x\"; end; end; def a; [A.new, 1]; end; puts a.join(\"-\"), a.join^n|x-1^nx1^n|
+a block is given what a call gives|def f(x); x; end; def g; yield f([1, 2]); end; g { ^pa, b^p p b }; g { ^pa^p p a }^n|2^n[1, 2]^n|
+no block for what a call gives|def f(x); x; end; def g; yield f(1); end; begin; g; rescue LocalJumpError => e; puts e.message; end^n|no block^n|
+a method in the place of one of all values, of what a call gives|class A; def inspect; \"a\"; end; def to_s; 5; end; end; def a; A.new; end; p a.to_s, a^n|5^na^n|
+a method too deep in its argument|def f(n); f(f(n)); end; begin; f(0); rescue SystemStackError; p 1; end^n|1^n|";
 
 #[test]
 fn parts_at_once_print_what_is_wanted(rt: HostRuntime) -> Result<(), Fail> {
