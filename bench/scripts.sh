@@ -30,6 +30,7 @@ script("four", "def f(a, b, c, d)\n  a + b + c + d\nend\ni = 0\ns = 0\nwhile i <
 script("loops", "i = 0\ns = 0\nwhile i < 2000000\n  s = s + i * 3 - i / 2\n  s = s % 1000003\n  i = i + 1\nend\nputs s\n")
 script("fields", "class Counter\n  attr_reader :count\n  def initialize\n    @count = 0\n  end\n  def add(n)\n    @count = @count + n\n  end\nend\nc = Counter.new\ni = 0\nwhile i < 300000\n  c.add(i)\n  i = i + c.count - c.count + 1\nend\nputs c.count\n")
 script("objects", "class Pair\n  attr_reader :left\n  def initialize(left, right)\n    @left = left\n    @right = right\n  end\nend\ns = 0\ni = 0\nwhile i < 200000\n  s = s + Pair.new(i, s).left\n  i = i + 1\nend\nputs s\n")
+script("chained", "class Link\n  attr_reader :step\n  def initialize(step)\n    @step = step\n  end\n  def same\n    self\n  end\n  def add(a, b)\n    a + b\n  end\nend\nl = Link.new(1)\ni = 0\ns = 0\nwhile i < 300000\n  s = l.same.add(s, l.same.step)\n  i = i + 1\nend\nputs s\n")
 script("guarded", "s = 0\ni = 0\nwhile i < 1000000\n  begin\n    s = s + i\n  rescue => e\n    s = 0\n  end\n  i = i + 1\nend\nputs s\n")
 script("raised", "s = 0\ni = 0\nwhile i < 100000\n  begin\n    raise ArgumentError, \"no\" if i % 2 == 0\n    s = s + 1\n  rescue ArgumentError => e\n    s = s + e.message.size\n  end\n  i = i + 1\nend\nputs s\n")
 script("breaks", "s = 0\n20000.times { |i| 50.times { |j| break if j > 9\n s = s + i * j } }\nputs s\n")
