@@ -10,12 +10,15 @@ use Rattle.std.proofs.Math.ListN.{get_or-map}
 use Rattle.rr_tree.specs.Tree.{Tree, tree_at}
 use Rattle.rr_tree.specs.declared.node.Node.{Node}
 use Rattle.rr_eval.specs.declared.call_stack.CallValue.{CallValue}
+use Rattle.rr_eval.specs.declared.call_stack.CallValue.TheVariants.{Method}
 use Rattle.rr_eval.specs.declared.call_stack.Entry.{Entry}
 use Rattle.rr_eval.specs.declared.call_stack.Entry.TheVariants.{OfMethod, OfBlock}
 use Rattle.rr_space.specs.declared.refer.Ref.{Ref}
 use Rattle.rr_builtin.specs.declared.problem.Problem.TheVariants.{Count, TooDeep}
 use Rattle.rr_eval.specs.declared.problem.Problem.TheVariants.{BuiltIn}
 use Rattle.rr_eval.specs.declared.problem.Answer.{Answer}
+use Rattle.rr_eval.specs.declared.problem.Response.{Response}
+use Rattle.rr_eval.specs.declared.problem.Response.TheVariants.{Gives, Throws, Fails}
 use Rattle.rr_eval.specs.declared.problem.Answer.TheVariants.{Gave, Raised, Broke, Done, Returned, Ends}
 use Rattle.rr_eval.specs.declared.frame.Frame.{Frame}
 use Rattle.rr_eval.specs.declared.asking.Asking.{Asking}
@@ -23,7 +26,7 @@ use Rattle.rr_eval.specs.declared.iterating.Iterating.{Iterating}
 use Rattle.rr_eval.specs.declared.frame.Frame.TheVariants as frames
 use Rattle.rr_eval.specs.Script.{State, Script, Ret, Go, Do, Outcome, after}
 use Rattle.rr_eval.specs.Rules.{Context, throw, on_value, framed, with_frame, left_by, activation_in}
-use Rattle.rr_eval.specs.Dispatch.{counted}
+use Rattle.rr_eval.specs.Dispatch.{counted, valued_response}
 use Rattle.rr_eval.specs.Frames.{Code, means, runs_in, resumed, unwind, waits_for, Nested}
 use Rattle.rr_eval.specs.Turns.{IsNested, Stands, blocks_of, state_of}
 use Rattle.rr_eval.specs.Blocks.{without_frame}
@@ -35,6 +38,12 @@ use Rattle.rr_eval.proofs.Unwind.{rest_push}
 -- the frames by what they are
 pub stack_is : (s : Stack) (fs : List Activated) (limit : ℕ) → s.frames ≡ fs → s.limit ≡ limit → s ≡ record { frames = fs; limit = limit }
 stack_is s fs limit e f = ap (λ x. record { frames = x; limit = s.limit }) e ∙ ap (λ x. record { frames = fs; limit = x }) f
+
+-- the value of a call is the method's
+pub of_method : (r : Response) → valued_response Method r ≡ r
+of_method (Gives v) = refl
+of_method (Throws e) = refl
+of_method (Fails e) = refl
 
 -- what passes
 pub value_passes : (next : Ref → Script) (a : Answer) → ((v : Ref) → a ≡ Gave v → ⊥) → on_value next a ≡ Ret a

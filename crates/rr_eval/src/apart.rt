@@ -64,6 +64,7 @@ fn separator(space: &Space, values: &[Ref]) -> Option<Ref>
 
 impl Prepared {
     /// The symbol of the method by which the objects in a receiver are asked, where the call joins an array.
+    #[inline(always)]
     pub(crate) fn joined_by(&self, space: &Space, receiver: Ref, callee: Callee) -> Option<Sym>
         ensures { result ≡ joined_by (context_of self.now.program) space.now callee receiver }
     {

@@ -23,7 +23,7 @@ ghost use Rattle.std.specs.List.{All};
 
 use crate::call_stack::{CallStack, Variable};
 use crate::frame::{Control, Frame};
-use crate::nodes::evaluated_node;
+use crate::nodes::node_at;
 use crate::operator::on_integers;
 use crate::prepared::Prepared;
 use crate::problem::Answer;
@@ -108,17 +108,35 @@ impl Engine {
         self.calls.running().itself
     }
 
+    /// The integer that a variable is.
+    #[inline(always)]
+    pub fn local_integer(&self, program: &Program, place: NodeId) -> Option<i64>
+        ensures { IfSome result (λ z. leaf_value (tree_at program.now.nodes.items place) self.now.calls.frames ≡ Some (Ref.Int z)) }
+    {
+        match node_at(program, place) {
+            Some(&Node::Local { depth, slot, .. }) => {
+                match self.variable(Variable { depth, slot }) {
+                    Ref::Int(z) => Some(z),
+                    _ => None,
+                }
+            }
+            _ => None,
+        }
+    }
+
     /// The integer that a part is, where it is a literal or a variable.
     #[inline(always)]
     pub fn leaf(&self, program: &Program, place: NodeId) -> Option<i64>
         ensures { IfSome result (λ z. leaf_value (tree_at program.now.nodes.items place) self.now.calls.frames ≡ Some (Ref.Int z)) }
     {
-        match evaluated_node(program, place) {
-            Node::Int(z) => Some(z),
-            Node::Local { depth, slot, .. } => match self.variable(Variable { depth, slot }) {
-                Ref::Int(z) => Some(z),
-                _ => None,
-            },
+        match node_at(program, place) {
+            Some(&Node::Int(z)) => Some(z),
+            Some(&Node::Local { depth, slot, .. }) => {
+                match self.variable(Variable { depth, slot }) {
+                    Ref::Int(z) => Some(z),
+                    _ => None,
+                }
+            }
             _ => None,
         }
     }

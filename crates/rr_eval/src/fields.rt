@@ -114,6 +114,7 @@ pub fn give_message(space: &mut Space, store: &StoreState, values: &[Ref]) -> Re
 impl Engine {
     /// Evaluates an instance variable of `self`.
     #[tactic(auto, unfolding(crate::specs::Within::AreReached))]
+    #[inline(always)]
     pub fn open_field(&mut self, space: &Space, name: Sym)
         requires nested { IsNested (view_of self.old) }
         ensures goes { (p : Program) (h : Course) (n : ℕ) → after_script p (view_of self.old) space.now (field_rule (context_of p) name) h n ≡ remaining_with p (view_of self.new) space.now h n }

@@ -265,7 +265,7 @@ impl Engine {
 
     /// Reads an instance variable of a receiver, where there are no arguments.
     #[tactic(auto, unfolding(crate::specs::Within::AreReached))]
-    pub fn run_reader(
+    fn run_reader(
         &mut self,
         space: &Space,
         name: Sym,

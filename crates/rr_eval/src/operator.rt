@@ -1,54 +1,24 @@
 //! The operators of integers, and new texts.
 
-ghost use Rattle.std.specs.Prelude.{◌≡◌, ◌+ℤ◌, ◌-ℤ◌, ◌*ℤ◌, length, Option, IfOk, IfErr};
+ghost use Rattle.std.specs.Prelude.{◌≡◌, length, Option, Result, IfOk, IfErr};
 ghost use Rattle.rr_space.specs.Tables.{Below};
+ghost use Rattle.rr_space.specs.declared.refer.Ref.{Ref};
 ghost use Rattle.rr_text.specs.Reads.{IsReadWith};
 ghost use Rattle.rr_builtin.specs.Acts.{with_text, with_frozen};
-ghost use Rattle.rr_builtin.specs.Integers.{given, quotient_of, remainder_of, order_of};
 ghost use Rattle.rr_builtin.specs.Numbers.{number_given};
 ghost use Rattle.rr_eval.specs.Acts.{Acts, IsRefusal, Passes};
 ghost use Rattle.rr_eval.specs.Changes.{Changes};
-ghost use Rattle.rr_eval.specs.Within.{Reach, reach, IsResponseReached};
+ghost use Rattle.rr_eval.specs.Within.{Reach, reach, IsReached, IsResponseReached};
 ghost use Rattle.rr_eval.specs.Operators.{settled_number, integers, opposite, with_literal, make};
 
 use crate::problem::{Problem, Response};
 use rr_base::Fault;
-use rr_builtin::{Problem as BuiltInProblem, floor_div, floor_mod};
+use rr_builtin::{
+    NumberProblem, Problem as BuiltInProblem, compare, difference, product, quotient, remainder,
+    sum,
+};
 use rr_space::{Node, Ref, Space};
 use rr_tree::BinaryOperator;
-
-#[inline(always)]
-fn sum(x: i64, y: i64) -> Response
-    ensures does { result ≡ settled_number (number_given (given (x +ℤ y))) }
-    ensures within { (k : Reach) → IsResponseReached k result }
-{
-    match x.checked_add(y) {
-        Some(z) => Response::Gives(Ref::Int(z)),
-        None => Response::Fails(Problem::BuiltIn(BuiltInProblem::OutOfRange)),
-    }
-}
-
-#[inline(always)]
-fn difference(x: i64, y: i64) -> Response
-    ensures does { result ≡ settled_number (number_given (given (x -ℤ y))) }
-    ensures within { (k : Reach) → IsResponseReached k result }
-{
-    match x.checked_sub(y) {
-        Some(z) => Response::Gives(Ref::Int(z)),
-        None => Response::Fails(Problem::BuiltIn(BuiltInProblem::OutOfRange)),
-    }
-}
-
-#[inline(always)]
-fn product(x: i64, y: i64) -> Response
-    ensures does { result ≡ settled_number (number_given (given (x *ℤ y))) }
-    ensures within { (k : Reach) → IsResponseReached k result }
-{
-    match x.checked_mul(y) {
-        Some(z) => Response::Gives(Ref::Int(z)),
-        None => Response::Fails(Problem::BuiltIn(BuiltInProblem::OutOfRange)),
-    }
-}
 
 /// Unary minus.
 pub fn opposite(x: i64) -> Response
@@ -61,50 +31,46 @@ pub fn opposite(x: i64) -> Response
     }
 }
 
-#[inline(always)]
-fn quotient(x: i64, y: i64) -> Response
-    ensures does { result ≡ settled_number (number_given (quotient_of x y)) }
+/// The problem of an operator on two integers.
+#[inline(never)]
+fn failed(problem: NumberProblem) -> Response
+    ensures does { result ≡ settled_number (number_given (Result.Err problem)) }
     ensures within { (k : Reach) → IsResponseReached k result }
 {
-    if y == 0 {
-        return Response::Fails(Problem::BuiltIn(BuiltInProblem::DividedByZero));
-    }
-    match floor_div(x, y) {
-        Some(z) => Response::Gives(Ref::Int(z)),
-        None => Response::Fails(Problem::BuiltIn(BuiltInProblem::OutOfRange)),
+    match problem {
+        NumberProblem::DividedByZero => {
+            Response::Fails(Problem::BuiltIn(BuiltInProblem::DividedByZero))
+        }
+        NumberProblem::OutOfRange => Response::Fails(Problem::BuiltIn(BuiltInProblem::OutOfRange)),
     }
 }
 
+/// What an operator on two integers gives.
+///
+/// # Errors
+///
+/// `DividedByZero` and `OutOfRange`, where the result does not fit 64 bits.
 #[inline(always)]
-fn remainder(x: i64, y: i64) -> Response
-    ensures does { result ≡ settled_number (number_given (remainder_of x y)) }
-    ensures within { (k : Reach) → IsResponseReached k result }
+pub fn computed(op: BinaryOperator, x: i64, y: i64) -> Result<Ref, NumberProblem>
+    ensures gives { IfOk result (λ v. integers op x y ≡ Response.Gives v) }
+    ensures fails { IfErr result (λ e. integers op x y ≡ settled_number (number_given (Result.Err e))) }
+    ensures within { (k : Reach) → IfOk result (IsReached k) }
 {
-    if y == 0 {
-        return Response::Fails(Problem::BuiltIn(BuiltInProblem::DividedByZero));
-    }
-    Response::Gives(Ref::Int(floor_mod(x, y)))
-}
-
-#[inline(always)]
-fn order_of(x: i64, y: i64) -> i64
-    ensures { result ≡ order_of x y }
-{
-    if x < y {
-        -1
-    } else if x == y {
-        0
-    } else {
-        1
-    }
-}
-
-#[inline(always)]
-fn truth(holds: bool) -> Response
-    ensures does { result ≡ Response.Gives (Ref.Truth holds) }
-    ensures within { (k : Reach) → IsResponseReached k result }
-{
-    Response::Gives(Ref::Truth(holds))
+    let number = match op {
+        BinaryOperator::Add => sum(x, y)?,
+        BinaryOperator::Subtract => difference(x, y)?,
+        BinaryOperator::Multiply => product(x, y)?,
+        BinaryOperator::Divide => quotient(x, y)?,
+        BinaryOperator::Remainder => remainder(x, y)?,
+        BinaryOperator::Less => return Ok(Ref::Truth(x < y)),
+        BinaryOperator::LessOrEqual => return Ok(Ref::Truth(x <= y)),
+        BinaryOperator::Greater => return Ok(Ref::Truth(x > y)),
+        BinaryOperator::GreaterOrEqual => return Ok(Ref::Truth(x >= y)),
+        BinaryOperator::Compare => compare(x, y),
+        BinaryOperator::Equal => return Ok(Ref::Truth(x == y)),
+        BinaryOperator::NotEqual => return Ok(Ref::Truth(x != y)),
+    };
+    Ok(Ref::Int(number))
 }
 
 /// An operator on two integers.
@@ -113,19 +79,9 @@ pub fn on_integers(op: BinaryOperator, x: i64, y: i64) -> Response
     ensures does { result ≡ integers op x y }
     ensures within { (k : Reach) → IsResponseReached k result }
 {
-    match op {
-        BinaryOperator::Add => sum(x, y),
-        BinaryOperator::Subtract => difference(x, y),
-        BinaryOperator::Multiply => product(x, y),
-        BinaryOperator::Divide => quotient(x, y),
-        BinaryOperator::Remainder => remainder(x, y),
-        BinaryOperator::Less => truth(x < y),
-        BinaryOperator::LessOrEqual => truth(x <= y),
-        BinaryOperator::Greater => truth(x > y),
-        BinaryOperator::GreaterOrEqual => truth(x >= y),
-        BinaryOperator::Compare => Response::Gives(Ref::Int(order_of(x, y))),
-        BinaryOperator::Equal => truth(x == y),
-        BinaryOperator::NotEqual => truth(x != y),
+    match computed(op, x, y) {
+        Ok(value) => Response::Gives(value),
+        Err(problem) => failed(problem),
     }
 }
 

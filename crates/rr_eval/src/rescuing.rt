@@ -174,6 +174,7 @@ impl Engine {
 
     /// Goes on behind statements that raised nothing.
     #[tactic(auto, unfolding(crate::specs::Within::AreReached))]
+    #[inline(always)]
     pub fn go_else(&mut self, program: &Program, otherwise: NodeId, value: Ref)
         requires nested { IsNested (view_of self.old) }
         ensures goes { (t : Table) (h : Course) (n : ℕ) → after_script program.now (view_of self.old) t (else_rule (tree_at program.now.nodes.items otherwise) value) h n ≡ remaining_with program.now (view_of self.new) t h n }

@@ -144,7 +144,7 @@ impl Engine {
         ensures size { size (view_of self.new) ≤ 3 * length self.old.frames.items + 4 }
     {
         self.calls.write(variable, value);
-        self.control = Control::Give(Answer::Gave(value));
+        self.give_top(value);
     }
 
     /// Goes on with one part of a choice, by the value of its condition.

@@ -21,9 +21,9 @@ use crate::call_stack::Variable;
 use crate::constant::class_at_path;
 use crate::engine::{Engine, push_within};
 use crate::frame::{Control, Frame};
-use crate::nodes::evaluated_node;
-use crate::operator::on_integers;
-use crate::problem::{Answer, Response};
+use crate::nodes::{evaluated_place, node_at};
+use crate::operator::computed;
+use crate::problem::Answer;
 use rr_space::Ref;
 use rr_tree::{BinaryOperator, Node, NodeId, Program};
 
@@ -32,6 +32,17 @@ use rr_tree::{BinaryOperator, Node, NodeId, Program};
 pub struct Quick {
     pub value: Ref,
     pub steps: u64,
+}
+
+impl Quick {
+    /// A value that takes one step.
+    #[inline(always)]
+    fn one(value: Ref) -> Quick
+        ensures value { result.value ≡ value }
+        ensures steps { result.steps ≡ 1 }
+    {
+        Quick { value, steps: 1 }
+    }
 }
 
 /// The part that a node evaluates first, behind the frame that waits for it, where that is one part and no receiver.
@@ -77,7 +88,7 @@ pub fn awaited_part(here: NodeId, node: Node) -> Option<(Frame, NodeId)>
 }
 
 impl Engine {
-    /// The value of an operator on two leaves that are integers, where it has one. It takes three steps.
+    /// The value of an operator on a variable and a leaf that are integers, where it has one. It takes three steps.
     #[inline(always)]
     fn quick_operation(
         &self,
@@ -89,17 +100,40 @@ impl Engine {
         ensures takes { IfSome result (TakesNow program.now (view_of self.now) (binary op (tree_at program.now.nodes.items a) (tree_at program.now.nodes.items b)) 3) }
         ensures within { (k : Reach) → IfSome result (IsReached k) }
     {
-        match (self.leaf(program, a), self.leaf(program, b)) {
-            (Some(x), Some(y)) => match on_integers(op, x, y) {
-                Response::Gives(value) => Some(value),
-                Response::Throws(_) => None,
-                Response::Fails(_) => None,
+        match (self.local_integer(program, a), self.leaf(program, b)) {
+            (Some(x), Some(y)) => match computed(op, x, y) {
+                Ok(value) => Some(value),
+                Err(_) => None,
             },
             _ => None,
         }
     }
 
-    /// The value of a part, where that is a literal, a class, a variable, `self`, or an operator on two leaves that are integers.
+    /// The value of a node that needs no frame and is none of the most frequent kinds.
+    #[inline(always)]
+    fn quick_apart(&self, program: &Program, place: NodeId, node: Node) -> Option<Quick>
+        requires tree { tree_at program.now.nodes.items place ≡ evaluated_tree program.now.nodes.items node }
+        ensures takes { IfSome result (λ q. TakesNow program.now (view_of self.now) (tree_at program.now.nodes.items place) q.steps q.value) }
+        ensures plain { IfSome result (λ _. is_splat (tree_at program.now.nodes.items place) ≡ false) }
+        ensures one { IfSome result (λ q. q.steps ≡ 1) }
+        ensures within { (k : Reach) → AreReached k (view_of self.now) → IfSome result (λ q. IsReached k q.value) }
+    {
+        match node {
+            Node::Nil => Some(Quick::one(Ref::Nil)),
+            Node::Truth(truth) => Some(Quick::one(Ref::Truth(truth))),
+            Node::Symbol(name) => Some(Quick::one(Ref::Symbol(name))),
+            Node::Class(class) => Some(Quick::one(Ref::Class(class))),
+            Node::Itself => Some(Quick::one(self.itself())),
+            Node::Constant(path) => {
+                let class = class_at_path(program, path)?;
+                Some(Quick::one(Ref::Class(class)))
+            }
+            _ => None,
+        }
+    }
+
+    /// The value of a part, where that is a literal, a class, a variable, `self`, or an operator on a variable and a leaf that are
+    /// integers.
     #[inline(always)]
     pub fn quick(&self, program: &Program, place: NodeId) -> Option<Quick>
         ensures takes { IfSome result (λ q. TakesNow program.now (view_of self.now) (tree_at program.now.nodes.items place) q.steps q.value) }
@@ -108,45 +142,21 @@ impl Engine {
         ensures few { IfSome result (λ q. q.steps ≤ 3) }
         ensures within { (k : Reach) → AreReached k (view_of self.now) → IfSome result (λ q. IsReached k q.value) }
     {
-        match evaluated_node(program, place) {
-            Node::Nil => Some(Quick {
-                value: Ref::Nil,
-                steps: 1,
-            }),
-            Node::Truth(truth) => Some(Quick {
-                value: Ref::Truth(truth),
-                steps: 1,
-            }),
-            Node::Int(z) => Some(Quick {
-                value: Ref::Int(z),
-                steps: 1,
-            }),
-            Node::Symbol(name) => Some(Quick {
-                value: Ref::Symbol(name),
-                steps: 1,
-            }),
-            Node::Class(class) => Some(Quick {
-                value: Ref::Class(class),
-                steps: 1,
-            }),
-            Node::Itself => Some(Quick {
-                value: self.itself(),
-                steps: 1,
-            }),
-            Node::Local { depth, slot, .. } => {
+        match node_at(program, evaluated_place(program, place)) {
+            Some(&Node::Local { depth, slot, .. }) => {
                 let value = self.variable(Variable { depth, slot });
-                Some(Quick { value, steps: 1 })
+                Some(Quick::one(value))
             }
-            Node::Binary(op, a, b) => match self.quick_operation(program, op, a, b) {
+            Some(&Node::Int(z)) => Some(Quick::one(Ref::Int(z))),
+            Some(&Node::Binary(op, a, b)) => match self.quick_operation(program, op, a, b) {
                 Some(value) => Some(Quick { value, steps: 3 }),
                 None => None,
             },
-            Node::Constant(path) => {
-                let class = class_at_path(program, path)?;
-                let value = Ref::Class(class);
-                Some(Quick { value, steps: 1 })
-            }
-            _ => None,
+            Some(&node) => match self.quick_apart(program, place, node) {
+                Some(found) => Some(found),
+                None => None,
+            },
+            None => None,
         }
     }
 

@@ -23,6 +23,7 @@ use crate::blocks::{shape_at, spreads};
 use crate::call::{Passing, passed};
 use crate::call_stack::{CallValue, Entry, Handed};
 use crate::engine::{Engine, push_within};
+use crate::fields::read_field;
 use crate::frame::{Control, Frame, clear, standing};
 use crate::invoke::{Way, count_of, invocation, leaving};
 use crate::prepared::{Body, Definition, Work};
@@ -164,8 +165,14 @@ impl Engine {
                 self.begin_statements(definition.class, body, way, passing, frame, last)
             }
             Work::Read(name) => {
-                self.run_reader(space, name, way, passing, frame, last);
-                true
+                let given = count_of(passing, standing(&self.held, frame), last);
+                if given == 0 {
+                    let held = read_field(space, receiver, name);
+                    clear(&mut self.held, frame);
+                    self.settle(held);
+                    return true;
+                }
+                false
             }
             _ => false,
         }

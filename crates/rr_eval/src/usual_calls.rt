@@ -97,6 +97,7 @@ impl Engine {
         let last = Some(found.value);
         if self.begin_yield(&prepared.program, space, Frame::Not, last) {
             self.left -= found.steps + 1;
+            self.enter_body(&prepared.program, stop);
             return true;
         }
         false
@@ -238,7 +239,11 @@ impl Engine {
         if count == 1
             && let Some(found) = self.quick_before(&prepared.program, first, stop)
         {
-            return self.call_one(prepared, space, here, name, first, definition, found, stop);
+            if self.call_one(prepared, space, here, name, first, definition, found, stop) {
+                self.enter_statements(&prepared.program, stop);
+                return true;
+            }
+            return false;
         }
         self.call_all(prepared, space, here, name, first, count, definition, stop)
     }

@@ -182,20 +182,24 @@ impl Engine {
         space: &Space,
         iteration: Iterating,
         value: Ref,
+        stop: u64,
     ) -> bool
         requires control { self.old.control ≡ Control.Give (Answer.Gave value) }
         requires top { IsTop self.old.frames.items (Frame.Round iteration) }
         requires nested { IsNested (view_of self.old) }
+        requires within { stop ≤ self.old.left }
         ensures goes { (h : Course) → remaining program.now (view_of self.old) space.now h ≡ remaining program.now (view_of self.new) space.now h }
         ensures nested { IsNested (view_of self.new) }
         ensures within { (clusters : Option Below) → AreReached (reach (length space.now.slots) clusters) (view_of self.old) → AreReached (reach (length space.now.slots) clusters) (view_of self.new) }
-        ensures left { self.new.left ≡ self.old.left }
+        ensures left { stop ≤ self.new.left }
+        ensures spends { self.new.left ≤ self.old.left }
         ensures kept { size (view_of self.new) ≤ size (view_of self.old) }
         ensures falls { IsTrue result → size (view_of self.new) < size (view_of self.old) }
     {
         self.take_top(Frame::Round(iteration), Answer::Gave(value));
         self.pop_call();
         if self.begin_next(program, space, iteration, value) {
+            self.enter_body(program, stop);
             return true;
         }
         push_within(&mut self.frames, Frame::Turned(iteration));

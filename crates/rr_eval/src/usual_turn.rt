@@ -1,6 +1,6 @@
 //! What a turn does most: acts that need neither memory nor the objects, one after the other.
 
-ghost use Rattle.std.specs.Prelude.{◌≡◌, ◌+◌, ◌*◌, ◌<◌, ◌≤◌, length, reverse, vec_capacity, Option, IsTrue, IsFalse};
+ghost use Rattle.std.specs.Prelude.{◌≡◌, ◌+◌, ◌*◌, ◌<◌, ◌≤◌, ℕ, length, reverse, vec_capacity, Option, IsTrue, IsFalse};
 ghost use Rattle.rr_space.specs.Tables.{Table, Below};
 ghost use Rattle.rr_tree.specs.declared.program.Program.{Program};
 ghost use Rattle.rr_eval.specs.declared.frame.Control.{Control};
@@ -8,10 +8,10 @@ ghost use Rattle.rr_eval.specs.declared.frame.Frame.{Frame};
 ghost use Rattle.rr_eval.specs.declared.problem.Answer.{Answer};
 ghost use Rattle.rr_eval.specs.Frames.{below_of, base_of, Nested, IsRareFrame, IsQuietFrame};
 ghost use Rattle.rr_eval.specs.Requests.{Course};
-ghost use Rattle.rr_eval.specs.Turns.{IsNested, remaining, after_answer, more_of, power, size};
+ghost use Rattle.rr_eval.specs.Turns.{IsNested, remaining, remaining_with, after_answer, more_of, power, size};
 ghost use Rattle.rr_eval.specs.Usual.{IsTop};
 ghost use Rattle.rr_eval.specs.Views.{view_of};
-ghost use Rattle.rr_eval.specs.Within.{Reach, reach, IsFrameReached, IsAnswerReached, AreReached};
+ghost use Rattle.rr_eval.specs.Within.{Reach, reach, IsReached, IsFrameReached, IsAnswerReached, AreReached};
 
 use crate::call_stack::{CallValue, Variable};
 use crate::engine::Engine;
@@ -23,6 +23,26 @@ use rr_space::{Ref, Space};
 use rr_tree::{BinaryOperator, NodeId, Program};
 
 impl Engine {
+    /// Takes the topmost frame, which is this one and gets an answer, off the stack.
+    #[tactic(auto, unfolding(crate::specs::Within::AreReached))]
+    #[inline(always)]
+    fn drop_top(&mut self, frame: Frame, answer: Answer)
+        requires top { IsTop self.old.frames.items frame }
+        requires nested { IsNested (view_of self.old) }
+        ensures goes { (p : Program) (t : Table) (h : Course) (n : ℕ) → remaining_with p (record (view_of self.old) { control = Control.Give answer }) t h n ≡ after_answer p (view_of self.new) t frame answer h n }
+        ensures nested { Nested (reverse self.new.frames.items) (below_of frame self.new.held.items) }
+        ensures base { base_of frame ≤ length self.new.held.items }
+        ensures within { (k : Reach) → AreReached k (view_of self.old) → AreReached k (view_of self.new) }
+        ensures frame { (k : Reach) → AreReached k (view_of self.old) → IsFrameReached k frame }
+        ensures room { length self.new.frames.items < vec_capacity self.new.frames }
+        ensures size { 3 * length self.new.frames.items + 3 ≡ 3 * length self.old.frames.items }
+        ensures control { self.new.control ≡ self.old.control }
+        ensures left { self.new.left ≡ self.old.left }
+    {
+        let rest = self.frames.len().saturating_sub(1);
+        self.frames.truncate(rest);
+    }
+
     /// Takes the topmost frame, which is this one, off the stack.
     #[tactic(auto, unfolding(crate::specs::Within::AreReached))]
     #[inline(always)]
@@ -41,8 +61,27 @@ impl Engine {
         ensures control { self.new.control ≡ self.old.control }
         ensures left { self.new.left ≡ self.old.left }
     {
-        let rest = self.frames.len().saturating_sub(1);
-        self.frames.truncate(rest);
+        self.drop_top(frame, answer);
+    }
+
+    /// Gives the topmost frame a value: a list of statements goes on at once.
+    #[tactic(auto, unfolding(crate::specs::Within::AreReached))]
+    #[inline(always)]
+    pub fn give_top(&mut self, value: Ref)
+        requires nested { IsNested (view_of self.old) }
+        ensures goes { (p : Program) (t : Table) (h : Course) (n : ℕ) → remaining_with p (record (view_of self.old) { control = Control.Give (Answer.Gave value) }) t h n ≡ remaining_with p (view_of self.new) t h n }
+        ensures nested { IsNested (view_of self.new) }
+        ensures within { (k : Reach) → AreReached k (view_of self.old) → IsReached k value → AreReached k (view_of self.new) }
+        ensures left { self.new.left ≡ self.old.left }
+        ensures size { size (view_of self.new) ≤ 3 * length self.old.frames.items + 4 }
+    {
+        match self.frames.last() {
+            Some(&Frame::Rest(end, count)) => {
+                self.drop_top(Frame::Rest(end, count), Answer::Gave(value));
+                self.begin(end, count);
+            }
+            _ => self.control = Control::Give(Answer::Gave(value)),
+        }
     }
 
     /// Goes on behind the left operand of an operator.
@@ -287,17 +326,9 @@ impl Engine {
         self.resume_quietly(program, space, frame, value);
     }
 
-    /// Gives the topmost frame, which is told apart from those before, a value, where that is usual.
-    fn resume_apart(
-        &mut self,
-        prepared: &Prepared,
-        space: &Space,
-        frame: Frame,
-        value: Ref,
-        stop: u64,
-    ) -> bool
+    /// Gives the topmost frame, which is none of the most frequent kinds, a value, where that is usual: it answers whether it was done.
+    fn resume_apart(&mut self, prepared: &Prepared, space: &Space, value: Ref, stop: u64) -> bool
         requires control { self.old.control ≡ Control.Give (Answer.Gave value) }
-        requires top { IsTop self.old.frames.items frame }
         requires nested { IsNested (view_of self.old) }
         requires within { stop ≤ self.old.left }
         ensures goes { (h : Course) → remaining prepared.now.program (view_of self.old) space.now h ≡ remaining prepared.now.program (view_of self.new) space.now h }
@@ -308,6 +339,9 @@ impl Engine {
         ensures falls { IsTrue result → size (view_of self.new) < size (view_of self.old) }
         ensures less { size (view_of self.new) ≤ size (view_of self.old) }
     {
+        let Some(&frame) = self.frames.last() else {
+            return false;
+        };
         match frame {
             Frame::And(_) | Frame::Or(_) | Frame::Not | Frame::Break | Frame::Next =>
                 self.resume_plainly(&prepared.program, frame, value, stop),
@@ -358,27 +392,11 @@ impl Engine {
                 self.resume_rescue(program, end, count, otherwise, value);
             }
             Some(&Frame::Round(iteration)) => {
-                return self.resume_turn(program, space, iteration, value);
+                return self.resume_turn(program, space, iteration, value, stop);
             }
-            Some(&frame) => return self.resume_apart(prepared, space, frame, value, stop),
-            None => return false,
+            _ => return self.resume_apart(prepared, space, value, stop),
         }
         true
-    }
-
-    /// Passes a `return` over statements.
-    #[inline(always)]
-    fn pass_rest(&mut self, end: NodeId, count: u32, value: Ref)
-        requires control { self.old.control ≡ Control.Give (Answer.Returned value) }
-        requires top { IsTop self.old.frames.items (Frame.Rest end count) }
-        requires nested { IsNested (view_of self.old) }
-        ensures goes { (p : Program) (t : Table) (h : Course) → remaining p (view_of self.old) t h ≡ remaining p (view_of self.new) t h }
-        ensures nested { IsNested (view_of self.new) }
-        ensures within { (k : Reach) → AreReached k (view_of self.old) → AreReached k (view_of self.new) }
-        ensures left { self.new.left ≡ self.old.left }
-        ensures falls { size (view_of self.new) < size (view_of self.old) }
-    {
-        self.take_top(Frame::Rest(end, count), Answer::Returned(value));
     }
 
     /// Ends a method by a `return`.
@@ -397,9 +415,27 @@ impl Engine {
         self.end_method(by, value);
     }
 
+    /// Passes a `return` over statements, and ends the method whose they are.
+    #[inline(always)]
+    fn pass_rest(&mut self, end: NodeId, count: u32, value: Ref)
+        requires control { self.old.control ≡ Control.Give (Answer.Returned value) }
+        requires top { IsTop self.old.frames.items (Frame.Rest end count) }
+        requires nested { IsNested (view_of self.old) }
+        ensures goes { (p : Program) (t : Table) (h : Course) → remaining p (view_of self.old) t h ≡ remaining p (view_of self.new) t h }
+        ensures nested { IsNested (view_of self.new) }
+        ensures within { (k : Reach) → AreReached k (view_of self.old) → AreReached k (view_of self.new) }
+        ensures left { self.new.left ≡ self.old.left }
+        ensures falls { size (view_of self.new) < size (view_of self.old) }
+    {
+        self.take_top(Frame::Rest(end, count), Answer::Returned(value));
+        if let Some(&Frame::Back(by)) = self.frames.last() {
+            self.pass_back(by, value);
+        }
+    }
+
     /// Passes a `return` through the topmost frame, where that is usual: it answers whether it was done.
     #[inline(always)]
-    fn pass_often(&mut self, value: Ref) -> bool
+    pub fn pass_often(&mut self, value: Ref) -> bool
         requires control { self.old.control ≡ Control.Give (Answer.Returned value) }
         requires nested { IsNested (view_of self.old) }
         ensures goes { (p : Program) (t : Table) (h : Course) → remaining p (view_of self.old) t h ≡ remaining p (view_of self.new) t h }

@@ -1,6 +1,7 @@
 //! Nodes that are usual: what they do needs neither memory nor the objects.
 
-ghost use Rattle.std.specs.Prelude.{◌≡◌, ◌+◌, ◌*◌, ◌<◌, ◌≤◌, ◌^◌, [], length, reverse, vec_capacity, Option, Some, IfSome, IsTrue, IsFalse, MatchOption};
+ghost use Rattle.std.specs.Prelude.{◌≡◌, ◌+◌, ◌*◌, ◌<◌, ◌≤◌, ◌^◌, [], length, reverse, vec_capacity, Option, Some, IfSome, IsTrue, IsFalse, MatchOption, slice_index_or, if◌then◌else◌};
+ghost use Rattle.rr_builtin.specs.Objects.{is_truthy};
 ghost use Rattle.rr_space.specs.Tables.{Table, Below};
 ghost use Rattle.rr_tree.specs.Tree.{tree_at};
 ghost use Rattle.rr_tree.specs.declared.node.Node.{Node};
@@ -19,12 +20,21 @@ ghost use Rattle.rr_eval.specs.Within.{Reach, reach, IsReached, IsFrameReached, 
 use crate::call_stack::Variable;
 use crate::engine::Engine;
 use crate::frame::{Control, Frame};
-use crate::nodes::{evaluated_node, evaluated_place};
+use crate::nodes::{evaluated_node, evaluated_place, node_at};
 use crate::prepared::Prepared;
 use crate::problem::Answer;
 use rr_base::Sym;
+use rr_builtin::is_truthy;
 use rr_space::{Ref, Space};
 use rr_tree::{BinaryOperator, Node, NodeId, Program};
+
+/// The part of a choice that its condition chooses.
+#[inline(always)]
+fn chosen(yes: NodeId, no: NodeId, condition: Ref) -> NodeId
+    ensures { result ≡ if is_truthy condition then yes else no }
+{
+    if is_truthy(condition) { yes } else { no }
+}
 
 impl Engine {
     /// Evaluates the part that a node evaluates first: its value, where it needs no frame. Otherwise a frame waits for it.
@@ -91,23 +101,27 @@ impl Engine {
         }
     }
 
-    /// Gives nil at once, where `nil` comes next and the steps do not stop before: what a choice without an `else` is most of the time.
+    /// Goes on with a part of a choice: with nil at once, which a choice without an `else` comes to most of the time, where the steps do
+    /// not stop before.
+    #[tactic(auto, unfolding(crate::specs::Within::AreReached))]
     #[inline(always)]
-    fn give_nil(&mut self, program: &Program, stop: u64)
+    fn go_into(&mut self, program: &Program, part: NodeId, stop: u64)
         requires within { stop ≤ self.old.left }
         requires nested { IsNested (view_of self.old) }
-        ensures goes { (t : Table) (h : Course) → remaining program.now (view_of self.old) t h ≡ remaining program.now (view_of self.new) t h }
+        ensures goes { (t : Table) (h : Course) → remaining program.now (record (view_of self.old) { control = Control.Enter part }) t h ≡ remaining program.now (view_of self.new) t h }
         ensures nested { IsNested (view_of self.new) }
         ensures within { (k : Reach) → AreReached k (view_of self.old) → AreReached k (view_of self.new) }
         ensures left { stop ≤ self.new.left }
         ensures kept { self.new.left ≤ self.old.left }
-        ensures falls { power (view_of self.new) + self.old.left ≤ power (view_of self.old) + self.new.left }
+        ensures size { size (view_of self.new) ≤ 3 * length self.old.frames.items + 4 }
     {
-        if let Control::Enter(here) = self.control
-            && self.left > stop
-            && let Node::Nil = evaluated_node(program, here)
+        if self.left > stop
+            && let Node::Nil = evaluated_node(program, part)
         {
-            self.visit_quick(program, here, stop);
+            self.left -= 1;
+            self.control = Control::Give(Answer::Gave(Ref::Nil));
+        } else {
+            self.control = Control::Enter(part);
         }
     }
 
@@ -136,8 +150,7 @@ impl Engine {
     {
         let frame = Frame::Branch(yes, no);
         if let Some(value) = self.first_value(program, here, frame, condition, stop) {
-            self.take_branch(yes, no, value);
-            self.give_nil(program, stop);
+            self.go_into(program, chosen(yes, no, value), stop);
         }
     }
 
@@ -186,7 +199,7 @@ impl Engine {
         ensures size { size (view_of self.new) ≤ 3 * length self.old.frames.items + 4 }
     {
         let place = evaluated_place(program, here);
-        match program.nodes.get(place as usize) {
+        match node_at(program, place) {
             Some(
                 &Node::Loop {
                     until,
@@ -282,6 +295,29 @@ impl Engine {
         self.left -= 1;
     }
 
+    /// Evaluates statements at once, where a list of them comes next, there is room for a frame, and the steps do not stop before.
+    #[inline(always)]
+    pub fn enter_statements(&mut self, program: &Program, stop: u64)
+        requires within { stop ≤ self.old.left }
+        requires nested { IsNested (view_of self.old) }
+        ensures goes { (t : Table) (h : Course) → remaining program.now (view_of self.old) t h ≡ remaining program.now (view_of self.new) t h }
+        ensures nested { IsNested (view_of self.new) }
+        ensures within { (k : Reach) → AreReached k (view_of self.old) → AreReached k (view_of self.new) }
+        ensures left { stop ≤ self.new.left }
+        ensures kept { self.new.left ≤ self.old.left }
+        ensures falls { power (view_of self.new) + self.old.left ≤ power (view_of self.old) + self.new.left }
+    {
+        if let Control::Enter(here) = self.control
+            && self.left > stop
+            && self.frames.len() < self.frames.capacity()
+        {
+            let place = evaluated_place(program, here);
+            if let Some(&Node::Sequence { first, count }) = node_at(program, place) {
+                self.visit_statements(program, here, first, count, stop);
+            }
+        }
+    }
+
     /// Evaluates an instance variable of `self`.
     #[inline(always)]
     fn visit_field(&mut self, program: &Program, space: &Space, here: NodeId, name: Sym, stop: u64)
@@ -328,12 +364,12 @@ impl Engine {
         prepared: &Prepared,
         space: &Space,
         here: NodeId,
-        node: Node,
+        place: NodeId,
         stop: u64,
     ) -> bool
         requires control { self.old.control ≡ Control.Enter here }
-        requires tree { tree_at prepared.now.program.nodes.items here ≡ evaluated_tree prepared.now.program.nodes.items node }
-        requires evaluated { IsEvaluated node }
+        requires same { tree_at prepared.now.program.nodes.items here ≡ tree_at prepared.now.program.nodes.items place }
+        requires evaluated { IsEvaluated (slice_index_or prepared.now.program.nodes.items place Node.Nil) }
         requires some { stop < self.old.left }
         requires room { length self.old.frames.items < vec_capacity self.old.frames }
         requires nested { IsNested (view_of self.old) }
@@ -345,33 +381,37 @@ impl Engine {
         ensures spends { IsTrue result → self.new.left < self.old.left }
         ensures falls { power (view_of self.new) + self.old.left ≤ power (view_of self.old) + self.new.left }
     {
-        match node {
-            Node::Call {
-                name,
-                first,
-                count,
-                ..
-            } => self.call_usual(prepared, space, here, name, first, count, stop),
-            Node::Send {
-                receiver,
-                name,
-                first,
-                count,
-                ..
-            } => self.send_usual(prepared, space, here, name, receiver, first, count, stop),
-            Node::Bare { name, .. } => self.bare_usual(prepared, space, here, name, stop),
-            Node::Yield { first, count } => {
+        match node_at(&prepared.program, place) {
+            Some(
+                &Node::Call {
+                    name,
+                    first,
+                    count,
+                    ..
+                },
+            ) => self.call_usual(prepared, space, here, name, first, count, stop),
+            Some(
+                &Node::Send {
+                    receiver,
+                    name,
+                    first,
+                    count,
+                    ..
+                },
+            ) => self.send_usual(prepared, space, here, name, receiver, first, count, stop),
+            Some(&Node::Bare { name, .. }) => { self.bare_usual(prepared, space, here, name, stop) }
+            Some(&Node::Yield { first, count }) => {
                 self.yield_usual(prepared, space, here, first, count, stop)
             }
-            Node::Field(name) => {
+            Some(&Node::Field(name)) => {
                 self.visit_field(&prepared.program, space, here, name, stop);
                 true
             }
-            Node::Index(_, _)
-            | Node::Append(_, _)
-            | Node::SetIndex { .. }
-            | Node::SetAttribute { .. } => { false }
-            _ => self.visit_waiting(&prepared.program, here, node, stop),
+            Some(&Node::Index(_, _))
+            | Some(&Node::Append(_, _))
+            | Some(&Node::SetIndex { .. })
+            | Some(&Node::SetAttribute { .. }) => { false }
+            _ => self.visit_waiting(&prepared.program, here, place, stop),
         }
     }
 
@@ -398,7 +438,7 @@ impl Engine {
     {
         let program = &prepared.program;
         let place = evaluated_place(program, here);
-        match program.nodes.get(place as usize) {
+        match node_at(program, place) {
             Some(&Node::Choose(condition, yes, no)) => {
                 self.visit_choice(program, here, condition, yes, no, stop);
             }
@@ -421,8 +461,7 @@ impl Engine {
             Some(&Node::Sequence { first, count }) => {
                 self.visit_statements(program, here, first, count, stop);
             }
-            Some(&node) => return self.visit_called(prepared, space, here, node, stop),
-            None => return self.visit_apart(program, here, stop),
+            _ => return self.visit_called(prepared, space, here, place, stop),
         }
         true
     }

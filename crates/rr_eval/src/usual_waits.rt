@@ -1,6 +1,6 @@
 //! Nodes that are usual and wait for one part: what they do needs neither memory nor the objects.
 
-ghost use Rattle.std.specs.Prelude.{◌≡◌, ◌+◌, ◌<◌, ◌≤◌, [], length, vec_capacity, IsTrue};
+ghost use Rattle.std.specs.Prelude.{◌≡◌, ◌+◌, ◌<◌, ◌≤◌, [], length, vec_capacity, slice_index_or, IsTrue};
 ghost use Rattle.rr_space.specs.Tables.{Table};
 ghost use Rattle.rr_tree.specs.Tree.{tree_at};
 ghost use Rattle.rr_tree.specs.declared.node.Node.{Node};
@@ -11,12 +11,14 @@ ghost use Rattle.rr_eval.specs.Nodes.{evaluated_tree, IsEvaluated};
 ghost use Rattle.rr_eval.specs.Requests.{Course};
 ghost use Rattle.rr_eval.specs.Rules.{rule};
 ghost use Rattle.rr_eval.specs.Script.{Go, Ret, World};
-ghost use Rattle.rr_eval.specs.Turns.{context_of, code_of, IsNested, remaining, power};
+ghost use Rattle.rr_eval.specs.Turns.{context_of, code_of, IsNested, remaining, power, size};
 ghost use Rattle.rr_eval.specs.Views.{view_of};
 ghost use Rattle.rr_eval.specs.Within.{Reach, AreReached};
 
 use crate::engine::Engine;
 use crate::frame::{Control, Frame};
+use crate::nodes::node_at;
+use crate::problem::Answer;
 use rr_base::Sym;
 use rr_tree::{Node, NodeId, Program};
 
@@ -33,10 +35,46 @@ impl Engine {
         ensures within { (k : Reach) → AreReached k (view_of self.old) → AreReached k (view_of self.new) }
         ensures left { stop ≤ self.new.left }
         ensures spends { self.new.left < self.old.left }
+        ensures less { size (view_of self.new) ≤ size (view_of self.old) }
         ensures falls { power (view_of self.new) + self.old.left ≤ power (view_of self.old) + self.new.left }
     {
         self.control = Control::Enter(body);
         self.left -= 1;
+    }
+
+    /// Evaluates the statements of a block at once, where a block comes next and the steps do not stop before.
+    #[inline(always)]
+    pub fn enter_body(&mut self, program: &Program, stop: u64)
+        requires within { stop ≤ self.old.left }
+        requires nested { IsNested (view_of self.old) }
+        ensures goes { (t : Table) (h : Course) → remaining program.now (view_of self.old) t h ≡ remaining program.now (view_of self.new) t h }
+        ensures nested { IsNested (view_of self.new) }
+        ensures within { (k : Reach) → AreReached k (view_of self.old) → AreReached k (view_of self.new) }
+        ensures left { stop ≤ self.new.left }
+        ensures kept { self.new.left ≤ self.old.left }
+        ensures less { size (view_of self.new) ≤ size (view_of self.old) }
+    {
+        if let Control::Enter(here) = self.control
+            && self.left > stop
+            && let Some(&Node::Block { body, .. }) = node_at(program, here)
+        {
+            self.visit_body(program, here, body, stop);
+        }
+    }
+
+    /// Passes a `return` on at once, where one comes next.
+    #[inline(always)]
+    fn pass_on(&mut self)
+        requires nested { IsNested (view_of self.old) }
+        ensures goes { (p : Program) (t : Table) (h : Course) → remaining p (view_of self.old) t h ≡ remaining p (view_of self.new) t h }
+        ensures nested { IsNested (view_of self.new) }
+        ensures within { (k : Reach) → AreReached k (view_of self.old) → AreReached k (view_of self.new) }
+        ensures left { self.new.left ≡ self.old.left }
+        ensures less { size (view_of self.new) ≤ size (view_of self.old) }
+    {
+        if let Control::Give(Answer::Returned(value)) = self.control {
+            self.pass_often(value);
+        }
     }
 
     /// Evaluates a `return`.
@@ -56,6 +94,7 @@ impl Engine {
     {
         if let Some(found) = self.first_value(program, here, Frame::Return, value, stop) {
             self.leave_method(found);
+            self.pass_on();
         }
     }
 
@@ -118,10 +157,16 @@ impl Engine {
 
     /// Evaluates a node that waits for one part, or a node of another kind, where that is usual: it answers whether it was done.
     #[inline(always)]
-    pub fn visit_waiting(&mut self, program: &Program, here: NodeId, node: Node, stop: u64) -> bool
+    pub fn visit_waiting(
+        &mut self,
+        program: &Program,
+        here: NodeId,
+        place: NodeId,
+        stop: u64,
+    ) -> bool
         requires control { self.old.control ≡ Control.Enter here }
-        requires tree { tree_at program.now.nodes.items here ≡ evaluated_tree program.now.nodes.items node }
-        requires evaluated { IsEvaluated node }
+        requires same { tree_at program.now.nodes.items here ≡ tree_at program.now.nodes.items place }
+        requires evaluated { IsEvaluated (slice_index_or program.now.nodes.items place Node.Nil) }
         requires some { stop < self.old.left }
         requires room { length self.old.frames.items < vec_capacity self.old.frames }
         requires nested { IsNested (view_of self.old) }
@@ -133,16 +178,20 @@ impl Engine {
         ensures spends { IsTrue result → self.new.left < self.old.left }
         ensures falls { power (view_of self.new) + self.old.left ≤ power (view_of self.old) + self.new.left }
     {
-        match node {
-            Node::Block { body, .. } => self.visit_body(program, here, body, stop),
-            Node::Return(value) => self.visit_return(program, here, value, stop),
-            Node::SetField(name, value) => self.visit_set_field(program, here, name, value, stop),
-            Node::Rescue {
-                body,
-                first,
-                count,
-                otherwise,
-            } => self.visit_rescue(program, here, body, first + count, count, otherwise, stop),
+        match node_at(program, place) {
+            Some(&Node::Block { body, .. }) => self.visit_body(program, here, body, stop),
+            Some(&Node::Return(value)) => self.visit_return(program, here, value, stop),
+            Some(&Node::SetField(name, value)) => {
+                self.visit_set_field(program, here, name, value, stop);
+            }
+            Some(
+                &Node::Rescue {
+                    body,
+                    first,
+                    count,
+                    otherwise,
+                },
+            ) => self.visit_rescue(program, here, body, first + count, count, otherwise, stop),
             _ => return self.visit_apart(program, here, stop),
         }
         true

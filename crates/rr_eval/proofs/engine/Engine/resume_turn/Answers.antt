@@ -28,11 +28,12 @@ returns-then-begin_next-clause-goes c = λ h.
     ∙ ap (λ held. unwind code (reverse new.frames) (take i.base held.items) (runs_in code (script held.items) (state_of p new t h) m.left)) (sym c.pop_call.ensures.held)
     ∙ c.begin_next.ensures.goes c.if-begin_next.true h m.left
     ∙ ap (λ k. remaining_with p (view_of c.begin_next.new.self) t h k) (sym (c.begin_next.ensures.left ∙ c.pop_call.ensures.left))
+    ∙ c.enter_body.ensures.goes t h
 
 pub returns-then-begin_next-clause-within : goal.returns-then-begin_next-clause-within
 returns-then-begin_next-clause-within c clusters h =
     let k = reach (length c.args.space.now.slots) clusters in
-    c.begin_next.ensures.within clusters (c.pop_call.ensures.within k (c.take_top.ensures.within k h))
+    c.enter_body.ensures.within k (c.begin_next.ensures.within clusters (c.pop_call.ensures.within k (c.take_top.ensures.within k h)))
 
 pub returns-clause-goes : goal.returns-clause-goes
 returns-clause-goes c = λ h.

@@ -17,7 +17,8 @@ returns-then-begin_yield-clause-goes c = λ _ h.
     one_yielded p m t c.args.here c.args.first found.steps found.value h c.requires.control c.requires.script c.requires.plain c.requires.takes (omega (arith, enough))
     ∙ c.begin_yield.ensures.goes c.if-begin_yield.true h (m.left - (found.steps + 1))
     ∙ ap (λ n. remaining_with p (view_of c.begin_yield.new.self) t h (n - (found.steps + 1))) (sym c.begin_yield.ensures.left)
+    ∙ c.enter_body.ensures.goes t h
 
 pub returns-then-begin_yield-clause-within : goal.returns-then-begin_yield-clause-within
 returns-then-begin_yield-clause-within c k h =
-    with_left k (view_of c.begin_yield.new.self) _ (c.begin_yield.ensures.within k h (all_cons (IsReached k) c.args.found.value [] (c.requires.value k h) (all_nil (IsReached k))))
+    c.enter_body.ensures.within k (with_left k (view_of c.begin_yield.new.self) _ (c.begin_yield.ensures.within k h (all_cons (IsReached k) c.args.found.value [] (c.requires.value k h) (all_nil (IsReached k)))))
