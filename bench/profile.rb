@@ -83,7 +83,7 @@ module PF
     def inspect = PF.txt(self, [])
     def to_s = PF.txt(self, [])
     def each
-      keys.each { |k| yield k, self[k] if key?(k) }
+      keys.each { |k| yield [k, self[k]] if key?(k) }
       self
     end
   end
