@@ -34,7 +34,21 @@ an array that a call gives is joined|class A; def to_s; \"x\"; end; end; def a; 
 a block is given what a call gives|def f(x); x; end; def g; yield f([1, 2]); end; g { ^pa, b^p p b }; g { ^pa^p p a }^n|2^n[1, 2]^n|
 no block for what a call gives|def f(x); x; end; def g; yield f(1); end; begin; g; rescue LocalJumpError => e; puts e.message; end^n|no block^n|
 a method in the place of one of all values, of what a call gives|class A; def inspect; \"a\"; end; def to_s; 5; end; end; def a; A.new; end; p a.to_s, a^n|5^na^n|
-a method too deep in its argument|def f(n); f(f(n)); end; begin; f(0); rescue SystemStackError; p 1; end^n|1^n|";
+a method too deep in its argument|def f(n); f(f(n)); end; begin; f(0); rescue SystemStackError; p 1; end^n|1^n|
+an integer on the left|x = 5; p 2 * x, 10 - x, 1 < x, 5 == x; p 3 if 4 < x^n|10^n5^ntrue^ntrue^n3^n|
+a remainder by zero|x = 7; begin; x = x % 0; rescue ZeroDivisionError => e; puts e.message; end; p x^n|divided by 0^n7^n|
+a product out of range|x = 4611686018427387904; y = 1; begin; y = x * 4; rescue RangeError; p 2; end; p y^n|2^n1^n|
+an assignment as the last statement|def f; a = 1; b = a + 1; end; p f^n|2^n|
+an assignment as a condition|a = 0; if (a = a + 1) > 0 then p a end^n|1^n|
+assignments in a block|r = 0; 2.times { ^px^p y = x + 1; r = r + y }; p r^n|3^n|
+an assignment before what raises|a = 1; begin; a = 2; raise \"b\"; a = 3; rescue; p a; end^n|2^n|
+a return among the statements of a choice|def f(n); if n > 0; a = n; return a * 2; end; 0; end; p f(3), f(0)^n|6^n0^n|
+a return out of a loop|def f; i = 0; while true; i = i + 1; return i if i > 2; end; end; p f^n|3^n|
+a return out of a begin|def f; begin; return 1; ensure; p 2; end; end; p f^n|2^n1^n|
+a return in a block of a method|def f; [1, 2].each { ^px^p return x }; 3; end; p f^n|1^n|
+a choice without an else as the last statement|def f(n); x = n; if x > 1 then x end; end; p f(2), f(1)^n|2^nnil^n|
+a reader that is given an argument|class A; attr_reader :b; end; a = A.new; begin; a.b(1); rescue ArgumentError => e; puts e.message; end; p a.b^n|wrong number of arguments (given 1, expected 0)^nnil^n|
+blocks without statements|def f; yield 1; end; p f { ^px^p }, 2.times { }^n|nil^n2^n|";
 
 #[test]
 fn parts_at_once_print_what_is_wanted(rt: HostRuntime) -> Result<(), Fail> {
