@@ -5,6 +5,7 @@ pub mod Operating
 pub mod Pairing
 pub mod Pieces
 pub mod Plain
+pub mod Simply
 pub mod Showing
 pub mod Depth
 pub mod Unknown

@@ -3,7 +3,7 @@ use Rattle.std.proofs.Common.{◌≡◌, ℕ, suc, ◌+◌, ◌-◌, ◌<◌, ap
 use Rattle.rr_space.specs.Tables.{Table}
 use Rattle.rr_space.specs.declared.refer.Ref.{Ref}
 use Rattle.rr_space.specs.declared.refer.Ref.TheVariants.{Int}
-use Rattle.rr_tree.specs.Tree.{Tree, int, local, binary, tree_at}
+use Rattle.rr_tree.specs.Tree.{Tree, int, local, tree_at}
 use Rattle.rr_tree.specs.declared.node.BinaryOperator.{BinaryOperator}
 use Rattle.rr_tree.specs.declared.program.Program.{Program}
 use Rattle.rr_eval.specs.declared.frame.Frame.{Frame}
@@ -11,11 +11,10 @@ use Rattle.rr_eval.specs.declared.frame.Frame.TheVariants.{Left}
 use Rattle.rr_eval.specs.declared.frame.Control.TheVariants.{Enter}
 use Rattle.rr_eval.specs.declared.problem.Answer.{Answer}
 use Rattle.rr_eval.specs.declared.problem.Answer.TheVariants.{Gave}
-use Rattle.rr_eval.specs.declared.problem.Response.TheVariants.{Gives}
 use Rattle.rr_eval.specs.Frames.{Code, means, runs_in, resumed, first_tree, unwind, IsNew, base_of, below_of, Nested}
 use Rattle.rr_eval.specs.Operators.{integers}
 use Rattle.rr_eval.specs.Requests.{Course}
-use Rattle.rr_eval.specs.Rules.{rule, on_value, with_value, operation, settled}
+use Rattle.rr_eval.specs.Rules.{rule, on_value, operation, settled}
 use Rattle.rr_eval.specs.Script.{State, World, Go, Ended, after}
 use Rattle.rr_eval.specs.Turns.{context_of, code_of, state_of, remaining, after_script, after_answer, leaf_value}
 use Rattle.rr_eval.specs.Usual.{Takes, TakesNow}
@@ -38,18 +37,6 @@ pub leaf_takes : (p : Program) (m : View) (tree : Tree) (v : Ref) → leaf_value
 leaf_takes p m (int z) v e = λ t h. answers (code_of p h.world) (int z) (int z) (state_of p m t h) v refl (λ n. ap (λ x. Ended (Gave x) (state_of p m t h) n) (cc e))
 leaf_takes p m (local depth slot x behind) v e = λ t h. answers (code_of p h.world) (local depth slot x behind) (local depth slot x behind) (state_of p m t h) v refl (λ n. ap (λ y. Ended (Gave y) (state_of p m t h) n) (cc e))
 leaf_takes p m _ v e = absurd (cc e)
-
--- an operator on two leaves that are integers takes three steps
-pub operation_takes : (p : Program) (m : View) (op : BinaryOperator) (a b : Tree) (x y : ℤ) (v : Ref) → leaf_value a m.calls.frames ≡ Some (Int x) → leaf_value b m.calls.frames ≡ Some (Int y) → integers op x y ≡ Gives v → TakesNow p m (binary op a b) 3 v
-operation_takes p m op a b x y v first second is = λ t h n.
-    let c = code_of p h.world in
-    let s = state_of p m t h in
-    let three : 3 + n ≡ suc (1 + (1 + n)) = omega arith in
-    ap (means c (binary op a b) s) three
-    ∙ meaning_rule c.context c.world (binary op a b) s (1 + (1 + n))
-    ∙ ap (λ o. after o (λ r. runs_in c (on_value (λ w. with_value b (operation c.context op w)) r))) (leaf_takes p m a (Int x) first t h (1 + n))
-    ∙ ap (λ o. after o (λ r. runs_in c (on_value (operation c.context op (Int x)) r))) (leaf_takes p m b (Int y) second t h n)
-    ∙ ap (λ r. runs_in c (settled c.context r) s n) is
 
 -- A node that evaluates a part first, for which a frame waits: the frame gets the value.
 pub under : (p : Program) (m : View) (t : Table) (here part steps : ℕ) (v : Ref) (f : Frame) (h : Course) → m.control ≡ Enter here

@@ -22,6 +22,7 @@ pub mod RactorMethods
 pub mod Sharing
 pub mod Tasks
 pub mod Awaited
+pub mod SimpleParts
 pub mod Prepared
 pub mod Variables
 pub mod Basics

@@ -1,6 +1,6 @@
 //! The machine: a stack of frames, each of which waits for the answer of a part.
 
-ghost use Rattle.std.specs.Prelude.{◌≡◌, ◌+◌, ◌*◌, ◌<◌, ◌≤◌, List, [], ◌∷◌, ◌++◌, length, reverse, vec_capacity, Option, Some, IfOk, IfErr, IfSome, IsTrue, IsFalse, OnOk, MatchOption};
+ghost use Rattle.std.specs.Prelude.{◌≡◌, ◌+◌, ◌*◌, ◌<◌, ◌≤◌, [], ◌∷◌, ◌++◌, length, reverse, vec_capacity, Option, Some, IfOk, IfErr, IfSome, IsTrue, IsFalse, OnOk, MatchOption};
 ghost use Rattle.rr_base.specs.declared.fault.Fault.{Fault};
 ghost use Rattle.rr_space.specs.declared.refer.Ref.{Ref};
 ghost use Rattle.rr_eval.specs.Blocks.{running};
@@ -24,7 +24,6 @@ ghost use Rattle.std.specs.List.{All};
 use crate::call_stack::{CallStack, Variable};
 use crate::frame::{Control, Frame};
 use crate::nodes::node_at;
-use crate::operator::on_integers;
 use crate::prepared::Prepared;
 use crate::problem::Answer;
 use crate::request::Request;
@@ -108,22 +107,6 @@ impl Engine {
         self.calls.running().itself
     }
 
-    /// The integer that a variable is.
-    #[inline(always)]
-    pub fn local_integer(&self, program: &Program, place: NodeId) -> Option<i64>
-        ensures { IfSome result (λ z. leaf_value (tree_at program.now.nodes.items place) self.now.calls.frames ≡ Some (Ref.Int z)) }
-    {
-        match node_at(program, place) {
-            Some(&Node::Local { depth, slot, .. }) => {
-                match self.variable(Variable { depth, slot }) {
-                    Ref::Int(z) => Some(z),
-                    _ => None,
-                }
-            }
-            _ => None,
-        }
-    }
-
     /// The integer that a part is, where it is a literal or a variable.
     #[inline(always)]
     pub fn leaf(&self, program: &Program, place: NodeId) -> Option<i64>
@@ -157,7 +140,7 @@ impl Engine {
         match (self.leaf(program, a), self.leaf(program, b)) {
             (Some(x), Some(y)) => {
                 self.left -= 3;
-                self.settle(on_integers(op, x, y));
+                self.compute(op, x, y);
                 true
             }
             _ => false,

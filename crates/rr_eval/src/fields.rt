@@ -1,6 +1,6 @@
 //! Instance variables of `self`.
 
-ghost use Rattle.std.specs.Prelude.{◌≡◌, ◌+◌, ◌*◌, ◌≤◌, ℕ, [], ◌∷◌, length, Option, Some, IfOk, IfErr};
+ghost use Rattle.std.specs.Prelude.{◌≡◌, ◌+◌, ◌*◌, ◌≤◌, ℕ, length, Option, Some, IfOk, IfErr};
 ghost use Rattle.std.specs.List.{All};
 ghost use Rattle.rr_space.specs.Parts.{value_of};
 ghost use Rattle.rr_space.specs.Tables.{Table, Below};
@@ -31,6 +31,7 @@ use rr_space::{Ref, Space};
 use rr_store::StoreState;
 
 /// What an instance variable of an object holds.
+#[inline(always)]
 pub fn read_field(space: &Space, object: Ref, name: Sym) -> Response
     ensures is { result ≡ field_response space.now (field_at space.now object name.0) }
     ensures within { (clusters : Option Below) → IsResponseReached (reach (length space.now.slots) clusters) result }

@@ -160,6 +160,30 @@ pub enum Control {
     Assign(Spot, Ref),
 }
 
+impl Control {
+    /// Goes on with a part. Where a part came next before, its number alone is written.
+    #[inline(always)]
+    pub fn enter(&mut self, part: NodeId)
+        ensures { self.new ≡ Control.Enter part }
+    {
+        match self {
+            Control::Enter(place) => *place = part,
+            _ => *self = Control::Enter(part),
+        }
+    }
+
+    /// Goes on with a value. Where a value came next before, it alone is written.
+    #[inline(always)]
+    pub fn give(&mut self, value: Ref)
+        ensures { self.new ≡ Control.Give (Answer.Gave value) }
+    {
+        match self {
+            Control::Give(Answer::Gave(place)) => *place = value,
+            _ => *self = Control::Give(Answer::Gave(value)),
+        }
+    }
+}
+
 /// The values that stand for a frame.
 #[inline(always)]
 pub fn standing(held: &Vec<Ref>, frame: Frame) -> &[Ref]

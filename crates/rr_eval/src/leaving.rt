@@ -29,7 +29,10 @@ impl Engine {
         ensures size { size (view_of self.new) ≡ 3 * length self.old.frames.items + 2 }
     {
         self.drop_frame();
-        self.control = Control::Give(valued(by, Answer::Gave(value)));
+        match by {
+            CallValue::Method => self.control.give(value),
+            _ => self.control = Control::Give(valued(by, Answer::Gave(value))),
+        }
     }
 
     /// A block that a `yield` calls ends with a value, and its variables go.
@@ -44,7 +47,7 @@ impl Engine {
         ensures size { size (view_of self.new) ≡ 3 * length self.old.frames.items + 2 }
     {
         self.drop_frame();
-        self.control = Control::Give(Answer::Gave(value));
+        self.control.give(value);
     }
 
     /// `return` with a value.

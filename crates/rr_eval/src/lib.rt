@@ -67,6 +67,7 @@ mod setting;
 mod several;
 mod sharing;
 mod show;
+mod simple_parts;
 mod speaking;
 mod special;
 mod splats;

@@ -68,8 +68,8 @@ impl Engine {
         ensures left { self.new.left ≡ self.old.left }
         ensures size { size (view_of self.new) ≤ 3 * length self.old.frames.items + 4 }
     {
+        self.control.enter(part);
         push_within(&mut self.frames, frame);
-        self.control = Control::Enter(part);
     }
 
     /// Begins with the last `count` statements before `end`.
@@ -86,7 +86,7 @@ impl Engine {
     {
         match count {
             0 => self.control = Control::Give(Answer::Gave(Ref::Nil)),
-            1 => self.control = Control::Enter(end.saturating_sub(1)),
+            1 => self.control.enter(end.saturating_sub(1)),
             _ => self.enter_above(Frame::Rest(end, count - 1), end.saturating_sub(count)),
         }
     }

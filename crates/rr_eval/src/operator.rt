@@ -33,7 +33,7 @@ pub fn opposite(x: i64) -> Response
 
 /// The problem of an operator on two integers.
 #[inline(never)]
-fn failed(problem: NumberProblem) -> Response
+pub fn failed(problem: NumberProblem) -> Response
     ensures does { result ≡ settled_number (number_given (Result.Err problem)) }
     ensures within { (k : Reach) → IsResponseReached k result }
 {
@@ -71,18 +71,6 @@ pub fn computed(op: BinaryOperator, x: i64, y: i64) -> Result<Ref, NumberProblem
         BinaryOperator::NotEqual => return Ok(Ref::Truth(x != y)),
     };
     Ok(Ref::Int(number))
-}
-
-/// An operator on two integers.
-#[inline(always)]
-pub fn on_integers(op: BinaryOperator, x: i64, y: i64) -> Response
-    ensures does { result ≡ integers op x y }
-    ensures within { (k : Reach) → IsResponseReached k result }
-{
-    match computed(op, x, y) {
-        Ok(value) => Response::Gives(value),
-        Err(problem) => failed(problem),
-    }
 }
 
 /// Makes a new text. A refused growth leaves the objects as they were.

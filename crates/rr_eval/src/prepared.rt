@@ -1,6 +1,6 @@
 //! Programs that are ready to run.
 
-ghost use Rattle.std.specs.Prelude.{◌≡◌, ◌++◌, ◌∷◌, ℕ, [], codes, map, None, Some, OnOk, IfOk, IsTrue, slice_index_or};
+ghost use Rattle.std.specs.Prelude.{◌≡◌, ◌++◌, ◌∷◌, [], codes, map, None, Some, IfOk, IfSome, IsTrue, slice_index_or};
 ghost use Rattle.rr_eval.specs.Above.{method_above};
 ghost use Rattle.std.specs.Option.{option_map};
 ghost use Rattle.rr_tree.specs.Tree.{tree_at};
@@ -19,6 +19,7 @@ ghost use Rattle.rr_base.specs.declared.name.TheConstants.ClassId.{OBJECT};
 ghost use Rattle.rr_space.specs.declared.kind.Kind.{Kind as Kinds};
 ghost use Rattle.rr_space.specs.Kinds.{class_at};
 ghost use Rattle.rr_eval.specs.Prepared.{AreSymbolsOf, ArePlain, ArePlain-prop, IsLocal, callable_of, plain_method, work_in, initializer_of};
+ghost use Rattle.rr_eval.specs.SimpleParts.{AreSimple, AreSimple-prop, simple_of};
 ghost use Rattle.rr_eval.specs.Speaking.{symbol_asked};
 ghost use Rattle.rr_eval.specs.Turns.{context_of};
 
@@ -28,6 +29,7 @@ use crate::nodes::evaluated_node;
 use crate::operator_symbols::OperatorSymbols;
 use crate::ractor_method::ractor_method;
 use crate::serve::method_of;
+use crate::simple_parts::{SimplePart, simple_parts};
 use rr_base::{ClassId, Sym};
 use rr_builtin::{
     BuiltInMethod, Iteration, Iterations, Methods, has, iterates, iterations_have_names, may_make,
@@ -89,6 +91,8 @@ pub struct Prepared {
     pub(crate) iterations: Iterations,
     /// The methods that a call of a plain object of class Object finds, by the numbers of their names.
     plain: Vec<Option<Definition>>,
+    /// What its parts are, by their places.
+    parts: Vec<SimplePart>,
     ghost finds: { IsTableOf program table } by { IsTableOf-prop program table },
     ghost operates: { AreSymbolsOf program operators },
     ghost speaks: { number_in to_s ≡ symbol_named program (codes "to_s") },
@@ -96,6 +100,7 @@ pub struct Prepared {
     ghost names: { methods ≡ map (λ s. method_named s.items) program.symbols.items },
     ghost iterates: { iterations ≡ map (λ s. iteration_named s.items) program.symbols.items },
     ghost plains: { ArePlain (context_of program) plain.items } by { ArePlain-prop (context_of program) plain.items },
+    ghost simples: { AreSimple program.nodes.items parts.items } by { AreSimple-prop program.nodes.items parts.items },
 }
 
 /// What a call of the method does that a node defines.
@@ -232,6 +237,7 @@ impl Prepared {
         let methods = Methods::of(alloc, &program)?;
         let iterations = Iterations::of(alloc, &program)?;
         let plain = plain_methods(alloc, &program, &table, &methods, &iterations)?;
+        let parts = simple_parts(alloc, &program)?;
         Ok(Prepared {
             program,
             table,
@@ -241,6 +247,7 @@ impl Prepared {
             methods,
             iterations,
             plain,
+            parts,
         })
     }
 
@@ -259,6 +266,17 @@ impl Prepared {
     {
         match self.operators.called_name(&self.program, callee) {
             Some(name) => self.method_in(class, name),
+            None => None,
+        }
+    }
+
+    /// What the part at a place is, where one stands there.
+    #[inline(always)]
+    pub(crate) fn part(&self, place: NodeId) -> Option<&SimplePart>
+        ensures { IfSome result (λ s. s.now ≡ simple_of (tree_at self.now.program.nodes.items place)) }
+    {
+        match self.parts.get(place as usize) {
+            Some(part) => Some(part),
             None => None,
         }
     }
@@ -318,6 +336,25 @@ impl Prepared {
             || ractor_method(&self.program, receiver, callee).is_some()
     }
 
+    /// The program's method that a call of a plain object of class Object runs, which was found beforehand: none inside where it runs no
+    /// method of the program, and none where the receiver is another one.
+    #[inline(always)]
+    pub(crate) fn method_of_plain(
+        &self,
+        space: &Space,
+        receiver: Ref,
+        name: Sym,
+    ) -> Option<&Option<Definition>>
+        ensures { IfSome result (λ f. option_map (callable_of self.now.program.nodes.items) f.now ≡ method_for (context_of self.now.program) space.now receiver (Called.Name name)) }
+    {
+        if let Some(found) = self.plain.get(name.0 as usize)
+            && is_plain(space, receiver)
+        {
+            return Some(found);
+        }
+        None
+    }
+
     /// The program's method that a call of a receiver runs; none where it runs no method of the program.
     #[inline(always)]
     pub(crate) fn method_for(
@@ -329,8 +366,7 @@ impl Prepared {
         ensures { option_map (callable_of self.now.program.nodes.items) result ≡ method_for (context_of self.now.program) space.now receiver callee }
     {
         if let Callee::Name(name) = callee
-            && let Some(found) = self.plain.get(name.0 as usize)
-            && is_plain(space, receiver)
+            && let Some(found) = self.method_of_plain(space, receiver, name)
         {
             return *found;
         }
@@ -338,7 +374,12 @@ impl Prepared {
     }
 
     /// The same, class by class.
-    fn method_looked_up(&self, space: &Space, receiver: Ref, callee: Callee) -> Option<Definition>
+    pub(crate) fn method_looked_up(
+        &self,
+        space: &Space,
+        receiver: Ref,
+        callee: Callee,
+    ) -> Option<Definition>
         ensures { option_map (callable_of self.now.program.nodes.items) result ≡ method_for (context_of self.now.program) space.now receiver callee }
     {
         match self.method_called(space.class_of(receiver), callee) {

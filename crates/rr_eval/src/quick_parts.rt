@@ -18,6 +18,7 @@ ghost use Rattle.rr_eval.specs.Within.{Reach, IsReached, AreReached};
 use crate::call::Target;
 use crate::engine::{Engine, push_within};
 use crate::frame::{Control, Frame};
+use crate::prepared::Prepared;
 use rr_base::Fault;
 use rr_space::Ref;
 use rr_tree::{NodeId, Program};
@@ -46,14 +47,14 @@ impl Engine {
     #[inline(always)]
     pub fn hold_parts(
         &mut self,
-        program: &Program,
+        prepared: &Prepared,
         end: NodeId,
         count: u32,
         stop: u64,
     ) -> QuickParts
         requires some { stop < self.old.left }
         requires space { length self.old.held.items + count ≤ vec_capacity self.old.held }
-        ensures takes { TakeFirst program.now (view_of self.old) (trees_before program.now.nodes.items end count) result.steps (drop (length self.old.held.items) self.new.held.items) (trees_before program.now.nodes.items end result.rest) }
+        ensures takes { TakeFirst prepared.now.program (view_of self.old) (trees_before prepared.now.program.nodes.items end count) result.steps (drop (length self.old.held.items) self.new.held.items) (trees_before prepared.now.program.nodes.items end result.rest) }
         ensures rest { length self.new.held.items + result.rest ≡ length self.old.held.items + count }
         ensures fewer { result.rest ≤ count }
         ensures enough { stop + result.steps < self.old.left }
@@ -64,7 +65,7 @@ impl Engine {
         let mut rest = count;
         let mut steps = 0;
         while rest > 0 {
-            match self.quick_before(program, end.saturating_sub(rest), stop + steps) {
+            match self.quick_before(prepared, end.saturating_sub(rest), stop + steps) {
                 Some(found) => {
                     self.held.push_reserved(found.value);
                     steps += found.steps;
@@ -81,7 +82,7 @@ impl Engine {
     #[inline(always)]
     pub fn hold_receiver(
         &mut self,
-        program: &Program,
+        prepared: &Prepared,
         receiver: Ref,
         end: NodeId,
         count: u32,
@@ -89,7 +90,7 @@ impl Engine {
     ) -> QuickParts
         requires some { stop < self.old.left }
         requires space { length self.old.held.items + count < vec_capacity self.old.held }
-        ensures comes { (t : Table) (next : List Ref → Script) → ComesTo program.now (view_of self.old) t (arguments (context_of program.now) (trees_before program.now.nodes.items end count) (receiver ∷ []) next) result.steps (arguments (context_of program.now) (trees_before program.now.nodes.items end result.rest) (drop (length self.old.held.items) self.new.held.items) next) }
+        ensures comes { (t : Table) (next : List Ref → Script) → ComesTo prepared.now.program (view_of self.old) t (arguments (context_of prepared.now.program) (trees_before prepared.now.program.nodes.items end count) (receiver ∷ []) next) result.steps (arguments (context_of prepared.now.program) (trees_before prepared.now.program.nodes.items end result.rest) (drop (length self.old.held.items) self.new.held.items) next) }
         ensures first { receiver ∷ drop (length self.old.held.items + 1) self.new.held.items ≡ drop (length self.old.held.items) self.new.held.items }
         ensures rest { length self.new.held.items + result.rest ≡ length self.old.held.items + count + 1 }
         ensures fewer { result.rest ≤ count }
@@ -99,7 +100,7 @@ impl Engine {
         ensures room { vec_capacity self.new.frames ≡ vec_capacity self.old.frames }
     {
         self.held.push_reserved(receiver);
-        self.hold_parts(program, end, count, stop)
+        self.hold_parts(prepared, end, count, stop)
     }
 
     /// Holds the receiver of a call, and the values of its first arguments, which are the last `count` parts before `end`, up to one
@@ -107,14 +108,14 @@ impl Engine {
     #[inline(always)]
     pub fn hold_sent(
         &mut self,
-        program: &Program,
+        prepared: &Prepared,
         receiver: Ref,
         end: NodeId,
         count: u32,
         stop: u64,
     ) -> Result<QuickParts, Fault>
         requires some { stop < self.old.left }
-        ensures comes { IfOk result (λ parts. (t : Table) (next : List Ref → Script) → ComesTo program.now (view_of self.old) t (arguments (context_of program.now) (trees_before program.now.nodes.items end count) (receiver ∷ []) next) parts.steps (arguments (context_of program.now) (trees_before program.now.nodes.items end parts.rest) (drop (length self.old.held.items) self.new.held.items) next)) }
+        ensures comes { IfOk result (λ parts. (t : Table) (next : List Ref → Script) → ComesTo prepared.now.program (view_of self.old) t (arguments (context_of prepared.now.program) (trees_before prepared.now.program.nodes.items end count) (receiver ∷ []) next) parts.steps (arguments (context_of prepared.now.program) (trees_before prepared.now.program.nodes.items end parts.rest) (drop (length self.old.held.items) self.new.held.items) next)) }
         ensures rest { IfOk result (λ parts. length self.new.held.items + parts.rest ≡ length self.old.held.items + count + 1) }
         ensures fewer { IfOk result (λ parts. parts.rest ≤ count) }
         ensures enough { IfOk result (λ parts. stop + parts.steps < self.old.left) }
@@ -125,7 +126,7 @@ impl Engine {
         ensures fault { IfErr result (λ f. f ≡ Fault.Memory) }
     {
         self.held.reserve(count as usize + 1)?;
-        Ok(self.hold_receiver(program, receiver, end, count, stop))
+        Ok(self.hold_receiver(prepared, receiver, end, count, stop))
     }
 
     /// Evaluates the next part of a list, behind a frame that waits for it over the values that are held from `base` on. The

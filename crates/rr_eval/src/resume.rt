@@ -1,6 +1,6 @@
 //! What a frame does with the answer that it waits for.
 
-ghost use Rattle.std.specs.Prelude.{◌≡◌, ◌+◌, ◌*◌, ◌<◌, ◌≤◌, ℕ, List, [], ◌∷◌, ◌++◌, length, reverse, take, vec_capacity, Option, IfOk, IfErr, IsTrue, IsFalse, OnOk};
+ghost use Rattle.std.specs.Prelude.{◌≡◌, ◌+◌, ◌*◌, ◌<◌, ◌≤◌, ℕ, [], ◌∷◌, ◌++◌, length, reverse, take, vec_capacity, Option, IfOk, IfErr, IsTrue, IsFalse, OnOk};
 ghost use Rattle.rr_base.specs.declared.fault.Fault.{Fault};
 ghost use Rattle.rr_space.specs.Tables.{Table, Below};
 ghost use Rattle.rr_tree.specs.declared.program.Program.{Program};
@@ -9,23 +9,20 @@ ghost use Rattle.rr_eval.specs.declared.problem.Answer.{Answer};
 ghost use Rattle.rr_eval.specs.declared.frame.Control.{Control};
 ghost use Rattle.rr_eval.specs.declared.frame.Frame.{Frame};
 ghost use Rattle.rr_eval.specs.declared.iterating.Iterating.{Iterating};
-ghost use Rattle.rr_eval.specs.Context.{Context};
-ghost use Rattle.rr_eval.specs.Rules.{operation, negation, finish, back, past, return_rule};
+ghost use Rattle.rr_eval.specs.Rules.{operation, finish};
 ghost use Rattle.rr_eval.specs.Requests.{Course, arguments_of};
 ghost use Rattle.rr_eval.specs.Speaking.{request};
 ghost use Rattle.rr_eval.specs.Frames.{resumed, runs_in, below_of, base_of, stand_of, unwind, Nested, IsRareFrame};
 ghost use Rattle.rr_eval.specs.Turns.{context_of, code_of, state_of, remaining, IsNested, after_script, after_answer, remaining_with, continuing, Stands, size, sized};
-ghost use Rattle.std.specs.List.{All};
 ghost use Rattle.rr_eval.specs.Views.{view_of};
-ghost use Rattle.rr_eval.specs.Within.{Reach, reach, IsReached, IsFrameReached, IsCallReached, IsAskedReached, AreReached};
+ghost use Rattle.rr_eval.specs.Within.{Reach, reach, IsReached, IsFrameReached, IsAskedReached, AreReached};
 
 use crate::call::{Target, Task, arguments_of};
-use crate::call_stack::{Variable, is_outside};
+use crate::call_stack::Variable;
 use crate::engine::{Engine, push_within};
 use crate::frame::{Control, Frame, clear, standing};
-use crate::operator::on_integers;
 use crate::prepared::Prepared;
-use crate::problem::{Answer, Problem};
+use crate::problem::Answer;
 use crate::request::Request;
 use crate::value::goes_on;
 use rr_base::Fault;
@@ -39,7 +36,7 @@ impl Engine {
     #[inline(always)]
     fn operate_quick(
         &mut self,
-        program: &Program,
+        prepared: &Prepared,
         op: BinaryOperator,
         left: Ref,
         b: NodeId,
@@ -47,7 +44,7 @@ impl Engine {
     ) -> bool
         requires nested { IsNested (view_of self.old) }
         requires within { stop ≤ self.old.left }
-        ensures goes { IsTrue result → (t : Table) (h : Course) → after_answer program.now (view_of self.old) t (Frame.Left op b) (Answer.Gave left) h self.old.left ≡ remaining program.now (view_of self.new) t h }
+        ensures goes { IsTrue result → (t : Table) (h : Course) → after_answer prepared.now.program (view_of self.old) t (Frame.Left op b) (Answer.Gave left) h self.old.left ≡ remaining prepared.now.program (view_of self.new) t h }
         ensures nested { IsNested (view_of self.new) }
         ensures within { (k : Reach) → AreReached k (view_of self.old) → AreReached k (view_of self.new) }
         ensures left { stop ≤ self.new.left }
@@ -57,11 +54,11 @@ impl Engine {
     {
         if let Ref::Int(x) = left
             && self.left > stop
-            && let Some(found) = self.quick_before(program, b, stop)
+            && let Some(found) = self.quick_before(prepared, b, stop)
             && let Ref::Int(y) = found.value
         {
             self.left -= found.steps;
-            self.settle(on_integers(op, x, y));
+            self.compute(op, x, y);
             return true;
         }
         false
@@ -80,7 +77,7 @@ impl Engine {
     {
         match (left, right) {
             (Ref::Int(x), Ref::Int(y)) => {
-                self.settle(on_integers(op, x, y));
+                self.compute(op, x, y);
                 true
             }
             _ => false,
@@ -111,7 +108,7 @@ impl Engine {
     #[inline(always)]
     pub fn operate_left(
         &mut self,
-        program: &Program,
+        prepared: &Prepared,
         op: BinaryOperator,
         left: Ref,
         b: NodeId,
@@ -120,14 +117,14 @@ impl Engine {
         requires room { length self.old.frames.items < vec_capacity self.old.frames }
         requires nested { IsNested (view_of self.old) }
         requires within { stop ≤ self.old.left }
-        ensures goes { (t : Table) (h : Course) → after_answer program.now (view_of self.old) t (Frame.Left op b) (Answer.Gave left) h self.old.left ≡ remaining program.now (view_of self.new) t h }
+        ensures goes { (t : Table) (h : Course) → after_answer prepared.now.program (view_of self.old) t (Frame.Left op b) (Answer.Gave left) h self.old.left ≡ remaining prepared.now.program (view_of self.new) t h }
         ensures nested { IsNested (view_of self.new) }
         ensures within { (k : Reach) → AreReached k (view_of self.old) → IsReached k left → AreReached k (view_of self.new) }
         ensures left { stop ≤ self.new.left }
         ensures kept { self.new.left ≤ self.old.left }
         ensures size { size (view_of self.new) ≤ 3 * length self.old.frames.items + 4 }
     {
-        if !self.operate_quick(program, op, left, b, stop) {
+        if !self.operate_quick(prepared, op, left, b, stop) {
             self.enter_above(Frame::Right(op, left), b);
         }
     }
@@ -158,7 +155,8 @@ impl Engine {
         ensures left { self.new.left ≡ self.old.left }
         ensures size { size (view_of self.new) ≤ 3 * length self.old.frames.items + 4 }
     {
-        self.control = Control::Enter(if is_truthy(condition) { yes } else { no });
+        self.control
+            .enter(if is_truthy(condition) { yes } else { no });
     }
 
     /// Evaluates the right operand of `&&`, where the left one is true.
@@ -200,12 +198,12 @@ impl Engine {
     /// Does what a frame, which is taken off the stack, does with a value, unless that needs the objects or memory.
     #[tactic(auto, unfolding(crate::specs::Within::AreReached))]
     #[inline(always)]
-    pub fn resume(&mut self, program: &Program, frame: Frame, value: Ref, stop: u64) -> bool
+    pub fn resume(&mut self, prepared: &Prepared, frame: Frame, value: Ref, stop: u64) -> bool
         requires room { length self.old.frames.items < vec_capacity self.old.frames }
         requires base { base_of frame ≤ length self.old.held.items }
         requires nested { Nested (reverse self.old.frames.items) (below_of frame self.old.held.items) }
         requires within { stop ≤ self.old.left }
-        ensures goes { IsTrue result → (t : Table) (h : Course) → after_answer program.now (view_of self.old) t frame (Answer.Gave value) h self.old.left ≡ remaining program.now (view_of self.new) t h }
+        ensures goes { IsTrue result → (t : Table) (h : Course) → after_answer prepared.now.program (view_of self.old) t frame (Answer.Gave value) h self.old.left ≡ remaining prepared.now.program (view_of self.new) t h }
         ensures nested { IsTrue result → IsNested (view_of self.new) }
         ensures within { (k : Reach) → AreReached k (view_of self.old) → IsFrameReached k frame → IsReached k value → AreReached k (view_of self.new) }
         ensures left { stop ≤ self.new.left }
@@ -215,7 +213,7 @@ impl Engine {
         ensures rare { IsFalse result → IsRareFrame frame }
     {
         match frame {
-            Frame::Left(op, b) => self.operate_left(program, op, value, b, stop),
+            Frame::Left(op, b) => self.operate_left(prepared, op, value, b, stop),
             Frame::Right(op, left) => return self.operate_integers(op, left, value),
             Frame::Store(variable) => self.store(variable, value),
             Frame::Branch(yes, no) => self.take_branch(yes, no, value),

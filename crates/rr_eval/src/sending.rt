@@ -25,7 +25,7 @@ use crate::call_stack::{CallValue, Handed};
 use crate::engine::{Engine, push_within};
 use crate::frame::{Control, Frame, Making, clear, first_standing, standing};
 use crate::invoke::Way;
-use crate::operator::{on_integers, opposite};
+use crate::operator::opposite;
 use crate::prepared::Prepared;
 use crate::request::Request;
 use rr_base::{ClassId, Fault, Sym};
@@ -280,7 +280,7 @@ impl Engine {
     {
         match (left, right) {
             (Ref::Int(x), Ref::Int(y)) => {
-                self.settle(on_integers(op, x, y));
+                self.compute(op, x, y);
                 Ok(None)
             }
             _ => {

@@ -8,6 +8,7 @@ ghost use Rattle.rr_eval.specs.Acts.{Passes};
 ghost use Rattle.rr_eval.specs.Script.{objects_of};
 ghost use Rattle.rr_eval.specs.Requests.{Course, Adds};
 ghost use Rattle.rr_eval.specs.Changes.{Changes};
+ghost use Rattle.rr_eval.specs.Operators.{integers};
 ghost use Rattle.rr_eval.specs.Rules.{settled};
 ghost use Rattle.rr_eval.specs.Turns.{context_of, remaining, remaining_with, after_script, answered, IsNested, Stands, size};
 ghost use Rattle.rr_eval.specs.Views.{view_of};
@@ -17,11 +18,11 @@ use crate::engine::Engine;
 use crate::exception::{exception_class, make_exception};
 use crate::frame::Control;
 use crate::message::message;
-use crate::operator::make_text;
+use crate::operator::{computed, failed, make_text};
 use crate::problem::{Answer, Problem, Response};
 use rr_base::{ClassId, Fault};
 use rr_space::{Ref, Space};
-use rr_tree::Program;
+use rr_tree::{BinaryOperator, Program};
 
 impl Engine {
     /// Goes on with what an operation came to.
@@ -41,6 +42,27 @@ impl Engine {
             Response::Gives(value) => self.control = Control::Give(Answer::Gave(value)),
             Response::Throws(exception) => self.control = Control::Give(Answer::Raised(exception)),
             Response::Fails(problem) => self.control = Control::Throw(problem),
+        }
+    }
+
+    /// Does an operation on two integers.
+    #[tactic(auto, unfolding(crate::specs::Within::AreReached))]
+    #[inline(always)]
+    pub fn compute(&mut self, op: BinaryOperator, x: i64, y: i64)
+        requires nested { IsNested (view_of self.old) }
+        ensures goes { (p : Program) (t : Table) (h : Course) (n : ℕ) → after_script p (view_of self.old) t (settled (context_of p) (integers op x y)) h n ≡ remaining_with p (view_of self.new) t h n }
+        ensures nested { IsNested (view_of self.new) }
+        ensures within { (k : Reach) → AreReached k (view_of self.old) → AreReached k (view_of self.new) }
+        ensures left { self.new.left ≡ self.old.left }
+        ensures frames { self.new.frames ≡ self.old.frames }
+        ensures answered { view_of self.new ≡ answered (view_of self.old) (integers op x y) }
+        ensures size { size (view_of self.new) ≤ 3 * length self.old.frames.items + 4 }
+    {
+        match computed(op, x, y) {
+            // An integer stands apart, since its kind, which is known here, is then not looked at again.
+            Ok(Ref::Int(z)) => self.control.give(Ref::Int(z)),
+            Ok(value) => self.control.give(value),
+            Err(problem) => self.settle(failed(problem)),
         }
     }
 

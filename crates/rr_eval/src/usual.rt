@@ -3,13 +3,14 @@
 ghost use Rattle.std.specs.Prelude.{◌≡◌, ◌+◌, ◌*◌, ◌<◌, ◌≤◌, ℕ, [], false, length, vec_capacity, IfSome, IfNone, IsTrue, IsFalse};
 ghost use Rattle.rr_parser.specs.Grammar.Names.{is_splat};
 ghost use Rattle.rr_space.specs.Tables.{Table};
-ghost use Rattle.rr_tree.specs.Tree.{tree_at, binary};
+ghost use Rattle.rr_tree.specs.Tree.{tree_at};
 ghost use Rattle.rr_eval.specs.declared.frame.Control.{Control};
 ghost use Rattle.rr_tree.specs.declared.program.Program.{Program};
 ghost use Rattle.rr_eval.specs.declared.problem.Answer.{Answer};
-ghost use Rattle.rr_eval.specs.Script.{Go, World};
+ghost use Rattle.rr_eval.specs.Context.{Context};
+ghost use Rattle.rr_eval.specs.Script.{Go, Ret, World};
 ghost use Rattle.rr_eval.specs.Requests.{Course};
-ghost use Rattle.rr_eval.specs.Rules.{rule};
+ghost use Rattle.rr_eval.specs.Rules.{operation, rule};
 ghost use Rattle.rr_eval.specs.Frames.{resumed, IsNew};
 ghost use Rattle.rr_eval.specs.Nodes.{evaluated_tree, IsEvaluated, IsFirstNode};
 ghost use Rattle.rr_eval.specs.Turns.{context_of, code_of, IsNested, remaining, remaining_with, after_answer, power, size};
@@ -21,9 +22,11 @@ use crate::call_stack::Variable;
 use crate::constant::class_at_path;
 use crate::engine::{Engine, push_within};
 use crate::frame::{Control, Frame};
-use crate::nodes::{evaluated_place, node_at};
+use crate::nodes::evaluated_node;
 use crate::operator::computed;
+use crate::prepared::Prepared;
 use crate::problem::Answer;
+use crate::simple_parts::SimplePart;
 use rr_space::Ref;
 use rr_tree::{BinaryOperator, Node, NodeId, Program};
 
@@ -42,6 +45,15 @@ impl Quick {
         ensures steps { result.steps ≡ 1 }
     {
         Quick { value, steps: 1 }
+    }
+
+    /// The value of an operator and two operands, each of which takes a step.
+    #[inline(always)]
+    fn three(value: Ref) -> Quick
+        ensures value { result.value ≡ value }
+        ensures steps { result.steps ≡ 3 }
+    {
+        Quick { value, steps: 3 }
     }
 }
 
@@ -87,46 +99,38 @@ pub fn awaited_part(here: NodeId, node: Node) -> Option<(Frame, NodeId)>
     }
 }
 
-impl Engine {
-    /// The value of an operator on a variable and a leaf that are integers, where it has one. It takes three steps.
-    #[inline(always)]
-    fn quick_operation(
-        &self,
-        program: &Program,
-        op: BinaryOperator,
-        a: NodeId,
-        b: NodeId,
-    ) -> Option<Ref>
-        ensures takes { IfSome result (TakesNow program.now (view_of self.now) (binary op (tree_at program.now.nodes.items a) (tree_at program.now.nodes.items b)) 3) }
-        ensures within { (k : Reach) → IfSome result (IsReached k) }
-    {
-        match (self.local_integer(program, a), self.leaf(program, b)) {
-            (Some(x), Some(y)) => match computed(op, x, y) {
-                Ok(value) => Some(value),
-                Err(_) => None,
-            },
-            _ => None,
-        }
+/// The value of an operator on two values, where they are integers and it has one.
+#[inline(always)]
+fn operated(op: BinaryOperator, left: Ref, right: Ref) -> Option<Ref>
+    ensures gives { IfSome result (λ v. (c : Context) → operation c op left right ≡ Ret (Answer.Gave v)) }
+    ensures within { (k : Reach) → IfSome result (IsReached k) }
+{
+    match (left, right) {
+        (Ref::Int(x), Ref::Int(y)) => match computed(op, x, y) {
+            Ok(value) => Some(value),
+            Err(_) => None,
+        },
+        _ => None,
     }
+}
 
+impl Engine {
     /// The value of a node that needs no frame and is none of the most frequent kinds.
-    #[inline(always)]
-    fn quick_apart(&self, program: &Program, place: NodeId, node: Node) -> Option<Quick>
-        requires tree { tree_at program.now.nodes.items place ≡ evaluated_tree program.now.nodes.items node }
-        ensures takes { IfSome result (λ q. TakesNow program.now (view_of self.now) (tree_at program.now.nodes.items place) q.steps q.value) }
+    #[inline(never)]
+    fn quick_apart(&self, program: &Program, place: NodeId) -> Option<Ref>
+        ensures takes { IfSome result (TakesNow program.now (view_of self.now) (tree_at program.now.nodes.items place) 1) }
         ensures plain { IfSome result (λ _. is_splat (tree_at program.now.nodes.items place) ≡ false) }
-        ensures one { IfSome result (λ q. q.steps ≡ 1) }
-        ensures within { (k : Reach) → AreReached k (view_of self.now) → IfSome result (λ q. IsReached k q.value) }
+        ensures within { (k : Reach) → AreReached k (view_of self.now) → IfSome result (IsReached k) }
     {
-        match node {
-            Node::Nil => Some(Quick::one(Ref::Nil)),
-            Node::Truth(truth) => Some(Quick::one(Ref::Truth(truth))),
-            Node::Symbol(name) => Some(Quick::one(Ref::Symbol(name))),
-            Node::Class(class) => Some(Quick::one(Ref::Class(class))),
-            Node::Itself => Some(Quick::one(self.itself())),
+        match evaluated_node(program, place) {
+            Node::Nil => Some(Ref::Nil),
+            Node::Truth(truth) => Some(Ref::Truth(truth)),
+            Node::Symbol(name) => Some(Ref::Symbol(name)),
+            Node::Class(class) => Some(Ref::Class(class)),
+            Node::Itself => Some(self.itself()),
             Node::Constant(path) => {
                 let class = class_at_path(program, path)?;
-                Some(Quick::one(Ref::Class(class)))
+                Some(Ref::Class(class))
             }
             _ => None,
         }
@@ -135,37 +139,42 @@ impl Engine {
     /// The value of a part, where that is a literal, a class, a variable, `self`, or an operator on a variable and a leaf that are
     /// integers.
     #[inline(always)]
-    pub fn quick(&self, program: &Program, place: NodeId) -> Option<Quick>
-        ensures takes { IfSome result (λ q. TakesNow program.now (view_of self.now) (tree_at program.now.nodes.items place) q.steps q.value) }
-        ensures plain { IfSome result (λ _. is_splat (tree_at program.now.nodes.items place) ≡ false) }
+    pub fn quick(&self, prepared: &Prepared, place: NodeId) -> Option<Quick>
+        ensures takes { IfSome result (λ q. TakesNow prepared.now.program (view_of self.now) (tree_at prepared.now.program.nodes.items place) q.steps q.value) }
+        ensures plain { IfSome result (λ _. is_splat (tree_at prepared.now.program.nodes.items place) ≡ false) }
         ensures some { IfSome result (λ q. 0 < q.steps) }
         ensures few { IfSome result (λ q. q.steps ≤ 3) }
         ensures within { (k : Reach) → AreReached k (view_of self.now) → IfSome result (λ q. IsReached k q.value) }
     {
-        match node_at(program, evaluated_place(program, place)) {
-            Some(&Node::Local { depth, slot, .. }) => {
-                let value = self.variable(Variable { depth, slot });
-                Some(Quick::one(value))
+        match prepared.part(place) {
+            Some(&SimplePart::Variable(variable)) => Some(Quick::one(self.variable(variable))),
+            Some(&SimplePart::Int(z)) => Some(Quick::one(Ref::Int(z))),
+            Some(&SimplePart::WithInt(op, variable, z)) => {
+                match operated(op, self.variable(variable), Ref::Int(z)) {
+                    Some(value) => Some(Quick::three(value)),
+                    None => None,
+                }
             }
-            Some(&Node::Int(z)) => Some(Quick::one(Ref::Int(z))),
-            Some(&Node::Binary(op, a, b)) => match self.quick_operation(program, op, a, b) {
-                Some(value) => Some(Quick { value, steps: 3 }),
+            Some(&SimplePart::WithVariable(op, variable, other)) => {
+                match operated(op, self.variable(variable), self.variable(other)) {
+                    Some(value) => Some(Quick::three(value)),
+                    None => None,
+                }
+            }
+            Some(&SimplePart::Apart) => match self.quick_apart(&prepared.program, place) {
+                Some(value) => Some(Quick::one(value)),
                 None => None,
             },
-            Some(&node) => match self.quick_apart(program, place, node) {
-                Some(found) => Some(found),
-                None => None,
-            },
-            None => None,
+            _ => None,
         }
     }
 
     /// The value of such a part, where the steps do not stop before the one that follows it.
     #[inline(always)]
-    pub fn quick_before(&self, program: &Program, place: NodeId, stop: u64) -> Option<Quick>
+    pub fn quick_before(&self, prepared: &Prepared, place: NodeId, stop: u64) -> Option<Quick>
         requires some { stop < self.now.left }
-        ensures takes { IfSome result (λ q. TakesNow program.now (view_of self.now) (tree_at program.now.nodes.items place) q.steps q.value) }
-        ensures plain { IfSome result (λ _. is_splat (tree_at program.now.nodes.items place) ≡ false) }
+        ensures takes { IfSome result (λ q. TakesNow prepared.now.program (view_of self.now) (tree_at prepared.now.program.nodes.items place) q.steps q.value) }
+        ensures plain { IfSome result (λ _. is_splat (tree_at prepared.now.program.nodes.items place) ≡ false) }
         ensures some { IfSome result (λ q. 0 < q.steps) }
         ensures few { IfSome result (λ q. q.steps ≤ 3) }
         ensures enough { IfSome result (λ q. stop + q.steps < self.now.left) }
@@ -174,7 +183,7 @@ impl Engine {
         if self.left - stop <= 3 {
             return None;
         }
-        match self.quick(program, place) {
+        match self.quick(prepared, place) {
             Some(found) => Some(found),
             None => None,
         }
@@ -202,29 +211,29 @@ impl Engine {
     #[inline(always)]
     fn visit_under(
         &mut self,
-        program: &Program,
+        prepared: &Prepared,
         here: NodeId,
         frame: Frame,
         part: NodeId,
         stop: u64,
     )
         requires control { self.old.control ≡ Control.Enter here }
-        requires script { (w : World) → rule (context_of program.now) (tree_at program.now.nodes.items here) ≡ Go (tree_at program.now.nodes.items part) (resumed (code_of program.now w) frame []) }
+        requires script { (w : World) → rule (context_of prepared.now.program) (tree_at prepared.now.program.nodes.items here) ≡ Go (tree_at prepared.now.program.nodes.items part) (resumed (code_of prepared.now.program w) frame []) }
         requires new { IsNew frame (length self.old.held.items) }
         requires some { stop < self.old.left }
         requires room { length self.old.frames.items < vec_capacity self.old.frames }
         requires nested { IsNested (view_of self.old) }
-        ensures goes { (t : Table) (h : Course) → remaining program.now (view_of self.old) t h ≡ remaining program.now (view_of self.new) t h }
+        ensures goes { (t : Table) (h : Course) → remaining prepared.now.program (view_of self.old) t h ≡ remaining prepared.now.program (view_of self.new) t h }
         ensures nested { IsNested (view_of self.new) }
         ensures within { (k : Reach) → AreReached k (view_of self.old) → IsFrameReached k frame → AreReached k (view_of self.new) }
         ensures left { stop ≤ self.new.left }
         ensures spends { self.new.left < self.old.left }
         ensures falls { power (view_of self.new) + self.old.left ≤ power (view_of self.old) + self.new.left }
     {
-        match self.quick_before(program, part, stop) {
+        match self.quick_before(prepared, part, stop) {
             Some(found) => {
                 self.left -= found.steps + 1;
-                if !self.resume(program, frame, found.value, stop) {
+                if !self.resume(prepared, frame, found.value, stop) {
                     self.give_above(frame, found.value);
                 }
             }
@@ -237,14 +246,14 @@ impl Engine {
 
     /// Evaluates a node that evaluates a part first, where that is one part and no receiver.
     #[inline(always)]
-    pub fn visit_first(&mut self, program: &Program, here: NodeId, node: Node, stop: u64) -> bool
+    pub fn visit_first(&mut self, prepared: &Prepared, here: NodeId, node: Node, stop: u64) -> bool
         requires control { self.old.control ≡ Control.Enter here }
-        requires tree { tree_at program.now.nodes.items here ≡ evaluated_tree program.now.nodes.items node }
+        requires tree { tree_at prepared.now.program.nodes.items here ≡ evaluated_tree prepared.now.program.nodes.items node }
         requires evaluated { IsEvaluated node }
         requires some { stop < self.old.left }
         requires room { length self.old.frames.items < vec_capacity self.old.frames }
         requires nested { IsNested (view_of self.old) }
-        ensures goes { IsTrue result → (t : Table) (h : Course) → remaining program.now (view_of self.old) t h ≡ remaining program.now (view_of self.new) t h }
+        ensures goes { IsTrue result → (t : Table) (h : Course) → remaining prepared.now.program (view_of self.old) t h ≡ remaining prepared.now.program (view_of self.new) t h }
         ensures nested { IsNested (view_of self.new) }
         ensures within { (k : Reach) → AreReached k (view_of self.old) → AreReached k (view_of self.new) }
         ensures left { stop ≤ self.new.left }
@@ -254,7 +263,7 @@ impl Engine {
     {
         match awaited_part(here, node) {
             Some((frame, part)) => {
-                self.visit_under(program, here, frame, part, stop);
+                self.visit_under(prepared, here, frame, part, stop);
                 true
             }
             None => false,

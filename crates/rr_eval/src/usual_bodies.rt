@@ -24,7 +24,7 @@ use crate::call::{Passing, passed};
 use crate::call_stack::{CallValue, Entry, Handed};
 use crate::engine::{Engine, push_within};
 use crate::fields::read_field;
-use crate::frame::{Control, Frame, clear, standing};
+use crate::frame::{Frame, clear, standing};
 use crate::invoke::{Way, count_of, invocation, leaving};
 use crate::prepared::{Body, Definition, Work};
 use rr_base::ClassId;
@@ -65,7 +65,7 @@ impl Engine {
             push_within(&mut self.blocks, block);
             clear(&mut self.held, frame);
             push_within(&mut self.frames, leaving(entry));
-            self.control = Control::Enter(body);
+            self.control.enter(body);
             return true;
         }
         false

@@ -16,7 +16,7 @@ ghost use Rattle.rr_eval.specs.Usual.{TakesNow};
 ghost use Rattle.rr_eval.specs.Views.{view_of};
 ghost use Rattle.rr_eval.specs.Within.{Reach, IsReached, AreReached};
 
-use crate::call::Target;
+use crate::call::{Callee, Target};
 use crate::engine::Engine;
 use crate::frame::Frame;
 use crate::prepared::{Definition, Prepared};
@@ -146,7 +146,7 @@ impl Engine {
         }
         let base = self.held.len();
         let end = first + count;
-        let parts = self.hold_parts(&prepared.program, end, count, stop);
+        let parts = self.hold_parts(prepared, end, count, stop);
         let target = Target::Own(name, None);
         if parts.rest > 0 {
             self.enter_part(target, end, base, parts);
@@ -192,7 +192,7 @@ impl Engine {
         }
         let base = self.held.len();
         let end = first + count;
-        let parts = self.hold_parts(&prepared.program, end, count, stop);
+        let parts = self.hold_parts(prepared, end, count, stop);
         let target = Target::Yield;
         if parts.rest > 0 {
             self.enter_part(target, end, base, parts);
@@ -205,6 +205,81 @@ impl Engine {
         }
         self.held.truncate(base);
         false
+    }
+
+    /// Calls this method of the program on `self`.
+    #[inline(always)]
+    fn call_with(
+        &mut self,
+        prepared: &Prepared,
+        space: &Space,
+        here: NodeId,
+        name: Sym,
+        first: NodeId,
+        count: u32,
+        definition: Definition,
+        stop: u64,
+    ) -> bool
+        requires control { self.old.control ≡ Control.Enter here }
+        requires script { rule (context_of prepared.now.program) (tree_at prepared.now.program.nodes.items here) ≡ See (λ m. call_rule (context_of prepared.now.program) (own_method (context_of prepared.now.program) name.0 m) (printing (context_of prepared.now.program) name.0) (raises (context_of prepared.now.program) name.0) (awaited (context_of prepared.now.program) name.0) name (trees_before prepared.now.program.nodes.items (first + count) count)) }
+        requires method { (h : Course) → Some (callable_of prepared.now.program.nodes.items definition) ≡ own_method (context_of prepared.now.program) name.0 (state_of prepared.now.program (view_of self.old) space.now h).memory }
+        requires small { first + count < 2 ^ 32 }
+        requires some { stop < self.old.left }
+        requires room { length self.old.frames.items < vec_capacity self.old.frames }
+        requires nested { IsNested (view_of self.old) }
+        ensures goes { (h : Course) → remaining prepared.now.program (view_of self.old) space.now h ≡ remaining prepared.now.program (view_of self.new) space.now h }
+        ensures nested { IsNested (view_of self.new) }
+        ensures within { (k : Reach) → AreReached k (view_of self.old) → AreReached k (view_of self.new) }
+        ensures left { stop ≤ self.new.left }
+        ensures kept { self.new.left ≤ self.old.left }
+        ensures spends { IsTrue result → self.new.left < self.old.left }
+        ensures falls { power (view_of self.new) + self.old.left ≤ power (view_of self.old) + self.new.left }
+    {
+        if count == 1
+            && let Some(found) = self.quick_before(prepared, first, stop)
+        {
+            if self.call_one(prepared, space, here, name, first, definition, found, stop) {
+                self.enter_statements(&prepared.program, stop);
+                return true;
+            }
+            return false;
+        }
+        self.call_all(prepared, space, here, name, first, count, definition, stop)
+    }
+
+    /// Calls a method of the program on `self`, which is no plain object of class Object, where its class has one of this name.
+    #[inline(never)]
+    fn call_looked_up(
+        &mut self,
+        prepared: &Prepared,
+        space: &Space,
+        here: NodeId,
+        name: Sym,
+        first: NodeId,
+        count: u32,
+        stop: u64,
+    ) -> bool
+        requires control { self.old.control ≡ Control.Enter here }
+        requires script { rule (context_of prepared.now.program) (tree_at prepared.now.program.nodes.items here) ≡ See (λ m. call_rule (context_of prepared.now.program) (own_method (context_of prepared.now.program) name.0 m) (printing (context_of prepared.now.program) name.0) (raises (context_of prepared.now.program) name.0) (awaited (context_of prepared.now.program) name.0) name (trees_before prepared.now.program.nodes.items (first + count) count)) }
+        requires small { first + count < 2 ^ 32 }
+        requires some { stop < self.old.left }
+        requires room { length self.old.frames.items < vec_capacity self.old.frames }
+        requires nested { IsNested (view_of self.old) }
+        ensures goes { (h : Course) → remaining prepared.now.program (view_of self.old) space.now h ≡ remaining prepared.now.program (view_of self.new) space.now h }
+        ensures nested { IsNested (view_of self.new) }
+        ensures within { (k : Reach) → AreReached k (view_of self.old) → AreReached k (view_of self.new) }
+        ensures left { stop ≤ self.new.left }
+        ensures kept { self.new.left ≤ self.old.left }
+        ensures spends { IsTrue result → self.new.left < self.old.left }
+        ensures falls { power (view_of self.new) + self.old.left ≤ power (view_of self.old) + self.new.left }
+    {
+        let receiver = self.itself();
+        match prepared.method_looked_up(space, receiver, Callee::Name(name)) {
+            Some(definition) => {
+                self.call_with(prepared, space, here, name, first, count, definition, stop)
+            }
+            None => false,
+        }
     }
 
     /// Calls a method of the program on `self`, where it has one of this name.
@@ -233,19 +308,13 @@ impl Engine {
         ensures spends { IsTrue result → self.new.left < self.old.left }
         ensures falls { power (view_of self.new) + self.old.left ≤ power (view_of self.old) + self.new.left }
     {
-        let Some(definition) = self.own_method(prepared, space, name) else {
-            return false;
-        };
-        if count == 1
-            && let Some(found) = self.quick_before(&prepared.program, first, stop)
-        {
-            if self.call_one(prepared, space, here, name, first, definition, found, stop) {
-                self.enter_statements(&prepared.program, stop);
-                return true;
+        match prepared.method_of_plain(space, self.itself(), name) {
+            Some(&Some(definition)) => {
+                self.call_with(prepared, space, here, name, first, count, definition, stop)
             }
-            return false;
+            Some(&None) => false,
+            None => self.call_looked_up(prepared, space, here, name, first, count, stop),
         }
-        self.call_all(prepared, space, here, name, first, count, definition, stop)
     }
 
     /// Calls a method of the program on `self` without arguments, where it has one of this name.
@@ -307,7 +376,7 @@ impl Engine {
         ensures falls { power (view_of self.new) + self.old.left ≤ power (view_of self.old) + self.new.left }
     {
         if count == 1
-            && let Some(found) = self.quick_before(&prepared.program, first, stop)
+            && let Some(found) = self.quick_before(prepared, first, stop)
         {
             return self.yield_one(prepared, space, here, first, found, stop);
         }

@@ -160,7 +160,7 @@ impl Engine {
         let end = first + count;
         let target = Target::Call(Callee::Name(name));
         let before = self.steps_together(stop, found.steps);
-        let parts = self.hold_receiver(&prepared.program, found.value, end, count, before);
+        let parts = self.hold_receiver(prepared, found.value, end, count, before);
         let steps = self.steps_together(found.steps, parts.steps);
         if parts.rest > 0 {
             let rest = parts.rest;
@@ -175,6 +175,93 @@ impl Engine {
         }
         self.held.truncate(base);
         false
+    }
+
+    /// Calls this method of the program on a receiver that is evaluated at once.
+    #[inline(always)]
+    fn send_with(
+        &mut self,
+        prepared: &Prepared,
+        space: &Space,
+        here: NodeId,
+        name: Sym,
+        definition: Definition,
+        found: Quick,
+        first: NodeId,
+        count: u32,
+        stop: u64,
+    ) -> bool
+        requires control { self.old.control ≡ Control.Enter here }
+        requires comes { ComesTo prepared.now.program (view_of self.old) space.now (rule (context_of prepared.now.program) (tree_at prepared.now.program.nodes.items here)) found.steps (arguments (context_of prepared.now.program) (trees_before prepared.now.program.nodes.items (first + count) count) (found.value ∷ []) (finish (context_of prepared.now.program) (Aim.Call (Called.Name name)))) }
+        requires joins { joined_by (context_of prepared.now.program) space.now (Called.Name name) found.value ≡ None }
+        requires method { Some (callable_of prepared.now.program.nodes.items definition) ≡ method_for (context_of prepared.now.program) space.now found.value (Called.Name name) }
+        requires few { found.steps ≤ 3 }
+        requires small { first + count < 2 ^ 32 }
+        requires enough { stop + found.steps < self.old.left }
+        requires value { (k : Reach) → AreReached k (view_of self.old) → IsReached k found.value }
+        requires room { length self.old.frames.items < vec_capacity self.old.frames }
+        requires nested { IsNested (view_of self.old) }
+        ensures goes { (h : Course) → remaining prepared.now.program (view_of self.old) space.now h ≡ remaining prepared.now.program (view_of self.new) space.now h }
+        ensures nested { IsNested (view_of self.new) }
+        ensures within { (clusters : Option Below) → AreReached (reach (length space.now.slots) clusters) (view_of self.old) → AreReached (reach (length space.now.slots) clusters) (view_of self.new) }
+        ensures left { stop ≤ self.new.left }
+        ensures kept { self.new.left ≤ self.old.left }
+        ensures spends { IsTrue result → self.new.left < self.old.left }
+        ensures falls { power (view_of self.new) + self.old.left ≤ power (view_of self.old) + self.new.left }
+    {
+        if count == 0 {
+            return self.send_bare(prepared, space, here, name, definition, found, stop);
+        }
+        let before = self.steps_together(stop, found.steps);
+        if count == 1
+            && let Some(argument) = self.quick_before(prepared, first, before)
+        {
+            return self.send_one(
+                prepared, space, here, name, definition, found, first, argument, stop,
+            );
+        }
+        self.send_all(
+            prepared, space, here, name, definition, found, first, count, stop,
+        )
+    }
+
+    /// Calls a method of the program on a receiver that is evaluated at once and no plain object of class Object, where its class has one
+    /// of this name.
+    #[inline(never)]
+    fn send_looked_up(
+        &mut self,
+        prepared: &Prepared,
+        space: &Space,
+        here: NodeId,
+        name: Sym,
+        found: Quick,
+        first: NodeId,
+        count: u32,
+        stop: u64,
+    ) -> bool
+        requires control { self.old.control ≡ Control.Enter here }
+        requires comes { ComesTo prepared.now.program (view_of self.old) space.now (rule (context_of prepared.now.program) (tree_at prepared.now.program.nodes.items here)) found.steps (arguments (context_of prepared.now.program) (trees_before prepared.now.program.nodes.items (first + count) count) (found.value ∷ []) (finish (context_of prepared.now.program) (Aim.Call (Called.Name name)))) }
+        requires joins { joined_by (context_of prepared.now.program) space.now (Called.Name name) found.value ≡ None }
+        requires few { found.steps ≤ 3 }
+        requires small { first + count < 2 ^ 32 }
+        requires enough { stop + found.steps < self.old.left }
+        requires value { (k : Reach) → AreReached k (view_of self.old) → IsReached k found.value }
+        requires room { length self.old.frames.items < vec_capacity self.old.frames }
+        requires nested { IsNested (view_of self.old) }
+        ensures goes { (h : Course) → remaining prepared.now.program (view_of self.old) space.now h ≡ remaining prepared.now.program (view_of self.new) space.now h }
+        ensures nested { IsNested (view_of self.new) }
+        ensures within { (clusters : Option Below) → AreReached (reach (length space.now.slots) clusters) (view_of self.old) → AreReached (reach (length space.now.slots) clusters) (view_of self.new) }
+        ensures left { stop ≤ self.new.left }
+        ensures kept { self.new.left ≤ self.old.left }
+        ensures spends { IsTrue result → self.new.left < self.old.left }
+        ensures falls { power (view_of self.new) + self.old.left ≤ power (view_of self.old) + self.new.left }
+    {
+        match prepared.method_looked_up(space, found.value, Callee::Name(name)) {
+            Some(definition) => self.send_with(
+                prepared, space, here, name, definition, found, first, count, stop,
+            ),
+            None => false,
+        }
     }
 
     /// Calls a method of the program on a receiver that is evaluated at once, where its class has one of this name, or evaluates a
@@ -206,7 +293,7 @@ impl Engine {
         ensures falls { power (view_of self.new) + self.old.left ≤ power (view_of self.old) + self.new.left }
     {
         let callee = Callee::Name(name);
-        let Some(found) = self.quick_before(&prepared.program, receiver, stop) else {
+        let Some(found) = self.quick_before(prepared, receiver, stop) else {
             self.open_receiver(callee, receiver, first + count, count);
             self.left -= 1;
             return true;
@@ -214,22 +301,12 @@ impl Engine {
         if prepared.joined_by(space, found.value, callee).is_some() {
             return false;
         }
-        let Some(definition) = prepared.method_for(space, found.value, callee) else {
-            return false;
-        };
-        if count == 0 {
-            return self.send_bare(prepared, space, here, name, definition, found, stop);
+        match prepared.method_of_plain(space, found.value, name) {
+            Some(&Some(definition)) => self.send_with(
+                prepared, space, here, name, definition, found, first, count, stop,
+            ),
+            Some(&None) => false,
+            None => self.send_looked_up(prepared, space, here, name, found, first, count, stop),
         }
-        let before = self.steps_together(stop, found.steps);
-        if count == 1
-            && let Some(argument) = self.quick_before(&prepared.program, first, before)
-        {
-            return self.send_one(
-                prepared, space, here, name, definition, found, first, argument, stop,
-            );
-        }
-        self.send_all(
-            prepared, space, here, name, definition, found, first, count, stop,
-        )
     }
 }

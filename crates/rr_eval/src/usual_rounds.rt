@@ -104,7 +104,7 @@ impl Engine {
         if self.calls.push_two(first, last, shape, entry) {
             push_within(&mut self.blocks, None);
             push_within(&mut self.frames, Frame::Round(iteration));
-            self.control = Control::Enter(iteration.block);
+            self.control.enter(iteration.block);
             return true;
         }
         false

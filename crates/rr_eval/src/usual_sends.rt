@@ -115,7 +115,7 @@ impl Engine {
         ensures fault { IfErr result (λ f. f ≡ Fault.Memory) }
     {
         let before = self.steps_together(stop, steps);
-        match self.quick_before(&prepared.program, part, before) {
+        match self.quick_before(prepared, part, before) {
             Some(last) => {
                 let all = self.steps_together(steps, last.steps);
                 self.send_held(prepared, space, callee, base, last.value, all)
@@ -160,7 +160,7 @@ impl Engine {
         ensures fault { IfErr result (λ f. f ≡ Fault.Memory) }
     {
         let base = self.held.len();
-        match self.quick_before(&prepared.program, receiver, stop) {
+        match self.quick_before(prepared, receiver, stop) {
             Some(found) => {
                 self.held.push(found.value)?;
                 self.call_last(prepared, space, callee, base, argument, found.steps, stop)
@@ -204,7 +204,7 @@ impl Engine {
     {
         let base = self.held.len();
         let before = self.steps_together(stop, found.steps);
-        let parts = self.hold_sent(&prepared.program, found.value, end, count, before)?;
+        let parts = self.hold_sent(prepared, found.value, end, count, before)?;
         let steps = self.steps_together(found.steps, parts.steps);
         if parts.rest > 0 {
             let rest = parts.rest;
@@ -246,7 +246,7 @@ impl Engine {
         ensures err { (t : Table) → IfErr result (λ f. Stands (view_of self.old) (view_of self.new) t t f) }
         ensures fault { IfErr result (λ f. f ≡ Fault.Memory) }
     {
-        match self.quick_before(&prepared.program, receiver, stop) {
+        match self.quick_before(prepared, receiver, stop) {
             Some(found) => {
                 self.call_found(prepared, space, here, callee, found, end, count, stop)
             }
@@ -288,7 +288,7 @@ impl Engine {
     {
         let base = self.held.len();
         let before = self.steps_together(stop, found.steps);
-        match self.quick_before(&prepared.program, index, before) {
+        match self.quick_before(prepared, index, before) {
             Some(at) => {
                 let steps = self.steps_together(found.steps, at.steps);
                 self.held.reserve(2)?;
@@ -333,7 +333,7 @@ impl Engine {
         ensures err { (t : Table) → IfErr result (λ f. Stands (view_of self.old) (view_of self.new) t t f) }
         ensures fault { IfErr result (λ f. f ≡ Fault.Memory) }
     {
-        match self.quick_before(&prepared.program, receiver, stop) {
+        match self.quick_before(prepared, receiver, stop) {
             Some(found) => self.set_found(prepared, space, here, found, index, value, stop),
             None => {
                 self.enter_above(Frame::Element(index, value + 1), receiver);

@@ -16,7 +16,6 @@ ghost use Rattle.rr_eval.specs.Within.{Reach, reach, IsReached, IsFrameReached, 
 use crate::call_stack::{CallValue, Variable};
 use crate::engine::Engine;
 use crate::frame::{Control, Frame};
-use crate::operator::on_integers;
 use crate::prepared::Prepared;
 use crate::problem::Answer;
 use rr_space::{Ref, Space};
@@ -80,7 +79,7 @@ impl Engine {
                 self.drop_top(Frame::Rest(end, count), Answer::Gave(value));
                 self.begin(end, count);
             }
-            _ => self.control = Control::Give(Answer::Gave(value)),
+            _ => self.control.give(value),
         }
     }
 
@@ -88,7 +87,7 @@ impl Engine {
     #[inline(always)]
     fn resume_left(
         &mut self,
-        program: &Program,
+        prepared: &Prepared,
         op: BinaryOperator,
         b: NodeId,
         value: Ref,
@@ -98,7 +97,7 @@ impl Engine {
         requires top { IsTop self.old.frames.items (Frame.Left op b) }
         requires nested { IsNested (view_of self.old) }
         requires within { stop ≤ self.old.left }
-        ensures goes { (t : Table) (h : Course) → remaining program.now (view_of self.old) t h ≡ remaining program.now (view_of self.new) t h }
+        ensures goes { (t : Table) (h : Course) → remaining prepared.now.program (view_of self.old) t h ≡ remaining prepared.now.program (view_of self.new) t h }
         ensures nested { IsNested (view_of self.new) }
         ensures within { (k : Reach) → AreReached k (view_of self.old) → AreReached k (view_of self.new) }
         ensures left { stop ≤ self.new.left }
@@ -106,7 +105,7 @@ impl Engine {
         ensures falls { size (view_of self.new) < size (view_of self.old) }
     {
         self.take_top(Frame::Left(op, b), Answer::Gave(value));
-        self.operate_left(program, op, value, b, stop);
+        self.operate_left(prepared, op, value, b, stop);
     }
 
     /// Does an operation on two integers.
@@ -125,7 +124,7 @@ impl Engine {
         match (left, value) {
             (Ref::Int(x), Ref::Int(y)) => {
                 self.take_top(Frame::Right(op, left), Answer::Gave(value));
-                self.settle(on_integers(op, x, y));
+                self.compute(op, x, y);
                 true
             }
             _ => false,
@@ -182,12 +181,12 @@ impl Engine {
 
     /// Goes on behind the body of a loop, with its condition at once where the steps do not stop before.
     #[inline(always)]
-    fn resume_body(&mut self, program: &Program, here: NodeId, value: Ref, stop: u64)
+    fn resume_body(&mut self, prepared: &Prepared, here: NodeId, value: Ref, stop: u64)
         requires control { self.old.control ≡ Control.Give (Answer.Gave value) }
         requires top { IsTop self.old.frames.items (Frame.Body here) }
         requires nested { IsNested (view_of self.old) }
         requires within { stop ≤ self.old.left }
-        ensures goes { (t : Table) (h : Course) → remaining program.now (view_of self.old) t h ≡ remaining program.now (view_of self.new) t h }
+        ensures goes { (t : Table) (h : Course) → remaining prepared.now.program (view_of self.old) t h ≡ remaining prepared.now.program (view_of self.new) t h }
         ensures nested { IsNested (view_of self.new) }
         ensures within { (k : Reach) → AreReached k (view_of self.old) → AreReached k (view_of self.new) }
         ensures left { stop ≤ self.new.left }
@@ -195,9 +194,9 @@ impl Engine {
         ensures falls { size (view_of self.new) < size (view_of self.old) }
     {
         self.take_top(Frame::Body(here), Answer::Gave(value));
-        self.control = Control::Enter(here);
+        self.control.enter(here);
         if self.left > stop {
-            self.visit_again(program, here, stop);
+            self.visit_again(prepared, here, stop);
         }
     }
 
@@ -290,13 +289,13 @@ impl Engine {
 
     /// Gives the topmost frame, which needs neither the objects nor memory, a value.
     #[inline(always)]
-    fn resume_plainly(&mut self, program: &Program, frame: Frame, value: Ref, stop: u64)
+    fn resume_plainly(&mut self, prepared: &Prepared, frame: Frame, value: Ref, stop: u64)
         requires control { self.old.control ≡ Control.Give (Answer.Gave value) }
         requires top { IsTop self.old.frames.items frame }
         requires plain { IsRareFrame frame → ⊥ }
         requires nested { IsNested (view_of self.old) }
         requires within { stop ≤ self.old.left }
-        ensures goes { (t : Table) (h : Course) → remaining program.now (view_of self.old) t h ≡ remaining program.now (view_of self.new) t h }
+        ensures goes { (t : Table) (h : Course) → remaining prepared.now.program (view_of self.old) t h ≡ remaining prepared.now.program (view_of self.new) t h }
         ensures nested { IsNested (view_of self.new) }
         ensures within { (k : Reach) → AreReached k (view_of self.old) → AreReached k (view_of self.new) }
         ensures left { stop ≤ self.new.left }
@@ -304,7 +303,7 @@ impl Engine {
         ensures falls { size (view_of self.new) < size (view_of self.old) }
     {
         self.take_top(frame, Answer::Gave(value));
-        match self.resume(program, frame, value, stop) {
+        match self.resume(prepared, frame, value, stop) {
             true => (),
             false => unreachable!(),
         }
@@ -344,7 +343,7 @@ impl Engine {
         };
         match frame {
             Frame::And(_) | Frame::Or(_) | Frame::Not | Frame::Break | Frame::Next =>
-                self.resume_plainly(&prepared.program, frame, value, stop),
+                self.resume_plainly(prepared, frame, value, stop),
             Frame::Class(_)
             | Frame::Handling(_)
             | Frame::Ensure(_)
@@ -376,14 +375,14 @@ impl Engine {
     {
         let program = &prepared.program;
         match self.frames.last() {
-            Some(&Frame::Left(op, b)) => self.resume_left(program, op, b, value, stop),
+            Some(&Frame::Left(op, b)) => self.resume_left(prepared, op, b, value, stop),
             Some(&Frame::Right(op, left)) => return self.resume_right(op, left, value),
             Some(&Frame::Store(variable)) => self.resume_store(variable, value),
             Some(&Frame::Branch(yes, no)) => self.resume_branch(yes, no, value),
             Some(&Frame::Condition(until, body, here)) => {
                 self.resume_condition(until, body, here, value);
             }
-            Some(&Frame::Body(here)) => self.resume_body(program, here, value, stop),
+            Some(&Frame::Body(here)) => self.resume_body(prepared, here, value, stop),
             Some(&Frame::Rest(end, count)) => self.resume_rest(end, count, value),
             Some(&Frame::Back(by)) => self.resume_back(by, value),
             Some(&Frame::Past) => self.resume_past(value),
@@ -394,6 +393,7 @@ impl Engine {
             Some(&Frame::Round(iteration)) => {
                 return self.resume_turn(program, space, iteration, value, stop);
             }
+            Some(&Frame::SetField(_)) => return false,
             _ => return self.resume_apart(prepared, space, value, stop),
         }
         true

@@ -12,7 +12,7 @@ ghost use Rattle.rr_eval.specs.Frames.{below_of, base_of, resumed, IsNew, Nested
 ghost use Rattle.rr_eval.specs.Nodes.{evaluated_tree, IsEvaluated};
 ghost use Rattle.rr_eval.specs.Requests.{Course};
 ghost use Rattle.rr_eval.specs.Rules.{rule};
-ghost use Rattle.rr_eval.specs.Script.{Go, Ret, World};
+ghost use Rattle.rr_eval.specs.Script.{Go, World};
 ghost use Rattle.rr_eval.specs.Turns.{context_of, code_of, IsNested, remaining, after_answer, power, size};
 ghost use Rattle.rr_eval.specs.Views.{view_of};
 ghost use Rattle.rr_eval.specs.Within.{Reach, reach, IsReached, IsFrameReached, AreReached};
@@ -41,19 +41,19 @@ impl Engine {
     #[inline(always)]
     pub fn first_value(
         &mut self,
-        program: &Program,
+        prepared: &Prepared,
         here: NodeId,
         frame: Frame,
         part: NodeId,
         stop: u64,
     ) -> Option<Ref>
         requires control { self.old.control ≡ Control.Enter here }
-        requires script { (w : World) → rule (context_of program.now) (tree_at program.now.nodes.items here) ≡ Go (tree_at program.now.nodes.items part) (resumed (code_of program.now w) frame []) }
+        requires script { (w : World) → rule (context_of prepared.now.program) (tree_at prepared.now.program.nodes.items here) ≡ Go (tree_at prepared.now.program.nodes.items part) (resumed (code_of prepared.now.program w) frame []) }
         requires new { IsNew frame (length self.old.held.items) }
         requires some { stop < self.old.left }
         requires room { length self.old.frames.items < vec_capacity self.old.frames }
         requires nested { IsNested (view_of self.old) }
-        ensures goes { (t : Table) (h : Course) → MatchOption result (remaining program.now (view_of self.old) t h ≡ remaining program.now (view_of self.new) t h) (λ v. remaining program.now (view_of self.old) t h ≡ after_answer program.now (view_of self.new) t frame (Answer.Gave v) h self.new.left) }
+        ensures goes { (t : Table) (h : Course) → MatchOption result (remaining prepared.now.program (view_of self.old) t h ≡ remaining prepared.now.program (view_of self.new) t h) (λ v. remaining prepared.now.program (view_of self.old) t h ≡ after_answer prepared.now.program (view_of self.new) t frame (Answer.Gave v) h self.new.left) }
         ensures nested { MatchOption result (IsNested (view_of self.new)) (λ _. Nested (reverse self.new.frames.items) (below_of frame self.new.held.items)) }
         ensures within { (k : Reach) → AreReached k (view_of self.old) → IsFrameReached k frame → AreReached k (view_of self.new) }
         ensures value { (k : Reach) → AreReached k (view_of self.old) → IfSome result (IsReached k) }
@@ -63,7 +63,7 @@ impl Engine {
         ensures spends { self.new.left < self.old.left }
         ensures size { MatchOption result (size (view_of self.new) ≤ 3 * length self.old.frames.items + 4) (λ _. self.new.left + 2 ≤ self.old.left) }
     {
-        match self.quick_before(program, part, stop) {
+        match self.quick_before(prepared, part, stop) {
             Some(found) => {
                 self.left -= found.steps + 1;
                 Some(found.value)
@@ -78,11 +78,11 @@ impl Engine {
 
     /// Evaluates a node that needs no frame, where the steps do not stop before what follows.
     #[inline(always)]
-    fn visit_quick(&mut self, program: &Program, here: NodeId, stop: u64) -> bool
+    fn visit_quick(&mut self, prepared: &Prepared, here: NodeId, stop: u64) -> bool
         requires control { self.old.control ≡ Control.Enter here }
         requires some { stop < self.old.left }
         requires nested { IsNested (view_of self.old) }
-        ensures goes { (t : Table) (h : Course) → remaining program.now (view_of self.old) t h ≡ remaining program.now (view_of self.new) t h }
+        ensures goes { (t : Table) (h : Course) → remaining prepared.now.program (view_of self.old) t h ≡ remaining prepared.now.program (view_of self.new) t h }
         ensures nested { IsNested (view_of self.new) }
         ensures within { (k : Reach) → AreReached k (view_of self.old) → AreReached k (view_of self.new) }
         ensures left { stop ≤ self.new.left }
@@ -91,7 +91,7 @@ impl Engine {
         ensures falls { power (view_of self.new) + self.old.left ≤ power (view_of self.old) + self.new.left }
         ensures same { IsFalse result → self.new ≡ self.old }
     {
-        match self.quick_before(program, here, stop) {
+        match self.quick_before(prepared, here, stop) {
             Some(found) => {
                 self.left -= found.steps;
                 self.control = Control::Give(Answer::Gave(found.value));
@@ -119,9 +119,9 @@ impl Engine {
             && let Node::Nil = evaluated_node(program, part)
         {
             self.left -= 1;
-            self.control = Control::Give(Answer::Gave(Ref::Nil));
+            self.give_top(Ref::Nil);
         } else {
-            self.control = Control::Enter(part);
+            self.control.enter(part);
         }
     }
 
@@ -129,7 +129,7 @@ impl Engine {
     #[inline(always)]
     fn visit_choice(
         &mut self,
-        program: &Program,
+        prepared: &Prepared,
         here: NodeId,
         condition: NodeId,
         yes: NodeId,
@@ -137,11 +137,11 @@ impl Engine {
         stop: u64,
     )
         requires control { self.old.control ≡ Control.Enter here }
-        requires tree { tree_at program.now.nodes.items here ≡ evaluated_tree program.now.nodes.items (Node.Choose condition yes no) }
+        requires tree { tree_at prepared.now.program.nodes.items here ≡ evaluated_tree prepared.now.program.nodes.items (Node.Choose condition yes no) }
         requires some { stop < self.old.left }
         requires room { length self.old.frames.items < vec_capacity self.old.frames }
         requires nested { IsNested (view_of self.old) }
-        ensures goes { (t : Table) (h : Course) → remaining program.now (view_of self.old) t h ≡ remaining program.now (view_of self.new) t h }
+        ensures goes { (t : Table) (h : Course) → remaining prepared.now.program (view_of self.old) t h ≡ remaining prepared.now.program (view_of self.new) t h }
         ensures nested { IsNested (view_of self.new) }
         ensures within { (k : Reach) → AreReached k (view_of self.old) → AreReached k (view_of self.new) }
         ensures left { stop ≤ self.new.left }
@@ -149,8 +149,8 @@ impl Engine {
         ensures falls { power (view_of self.new) + self.old.left ≤ power (view_of self.old) + self.new.left }
     {
         let frame = Frame::Branch(yes, no);
-        if let Some(value) = self.first_value(program, here, frame, condition, stop) {
-            self.go_into(program, chosen(yes, no, value), stop);
+        if let Some(value) = self.first_value(prepared, here, frame, condition, stop) {
+            self.go_into(&prepared.program, chosen(yes, no, value), stop);
         }
     }
 
@@ -158,7 +158,7 @@ impl Engine {
     #[inline(always)]
     fn visit_loop(
         &mut self,
-        program: &Program,
+        prepared: &Prepared,
         here: NodeId,
         until: bool,
         condition: NodeId,
@@ -166,11 +166,11 @@ impl Engine {
         stop: u64,
     )
         requires control { self.old.control ≡ Control.Enter here }
-        requires tree { tree_at program.now.nodes.items here ≡ evaluated_tree program.now.nodes.items (Node.Loop until condition body) }
+        requires tree { tree_at prepared.now.program.nodes.items here ≡ evaluated_tree prepared.now.program.nodes.items (Node.Loop until condition body) }
         requires some { stop < self.old.left }
         requires room { length self.old.frames.items < vec_capacity self.old.frames }
         requires nested { IsNested (view_of self.old) }
-        ensures goes { (t : Table) (h : Course) → remaining program.now (view_of self.old) t h ≡ remaining program.now (view_of self.new) t h }
+        ensures goes { (t : Table) (h : Course) → remaining prepared.now.program (view_of self.old) t h ≡ remaining prepared.now.program (view_of self.new) t h }
         ensures nested { IsNested (view_of self.new) }
         ensures within { (k : Reach) → AreReached k (view_of self.old) → AreReached k (view_of self.new) }
         ensures left { stop ≤ self.new.left }
@@ -179,34 +179,34 @@ impl Engine {
         ensures size { size (view_of self.new) ≤ 3 * length self.old.frames.items + 4 }
     {
         let frame = Frame::Condition(until, body, here);
-        if let Some(value) = self.first_value(program, here, frame, condition, stop) {
+        if let Some(value) = self.first_value(prepared, here, frame, condition, stop) {
             self.go_round(until, body, here, value);
         }
     }
 
     /// Evaluates a loop once more, where a loop comes next.
     #[inline(always)]
-    pub fn visit_again(&mut self, program: &Program, here: NodeId, stop: u64)
+    pub fn visit_again(&mut self, prepared: &Prepared, here: NodeId, stop: u64)
         requires control { self.old.control ≡ Control.Enter here }
         requires some { stop < self.old.left }
         requires room { length self.old.frames.items < vec_capacity self.old.frames }
         requires nested { IsNested (view_of self.old) }
-        ensures goes { (t : Table) (h : Course) → remaining program.now (view_of self.old) t h ≡ remaining program.now (view_of self.new) t h }
+        ensures goes { (t : Table) (h : Course) → remaining prepared.now.program (view_of self.old) t h ≡ remaining prepared.now.program (view_of self.new) t h }
         ensures nested { IsNested (view_of self.new) }
         ensures within { (k : Reach) → AreReached k (view_of self.old) → AreReached k (view_of self.new) }
         ensures left { stop ≤ self.new.left }
         ensures kept { self.new.left ≤ self.old.left }
         ensures size { size (view_of self.new) ≤ 3 * length self.old.frames.items + 4 }
     {
-        let place = evaluated_place(program, here);
-        match node_at(program, place) {
+        let place = evaluated_place(&prepared.program, here);
+        match node_at(&prepared.program, place) {
             Some(
                 &Node::Loop {
                     until,
                     condition,
                     body,
                 },
-            ) => self.visit_loop(program, here, until, condition, body, stop),
+            ) => self.visit_loop(prepared, here, until, condition, body, stop),
             _ => (),
         }
     }
@@ -215,18 +215,18 @@ impl Engine {
     #[inline(always)]
     fn visit_store(
         &mut self,
-        program: &Program,
+        prepared: &Prepared,
         here: NodeId,
         variable: Variable,
         value: NodeId,
         stop: u64,
     )
         requires control { self.old.control ≡ Control.Enter here }
-        requires script { (w : World) → rule (context_of program.now) (tree_at program.now.nodes.items here) ≡ Go (tree_at program.now.nodes.items value) (resumed (code_of program.now w) (Frame.Store variable) []) }
+        requires script { (w : World) → rule (context_of prepared.now.program) (tree_at prepared.now.program.nodes.items here) ≡ Go (tree_at prepared.now.program.nodes.items value) (resumed (code_of prepared.now.program w) (Frame.Store variable) []) }
         requires some { stop < self.old.left }
         requires room { length self.old.frames.items < vec_capacity self.old.frames }
         requires nested { IsNested (view_of self.old) }
-        ensures goes { (t : Table) (h : Course) → remaining program.now (view_of self.old) t h ≡ remaining program.now (view_of self.new) t h }
+        ensures goes { (t : Table) (h : Course) → remaining prepared.now.program (view_of self.old) t h ≡ remaining prepared.now.program (view_of self.new) t h }
         ensures nested { IsNested (view_of self.new) }
         ensures within { (k : Reach) → AreReached k (view_of self.old) → AreReached k (view_of self.new) }
         ensures left { stop ≤ self.new.left }
@@ -234,7 +234,7 @@ impl Engine {
         ensures falls { power (view_of self.new) + self.old.left ≤ power (view_of self.old) + self.new.left }
     {
         let frame = Frame::Store(variable);
-        if let Some(value) = self.first_value(program, here, frame, value, stop) {
+        if let Some(value) = self.first_value(prepared, here, frame, value, stop) {
             self.store(variable, value);
         }
     }
@@ -243,7 +243,7 @@ impl Engine {
     #[inline(always)]
     fn visit_operands(
         &mut self,
-        program: &Program,
+        prepared: &Prepared,
         here: NodeId,
         op: BinaryOperator,
         a: NodeId,
@@ -251,11 +251,11 @@ impl Engine {
         stop: u64,
     )
         requires control { self.old.control ≡ Control.Enter here }
-        requires tree { tree_at program.now.nodes.items here ≡ evaluated_tree program.now.nodes.items (Node.Binary op a b) }
+        requires tree { tree_at prepared.now.program.nodes.items here ≡ evaluated_tree prepared.now.program.nodes.items (Node.Binary op a b) }
         requires some { stop < self.old.left }
         requires room { length self.old.frames.items < vec_capacity self.old.frames }
         requires nested { IsNested (view_of self.old) }
-        ensures goes { (t : Table) (h : Course) → remaining program.now (view_of self.old) t h ≡ remaining program.now (view_of self.new) t h }
+        ensures goes { (t : Table) (h : Course) → remaining prepared.now.program (view_of self.old) t h ≡ remaining prepared.now.program (view_of self.new) t h }
         ensures nested { IsNested (view_of self.new) }
         ensures within { (k : Reach) → AreReached k (view_of self.old) → AreReached k (view_of self.new) }
         ensures left { stop ≤ self.new.left }
@@ -263,8 +263,8 @@ impl Engine {
         ensures falls { power (view_of self.new) + self.old.left ≤ power (view_of self.old) + self.new.left }
     {
         let frame = Frame::Left(op, b);
-        if let Some(value) = self.first_value(program, here, frame, a, stop) {
-            self.operate_left(program, op, value, b, stop);
+        if let Some(value) = self.first_value(prepared, here, frame, a, stop) {
+            self.operate_left(prepared, op, value, b, stop);
         }
     }
 
@@ -337,12 +337,12 @@ impl Engine {
     }
 
     /// Evaluates a node of another kind, where that is usual: it answers whether it was done.
-    pub fn visit_apart(&mut self, program: &Program, here: NodeId, stop: u64) -> bool
+    pub fn visit_apart(&mut self, prepared: &Prepared, here: NodeId, stop: u64) -> bool
         requires control { self.old.control ≡ Control.Enter here }
         requires some { stop < self.old.left }
         requires room { length self.old.frames.items < vec_capacity self.old.frames }
         requires nested { IsNested (view_of self.old) }
-        ensures goes { (t : Table) (h : Course) → remaining program.now (view_of self.old) t h ≡ remaining program.now (view_of self.new) t h }
+        ensures goes { (t : Table) (h : Course) → remaining prepared.now.program (view_of self.old) t h ≡ remaining prepared.now.program (view_of self.new) t h }
         ensures nested { IsNested (view_of self.new) }
         ensures within { (k : Reach) → AreReached k (view_of self.old) → AreReached k (view_of self.new) }
         ensures left { stop ≤ self.new.left }
@@ -350,11 +350,11 @@ impl Engine {
         ensures spends { IsTrue result → self.new.left < self.old.left }
         ensures falls { power (view_of self.new) + self.old.left ≤ power (view_of self.old) + self.new.left }
     {
-        if self.visit_quick(program, here, stop) {
+        if self.visit_quick(prepared, here, stop) {
             return true;
         }
-        let node = evaluated_node(program, here);
-        self.visit_first(program, here, node, stop)
+        let node = evaluated_node(&prepared.program, here);
+        self.visit_first(prepared, here, node, stop)
     }
 
     /// Evaluates a call, or an instance variable, or a node of another kind, where that is usual: it answers whether it was done.
@@ -411,7 +411,7 @@ impl Engine {
             | Some(&Node::Append(_, _))
             | Some(&Node::SetIndex { .. })
             | Some(&Node::SetAttribute { .. }) => { false }
-            _ => self.visit_waiting(&prepared.program, here, place, stop),
+            _ => self.visit_waiting(prepared, here, place, stop),
         }
     }
 
@@ -440,7 +440,7 @@ impl Engine {
         let place = evaluated_place(program, here);
         match node_at(program, place) {
             Some(&Node::Choose(condition, yes, no)) => {
-                self.visit_choice(program, here, condition, yes, no, stop);
+                self.visit_choice(prepared, here, condition, yes, no, stop);
             }
             Some(
                 &Node::Loop {
@@ -448,7 +448,7 @@ impl Engine {
                     condition,
                     body,
                 },
-            ) => self.visit_loop(program, here, until, condition, body, stop),
+            ) => self.visit_loop(prepared, here, until, condition, body, stop),
             Some(
                 &Node::Assign {
                     depth,
@@ -456,8 +456,8 @@ impl Engine {
                     value,
                     ..
                 },
-            ) => self.visit_store(program, here, Variable { depth, slot }, value, stop),
-            Some(&Node::Binary(op, a, b)) => self.visit_operands(program, here, op, a, b, stop),
+            ) => self.visit_store(prepared, here, Variable { depth, slot }, value, stop),
+            Some(&Node::Binary(op, a, b)) => self.visit_operands(prepared, here, op, a, b, stop),
             Some(&Node::Sequence { first, count }) => {
                 self.visit_statements(program, here, first, count, stop);
             }

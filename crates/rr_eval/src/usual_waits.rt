@@ -18,6 +18,7 @@ ghost use Rattle.rr_eval.specs.Within.{Reach, AreReached};
 use crate::engine::Engine;
 use crate::frame::{Control, Frame};
 use crate::nodes::node_at;
+use crate::prepared::Prepared;
 use crate::problem::Answer;
 use rr_base::Sym;
 use rr_tree::{Node, NodeId, Program};
@@ -38,7 +39,7 @@ impl Engine {
         ensures less { size (view_of self.new) ≤ size (view_of self.old) }
         ensures falls { power (view_of self.new) + self.old.left ≤ power (view_of self.old) + self.new.left }
     {
-        self.control = Control::Enter(body);
+        self.control.enter(body);
         self.left -= 1;
     }
 
@@ -79,20 +80,20 @@ impl Engine {
 
     /// Evaluates a `return`.
     #[inline(always)]
-    fn visit_return(&mut self, program: &Program, here: NodeId, value: NodeId, stop: u64)
+    fn visit_return(&mut self, prepared: &Prepared, here: NodeId, value: NodeId, stop: u64)
         requires control { self.old.control ≡ Control.Enter here }
-        requires tree { tree_at program.now.nodes.items here ≡ evaluated_tree program.now.nodes.items (Node.Return value) }
+        requires tree { tree_at prepared.now.program.nodes.items here ≡ evaluated_tree prepared.now.program.nodes.items (Node.Return value) }
         requires some { stop < self.old.left }
         requires room { length self.old.frames.items < vec_capacity self.old.frames }
         requires nested { IsNested (view_of self.old) }
-        ensures goes { (t : Table) (h : Course) → remaining program.now (view_of self.old) t h ≡ remaining program.now (view_of self.new) t h }
+        ensures goes { (t : Table) (h : Course) → remaining prepared.now.program (view_of self.old) t h ≡ remaining prepared.now.program (view_of self.new) t h }
         ensures nested { IsNested (view_of self.new) }
         ensures within { (k : Reach) → AreReached k (view_of self.old) → AreReached k (view_of self.new) }
         ensures left { stop ≤ self.new.left }
         ensures spends { self.new.left < self.old.left }
         ensures falls { power (view_of self.new) + self.old.left ≤ power (view_of self.old) + self.new.left }
     {
-        if let Some(found) = self.first_value(program, here, Frame::Return, value, stop) {
+        if let Some(found) = self.first_value(prepared, here, Frame::Return, value, stop) {
             self.leave_method(found);
             self.pass_on();
         }
@@ -131,18 +132,18 @@ impl Engine {
     #[inline(always)]
     fn visit_set_field(
         &mut self,
-        program: &Program,
+        prepared: &Prepared,
         here: NodeId,
         name: Sym,
         value: NodeId,
         stop: u64,
     )
         requires control { self.old.control ≡ Control.Enter here }
-        requires tree { tree_at program.now.nodes.items here ≡ evaluated_tree program.now.nodes.items (Node.SetField name value) }
+        requires tree { tree_at prepared.now.program.nodes.items here ≡ evaluated_tree prepared.now.program.nodes.items (Node.SetField name value) }
         requires some { stop < self.old.left }
         requires room { length self.old.frames.items < vec_capacity self.old.frames }
         requires nested { IsNested (view_of self.old) }
-        ensures goes { (t : Table) (h : Course) → remaining program.now (view_of self.old) t h ≡ remaining program.now (view_of self.new) t h }
+        ensures goes { (t : Table) (h : Course) → remaining prepared.now.program (view_of self.old) t h ≡ remaining prepared.now.program (view_of self.new) t h }
         ensures nested { IsNested (view_of self.new) }
         ensures within { (k : Reach) → AreReached k (view_of self.old) → AreReached k (view_of self.new) }
         ensures left { stop ≤ self.new.left }
@@ -150,7 +151,7 @@ impl Engine {
         ensures falls { power (view_of self.new) + self.old.left ≤ power (view_of self.old) + self.new.left }
     {
         let frame = Frame::SetField(name);
-        if let Some(found) = self.first_value(program, here, frame, value, stop) {
+        if let Some(found) = self.first_value(prepared, here, frame, value, stop) {
             self.give_above(frame, found);
         }
     }
@@ -159,18 +160,18 @@ impl Engine {
     #[inline(always)]
     pub fn visit_waiting(
         &mut self,
-        program: &Program,
+        prepared: &Prepared,
         here: NodeId,
         place: NodeId,
         stop: u64,
     ) -> bool
         requires control { self.old.control ≡ Control.Enter here }
-        requires same { tree_at program.now.nodes.items here ≡ tree_at program.now.nodes.items place }
-        requires evaluated { IsEvaluated (slice_index_or program.now.nodes.items place Node.Nil) }
+        requires same { tree_at prepared.now.program.nodes.items here ≡ tree_at prepared.now.program.nodes.items place }
+        requires evaluated { IsEvaluated (slice_index_or prepared.now.program.nodes.items place Node.Nil) }
         requires some { stop < self.old.left }
         requires room { length self.old.frames.items < vec_capacity self.old.frames }
         requires nested { IsNested (view_of self.old) }
-        ensures goes { (t : Table) (h : Course) → remaining program.now (view_of self.old) t h ≡ remaining program.now (view_of self.new) t h }
+        ensures goes { (t : Table) (h : Course) → remaining prepared.now.program (view_of self.old) t h ≡ remaining prepared.now.program (view_of self.new) t h }
         ensures nested { IsNested (view_of self.new) }
         ensures within { (k : Reach) → AreReached k (view_of self.old) → AreReached k (view_of self.new) }
         ensures left { stop ≤ self.new.left }
@@ -178,11 +179,11 @@ impl Engine {
         ensures spends { IsTrue result → self.new.left < self.old.left }
         ensures falls { power (view_of self.new) + self.old.left ≤ power (view_of self.old) + self.new.left }
     {
-        match node_at(program, place) {
-            Some(&Node::Block { body, .. }) => self.visit_body(program, here, body, stop),
-            Some(&Node::Return(value)) => self.visit_return(program, here, value, stop),
+        match node_at(&prepared.program, place) {
+            Some(&Node::Block { body, .. }) => self.visit_body(&prepared.program, here, body, stop),
+            Some(&Node::Return(value)) => self.visit_return(prepared, here, value, stop),
             Some(&Node::SetField(name, value)) => {
-                self.visit_set_field(program, here, name, value, stop);
+                self.visit_set_field(prepared, here, name, value, stop);
             }
             Some(
                 &Node::Rescue {
@@ -191,8 +192,16 @@ impl Engine {
                     count,
                     otherwise,
                 },
-            ) => self.visit_rescue(program, here, body, first + count, count, otherwise, stop),
-            _ => return self.visit_apart(program, here, stop),
+            ) => self.visit_rescue(
+                &prepared.program,
+                here,
+                body,
+                first + count,
+                count,
+                otherwise,
+                stop,
+            ),
+            _ => return self.visit_apart(prepared, here, stop),
         }
         true
     }

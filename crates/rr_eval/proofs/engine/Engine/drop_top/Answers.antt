@@ -1,5 +1,5 @@
 -- The topmost frame gets the value.
-use Rattle.std.proofs.Common.{◌++◌, ◌∷◌, [], ◌∙◌, ap, arith, reverse, subst}
+use Rattle.std.proofs.Common.{◌∙◌, ap, arith, reverse, subst}
 use Rattle.rr_eval.specs.declared.frame.Control.TheVariants.{Give}
 use Rattle.rr_eval.specs.Frames.{Nested, outcome_of}
 use Rattle.rr_eval.specs.Turns.{code_of, state_of}

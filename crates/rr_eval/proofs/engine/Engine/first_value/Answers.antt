@@ -11,7 +11,7 @@ use Rattle.rr_eval.proofs.engine.Engine.first_value.Goals as goal
 
 pub returns-in-Some-clause-goes : goal.returns-in-Some-clause-goes
 returns-in-Some-clause-goes c t h =
-    let p = c.args.program.now in
+    let p = c.args.prepared.now.program in
     let m = view_of c.args.self.now in
     let found = c.in-Some.found in
     let enough = c.in-Some.ensures.enough in
@@ -25,7 +25,7 @@ returns-in-Some-clause-base c = (waits_within (view_of c.args.self.now) c.args.f
 
 pub returns-in-None-clause-goes : goal.returns-in-None-clause-goes
 returns-in-None-clause-goes c t h =
-    let p = c.args.program.now in
+    let p = c.args.prepared.now.program in
     let m = view_of c.args.self.now in
     let some : m.left ≡ suc (m.left - 1) = omega arith in
     stepped p m t (m.left - 1) (tree_at p.nodes.items c.args.here) (ap (first_tree p.nodes.items) c.requires.control) some h

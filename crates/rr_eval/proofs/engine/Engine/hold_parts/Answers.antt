@@ -15,7 +15,7 @@ loop-rest-init c =
     let m = view_of c.args.self.now in
     let at = length m.held in
     record {
-      takes = first_none c.args.program.now m (trees_before c.args.program.now.nodes.items c.args.end c.args.count) (drop at m.held) (drop_all at m.held (omega arith));
+      takes = first_none c.args.prepared.now.program m (trees_before c.args.prepared.now.program.nodes.items c.args.end c.args.count) (drop at m.held) (drop_all at m.held (omega arith));
       fewer = omega arith;
       rest = refl;
       space = c.requires.space;
@@ -27,7 +27,7 @@ loop-rest-init c =
 
 pub loop-rest-preserved : goal.loop-rest-preserved
 loop-rest-preserved c =
-    let p = c.args.program.now in
+    let p = c.args.prepared.now.program in
     let m = view_of c.args.self.now in
     let n = view_of c.loop-rest.self in
     let now = c.loop-rest.invariant in

@@ -8,7 +8,7 @@ use Rattle.rr_eval.proofs.engine.Engine.hold_parts.Given as goal
 
 abbrev pub invariant-loop-rest : goal.invariant-loop-rest
 invariant-loop-rest l = record {
-  takes : TakeFirst l.program (view_of l.fn.self) (trees_before l.program.nodes.items l.end l.count) l.steps (drop (length l.fn.self.held.items) l.self.held.items) (trees_before l.program.nodes.items l.end l.rest);
+  takes : TakeFirst l.prepared.program (view_of l.fn.self) (trees_before l.prepared.program.nodes.items l.end l.count) l.steps (drop (length l.fn.self.held.items) l.self.held.items) (trees_before l.prepared.program.nodes.items l.end l.rest);
   fewer : l.rest ≤ l.count;
   rest : length l.self.held.items + l.rest ≡ length l.fn.self.held.items + l.count;
   space : length l.self.held.items + l.rest ≤ vec_capacity l.self.held;

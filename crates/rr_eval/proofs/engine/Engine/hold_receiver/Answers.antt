@@ -13,7 +13,7 @@ use Rattle.rr_eval.proofs.engine.Engine.hold_receiver.Goals as goal
 
 pub returns-clause-comes : goal.returns-clause-comes
 returns-clause-comes c = λ t next h n.
-    let p = c.args.program.now in
+    let p = c.args.prepared.now.program in
     let m = view_of c.args.self.now in
     let ones = c.push_reserved.new.self.items in
     let all = c.hold_parts.new.self.held.items in

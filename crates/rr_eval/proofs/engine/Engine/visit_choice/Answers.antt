@@ -5,4 +5,4 @@ use Rattle.rr_eval.specs.Turns.{context_of}
 use Rattle.rr_eval.proofs.engine.Engine.visit_choice.Goals as goal
 
 pub first_value-requires-clause-script : goal.first_value-requires-clause-script
-first_value-requires-clause-script c w = ap (rule (context_of c.args.program.now)) c.requires.tree
+first_value-requires-clause-script c w = ap (rule (context_of c.args.prepared.now.program)) c.requires.tree

@@ -2,7 +2,7 @@
 use Rattle.rr_eval.proofs.engine.Engine.visit_first.Goals as goal
 
 pub visit_under-requires-clause-script : goal.visit_under-requires-clause-script
-visit_under-requires-clause-script c = λ w. c.in-Some.ensures.script c.args.program.now w c.requires.tree
+visit_under-requires-clause-script c = λ w. c.in-Some.ensures.script c.args.prepared.now.program w c.requires.tree
 
 pub returns-in-Some-clause-within : goal.returns-in-Some-clause-within
 returns-in-Some-clause-within c k h = c.visit_under.ensures.within k h (c.in-Some.ensures.within k)

@@ -16,12 +16,12 @@ returns-in-Some-Some-clause-goes c = λ _ t h.
     let y = c.in-Some-Some.y in
     let fx : to_z w64 (of_z w64 x) ≡ x = search rules in
     let fy : to_z w64 (of_z w64 y) ≡ y = search rules in
-    let given = c.on_integers.ensures.does ∙ ap (λ z. integers c.args.op z (to_z w64 (of_z w64 y))) fx ∙ ap (integers c.args.op x) fy in
+    let given = ap (λ z. integers c.args.op z (to_z w64 (of_z w64 y))) fx ∙ ap (integers c.args.op x) fy in
     let some : m.left ≡ suc (suc (suc (m.left - 3))) = omega arith in
     leaves p m t (m.left - 3) c.args.a c.args.b c.args.op x y c.requires.first some c.in-Some-Some.ensures c.in-Some-Some.ensures' h
     ∙ ap (λ r. after_script p m t (settled (context_of p) r) h (m.left - 3)) (sym given)
-    ∙ c.settle.ensures.goes p t h (m.left - 3)
-    ∙ ap (remaining_with p (view_of c.settle.new.self) t h) (sym c.settle.ensures.left)
+    ∙ c.compute.ensures.goes p t h (m.left - 3)
+    ∙ ap (remaining_with p (view_of c.compute.new.self) t h) (sym c.compute.ensures.left)
 
 pub returns-in-Some-Some-clause-within : goal.returns-in-Some-Some-clause-within
-returns-in-Some-Some-clause-within c k h = c.settle.ensures.within k (with_left k (view_of c.args.self.now) _ h) (c.on_integers.ensures.within k)
+returns-in-Some-Some-clause-within c k h = c.compute.ensures.within k (with_left k (view_of c.args.self.now) _ h)

@@ -8,7 +8,7 @@ use Rattle.rr_eval.proofs.engine.Engine.visit_loop.Goals as goal
 
 pub first_value-requires-clause-script : goal.first_value-requires-clause-script
 first_value-requires-clause-script c w =
-    let p = c.args.program.now in
+    let p = c.args.prepared.now.program in
     let ns = p.nodes.items in
     ap (rule (context_of p)) c.requires.tree
     ∙ ap (λ loop. loop_rule c.args.until (tree_at ns c.args.condition) (tree_at ns c.args.body) (Go loop Ret)) (sym c.requires.tree)

@@ -11,7 +11,7 @@ use Rattle.rr_eval.proofs.engine.Engine.visit_quick.Goals as goal
 
 pub returns-in-Some-clause-goes : goal.returns-in-Some-clause-goes
 returns-in-Some-clause-goes c = λ t h.
-    let p = c.args.program.now in
+    let p = c.args.prepared.now.program in
     let m = view_of c.args.self.now in
     let found = c.in-Some.found in
     let enough = c.in-Some.ensures.enough in

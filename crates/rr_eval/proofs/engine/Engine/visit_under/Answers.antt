@@ -13,7 +13,7 @@ use Rattle.rr_eval.proofs.engine.Engine.visit_under.Goals as goal
 
 pub returns-then-not-resume-clause-goes : goal.returns-then-not-resume-clause-goes
 returns-then-not-resume-clause-goes c t h =
-    let p = c.args.program.now in
+    let p = c.args.prepared.now.program in
     let m = view_of c.args.self.now in
     let found = c.in-Some.found in
     let spent = found.steps + 1 in
@@ -25,7 +25,7 @@ returns-then-not-resume-clause-goes c t h =
 
 pub returns-else-not-resume-clause-goes : goal.returns-else-not-resume-clause-goes
 returns-else-not-resume-clause-goes c t h =
-    let p = c.args.program.now in
+    let p = c.args.prepared.now.program in
     let m = view_of c.args.self.now in
     let found = c.in-Some.found in
     let enough = c.in-Some.ensures.enough in
@@ -34,7 +34,7 @@ returns-else-not-resume-clause-goes c t h =
 
 pub returns-in-None-clause-goes : goal.returns-in-None-clause-goes
 returns-in-None-clause-goes c t h =
-    let p = c.args.program.now in
+    let p = c.args.prepared.now.program in
     let m = view_of c.args.self.now in
     let some : m.left ≡ suc (m.left - 1) = omega arith in
     stepped p m t (m.left - 1) (tree_at p.nodes.items c.args.here) (ap (first_tree p.nodes.items) c.requires.control) some h

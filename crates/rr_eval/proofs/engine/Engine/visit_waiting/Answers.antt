@@ -12,12 +12,12 @@ use Rattle.rr_eval.proofs.engine.Engine.visit_waiting.Goals as goal
 
 pub visit_body-requires-clause-script : goal.visit_body-requires-clause-script
 visit_body-requires-clause-script c =
-    let p = c.args.program.now in
+    let p = c.args.prepared.now.program in
     ap (rule (context_of p)) (c.requires.same ∙ c.in-Some-Block.ensures.tree ∙ ap (evaluated_tree p.nodes.items) c.in-Some-Block.field-0-is)
 
 pub visit_rescue-requires-clause-script : goal.visit_rescue-requires-clause-script
 visit_rescue-requires-clause-script c w =
-    let p = c.args.program.now in
+    let p = c.args.prepared.now.program in
     let ns = p.nodes.items in
     let own = context_of p in
     let call = c.in-Some-Rescue in

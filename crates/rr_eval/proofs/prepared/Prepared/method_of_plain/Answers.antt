@@ -3,11 +3,10 @@ use Rattle.std.proofs.Common.{◌≡◌, ◌<◌, ◌∙◌, Some, ap, sym, arit
 use Rattle.std.specs.Option.{option_map}
 use Rattle.std.proofs.lemmas.Bool.Decides.{nat_tests}
 use Rattle.std.proofs.lemmas.Option.{slice_get-get_or}
-use Rattle.rr_eval.specs.Dispatch.{method_for}
 use Rattle.rr_eval.specs.Prepared.{callable_of}
 use Rattle.rr_eval.specs.Turns.{context_of}
 use Rattle.rr_eval.proofs.Plain.{plain_found}
-use Rattle.rr_eval.proofs.prepared.Prepared.method_for.Goals as goal
+use Rattle.rr_eval.proofs.prepared.Prepared.method_of_plain.Goals as goal
 
 pub returns : goal.returns
 returns c =
@@ -15,7 +14,7 @@ returns c =
     let own = context_of p in
     let t = c.args.space.now in
     let all = c.deref.result.now in
-    let x = c.in-Name.name in
+    let x = c.args.name in
     let call = c.in-Some in
     let found = call.found.now in
     let test = call.ensures.lookup.0 in
@@ -25,4 +24,3 @@ returns c =
     let is = c.args.self.now.plains x.0 found there in
     let sure = c.if-is_plain.true in
     plain_found own t c.args.receiver x (option_map (callable_of p.nodes.items) found) (c.is_plain.ensures.own sure) (c.is_plain.ensures.kind sure) (c.is_plain.ensures.class sure) is
-    ∙ ap (method_for own t c.args.receiver) (sym c.in-Name.is)
