@@ -48,7 +48,17 @@ a return out of a begin|def f; begin; return 1; ensure; p 2; end; end; p f^n|2^n
 a return in a block of a method|def f; [1, 2].each { ^px^p return x }; 3; end; p f^n|1^n|
 a choice without an else as the last statement|def f(n); x = n; if x > 1 then x end; end; p f(2), f(1)^n|2^nnil^n|
 a reader that is given an argument|class A; attr_reader :b; end; a = A.new; begin; a.b(1); rescue ArgumentError => e; puts e.message; end; p a.b^n|wrong number of arguments (given 1, expected 0)^nnil^n|
-blocks without statements|def f; yield 1; end; p f { ^px^p }, 2.times { }^n|nil^n2^n|";
+blocks without statements|def f; yield 1; end; p f { ^px^p }, 2.times { }^n|nil^n2^n|
+operators on a variable and an integer|x = -7; p x + 2, x - 2, x * 2, x / 2, x % 2, x < 2, x <= 2, x > 2, x >= 2, x == 2, x != 2, x <=> 2^n|-5^n-9^n-14^n-4^n1^ntrue^ntrue^nfalse^nfalse^nfalse^ntrue^n-1^n|
+operators on two variables, one of them outside of a block|s = 7; [2].each { ^px^p p s + x, s - x, s * x, s / x, s % x, s < x, s <= x, s > x, s >= x, s == x, s != x, s <=> x }^n|9^n5^n14^n3^n1^nfalse^nfalse^ntrue^ntrue^nfalse^ntrue^n1^n|
+operators on variables of two blocks|a = 1; 1.times { b = 2; 1.times { c = a - b; p c, a + 1, b + 1 } }^n|-1^n2^n3^n|
+operators on variables that are texts|a = \"x\"; b = \"y\"; p a + b, a * 2, a == b, a == 2^n|\"xy\"^n\"xx\"^nfalse^nfalse^n|
+a quotient by a variable that is zero|a = 4; b = 0; begin; c = a / b; rescue ZeroDivisionError => e; puts e.message; end; p c^n|divided by 0^nnil^n|
+a sum of two variables out of range|a = 9223372036854775807; b = 1; begin; a = a + b; rescue RangeError; p 2; end; p a - 1^n|2^n9223372036854775806^n|
+a method of its own class, called without a receiver|class A; def f(x); g(x + 1); end; def g(y); y * 2; end; end; p A.new.f(3)^n|8^n|
+a method of the program, called in a class|def f(a, b); a - b; end; class A; def g(x); f(x, 1); end; end; p A.new.g(5)^n|4^n|
+no method of its own class|class A; def f(x); g(x); end; end; begin; A.new.f(1); rescue NoMethodError; p 2; end^n|2^n|
+a method of the class above|class A; attr_reader :b; def f(x); x + @b; end; end; class B < A; def initialize; @b = 3; end; end; p B.new.b, B.new.f(4)^n|3^n7^n|";
 
 #[test]
 fn parts_at_once_print_what_is_wanted(rt: HostRuntime) -> Result<(), Fail> {
