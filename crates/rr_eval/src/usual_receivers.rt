@@ -26,7 +26,7 @@ use crate::prepared::{Definition, Prepared};
 use crate::quick_parts::QuickParts;
 use crate::usual::Quick;
 use rr_base::Sym;
-use rr_space::Space;
+use rr_space::{Ref, Space};
 use rr_tree::NodeId;
 
 impl Engine {
@@ -225,10 +225,9 @@ impl Engine {
         )
     }
 
-    /// Calls a method of the program on a receiver that is evaluated at once and no plain object of class Object, where its class has one
-    /// of this name.
+    /// Calls a method of the program on a receiver that is evaluated at once, where its class has one of this name.
     #[inline(never)]
-    fn send_looked_up(
+    fn send_found(
         &mut self,
         prepared: &Prepared,
         space: &Space,
@@ -241,7 +240,6 @@ impl Engine {
     ) -> bool
         requires control { self.old.control ≡ Control.Enter here }
         requires comes { ComesTo prepared.now.program (view_of self.old) space.now (rule (context_of prepared.now.program) (tree_at prepared.now.program.nodes.items here)) found.steps (arguments (context_of prepared.now.program) (trees_before prepared.now.program.nodes.items (first + count) count) (found.value ∷ []) (finish (context_of prepared.now.program) (Aim.Call (Called.Name name)))) }
-        requires joins { joined_by (context_of prepared.now.program) space.now (Called.Name name) found.value ≡ None }
         requires few { found.steps ≤ 3 }
         requires small { first + count < 2 ^ 32 }
         requires enough { stop + found.steps < self.old.left }
@@ -256,7 +254,11 @@ impl Engine {
         ensures spends { IsTrue result → self.new.left < self.old.left }
         ensures falls { power (view_of self.new) + self.old.left ≤ power (view_of self.old) + self.new.left }
     {
-        match prepared.method_looked_up(space, found.value, Callee::Name(name)) {
+        let callee = Callee::Name(name);
+        if prepared.joined_by(space, found.value, callee).is_some() {
+            return false;
+        }
+        match prepared.method_for(space, found.value, callee) {
             Some(definition) => self.send_with(
                 prepared, space, here, name, definition, found, first, count, stop,
             ),
@@ -292,21 +294,22 @@ impl Engine {
         ensures spends { IsTrue result → self.new.left < self.old.left }
         ensures falls { power (view_of self.new) + self.old.left ≤ power (view_of self.old) + self.new.left }
     {
-        let callee = Callee::Name(name);
-        let Some(found) = self.quick_before(prepared, receiver, stop) else {
-            self.open_receiver(callee, receiver, first + count, count);
-            self.left -= 1;
-            return true;
-        };
-        if prepared.joined_by(space, found.value, callee).is_some() {
-            return false;
-        }
-        match prepared.method_of_plain(space, found.value, name) {
-            Some(&Some(definition)) => self.send_with(
-                prepared, space, here, name, definition, found, first, count, stop,
-            ),
-            Some(&None) => false,
-            None => self.send_looked_up(prepared, space, here, name, found, first, count, stop),
+        match self.quick_before(prepared, receiver, stop) {
+            // Most methods of a class are built in.
+            Some(
+                Quick {
+                    value: Ref::Class(_),
+                    ..
+                },
+            ) => false,
+            Some(found) => {
+                self.send_found(prepared, space, here, name, found, first, count, stop)
+            }
+            None => {
+                self.open_receiver(Callee::Name(name), receiver, first + count, count);
+                self.left -= 1;
+                true
+            }
         }
     }
 }

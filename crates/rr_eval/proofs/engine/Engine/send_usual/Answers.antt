@@ -9,8 +9,8 @@ use Rattle.rr_eval.proofs.Entered.{stepped}
 use Rattle.rr_eval.proofs.Holding.{with_left}
 use Rattle.rr_eval.proofs.engine.Engine.send_usual.Goals as goal
 
-pub returns-in_default-clause-goes : goal.returns-in_default-clause-goes
-returns-in_default-clause-goes c = λ h.
+pub returns-in-None-clause-goes : goal.returns-in-None-clause-goes
+returns-in-None-clause-goes c = λ h.
     let p = c.args.prepared.now.program in
     let ns = p.nodes.items in
     let m = view_of c.args.self.now in
@@ -21,7 +21,7 @@ returns-in_default-clause-goes c = λ h.
     ∙ c.open_receiver.ensures.goes p t h (m.left - 1)
     ∙ ap (λ n. remaining_with p (view_of c.open_receiver.new.self) t h (n - 1)) (sym c.open_receiver.ensures.left)
 
-pub returns-in_default-clause-within : goal.returns-in_default-clause-within
-returns-in_default-clause-within c clusters h =
+pub returns-in-None-clause-within : goal.returns-in-None-clause-within
+returns-in-None-clause-within c clusters h =
     let k = reach (length c.args.space.now.slots) clusters in
     with_left k (view_of c.open_receiver.new.self) _ (c.open_receiver.ensures.within k h)
