@@ -28,6 +28,7 @@ fn has_fields(kind: Kind) -> bool
 }
 
 /// The value of the first field of the name.
+#[inline(always)]
 fn field_found(space: &Space, object: Ref, name: Sym) -> Round
     ensures is { read_of result ≡ found (field_in name.0 (triples_at space.now object)) }
     ensures within { IsRoundWithin (length space.now.slots) result }
@@ -40,6 +41,7 @@ fn field_found(space: &Space, object: Ref, name: Sym) -> Round
 }
 
 /// What an instance variable of an object holds.
+#[inline(always)]
 pub fn field_at(space: &Space, object: Ref, name: Sym) -> Round
     ensures is { read_of result ≡ field_at space.now object name.0 }
     ensures within { IsRoundWithin (length space.now.slots) result }

@@ -65,6 +65,7 @@ impl Space {
 
     /// What stands under `label` in the object that `value` leads to, if anything does. A field is looked for, and all else
     /// is where its label says.
+    #[inline(always)]
     pub fn read(&self, value: Ref, label: Label) -> Option<Ref>
         ensures some { IfSome result (λ r. Contains (triples_at self.now value) (label_of label, value_of r)) }
         ensures first { IfSome result (λ r. IsFirstUnder (triples_at self.now value) (label_of label) (value_of r)) }
