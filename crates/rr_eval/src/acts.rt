@@ -1,18 +1,18 @@
 //! The acts of a turn: one at a time, of whatever kind.
 
-ghost use Rattle.std.specs.Prelude.{◌≡◌, ◌+◌, ◌*◌, ◌<◌, ◌≤◌, length, vec_capacity, Option, IfOk, IfErr, IfSome, OnErr};
+ghost use Rattle.std.specs.Prelude.{◌≡◌, ◌+◌, ◌*◌, ◌<◌, ◌≤◌, length, vec_capacity, Option, IfOk, IfErr, IfSome, IfNone, OnErr};
 ghost use Rattle.rr_space.specs.Tables.{Below};
 ghost use Rattle.rr_eval.specs.declared.frame.Control.{Control};
 ghost use Rattle.rr_eval.specs.Acts.{IsRefusal, Passes};
 ghost use Rattle.rr_eval.specs.Changes.{Changes};
-ghost use Rattle.rr_eval.specs.Requests.{Course, Adds};
+ghost use Rattle.rr_eval.specs.Requests.{Course, Adds, asked_of};
 ghost use Rattle.rr_eval.specs.Script.{objects_of};
-ghost use Rattle.rr_eval.specs.Turns.{remaining, continuing, IsNested, IsStep, Acted, Descends, power, sized};
+ghost use Rattle.rr_eval.specs.Turns.{remaining, asking_then, continuing, IsNested, IsStep, Acted, Descends, power, sized};
 ghost use Rattle.rr_eval.specs.Views.{view_of};
-ghost use Rattle.rr_eval.specs.Within.{reach, IsAskedReached, IsTurnReached, AreReached, AreWithin, KeepsReach, KeepsRead};
+ghost use Rattle.rr_eval.specs.Within.{reach, IsAskedReached, IsRequestReached, IsTurnReached, AreReached, AreWithin, KeepsReach, KeepsRead};
 
 use crate::engine::{Engine, Turn, stop_of};
-use crate::frame::Control;
+use crate::frame::{Control, Frame};
 use crate::nodes::evaluated_node;
 use crate::prepared::Prepared;
 use crate::problem::Answer;
@@ -183,6 +183,28 @@ impl Engine {
             Some(request) => Ok(Some(Turn::Ask(request))),
             None => Ok(None),
         }
+    }
+
+    /// Asks for an assignment to an instance variable, where the topmost frame waits for its value, which is there.
+    #[inline(always)]
+    pub fn ask_often(&mut self, prepared: &Prepared, space: &Space) -> Option<Request>
+        requires nested { IsNested (view_of self.old) }
+        ensures goes { IfSome result (λ q. (h : Course) → remaining prepared.now.program (view_of self.old) space.now h ≡ asking_then prepared.now.program (view_of self.new) space.now (asked_of space.now q) h) }
+        ensures nested { IsNested (view_of self.new) }
+        ensures within { (clusters : Option Below) → AreReached (reach (length space.now.slots) clusters) (view_of self.old) → AreReached (reach (length space.now.slots) clusters) (view_of self.new) }
+        ensures asks { (clusters : Option Below) → AreReached (reach (length space.now.slots) clusters) (view_of self.old) → IfSome result (IsRequestReached (reach (length space.now.slots) clusters)) }
+        ensures left { self.new.left ≡ self.old.left }
+        ensures falls { IfSome result (λ q. 9 * self.new.left + sized (Option.Some q) (view_of self.new) < power (view_of self.old)) }
+        ensures none { IfNone result (view_of self.new ≡ view_of self.old) }
+    {
+        let Control::Give(Answer::Gave(value)) = self.control else {
+            return None;
+        };
+        let Some(&Frame::SetField(name)) = self.frames.last() else {
+            return None;
+        };
+        self.take_top(Frame::SetField(name), Answer::Gave(value));
+        Some(self.ask_field(name, value))
     }
 
     /// One act: what stops the turn then, where something does. A refused growth leaves what is still to be done as it is.

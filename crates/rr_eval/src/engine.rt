@@ -299,6 +299,9 @@ impl Engine {
         let stop = self.left.saturating_sub(u64::from(budget));
         loop {
             self.act_usual(prepared, space, stop);
+            if let Some(request) = self.ask_often(prepared, space) {
+                return Ok(Turn::Ask(request));
+            }
             if let Some(turn) = self.act(prepared, space, stop)? {
                 return Ok(turn);
             }

@@ -48,7 +48,7 @@ pub fn read_field(space: &Space, object: Ref, name: Sym) -> Response
 
 /// Gives an instance variable of an object a value, and gives the value. A refused growth leaves the
 /// objects as they were.
-fn write_field(
+pub fn write_field(
     space: &mut Space,
     store: &StoreState,
     object: Ref,

@@ -1,6 +1,6 @@
 //! Calls of methods, as an environment serves them. The store is given for its clusters, among which are all that the space leads to.
 
-ghost use Rattle.std.specs.Prelude.{◌≡◌, ◌≤◌, [], length, map, Some, Ok, Err, Result, if◌then◌else◌, IfOk, IfErr};
+ghost use Rattle.std.specs.Prelude.{◌≡◌, ◌≤◌, ◌∷◌, [], length, map, Some, Ok, Err, Result, if◌then◌else◌, IfOk, IfErr};
 ghost use Rattle.std.specs.List.{All};
 ghost use Rattle.rr_space.specs.Parts.{IsWithin};
 ghost use Rattle.rr_space.specs.Tables.{Below};
@@ -12,6 +12,7 @@ ghost use Rattle.rr_builtin.specs.Methods.{method_named};
 ghost use Rattle.rr_eval.specs.Acts.{IsRefusal, Passes};
 ghost use Rattle.rr_eval.specs.Callees.{method_of};
 ghost use Rattle.rr_eval.specs.Calls.{sent, call_reply};
+ghost use Rattle.rr_eval.specs.declared.call.Task.{Task as Tasks};
 ghost use Rattle.rr_eval.specs.Requests.{arguments_of, asked_of};
 ghost use Rattle.rr_eval.specs.Published.{published};
 ghost use Rattle.rr_eval.specs.Runs.{piece_asked};
@@ -24,12 +25,13 @@ ghost use Rattle.rr_eval.specs.Turns.{context_of};
 ghost use Rattle.rr_eval.specs.Within.{reach, IsReached, IsCallReached, IsRequestReached, IsResponseReached};
 
 use crate::call::{Arguments, Call, Callee, Task};
+use crate::fields::write_field;
 use crate::print::{Served, serve_task};
 use crate::problem::{Problem, Response};
 use crate::ractor_method::ractor_method;
 use crate::request::Request;
 use crate::sharing::serve_ractor;
-use rr_base::Fault;
+use rr_base::{Fault, Sym};
 use rr_builtin::{
     Built, BuiltInMethod, ContentMethod, Methods, NumberMethod, Problem as BuiltInProblem,
     Receiver, call, methods_have_names,
@@ -209,6 +211,31 @@ fn serve_called(
     }
 }
 
+/// Gives an instance variable of an object a value. A refused growth leaves the objects as they were.
+#[inline(always)]
+fn serve_field(
+    alloc: Global,
+    space: &mut Space,
+    store: &StoreState,
+    program: &Program,
+    name: Sym,
+    object: Ref,
+    value: Ref,
+) -> Result<Served, Fault>
+    requires read { IsReadWith space.old (published store.now) }
+    requires reached { All (IsReached (reach (length space.old.slots) (Some (published store.now)))) (object ∷ value ∷ []) }
+    ensures piece { IfOk result (λ served. served.piece.items ≡ piece_of (Tasks.SetField name) (names_of program.now) space.old (object ∷ value ∷ [])) }
+    ensures replied { IfOk result (λ served. IsTaskReplied (context_of program.now) (published store.now) (Tasks.SetField name) (object ∷ value ∷ []) space.old served.response space.new) }
+    ensures left { IfOk result (λ served. IsLeft (published store.now) space.old served.response space.new) }
+    ensures refused { IfErr result (IsTaskRefused (context_of program.now) (published store.now) (Tasks.SetField name) (object ∷ value ∷ []) space.old) }
+{
+    let response = write_field(space, store, object, name, value)?;
+    Ok(Served {
+        piece: Vec::new(alloc),
+        response,
+    })
+}
+
 /// Does a task with these values.
 fn serve_values(
     alloc: Global,
@@ -228,9 +255,12 @@ fn serve_values(
     match values {
         Arguments::Without => serve_task(alloc, space, store, program, task, &[]),
         Arguments::One(first) => serve_task(alloc, space, store, program, task, &[*first]),
-        Arguments::Two(first, second) => {
-            serve_task(alloc, space, store, program, task, &[*first, *second])
-        }
+        Arguments::Two(first, second) => match task {
+            Task::SetField(name) => serve_field(
+                alloc, space, store, program, name, *first, *second,
+            ),
+            _ => serve_task(alloc, space, store, program, task, &[*first, *second]),
+        },
         Arguments::Many(values) => serve_task(
             alloc,
             space,
