@@ -74,6 +74,7 @@ pub fn value_at(stand: &[Ref], place: usize) -> Ref
 }
 
 /// The integers below one.
+#[inline(always)]
 pub fn below(here: i64, bound: Ref) -> Ahead
     ensures is { result ≡ below here bound }
     ensures within { (k : Reach) → IsAheadReached k result }
@@ -106,6 +107,7 @@ pub fn up_to(here: i64, bound: Ref) -> Ahead
 const PLACES: usize = 9_223_372_036_854_775_808;
 
 /// A value that the space has: where it is published, the slot that stands for it, if that is known.
+#[inline(always)]
 pub fn own(space: &Space, value: Ref) -> Option<Ref>
     ensures is { result ≡ own_of space.now (value_of value) }
     ensures within { (clusters : Option Below) → IsWithin (length space.now.slots) value → All (IsReached (reach (length space.now.slots) clusters)) (list_of result) }

@@ -116,6 +116,7 @@ fn operated(op: BinaryOperator, left: Ref, right: Ref) -> Option<Ref>
 
 impl Engine {
     /// The value of a node that needs no frame and is none of the most frequent kinds.
+    #[cold]
     #[inline(never)]
     fn quick_apart(&self, program: &Program, place: NodeId) -> Option<Ref>
         ensures takes { IfSome result (TakesNow program.now (view_of self.now) (tree_at program.now.nodes.items place) 1) }

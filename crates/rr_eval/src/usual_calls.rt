@@ -113,6 +113,7 @@ impl Engine {
 
     /// Calls a method of the program on `self`, with `count` parts from `first` on as its arguments: one step, and those of the
     /// first arguments that need no frame.
+    #[cold]
     #[inline(never)]
     fn call_all(
         &mut self,
@@ -162,6 +163,7 @@ impl Engine {
 
     /// Gives the block of the method that runs `count` parts from `first` on: one step, and those of the first parts that need
     /// no frame.
+    #[cold]
     #[inline(never)]
     fn yield_all(
         &mut self,
@@ -248,6 +250,7 @@ impl Engine {
     }
 
     /// Calls a method of the program on `self`, which is no plain object of class Object, where its class has one of this name.
+    #[cold]
     #[inline(never)]
     fn call_looked_up(
         &mut self,
@@ -318,6 +321,7 @@ impl Engine {
     }
 
     /// Calls a method of the program on `self` without arguments, where it has one of this name.
+    #[cold]
     #[inline(never)]
     pub fn bare_usual(
         &mut self,

@@ -142,7 +142,7 @@ impl Engine {
     /// Goes on behind a turn that had a value, and whose frame is gone, where another turn is ahead that takes no memory.
     #[tactic(auto, unfolding(crate::specs::Within::AreReached))]
     #[inline(always)]
-    fn begin_next(
+    fn begin_ahead(
         &mut self,
         program: &Program,
         space: &Space,
@@ -169,6 +169,31 @@ impl Engine {
                 self.begin_round(program, space, next, first, last)
             }
             _ => false,
+        }
+    }
+
+    /// The same. A turn of `times` is compiled apart, so that what is ahead of it is known there.
+    #[inline(always)]
+    fn begin_next(
+        &mut self,
+        program: &Program,
+        space: &Space,
+        iteration: Iterating,
+        value: Ref,
+    ) -> bool
+        requires room { length self.old.frames.items < vec_capacity self.old.frames }
+        requires base { iteration.base ≤ length self.old.held.items }
+        requires nested { Nested (reverse self.old.frames.items) (take iteration.base self.old.held.items) }
+        ensures goes { IsTrue result → (h : Course) (n : ℕ) → after_values program.now (view_of self.old) space.now (Frame.Turned iteration) (continued_with (context_of program.now) (iterated (code_of program.now h.world) iteration (drop iteration.base self.old.held.items)) value) h n ≡ remaining_with program.now (view_of self.new) space.now h n }
+        ensures nested { IsTrue result → IsNested (view_of self.new) }
+        ensures within { (clusters : Option Below) → AreReached (reach (length space.now.slots) clusters) (view_of self.old) → AreReached (reach (length space.now.slots) clusters) (view_of self.new) }
+        ensures left { self.new.left ≡ self.old.left }
+        ensures size { IsTrue result → size (view_of self.new) ≤ 3 * length self.old.frames.items + 4 }
+        ensures same { IsFalse result → self.new ≡ self.old }
+    {
+        match iteration.visits {
+            Visits::Times(_) => self.begin_ahead(program, space, iteration, value),
+            _ => self.begin_ahead(program, space, iteration, value),
         }
     }
 

@@ -326,6 +326,8 @@ impl Engine {
     }
 
     /// Gives the topmost frame, which is none of the most frequent kinds, a value, where that is usual: it answers whether it was done.
+    #[cold]
+    #[inline(never)]
     fn resume_apart(&mut self, prepared: &Prepared, space: &Space, value: Ref, stop: u64) -> bool
         requires control { self.old.control ≡ Control.Give (Answer.Gave value) }
         requires nested { IsNested (view_of self.old) }

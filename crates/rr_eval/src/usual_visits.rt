@@ -337,6 +337,8 @@ impl Engine {
     }
 
     /// Evaluates a node of another kind, where that is usual: it answers whether it was done.
+    #[cold]
+    #[inline(never)]
     pub fn visit_apart(&mut self, prepared: &Prepared, here: NodeId, stop: u64) -> bool
         requires control { self.old.control ≡ Control.Enter here }
         requires some { stop < self.old.left }
