@@ -4,6 +4,7 @@ use Rattle.std.proofs.lemmas.List.{append_assoc, take_all, take-append-drop, tak
 use Rattle.std.proofs.Math.Seq.{take-append_seam, drop-append_seam, get_or-append_seam}
 use Rattle.std.specs.List.{All}
 use Rattle.rr_base.specs.declared.fault.Fault.{Fault}
+use Rattle.rr_base.specs.declared.name.ClassId.{ClassId}
 use Rattle.rr_space.specs.Tables.{Table}
 use Rattle.rr_space.specs.declared.refer.Ref.{Ref}
 use Rattle.rr_space.specs.declared.refer.Ref.TheVariants.{Nil}
@@ -20,7 +21,8 @@ use Rattle.rr_eval.specs.declared.frame.Control.TheVariants.{Enter}
 use Rattle.rr_eval.specs.declared.frame.Frame.TheVariants.{Argument}
 use Rattle.rr_parser.specs.Grammar.Names.{is_splat}
 use Rattle.rr_builtin.proofs.Gathering.{append_nil}
-use Rattle.rr_eval.specs.Dispatch.{dispatched, method_for, run_method, way_of}
+use Rattle.rr_eval.specs.Dispatch.{built_in, dispatched, made_by, method_for, new_rule, run_method, way_of}
+use Rattle.rr_eval.specs.Callees.{method_of}
 use Rattle.rr_eval.specs.Joins.{joined_by, joined_or_sent}
 use Rattle.rr_eval.specs.Methods.{Callable}
 use Rattle.rr_eval.specs.Nodes.{IsSendNode}
@@ -235,6 +237,27 @@ sent_held p m n t here base i j end rest v x f trees h at first others all is he
     ∙ ap (λ o. after_values p n t frame (joined_or_sent own o (Name x) v args) h k) joins
     ∙ ap (λ g. after_values p n t frame (dispatched own g (Name x) None v args) h k) (sym method)
     ∙ ap (λ (l : List Ref). after_values p n t frame (run_method own f (way_of (Name x) None v l) l) h k) passed
+
+-- a new object is made for values that are held
+pub sent_new : (p : Program) (m n : View) (t : Table) (here base i j end rest : ℕ) (v : Ref) (x : Sym) (class : ClassId) (trees : List Tree) (h : Course) → m.control ≡ Enter here
+    → ComesTo p m t (rule (context_of p) (tree_at p.nodes.items here)) i (arguments (context_of p) trees (v ∷ []) (finish (context_of p) (Call (Name x))))
+    → ((t : Table) (next : List Ref → Script) → ComesTo p m t (arguments (context_of p) trees (v ∷ []) next) j (arguments (context_of p) (trees_before p.nodes.items end rest) (drop (length m.held) n.held) next)) → base ≡ length m.held → HoldsMore m n
+    → v ∷ drop (length m.held + 1) n.held ≡ drop (length m.held) n.held → joined_by (context_of p) t (Name x) v ≡ None → method_for (context_of p) t v (Name x) ≡ None → made_by (context_of p) (method_of (context_of p) (Name x)) v ≡ Some class → rest ≡ 0 → i + j < m.left
+    → remaining p m t h ≡ after_values p n t (Argument (Call (Name x)) end 0 base) (new_rule (context_of p) class None (drop 1 (drop base n.held))) h (n.left - (i + j + 1))
+sent_new p m n t here base i j end rest v x class trees h at first others all is heads joins method made none less =
+    let own = context_of p in
+    let frame = Argument (Call (Name x)) end 0 base in
+    let k = n.left - (i + j + 1) in
+    let args = drop (length m.held + 1) n.held in
+    let vs = drop base n.held in
+    let values : vs ≡ v ∷ args = ap (λ b. drop b n.held) all ∙ sym heads in
+    sent_waits p m n t here base i j end rest v trees (Name x) h at first others all is less
+    ∙ ap (λ r. after_values p n t frame (arguments own (trees_before p.nodes.items end r) vs (finish own (Call (Name x)))) h k) none
+    ∙ ap (λ (l : List Ref). after_values p n t frame (finish own (Call (Name x)) l) h k) values
+    ∙ ap (λ o. after_values p n t frame (joined_or_sent own o (Name x) v args) h k) joins
+    ∙ ap (λ g. after_values p n t frame (dispatched own g (Name x) None v args) h k) method
+    ∙ ap (λ g. after_values p n t frame (built_in own g (Name x) None v args) h k) made
+    ∙ ap (λ (l : List Ref). after_values p n t frame (new_rule own class None (drop 1 l)) h k) (sym values)
 
 -- what was done goes on as before, and where nothing was done all is as before
 pub usual_goes : (p : Program) (m n : View) (t : Table) (done : Bool) → (IsTrue done → (h : Course) → remaining p m t h ≡ remaining p n t h) → (IsFalse done → n ≡ m) → (h : Course) → remaining p m t h ≡ remaining p n t h

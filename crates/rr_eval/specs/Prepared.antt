@@ -2,7 +2,7 @@
 use Rattle.std.specs.Prelude.{◌≡◌, ℕ, List, Option, Some, codes, slice_get}
 use Rattle.std.specs.Option.{option_map}
 use Rattle.rr_base.specs.declared.name.Sym.{Sym}
-use Rattle.rr_base.specs.declared.name.TheConstants.ClassId.{OBJECT}
+use Rattle.rr_base.specs.declared.name.ClassId.{ClassId}
 use Rattle.rr_space.specs.declared.kind.Kind.TheVariants.{Object}
 use Rattle.rr_space.specs.declared.refer.Ref.{Ref}
 use Rattle.rr_space.specs.declared.refer.Ref.TheVariants.{Local}
@@ -13,18 +13,19 @@ use Rattle.rr_tree.specs.Sets.{Tree-set}
 use Rattle.rr_tree.specs.Tree.{tree_at}
 use Rattle.rr_tree.specs.declared.node.Node.{Node}
 use Rattle.rr_tree.specs.declared.program.Program.{Program}
+use Rattle.rr_eval.specs.declared.initializers.Initializer.{Initializer}
 use Rattle.rr_eval.specs.declared.invoke.Way.{Way as Called}
 use Rattle.rr_eval.specs.declared.operator_symbols.OperatorSymbols.{OperatorSymbols}
+use Rattle.rr_eval.specs.declared.plain_methods.PlainMethod.{PlainMethod}
 use Rattle.rr_eval.specs.declared.prepared.Body.{Body}
 use Rattle.rr_eval.specs.declared.prepared.Definition.{Definition}
-use Rattle.rr_eval.specs.declared.prepared.Initializer.{Initializer}
 use Rattle.rr_eval.specs.declared.prepared.Work.{Work as Kept}
 use Rattle.rr_eval.specs.declared.prepared.Work.TheVariants as kept
 use Rattle.rr_eval.specs.Blocks.{Way}
 use Rattle.rr_eval.specs.declared.call.Callee.TheVariants.{Name}
 use Rattle.rr_eval.specs.Callees.{method_of as built_in_of}
 use Rattle.rr_eval.specs.Context.{Context}
-use Rattle.rr_eval.specs.Dispatch.{is_below, iteration_of, unless_below}
+use Rattle.rr_eval.specs.Dispatch.{initializer, is_below, iteration_of, unless_below}
 use Rattle.rr_eval.specs.Methods.{Method, Work, Runs, Reads, Writes, NoWork, Callable, method_in}
 
 abbrev pub method_of : List Node → Body → Method
@@ -70,13 +71,20 @@ abbrev pub IsLocal : Ref → Type 0
 IsLocal (Local n) = Unit {0}
 IsLocal _ = ⊥
 
--- the method that a call of a plain object of class Object finds
-abbrev pub plain_method : Context → Sym → Option Callable
-plain_method c x = unless_below (is_below Object (built_in_of c (Name x)) (iteration_of c (Name x))) (method_in c.program OBJECT (Plain x))
+-- the method that a call of a plain object of a class finds
+abbrev pub plain_method : Context → ClassId → Sym → Option Callable
+plain_method c k x = unless_below (is_below Object (built_in_of c (Name x)) (iteration_of c (Name x))) (method_in c.program k (Plain x))
 
--- methods by the numbers of their names
-abbrev pub ArePlain : Context → List (Option Definition) → Type 0
-ArePlain c found = (x : ℕ) (f : Option Definition) → slice_get found x ≡ Some f → option_map (callable_of c.program.nodes.items) f ≡ plain_method c (record { 0 = x })
+-- methods by the numbers of their names, each for a class
+abbrev pub ArePlain : Context → List PlainMethod → Type 0
+ArePlain c found = (x : ℕ) (f : PlainMethod) → slice_get found x ≡ Some f → option_map (callable_of c.program.nodes.items) f.definition ≡ plain_method c f.class (record { 0 = x })
 
-pub ArePlain-prop : (c : Context) (found : List (Option Definition)) → IsProp (ArePlain c found)
+pub ArePlain-prop : (c : Context) (found : List PlainMethod) → IsProp (ArePlain c found)
 ArePlain-prop c found = Prim.hlevel (props, Tree-set)
+
+-- the program's `initialize` for the objects of classes, by the numbers of the classes
+abbrev pub AreInitializers : Context → List (Option Initializer) → Type 0
+AreInitializers c found = (k : ℕ) (f : Option Initializer) → slice_get found k ≡ Some f → option_map (initializer_of c.program.nodes.items) f ≡ initializer c (record { 0 = k })
+
+pub AreInitializers-prop : (c : Context) (found : List (Option Initializer)) → IsProp (AreInitializers c found)
+AreInitializers-prop c found = Prim.hlevel (props, Tree-set)

@@ -53,6 +53,7 @@ pub fn make_plain(alloc: Global, space: &mut Space, class: ClassId) -> Result<Re
 }
 
 /// Makes a new object of a class; an exception has a cause, and no message yet. A refused growth leaves the objects as they were.
+#[inline(always)]
 fn make_object(
     alloc: Global,
     space: &mut Space,
@@ -105,6 +106,7 @@ fn made(raises: bool, object: Ref) -> Answer
 impl Engine {
     /// Begins the program's `initialize` of a new object, with the arguments among the values that stand for a frame; without one the
     /// object is there. A refused growth leaves all as it is.
+    #[inline(always)]
     pub fn initialize(
         &mut self,
         prepared: &Prepared,
@@ -145,6 +147,7 @@ impl Engine {
 
     /// Begins what a frame does with the new object for which it waits: the program's `initialize`, or a turn of an iteration. A refused
     /// growth leaves all as it is.
+    #[inline(always)]
     fn begin_object(
         &mut self,
         prepared: &Prepared,
@@ -200,6 +203,7 @@ impl Engine {
 
     /// Gives a new object to the frame that waits for it, which was taken off the stack. A refused growth leaves what is still to be
     /// done as it is.
+    #[inline(always)]
     pub fn give_object(
         &mut self,
         prepared: &Prepared,

@@ -18,26 +18,28 @@ ghost use Rattle.rr_eval.specs.RaisingNew.{initialized_class, class_raised};
 ghost use Rattle.rr_base.specs.declared.name.TheConstants.ClassId.{OBJECT};
 ghost use Rattle.rr_space.specs.declared.kind.Kind.{Kind as Kinds};
 ghost use Rattle.rr_space.specs.Kinds.{class_at};
-ghost use Rattle.rr_eval.specs.Prepared.{AreSymbolsOf, ArePlain, ArePlain-prop, IsLocal, callable_of, plain_method, work_in, initializer_of};
+ghost use Rattle.rr_eval.specs.Prepared.{AreInitializers, AreInitializers-prop, AreSymbolsOf, ArePlain, ArePlain-prop, callable_of, initializer_of};
 ghost use Rattle.rr_eval.specs.SimpleParts.{AreSimple, AreSimple-prop, simple_of};
 ghost use Rattle.rr_eval.specs.Speaking.{symbol_asked};
 ghost use Rattle.rr_eval.specs.Turns.{context_of};
 
 use crate::asking::Saying;
 use crate::call::Callee;
-use crate::nodes::evaluated_node;
+use crate::initializers::{Initializer, initializer_of, initializers};
 use crate::operator_symbols::OperatorSymbols;
+use crate::plain_methods::{
+    PlainMethod, definition_in, is_below, is_plain, method_called, plain_methods,
+};
 use crate::ractor_method::ractor_method;
 use crate::serve::method_of;
 use crate::simple_parts::{SimplePart, simple_parts};
 use rr_base::{ClassId, Sym};
 use rr_builtin::{
-    BuiltInMethod, Iteration, Iterations, Methods, has, iterates, iterations_have_names, may_make,
-    stands_below_object,
+    BuiltInMethod, Iteration, Iterations, Methods, has, iterations_have_names, may_make,
 };
 use rr_frames::{Activation, Shape};
-use rr_space::{Kind, Ref, Space};
-use rr_tree::{MethodName, MethodTable, Node, NodeId, Program};
+use rr_space::{Ref, Space};
+use rr_tree::{MethodName, MethodTable, NodeId, Program};
 use std::alloc::{AllocError, Global};
 
 /// The statements of a method: its name, its variables, and the node of its statements.
@@ -68,13 +70,6 @@ pub struct Definition {
     pub work: Work,
 }
 
-/// The program's `initialize`, with the class in which it stands.
-#[derive(Clone, Copy)]
-pub struct Initializer {
-    pub class: ClassId,
-    pub body: Body,
-}
-
 /// A program, whose methods are found by their names.
 #[derive(Drop)]
 pub struct Prepared {
@@ -89,8 +84,10 @@ pub struct Prepared {
     pub(crate) methods: Methods,
     /// The iterations, by the numbers of their names.
     pub(crate) iterations: Iterations,
-    /// The methods that a call of a plain object of class Object finds, by the numbers of their names.
-    plain: Vec<Option<Definition>>,
+    /// The methods that calls of plain objects find, by the numbers of their names.
+    plain: Vec<PlainMethod>,
+    /// The program's `initialize` for the objects of each class, by the number of the class.
+    initializers: Vec<Option<Initializer>>,
     /// What its parts are, by their places.
     parts: Vec<SimplePart>,
     ghost finds: { IsTableOf program table } by { IsTableOf-prop program table },
@@ -100,129 +97,8 @@ pub struct Prepared {
     ghost names: { methods ≡ map (λ s. method_named s.items) program.symbols.items },
     ghost iterates: { iterations ≡ map (λ s. iteration_named s.items) program.symbols.items },
     ghost plains: { ArePlain (context_of program) plain.items } by { ArePlain-prop (context_of program) plain.items },
+    ghost initializes: { AreInitializers (context_of program) initializers.items } by { AreInitializers-prop (context_of program) initializers.items },
     ghost simples: { AreSimple program.nodes.items parts.items } by { AreSimple-prop program.nodes.items parts.items },
-}
-
-/// What a call of the method does that a node defines.
-#[inline(always)]
-fn work_at(program: &Program, place: NodeId) -> Work
-    ensures { work_in program.now.nodes.items result ≡ work_of (tree_at program.now.nodes.items place) }
-{
-    match evaluated_node(program, place) {
-        Node::Method {
-            name,
-            parameters,
-            size,
-            body,
-            ..
-        } => Work::Run(Body {
-            name,
-            shape: Shape { parameters, size },
-            node: body,
-        }),
-        Node::Reader(name) => Work::Read(name),
-        Node::Writer(name) => Work::Write(name),
-        _ => Work::Nothing,
-    }
-}
-
-/// The method of a class, or of the nearest class above it.
-#[inline(always)]
-fn definition_in(
-    program: &Program,
-    table: &MethodTable,
-    class: ClassId,
-    name: MethodName,
-) -> Option<Definition>
-    requires { IsTableOf program.now table.now }
-    ensures { option_map (callable_of program.now.nodes.items) result ≡ method_in program.now class name }
-{
-    match table.find(program, class, name) {
-        Some(found) => Some(Definition {
-            class: found.class,
-            work: work_at(program, found.node),
-        }),
-        None => None,
-    }
-}
-
-/// Whether values of the kind have a built-in method that stands in a class below Object.
-#[inline(always)]
-fn is_below(kind: Kind, method: Option<BuiltInMethod>, iteration: Option<Iteration>) -> bool
-    ensures { result ≡ is_below kind method iteration }
-{
-    match (method, iteration) {
-        (Some(method), _) => has(kind, method) && stands_below_object(kind, method),
-        (None, Some(iteration)) => iterates(kind, iteration),
-        (None, None) => false,
-    }
-}
-
-/// The method that a call of a plain object of class Object finds.
-fn plain_method(
-    program: &Program,
-    table: &MethodTable,
-    methods: &Methods,
-    iterations: &Iterations,
-    name: Sym,
-) -> Option<Definition>
-    requires table { IsTableOf program.now table.now }
-    requires methods { methods.now ≡ map (λ s. method_named s.items) program.now.symbols.items }
-    requires iterations { iterations.now ≡ map (λ s. iteration_named s.items) program.now.symbols.items }
-    ensures { option_map (callable_of program.now.nodes.items) result ≡ plain_method (context_of program.now) name }
-{
-    iterations_have_names();
-    let definition = definition_in(program, table, ClassId::OBJECT, MethodName::Plain(name))?;
-    let method = method_of(program, methods, Callee::Name(name));
-    if definition.class.0 == ClassId::OBJECT.0
-        && is_below(Kind::Object, method, iterations.find(name))
-    {
-        None
-    } else {
-        Some(definition)
-    }
-}
-
-/// The methods that calls of a plain object of class Object find, by the numbers of their names.
-fn plain_methods(
-    alloc: Global,
-    program: &Program,
-    table: &MethodTable,
-    methods: &Methods,
-    iterations: &Iterations,
-) -> Result<Vec<Option<Definition>>, AllocError>
-    requires table { IsTableOf program.now table.now }
-    requires methods { methods.now ≡ map (λ s. method_named s.items) program.now.symbols.items }
-    requires iterations { iterations.now ≡ map (λ s. iteration_named s.items) program.now.symbols.items }
-    ensures { IfOk result (λ plain. ArePlain (context_of program.now) plain.items) }
-{
-    let mut plain = Vec::new(alloc);
-    for number in 0..program.symbols.len() {
-        let Ok(name) = u32::try_from(number) else {
-            return Ok(plain);
-        };
-        plain.push(plain_method(program, table, methods, iterations, Sym(name)))?;
-    }
-    Ok(plain)
-}
-
-/// Whether a value is an object of its space without contents of its own, whose class is Object.
-#[inline(always)]
-fn is_plain(space: &Space, value: Ref) -> bool
-    ensures own { IsTrue result → IsLocal value }
-    ensures kind { IsTrue result → kind_at space.now value ≡ Kinds.Object }
-    ensures class { IsTrue result → class_at space.now value ≡ OBJECT }
-{
-    match value {
-        Ref::Local(_) => {
-            space.class_of(value).0 == ClassId::OBJECT.0
-                && match space.kind_of(value) {
-                    Kind::Object => true,
-                    _ => false,
-                }
-        }
-        _ => false,
-    }
 }
 
 impl Prepared {
@@ -237,6 +113,7 @@ impl Prepared {
         let methods = Methods::of(alloc, &program)?;
         let iterations = Iterations::of(alloc, &program)?;
         let plain = plain_methods(alloc, &program, &table, &methods, &iterations)?;
+        let initializers = initializers(alloc, &program, &table, &operators)?;
         let parts = simple_parts(alloc, &program)?;
         Ok(Prepared {
             program,
@@ -247,6 +124,7 @@ impl Prepared {
             methods,
             iterations,
             plain,
+            initializers,
             parts,
         })
     }
@@ -264,10 +142,7 @@ impl Prepared {
     fn method_called(&self, class: ClassId, callee: Callee) -> Option<Definition>
         ensures { option_map (callable_of self.now.program.nodes.items) result ≡ method_called (context_of self.now.program) class (called_name (context_of self.now.program) callee) }
     {
-        match self.operators.called_name(&self.program, callee) {
-            Some(name) => self.method_in(class, name),
-            None => None,
-        }
+        method_called(&self.program, &self.table, &self.operators, class, callee)
     }
 
     /// What the part at a place is, where one stands there.
@@ -336,8 +211,8 @@ impl Prepared {
             || ractor_method(&self.program, receiver, callee).is_some()
     }
 
-    /// The program's method that a call of a plain object of class Object runs, which was found beforehand: none inside where it runs no
-    /// method of the program, and none where the receiver is another one.
+    /// The program's method that a call of a plain object runs, where it was found beforehand for the object's class: none inside where it
+    /// runs no method of the program, and none where the receiver is another one.
     #[inline(always)]
     pub(crate) fn method_of_plain(
         &self,
@@ -345,12 +220,13 @@ impl Prepared {
         receiver: Ref,
         name: Sym,
     ) -> Option<&Option<Definition>>
-        ensures { IfSome result (λ f. option_map (callable_of self.now.program.nodes.items) f.now ≡ method_for (context_of self.now.program) space.now receiver (Called.Name name)) }
+        ensures finds { IfSome result (λ f. option_map (callable_of self.now.program.nodes.items) f.now ≡ method_for (context_of self.now.program) space.now receiver (Called.Name name)) }
+        ensures kind { IfSome result (λ _. kind_at space.now receiver ≡ Kinds.Object) }
     {
         if let Some(found) = self.plain.get(name.0 as usize)
-            && is_plain(space, receiver)
+            && is_plain(space, receiver, found.class)
         {
-            return Some(found);
+            return Some(&found.definition);
         }
         None
     }
@@ -414,17 +290,13 @@ impl Prepared {
     }
 
     /// The program's `initialize` for the objects of a class.
+    #[inline(always)]
     pub(crate) fn initializer(&self, class: ClassId) -> Option<Initializer>
         ensures { option_map (initializer_of self.now.program.nodes.items) result ≡ initializer (context_of self.now.program) class }
     {
-        match self.method_called(class, Callee::Initialize) {
-            Some(
-                Definition {
-                    class,
-                    work: Work::Run(body),
-                },
-            ) => Some(Initializer { class, body }),
-            _ => None,
+        match self.initializers.get(class.0 as usize) {
+            Some(found) => *found,
+            None => initializer_of(&self.program, &self.table, &self.operators, class),
         }
     }
 

@@ -32,7 +32,7 @@ use rr_tree::NodeId;
 impl Engine {
     /// Whether there is room for so many values and one more.
     #[inline(always)]
-    fn holds_more(&self, count: u32) -> bool
+    pub(crate) fn holds_more(&self, count: u32) -> bool
         ensures { IsTrue result → length self.now.held.items + count < vec_capacity self.now.held }
     {
         self.held.capacity().saturating_sub(self.held.len()) > count as usize
@@ -225,9 +225,11 @@ impl Engine {
         )
     }
 
-    /// Calls a method of the program on a receiver that is evaluated at once, where its class has one of this name.
+    /// Calls a method of the program on a receiver that is evaluated at once, where its class has one of this name: it is looked up
+    /// class by class.
+    #[cold]
     #[inline(never)]
-    fn send_found(
+    fn send_looked_up(
         &mut self,
         prepared: &Prepared,
         space: &Space,
@@ -258,11 +260,50 @@ impl Engine {
         if prepared.joined_by(space, found.value, callee).is_some() {
             return false;
         }
-        match prepared.method_for(space, found.value, callee) {
+        match prepared.method_looked_up(space, found.value, callee) {
             Some(definition) => self.send_with(
                 prepared, space, here, name, definition, found, first, count, stop,
             ),
             None => false,
+        }
+    }
+
+    /// Calls a method of the program on a receiver that is evaluated at once, where its class has one of this name.
+    #[cold]
+    #[inline(never)]
+    fn send_found(
+        &mut self,
+        prepared: &Prepared,
+        space: &Space,
+        here: NodeId,
+        name: Sym,
+        found: Quick,
+        first: NodeId,
+        count: u32,
+        stop: u64,
+    ) -> bool
+        requires control { self.old.control ≡ Control.Enter here }
+        requires comes { ComesTo prepared.now.program (view_of self.old) space.now (rule (context_of prepared.now.program) (tree_at prepared.now.program.nodes.items here)) found.steps (arguments (context_of prepared.now.program) (trees_before prepared.now.program.nodes.items (first + count) count) (found.value ∷ []) (finish (context_of prepared.now.program) (Aim.Call (Called.Name name)))) }
+        requires few { found.steps ≤ 3 }
+        requires small { first + count < 2 ^ 32 }
+        requires enough { stop + found.steps < self.old.left }
+        requires value { (k : Reach) → AreReached k (view_of self.old) → IsReached k found.value }
+        requires room { length self.old.frames.items < vec_capacity self.old.frames }
+        requires nested { IsNested (view_of self.old) }
+        ensures goes { (h : Course) → remaining prepared.now.program (view_of self.old) space.now h ≡ remaining prepared.now.program (view_of self.new) space.now h }
+        ensures nested { IsNested (view_of self.new) }
+        ensures within { (clusters : Option Below) → AreReached (reach (length space.now.slots) clusters) (view_of self.old) → AreReached (reach (length space.now.slots) clusters) (view_of self.new) }
+        ensures left { stop ≤ self.new.left }
+        ensures kept { self.new.left ≤ self.old.left }
+        ensures spends { IsTrue result → self.new.left < self.old.left }
+        ensures falls { power (view_of self.new) + self.old.left ≤ power (view_of self.old) + self.new.left }
+    {
+        match prepared.method_of_plain(space, found.value, name) {
+            Some(&Some(definition)) => self.send_with(
+                prepared, space, here, name, definition, found, first, count, stop,
+            ),
+            Some(&None) => false,
+            None => { self.send_looked_up(prepared, space, here, name, found, first, count, stop) }
         }
     }
 
@@ -295,13 +336,12 @@ impl Engine {
         ensures falls { power (view_of self.new) + self.old.left ≤ power (view_of self.old) + self.new.left }
     {
         match self.quick_before(prepared, receiver, stop) {
-            // Most methods of a class are built in.
             Some(
-                Quick {
+                found @ Quick {
                     value: Ref::Class(_),
                     ..
                 },
-            ) => false,
+            ) => self.send_class(prepared, space, here, name, found, first, count, stop),
             Some(found) => {
                 self.send_found(prepared, space, here, name, found, first, count, stop)
             }

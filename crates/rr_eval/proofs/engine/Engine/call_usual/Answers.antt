@@ -11,5 +11,5 @@ pub call_with-requires-clause-method : goal.call_with-requires-clause-method
 call_with-requires-clause-method c h =
     let p = c.args.prepared.now.program in
     sym (ap (option_map (callable_of p.nodes.items)) c.in-Some-Some.field-0-is)
-    ∙ c.in-Some-Some.ensures
+    ∙ c.in-Some-Some.ensures.finds
     ∙ ap (λ v. method_for (context_of p) c.args.space.now v (Name c.args.name)) c.itself.ensures.value

@@ -8,8 +8,8 @@ use Rattle.rr_eval.specs.Turns.{context_of}
 use Rattle.rr_eval.proofs.Plain.{plain_found}
 use Rattle.rr_eval.proofs.prepared.Prepared.method_of_plain.Goals as goal
 
-pub returns : goal.returns
-returns c =
+pub returns-clause-finds : goal.returns-clause-finds
+returns-clause-finds c =
     let p = c.args.self.now.program in
     let own = context_of p in
     let t = c.args.space.now in
@@ -23,4 +23,4 @@ returns c =
     let there : slice_get c.args.self.now.plain.items x.0 ≡ Some found = ap (λ l. slice_get l x.0) (sym c.deref.ensures.value) ∙ at in
     let is = c.args.self.now.plains x.0 found there in
     let sure = c.if-is_plain.true in
-    plain_found own t c.args.receiver x (option_map (callable_of p.nodes.items) found) (c.is_plain.ensures.own sure) (c.is_plain.ensures.kind sure) (c.is_plain.ensures.class sure) is
+    plain_found own t c.args.receiver found.class x (option_map (callable_of p.nodes.items) found.definition) (c.is_plain.ensures.own sure) (c.is_plain.ensures.kind sure) (c.is_plain.ensures.class sure) is
