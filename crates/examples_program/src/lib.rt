@@ -90,4 +90,6 @@ mod updating;
 #[cfg(test)]
 mod usual;
 #[cfg(test)]
+mod usual_objects;
+#[cfg(test)]
 mod writers;
