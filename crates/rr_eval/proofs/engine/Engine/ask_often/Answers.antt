@@ -1,8 +1,6 @@
 -- The value of an assignment to an instance variable is there.
-use Rattle.std.proofs.Common.{◌∙◌}
-use Rattle.rr_eval.specs.Views.{view_of}
+use Rattle.std.proofs.Common.{◌∙◌, length}
 use Rattle.rr_eval.specs.Within.{reach}
-use Rattle.std.proofs.Common.{length}
 use Rattle.rr_eval.proofs.engine.Engine.ask_often.Goals as goal
 
 pub returns-clause-goes : goal.returns-clause-goes
