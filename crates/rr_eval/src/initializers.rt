@@ -44,7 +44,17 @@ pub fn initializer_of(
     }
 }
 
-/// The program's `initialize` for the objects of its classes, by their numbers.
+/// How many classes of the program have their `initialize` looked up beforehand. To look one up takes a step for each definition of an
+/// `initialize`, once more for each class above, and so they are fewer in a long program.
+fn most_classes(program: &Program) -> usize {
+    match program.nodes.len() {
+        0..=9_999 => 256,
+        10_000..=99_999 => 64,
+        _ => 16,
+    }
+}
+
+/// The program's `initialize` for the objects of its first classes, by their numbers.
 pub fn initializers(
     alloc: Global,
     program: &Program,
@@ -56,10 +66,8 @@ pub fn initializers(
     ensures { IfOk result (λ found. AreInitializers (context_of program.now) found.items) }
 {
     let mut found = Vec::new(alloc);
-    let count = program
-        .classes
-        .len()
-        .saturating_add(ClassId::BUILT_IN as usize);
+    let classes = program.classes.len().min(most_classes(program));
+    let count = classes.saturating_add(ClassId::BUILT_IN as usize);
     for number in 0..count {
         let Ok(class) = u32::try_from(number) else {
             return Ok(found);

@@ -153,16 +153,18 @@ fn plain_of(
     PlainMethod { class, definition }
 }
 
-/// The class of the program that has a name.
-fn class_named(program: &Program, name: Sym) -> Option<ClassId> {
+/// The classes of the program by the numbers of their names, and Object for all other names.
+fn classes_by_name(alloc: Global, program: &Program) -> Result<Vec<ClassId>, AllocError> {
+    let mut named = Vec::new(alloc);
+    named.resize(program.symbols.len(), ClassId::OBJECT)?;
     let mut number = ClassId::BUILT_IN;
     for class in program.classes.as_slice() {
-        if class.name == name {
-            return Some(ClassId(number));
+        if let Some(entry) = named.get_mut(class.name.0 as usize) {
+            *entry = ClassId(number);
         }
         number = number.saturating_add(1);
     }
-    None
+    Ok(named)
 }
 
 /// A class stands beside the name that a definition has, where it has one.
@@ -193,6 +195,7 @@ fn put_classes(
 /// A class for each name: that in which its last definition stands. Which one it is says only of which objects the method is found
 /// beforehand.
 fn classes_of_names(alloc: Global, program: &Program) -> Result<Vec<ClassId>, AllocError> {
+    let named = classes_by_name(alloc, program)?;
     let mut classes = Vec::new(alloc);
     classes.resize(program.symbols.len(), ClassId::OBJECT)?;
     for place in program.definitions.as_slice() {
@@ -203,8 +206,8 @@ fn classes_of_names(alloc: Global, program: &Program) -> Result<Vec<ClassId>, Al
                 count,
                 ..
             } => {
-                if let Some(class) = class_named(program, name) {
-                    put_classes(program, &mut classes, class, first, count);
+                if let Some(class) = named.get(name.0 as usize) {
+                    put_classes(program, &mut classes, *class, first, count);
                 }
             }
             _ => put_class(program, &mut classes, ClassId::OBJECT, *place),
