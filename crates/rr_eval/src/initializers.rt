@@ -1,4 +1,4 @@
-//! The program's `initialize` for the objects of each class, which is looked up beforehand.
+//! The program's `initialize` for the objects of its first classes, which is looked up beforehand.
 
 ghost use Rattle.std.specs.Prelude.{◌≡◌, IfOk};
 ghost use Rattle.std.specs.Option.{option_map};

@@ -86,7 +86,7 @@ pub struct Prepared {
     pub(crate) iterations: Iterations,
     /// The methods that calls of plain objects find, by the numbers of their names.
     plain: Vec<PlainMethod>,
-    /// The program's `initialize` for the objects of each class, by the number of the class.
+    /// The program's `initialize` for the objects of the first classes, by their numbers.
     initializers: Vec<Option<Initializer>>,
     /// What its parts are, by their places.
     parts: Vec<SimplePart>,
