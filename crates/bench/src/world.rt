@@ -34,8 +34,7 @@ impl Dice {
     }
 
     fn ractor(&mut self) -> RactorNo {
-        let place = self.below(u32::from(RACTORS));
-        RactorNo(u16::try_from(place).unwrap_or(0).wrapping_add(1))
+        RactorNo(self.below(u32::from(RACTORS)).wrapping_add(1))
     }
 
     fn root(&mut self) -> Operand {

@@ -6,7 +6,7 @@ use std::test::Fail;
 
 const LIMIT: u128 = 1 << 100;
 
-fn inbox(number: u16) -> Channel {
+fn inbox(number: u32) -> Channel {
     Channel::Inbox(RactorNo(number))
 }
 

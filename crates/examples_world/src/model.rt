@@ -14,7 +14,7 @@ pub enum Value {
     Int(i64),
     Symbol(u32),
     Class(u32),
-    Ractor(u16),
+    Ractor(u32),
     At(usize),
 }
 

@@ -7,7 +7,7 @@ use rr_world::{Action, LastKind, Operand, Step};
 use std::alloc::{AllocError, Global};
 
 /// The place of a ractor or an inbox of this number, counted from 1.
-fn place_of(number: u16, count: usize) -> Option<usize> {
+fn place_of(number: u32, count: usize) -> Option<usize> {
     let place = (number as usize).checked_sub(1)?;
     if place < count { Some(place) } else { None }
 }

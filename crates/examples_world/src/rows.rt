@@ -60,7 +60,7 @@ pub fn none_is_enabled(
     rt: &impl Abort,
     alloc: Global,
     world: &mut World,
-    who: u16,
+    who: u32,
     steps: &str,
 ) -> Result<(), Fail> {
     for words in steps.lines() {

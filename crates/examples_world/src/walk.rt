@@ -45,7 +45,7 @@ impl Dice {
     }
 
     fn ractor(&mut self) -> RactorNo {
-        RactorNo(u16::try_from(self.below(8)).unwrap_or(0))
+        RactorNo(self.below(8))
     }
 
     /// One of the first roots, or an immediate.

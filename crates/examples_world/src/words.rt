@@ -14,8 +14,8 @@ struct Words<'a> {
     third: &'a str,
 }
 
-pub fn number_of(word: &str) -> u16 {
-    word.parse::<u16>().unwrap_or(0)
+pub fn number_of(word: &str) -> u32 {
+    word.parse::<u32>().unwrap_or(0)
 }
 
 fn count(word: &str) -> u32 {
@@ -164,7 +164,7 @@ fn word<'a>(words: &[&'a str], place: usize) -> &'a str {
 }
 
 /// The step of the ractor of this number that the words name.
-pub fn step_of(alloc: Global, who: u16, line: &str) -> Result<Step, Fail> {
+pub fn step_of(alloc: Global, who: u32, line: &str) -> Result<Step, Fail> {
     let all: Vec<&str> = line.split(" ").collect(alloc)?;
     let words = Words {
         first: word(all.as_slice(), 1),

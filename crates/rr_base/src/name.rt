@@ -13,7 +13,7 @@ pub struct ClassId(pub u32);
 
 /// The number of a ractor. The main ractor is 1, and later ones get the next number as they start.
 #[derive(Clone, Copy, Debug, PartialEq, Eq, Drop)]
-pub struct RactorNo(pub u16);
+pub struct RactorNo(pub u32);
 
 /// A channel: the inbox or the port of one ractor.
 #[derive(Clone, Copy, Debug, PartialEq, Eq, Drop)]

@@ -26,7 +26,7 @@ pub enum Key {
     /// A class, by its number.
     Class(u32),
     /// A ractor, by its number.
-    Ractor(u16),
+    Ractor(u32),
     Text(Vec<u8>),
 }
 

@@ -161,7 +161,7 @@ impl World {
         if self.ports.reserve(1).is_err() {
             return Reply::Refused(Fault::Memory);
         }
-        let number = RactorNo(count as u16 + 1);
+        let number = RactorNo(count as u32 + 1);
         self.ractors
             .push_reserved(Ractor::new(alloc, number, limits));
         self.inboxes.push_reserved(inbox);
