@@ -22,7 +22,8 @@ pub fn own(space: &Space, value: Ref) -> Result<Ref, Fail>
         }
         Ref::Shared(_, _) => Err(Fail::from("published")),
         Ref::Nil => Ok(value),
-        Ref::Truth(_) => Ok(value),
+        Ref::False => Ok(value),
+        Ref::True => Ok(value),
         Ref::Int(_) => Ok(value),
         Ref::Symbol(_) => Ok(value),
         Ref::Class(_) => Ok(value),
@@ -121,8 +122,8 @@ fn unfrozen(alloc: Global, space: &mut Space, word: &str) -> Result<Ref, Fail> {
     }
     match word {
         "nil" => Ok(Ref::Nil),
-        "true" => Ok(Ref::Truth(true)),
-        "false" => Ok(Ref::Truth(false)),
+        "true" => Ok(Ref::True),
+        "false" => Ok(Ref::False),
         "error" => exception(alloc, space, ClassId::TYPE_ERROR),
         "remote" => exception(alloc, space, ClassId::REMOTE_ERROR),
         "shell" => shell(alloc, space),

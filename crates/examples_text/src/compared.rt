@@ -21,7 +21,7 @@ fn numbers(alloc: Global, space: &mut Space, count: i64) -> Result<Ref, Fail> {
 /// Sets an integer key of a hash.
 fn set(space: &mut Space, hash: Ref, key: i64) -> Result<(), Fail> {
     if space.can_write(hash) && space.kind_of(hash) == Kind::Hash {
-        return Ok(space.write_pair(hash, Key::Int(key), Ref::Int(key), Ref::Truth(true))?);
+        return Ok(space.write_pair(hash, Key::Int(key), Ref::Int(key), Ref::True)?);
     }
     Err(Fail::from("no hash that may be written"))
 }

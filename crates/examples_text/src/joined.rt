@@ -80,7 +80,7 @@ fn a_hash_counts_among_the_containers(rt: HostRuntime) -> Result<(), Fail> {
     let mut entries = Entries::new(rt.alloc());
     entries.insert(Key::Symbol(0), (Ref::Symbol(Sym(0)), Ref::Int(1)))?;
     let hash = space.alloc(Node::Hash(Box::new(rt.alloc(), entries)?))?;
-    let array = space.alloc(Node::Array(Items::two(rt.alloc(), hash, Ref::Truth(true))))?;
+    let array = space.alloc(Node::Array(Items::two(rt.alloc(), hash, Ref::True)))?;
     check(&rt, rt.alloc(), &space, array, " ", "{name: 1} true");
     let enough = join_within(rt.alloc(), &space, &program, 2, array, b" ")?;
     assert!(rt; is(&enough, "{name: 1} true"));

@@ -131,7 +131,7 @@ fn an_array_is_written_so_deep(rt: HostRuntime) -> Result<(), Fail> {
 #[test]
 fn an_array_stands_inside_itself(rt: HostRuntime) -> Result<(), Fail> {
     let mut space = Space::new(rt.alloc(), RactorNo(1), 10);
-    let array = space.alloc(Node::Array(Items::one(rt.alloc(), Ref::Truth(true))))?;
+    let array = space.alloc(Node::Array(Items::one(rt.alloc(), Ref::True)))?;
     if space.can_write(array) && space.kind_of(array) == Kind::Array && space.len() > 0 {
         space.push_element(array, Ref::Local(0))?;
     }

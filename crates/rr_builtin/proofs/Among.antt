@@ -5,7 +5,7 @@ use Rattle.rr_space.specs.Graph.{Object}
 use Rattle.rr_space.specs.Tables.{Table, Below}
 use Rattle.rr_space.specs.Views.{IsKnownFrom}
 use Rattle.rr_space.specs.declared.refer.Ref.{Ref}
-use Rattle.rr_space.specs.declared.refer.Ref.TheVariants.{Nil, Truth, Int, Symbol, Class, Ractor, Local, Shared}
+use Rattle.rr_space.specs.declared.refer.Ref.TheVariants.{Nil, False, True, Int, Symbol, Class, Ractor, Local, Shared}
 use Rattle.rr_text.specs.Reads.{IsReadWith, IsAmong}
 use Rattle.rr_builtin.specs.Acts.{IsRefAmong}
 
@@ -14,7 +14,8 @@ none_in e (k, lt, q) = absurd (let no : ⊥ = omega (arith, lt) in no)
 
 pub among_of : (below : Below) (r : Ref) → IsRefAmong below r → IsAmong below r
 among_of below Nil h = λ e. none_in e
-among_of below (Truth b) h = λ e. none_in e
+among_of below False h = λ e. none_in e
+among_of below True h = λ e. none_in e
 among_of below (Int z) h = λ e. none_in e
 among_of below (Symbol s) h = λ e. none_in e
 among_of below (Class k) h = λ e. none_in e
@@ -24,7 +25,8 @@ among_of below (Shared p k) h = h
 
 pub of_among : (below : Below) (r : Ref) → IsAmong below r → IsRefAmong below r
 of_among below Nil h = tt
-of_among below (Truth b) h = tt
+of_among below False h = tt
+of_among below True h = tt
 of_among below (Int z) h = tt
 of_among below (Symbol s) h = tt
 of_among below (Class k) h = tt

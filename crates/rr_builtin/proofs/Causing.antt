@@ -1,5 +1,5 @@
 -- Causes of exceptions, one behind the other.
-use Rattle.std.proofs.Common.{◌≡◌, ◌∙◌, ℕ, zero, suc, nat_eq, ◌||◌, ◌&&◌, Bool, not, true, false, if◌then◌else◌, length, slice_set, refl, sym, ap}
+use Rattle.std.proofs.Common.{◌≡◌, ◌∙◌, ℕ, zero, suc, ◌||◌, ◌&&◌, Bool, not, true, false, if◌then◌else◌, length, slice_set, refl, sym, ap}
 use Rattle.std.proofs.lemmas.Bool.{eq-eqb, ne_eqb, and_parts, false≢true}
 use Rattle.rr_space.specs.Graph.{Object, Value, At, Own}
 use Rattle.rr_space.specs.Parts.{value_of}
@@ -23,7 +23,8 @@ leads_none zero t r n other = refl
 leads_none (suc k) t (refs.Local m) n other = absurd (other m refl)
 leads_none (suc k) t (refs.Shared p c) n other = refl
 leads_none (suc k) t refs.Nil n other = refl
-leads_none (suc k) t (refs.Truth b) n other = refl
+leads_none (suc k) t refs.False n other = refl
+leads_none (suc k) t refs.True n other = refl
 leads_none (suc k) t (refs.Int z) n other = refl
 leads_none (suc k) t (refs.Symbol s) n other = refl
 leads_none (suc k) t (refs.Class c) n other = refl
@@ -34,7 +35,8 @@ pub takes_open : (t : Table) (x : Value) (v : Ref) → takes_cause t x v ≡ tru
 takes_open t x (refs.Local n) e = (and_parts (is_open_exception t (refs.Local n)) (is_nil (element_at t (refs.Local n) 1) && not (leads (length t.slots) t x n)) e).0
 takes_open t x (refs.Shared p c) e = absurd (false≢true e)
 takes_open t x refs.Nil e = absurd (false≢true e)
-takes_open t x (refs.Truth b) e = absurd (false≢true e)
+takes_open t x refs.False e = absurd (false≢true e)
+takes_open t x refs.True e = absurd (false≢true e)
 takes_open t x (refs.Int z) e = absurd (false≢true e)
 takes_open t x (refs.Symbol s) e = absurd (false≢true e)
 takes_open t x (refs.Class c) e = absurd (false≢true e)

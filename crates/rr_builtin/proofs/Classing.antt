@@ -8,7 +8,7 @@ use Rattle.rr_space.specs.Parts.{value_of, bytes_of}
 use Rattle.rr_space.specs.Views.{object_at, text_at}
 use Rattle.rr_space.specs.Kinds.{object_class, object_kind, class_at, kind_at}
 use Rattle.rr_space.specs.declared.refer.Ref.{Ref}
-use Rattle.rr_space.specs.declared.refer.Ref.TheVariants.{Nil, Truth, Int, Symbol, Class, Ractor, Local, Shared}
+use Rattle.rr_space.specs.declared.refer.Ref.TheVariants.{Nil, False, True, Int, Symbol, Class, Ractor, Local, Shared}
 use Rattle.rr_text.specs.Reads.{IsReadWith, IsAmong}
 use Rattle.rr_text.proofs.Seeing.{seen}
 use Rattle.rr_builtin.specs.ValueClasses.{class_of_value, kind_of_value, bytes_of_value}
@@ -20,7 +20,8 @@ class_resolved slots (Some o) = refl
 pub class_is : (t : Table) (below : Below) (r : Ref) → IsTableSound t.slots t.below → IsReadWith t below → IsAmong below r → class_at t r ≡ class_of_value below t (value_of r)
 unfolding class_of_value
 class_is t below Nil sound read among = refl
-class_is t below (Truth b) sound read among = refl
+class_is t below False sound read among = refl
+class_is t below True sound read among = refl
 class_is t below (Int z) sound read among = refl
 class_is t below (Symbol s) sound read among = refl
 class_is t below (Class c) sound read among = refl
@@ -37,7 +38,8 @@ kind_resolved slots (Some o) = refl
 pub kind_is : (t : Table) (below : Below) (r : Ref) → IsTableSound t.slots t.below → IsReadWith t below → IsAmong below r → kind_at t r ≡ kind_of_value below t (value_of r)
 unfolding kind_of_value
 kind_is t below Nil sound read among = refl
-kind_is t below (Truth b) sound read among = refl
+kind_is t below False sound read among = refl
+kind_is t below True sound read among = refl
 kind_is t below (Int z) sound read among = refl
 kind_is t below (Symbol s) sound read among = refl
 kind_is t below (Class c) sound read among = refl
@@ -54,7 +56,8 @@ bytes_resolved slots (Some o) = refl
 pub bytes_are : (t : Table) (below : Below) (r : Ref) → IsTableSound t.slots t.below → IsReadWith t below → IsAmong below r → text_at t r ≡ bytes_of_value below t (value_of r)
 unfolding bytes_of_value
 bytes_are t below Nil sound read among = refl
-bytes_are t below (Truth b) sound read among = refl
+bytes_are t below False sound read among = refl
+bytes_are t below True sound read among = refl
 bytes_are t below (Int z) sound read among = refl
 bytes_are t below (Symbol s) sound read among = refl
 bytes_are t below (Class c) sound read among = refl

@@ -8,7 +8,7 @@ use Rattle.rr_space.specs.Views.{object_at, text_at}
 use Rattle.rr_space.specs.Lookups.{is_text, key_at, key_of_object, key_of_frozen}
 use Rattle.rr_space.specs.Kinds.{kind_at, kind_named, object_kind}
 use Rattle.rr_space.specs.declared.refer.Ref.{Ref}
-use Rattle.rr_space.specs.declared.refer.Ref.TheVariants.{Nil, Truth, Int, Symbol, Class, Ractor, Local, Shared}
+use Rattle.rr_space.specs.declared.refer.Ref.TheVariants.{Nil, False, True, Int, Symbol, Class, Ractor, Local, Shared}
 use Rattle.rr_builtin.specs.Hashes.{key_given}
 use Rattle.rr_builtin.specs.Objects.{is_text_kind}
 
@@ -41,7 +41,8 @@ object_other (Some o) e =
 -- the key that a text is, and that any other value is
 pub given_text : (t : Table) (r : Ref) → is_text_kind (kind_at t r) ≡ true → key_given t r ≡ Some (TextKey (text_at t r))
 given_text t Nil e = absurd (false≢true e)
-given_text t (Truth b) e = absurd (false≢true e)
+given_text t False e = absurd (false≢true e)
+given_text t True e = absurd (false≢true e)
 given_text t (Int z) e = absurd (false≢true e)
 given_text t (Symbol s) e = absurd (false≢true e)
 given_text t (Class c) e = absurd (false≢true e)
@@ -51,7 +52,8 @@ given_text t (Shared p c) e = object_text (object_at t (Shared p c)) e
 
 pub given_other : (t : Table) (r : Ref) → is_text_kind (kind_at t r) ≡ false → key_at t r ≡ key_given t r
 given_other t Nil e = refl
-given_other t (Truth b) e = refl
+given_other t False e = refl
+given_other t True e = refl
 given_other t (Int z) e = refl
 given_other t (Symbol s) e = refl
 given_other t (Class c) e = refl

@@ -13,7 +13,7 @@ use Rattle.rr_space.specs.Parts.{value_of, IsWithin}
 use Rattle.rr_space.specs.Views.{is_open, can_write_at, placed_from, paired_from, slot_object, IsLedAlso}
 use Rattle.rr_space.specs.Labels.{triples_at, triples_of}
 use Rattle.rr_space.specs.declared.refer.Ref.{Ref}
-use Rattle.rr_space.specs.declared.refer.Ref.TheVariants.{Nil, Truth, Int, Symbol, Class, Ractor, Local, Shared}
+use Rattle.rr_space.specs.declared.refer.Ref.TheVariants.{Nil, False, True, Int, Symbol, Class, Ractor, Local, Shared}
 use Rattle.rr_space.proofs.Sounds.{joined_in, joined_back}
 use Rattle.rr_text.specs.Reads.{IsReadWith}
 use Rattle.rr_text.specs.Keys.{pairs_in}
@@ -101,7 +101,8 @@ pub record IsWritable (t : Table) (v : Ref) : Type 0 where
 
 pub writable : (t : Table) (v : Ref) → IsTrue (can_write_at t v) → IsWritable t v
 writable t Nil h = absurd (let no : ⊥ = cc in no)
-writable t (Truth b) h = absurd (let no : ⊥ = cc in no)
+writable t False h = absurd (let no : ⊥ = cc in no)
+writable t True h = absurd (let no : ⊥ = cc in no)
 writable t (Int z) h = absurd (let no : ⊥ = cc in no)
 writable t (Symbol s) h = absurd (let no : ⊥ = cc in no)
 writable t (Class k) h = absurd (let no : ⊥ = cc in no)

@@ -7,7 +7,7 @@ use Rattle.rr_space.specs.Tables.{Table, Slot, Here, Led, IsRestKept}
 use Rattle.rr_space.specs.Parts.{IsWithin}
 use Rattle.rr_space.specs.Views.{is_shell}
 use Rattle.rr_space.specs.declared.refer.Ref.{Ref}
-use Rattle.rr_space.specs.declared.refer.Ref.TheVariants.{Nil, Truth, Int, Symbol, Class, Ractor, Local, Shared}
+use Rattle.rr_space.specs.declared.refer.Ref.TheVariants.{Nil, False, True, Int, Symbol, Class, Ractor, Local, Shared}
 use Rattle.rr_space.proofs.Within.{ref_later}
 use Rattle.rr_builtin.specs.declared.built.Built.{Built}
 use Rattle.rr_builtin.specs.declared.built.Built.TheVariants as built
@@ -75,7 +75,8 @@ frozen_size ss n (Some (Here o)) = by (is_shell o.kind)
 -- what is frozen is given
 pub served_frozen : (t : Table) (v : Ref) → IsWithin (length t.slots) v → IsServed t (froze v t) (Ok (built.Value v))
 served_frozen t Nil within = served_same t (built.Value Nil) within
-served_frozen t (Truth b) within = served_same t (built.Value (Truth b)) within
+served_frozen t False within = served_same t (built.Value False) within
+served_frozen t True within = served_same t (built.Value True) within
 served_frozen t (Int z) within = served_same t (built.Value (Int z)) within
 served_frozen t (Symbol s) within = served_same t (built.Value (Symbol s)) within
 served_frozen t (Class c) within = served_same t (built.Value (Class c)) within

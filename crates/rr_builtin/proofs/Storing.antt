@@ -13,7 +13,7 @@ use Rattle.rr_space.specs.Parts.{value_of, below_ref, bytes_of, is_frozen_object
 use Rattle.rr_space.specs.Views.{paired_from, keys_at, keys_here, frozen_at, object_at, text_at, IsLedAlso}
 use Rattle.rr_space.specs.Lookups.{is_text, key_at, key_of_frozen, key_of_object, frozen_text}
 use Rattle.rr_space.specs.declared.refer.Ref.{Ref}
-use Rattle.rr_space.specs.declared.refer.Ref.TheVariants.{Nil, Truth, Int, Symbol, Class, Ractor, Local, Shared}
+use Rattle.rr_space.specs.declared.refer.Ref.TheVariants.{Nil, False, True, Int, Symbol, Class, Ractor, Local, Shared}
 use Rattle.rr_space.proofs.Within.{ref_later}
 use Rattle.rr_text.specs.Reads.{IsReadWith}
 use Rattle.rr_text.specs.Keys.{pairs_in}
@@ -119,7 +119,8 @@ object_frozen (Some o) e = ap (λ b. if is_text o.kind && b then Some (TextKey o
 -- what is frozen is the key that it gives
 pub given_frozen : (t : Table) (r : Ref) → frozen_at t r ≡ true → key_at t r ≡ key_given t r
 given_frozen t Nil e = refl
-given_frozen t (Truth b) e = refl
+given_frozen t False e = refl
+given_frozen t True e = refl
 given_frozen t (Int z) e = refl
 given_frozen t (Symbol s) e = refl
 given_frozen t (Class c) e = refl
@@ -138,7 +139,8 @@ text_key (Some o) k e = by (is_text o.kind) e
 -- what is not frozen is a key by its bytes
 pub given_open : (t : Table) (r : Ref) (k : HashKey) → frozen_at t r ≡ false → key_given t r ≡ Some k → TextKey (text_at t r) ≡ k
 given_open t Nil k f e = absurd (false≢true (sym f))
-given_open t (Truth b) k f e = absurd (false≢true (sym f))
+given_open t False k f e = absurd (false≢true (sym f))
+given_open t True k f e = absurd (false≢true (sym f))
 given_open t (Int z) k f e = absurd (false≢true (sym f))
 given_open t (Symbol s) k f e = absurd (false≢true (sym f))
 given_open t (Class c) k f e = absurd (false≢true (sym f))

@@ -32,7 +32,8 @@ identical t v w = same_value (resolve t.slots (value_of v)) (resolve t.slots (va
 -- whether a value counts as true
 abbrev pub is_truthy : Ref → Bool
 is_truthy ref.Nil = false
-is_truthy (ref.Truth b) = b
+is_truthy ref.False = false
+is_truthy ref.True = true
 is_truthy _ = true
 
 abbrev pub is_nil : Ref → Bool

@@ -1,6 +1,7 @@
 //! The methods of integers, as calls of them come out.
 
 ghost use Rattle.std.specs.Prelude.{◌≡◌, ℕ};
+ghost use Rattle.rr_space.specs.Parts.{truth_ref};
 ghost use Rattle.rr_space.specs.Tables.{Below};
 ghost use Rattle.rr_builtin.specs.Acts.{IsBuiltWithin, IsBuiltAmong};
 ghost use Rattle.rr_builtin.specs.Numbers.{number_given, on_integers, on_other, on_integer, number_answer};
@@ -28,10 +29,10 @@ pub(crate) fn number_given(number: Result<i64, NumberProblem>) -> Built
 }
 
 fn truth(holds: bool) -> Built
-    ensures is { result ≡ Built.Value (Ref.Truth holds) }
+    ensures is { result ≡ Built.Value (truth_ref holds) }
     ensures plain { (k : ℕ) (below : Below) → IsBuiltWithin k result × IsBuiltAmong below result }
 {
-    Built::Value(Ref::Truth(holds))
+    Built::Value(Ref::truth(holds))
 }
 
 /// An operator on two integers.

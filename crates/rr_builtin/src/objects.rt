@@ -38,7 +38,7 @@ pub fn is_truthy(value: Ref) -> bool
 {
     match value {
         Ref::Nil => false,
-        Ref::Truth(holds) => holds,
+        Ref::False => false,
         _ => true,
     }
 }
@@ -68,7 +68,7 @@ pub(crate) fn truth(holds: bool) -> Deed
     ensures fit { (value : Ref) (space : Table) → IsFit space value result }
     ensures among { (below : Below) → IsDeedAmong below result }
 {
-    Deed::Answer(Built::Value(Ref::Truth(holds)))
+    Deed::Answer(Built::Value(Ref::truth(holds)))
 }
 
 pub(crate) fn raise(problem: Problem) -> Deed

@@ -107,10 +107,10 @@ pub(crate) fn ordered(operator: BinaryOperator, order: Ordering) -> Built
     ensures plain { (k : ℕ) (below : Below) → IsBuiltWithin k result × IsBuiltAmong below result }
 {
     match operator {
-        BinaryOperator::Less => Built::Value(Ref::Truth(is_below(order))),
-        BinaryOperator::LessOrEqual => Built::Value(Ref::Truth(!is_above(order))),
-        BinaryOperator::Greater => Built::Value(Ref::Truth(is_above(order))),
-        BinaryOperator::GreaterOrEqual => Built::Value(Ref::Truth(!is_below(order))),
+        BinaryOperator::Less => Built::Value(Ref::truth(is_below(order))),
+        BinaryOperator::LessOrEqual => Built::Value(Ref::truth(!is_above(order))),
+        BinaryOperator::Greater => Built::Value(Ref::truth(is_above(order))),
+        BinaryOperator::GreaterOrEqual => Built::Value(Ref::truth(!is_below(order))),
         BinaryOperator::Compare => Built::Value(Ref::Int(order_number(order))),
         _ => Built::Missing,
     }

@@ -12,7 +12,7 @@ use Rattle.rr_space.specs.Views.{IsWithin, AllWithin, IsNodeWithin, node_parts, 
 use Rattle.rr_space.specs.Views.{AllCarriedWithin, carried_object, carried_below}
 use Rattle.rr_space.specs.declared.carried.Carried.{Carried}
 use Rattle.rr_space.specs.declared.refer.Ref.{Ref}
-use Rattle.rr_space.specs.declared.refer.Ref.TheVariants.{Nil, Truth, Int, Symbol, Class, Ractor, Local, Shared}
+use Rattle.rr_space.specs.declared.refer.Ref.TheVariants.{Nil, False, True, Int, Symbol, Class, Ractor, Local, Shared}
 use Rattle.rr_space.proofs.Renaming.{mapped_at, map_at}
 use Rattle.rr_space.proofs.Sounds.{append_sound, none_sound, hold_sound, sound_is_sealed, standing_later}
 use Rattle.rr_copy.specs.Contents.{packed_of}
@@ -22,7 +22,8 @@ use Rattle.rr_copy.specs.Messages.{IsMessageSound}
 
 pub ref_inside : (k : ℕ) (r : Ref) → IsWithin k r → IsBelow k (value_of r)
 ref_inside k Nil h = tt
-ref_inside k (Truth b) h = tt
+ref_inside k False h = tt
+ref_inside k True h = tt
 ref_inside k (Int z) h = tt
 ref_inside k (Symbol s) h = tt
 ref_inside k (Class c) h = tt
@@ -53,7 +54,8 @@ message_closed cs root sender sequence all within = record {
 
 ref_sound : (k : ℕ) (r : Ref) → IsWithin k r → IsBelowSound (below_ref r)
 ref_sound k Nil h = none_sound
-ref_sound k (Truth b) h = none_sound
+ref_sound k False h = none_sound
+ref_sound k True h = none_sound
 ref_sound k (Int z) h = none_sound
 ref_sound k (Symbol s) h = none_sound
 ref_sound k (Class c) h = none_sound
@@ -89,7 +91,8 @@ message_sealed cs root sender sequence all within = all_sealed (map Here (map ca
 
 ref_standing : (k : ℕ) (r : Ref) → IsWithin k r → IsStanding k (below_ref r) (value_of r)
 ref_standing k Nil h = tt
-ref_standing k (Truth b) h = tt
+ref_standing k False h = tt
+ref_standing k True h = tt
 ref_standing k (Int z) h = tt
 ref_standing k (Symbol s) h = tt
 ref_standing k (Class c) h = tt

@@ -18,7 +18,7 @@ use Rattle.rr_space.specs.Views.{IsWithin}
 use Rattle.rr_space.specs.Views.{AllCarriedWithin, carried_object, carried_below, carried_keys}
 use Rattle.rr_space.specs.declared.carried.Carried.{Carried}
 use Rattle.rr_space.specs.declared.refer.Ref.{Ref}
-use Rattle.rr_space.specs.declared.refer.Ref.TheVariants.{Nil, Truth, Int, Symbol, Class, Ractor, Local, Shared}
+use Rattle.rr_space.specs.declared.refer.Ref.TheVariants.{Nil, False, True, Int, Symbol, Class, Ractor, Local, Shared}
 use Rattle.rr_space.proofs.Renaming.{contains_at, mapped_at, map_at}
 use Rattle.rr_space.proofs.Sounds.{gets, joined_back, sound_is_sealed}
 use Rattle.rr_share.proofs.Ends.{none_reached}
@@ -91,7 +91,8 @@ pack_of t v names cs root well promoted there exact whole distinct copies roots 
 -- what is no slot of the space goes as it is
 same_outside : (slots : List Slot) (v : Ref) → ((s : ℕ) → v ≡ Local s → ⊥) → SameValue (IsAt []) (resolve slots (value_of v)) (value_of v)
 same_outside slots Nil outside = refl
-same_outside slots (Truth b) outside = refl
+same_outside slots False outside = refl
+same_outside slots True outside = refl
 same_outside slots (Int z) outside = refl
 same_outside slots (Symbol s) outside = refl
 same_outside slots (Class c) outside = refl
@@ -101,7 +102,8 @@ same_outside slots (Shared p c) outside = (refl, refl)
 
 within_outside : (k m : ℕ) (v : Ref) → ((s : ℕ) → v ≡ Local s → ⊥) → IsWithin k v → IsWithin m v
 within_outside k m Nil outside h = tt
-within_outside k m (Truth b) outside h = tt
+within_outside k m False outside h = tt
+within_outside k m True outside h = tt
 within_outside k m (Int z) outside h = tt
 within_outside k m (Symbol s) outside h = tt
 within_outside k m (Class c) outside h = tt

@@ -45,7 +45,8 @@ pub ref_more : (k l : ℕ) (cs : Option Below) → k ≤ l → (r : Ref) → IsR
 ref_more k l cs le (refs.Local n) h = omega arith
 ref_more k l cs le (refs.Shared p c) h = h
 ref_more k l cs le refs.Nil h = tt
-ref_more k l cs le (refs.Truth b) h = tt
+ref_more k l cs le refs.False h = tt
+ref_more k l cs le refs.True h = tt
 ref_more k l cs le (refs.Int z) h = tt
 ref_more k l cs le (refs.Symbol s) h = tt
 ref_more k l cs le (refs.Class c) h = tt
@@ -149,7 +150,8 @@ pub ref_wider : (k : ℕ) (a b : Below) → ((e : ℕ × List Object) → Contai
 ref_wider k a b wide (refs.Local n) h = h
 ref_wider k a b wide (refs.Shared p c) h = (h.0, λ e has. wide e (h.1 e has))
 ref_wider k a b wide refs.Nil h = tt
-ref_wider k a b wide (refs.Truth t) h = tt
+ref_wider k a b wide refs.False h = tt
+ref_wider k a b wide refs.True h = tt
 ref_wider k a b wide (refs.Int z) h = tt
 ref_wider k a b wide (refs.Symbol s) h = tt
 ref_wider k a b wide (refs.Class c) h = tt
@@ -166,7 +168,8 @@ pub ref_within : (k : ℕ) (cs : Option Below) (r : Ref) → IsReached (reach k 
 ref_within k cs (refs.Local n) h = h
 ref_within k cs (refs.Shared p c) h = h.0
 ref_within k cs refs.Nil h = tt
-ref_within k cs (refs.Truth b) h = tt
+ref_within k cs refs.False h = tt
+ref_within k cs refs.True h = tt
 ref_within k cs (refs.Int z) h = tt
 ref_within k cs (refs.Symbol s) h = tt
 ref_within k cs (refs.Class c) h = tt
@@ -176,7 +179,8 @@ ref_less : (k : ℕ) (cs : Option Below) (r : Ref) → IsReached (reach k cs) r 
 ref_less k cs (refs.Local n) h = h
 ref_less k cs (refs.Shared p c) h = (h.0, tt)
 ref_less k cs refs.Nil h = tt
-ref_less k cs (refs.Truth b) h = tt
+ref_less k cs refs.False h = tt
+ref_less k cs refs.True h = tt
 ref_less k cs (refs.Int z) h = tt
 ref_less k cs (refs.Symbol s) h = tt
 ref_less k cs (refs.Class c) h = tt
@@ -191,7 +195,8 @@ pub ref_among : (k : ℕ) (below : Below) (r : Ref) → IsReached (reach k (Some
 ref_among k below (refs.Local n) h = tt
 ref_among k below (refs.Shared p c) h = h.1
 ref_among k below refs.Nil h = tt
-ref_among k below (refs.Truth b) h = tt
+ref_among k below refs.False h = tt
+ref_among k below refs.True h = tt
 ref_among k below (refs.Int z) h = tt
 ref_among k below (refs.Symbol s) h = tt
 ref_among k below (refs.Class c) h = tt
@@ -201,7 +206,8 @@ pub ref_reached : (k : ℕ) (below : Below) (r : Ref) → IsWithin k r → IsRef
 ref_reached k below (refs.Local n) h among = h
 ref_reached k below (refs.Shared p c) h among = (h, among)
 ref_reached k below refs.Nil h among = tt
-ref_reached k below (refs.Truth b) h among = tt
+ref_reached k below refs.False h among = tt
+ref_reached k below refs.True h among = tt
 ref_reached k below (refs.Int z) h among = tt
 ref_reached k below (refs.Symbol s) h among = tt
 ref_reached k below (refs.Class c) h among = tt

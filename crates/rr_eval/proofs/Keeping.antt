@@ -207,7 +207,8 @@ return_keeps c v = λ m. if_keeps (is_outside m.calls.frames) (throw c Jump) (Re
 pub raise_new_keeps : (c : Context) (v : Ref) (message : Option Ref) → Keeps (raise_new c v message)
 raise_new_keeps c (refs.Class k) message = if_keeps (is_exception_class c.program k.0) (raise k (message_or_nil message)) (throw c NotRaisable) (raise_keeps k (message_or_nil message)) (throw_keeps c NotRaisable)
 raise_new_keeps c refs.Nil message = throw_keeps c NotRaisable
-raise_new_keeps c (refs.Truth b) message = throw_keeps c NotRaisable
+raise_new_keeps c refs.False message = throw_keeps c NotRaisable
+raise_new_keeps c refs.True message = throw_keeps c NotRaisable
 raise_new_keeps c (Int z) message = throw_keeps c NotRaisable
 raise_new_keeps c (refs.Symbol s) message = throw_keeps c NotRaisable
 raise_new_keeps c (refs.Ractor r) message = throw_keeps c NotRaisable

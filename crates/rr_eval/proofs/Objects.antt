@@ -151,7 +151,8 @@ taken_keep t e = λ m. (λ k. caught_keeps (variable_of (target_part t)) e k, λ
 fitted_keeps : (c : Context) (e v : Ref) (take other : Script) → Keeps take → Keeps other → Keeps (fitted c e v take other)
 fitted_keeps c e (refs.Class k) take other kept rest = λ m. if_keeps (descends c.program (class_at m.table e).0 k.0) take other kept rest
 fitted_keeps c e refs.Nil take other kept rest = λ m. throw_keeps c (BuiltIn (WrongType (class_at m.table refs.Nil)))
-fitted_keeps c e (refs.Truth b) take other kept rest = λ m. throw_keeps c (BuiltIn (WrongType (class_at m.table (refs.Truth b))))
+fitted_keeps c e refs.False take other kept rest = λ m. throw_keeps c (BuiltIn (WrongType (class_at m.table refs.False)))
+fitted_keeps c e refs.True take other kept rest = λ m. throw_keeps c (BuiltIn (WrongType (class_at m.table refs.True)))
 fitted_keeps c e (Int z) take other kept rest = λ m. throw_keeps c (BuiltIn (WrongType (class_at m.table (Int z))))
 fitted_keeps c e (refs.Symbol s) take other kept rest = λ m. throw_keeps c (BuiltIn (WrongType (class_at m.table (refs.Symbol s))))
 fitted_keeps c e (refs.Ractor r) take other kept rest = λ m. throw_keeps c (BuiltIn (WrongType (class_at m.table (refs.Ractor r))))

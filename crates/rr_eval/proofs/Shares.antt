@@ -333,7 +333,8 @@ pub below_of : (k : ℕ) (cs : Option Below) (r : Ref) → IsReached (reach k cs
 below_of k cs (refs.Local n) h = h
 below_of k cs (refs.Shared p c) h = tt
 below_of k cs refs.Nil h = tt
-below_of k cs (refs.Truth b) h = tt
+below_of k cs refs.False h = tt
+below_of k cs refs.True h = tt
 below_of k cs (refs.Int z) h = tt
 below_of k cs (refs.Symbol s) h = tt
 below_of k cs (refs.Class c) h = tt

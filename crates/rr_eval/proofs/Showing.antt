@@ -41,7 +41,8 @@ values_end (v ∷ w ∷ vs) lt = absurd (omega (arith, lt))
 -- what was said, and not nil, is printed as it is
 pub said_shown : (names : Names) (t : Table) (v said : Ref) → (said ≡ refs.Nil → ⊥) → within_text (λ s. s ++ 10 ∷ []) (printed_text names (led t (said ∷ [])) spoken t said) ≡ shown_by names t v said
 said_shown names t v refs.Nil other = absurd (other refl)
-said_shown names t v (refs.Truth b) other = refl
+said_shown names t v refs.False other = refl
+said_shown names t v refs.True other = refl
 said_shown names t v (refs.Int z) other = refl
 said_shown names t v (refs.Symbol s) other = refl
 said_shown names t v (refs.Class c) other = refl

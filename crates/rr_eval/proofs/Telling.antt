@@ -31,7 +31,8 @@ own_ref : (r : Ref) (n : ℕ) → value_of r ≡ At (Own n) → r ≡ refs.Local
 own_ref (refs.Local m) n e = cc e
 own_ref (refs.Shared p c) n e = absurd (cc e)
 own_ref refs.Nil n e = absurd (cc e)
-own_ref (refs.Truth b) n e = absurd (cc e)
+own_ref refs.False n e = absurd (cc e)
+own_ref refs.True n e = absurd (cc e)
 own_ref (refs.Int z) n e = absurd (cc e)
 own_ref (refs.Symbol s) n e = absurd (cc e)
 own_ref (refs.Class c) n e = absurd (cc e)

@@ -10,8 +10,9 @@ use Rattle.rr_frames.specs.declared.activation.Shape.{Shape}
 use Rattle.rr_frames.specs.declared.activation.Given.TheVariants as given
 use Rattle.rr_space.specs.Kinds.{kind_at}
 use Rattle.rr_space.specs.Tables.{Table}
+use Rattle.rr_space.specs.Parts.{truth_ref}
 use Rattle.rr_space.specs.declared.refer.Ref.{Ref}
-use Rattle.rr_space.specs.declared.refer.Ref.TheVariants.{Nil, Truth}
+use Rattle.rr_space.specs.declared.refer.Ref.TheVariants.{Nil}
 use Rattle.rr_tree.specs.Tree.{Tree, nil, block}
 use Rattle.rr_base.specs.declared.name.ClassId.{ClassId}
 use Rattle.rr_eval.specs.declared.call_stack.Entry.{Entry}
@@ -72,7 +73,7 @@ returned number (Ends (exits.Call other) v) = if nat_eq other number then Broke 
 abbrev pub value_by : CallValue → Ref → Ref
 value_by value.Method v = v
 value_by (value.Other w) v = w
-value_by value.Opposite v = Truth (not (is_truthy v))
+value_by value.Opposite v = truth_ref (not (is_truthy v))
 value_by (value.Raises e) v = e
 
 -- what a call ends with whose method has a value: an exception that was made for `raise` is raised
@@ -212,7 +213,7 @@ is_given given.Nothing = false
 is_given (given.Block number home) = true
 
 abbrev pub given_rule : Script
-given_rule = See (λ m. Ret (Gave (Truth (is_given (running m.calls.frames).given))))
+given_rule = See (λ m. Ret (Gave (truth_ref (is_given (running m.calls.frames).given))))
 
 -- whether a block runs that stands in no method
 abbrev pub is_outside : List Activated → Bool

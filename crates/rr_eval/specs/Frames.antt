@@ -2,8 +2,9 @@
 use Rattle.std.specs.Prelude.{◌≡◌, ℕ, suc, ◌-◌, ◌≤◌, List, [], ◌∷◌, ◌++◌, if◌then◌else◌, not, length, take, drop, slice_index_or, reverse, Option, Some, None, ◌+◌}
 use Rattle.rr_frames.specs.Frames.{list_of}
 use Rattle.rr_parser.specs.Grammar.Names.{is_splat}
+use Rattle.rr_space.specs.Parts.{truth_ref}
 use Rattle.rr_space.specs.declared.refer.Ref.{Ref}
-use Rattle.rr_space.specs.declared.refer.Ref.TheVariants.{Nil, Truth}
+use Rattle.rr_space.specs.declared.refer.Ref.TheVariants.{Nil}
 use Rattle.rr_tree.specs.Tree.{Tree, binary, tree_at}
 use Rattle.rr_tree.specs.declared.node.Node.{Node}
 use Rattle.rr_eval.specs.declared.call.Callee.TheVariants.{SetIndex}
@@ -71,7 +72,7 @@ option_trees ns (Some part) = tree_at ns part ∷ []
 
 -- what a frame does with the answer that it waits for; `stand` are the values that stand for it
 abbrev pub resumed : Code → Frame → List Ref → Answer → Script
-resumed c Not stand = on_value (λ v. Ret (Gave (Truth (not (is_truthy v)))))
+resumed c Not stand = on_value (λ v. Ret (Gave (truth_ref (not (is_truthy v)))))
 resumed c (And b) stand = on_value (λ v. if is_truthy v then Go (tree_at c.nodes b) Ret else Ret (Gave v))
 resumed c (Or b) stand = on_value (λ v. if is_truthy v then Ret (Gave v) else Go (tree_at c.nodes b) Ret)
 resumed c Negation stand = on_value (negation c.context)

@@ -1,8 +1,9 @@
 -- What calls of built-in methods come to, as a script goes on with it.
-use Rattle.std.specs.Prelude.{ℕ, nat_eq, Bool, false, ◌&&◌, if◌then◌else◌, Option, Some, None}
+use Rattle.std.specs.Prelude.{ℕ, nat_eq, Bool, false, ◌&&◌, if◌then◌else◌, Option, Some, None, true}
 use Rattle.rr_space.specs.Graph.{Value, Plain, At, Own, Published, Nil, Truth, Integer, SymbolNo, ClassNo, RactorNo as RactorValue}
 use Rattle.rr_space.specs.Kinds.{class_at}
 use Rattle.rr_space.specs.Tables.{Table, resolve}
+use Rattle.rr_space.specs.Parts.{truth_ref}
 use Rattle.rr_space.specs.declared.refer.Ref.{Ref}
 use Rattle.rr_space.specs.declared.refer.Ref.TheVariants as refs
 use Rattle.rr_builtin.specs.Rounds.{Read, Reads, item_at}
@@ -18,7 +19,7 @@ use Rattle.rr_eval.specs.declared.problem.Response.TheVariants as response
 -- the reference of a value that is not published; nil stands for one that is
 abbrev pub ref_of : Value → Ref
 ref_of (Plain Nil) = refs.Nil
-ref_of (Plain (Truth b)) = refs.Truth b
+ref_of (Plain (Truth b)) = truth_ref b
 ref_of (Plain (Integer z)) = refs.Int z
 ref_of (Plain (SymbolNo n)) = refs.Symbol (record { 0 = n })
 ref_of (Plain (ClassNo n)) = refs.Class (record { 0 = n })
@@ -66,7 +67,8 @@ own_of t x = Some (ref_of x)
 -- what a message calls a receiver that has no such method
 abbrev pub receiver_of : Table → Ref → Receiver
 receiver_of t refs.Nil = receivers.Nil
-receiver_of t (refs.Truth b) = receivers.Truth b
+receiver_of t refs.False = receivers.Truth false
+receiver_of t refs.True = receivers.Truth true
 receiver_of t (refs.Class c) = receivers.Class c
 receiver_of t v = receivers.Instance (class_at t v)
 

@@ -1,8 +1,9 @@
 -- The rules of the language, each on a whole tree.
 use Rattle.std.specs.Prelude.{ℕ, ◌+◌, zero, suc, Bool, true, false, not, List, [], ◌∷◌, if◌then◌else◌, slice_index_or, length, Option, Some, None, codes, ◌++◌}
 use Rattle.rr_space.specs.Tables.{Table}
+use Rattle.rr_space.specs.Parts.{truth_ref}
 use Rattle.rr_space.specs.declared.refer.Ref.{Ref}
-use Rattle.rr_space.specs.declared.refer.Ref.TheVariants.{Nil, Truth, Int, Symbol, Class}
+use Rattle.rr_space.specs.declared.refer.Ref.TheVariants.{Nil, Int, Symbol, Class}
 use Rattle.rr_tree.specs.Tree.{Tree, tree_at, nil, truth, int, text, symbol, class_named as class_tree, constant, array, hash, pairs, pair, interpolation, itself as self_tree, field, set_field, set_attribute, super, forwarding_super, local, bare, call, send, index, set_index, append, logical_and, logical_or, logical_not, negate, binary, assign, choose, repeat, sequence, with_block, block, yield, break, next, return, rescue, ensure, operator_assign, append_assign, or_assign, and_assign, global, set_global, set_constant, splat, multiple_assign}
 use Rattle.std.specs.Option.{option_map}
 use Rattle.rr_base.specs.ClassNames.{class_named}
@@ -181,7 +182,7 @@ loop_rule until condition body again = Go condition (in_loop again (turn_rule un
 -- The rule of each kind of tree.
 abbrev pub rule : Context → Tree → Script
 rule c nil = Ret (Gave Nil)
-rule c (truth b) = Ret (Gave (Truth b))
+rule c (truth b) = Ret (Gave (truth_ref b))
 rule c (int z) = Ret (Gave (Int z))
 rule c (symbol x) = Ret (Gave (Symbol (record { 0 = x })))
 rule c (class_tree k) = Ret (Gave (Class k))
@@ -207,7 +208,7 @@ rule c (bare x) = See (λ m. bare_rule c (own_method c x m) (printing c x) (rais
 rule c (call x list) = See (λ m. call_rule c (own_method c x m) (printing c x) (raises c x) (awaited c x) (record { 0 = x }) (items list))
 rule c (logical_and a b) = with_value a (λ v. if is_truthy v then Go b Ret else Ret (Gave v))
 rule c (logical_or a b) = with_value a (λ v. if is_truthy v then Ret (Gave v) else Go b Ret)
-rule c (logical_not a) = with_value a (λ v. Ret (Gave (Truth (not (is_truthy v)))))
+rule c (logical_not a) = with_value a (λ v. Ret (Gave (truth_ref (not (is_truthy v)))))
 rule c (send a x list) = with_value a (λ v. arguments c (items list) (v ∷ []) (finish c (Call (callees.Name (record { 0 = x })))))
 rule c (set_attribute a x b) = values (a ∷ b ∷ []) [] (finish c (Call (callees.Setter (record { 0 = x }))))
 rule c (super list) = arguments c (items list) [] (finish c Super)

@@ -5,7 +5,7 @@ use Rattle.rr_space.specs.Graph.{Graph, Own, Published, Value, Plain, At, Symbol
 use Rattle.rr_base.specs.declared.name.RactorNo.{RactorNo as RactorNumber}
 use Rattle.rr_space.specs.Kinds.{kind_at}
 use Rattle.rr_space.specs.Labels.{triples_at}
-use Rattle.rr_space.specs.Parts.{value_of}
+use Rattle.rr_space.specs.Parts.{value_of, truth_ref}
 use Rattle.rr_space.specs.Tables.{Slot, Here, Led, Table, resolve, space_graph}
 use Rattle.rr_space.specs.Views.{is_shell}
 use Rattle.rr_space.specs.declared.refer.Ref.{Ref}
@@ -160,7 +160,7 @@ ractor_reply c MakeShareable vs t = make_shareable_reply c vs t
 ractor_reply c Start vs t = fails NoRactorBlock t
 ractor_reply c Current vs t = given_alone (refs.Ractor (owner_of t)) vs t
 ractor_reply c Main vs t = given_alone (refs.Ractor main_ractor) vs t
-ractor_reply c IsMain vs t = given_alone (refs.Truth (is_main t)) vs t
+ractor_reply c IsMain vs t = given_alone (truth_ref (is_main t)) vs t
 ractor_reply c Name vs t = name_reply vs t
 ractor_reply c WithOthers vs t = fails NoRactors t
 ractor_reply c Later vs t = fails NotHere t

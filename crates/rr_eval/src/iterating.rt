@@ -114,7 +114,8 @@ pub fn own(space: &Space, value: Ref) -> Option<Ref>
 {
     match value {
         Ref::Nil => Some(Ref::Nil),
-        Ref::Truth(truth) => Some(Ref::Truth(truth)),
+        Ref::False => Some(Ref::False),
+        Ref::True => Some(Ref::True),
         Ref::Int(z) => Some(Ref::Int(z)),
         Ref::Symbol(name) => Some(Ref::Symbol(name)),
         Ref::Class(class) => Some(Ref::Class(class)),

@@ -260,7 +260,7 @@ impl Engine {
             Node::Nil => Some(Ref::Nil),
             Node::Symbol(symbol) => Some(Ref::Symbol(symbol)),
             Node::Class(class) => Some(Ref::Class(class)),
-            Node::Truth(truth) => Some(Ref::Truth(truth)),
+            Node::Truth(truth) => Some(Ref::truth(truth)),
             Node::Int(z) => Some(Ref::Int(z)),
             Node::Itself => Some(self.itself()),
             Node::Local { depth, slot, .. } => Some(self.variable(Variable { depth, slot })),

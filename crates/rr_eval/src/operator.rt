@@ -62,13 +62,13 @@ pub fn computed(op: BinaryOperator, x: i64, y: i64) -> Result<Ref, NumberProblem
         BinaryOperator::Multiply => product(x, y)?,
         BinaryOperator::Divide => quotient(x, y)?,
         BinaryOperator::Remainder => remainder(x, y)?,
-        BinaryOperator::Less => return Ok(Ref::Truth(x < y)),
-        BinaryOperator::LessOrEqual => return Ok(Ref::Truth(x <= y)),
-        BinaryOperator::Greater => return Ok(Ref::Truth(x > y)),
-        BinaryOperator::GreaterOrEqual => return Ok(Ref::Truth(x >= y)),
+        BinaryOperator::Less => return Ok(Ref::truth(x < y)),
+        BinaryOperator::LessOrEqual => return Ok(Ref::truth(x <= y)),
+        BinaryOperator::Greater => return Ok(Ref::truth(x > y)),
+        BinaryOperator::GreaterOrEqual => return Ok(Ref::truth(x >= y)),
         BinaryOperator::Compare => compare(x, y),
-        BinaryOperator::Equal => return Ok(Ref::Truth(x == y)),
-        BinaryOperator::NotEqual => return Ok(Ref::Truth(x != y)),
+        BinaryOperator::Equal => return Ok(Ref::truth(x == y)),
+        BinaryOperator::NotEqual => return Ok(Ref::truth(x != y)),
     };
     Ok(Ref::Int(number))
 }

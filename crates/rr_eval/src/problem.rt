@@ -137,7 +137,7 @@ pub fn value_by(by: CallValue, value: Ref) -> Ref
     match by {
         CallValue::Method => value,
         CallValue::Other(other) => other,
-        CallValue::Opposite => Ref::Truth(!is_truthy(value)),
+        CallValue::Opposite => Ref::truth(!is_truthy(value)),
         CallValue::Raises(exception) => exception,
     }
 }
@@ -151,7 +151,7 @@ fn gave_by(by: CallValue, value: Ref) -> Answer
     match by {
         CallValue::Method => Answer::Gave(value),
         CallValue::Other(other) => Answer::Gave(other),
-        CallValue::Opposite => Answer::Gave(Ref::Truth(!is_truthy(value))),
+        CallValue::Opposite => Answer::Gave(Ref::truth(!is_truthy(value))),
         CallValue::Raises(exception) => Answer::Raised(exception),
     }
 }

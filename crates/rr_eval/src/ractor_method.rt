@@ -151,7 +151,8 @@ pub fn ractor_method(program: &Program, receiver: Ref, callee: Callee) -> Option
         }
         Ref::Ractor(_) => own_called(program, callee),
         Ref::Nil => None,
-        Ref::Truth(_) => None,
+        Ref::False => None,
+        Ref::True => None,
         Ref::Int(_) => None,
         Ref::Symbol(_) => None,
         Ref::Local(_) => None,

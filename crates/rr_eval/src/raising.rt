@@ -203,7 +203,7 @@ impl Engine {
             Ok(None)
         } else if is_block_given(prepared.program.symbol_bytes(name)) {
             let given = !matches!(self.calls.running().given, Given::Nothing);
-            self.control = Control::Give(Answer::Gave(Ref::Truth(given)));
+            self.control = Control::Give(Answer::Gave(Ref::truth(given)));
             Ok(None)
         } else {
             self.open_other(prepared, space, name)

@@ -219,7 +219,7 @@ impl Engine {
             Frame::Branch(yes, no) => self.take_branch(yes, no, value),
             Frame::And(b) => self.and_then(b, value),
             Frame::Or(b) => self.or_else(b, value),
-            Frame::Not => self.answer(Answer::Gave(Ref::Truth(!is_truthy(value)))),
+            Frame::Not => self.answer(Answer::Gave(Ref::truth(!is_truthy(value)))),
             Frame::Condition(until, body, place) => self.go_round(until, body, place, value),
             Frame::Body(place) => self.control = Control::Enter(place),
             Frame::Rest(end, count) => self.begin(end, count),

@@ -65,7 +65,8 @@ pub fn receiver_of(space: &Space, receiver: Ref) -> Receiver
 {
     match receiver {
         Ref::Nil => Receiver::Nil,
-        Ref::Truth(truth) => Receiver::Truth(truth),
+        Ref::False => Receiver::Truth(false),
+        Ref::True => Receiver::Truth(true),
         Ref::Class(class) => Receiver::Class(class),
         _ => Receiver::Instance(space.class_of(receiver)),
     }

@@ -7,7 +7,7 @@ ghost use Rattle.rr_base.specs.declared.fault.Fault.{Fault};
 ghost use Rattle.rr_space.specs.Graph.{Own, Reaches, IsShareable};
 ghost use Rattle.rr_space.specs.Labels.{labelled_value, triples_at};
 ghost use Rattle.rr_space.specs.Moves.{IsDeepFrozen};
-ghost use Rattle.rr_space.specs.Parts.{value_of};
+ghost use Rattle.rr_space.specs.Parts.{value_of, truth_ref};
 ghost use Rattle.rr_space.specs.Sound.{IsTableSound};
 ghost use Rattle.rr_space.specs.Tables.{Table, resolve, space_graph};
 ghost use Rattle.rr_space.specs.declared.refer.Ref.{Ref};
@@ -42,7 +42,8 @@ fn names_copy(program: &Program, key: Ref) -> bool
     match key {
         Ref::Symbol(name) => program.symbol_bytes(name) == b"copy".as_slice(),
         Ref::Nil => false,
-        Ref::Truth(_) => false,
+        Ref::False => false,
+        Ref::True => false,
         Ref::Int(_) => false,
         Ref::Class(_) => false,
         Ref::Ractor(_) => false,
@@ -82,12 +83,12 @@ fn one_wanted(given: usize) -> Problem
 
 /// Whether ractors may share a value.
 fn tell_shareable(alloc: Global, space: &Space, value: Ref) -> Result<Response, Fault>
-    ensures is { IfOk result (λ r. r ≡ Response.Gives (Ref.Truth (is_shareable space.now value))) }
+    ensures is { IfOk result (λ r. r ≡ Response.Gives (truth_ref (is_shareable space.now value))) }
     ensures fault { IfErr result (λ f. f ≡ Fault.Memory) }
 {
     let _slots = space.len();
     let yes = is_shareable(alloc, space, value)?;
-    Ok(Response::Gives(Ref::Truth(yes)))
+    Ok(Response::Gives(Ref::truth(yes)))
 }
 
 /// Freezes all that a value leads to, and gives the value. A refused growth leaves the objects as they were.
@@ -222,7 +223,7 @@ fn serve_values(
         RactorMethod::Start => Ok(Response::Fails(Problem::NoRactorBlock)),
         RactorMethod::Current => Ok(give_alone(Ref::Ractor(space.owner()), values)),
         RactorMethod::Main => Ok(give_alone(Ref::Ractor(MAIN), values)),
-        RactorMethod::IsMain => Ok(give_alone(Ref::Truth(is_main(space)), values)),
+        RactorMethod::IsMain => Ok(give_alone(Ref::truth(is_main(space)), values)),
         RactorMethod::Name => Ok(give_name(space, values)),
         RactorMethod::WithOthers => Ok(Response::Fails(Problem::NoRactors)),
         RactorMethod::Later => Ok(Response::Fails(Problem::NotHere)),

@@ -63,7 +63,8 @@ fn is_true(value: Ref) -> bool
 {
     match value {
         Ref::Nil => false,
-        Ref::Truth(truth) => truth,
+        Ref::False => false,
+        Ref::True => true,
         Ref::Int(_) => true,
         Ref::Symbol(_) => true,
         Ref::Class(_) => true,

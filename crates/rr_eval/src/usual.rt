@@ -125,7 +125,7 @@ impl Engine {
     {
         match evaluated_node(program, place) {
             Node::Nil => Some(Ref::Nil),
-            Node::Truth(truth) => Some(Ref::Truth(truth)),
+            Node::Truth(truth) => Some(Ref::truth(truth)),
             Node::Symbol(name) => Some(Ref::Symbol(name)),
             Node::Class(class) => Some(Ref::Class(class)),
             Node::Itself => Some(self.itself()),

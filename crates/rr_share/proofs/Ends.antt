@@ -9,7 +9,7 @@ use Rattle.rr_space.specs.Parts.{value_of}
 use Rattle.rr_space.specs.Views.{slot_object}
 use Rattle.rr_space.specs.Labels.{triples_of, triples_at}
 use Rattle.rr_space.specs.declared.refer.Ref.{Ref}
-use Rattle.rr_space.specs.declared.refer.Ref.TheVariants.{Nil, Truth, Int, Symbol, Class, Ractor, Local, Shared}
+use Rattle.rr_space.specs.declared.refer.Ref.TheVariants.{Nil, False, True, Int, Symbol, Class, Ractor, Local, Shared}
 use Rattle.rr_space.proofs.Renaming.{mapped_at}
 use Rattle.rr_space.proofs.Sounds.{gets, raw_in, resolved_back, sound_is_sealed}
 use Rattle.rr_space.proofs.Leaves.{found_all}
@@ -19,7 +19,8 @@ use Rattle.rr_share.proofs.Searching.{contains_at, at_contains, none_in, below_c
 -- a reference that is the slot m
 pub local_of : (r : Ref) (m : ℕ) → value_of r ≡ At (Own m) → r ≡ Local m
 local_of Nil m e = absurd (let w : ⊥ = cc in w)
-local_of (Truth b) m e = absurd (let w : ⊥ = cc in w)
+local_of False m e = absurd (let w : ⊥ = cc in w)
+local_of True m e = absurd (let w : ⊥ = cc in w)
 local_of (Int z) m e = absurd (let w : ⊥ = cc in w)
 local_of (Symbol s) m e = absurd (let w : ⊥ = cc in w)
 local_of (Class c) m e = absurd (let w : ⊥ = cc in w)

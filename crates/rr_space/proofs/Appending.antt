@@ -8,7 +8,7 @@ use Rattle.rr_space.specs.Views.{AllCarriedWithin, carried_object, carried_below
 use Rattle.rr_space.specs.Views.{ref_behind, part_behind, slot_behind, IsAppended}
 use Rattle.rr_space.specs.declared.carried.Carried.{Carried}
 use Rattle.rr_space.specs.declared.refer.Ref.{Ref}
-use Rattle.rr_space.specs.declared.refer.Ref.TheVariants.{Nil, Truth, Int, Symbol, Class, Ractor, Local, Shared}
+use Rattle.rr_space.specs.declared.refer.Ref.TheVariants.{Nil, False, True, Int, Symbol, Class, Ractor, Local, Shared}
 use Rattle.rr_space.specs.declared.node.Node.{Node}
 use Rattle.rr_space.specs.declared.node.Held.{Held}
 use Rattle.rr_space.specs.declared.node.Held.TheVariants.{Whole}
@@ -19,7 +19,8 @@ use Rattle.rr_space.proofs.Writing.{map_push, object_by_parts}
 module _ (k : ℕ) where
   ref_within : (n : ℕ) (r : Ref) → IsWithin n r → IsWithin (k + n) (ref_behind k r)
   ref_within n Nil w = tt
-  ref_within n (Truth b) w = tt
+  ref_within n False w = tt
+  ref_within n True w = tt
   ref_within n (Int z) w = tt
   ref_within n (Symbol s) w = tt
   ref_within n (Class c) w = tt
@@ -33,7 +34,8 @@ module _ (k : ℕ) where
 
   ref_value : (r : Ref) → value_of (ref_behind k r) ≡ renamed (behind k) (value_of r)
   ref_value Nil = refl
-  ref_value (Truth b) = refl
+  ref_value False = refl
+  ref_value True = refl
   ref_value (Int z) = refl
   ref_value (Symbol s) = refl
   ref_value (Class c) = refl
@@ -48,7 +50,8 @@ module _ (k : ℕ) where
 
   ref_below : (r : Ref) → below_ref (ref_behind k r) ≡ below_ref r
   ref_below Nil = refl
-  ref_below (Truth b) = refl
+  ref_below False = refl
+  ref_below True = refl
   ref_below (Int z) = refl
   ref_below (Symbol s) = refl
   ref_below (Class c) = refl

@@ -11,7 +11,7 @@ use Rattle.rr_space.specs.Parts.{Parts, value_of, value_triple}
 use Rattle.rr_space.specs.Kinds.{kind_at, object_kind, kind_named}
 use Rattle.rr_space.specs.Views.{is_open, can_write_at, slot_object, IsWithin, AllWithin, IsHeldWithin, AllHeldWithin, slot_of, below_held, held_keys, node_parts, node_kind, node_object, IsHeadKept, placed_from}
 use Rattle.rr_space.specs.declared.refer.Ref.{Ref}
-use Rattle.rr_space.specs.declared.refer.Ref.TheVariants.{Nil, Truth, Int, Symbol, Class, Ractor, Local, Shared}
+use Rattle.rr_space.specs.declared.refer.Ref.TheVariants.{Nil, False, True, Int, Symbol, Class, Ractor, Local, Shared}
 use Rattle.rr_space.specs.declared.node.Node.{Node}
 use Rattle.rr_space.specs.declared.node.Node.TheVariants.{Text, Array, Hash, Object as PlainObject, Exception}
 use Rattle.rr_space.specs.declared.node.Held.{Held}
@@ -38,7 +38,8 @@ open_there t (Local n) h = by (slice_get t.slots n) refl h
     by (Some (Led c p)) at h = absurd (false≢true h)
     by None at h = absurd (false≢true h)
 open_there t Nil h = absurd (false≢true h)
-open_there t (Truth b) h = absurd (false≢true h)
+open_there t False h = absurd (false≢true h)
+open_there t True h = absurd (false≢true h)
 open_there t (Int z) h = absurd (false≢true h)
 open_there t (Symbol s) h = absurd (false≢true h)
 open_there t (Class c) h = absurd (false≢true h)
@@ -117,7 +118,8 @@ keys_written t u n was ks keys at = ap (λ kss. slice_set kss n ks) keys ∙ set
 
 ref_less : (k j : ℕ) (r : Ref) → IsWithin j r → IsBelow k (value_of r) → IsWithin k r
 ref_less k j Nil w low = tt
-ref_less k j (Truth b) w low = tt
+ref_less k j False w low = tt
+ref_less k j True w low = tt
 ref_less k j (Int z) w low = tt
 ref_less k j (Symbol s) w low = tt
 ref_less k j (Class c) w low = tt

@@ -8,7 +8,7 @@ use Rattle.rr_space.specs.Tables.{Slot, Here, Led, Below, HashKey, TextKey, publ
 use Rattle.rr_space.specs.Lookups.{key_of_frozen, is_text, frozen_text, IsOneEach}
 use Rattle.rr_space.specs.Views.{slot_object}
 use Rattle.rr_space.specs.KeyObjects.{slot_key, value_key, HasKey, AreKeysNamed, KeyIsNamed, TextPairIsAdded, ObjectsArrive, CopiesAreNamed}
-use Rattle.rr_space.specs.declared.refer.Ref.TheVariants.{Nil, Truth, Int, Symbol, Class, Ractor, Local, Shared}
+use Rattle.rr_space.specs.declared.refer.Ref.TheVariants.{Nil, False, True, Int, Symbol, Class, Ractor, Local, Shared}
 use Rattle.rr_space.proofs.Zips.{zip_back}
 use Rattle.rr_space.proofs.Extending.{get_front, get_seam}
 use Rattle.rr_space.proofs.KeyObjects.{append_keeps, steps, object_is_made, pair_is_added}
@@ -35,7 +35,8 @@ found_more less more c p k one all e = by (cluster_at less c) refl
 
 pub key_is_named : KeyIsNamed
 key_is_named t below Nil k one all among e = e
-key_is_named t below (Truth b) k one all among e = e
+key_is_named t below False k one all among e = e
+key_is_named t below True k one all among e = e
 key_is_named t below (Int z) k one all among e = e
 key_is_named t below (Symbol s) k one all among e = e
 key_is_named t below (Class c) k one all among e = e

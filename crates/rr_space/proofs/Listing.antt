@@ -9,7 +9,7 @@ use Rattle.rr_space.specs.declared.label.Label.{Label as CodeLabel}
 use Rattle.rr_space.specs.declared.refer.Sealed.{Sealed}
 use Rattle.rr_space.specs.Tables.{Whole, outer_objects, numbered_object, numbered_triple}
 use Rattle.rr_space.specs.declared.refer.Ref.{Ref}
-use Rattle.rr_space.specs.declared.refer.Ref.TheVariants.{Nil, Truth, Int, Symbol, Class, Ractor, Local, Shared}
+use Rattle.rr_space.specs.declared.refer.Ref.TheVariants.{Nil, False, True, Int, Symbol, Class, Ractor, Local, Shared}
 
 pub length-places_from : (rs : List Ref) (j : ℕ) → length (places_from j rs) ≡ length rs
 length-places_from [] j = refl
@@ -90,7 +90,8 @@ outer_part w p k r e =
 -- a part that is no place of the cluster is the same from outside
 same_outside : (n : ℕ) (l : CodeLabel) (r : Ref) → ((q : ℕ) → r ≡ Local q → ⊥) → labelled_value (l, r) ≡ numbered_triple n (labelled_value (l, r))
 same_outside n l Nil out = refl
-same_outside n l (Truth b) out = refl
+same_outside n l False out = refl
+same_outside n l True out = refl
 same_outside n l (Int z) out = refl
 same_outside n l (Symbol s) out = refl
 same_outside n l (Class c) out = refl

@@ -10,7 +10,7 @@ use Rattle.rr_space.specs.Lookups.{IsOneEach, IsKeyOfPair, key_of_value}
 use Rattle.rr_space.specs.Indexes.{name_key, IsNamed, IsFirstNamed, IsIndexOf, IsIndexed, AreIndexed}
 use Rattle.rr_space.specs.declared.node.Key.{Key}
 use Rattle.rr_space.specs.declared.refer.Ref.{Ref}
-use Rattle.rr_space.specs.declared.refer.Ref.TheVariants.{Nil, Truth, Int, Symbol, Class, Ractor, Local, Shared}
+use Rattle.rr_space.specs.declared.refer.Ref.TheVariants.{Nil, False, True, Int, Symbol, Class, Ractor, Local, Shared}
 use Rattle.rr_space.specs.declared.refer.Sealed.{Sealed}
 use Rattle.rr_space.specs.declared.refer.Sealed.TheVariants.{Hash}
 use Rattle.rr_space.proofs.PublishedKeys.{own_key, other_key, pair_below}
@@ -20,7 +20,8 @@ module _ (w : Whole) (one : IsOneEach (below_hold w)) where
   name_is (Local p) led = own_key w p
   name_is (Shared p d) led = other_key (below_hold w) d.now p one (led (d.now.number, outer_objects d.now) (0, omega arith, refl))
   name_is Nil led = refl
-  name_is (Truth b) led = refl
+  name_is False led = refl
+  name_is True led = refl
   name_is (Int n) led = refl
   name_is (Symbol n) led = refl
   name_is (Class n) led = refl

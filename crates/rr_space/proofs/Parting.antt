@@ -8,7 +8,7 @@ use Rattle.rr_space.specs.Views.{StandsAt, slot_of, below_held, slot_object, IsH
 use Rattle.rr_space.specs.Parts.{IsWithin}
 use Rattle.rr_space.specs.Labels.{triples_at, triples_of}
 use Rattle.rr_space.specs.declared.refer.Ref.{Ref}
-use Rattle.rr_space.specs.declared.refer.Ref.TheVariants.{Nil, Truth, Int, Symbol, Class, Ractor, Local, Shared}
+use Rattle.rr_space.specs.declared.refer.Ref.TheVariants.{Nil, False, True, Int, Symbol, Class, Ractor, Local, Shared}
 use Rattle.rr_space.specs.declared.node.Held.{Held}
 use Rattle.rr_space.proofs.Placing.{table_of, count_is, within_at}
 
@@ -26,7 +26,8 @@ held_within hs limit owner next t n h e all at = subst (λ k. IsHeldWithin k h) 
 -- a value inside a cluster, seen from outside
 pub outward_same : (n : ℕ) (r : Ref) → ((q : ℕ) → r ≡ Local q → ⊥) → value_of r ≡ numbered n (value_of r)
 outward_same n Nil out = refl
-outward_same n (Truth b) out = refl
+outward_same n False out = refl
+outward_same n True out = refl
 outward_same n (Int z) out = refl
 outward_same n (Symbol s) out = refl
 outward_same n (Class c) out = refl
@@ -36,7 +37,8 @@ outward_same n (Shared p c) out = refl
 
 pub outward_within : (m n : ℕ) (r : Ref) → ((q : ℕ) → r ≡ Local q → ⊥) → IsWithin m r → IsWithin n r
 outward_within m n Nil out w = tt
-outward_within m n (Truth b) out w = tt
+outward_within m n False out w = tt
+outward_within m n True out w = tt
 outward_within m n (Int z) out w = tt
 outward_within m n (Symbol s) out w = tt
 outward_within m n (Class c) out w = tt

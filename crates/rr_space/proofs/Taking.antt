@@ -15,7 +15,7 @@ use Rattle.rr_space.specs.Views.{emptied, node_kind, node_class, node_object, no
 use Rattle.rr_space.specs.Views.{IsKnown, IsCarried, IsCarriedPart}
 use Rattle.rr_space.specs.Views.{IsRenumberedPart, ref_home}
 use Rattle.rr_space.specs.declared.refer.Ref.{Ref}
-use Rattle.rr_space.specs.declared.refer.Ref.TheVariants.{Nil, Truth, Int, Symbol, Class, Ractor, Local, Shared}
+use Rattle.rr_space.specs.declared.refer.Ref.TheVariants.{Nil, False, True, Int, Symbol, Class, Ractor, Local, Shared}
 use Rattle.rr_space.specs.declared.node.Node.{Node}
 use Rattle.rr_space.proofs.Keeping.{set_same, set_other, nat_cases}
 use Rattle.rr_space.proofs.Renaming.{contains_at}
@@ -69,7 +69,8 @@ module _ (names : List ℕ) where
 
   home_value : (r : Ref) → value_of (ref_home names r) ≡ renamed (home_name names) (value_of r)
   home_value Nil = refl
-  home_value (Truth b) = refl
+  home_value False = refl
+  home_value True = refl
   home_value (Int z) = refl
   home_value (Symbol s) = refl
   home_value (Class c) = refl
@@ -79,7 +80,8 @@ module _ (names : List ℕ) where
 
   home_clusters : (r : Ref) → below_ref (ref_home names r) ≡ below_ref r
   home_clusters Nil = refl
-  home_clusters (Truth b) = refl
+  home_clusters False = refl
+  home_clusters True = refl
   home_clusters (Int z) = refl
   home_clusters (Symbol s) = refl
   home_clusters (Class c) = refl
@@ -89,7 +91,8 @@ module _ (names : List ℕ) where
 
   home_ref_within : (k : ℕ) → ((m : ℕ) → Contains names m → m < k) → (r : Ref) → IsWithin (length names) r → IsWithin k (ref_home names r)
   home_ref_within k all Nil w = tt
-  home_ref_within k all (Truth b) w = tt
+  home_ref_within k all False w = tt
+  home_ref_within k all True w = tt
   home_ref_within k all (Int z) w = tt
   home_ref_within k all (Symbol s) w = tt
   home_ref_within k all (Class c) w = tt

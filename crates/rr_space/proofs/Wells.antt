@@ -13,7 +13,7 @@ use Rattle.rr_space.proofs.Within.{sealed_within}
 use Rattle.rr_space.specs.Sound.{IsKeyed, HasPlaceIn, IsStanding, IsBelowSound, IsSlotSound, IsTableSound, IsWell, IsHold, IsWholeSound}
 use Rattle.rr_space.specs.Views.{IsWithin, AllWithin, IsHeldWithin, AllHeldWithin, slot_of, below_held, held_keys, emptied, node_object, node_kind, node_keys, entry_pair, entry_key, node_parts}
 use Rattle.rr_space.specs.declared.refer.Ref.{Ref}
-use Rattle.rr_space.specs.declared.refer.Ref.TheVariants.{Nil, Truth, Int, Symbol, Class, Ractor, Local, Shared}
+use Rattle.rr_space.specs.declared.refer.Ref.TheVariants.{Nil, False, True, Int, Symbol, Class, Ractor, Local, Shared}
 use Rattle.rr_space.specs.declared.node.Node.{Node}
 use Rattle.rr_space.specs.declared.node.Node.TheVariants.{Text as TextNode, Array as ArrayNode, Hash as HashNode, Object as ObjectNode, Exception as ExceptionNode}
 use Rattle.rr_space.specs.declared.node.Held.{Held}
@@ -28,7 +28,8 @@ held_place p w h = (outer_objects w, (0, omega arith, refl), let e = length-map 
 
 ref_standing : (k : ℕ) (r : Ref) → IsWithin k r → IsStanding k (below_ref r) (value_of r)
 ref_standing k Nil h = tt
-ref_standing k (Truth b) h = tt
+ref_standing k False h = tt
+ref_standing k True h = tt
 ref_standing k (Int z) h = tt
 ref_standing k (Symbol s) h = tt
 ref_standing k (Class c) h = tt
@@ -38,7 +39,8 @@ ref_standing k (Shared p c) h = held_place p c.now h
 
 ref_below : (k : ℕ) (r : Ref) → IsWithin k r → IsBelowSound (below_ref r)
 ref_below k Nil h = none_sound
-ref_below k (Truth b) h = none_sound
+ref_below k False h = none_sound
+ref_below k True h = none_sound
 ref_below k (Int z) h = none_sound
 ref_below k (Symbol s) h = none_sound
 ref_below k (Class c) h = none_sound

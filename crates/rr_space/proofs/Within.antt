@@ -10,7 +10,7 @@ use Rattle.rr_space.specs.declared.refer.Sealed.{Sealed}
 use Rattle.rr_space.specs.Parts.{Parts, sealed_parts}
 use Rattle.rr_space.specs.Views.{IsWithin, AllWithin, IsNodeWithin, IsHeldWithin, AllHeldWithin, node_parts}
 use Rattle.rr_space.specs.declared.refer.Ref.{Ref}
-use Rattle.rr_space.specs.declared.refer.Ref.TheVariants.{Nil, Truth, Int, Symbol, Class, Ractor, Local, Shared}
+use Rattle.rr_space.specs.declared.refer.Ref.TheVariants.{Nil, False, True, Int, Symbol, Class, Ractor, Local, Shared}
 use Rattle.rr_space.specs.declared.node.Node.{Node}
 use Rattle.rr_space.specs.declared.node.Held.{Held}
 use Rattle.rr_space.specs.declared.node.Held.TheVariants.{Whole, Shell, Forward}
@@ -18,7 +18,8 @@ use Rattle.rr_space.specs.declared.node.Held.TheVariants.{Whole, Shell, Forward}
 module _ (k m : ℕ) (more : k ≤ m) where
   pub ref_later : (r : Ref) → IsWithin k r → IsWithin m r
   ref_later Nil h = tt
-  ref_later (Truth b) h = tt
+  ref_later False h = tt
+  ref_later True h = tt
   ref_later (Int z) h = tt
   ref_later (Symbol s) h = tt
   ref_later (Class c) h = tt

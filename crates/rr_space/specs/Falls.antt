@@ -6,7 +6,7 @@ use Rattle.rr_base.specs.declared.name.Sym.{Sym}
 use Rattle.rr_space.specs.Parts.{below_ref, below_parts, below_all, places_from, pairs_from, field_part, raised_parts, sealed_parts}
 use Rattle.rr_space.specs.declared.refer.Raised.{Raised}
 use Rattle.rr_space.specs.declared.refer.Ref.{Ref}
-use Rattle.rr_space.specs.declared.refer.Ref.TheVariants.{Nil, Truth, Int, Symbol, Class, Ractor, Local, Shared}
+use Rattle.rr_space.specs.declared.refer.Ref.TheVariants.{Nil, False, True, Int, Symbol, Class, Ractor, Local, Shared}
 use Rattle.rr_space.specs.declared.refer.Sealed.{Sealed}
 use Rattle.rr_space.specs.declared.refer.Sealed.TheVariants.{Text, Array, Hash, Object, Exception}
 use Rattle.rr_space.specs.declared.refer.Cluster.TheDeep.{deep-Sealed, deep-Ref, deep-Raised}
@@ -14,7 +14,8 @@ use Rattle.rr_space.specs.declared.refer.Cluster.TheShapes.{weighed-Sealed-Hash-
 
 pub ref_falls : (r : Ref) → deep-Ref r ≤ 2 * length (below_ref r)
 ref_falls Nil = omega arith
-ref_falls (Truth b) = omega arith
+ref_falls False = omega arith
+ref_falls True = omega arith
 ref_falls (Int n) = omega arith
 ref_falls (Symbol n) = omega arith
 ref_falls (Class n) = omega arith

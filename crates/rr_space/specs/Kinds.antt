@@ -1,12 +1,12 @@
 -- What kind of object, or which immediate, a reference leads to.
-use Rattle.std.specs.Prelude.{ℕ, cond, Option, Some, None}
+use Rattle.std.specs.Prelude.{ℕ, Option, Some, None}
 use Rattle.rr_base.specs.declared.name.ClassId.{ClassId}
 use Rattle.rr_base.specs.declared.name.TheConstants.ClassId.{CLASS, FALSE_CLASS, INTEGER, NIL_CLASS, RACTOR, SYMBOL, TRUE_CLASS}
 use Rattle.rr_space.specs.Graph.{Object, Kind, text, array, hash, plain, exception, shell}
 use Rattle.rr_space.specs.Tables.{Table}
 use Rattle.rr_space.specs.Views.{object_at}
 use Rattle.rr_space.specs.declared.refer.Ref.{Ref}
-use Rattle.rr_space.specs.declared.refer.Ref.TheVariants.{Nil, Truth, Int, Symbol, Class, Ractor, Local, Shared}
+use Rattle.rr_space.specs.declared.refer.Ref.TheVariants.{Nil, False, True, Int, Symbol, Class, Ractor, Local, Shared}
 use Rattle.rr_space.specs.declared.kind.Kind.{Kind as ValueKind}
 use Rattle.rr_space.specs.declared.kind.Kind.TheVariants.{Nil as NilKind, Truth as TruthKind, Integer as IntegerKind, Symbol as SymbolKind, Class as ClassKind, Ractor as RactorKind, Text as TextKind, Array as ArrayKind, Hash as HashKind, Object as ObjectKind, Exception as ExceptionKind, Shell as ShellKind}
 
@@ -25,7 +25,8 @@ object_kind None = NilKind
 -- which immediate the reference is, or the kind of the object that it leads to; where no object is, that of nil
 abbrev pub kind_at : Table → Ref → ValueKind
 kind_at t Nil = NilKind
-kind_at t (Truth b) = TruthKind
+kind_at t False = TruthKind
+kind_at t True = TruthKind
 kind_at t (Int z) = IntegerKind
 kind_at t (Symbol s) = SymbolKind
 kind_at t (Class c) = ClassKind
@@ -43,7 +44,8 @@ object_class None = NIL_CLASS
 -- the class of the immediate, or of the object that the reference leads to; where no object is, that of nil
 abbrev pub class_at : Table → Ref → ClassId
 class_at t Nil = NIL_CLASS
-class_at t (Truth b) = cond b TRUE_CLASS FALSE_CLASS
+class_at t False = FALSE_CLASS
+class_at t True = TRUE_CLASS
 class_at t (Int z) = INTEGER
 class_at t (Symbol s) = SYMBOL
 class_at t (Class c) = CLASS

@@ -5,7 +5,7 @@ use Rattle.rr_base.specs.declared.name.TheConstants.ClassId.{ARRAY, HASH, STRING
 use Rattle.rr_space.specs.Graph.{Nil, Truth, Integer, SymbolNo, ClassNo, RactorNo, Value, Plain, At, Own, Published, Label, Place, Field, KeyAt, ValueAt, Message, Cause, Ractor, Object, Kind, text, array, hash, plain, exception}
 use Rattle.rr_space.specs.Tables.{Below, below_hold}
 use Rattle.rr_space.specs.declared.refer.Ref.{Ref}
-use Rattle.rr_space.specs.declared.refer.Ref.TheVariants.{Nil as NilRef, Truth as TruthRef, Int, Symbol, Class, Ractor as RactorRef, Local, Shared}
+use Rattle.rr_space.specs.declared.refer.Ref.TheVariants.{Nil as NilRef, False as FalseRef, True as TrueRef, Int, Symbol, Class, Ractor as RactorRef, Local, Shared}
 use Rattle.rr_space.specs.declared.refer.Raised.{Raised}
 use Rattle.rr_space.specs.declared.refer.Sealed.{Sealed}
 use Rattle.rr_space.specs.declared.refer.Sealed.TheVariants.{Text as SealedText, Array as SealedArray, Hash as SealedHash, Object as SealedObject, Exception as SealedException}
@@ -14,13 +14,19 @@ use Rattle.rr_space.specs.Sound.{IsHold}
 -- the value that a reference is
 abbrev pub value_of : Ref → Value
 value_of NilRef = Plain Nil
-value_of (TruthRef b) = Plain (Truth b)
+value_of FalseRef = Plain (Truth false)
+value_of TrueRef = Plain (Truth true)
 value_of (Int z) = Plain (Integer z)
 value_of (Symbol s) = Plain (SymbolNo s.0)
 value_of (Class c) = Plain (ClassNo c.0)
 value_of (RactorRef r) = Plain (RactorNo r.0)
 value_of (Local n) = At (Own n)
 value_of (Shared p c) = At (Published c.now.number p)
+
+-- the reference that is `true` or `false`
+abbrev pub truth_ref : Bool → Ref
+truth_ref true = TrueRef
+truth_ref false = FalseRef
 
 -- what an object leads to: references under labels, in order
 abbrev pub Parts : Type 0

@@ -122,7 +122,8 @@ pub(crate) fn plain_key(value: Ref) -> Option<Key>
 {
     match value {
         Ref::Nil => Some(Key::Nil),
-        Ref::Truth(holds) => Some(Key::Truth(holds)),
+        Ref::False => Some(Key::Truth(false)),
+        Ref::True => Some(Key::Truth(true)),
         Ref::Int(number) => Some(Key::Int(number)),
         Ref::Symbol(symbol) => Some(Key::Symbol(symbol.0)),
         Ref::Class(class) => Some(Key::Class(class.0)),

@@ -2,7 +2,7 @@
 
 ghost use Rattle.std.specs.Prelude.{◌≡◌, ℕ, ◌≤◌, List, length, slice_get, map, Contains, IfSome, IfOk, IfErr};
 ghost use Rattle.std.specs.Option.{option_map};
-ghost use Rattle.rr_space.specs.Parts.{below_ref, bytes_of, sealed_parts, value_of, sealed_object, below_all};
+ghost use Rattle.rr_space.specs.Parts.{truth_ref, below_ref, bytes_of, sealed_parts, value_of, sealed_object, below_all};
 ghost use Rattle.rr_space.specs.Parts.{is_frozen_object};
 ghost use Rattle.rr_space.specs.Parts.{IsWithin, AllSealedWithin};
 ghost use Rattle.rr_space.specs.Sound.{IsWholeSound};
@@ -26,7 +26,8 @@ use std::marker::Model;
 #[derive(Clone, Copy)]
 pub enum Ref {
     Nil,
-    Truth(bool),
+    False,
+    True,
     Int(i64),
     Symbol(Sym),
     Class(ClassId),
@@ -51,13 +52,22 @@ pub enum Name {
 }
 
 impl Ref {
+    /// `true` or `false`.
+    #[inline(always)]
+    pub fn truth(holds: bool) -> Ref
+        ensures { result ≡ truth_ref holds }
+    {
+        if holds { Ref::True } else { Ref::False }
+    }
+
     /// The value itself, without the cluster behind it.
     pub fn name(self) -> Name
         ensures { value_named result ≡ value_of self }
     {
         match self {
             Ref::Nil => Name::Nil,
-            Ref::Truth(holds) => Name::Truth(holds),
+            Ref::False => Name::Truth(false),
+            Ref::True => Name::Truth(true),
             Ref::Int(number) => Name::Int(number),
             Ref::Symbol(symbol) => Name::Symbol(symbol),
             Ref::Class(class) => Name::Class(class),

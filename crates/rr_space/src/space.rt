@@ -145,7 +145,8 @@ impl Space {
     {
         match value {
             Ref::Nil => Kind::Nil,
-            Ref::Truth(_) => Kind::Truth,
+            Ref::False => Kind::Truth,
+            Ref::True => Kind::Truth,
             Ref::Int(_) => Kind::Integer,
             Ref::Symbol(_) => Kind::Symbol,
             Ref::Class(_) => Kind::Class,
@@ -167,8 +168,8 @@ impl Space {
     {
         match value {
             Ref::Nil => ClassId::NIL_CLASS,
-            Ref::Truth(true) => ClassId::TRUE_CLASS,
-            Ref::Truth(false) => ClassId::FALSE_CLASS,
+            Ref::False => ClassId::FALSE_CLASS,
+            Ref::True => ClassId::TRUE_CLASS,
             Ref::Int(_) => ClassId::INTEGER,
             Ref::Symbol(_) => ClassId::SYMBOL,
             Ref::Class(_) => ClassId::CLASS,

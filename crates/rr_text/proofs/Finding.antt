@@ -14,7 +14,7 @@ use Rattle.rr_space.specs.Kinds.{kind_at, kind_named, object_kind}
 use Rattle.rr_space.specs.Labels.{IsPairThere}
 use Rattle.rr_space.specs.declared.kind.Kind.TheVariants as kind
 use Rattle.rr_space.specs.declared.refer.Ref.{Ref}
-use Rattle.rr_space.specs.declared.refer.Ref.TheVariants.{Nil, Truth, Int, Symbol, Class, Ractor, Local, Shared}
+use Rattle.rr_space.specs.declared.refer.Ref.TheVariants.{Nil, False, True, Int, Symbol, Class, Ractor, Local, Shared}
 use Rattle.rr_text.specs.Reads.{IsReadWith, IsAmong}
 use Rattle.rr_text.specs.Keys.{same_key, place_among, key_in, own_keys, keys_or, pairs_in, hash_keys}
 use Rattle.rr_text.specs.Same.{triples_in}
@@ -107,7 +107,8 @@ frozen_resolved slots (Some o) = refl
 -- the key that a reference is, is that of its value in the graph
 pub key_seen : (t : Table) (below : Below) (r : Ref) → IsTableSound t.slots t.below → IsReadWith t below → IsAmong below r → key_in (graph_of t.slots below) (resolve t.slots (value_of r)) ≡ key_at t r
 key_seen t below Nil sound read among = refl
-key_seen t below (Truth b) sound read among = refl
+key_seen t below False sound read among = refl
+key_seen t below True sound read among = refl
 key_seen t below (Int z) sound read among = refl
 key_seen t below (Symbol s) sound read among = refl
 key_seen t below (Class c) sound read among = refl
@@ -129,7 +130,8 @@ listed_keys t (Local n) well h = by (slice_get t.slots n) refl h
     by (Some (Led c p)) at h = absurd (false≢true h)
     by None at h = absurd (false≢true h)
 listed_keys t Nil well h = absurd (false≢true h)
-listed_keys t (Truth b) well h = absurd (false≢true h)
+listed_keys t False well h = absurd (false≢true h)
+listed_keys t True well h = absurd (false≢true h)
 listed_keys t (Int z) well h = absurd (false≢true h)
 listed_keys t (Symbol s) well h = absurd (false≢true h)
 listed_keys t (Class c) well h = absurd (false≢true h)
@@ -145,7 +147,8 @@ own_value t (Local n) ks e = by (slice_get t.slots n) refl
     by (Some (Led c p)) at = absurd (none-some ks (sym (ap (λ s. keys_here s (slice_get t.keys n)) at) ∙ e))
     by None at = absurd (none-some ks (sym (ap (λ s. keys_here s (slice_get t.keys n)) at) ∙ e))
 own_value t Nil ks e = absurd (none-some ks e)
-own_value t (Truth b) ks e = absurd (none-some ks e)
+own_value t False ks e = absurd (none-some ks e)
+own_value t True ks e = absurd (none-some ks e)
 own_value t (Int z) ks e = absurd (none-some ks e)
 own_value t (Symbol s) ks e = absurd (none-some ks e)
 own_value t (Class c) ks e = absurd (none-some ks e)
@@ -174,7 +177,8 @@ no_keys t (Local n) e h = by (slice_get t.slots n) refl h
     by (Some (Led c p)) at h = ap (λ s. own_keys t (At (resolve_slot s n))) at
     by None at h = ap (λ s. own_keys t (At (resolve_slot s n))) at ∙ ap (λ s. keys_here s (slice_get t.keys n)) at
 no_keys t Nil e h = refl
-no_keys t (Truth b) e h = refl
+no_keys t False e h = refl
+no_keys t True e h = refl
 no_keys t (Int z) e h = refl
 no_keys t (Symbol s) e h = refl
 no_keys t (Class c) e h = refl

@@ -14,7 +14,7 @@ use Rattle.rr_space.specs.Kinds.{kind_at, class_at}
 use Rattle.rr_space.specs.Labels.{triples_at, IsFirstUnder}
 use Rattle.rr_space.specs.declared.kind.Kind.TheVariants.{Array as ArrayKind, Hash as HashKind}
 use Rattle.rr_space.specs.declared.refer.Ref.{Ref}
-use Rattle.rr_space.specs.declared.refer.Ref.TheVariants.{Nil, Truth, Int, Symbol, Class, Ractor, Local, Shared}
+use Rattle.rr_space.specs.declared.refer.Ref.TheVariants.{Nil, False, True, Int, Symbol, Class, Ractor, Local, Shared}
 use Rattle.rr_text.specs.Walk.{Wrote, Leaf, Branch}
 use Rattle.rr_text.specs.Forms.{Names, Way, inspected, lines, Item, Key, Piece, spelled, lining, elements, entries, key_text, thing, look, line_look, array_look, hash_look, object_look, same_key, is_message, message_in, message_text, told_by}
 use Rattle.rr_text.specs.Rest.{keys}
@@ -32,7 +32,8 @@ use Rattle.rr_text.proofs.Stack.{again_showed, deep_showed, entered_showed}
 module _ (names : Names) (t : Table) (below : Below) (sound : IsTableSound t.slots t.below) (read : IsReadWith t below) where
   pub in_kind : (r : Ref) → IsAmong below r → IsAtEnd t r → (thing_in names (graph_of t.slots below) (value_of r)).kind ≡ told_kind (kind_at t r)
   in_kind Nil among end = refl
-  in_kind (Truth b) among end = refl
+  in_kind False among end = refl
+  in_kind True among end = refl
   in_kind (Int z) among end = refl
   in_kind (Symbol s) among end = refl
   in_kind (Class c) among end = refl
@@ -42,7 +43,8 @@ module _ (names : Names) (t : Table) (below : Below) (sound : IsTableSound t.slo
 
   pub in_bytes : (r : Ref) → IsAmong below r → IsAtEnd t r → (thing_in names (graph_of t.slots below) (value_of r)).bytes ≡ text_at t r
   in_bytes Nil among end = refl
-  in_bytes (Truth b) among end = refl
+  in_bytes False among end = refl
+  in_bytes True among end = refl
   in_bytes (Int z) among end = refl
   in_bytes (Symbol s) among end = refl
   in_bytes (Class c) among end = refl
@@ -52,7 +54,8 @@ module _ (names : Names) (t : Table) (below : Below) (sound : IsTableSound t.slo
 
   pub in_triples : (r : Ref) → IsAmong below r → IsAtEnd t r → (thing_in names (graph_of t.slots below) (value_of r)).triples ≡ map (resolve_triple t.slots) (triples_at t r)
   in_triples Nil among end = refl
-  in_triples (Truth b) among end = refl
+  in_triples False among end = refl
+  in_triples True among end = refl
   in_triples (Int z) among end = refl
   in_triples (Symbol s) among end = refl
   in_triples (Class c) among end = refl
@@ -62,7 +65,8 @@ module _ (names : Names) (t : Table) (below : Below) (sound : IsTableSound t.slo
 
   pub in_class : (r : Ref) → IsAmong below r → IsAtEnd t r → (told_kind (kind_at t r) ≡ shell → ⊥) → (thing_in names (graph_of t.slots below) (value_of r)).class ≡ (class_at t r).0
   in_class Nil among end some = absurd (some refl)
-  in_class (Truth b) among end some = absurd (some refl)
+  in_class False among end some = absurd (some refl)
+  in_class True among end some = absurd (some refl)
   in_class (Int z) among end some = absurd (some refl)
   in_class (Symbol s) among end some = absurd (some refl)
   in_class (Class c) among end some = absurd (some refl)

@@ -11,7 +11,7 @@ use Rattle.rr_space.specs.Views.{object_at, slot_object, text_at}
 use Rattle.rr_space.specs.Kinds.{object_kind, object_class, kind_at, class_at}
 use Rattle.rr_space.specs.Labels.{triples_of, triples_at}
 use Rattle.rr_space.specs.declared.refer.Ref.{Ref}
-use Rattle.rr_space.specs.declared.refer.Ref.TheVariants.{Nil, Truth, Int, Symbol, Class, Ractor, Local, Shared}
+use Rattle.rr_space.specs.declared.refer.Ref.TheVariants.{Nil, False, True, Int, Symbol, Class, Ractor, Local, Shared}
 use Rattle.rr_space.specs.declared.kind.Kind.TheVariants.{Nil as NilKind}
 use Rattle.rr_space.proofs.Spaces.{entry_of}
 use Rattle.rr_space.proofs.Sounds.{finds, gets, joined_in}
@@ -98,7 +98,8 @@ local_seen t below m n (Some (Led c p)) sound read h e =
 pub seen : (t : Table) (below : Below) (r : Ref) (n : Name) → IsTableSound t.slots t.below → IsReadWith t below → IsAmong below r → resolve t.slots (value_of r) ≡ At n
     → graph_of t.slots below n ≡ option_map (resolve_object t.slots) (object_at t r)
 seen t below Nil n sound read among e = absurd (let w : ⊥ = cc in w)
-seen t below (Truth b) n sound read among e = absurd (let w : ⊥ = cc in w)
+seen t below False n sound read among e = absurd (let w : ⊥ = cc in w)
+seen t below True n sound read among e = absurd (let w : ⊥ = cc in w)
 seen t below (Int z) n sound read among e = absurd (let w : ⊥ = cc in w)
 seen t below (Symbol s) n sound read among e = absurd (let w : ⊥ = cc in w)
 seen t below (Class c) n sound read among e = absurd (let w : ⊥ = cc in w)
@@ -111,7 +112,8 @@ seen t below (Shared p c) n sound read among e =
 
 pub kind_seen : (t : Table) (r : Ref) (n : Name) → resolve t.slots (value_of r) ≡ At n → kind_at t r ≡ object_kind (object_at t r)
 kind_seen t Nil n e = absurd (let w : ⊥ = cc in w)
-kind_seen t (Truth b) n e = absurd (let w : ⊥ = cc in w)
+kind_seen t False n e = absurd (let w : ⊥ = cc in w)
+kind_seen t True n e = absurd (let w : ⊥ = cc in w)
 kind_seen t (Int z) n e = absurd (let w : ⊥ = cc in w)
 kind_seen t (Symbol s) n e = absurd (let w : ⊥ = cc in w)
 kind_seen t (Class c) n e = absurd (let w : ⊥ = cc in w)
@@ -121,7 +123,8 @@ kind_seen t (Shared p c) n e = refl
 
 pub class_seen : (t : Table) (r : Ref) (n : Name) → resolve t.slots (value_of r) ≡ At n → class_at t r ≡ object_class (object_at t r)
 class_seen t Nil n e = absurd (let w : ⊥ = cc in w)
-class_seen t (Truth b) n e = absurd (let w : ⊥ = cc in w)
+class_seen t False n e = absurd (let w : ⊥ = cc in w)
+class_seen t True n e = absurd (let w : ⊥ = cc in w)
 class_seen t (Int z) n e = absurd (let w : ⊥ = cc in w)
 class_seen t (Symbol s) n e = absurd (let w : ⊥ = cc in w)
 class_seen t (Class c) n e = absurd (let w : ⊥ = cc in w)

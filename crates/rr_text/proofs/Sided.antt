@@ -14,7 +14,7 @@ use Rattle.rr_space.specs.Views.{object_at, text_at}
 use Rattle.rr_space.specs.Kinds.{object_kind, kind_at}
 use Rattle.rr_space.specs.Labels.{triples_of, triples_at}
 use Rattle.rr_space.specs.declared.refer.Ref.{Ref}
-use Rattle.rr_space.specs.declared.refer.Ref.TheVariants.{Nil, Truth, Int, Symbol, Class, Ractor, Local, Shared}
+use Rattle.rr_space.specs.declared.refer.Ref.TheVariants.{Nil, False, True, Int, Symbol, Class, Ractor, Local, Shared}
 use Rattle.rr_text.specs.Reads.{IsAmong, IsReadWith}
 use Rattle.rr_text.specs.Walk.{Wrote, Leaf}
 use Rattle.rr_text.specs.Same.{same_value, kind_in, bytes_in, triples_in}
@@ -47,7 +47,8 @@ triples_resolved slots (Some o) = refl
 module _ (t : Table) (below : Below) (sound : IsTableSound t.slots t.below) (read : IsReadWith t below) where
   pub kind_told : (r : Ref) → IsAmong below r → kind_in (graph_of t.slots below) (resolve t.slots (value_of r)) ≡ kind_at t r
   kind_told Nil among = refl
-  kind_told (Truth b) among = refl
+  kind_told False among = refl
+  kind_told True among = refl
   kind_told (Int z) among = refl
   kind_told (Symbol s) among = refl
   kind_told (Class c) among = refl
@@ -57,7 +58,8 @@ module _ (t : Table) (below : Below) (sound : IsTableSound t.slots t.below) (rea
 
   pub bytes_told : (r : Ref) → IsAmong below r → bytes_in (graph_of t.slots below) (resolve t.slots (value_of r)) ≡ text_at t r
   bytes_told Nil among = refl
-  bytes_told (Truth b) among = refl
+  bytes_told False among = refl
+  bytes_told True among = refl
   bytes_told (Int z) among = refl
   bytes_told (Symbol s) among = refl
   bytes_told (Class c) among = refl
@@ -67,7 +69,8 @@ module _ (t : Table) (below : Below) (sound : IsTableSound t.slots t.below) (rea
 
   pub triples_told : (r : Ref) → IsAmong below r → triples_in (graph_of t.slots below) (resolve t.slots (value_of r)) ≡ map (resolve_triple t.slots) (triples_at t r)
   triples_told Nil among = refl
-  triples_told (Truth b) among = refl
+  triples_told False among = refl
+  triples_told True among = refl
   triples_told (Int z) among = refl
   triples_told (Symbol s) among = refl
   triples_told (Class c) among = refl

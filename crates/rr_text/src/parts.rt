@@ -88,7 +88,8 @@ fn push_key(out: &mut Vec<u8>, space: &Space, program: &Program, key: Ref) -> Re
 {
     match key {
         Ref::Nil => push_arrow(out, b"nil"),
-        Ref::Truth(holds) => push_arrow(out, truth_bytes(holds)),
+        Ref::False => push_arrow(out, truth_bytes(false)),
+        Ref::True => push_arrow(out, truth_bytes(true)),
         Ref::Int(number) => {
             let mut buffer = Buffer::new();
             push_arrow(out, buffer.format(number).as_bytes())

@@ -125,7 +125,8 @@ pub(crate) fn push_immediate(
 {
     match value {
         Ref::Nil => push_nil(out, form)?,
-        Ref::Truth(holds) => push_written(out, form, truth_bytes(holds))?,
+        Ref::False => push_written(out, form, truth_bytes(false))?,
+        Ref::True => push_written(out, form, truth_bytes(true))?,
         Ref::Int(number) => {
             let mut buffer = Buffer::new();
             push_written(out, form, buffer.format(number).as_bytes())?

@@ -49,7 +49,8 @@ fn told_by_value(space: &Space, value: Ref) -> Told<'_>
 {
     match value {
         Ref::Nil => Told::Name,
-        Ref::Truth(_) => Told::Name,
+        Ref::False => Told::Name,
+        Ref::True => Told::Name,
         Ref::Int(_) => Told::Name,
         Ref::Symbol(_) => Told::Name,
         Ref::Class(_) => Told::Name,

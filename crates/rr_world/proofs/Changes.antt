@@ -40,7 +40,8 @@ no_shell o holds is = let no : not (is_shell shell) ≡ true = subst (λ (k : Ki
 -- an object of the space that may be frozen
 pub whole_slot : (t : Table) (v : Ref) → IsTrue (can_freeze_at t v) → (n : ℕ) × (o : Object) × (v ≡ ref.Local n) × (slice_get t.slots n ≡ Some (Here o)) × IsNoShell o
 whole_slot t ref.Nil holds = let no : false ≡ true = holds in cc
-whole_slot t (ref.Truth x) holds = let no : false ≡ true = holds in cc
+whole_slot t ref.False holds = let no : false ≡ true = holds in cc
+whole_slot t ref.True holds = let no : false ≡ true = holds in cc
 whole_slot t (ref.Int x) holds = let no : false ≡ true = holds in cc
 whole_slot t (ref.Symbol x) holds = let no : false ≡ true = holds in cc
 whole_slot t (ref.Class x) holds = let no : false ≡ true = holds in cc
@@ -102,7 +103,8 @@ not_frozen false b e = cc
 open_slot : (t : Table) (v : Ref) → IsTrue (can_write_at t v)
     → (n : ℕ) × (o : Object) × (v ≡ ref.Local n) × (slice_get t.slots n ≡ Some (Here o)) × (kind_at t v ≡ kind_named o.kind) × (o.frozen ≡ false)
 open_slot t ref.Nil holds = let no : false ≡ true = holds in cc
-open_slot t (ref.Truth x) holds = let no : false ≡ true = holds in cc
+open_slot t ref.False holds = let no : false ≡ true = holds in cc
+open_slot t ref.True holds = let no : false ≡ true = holds in cc
 open_slot t (ref.Int x) holds = let no : false ≡ true = holds in cc
 open_slot t (ref.Symbol x) holds = let no : false ≡ true = holds in cc
 open_slot t (ref.Class x) holds = let no : false ≡ true = holds in cc

@@ -91,7 +91,8 @@ module _ (w w2 : Assembly) (x : Whole) (more : w2.channels.store.clusters ≡ w.
 
     root_kept : (h : Owner) (r : Ref) → names2 h ≡ names h → Knows (below_ref r) (layout w) → root_in names2 h r ≡ root_in names h r
     root_kept h ref.Nil own K = refl
-    root_kept h (ref.Truth b) own K = refl
+    root_kept h ref.False own K = refl
+    root_kept h ref.True own K = refl
     root_kept h (ref.Int b) own K = refl
     root_kept h (ref.Symbol b) own K = refl
     root_kept h (ref.Class b) own K = refl
@@ -103,7 +104,8 @@ module _ (w w2 : Assembly) (x : Whole) (more : w2.channels.store.clusters ≡ w.
 
     public_kept : (r : Ref) → Knows (below_ref r) (layout w) → public_value names2 (value_of r) ≡ public_value names (value_of r)
     public_kept ref.Nil K = refl
-    public_kept (ref.Truth b) K = refl
+    public_kept ref.False K = refl
+    public_kept ref.True K = refl
     public_kept (ref.Int b) K = refl
     public_kept (ref.Symbol b) K = refl
     public_kept (ref.Class b) K = refl

@@ -50,7 +50,8 @@ module _ (w : Assembly) (names : Naming) (bound : ℕ) (g : Objects) (R : IsRead
 
       by : (x : Ref) → IsWithin (length m.space.slots) x → Knows (below_ref x) (layout w) → IsInLayout (layout w) (seen_slots m) (value_of x)
       by ref.Nil h K = tt
-      by (ref.Truth b) h K = tt
+      by ref.False h K = tt
+      by ref.True h K = tt
       by (ref.Int b) h K = tt
       by (ref.Symbol b) h K = tt
       by (ref.Class b) h K = tt

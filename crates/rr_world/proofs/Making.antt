@@ -67,7 +67,8 @@ root_reached g names h rs v has = by (value_of v) refl
 -- what an operand is
 pub named_new : (g : Objects) (names : Naming) (h : Owner) (rs : List Ref) (op : Operand) (v : Ref) → named_ref rs op ≡ Some v → IsNewValue g (map (root_in names h) rs) (root_in names h v)
 named_new g names h rs operand.Nil v is = subst (λ r. IsNewValue g (map (root_in names h) rs) (root_in names h r)) (same_Some _ v is) tt
-named_new g names h rs (operand.Truth b) v is = subst (λ r. IsNewValue g (map (root_in names h) rs) (root_in names h r)) (same_Some _ v is) tt
+named_new g names h rs (operand.Truth true) v is = subst (λ r. IsNewValue g (map (root_in names h) rs) (root_in names h r)) (same_Some _ v is) tt
+named_new g names h rs (operand.Truth false) v is = subst (λ r. IsNewValue g (map (root_in names h) rs) (root_in names h r)) (same_Some _ v is) tt
 named_new g names h rs (operand.Int b) v is = subst (λ r. IsNewValue g (map (root_in names h) rs) (root_in names h r)) (same_Some _ v is) tt
 named_new g names h rs (operand.Symbol b) v is = subst (λ r. IsNewValue g (map (root_in names h) rs) (root_in names h r)) (same_Some _ v is) tt
 named_new g names h rs (operand.Class b) v is = subst (λ r. IsNewValue g (map (root_in names h) rs) (root_in names h r)) (same_Some _ v is) tt
@@ -109,7 +110,8 @@ module _ (w : Assembly) (names : Naming) (bound : ℕ) (g : Objects) (R : IsRead
 
       by : (v : Ref) → named_ref m.roots op ≡ Some v → root_in names (Space k) v ≡ At (Own n) → (i : ℕ) × (raw : Object) × IsSlot op m i raw × (slice_index (names (Space k)) i ≡ n)
       by ref.Nil is_named e = absurd (let z : ⊥ = cc in z)
-      by (ref.Truth b) is_named e = absurd (let z : ⊥ = cc in z)
+      by ref.False is_named e = absurd (let z : ⊥ = cc in z)
+      by ref.True is_named e = absurd (let z : ⊥ = cc in z)
       by (ref.Int b) is_named e = absurd (let z : ⊥ = cc in z)
       by (ref.Symbol b) is_named e = absurd (let z : ⊥ = cc in z)
       by (ref.Class b) is_named e = absurd (let z : ⊥ = cc in z)

@@ -13,7 +13,7 @@ use Rattle.rr_space.specs.Parts.{IsWithin}
 use Rattle.rr_space.specs.Readings.{Owner, Space, Hand, Mail, Shown, Shared, Objects, Naming, Layout, IsReading}
 use Rattle.rr_space.specs.Steps.{Goes, IsNamed, IsJoined}
 use Rattle.rr_space.specs.declared.refer.Ref.{Ref}
-use Rattle.rr_space.specs.declared.refer.Ref.TheVariants.{Nil, Truth, Int, Symbol, Class, Ractor, Local, Shared as SharedRef}
+use Rattle.rr_space.specs.declared.refer.Ref.TheVariants.{Nil, False, True, Int, Symbol, Class, Ractor, Local, Shared as SharedRef}
 use Rattle.rr_space.proofs.Frames.{map_same}
 use Rattle.rr_copy.specs.Messages.{size_of}
 use Rattle.rr_move.specs.declared.home.Home.{Home}
@@ -226,7 +226,8 @@ module _ (tables : Layout) (a b : Owner) (os : List Object) (s : List Slot) (nam
 
   root_stands : (r : Ref) → IsWithin (length s) r → root_in names2 b r ≡ root_in names b r
   root_stands Nil w = refl
-  root_stands (Truth x) w = refl
+  root_stands False w = refl
+  root_stands True w = refl
   root_stands (Int x) w = refl
   root_stands (Symbol x) w = refl
   root_stands (Class x) w = refl

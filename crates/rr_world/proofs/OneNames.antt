@@ -26,7 +26,8 @@ IsLocated tables slots (At (Published c p)) = HasPlace tables c p
 module _ (tables : Layout) (names : Naming) (bound : ℕ) (g : Objects) (R : IsReading tables names bound g) (k : ℕ) (slots : List Slot) (here : tables (Space k) ≡ Some slots) where
   located : (r : Ref) → IsWithin (length slots) r → Knows (below_ref r) tables → IsLocated tables slots (resolve slots (value_of r))
   located ref.Nil h K = tt
-  located (ref.Truth b) h K = tt
+  located ref.False h K = tt
+  located ref.True h K = tt
   located (ref.Int b) h K = tt
   located (ref.Symbol b) h K = tt
   located (ref.Class b) h K = tt

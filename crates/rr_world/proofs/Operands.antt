@@ -1,5 +1,5 @@
 -- The values that operands name.
-use Rattle.std.proofs.Common.{◌≡◌, ◌∙◌, ℕ, zero, suc, List, [], ◌∷◌, length, map, Some, slice_get, Contains, sym, ap, refl, subst}
+use Rattle.std.proofs.Common.{◌≡◌, ◌∙◌, ℕ, zero, suc, List, [], ◌∷◌, length, map, Some, slice_get, Contains, true, false, sym, ap, refl, subst}
 use Rattle.std.specs.Option.{option_map}
 use Rattle.std.proofs.lemmas.Option.{none-some, same_Some}
 use Rattle.rr_space.specs.Tables.{Below, Table, resolve}
@@ -25,7 +25,8 @@ map_get f (x ∷ xs) (suc i) = map_get f xs i
 
 pub value_named : (names : Naming) (h : Owner) (rs : List Ref) (op : Operand) → named_value (map (root_in names h) rs) op ≡ option_map (root_in names h) (named_ref rs op)
 value_named names h rs operand.Nil = refl
-value_named names h rs (operand.Truth b) = refl
+value_named names h rs (operand.Truth true) = refl
+value_named names h rs (operand.Truth false) = refl
 value_named names h rs (operand.Int z) = refl
 value_named names h rs (operand.Symbol s) = refl
 value_named names h rs (operand.Class c) = refl
@@ -37,7 +38,8 @@ none_below tables b none = record { known = λ c os has. absurd (none_in (c, os)
 
 pub known_named : (tables : Layout) (rs : List Ref) (op : Operand) (v : Ref) → ((r : Ref) → Contains rs r → Knows (below_ref r) tables) → named_ref rs op ≡ Some v → Knows (below_ref v) tables
 known_named tables rs operand.Nil v K is = none_below tables (below_ref v) (ap below_ref (sym (same_Some _ v is)))
-known_named tables rs (operand.Truth b) v K is = none_below tables (below_ref v) (ap below_ref (sym (same_Some _ v is)))
+known_named tables rs (operand.Truth true) v K is = none_below tables (below_ref v) (ap below_ref (sym (same_Some _ v is)))
+known_named tables rs (operand.Truth false) v K is = none_below tables (below_ref v) (ap below_ref (sym (same_Some _ v is)))
 known_named tables rs (operand.Int b) v K is = none_below tables (below_ref v) (ap below_ref (sym (same_Some _ v is)))
 known_named tables rs (operand.Symbol b) v K is = none_below tables (below_ref v) (ap below_ref (sym (same_Some _ v is)))
 known_named tables rs (operand.Class b) v K is = none_below tables (below_ref v) (ap below_ref (sym (same_Some _ v is)))
@@ -52,7 +54,8 @@ root_within k (x ∷ xs) (suc n) r all is = root_within k xs n r all.1 is
 -- the value of an operand is within
 pub ref_within : (k : ℕ) (rs : List Ref) (op : Operand) (v : Ref) → AreRootsWithin k rs → named_ref rs op ≡ Some v → IsWithin k v
 ref_within k rs operand.Nil v all is = subst (IsWithin k) (same_Some _ v is) tt
-ref_within k rs (operand.Truth b) v all is = subst (IsWithin k) (same_Some _ v is) tt
+ref_within k rs (operand.Truth true) v all is = subst (IsWithin k) (same_Some _ v is) tt
+ref_within k rs (operand.Truth false) v all is = subst (IsWithin k) (same_Some _ v is) tt
 ref_within k rs (operand.Int b) v all is = subst (IsWithin k) (same_Some _ v is) tt
 ref_within k rs (operand.Symbol b) v all is = subst (IsWithin k) (same_Some _ v is) tt
 ref_within k rs (operand.Class b) v all is = subst (IsWithin k) (same_Some _ v is) tt
@@ -62,7 +65,8 @@ ref_within k rs (operand.Root n) v all is = root_within k rs n v all is
 -- what is within a space and no slot is within none
 within_all : (k : ℕ) (r : Ref) → IsWithin k r → ((x : ℕ) → r ≡ ref.Local x → ⊥) → IsWithin 0 r
 within_all k ref.Nil h apart = tt
-within_all k (ref.Truth b) h apart = tt
+within_all k ref.False h apart = tt
+within_all k ref.True h apart = tt
 within_all k (ref.Int b) h apart = tt
 within_all k (ref.Symbol b) h apart = tt
 within_all k (ref.Class b) h apart = tt

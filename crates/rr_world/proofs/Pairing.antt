@@ -55,7 +55,8 @@ module _ (w : Assembly) (names : Naming) (bound : ℕ) (g : Objects) (R : IsRead
   -- the key that a value of the space is, it is in the machine
   pub key_same : (r : Ref) → Knows (below_ref r) (layout w) → IsWell m.space → IsWithin (length m.space.slots) r → key_at m.space r ≡ key_in g (root_in names (Space k) r)
   key_same ref.Nil K well within = refl
-  key_same (ref.Truth b) K well within = refl
+  key_same ref.False K well within = refl
+  key_same ref.True K well within = refl
   key_same (ref.Int b) K well within = refl
   key_same (ref.Symbol b) K well within = refl
   key_same (ref.Class b) K well within = refl

@@ -31,7 +31,8 @@ IsInPlace tables _ = Unit {0}
 
 pub in_place : (tables : Layout) (k : ℕ) (r : Ref) → IsWithin k r → Knows (below_ref r) tables → IsInPlace tables r
 in_place tables k ref.Nil h K = tt
-in_place tables k (ref.Truth b) h K = tt
+in_place tables k ref.False h K = tt
+in_place tables k ref.True h K = tt
 in_place tables k (ref.Int b) h K = tt
 in_place tables k (ref.Symbol b) h K = tt
 in_place tables k (ref.Class b) h K = tt

@@ -66,7 +66,8 @@ module _ (w : Assembly) (names : Naming) (bound : ℕ) (g : Objects) (R : IsRead
   pub object_seen : (v : Ref) → Knows (below_ref v) (layout w) → (o : Object) → object_at m.space v ≡ Some o
       → (n : ℕ) × (y : Owned) × (root_in names (Space k) v ≡ At (Own n)) × (g n ≡ Some y) × (y.object ≡ named names (Space k) o)
   object_seen ref.Nil K o e = absurd (none-some o e)
-  object_seen (ref.Truth b) K o e = absurd (none-some o e)
+  object_seen ref.False K o e = absurd (none-some o e)
+  object_seen ref.True K o e = absurd (none-some o e)
   object_seen (ref.Int b) K o e = absurd (none-some o e)
   object_seen (ref.Symbol b) K o e = absurd (none-some o e)
   object_seen (ref.Class b) K o e = absurd (none-some o e)
@@ -130,7 +131,8 @@ module _ (w : Assembly) (names : Naming) (bound : ℕ) (g : Objects) (R : IsRead
   -- a value that has a name in the machine is an object
   pub object_there : (v : Ref) (n : ℕ) → IsWell m.space → IsWithin (length m.space.slots) v → root_in names (Space k) v ≡ At (Own n) → (o : Object) × (object_at m.space v ≡ Some o)
   object_there ref.Nil n well h e = let z : ⊥ = cc in absurd z
-  object_there (ref.Truth b) n well h e = let z : ⊥ = cc in absurd z
+  object_there ref.False n well h e = let z : ⊥ = cc in absurd z
+  object_there ref.True n well h e = let z : ⊥ = cc in absurd z
   object_there (ref.Int b) n well h e = let z : ⊥ = cc in absurd z
   object_there (ref.Symbol b) n well h e = let z : ⊥ = cc in absurd z
   object_there (ref.Class b) n well h e = let z : ⊥ = cc in absurd z

@@ -108,7 +108,8 @@ module _ (w w2 : Assembly) (k n : ℕ) (m m2 : Member) (o p : Object) (vs : List
     where
       by : (r : Ref) → IsWithin (length (seen_slots m)) r → Knows (below_ref r) (layout w) → IsInLayout (layout w) (seen_slots m) (value_of r)
       by ref.Nil h L = tt
-      by (ref.Truth b) h L = tt
+      by ref.False h L = tt
+      by ref.True h L = tt
       by (ref.Int b) h L = tt
       by (ref.Symbol b) h L = tt
       by (ref.Class b) h L = tt

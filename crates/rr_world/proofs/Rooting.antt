@@ -6,12 +6,13 @@ use Rattle.rr_space.specs.Readings.{Owner, Shared as SharedBy, Naming}
 use Rattle.rr_world.specs.Readings.{root_in}
 use Rattle.rr_space.specs.Parts.{IsWithin}
 use Rattle.rr_space.specs.declared.refer.Ref.{Ref}
-use Rattle.rr_space.specs.declared.refer.Ref.TheVariants.{Nil, Truth, Int, Symbol, Class, Ractor, Local, Shared}
+use Rattle.rr_space.specs.declared.refer.Ref.TheVariants.{Nil, False, True, Int, Symbol, Class, Ractor, Local, Shared}
 use Rattle.rr_world.specs.Views.{AreRootsWithin}
 
 pub within_more : (k n : ℕ) (r : Ref) → k ≤ n → IsWithin k r → IsWithin n r
 within_more k n Nil le w = w
-within_more k n (Truth x) le w = w
+within_more k n False le w = w
+within_more k n True le w = w
 within_more k n (Int x) le w = w
 within_more k n (Symbol x) le w = w
 within_more k n (Class x) le w = w
@@ -32,7 +33,8 @@ roots_keep k names names2 h (r ∷ rs) within stand kept =
   where
     one : (x : Ref) → IsWithin k x → root_in names2 h x ≡ root_in names h x
     one Nil w = refl
-    one (Truth b) w = refl
+    one False w = refl
+    one True w = refl
     one (Int z) w = refl
     one (Symbol s) w = refl
     one (Class c) w = refl

@@ -91,7 +91,8 @@ module _ (w : Assembly) (names : Naming) (bound : ℕ) (g : Objects) (R : IsRead
     where
       by : (r : Ref) → IsWithin (length m.space.slots) r → Knows (below_ref r) (layout w) → IsOfSpace r ⊎ (IsPublished (resolve m.space.slots (value_of r)) × IsSharedValue g (root_in names (Space k) r))
       by ref.Nil h K = inl tt
-      by (ref.Truth b) h K = inl tt
+      by ref.False h K = inl tt
+      by ref.True h K = inl tt
       by (ref.Int b) h K = inl tt
       by (ref.Symbol b) h K = inl tt
       by (ref.Class b) h K = inl tt
@@ -118,7 +119,8 @@ module _ (w : Assembly) (names : Naming) (bound : ℕ) (g : Objects) (R : IsRead
     where
       by : (r : Ref) → IsWithin (length m.space.slots) r → IsOfSpace r → There (space_graph m.space) (resolve m.space.slots (value_of r))
       by ref.Nil h K n e = let y : ⊥ = cc in absurd y
-      by (ref.Truth b) h K n e = let y : ⊥ = cc in absurd y
+      by ref.False h K n e = let y : ⊥ = cc in absurd y
+      by ref.True h K n e = let y : ⊥ = cc in absurd y
       by (ref.Int b) h K n e = let y : ⊥ = cc in absurd y
       by (ref.Symbol b) h K n e = let y : ⊥ = cc in absurd y
       by (ref.Class b) h K n e = let y : ⊥ = cc in absurd y

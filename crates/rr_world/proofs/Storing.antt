@@ -69,7 +69,8 @@ seen names s n = ap (option_and_then itself) (get_mapped (option_map (constant_i
 
 public_root : (names : Naming) (h : Owner) (v : Ref) → IsWithin 0 v → root_in names h v ≡ public_value names (value_of v)
 public_root names h ref.Nil i = refl
-public_root names h (ref.Truth b) i = refl
+public_root names h ref.False i = refl
+public_root names h ref.True i = refl
 public_root names h (ref.Int b) i = refl
 public_root names h (ref.Symbol b) i = refl
 public_root names h (ref.Class b) i = refl
@@ -80,7 +81,8 @@ public_root names h (ref.Shared p c) i = refl
 -- a value that every ractor may have is an immediate or shared
 public_seen : (tables : Layout) (names : Naming) (bound : ℕ) (g : Objects) (h : Owner) → IsReading tables names bound g → (v : Ref) → IsWithin 0 v → Knows (below_ref v) tables → IsPublicValue g (root_in names h v)
 public_seen tables names bound g h R ref.Nil i K = tt
-public_seen tables names bound g h R (ref.Truth b) i K = tt
+public_seen tables names bound g h R ref.False i K = tt
+public_seen tables names bound g h R ref.True i K = tt
 public_seen tables names bound g h R (ref.Int b) i K = tt
 public_seen tables names bound g h R (ref.Symbol b) i K = tt
 public_seen tables names bound g h R (ref.Class b) i K = tt
@@ -244,7 +246,8 @@ not_set w w2 who k m name op at plain stands same none =
     never : (names : Naming) (bound : ℕ) (g : Objects) → IsRead w names bound g → (v : Ref) → IsWithin (length m.space.slots) v → (j : ℕ) → resolve m.space.slots (value_of v) ≡ At (Own j)
         → IsPublicValue g (root_in names (Space k) v) → ⊥
     never names bound g R ref.Nil h j own p = cc
-    never names bound g R (ref.Truth b) h j own p = cc
+    never names bound g R ref.False h j own p = cc
+    never names bound g R ref.True h j own p = cc
     never names bound g R (ref.Int b) h j own p = cc
     never names bound g R (ref.Symbol b) h j own p = cc
     never names bound g R (ref.Class b) h j own p = cc

@@ -5,7 +5,7 @@ use Rattle.rr_base.specs.declared.fault.Fault.TheVariants as fault
 use Rattle.rr_space.specs.Graph.{Object, IsFreeOfShells}
 use Rattle.rr_space.specs.Tables.{Table, Packed, IsSealed, joined, message_graph, space_graph, resolve}
 use Rattle.rr_space.specs.Moves.{IsCopy, IsPromoted}
-use Rattle.rr_space.specs.Parts.{value_of, below_ref, IsWithin}
+use Rattle.rr_space.specs.Parts.{value_of, truth_ref, below_ref, IsWithin}
 use Rattle.rr_space.specs.Sound.{IsWell}
 use Rattle.rr_space.specs.declared.refer.Ref.{Ref}
 use Rattle.rr_space.specs.declared.refer.Ref.TheVariants as ref
@@ -21,7 +21,7 @@ use Rattle.rr_world.specs.declared.outcome.Outcome.TheVariants.{NotEnabled, Done
 -- the reference that an operand is, where the roots are these
 abbrev pub named_ref : List Ref → Operand → Option Ref
 named_ref roots operand.Nil = Some ref.Nil
-named_ref roots (operand.Truth b) = Some (ref.Truth b)
+named_ref roots (operand.Truth b) = Some (truth_ref b)
 named_ref roots (operand.Int z) = Some (ref.Int z)
 named_ref roots (operand.Symbol s) = Some (ref.Symbol s)
 named_ref roots (operand.Class c) = Some (ref.Class c)

@@ -248,7 +248,7 @@ impl Ractor {
     {
         match operand {
             Operand::Nil => Some(Ref::Nil),
-            Operand::Truth(holds) => Some(Ref::Truth(holds)),
+            Operand::Truth(holds) => Some(Ref::truth(holds)),
             Operand::Int(number) => Some(Ref::Int(number)),
             Operand::Symbol(symbol) => Some(Ref::Symbol(symbol)),
             Operand::Class(class) => Some(Ref::Class(class)),

@@ -12,7 +12,8 @@ use Rattle.rr_builtin.proofs.calls.plain_operator.Goals as goal
 
 equality_alone : (names : Names) (op : BinaryOperator) (v a : Ref) (t : Table) → ((x : ℤ) → v ≡ ref.Int x → ⊥) → ((s : Sym) → v ≡ ref.Symbol s → ⊥) → equality op (equals t v a) ≡ plain_operator names op v a t
 equality_alone names op ref.Nil a t int symbol = refl
-equality_alone names op (ref.Truth b) a t int symbol = refl
+equality_alone names op ref.False a t int symbol = refl
+equality_alone names op ref.True a t int symbol = refl
 equality_alone names op (ref.Int x) a t int symbol = absurd (int x refl)
 equality_alone names op (ref.Symbol s) a t int symbol = absurd (symbol s refl)
 equality_alone names op (ref.Class k) a t int symbol = refl

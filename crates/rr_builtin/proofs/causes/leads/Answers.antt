@@ -1,5 +1,5 @@
 -- One cause after the other, up to the slot, or to the last one.
-use Rattle.std.proofs.Common.{◌≡◌, ◌∙◌, ◌+◌, ◌-◌, ◌<◌, ℕ, suc, length, sym, ap, arith}
+use Rattle.std.proofs.Common.{◌≡◌, ◌∙◌, ◌+◌, ◌-◌, ◌<◌, suc, length, sym, ap, arith}
 use Rattle.rr_space.specs.Parts.{value_of}
 use Rattle.rr_space.specs.declared.refer.Ref.{Ref}
 use Rattle.rr_builtin.specs.Acts.{element_at}

@@ -1,9 +1,9 @@
-use Rattle.std.proofs.Common.{◌≡◌, ◌∙◌, ap, sym, refl}
+use Rattle.std.proofs.Common.{◌∙◌, ap, sym, refl}
 use Rattle.std.proofs.lemmas.Bool.{and_parts}
 use Rattle.rr_space.specs.Kinds.{kind_at}
 use Rattle.rr_space.specs.Parts.{value_of, below_ref}
 use Rattle.rr_space.specs.Views.{can_write_at}
-use Rattle.rr_builtin.specs.Causes.{with_cause, takes_cause}
+use Rattle.rr_builtin.specs.Causes.{with_cause}
 use Rattle.rr_builtin.specs.Kinds.{is_exception}
 use Rattle.rr_builtin.proofs.Among.{among_of}
 use Rattle.rr_builtin.proofs.Causing.{takes_open, caused_written, caused_none, written_slots}

@@ -1,5 +1,6 @@
 -- A value is given alone.
 use Rattle.std.proofs.Common.{◌∙◌, ap, refl, sym, subst, length, Some}
+use Rattle.rr_space.specs.Parts.{truth_ref}
 use Rattle.rr_space.specs.declared.refer.Ref.TheVariants as refs
 use Rattle.rr_eval.specs.Published.{published}
 use Rattle.rr_eval.specs.Serves.{IsReplied}
@@ -34,7 +35,7 @@ returns-in-IsMain-clause-replied c =
     let r = c.give_alone-in-IsMain.result in
     let given = c.give_alone-in-IsMain.ensures in
     subst (λ m. IsReplied (published c.args.store.now) (ractor_reply (context_of c.args.program.now) m vs t) t r t) (sym c.in-IsMain.is)
-    (same_replied (published c.args.store.now) _ t t r (ap (λ b. given_alone (refs.Truth b) vs t) (sym c.is_main.ensures) ∙ given.is t) refl c.requires.read (given.within (reach (length t.slots) (Some (published c.args.store.now))) tt))
+    (same_replied (published c.args.store.now) _ t t r (ap (λ b. given_alone (truth_ref b) vs t) (sym c.is_main.ensures) ∙ ap (λ v. given_alone v vs t) (sym c.truth.ensures) ∙ given.is t) refl c.requires.read (given.within (reach (length t.slots) (Some (published c.args.store.now))) tt))
 
 pub returns-in-Name-clause-replied : goal.returns-in-Name-clause-replied
 returns-in-Name-clause-replied c =
