@@ -1,5 +1,7 @@
 -- The tree of a node, by the numbers of its parts.
-use Rattle.std.specs.Prelude.{◌+◌, ◌<◌, ◌^◌, Bool, true, false, List}
+use Rattle.std.specs.Prelude.{◌≡◌, ℕ, ◌+◌, ◌<◌, ◌^◌, Bool, true, false, List, Some, slice_get}
+use Rattle.std.proofs.Props.{props}
+use Rattle.rr_tree.specs.Sets.{Tree-set}
 use Rattle.rr_tree.specs.Nodes.{node_tree, trees_before}
 use Rattle.rr_tree.specs.Tree.{Tree, sequence, array, hash, pairs, interpolation, call, send, super, yield, rescue, clause, multiple_assign, listed, tree_at}
 use Rattle.rr_tree.specs.declared.node.Node.{Node}
@@ -41,6 +43,33 @@ IsEvaluated (node.Append a b) = b + 1 < 2 ^ 32
 IsEvaluated (node.SetAttribute a x b site) = b + 1 < 2 ^ 32
 IsEvaluated (node.SetIndex a b d) = d + 1 < 2 ^ 32
 IsEvaluated _ = Unit {0}
+
+pub IsEvaluated-prop : (n : Node) → IsProp (IsEvaluated n)
+IsEvaluated-prop (node.Item a) = Prim.hlevel props
+IsEvaluated-prop (node.Sequence first count) = Prim.hlevel props
+IsEvaluated-prop (node.Array first count) = Prim.hlevel props
+IsEvaluated-prop (node.Hash first count) = Prim.hlevel props
+IsEvaluated-prop (node.Pairs first count) = Prim.hlevel props
+IsEvaluated-prop (node.Interpolation first count) = Prim.hlevel props
+IsEvaluated-prop (node.Call x first count site) = Prim.hlevel props
+IsEvaluated-prop (node.Send a x first count site) = Prim.hlevel props
+IsEvaluated-prop (node.Super first count) = Prim.hlevel props
+IsEvaluated-prop (node.Yield first count) = Prim.hlevel props
+IsEvaluated-prop (node.Rescue a first count b) = Prim.hlevel props
+IsEvaluated-prop (node.Clause first count a b) = Prim.hlevel props
+IsEvaluated-prop (node.MultipleAssign first count a) = Prim.hlevel props
+IsEvaluated-prop (node.Index a b) = Prim.hlevel props
+IsEvaluated-prop (node.Append a b) = Prim.hlevel props
+IsEvaluated-prop (node.SetAttribute a x b site) = Prim.hlevel props
+IsEvaluated-prop (node.SetIndex a b d) = Prim.hlevel props
+IsEvaluated-prop _ = Prim.hlevel props
+
+-- nodes that are evaluated, by the places at which they are
+abbrev pub AreEvaluated : List Node → List Node → Type 0
+AreEvaluated ns nodes = (x : ℕ) (n : Node) → slice_get nodes x ≡ Some n → (tree_at ns x ≡ evaluated_tree ns n) × IsEvaluated n
+
+pub AreEvaluated-prop : (ns nodes : List Node) → IsProp (AreEvaluated ns nodes)
+AreEvaluated-prop ns nodes = Prim.hlevel (props, Tree-set, IsEvaluated-prop)
 
 -- a node whose evaluation needs the objects, the program's names or memory
 abbrev pub IsRareNode : Node → Type 0

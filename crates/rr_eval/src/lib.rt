@@ -20,6 +20,7 @@ mod copying;
 mod counted;
 mod engine;
 mod environment;
+mod evaluated_nodes;
 mod exception;
 mod fields;
 mod frame;

@@ -19,12 +19,14 @@ ghost use Rattle.rr_base.specs.declared.name.TheConstants.ClassId.{OBJECT};
 ghost use Rattle.rr_space.specs.declared.kind.Kind.{Kind as Kinds};
 ghost use Rattle.rr_space.specs.Kinds.{class_at};
 ghost use Rattle.rr_eval.specs.Prepared.{AreInitializers, AreInitializers-prop, AreSymbolsOf, ArePlain, ArePlain-prop, callable_of, initializer_of};
+ghost use Rattle.rr_eval.specs.Nodes.{AreEvaluated, AreEvaluated-prop, evaluated_tree, IsEvaluated};
 ghost use Rattle.rr_eval.specs.SimpleParts.{AreSimple, AreSimple-prop, simple_of};
 ghost use Rattle.rr_eval.specs.Speaking.{symbol_asked};
 ghost use Rattle.rr_eval.specs.Turns.{context_of};
 
 use crate::asking::Saying;
 use crate::call::Callee;
+use crate::evaluated_nodes::evaluated_nodes;
 use crate::initializers::{Initializer, initializer_of, initializers};
 use crate::operator_symbols::OperatorSymbols;
 use crate::plain_methods::{
@@ -39,7 +41,7 @@ use rr_builtin::{
 };
 use rr_frames::{Activation, Shape};
 use rr_space::{Ref, Space};
-use rr_tree::{MethodName, MethodTable, NodeId, Program};
+use rr_tree::{MethodName, MethodTable, Node, NodeId, Program};
 use std::alloc::{AllocError, Global};
 
 /// The statements of a method: its name, its variables, and the node of its statements.
@@ -88,6 +90,8 @@ pub struct Prepared {
     plain: Vec<PlainMethod>,
     /// The program's `initialize` for the objects of the first classes, by their numbers.
     initializers: Vec<Option<Initializer>>,
+    /// The nodes that are evaluated at its places, by these.
+    nodes: Vec<Node>,
     /// What its parts are, by their places.
     parts: Vec<SimplePart>,
     ghost finds: { IsTableOf program table } by { IsTableOf-prop program table },
@@ -98,6 +102,7 @@ pub struct Prepared {
     ghost iterates: { iterations ≡ map (λ s. iteration_named s.items) program.symbols.items },
     ghost plains: { ArePlain (context_of program) plain.items } by { ArePlain-prop (context_of program) plain.items },
     ghost initializes: { AreInitializers (context_of program) initializers.items } by { AreInitializers-prop (context_of program) initializers.items },
+    ghost evaluates: { AreEvaluated program.nodes.items nodes.items } by { AreEvaluated-prop program.nodes.items nodes.items },
     ghost simples: { AreSimple program.nodes.items parts.items } by { AreSimple-prop program.nodes.items parts.items },
 }
 
@@ -114,6 +119,7 @@ impl Prepared {
         let iterations = Iterations::of(alloc, &program)?;
         let plain = plain_methods(alloc, &program, &table, &methods, &iterations)?;
         let initializers = initializers(alloc, &program, &table, &operators)?;
+        let nodes = evaluated_nodes(alloc, &program)?;
         let parts = simple_parts(alloc, &program)?;
         Ok(Prepared {
             program,
@@ -125,6 +131,7 @@ impl Prepared {
             iterations,
             plain,
             initializers,
+            nodes,
             parts,
         })
     }
@@ -143,6 +150,19 @@ impl Prepared {
         ensures { option_map (callable_of self.now.program.nodes.items) result ≡ method_called (context_of self.now.program) class (called_name (context_of self.now.program) callee) }
     {
         method_called(&self.program, &self.table, &self.operators, class, callee)
+    }
+
+    /// The node that is evaluated at a place, where one stands there: an item of a list stands for its part. Its parts are read in
+    /// place, and no others than those that are asked for.
+    #[inline(always)]
+    pub(crate) fn node(&self, place: NodeId) -> Option<&Node>
+        ensures tree { IfSome result (λ n. tree_at self.now.program.nodes.items place ≡ evaluated_tree self.now.program.nodes.items n.now) }
+        ensures evaluated { IfSome result (λ n. IsEvaluated n.now) }
+    {
+        match self.nodes.get(place as usize) {
+            Some(node) => Some(node),
+            None => None,
+        }
     }
 
     /// What the part at a place is, where one stands there.

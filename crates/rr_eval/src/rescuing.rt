@@ -183,9 +183,9 @@ impl Engine {
         ensures left { self.new.left ≡ self.old.left }
         ensures size { size (view_of self.new) ≤ 3 * length self.old.frames.items + 4 }
     {
-        self.control = match evaluated_node(program, otherwise) {
-            Node::Nil => Control::Give(Answer::Gave(value)),
-            _ => Control::Enter(otherwise),
-        };
+        match evaluated_node(program, otherwise) {
+            Node::Nil => self.give_top(value),
+            _ => self.control.enter(otherwise),
+        }
     }
 }

@@ -241,7 +241,7 @@ impl Engine {
             && let Some(found) = self.quick_before(prepared, first, stop)
         {
             if self.call_one(prepared, space, here, name, first, definition, found, stop) {
-                self.enter_statements(&prepared.program, stop);
+                self.enter_statements(prepared, stop);
                 return true;
             }
             return false;

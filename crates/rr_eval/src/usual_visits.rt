@@ -20,7 +20,7 @@ ghost use Rattle.rr_eval.specs.Within.{Reach, reach, IsReached, IsFrameReached, 
 use crate::call_stack::Variable;
 use crate::engine::Engine;
 use crate::frame::{Control, Frame};
-use crate::nodes::{evaluated_node, evaluated_place, node_at};
+use crate::nodes::evaluated_node;
 use crate::prepared::Prepared;
 use crate::problem::Answer;
 use rr_base::Sym;
@@ -105,10 +105,10 @@ impl Engine {
     /// not stop before.
     #[tactic(auto, unfolding(crate::specs::Within::AreReached))]
     #[inline(always)]
-    fn go_into(&mut self, program: &Program, part: NodeId, stop: u64)
+    fn go_into(&mut self, prepared: &Prepared, part: NodeId, stop: u64)
         requires within { stop ≤ self.old.left }
         requires nested { IsNested (view_of self.old) }
-        ensures goes { (t : Table) (h : Course) → remaining program.now (record (view_of self.old) { control = Control.Enter part }) t h ≡ remaining program.now (view_of self.new) t h }
+        ensures goes { (t : Table) (h : Course) → remaining prepared.now.program (record (view_of self.old) { control = Control.Enter part }) t h ≡ remaining prepared.now.program (view_of self.new) t h }
         ensures nested { IsNested (view_of self.new) }
         ensures within { (k : Reach) → AreReached k (view_of self.old) → AreReached k (view_of self.new) }
         ensures left { stop ≤ self.new.left }
@@ -116,7 +116,7 @@ impl Engine {
         ensures size { size (view_of self.new) ≤ 3 * length self.old.frames.items + 4 }
     {
         if self.left > stop
-            && let Node::Nil = evaluated_node(program, part)
+            && let Some(&Node::Nil) = prepared.node(part)
         {
             self.left -= 1;
             self.give_top(Ref::Nil);
@@ -150,7 +150,7 @@ impl Engine {
     {
         let frame = Frame::Branch(yes, no);
         if let Some(value) = self.first_value(prepared, here, frame, condition, stop) {
-            self.go_into(&prepared.program, chosen(yes, no, value), stop);
+            self.go_into(prepared, chosen(yes, no, value), stop);
         }
     }
 
@@ -198,8 +198,7 @@ impl Engine {
         ensures kept { self.new.left ≤ self.old.left }
         ensures size { size (view_of self.new) ≤ 3 * length self.old.frames.items + 4 }
     {
-        let place = evaluated_place(&prepared.program, here);
-        match node_at(&prepared.program, place) {
+        match prepared.node(here) {
             Some(
                 &Node::Loop {
                     until,
@@ -297,10 +296,10 @@ impl Engine {
 
     /// Evaluates statements at once, where a list of them comes next, there is room for a frame, and the steps do not stop before.
     #[inline(always)]
-    pub fn enter_statements(&mut self, program: &Program, stop: u64)
+    pub fn enter_statements(&mut self, prepared: &Prepared, stop: u64)
         requires within { stop ≤ self.old.left }
         requires nested { IsNested (view_of self.old) }
-        ensures goes { (t : Table) (h : Course) → remaining program.now (view_of self.old) t h ≡ remaining program.now (view_of self.new) t h }
+        ensures goes { (t : Table) (h : Course) → remaining prepared.now.program (view_of self.old) t h ≡ remaining prepared.now.program (view_of self.new) t h }
         ensures nested { IsNested (view_of self.new) }
         ensures within { (k : Reach) → AreReached k (view_of self.old) → AreReached k (view_of self.new) }
         ensures left { stop ≤ self.new.left }
@@ -311,9 +310,8 @@ impl Engine {
             && self.left > stop
             && self.frames.len() < self.frames.capacity()
         {
-            let place = evaluated_place(program, here);
-            if let Some(&Node::Sequence { first, count }) = node_at(program, place) {
-                self.visit_statements(program, here, first, count, stop);
+            if let Some(&Node::Sequence { first, count }) = prepared.node(here) {
+                self.visit_statements(&prepared.program, here, first, count, stop);
             }
         }
     }
@@ -359,19 +357,19 @@ impl Engine {
         self.visit_first(prepared, here, node, stop)
     }
 
-    /// Evaluates a call, or an instance variable, or a node of another kind, where that is usual: it answers whether it was done.
+    /// Evaluates a call of a receiver, or a node of another kind, where that is usual: it answers whether it was done.
     #[inline(always)]
     fn visit_called(
         &mut self,
         prepared: &Prepared,
         space: &Space,
         here: NodeId,
-        place: NodeId,
+        node: &Node,
         stop: u64,
     ) -> bool
         requires control { self.old.control ≡ Control.Enter here }
-        requires same { tree_at prepared.now.program.nodes.items here ≡ tree_at prepared.now.program.nodes.items place }
-        requires evaluated { IsEvaluated (slice_index_or prepared.now.program.nodes.items place Node.Nil) }
+        requires tree { tree_at prepared.now.program.nodes.items here ≡ evaluated_tree prepared.now.program.nodes.items node.now }
+        requires evaluated { IsEvaluated node.now }
         requires some { stop < self.old.left }
         requires room { length self.old.frames.items < vec_capacity self.old.frames }
         requires nested { IsNested (view_of self.old) }
@@ -383,38 +381,36 @@ impl Engine {
         ensures spends { IsTrue result → self.new.left < self.old.left }
         ensures falls { power (view_of self.new) + self.old.left ≤ power (view_of self.old) + self.new.left }
     {
-        match node_at(&prepared.program, place) {
-            Some(
-                &Node::Call {
-                    name,
-                    first,
-                    count,
-                    ..
-                },
-            ) => self.call_usual(prepared, space, here, name, first, count, stop),
-            Some(
-                &Node::Send {
-                    receiver,
-                    name,
-                    first,
-                    count,
-                    ..
-                },
-            ) => self.send_usual(prepared, space, here, name, receiver, first, count, stop),
-            Some(&Node::Bare { name, .. }) => { self.bare_usual(prepared, space, here, name, stop) }
-            Some(&Node::Yield { first, count }) => {
-                self.yield_usual(prepared, space, here, first, count, stop)
+        match node {
+            &Node::Send {
+                receiver,
+                name,
+                first,
+                count,
+                ..
+            } => {
+                return self.send_usual(prepared, space, here, name, receiver, first, count, stop);
             }
-            Some(&Node::Field(name)) => {
-                self.visit_field(&prepared.program, space, here, name, stop);
-                true
+            &Node::Bare { name, .. } => return self.bare_usual(prepared, space, here, name, stop),
+            &Node::Yield { first, count } => {
+                return self.yield_usual(prepared, space, here, first, count, stop);
             }
-            Some(&Node::Index(_, _))
-            | Some(&Node::Append(_, _))
-            | Some(&Node::SetIndex { .. })
-            | Some(&Node::SetAttribute { .. }) => { false }
-            _ => self.visit_waiting(prepared, here, place, stop),
+            &Node::Field(name) => self.visit_field(&prepared.program, space, here, name, stop),
+            &Node::Loop {
+                until,
+                condition,
+                body,
+            } => self.visit_loop(prepared, here, until, condition, body, stop),
+            &Node::Sequence { first, count } => {
+                self.visit_statements(&prepared.program, here, first, count, stop);
+            }
+            &Node::Return(value) => self.visit_return(prepared, here, value, stop),
+            &Node::SetField(name, value) => {
+                self.visit_set_field(prepared, here, name, value, stop);
+            }
+            _ => return self.visit_waiting(prepared, here, node, stop),
         }
+        true
     }
 
     /// Evaluates a node, where that is usual: it answers whether it was done.
@@ -438,19 +434,10 @@ impl Engine {
         ensures spends { IsTrue result → self.new.left < self.old.left }
         ensures falls { power (view_of self.new) + self.old.left ≤ power (view_of self.old) + self.new.left }
     {
-        let program = &prepared.program;
-        let place = evaluated_place(program, here);
-        match node_at(program, place) {
+        match prepared.node(here) {
             Some(&Node::Choose(condition, yes, no)) => {
                 self.visit_choice(prepared, here, condition, yes, no, stop);
             }
-            Some(
-                &Node::Loop {
-                    until,
-                    condition,
-                    body,
-                },
-            ) => self.visit_loop(prepared, here, until, condition, body, stop),
             Some(
                 &Node::Assign {
                     depth,
@@ -460,10 +447,16 @@ impl Engine {
                 },
             ) => self.visit_store(prepared, here, Variable { depth, slot }, value, stop),
             Some(&Node::Binary(op, a, b)) => self.visit_operands(prepared, here, op, a, b, stop),
-            Some(&Node::Sequence { first, count }) => {
-                self.visit_statements(program, here, first, count, stop);
-            }
-            _ => return self.visit_called(prepared, space, here, place, stop),
+            Some(
+                &Node::Call {
+                    name,
+                    first,
+                    count,
+                    ..
+                },
+            ) => return self.call_usual(prepared, space, here, name, first, count, stop),
+            Some(node) => return self.visit_called(prepared, space, here, node, stop),
+            None => return false,
         }
         true
     }

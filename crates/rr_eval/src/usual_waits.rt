@@ -80,7 +80,7 @@ impl Engine {
 
     /// Evaluates a `return`.
     #[inline(always)]
-    fn visit_return(&mut self, prepared: &Prepared, here: NodeId, value: NodeId, stop: u64)
+    pub fn visit_return(&mut self, prepared: &Prepared, here: NodeId, value: NodeId, stop: u64)
         requires control { self.old.control ≡ Control.Enter here }
         requires tree { tree_at prepared.now.program.nodes.items here ≡ evaluated_tree prepared.now.program.nodes.items (Node.Return value) }
         requires some { stop < self.old.left }
@@ -130,7 +130,7 @@ impl Engine {
 
     /// Evaluates what is assigned to an instance variable of `self`.
     #[inline(always)]
-    fn visit_set_field(
+    pub fn visit_set_field(
         &mut self,
         prepared: &Prepared,
         here: NodeId,
@@ -162,12 +162,12 @@ impl Engine {
         &mut self,
         prepared: &Prepared,
         here: NodeId,
-        place: NodeId,
+        node: &Node,
         stop: u64,
     ) -> bool
         requires control { self.old.control ≡ Control.Enter here }
-        requires same { tree_at prepared.now.program.nodes.items here ≡ tree_at prepared.now.program.nodes.items place }
-        requires evaluated { IsEvaluated (slice_index_or prepared.now.program.nodes.items place Node.Nil) }
+        requires tree { tree_at prepared.now.program.nodes.items here ≡ evaluated_tree prepared.now.program.nodes.items node.now }
+        requires evaluated { IsEvaluated node.now }
         requires some { stop < self.old.left }
         requires room { length self.old.frames.items < vec_capacity self.old.frames }
         requires nested { IsNested (view_of self.old) }
@@ -179,20 +179,18 @@ impl Engine {
         ensures spends { IsTrue result → self.new.left < self.old.left }
         ensures falls { power (view_of self.new) + self.old.left ≤ power (view_of self.old) + self.new.left }
     {
-        match node_at(&prepared.program, place) {
-            Some(&Node::Block { body, .. }) => self.visit_body(&prepared.program, here, body, stop),
-            Some(&Node::Return(value)) => self.visit_return(prepared, here, value, stop),
-            Some(&Node::SetField(name, value)) => {
-                self.visit_set_field(prepared, here, name, value, stop);
-            }
-            Some(
-                &Node::Rescue {
-                    body,
-                    first,
-                    count,
-                    otherwise,
-                },
-            ) => self.visit_rescue(
+        match node {
+            &Node::Block { body, .. } => self.visit_body(&prepared.program, here, body, stop),
+            &Node::Index(_, _)
+            | &Node::Append(_, _)
+            | &Node::SetIndex { .. }
+            | &Node::SetAttribute { .. } => return false,
+            &Node::Rescue {
+                body,
+                first,
+                count,
+                otherwise,
+            } => self.visit_rescue(
                 &prepared.program,
                 here,
                 body,

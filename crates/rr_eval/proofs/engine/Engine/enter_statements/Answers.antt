@@ -5,6 +5,6 @@ use Rattle.rr_eval.proofs.engine.Engine.enter_statements.Goals as goal
 
 pub visit_statements-requires-clause-tree : goal.visit_statements-requires-clause-tree
 visit_statements-requires-clause-tree c =
-    let p = c.args.program.now in
+    let p = c.args.prepared.now.program in
     let node = c.in-Some-Sequence in
-    c.evaluated_place-place.ensures.same ∙ node.ensures.tree ∙ ap (evaluated_tree p.nodes.items) node.field-0-is
+    node.ensures.tree ∙ ap (evaluated_tree p.nodes.items) node.field-0-is

@@ -7,4 +7,4 @@ pub visit_loop-requires-clause-tree : goal.visit_loop-requires-clause-tree
 visit_loop-requires-clause-tree c =
     let p = c.args.prepared.now.program in
     let node = c.in-Some-Loop in
-    c.evaluated_place-place.ensures.same ∙ node.ensures.tree ∙ ap (evaluated_tree p.nodes.items) node.field-0-is
+    node.ensures.tree ∙ ap (evaluated_tree p.nodes.items) node.field-0-is

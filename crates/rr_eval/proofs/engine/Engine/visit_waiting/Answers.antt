@@ -13,13 +13,13 @@ use Rattle.rr_eval.proofs.engine.Engine.visit_waiting.Goals as goal
 pub visit_body-requires-clause-script : goal.visit_body-requires-clause-script
 visit_body-requires-clause-script c =
     let p = c.args.prepared.now.program in
-    ap (rule (context_of p)) (c.requires.same ∙ c.in-Some-Block.ensures.tree ∙ ap (evaluated_tree p.nodes.items) c.in-Some-Block.field-0-is)
+    ap (rule (context_of p)) (c.requires.tree ∙ ap (evaluated_tree p.nodes.items) c.in-Block.is)
 
 pub visit_rescue-requires-clause-script : goal.visit_rescue-requires-clause-script
 visit_rescue-requires-clause-script c w =
     let p = c.args.prepared.now.program in
     let ns = p.nodes.items in
     let own = context_of p in
-    let call = c.in-Some-Rescue in
-    ap (rule own) (c.requires.same ∙ call.ensures.tree ∙ ap (evaluated_tree ns) call.field-0-is)
+    let call = c.in-Rescue in
+    ap (rule own) (c.requires.tree ∙ ap (evaluated_tree ns) call.is)
     ∙ ap (λ cs. Go (tree_at ns call.body) (rescue_rule own cs (tree_at ns call.otherwise))) (items_listed (trees_before ns (call.first + call.count) call.count))
