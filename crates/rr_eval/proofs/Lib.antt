@@ -50,6 +50,7 @@ pub mod Inside
 pub mod PairTurns
 pub mod Raises
 pub mod RaisesNew
+pub mod Truths
 pub mod Trying
 pub mod Assigning
 pub mod NewObjects

@@ -12,10 +12,11 @@ ghost use Rattle.rr_eval.specs.Serves.{IsLeft, IsRefusedBy};
 ghost use Rattle.rr_eval.specs.Turns.{context_of};
 ghost use Rattle.rr_eval.specs.Within.{reach, IsRequestReached};
 
+use crate::call::{Arguments, Task};
 use crate::copying::shareable_copy;
 use crate::print::Served;
 use crate::request::Request;
-use crate::serve::serve;
+use crate::serve::{serve, serve_field};
 use crate::setting::set_constant;
 use crate::special::{Special, special_of};
 use rr_base::Fault;
@@ -25,9 +26,10 @@ use rr_store::StoreState;
 use rr_tree::Program;
 use std::alloc::Global;
 
-/// Serves a request of a script that runs alone. A refused growth leaves the objects as they were, beside new ones to which nothing
-/// leads.
-pub fn serve_alone(
+/// Serves a request of a script that runs alone, where it is none of the most frequent kind.
+#[cold]
+#[inline(never)]
+fn serve_apart(
     alloc: Global,
     space: &mut Space,
     store: &mut StoreState,
@@ -61,4 +63,30 @@ pub fn serve_alone(
             })
         }
     }
+}
+
+/// Serves a request of a script that runs alone. A refused growth leaves the objects as they were, beside new ones to which nothing
+/// leads.
+#[inline(always)]
+pub fn serve_alone(
+    alloc: Global,
+    space: &mut Space,
+    store: &mut StoreState,
+    program: &Program,
+    methods: &Methods,
+    request: Request,
+) -> Result<Served, Fault>
+    requires methods { methods.now ≡ map (λ s. method_named s.items) program.now.symbols.items }
+    requires read { IsReadWith space.old (published store.old) }
+    requires reached { IsRequestReached (reach (length space.old.slots) (Some (published store.old))) request }
+    ensures piece { IfOk result (λ served. served.piece.items ≡ piece_asked (context_of program.now) (asked_of space.old request)) }
+    ensures replied { IfOk result (λ served. AloneBy (special_of (context_of program.now) (asked_of space.old request) space.old) (context_of program.now) store.old (asked_of space.old request) space.old served.response space.new store.new) }
+    ensures left { IfOk result (λ served. IsLeft (published store.new) space.old served.response space.new) }
+    ensures more { (e : ℕ × List Object) → Contains (published store.old) e → Contains (published store.new) e }
+    ensures refused { IfErr result (λ f. IsRefusedBy (SpecialExceeds (special_of (context_of program.now) (asked_of space.old request) space.old) (context_of program.now) store.old space.old.limit (asked_of space.old request) space.old) f) }
+{
+    if let Request::Do(Task::SetField(name), Arguments::Two(object, value)) = request {
+        return serve_field(alloc, space, store, program, name, object, value);
+    }
+    serve_apart(alloc, space, store, program, methods, request)
 }

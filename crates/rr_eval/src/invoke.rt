@@ -263,6 +263,36 @@ impl Engine {
         }
     }
 
+    /// The same, at once where that takes no memory.
+    #[inline(always)]
+    pub fn run_usual(
+        &mut self,
+        class: ClassId,
+        body: Body,
+        way: Way,
+        passing: Passing,
+        frame: Frame,
+        last: Option<Ref>,
+    ) -> Result<(), Fault>
+        requires room { length self.old.frames.items < vec_capacity self.old.frames }
+        requires base { base_of frame ≤ length self.old.held.items }
+        requires nested { Nested (reverse self.old.frames.items) (below_of frame self.old.held.items) }
+        ensures goes { OnOk result ((p : Program) (t : Table) (h : Course) (n : ℕ) → after_values p (view_of self.old) t frame (run_work (context_of p) class (Runs (method_of p.nodes.items body)) (way_in p.nodes.items way) (passed_on passing (stand_of frame self.old.held.items ++ list_of last))) h n ≡ remaining_with p (view_of self.new) t h n) }
+        ensures nested { OnOk result (IsNested (view_of self.new)) }
+        ensures within { (k : Reach) → AreReached k (view_of self.old) → IsWayReached k way → All (IsReached k) (list_of last) → AreReached k (view_of self.new) }
+        ensures left { self.new.left ≡ self.old.left }
+        ensures err { (t : Table) → IfErr result (λ f. Stands (view_of self.old) (view_of self.new) t t f) }
+        ensures begun { OnOk result (IsBegun self.new.control) }
+        ensures size { OnOk result (size (view_of self.new) ≤ 3 * length self.old.frames.items + 4) }
+        ensures room { IfErr result (λ _. length self.new.frames.items < vec_capacity self.new.frames) }
+        ensures fault { IfErr result (λ f. f ≡ Fault.Memory) }
+    {
+        if self.begin_statements(class, body, way, passing, frame, last) {
+            return Ok(());
+        }
+        self.run_body(class, body, way, passing, frame, last)
+    }
+
     /// Reads an instance variable of a receiver, where there are no arguments.
     #[tactic(auto, unfolding(crate::specs::Within::AreReached))]
     fn run_reader(

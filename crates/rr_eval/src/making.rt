@@ -135,7 +135,7 @@ impl Engine {
                     block: making.block,
                     value: made_value(making.raises, object),
                 };
-                self.run_body(method.class, method.body, way, making.passing, frame, None)
+                self.run_usual(method.class, method.body, way, making.passing, frame, None)
             }
             None => {
                 clear(&mut self.held, frame);

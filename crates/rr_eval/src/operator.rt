@@ -5,6 +5,7 @@ ghost use Rattle.rr_space.specs.Tables.{Below};
 ghost use Rattle.rr_space.specs.declared.refer.Ref.{Ref};
 ghost use Rattle.rr_text.specs.Reads.{IsReadWith};
 ghost use Rattle.rr_builtin.specs.Acts.{with_text, with_frozen};
+ghost use Rattle.rr_builtin.specs.Integers.{quotient_of, remainder_of};
 ghost use Rattle.rr_builtin.specs.Numbers.{number_given};
 ghost use Rattle.rr_eval.specs.Acts.{Acts, IsRefusal, Passes};
 ghost use Rattle.rr_eval.specs.Changes.{Changes};
@@ -45,6 +46,22 @@ pub fn failed(problem: NumberProblem) -> Response
     }
 }
 
+/// The quotient. It is written into memory here, and so that of no other operator has to be.
+#[inline(always)]
+fn divided(x: i64, y: i64) -> Result<i64, NumberProblem>
+    ensures { result ≡ quotient_of x y }
+{
+    quotient(x, y)
+}
+
+/// What a division leaves, which is written into memory here as well.
+#[inline(always)]
+fn left_over(x: i64, y: i64) -> Result<i64, NumberProblem>
+    ensures { result ≡ remainder_of x y }
+{
+    remainder(x, y)
+}
+
 /// What an operator on two integers gives.
 ///
 /// # Errors
@@ -60,8 +77,8 @@ pub fn computed(op: BinaryOperator, x: i64, y: i64) -> Result<Ref, NumberProblem
         BinaryOperator::Add => sum(x, y)?,
         BinaryOperator::Subtract => difference(x, y)?,
         BinaryOperator::Multiply => product(x, y)?,
-        BinaryOperator::Divide => quotient(x, y)?,
-        BinaryOperator::Remainder => remainder(x, y)?,
+        BinaryOperator::Divide => divided(x, y)?,
+        BinaryOperator::Remainder => left_over(x, y)?,
         BinaryOperator::Less => return Ok(Ref::truth(x < y)),
         BinaryOperator::LessOrEqual => return Ok(Ref::truth(x <= y)),
         BinaryOperator::Greater => return Ok(Ref::truth(x > y)),

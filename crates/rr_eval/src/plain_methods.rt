@@ -249,13 +249,11 @@ pub fn is_plain(space: &Space, value: Ref, class: ClassId) -> bool
     ensures class { IsTrue result → class_at space.now value ≡ class }
 {
     match value {
-        Ref::Local(_) => {
-            space.class_of(value).0 == class.0
-                && match space.kind_of(value) {
-                    Kind::Object => true,
-                    _ => false,
-                }
-        }
+        // The kind is read first: the class of no other kind is looked for then.
+        Ref::Local(_) => match space.kind_of(value) {
+            Kind::Object => space.class_of(value).0 == class.0,
+            _ => false,
+        },
         _ => false,
     }
 }

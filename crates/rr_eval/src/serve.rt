@@ -214,7 +214,7 @@ fn serve_called(
 
 /// Gives an instance variable of an object a value. A refused growth leaves the objects as they were.
 #[inline(always)]
-fn serve_field(
+pub fn serve_field(
     alloc: Global,
     space: &mut Space,
     store: &StoreState,
@@ -256,12 +256,9 @@ fn serve_values(
     match values {
         Arguments::Without => serve_task(alloc, space, store, program, task, &[]),
         Arguments::One(first) => serve_task(alloc, space, store, program, task, &[*first]),
-        Arguments::Two(first, second) => match task {
-            Task::SetField(name) => serve_field(
-                alloc, space, store, program, name, *first, *second,
-            ),
-            _ => serve_task(alloc, space, store, program, task, &[*first, *second]),
-        },
+        Arguments::Two(first, second) => {
+            serve_task(alloc, space, store, program, task, &[*first, *second])
+        }
         Arguments::Many(values) => serve_task(
             alloc,
             space,

@@ -137,6 +137,20 @@ impl Engine {
         }
     }
 
+    /// Such a value, which takes a step. It is written into memory here, and so that of no other node has to be.
+    #[inline(always)]
+    fn quick_other(&self, program: &Program, place: NodeId) -> Option<Quick>
+        ensures takes { IfSome result (λ q. TakesNow program.now (view_of self.now) (tree_at program.now.nodes.items place) q.steps q.value) }
+        ensures plain { IfSome result (λ _. is_splat (tree_at program.now.nodes.items place) ≡ false) }
+        ensures one { IfSome result (λ q. q.steps ≡ 1) }
+        ensures within { (k : Reach) → AreReached k (view_of self.now) → IfSome result (λ q. IsReached k q.value) }
+    {
+        match self.quick_apart(program, place) {
+            Some(value) => Some(Quick::one(value)),
+            None => None,
+        }
+    }
+
     /// The value of a part, where that is a literal, a class, a variable, `self`, or an operator on a variable and a leaf that are
     /// integers.
     #[inline(always)]
@@ -162,10 +176,7 @@ impl Engine {
                     None => None,
                 }
             }
-            Some(&SimplePart::Apart) => match self.quick_apart(&prepared.program, place) {
-                Some(value) => Some(Quick::one(value)),
-                None => None,
-            },
+            Some(&SimplePart::Apart) => self.quick_other(&prepared.program, place),
             _ => None,
         }
     }

@@ -9,6 +9,7 @@ ghost use Rattle.rr_space.specs.Tables.{Table, Below};
 ghost use Rattle.rr_tree.specs.Tree.{tree_at};
 ghost use Rattle.rr_tree.specs.declared.program.Program.{Program};
 ghost use Rattle.rr_eval.specs.declared.call.Callee.{Callee};
+ghost use Rattle.rr_eval.specs.Begun.{IsBegun};
 ghost use Rattle.rr_eval.specs.Blocks.{running, called, framed, yield_rule};
 ghost use Rattle.rr_eval.specs.Dispatch.{passed_on, run_method, run_work, way_of};
 ghost use Rattle.rr_eval.specs.Frames.{below_of, base_of, stand_of, Nested};
@@ -53,6 +54,7 @@ impl Engine {
         ensures goes { IsTrue result → (p : Program) (t : Table) (h : Course) (n : ℕ) → after_values p (view_of self.old) t frame (framed (context_of p) entry shape.parameters shape.size (passed_on passing (stand_of frame self.old.held.items ++ list_of last)) (option_map (tree_at p.nodes.items) block) (tree_at p.nodes.items body) self.old.calls) h n ≡ remaining_with p (view_of self.new) t h n }
         ensures nested { IsTrue result → IsNested (view_of self.new) }
         ensures within { (k : Reach) → AreReached k (view_of self.old) → IsEntryReached k entry → All (IsReached k) (list_of last) → AreReached k (view_of self.new) }
+        ensures begun { IsTrue result → IsBegun self.new.control }
         ensures left { self.new.left ≡ self.old.left }
         ensures size { IsTrue result → size (view_of self.new) ≤ 3 * length self.old.frames.items + 4 }
         ensures same { IsFalse result → self.new ≡ self.old }
@@ -74,7 +76,7 @@ impl Engine {
     /// Evaluates the statements of a method, with the arguments among the values that stand for a frame and one more, where they are
     /// as many as it has parameters and that takes no memory.
     #[inline(always)]
-    fn begin_statements(
+    pub fn begin_statements(
         &mut self,
         class: ClassId,
         body: Body,
@@ -89,6 +91,7 @@ impl Engine {
         ensures goes { IsTrue result → (p : Program) (t : Table) (h : Course) (n : ℕ) → after_values p (view_of self.old) t frame (run_work (context_of p) class (Runs (method_of p.nodes.items body)) (way_in p.nodes.items way) (passed_on passing (stand_of frame self.old.held.items ++ list_of last))) h n ≡ remaining_with p (view_of self.new) t h n }
         ensures nested { IsTrue result → IsNested (view_of self.new) }
         ensures within { (k : Reach) → AreReached k (view_of self.old) → IsWayReached k way → All (IsReached k) (list_of last) → AreReached k (view_of self.new) }
+        ensures begun { IsTrue result → IsBegun self.new.control }
         ensures left { self.new.left ≡ self.old.left }
         ensures size { IsTrue result → size (view_of self.new) ≤ 3 * length self.old.frames.items + 4 }
         ensures same { IsFalse result → self.new ≡ self.old }

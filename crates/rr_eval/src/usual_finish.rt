@@ -219,7 +219,8 @@ impl Engine {
 
     /// Gives the topmost frame, which waits for a part of a list or for the last value of a target, its value, where the part is no splat
     /// and what comes then is usual: it answers whether it was done.
-    pub fn resume_listed(
+    #[inline(always)]
+    fn resume_listed(
         &mut self,
         prepared: &Prepared,
         space: &Space,
@@ -249,6 +250,38 @@ impl Engine {
                     return false;
                 }
                 self.resume_next(prepared, space, target, end, count, base, frame, value)
+            }
+            _ => false,
+        }
+    }
+
+    /// Gives the topmost frame a value, where it is such a frame and that is usual: it answers whether it was done.
+    #[cold]
+    #[inline(never)]
+    pub fn resume_parts(&mut self, prepared: &Prepared, space: &Space) -> bool
+        requires nested { IsNested (view_of self.old) }
+        ensures goes { (h : Course) → remaining prepared.now.program (view_of self.old) space.now h ≡ remaining prepared.now.program (view_of self.new) space.now h }
+        ensures nested { IsNested (view_of self.new) }
+        ensures within { (clusters : Option Below) → AreReached (reach (length space.now.slots) clusters) (view_of self.old) → AreReached (reach (length space.now.slots) clusters) (view_of self.new) }
+        ensures left { self.new.left ≡ self.old.left }
+        ensures kept { size (view_of self.new) ≤ size (view_of self.old) }
+        ensures falls { IsTrue result → size (view_of self.new) < size (view_of self.old) }
+    {
+        let Control::Give(Answer::Gave(value)) = self.control else {
+            return false;
+        };
+        match self.frames.last() {
+            Some(&Frame::Argument(target, end, count, base)) => {
+                let frame = Frame::Argument(target, end, count, base);
+                self.resume_listed(prepared, space, frame, value)
+            }
+            Some(&Frame::Receiver(target, end, count, base)) => {
+                let frame = Frame::Receiver(target, end, count, base);
+                self.resume_listed(prepared, space, frame, value)
+            }
+            Some(&Frame::Item(target, end, count, base)) => {
+                let frame = Frame::Item(target, end, count, base);
+                self.resume_listed(prepared, space, frame, value)
             }
             _ => false,
         }

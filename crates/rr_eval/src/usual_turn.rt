@@ -328,8 +328,7 @@ impl Engine {
     /// Gives the topmost frame, which is none of the most frequent kinds, a value, where that is usual: it answers whether it was done.
     #[cold]
     #[inline(never)]
-    fn resume_apart(&mut self, prepared: &Prepared, space: &Space, value: Ref, stop: u64) -> bool
-        requires control { self.old.control ≡ Control.Give (Answer.Gave value) }
+    fn resume_apart(&mut self, prepared: &Prepared, space: &Space, stop: u64) -> bool
         requires nested { IsNested (view_of self.old) }
         requires within { stop ≤ self.old.left }
         ensures goes { (h : Course) → remaining prepared.now.program (view_of self.old) space.now h ≡ remaining prepared.now.program (view_of self.new) space.now h }
@@ -340,6 +339,9 @@ impl Engine {
         ensures falls { IsTrue result → size (view_of self.new) < size (view_of self.old) }
         ensures less { size (view_of self.new) ≤ size (view_of self.old) }
     {
+        let Control::Give(Answer::Gave(value)) = self.control else {
+            return false;
+        };
         let Some(&frame) = self.frames.last() else {
             return false;
         };
@@ -353,9 +355,6 @@ impl Engine {
             | Frame::Assigned(_)
             | Frame::Read(_)
             | Frame::Combine(_) => self.resume_silently(&prepared.program, space, frame, value),
-            Frame::Argument(_, _, 0, _) | Frame::Receiver(_, _, _, _) | Frame::Item(_, _, _, _) => {
-                return self.resume_listed(prepared, space, frame, value);
-            }
             _ => return false,
         }
         true
@@ -396,7 +395,10 @@ impl Engine {
                 return self.resume_turn(program, space, iteration, value, stop);
             }
             Some(&Frame::SetField(_)) => return false,
-            _ => return self.resume_apart(prepared, space, value, stop),
+            Some(&Frame::Argument(_, _, _, _))
+            | Some(&Frame::Receiver(_, _, _, _))
+            | Some(&Frame::Item(_, _, _, _)) => return self.resume_parts(prepared, space),
+            _ => return self.resume_apart(prepared, space, stop),
         }
         true
     }
@@ -468,18 +470,19 @@ impl Engine {
         ensures falls { power (view_of self.new) + self.old.left ≤ power (view_of self.old) + self.new.left }
         ensures drops { IsTrue result → power (view_of self.new) < power (view_of self.old) }
     {
-        match self.control {
-            Control::Give(Answer::Gave(value)) => {
-                self.resume_often(prepared, space, value, stop)
-            }
-            Control::Give(Answer::Returned(value)) => self.pass_often(value),
-            Control::Enter(here) => {
-                self.left > stop
-                    && self.frames.len() < self.frames.capacity()
-                    && self.visit_often(prepared, space, here, stop)
-            }
-            _ => false,
+        // One test for each, in the order of how often they come.
+        if let Control::Enter(here) = self.control {
+            return self.left > stop
+                && self.frames.len() < self.frames.capacity()
+                && self.visit_often(prepared, space, here, stop);
         }
+        if let Control::Give(Answer::Gave(value)) = self.control {
+            return self.resume_often(prepared, space, value, stop);
+        }
+        if let Control::Give(Answer::Returned(value)) = self.control {
+            return self.pass_often(value);
+        }
+        false
     }
 
     /// Usual acts, up to one that is none, or before which the steps stop.

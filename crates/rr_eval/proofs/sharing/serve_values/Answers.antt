@@ -6,8 +6,9 @@ use Rattle.rr_eval.specs.Published.{published}
 use Rattle.rr_eval.specs.Serves.{IsReplied}
 use Rattle.rr_eval.specs.Sharing.{given_alone, main_ractor, ractor_reply}
 use Rattle.rr_eval.specs.Turns.{context_of}
-use Rattle.rr_eval.specs.Within.{reach}
+use Rattle.rr_eval.specs.Within.{reach, IsReached}
 use Rattle.rr_eval.proofs.Shares.{same_replied}
+use Rattle.rr_eval.proofs.Truths.{truth_reached}
 use Rattle.rr_eval.proofs.sharing.serve_values.Goals as goal
 
 pub returns-in-Current-clause-replied : goal.returns-in-Current-clause-replied
@@ -33,9 +34,10 @@ returns-in-IsMain-clause-replied c =
     let vs = c.args.values.now in
     let t = c.args.space.now in
     let r = c.give_alone-in-IsMain.result in
+    let k = reach (length t.slots) (Some (published c.args.store.now)) in
     let given = c.give_alone-in-IsMain.ensures in
     subst (λ m. IsReplied (published c.args.store.now) (ractor_reply (context_of c.args.program.now) m vs t) t r t) (sym c.in-IsMain.is)
-    (same_replied (published c.args.store.now) _ t t r (ap (λ b. given_alone (truth_ref b) vs t) (sym c.is_main.ensures) ∙ ap (λ v. given_alone v vs t) (sym c.truth.ensures) ∙ given.is t) refl c.requires.read (given.within (reach (length t.slots) (Some (published c.args.store.now))) tt))
+    (same_replied (published c.args.store.now) _ t t r (ap (λ b. given_alone (truth_ref b) vs t) (sym c.is_main.ensures) ∙ ap (λ v. given_alone v vs t) (sym c.truth.ensures) ∙ given.is t) refl c.requires.read (given.within k (subst (IsReached k) (sym c.truth.ensures) (truth_reached k _))))
 
 pub returns-in-Name-clause-replied : goal.returns-in-Name-clause-replied
 returns-in-Name-clause-replied c =

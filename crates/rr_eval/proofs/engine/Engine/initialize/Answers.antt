@@ -31,12 +31,12 @@ returns-in-Some-clause-goes c =
     let ns = p.nodes.items in
     let b = option_map (tree_at ns) x.block in
     let runs = λ (by : CallValue) (t : Table) (h : Course) (n : ℕ). after_values p m t (Initialize x) (run_work (context_of p) f.class (Runs (method_of ns f.body)) (record { receiver = c.args.object; block = c.handed_by.result; tree = b; value = by }) (passed_on x.passing (drop x.base m.held ++ list_of None))) h n in
-    on_ok c.run_body.result _ _
+    on_ok c.run_usual.result _ _
     (λ goes t h n.
     initializes p m t x c.args.object c.initializer.result f c.handed_by.result h n c.initializer.ensures c.in-Some.is (c.handed_by.ensures p)
     ∙ ap (λ by. runs by t h n) (sym c.made_value.ensures.is)
     ∙ goes p t h n)
-    c.run_body.ensures.goes
+    c.run_usual.ensures.goes
 
 pub returns-in-None-clause-goes : goal.returns-in-None-clause-goes
 returns-in-None-clause-goes c t h n =

@@ -1,5 +1,8 @@
 -- What is held stays within.
-use Rattle.std.proofs.Common.{subst}
+use Rattle.std.proofs.Common.{◌∙◌, ap, sym, subst}
+use Rattle.rr_eval.specs.declared.problem.Answer.TheVariants.{Gave}
+use Rattle.rr_eval.specs.Turns.{after_answer, remaining_with}
+use Rattle.rr_eval.specs.Views.{view_of}
 use Rattle.rr_eval.specs.Within.{IsFrameReached}
 use Rattle.rr_eval.proofs.OtherFrames.{other_rare}
 use Rattle.rr_eval.proofs.engine.Engine.resume.Goals as goal
@@ -21,6 +24,14 @@ returns-in-Back-clause-within c k h frame value = c.end_method.ensures.within k 
 
 pub returns-in-Rest-clause-within : goal.returns-in-Rest-clause-within
 returns-in-Rest-clause-within c k h frame value = c.begin.ensures.within k h
+
+pub returns-in-Condition-clause-goes : goal.returns-in-Condition-clause-goes
+returns-in-Condition-clause-goes c = λ _ t h.
+    let p = c.args.prepared.now.program in
+    let m = view_of c.args.self.now in
+    ap (λ f. after_answer p m t f (Gave c.args.value) h m.left) c.in-Condition.is
+    ∙ c.go_round.ensures.goes p t h m.left
+    ∙ ap (remaining_with p (view_of c.go_round.new.self) t h) (sym c.go_round.ensures.left)
 
 pub returns-in-Condition-clause-within : goal.returns-in-Condition-clause-within
 returns-in-Condition-clause-within c k h frame value = c.go_round.ensures.within k h
