@@ -470,19 +470,18 @@ impl Engine {
         ensures falls { power (view_of self.new) + self.old.left ≤ power (view_of self.old) + self.new.left }
         ensures drops { IsTrue result → power (view_of self.new) < power (view_of self.old) }
     {
-        // One test for each, in the order of how often they come.
-        if let Control::Enter(here) = self.control {
-            return self.left > stop
-                && self.frames.len() < self.frames.capacity()
-                && self.visit_often(prepared, space, here, stop);
+        match self.control {
+            Control::Give(Answer::Gave(value)) => {
+                self.resume_often(prepared, space, value, stop)
+            }
+            Control::Give(Answer::Returned(value)) => self.pass_often(value),
+            Control::Enter(here) => {
+                self.left > stop
+                    && self.frames.len() < self.frames.capacity()
+                    && self.visit_often(prepared, space, here, stop)
+            }
+            _ => false,
         }
-        if let Control::Give(Answer::Gave(value)) = self.control {
-            return self.resume_often(prepared, space, value, stop);
-        }
-        if let Control::Give(Answer::Returned(value)) = self.control {
-            return self.pass_often(value);
-        }
-        false
     }
 
     /// Usual acts, up to one that is none, or before which the steps stop.
