@@ -1,6 +1,6 @@
 //! Nodes that are usual: what they do needs neither memory nor the objects.
 
-ghost use Rattle.std.specs.Prelude.{◌≡◌, ◌+◌, ◌*◌, ◌<◌, ◌≤◌, ◌^◌, [], length, reverse, vec_capacity, Option, Some, IfSome, IsTrue, IsFalse, MatchOption, slice_index_or, if◌then◌else◌};
+ghost use Rattle.std.specs.Prelude.{◌≡◌, ◌+◌, ◌*◌, ◌<◌, ◌≤◌, ◌^◌, [], length, reverse, vec_capacity, Option, Some, IfSome, IsTrue, IsFalse, MatchOption, if◌then◌else◌};
 ghost use Rattle.rr_builtin.specs.Objects.{is_truthy};
 ghost use Rattle.rr_space.specs.Tables.{Table, Below};
 ghost use Rattle.rr_tree.specs.Tree.{tree_at};
