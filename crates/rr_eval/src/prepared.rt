@@ -1,6 +1,6 @@
 //! Programs that are ready to run.
 
-ghost use Rattle.std.specs.Prelude.{◌≡◌, ◌++◌, ◌∷◌, [], codes, map, None, Some, IfOk, IfSome, IsTrue, slice_index_or};
+ghost use Rattle.std.specs.Prelude.{◌≡◌, ◌++◌, ◌∷◌, [], codes, map, None, Some, IfOk, IfSome, slice_index_or};
 ghost use Rattle.rr_eval.specs.Above.{method_above};
 ghost use Rattle.std.specs.Option.{option_map};
 ghost use Rattle.rr_tree.specs.Tree.{tree_at};
@@ -13,11 +13,10 @@ ghost use Rattle.rr_eval.specs.Callees.{method_of};
 ghost use Rattle.rr_eval.specs.declared.call.Callee.{Callee as Called};
 ghost use Rattle.rr_eval.specs.Rules.{has_built_in};
 ghost use Rattle.rr_eval.specs.Dispatch.{called_name, is_below, comes_first, iteration_of, method_called, method_for, initializer, made_by};
-ghost use Rattle.rr_eval.specs.Methods.{method_in, work_of};
+ghost use Rattle.rr_eval.specs.Methods.{method_in};
 ghost use Rattle.rr_eval.specs.RaisingNew.{initialized_class, class_raised};
 ghost use Rattle.rr_base.specs.declared.name.TheConstants.ClassId.{OBJECT};
 ghost use Rattle.rr_space.specs.declared.kind.Kind.{Kind as Kinds};
-ghost use Rattle.rr_space.specs.Kinds.{class_at};
 ghost use Rattle.rr_eval.specs.Prepared.{AreInitializers, AreInitializers-prop, AreSymbolsOf, ArePlain, ArePlain-prop, callable_of, initializer_of};
 ghost use Rattle.rr_eval.specs.Nodes.{AreEvaluated, AreEvaluated-prop, evaluated_tree, IsEvaluated};
 ghost use Rattle.rr_eval.specs.SimpleParts.{AreSimple, AreSimple-prop, simple_of};

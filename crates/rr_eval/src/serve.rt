@@ -9,7 +9,6 @@ ghost use Rattle.rr_space.specs.Kinds.{kind_at};
 ghost use Rattle.rr_builtin.specs.Acts.{Acts, IsRefAmong, Raises, Lacks};
 ghost use Rattle.rr_builtin.specs.Kinds.{is_shell_kind};
 ghost use Rattle.rr_builtin.specs.Methods.{method_named};
-ghost use Rattle.rr_eval.specs.Acts.{IsRefusal, Passes};
 ghost use Rattle.rr_eval.specs.Callees.{method_of};
 ghost use Rattle.rr_eval.specs.Calls.{sent, call_reply};
 ghost use Rattle.rr_eval.specs.declared.call.Task.{Task as Tasks};
@@ -22,7 +21,7 @@ ghost use Rattle.rr_eval.specs.Tasks.{piece_of};
 ghost use Rattle.rr_text.specs.Names.{names_of};
 ghost use Rattle.rr_eval.specs.Responses.{receiver_of, response_from};
 ghost use Rattle.rr_eval.specs.Turns.{context_of};
-ghost use Rattle.rr_eval.specs.Within.{reach, IsReached, IsCallReached, IsRequestReached, IsResponseReached};
+ghost use Rattle.rr_eval.specs.Within.{reach, IsReached, IsCallReached, IsRequestReached};
 
 use crate::call::{Arguments, Call, Callee, Task};
 use crate::fields::write_field;
