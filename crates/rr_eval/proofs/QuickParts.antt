@@ -31,12 +31,12 @@ same_state p m n t h is =
     ∙ ap (λ b. record { memory = record { calls = m.calls; blocks = blocks_of ns b; table = t; rescuing = n.rescuing }; asked = h.asked }) is.blocks
     ∙ ap (λ r. record { memory = record { calls = m.calls; blocks = blocks_of ns m.blocks; table = t; rescuing = r }; asked = h.asked }) is.rescuing
 
-pub takes_before : (p : Program) (m n : View) (tree : Tree) (steps : ℕ) (v : Ref) → HoldsMore m n → TakesNow p n tree steps v → TakesNow p m tree steps v
-takes_before p m n tree steps v is takes = λ t h. subst (λ s. Takes (code_of p h.world) tree s steps v) (same_state p m n t h is) (takes t h)
+pub takes_before : (p : Program) (m n : View) (t : Table) (tree : Tree) (steps : ℕ) (v : Ref) → HoldsMore m n → TakesNow p n t tree steps v → TakesNow p m t tree steps v
+takes_before p m n t tree steps v is takes = λ h. subst (λ s. Takes (code_of p h.world) tree s steps v) (same_state p m n t h is) (takes h)
 
 -- a part is evaluated, and then what follows
-pub part_comes : (p : Program) (m : View) (t : Table) (tree : Tree) (steps : ℕ) (v : Ref) (next : Answer → Script) → TakesNow p m tree steps v → ComesTo p m t (Go tree next) steps (next (Gave v))
-part_comes p m t tree steps v next takes = λ h n. ap (λ o. after o (λ (a : Answer). runs_in (code_of p h.world) (next a))) (takes t h n)
+pub part_comes : (p : Program) (m : View) (t : Table) (tree : Tree) (steps : ℕ) (v : Ref) (next : Answer → Script) → TakesNow p m t tree steps v → ComesTo p m t (Go tree next) steps (next (Gave v))
+part_comes p m t tree steps v next takes = λ h n. ap (λ o. after o (λ (a : Answer). runs_in (code_of p h.world) (next a))) (takes h n)
 
 -- one after the other
 pub comes_then : (p : Program) (m : View) (t : Table) (a b d : Script) (i j : ℕ) → ComesTo p m t a i b → ComesTo p m t b j d → ComesTo p m t a (i + j) d
@@ -45,7 +45,7 @@ comes_then p m t a b d i j first second = λ h n.
     ap (λ k. runs_in (code_of p h.world) a (state_of p m t h) k) sum ∙ first h (j + n) ∙ second h n
 
 -- the next part of a list, which is no splat
-pub argument_comes : (p : Program) (m : View) (t : Table) (end rest steps : ℕ) (v : Ref) (stand : List Ref) (next : List Ref → Script) → is_splat (tree_at p.nodes.items (end - suc rest)) ≡ false → TakesNow p m (tree_at p.nodes.items (end - suc rest)) steps v
+pub argument_comes : (p : Program) (m : View) (t : Table) (end rest steps : ℕ) (v : Ref) (stand : List Ref) (next : List Ref → Script) → is_splat (tree_at p.nodes.items (end - suc rest)) ≡ false → TakesNow p m t (tree_at p.nodes.items (end - suc rest)) steps v
     → ComesTo p m t (arguments (context_of p) (trees_before p.nodes.items end (suc rest)) stand next) steps (arguments (context_of p) (trees_before p.nodes.items end rest) (stand ++ v ∷ []) next)
 argument_comes p m t end rest steps v stand next plain takes = λ h n.
     let own = context_of p in
@@ -56,26 +56,26 @@ argument_comes p m t end rest steps v stand next plain takes = λ h n.
     ∙ ap (λ b. runs_in (code_of p h.world) (spread own b v go_on) (state_of p m t h) n) plain
 
 -- none of the parts is evaluated yet
-pub first_none : (p : Program) (m : View) (trees : List Tree) (vs : List Ref) → vs ≡ [] → TakeFirst p m trees 0 vs trees
-first_none p m trees vs none = λ t stand next h n.
+pub first_none : (p : Program) (m : View) (t : Table) (trees : List Tree) (vs : List Ref) → vs ≡ [] → TakeFirst p m t trees 0 vs trees
+first_none p m t trees vs none = λ stand next h n.
     let k : 0 + n ≡ n = omega arith in
     ap (λ i. runs_in (code_of p h.world) (arguments (context_of p) trees stand next) (state_of p m t h) i) k
     ∙ ap (λ l. runs_in (code_of p h.world) (arguments (context_of p) trees l next) (state_of p m t h) n) (sym (append-nil stand) ∙ ap (λ l. stand ++ l) (sym none))
 
 -- one more is
-pub first_more : (p : Program) (m : View) (trees : List Tree) (end spent rest steps place more : ℕ) (vs ws : List Ref) (v : Ref) → TakeFirst p m trees spent vs (trees_before p.nodes.items end rest) → 0 < rest → place ≡ end - rest → more ≡ rest - 1 → ws ≡ vs ++ v ∷ []
-    → is_splat (tree_at p.nodes.items place) ≡ false → TakesNow p m (tree_at p.nodes.items place) steps v → TakeFirst p m trees (spent + steps) ws (trees_before p.nodes.items end more)
-first_more p m trees end spent zero steps place more vs ws v first some at less is plain takes = absurd (omega (arith, some))
-first_more p m trees end spent (suc rest) steps place more vs ws v first some at less is plain takes = λ t stand next.
+pub first_more : (p : Program) (m : View) (t : Table) (trees : List Tree) (end spent rest steps place more : ℕ) (vs ws : List Ref) (v : Ref) → TakeFirst p m t trees spent vs (trees_before p.nodes.items end rest) → 0 < rest → place ≡ end - rest → more ≡ rest - 1 → ws ≡ vs ++ v ∷ []
+    → is_splat (tree_at p.nodes.items place) ≡ false → TakesNow p m t (tree_at p.nodes.items place) steps v → TakeFirst p m t trees (spent + steps) ws (trees_before p.nodes.items end more)
+first_more p m t trees end spent zero steps place more vs ws v first some at less is plain takes = absurd (omega (arith, some))
+first_more p m t trees end spent (suc rest) steps place more vs ws v first some at less is plain takes = λ stand next.
     let own = context_of p in
     let ns = p.nodes.items in
     let script = λ (k : ℕ) (l : List Ref). arguments own (trees_before ns end k) l next in
     let no_splat = subst (λ i. is_splat (tree_at ns i) ≡ false) at plain in
-    let its = subst (λ i. TakesNow p m (tree_at ns i) steps v) at takes in
+    let its = subst (λ i. TakesNow p m t (tree_at ns i) steps v) at takes in
     let fewer : rest ≡ more = omega (arith, less) in
     let last = argument_comes p m t end rest steps v (stand ++ vs) next no_splat its in
     let values : (stand ++ vs) ++ v ∷ [] ≡ stand ++ ws = append_assoc stand vs (v ∷ []) ∙ ap (λ l. stand ++ l) (sym is) in
-    comes_then p m t (arguments own trees stand next) (script (suc rest) (stand ++ vs)) (script more (stand ++ ws)) spent steps (first t stand next)
+    comes_then p m t (arguments own trees stand next) (script (suc rest) (stand ++ vs)) (script more (stand ++ ws)) spent steps (first stand next)
     (λ h n. last h n ∙ ap (λ l. runs_in (code_of p h.world) (script rest l) (state_of p m t h) n) values ∙ ap (λ k. runs_in (code_of p h.world) (script k (stand ++ ws)) (state_of p m t h) n) fewer)
 
 -- one value more is held

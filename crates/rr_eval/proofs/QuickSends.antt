@@ -64,7 +64,7 @@ holds_behind m n ones v pushed is = record {
 
 -- A receiver is evaluated before the one argument.
 pub pair_first : (p : Program) (m : View) (t : Table) (here base receiver argument i : ℕ) (v : Ref) (held : List Ref) (callee : Callee) (h : Course) → m.control ≡ Enter here
-    → rule (context_of p) (tree_at p.nodes.items here) ≡ values (tree_at p.nodes.items receiver ∷ tree_at p.nodes.items argument ∷ []) [] (finish (context_of p) (Call callee)) → TakesNow p m (tree_at p.nodes.items receiver) i v → base ≡ length m.held → held ≡ m.held ++ v ∷ [] → i < m.left
+    → rule (context_of p) (tree_at p.nodes.items here) ≡ values (tree_at p.nodes.items receiver ∷ tree_at p.nodes.items argument ∷ []) [] (finish (context_of p) (Call callee)) → TakesNow p m t (tree_at p.nodes.items receiver) i v → base ≡ length m.held → held ≡ m.held ++ v ∷ [] → i < m.left
     → remaining p m t h ≡ after_values p (record m { held = held }) t (Argument (Call callee) 0 0 base) (values (tree_at p.nodes.items argument ∷ []) (drop base held) (finish (context_of p) (Call callee))) h (m.left - (i + 1))
 pair_first p m t here base receiver argument i v held callee h at script takes all pushed less =
     let own = context_of p in
@@ -78,7 +78,7 @@ pair_first p m t here base receiver argument i v held callee h at script takes a
     ∙ ap (λ l. after_values p n t (Argument (Call callee) 0 0 base) (next l) h (m.left - (i + 1))) one
 
 -- the last part of a call is evaluated, over those that are held
-pub last_comes : (p : Program) (n : View) (t : Table) (base part steps j : ℕ) (w : Ref) (callee : Callee) (h : Course) → TakesNow p n (tree_at p.nodes.items part) j w → steps + j < n.left
+pub last_comes : (p : Program) (n : View) (t : Table) (base part steps j : ℕ) (w : Ref) (callee : Callee) (h : Course) → TakesNow p n t (tree_at p.nodes.items part) j w → steps + j < n.left
     → after_values p n t (Argument (Call callee) 0 0 base) (values (tree_at p.nodes.items part ∷ []) (drop base n.held) (finish (context_of p) (Call callee))) h (n.left - (steps + 1))
     ≡ after_values p n t (Argument (Call callee) 0 0 base) (finish (context_of p) (Call callee) (drop base n.held ++ w ∷ [])) h (n.left - (steps + j + 1))
 last_comes p n t base part steps j w callee h takes less =
@@ -90,7 +90,7 @@ last_comes p n t base part steps j w callee h takes less =
 
 -- A receiver is evaluated before the arguments.
 pub sent_comes : (p : Program) (m : View) (t : Table) (here receiver i : ℕ) (v : Ref) (trees : List Tree) (next : List Ref → Script) → rule (context_of p) (tree_at p.nodes.items here) ≡ with_value (tree_at p.nodes.items receiver) (λ u. arguments (context_of p) trees (u ∷ []) next)
-    → TakesNow p m (tree_at p.nodes.items receiver) i v → ComesTo p m t (rule (context_of p) (tree_at p.nodes.items here)) i (arguments (context_of p) trees (v ∷ []) next)
+    → TakesNow p m t (tree_at p.nodes.items receiver) i v → ComesTo p m t (rule (context_of p) (tree_at p.nodes.items here)) i (arguments (context_of p) trees (v ∷ []) next)
 sent_comes p m t here receiver i v trees next script takes = λ h n.
     ap (λ r. runs_in (code_of p h.world) r (state_of p m t h) (i + n)) script
     ∙ part_comes p m t (tree_at p.nodes.items receiver) i v (on_value (λ u. arguments (context_of p) trees (u ∷ []) next)) takes h n
@@ -98,13 +98,13 @@ sent_comes p m t here receiver i v trees next script takes = λ h n.
 -- the next argument is evaluated
 pub sent_waits : (p : Program) (m n : View) (t : Table) (here base i j end rest : ℕ) (v : Ref) (trees : List Tree) (callee : Callee) (h : Course) → m.control ≡ Enter here
     → ComesTo p m t (rule (context_of p) (tree_at p.nodes.items here)) i (arguments (context_of p) trees (v ∷ []) (finish (context_of p) (Call callee)))
-    → ((t : Table) (next : List Ref → Script) → ComesTo p m t (arguments (context_of p) trees (v ∷ []) next) j (arguments (context_of p) (trees_before p.nodes.items end rest) (drop (length m.held) n.held) next)) → base ≡ length m.held → HoldsMore m n → i + j < m.left
+    → ((next : List Ref → Script) → ComesTo p m t (arguments (context_of p) trees (v ∷ []) next) j (arguments (context_of p) (trees_before p.nodes.items end rest) (drop (length m.held) n.held) next)) → base ≡ length m.held → HoldsMore m n → i + j < m.left
     → remaining p m t h ≡ after_values p n t (Argument (Call callee) end 0 base) (arguments (context_of p) (trees_before p.nodes.items end rest) (drop base n.held) (finish (context_of p) (Call callee))) h (n.left - (i + j + 1))
 sent_waits p m n t here base i j end rest v trees callee h at first others all is less =
     let own = context_of p in
     let last = λ (l : List Ref). arguments own (trees_before p.nodes.items end rest) l (finish own (Call callee)) in
     let start = arguments own trees (v ∷ []) (finish own (Call callee)) in
-    held_comes p m n t here base (i + j) end (Call callee) (last (drop (length m.held) n.held)) h at all is (comes_then p m t (rule own (tree_at p.nodes.items here)) start (last (drop (length m.held) n.held)) i j first (others t (finish own (Call callee)))) less
+    held_comes p m n t here base (i + j) end (Call callee) (last (drop (length m.held) n.held)) h at all is (comes_then p m t (rule own (tree_at p.nodes.items here)) start (last (drop (length m.held) n.held)) i j first (others (finish own (Call callee)))) less
     ∙ ap (λ b. after_values p n t (Argument (Call callee) end 0 base) (last (drop b n.held)) h (n.left - (i + j + 1))) (sym all)
 
 -- the call is done with all of them, of which the last is apart
@@ -161,7 +161,7 @@ pub holds_values : (m : View) (held vs : List Ref) → held ≡ m.held ++ vs →
 holds_values m held vs pushed = record { control = refl; frames = refl; held = ap (take (length m.held)) pushed ∙ take-append_seam m.held vs; calls = refl; blocks = refl; rescuing = refl; left = refl }
 
 pub element_comes : (p : Program) (m : View) (t : Table) (here base index value i j : ℕ) (v w : Ref) (held : List Ref) (h : Course) → m.control ≡ Enter here
-    → ComesTo p m t (rule (context_of p) (tree_at p.nodes.items here)) i (values (tree_at p.nodes.items index ∷ tree_at p.nodes.items value ∷ []) (v ∷ []) (finish (context_of p) (Call SetIndex))) → TakesNow p m (tree_at p.nodes.items index) j w → base ≡ length m.held → held ≡ m.held ++ v ∷ w ∷ [] → i + j < m.left
+    → ComesTo p m t (rule (context_of p) (tree_at p.nodes.items here)) i (values (tree_at p.nodes.items index ∷ tree_at p.nodes.items value ∷ []) (v ∷ []) (finish (context_of p) (Call SetIndex))) → TakesNow p m t (tree_at p.nodes.items index) j w → base ≡ length m.held → held ≡ m.held ++ v ∷ w ∷ [] → i + j < m.left
     → remaining p m t h ≡ after_values p (record m { held = held }) t (Argument (Call SetIndex) 0 0 base) (values (tree_at p.nodes.items value ∷ []) (drop base held) (finish (context_of p) (Call SetIndex))) h (m.left - (i + j + 1))
 element_comes p m t here base index value i j v w held h at first takes all pushed less =
     let own = context_of p in
@@ -198,7 +198,7 @@ sent_bare p m t here steps v x f h at comes joins method less =
 -- with one,
 pub sent_one : (p : Program) (m : View) (t : Table) (here first i j : ℕ) (v w : Ref) (x : Sym) (f : Callable) (h : Course) → m.control ≡ Enter here
     → ComesTo p m t (rule (context_of p) (tree_at p.nodes.items here)) i (arguments (context_of p) (trees_before p.nodes.items (first + 1) 1) (v ∷ []) (finish (context_of p) (Call (Name x)))) → joined_by (context_of p) t (Name x) v ≡ None → Some f ≡ method_for (context_of p) t v (Name x)
-    → TakesNow p m (tree_at p.nodes.items first) j w → is_splat (tree_at p.nodes.items first) ≡ false → i + j < m.left
+    → TakesNow p m t (tree_at p.nodes.items first) j w → is_splat (tree_at p.nodes.items first) ≡ false → i + j < m.left
     → remaining p m t h ≡ after_script p m t (run_method (context_of p) f (way_of (Name x) None v (w ∷ [])) (w ∷ [])) h (m.left - (i + j + 1))
 sent_one p m t here first i j v w x f h at comes joins method takes plain less =
     let own = context_of p in
@@ -206,7 +206,7 @@ sent_one p m t here first i j v w x f h at comes joins method takes plain less =
     let next = finish own (Call (Name x)) in
     let k = m.left - (i + j + 1) in
     let place : first ≡ first + 1 - 1 = omega arith in
-    let last = argument_comes p m t (first + 1) 0 j w (v ∷ []) next (subst (λ k. is_splat (tree_at ns k) ≡ false) place plain) (subst (λ k. TakesNow p m (tree_at ns k) j w) place takes) in
+    let last = argument_comes p m t (first + 1) 0 j w (v ∷ []) next (subst (λ k. is_splat (tree_at ns k) ≡ false) place plain) (subst (λ k. TakesNow p m t (tree_at ns k) j w) place takes) in
     comes_first p m t here (i + j) (next (v ∷ w ∷ [])) h at (comes_then p m t (rule own (tree_at ns here)) (arguments own (trees_before ns (first + 1) 1) (v ∷ []) next) (next (v ∷ w ∷ [])) i j comes last) less
     ∙ ap (λ o. after_script p m t (joined_or_sent own o (Name x) v (w ∷ [])) h k) joins
     ∙ ap (λ g. after_script p m t (dispatched own g (Name x) None v (w ∷ [])) h k) (sym method)
@@ -220,7 +220,7 @@ first_held held ones all v pushed kept =
 -- and with values that are held
 pub sent_held : (p : Program) (m n : View) (t : Table) (here base i j end rest : ℕ) (v : Ref) (x : Sym) (f : Callable) (trees : List Tree) (h : Course) → m.control ≡ Enter here
     → ComesTo p m t (rule (context_of p) (tree_at p.nodes.items here)) i (arguments (context_of p) trees (v ∷ []) (finish (context_of p) (Call (Name x))))
-    → ((t : Table) (next : List Ref → Script) → ComesTo p m t (arguments (context_of p) trees (v ∷ []) next) j (arguments (context_of p) (trees_before p.nodes.items end rest) (drop (length m.held) n.held) next)) → base ≡ length m.held → HoldsMore m n
+    → ((next : List Ref → Script) → ComesTo p m t (arguments (context_of p) trees (v ∷ []) next) j (arguments (context_of p) (trees_before p.nodes.items end rest) (drop (length m.held) n.held) next)) → base ≡ length m.held → HoldsMore m n
     → v ∷ drop (length m.held + 1) n.held ≡ drop (length m.held) n.held → joined_by (context_of p) t (Name x) v ≡ None → Some f ≡ method_for (context_of p) t v (Name x) → rest ≡ 0 → i + j < m.left
     → remaining p m t h ≡ after_values p n t (Argument (Call (Name x)) end 0 base) (run_method (context_of p) f (way_of (Name x) None v (drop 1 (drop base n.held ++ []))) (drop 1 (drop base n.held ++ []))) h (n.left - (i + j + 1))
 sent_held p m n t here base i j end rest v x f trees h at first others all is heads joins method none less =
@@ -241,7 +241,7 @@ sent_held p m n t here base i j end rest v x f trees h at first others all is he
 -- a new object is made for values that are held
 pub sent_new : (p : Program) (m n : View) (t : Table) (here base i j end rest : ℕ) (v : Ref) (x : Sym) (class : ClassId) (trees : List Tree) (h : Course) → m.control ≡ Enter here
     → ComesTo p m t (rule (context_of p) (tree_at p.nodes.items here)) i (arguments (context_of p) trees (v ∷ []) (finish (context_of p) (Call (Name x))))
-    → ((t : Table) (next : List Ref → Script) → ComesTo p m t (arguments (context_of p) trees (v ∷ []) next) j (arguments (context_of p) (trees_before p.nodes.items end rest) (drop (length m.held) n.held) next)) → base ≡ length m.held → HoldsMore m n
+    → ((next : List Ref → Script) → ComesTo p m t (arguments (context_of p) trees (v ∷ []) next) j (arguments (context_of p) (trees_before p.nodes.items end rest) (drop (length m.held) n.held) next)) → base ≡ length m.held → HoldsMore m n
     → v ∷ drop (length m.held + 1) n.held ≡ drop (length m.held) n.held → joined_by (context_of p) t (Name x) v ≡ None → method_for (context_of p) t v (Name x) ≡ None → made_by (context_of p) (method_of (context_of p) (Name x)) v ≡ Some class → rest ≡ 0 → i + j < m.left
     → remaining p m t h ≡ after_values p n t (Argument (Call (Name x)) end 0 base) (new_rule (context_of p) class None (drop 1 (drop base n.held))) h (n.left - (i + j + 1))
 sent_new p m n t here base i j end rest v x class trees h at first others all is heads joins method made none less =

@@ -33,14 +33,14 @@ answers c tree same s v there is = λ n.
     ∙ is n
 
 -- a leaf takes one step
-pub leaf_takes : (p : Program) (m : View) (tree : Tree) (v : Ref) → leaf_value tree m.calls.frames ≡ Some v → TakesNow p m tree 1 v
-leaf_takes p m (int z) v e = λ t h. answers (code_of p h.world) (int z) (int z) (state_of p m t h) v refl (λ n. ap (λ x. Ended (Gave x) (state_of p m t h) n) (cc e))
-leaf_takes p m (local depth slot x behind) v e = λ t h. answers (code_of p h.world) (local depth slot x behind) (local depth slot x behind) (state_of p m t h) v refl (λ n. ap (λ y. Ended (Gave y) (state_of p m t h) n) (cc e))
-leaf_takes p m _ v e = absurd (cc e)
+pub leaf_takes : (p : Program) (m : View) (t : Table) (tree : Tree) (v : Ref) → leaf_value tree m.calls.frames ≡ Some v → TakesNow p m t tree 1 v
+leaf_takes p m t (int z) v e = λ h. answers (code_of p h.world) (int z) (int z) (state_of p m t h) v refl (λ n. ap (λ x. Ended (Gave x) (state_of p m t h) n) (cc e))
+leaf_takes p m t (local depth slot x behind) v e = λ h. answers (code_of p h.world) (local depth slot x behind) (local depth slot x behind) (state_of p m t h) v refl (λ n. ap (λ y. Ended (Gave y) (state_of p m t h) n) (cc e))
+leaf_takes p m t _ v e = absurd (cc e)
 
 -- A node that evaluates a part first, for which a frame waits: the frame gets the value.
 pub under : (p : Program) (m : View) (t : Table) (here part steps : ℕ) (v : Ref) (f : Frame) (h : Course) → m.control ≡ Enter here
-    → ((w : World) → rule (context_of p) (tree_at p.nodes.items here) ≡ Go (tree_at p.nodes.items part) (resumed (code_of p w) f [])) → IsNew f (length m.held) → TakesNow p m (tree_at p.nodes.items part) steps v → steps < m.left
+    → ((w : World) → rule (context_of p) (tree_at p.nodes.items here) ≡ Go (tree_at p.nodes.items part) (resumed (code_of p w) f [])) → IsNew f (length m.held) → TakesNow p m t (tree_at p.nodes.items part) steps v → steps < m.left
     → remaining p m t h ≡ after_answer p m t f (Gave v) h (m.left - (steps + 1))
 under p m t here part steps v f h at script new takes less =
     let ns = p.nodes.items in
@@ -53,7 +53,7 @@ under p m t here part steps v f h at script new takes less =
     stepped p m t (m.left - 1) (tree_at ns here) (ap (first_tree ns) at) one h
     ∙ ap (λ r. after_script p m t r h (m.left - 1)) (script h.world)
     ∙ ap (λ k. unwind c (reverse m.frames) m.held (after (means c (tree_at ns part) s k) next)) others
-    ∙ ap (λ o. unwind c (reverse m.frames) m.held (after o next)) (takes t h n)
+    ∙ ap (λ o. unwind c (reverse m.frames) m.held (after o next)) (takes h n)
     ∙ asking_frame c m.frames f m.held (Ended (Gave v) s n) new
     ∙ given c m.frames f m.held (Gave v) s n
 
@@ -62,11 +62,11 @@ pub waits_within : (m : View) (f : Frame) → IsNew f (length m.held) → Nested
 waits_within m f new nested = nested_pop m.frames f m.held (nested_new m.frames f m.held new nested)
 
 -- an operator on an integer and a right operand that has a value
-pub quick_right : (p : Program) (m : View) (t : Table) (b steps : ℕ) (op : BinaryOperator) (x y : ℤ) (h : Course) → TakesNow p m (tree_at p.nodes.items b) steps (Int y) → steps ≤ m.left
+pub quick_right : (p : Program) (m : View) (t : Table) (b steps : ℕ) (op : BinaryOperator) (x y : ℤ) (h : Course) → TakesNow p m t (tree_at p.nodes.items b) steps (Int y) → steps ≤ m.left
     → after_script p m t (resumed (code_of p h.world) (Left op b) [] (Gave (Int x))) h m.left ≡ after_script p m t (settled (context_of p) (integers op x y)) h (m.left - steps)
 quick_right p m t b steps op x y h takes less =
     let c = code_of p h.world in
     let n = m.left - steps in
     let all : m.left ≡ steps + n = omega (arith, less) in
     ap (after_script p m t (resumed c (Left op b) [] (Gave (Int x))) h) all
-    ∙ ap (λ o. unwind c (reverse m.frames) m.held (after o (λ r. runs_in c (on_value (operation c.context op (Int x)) r)))) (takes t h n)
+    ∙ ap (λ o. unwind c (reverse m.frames) m.held (after o (λ r. runs_in c (on_value (operation c.context op (Int x)) r)))) (takes h n)

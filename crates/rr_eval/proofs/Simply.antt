@@ -3,6 +3,7 @@ use Rattle.std.proofs.Common.{◌≡◌, ℕ, suc, ◌+◌, ap, ◌∙◌, arith
 use Rattle.std.proofs.lemmas.Option.{slice_get_within}
 use Rattle.rr_parser.specs.Grammar.Names.{is_splat}
 use Rattle.rr_space.proofs.Hands.{append_cases}
+use Rattle.rr_space.specs.Tables.{Table}
 use Rattle.rr_space.specs.declared.refer.Ref.{Ref}
 use Rattle.rr_space.specs.declared.refer.Ref.TheVariants.{Int as IntRef}
 use Rattle.rr_tree.specs.Tree.{Tree, int, local, binary, splat, tree_at}
@@ -18,7 +19,7 @@ use Rattle.rr_eval.specs.Context.{Context}
 use Rattle.rr_eval.specs.Frames.{means, runs_in}
 use Rattle.rr_eval.specs.Rules.{on_value, with_value, operation}
 use Rattle.rr_eval.specs.Script.{Ret, after}
-use Rattle.rr_eval.specs.SimpleParts.{AreSimple, operand_of, operation_of, simple_of}
+use Rattle.rr_eval.specs.SimpleParts.{AreSimple, IsSimple, operand_of, operation_of, simple_of}
 use Rattle.rr_eval.specs.Turns.{code_of, state_of, leaf_value}
 use Rattle.rr_eval.specs.Usual.{TakesNow}
 use Rattle.rr_eval.specs.Variables.{read_variable}
@@ -27,7 +28,7 @@ use Rattle.rr_eval.proofs.Depth.{meaning_rule}
 use Rattle.rr_eval.proofs.Quickly.{leaf_takes}
 
 -- one part more
-pub simple_more : (ns : List Node) (parts : List SimplePart) (s : SimplePart) (n : ℕ) → length parts ≡ n → AreSimple ns parts → s ≡ simple_of (tree_at ns n) → AreSimple ns (parts ++ s ∷ [])
+pub simple_more : (ns : List Node) (parts : List SimplePart) (s : SimplePart) (n : ℕ) → length parts ≡ n → AreSimple ns parts → IsSimple (tree_at ns n) s → AreSimple ns (parts ++ s ∷ [])
 simple_more ns parts s n at are is = λ x f e.
     elim (append_cases parts (s ∷ []) x f e) [
       | inl l ↦ are x f l
@@ -37,7 +38,7 @@ simple_more ns parts s n at are is = λ x f e.
           let first = subst (λ j. slice_get (s ∷ []) j ≡ Some f) none r.2 in
           let same : s ≡ f = cc first in
           let there : n ≡ x = omega (arith, at, r.1, none) in
-          sym same ∙ is ∙ ap (λ k. simple_of (tree_at ns k)) there
+          subst (IsSimple (tree_at ns x)) same (subst (λ k. IsSimple (tree_at ns k) s) there is)
     ]
 
 abbrev named : ℕ → ℕ → Named
@@ -83,44 +84,44 @@ operation_int o (Variable w) _ z e = cc e
 operation_int o _ _ z e = cc e
 
 -- a part that is a variable has its value
-pub variable_takes : (p : Program) (m : View) (tree : Tree) (v : Named) → Variable v ≡ simple_of tree → TakesNow p m tree 1 (read_variable v m.calls.frames)
-variable_takes p m (local depth slot x behind) v e = leaf_takes p m (local depth slot x behind) (read_variable v m.calls.frames) (variable_leaf (local depth slot x behind) v m.calls.frames (sym e))
-variable_takes p m (binary o a b) v e = absurd (operation_leaf o (operand_of a) (operand_of b) v (sym e))
-variable_takes p m _ v e = absurd (cc e)
+pub variable_takes : (p : Program) (m : View) (t : Table) (tree : Tree) (v : Named) → Variable v ≡ simple_of tree → TakesNow p m t tree 1 (read_variable v m.calls.frames)
+variable_takes p m t (local depth slot x behind) v e = leaf_takes p m t (local depth slot x behind) (read_variable v m.calls.frames) (variable_leaf (local depth slot x behind) v m.calls.frames (sym e))
+variable_takes p m t (binary o a b) v e = absurd (operation_leaf o (operand_of a) (operand_of b) v (sym e))
+variable_takes p m t _ v e = absurd (cc e)
 
 -- a part that is an integer
-pub int_takes : (p : Program) (m : View) (tree : Tree) (z : ℤ) → Int z ≡ simple_of tree → TakesNow p m tree 1 (IntRef z)
-int_takes p m (int y) z e = leaf_takes p m (int y) (IntRef z) (int_leaf (int y) z m.calls.frames (sym e))
-int_takes p m (binary o a b) z e = absurd (operation_int o (operand_of a) (operand_of b) z (sym e))
-int_takes p m _ z e = absurd (cc e)
+pub int_takes : (p : Program) (m : View) (t : Table) (tree : Tree) (z : ℤ) → Int z ≡ simple_of tree → TakesNow p m t tree 1 (IntRef z)
+int_takes p m t (int y) z e = leaf_takes p m t (int y) (IntRef z) (int_leaf (int y) z m.calls.frames (sym e))
+int_takes p m t (binary o a b) z e = absurd (operation_int o (operand_of a) (operand_of b) z (sym e))
+int_takes p m t _ z e = absurd (cc e)
 
 -- an operator whose operands are leaves takes three steps
-operands_take : (p : Program) (m : View) (op : BinaryOperator) (a b : Tree) (v w r : Ref) → leaf_value a m.calls.frames ≡ Some v → leaf_value b m.calls.frames ≡ Some w → ((c : Context) → operation c op v w ≡ Ret (Gave r)) → TakesNow p m (binary op a b) 3 r
-operands_take p m op a b v w r first second is = λ t h n.
+operands_take : (p : Program) (m : View) (t : Table) (op : BinaryOperator) (a b : Tree) (v w r : Ref) → leaf_value a m.calls.frames ≡ Some v → leaf_value b m.calls.frames ≡ Some w → ((c : Context) → operation c op v w ≡ Ret (Gave r)) → TakesNow p m t (binary op a b) 3 r
+operands_take p m t op a b v w r first second is = λ h n.
     let c = code_of p h.world in
     let s = state_of p m t h in
     let three : 3 + n ≡ suc (1 + (1 + n)) = omega arith in
     ap (means c (binary op a b) s) three
     ∙ meaning_rule c.context c.world (binary op a b) s (1 + (1 + n))
-    ∙ ap (λ o. after o (λ q. runs_in c (on_value (λ x. with_value b (operation c.context op x)) q))) (leaf_takes p m a v first t h (1 + n))
-    ∙ ap (λ o. after o (λ q. runs_in c (on_value (operation c.context op v) q))) (leaf_takes p m b w second t h n)
+    ∙ ap (λ o. after o (λ q. runs_in c (on_value (λ x. with_value b (operation c.context op x)) q))) (leaf_takes p m t a v first h (1 + n))
+    ∙ ap (λ o. after o (λ q. runs_in c (on_value (operation c.context op v) q))) (leaf_takes p m t b w second h n)
     ∙ ap (λ q. runs_in c q s n) (is c.context)
 
 -- an operator on a variable and an integer
-pub with_int_takes : (p : Program) (m : View) (tree : Tree) (op : BinaryOperator) (v : Named) (z : ℤ) (r : Ref) → WithInt op v z ≡ simple_of tree → ((c : Context) → operation c op (read_variable v m.calls.frames) (IntRef z) ≡ Ret (Gave r)) → TakesNow p m tree 3 r
-with_int_takes p m (binary o a b) op v z r e is =
+pub with_int_takes : (p : Program) (m : View) (t : Table) (tree : Tree) (op : BinaryOperator) (v : Named) (z : ℤ) (r : Ref) → WithInt op v z ≡ simple_of tree → ((c : Context) → operation c op (read_variable v m.calls.frames) (IntRef z) ≡ Ret (Gave r)) → TakesNow p m t tree 3 r
+with_int_takes p m t (binary o a b) op v z r e is =
     let fs = m.calls.frames in
     let parts = with_int_parts o op (operand_of a) (operand_of b) v z (sym e) in
-    operands_take p m o a b (read_variable v fs) (IntRef z) r (variable_leaf a v fs parts.1) (int_leaf b z fs parts.2) (λ c. ap (λ q. operation c q (read_variable v fs) (IntRef z)) parts.0 ∙ is c)
-with_int_takes p m _ op v z r e is = absurd (cc e)
+    operands_take p m t o a b (read_variable v fs) (IntRef z) r (variable_leaf a v fs parts.1) (int_leaf b z fs parts.2) (λ c. ap (λ q. operation c q (read_variable v fs) (IntRef z)) parts.0 ∙ is c)
+with_int_takes p m t _ op v z r e is = absurd (cc e)
 
 -- an operator on two variables
-pub with_variable_takes : (p : Program) (m : View) (tree : Tree) (op : BinaryOperator) (v w : Named) (r : Ref) → WithVariable op v w ≡ simple_of tree → ((c : Context) → operation c op (read_variable v m.calls.frames) (read_variable w m.calls.frames) ≡ Ret (Gave r)) → TakesNow p m tree 3 r
-with_variable_takes p m (binary o a b) op v w r e is =
+pub with_variable_takes : (p : Program) (m : View) (t : Table) (tree : Tree) (op : BinaryOperator) (v w : Named) (r : Ref) → WithVariable op v w ≡ simple_of tree → ((c : Context) → operation c op (read_variable v m.calls.frames) (read_variable w m.calls.frames) ≡ Ret (Gave r)) → TakesNow p m t tree 3 r
+with_variable_takes p m t (binary o a b) op v w r e is =
     let fs = m.calls.frames in
     let parts = with_variable_parts o op (operand_of a) (operand_of b) v w (sym e) in
-    operands_take p m o a b (read_variable v fs) (read_variable w fs) r (variable_leaf a v fs parts.1) (variable_leaf b w fs parts.2) (λ c. ap (λ q. operation c q (read_variable v fs) (read_variable w fs)) parts.0 ∙ is c)
-with_variable_takes p m _ op v w r e is = absurd (cc e)
+    operands_take p m t o a b (read_variable v fs) (read_variable w fs) r (variable_leaf a v fs parts.1) (variable_leaf b w fs parts.2) (λ c. ap (λ q. operation c q (read_variable v fs) (read_variable w fs)) parts.0 ∙ is c)
+with_variable_takes p m t _ op v w r e is = absurd (cc e)
 
 -- no simple part is a splat
 pub simple_plain : (tree : Tree) (s : SimplePart) → s ≡ simple_of tree → (s ≡ Other → ⊥) → is_splat tree ≡ false

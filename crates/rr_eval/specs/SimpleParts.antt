@@ -5,7 +5,7 @@ use Rattle.rr_tree.specs.Tree.{Tree, nil, truth, int, symbol, itself, class_name
 use Rattle.rr_tree.specs.declared.node.BinaryOperator.{BinaryOperator}
 use Rattle.rr_tree.specs.declared.node.Node.{Node}
 use Rattle.rr_eval.specs.declared.simple_parts.SimplePart.{SimplePart}
-use Rattle.rr_eval.specs.declared.simple_parts.SimplePart.TheVariants.{Variable, Int, WithInt, WithVariable, Apart, Other}
+use Rattle.rr_eval.specs.declared.simple_parts.SimplePart.TheVariants.{Variable, Int, WithInt, WithVariable, Apart, Reading, Other}
 
 -- an operand that is an integer or a variable
 abbrev pub operand_of : Tree → SimplePart
@@ -32,9 +32,23 @@ simple_of (class_named k) = Apart
 simple_of (constant path) = Apart
 simple_of _ = Other
 
+-- what a part is taken for is what it is; of a reading nothing is said
+abbrev pub IsSimple : Tree → SimplePart → Type 0
+IsSimple tree Reading = Unit {0}
+IsSimple tree s = s ≡ simple_of tree
+
+pub IsSimple-prop : (tree : Tree) (s : SimplePart) → IsProp (IsSimple tree s)
+IsSimple-prop tree Reading = Prim.hlevel props
+IsSimple-prop tree (Variable v) = Prim.hlevel props
+IsSimple-prop tree (Int z) = Prim.hlevel props
+IsSimple-prop tree (WithInt op v z) = Prim.hlevel props
+IsSimple-prop tree (WithVariable op v w) = Prim.hlevel props
+IsSimple-prop tree Apart = Prim.hlevel props
+IsSimple-prop tree Other = Prim.hlevel props
+
 -- parts by their places
 abbrev pub AreSimple : List Node → List SimplePart → Type 0
-AreSimple ns parts = (x : ℕ) (s : SimplePart) → slice_get parts x ≡ Some s → s ≡ simple_of (tree_at ns x)
+AreSimple ns parts = (x : ℕ) (s : SimplePart) → slice_get parts x ≡ Some s → IsSimple (tree_at ns x) s
 
 pub AreSimple-prop : (ns : List Node) (parts : List SimplePart) → IsProp (AreSimple ns parts)
-AreSimple-prop ns parts = Prim.hlevel (props)
+AreSimple-prop ns parts = Prim.hlevel (props, IsSimple-prop)

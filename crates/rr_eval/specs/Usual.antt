@@ -17,19 +17,23 @@ use Rattle.rr_eval.specs.View.{View}
 abbrev pub Takes : Code → Tree → State → ℕ → Ref → Type 0
 Takes c tree s steps v = (n : ℕ) → means c tree s (steps + n) ≡ Ended (Gave v) s n
 
--- the tree does so whatever the objects are, and whatever was asked before
-abbrev pub TakesNow : Program → View → Tree → ℕ → Ref → Type 0
-TakesNow p m tree steps v = (t : Table) (h : Course) → Takes (code_of p h.world) tree (state_of p m t h) steps v
+-- the tree does so with these objects, whatever was asked before
+abbrev pub TakesNow : Program → View → Table → Tree → ℕ → Ref → Type 0
+TakesNow p m t tree steps v = (h : Course) → Takes (code_of p h.world) tree (state_of p m t h) steps v
 
 -- a script takes so many steps, leaves all as it is, and goes on as another
 abbrev pub ComesTo : Program → View → Table → Script → ℕ → Script → Type 0
 ComesTo p m t script steps next = (h : Course) (n : ℕ) → runs_in (code_of p h.world) script (state_of p m t h) (steps + n) ≡ runs_in (code_of p h.world) next (state_of p m t h) n
 
--- The first of the parts of a list, all but these, take so many steps, leave all as it is, and stand for these values, whatever the objects are,
--- whatever stands before, and whatever follows.
-abbrev pub TakeFirst : Program → View → List Tree → ℕ → List Ref → List Tree → Type 0
-TakeFirst p m trees steps vs others =
-    (t : Table) (stand : List Ref) (next : List Ref → Script) → ComesTo p m t (arguments (context_of p) trees stand next) steps (arguments (context_of p) others (stand ++ vs) next)
+-- a script has this value at once and leaves all as it is, whatever was asked before
+abbrev pub GivesAtOnce : Program → Table → Script → Ref → Type 0
+GivesAtOnce p t script v = (m : View) (h : Course) (n : ℕ) → runs_in (code_of p h.world) script (state_of p m t h) n ≡ Ended (Gave v) (state_of p m t h) n
+
+-- The first of the parts of a list, all but these, take so many steps, leave all as it is, and stand for these values, whatever stands before,
+-- and whatever follows.
+abbrev pub TakeFirst : Program → View → Table → List Tree → ℕ → List Ref → List Tree → Type 0
+TakeFirst p m t trees steps vs others =
+    (stand : List Ref) (next : List Ref → Script) → ComesTo p m t (arguments (context_of p) trees stand next) steps (arguments (context_of p) others (stand ++ vs) next)
 
 -- more values are held, behind those that were, and all else is as it was
 pub record HoldsMore (old new : View) : Type 0 where

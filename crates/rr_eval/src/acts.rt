@@ -53,7 +53,7 @@ impl Engine {
         };
         match answer {
             Answer::Gave(value) => {
-                if self.resume(prepared, frame, value, stop) {
+                if self.resume(prepared, space, frame, value, stop) {
                     return Ok(None);
                 }
                 match self.resume_any(prepared, space, frame, value)? {

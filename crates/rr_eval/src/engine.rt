@@ -1,6 +1,7 @@
 //! The machine: a stack of frames, each of which waits for the answer of a part.
 
-ghost use Rattle.std.specs.Prelude.{◌≡◌, ◌+◌, ◌*◌, ◌<◌, ◌≤◌, [], ◌∷◌, ◌++◌, length, reverse, vec_capacity, Option, Some, IfOk, IfErr, IfSome, IsTrue, IsFalse, OnOk, MatchOption};
+ghost use Rattle.std.specs.Fn.{FnOnceReturnsAtMut};
+ghost use Rattle.std.specs.Prelude.{◌≡◌, ◌+◌, ◌*◌, ◌<◌, ◌≤◌, ℕ, [], ◌∷◌, ◌++◌, length, reverse, slice_get, slice_set, vec_len, vec_capacity, Option, Some, IfOk, IfErr, IfSome, IsTrue, IsFalse, OnOk, MatchOption};
 ghost use Rattle.rr_base.specs.declared.fault.Fault.{Fault};
 ghost use Rattle.rr_space.specs.declared.refer.Ref.{Ref};
 ghost use Rattle.rr_eval.specs.Blocks.{running};
@@ -86,6 +87,30 @@ pub fn push_within<T: Drop>(items: &mut Vec<T>, item: T)
     ensures { items.new.items ≡ items.old.items ++ item ∷ [] }
 {
     items.push_reserved(item);
+}
+
+/// Changes an item where it lies, and gives what `change` gives. Generic, since what is written through `&mut` into a vector of a type that holds `&'static` is not
+/// known afterwards.
+#[inline(always)]
+fn change_within<T, R, F: FnOnce(&mut T) -> R>(items: &mut Vec<T>, index: usize, change: F) -> R
+    requires index { index < vec_len items.old }
+    requires callable { F.IsAlwaysCallable change }
+    ensures { (was now : T) × (slice_get items.old.items index ≡ Some was) × (items.new.items ≡ slice_set items.old.items index now) × FnOnceReturnsAtMut F.FnOnce change was result now }
+{
+    change(&mut items[index])
+}
+
+/// Lets so many statements be still to be evaluated by the frame at a place.
+#[inline(always)]
+pub fn count_statements(frames: &mut Vec<Frame>, index: usize, count: u32)
+    requires { index < vec_len frames.old }
+    ensures { (end n : ℕ) → slice_get frames.old.items index ≡ Some (Frame.Rest end n) → frames.new.items ≡ slice_set frames.old.items index (Frame.Rest end count) }
+{
+    change_within(
+        frames,
+        index,
+        |frame: &mut Frame| frame.count_statements(count),
+    )
 }
 
 impl Engine {

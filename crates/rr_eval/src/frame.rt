@@ -1,6 +1,6 @@
 //! What the machine has still to do.
 
-ghost use Rattle.std.specs.Prelude.{◌≡◌, ◌≤◌, length, take, drop};
+ghost use Rattle.std.specs.Prelude.{◌≡◌, ◌≤◌, ℕ, length, take, drop};
 ghost use Rattle.std.specs.List.{All};
 ghost use Rattle.rr_eval.specs.Frames.{base_of, stand_of, below_of};
 ghost use Rattle.rr_eval.specs.Within.{Reach, IsReached};
@@ -158,6 +158,18 @@ pub enum Control {
     Send(Callee, Ref, Option<Ref>),
     /// An assignment to one of several targets, for which a frame waits.
     Assign(Spot, Ref),
+}
+
+impl Frame {
+    /// Lets so many statements be still to be evaluated, where it waits for statements.
+    #[inline(always)]
+    pub fn count_statements(&mut self, count: u32)
+        ensures { (end n : ℕ) → self.old ≡ Frame.Rest end n → self.new ≡ Frame.Rest end count }
+    {
+        if let Frame::Rest(_, rest) = self {
+            *rest = count;
+        }
+    }
 }
 
 impl Control {

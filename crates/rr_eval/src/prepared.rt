@@ -19,7 +19,7 @@ ghost use Rattle.rr_base.specs.declared.name.TheConstants.ClassId.{OBJECT};
 ghost use Rattle.rr_space.specs.declared.kind.Kind.{Kind as Kinds};
 ghost use Rattle.rr_eval.specs.Prepared.{AreInitializers, AreInitializers-prop, AreSymbolsOf, ArePlain, ArePlain-prop, callable_of, initializer_of};
 ghost use Rattle.rr_eval.specs.Nodes.{AreEvaluated, AreEvaluated-prop, evaluated_tree, IsEvaluated};
-ghost use Rattle.rr_eval.specs.SimpleParts.{AreSimple, AreSimple-prop, simple_of};
+ghost use Rattle.rr_eval.specs.SimpleParts.{AreSimple, AreSimple-prop, IsSimple};
 ghost use Rattle.rr_eval.specs.Speaking.{symbol_asked};
 ghost use Rattle.rr_eval.specs.Turns.{context_of};
 
@@ -119,7 +119,7 @@ impl Prepared {
         let plain = plain_methods(alloc, &program, &table, &methods, &iterations)?;
         let initializers = initializers(alloc, &program, &table, &operators)?;
         let nodes = evaluated_nodes(alloc, &program)?;
-        let parts = simple_parts(alloc, &program)?;
+        let parts = simple_parts(alloc, &program, &plain)?;
         Ok(Prepared {
             program,
             table,
@@ -167,7 +167,7 @@ impl Prepared {
     /// What the part at a place is, where one stands there.
     #[inline(always)]
     pub(crate) fn part(&self, place: NodeId) -> Option<&SimplePart>
-        ensures { IfSome result (λ s. s.now ≡ simple_of (tree_at self.now.program.nodes.items place)) }
+        ensures { IfSome result (λ s. IsSimple (tree_at self.now.program.nodes.items place) s.now) }
     {
         match self.parts.get(place as usize) {
             Some(part) => Some(part),

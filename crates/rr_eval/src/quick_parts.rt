@@ -1,8 +1,8 @@
 //! Lists of parts: the first of them that need no frame are evaluated at once, and their values are held.
 
-ghost use Rattle.std.specs.Prelude.{◌≡◌, ◌+◌, ◌-◌, ◌*◌, ◌<◌, ◌≤◌, List, [], ◌∷◌, length, reverse, take, drop, vec_capacity, IfOk, IfErr, OnOk};
+ghost use Rattle.std.specs.Prelude.{◌≡◌, ◌+◌, ◌-◌, ◌*◌, ◌<◌, ◌≤◌, List, [], ◌∷◌, length, reverse, take, drop, vec_capacity, IfOk, IfErr, OnOk, Option};
 ghost use Rattle.rr_base.specs.declared.fault.Fault.{Fault};
-ghost use Rattle.rr_space.specs.Tables.{Table};
+ghost use Rattle.rr_space.specs.Tables.{Table, Below};
 ghost use Rattle.rr_space.specs.declared.refer.Ref.{Ref};
 ghost use Rattle.rr_tree.specs.Nodes.{trees_before};
 ghost use Rattle.rr_tree.specs.declared.program.Program.{Program};
@@ -13,14 +13,14 @@ ghost use Rattle.rr_eval.specs.Script.{Script};
 ghost use Rattle.rr_eval.specs.Turns.{context_of, IsNested, remaining, after_values, Stands, size};
 ghost use Rattle.rr_eval.specs.Usual.{ComesTo, TakeFirst, HoldsMore};
 ghost use Rattle.rr_eval.specs.Views.{view_of};
-ghost use Rattle.rr_eval.specs.Within.{Reach, IsReached, AreReached};
+ghost use Rattle.rr_eval.specs.Within.{Reach, reach, IsReached, AreReached};
 
 use crate::call::Target;
 use crate::engine::{Engine, push_within};
 use crate::frame::{Control, Frame};
 use crate::prepared::Prepared;
 use rr_base::Fault;
-use rr_space::Ref;
+use rr_space::{Ref, Space};
 use rr_tree::{NodeId, Program};
 
 /// How far the parts of a list are evaluated, whose values are held.
@@ -48,24 +48,25 @@ impl Engine {
     pub fn hold_parts(
         &mut self,
         prepared: &Prepared,
+        space: &Space,
         end: NodeId,
         count: u32,
         stop: u64,
     ) -> QuickParts
         requires some { stop < self.old.left }
         requires space { length self.old.held.items + count ≤ vec_capacity self.old.held }
-        ensures takes { TakeFirst prepared.now.program (view_of self.old) (trees_before prepared.now.program.nodes.items end count) result.steps (drop (length self.old.held.items) self.new.held.items) (trees_before prepared.now.program.nodes.items end result.rest) }
+        ensures takes { TakeFirst prepared.now.program (view_of self.old) space.now (trees_before prepared.now.program.nodes.items end count) result.steps (drop (length self.old.held.items) self.new.held.items) (trees_before prepared.now.program.nodes.items end result.rest) }
         ensures rest { length self.new.held.items + result.rest ≡ length self.old.held.items + count }
         ensures fewer { result.rest ≤ count }
         ensures enough { stop + result.steps < self.old.left }
         ensures holds { HoldsMore (view_of self.old) (view_of self.new) }
-        ensures within { (k : Reach) → AreReached k (view_of self.old) → AreReached k (view_of self.new) }
+        ensures within { (clusters : Option Below) → AreReached (reach (length space.now.slots) clusters) (view_of self.old) → AreReached (reach (length space.now.slots) clusters) (view_of self.new) }
         ensures room { vec_capacity self.new.frames ≡ vec_capacity self.old.frames }
     {
         let mut rest = count;
         let mut steps = 0;
         while rest > 0 {
-            match self.quick_before(prepared, end.saturating_sub(rest), stop + steps) {
+            match self.quick_before(prepared, space, end.saturating_sub(rest), stop + steps) {
                 Some(found) => {
                     self.held.push_reserved(found.value);
                     steps += found.steps;
@@ -83,6 +84,7 @@ impl Engine {
     pub fn hold_receiver(
         &mut self,
         prepared: &Prepared,
+        space: &Space,
         receiver: Ref,
         end: NodeId,
         count: u32,
@@ -90,17 +92,17 @@ impl Engine {
     ) -> QuickParts
         requires some { stop < self.old.left }
         requires space { length self.old.held.items + count < vec_capacity self.old.held }
-        ensures comes { (t : Table) (next : List Ref → Script) → ComesTo prepared.now.program (view_of self.old) t (arguments (context_of prepared.now.program) (trees_before prepared.now.program.nodes.items end count) (receiver ∷ []) next) result.steps (arguments (context_of prepared.now.program) (trees_before prepared.now.program.nodes.items end result.rest) (drop (length self.old.held.items) self.new.held.items) next) }
+        ensures comes { (next : List Ref → Script) → ComesTo prepared.now.program (view_of self.old) space.now (arguments (context_of prepared.now.program) (trees_before prepared.now.program.nodes.items end count) (receiver ∷ []) next) result.steps (arguments (context_of prepared.now.program) (trees_before prepared.now.program.nodes.items end result.rest) (drop (length self.old.held.items) self.new.held.items) next) }
         ensures first { receiver ∷ drop (length self.old.held.items + 1) self.new.held.items ≡ drop (length self.old.held.items) self.new.held.items }
         ensures rest { length self.new.held.items + result.rest ≡ length self.old.held.items + count + 1 }
         ensures fewer { result.rest ≤ count }
         ensures enough { stop + result.steps < self.old.left }
         ensures holds { HoldsMore (view_of self.old) (view_of self.new) }
-        ensures within { (k : Reach) → AreReached k (view_of self.old) → IsReached k receiver → AreReached k (view_of self.new) }
+        ensures within { (clusters : Option Below) → AreReached (reach (length space.now.slots) clusters) (view_of self.old) → IsReached (reach (length space.now.slots) clusters) receiver → AreReached (reach (length space.now.slots) clusters) (view_of self.new) }
         ensures room { vec_capacity self.new.frames ≡ vec_capacity self.old.frames }
     {
         self.held.push_reserved(receiver);
-        self.hold_parts(prepared, end, count, stop)
+        self.hold_parts(prepared, space, end, count, stop)
     }
 
     /// Holds the receiver of a call, and the values of its first arguments, which are the last `count` parts before `end`, up to one
@@ -109,24 +111,25 @@ impl Engine {
     pub fn hold_sent(
         &mut self,
         prepared: &Prepared,
+        space: &Space,
         receiver: Ref,
         end: NodeId,
         count: u32,
         stop: u64,
     ) -> Result<QuickParts, Fault>
         requires some { stop < self.old.left }
-        ensures comes { IfOk result (λ parts. (t : Table) (next : List Ref → Script) → ComesTo prepared.now.program (view_of self.old) t (arguments (context_of prepared.now.program) (trees_before prepared.now.program.nodes.items end count) (receiver ∷ []) next) parts.steps (arguments (context_of prepared.now.program) (trees_before prepared.now.program.nodes.items end parts.rest) (drop (length self.old.held.items) self.new.held.items) next)) }
+        ensures comes { IfOk result (λ parts. (next : List Ref → Script) → ComesTo prepared.now.program (view_of self.old) space.now (arguments (context_of prepared.now.program) (trees_before prepared.now.program.nodes.items end count) (receiver ∷ []) next) parts.steps (arguments (context_of prepared.now.program) (trees_before prepared.now.program.nodes.items end parts.rest) (drop (length self.old.held.items) self.new.held.items) next)) }
         ensures rest { IfOk result (λ parts. length self.new.held.items + parts.rest ≡ length self.old.held.items + count + 1) }
         ensures fewer { IfOk result (λ parts. parts.rest ≤ count) }
         ensures enough { IfOk result (λ parts. stop + parts.steps < self.old.left) }
         ensures holds { OnOk result (HoldsMore (view_of self.old) (view_of self.new)) }
-        ensures within { (k : Reach) → AreReached k (view_of self.old) → IsReached k receiver → AreReached k (view_of self.new) }
+        ensures within { (clusters : Option Below) → AreReached (reach (length space.now.slots) clusters) (view_of self.old) → IsReached (reach (length space.now.slots) clusters) receiver → AreReached (reach (length space.now.slots) clusters) (view_of self.new) }
         ensures room { vec_capacity self.new.frames ≡ vec_capacity self.old.frames }
         ensures err { (t : Table) → IfErr result (λ f. Stands (view_of self.old) (view_of self.new) t t f) }
         ensures fault { IfErr result (λ f. f ≡ Fault.Memory) }
     {
         self.held.reserve(count as usize + 1)?;
-        Ok(self.hold_receiver(prepared, receiver, end, count, stop))
+        Ok(self.hold_receiver(prepared, space, receiver, end, count, stop))
     }
 
     /// Evaluates the next part of a list, behind a frame that waits for it over the values that are held from `base` on. The

@@ -37,6 +37,7 @@ impl Engine {
     fn operate_quick(
         &mut self,
         prepared: &Prepared,
+        space: &Space,
         op: BinaryOperator,
         left: Ref,
         b: NodeId,
@@ -44,9 +45,9 @@ impl Engine {
     ) -> bool
         requires nested { IsNested (view_of self.old) }
         requires within { stop ≤ self.old.left }
-        ensures goes { IsTrue result → (t : Table) (h : Course) → after_answer prepared.now.program (view_of self.old) t (Frame.Left op b) (Answer.Gave left) h self.old.left ≡ remaining prepared.now.program (view_of self.new) t h }
+        ensures goes { IsTrue result → (h : Course) → after_answer prepared.now.program (view_of self.old) space.now (Frame.Left op b) (Answer.Gave left) h self.old.left ≡ remaining prepared.now.program (view_of self.new) space.now h }
         ensures nested { IsNested (view_of self.new) }
-        ensures within { (k : Reach) → AreReached k (view_of self.old) → AreReached k (view_of self.new) }
+        ensures within { (clusters : Option Below) → AreReached (reach (length space.now.slots) clusters) (view_of self.old) → AreReached (reach (length space.now.slots) clusters) (view_of self.new) }
         ensures left { stop ≤ self.new.left }
         ensures kept { self.new.left ≤ self.old.left }
         ensures size { IsTrue result → size (view_of self.new) ≤ 3 * length self.old.frames.items + 4 }
@@ -54,7 +55,7 @@ impl Engine {
     {
         if let Ref::Int(x) = left
             && self.left > stop
-            && let Some(found) = self.quick_before(prepared, b, stop)
+            && let Some(found) = self.quick_before(prepared, space, b, stop)
             && let Ref::Int(y) = found.value
         {
             self.left -= found.steps;
@@ -109,6 +110,7 @@ impl Engine {
     pub fn operate_left(
         &mut self,
         prepared: &Prepared,
+        space: &Space,
         op: BinaryOperator,
         left: Ref,
         b: NodeId,
@@ -117,14 +119,14 @@ impl Engine {
         requires room { length self.old.frames.items < vec_capacity self.old.frames }
         requires nested { IsNested (view_of self.old) }
         requires within { stop ≤ self.old.left }
-        ensures goes { (t : Table) (h : Course) → after_answer prepared.now.program (view_of self.old) t (Frame.Left op b) (Answer.Gave left) h self.old.left ≡ remaining prepared.now.program (view_of self.new) t h }
+        ensures goes { (h : Course) → after_answer prepared.now.program (view_of self.old) space.now (Frame.Left op b) (Answer.Gave left) h self.old.left ≡ remaining prepared.now.program (view_of self.new) space.now h }
         ensures nested { IsNested (view_of self.new) }
-        ensures within { (k : Reach) → AreReached k (view_of self.old) → IsReached k left → AreReached k (view_of self.new) }
+        ensures within { (clusters : Option Below) → AreReached (reach (length space.now.slots) clusters) (view_of self.old) → IsReached (reach (length space.now.slots) clusters) left → AreReached (reach (length space.now.slots) clusters) (view_of self.new) }
         ensures left { stop ≤ self.new.left }
         ensures kept { self.new.left ≤ self.old.left }
         ensures size { size (view_of self.new) ≤ 3 * length self.old.frames.items + 4 }
     {
-        if !self.operate_quick(prepared, op, left, b, stop) {
+        if !self.operate_quick(prepared, space, op, left, b, stop) {
             self.enter_above(Frame::Right(op, left), b);
         }
     }
@@ -198,14 +200,21 @@ impl Engine {
     /// Does what a frame, which is taken off the stack, does with a value, unless that needs the objects or memory.
     #[tactic(auto, unfolding(crate::specs::Within::AreReached))]
     #[inline(always)]
-    pub fn resume(&mut self, prepared: &Prepared, frame: Frame, value: Ref, stop: u64) -> bool
+    pub fn resume(
+        &mut self,
+        prepared: &Prepared,
+        space: &Space,
+        frame: Frame,
+        value: Ref,
+        stop: u64,
+    ) -> bool
         requires room { length self.old.frames.items < vec_capacity self.old.frames }
         requires base { base_of frame ≤ length self.old.held.items }
         requires nested { Nested (reverse self.old.frames.items) (below_of frame self.old.held.items) }
         requires within { stop ≤ self.old.left }
-        ensures goes { IsTrue result → (t : Table) (h : Course) → after_answer prepared.now.program (view_of self.old) t frame (Answer.Gave value) h self.old.left ≡ remaining prepared.now.program (view_of self.new) t h }
+        ensures goes { IsTrue result → (h : Course) → after_answer prepared.now.program (view_of self.old) space.now frame (Answer.Gave value) h self.old.left ≡ remaining prepared.now.program (view_of self.new) space.now h }
         ensures nested { IsTrue result → IsNested (view_of self.new) }
-        ensures within { (k : Reach) → AreReached k (view_of self.old) → IsFrameReached k frame → IsReached k value → AreReached k (view_of self.new) }
+        ensures within { (clusters : Option Below) → AreReached (reach (length space.now.slots) clusters) (view_of self.old) → IsFrameReached (reach (length space.now.slots) clusters) frame → IsReached (reach (length space.now.slots) clusters) value → AreReached (reach (length space.now.slots) clusters) (view_of self.new) }
         ensures left { stop ≤ self.new.left }
         ensures kept { self.new.left ≤ self.old.left }
         ensures size { IsTrue result → size (view_of self.new) ≤ 3 * length self.old.frames.items + 4 }
@@ -213,7 +222,7 @@ impl Engine {
         ensures rare { IsFalse result → IsRareFrame frame }
     {
         match frame {
-            Frame::Left(op, b) => self.operate_left(prepared, op, value, b, stop),
+            Frame::Left(op, b) => self.operate_left(prepared, space, op, value, b, stop),
             Frame::Right(op, left) => return self.operate_integers(op, left, value),
             Frame::Store(variable) => self.store(variable, value),
             Frame::Branch(yes, no) => self.take_branch(yes, no, value),

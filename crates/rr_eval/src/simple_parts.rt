@@ -2,10 +2,13 @@
 
 ghost use Rattle.std.specs.Prelude.{◌≡◌, IfOk};
 ghost use Rattle.rr_tree.specs.Tree.{tree_at};
-ghost use Rattle.rr_eval.specs.SimpleParts.{AreSimple, operand_of, operation_of, simple_of};
+ghost use Rattle.rr_eval.specs.SimpleParts.{AreSimple, IsSimple, operand_of, operation_of, simple_of};
 
 use crate::call_stack::Variable;
 use crate::nodes::evaluated_node;
+use crate::plain_methods::PlainMethod;
+use crate::prepared::Work;
+use rr_base::Sym;
 use rr_tree::{BinaryOperator, Node, NodeId, Program};
 use std::alloc::{AllocError, Global};
 
@@ -22,6 +25,8 @@ pub enum SimplePart {
     WithVariable(BinaryOperator, Variable, Variable),
     /// Another literal, `self`, or a constant.
     Apart,
+    /// What is taken for an instance variable, or for an attribute of an object that a variable holds.
+    Reading,
     /// A part that needs a frame.
     Other,
 }
@@ -70,8 +75,53 @@ fn simple_at(program: &Program, place: NodeId) -> SimplePart
     }
 }
 
+/// Whether plain objects have an attribute of the name.
+fn is_attribute(plain: &Vec<PlainMethod>, name: Sym) -> bool {
+    match plain.get(name.0 as usize) {
+        Some(found) => match found.definition {
+            Some(definition) => match definition.work {
+                Work::Read(_) => true,
+                _ => false,
+            },
+            None => false,
+        },
+        None => false,
+    }
+}
+
+/// Whether a part is taken for one that reads what an object holds.
+fn is_reading(program: &Program, plain: &Vec<PlainMethod>, place: NodeId) -> bool {
+    match evaluated_node(program, place) {
+        Node::Field(_) => true,
+        Node::Send {
+            receiver,
+            name,
+            count: 0,
+            ..
+        } => match operand_at(program, receiver) {
+            SimplePart::Variable(_) => is_attribute(plain, name),
+            _ => false,
+        },
+        _ => false,
+    }
+}
+
+/// What the part at a place is, or is taken for.
+fn part_at(program: &Program, plain: &Vec<PlainMethod>, place: NodeId) -> SimplePart
+    ensures { IsSimple (tree_at program.now.nodes.items place) result }
+{
+    match simple_at(program, place) {
+        SimplePart::Other if is_reading(program, plain, place) => SimplePart::Reading,
+        part => part,
+    }
+}
+
 /// What the parts of a program are, by their places. The only fault is want of memory.
-pub fn simple_parts(alloc: Global, program: &Program) -> Result<Vec<SimplePart>, AllocError>
+pub fn simple_parts(
+    alloc: Global,
+    program: &Program,
+    plain: &Vec<PlainMethod>,
+) -> Result<Vec<SimplePart>, AllocError>
     ensures { IfOk result (λ parts. AreSimple program.now.nodes.items parts.items) }
 {
     let mut parts = Vec::new(alloc);
@@ -79,7 +129,7 @@ pub fn simple_parts(alloc: Global, program: &Program) -> Result<Vec<SimplePart>,
         let Ok(place) = u32::try_from(number) else {
             return Ok(parts);
         };
-        parts.push(simple_at(program, place))?;
+        parts.push(part_at(program, plain, place))?;
     }
     Ok(parts)
 }

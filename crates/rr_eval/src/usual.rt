@@ -1,8 +1,8 @@
 //! What is usual, in front of what there is of all kinds: a part whose value needs no frame is evaluated at once, with what waits for it.
 
-ghost use Rattle.std.specs.Prelude.{◌≡◌, ◌+◌, ◌*◌, ◌<◌, ◌≤◌, ℕ, [], false, length, vec_capacity, IfSome, IfNone, IsTrue, IsFalse};
+ghost use Rattle.std.specs.Prelude.{◌≡◌, ◌+◌, ◌*◌, ◌<◌, ◌≤◌, ℕ, [], false, length, vec_capacity, Option, IfSome, IfNone, IsTrue, IsFalse};
 ghost use Rattle.rr_parser.specs.Grammar.Names.{is_splat};
-ghost use Rattle.rr_space.specs.Tables.{Table};
+ghost use Rattle.rr_space.specs.Tables.{Table, Below};
 ghost use Rattle.rr_tree.specs.Tree.{tree_at};
 ghost use Rattle.rr_eval.specs.declared.frame.Control.{Control};
 ghost use Rattle.rr_tree.specs.declared.program.Program.{Program};
@@ -16,7 +16,7 @@ ghost use Rattle.rr_eval.specs.Nodes.{evaluated_tree, IsEvaluated, IsFirstNode};
 ghost use Rattle.rr_eval.specs.Turns.{context_of, code_of, IsNested, remaining, remaining_with, after_answer, power, size};
 ghost use Rattle.rr_eval.specs.Usual.{TakesNow};
 ghost use Rattle.rr_eval.specs.Views.{view_of};
-ghost use Rattle.rr_eval.specs.Within.{Reach, IsReached, IsFrameReached, AreReached};
+ghost use Rattle.rr_eval.specs.Within.{Reach, reach, IsReached, IsFrameReached, AreReached};
 
 use crate::call_stack::Variable;
 use crate::constant::class_at_path;
@@ -27,7 +27,7 @@ use crate::operator::computed;
 use crate::prepared::Prepared;
 use crate::problem::Answer;
 use crate::simple_parts::SimplePart;
-use rr_space::Ref;
+use rr_space::{Ref, Space};
 use rr_tree::{BinaryOperator, Node, NodeId, Program};
 
 /// The value of a part that leaves all as it is, and how many steps the part takes.
@@ -40,7 +40,7 @@ pub struct Quick {
 impl Quick {
     /// A value that takes one step.
     #[inline(always)]
-    fn one(value: Ref) -> Quick
+    pub fn one(value: Ref) -> Quick
         ensures value { result.value ≡ value }
         ensures steps { result.steps ≡ 1 }
     {
@@ -119,7 +119,7 @@ impl Engine {
     #[cold]
     #[inline(never)]
     fn quick_apart(&self, program: &Program, place: NodeId) -> Option<Ref>
-        ensures takes { IfSome result (TakesNow program.now (view_of self.now) (tree_at program.now.nodes.items place) 1) }
+        ensures takes { (t : Table) → IfSome result (TakesNow program.now (view_of self.now) t (tree_at program.now.nodes.items place) 1) }
         ensures plain { IfSome result (λ _. is_splat (tree_at program.now.nodes.items place) ≡ false) }
         ensures within { (k : Reach) → AreReached k (view_of self.now) → IfSome result (IsReached k) }
     {
@@ -140,7 +140,7 @@ impl Engine {
     /// Such a value, which takes a step. It is written into memory here, and so that of no other node has to be.
     #[inline(always)]
     fn quick_other(&self, program: &Program, place: NodeId) -> Option<Quick>
-        ensures takes { IfSome result (λ q. TakesNow program.now (view_of self.now) (tree_at program.now.nodes.items place) q.steps q.value) }
+        ensures takes { (t : Table) → IfSome result (λ q. TakesNow program.now (view_of self.now) t (tree_at program.now.nodes.items place) q.steps q.value) }
         ensures plain { IfSome result (λ _. is_splat (tree_at program.now.nodes.items place) ≡ false) }
         ensures one { IfSome result (λ q. q.steps ≡ 1) }
         ensures within { (k : Reach) → AreReached k (view_of self.now) → IfSome result (λ q. IsReached k q.value) }
@@ -151,11 +151,10 @@ impl Engine {
         }
     }
 
-    /// The value of a part, where that is a literal, a class, a variable, `self`, or an operator on a variable and a leaf that are
-    /// integers.
+    /// The value of a part, where that is an integer, a variable, or an operator on a variable and another of these that are integers.
     #[inline(always)]
-    pub fn quick(&self, prepared: &Prepared, place: NodeId) -> Option<Quick>
-        ensures takes { IfSome result (λ q. TakesNow prepared.now.program (view_of self.now) (tree_at prepared.now.program.nodes.items place) q.steps q.value) }
+    fn quick_simple(&self, prepared: &Prepared, place: NodeId) -> Option<Quick>
+        ensures takes { (t : Table) → IfSome result (λ q. TakesNow prepared.now.program (view_of self.now) t (tree_at prepared.now.program.nodes.items place) q.steps q.value) }
         ensures plain { IfSome result (λ _. is_splat (tree_at prepared.now.program.nodes.items place) ≡ false) }
         ensures some { IfSome result (λ q. 0 < q.steps) }
         ensures few { IfSome result (λ q. q.steps ≤ 3) }
@@ -176,26 +175,48 @@ impl Engine {
                     None => None,
                 }
             }
-            Some(&SimplePart::Apart) => self.quick_other(&prepared.program, place),
             _ => None,
+        }
+    }
+
+    /// The value of a part, where that is a literal, a class, a variable, `self`, what an object holds, or an operator on a variable and a
+    /// leaf that are integers.
+    #[inline(always)]
+    pub fn quick(&self, prepared: &Prepared, space: &Space, place: NodeId) -> Option<Quick>
+        ensures takes { IfSome result (λ q. TakesNow prepared.now.program (view_of self.now) space.now (tree_at prepared.now.program.nodes.items place) q.steps q.value) }
+        ensures plain { IfSome result (λ _. is_splat (tree_at prepared.now.program.nodes.items place) ≡ false) }
+        ensures some { IfSome result (λ q. 0 < q.steps) }
+        ensures few { IfSome result (λ q. q.steps ≤ 3) }
+        ensures within { (clusters : Option Below) → AreReached (reach (length space.now.slots) clusters) (view_of self.now) → IfSome result (λ q. IsReached (reach (length space.now.slots) clusters) q.value) }
+    {
+        match prepared.part(place) {
+            Some(&SimplePart::Apart) => self.quick_other(&prepared.program, place),
+            Some(&SimplePart::Reading) => self.quick_reading(prepared, space, place),
+            _ => self.quick_simple(prepared, place),
         }
     }
 
     /// The value of such a part, where the steps do not stop before the one that follows it.
     #[inline(always)]
-    pub fn quick_before(&self, prepared: &Prepared, place: NodeId, stop: u64) -> Option<Quick>
+    pub fn quick_before(
+        &self,
+        prepared: &Prepared,
+        space: &Space,
+        place: NodeId,
+        stop: u64,
+    ) -> Option<Quick>
         requires some { stop < self.now.left }
-        ensures takes { IfSome result (λ q. TakesNow prepared.now.program (view_of self.now) (tree_at prepared.now.program.nodes.items place) q.steps q.value) }
+        ensures takes { IfSome result (λ q. TakesNow prepared.now.program (view_of self.now) space.now (tree_at prepared.now.program.nodes.items place) q.steps q.value) }
         ensures plain { IfSome result (λ _. is_splat (tree_at prepared.now.program.nodes.items place) ≡ false) }
         ensures some { IfSome result (λ q. 0 < q.steps) }
         ensures few { IfSome result (λ q. q.steps ≤ 3) }
         ensures enough { IfSome result (λ q. stop + q.steps < self.now.left) }
-        ensures within { (k : Reach) → AreReached k (view_of self.now) → IfSome result (λ q. IsReached k q.value) }
+        ensures within { (clusters : Option Below) → AreReached (reach (length space.now.slots) clusters) (view_of self.now) → IfSome result (λ q. IsReached (reach (length space.now.slots) clusters) q.value) }
     {
         if self.left - stop <= 3 {
             return None;
         }
-        match self.quick(prepared, place) {
+        match self.quick(prepared, space, place) {
             Some(found) => Some(found),
             None => None,
         }
@@ -224,6 +245,7 @@ impl Engine {
     fn visit_under(
         &mut self,
         prepared: &Prepared,
+        space: &Space,
         here: NodeId,
         frame: Frame,
         part: NodeId,
@@ -235,17 +257,17 @@ impl Engine {
         requires some { stop < self.old.left }
         requires room { length self.old.frames.items < vec_capacity self.old.frames }
         requires nested { IsNested (view_of self.old) }
-        ensures goes { (t : Table) (h : Course) → remaining prepared.now.program (view_of self.old) t h ≡ remaining prepared.now.program (view_of self.new) t h }
+        ensures goes { (h : Course) → remaining prepared.now.program (view_of self.old) space.now h ≡ remaining prepared.now.program (view_of self.new) space.now h }
         ensures nested { IsNested (view_of self.new) }
-        ensures within { (k : Reach) → AreReached k (view_of self.old) → IsFrameReached k frame → AreReached k (view_of self.new) }
+        ensures within { (clusters : Option Below) → AreReached (reach (length space.now.slots) clusters) (view_of self.old) → IsFrameReached (reach (length space.now.slots) clusters) frame → AreReached (reach (length space.now.slots) clusters) (view_of self.new) }
         ensures left { stop ≤ self.new.left }
         ensures spends { self.new.left < self.old.left }
         ensures falls { power (view_of self.new) + self.old.left ≤ power (view_of self.old) + self.new.left }
     {
-        match self.quick_before(prepared, part, stop) {
+        match self.quick_before(prepared, space, part, stop) {
             Some(found) => {
                 self.left -= found.steps + 1;
-                if !self.resume(prepared, frame, found.value, stop) {
+                if !self.resume(prepared, space, frame, found.value, stop) {
                     self.give_above(frame, found.value);
                 }
             }
@@ -258,16 +280,23 @@ impl Engine {
 
     /// Evaluates a node that evaluates a part first, where that is one part and no receiver.
     #[inline(always)]
-    pub fn visit_first(&mut self, prepared: &Prepared, here: NodeId, node: Node, stop: u64) -> bool
+    pub fn visit_first(
+        &mut self,
+        prepared: &Prepared,
+        space: &Space,
+        here: NodeId,
+        node: Node,
+        stop: u64,
+    ) -> bool
         requires control { self.old.control ≡ Control.Enter here }
         requires tree { tree_at prepared.now.program.nodes.items here ≡ evaluated_tree prepared.now.program.nodes.items node }
         requires evaluated { IsEvaluated node }
         requires some { stop < self.old.left }
         requires room { length self.old.frames.items < vec_capacity self.old.frames }
         requires nested { IsNested (view_of self.old) }
-        ensures goes { IsTrue result → (t : Table) (h : Course) → remaining prepared.now.program (view_of self.old) t h ≡ remaining prepared.now.program (view_of self.new) t h }
+        ensures goes { IsTrue result → (h : Course) → remaining prepared.now.program (view_of self.old) space.now h ≡ remaining prepared.now.program (view_of self.new) space.now h }
         ensures nested { IsNested (view_of self.new) }
-        ensures within { (k : Reach) → AreReached k (view_of self.old) → AreReached k (view_of self.new) }
+        ensures within { (clusters : Option Below) → AreReached (reach (length space.now.slots) clusters) (view_of self.old) → AreReached (reach (length space.now.slots) clusters) (view_of self.new) }
         ensures left { stop ≤ self.new.left }
         ensures spends { IsTrue result → self.new.left < self.old.left }
         ensures falls { IsTrue result → power (view_of self.new) + self.old.left ≤ power (view_of self.old) + self.new.left }
@@ -275,7 +304,7 @@ impl Engine {
     {
         match awaited_part(here, node) {
             Some((frame, part)) => {
-                self.visit_under(prepared, here, frame, part, stop);
+                self.visit_under(prepared, space, here, frame, part, stop);
                 true
             }
             None => false,

@@ -1,8 +1,9 @@
 //! Calls that are usual: of a method of the program on `self`, and of a block by `yield`, with arguments that need no frame, where they
 //! take no memory.
 
-ghost use Rattle.std.specs.Prelude.{◌≡◌, ◌+◌, ◌*◌, ◌<◌, ◌≤◌, ◌^◌, [], false, length, vec_capacity, None, Some, IsTrue, IsFalse};
+ghost use Rattle.std.specs.Prelude.{◌≡◌, ◌+◌, ◌*◌, ◌<◌, ◌≤◌, ◌^◌, [], false, length, vec_capacity, None, Some, IsTrue, IsFalse, Option};
 ghost use Rattle.rr_parser.specs.Grammar.Names.{is_splat};
+ghost use Rattle.rr_space.specs.Tables.{Below};
 ghost use Rattle.rr_tree.specs.Nodes.{trees_before};
 ghost use Rattle.rr_tree.specs.Tree.{tree_at};
 ghost use Rattle.rr_eval.specs.declared.call.Target.{Target};
@@ -14,7 +15,7 @@ ghost use Rattle.rr_eval.specs.Script.{See};
 ghost use Rattle.rr_eval.specs.Turns.{context_of, state_of, IsNested, remaining, power, size};
 ghost use Rattle.rr_eval.specs.Usual.{TakesNow};
 ghost use Rattle.rr_eval.specs.Views.{view_of};
-ghost use Rattle.rr_eval.specs.Within.{Reach, IsReached, AreReached};
+ghost use Rattle.rr_eval.specs.Within.{reach, IsReached, AreReached};
 
 use crate::call::{Callee, Target};
 use crate::engine::Engine;
@@ -42,16 +43,16 @@ impl Engine {
         requires control { self.old.control ≡ Control.Enter here }
         requires script { rule (context_of prepared.now.program) (tree_at prepared.now.program.nodes.items here) ≡ See (λ m. call_rule (context_of prepared.now.program) (own_method (context_of prepared.now.program) name.0 m) (printing (context_of prepared.now.program) name.0) (raises (context_of prepared.now.program) name.0) (awaited (context_of prepared.now.program) name.0) name (trees_before prepared.now.program.nodes.items (first + 1) 1)) }
         requires method { (h : Course) → Some (callable_of prepared.now.program.nodes.items definition) ≡ own_method (context_of prepared.now.program) name.0 (state_of prepared.now.program (view_of self.old) space.now h).memory }
-        requires takes { TakesNow prepared.now.program (view_of self.old) (tree_at prepared.now.program.nodes.items first) found.steps found.value }
+        requires takes { TakesNow prepared.now.program (view_of self.old) space.now (tree_at prepared.now.program.nodes.items first) found.steps found.value }
         requires plain { is_splat (tree_at prepared.now.program.nodes.items first) ≡ false }
         requires few { found.steps ≤ 3 }
         requires enough { stop + found.steps < self.old.left }
-        requires value { (k : Reach) → AreReached k (view_of self.old) → IsReached k found.value }
+        requires value { (clusters : Option Below) → AreReached (reach (length space.now.slots) clusters) (view_of self.old) → IsReached (reach (length space.now.slots) clusters) found.value }
         requires room { length self.old.frames.items < vec_capacity self.old.frames }
         requires nested { IsNested (view_of self.old) }
         ensures goes { IsTrue result → (h : Course) → remaining prepared.now.program (view_of self.old) space.now h ≡ remaining prepared.now.program (view_of self.new) space.now h }
         ensures nested { IsNested (view_of self.new) }
-        ensures within { (k : Reach) → AreReached k (view_of self.old) → AreReached k (view_of self.new) }
+        ensures within { (clusters : Option Below) → AreReached (reach (length space.now.slots) clusters) (view_of self.old) → AreReached (reach (length space.now.slots) clusters) (view_of self.new) }
         ensures left { IsTrue result → stop ≤ self.new.left }
         ensures kept { self.new.left ≤ self.old.left }
         ensures spends { IsTrue result → self.new.left < self.old.left }
@@ -78,16 +79,16 @@ impl Engine {
     ) -> bool
         requires control { self.old.control ≡ Control.Enter here }
         requires script { rule (context_of prepared.now.program) (tree_at prepared.now.program.nodes.items here) ≡ arguments (context_of prepared.now.program) (trees_before prepared.now.program.nodes.items (first + 1) 1) [] (finish (context_of prepared.now.program) Target.Yield) }
-        requires takes { TakesNow prepared.now.program (view_of self.old) (tree_at prepared.now.program.nodes.items first) found.steps found.value }
+        requires takes { TakesNow prepared.now.program (view_of self.old) space.now (tree_at prepared.now.program.nodes.items first) found.steps found.value }
         requires plain { is_splat (tree_at prepared.now.program.nodes.items first) ≡ false }
         requires few { found.steps ≤ 3 }
         requires enough { stop + found.steps < self.old.left }
-        requires value { (k : Reach) → AreReached k (view_of self.old) → IsReached k found.value }
+        requires value { (clusters : Option Below) → AreReached (reach (length space.now.slots) clusters) (view_of self.old) → IsReached (reach (length space.now.slots) clusters) found.value }
         requires room { length self.old.frames.items < vec_capacity self.old.frames }
         requires nested { IsNested (view_of self.old) }
         ensures goes { IsTrue result → (h : Course) → remaining prepared.now.program (view_of self.old) space.now h ≡ remaining prepared.now.program (view_of self.new) space.now h }
         ensures nested { IsNested (view_of self.new) }
-        ensures within { (k : Reach) → AreReached k (view_of self.old) → AreReached k (view_of self.new) }
+        ensures within { (clusters : Option Below) → AreReached (reach (length space.now.slots) clusters) (view_of self.old) → AreReached (reach (length space.now.slots) clusters) (view_of self.new) }
         ensures left { IsTrue result → stop ≤ self.new.left }
         ensures kept { self.new.left ≤ self.old.left }
         ensures spends { IsTrue result → self.new.left < self.old.left }
@@ -135,7 +136,7 @@ impl Engine {
         requires nested { IsNested (view_of self.old) }
         ensures goes { IsTrue result → (h : Course) → remaining prepared.now.program (view_of self.old) space.now h ≡ remaining prepared.now.program (view_of self.new) space.now h }
         ensures nested { IsNested (view_of self.new) }
-        ensures within { (k : Reach) → AreReached k (view_of self.old) → AreReached k (view_of self.new) }
+        ensures within { (clusters : Option Below) → AreReached (reach (length space.now.slots) clusters) (view_of self.old) → AreReached (reach (length space.now.slots) clusters) (view_of self.new) }
         ensures left { IsTrue result → stop ≤ self.new.left }
         ensures kept { self.new.left ≤ self.old.left }
         ensures spends { IsTrue result → self.new.left < self.old.left }
@@ -147,7 +148,7 @@ impl Engine {
         }
         let base = self.held.len();
         let end = first + count;
-        let parts = self.hold_parts(prepared, end, count, stop);
+        let parts = self.hold_parts(prepared, space, end, count, stop);
         let target = Target::Own(name, None);
         if parts.rest > 0 {
             self.enter_part(target, end, base, parts);
@@ -182,7 +183,7 @@ impl Engine {
         requires nested { IsNested (view_of self.old) }
         ensures goes { IsTrue result → (h : Course) → remaining prepared.now.program (view_of self.old) space.now h ≡ remaining prepared.now.program (view_of self.new) space.now h }
         ensures nested { IsNested (view_of self.new) }
-        ensures within { (k : Reach) → AreReached k (view_of self.old) → AreReached k (view_of self.new) }
+        ensures within { (clusters : Option Below) → AreReached (reach (length space.now.slots) clusters) (view_of self.old) → AreReached (reach (length space.now.slots) clusters) (view_of self.new) }
         ensures left { IsTrue result → stop ≤ self.new.left }
         ensures kept { self.new.left ≤ self.old.left }
         ensures spends { IsTrue result → self.new.left < self.old.left }
@@ -194,7 +195,7 @@ impl Engine {
         }
         let base = self.held.len();
         let end = first + count;
-        let parts = self.hold_parts(prepared, end, count, stop);
+        let parts = self.hold_parts(prepared, space, end, count, stop);
         let target = Target::Yield;
         if parts.rest > 0 {
             self.enter_part(target, end, base, parts);
@@ -231,14 +232,14 @@ impl Engine {
         requires nested { IsNested (view_of self.old) }
         ensures goes { (h : Course) → remaining prepared.now.program (view_of self.old) space.now h ≡ remaining prepared.now.program (view_of self.new) space.now h }
         ensures nested { IsNested (view_of self.new) }
-        ensures within { (k : Reach) → AreReached k (view_of self.old) → AreReached k (view_of self.new) }
+        ensures within { (clusters : Option Below) → AreReached (reach (length space.now.slots) clusters) (view_of self.old) → AreReached (reach (length space.now.slots) clusters) (view_of self.new) }
         ensures left { stop ≤ self.new.left }
         ensures kept { self.new.left ≤ self.old.left }
         ensures spends { IsTrue result → self.new.left < self.old.left }
         ensures falls { power (view_of self.new) + self.old.left ≤ power (view_of self.old) + self.new.left }
     {
         if count == 1
-            && let Some(found) = self.quick_before(prepared, first, stop)
+            && let Some(found) = self.quick_before(prepared, space, first, stop)
         {
             if self.call_one(prepared, space, here, name, first, definition, found, stop) {
                 self.enter_statements(prepared, stop);
@@ -270,7 +271,7 @@ impl Engine {
         requires nested { IsNested (view_of self.old) }
         ensures goes { (h : Course) → remaining prepared.now.program (view_of self.old) space.now h ≡ remaining prepared.now.program (view_of self.new) space.now h }
         ensures nested { IsNested (view_of self.new) }
-        ensures within { (k : Reach) → AreReached k (view_of self.old) → AreReached k (view_of self.new) }
+        ensures within { (clusters : Option Below) → AreReached (reach (length space.now.slots) clusters) (view_of self.old) → AreReached (reach (length space.now.slots) clusters) (view_of self.new) }
         ensures left { stop ≤ self.new.left }
         ensures kept { self.new.left ≤ self.old.left }
         ensures spends { IsTrue result → self.new.left < self.old.left }
@@ -305,7 +306,7 @@ impl Engine {
         requires nested { IsNested (view_of self.old) }
         ensures goes { (h : Course) → remaining prepared.now.program (view_of self.old) space.now h ≡ remaining prepared.now.program (view_of self.new) space.now h }
         ensures nested { IsNested (view_of self.new) }
-        ensures within { (k : Reach) → AreReached k (view_of self.old) → AreReached k (view_of self.new) }
+        ensures within { (clusters : Option Below) → AreReached (reach (length space.now.slots) clusters) (view_of self.old) → AreReached (reach (length space.now.slots) clusters) (view_of self.new) }
         ensures left { stop ≤ self.new.left }
         ensures kept { self.new.left ≤ self.old.left }
         ensures spends { IsTrue result → self.new.left < self.old.left }
@@ -338,7 +339,7 @@ impl Engine {
         requires nested { IsNested (view_of self.old) }
         ensures goes { (h : Course) → remaining prepared.now.program (view_of self.old) space.now h ≡ remaining prepared.now.program (view_of self.new) space.now h }
         ensures nested { IsNested (view_of self.new) }
-        ensures within { (k : Reach) → AreReached k (view_of self.old) → AreReached k (view_of self.new) }
+        ensures within { (clusters : Option Below) → AreReached (reach (length space.now.slots) clusters) (view_of self.old) → AreReached (reach (length space.now.slots) clusters) (view_of self.new) }
         ensures left { stop ≤ self.new.left }
         ensures kept { self.new.left ≤ self.old.left }
         ensures spends { IsTrue result → self.new.left < self.old.left }
@@ -373,14 +374,14 @@ impl Engine {
         requires nested { IsNested (view_of self.old) }
         ensures goes { (h : Course) → remaining prepared.now.program (view_of self.old) space.now h ≡ remaining prepared.now.program (view_of self.new) space.now h }
         ensures nested { IsNested (view_of self.new) }
-        ensures within { (k : Reach) → AreReached k (view_of self.old) → AreReached k (view_of self.new) }
+        ensures within { (clusters : Option Below) → AreReached (reach (length space.now.slots) clusters) (view_of self.old) → AreReached (reach (length space.now.slots) clusters) (view_of self.new) }
         ensures left { stop ≤ self.new.left }
         ensures kept { self.new.left ≤ self.old.left }
         ensures spends { IsTrue result → self.new.left < self.old.left }
         ensures falls { power (view_of self.new) + self.old.left ≤ power (view_of self.old) + self.new.left }
     {
         if count == 1
-            && let Some(found) = self.quick_before(prepared, first, stop)
+            && let Some(found) = self.quick_before(prepared, space, first, stop)
         {
             return self.yield_one(prepared, space, here, first, found, stop);
         }

@@ -89,7 +89,7 @@ impl Engine {
         requires made { made_by (context_of prepared.now.program) (method_of (context_of prepared.now.program) (Called.Name name)) found.value ≡ Some class }
         requires small { first + count < 2 ^ 32 }
         requires enough { stop + found.steps < self.old.left }
-        requires value { (k : Reach) → AreReached k (view_of self.old) → IsReached k found.value }
+        requires value { (clusters : Option Below) → AreReached (reach (length space.now.slots) clusters) (view_of self.old) → IsReached (reach (length space.now.slots) clusters) found.value }
         requires room { length self.old.frames.items < vec_capacity self.old.frames }
         requires nested { IsNested (view_of self.old) }
         ensures goes { IsTrue result → (h : Course) → remaining prepared.now.program (view_of self.old) space.now h ≡ remaining prepared.now.program (view_of self.new) space.now h }
@@ -108,7 +108,7 @@ impl Engine {
         let end = first + count;
         let target = Target::Call(Callee::Name(name));
         let before = self.steps_together(stop, found.steps);
-        let parts = self.hold_receiver(prepared, found.value, end, count, before);
+        let parts = self.hold_receiver(prepared, space, found.value, end, count, before);
         let steps = self.steps_together(found.steps, parts.steps);
         if parts.rest > 0 {
             let rest = parts.rest;
@@ -144,7 +144,7 @@ impl Engine {
         requires comes { ComesTo prepared.now.program (view_of self.old) space.now (rule (context_of prepared.now.program) (tree_at prepared.now.program.nodes.items here)) found.steps (arguments (context_of prepared.now.program) (trees_before prepared.now.program.nodes.items (first + count) count) (found.value ∷ []) (finish (context_of prepared.now.program) (Aim.Call (Called.Name name)))) }
         requires small { first + count < 2 ^ 32 }
         requires enough { stop + found.steps < self.old.left }
-        requires value { (k : Reach) → AreReached k (view_of self.old) → IsReached k found.value }
+        requires value { (clusters : Option Below) → AreReached (reach (length space.now.slots) clusters) (view_of self.old) → IsReached (reach (length space.now.slots) clusters) found.value }
         requires room { length self.old.frames.items < vec_capacity self.old.frames }
         requires nested { IsNested (view_of self.old) }
         ensures goes { (h : Course) → remaining prepared.now.program (view_of self.old) space.now h ≡ remaining prepared.now.program (view_of self.new) space.now h }

@@ -17,7 +17,7 @@ ghost use Rattle.rr_eval.specs.Rules.{rule, with_value, arguments, finish};
 ghost use Rattle.rr_eval.specs.Turns.{context_of, IsNested, remaining, power, size};
 ghost use Rattle.rr_eval.specs.Usual.{TakesNow, ComesTo};
 ghost use Rattle.rr_eval.specs.Views.{view_of};
-ghost use Rattle.rr_eval.specs.Within.{Reach, reach, IsReached, AreReached};
+ghost use Rattle.rr_eval.specs.Within.{reach, IsReached, AreReached};
 
 use crate::call::{Callee, Passing, Target};
 use crate::engine::Engine;
@@ -56,7 +56,7 @@ impl Engine {
         requires method { Some (callable_of prepared.now.program.nodes.items definition) ≡ method_for (context_of prepared.now.program) space.now found.value (Called.Name name) }
         requires few { found.steps ≤ 3 }
         requires enough { stop + found.steps < self.old.left }
-        requires value { (k : Reach) → AreReached k (view_of self.old) → IsReached k found.value }
+        requires value { (clusters : Option Below) → AreReached (reach (length space.now.slots) clusters) (view_of self.old) → IsReached (reach (length space.now.slots) clusters) found.value }
         requires room { length self.old.frames.items < vec_capacity self.old.frames }
         requires nested { IsNested (view_of self.old) }
         ensures goes { IsTrue result → (h : Course) → remaining prepared.now.program (view_of self.old) space.now h ≡ remaining prepared.now.program (view_of self.new) space.now h }
@@ -94,12 +94,12 @@ impl Engine {
         requires comes { ComesTo prepared.now.program (view_of self.old) space.now (rule (context_of prepared.now.program) (tree_at prepared.now.program.nodes.items here)) found.steps (arguments (context_of prepared.now.program) (trees_before prepared.now.program.nodes.items (first + 1) 1) (found.value ∷ []) (finish (context_of prepared.now.program) (Aim.Call (Called.Name name)))) }
         requires joins { joined_by (context_of prepared.now.program) space.now (Called.Name name) found.value ≡ None }
         requires method { Some (callable_of prepared.now.program.nodes.items definition) ≡ method_for (context_of prepared.now.program) space.now found.value (Called.Name name) }
-        requires takes { TakesNow prepared.now.program (view_of self.old) (tree_at prepared.now.program.nodes.items first) argument.steps argument.value }
+        requires takes { TakesNow prepared.now.program (view_of self.old) space.now (tree_at prepared.now.program.nodes.items first) argument.steps argument.value }
         requires plain { is_splat (tree_at prepared.now.program.nodes.items first) ≡ false }
         requires few { found.steps + argument.steps ≤ 6 }
         requires enough { stop + found.steps + argument.steps < self.old.left }
-        requires value { (k : Reach) → AreReached k (view_of self.old) → IsReached k found.value }
-        requires last { (k : Reach) → AreReached k (view_of self.old) → IsReached k argument.value }
+        requires value { (clusters : Option Below) → AreReached (reach (length space.now.slots) clusters) (view_of self.old) → IsReached (reach (length space.now.slots) clusters) found.value }
+        requires last { (clusters : Option Below) → AreReached (reach (length space.now.slots) clusters) (view_of self.old) → IsReached (reach (length space.now.slots) clusters) argument.value }
         requires room { length self.old.frames.items < vec_capacity self.old.frames }
         requires nested { IsNested (view_of self.old) }
         ensures goes { IsTrue result → (h : Course) → remaining prepared.now.program (view_of self.old) space.now h ≡ remaining prepared.now.program (view_of self.new) space.now h }
@@ -141,7 +141,7 @@ impl Engine {
         requires method { Some (callable_of prepared.now.program.nodes.items definition) ≡ method_for (context_of prepared.now.program) space.now found.value (Called.Name name) }
         requires small { first + count < 2 ^ 32 }
         requires enough { stop + found.steps < self.old.left }
-        requires value { (k : Reach) → AreReached k (view_of self.old) → IsReached k found.value }
+        requires value { (clusters : Option Below) → AreReached (reach (length space.now.slots) clusters) (view_of self.old) → IsReached (reach (length space.now.slots) clusters) found.value }
         requires room { length self.old.frames.items < vec_capacity self.old.frames }
         requires nested { IsNested (view_of self.old) }
         ensures goes { IsTrue result → (h : Course) → remaining prepared.now.program (view_of self.old) space.now h ≡ remaining prepared.now.program (view_of self.new) space.now h }
@@ -160,7 +160,7 @@ impl Engine {
         let end = first + count;
         let target = Target::Call(Callee::Name(name));
         let before = self.steps_together(stop, found.steps);
-        let parts = self.hold_receiver(prepared, found.value, end, count, before);
+        let parts = self.hold_receiver(prepared, space, found.value, end, count, before);
         let steps = self.steps_together(found.steps, parts.steps);
         if parts.rest > 0 {
             let rest = parts.rest;
@@ -198,7 +198,7 @@ impl Engine {
         requires few { found.steps ≤ 3 }
         requires small { first + count < 2 ^ 32 }
         requires enough { stop + found.steps < self.old.left }
-        requires value { (k : Reach) → AreReached k (view_of self.old) → IsReached k found.value }
+        requires value { (clusters : Option Below) → AreReached (reach (length space.now.slots) clusters) (view_of self.old) → IsReached (reach (length space.now.slots) clusters) found.value }
         requires room { length self.old.frames.items < vec_capacity self.old.frames }
         requires nested { IsNested (view_of self.old) }
         ensures goes { (h : Course) → remaining prepared.now.program (view_of self.old) space.now h ≡ remaining prepared.now.program (view_of self.new) space.now h }
@@ -214,7 +214,7 @@ impl Engine {
         }
         let before = self.steps_together(stop, found.steps);
         if count == 1
-            && let Some(argument) = self.quick_before(prepared, first, before)
+            && let Some(argument) = self.quick_before(prepared, space, first, before)
         {
             return self.send_one(
                 prepared, space, here, name, definition, found, first, argument, stop,
@@ -245,7 +245,7 @@ impl Engine {
         requires few { found.steps ≤ 3 }
         requires small { first + count < 2 ^ 32 }
         requires enough { stop + found.steps < self.old.left }
-        requires value { (k : Reach) → AreReached k (view_of self.old) → IsReached k found.value }
+        requires value { (clusters : Option Below) → AreReached (reach (length space.now.slots) clusters) (view_of self.old) → IsReached (reach (length space.now.slots) clusters) found.value }
         requires room { length self.old.frames.items < vec_capacity self.old.frames }
         requires nested { IsNested (view_of self.old) }
         ensures goes { (h : Course) → remaining prepared.now.program (view_of self.old) space.now h ≡ remaining prepared.now.program (view_of self.new) space.now h }
@@ -287,7 +287,7 @@ impl Engine {
         requires few { found.steps ≤ 3 }
         requires small { first + count < 2 ^ 32 }
         requires enough { stop + found.steps < self.old.left }
-        requires value { (k : Reach) → AreReached k (view_of self.old) → IsReached k found.value }
+        requires value { (clusters : Option Below) → AreReached (reach (length space.now.slots) clusters) (view_of self.old) → IsReached (reach (length space.now.slots) clusters) found.value }
         requires room { length self.old.frames.items < vec_capacity self.old.frames }
         requires nested { IsNested (view_of self.old) }
         ensures goes { (h : Course) → remaining prepared.now.program (view_of self.old) space.now h ≡ remaining prepared.now.program (view_of self.new) space.now h }
@@ -335,7 +335,7 @@ impl Engine {
         ensures spends { IsTrue result → self.new.left < self.old.left }
         ensures falls { power (view_of self.new) + self.old.left ≤ power (view_of self.old) + self.new.left }
     {
-        match self.quick_before(prepared, receiver, stop) {
+        match self.quick_before(prepared, space, receiver, stop) {
             Some(
                 found @ Quick {
                     value: Ref::Class(_),

@@ -18,7 +18,7 @@ ghost use Rattle.rr_eval.specs.Script.{objects_of};
 ghost use Rattle.rr_eval.specs.Turns.{context_of, IsNested, remaining, after_values, continuing, Stands, size, sized};
 ghost use Rattle.rr_eval.specs.Usual.{ComesTo};
 ghost use Rattle.rr_eval.specs.Views.{view_of};
-ghost use Rattle.rr_eval.specs.Within.{Reach, reach, IsReached, IsAskedReached, AreReached, AreWithin, KeepsReach, KeepsRead};
+ghost use Rattle.rr_eval.specs.Within.{reach, IsReached, IsAskedReached, AreReached, AreWithin, KeepsReach, KeepsRead};
 
 use crate::call::{Callee, Target};
 use crate::engine::{Engine, push_within};
@@ -115,7 +115,7 @@ impl Engine {
         ensures fault { IfErr result (λ f. f ≡ Fault.Memory) }
     {
         let before = self.steps_together(stop, steps);
-        match self.quick_before(prepared, part, before) {
+        match self.quick_before(prepared, space, part, before) {
             Some(last) => {
                 let all = self.steps_together(steps, last.steps);
                 self.send_held(prepared, space, callee, base, last.value, all)
@@ -160,7 +160,7 @@ impl Engine {
         ensures fault { IfErr result (λ f. f ≡ Fault.Memory) }
     {
         let base = self.held.len();
-        match self.quick_before(prepared, receiver, stop) {
+        match self.quick_before(prepared, space, receiver, stop) {
             Some(found) => {
                 self.held.push(found.value)?;
                 self.call_last(prepared, space, callee, base, argument, found.steps, stop)
@@ -189,7 +189,7 @@ impl Engine {
         requires control { self.old.control ≡ Control.Enter here }
         requires comes { ComesTo prepared.now.program (view_of self.old) space.now (rule (context_of prepared.now.program) (tree_at prepared.now.program.nodes.items here)) found.steps (arguments (context_of prepared.now.program) (trees_before prepared.now.program.nodes.items end count) (found.value ∷ []) (finish (context_of prepared.now.program) (Target.Call callee))) }
         requires enough { stop + found.steps < self.old.left }
-        requires value { (k : Reach) → AreReached k (view_of self.old) → IsReached k found.value }
+        requires value { (clusters : Option Below) → AreReached (reach (length space.now.slots) clusters) (view_of self.old) → IsReached (reach (length space.now.slots) clusters) found.value }
         requires room { length self.old.frames.items < vec_capacity self.old.frames }
         requires nested { IsNested (view_of self.old) }
         ensures goes { IfOk result (λ q. (h : Course) → remaining prepared.now.program (view_of self.old) space.now h ≡ continuing prepared.now.program (view_of self.new) space.now q h self.new.left) }
@@ -204,7 +204,7 @@ impl Engine {
     {
         let base = self.held.len();
         let before = self.steps_together(stop, found.steps);
-        let parts = self.hold_sent(prepared, found.value, end, count, before)?;
+        let parts = self.hold_sent(prepared, space, found.value, end, count, before)?;
         let steps = self.steps_together(found.steps, parts.steps);
         if parts.rest > 0 {
             let rest = parts.rest;
@@ -246,7 +246,7 @@ impl Engine {
         ensures err { (t : Table) → IfErr result (λ f. Stands (view_of self.old) (view_of self.new) t t f) }
         ensures fault { IfErr result (λ f. f ≡ Fault.Memory) }
     {
-        match self.quick_before(prepared, receiver, stop) {
+        match self.quick_before(prepared, space, receiver, stop) {
             Some(found) => {
                 self.call_found(prepared, space, here, callee, found, end, count, stop)
             }
@@ -273,7 +273,7 @@ impl Engine {
         requires comes { ComesTo prepared.now.program (view_of self.old) space.now (rule (context_of prepared.now.program) (tree_at prepared.now.program.nodes.items here)) found.steps (values (tree_at prepared.now.program.nodes.items index ∷ tree_at prepared.now.program.nodes.items value ∷ []) (found.value ∷ []) (finish (context_of prepared.now.program) (Target.Call Called.SetIndex))) }
         requires small { value + 1 < 2 ^ 32 }
         requires enough { stop + found.steps < self.old.left }
-        requires value { (k : Reach) → AreReached k (view_of self.old) → IsReached k found.value }
+        requires value { (clusters : Option Below) → AreReached (reach (length space.now.slots) clusters) (view_of self.old) → IsReached (reach (length space.now.slots) clusters) found.value }
         requires room { length self.old.frames.items < vec_capacity self.old.frames }
         requires nested { IsNested (view_of self.old) }
         ensures goes { IfOk result (λ q. (h : Course) → remaining prepared.now.program (view_of self.old) space.now h ≡ continuing prepared.now.program (view_of self.new) space.now q h self.new.left) }
@@ -288,7 +288,7 @@ impl Engine {
     {
         let base = self.held.len();
         let before = self.steps_together(stop, found.steps);
-        match self.quick_before(prepared, index, before) {
+        match self.quick_before(prepared, space, index, before) {
             Some(at) => {
                 let steps = self.steps_together(found.steps, at.steps);
                 self.held.reserve(2)?;
@@ -333,7 +333,7 @@ impl Engine {
         ensures err { (t : Table) → IfErr result (λ f. Stands (view_of self.old) (view_of self.new) t t f) }
         ensures fault { IfErr result (λ f. f ≡ Fault.Memory) }
     {
-        match self.quick_before(prepared, receiver, stop) {
+        match self.quick_before(prepared, space, receiver, stop) {
             Some(found) => self.set_found(prepared, space, here, found, index, value, stop),
             None => {
                 self.enter_above(Frame::Element(index, value + 1), receiver);

@@ -25,7 +25,7 @@ impl Engine {
     /// Takes the topmost frame, which is this one and gets an answer, off the stack.
     #[tactic(auto, unfolding(crate::specs::Within::AreReached))]
     #[inline(always)]
-    fn drop_top(&mut self, frame: Frame, answer: Answer)
+    pub fn drop_top(&mut self, frame: Frame, answer: Answer)
         requires top { IsTop self.old.frames.items frame }
         requires nested { IsNested (view_of self.old) }
         ensures goes { (p : Program) (t : Table) (h : Course) (n : ℕ) → remaining_with p (record (view_of self.old) { control = Control.Give answer }) t h n ≡ after_answer p (view_of self.new) t frame answer h n }
@@ -63,31 +63,12 @@ impl Engine {
         self.drop_top(frame, answer);
     }
 
-    /// Gives the topmost frame a value: a list of statements goes on at once.
-    #[tactic(auto, unfolding(crate::specs::Within::AreReached))]
-    #[inline(always)]
-    pub fn give_top(&mut self, value: Ref)
-        requires nested { IsNested (view_of self.old) }
-        ensures goes { (p : Program) (t : Table) (h : Course) (n : ℕ) → remaining_with p (record (view_of self.old) { control = Control.Give (Answer.Gave value) }) t h n ≡ remaining_with p (view_of self.new) t h n }
-        ensures nested { IsNested (view_of self.new) }
-        ensures within { (k : Reach) → AreReached k (view_of self.old) → IsReached k value → AreReached k (view_of self.new) }
-        ensures left { self.new.left ≡ self.old.left }
-        ensures size { size (view_of self.new) ≤ 3 * length self.old.frames.items + 4 }
-    {
-        match self.frames.last() {
-            Some(&Frame::Rest(end, count)) => {
-                self.drop_top(Frame::Rest(end, count), Answer::Gave(value));
-                self.begin(end, count);
-            }
-            _ => self.control.give(value),
-        }
-    }
-
     /// Goes on behind the left operand of an operator.
     #[inline(always)]
     fn resume_left(
         &mut self,
         prepared: &Prepared,
+        space: &Space,
         op: BinaryOperator,
         b: NodeId,
         value: Ref,
@@ -97,15 +78,15 @@ impl Engine {
         requires top { IsTop self.old.frames.items (Frame.Left op b) }
         requires nested { IsNested (view_of self.old) }
         requires within { stop ≤ self.old.left }
-        ensures goes { (t : Table) (h : Course) → remaining prepared.now.program (view_of self.old) t h ≡ remaining prepared.now.program (view_of self.new) t h }
+        ensures goes { (h : Course) → remaining prepared.now.program (view_of self.old) space.now h ≡ remaining prepared.now.program (view_of self.new) space.now h }
         ensures nested { IsNested (view_of self.new) }
-        ensures within { (k : Reach) → AreReached k (view_of self.old) → AreReached k (view_of self.new) }
+        ensures within { (clusters : Option Below) → AreReached (reach (length space.now.slots) clusters) (view_of self.old) → AreReached (reach (length space.now.slots) clusters) (view_of self.new) }
         ensures left { stop ≤ self.new.left }
         ensures kept { self.new.left ≤ self.old.left }
         ensures falls { size (view_of self.new) < size (view_of self.old) }
     {
         self.take_top(Frame::Left(op, b), Answer::Gave(value));
-        self.operate_left(prepared, op, value, b, stop);
+        self.operate_left(prepared, space, op, value, b, stop);
     }
 
     /// Does an operation on two integers.
@@ -181,14 +162,21 @@ impl Engine {
 
     /// Goes on behind the body of a loop, with its condition at once where the steps do not stop before.
     #[inline(always)]
-    fn resume_body(&mut self, prepared: &Prepared, here: NodeId, value: Ref, stop: u64)
+    fn resume_body(
+        &mut self,
+        prepared: &Prepared,
+        space: &Space,
+        here: NodeId,
+        value: Ref,
+        stop: u64,
+    )
         requires control { self.old.control ≡ Control.Give (Answer.Gave value) }
         requires top { IsTop self.old.frames.items (Frame.Body here) }
         requires nested { IsNested (view_of self.old) }
         requires within { stop ≤ self.old.left }
-        ensures goes { (t : Table) (h : Course) → remaining prepared.now.program (view_of self.old) t h ≡ remaining prepared.now.program (view_of self.new) t h }
+        ensures goes { (h : Course) → remaining prepared.now.program (view_of self.old) space.now h ≡ remaining prepared.now.program (view_of self.new) space.now h }
         ensures nested { IsNested (view_of self.new) }
-        ensures within { (k : Reach) → AreReached k (view_of self.old) → AreReached k (view_of self.new) }
+        ensures within { (clusters : Option Below) → AreReached (reach (length space.now.slots) clusters) (view_of self.old) → AreReached (reach (length space.now.slots) clusters) (view_of self.new) }
         ensures left { stop ≤ self.new.left }
         ensures kept { self.new.left ≤ self.old.left }
         ensures falls { size (view_of self.new) < size (view_of self.old) }
@@ -196,24 +184,8 @@ impl Engine {
         self.take_top(Frame::Body(here), Answer::Gave(value));
         self.control.enter(here);
         if self.left > stop {
-            self.visit_again(prepared, here, stop);
+            self.visit_again(prepared, space, here, stop);
         }
-    }
-
-    /// Goes on with the next statement.
-    #[inline(always)]
-    fn resume_rest(&mut self, end: NodeId, count: u32, value: Ref)
-        requires control { self.old.control ≡ Control.Give (Answer.Gave value) }
-        requires top { IsTop self.old.frames.items (Frame.Rest end count) }
-        requires nested { IsNested (view_of self.old) }
-        ensures goes { (p : Program) (t : Table) (h : Course) → remaining p (view_of self.old) t h ≡ remaining p (view_of self.new) t h }
-        ensures nested { IsNested (view_of self.new) }
-        ensures within { (k : Reach) → AreReached k (view_of self.old) → AreReached k (view_of self.new) }
-        ensures left { self.new.left ≡ self.old.left }
-        ensures falls { size (view_of self.new) < size (view_of self.old) }
-    {
-        self.take_top(Frame::Rest(end, count), Answer::Gave(value));
-        self.begin(end, count);
     }
 
     /// Ends a method.
@@ -289,21 +261,28 @@ impl Engine {
 
     /// Gives the topmost frame, which needs neither the objects nor memory, a value.
     #[inline(always)]
-    fn resume_plainly(&mut self, prepared: &Prepared, frame: Frame, value: Ref, stop: u64)
+    fn resume_plainly(
+        &mut self,
+        prepared: &Prepared,
+        space: &Space,
+        frame: Frame,
+        value: Ref,
+        stop: u64,
+    )
         requires control { self.old.control ≡ Control.Give (Answer.Gave value) }
         requires top { IsTop self.old.frames.items frame }
         requires plain { IsRareFrame frame → ⊥ }
         requires nested { IsNested (view_of self.old) }
         requires within { stop ≤ self.old.left }
-        ensures goes { (t : Table) (h : Course) → remaining prepared.now.program (view_of self.old) t h ≡ remaining prepared.now.program (view_of self.new) t h }
+        ensures goes { (h : Course) → remaining prepared.now.program (view_of self.old) space.now h ≡ remaining prepared.now.program (view_of self.new) space.now h }
         ensures nested { IsNested (view_of self.new) }
-        ensures within { (k : Reach) → AreReached k (view_of self.old) → AreReached k (view_of self.new) }
+        ensures within { (clusters : Option Below) → AreReached (reach (length space.now.slots) clusters) (view_of self.old) → AreReached (reach (length space.now.slots) clusters) (view_of self.new) }
         ensures left { stop ≤ self.new.left }
         ensures kept { self.new.left ≤ self.old.left }
         ensures falls { size (view_of self.new) < size (view_of self.old) }
     {
         self.take_top(frame, Answer::Gave(value));
-        match self.resume(prepared, frame, value, stop) {
+        match self.resume(prepared, space, frame, value, stop) {
             true => (),
             false => unreachable!(),
         }
@@ -347,7 +326,7 @@ impl Engine {
         };
         match frame {
             Frame::And(_) | Frame::Or(_) | Frame::Not | Frame::Break | Frame::Next =>
-                self.resume_plainly(prepared, frame, value, stop),
+                self.resume_plainly(prepared, space, frame, value, stop),
             Frame::Class(_)
             | Frame::Handling(_)
             | Frame::Ensure(_)
@@ -376,14 +355,14 @@ impl Engine {
     {
         let program = &prepared.program;
         match self.frames.last() {
-            Some(&Frame::Left(op, b)) => self.resume_left(prepared, op, b, value, stop),
+            Some(&Frame::Left(op, b)) => self.resume_left(prepared, space, op, b, value, stop),
             Some(&Frame::Right(op, left)) => return self.resume_right(op, left, value),
             Some(&Frame::Store(variable)) => self.resume_store(variable, value),
             Some(&Frame::Branch(yes, no)) => self.resume_branch(yes, no, value),
             Some(&Frame::Condition(until, body, here)) => {
                 self.resume_condition(until, body, here, value);
             }
-            Some(&Frame::Body(here)) => self.resume_body(prepared, here, value, stop),
+            Some(&Frame::Body(here)) => self.resume_body(prepared, space, here, value, stop),
             Some(&Frame::Rest(end, count)) => self.resume_rest(end, count, value),
             Some(&Frame::Back(by)) => self.resume_back(by, value),
             Some(&Frame::Past) => self.resume_past(value),

@@ -42,6 +42,7 @@ impl Engine {
     pub fn first_value(
         &mut self,
         prepared: &Prepared,
+        space: &Space,
         here: NodeId,
         frame: Frame,
         part: NodeId,
@@ -53,17 +54,17 @@ impl Engine {
         requires some { stop < self.old.left }
         requires room { length self.old.frames.items < vec_capacity self.old.frames }
         requires nested { IsNested (view_of self.old) }
-        ensures goes { (t : Table) (h : Course) → MatchOption result (remaining prepared.now.program (view_of self.old) t h ≡ remaining prepared.now.program (view_of self.new) t h) (λ v. remaining prepared.now.program (view_of self.old) t h ≡ after_answer prepared.now.program (view_of self.new) t frame (Answer.Gave v) h self.new.left) }
+        ensures goes { (h : Course) → MatchOption result (remaining prepared.now.program (view_of self.old) space.now h ≡ remaining prepared.now.program (view_of self.new) space.now h) (λ v. remaining prepared.now.program (view_of self.old) space.now h ≡ after_answer prepared.now.program (view_of self.new) space.now frame (Answer.Gave v) h self.new.left) }
         ensures nested { MatchOption result (IsNested (view_of self.new)) (λ _. Nested (reverse self.new.frames.items) (below_of frame self.new.held.items)) }
-        ensures within { (k : Reach) → AreReached k (view_of self.old) → IsFrameReached k frame → AreReached k (view_of self.new) }
-        ensures value { (k : Reach) → AreReached k (view_of self.old) → IfSome result (IsReached k) }
+        ensures within { (clusters : Option Below) → AreReached (reach (length space.now.slots) clusters) (view_of self.old) → IsFrameReached (reach (length space.now.slots) clusters) frame → AreReached (reach (length space.now.slots) clusters) (view_of self.new) }
+        ensures value { (clusters : Option Below) → AreReached (reach (length space.now.slots) clusters) (view_of self.old) → IfSome result (IsReached (reach (length space.now.slots) clusters)) }
         ensures base { IfSome result (λ _. base_of frame ≤ length self.new.held.items) }
         ensures frames { IfSome result (λ _. self.new.frames ≡ self.old.frames) }
         ensures left { stop ≤ self.new.left }
         ensures spends { self.new.left < self.old.left }
         ensures size { MatchOption result (size (view_of self.new) ≤ 3 * length self.old.frames.items + 4) (λ _. self.new.left + 2 ≤ self.old.left) }
     {
-        match self.quick_before(prepared, part, stop) {
+        match self.quick_before(prepared, space, part, stop) {
             Some(found) => {
                 self.left -= found.steps + 1;
                 Some(found.value)
@@ -78,20 +79,20 @@ impl Engine {
 
     /// Evaluates a node that needs no frame, where the steps do not stop before what follows.
     #[inline(always)]
-    fn visit_quick(&mut self, prepared: &Prepared, here: NodeId, stop: u64) -> bool
+    fn visit_quick(&mut self, prepared: &Prepared, space: &Space, here: NodeId, stop: u64) -> bool
         requires control { self.old.control ≡ Control.Enter here }
         requires some { stop < self.old.left }
         requires nested { IsNested (view_of self.old) }
-        ensures goes { (t : Table) (h : Course) → remaining prepared.now.program (view_of self.old) t h ≡ remaining prepared.now.program (view_of self.new) t h }
+        ensures goes { (h : Course) → remaining prepared.now.program (view_of self.old) space.now h ≡ remaining prepared.now.program (view_of self.new) space.now h }
         ensures nested { IsNested (view_of self.new) }
-        ensures within { (k : Reach) → AreReached k (view_of self.old) → AreReached k (view_of self.new) }
+        ensures within { (clusters : Option Below) → AreReached (reach (length space.now.slots) clusters) (view_of self.old) → AreReached (reach (length space.now.slots) clusters) (view_of self.new) }
         ensures left { stop ≤ self.new.left }
         ensures kept { self.new.left ≤ self.old.left }
         ensures spends { IsTrue result → self.new.left < self.old.left }
         ensures falls { power (view_of self.new) + self.old.left ≤ power (view_of self.old) + self.new.left }
         ensures same { IsFalse result → self.new ≡ self.old }
     {
-        match self.quick_before(prepared, here, stop) {
+        match self.quick_before(prepared, space, here, stop) {
             Some(found) => {
                 self.left -= found.steps;
                 self.control = Control::Give(Answer::Gave(found.value));
@@ -130,6 +131,7 @@ impl Engine {
     fn visit_choice(
         &mut self,
         prepared: &Prepared,
+        space: &Space,
         here: NodeId,
         condition: NodeId,
         yes: NodeId,
@@ -141,15 +143,15 @@ impl Engine {
         requires some { stop < self.old.left }
         requires room { length self.old.frames.items < vec_capacity self.old.frames }
         requires nested { IsNested (view_of self.old) }
-        ensures goes { (t : Table) (h : Course) → remaining prepared.now.program (view_of self.old) t h ≡ remaining prepared.now.program (view_of self.new) t h }
+        ensures goes { (h : Course) → remaining prepared.now.program (view_of self.old) space.now h ≡ remaining prepared.now.program (view_of self.new) space.now h }
         ensures nested { IsNested (view_of self.new) }
-        ensures within { (k : Reach) → AreReached k (view_of self.old) → AreReached k (view_of self.new) }
+        ensures within { (clusters : Option Below) → AreReached (reach (length space.now.slots) clusters) (view_of self.old) → AreReached (reach (length space.now.slots) clusters) (view_of self.new) }
         ensures left { stop ≤ self.new.left }
         ensures spends { self.new.left < self.old.left }
         ensures falls { power (view_of self.new) + self.old.left ≤ power (view_of self.old) + self.new.left }
     {
         let frame = Frame::Branch(yes, no);
-        if let Some(value) = self.first_value(prepared, here, frame, condition, stop) {
+        if let Some(value) = self.first_value(prepared, space, here, frame, condition, stop) {
             self.go_into(prepared, chosen(yes, no, value), stop);
         }
     }
@@ -159,6 +161,7 @@ impl Engine {
     fn visit_loop(
         &mut self,
         prepared: &Prepared,
+        space: &Space,
         here: NodeId,
         until: bool,
         condition: NodeId,
@@ -170,30 +173,30 @@ impl Engine {
         requires some { stop < self.old.left }
         requires room { length self.old.frames.items < vec_capacity self.old.frames }
         requires nested { IsNested (view_of self.old) }
-        ensures goes { (t : Table) (h : Course) → remaining prepared.now.program (view_of self.old) t h ≡ remaining prepared.now.program (view_of self.new) t h }
+        ensures goes { (h : Course) → remaining prepared.now.program (view_of self.old) space.now h ≡ remaining prepared.now.program (view_of self.new) space.now h }
         ensures nested { IsNested (view_of self.new) }
-        ensures within { (k : Reach) → AreReached k (view_of self.old) → AreReached k (view_of self.new) }
+        ensures within { (clusters : Option Below) → AreReached (reach (length space.now.slots) clusters) (view_of self.old) → AreReached (reach (length space.now.slots) clusters) (view_of self.new) }
         ensures left { stop ≤ self.new.left }
         ensures spends { self.new.left < self.old.left }
         ensures falls { power (view_of self.new) + self.old.left ≤ power (view_of self.old) + self.new.left }
         ensures size { size (view_of self.new) ≤ 3 * length self.old.frames.items + 4 }
     {
         let frame = Frame::Condition(until, body, here);
-        if let Some(value) = self.first_value(prepared, here, frame, condition, stop) {
+        if let Some(value) = self.first_value(prepared, space, here, frame, condition, stop) {
             self.go_round(until, body, here, value);
         }
     }
 
     /// Evaluates a loop once more, where a loop comes next.
     #[inline(always)]
-    pub fn visit_again(&mut self, prepared: &Prepared, here: NodeId, stop: u64)
+    pub fn visit_again(&mut self, prepared: &Prepared, space: &Space, here: NodeId, stop: u64)
         requires control { self.old.control ≡ Control.Enter here }
         requires some { stop < self.old.left }
         requires room { length self.old.frames.items < vec_capacity self.old.frames }
         requires nested { IsNested (view_of self.old) }
-        ensures goes { (t : Table) (h : Course) → remaining prepared.now.program (view_of self.old) t h ≡ remaining prepared.now.program (view_of self.new) t h }
+        ensures goes { (h : Course) → remaining prepared.now.program (view_of self.old) space.now h ≡ remaining prepared.now.program (view_of self.new) space.now h }
         ensures nested { IsNested (view_of self.new) }
-        ensures within { (k : Reach) → AreReached k (view_of self.old) → AreReached k (view_of self.new) }
+        ensures within { (clusters : Option Below) → AreReached (reach (length space.now.slots) clusters) (view_of self.old) → AreReached (reach (length space.now.slots) clusters) (view_of self.new) }
         ensures left { stop ≤ self.new.left }
         ensures kept { self.new.left ≤ self.old.left }
         ensures size { size (view_of self.new) ≤ 3 * length self.old.frames.items + 4 }
@@ -205,7 +208,7 @@ impl Engine {
                     condition,
                     body,
                 },
-            ) => self.visit_loop(prepared, here, until, condition, body, stop),
+            ) => self.visit_loop(prepared, space, here, until, condition, body, stop),
             _ => (),
         }
     }
@@ -215,6 +218,7 @@ impl Engine {
     fn visit_store(
         &mut self,
         prepared: &Prepared,
+        space: &Space,
         here: NodeId,
         variable: Variable,
         value: NodeId,
@@ -225,15 +229,15 @@ impl Engine {
         requires some { stop < self.old.left }
         requires room { length self.old.frames.items < vec_capacity self.old.frames }
         requires nested { IsNested (view_of self.old) }
-        ensures goes { (t : Table) (h : Course) → remaining prepared.now.program (view_of self.old) t h ≡ remaining prepared.now.program (view_of self.new) t h }
+        ensures goes { (h : Course) → remaining prepared.now.program (view_of self.old) space.now h ≡ remaining prepared.now.program (view_of self.new) space.now h }
         ensures nested { IsNested (view_of self.new) }
-        ensures within { (k : Reach) → AreReached k (view_of self.old) → AreReached k (view_of self.new) }
+        ensures within { (clusters : Option Below) → AreReached (reach (length space.now.slots) clusters) (view_of self.old) → AreReached (reach (length space.now.slots) clusters) (view_of self.new) }
         ensures left { stop ≤ self.new.left }
         ensures spends { self.new.left < self.old.left }
         ensures falls { power (view_of self.new) + self.old.left ≤ power (view_of self.old) + self.new.left }
     {
         let frame = Frame::Store(variable);
-        if let Some(value) = self.first_value(prepared, here, frame, value, stop) {
+        if let Some(value) = self.first_value(prepared, space, here, frame, value, stop) {
             self.store(variable, value);
         }
     }
@@ -243,6 +247,7 @@ impl Engine {
     fn visit_operands(
         &mut self,
         prepared: &Prepared,
+        space: &Space,
         here: NodeId,
         op: BinaryOperator,
         a: NodeId,
@@ -254,16 +259,16 @@ impl Engine {
         requires some { stop < self.old.left }
         requires room { length self.old.frames.items < vec_capacity self.old.frames }
         requires nested { IsNested (view_of self.old) }
-        ensures goes { (t : Table) (h : Course) → remaining prepared.now.program (view_of self.old) t h ≡ remaining prepared.now.program (view_of self.new) t h }
+        ensures goes { (h : Course) → remaining prepared.now.program (view_of self.old) space.now h ≡ remaining prepared.now.program (view_of self.new) space.now h }
         ensures nested { IsNested (view_of self.new) }
-        ensures within { (k : Reach) → AreReached k (view_of self.old) → AreReached k (view_of self.new) }
+        ensures within { (clusters : Option Below) → AreReached (reach (length space.now.slots) clusters) (view_of self.old) → AreReached (reach (length space.now.slots) clusters) (view_of self.new) }
         ensures left { stop ≤ self.new.left }
         ensures spends { self.new.left < self.old.left }
         ensures falls { power (view_of self.new) + self.old.left ≤ power (view_of self.old) + self.new.left }
     {
         let frame = Frame::Left(op, b);
-        if let Some(value) = self.first_value(prepared, here, frame, a, stop) {
-            self.operate_left(prepared, op, value, b, stop);
+        if let Some(value) = self.first_value(prepared, space, here, frame, a, stop) {
+            self.operate_left(prepared, space, op, value, b, stop);
         }
     }
 
@@ -337,24 +342,30 @@ impl Engine {
     /// Evaluates a node of another kind, where that is usual: it answers whether it was done.
     #[cold]
     #[inline(never)]
-    pub fn visit_apart(&mut self, prepared: &Prepared, here: NodeId, stop: u64) -> bool
+    pub fn visit_apart(
+        &mut self,
+        prepared: &Prepared,
+        space: &Space,
+        here: NodeId,
+        stop: u64,
+    ) -> bool
         requires control { self.old.control ≡ Control.Enter here }
         requires some { stop < self.old.left }
         requires room { length self.old.frames.items < vec_capacity self.old.frames }
         requires nested { IsNested (view_of self.old) }
-        ensures goes { (t : Table) (h : Course) → remaining prepared.now.program (view_of self.old) t h ≡ remaining prepared.now.program (view_of self.new) t h }
+        ensures goes { (h : Course) → remaining prepared.now.program (view_of self.old) space.now h ≡ remaining prepared.now.program (view_of self.new) space.now h }
         ensures nested { IsNested (view_of self.new) }
-        ensures within { (k : Reach) → AreReached k (view_of self.old) → AreReached k (view_of self.new) }
+        ensures within { (clusters : Option Below) → AreReached (reach (length space.now.slots) clusters) (view_of self.old) → AreReached (reach (length space.now.slots) clusters) (view_of self.new) }
         ensures left { stop ≤ self.new.left }
         ensures kept { self.new.left ≤ self.old.left }
         ensures spends { IsTrue result → self.new.left < self.old.left }
         ensures falls { power (view_of self.new) + self.old.left ≤ power (view_of self.old) + self.new.left }
     {
-        if self.visit_quick(prepared, here, stop) {
+        if self.visit_quick(prepared, space, here, stop) {
             return true;
         }
         let node = evaluated_node(&prepared.program, here);
-        self.visit_first(prepared, here, node, stop)
+        self.visit_first(prepared, space, here, node, stop)
     }
 
     /// Evaluates a call of a receiver, or a node of another kind, where that is usual: it answers whether it was done.
@@ -400,15 +411,15 @@ impl Engine {
                 until,
                 condition,
                 body,
-            } => self.visit_loop(prepared, here, until, condition, body, stop),
+            } => self.visit_loop(prepared, space, here, until, condition, body, stop),
             &Node::Sequence { first, count } => {
                 self.visit_statements(&prepared.program, here, first, count, stop);
             }
-            &Node::Return(value) => self.visit_return(prepared, here, value, stop),
+            &Node::Return(value) => self.visit_return(prepared, space, here, value, stop),
             &Node::SetField(name, value) => {
-                self.visit_set_field(prepared, here, name, value, stop);
+                self.visit_set_field(prepared, space, here, name, value, stop);
             }
-            _ => return self.visit_waiting(prepared, here, node, stop),
+            _ => return self.visit_waiting(prepared, space, here, node, stop),
         }
         true
     }
@@ -436,7 +447,7 @@ impl Engine {
     {
         match prepared.node(here) {
             Some(&Node::Choose(condition, yes, no)) => {
-                self.visit_choice(prepared, here, condition, yes, no, stop);
+                self.visit_choice(prepared, space, here, condition, yes, no, stop);
             }
             Some(
                 &Node::Assign {
@@ -445,8 +456,10 @@ impl Engine {
                     value,
                     ..
                 },
-            ) => self.visit_store(prepared, here, Variable { depth, slot }, value, stop),
-            Some(&Node::Binary(op, a, b)) => self.visit_operands(prepared, here, op, a, b, stop),
+            ) => self.visit_store(prepared, space, here, Variable { depth, slot }, value, stop),
+            Some(&Node::Binary(op, a, b)) => self.visit_operands(
+                prepared, space, here, op, a, b, stop,
+            ),
             Some(
                 &Node::Call {
                     name,

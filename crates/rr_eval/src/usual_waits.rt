@@ -1,7 +1,7 @@
 //! Nodes that are usual and wait for one part: what they do needs neither memory nor the objects.
 
-ghost use Rattle.std.specs.Prelude.{◌≡◌, ◌+◌, ◌<◌, ◌≤◌, [], length, vec_capacity, IsTrue};
-ghost use Rattle.rr_space.specs.Tables.{Table};
+ghost use Rattle.std.specs.Prelude.{◌≡◌, ◌+◌, ◌<◌, ◌≤◌, [], length, vec_capacity, IsTrue, Option};
+ghost use Rattle.rr_space.specs.Tables.{Table, Below};
 ghost use Rattle.rr_tree.specs.Tree.{tree_at};
 ghost use Rattle.rr_tree.specs.declared.node.Node.{Node};
 ghost use Rattle.rr_eval.specs.declared.frame.Control.{Control};
@@ -13,7 +13,7 @@ ghost use Rattle.rr_eval.specs.Rules.{rule};
 ghost use Rattle.rr_eval.specs.Script.{Go, Ret, World};
 ghost use Rattle.rr_eval.specs.Turns.{context_of, code_of, IsNested, remaining, power, size};
 ghost use Rattle.rr_eval.specs.Views.{view_of};
-ghost use Rattle.rr_eval.specs.Within.{Reach, AreReached};
+ghost use Rattle.rr_eval.specs.Within.{Reach, reach, AreReached};
 
 use crate::engine::Engine;
 use crate::frame::{Control, Frame};
@@ -21,6 +21,7 @@ use crate::nodes::node_at;
 use crate::prepared::Prepared;
 use crate::problem::Answer;
 use rr_base::Sym;
+use rr_space::Space;
 use rr_tree::{Node, NodeId, Program};
 
 impl Engine {
@@ -45,7 +46,7 @@ impl Engine {
 
     /// Evaluates the statements of a block at once, where a block comes next and the steps do not stop before.
     #[inline(always)]
-    pub fn enter_body(&mut self, program: &Program, stop: u64)
+    fn enter_statement_list(&mut self, program: &Program, stop: u64)
         requires within { stop ≤ self.old.left }
         requires nested { IsNested (view_of self.old) }
         ensures goes { (t : Table) (h : Course) → remaining program.now (view_of self.old) t h ≡ remaining program.now (view_of self.new) t h }
@@ -61,6 +62,43 @@ impl Engine {
         {
             self.visit_body(program, here, body, stop);
         }
+    }
+
+    /// Evaluates a statement at once, where it comes next as a list of one and the steps do not stop before.
+    #[inline(always)]
+    pub fn enter_single(&mut self, program: &Program, stop: u64)
+        requires within { stop ≤ self.old.left }
+        requires nested { IsNested (view_of self.old) }
+        ensures goes { (t : Table) (h : Course) → remaining program.now (view_of self.old) t h ≡ remaining program.now (view_of self.new) t h }
+        ensures nested { IsNested (view_of self.new) }
+        ensures within { (k : Reach) → AreReached k (view_of self.old) → AreReached k (view_of self.new) }
+        ensures left { stop ≤ self.new.left }
+        ensures kept { self.new.left ≤ self.old.left }
+        ensures less { size (view_of self.new) ≤ size (view_of self.old) }
+    {
+        if let Control::Enter(here) = self.control
+            && self.left > stop
+            && let Some(&Node::Sequence { first, count: 1 }) = node_at(program, here)
+        {
+            self.visit_body(program, here, first, stop);
+        }
+    }
+
+    /// Evaluates the statements of a block at once, where a block comes next and the steps do not stop before, and with them the first
+    /// of them, where there is no other.
+    #[inline(always)]
+    pub fn enter_body(&mut self, program: &Program, stop: u64)
+        requires within { stop ≤ self.old.left }
+        requires nested { IsNested (view_of self.old) }
+        ensures goes { (t : Table) (h : Course) → remaining program.now (view_of self.old) t h ≡ remaining program.now (view_of self.new) t h }
+        ensures nested { IsNested (view_of self.new) }
+        ensures within { (k : Reach) → AreReached k (view_of self.old) → AreReached k (view_of self.new) }
+        ensures left { stop ≤ self.new.left }
+        ensures kept { self.new.left ≤ self.old.left }
+        ensures less { size (view_of self.new) ≤ size (view_of self.old) }
+    {
+        self.enter_statement_list(program, stop);
+        self.enter_single(program, stop);
     }
 
     /// Passes a `return` on at once, where one comes next.
@@ -80,20 +118,27 @@ impl Engine {
 
     /// Evaluates a `return`.
     #[inline(always)]
-    pub fn visit_return(&mut self, prepared: &Prepared, here: NodeId, value: NodeId, stop: u64)
+    pub fn visit_return(
+        &mut self,
+        prepared: &Prepared,
+        space: &Space,
+        here: NodeId,
+        value: NodeId,
+        stop: u64,
+    )
         requires control { self.old.control ≡ Control.Enter here }
         requires tree { tree_at prepared.now.program.nodes.items here ≡ evaluated_tree prepared.now.program.nodes.items (Node.Return value) }
         requires some { stop < self.old.left }
         requires room { length self.old.frames.items < vec_capacity self.old.frames }
         requires nested { IsNested (view_of self.old) }
-        ensures goes { (t : Table) (h : Course) → remaining prepared.now.program (view_of self.old) t h ≡ remaining prepared.now.program (view_of self.new) t h }
+        ensures goes { (h : Course) → remaining prepared.now.program (view_of self.old) space.now h ≡ remaining prepared.now.program (view_of self.new) space.now h }
         ensures nested { IsNested (view_of self.new) }
-        ensures within { (k : Reach) → AreReached k (view_of self.old) → AreReached k (view_of self.new) }
+        ensures within { (clusters : Option Below) → AreReached (reach (length space.now.slots) clusters) (view_of self.old) → AreReached (reach (length space.now.slots) clusters) (view_of self.new) }
         ensures left { stop ≤ self.new.left }
         ensures spends { self.new.left < self.old.left }
         ensures falls { power (view_of self.new) + self.old.left ≤ power (view_of self.old) + self.new.left }
     {
-        if let Some(found) = self.first_value(prepared, here, Frame::Return, value, stop) {
+        if let Some(found) = self.first_value(prepared, space, here, Frame::Return, value, stop) {
             self.leave_method(found);
             self.pass_on();
         }
@@ -133,6 +178,7 @@ impl Engine {
     pub fn visit_set_field(
         &mut self,
         prepared: &Prepared,
+        space: &Space,
         here: NodeId,
         name: Sym,
         value: NodeId,
@@ -143,15 +189,15 @@ impl Engine {
         requires some { stop < self.old.left }
         requires room { length self.old.frames.items < vec_capacity self.old.frames }
         requires nested { IsNested (view_of self.old) }
-        ensures goes { (t : Table) (h : Course) → remaining prepared.now.program (view_of self.old) t h ≡ remaining prepared.now.program (view_of self.new) t h }
+        ensures goes { (h : Course) → remaining prepared.now.program (view_of self.old) space.now h ≡ remaining prepared.now.program (view_of self.new) space.now h }
         ensures nested { IsNested (view_of self.new) }
-        ensures within { (k : Reach) → AreReached k (view_of self.old) → AreReached k (view_of self.new) }
+        ensures within { (clusters : Option Below) → AreReached (reach (length space.now.slots) clusters) (view_of self.old) → AreReached (reach (length space.now.slots) clusters) (view_of self.new) }
         ensures left { stop ≤ self.new.left }
         ensures spends { self.new.left < self.old.left }
         ensures falls { power (view_of self.new) + self.old.left ≤ power (view_of self.old) + self.new.left }
     {
         let frame = Frame::SetField(name);
-        if let Some(found) = self.first_value(prepared, here, frame, value, stop) {
+        if let Some(found) = self.first_value(prepared, space, here, frame, value, stop) {
             self.give_above(frame, found);
         }
     }
@@ -161,6 +207,7 @@ impl Engine {
     pub fn visit_waiting(
         &mut self,
         prepared: &Prepared,
+        space: &Space,
         here: NodeId,
         node: &Node,
         stop: u64,
@@ -171,9 +218,9 @@ impl Engine {
         requires some { stop < self.old.left }
         requires room { length self.old.frames.items < vec_capacity self.old.frames }
         requires nested { IsNested (view_of self.old) }
-        ensures goes { (t : Table) (h : Course) → remaining prepared.now.program (view_of self.old) t h ≡ remaining prepared.now.program (view_of self.new) t h }
+        ensures goes { (h : Course) → remaining prepared.now.program (view_of self.old) space.now h ≡ remaining prepared.now.program (view_of self.new) space.now h }
         ensures nested { IsNested (view_of self.new) }
-        ensures within { (k : Reach) → AreReached k (view_of self.old) → AreReached k (view_of self.new) }
+        ensures within { (clusters : Option Below) → AreReached (reach (length space.now.slots) clusters) (view_of self.old) → AreReached (reach (length space.now.slots) clusters) (view_of self.new) }
         ensures left { stop ≤ self.new.left }
         ensures kept { self.new.left ≤ self.old.left }
         ensures spends { IsTrue result → self.new.left < self.old.left }
@@ -199,7 +246,7 @@ impl Engine {
                 otherwise,
                 stop,
             ),
-            _ => return self.visit_apart(prepared, here, stop),
+            _ => return self.visit_apart(prepared, space, here, stop),
         }
         true
     }

@@ -9,7 +9,7 @@ loop-number-preserved c =
     let ns = c.args.program.now.nodes.items in
     let now = c.loop-number.invariant in
     let all = c.loop-number.parts.items in
-    let part = c.simple_at.result in
+    let part = c.part_at.result in
     let at : length all ≡ c.in-Ok.place = omega (arith, now.1, c.in-Ok.ensures) in
     let items = c.in_ok-push.ensures.items in
-    (subst (AreSimple ns) (sym items) (simple_more ns all part c.in-Ok.place at now.0 c.simple_at.ensures), ap length items ∙ length-append all (part ∷ []) ∙ ap (λ n. n + 1) now.1)
+    (subst (AreSimple ns) (sym items) (simple_more ns all part c.in-Ok.place at now.0 c.part_at.ensures), ap length items ∙ length-append all (part ∷ []) ∙ ap (λ n. n + 1) now.1)

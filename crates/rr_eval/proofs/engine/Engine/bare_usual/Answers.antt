@@ -1,5 +1,5 @@
 -- The call is one step.
-use Rattle.std.proofs.Common.{◌≡◌, ◌∙◌, ◌-◌, suc, ap, sym, arith}
+use Rattle.std.proofs.Common.{◌≡◌, ◌∙◌, ◌-◌, suc, ap, sym, arith, length}
 use Rattle.std.specs.Option.{option_map}
 use Rattle.rr_tree.specs.Tree.{tree_at}
 use Rattle.rr_eval.specs.Frames.{first_tree}
@@ -7,7 +7,7 @@ use Rattle.rr_eval.specs.Prepared.{callable_of}
 use Rattle.rr_eval.specs.Rules.{bare_rule, printing, raises, asks_block}
 use Rattle.rr_eval.specs.Turns.{context_of, after_script, remaining_with}
 use Rattle.rr_eval.specs.Views.{view_of}
-use Rattle.rr_eval.specs.Within.{IsReached}
+use Rattle.rr_eval.specs.Within.{reach, IsReached}
 use Rattle.rr_eval.proofs.Entered.{stepped}
 use Rattle.rr_eval.proofs.Holding.{all_nil, with_left}
 use Rattle.rr_eval.proofs.engine.Engine.bare_usual.Goals as goal
@@ -28,5 +28,6 @@ returns-then-begin_method-clause-goes c = λ h.
     ∙ ap (λ n. remaining_with p (view_of c.begin_method.new.self) t h (n - 1)) (sym c.begin_method.ensures.left)
 
 pub returns-then-begin_method-clause-within : goal.returns-then-begin_method-clause-within
-returns-then-begin_method-clause-within c k h =
+returns-then-begin_method-clause-within c clusters h =
+    let k = reach (length c.args.space.now.slots) clusters in
     with_left k (view_of c.begin_method.new.self) _ (c.begin_method.ensures.within k h (all_nil (IsReached k)))

@@ -4,7 +4,7 @@ use Rattle.rr_tree.specs.Nodes.{trees_before}
 use Rattle.rr_eval.specs.Prepared.{callable_of}
 use Rattle.rr_eval.specs.Turns.{IsNested, remaining_with}
 use Rattle.rr_eval.specs.Views.{view_of}
-use Rattle.rr_eval.specs.Within.{IsReached, AreReached}
+use Rattle.rr_eval.specs.Within.{reach, IsReached, AreReached}
 use Rattle.rr_eval.proofs.Holding.{all_nil, with_left}
 use Rattle.rr_eval.proofs.QuickCalls.{own_held, own_waits}
 use Rattle.rr_eval.proofs.QuickParts.{held_nested, view_back}
@@ -49,8 +49,9 @@ returns-then-begin_method-clause-goes c = λ _ h.
     ∙ ap (λ i. remaining_with p (view_of c.begin_method.new.self) t h i) spent
 
 pub returns-then-begin_method-clause-within : goal.returns-then-begin_method-clause-within
-returns-then-begin_method-clause-within c k h =
-    with_left k (view_of c.begin_method.new.self) _ (c.begin_method.ensures.within k (c.hold_parts-parts.ensures.within k h) (all_nil (IsReached k)))
+returns-then-begin_method-clause-within c clusters h =
+    let k = reach (length c.args.space.now.slots) clusters in
+    with_left k (view_of c.begin_method.new.self) _ (c.begin_method.ensures.within k (c.hold_parts-parts.ensures.within clusters h) (all_nil (IsReached k)))
 
 pub returns-clause-same : goal.returns-clause-same
 returns-clause-same c = λ _.
@@ -62,4 +63,4 @@ pub returns-clause-nested : goal.returns-clause-nested
 returns-clause-nested c = subst IsNested (sym (returns-clause-same c refl)) c.requires.nested
 
 pub returns-clause-within : goal.returns-clause-within
-returns-clause-within c k h = subst (AreReached k) (sym (returns-clause-same c refl)) h
+returns-clause-within c clusters h = subst (AreReached (reach (length c.args.space.now.slots) clusters)) (sym (returns-clause-same c refl)) h

@@ -76,13 +76,13 @@ returns-clause-err c t =
 pub returns-clause-within : goal.returns-clause-within
 returns-clause-within c clusters h =
     let k = reach (length c.args.space.now.slots) clusters in
-    let reached = apart_reached k (view_of c.hold_sent.new.self) c.pop.new.self.items c.in-Some.last c.in-Some.ensures.items (c.hold_sent.ensures.within k h (c.requires.value k h)) in
+    let reached = apart_reached k (view_of c.hold_sent.new.self) c.pop.new.self.items c.in-Some.last c.in-Some.ensures.items (c.hold_sent.ensures.within clusters h (c.requires.value clusters h)) in
     c.send_held.ensures.within clusters reached.0 reached.1
 
 pub returns-clause-asks : goal.returns-clause-asks
 returns-clause-asks c clusters h =
     let k = reach (length c.args.space.now.slots) clusters in
-    let reached = apart_reached k (view_of c.hold_sent.new.self) c.pop.new.self.items c.in-Some.last c.in-Some.ensures.items (c.hold_sent.ensures.within k h (c.requires.value k h)) in
+    let reached = apart_reached k (view_of c.hold_sent.new.self) c.pop.new.self.items c.in-Some.last c.in-Some.ensures.items (c.hold_sent.ensures.within clusters h (c.requires.value clusters h)) in
     c.send_held.ensures.asks clusters reached.0 reached.1
 
 pub returns-in_err-parts-clause-nested : goal.returns-in_err-parts-clause-nested

@@ -31,10 +31,10 @@ returns-in-Some-clause-goes c =
     c.send_held.ensures.goes
 
 pub returns-in-Some-clause-within : goal.returns-in-Some-clause-within
-returns-in-Some-clause-within c clusters h = c.send_held.ensures.within clusters h (c.in-Some.ensures.within (reach (length c.args.space.now.slots) clusters) h)
+returns-in-Some-clause-within c clusters h = c.send_held.ensures.within clusters h (c.in-Some.ensures.within clusters h)
 
 pub returns-in-Some-clause-asks : goal.returns-in-Some-clause-asks
-returns-in-Some-clause-asks c clusters h = c.send_held.ensures.asks clusters h (c.in-Some.ensures.within (reach (length c.args.space.now.slots) clusters) h)
+returns-in-Some-clause-asks c clusters h = c.send_held.ensures.asks clusters h (c.in-Some.ensures.within clusters h)
 
 pub returns-in-None-clause-goes : goal.returns-in-None-clause-goes
 returns-in-None-clause-goes c = λ h.

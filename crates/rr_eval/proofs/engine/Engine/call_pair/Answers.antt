@@ -57,13 +57,13 @@ pub returns-in_ok-push-in-Some-clause-within : goal.returns-in_ok-push-in-Some-c
 returns-in_ok-push-in-Some-clause-within c clusters h =
     let k = reach (length c.args.space.now.slots) clusters in
     let v = c.in-Some.found.value in
-    c.call_last.ensures.within clusters (items_reached k (view_of c.args.self.now) c.push.new.self.items (v ∷ []) c.in_ok-push-in-Some.ensures.items h (all_cons (IsReached k) v [] (c.in-Some.ensures.within k h) (all_nil (IsReached k))))
+    c.call_last.ensures.within clusters (items_reached k (view_of c.args.self.now) c.push.new.self.items (v ∷ []) c.in_ok-push-in-Some.ensures.items h (all_cons (IsReached k) v [] (c.in-Some.ensures.within clusters h) (all_nil (IsReached k))))
 
 pub returns-in_ok-push-in-Some-clause-asks : goal.returns-in_ok-push-in-Some-clause-asks
 returns-in_ok-push-in-Some-clause-asks c clusters h =
     let k = reach (length c.args.space.now.slots) clusters in
     let v = c.in-Some.found.value in
-    c.call_last.ensures.asks clusters (items_reached k (view_of c.args.self.now) c.push.new.self.items (v ∷ []) c.in_ok-push-in-Some.ensures.items h (all_cons (IsReached k) v [] (c.in-Some.ensures.within k h) (all_nil (IsReached k))))
+    c.call_last.ensures.asks clusters (items_reached k (view_of c.args.self.now) c.push.new.self.items (v ∷ []) c.in_ok-push-in-Some.ensures.items h (all_cons (IsReached k) v [] (c.in-Some.ensures.within clusters h) (all_nil (IsReached k))))
 
 pub returns-in_ok-push-in-Some-clause-err : goal.returns-in_ok-push-in-Some-clause-err
 returns-in_ok-push-in-Some-clause-err c t =

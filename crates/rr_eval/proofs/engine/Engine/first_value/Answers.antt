@@ -1,16 +1,18 @@
 -- The frame gets the value of a part that needs no frame.
-use Rattle.std.proofs.Common.{◌∙◌, ◌≡◌, suc, ◌-◌, ap, sym, arith}
+use Rattle.std.proofs.Common.{◌∙◌, ◌≡◌, suc, ◌-◌, ap, sym, arith, length}
 use Rattle.rr_eval.specs.Frames.{first_tree}
 use Rattle.rr_tree.specs.Tree.{tree_at}
 use Rattle.rr_eval.specs.Turns.{after_script, remaining_with}
 use Rattle.rr_eval.specs.Views.{view_of}
+use Rattle.rr_eval.specs.Within.{reach}
 use Rattle.rr_eval.proofs.Entered.{stepped}
 use Rattle.rr_eval.proofs.Holding.{with_left}
 use Rattle.rr_eval.proofs.Quickly.{under, waits_within}
 use Rattle.rr_eval.proofs.engine.Engine.first_value.Goals as goal
 
 pub returns-in-Some-clause-goes : goal.returns-in-Some-clause-goes
-returns-in-Some-clause-goes c t h =
+returns-in-Some-clause-goes c h =
+    let t = c.args.space.now in
     let p = c.args.prepared.now.program in
     let m = view_of c.args.self.now in
     let found = c.in-Some.found in
@@ -24,7 +26,8 @@ pub returns-in-Some-clause-base : goal.returns-in-Some-clause-base
 returns-in-Some-clause-base c = (waits_within (view_of c.args.self.now) c.args.frame c.requires.new c.requires.nested).0
 
 pub returns-in-None-clause-goes : goal.returns-in-None-clause-goes
-returns-in-None-clause-goes c t h =
+returns-in-None-clause-goes c h =
+    let t = c.args.space.now in
     let p = c.args.prepared.now.program in
     let m = view_of c.args.self.now in
     let some : m.left ≡ suc (m.left - 1) = omega arith in
@@ -34,7 +37,9 @@ returns-in-None-clause-goes c t h =
     ∙ ap (λ n. remaining_with p (view_of c.enter_above.new.self) t h (n - 1)) (sym c.enter_above.ensures.left)
 
 pub returns-in-Some-clause-within : goal.returns-in-Some-clause-within
-returns-in-Some-clause-within c k h frame = with_left k (view_of c.args.self.now) _ h
+returns-in-Some-clause-within c clusters h frame = with_left (reach (length c.args.space.now.slots) clusters) (view_of c.args.self.now) _ h
 
 pub returns-in-None-clause-within : goal.returns-in-None-clause-within
-returns-in-None-clause-within c k h frame = with_left k (view_of c.enter_above.new.self) _ (c.enter_above.ensures.within k h frame)
+returns-in-None-clause-within c clusters h frame =
+    let k = reach (length c.args.space.now.slots) clusters in
+    with_left k (view_of c.enter_above.new.self) _ (c.enter_above.ensures.within k h frame)

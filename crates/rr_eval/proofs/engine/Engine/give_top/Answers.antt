@@ -2,4 +2,4 @@
 use Rattle.rr_eval.proofs.engine.Engine.give_top.Goals as goal
 
 pub returns-in-Some-Rest-clause-within : goal.returns-in-Some-Rest-clause-within
-returns-in-Some-Rest-clause-within c k h value = c.begin.ensures.within k (c.drop_top.ensures.within k h)
+returns-in-Some-Rest-clause-within c k h value = c.next_statement.ensures.within k h

@@ -4,7 +4,7 @@ use Rattle.std.proofs.lemmas.List.{take_all, drop_all, drop-append-le}
 use Rattle.rr_tree.specs.Nodes.{trees_before}
 use Rattle.rr_tree.specs.Tree.{tree_at}
 use Rattle.rr_eval.specs.Views.{view_of}
-use Rattle.rr_eval.specs.Within.{IsReached}
+use Rattle.rr_eval.specs.Within.{reach, IsReached}
 use Rattle.rr_eval.proofs.Holding.{all_cons, all_nil}
 use Rattle.rr_eval.proofs.QuickParts.{first_none, first_more, takes_before, holds_more}
 use Rattle.rr_eval.proofs.Splatted.{items_reached}
@@ -15,13 +15,13 @@ loop-rest-init c =
     let m = view_of c.args.self.now in
     let at = length m.held in
     record {
-      takes = first_none c.args.prepared.now.program m (trees_before c.args.prepared.now.program.nodes.items c.args.end c.args.count) (drop at m.held) (drop_all at m.held (omega arith));
+      takes = first_none c.args.prepared.now.program m c.args.space.now (trees_before c.args.prepared.now.program.nodes.items c.args.end c.args.count) (drop at m.held) (drop_all at m.held (omega arith));
       fewer = omega arith;
       rest = refl;
       space = c.requires.space;
       enough = omega arith;
       holds = record { control = refl; frames = refl; held = take_all at m.held (omega arith); calls = refl; blocks = refl; rescuing = refl; left = refl };
-      reached = λ k h. h;
+      reached = λ clusters h. h;
       room = refl;
     }
 
@@ -42,14 +42,17 @@ loop-rest-preserved c =
     let enough = c.in-Some.ensures.enough in
     let left = now.holds.left in
     let size = ap length pushed ∙ length-append n.held (v ∷ []) in
-    let its = takes_before p m n (tree_at p.nodes.items place) found.steps v now.holds c.in-Some.ensures.takes in
+    let t = c.args.space.now in
+    let its = takes_before p m n t (tree_at p.nodes.items place) found.steps v now.holds c.in-Some.ensures.takes in
     record {
-      takes = first_more p m (trees_before p.nodes.items c.args.end c.args.count) c.args.end c.loop-rest.steps rest found.steps place (rest - 1) (drop at n.held) (drop at all) v now.takes (omega arith) c.saturating_sub.ensures refl (ap (drop at) pushed ∙ drop-append-le at n.held (v ∷ []) le) c.in-Some.ensures.plain its;
+      takes = first_more p m t (trees_before p.nodes.items c.args.end c.args.count) c.args.end c.loop-rest.steps rest found.steps place (rest - 1) (drop at n.held) (drop at all) v now.takes (omega arith) c.saturating_sub.ensures refl (ap (drop at) pushed ∙ drop-append-le at n.held (v ∷ []) le) c.in-Some.ensures.plain its;
       fewer = omega arith;
       rest = omega (arith, size);
       space = omega (arith, size);
       enough = omega (arith, enough, left);
       holds = holds_more m n all v now.holds le pushed;
-      reached = λ k h. items_reached k n all (v ∷ []) pushed (now.reached k h) (all_cons (IsReached k) v [] (c.in-Some.ensures.within k (now.reached k h)) (all_nil (IsReached k)));
+      reached = λ clusters h.
+          let k = reach (length t.slots) clusters in
+          items_reached k n all (v ∷ []) pushed (now.reached clusters h) (all_cons (IsReached k) v [] (c.in-Some.ensures.within clusters (now.reached clusters h)) (all_nil (IsReached k)));
       room = now.room;
     }

@@ -64,4 +64,4 @@ returns-clause-goes c = λ _ h.
 pub returns-clause-within : goal.returns-clause-within
 returns-clause-within c clusters h =
     let k = reach (length c.args.space.now.slots) clusters in
-    with_left k (view_of c.await_object.new.self) _ (c.await_object.ensures.within k (c.hold_receiver-parts.ensures.within k h (c.requires.value k h)))
+    with_left k (view_of c.await_object.new.self) _ (c.await_object.ensures.within k (c.hold_receiver-parts.ensures.within clusters h (c.requires.value clusters h)))

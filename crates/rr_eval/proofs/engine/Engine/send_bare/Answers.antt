@@ -22,4 +22,4 @@ returns-then-begin_sent-clause-goes c = λ _ h.
 pub returns-then-begin_sent-clause-within : goal.returns-then-begin_sent-clause-within
 returns-then-begin_sent-clause-within c clusters h =
     let k = reach (length c.args.space.now.slots) clusters in
-    with_left k (view_of c.begin_sent.new.self) _ (c.begin_sent.ensures.within clusters h (c.requires.value k h) (all_nil (IsReached k)))
+    with_left k (view_of c.begin_sent.new.self) _ (c.begin_sent.ensures.within clusters h (c.requires.value clusters h) (all_nil (IsReached k)))

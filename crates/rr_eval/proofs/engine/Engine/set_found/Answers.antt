@@ -39,7 +39,7 @@ returns-in-Ok-clause-goes c = λ h.
 pub returns-in-Ok-clause-within : goal.returns-in-Ok-clause-within
 returns-in-Ok-clause-within c clusters h =
     let k = reach (length c.args.space.now.slots) clusters in
-    with_left k (view_of c.keep_receiver.new.self) _ (c.in-Ok.ensures.within k h (c.requires.value k h))
+    with_left k (view_of c.keep_receiver.new.self) _ (c.in-Ok.ensures.within k h (c.requires.value clusters h))
 
 pub returns-in-Ok-clause-asks : goal.returns-in-Ok-clause-asks
 returns-in-Ok-clause-asks c clusters h = c.in-Ok.ensures.asks (reach (length c.args.space.now.slots) clusters)
@@ -98,7 +98,7 @@ returns-in_ok-reserve-in-Some-clause-within c clusters h =
     ∙ ap (λ l. l ++ w ∷ []) (c.push_reserved.ensures.items ∙ ap (λ l. l ++ v ∷ []) c.in_ok-reserve-in-Some.ensures.items)
     ∙ append_assoc m.held (v ∷ []) (w ∷ []) in
     let k = reach (length c.args.space.now.slots) clusters in
-    c.call_last.ensures.within clusters (items_reached k m held (v ∷ w ∷ []) pushed h (all_cons (IsReached k) v (w ∷ []) (c.requires.value k h) (all_cons (IsReached k) w [] (c.in-Some.ensures.within k h) (all_nil (IsReached k)))))
+    c.call_last.ensures.within clusters (items_reached k m held (v ∷ w ∷ []) pushed h (all_cons (IsReached k) v (w ∷ []) (c.requires.value clusters h) (all_cons (IsReached k) w [] (c.in-Some.ensures.within clusters h) (all_nil (IsReached k)))))
 
 pub returns-in_ok-reserve-in-Some-clause-asks : goal.returns-in_ok-reserve-in-Some-clause-asks
 returns-in_ok-reserve-in-Some-clause-asks c clusters h =
@@ -113,7 +113,7 @@ returns-in_ok-reserve-in-Some-clause-asks c clusters h =
     ∙ ap (λ l. l ++ w ∷ []) (c.push_reserved.ensures.items ∙ ap (λ l. l ++ v ∷ []) c.in_ok-reserve-in-Some.ensures.items)
     ∙ append_assoc m.held (v ∷ []) (w ∷ []) in
     let k = reach (length c.args.space.now.slots) clusters in
-    c.call_last.ensures.asks clusters (items_reached k m held (v ∷ w ∷ []) pushed h (all_cons (IsReached k) v (w ∷ []) (c.requires.value k h) (all_cons (IsReached k) w [] (c.in-Some.ensures.within k h) (all_nil (IsReached k)))))
+    c.call_last.ensures.asks clusters (items_reached k m held (v ∷ w ∷ []) pushed h (all_cons (IsReached k) v (w ∷ []) (c.requires.value clusters h) (all_cons (IsReached k) w [] (c.in-Some.ensures.within clusters h) (all_nil (IsReached k)))))
 
 pub returns-in_ok-reserve-in-Some-clause-err : goal.returns-in_ok-reserve-in-Some-clause-err
 returns-in_ok-reserve-in-Some-clause-err c t =

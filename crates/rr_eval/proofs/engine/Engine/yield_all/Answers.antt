@@ -3,7 +3,7 @@ use Rattle.std.proofs.Common.{◌≡◌, ◌∙◌, ◌+◌, ◌-◌, ap, sym, s
 use Rattle.rr_tree.specs.Nodes.{trees_before}
 use Rattle.rr_eval.specs.Turns.{IsNested, remaining_with}
 use Rattle.rr_eval.specs.Views.{view_of}
-use Rattle.rr_eval.specs.Within.{IsReached, AreReached}
+use Rattle.rr_eval.specs.Within.{reach, IsReached, AreReached}
 use Rattle.rr_eval.proofs.Holding.{all_nil, with_left}
 use Rattle.rr_eval.proofs.QuickCalls.{yield_held, yield_waits}
 use Rattle.rr_eval.proofs.QuickParts.{held_nested, view_back}
@@ -48,8 +48,9 @@ returns-then-begin_yield-clause-goes c = λ _ h.
     ∙ ap (λ i. remaining_with p (view_of c.begin_yield.new.self) t h i) spent
 
 pub returns-then-begin_yield-clause-within : goal.returns-then-begin_yield-clause-within
-returns-then-begin_yield-clause-within c k h =
-    with_left k (view_of c.begin_yield.new.self) _ (c.begin_yield.ensures.within k (c.hold_parts-parts.ensures.within k h) (all_nil (IsReached k)))
+returns-then-begin_yield-clause-within c clusters h =
+    let k = reach (length c.args.space.now.slots) clusters in
+    with_left k (view_of c.begin_yield.new.self) _ (c.begin_yield.ensures.within k (c.hold_parts-parts.ensures.within clusters h) (all_nil (IsReached k)))
 
 pub returns-clause-same : goal.returns-clause-same
 returns-clause-same c = λ _.
@@ -61,4 +62,4 @@ pub returns-clause-nested : goal.returns-clause-nested
 returns-clause-nested c = subst IsNested (sym (returns-clause-same c refl)) c.requires.nested
 
 pub returns-clause-within : goal.returns-clause-within
-returns-clause-within c k h = subst (AreReached k) (sym (returns-clause-same c refl)) h
+returns-clause-within c clusters h = subst (AreReached (reach (length c.args.space.now.slots) clusters)) (sym (returns-clause-same c refl)) h

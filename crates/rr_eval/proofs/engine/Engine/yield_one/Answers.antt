@@ -1,8 +1,8 @@
 -- The value is evaluated before the block is called.
-use Rattle.std.proofs.Common.{◌∙◌, ap, sym, ◌+◌, ◌-◌, [], arith}
+use Rattle.std.proofs.Common.{◌∙◌, ap, sym, ◌+◌, ◌-◌, [], arith, length}
 use Rattle.rr_eval.specs.Turns.{remaining_with}
 use Rattle.rr_eval.specs.Views.{view_of}
-use Rattle.rr_eval.specs.Within.{IsReached}
+use Rattle.rr_eval.specs.Within.{reach, IsReached}
 use Rattle.rr_eval.proofs.Holding.{all_cons, all_nil, with_left}
 use Rattle.rr_eval.proofs.QuickCalls.{one_yielded}
 use Rattle.rr_eval.proofs.engine.Engine.yield_one.Goals as goal
@@ -20,5 +20,6 @@ returns-then-begin_yield-clause-goes c = λ _ h.
     ∙ c.enter_body.ensures.goes t h
 
 pub returns-then-begin_yield-clause-within : goal.returns-then-begin_yield-clause-within
-returns-then-begin_yield-clause-within c k h =
-    c.enter_body.ensures.within k (with_left k (view_of c.begin_yield.new.self) _ (c.begin_yield.ensures.within k h (all_cons (IsReached k) c.args.found.value [] (c.requires.value k h) (all_nil (IsReached k)))))
+returns-then-begin_yield-clause-within c clusters h =
+    let k = reach (length c.args.space.now.slots) clusters in
+    c.enter_body.ensures.within k (with_left k (view_of c.begin_yield.new.self) _ (c.begin_yield.ensures.within k h (all_cons (IsReached k) c.args.found.value [] (c.requires.value clusters h) (all_nil (IsReached k)))))

@@ -3,7 +3,7 @@ use Rattle.std.proofs.Common.{◌∙◌, ap}
 use Rattle.rr_eval.specs.Nodes.{evaluated_tree}
 use Rattle.rr_eval.specs.Rules.{rule}
 use Rattle.rr_eval.specs.Turns.{context_of}
-use Rattle.rr_eval.proofs.engine.Engine.enter_body.Goals as goal
+use Rattle.rr_eval.proofs.engine.Engine.enter_statement_list.Goals as goal
 
 pub visit_body-requires-clause-script : goal.visit_body-requires-clause-script
 visit_body-requires-clause-script c =
